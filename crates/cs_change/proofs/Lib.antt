@@ -1,0 +1,5 @@
+pub mod Column
+pub mod Extends
+pub mod Rows
+pub mod Net
+pub mod Then
