@@ -1,0 +1,171 @@
+-- From prepared changes to the normal form.
+use Rattle.std.proofs.Common.{◌≡◌, ℕ, Bool, true, false, ◌&&◌, List, [], ◌∷◌, ◌++◌, map, Option, Some, None, refl, sym, subst, ap, ◌∙◌}
+use Rattle.std.specs.Ordering.{is_eq, is_lt}
+use Rattle.std.specs.declared.cmp.Ordering.{Ordering}
+use Rattle.std.specs.declared.cmp.Ordering.TheVariants.{Less, Equal, Greater}
+use Rattle.std.specs.Cmp.{Equal-is, eq_by_cmp_equiv}
+use Rattle.std.specs.List.{AllByRecursion, IsDistinct, list_all}
+use Rattle.std.specs.List.Sorted.{IsStrictlySortedBy, IsPermutation}
+use Rattle.std.specs.Map.{keys_of, lookup}
+use Rattle.std.proofs.lemmas.List.Sorted.{IsPermutation-map, IsPermutation-sym, Contains-permutation}
+use Rattle.std.proofs.lemmas.Map.Keys.{sorted_head, sorted_tail, IsDistinct-from_sorted, IsDistinct-IsPermutation}
+use Rattle.std.proofs.lemmas.Map.Lookups.{exact_bytes}
+use Rattle.std.proofs.lemmas.Map.Views.{Contains-from_lookup, lookup-from_Contains}
+use Rattle.std.proofs.lemmas.Cmp.{nat_list_cmp_total}
+use Rattle.cs_change.specs.declared.change.Change.{Change}
+use Rattle.cs_normal.specs.Changes.{Changes, by_bytes, same_bytes, change_at, IsOrdered}
+use Rattle.cs_normal.specs.NormalForm.{normal_form_any, has_key, change_bytes, keyed, AreKeyed, IsNormalOf}
+use Rattle.cs_normal.specs.Prepared.{Entries, prepared, all_keyed, kept, rises, rises_from}
+
+pub by_test : (t : Bool) (P : Type 0) → (t ≡ true → P) → (t ≡ false → P) → P
+by_test true P one other = one refl
+by_test false P one other = other refl
+
+both_true : (a b : Bool) → (a && b) ≡ true → (a ≡ true) × (b ≡ true)
+both_true true b h = (refl, h)
+both_true false b h = (cc, cc)
+
+lt_is : (o : Ordering) → is_lt o ≡ true → o ≡ Less
+lt_is Less e = refl
+lt_is Equal e = cc
+lt_is Greater e = cc
+
+pub same_is : (x y : List ℕ) → same_bytes x y ≡ true → x ≡ y
+same_is x y e = exact_bytes x y ((Equal-is (by_bytes x y)).0 e)
+
+pub kept_append : (es fs : Entries) → kept (es ++ fs) ≡ kept es ++ kept fs
+unfolding kept
+kept_append [] fs = refl
+kept_append ((key, None) ∷ es) fs = kept_append es fs
+kept_append ((key, Some change) ∷ es) fs = ap (λ (t : Changes). (key, change) ∷ t) (kept_append es fs)
+
+abbrev pub Above : List ℕ → List (List ℕ) → Type 0
+Above key keys = AllByRecursion (λ other. by_bytes key other ≡ Less) keys
+
+pub above_more : (low key : List ℕ) (keys : List (List ℕ)) → by_bytes low key ≡ Less → Above key keys → Above low keys
+above_more low key [] e h = tt
+above_more low key (k ∷ keys) e h =
+    (nat_list_cmp_total.trans low key k e h.0, above_more low key keys e h.1)
+
+cons_sorted : (key : List ℕ) (keys : List (List ℕ)) → Above key keys → IsStrictlySortedBy by_bytes keys → IsStrictlySortedBy by_bytes (key ∷ keys)
+unfolding IsStrictlySortedBy
+cons_sorted key keys h o = (h, o)
+
+no_keys_sorted : IsStrictlySortedBy by_bytes []
+unfolding IsStrictlySortedBy
+no_keys_sorted = tt
+
+-- keys that rise are in order
+rises_above : (key : List ℕ) (es : Entries) → rises_from key es ≡ true → Above key (keys_of es) × IsStrictlySortedBy by_bytes (keys_of es)
+unfolding rises_from
+rises_above key [] h = (tt, no_keys_sorted)
+rises_above key (e ∷ es) h =
+    let parts = both_true (is_lt (by_bytes key e.0)) (rises_from e.0 es) h in
+    let less = lt_is (by_bytes key e.0) parts.0 in
+    let rest = rises_above e.0 es parts.1 in
+    ((less, above_more key e.0 (keys_of es) less rest.0), cons_sorted e.0 (keys_of es) rest.0 rest.1)
+
+pub rises_sorted : (es : Entries) → rises es ≡ true → IsStrictlySortedBy by_bytes (keys_of es)
+unfolding rises
+rises_sorted [] h = no_keys_sorted
+rises_sorted (e ∷ es) h =
+    let rest = rises_above e.0 es h in cons_sorted e.0 (keys_of es) rest.0 rest.1
+
+-- what is kept is in order
+kept_above : (key : List ℕ) (es : Entries) → Above key (keys_of es) → Above key (keys_of (kept es))
+unfolding kept
+kept_above key [] h = tt
+kept_above key ((k, None) ∷ es) h = kept_above key es h.1
+kept_above key ((k, Some c) ∷ es) h = (h.0, kept_above key es h.1)
+
+pub kept_ordered : (es : Entries) → IsStrictlySortedBy by_bytes (keys_of es) → IsOrdered (kept es)
+unfolding kept
+kept_ordered [] o = o
+kept_ordered ((k, None) ∷ es) o = kept_ordered es (sorted_tail by_bytes k (keys_of es) o)
+kept_ordered ((k, Some c) ∷ es) o =
+    cons_sorted k (keys_of (kept es)) (kept_above k es (sorted_head by_bytes k (keys_of es) o)) (kept_ordered es (sorted_tail by_bytes k (keys_of es) o))
+
+abbrev pub join : Option (Option Change) → Option Change
+join None = None
+join (Some change) = change
+
+pub none_above : (key : List ℕ) (changes : Changes) → Above key (keys_of changes) → change_at key changes ≡ None
+none_above key [] h = refl
+none_above key (c ∷ changes) h =
+    let e : same_bytes key c.0 ≡ false = ap is_eq h.0 in simp e (none_above key changes h.1)
+
+pub kept_at : (q : List ℕ) (es : Entries) → IsStrictlySortedBy by_bytes (keys_of es) → change_at q (kept es) ≡ join (lookup (same_bytes q) es)
+unfolding kept
+kept_at q [] o = refl
+kept_at q ((k, None) ∷ es) o =
+    let rest = kept_at q es (sorted_tail by_bytes k (keys_of es) o) in
+    by_test (same_bytes q k) _ (λ e.
+    let none : change_at q (kept es) ≡ None = subst (λ (j : List ℕ). change_at j (kept es) ≡ None) (sym (same_is q k e)) (none_above k (kept es) (kept_above k es (sorted_head by_bytes k (keys_of es) o))) in
+    simp (e, none) refl) (λ e. simp e rest)
+kept_at q ((k, Some c) ∷ es) o =
+    let rest = kept_at q es (sorted_tail by_bytes k (keys_of es) o) in
+    by_test (same_bytes q k) _ (λ e. simp e refl) (λ e. simp e rest)
+
+-- a list and its permutation find alike
+flips : (x y : List ℕ) → same_bytes x y ≡ same_bytes y x
+flips x y = (eq_by_cmp_equiv nat_list_cmp_total).symm x y
+
+pub distinct_back : (es fs : Entries) → IsPermutation es fs → IsDistinct same_bytes (keys_of fs) → IsDistinct same_bytes (keys_of es)
+distinct_back es fs p d =
+    IsDistinct-IsPermutation same_bytes flips (keys_of fs) (keys_of es) (IsPermutation-map (λ (e : List ℕ × Option Change). e.0) fs es (IsPermutation-sym es fs p)) d
+
+pub distinct_on : (es fs : Entries) → IsPermutation es fs → IsDistinct same_bytes (keys_of es) → IsDistinct same_bytes (keys_of fs)
+distinct_on es fs p d =
+    IsDistinct-IsPermutation same_bytes flips (keys_of es) (keys_of fs) (IsPermutation-map (λ (e : List ℕ × Option Change). e.0) es fs p) d
+
+pub found_alike : (es fs : Entries) → IsPermutation es fs → IsDistinct same_bytes (keys_of es) → IsDistinct same_bytes (keys_of fs) → (q : List ℕ) → lookup (same_bytes q) fs ≡ lookup (same_bytes q) es
+found_alike es fs p de df q =
+    let laws = eq_by_cmp_equiv nat_list_cmp_total in
+    let split : (o : Option (Option Change)) → lookup (same_bytes q) fs ≡ o → lookup (same_bytes q) fs ≡ lookup (same_bytes q) es =
+    elim [
+      | None ↦ λ e.
+          let inner : (o : Option (Option Change)) → lookup (same_bytes q) es ≡ o → lookup (same_bytes q) fs ≡ lookup (same_bytes q) es =
+          elim [
+            | None ↦ λ i. e ∙ sym i
+            | Some v ↦ λ i. lookup-from_Contains laws q v fs df (Contains-permutation es fs (q, v) p (Contains-from_lookup same_is q v es i)) ∙ sym i
+          ] in
+          inner (lookup (same_bytes q) es) refl
+      | Some v ↦ λ e. e ∙ sym (lookup-from_Contains laws q v es de (Contains-permutation fs es (q, v) (IsPermutation-sym es fs p) (Contains-from_lookup same_is q v fs e)))
+    ] in
+    split (lookup (same_bytes q) fs) refl
+
+-- where each change has a key, all are prepared
+pub prepared_keys : (marks : List Bool) (changes : List Change) → all_keyed marks changes ≡ true → keys_of (prepared marks changes) ≡ map (change_bytes marks) changes
+unfolding prepared all_keyed
+prepared_keys marks [] h = refl
+prepared_keys marks (c ∷ changes) h =
+    let parts = both_true (has_key marks c) (all_keyed marks changes) h in
+    simp parts.0 (ap (λ (t : List (List ℕ)). change_bytes marks c ∷ t) (prepared_keys marks changes parts.1))
+
+pub prepared_at : (marks : List Bool) (changes : List Change) → all_keyed marks changes ≡ true → (q : List ℕ) → join (lookup (same_bytes q) (prepared marks changes)) ≡ normal_form_any marks (change_at q (keyed marks changes))
+unfolding prepared all_keyed
+prepared_at marks [] h q = refl
+prepared_at marks (c ∷ changes) h q =
+    let parts = both_true (has_key marks c) (all_keyed marks changes) h in
+    let rest = prepared_at marks changes parts.1 q in
+    by_test (same_bytes q (change_bytes marks c)) _ (λ e. simp (parts.0, e) refl) (λ e. simp (parts.0, e) rest)
+
+pub all_keyed_is : (marks : List Bool) (changes : List Change) → all_keyed marks changes ≡ list_all (has_key marks) changes
+unfolding all_keyed
+all_keyed_is marks [] = refl
+all_keyed_is marks (c ∷ changes) = ap (λ t. has_key marks c && t) (all_keyed_is marks changes)
+
+-- the whole way
+module _ (marks : List Bool) (changes : List Change) (fs : Entries) (p : IsPermutation (prepared marks changes) fs) (up : rises fs ≡ true) where
+  pub prepared_distinct : IsDistinct same_bytes (keys_of (prepared marks changes))
+  prepared_distinct =
+      distinct_back (prepared marks changes) fs p (IsDistinct-from_sorted by_bytes (keys_of fs) (rises_sorted fs up))
+
+  pub are_keyed : all_keyed marks changes ≡ true → AreKeyed marks changes
+  are_keyed whole =
+      (sym (all_keyed_is marks changes) ∙ whole, subst (IsDistinct same_bytes) (prepared_keys marks changes whole) prepared_distinct)
+
+  pub is_normal : all_keyed marks changes ≡ true → IsNormalOf marks changes (kept fs)
+  is_normal whole =
+      let sorted = rises_sorted fs up in
+      (kept_ordered fs sorted, λ q. kept_at q fs sorted ∙ (ap join (found_alike (prepared marks changes) fs p prepared_distinct (IsDistinct-from_sorted by_bytes (keys_of fs) sorted) q) ∙ prepared_at marks changes whole q))

@@ -1,0 +1,47 @@
+-- A changeset in normal form.
+use Rattle.std.specs.Prelude.{◌≡◌, ◌≢◌, ◌⊎◌, ℕ, List, [], ◌∷◌, ◌++◌, map, Option, None, if◌then◌else◌}
+use Rattle.std.specs.List.{AllByRecursion, flat_map}
+use Rattle.std.specs.Str.{bytes_eq}
+use Rattle.cs_value.specs.declared.catalog.TableDef.{TableDef}
+use Rattle.cs_change.specs.Spelling.{flag_byte, change_spelling, header_spelling}
+use Rattle.cs_change.specs.declared.change.Change.{Change}
+use Rattle.cs_normal.specs.Changes.{Changes, change_at, AreNormal}
+use Rattle.cs_normal.specs.declared.normal.TableChanges.{TableChanges}
+
+-- a table's changes in normal form; there are some
+abbrev pub IsNormalTable : TableChanges → Type 0
+IsNormalTable table = AreNormal table.marks table.changes × (table.changes ≢ [])
+
+-- the changes of a place: a table's name and the bytes of a key
+abbrev pub change_of : List ℕ → List ℕ → List TableChanges → Option Change
+change_of name key [] = None
+change_of name key (table ∷ tables) =
+    if bytes_eq table.name name then change_at key table.changes else change_of name key tables
+
+-- the changes are of this table: its name and its key columns
+abbrev pub IsOfTable : TableDef → TableChanges → Type 0
+IsOfTable table changes = (changes.name ≡ table.name) × (changes.marks ≡ table.key_marks)
+
+-- each table is one of the catalog's, and they stand in the catalog's order
+abbrev pub FitsCatalog : List TableDef → List TableChanges → Type 0
+FitsCatalog tables [] = Unit {0}
+FitsCatalog [] (first ∷ others) = ⊥
+FitsCatalog (table ∷ tables) (first ∷ others) =
+    (IsOfTable table first × FitsCatalog tables others) ⊎ FitsCatalog tables (first ∷ others)
+
+-- a changeset in normal form
+abbrev pub IsNormalChangeset : List TableChanges → Type 0
+IsNormalChangeset tables = AllByRecursion IsNormalTable tables
+
+-- the changes of the table with this name
+abbrev pub changes_in : List ℕ → List TableChanges → Changes
+changes_in name [] = []
+changes_in name (table ∷ tables) = if bytes_eq table.name name then table.changes else changes_in name tables
+
+-- a group with marks written as 1 and 0, and the changes in their order
+abbrev pub table_spelling : TableChanges → List ℕ
+table_spelling table = header_spelling (map flag_byte table.marks) table.name ++ flat_map (λ keyed. change_spelling keyed.1) table.changes
+
+-- one group a table
+abbrev pub normal_spelling : List TableChanges → List ℕ
+normal_spelling tables = flat_map table_spelling tables
