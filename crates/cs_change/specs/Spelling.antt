@@ -1,6 +1,6 @@
 -- How changes, groups and changesets are spelled in bytes (SQLite's "changeset format"). Each has one spelling.
-use Rattle.std.specs.Prelude.{◌≡◌, ℕ, ◌^◌, ◌<◌, ◌≤◌, nat_eq, Bool, true, false, not, if◌then◌else◌, List, [], ◌∷◌, ◌++◌, length, map, Contains, IsUtf8}
-use Rattle.std.specs.List.{flat_map, AllByRecursion}
+use Rattle.std.specs.Prelude.{◌≡◌, ◌≢◌, ℕ, ◌^◌, ◌<◌, ◌≤◌, nat_eq, Bool, true, false, not, if◌then◌else◌, List, [], ◌∷◌, ◌++◌, length, map, IsUtf8}
+use Rattle.std.specs.List.{flat_map, list_any, AllByRecursion}
 use Rattle.cs_varint.specs.Varint.{spelling}
 use Rattle.cs_value.specs.declared.value.Value.{Value}
 use Rattle.cs_value.specs.declared.value.Field.{Field}
@@ -39,12 +39,12 @@ changeset_spelling groups = flat_map group_spelling groups
 
 -- ---- what is in range
 
--- any byte but 0 marks a key column
-abbrev pub is_mark : ℕ → Bool
-is_mark byte = not (nat_eq byte 0)
+abbrev pub is_nonzero : ℕ → Bool
+is_nonzero byte = not (nat_eq byte 0)
 
+-- any byte but 0 marks a key column
 abbrev pub marks_of : List ℕ → List Bool
-marks_of bytes = map is_mark bytes
+marks_of bytes = map is_nonzero bytes
 
 -- a row of so many columns
 abbrev pub FitsRow : ℕ → List Value → Type 0
@@ -76,9 +76,9 @@ FitsChange marks (Update flag old new) =
 pub record FitsHeader (marks name : List ℕ) : Type 0 where
   pub some : 0 < length marks
   pub limit : length marks ≤ 2000
-  pub key : Contains (marks_of marks) true
+  pub key : list_any is_nonzero marks ≡ true
   pub text : IsUtf8 name
-  pub ended : Contains name 0 → ⊥
+  pub ended : AllByRecursion (λ byte. byte ≢ 0) name
 
 abbrev pub FitsGroup : Group → Type 0
 FitsGroup group = FitsHeader group.marks group.name × AllByRecursion (FitsChange (marks_of group.marks)) group.changes

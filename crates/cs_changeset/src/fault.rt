@@ -1,7 +1,7 @@
 //! Why bytes are no changeset.
 
 ghost use Rattle.std.specs.Prelude.{◌≡◌};
-ghost use Rattle.cs_changeset.specs.declared.fault.CodecFault.TheVariants.{Memory};
+ghost use Rattle.cs_changeset.specs.declared.fault.CodecFault.TheVariants.{Memory, At};
 
 use std::alloc::{AllocError, AllocFailed};
 use thiserror::Error;
@@ -58,6 +58,18 @@ pub enum CodecFault {
     Memory,
     #[error("{fault} at {offset}")]
     At { fault: Fault, offset: usize },
+}
+
+impl Fault {
+    /// The fault, told at an offset.
+    pub(crate) fn at(self, offset: usize) -> CodecFault
+        ensures { result ≡ At self offset }
+    {
+        CodecFault::At {
+            fault: self,
+            offset,
+        }
+    }
 }
 
 impl From<AllocError> for CodecFault {

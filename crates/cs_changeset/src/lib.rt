@@ -4,9 +4,13 @@
 //! The crate stands on changes (`cs_change`) and normal forms (`cs_normal`), whose public items it hands on.
 #![tactic(auto)]
 
+mod changes;
+mod columns;
 mod fault;
+mod header;
 mod log;
 mod reading;
+mod records;
 
 pub use cs_change::{Bytes, Change, Changeset, Group, encode};
 pub use cs_normal::{Changes, KeyedChange, Normal, TableChanges, Unfit, normalise};

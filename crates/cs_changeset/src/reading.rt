@@ -1,18 +1,79 @@
-//! Reading changesets.
+//! Reading groups and changesets.
 
-ghost use Rattle.std.specs.Prelude.{◌≡◌, ◌++◌, ◌↔◌, ℕ, List, IfOk, OnOk, IfErr};
-ghost use Rattle.cs_change.specs.Spelling.{changeset_spelling};
+ghost use Rattle.std.specs.Prelude.{◌≡◌, ◌≢◌, ◌++◌, ℕ, List, [], length, IfOk, IsErrOf};
+ghost use Rattle.cs_change.specs.Spelling.{changeset_spelling, FitsChangeset};
 ghost use Rattle.cs_change.specs.declared.group.Group.{Group};
-ghost use Rattle.cs_changeset.specs.Reading.{InRange, IsFault, ReadsChangeset};
+ghost use Rattle.cs_changeset.specs.Reading.{IsFault, ReadsChangeset};
+ghost use Rattle.cs_changeset.specs.Steps.{BeginsGroup, EndsGroup, ReadsGroup, ReadsGroups};
 ghost use Rattle.cs_changeset.specs.declared.fault.Fault.{Fault};
+ghost use Rattle.cs_changeset.specs.declared.fault.Fault.TheVariants.{Truncated};
 
-use crate::fault::CodecFault;
-use cs_change::Changeset;
+use crate::changes::read_changes;
+use crate::fault::{CodecFault, Fault};
+use crate::header::header;
+use cs_change::{Changeset, Group};
+use cs_value::{Items, Text};
 use std::alloc::Global;
+
+/// The byte that begins a group.
+const TABLE: u8 = b'T';
+
+/// The byte that begins a group of a patchset.
+const PATCHSET: u8 = b'P';
+
+/// The group at the front, and how many bytes it takes.
+fn read_group(alloc: Global, bytes: &[u8]) -> Result<(Group, usize), CodecFault>
+    requires { BeginsGroup bytes.now }
+    ensures { ReadsGroup bytes.now result }
+{
+    let (marks, name, at) = header(&bytes[1..])?;
+    match read_changes(alloc, marks, &bytes[at..]) {
+        Ok((changes, len)) => {
+            let group = Group {
+                marks: Items::from_vec(Vec::from_slice(alloc, marks)?),
+                name: Text::from_string(String::from_str(alloc, name)?),
+                changes: Items::from_vec(changes),
+            };
+            Ok((group, at + len))
+        }
+        Err(CodecFault::Memory) => Err(CodecFault::Memory),
+        Err(CodecFault::At { fault, offset }) => Err(fault.at(at + offset)),
+    }
+}
+
+/// The groups to the end of the bytes, which begin with a group where there are any.
+fn read_groups(alloc: Global, bytes: &[u8]) -> Result<Vec<Group>, CodecFault>
+    requires { EndsGroup bytes.now }
+    ensures { ReadsGroups bytes.now result }
+{
+    let mut groups = Vec::new(alloc);
+    let mut at = 0;
+    while at < bytes.len() {
+        match read_group(alloc, &bytes[at..]) {
+            Ok((group, len)) => {
+                groups.push(group)?;
+                at += len;
+            }
+            Err(CodecFault::Memory) => return Err(CodecFault::Memory),
+            Err(CodecFault::At { fault, offset }) => return Err(fault.at(at + offset)),
+        }
+    }
+    Ok(groups)
+}
+
+fn read_changeset(alloc: Global, bytes: &[u8]) -> Result<Changeset, CodecFault>
+    ensures { ReadsChangeset bytes.now result }
+{
+    match bytes {
+        [] | [TABLE, ..] => Ok(Items::from_vec(read_groups(alloc, bytes)?)),
+        [PATCHSET, ..] => Err(Fault::Patchset.at(0)),
+        _ => Err(Fault::BadMark.at(0)),
+    }
+}
 
 /// Reads a changeset: the whole of the bytes. (SQLite's "changeset format"; the faults are of this project's profile.)
 pub fn decode(alloc: Global, bytes: &[u8]) -> Result<Changeset, CodecFault>
-    ensures { ReadsChangeset bytes.now result }
+    ensures reads { ReadsChangeset bytes.now result }
 {
-    Err(CodecFault::Memory)
+    read_changeset(alloc, bytes)
 }

@@ -28,9 +28,21 @@ pub fn encode_key(alloc: Global, key: &[Value]) -> Result<Bytes, Memory>
     Ok(Items::from_vec(bytes))
 }
 
+/// The same change behind its key, in memory of its own.
 pub fn copy_keyed(alloc: Global, keyed: &KeyedChange) -> Result<KeyedChange, Memory>
     ensures { IfOk result (λ copied. copied ≡ keyed.now) }
 {
     let bytes = Items::from_vec(Vec::from_slice(alloc, keyed.0.as_slice())?);
     Ok((bytes, keyed.1.copy(alloc)?))
+}
+
+/// The same changes, in memory of their own.
+pub(crate) fn copy_changes(alloc: Global, changes: &Changes) -> Result<Changes, Memory>
+    ensures { IfOk result (λ copied. copied ≡ changes.now) }
+{
+    let mut copied = Vec::with_capacity(alloc, changes.as_slice().len())?;
+    for keyed in changes.as_slice() {
+        copied.push(copy_keyed(alloc, keyed)?)?;
+    }
+    Ok(Items::from_vec(copied))
 }

@@ -2,9 +2,12 @@
 #![tactic(auto)]
 
 mod changes;
+mod comparing;
+mod fitting;
 mod normal;
 mod normal_form;
 mod unfit;
+mod writing;
 
 pub use changes::{Bytes, Changes, KeyedChange, copy_keyed, encode_key};
 

@@ -1,10 +1,13 @@
 //! Changesets in normal form.
 
-ghost use Rattle.std.specs.Prelude.{◌≡◌};
+ghost use Rattle.std.specs.Prelude.{◌≡◌, IfOk};
 
-use crate::changes::Changes;
-use cs_value::{Marks, Memory, Text};
-use std::alloc::{AllocError, Global};
+use crate::changes::{Changes, copy_changes};
+use crate::comparing::same_tables;
+use crate::fitting::tables_fit;
+use crate::writing::put_tables;
+use cs_value::{Catalog, Items, Marks, Memory, Text};
+use std::alloc::Global;
 use std::marker::Model;
 
 /// The changes of one table in normal form.
@@ -13,6 +16,28 @@ pub struct TableChanges {
     pub name: Text,
     pub marks: Marks,
     pub changes: Changes,
+}
+
+fn copy_marks(alloc: Global, marks: &Marks) -> Result<Marks, Memory>
+    ensures { IfOk result (λ copied. copied ≡ marks.now) }
+{
+    Ok(Items::from_vec(Vec::from_slice(alloc, marks.as_slice())?))
+}
+
+fn copy_text(alloc: Global, text: &Text) -> Result<Text, Memory>
+    ensures { IfOk result (λ copied. copied ≡ text.now) }
+{
+    Ok(Text::from_string(String::from_str(alloc, text.as_str())?))
+}
+
+fn copy_table(alloc: Global, table: &TableChanges) -> Result<TableChanges, Memory>
+    ensures { IfOk result (λ copied. copied ≡ table.now) }
+{
+    Ok(TableChanges {
+        name: copy_text(alloc, &table.name)?,
+        marks: copy_marks(alloc, &table.marks)?,
+        changes: copy_changes(alloc, &table.changes)?,
+    })
 }
 
 /// A changeset in normal form.
@@ -34,10 +59,10 @@ impl Model for Normal {
 }
 
 impl Normal {
-    ghost use Rattle.std.specs.Prelude.{◌≡◌, ◌++◌, IfOk, OnOk, OnErr};
-    ghost use Rattle.cs_normal.specs.Normal.{IsNormalChangeset, normal_spelling};
+    ghost use Rattle.std.specs.Prelude.{◌≡◌, ◌↔◌, ◌++◌, IsTrue, IfOk, OnOk, OnErr};
+    ghost use Rattle.cs_normal.specs.Normal.{FitsCatalog, IsNormalChangeset, normal_spelling};
 
-    /// The changeset of these tables. It takes no memory.
+    /// The changeset of these tables, which are in normal form. It takes no memory.
     pub fn from_tables(tables: Vec<TableChanges>) -> Normal
         requires { IsNormalChangeset tables.items }
         ensures { result ≡ tables.items }
@@ -53,10 +78,29 @@ impl Normal {
         self.tables.as_slice()
     }
 
+    /// The same changeset, in memory of its own.
     pub fn copy(&self, alloc: Global) -> Result<Normal, Memory>
         ensures { IfOk result (λ copied. copied ≡ self.now) }
     {
-        Err(AllocError)
+        let mut copied = Vec::with_capacity(alloc, self.tables.len())?;
+        for table in self.tables.as_slice() {
+            copied.push(copy_table(alloc, table)?)?;
+        }
+        Ok(Normal { tables: copied })
+    }
+
+    /// Whether two changesets are the same, the flags of their changes too.
+    pub fn same(&self, other: &Normal) -> bool
+        ensures { IsTrue result ↔ (self.now ≡ other.now) }
+    {
+        same_tables(self.tables.as_slice(), other.tables.as_slice())
+    }
+
+    /// Whether the tables are tables of this catalog, in its order.
+    pub fn fits(&self, catalog: &Catalog) -> bool
+        ensures { IsTrue result ↔ FitsCatalog catalog.now self.now }
+    {
+        tables_fit(catalog.tables(), self.tables.as_slice())
     }
 
     /// Appends the spelling of the changeset. An `Err` changes nothing. (SQLite's "changeset format".)
@@ -64,6 +108,11 @@ impl Normal {
         ensures ok { OnOk result (out.new.items ≡ out.old.items ++ normal_spelling self.now) }
         ensures err { OnErr result (out.new.items ≡ out.old.items) }
     {
-        Err(AllocError)
+        let len = out.len();
+        let written = put_tables(self.tables.as_slice(), out);
+        if written.is_err() {
+            out.truncate(len);
+        }
+        written
     }
 }

@@ -13,8 +13,8 @@ ghost use Rattle.cs_normal.specs.NormalFormOf.{AreFit, IsNormalFormOf, IsUnfit};
 ghost use Rattle.cs_normal.specs.Prepared.{prepared, all_keyed, kept, rises};
 
 use crate::changes::{Bytes, KeyedChange};
-use crate::unfit::Unfit;
 use crate::normal::Normal;
+use crate::unfit::Unfit;
 use cs_change::{Change, Changeset};
 use cs_record::encode_value;
 use cs_value::{Catalog, Field, Items, Memory, Value};
@@ -304,11 +304,7 @@ pub(crate) fn normalise_changes(
 }
 
 /// The normal form of a changeset, or what is wrong with the first group that is wrong.
-pub fn normalise(
-    alloc: Global,
-    catalog: &Catalog,
-    changeset: &Changeset,
-) -> Result<Normal, Unfit>
+pub fn normalise(alloc: Global, catalog: &Catalog, changeset: &Changeset) -> Result<Normal, Unfit>
     // The changeset is one that the reader takes.
     requires { FitsChangeset changeset.now }
 

@@ -6,7 +6,8 @@ use Rattle.std.specs.List.{AllByRecursion}
 use Rattle.std.proofs.lemmas.List.{take-append-drop, length-take-le, take-append-le, drop-append-le}
 use Rattle.std.proofs.Math.Seq.{take-append_seam}
 use Rattle.cs_value.specs.declared.value.Field.{Field}
-use Rattle.cs_record.specs.Spelling.{field, record_of, Fits}
+use Rattle.cs_varint.specs.Varint.{spelling}
+use Rattle.cs_record.specs.Spelling.{counted, field, record_of, Fits}
 use Rattle.cs_record.specs.Reading.{StandsAt, IsFieldFault, IsFieldAt, IsRecordAt, IsRecordFault, ReadsField, ReadsRecord, FindsField, FindsRecord, Tells}
 use Rattle.cs_record.specs.declared.fault.Fault.{Fault}
 use Rattle.cs_record.specs.declared.fault.Fault.TheVariants.{Truncated, NotShortest, BadType, Real, NotUtf8}
@@ -102,3 +103,12 @@ module _ (bytes : List ℕ) where
         | inl is ↦ (is, truncated_end count offset (subst (λ (f : Fault). IsRecordFault count f offset bytes) is reads))
         | inr other ↦ absurd (record_is_right count fields fault offset (bytes ++ rest) [] len fits (sym e ∙ sym (append-nil (record_of fields))) (record_fault_stays count fault offset bytes rest other reads))
       ]
+
+-- a fault is told within the bytes
+pub field_fault_within : (fault : Fault) (offset : ℕ) (bytes : List ℕ) → IsFieldFault fault offset bytes → offset ≤ length bytes
+field_fault_within Truncated offset bytes (there, partial) = omega (arith, there)
+field_fault_within NotShortest offset bytes (kind, rest, is, has, long, there) = omega (arith, ap length is, there)
+field_fault_within (BadType kind) offset bytes (rest, is, above, there) = omega (arith, there)
+field_fault_within Real offset bytes (rest, is, there) = omega (arith, there)
+field_fault_within NotUtf8 offset bytes (text, rest, is, fits, no_text, there) =
+    omega (arith, there, ap length is, length-append (3 ∷ counted text) rest, length-append (spelling (length text)) text)

@@ -1,13 +1,31 @@
 -- Spellings one after another, where no spelling of an item begins another.
-use Rattle.std.proofs.Common.{◌≡◌, ℕ, ◌+◌, ◌<◌, List, [], ◌∷◌, ◌++◌, length, take, drop, refl, sym, ap, ◌∙◌, append_assoc, arith, inl, inr, subst}
+use Rattle.std.proofs.Common.{◌≡◌, ℕ, ◌+◌, ◌-◌, ◌<◌, List, [], ◌∷◌, ◌++◌, length, take, drop, refl, sym, ap, ◌∙◌, append_assoc, arith, inl, inr, subst}
 use Rattle.std.proofs.lemmas.Bool.{cases_lt}
 use Rattle.std.specs.List.{flat_map, AllByRecursion}
-use Rattle.std.proofs.lemmas.List.{append_cancel_left, take-append-drop}
+use Rattle.std.proofs.lemmas.List.{append_cancel_left, take-append-drop, take-take, drop-take, take_all, length-drop, flat_map_more}
 use Rattle.cs_record.specs.Reading.{StandsAt}
 
 -- what stands at the front, and the rest
 pub parts : (bytes spelled : List ℕ) (at : ℕ) → StandsAt bytes spelled at → bytes ≡ spelled ++ drop at bytes
 parts bytes spelled at stands = sym (take-append-drop at bytes) ∙ ap (λ (t : List ℕ). t ++ drop at bytes) stands.front
+
+-- a front, and what stands behind it
+pub take-add : (n m : ℕ) (bytes : List ℕ) → take (n + m) bytes ≡ take n bytes ++ take m (drop n bytes)
+take-add n m bytes = sym (take-append-drop n (take (n + m) bytes)) ∙ rw (take-take n (n + m) bytes (omega arith), drop-take n m bytes) refl
+
+-- items at the front, and one more behind them
+pub stands_more : {X : Type 0} (sp : X → List ℕ) (bytes : List ℕ) (items : List X) (next : X) (at len : ℕ) → StandsAt bytes (flat_map sp items) at → StandsAt (take (length bytes - at) (drop at bytes)) (sp next) len
+    → StandsAt bytes (flat_map sp (items ++ next ∷ [])) (at + len)
+stands_more sp bytes items next at len stands after =
+    let rest : take (length bytes - at) (drop at bytes) ≡ drop at bytes = take_all (length bytes - at) (drop at bytes) (omega (arith, length-drop at bytes)) in
+    record {
+      within = omega (arith, after.within, ap length rest, length-drop at bytes, stands.within);
+      front = take-add at len bytes ∙ rw (stands.front, rw rest at after.front) (flat_map_more sp [] items next);
+    }
+
+pub all_more : {X : Type 0} (P : X → Type 0) (items : List X) (next : X) → AllByRecursion P items → P next → AllByRecursion P (items ++ next ∷ [])
+all_more P [] next each one = (one, tt)
+all_more P (first ∷ items) next each one = (each.0, all_more P items next each.1 one)
 
 module _ {X : Type 0} (sp : X → List ℕ) (Fits : X → Type 0) (apart : (a b : X) (x y : List ℕ) → Fits a → Fits b → sp a ++ x ≡ sp b ++ y → a ≡ b) where
   -- the first items are equal, and so is what follows them

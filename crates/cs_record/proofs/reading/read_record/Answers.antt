@@ -1,6 +1,7 @@
 use Rattle.std.proofs.Common.{◌∙◌, ◌+◌, ap}
 use Rattle.std.proofs.lemmas.List.{length_push}
-use Rattle.cs_record.proofs.Fields.{record_more, fits_more}
+use Rattle.cs_record.proofs.Sequences.{stands_more, all_more}
+use Rattle.cs_record.specs.Spelling.{field, Fits}
 use Rattle.cs_record.proofs.reading.read_record.Goals as goal
 
 pub loop-preserved : goal.loop-preserved
@@ -10,6 +11,6 @@ loop-preserved c =
     let so_far = c.loop.invariant in
     rw c.in_ok-push-in-Ok.ensures.items record {
       count = length_push fields next ∙ ap (λ n. n + 1) so_far.count;
-      fits = fits_more fields next so_far.fits c.in-Ok.ensures.0;
-      stands = record_more c.args.bytes.now fields next c.loop.at c.in-Ok.len so_far.stands c.in-Ok.ensures.1;
+      fits = all_more Fits fields next so_far.fits c.in-Ok.ensures.0;
+      stands = stands_more field c.args.bytes.now fields next c.loop.at c.in-Ok.len so_far.stands c.in-Ok.ensures.1;
     }

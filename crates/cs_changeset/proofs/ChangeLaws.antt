@@ -1,0 +1,175 @@
+-- Changes in their bytes.
+use Rattle.std.proofs.Common.{◌≡◌, ℕ, suc, ◌+◌, ◌-◌, ◌<◌, ◌≤◌, Bool, true, false, not, cond, List, [], ◌∷◌, ◌++◌, length, take, drop, map, Some, None, refl, sym, ap, ◌∙◌, append_assoc, arith, inl, inr, subst, length-append}
+use Rattle.std.specs.Prelude.{◌⊎◌, Result, Err}
+use Rattle.std.proofs.lemmas.List.{length-drop}
+use Rattle.std.specs.List.{flat_map, AllByRecursion}
+use Rattle.cs_value.specs.Same.{same_value, same_value-Decides, same_value-refl}
+use Rattle.cs_value.specs.declared.value.Value.{Value}
+use Rattle.cs_value.specs.declared.value.Field.{Field}
+use Rattle.cs_value.specs.declared.value.Field.TheVariants.{Undefined, Is}
+use Rattle.cs_record.specs.Spelling.{field, record_of, Fits}
+use Rattle.cs_record.specs.Reading.{StandsAt}
+use Rattle.cs_record.proofs.Records.{field_fault_within, reaches}
+use Rattle.cs_record.proofs.Sequences.{parts, take-add}
+use Rattle.cs_change.specs.Columns.{holds}
+use Rattle.cs_change.specs.declared.change.Change.{Change}
+use Rattle.cs_change.specs.declared.change.Change.TheVariants.{Insert, Delete, Update}
+use Rattle.cs_change.specs.Spelling.{row_bytes, flag_byte, change_spelling, changes_spelling, FitsRow, FitsChange, IsUpdateColumn, AreUpdateColumns}
+use Rattle.cs_changeset.specs.Records.{Rule, InRow, InOld, InNew, IsRight, AreRight, IsColumnFault, IsRecordFault, row_rules, old_rules, new_rules}
+use Rattle.cs_changeset.specs.Reading.{IsUpdateFault, IsRecordsFault, IsFlaggedFault, IsChangeFault, IsChangesFault}
+use Rattle.cs_changeset.specs.Steps.{AreColumnsAt, ReadsFlag, ReadsFlaggedRow, ReadsOperation}
+use Rattle.cs_changeset.specs.declared.fault.CodecFault.{CodecFault}
+use Rattle.cs_changeset.specs.declared.fault.CodecFault.TheVariants.{Memory, At}
+use Rattle.cs_changeset.specs.declared.fault.Fault.{Fault}
+use Rattle.cs_changeset.specs.declared.fault.Fault.TheVariants.{KeyChanged}
+use Rattle.cs_changeset.proofs.Headers.{tail}
+
+-- ---- faults are told within the bytes
+
+column_within : (rule : Rule) (fault : Fault) (offset : ℕ) (bytes : List ℕ) → IsColumnFault rule fault offset bytes → offset ≤ length bytes
+column_within rule fault offset bytes (inl (inner, is, told)) = field_fault_within inner offset bytes told
+column_within rule fault offset bytes (inr (next, rest, is, fits, wrong, there)) = omega (arith, there)
+
+pub record_within : (rules : List Rule) (fault : Fault) (offset : ℕ) (bytes : List ℕ) → IsRecordFault rules fault offset bytes → offset ≤ length bytes
+record_within [] fault offset bytes told = absurd told
+record_within (rule ∷ rules) fault offset bytes (inl told) = column_within rule fault offset bytes told
+record_within (rule ∷ rules) fault offset bytes (inr (next, rest, inner, is, right, told, there)) =
+    omega (arith, there, ap length is, length-append (field next) rest, record_within rules fault inner rest told)
+
+pub update_within : (marks : List Bool) (fault : Fault) (offset : ℕ) (bytes : List ℕ) → IsUpdateFault marks fault offset bytes → offset ≤ length bytes
+update_within marks fault offset bytes (inl told) = record_within (old_rules marks) fault offset bytes told
+update_within marks fault offset bytes (inr (old, rest, inner, is, right, told, there)) =
+    omega (arith, there, ap length is, length-append (record_of old) rest, record_within (new_rules marks old) fault inner rest told)
+
+-- ---- rows
+
+fits_row : (marks : List Bool) (row : List Value) → AreRight (row_rules marks) (map (λ v. Is v) row) → FitsRow (length marks) row
+fits_row [] [] right = (refl, tt)
+fits_row (m ∷ marks) (v ∷ row) right =
+    let rest = fits_row marks row right.1 in
+    (ap suc rest.0, (right.0.0, rest.1))
+fits_row [] (v ∷ row) right = absurd right
+fits_row (m ∷ marks) [] right = absurd right
+
+row_fields : (row : List Value) → record_of (map (λ v. Is v) row) ≡ row_bytes row
+row_fields [] = refl
+row_fields (v ∷ row) = ap (λ (t : List ℕ). field (Is v) ++ t) (row_fields row)
+
+-- a byte before what stands at the front
+pub stands_behind : (first : ℕ) (rest spelled : List ℕ) (len : ℕ) → StandsAt rest spelled len → StandsAt (first ∷ rest) (first ∷ spelled) (len + 1)
+stands_behind first rest spelled len stands =
+    let one : len + 1 ≡ suc len = omega arith in
+    record {
+      within = omega (arith, stands.within);
+      front = rw one (ap (λ (t : List ℕ). first ∷ t) stands.front);
+    }
+
+pub flagged_row : (marks : List Bool) (flag : Bool) (behind rest : List ℕ) (row : List Value) (len : ℕ) → behind ≡ flag_byte flag ∷ rest → AreColumnsAt (row_rules marks) rest (map (λ v. Is v) row) len
+    → FitsRow (length marks) row × StandsAt behind (flag_byte flag ∷ row_bytes row) (len + 1)
+flagged_row marks flag behind rest row len is (right, stands) =
+    (fits_row marks row right, rw (is, ← row_fields row) (stands_behind (flag_byte flag) rest (record_of (map (λ v. Is v) row)) len stands))
+
+flag_small : (flag : Bool) → flag_byte flag ≤ 1
+flag_small true = omega arith
+flag_small false = omega arith
+
+-- a fault behind a whole flag
+pub flagged_fault : (marks : List Bool) (operation : ℕ) (flag : Bool) (behind rest : List ℕ) (fault : Fault) (offset : ℕ) → behind ≡ flag_byte flag ∷ rest → IsRecordsFault marks operation fault offset rest
+    → IsFlaggedFault marks operation fault (offset + 2) behind
+flagged_fault marks operation flag behind rest fault offset is told = rw is (inr (flag_small flag, (offset, told, omega arith)))
+
+-- ---- updates
+
+key_kept : (u v : Value) (b : Bool) → same_value u v ≡ b → cond b None (Some KeyChanged) ≡ None → u ≡ v
+key_kept u v true e kept = (same_value-Decides u v).0 e
+key_kept u v false e kept = cc
+
+right_column : (m : Bool) (o n : Field) → IsRight (InOld m) o → IsRight (InNew m o) n → IsUpdateColumn m o n
+unfolding holds
+right_column true (Is u) Undefined old new = tt
+right_column true (Is u) (Is v) old new = key_kept u v (same_value u v) refl new.1
+right_column true Undefined n old new = let e = old.1 in cc
+right_column false o Undefined old new = tt
+right_column false (Is u) (Is v) old new = tt
+right_column false Undefined (Is v) old new = let e = new.1 in cc
+
+right_columns : (marks : List Bool) (old new : List Field) → AreRight (old_rules marks) old → AreRight (new_rules marks old) new → AreUpdateColumns marks old new × AllByRecursion Fits old × AllByRecursion Fits new
+right_columns [] [] [] ro rn = (tt, tt, tt)
+right_columns (m ∷ marks) (o ∷ old) (n ∷ new) ro rn =
+    let rest = right_columns marks old new ro.1 rn.1 in
+    ((right_column m o n ro.0 rn.0, rest.0), (ro.0.0, rest.1), (rn.0.0, rest.2))
+right_columns [] [] (n ∷ new) ro rn = absurd rn
+right_columns [] (o ∷ old) new ro rn = absurd ro
+right_columns (m ∷ marks) [] new ro rn = absurd ro
+right_columns (m ∷ marks) (o ∷ old) [] ro rn = absurd rn
+
+pub update_records : (marks : List Bool) (bytes : List ℕ) (old new : List Field) (at len : ℕ) → AreColumnsAt (old_rules marks) bytes old at → AreColumnsAt (new_rules marks old) (take (length bytes - at) (drop at bytes)) new len
+    → AreUpdateColumns marks old new × AllByRecursion Fits old × AllByRecursion Fits new × StandsAt bytes (record_of old ++ record_of new) (at + len)
+update_records marks bytes old new at len (right, stands) (right', stands') =
+    let rest = tail bytes at in
+    let columns = right_columns marks old new right right' in (
+      columns.0,
+      columns.1,
+      columns.2,
+      record {
+        within = omega (arith, stands'.within, ap length rest, length-drop at bytes, stands.within);
+        front = take-add at len bytes ∙ rw (stands.front, rw rest at stands'.front) refl;
+      },
+    )
+
+pub new_fault_behind : (marks : List Bool) (bytes : List ℕ) (old : List Field) (at : ℕ) (fault : Fault) (inner : ℕ) → AreColumnsAt (old_rules marks) bytes old at → IsRecordFault (new_rules marks old) fault inner (take (length bytes - at) (drop at bytes))
+    → IsUpdateFault marks fault (at + inner) bytes
+new_fault_behind marks bytes old at fault inner (right, stands) told =
+    inr (old, drop at bytes, inner, parts bytes (record_of old) at stands, right, subst (IsRecordFault (new_rules marks old) fault inner) (tail bytes at) told, ap (λ (n : ℕ). n + inner) (reaches bytes (record_of old) at stands))
+
+-- ---- errors that are passed on
+
+pub flag_error_row : (marks : List Bool) (behind : List ℕ) (e : CodecFault) → ReadsFlag behind (Err e) → ReadsFlaggedRow marks behind (Err e)
+flag_error_row marks behind Memory reads = tt
+flag_error_row marks behind (At fault offset) reads = λ operation _. reads marks operation
+
+pub flag_error : (marks : List Bool) (operation : ℕ) (behind : List ℕ) (e : CodecFault) → ReadsFlag behind (Err e) → ReadsOperation marks operation behind (Err e)
+flag_error marks operation behind Memory reads = tt
+flag_error marks operation behind (At fault offset) reads = reads marks operation
+
+pub row_error : (marks : List Bool) (operation : ℕ) (behind : List ℕ) (e : CodecFault) → (operation ≡ 18) ⊎ (operation ≡ 9) → ReadsFlaggedRow marks behind (Err e) → ReadsOperation marks operation behind (Err e)
+row_error marks operation behind Memory is reads = tt
+row_error marks operation behind (At fault offset) is reads = reads operation is
+
+-- ---- changes one after another
+
+some_bytes : (change : Change) → 0 < length (change_spelling change)
+some_bytes (Insert flag new) = omega arith
+some_bytes (Delete flag old) = omega arith
+some_bytes (Update flag old new) = omega arith
+
+-- a change takes bytes, within those that are left
+pub takes_bytes : (bytes : List ℕ) (change : Change) (at len : ℕ) → at ≤ length bytes → StandsAt (take (length bytes - at) (drop at bytes)) (change_spelling change) len → (0 < len) × (at + len ≤ length bytes)
+takes_bytes bytes change at len within stands =
+    let rest = ap length (tail bytes at) ∙ length-drop at bytes in
+    let reach = reaches (take (length bytes - at) (drop at bytes)) (change_spelling change) len stands in
+    (omega (arith, some_bytes change, reach), omega (arith, within, rest, stands.within))
+
+pub changes_fault : (marks : List Bool) (bytes : List ℕ) (before : List Change) (at : ℕ) (fault : Fault) (inner : ℕ) → AllByRecursion (FitsChange marks) before → StandsAt bytes (changes_spelling before) at
+    → IsChangeFault marks fault inner (take (length bytes - at) (drop at bytes)) → IsChangesFault marks fault (at + inner) bytes
+changes_fault marks bytes before at fault inner fits stands told = record {
+  before = before;
+  rest = drop at bytes;
+  inner = inner;
+  fits = fits;
+  parts = parts bytes (changes_spelling before) at stands;
+  told = subst (IsChangeFault marks fault inner) (tail bytes at) told;
+  there = ap (λ (n : ℕ). n + inner) (reaches bytes (changes_spelling before) at stands);
+}
+
+operation_within : (marks : List Bool) (operation : ℕ) (fault : Fault) (offset : ℕ) (behind : List ℕ) → IsFlaggedFault marks operation fault offset behind → offset ≤ suc (length behind)
+operation_within marks operation fault offset [] told = omega (arith, told.1)
+operation_within marks operation fault offset (flag ∷ rest) (inl told) = omega (arith, told.2)
+operation_within marks operation fault offset (flag ∷ rest) (inr (small, (inner, inl (is, told), there))) = omega (arith, there, record_within (row_rules marks) fault inner rest told)
+operation_within marks operation fault offset (flag ∷ rest) (inr (small, (inner, inr (is, told), there))) = omega (arith, there, update_within marks fault inner rest told)
+
+pub change_within : (marks : List Bool) (fault : Fault) (offset : ℕ) (bytes : List ℕ) → IsChangeFault marks fault offset bytes → offset ≤ length bytes
+change_within marks fault offset [] told = absurd told
+change_within marks fault offset (operation ∷ rest) (inl (is, told)) = operation_within marks operation fault offset rest told
+change_within marks fault offset (operation ∷ rest) (inr (inl told)) = omega (arith, told.2)
+change_within marks fault offset (operation ∷ rest) (inr (inr told)) = omega (arith, told.4)

@@ -1,0 +1,72 @@
+-- The columns of a record, one after another.
+use Rattle.std.proofs.Common.{◌≡◌, ℕ, ◌+◌, ◌-◌, Bool, List, [], ◌∷◌, ◌++◌, length, take, drop, map, Option, Some, None, refl, sym, ap, ◌∙◌, append_assoc, append-nil, arith, inl, inr, subst, length-append}
+use Rattle.std.specs.List.{flat_map, AllByRecursion}
+use Rattle.std.proofs.lemmas.List.{map-append, length-drop}
+use Rattle.cs_value.specs.declared.value.Value.{Value}
+use Rattle.cs_value.specs.declared.value.Field.{Field}
+use Rattle.cs_value.specs.declared.value.Field.TheVariants.{Is}
+use Rattle.cs_record.specs.Spelling.{field, record_of, Fits}
+use Rattle.cs_record.specs.Reading.{StandsAt}
+use Rattle.cs_record.proofs.Sequences.{parts, stands_more}
+use Rattle.cs_record.proofs.Records.{reaches}
+use Rattle.cs_changeset.specs.Records.{Rule, IsRight, AreRight, IsColumnFault, IsRecordFault, field_fault}
+use Rattle.cs_changeset.specs.Steps.{AreColumnsAt}
+use Rattle.cs_changeset.specs.declared.fault.Fault.{Fault}
+use Rattle.cs_changeset.proofs.Headers.{tail}
+
+-- a whole field that may not stand there
+pub wrong_column : (rule : Rule) (next : Field) (fault : Fault) (bytes : List ℕ) (len : ℕ) → Fits next → StandsAt bytes (field next) len → Some fault ≡ field_fault rule next → IsColumnFault rule fault 0 bytes
+wrong_column rule next fault bytes len fits stands wrong = inr (next, drop len bytes, parts bytes (field next) len stands, fits, sym wrong, refl)
+
+-- so many columns are read, and these are left
+pub record ReadTo (all left : List Rule) (bytes : List ℕ) (fields : List Field) (at : ℕ) : Type 0 where
+  pub done : List Rule
+  pub split : all ≡ done ++ left
+  pub right : AreRight done fields
+  pub stands : StandsAt bytes (record_of fields) at
+
+pub read_none : (all : List Rule) (bytes : List ℕ) → ReadTo all all bytes [] 0
+read_none all bytes = record {
+  done = [];
+  split = refl;
+  right = tt;
+  stands = record { within = omega arith; front = refl };
+}
+
+right_more : (done : List Rule) (fields : List Field) (rule : Rule) (next : Field) → AreRight done fields → IsRight rule next → AreRight (done ++ rule ∷ []) (fields ++ next ∷ [])
+right_more [] [] rule next right one = (one, tt)
+right_more (d ∷ done) (f ∷ fields) rule next right one = (right.0, right_more done fields rule next right.1 one)
+right_more [] (f ∷ fields) rule next right one = absurd right
+right_more (d ∷ done) [] rule next right one = absurd right
+
+pub read_one : (all left : List Rule) (rule : Rule) (bytes : List ℕ) (fields : List Field) (next : Field) (at len : ℕ) → ReadTo all (rule ∷ left) bytes fields at → IsRight rule next → StandsAt (take (length bytes - at) (drop at bytes)) (field next) len
+    → ReadTo all left bytes (fields ++ next ∷ []) (at + len)
+read_one all left rule bytes fields next at len so_far right there = record {
+  done = so_far.done ++ rule ∷ [];
+  split = so_far.split ∙ sym (append_assoc so_far.done (rule ∷ []) left);
+  right = right_more so_far.done fields rule next so_far.right right;
+  stands = stands_more field bytes fields next at len so_far.stands there;
+}
+
+-- behind columns that are right, the rest has the fault
+fault_behind : (done left : List Rule) (fields : List Field) (fault : Fault) (inner : ℕ) (bytes rest : List ℕ) → AreRight done fields → bytes ≡ record_of fields ++ rest → IsRecordFault left fault inner rest
+    → IsRecordFault (done ++ left) fault (length (record_of fields) + inner) bytes
+fault_behind [] left [] fault inner bytes rest right e told = subst (λ (b : List ℕ). IsRecordFault left fault (0 + inner) b) (sym e) (subst (λ (n : ℕ). IsRecordFault left fault n rest) (omega arith) told)
+fault_behind (d ∷ done) left (f ∷ fields) fault inner bytes rest right e told =
+    inr (f, record_of fields ++ rest, length (record_of fields) + inner, e ∙ append_assoc (field f) (record_of fields) rest, right.0, fault_behind done left fields fault inner (record_of fields ++ rest) rest right.1 refl told, omega (arith, length-append (field f) (record_of fields)))
+fault_behind [] left (f ∷ fields) fault inner bytes rest right e told = absurd right
+fault_behind (d ∷ done) left [] fault inner bytes rest right e told = absurd right
+
+pub read_fault : (all left : List Rule) (rule : Rule) (bytes : List ℕ) (fields : List Field) (at : ℕ) (fault : Fault) (inner : ℕ) → ReadTo all (rule ∷ left) bytes fields at → IsColumnFault rule fault inner (take (length bytes - at) (drop at bytes))
+    → IsRecordFault all fault (at + inner) bytes
+read_fault all left rule bytes fields at fault inner so_far told =
+    let here : IsRecordFault (rule ∷ left) fault inner (drop at bytes) = inl (subst (IsColumnFault rule fault inner) (tail bytes at) told) in
+    let whole = fault_behind so_far.done (rule ∷ left) fields fault inner bytes (drop at bytes) so_far.right (parts bytes (record_of fields) at so_far.stands) here in
+    subst (λ (r : List Rule). IsRecordFault r fault (at + inner) bytes) (sym so_far.split) (subst (λ (n : ℕ). IsRecordFault (so_far.done ++ rule ∷ left) fault (n + inner) bytes) (sym (reaches bytes (record_of fields) at so_far.stands)) whole)
+
+pub read_all : (all : List Rule) (bytes : List ℕ) (fields : List Field) (at : ℕ) → ReadTo all [] bytes fields at → AreColumnsAt all bytes fields at
+read_all all bytes fields at so_far = (subst (λ (r : List Rule). AreRight r fields) (sym (so_far.split ∙ append-nil so_far.done)) so_far.right, so_far.stands)
+
+-- a row is read as its fields
+pub fields_more : (row : List Value) (next : Value) → map (λ v. Is v) (row ++ next ∷ []) ≡ map (λ v. Is v) row ++ Is next ∷ []
+fields_more row next = map-append (λ v. Is v) row (next ∷ [])

@@ -1,0 +1,4 @@
+pub mod Headers
+pub mod ColumnLaws
+pub mod ChangeLaws
+pub mod GroupLaws

@@ -1,0 +1,22 @@
+use Rattle.std.proofs.Common.{◌∙◌, ◌+◌, ◌-◌, length, take, drop, ap, arith}
+use Rattle.std.proofs.lemmas.List.{length-drop}
+use Rattle.cs_changeset.proofs.Headers.{tail}
+use Rattle.cs_changeset.proofs.GroupLaws.{changes_within, header_within, group_read, body_fault}
+use Rattle.cs_changeset.proofs.reading.read_group.Goals as goal
+
+pub overflow_add-at : goal.overflow_add-at
+overflow_add-at c =
+    let bytes = c.args.bytes.now in
+    let at = c.in_ok-marks.at in
+    let within = changes_within (take (length bytes - at) (drop at bytes)) c.in_ok-marks.marks.now c.in-Err-At.fault c.in-Err-At.offset (rw c.in-Err-At.field-0-is at c.in-Err-At.ensures) in
+    let header = header_within bytes at c.in_ok-marks.marks.now c.in_ok-marks.name.now c.requires c.in_ok-marks.ensures.1 in
+    rw c.in-Err-At.field-0-is (omega (arith, within, header, ap length (tail bytes at), length-drop at bytes))
+
+pub returns-in_ok-from_str-in-Ok : goal.returns-in_ok-from_str-in-Ok
+returns-in_ok-from_str-in-Ok c =
+    rw (c.from_vec.ensures, c.from_string.ensures, c.from_vec-in-Ok.ensures, c.in_ok-from_slice-in-Ok.ensures.items, c.in_ok-from_str-in-Ok.ensures.ok)
+    (group_read c.args.bytes.now c.in_ok-marks.marks.now c.in_ok-marks.name.now c.in-Ok.changes.items c.in_ok-marks.at c.in-Ok.len c.requires c.in_ok-marks.ensures c.in-Ok.ensures)
+
+pub returns-in-Err-At : goal.returns-in-Err-At
+returns-in-Err-At c =
+    rw (c.at.ensures, c.in-Err-At.field-0-is) (body_fault c.args.bytes.now c.in_ok-marks.marks.now c.in_ok-marks.name.now c.in_ok-marks.at c.in-Err-At.fault c.in-Err-At.offset c.requires c.in_ok-marks.ensures (rw c.in-Err-At.field-0-is at c.in-Err-At.ensures))

@@ -1,0 +1,4 @@
+pub mod HexText
+pub mod LineLemmas
+pub mod ReadLemmas
+pub mod ServedLemmas

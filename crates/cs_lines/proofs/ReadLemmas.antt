@@ -1,0 +1,113 @@
+-- What a read up to a line feed, and a skip up to one, take off the input's lines.
+use Rattle.std.proofs.Common.{◌≡◌, ◌≢◌, ℕ, ◌-◌, ◌<◌, true, false, List, [], ◌∷◌, ◌++◌, All, length, get_or, refl, sym, ap, ◌∙◌, arith, subst, IfSome, length-append}
+use Rattle.std.specs.Prelude.{Option, Some, None, Result, Ok, Err, IfOk}
+use Rattle.std.specs.Io.{StopsAt}
+use Rattle.std.specs.Io.Iter.{u64_saturate}
+use Rattle.std.specs.Io.KnownBytes.{Consumes, IsAtEnd, Keeps}
+use Rattle.std.specs.Io.BufRead.{take_through, drop_through, strip_last, ends_with_byte, DropsThrough}
+use Rattle.std.proofs.BufReadLemmas.{take_through_nonempty, through_part, drop_through-append}
+use Rattle.std.proofs.Transfers.{All-of_StopsAt}
+use Rattle.std.proofs.lemmas.List.Elements.{All-nil}
+use Rattle.std.proofs.lemmas.Grind.{common_steps}
+use Rattle.cs_lines.specs.declared.line.LineRead.{LineRead}
+use Rattle.cs_lines.specs.declared.line.LineRead.TheVariants.{Whole, Skipped, End}
+use Rattle.cs_lines.specs.Lines.{lines_of}
+use Rattle.cs_lines.specs.Reading.{TakesLine, HasRead, HasSkipped}
+use Rattle.cs_lines.proofs.LineLemmas.{lines_of-first}
+
+-- some bytes up to a line feed were read
+pub TakesLine-read : (old new : Option (List ℕ)) (line : List ℕ) → IfSome old (λ xs. line ≡ take_through 10 xs)
+    → DropsThrough old new 10 → 0 < length line → TakesLine [] old new (strip_last 10 line)
+TakesLine-read None new line took dropped some = tt
+TakesLine-read (Some input) new line took dropped some =
+    let here : 0 < length input = take_through_nonempty 10 input (subst (λ l. 0 < length l) took some) in (
+      drop_through 10 input,
+      dropped,
+      lines_of-first input here ∙ ap (λ t. strip_last 10 t ∷ lines_of (drop_through 10 input)) (sym took),
+    )
+
+-- a read at the end leaves the end
+pub Keeps-end : (old new : Option (List ℕ)) → IsAtEnd old → DropsThrough old new 10 → Keeps old new
+Keeps-end None new end dropped = tt
+Keeps-end (Some input) new end dropped =
+    let none : new ≡ Some [] = dropped ∙ ap (λ xs. Some (drop_through 10 xs)) end in rw (none, end) refl
+
+-- what was read before stands in front
+TakesLine-front : (old mid new : Option (List ℕ)) (front line : List ℕ) → Consumes old mid front
+    → TakesLine front mid new line → TakesLine [] old new line
+TakesLine-front None mid new front line took takes = tt
+TakesLine-front (Some x) None new front line took takes = absurd took
+TakesLine-front (Some x) (Some y) new front line took takes = (takes.0, takes.1, ap lines_of took ∙ takes.2)
+
+HasRead-end : (old mid new : Option (List ℕ)) (front : List ℕ) → Consumes old mid front → front ≡ []
+    → IsAtEnd mid → Keeps mid new → IsAtEnd old × Keeps old new
+HasRead-end None mid new front took none end kept = (tt, tt)
+HasRead-end (Some x) None new front took none end kept = absurd took
+HasRead-end (Some x) (Some y) None front took none end kept = absurd kept
+HasRead-end (Some x) (Some y) (Some z) front took none end kept =
+    let same : x ≡ y = took ∙ ap (λ l. l ++ y) none in (same ∙ end, kept ∙ sym same)
+
+pub HasRead-skipped : {E : Type 0} (r : Result LineRead E) (old mid new : Option (List ℕ)) (front line : List ℕ)
+    → Consumes old mid front → IfOk r (λ read. HasSkipped read front mid new) → IfOk r (λ read. HasRead read old new line)
+HasRead-skipped (Err e) old mid new front line took h = tt
+HasRead-skipped (Ok Whole) old mid new front line took h = absurd h
+HasRead-skipped (Ok Skipped) old mid new front line took h = (h.0, TakesLine-front old mid new front h.0 took h.1)
+HasRead-skipped (Ok End) old mid new front line took h = HasRead-end old mid new front took h.0 h.1 h.2
+
+-- a front that ends by its only line feed is a line
+pub skipped_ended : (mid : Option (List ℕ)) (front : List ℕ) → StopsAt front 10 → ends_with_byte 10 front ≡ true
+    → (skipped : List ℕ) × TakesLine front mid mid skipped
+skipped_ended None front stops ended = ([], tt)
+skipped_ended (Some rest) front stops ended =
+    let some : 0 < length front = grind arith in
+    let last : get_or front (length front - 1) 0 ≡ 10 = grind arith in
+    let part = through_part 10 front rest stops (λ _. last) (λ none. absurd (omega arith)) in
+    let all = front ++ rest in (
+      strip_last 10 (take_through 10 all),
+      (
+        rest,
+        refl,
+        lines_of-first all (omega (arith, length-append front rest))
+            ∙ ap (λ r. strip_last 10 (take_through 10 all) ∷ lines_of r) part.1,
+      ),
+    )
+
+no_line_feed : (front : List ℕ) → StopsAt front 10 → ends_with_byte 10 front ≡ false → All (λ x. x ≢ 10) front
+no_line_feed [] stops unended = All-nil (λ x. x ≢ 10)
+no_line_feed (x ∷ xs) stops unended =
+    let front = x ∷ xs in
+    let last = get_or front (length front - 1) 0 in
+    let other : last ≢ 10 = λ e. absurd (grind arith) in
+    All-of_StopsAt front 10 (length front) last refl (omega arith) (grind (arith, common_steps)) other stops
+
+-- else the line goes on up to the next line feed
+pub skipped_rest : (mid new : Option (List ℕ)) (front : List ℕ) → StopsAt front 10 → ends_with_byte 10 front ≡ false
+    → DropsThrough mid new 10 → IfSome mid (λ xs. 0 < length (front ++ xs)) → (skipped : List ℕ) × TakesLine front mid new skipped
+skipped_rest None new front stops unended dropped some = ([], tt)
+skipped_rest (Some rest) new front stops unended dropped some =
+    let all = front ++ rest in (
+      strip_last 10 (take_through 10 all),
+      (
+        drop_through 10 rest,
+        dropped,
+        lines_of-first all some
+            ∙ ap (λ r. strip_last 10 (take_through 10 all) ∷ lines_of r)
+            (drop_through-append 10 front rest (no_line_feed front stops unended)),
+      ),
+    )
+
+-- there is something where the front or what was skipped has bytes
+pub some_of_front : (mid : Option (List ℕ)) (front : List ℕ) → 0 < length front → IfSome mid (λ xs. 0 < length (front ++ xs))
+some_of_front None front some = tt
+some_of_front (Some xs) front some = omega (arith, length-append front xs)
+
+pub some_of_skipped : (mid : Option (List ℕ)) (front : List ℕ) (count : ℕ) → count ≢ 0
+    → IfSome mid (λ xs. count ≡ u64_saturate (length (take_through 10 xs))) → IfSome mid (λ xs. 0 < length (front ++ xs))
+some_of_skipped None front count some counted = tt
+some_of_skipped (Some xs) front count some counted =
+    let through : 0 < length (take_through 10 xs) = omega arith in
+    let here : 0 < length xs = take_through_nonempty 10 xs through in omega (arith, length-append front xs)
+
+pub nil_of_empty : (xs : List ℕ) → length xs ≡ 0 → xs ≡ []
+nil_of_empty [] none = refl
+nil_of_empty (x ∷ xs) none = absurd (omega arith)

@@ -1,0 +1,5 @@
+pub mod Lines
+pub mod Reading
+pub mod Served
+pub mod Shown
+pub mod Turns

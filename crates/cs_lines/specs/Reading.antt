@@ -1,0 +1,24 @@
+-- What reading a line takes off an input, where the input's bytes are known.
+use Rattle.std.specs.Prelude.{◌≡◌, ℕ, Option, Some, None, List, [], ◌∷◌, ◌++◌}
+use Rattle.std.specs.Io.KnownBytes.{IsAtEnd, Keeps}
+use Rattle.cs_lines.specs.declared.line.LineRead.{LineRead}
+use Rattle.cs_lines.specs.declared.line.LineRead.TheVariants.{Whole, Skipped, End}
+use Rattle.cs_lines.specs.Lines.{lines_of}
+
+-- the line was the first of `front` and what was left, and the rest of the lines is left
+abbrev pub TakesLine : List ℕ → Option (List ℕ) → Option (List ℕ) → List ℕ → Type 0
+TakesLine front None new line = Unit {0}
+TakesLine front (Some input) new line =
+    (rest : List ℕ) × (new ≡ Some rest) × (lines_of (front ++ input) ≡ line ∷ lines_of rest)
+
+-- a line was read, or skipped, or there was none
+abbrev pub HasRead : LineRead → Option (List ℕ) → Option (List ℕ) → List ℕ → Type 0
+HasRead Whole old new line = TakesLine [] old new line
+HasRead Skipped old new line = (skipped : List ℕ) × TakesLine [] old new skipped
+HasRead End old new line = IsAtEnd old × Keeps old new
+
+-- the same, where the bytes of `front` had been read before
+abbrev pub HasSkipped : LineRead → List ℕ → Option (List ℕ) → Option (List ℕ) → Type 0
+HasSkipped Whole front old new = ⊥
+HasSkipped Skipped front old new = (skipped : List ℕ) × TakesLine front old new skipped
+HasSkipped End front old new = (front ≡ []) × IsAtEnd old × Keeps old new

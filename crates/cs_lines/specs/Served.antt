@@ -1,0 +1,32 @@
+-- What a server answers to a list of lines.
+use Rattle.std.specs.Prelude.{◌≡◌, ℕ, ◌⊎◌, Result, Ok, Err, List, [], ◌∷◌}
+use Rattle.hex.specs.Hex.{decode_of}
+use Rattle.hex.specs.declared.error.FromHexError.{FromHexError}
+
+-- the answers to a line that is no hex, and to one for which memory ran out
+abbrev pub not_hex : List ℕ
+not_hex = 0x13 ∷ 0x16 ∷ []
+
+abbrev pub no_memory : List ℕ
+no_memory = 0x13 ∷ 0x01 ∷ []
+
+-- a request is served; what is no hex is refused and changes nothing
+abbrev pub AnswersDecoded : {State : Type 0} → (State → List ℕ → List ℕ → State → Type 0)
+    → State → Result (List ℕ) FromHexError → List ℕ → State → Type 0
+AnswersDecoded serves old (Ok request) answer new = serves old request answer new
+AnswersDecoded serves old (Err fault) answer new = (answer ≡ not_hex) × (new ≡ old)
+
+-- a line is answered by what it decodes to, or refused for memory, which changes nothing
+abbrev pub Answers : {State : Type 0} → (State → List ℕ → List ℕ → State → Type 0)
+    → State → List ℕ → List ℕ → State → Type 0
+Answers serves old line answer new =
+    AnswersDecoded serves old (decode_of line) answer new ⊎ ((answer ≡ no_memory) × (new ≡ old))
+
+-- the lines get these answers, one after another
+abbrev pub AnswersAll : {State : Type 0} → (State → List ℕ → List ℕ → State → Type 0)
+    → State → List (List ℕ) → List (List ℕ) → State → Type 0
+AnswersAll serves old [] [] new = new ≡ old
+AnswersAll {State} serves old (line ∷ lines) (answer ∷ answers) new =
+    (mid : State) × Answers serves old line answer mid × AnswersAll serves mid lines answers new
+AnswersAll serves old [] (answer ∷ answers) new = ⊥
+AnswersAll serves old (line ∷ lines) [] new = ⊥

@@ -1,0 +1,3 @@
+pub mod CatalogLemmas
+pub mod FoundLemmas
+pub mod WordLemmas

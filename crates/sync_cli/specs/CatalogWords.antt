@@ -1,0 +1,34 @@
+-- The table words of a command line (profile of this project).
+use Rattle.std.specs.Prelude.{◌≡◌, ℕ, ◌+◌, Option, Some, None, List, take}
+use Rattle.std.specs.List.{AllZip, HoldsAt}
+use Rattle.cs_value.specs.Catalog.{AreTables}
+use Rattle.cs_value.specs.declared.catalog.TableDef.{TableDef}
+use Rattle.sync_cli.specs.TableWord.{SpellsTable}
+use Rattle.sync_cli.specs.declared.table.Refused.{Refused}
+use Rattle.sync_cli.specs.declared.table.Refused.TheVariants.{Memory, Word}
+
+-- each word spells its table, in order, and the tables are a catalog
+abbrev pub IsCatalogOf : List (List ℕ) → List TableDef → Type 0
+IsCatalogOf words tables = AllZip SpellsTable words tables × AreTables tables
+
+-- the words up to this place spell no catalog, but those before it do
+abbrev pub IsRefusedAt : List (List ℕ) → ℕ → Type 0
+IsRefusedAt words place =
+    ((tables : List TableDef) × IsCatalogOf (take place words) tables)
+    × ((tables : List TableDef) → IsCatalogOf (take (place + 1) words) tables → ⊥)
+
+-- memory was refused, or the word stands at the first place at which the words are refused
+abbrev pub IsFirstRefused : Refused → List (List ℕ) → Type 0
+IsFirstRefused Memory words = Unit {0}
+IsFirstRefused (Word word) words =
+    (place : ℕ) × HoldsAt (λ w. w ≡ word.now) words place × IsRefusedAt words place
+
+-- a command line that clap takes is refused: it has no command, or its table words are no catalog
+abbrev pub AreRefused : Option (List (List ℕ)) → Type 0
+AreRefused None = Unit {0}
+AreRefused (Some words) = (tables : List TableDef) → IsCatalogOf words tables → ⊥
+
+-- the status with which a run ends for this
+abbrev pub status_of : Refused → ℕ
+status_of Memory = 1
+status_of (Word word) = 2

@@ -1,0 +1,4 @@
+pub mod CatalogWords
+pub mod CommandLine
+pub mod StandIn
+pub mod TableWord

@@ -1,0 +1,244 @@
+use crate::run::run;
+use crate::table;
+use crate::table::Refused;
+use std::alloc::Global;
+use std::io;
+use std::io::{BufReader, Read, Write};
+use std::process::Abort;
+use std::test::Fail;
+
+// Runs on the words and the input, and compares all that comes out.
+fn expect(
+    rt: &impl Abort,
+    alloc: Global,
+    words: &[&str],
+    input: &[u8],
+    status: u8,
+    output: &str,
+    told: &str,
+) -> Result<(), Fail> {
+    let mut reader = input;
+    let mut writer = Vec::new(alloc);
+    let mut errors = Vec::new(alloc);
+    let ended = run(alloc, words, &mut reader, &mut writer, &mut errors);
+    assert_eq!(rt; ended, status, "status of {told}");
+    assert!(rt; writer.as_slice() == output.as_bytes(), "output of {told}");
+    assert!(rt;
+        errors.as_slice() == told.as_bytes(),
+        "told in place of {told}"
+    );
+    Ok(())
+}
+
+// The stand-in hub answers each request by `1314`.
+#[test]
+fn answers_lines(rt: HostRuntime) -> Result<(), Fail> {
+    let words = ["sync", "hub", "t1:10", "a:b:1", "%41%c:1"].as_slice();
+    let cases = [
+        (b"".as_slice(), ""),
+        (b"\n".as_slice(), "1314\n"),
+        (b"07".as_slice(), "1314\n"),
+        (b"07\n".as_slice(), "1314\n"),
+        (b"zz\n".as_slice(), "1316\n"),
+        (b"070\n".as_slice(), "1316\n"),
+        (b"07\r\n".as_slice(), "1316\n"),
+        (
+            b"0a0B\n\nff\n 07\n0".as_slice(),
+            "1314\n1314\n1314\n1316\n1316\n",
+        ),
+    ];
+    for (input, output) in cases {
+        expect(&rt, rt.alloc(), &words[..4], input, 0, output, "")?;
+    }
+    expect(&rt, rt.alloc(), &["sync", "hub"], b"07\n", 0, "1314\n", "")?;
+    expect(
+        &rt,
+        rt.alloc(),
+        words,
+        b"07\n",
+        2,
+        "",
+        "sync: table %41%c:1\n",
+    )
+}
+
+#[test]
+fn refuses_command_lines(rt: HostRuntime) -> Result<(), Fail> {
+    let told = "sync: command line\n";
+    expect(&rt, rt.alloc(), &["sync"], b"07\n", 2, "", told)?;
+    expect(&rt, rt.alloc(), &["sync", "frob"], b"07\n", 2, "", told)?;
+    expect(
+        &rt,
+        rt.alloc(),
+        &["sync", "hub", "--frob"],
+        b"07\n",
+        2,
+        "",
+        told,
+    )?;
+    let cases = [
+        (["t1", "t2:1"], "sync: table t1\n"),
+        (["t1:10", "t2:00"], "sync: table t2:00\n"),
+        (["t1:10", "t1:01"], "sync: table t1:01\n"),
+        (["t1:", "t2:1"], "sync: table t1:\n"),
+        (["t1:12", "t2:1"], "sync: table t1:12\n"),
+        ([":10", "t2:1"], "sync: table :10\n"),
+        (["a%00:10", "t2:1"], "sync: table a%00:10\n"),
+        (["a%4a:10", "t2:1"], "sync: table a%4a:10\n"),
+        (["a%:10", "t2:1"], "sync: table a%:10\n"),
+        (["a%4:10", "t2:1"], "sync: table a%4:10\n"),
+        (["a%FF:10", "t2:1"], "sync: table a%FF:10\n"),
+        (["a b:10", "t2:1"], "sync: table a b:10\n"),
+        (["\u{e9}:10", "t2:1"], "sync: table \u{e9}:10\n"),
+        (["A:1", "%41:1"], "sync: table %41:1\n"),
+    ];
+    for (tables, told) in cases {
+        let words = ["sync", "hub", tables[0], tables[1]];
+        expect(&rt, rt.alloc(), words.as_slice(), b"07\n", 2, "", told)?;
+    }
+    Ok(())
+}
+
+#[test]
+fn refuses_a_table_too_many(rt: HostRuntime) -> Result<(), Fail> {
+    let alloc = rt.alloc();
+    let mut words = vec![in alloc; format!(in alloc; "sync")?, format!(in alloc; "hub")?]?;
+    for place in 0..1001 {
+        words.push(format!(in alloc; "t{place}:1")?)?;
+    }
+    let mut input = b"".as_slice();
+    let mut output = Vec::new(alloc);
+    let mut errors = Vec::new(alloc);
+    let status = run(
+        alloc,
+        words.as_slice(),
+        &mut input,
+        &mut output,
+        &mut errors,
+    );
+    assert_eq!(rt; status, 2);
+    assert!(rt; errors.as_slice() == b"sync: table t1000:1\n".as_slice());
+    Ok(())
+}
+
+#[test]
+fn reads_table_words(rt: HostRuntime) -> Result<(), Fail> {
+    let alloc = rt.alloc();
+    let words = ["%41%25b:10", "a:b:01", "%C3%A9~!:1"].as_slice();
+    let names = ["A%b", "a:b", "\u{e9}~!"];
+    let marks = [
+        [true, false].as_slice(),
+        [false, true].as_slice(),
+        [true].as_slice(),
+    ];
+    match table::catalog(alloc, words) {
+        Ok(catalog) => {
+            assert_eq!(rt; catalog.tables().len(), 3);
+            for (place, table) in catalog.tables().iter().enumerate() {
+                assert!(rt; table.name.as_str() == names[place], "name {place}");
+                assert!(rt; table.key_marks.as_slice() == marks[place], "marks {place}");
+            }
+        }
+        Err(Refused::Word(word)) => assert!(rt; false, "refused {word}"),
+        Err(Refused::Memory) => assert!(rt; false, "no memory"),
+    }
+    Ok(())
+}
+
+#[test]
+fn tells_help(rt: HostRuntime) -> Result<(), Fail> {
+    let alloc = rt.alloc();
+    let mut input = b"07\n".as_slice();
+    let mut output = Vec::new(alloc);
+    let mut errors = Vec::new(alloc);
+    let words = ["sync", "--help"];
+    let status = run(
+        alloc,
+        words.as_slice(),
+        &mut input,
+        &mut output,
+        &mut errors,
+    );
+    assert_eq!(rt; status, 0);
+    assert!(rt; output.starts_with(b"Usage: sync"));
+    assert!(rt; errors.is_empty());
+    Ok(())
+}
+
+// A writer that takes a number of bytes and then fails.
+#[derive(Drop)]
+struct Narrow {
+    room: usize,
+}
+
+impl Write for Narrow {
+    fn write(&mut self, buf: &[u8]) -> io::Result<usize> {
+        let taken = self.room.min(buf.len());
+        if taken == 0 {
+            return Err(io::Error::from(io::ErrorKind::BrokenPipe));
+        }
+        self.room -= taken;
+        Ok(taken)
+    }
+
+    fn flush(&mut self) -> io::Result<()> {
+        Ok(())
+    }
+}
+
+// A reader that gives its bytes and then fails.
+#[derive(Drop)]
+struct Breaking {
+    left: usize,
+}
+
+impl Read for Breaking {
+    fn read(&mut self, buf: &mut [u8]) -> io::Result<usize> {
+        let given = self.left.min(buf.len());
+        if given == 0 {
+            return Err(io::Error::from(io::ErrorKind::BrokenPipe));
+        }
+        buf[..given].fill(b'\n');
+        self.left -= given;
+        Ok(given)
+    }
+}
+
+#[test]
+fn tells_a_failed_write(rt: HostRuntime) -> Result<(), Fail> {
+    let alloc = rt.alloc();
+    let words = ["sync", "hub", "t1:10"];
+    let mut input = b"07\n08\n".as_slice();
+    let mut output = Narrow { room: 7 };
+    let mut errors = Vec::new(alloc);
+    let status = run(
+        alloc,
+        words.as_slice(),
+        &mut input,
+        &mut output,
+        &mut errors,
+    );
+    assert_eq!(rt; status, 1);
+    assert!(rt; errors.as_slice() == b"sync: Write\n".as_slice());
+    Ok(())
+}
+
+#[test]
+fn tells_a_failed_read(rt: HostRuntime) -> Result<(), Fail> {
+    let alloc = rt.alloc();
+    let words = ["sync", "hub", "t1:10"];
+    let mut input = BufReader::new(alloc, Breaking { left: 2 })?;
+    let mut output = Vec::new(alloc);
+    let mut errors = Vec::new(alloc);
+    let status = run(
+        alloc,
+        words.as_slice(),
+        &mut input,
+        &mut output,
+        &mut errors,
+    );
+    assert_eq!(rt; status, 1);
+    assert!(rt; output.as_slice() == b"1314\n1314\n".as_slice());
+    assert!(rt; errors.as_slice() == b"sync: Read\n".as_slice());
+    Ok(())
+}
