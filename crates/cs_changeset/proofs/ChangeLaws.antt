@@ -51,7 +51,7 @@ fits_row (m ∷ marks) (v ∷ row) right =
 fits_row [] (v ∷ row) right = absurd right
 fits_row (m ∷ marks) [] right = absurd right
 
-row_fields : (row : List Value) → record_of (map (λ v. Is v) row) ≡ row_bytes row
+pub row_fields : (row : List Value) → record_of (map (λ v. Is v) row) ≡ row_bytes row
 row_fields [] = refl
 row_fields (v ∷ row) = ap (λ (t : List ℕ). field (Is v) ++ t) (row_fields row)
 
@@ -69,7 +69,7 @@ pub flagged_row : (marks : List Bool) (flag : Bool) (behind rest : List ℕ) (ro
 flagged_row marks flag behind rest row len is (right, stands) =
     (fits_row marks row right, rw (is, ← row_fields row) (stands_behind (flag_byte flag) rest (record_of (map (λ v. Is v) row)) len stands))
 
-flag_small : (flag : Bool) → flag_byte flag ≤ 1
+pub flag_small : (flag : Bool) → flag_byte flag ≤ 1
 flag_small true = omega arith
 flag_small false = omega arith
 

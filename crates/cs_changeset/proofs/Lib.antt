@@ -2,3 +2,7 @@ pub mod Headers
 pub mod ColumnLaws
 pub mod ChangeLaws
 pub mod GroupLaws
+pub mod RecordApart
+pub mod HeaderApart
+pub mod ChangeApart
+pub mod Items

@@ -128,3 +128,15 @@ abbrev pub ReadsChangeset : List ℕ → Result (List Group) CodecFault → Type
 ReadsChangeset bytes (Ok groups) = FitsChangeset groups × (bytes ≡ changeset_spelling groups)
 ReadsChangeset bytes (Err Memory) = Unit {0}
 ReadsChangeset bytes (Err (At fault offset)) = IsFault fault offset bytes
+
+-- this changeset is read, or memory is wanting
+abbrev pub Finds : Result (List Group) CodecFault → List Group → Type 0
+Finds (Ok found) groups = found ≡ groups
+Finds (Err Memory) groups = Unit {0}
+Finds (Err (At fault offset)) groups = ⊥
+
+-- this fault is told, or memory is wanting
+abbrev pub Tells : Result (List Group) CodecFault → Fault → ℕ → Type 0
+Tells (Ok found) fault offset = ⊥
+Tells (Err Memory) fault offset = Unit {0}
+Tells (Err (At told at)) fault offset = (told ≡ fault) × (at ≡ offset)

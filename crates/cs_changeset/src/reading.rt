@@ -1,9 +1,9 @@
 //! Reading groups and changesets.
 
-ghost use Rattle.std.specs.Prelude.{◌≡◌, ◌≢◌, ◌++◌, ℕ, List, [], length, IfOk, IsErrOf};
+ghost use Rattle.std.specs.Prelude.{◌≡◌, ◌++◌, ℕ, List, length};
 ghost use Rattle.cs_change.specs.Spelling.{changeset_spelling, FitsChangeset};
 ghost use Rattle.cs_change.specs.declared.group.Group.{Group};
-ghost use Rattle.cs_changeset.specs.Reading.{IsFault, ReadsChangeset};
+ghost use Rattle.cs_changeset.specs.Reading.{Finds, IsFault, ReadsChangeset, Tells};
 ghost use Rattle.cs_changeset.specs.Steps.{BeginsGroup, EndsGroup, ReadsGroup, ReadsGroups};
 ghost use Rattle.cs_changeset.specs.declared.fault.Fault.{Fault};
 ghost use Rattle.cs_changeset.specs.declared.fault.Fault.TheVariants.{Truncated};
@@ -71,9 +71,22 @@ fn read_changeset(alloc: Global, bytes: &[u8]) -> Result<Changeset, CodecFault>
     }
 }
 
-/// Reads a changeset: the whole of the bytes. (SQLite's "changeset format"; the faults are of this project's profile.)
+/// Reads a changeset: the whole of the bytes. (SQLite's "changeset format"; the faults, each told at its offset from
+/// the front, are of this project's profile.)
 pub fn decode(alloc: Global, bytes: &[u8]) -> Result<Changeset, CodecFault>
+    // What is read is in range, and is spelled by the bytes; what is told is their first fault.
     ensures reads { ReadsChangeset bytes.now result }
+
+    // What the bytes spell is read, or memory is wanting.
+    ensures only { (groups : List Group) → FitsChangeset groups → bytes.now ≡ changeset_spelling groups → Finds result groups }
+
+    // A fault of the bytes is told, or memory is wanting. So there is one, and none where a changeset is spelled.
+    ensures told { (fault : Fault) (offset : ℕ) → IsFault fault offset bytes.now → Tells result fault offset }
+
+    // A front of a spelling that is no spelling itself is Truncated.
+    ensures front { (groups : List Group) (rest : List ℕ) → FitsChangeset groups → changeset_spelling groups ≡ bytes.now ++ rest
+        → ((others : List Group) → FitsChangeset others → bytes.now ≡ changeset_spelling others → ⊥) → Tells result Truncated (length bytes.now) }
 {
     read_changeset(alloc, bytes)
 }
+

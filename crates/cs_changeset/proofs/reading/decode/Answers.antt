@@ -1,0 +1,11 @@
+use Rattle.cs_changeset.proofs.Items.{only_changeset, told_changeset, front_changeset}
+use Rattle.cs_changeset.proofs.reading.decode.Goals as goal
+
+pub returns-clause-only : goal.returns-clause-only
+returns-clause-only c = only_changeset c.args.bytes.now c.read_changeset.result c.read_changeset.ensures
+
+pub returns-clause-told : goal.returns-clause-told
+returns-clause-told c = told_changeset c.args.bytes.now c.read_changeset.result c.read_changeset.ensures
+
+pub returns-clause-front : goal.returns-clause-front
+returns-clause-front c = front_changeset c.args.bytes.now c.read_changeset.result c.read_changeset.ensures
