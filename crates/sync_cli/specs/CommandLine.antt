@@ -1,5 +1,5 @@
 -- The command line of `sync`, as the parser sees it.
-use Rattle.std.specs.Prelude.{List, [], Option, Some, None, unwrap_or, if◌then◌else◌, codes}
+use Rattle.std.specs.Prelude.{List, [], Option, Some, None, true, unwrap_or, if◌then◌else◌, codes}
 use Rattle.std.specs.Str.{bytes_eq}
 use Rattle.clap.specs.Words.{App, Row, Rule, Text, all_of, new_app, new_rule, subcommand_of, with_rule, with_subcommand}
 use Rattle.clap.specs.declared.builder.action.ArgAction.TheVariants.{Append}
@@ -11,8 +11,15 @@ table_rule = record (new_rule (codes "TABLE")) { action = Some Append }
 abbrev pub hub_app : App
 hub_app = with_rule (new_app (codes "hub")) table_rule
 
+-- `WHAT`, which must be there
+abbrev pub what_rule : Rule
+what_rule = record (new_rule (codes "WHAT")) { required = true }
+
+abbrev pub show_app : App
+show_app = with_rule (new_app (codes "show")) what_rule
+
 abbrev pub sync_app : App
-sync_app = with_subcommand (new_app (codes "sync")) hub_app.top
+sync_app = with_subcommand (with_subcommand (new_app (codes "sync")) hub_app.top) show_app.top
 
 -- the table words of a subcommand's matches, where it is `hub`
 abbrev pub tables_in : Option (Text × List Row) → Option (List Text)

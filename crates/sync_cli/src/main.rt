@@ -8,6 +8,7 @@
 
 mod command;
 mod run;
+mod show;
 mod stand_in;
 mod table;
 

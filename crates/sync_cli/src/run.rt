@@ -10,6 +10,7 @@ ghost use Rattle.sync_cli.specs.CatalogWords.{AreRefused, IsCatalogOf, status_of
 ghost use Rattle.sync_cli.specs.CommandLine.{sync_app, tables_of};
 ghost use Rattle.sync_cli.specs.StandIn.{Answers, Hub as HubState, fresh};
 
+use crate::show::show_changeset;
 use crate::stand_in::Hub;
 use crate::table::Refused;
 use crate::{command, table};
@@ -47,8 +48,8 @@ pub fn run<S: AsStr, R: BufRead, W: Write, E: Write>(
     errors: &mut E,
 ) -> u8
     ensures done { result ≡ 0 → takes sync_app (map S.text words.now) ≡ true
-        → (table_words : List (List ℕ)) × (tables_of (map S.text words.now) ≡ Some table_words)
-        × (tables : List TableDef) × IsCatalogOf table_words tables
+        → (table_words : List (List ℕ)) → tables_of (map S.text words.now) ≡ Some table_words
+        → (tables : List TableDef) × IsCatalogOf table_words tables
         × IfSome (R.remaining reader.old) (λ input. (answers : List (List ℕ)) × (end : HubState)
         × AnswersAll Answers (fresh tables) (lines_of input) answers end
         × Appends (W.contents writer.old) (W.contents writer.new) (flat_map hex_line answers)) }
@@ -60,6 +61,9 @@ pub fn run<S: AsStr, R: BufRead, W: Write, E: Write>(
         Err(error) => return tell_refused_command(&error, writer, errors),
     };
     let Some(table_words) = command::tables(&matches) else {
+        if command::shows_changeset(&matches) {
+            return show_changeset(alloc, reader, writer, errors);
+        }
         return tell(errors, COMMAND_LINE, REFUSED_COMMAND);
     };
     let catalog = match table::catalog(alloc, table_words) {
