@@ -17,3 +17,6 @@ pub use cs_normal::{Changes, KeyedChange, Normal, TableChanges, Unfit, normalise
 pub use fault::{CodecFault, Fault};
 pub use log::{Body, LogEntry};
 pub use reading::decode;
+
+#[cfg(test)]
+mod tests;

@@ -1,0 +1,142 @@
+use super::*;
+use std::alloc::Global;
+use std::process::Abort;
+use std::test::Fail;
+
+/// The header of a table t1 with a key column and another.
+const T1: [u8; 7] = [0x54, 2, 1, 0, 0x74, 0x31, 0];
+
+/// The header of a table t2 with a key column and three others.
+const T2: [u8; 9] = [0x54, 4, 1, 0, 0, 0, 0x74, 0x32, 0];
+
+/// The integer 1.
+const ONE: [u8; 9] = [1, 0, 0, 0, 0, 0, 0, 0, 1];
+
+/// The integer 2.
+const TWO: [u8; 9] = [1, 0, 0, 0, 0, 0, 0, 0, 2];
+
+/// The texts `v1` and `v2`.
+const V1: [u8; 4] = [3, 2, 0x76, 0x31];
+
+const V2: [u8; 4] = [3, 2, 0x76, 0x32];
+
+fn joined(alloc: Global, pieces: &[&[u8]]) -> Result<Vec<u8>, Fail> {
+    let mut bytes = Vec::new(alloc);
+    for piece in pieces {
+        bytes.extend_from_slice(piece)?;
+    }
+    Ok(bytes)
+}
+
+/// Reads the bytes and writes them again; the same bytes come out.
+fn comes_back(rt: &impl Abort, alloc: Global, bytes: &[u8]) -> Result<Changeset, Fail> {
+    let changeset = decode(alloc, bytes)?;
+    let mut out = Vec::new(alloc);
+    encode(&changeset, &mut out)?;
+    assert!(rt; out.as_slice() == bytes, "other bytes came back");
+    Ok(changeset)
+}
+
+fn told(rt: &impl Abort, alloc: Global, bytes: &[u8], fault: Fault, offset: usize) {
+    match decode(alloc, bytes) {
+        Err(CodecFault::At {
+            fault: found,
+            offset: at,
+        }) => {
+            assert_eq!(rt; found, fault);
+            assert_eq!(rt; at, offset, "{fault}");
+        }
+        Err(CodecFault::Memory) => panic!(rt; "out of memory"),
+        Ok(_) => panic!(rt; "no fault was told"),
+    }
+}
+
+#[test]
+fn reads_what_it_writes(rt: HostRuntime) -> Result<(), Fail> {
+    let alloc = rt.alloc();
+    let insert = joined(alloc, &[&T1, &[0x12, 0], &ONE, &V1])?;
+    assert_eq!(rt; insert.len(), 22);
+    let read = comes_back(&rt, alloc, &insert)?;
+    assert_eq!(rt; read.as_slice().len(), 1);
+    let cases = [
+        Vec::new(alloc),
+        joined(alloc, &[&T1])?,
+        joined(alloc, &[&[0x54, 2, 2, 0, 0x74, 0x31, 0, 0x12, 0], &ONE, &V1])?,
+        joined(alloc, &[&T1, &[0x17, 0], &ONE, &V1, &[0], &V2])?,
+        joined(alloc, &[&T1, &[0x17, 1], &ONE, &V1, &ONE, &V2])?,
+        joined(alloc, &[&T1, &[9, 1], &ONE, &[5], &T2, &T1, &[9, 0], &TWO, &[4, 1, 0xff]])?,
+        joined(alloc, &[&T2, &[0x17, 0], &ONE, &[3, 0, 5, 0, 0, 4, 0, 3, 0, 0]])?,
+        joined(alloc, &[&T2, &[0x17, 0], &ONE, &V1, &[5, 0, 0, 0, 0, 0]])?,
+    ];
+    for bytes in &cases {
+        comes_back(&rt, alloc, bytes)?;
+    }
+    Ok(())
+}
+
+#[test]
+fn each_front_of_an_insert(rt: HostRuntime) -> Result<(), Fail> {
+    let alloc = rt.alloc();
+    let insert = joined(alloc, &[&T1, &[0x12, 0], &ONE, &V1])?;
+    for len in 0..insert.len() {
+        let front = &insert[..len];
+        if len == 0 || len == 7 {
+            comes_back(&rt, alloc, front)?;
+        } else {
+            told(&rt, alloc, front, Fault::Truncated, len);
+        }
+    }
+    Ok(())
+}
+
+#[test]
+fn faults_of_headers(rt: HostRuntime) {
+    told(&rt, rt.alloc(), &[0x50], Fault::Patchset, 0);
+    told(&rt, rt.alloc(), &[0x55], Fault::BadMark, 0);
+    told(&rt, rt.alloc(), &[0xff; 64], Fault::BadMark, 0);
+    told(&rt, rt.alloc(), &[0x54], Fault::Truncated, 1);
+    told(&rt, rt.alloc(), &[0x54, 0], Fault::Columns, 1);
+    told(&rt, rt.alloc(), &[0x54, 0xff, 0x7f], Fault::Columns, 1);
+    told(&rt, rt.alloc(), &[0x54, 0x8f, 0x51], Fault::Columns, 1);
+    told(&rt, rt.alloc(), &[0x54, 0x8f, 0x50], Fault::Truncated, 3);
+    told(&rt, rt.alloc(), &[0x54, 0x80, 1], Fault::NotShortest, 1);
+    told(&rt, rt.alloc(), &[0x54, 2, 0, 0], Fault::NoKeyColumn, 2);
+    told(&rt, rt.alloc(), &[0x54, 2, 1, 0, 0xff, 0], Fault::NotUtf8, 4);
+    told(&rt, rt.alloc(), &[0x54, 2, 1, 0, 0xff], Fault::Truncated, 5);
+}
+
+#[test]
+fn faults_of_changes(rt: HostRuntime) -> Result<(), Fail> {
+    let alloc = rt.alloc();
+    let cases: [(&[&[u8]], Fault, usize); 16] = [
+        (&[&T1, &[0x13]], Fault::BadOperation, 7),
+        (&[&T1, &[0x50]], Fault::Patchset, 7),
+        (&[&T1, &[0x12, 2]], Fault::BadFlag, 8),
+        (&[&T1, &[0x12, 0, 0]], Fault::UndefinedHere, 9),
+        (&[&T1, &[9, 0, 0]], Fault::UndefinedHere, 9),
+        (&[&T1, &[0x17, 0, 0]], Fault::UndefinedHere, 9),
+        (&[&T1, &[0x12, 0], &ONE, &[6]], Fault::BadType(6), 18),
+        (&[&T1, &[0x12, 0], &ONE, &[2]], Fault::Real, 18),
+        (&[&T1, &[0x12, 0], &ONE, &[3, 0x80, 2]], Fault::NotShortest, 19),
+        (&[&T1, &[0x12, 0], &ONE, &[3, 1, 0xff]], Fault::NotUtf8, 20),
+        (
+            &[&T1, &[0x12, 0], &ONE, &[3], &[0xff; 9]],
+            Fault::Truncated,
+            28,
+        ),
+        (&[&T1, &[0x17, 0], &ONE, &V1, &TWO, &V2], Fault::KeyChanged, 22),
+        (&[&T1, &[0x17, 0], &ONE, &[0, 0], &V2], Fault::UndefinedHere, 20),
+        (
+            &[&T1, &[0x12, 0], &ONE, &V1, &T1, &[0x12, 0], &ONE, &[2]],
+            Fault::Real,
+            40,
+        ),
+        (&[&T1, &[0x12, 0], &ONE, &V1, &[0x54, 0]], Fault::Columns, 23),
+        (&[&T1, &[0x12, 0], &ONE, &V1, &[1]], Fault::BadOperation, 22),
+    ];
+    for (pieces, fault, offset) in &cases {
+        let bytes = joined(alloc, pieces)?;
+        told(&rt, alloc, &bytes, *fault, *offset);
+    }
+    Ok(())
+}
