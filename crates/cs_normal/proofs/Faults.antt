@@ -43,7 +43,7 @@ null_fault marks changes h d =
     let n = null_at marks changes h in
     (n.before, n.change, n.others, n.is, (n.set, subst (IsDistinct same_bytes) n.bytes d), n.null)
 
-map_append : (marks : List Bool) (xs ys : List Change) → map (change_bytes marks) (xs ++ ys) ≡ map (change_bytes marks) xs ++ map (change_bytes marks) ys
+pub map_append : (marks : List Bool) (xs ys : List Change) → map (change_bytes marks) (xs ++ ys) ≡ map (change_bytes marks) xs ++ map (change_bytes marks) ys
 map_append marks [] ys = refl
 map_append marks (x ∷ xs) ys =
     ap (λ (t : List (List ℕ)). change_bytes marks x ∷ t) (map_append marks xs ys)

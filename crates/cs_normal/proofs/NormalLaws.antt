@@ -21,7 +21,7 @@ pub by_test : (t : Bool) (P : Type 0) → (t ≡ true → P) → (t ≡ false �
 by_test true P one other = one refl
 by_test false P one other = other refl
 
-both_true : (a b : Bool) → (a && b) ≡ true → (a ≡ true) × (b ≡ true)
+pub both_true : (a b : Bool) → (a && b) ≡ true → (a ≡ true) × (b ≡ true)
 both_true true b h = (refl, h)
 both_true false b h = (cc, cc)
 

@@ -4,3 +4,4 @@ pub mod Normal
 pub mod NormalForm
 pub mod NormalFormOf
 pub mod Prepared
+pub mod TableByTable

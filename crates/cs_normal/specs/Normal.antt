@@ -5,6 +5,7 @@ use Rattle.std.specs.Str.{bytes_eq}
 use Rattle.cs_value.specs.declared.catalog.TableDef.{TableDef}
 use Rattle.cs_change.specs.Spelling.{flag_byte, change_spelling, header_spelling}
 use Rattle.cs_change.specs.declared.change.Change.{Change}
+use Rattle.cs_change.specs.declared.group.Group.{Group}
 use Rattle.cs_normal.specs.Changes.{Changes, change_at, AreNormal}
 use Rattle.cs_normal.specs.declared.normal.TableChanges.{TableChanges}
 
@@ -45,3 +46,11 @@ table_spelling table = header_spelling (map flag_byte table.marks) table.name ++
 -- one group a table
 abbrev pub normal_spelling : List TableChanges → List ℕ
 normal_spelling tables = flat_map table_spelling tables
+
+-- the tables as groups, as they are written
+abbrev pub group_of : TableChanges → Group
+group_of table =
+    record { marks = map flag_byte table.marks; name = table.name; changes = map (λ keyed. keyed.1) table.changes }
+
+abbrev pub groups_of : List TableChanges → List Group
+groups_of tables = map group_of tables

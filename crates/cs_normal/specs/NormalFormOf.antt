@@ -26,11 +26,21 @@ IsNormalFormOf tables groups normal =
 abbrev pub IsGroupOf : TableDef → Group → Type 0
 IsGroupOf table group = (group.name ≡ table.name) × (marks_of group.marks ≡ table.key_marks)
 
--- each group is of a table, and each change of a table has a key of its own without NULL
+-- the group is of one of the tables
+abbrev pub HasTable : List TableDef → Group → Type 0
+HasTable tables group = (table : TableDef) × Contains tables table × IsGroupOf table group
+
+-- each group is of one of the tables
+abbrev pub HaveTables : List TableDef → List Group → Type 0
+HaveTables tables groups = All (HasTable tables) groups
+
+-- each change of a table has a key of its own without NULL
+abbrev pub HaveKeys : List TableDef → List Group → Type 0
+HaveKeys tables groups = All (λ table. AreKeyed table.key_marks (changes_of table.name groups)) tables
+
+-- the changeset fits the catalog
 abbrev pub AreFit : List TableDef → List Group → Type 0
-AreFit tables groups =
-    All (λ group. (table : TableDef) × Contains tables table × IsGroupOf table group) groups
-    × All (λ table. AreKeyed table.key_marks (changes_of table.name groups)) tables
+AreFit tables groups = HaveTables tables groups × HaveKeys tables groups
 
 -- what is wrong with a group behind those: its table first, then its changes in order
 abbrev pub IsGroupFault : Unfit → List TableDef → List Group → Group → Type 0

@@ -17,7 +17,7 @@ pub type KeyedChange = (Bytes, Change);
 /// Changes behind the bytes of their keys.
 pub type Changes = Items<KeyedChange>;
 
-/// The record of a key.
+/// The record of a key: the fields of its values, one after another. (SQLite's "changeset format", record.)
 pub fn encode_key(alloc: Global, key: &[Value]) -> Result<Bytes, Memory>
     ensures { IfOk result (λ bytes. bytes ≡ key_bytes key.now) }
 {

@@ -10,7 +10,8 @@ use cs_value::{Catalog, Items, Marks, Memory, Text};
 use std::alloc::Global;
 use std::marker::Model;
 
-/// The changes of one table in normal form.
+/// The changes of one table in normal form: the table's name, its key columns, and the changes in the order of their
+/// keys' bytes. There is one at least.
 #[derive(Drop)]
 pub struct TableChanges {
     pub name: Text,
@@ -18,13 +19,15 @@ pub struct TableChanges {
     pub changes: Changes,
 }
 
-fn copy_marks(alloc: Global, marks: &Marks) -> Result<Marks, Memory>
+/// The same marks, in memory of their own.
+pub(crate) fn copy_marks(alloc: Global, marks: &Marks) -> Result<Marks, Memory>
     ensures { IfOk result (λ copied. copied ≡ marks.now) }
 {
     Ok(Items::from_vec(Vec::from_slice(alloc, marks.as_slice())?))
 }
 
-fn copy_text(alloc: Global, text: &Text) -> Result<Text, Memory>
+/// The same text, in memory of its own.
+pub(crate) fn copy_text(alloc: Global, text: &Text) -> Result<Text, Memory>
     ensures { IfOk result (λ copied. copied ≡ text.now) }
 {
     Ok(Text::from_string(String::from_str(alloc, text.as_str())?))
@@ -40,7 +43,7 @@ fn copy_table(alloc: Global, table: &TableChanges) -> Result<TableChanges, Memor
     })
 }
 
-/// A changeset in normal form.
+/// A changeset in normal form: tables with their changes. (Profile of this project over SQLite's "changeset format".)
 #[derive(Drop)]
 pub struct Normal {
     tables: Vec<TableChanges>,
@@ -82,8 +85,8 @@ impl Normal {
     pub fn copy(&self, alloc: Global) -> Result<Normal, Memory>
         ensures { IfOk result (λ copied. copied ≡ self.now) }
     {
-        let mut copied = Vec::with_capacity(alloc, self.tables.len())?;
-        for table in self.tables.as_slice() {
+        let mut copied = Vec::with_capacity(alloc, self.tables().len())?;
+        for table in self.tables() {
             copied.push(copy_table(alloc, table)?)?;
         }
         Ok(Normal { tables: copied })
@@ -93,14 +96,14 @@ impl Normal {
     pub fn same(&self, other: &Normal) -> bool
         ensures { IsTrue result ↔ (self.now ≡ other.now) }
     {
-        same_tables(self.tables.as_slice(), other.tables.as_slice())
+        same_tables(self.tables(), other.tables())
     }
 
     /// Whether the tables are tables of this catalog, in its order.
     pub fn fits(&self, catalog: &Catalog) -> bool
         ensures { IsTrue result ↔ FitsCatalog catalog.now self.now }
     {
-        tables_fit(catalog.tables(), self.tables.as_slice())
+        tables_fit(catalog.tables(), self.tables())
     }
 
     /// Appends the spelling of the changeset. An `Err` changes nothing. (SQLite's "changeset format".)
@@ -109,7 +112,7 @@ impl Normal {
         ensures err { OnErr result (out.new.items ≡ out.old.items) }
     {
         let len = out.len();
-        let written = put_tables(self.tables.as_slice(), out);
+        let written = put_tables(self.tables(), out);
         if written.is_err() {
             out.truncate(len);
         }

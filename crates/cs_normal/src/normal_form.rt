@@ -7,22 +7,21 @@ ghost use Rattle.cs_value.specs.declared.value.Field.TheVariants.{Undefined};
 ghost use Rattle.cs_change.specs.Columns.{is_blank};
 ghost use Rattle.cs_normal.specs.Changes.{key_bytes};
 ghost use Rattle.cs_normal.specs.NormalForm.{changes_value, change_key, has_key, change_bytes, marked_fields, value_or_null, normal_old, normal_new, normal_olds, normal_news, normal_form, AreKeyed, IsNormalOf, AreUnfit};
-ghost use Rattle.cs_change.specs.Spelling.{FitsChangeset, changeset_spelling};
-ghost use Rattle.cs_normal.specs.Normal.{FitsCatalog, normal_spelling};
-ghost use Rattle.cs_normal.specs.NormalFormOf.{AreFit, IsNormalFormOf, IsUnfit};
+ghost use Rattle.std.specs.Str.{bytes_eq};
+ghost use Rattle.cs_normal.specs.NormalFormOf.{changes_of};
+ghost use Rattle.cs_normal.specs.TableByTable.{IsTableOf};
 ghost use Rattle.cs_normal.specs.Prepared.{prepared, all_keyed, kept, rises};
 
 use crate::changes::{Bytes, KeyedChange};
-use crate::normal::Normal;
 use crate::unfit::Unfit;
-use cs_change::{Change, Changeset};
+use cs_change::{Change, Group};
 use cs_record::encode_value;
-use cs_value::{Catalog, Field, Items, Memory, Value};
+use cs_value::{Field, Items, Memory, TableDef, Value};
 use std::alloc::Global;
 use std::cmp::Ordering;
 
 /// The bytes of a key, and the change in normal form if one is left.
-pub type Prepared = (Bytes, Option<Change>);
+type Prepared = (Bytes, Option<Change>);
 
 fn set(value: &Value) -> bool
     ensures { result ≡ is_set value.now }
@@ -87,11 +86,7 @@ fn record_key(alloc: Global, marks: &[bool], fields: &[Field]) -> Result<(Bytes,
 }
 
 /// The bytes of a change's key, and whether none of its values is NULL.
-pub fn key_of_change(
-    alloc: Global,
-    marks: &[bool],
-    change: &Change,
-) -> Result<(Bytes, bool), Memory>
+fn key_of_change(alloc: Global, marks: &[bool], change: &Change) -> Result<(Bytes, bool), Memory>
     ensures { IfOk result (λ key. (key.0 ≡ change_bytes marks.now change.now) × (key.1 ≡ has_key marks.now change.now)) }
 {
     match change {
@@ -213,24 +208,54 @@ fn normal_change(alloc: Global, marks: &[bool], change: &Change) -> Result<Optio
     }
 }
 
-/// The changes before the first one without a key, each prepared, and whether these are all.
+/// Appends the changes before the first one without a key, each prepared, and tells whether these are all.
 #[tactic(auto, unfolding(crate::specs::Prepared::prepared, crate::specs::Prepared::all_keyed))]
 fn prepare(
     alloc: Global,
     marks: &[bool],
     changes: &[Change],
-) -> Result<(Vec<Prepared>, bool), Memory>
-    ensures { IfOk result (λ found. (found.0.items ≡ prepared marks.now changes.now) × (found.1 ≡ all_keyed marks.now changes.now)) }
+    entries: &mut Vec<Prepared>,
+) -> Result<bool, Memory>
+    ensures entries { OnOk result (entries.new.items ≡ entries.old.items ++ prepared marks.now changes.now) }
+    ensures whole { IfOk result (λ whole. whole ≡ all_keyed marks.now changes.now) }
 {
-    let mut entries = Vec::with_capacity(alloc, changes.len())?;
     let mut rest = changes;
     while let Some((change, more)) = rest.split_first() {
         let (key, whole) = key_of_change(alloc, marks, change)?;
         if !whole {
-            return Ok((entries, false));
+            return Ok(false);
         }
         let normal = normal_change(alloc, marks, change)?;
         entries.push((key, normal))?;
+        rest = more;
+    }
+    Ok(true)
+}
+
+/// Whether the group has the table's name.
+fn is_named(group: &Group, table: &TableDef) -> bool
+    ensures { result ≡ bytes_eq group.now.name table.now.name }
+{
+    group.name.as_str() == table.name.as_str()
+}
+
+/// The same for the changes of a table over all its groups.
+fn prepare_table(
+    alloc: Global,
+    table: &TableDef,
+    groups: &[Group],
+) -> Result<(Vec<Prepared>, bool), Memory>
+    ensures { IfOk result (λ found. (found.0.items ≡ prepared table.now.key_marks (changes_of table.now.name groups.now)) × (found.1 ≡ all_keyed table.now.key_marks (changes_of table.now.name groups.now))) }
+{
+    let marks = table.key_marks.as_slice();
+    let mut entries = Vec::new(alloc);
+    let mut rest = groups;
+    while let Some((group, more)) = rest.split_first() {
+        if is_named(group, table) {
+            if !prepare(alloc, marks, group.changes.as_slice(), &mut entries)? {
+                return Ok((entries, false));
+            }
+        }
         rest = more;
     }
     Ok((entries, true))
@@ -282,17 +307,16 @@ fn keep(alloc: Global, entries: Vec<Prepared>) -> Result<Vec<KeyedChange>, Memor
     Ok(changes)
 }
 
-/// The normal form of a table's changes, or what is wrong with the first change that is wrong.
-pub(crate) fn normalise_changes(
+/// The normal form of a table's changes over all its groups, or what is wrong with the first change that is wrong.
+pub(crate) fn normalise_table(
     alloc: Global,
-    marks: &[bool],
-    changes: &[Change],
+    table: &TableDef,
+    groups: &[Group],
 ) -> Result<Vec<KeyedChange>, Unfit>
-    ensures keyed { OnOk result (AreKeyed marks.now changes.now) }
-    ensures normal { IfOk result (λ normal. IsNormalOf marks.now changes.now normal.items) }
-    ensures fault { IfErr result (λ fault. AreUnfit fault marks.now changes.now) }
+    ensures normal { IfOk result (λ changes. IsTableOf groups.now table.now changes.items) }
+    ensures fault { IfErr result (λ fault. AreUnfit fault table.now.key_marks (changes_of table.now.name groups.now)) }
 {
-    let (mut entries, whole) = prepare(alloc, marks, changes)?;
+    let (mut entries, whole) = prepare_table(alloc, table, groups)?;
     entries.sort_unstable_by(|left, right| left.0.as_slice().cmp(right.0.as_slice()));
     if !keys_rise(entries.as_slice()) {
         return Err(Unfit::KeyTwice);
@@ -301,22 +325,4 @@ pub(crate) fn normalise_changes(
         return Err(Unfit::NullKey);
     }
     Ok(keep(alloc, entries)?)
-}
-
-/// The normal form of a changeset, or what is wrong with the first group that is wrong.
-pub fn normalise(alloc: Global, catalog: &Catalog, changeset: &Changeset) -> Result<Normal, Unfit>
-    // The changeset is one that the reader takes.
-    requires { FitsChangeset changeset.now }
-
-    ensures fit { OnOk result (AreFit catalog.now changeset.now) }
-
-    // At each key of each table stands the normal form of the change that was read.
-    ensures normal { IfOk result (λ normal. IsNormalFormOf catalog.now changeset.now normal) }
-
-    // The first group that is wrong, in the order of the bytes: its table, then its changes.
-    ensures fault { IfErr result (λ fault. IsUnfit fault catalog.now changeset.now) }
-
-    ensures shorter { IfOk result (λ normal. length (normal_spelling normal) ≤ length (changeset_spelling changeset.now)) }
-{
-    Err(Unfit::Memory)
 }

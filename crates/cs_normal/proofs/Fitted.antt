@@ -1,0 +1,93 @@
+-- The normal form of what the reader takes is what the reader takes.
+use Rattle.std.proofs.Common.{ℕ, Bool, true, false, List, [], ◌∷◌, Option, Some, None}
+use Rattle.std.specs.List.{All, AllByRecursion}
+use Rattle.std.specs.List.Sorted.{IsPermutation}
+use Rattle.std.proofs.lemmas.List.Elements.{All-from_recursion, recursion_from_All}
+use Rattle.std.proofs.lemmas.List.Sorted.{All-permutation}
+use Rattle.cs_value.specs.declared.value.Field.{Field}
+use Rattle.cs_value.specs.declared.value.Field.TheVariants.{Undefined, Is}
+use Rattle.cs_record.specs.Spelling.{Fits}
+use Rattle.cs_change.specs.Columns.{is_blank}
+use Rattle.cs_change.specs.Spelling.{FitsChange, AreUpdateColumns, IsUpdateColumn}
+use Rattle.cs_change.specs.declared.change.Change.{Change}
+use Rattle.cs_change.specs.declared.change.Change.TheVariants.{Insert, Delete, Update}
+use Rattle.cs_normal.specs.NormalForm.{has_key, changes_value, normal_old, normal_new, normal_olds, normal_news, normal_form}
+use Rattle.cs_normal.specs.Prepared.{Entries, prepared, kept}
+use Rattle.cs_normal.proofs.NormalLaws.{by_test}
+
+-- ---- one change
+
+old_fits : (m : Bool) (o n : Field) → Fits o → Fits (normal_old m o n)
+old_fits true o n f = f
+old_fits false o n f = by_test (changes_value false o n) _ (λ e. simp e f) (λ e. simp e tt)
+
+new_fits : (m : Bool) (o n : Field) → Fits n → Fits (normal_new m o n)
+new_fits m o n f = by_test (changes_value m o n) _ (λ e. simp e f) (λ e. simp e tt)
+
+column_fits : (m : Bool) (o n : Field) → IsUpdateColumn m o n → IsUpdateColumn m (normal_old m o n) (normal_new m o n)
+column_fits true (Is u) Undefined c = tt
+column_fits true (Is u) (Is v) c = tt
+column_fits true Undefined n c = absurd c
+column_fits false o Undefined c = tt
+column_fits false (Is u) (Is v) c =
+    by_test (changes_value false (Is u) (Is v)) _ (λ e. simp e tt) (λ e. simp e tt)
+column_fits false Undefined (Is v) c = absurd c
+
+columns_fit : (marks : List Bool) (old new : List Field) → AreUpdateColumns marks old new → AreUpdateColumns marks (normal_olds marks old new) (normal_news marks old new)
+unfolding normal_olds normal_news
+columns_fit [] [] [] c = tt
+columns_fit (m ∷ marks) (o ∷ old) (n ∷ new) c = (column_fits m o n c.0, columns_fit marks old new c.1)
+columns_fit [] [] (n ∷ new) c = absurd c
+columns_fit [] (o ∷ old) new c = absurd c
+columns_fit (m ∷ marks) [] new c = absurd c
+columns_fit (m ∷ marks) (o ∷ old) [] c = absurd c
+
+olds_fit : (marks : List Bool) (old new : List Field) → AllByRecursion Fits old → AllByRecursion Fits (normal_olds marks old new)
+unfolding normal_olds
+olds_fit [] old new f = tt
+olds_fit (m ∷ marks) [] new f = tt
+olds_fit (m ∷ marks) (o ∷ old) [] f = tt
+olds_fit (m ∷ marks) (o ∷ old) (n ∷ new) f = (old_fits m o n f.0, olds_fit marks old new f.1)
+
+news_fit : (marks : List Bool) (old new : List Field) → AllByRecursion Fits new → AllByRecursion Fits (normal_news marks old new)
+unfolding normal_news
+news_fit [] old new f = tt
+news_fit (m ∷ marks) [] new f = tt
+news_fit (m ∷ marks) (o ∷ old) [] f = tt
+news_fit (m ∷ marks) (o ∷ old) (n ∷ new) f = (new_fits m o n f.0, news_fit marks old new f.1)
+
+abbrev FitsIfAny : List Bool → Option Change → Type 0
+FitsIfAny marks None = Unit {0}
+FitsIfAny marks (Some change) = FitsChange marks change
+
+form_fits : (marks : List Bool) (change : Change) → FitsChange marks change → FitsIfAny marks (normal_form marks change)
+unfolding normal_form
+form_fits marks (Insert flag new) f = f
+form_fits marks (Delete flag old) f = f
+form_fits marks (Update flag old new) f =
+    by_test (is_blank (normal_news marks old new)) _ (λ e. simp e tt) (λ e. simp e (columns_fit marks old new f.0, olds_fit marks old new f.1, news_fit marks old new f.2))
+
+-- ---- the changes of one table
+
+abbrev EntryFits : List Bool → List ℕ × Option Change → Type 0
+EntryFits marks entry = FitsIfAny marks entry.1
+
+prepared_fit : (marks : List Bool) (changes : List Change) → AllByRecursion (FitsChange marks) changes → AllByRecursion (EntryFits marks) (prepared marks changes)
+unfolding prepared
+prepared_fit marks [] f = tt
+prepared_fit marks (c ∷ changes) f =
+    by_test (has_key marks c) _ (λ e. simp e (form_fits marks c f.0, prepared_fit marks changes f.1)) (λ e. simp e tt)
+
+abbrev KeyedFits : List Bool → List ℕ × Change → Type 0
+KeyedFits marks keyed = FitsChange marks keyed.1
+
+kept_fit : (marks : List Bool) (es : Entries) → AllByRecursion (EntryFits marks) es → AllByRecursion (KeyedFits marks) (kept es)
+unfolding kept
+kept_fit marks [] h = tt
+kept_fit marks ((key, None) ∷ es) h = kept_fit marks es h.1
+kept_fit marks ((key, Some change) ∷ es) h = (h.0, kept_fit marks es h.1)
+
+pub all_fitted : (marks : List Bool) (changes : List Change) (fs : Entries) → IsPermutation (prepared marks changes) fs → AllByRecursion (FitsChange marks) changes → AllByRecursion (λ keyed. FitsChange marks keyed.1) (kept fs)
+all_fitted marks changes fs p f =
+    let es : All (EntryFits marks) (prepared marks changes) = All-from_recursion (EntryFits marks) (prepared marks changes) (prepared_fit marks changes f) in
+    kept_fit marks fs (recursion_from_All (EntryFits marks) fs (All-permutation (EntryFits marks) (prepared marks changes) fs p es))

@@ -1,0 +1,258 @@
+//! Changesets as read and their normal forms, byte for byte.
+
+ghost use Rattle.std.specs.Prelude.{◌≡◌, true, false, ◌∷◌, [], IfOk};
+ghost use Rattle.std.specs.List.{AllByRecursion};
+ghost use Rattle.cs_value.specs.declared.value.Field.TheVariants.{Is};
+ghost use Rattle.cs_record.specs.Spelling.{Fits};
+ghost use Rattle.cs_change.specs.Spelling.{FitsChange, FitsChangeset, FitsGroup, FitsRow};
+
+use super::*;
+use cs_change::{Change, Changeset, Group};
+use cs_value::{Catalog, Field, Fields, Items, Memory, Row, TableDef, Text, Value};
+use std::alloc::{AllocError, Global};
+use std::test::Fail;
+
+/// The header of the table `t1`, and of `t2`.
+const FIRST: [u8; 7] = [0x54, 2, 1, 0, 0x74, 0x31, 0];
+
+const SECOND: [u8; 7] = [0x54, 2, 1, 0, 0x74, 0x32, 0];
+
+/// NULL for 0, else the number.
+fn key_value(key: u8) -> Value
+    ensures { Fits (Is result) }
+{
+    match key {
+        0 => Value::Null,
+        number => Value::Int(i64::from(number)),
+    }
+}
+
+fn text_value(alloc: Global, text: &str) -> Result<Value, Memory>
+    ensures { IfOk result (λ value. Fits (Is value)) }
+{
+    Ok(Value::Text(Text::from_string(String::from_str(alloc, text)?)))
+}
+
+fn row(alloc: Global, key: u8, text: &str) -> Result<Row, Memory>
+    ensures { IfOk result (λ row. FitsRow 2 row) }
+{
+    let value = text_value(alloc, text)?;
+    Ok(Items::from_vec(vec![in alloc; key_value(key), value]?))
+}
+
+fn insert(alloc: Global, key: u8, text: &str) -> Result<Change, Memory>
+    ensures { IfOk result (FitsChange (true ∷ false ∷ [])) }
+{
+    Ok(Change::Insert {
+        flag: false,
+        new_row: row(alloc, key, text)?,
+    })
+}
+
+fn record(alloc: Global, key: Value, value: Value) -> Result<Fields, Memory>
+    ensures { IfOk result (λ fields. fields ≡ Is key ∷ Is value ∷ []) }
+{
+    Ok(Items::from_vec(vec![in alloc; Field::Is(key), Field::Is(value)]?))
+}
+
+/// An UPDATE as other writers spell it, with the key in the new record too.
+fn update(alloc: Global, key: u8, before: &str, after: &str) -> Result<Change, Memory>
+    ensures { IfOk result (FitsChange (true ∷ false ∷ [])) }
+{
+    let key = key_value(key);
+    let again = key.copy(alloc)?;
+    let old = text_value(alloc, before)?;
+    let new = text_value(alloc, after)?;
+    Ok(Change::Update {
+        flag: false,
+        old_fields: record(alloc, key, old)?,
+        new_fields: record(alloc, again, new)?,
+    })
+}
+
+/// A group of a table of two columns, of which the first has this mark.
+fn group(alloc: Global, mark: u8, name: &str, changes: Vec<Change>) -> Result<Group, Memory>
+    requires { AllByRecursion (FitsChange (true ∷ false ∷ [])) changes.items }
+    ensures { IfOk result FitsGroup }
+{
+    if mark == 0 || name.as_bytes().contains(&0) {
+        return Err(AllocError);
+    }
+    Ok(Group {
+        marks: Items::from_vec(vec![in alloc; mark, 0u8]?),
+        name: Text::from_string(String::from_str(alloc, name)?),
+        changes: Items::from_vec(changes),
+    })
+}
+
+/// A group of INSERTs with these keys.
+fn inserts(alloc: Global, name: &str, keys: &[u8]) -> Result<Group, Memory>
+    ensures { IfOk result FitsGroup }
+{
+    let mut changes = Vec::new(alloc);
+    for key in keys {
+        changes.push(insert(alloc, *key, "v1")?)?;
+    }
+    group(alloc, 1, name, changes)
+}
+
+/// Groups of INSERTs, each of a table.
+fn changeset(alloc: Global, spelled: &[(&str, &[u8])]) -> Result<Changeset, Memory>
+    ensures { IfOk result FitsChangeset }
+{
+    let mut groups = Vec::new(alloc);
+    for (name, keys) in spelled {
+        groups.push(inserts(alloc, name, keys)?)?;
+    }
+    Ok(Items::from_vec(groups))
+}
+
+fn table(alloc: Global, name: &str, last: bool) -> Result<TableDef, Memory> {
+    Ok(TableDef {
+        name: Text::from_string(String::from_str(alloc, name)?),
+        key_marks: Items::from_vec(vec![in alloc; true, last]?),
+    })
+}
+
+/// The tables `t1` and `t2` with one key column of two, and `t3` with two.
+fn tables(alloc: Global) -> Result<Vec<TableDef>, Memory> {
+    let mut tables = Vec::new(alloc);
+    tables.push(table(alloc, "t1", false)?)?;
+    tables.push(table(alloc, "t2", false)?)?;
+    tables.push(table(alloc, "t3", true)?)?;
+    Ok(tables)
+}
+
+fn bytes_of(alloc: Global, normal: &Normal) -> Result<Vec<u8>, Memory> {
+    let mut out = Vec::new(alloc);
+    normal.encode(&mut out)?;
+    Ok(out)
+}
+
+#[test]
+fn in_key_order_with_marks_of_one(rt: HostRuntime) -> Result<(), Fail> {
+    let alloc = rt.alloc();
+    let catalog = Catalog::new(tables(alloc)?)?;
+    let changes = vec![in alloc; insert(alloc, 2, "v2")?, insert(alloc, 1, "v1")?]?;
+    let groups = Items::from_vec(vec![in alloc; group(alloc, 2, "t1", changes)?]?);
+    let normal = normalise(alloc, &catalog, &groups)?;
+    let mut want = Vec::from_slice(alloc, &FIRST)?;
+    want.extend_from_slice(&[0x12, 0, 1, 0, 0, 0, 0, 0, 0, 0, 1, 3, 2, 0x76, 0x31])?;
+    want.extend_from_slice(&[0x12, 0, 1, 0, 0, 0, 0, 0, 0, 0, 2, 3, 2, 0x76, 0x32])?;
+    assert_eq!(rt; bytes_of(alloc, &normal)?, want);
+    Ok(())
+}
+
+#[test]
+fn updates(rt: HostRuntime) -> Result<(), Fail> {
+    let alloc = rt.alloc();
+    let catalog = Catalog::new(tables(alloc)?)?;
+    let changes = vec![in alloc;
+        update(alloc, 1, "v1", "v2")?,
+        update(alloc, 2, "v1", "v1")?,
+    ]?;
+    let groups = Items::from_vec(vec![in alloc; group(alloc, 1, "t1", changes)?]?);
+    let normal = normalise(alloc, &catalog, &groups)?;
+    let mut want = Vec::from_slice(alloc, &FIRST)?;
+    want.extend_from_slice(&[0x17, 0, 1, 0, 0, 0, 0, 0, 0, 0, 1, 3, 2, 0x76, 0x31])?;
+    want.extend_from_slice(&[0, 3, 2, 0x76, 0x32])?;
+    assert_eq!(rt; bytes_of(alloc, &normal)?, want);
+    Ok(())
+}
+
+#[test]
+fn nothing_left(rt: HostRuntime) -> Result<(), Fail> {
+    let alloc = rt.alloc();
+    let catalog = Catalog::new(tables(alloc)?)?;
+    let idle = vec![in alloc; update(alloc, 1, "v1", "v1")?]?;
+    let groups = Items::from_vec(vec![in alloc;
+        group(alloc, 1, "t1", idle)?,
+        inserts(alloc, "t2", &[])?,
+    ]?);
+    let normal = normalise(alloc, &catalog, &groups)?;
+    assert_eq!(rt; bytes_of(alloc, &normal)?.len(), 0);
+    Ok(())
+}
+
+#[test]
+fn dropped_update_has_a_key(rt: HostRuntime) -> Result<(), Fail> {
+    let alloc = rt.alloc();
+    let catalog = Catalog::new(tables(alloc)?)?;
+    let changes = vec![in alloc; update(alloc, 1, "v1", "v1")?, insert(alloc, 1, "v1")?]?;
+    let groups = Items::from_vec(vec![in alloc; group(alloc, 1, "t1", changes)?]?);
+    assert!(rt; matches!(normalise(alloc, &catalog, &groups), Err(Unfit::KeyTwice)));
+    Ok(())
+}
+
+#[test]
+fn tables_in_the_catalogs_order(rt: HostRuntime) -> Result<(), Fail> {
+    let alloc = rt.alloc();
+    let catalog = Catalog::new(tables(alloc)?)?;
+    let spelled: [(&str, &[u8]); 3] = [("t2", &[1]), ("t1", &[2]), ("t1", &[1])];
+    let normal = normalise(alloc, &catalog, &changeset(alloc, &spelled)?)?;
+    let mut want = Vec::from_slice(alloc, &FIRST)?;
+    want.extend_from_slice(&[0x12, 0, 1, 0, 0, 0, 0, 0, 0, 0, 1, 3, 2, 0x76, 0x31])?;
+    want.extend_from_slice(&[0x12, 0, 1, 0, 0, 0, 0, 0, 0, 0, 2, 3, 2, 0x76, 0x31])?;
+    want.extend_from_slice(&SECOND)?;
+    want.extend_from_slice(&[0x12, 0, 1, 0, 0, 0, 0, 0, 0, 0, 1, 3, 2, 0x76, 0x31])?;
+    assert_eq!(rt; bytes_of(alloc, &normal)?, want);
+    assert!(rt; normal.fits(&catalog));
+    let copied = normal.copy(alloc)?;
+    assert!(rt; copied.same(&normal));
+    Ok(())
+}
+
+#[test]
+fn first_faults(rt: HostRuntime) -> Result<(), Fail> {
+    let alloc = rt.alloc();
+    let catalog = Catalog::new(tables(alloc)?)?;
+    let cases: [(&[(&str, &[u8])], Unfit); 12] = [
+        (&[("t9", &[])], Unfit::UnknownTable),
+        (&[("t3", &[1])], Unfit::Shape),
+        (&[("t1", &[0])], Unfit::NullKey),
+        (&[("t1", &[1, 1])], Unfit::KeyTwice),
+        (&[("t1", &[1]), ("t1", &[1])], Unfit::KeyTwice),
+        (&[("t1", &[0, 1, 1])], Unfit::NullKey),
+        (&[("t1", &[1, 1, 0])], Unfit::KeyTwice),
+        (&[("t1", &[1, 1]), ("t9", &[])], Unfit::KeyTwice),
+        (&[("t9", &[]), ("t1", &[0])], Unfit::UnknownTable),
+        (&[("t3", &[1]), ("t1", &[0])], Unfit::Shape),
+        (&[("t1", &[1]), ("t2", &[0]), ("t1", &[1])], Unfit::NullKey),
+        (
+            &[("t2", &[1]), ("t1", &[1, 1]), ("t2", &[0])],
+            Unfit::KeyTwice,
+        ),
+    ];
+    for (spelled, fault) in &cases {
+        match normalise(alloc, &catalog, &changeset(alloc, spelled)?) {
+            Err(Unfit::Memory) => return Err(AllocError)?,
+            Err(told) => assert_eq!(rt; told, *fault),
+            Ok(_) => panic!(rt; "no fault was told"),
+        }
+    }
+    Ok(())
+}
+
+#[test]
+fn apart(rt: HostRuntime) -> Result<(), Fail> {
+    let alloc = rt.alloc();
+    let catalog = Catalog::new(tables(alloc)?)?;
+    let other = Catalog::new(vec![in alloc;
+        table(alloc, "t2", false)?,
+        table(alloc, "t1", false)?,
+    ]?)?;
+    let one = normalise(
+        alloc,
+        &catalog,
+        &changeset(alloc, &[("t1", &[1]), ("t2", &[1])])?,
+    )?;
+    let two = normalise(
+        alloc,
+        &catalog,
+        &changeset(alloc, &[("t1", &[1]), ("t2", &[2])])?,
+    )?;
+    assert!(rt; !one.same(&two));
+    assert!(rt; one.fits(&catalog));
+    assert!(rt; !one.fits(&other));
+    Ok(())
+}
