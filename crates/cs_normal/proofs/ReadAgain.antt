@@ -1,11 +1,11 @@
 -- The reader takes a normal form as it is written.
-use Rattle.std.proofs.Common.{◌≡◌, ℕ, ◌+◌, ◌<◌, Bool, true, List, [], ◌∷◌, length, map, sym, subst, ap, ◌∙◌, arith, length-append}
-use Rattle.std.specs.List.{AllByRecursion, Contains, flat_map}
+use Rattle.std.proofs.Common.{◌≡◌, ℕ, ◌+◌, ◌<◌, Bool, true, ◌||◌, refl, List, [], ◌∷◌, length, map, sym, subst, ap, ◌∙◌, arith, length-append}
+use Rattle.std.specs.List.{AllByRecursion, flat_map, list_any}
 use Rattle.std.specs.Str.{bytes_eq}
 use Rattle.std.proofs.lemmas.List.{length-map}
 use Rattle.std.proofs.lemmas.Slice.Eq.{bytes_eq-Decides}
 use Rattle.cs_value.specs.declared.catalog.TableDef.{TableDef}
-use Rattle.cs_change.specs.Spelling.{flag_byte, is_mark, marks_of, change_spelling, changes_spelling, FitsChange, FitsHeader, FitsChangeset}
+use Rattle.cs_change.specs.Spelling.{flag_byte, is_nonzero, marks_of, change_spelling, changes_spelling, FitsChange, FitsHeader, FitsChangeset}
 use Rattle.cs_change.specs.declared.change.Change.{Change}
 use Rattle.cs_change.specs.declared.group.Group.{Group}
 use Rattle.cs_normal.specs.Changes.{Changes}
@@ -18,14 +18,19 @@ use Rattle.cs_normal.proofs.NormalLaws.{by_test}
 use Rattle.cs_normal.proofs.PerTable.{AreAsRead}
 use Rattle.cs_normal.proofs.Shorter.{HaveShape, change_takes_a_byte}
 
+-- a byte that isn't 0 is a mark
+any_mark : (bytes : List ℕ) → list_any is_nonzero bytes ≡ list_any (λ m. m) (marks_of bytes)
+any_mark [] = refl
+any_mark (b ∷ bytes) = ap (λ (t : Bool). is_nonzero b || t) (any_mark bytes)
+
 -- the header of a group with these marks, written as 1 and 0
 header_again : (read : List ℕ) (marks : List Bool) (name : List ℕ) → marks_of read ≡ marks → FitsHeader read name → FitsHeader (map flag_byte marks) name
 header_again read marks name same h =
-    let wide : length (map flag_byte marks) ≡ length read = length-map marks flag_byte ∙ ap length (sym same) ∙ length-map read is_mark in
+    let wide : length (map flag_byte marks) ≡ length read = length-map marks flag_byte ∙ ap length (sym same) ∙ length-map read is_nonzero in
     record {
       some = omega (arith, wide, h.some);
       limit = omega (arith, wide, h.limit);
-      key = subst (λ (ms : List Bool). Contains ms true) (same ∙ sym (marks_stay marks)) h.key;
+      key = any_mark (map flag_byte marks) ∙ ap (list_any (λ m. m)) (marks_stay marks ∙ sym same) ∙ sym (any_mark read) ∙ h.key;
       text = h.text;
       ended = h.ended;
     }

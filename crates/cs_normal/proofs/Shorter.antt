@@ -7,7 +7,7 @@ use Rattle.std.proofs.lemmas.List.{length-map}
 use Rattle.std.proofs.lemmas.Slice.Eq.{bytes_eq-Decides}
 use Rattle.cs_varint.specs.Varint.{spelling}
 use Rattle.cs_value.specs.declared.catalog.TableDef.{TableDef}
-use Rattle.cs_change.specs.Spelling.{flag_byte, is_mark, marks_of, change_spelling, changes_spelling, header_spelling, group_spelling, changeset_spelling}
+use Rattle.cs_change.specs.Spelling.{flag_byte, is_nonzero, marks_of, change_spelling, changes_spelling, header_spelling, group_spelling, changeset_spelling}
 use Rattle.cs_change.specs.declared.change.Change.{Change}
 use Rattle.cs_change.specs.declared.change.Change.TheVariants.{Insert, Delete, Update}
 use Rattle.cs_change.specs.declared.group.Group.{Group}
@@ -49,7 +49,7 @@ with_header table [] shape some = absurd (omega (arith, some))
 with_header table (group ∷ groups) shape some =
     by_test (bytes_eq group.name table.name) _ (λ e.
     let same : group.name ≡ table.name = (bytes_eq-Decides group.name table.name).0 e in
-    let wide : length group.marks ≡ length table.key_marks = sym (length-map group.marks is_mark) ∙ ap length (shape.0 same) in
+    let wide : length group.marks ≡ length table.key_marks = sym (length-map group.marks is_nonzero) ∙ ap length (shape.0 same) in
     let header : length (header_spelling group.marks table.name) ≡ length (header_spelling (map flag_byte table.key_marks) table.name) = header_size group.marks (map flag_byte table.key_marks) table.name (wide ∙ sym (length-map table.key_marks flag_byte)) in
     let header' : length (header_spelling group.marks group.name) ≡ length (header_spelling (map flag_byte table.key_marks) table.name) = ap (λ (n : List ℕ). length (header_spelling group.marks n)) same ∙ header in
     let rest = changes_size table.name groups in
