@@ -1,5 +1,5 @@
 -- What the net change of two places is: normal, the change from one to the other, and the only one.
-use Rattle.std.proofs.Common.{◌≡◌, ◌↔◌, Bool, true, false, refl, arith, ap, sym, ◌∙◌, subst, List, [], ◌∷◌, Some, None, length}
+use Rattle.std.proofs.Common.{◌≡◌, Bool, true, false, refl, arith, ap, sym, ◌∙◌, subst, List, [], ◌∷◌, Some, None, length}
 use Rattle.cs_value.specs.Key.{Place, FitsPlace, HasKey}
 use Rattle.cs_value.specs.Catalog.{marked}
 use Rattle.cs_value.specs.Same.{same_value, same_value-tells, same_value-Decides, same_row, same_row-Decides, same_row-refl}

@@ -1,5 +1,5 @@
 -- How changes, groups and changesets are spelled in bytes (SQLite's "changeset format"). Each has one spelling.
-use Rattle.std.specs.Prelude.{◌≡◌, ◌≢◌, ℕ, ◌^◌, ◌<◌, ◌≤◌, nat_eq, Bool, true, false, not, if◌then◌else◌, List, [], ◌∷◌, ◌++◌, length, map, IsUtf8}
+use Rattle.std.specs.Prelude.{◌≡◌, ◌≢◌, ℕ, ◌<◌, ◌≤◌, nat_eq, Bool, true, false, not, if◌then◌else◌, List, [], ◌∷◌, ◌++◌, length, map, IsUtf8}
 use Rattle.std.specs.List.{flat_map, list_any, AllByRecursion}
 use Rattle.cs_varint.specs.Varint.{spelling}
 use Rattle.cs_value.specs.declared.value.Value.{Value}

@@ -6,25 +6,37 @@ ghost use Rattle.cs_change.specs.Action.{flag_of};
 use cs_value::{Fields, Row};
 use std::alloc::{AllocError, Global};
 
-/// One change of a changeset. `flag` marks an indirect change, and has no part in what it means.
+/// One change of a changeset. `flag` marks an indirect change, and has no part in what it means. (SQLite's "changeset
+/// format", changes.)
 #[derive(Drop)]
 pub enum Change {
+    /// An INSERT.
     Insert {
+        /// Whether the change is indirect.
         flag: bool,
+        /// The row that comes in.
         new_row: Row,
     },
+    /// A DELETE.
     Delete {
+        /// Whether the change is indirect.
         flag: bool,
+        /// The row that goes, whole.
         old_row: Row,
     },
+    /// An UPDATE.
     Update {
+        /// Whether the change is indirect.
         flag: bool,
+        /// The key's values, and the old value of each modified column; undefined elsewhere.
         old_fields: Fields,
+        /// The new value of each modified column; undefined elsewhere.
         new_fields: Fields,
     },
 }
 
 impl Change {
+    /// Whether the change is indirect. (SQLite's "Session Extension", `sqlite3session_indirect`.)
     pub fn is_indirect(&self) -> bool
         ensures { result ≡ flag_of self.now }
     {
@@ -35,6 +47,7 @@ impl Change {
         }
     }
 
+    /// The change, in memory of its own.
     pub fn copy(&self, alloc: Global) -> Result<Change, AllocError>
         ensures { IfOk result (λ copied. copied ≡ self.now) }
     {

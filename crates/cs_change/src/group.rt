@@ -10,10 +10,13 @@ pub type Bytes = Items<u8>;
 /// its changes in the order in which they came. (SQLite's "changeset format", table header and changes.)
 #[derive(Drop)]
 pub struct Group {
+    /// One byte a column, in column order; any but 0 marks a key column.
     pub marks: Bytes,
+    /// The table's name.
     pub name: Text,
+    /// The changes, in the order in which they came.
     pub changes: Items<Change>,
 }
 
-/// A changeset as read: its groups in the order in which they came.
+/// A changeset as read: its groups in the order in which they came. (SQLite's "changeset format".)
 pub type Changeset = Items<Group>;

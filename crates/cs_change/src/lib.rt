@@ -14,3 +14,6 @@ pub use group::{Bytes, Changeset, Group};
 pub mod laws;
 
 pub use writing::{encode, encode_change};
+
+#[cfg(test)]
+mod tests;

@@ -1,13 +1,13 @@
 -- One field stands at the front, or one fault.
-use Rattle.std.proofs.Common.{◌≡◌, ℕ, ◌+◌, ◌^◌, ◌<◌, ◌≤◌, List, [], ◌∷◌, ◌++◌, length, take, refl, sym, ap, ◌∙◌, append_assoc, arith, inl, inr, length-append, subst}
-use Rattle.std.specs.Prelude.{ℤ, FitsSigned, ◌≢◌, ◌⊎◌, IsUtf8}
-use Rattle.std.specs.Int.{w64, to_be_bytes, cast_unsigned, cast_signed, from_be_bytes}
+use Rattle.std.proofs.Common.{◌≡◌, ℕ, ◌+◌, ◌^◌, ◌<◌, ◌≤◌, List, ◌∷◌, ◌++◌, length, take, refl, sym, ap, ◌∙◌, append_assoc, arith, inl, inr, length-append, subst}
+use Rattle.std.specs.Prelude.{ℤ, FitsSigned, ◌≢◌, IsUtf8}
+use Rattle.std.specs.Int.{w64, cast_unsigned, cast_signed, from_be_bytes}
 use Rattle.std.proofs.Math.Seq.{take-append_seam}
 use Rattle.std.proofs.Math.Facts.{Fits-of_z, Fits-lt-pow}
 use Rattle.std.proofs.lemmas.Int.{to_z-of_z}
 use Rattle.std.proofs.lemmas.List.{append_cancel_left}
 use Rattle.std.proofs.lemmas.Nat.{from_be_bytes-to_be_bytes_8}
-use Rattle.cs_varint.specs.Varint.{spelling, IsPartial, IsTooLong}
+use Rattle.cs_varint.specs.Varint.{spelling, IsTooLong}
 use Rattle.cs_varint.proofs.Apart.{spellings_apart, partial_never, too_long_never, partial_not_long, too_long_stays}
 use Rattle.cs_value.specs.declared.value.Value.TheVariants.{Null, Int, Text, Blob}
 use Rattle.cs_value.specs.declared.value.Field.{Field}
