@@ -1,4 +1,3 @@
 pub mod CatalogWords
 pub mod CommandLine
-pub mod StandIn
 pub mod TableWord

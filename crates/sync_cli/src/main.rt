@@ -9,7 +9,6 @@
 mod command;
 mod run;
 mod show;
-mod stand_in;
 mod table;
 
 use std::io::{BufReader, ErrorKind, Write};

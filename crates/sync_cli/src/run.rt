@@ -8,14 +8,15 @@ ghost use Rattle.cs_lines.specs.Served.{AnswersAll};
 ghost use Rattle.cs_value.specs.declared.catalog.TableDef.{TableDef};
 ghost use Rattle.sync_cli.specs.CatalogWords.{AreRefused, IsCatalogOf, status_of};
 ghost use Rattle.sync_cli.specs.CommandLine.{sync_app, tables_of};
-ghost use Rattle.sync_cli.specs.StandIn.{Answers, Hub as HubState, fresh};
+ghost use Rattle.cs_hub.specs.Hub.{HubState, fresh};
+ghost use Rattle.cs_hub.specs.Serves.{Serves};
 
 use crate::show::show_changeset;
-use crate::stand_in::Hub;
 use crate::table::Refused;
 use crate::{command, table};
 use clap::Error;
 use clap::error::ErrorKind;
+use cs_hub::Hub;
 use cs_lines::{Stop, serve_lines};
 use std::alloc::Global;
 use std::convert::AsStr;
@@ -51,7 +52,7 @@ pub fn run<S: AsStr, R: BufRead, W: Write, E: Write>(
         → (table_words : List (List ℕ)) → tables_of (map S.text words.now) ≡ Some table_words
         → (tables : List TableDef) × IsCatalogOf table_words tables
         × IfSome (R.remaining reader.old) (λ input. (answers : List (List ℕ)) × (end : HubState)
-        × AnswersAll Answers (fresh tables) (lines_of input) answers end
+        × AnswersAll Serves (fresh tables) (lines_of input) answers end
         × Appends (W.contents writer.old) (W.contents writer.new) (flat_map hex_line answers)) }
     ensures refused { result ≡ 2 → takes sync_app (map S.text words.now) ≡ true
         → AreRefused (tables_of (map S.text words.now)) }

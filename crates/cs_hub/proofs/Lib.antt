@@ -1,0 +1,9 @@
+pub mod Bytes
+pub mod Fresh
+pub mod Grown
+pub mod OneAnswer
+pub mod Reading
+pub mod Served
+pub mod Sorted
+pub mod Updated
+pub mod Written

@@ -1,0 +1,44 @@
+use Rattle.std.proofs.Common.{arith, ◌≡◌, length, true, false, inr, refl, ap, rules}
+use Rattle.cs_hub.specs.Hub.{HubState}
+use Rattle.cs_hub.proofs.Grown.{sound_kept, sound_grown, defined, undefined, answered}
+use Rattle.cs_hub.proofs.hub.Hub.push.Goals as goal
+
+-- what is staged changes neither names nor rows
+pub invariant_of-self : goal.invariant_of-self
+invariant_of-self c = sound_kept _ _ _ _ c.self.invariant c.stage.ensures.kept
+
+pub invariant_of-self-then-not-branch : goal.invariant_of-self-then-not-branch
+invariant_of-self-then-not-branch c = sound_kept _ _ _ _ c.self.invariant c.stage.ensures.kept
+
+pub invariant_of-self-in_err-copy : goal.invariant_of-self-in_err-copy
+invariant_of-self-in_err-copy c = sound_kept _ _ _ _ c.self.invariant c.stage.ensures.kept
+
+pub invariant_of-self-in_err-reserve : goal.invariant_of-self-in_err-reserve
+invariant_of-self-in_err-reserve c = rw c.reserve.ensures.items (sound_kept _ _ _ _ c.self.invariant c.stage.ensures.kept)
+
+-- a change was refused
+pub returns-then-not-branch-clause-pushed : goal.returns-then-not-branch-clause-pushed
+returns-then-not-branch-clause-pushed c =
+    let answer = answered _ _ _ _ false c.tables-2.ensures.same c.if-not-branch.true c.in_ok-stage.ensures.staged in
+    let log : c.self.inside.log.items ≡ c.args.self.now.log = ap (λ (h : HubState). h.log) c.self.view_is in
+    let many : length c.self.inside.log.items ≡ length c.args.self.now.log = ap length log in
+    let undefined_there = undefined _ _ _ _ _ c.self.invariant c.stage.ensures.kept answer c.tables-2.ensures.normal in
+    ((search rules, omega (arith, c.self.inside.log.ok.0), omega (arith, c.self.inside.log.ok.0)), rw (← log) undefined_there, log)
+
+-- the changes are written, and the push is appended
+pub invariant_of-self-2 : goal.invariant_of-self-2
+invariant_of-self-2 c =
+    let answer = answered _ _ _ _ true c.tables-2.ensures.same c.if-not-branch.false c.in_ok-stage.ensures.staged in
+    let same : c.in_ok-copy.field-0 ≡ c.args.changes.now = c.in_ok-copy.ensures in
+    rw (c.push_reserved.ensures.items, c.reserve.ensures.items, same)
+    (sound_grown _ _ _ _ _ _ _ _ c.self.invariant c.stage.ensures.kept answer c.commit.ensures (omega (arith, c.self.inside.log.ok.0)) (omega (arith, c.requires.size)))
+
+pub returns-clause-pushed : goal.returns-clause-pushed
+returns-clause-pushed c =
+    let answer = answered _ _ _ _ true c.tables-2.ensures.same c.if-not-branch.false c.in_ok-stage.ensures.staged in
+    let log : c.self.inside.log.items ≡ c.args.self.now.log = ap (λ (h : HubState). h.log) c.self.view_is in
+    let catalog : c.self.inside.catalog ≡ c.args.self.now.catalog = ap (λ (h : HubState). h.catalog) c.self.view_is in
+    let many : length c.self.inside.log.items ≡ length c.args.self.now.log = ap length log in
+    let same : c.in_ok-copy.field-0 ≡ c.args.changes.now = c.in_ok-copy.ensures in
+    let defined_there = defined _ _ _ _ _ c.self.invariant c.stage.ensures.kept answer (rw (← catalog) at c.requires.fits) in
+    (refl, inr ((search rules, omega (arith, c.self.inside.log.ok.0), omega (arith, c.self.inside.log.ok.0)), rw (← log) defined_there, rw (c.push_reserved.ensures.items, c.reserve.ensures.items, same, log) refl))

@@ -1,0 +1,19 @@
+-- The laws of requests and pushes.
+use Rattle.std.specs.Prelude.{◌≡◌, ℕ, List, Result}
+use Rattle.cs_changeset.specs.declared.log.LogEntry.{LogEntry}
+use Rattle.cs_hub.specs.Messages.{Asked, Asks}
+use Rattle.cs_hub.specs.Pushes.{Push, Pushes}
+use Rattle.cs_hub.specs.declared.fault.HubFault.{HubFault}
+use Rattle.cs_hub.specs.declared.fault.Pushed.{Pushed}
+
+-- bytes ask one thing: a request that they spell, or the one fault that they have
+abbrev pub OneRequest : Type 0
+OneRequest = (bytes : List ℕ) (one other : Asked) → Asks bytes one → Asks bytes other → one ≡ other
+
+-- a push over a log has one answer, and leaves one log
+abbrev pub OneAnswer : Type 0
+OneAnswer =
+    (old : List LogEntry) (push : Push) (one other : Result Pushed HubFault) (new last : List LogEntry)
+    → Pushes old push one new
+    → Pushes old push other last
+    → (one ≡ other) × (new ≡ last)

@@ -1,0 +1,120 @@
+-- Requests and answers: how each is spelled in bytes, and what is wrong with bytes that spell no request. Numbers have
+-- four or eight bytes, the high byte first. (Profile of this project.)
+use Rattle.std.specs.Prelude.{◌≡◌, ◌≢◌, ◌⊎◌, ℕ, ◌<◌, ◌^◌, List, [], ◌∷◌, ◌++◌, length, Result, Ok, Err}
+use Rattle.std.specs.Int.{w32, w64, to_be_bytes}
+use Rattle.std.specs.List.{flat_map}
+use Rattle.cs_normal.specs.Normal.{normal_spelling}
+use Rattle.cs_changeset.specs.declared.log.LogEntry.{LogEntry}
+use Rattle.cs_hub.specs.Tables.{changes_of}
+use Rattle.cs_hub.specs.declared.answer.Answer.{Answer}
+use Rattle.cs_hub.specs.declared.answer.Answer.TheVariants.{Accepted, Stale, Refused}
+use Rattle.cs_hub.specs.declared.request.Request.{Request}
+use Rattle.cs_hub.specs.declared.request.Request.TheVariants.{Push, Pull}
+use Rattle.cs_hub.specs.declared.request.RequestFault.{RequestFault}
+use Rattle.cs_hub.specs.declared.request.RequestFault.TheVariants.{Truncated, BadTag, TooLong}
+
+unfoldable pub four_bytes : ℕ → List ℕ
+four_bytes number = to_be_bytes w32 number
+
+unfoldable pub eight_bytes : ℕ → List ℕ
+eight_bytes number = to_be_bytes w64 number
+
+-- ---- requests
+
+-- the numbers of a Push, and what follows them
+abbrev pub push_numbers : ℕ → ℕ → ℕ → ℕ → List ℕ → List ℕ
+push_numbers origin number base size rest =
+    four_bytes origin ++ (eight_bytes number ++ (eight_bytes base ++ (four_bytes size ++ rest)))
+
+-- a tag, the origin, the number, the base, and the changeset behind its length
+abbrev pub push_spelling : ℕ → ℕ → ℕ → List ℕ → List ℕ
+push_spelling origin number base changeset = 1 ∷ push_numbers origin number base (length changeset) changeset
+
+-- the numbers of a Pull, and what follows them
+abbrev pub pull_numbers : ℕ → ℕ → List ℕ → List ℕ
+pull_numbers first limit rest = eight_bytes first ++ (four_bytes limit ++ rest)
+
+-- a tag, the first entry that is asked for, and how many at most
+abbrev pub pull_spelling : ℕ → ℕ → List ℕ
+pull_spelling first limit = 2 ∷ pull_numbers first limit []
+
+-- the numbers of a Push are in range
+pub record FitsPush (origin number base size : ℕ) : Type 0 where
+  pub origin_fits : origin < 2 ^ 32
+  pub number_fits : number < 2 ^ 64
+  pub base_fits : base < 2 ^ 64
+  pub size_fits : size < 2 ^ 32
+
+-- the numbers of a Pull are in range
+pub record FitsPull (first limit : ℕ) : Type 0 where
+  pub first_fits : first < 2 ^ 64
+  pub limit_fits : limit < 2 ^ 32
+
+-- the front of a request: within its numbers, or within its changeset
+abbrev pub IsPartial : List ℕ → Type 0
+IsPartial bytes =
+    (bytes ≡ [])
+    ⊎ ((rest : List ℕ) × (bytes ≡ 1 ∷ rest) × (length rest < 24))
+    ⊎ ((rest : List ℕ) × (bytes ≡ 2 ∷ rest) × (length rest < 12))
+    ⊎ ((origin : ℕ) × (number : ℕ) × (base : ℕ) × (size : ℕ) × (part : List ℕ) × FitsPush origin number base size × (bytes ≡ 1 ∷ push_numbers origin number base size part) × (length part < size))
+
+-- a request, and bytes behind it
+abbrev pub IsLonger : List ℕ → Type 0
+IsLonger bytes =
+    ((origin : ℕ) × (number : ℕ) × (base : ℕ) × (size : ℕ) × (more : List ℕ) × FitsPush origin number base size × (bytes ≡ 1 ∷ push_numbers origin number base size more) × (size < length more))
+    ⊎ ((first : ℕ) × (limit : ℕ) × (more : List ℕ) × FitsPull first limit × (bytes ≡ 2 ∷ pull_numbers first limit more) × (0 < length more))
+
+-- what is wrong with bytes that spell no request
+abbrev pub IsRequestFault : RequestFault → List ℕ → Type 0
+IsRequestFault Truncated bytes = IsPartial bytes
+IsRequestFault BadTag bytes = (tag : ℕ) × (rest : List ℕ) × (bytes ≡ tag ∷ rest) × (tag ≢ 1) × (tag ≢ 2)
+IsRequestFault TooLong bytes = IsLonger bytes
+
+-- what bytes ask of a hub
+pub data Asked : Type 0 where
+  AsksPush : (origin number base : ℕ) (changeset : List ℕ) → Asked
+  AsksPull : (first limit : ℕ) → Asked
+  AsksNothing : RequestFault → Asked
+
+abbrev pub Asks : List ℕ → Asked → Type 0
+Asks bytes (AsksPush origin number base changeset) =
+    FitsPush origin number base (length changeset) × (bytes ≡ push_spelling origin number base changeset)
+Asks bytes (AsksPull first limit) = FitsPull first limit × (bytes ≡ pull_spelling first limit)
+Asks bytes (AsksNothing fault) = IsRequestFault fault bytes
+
+-- what a request as read asks
+abbrev pub asked : Result Request RequestFault → Asked
+asked (Ok (Push origin number base changeset)) = AsksPush origin number base changeset.now
+asked (Ok (Pull first limit)) = AsksPull first limit
+asked (Err fault) = AsksNothing fault
+
+-- ---- answers
+
+-- a push was taken: its origin, its number, and the version that it made
+abbrev pub accepted_spelling : ℕ → ℕ → ℕ → List ℕ
+accepted_spelling origin number version = 17 ∷ (four_bytes origin ++ (eight_bytes number ++ eight_bytes version))
+
+-- a push came too late: the newest version
+abbrev pub stale_spelling : ℕ → List ℕ
+stale_spelling newest = 18 ∷ eight_bytes newest
+
+-- a refusal: its code
+abbrev pub refused_spelling : ℕ → List ℕ
+refused_spelling code = 19 ∷ code ∷ []
+
+-- an entry: its kind, its origin, its number, and the changeset behind its length
+abbrev pub entry_spelling : LogEntry → List ℕ
+entry_spelling entry =
+    let changeset = normal_spelling (changes_of entry.body) in
+    0 ∷ (four_bytes entry.origin ++ (eight_bytes entry.number ++ (four_bytes (length changeset) ++ changeset)))
+
+-- entries: the first one's place, how many there are, and each
+abbrev pub entries_spelling : ℕ → List LogEntry → List ℕ
+entries_spelling first entries =
+    20 ∷ (eight_bytes first ++ (four_bytes (length entries) ++ flat_map entry_spelling entries))
+
+-- the answers but entries
+abbrev pub answer_spelling : Answer → List ℕ
+answer_spelling (Accepted origin number version) = accepted_spelling origin number version
+answer_spelling (Stale newest) = stale_spelling newest
+answer_spelling (Refused code) = refused_spelling code

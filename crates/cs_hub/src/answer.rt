@@ -1,0 +1,139 @@
+//! Answers: what the hub tells a replica.
+
+ghost use Rattle.std.specs.Prelude.{◌≡◌, ◌+◌, ◌≤◌, ◌<◌, ◌^◌, [], ◌∷◌, ◌++◌, length, All, IfOk, OnOk, vec_len, vec_capacity};
+ghost use Rattle.std.specs.List.{flat_map};
+ghost use Rattle.cs_hub.specs.Messages.{four_bytes, eight_bytes, entry_spelling, entries_spelling};
+ghost use Rattle.cs_hub.specs.Sound.{FitsMessage};
+
+use cs_changeset::{Body, LogEntry};
+use cs_value::Memory;
+use std::alloc::Global;
+
+/// The answers but entries. (Profile of this project.)
+#[derive(Clone, Copy)]
+pub(crate) enum Answer {
+    /// The push is entry `version - 1`.
+    Accepted {
+        origin: u32,
+        number: u64,
+        version: u64,
+    },
+    /// Another push stands at its base; the log has `newest` entries.
+    Stale {
+        newest: u64,
+    },
+    /// A code of refusal.
+    Refused(u8),
+}
+
+/// The most bytes of an answer but entries.
+pub(crate) const SHORT: usize = 21;
+
+/// Appends bytes for which there is room.
+fn put(bytes: &[u8], out: &mut Vec<u8>)
+    requires { vec_len out.old + length bytes.now ≤ vec_capacity out.old }
+    ensures items { out.new.items ≡ out.old.items ++ bytes.now }
+    ensures len { vec_len out.new ≡ vec_len out.old + length bytes.now }
+    ensures capacity { vec_capacity out.old ≤ vec_capacity out.new }
+{
+    match out.extend_from_slice(bytes) {
+        Ok(()) => {}
+        Err(_) => unreachable!(),
+    }
+}
+
+fn put_u8(number: u8, out: &mut Vec<u8>)
+    requires { vec_len out.old + 1 ≤ vec_capacity out.old }
+    ensures items { out.new.items ≡ out.old.items ++ number ∷ [] }
+    ensures len { vec_len out.new ≡ vec_len out.old + 1 }
+    ensures capacity { vec_capacity out.old ≤ vec_capacity out.new }
+{
+    out.push_reserved(number);
+}
+
+fn put_u32(number: u32, out: &mut Vec<u8>)
+    requires { vec_len out.old + 4 ≤ vec_capacity out.old }
+    ensures items { out.new.items ≡ out.old.items ++ four_bytes number }
+    ensures len { vec_len out.new ≡ vec_len out.old + 4 }
+    ensures capacity { vec_capacity out.old ≤ vec_capacity out.new }
+{
+    put(&number.to_be_bytes(), out);
+}
+
+fn put_u64(number: u64, out: &mut Vec<u8>)
+    requires { vec_len out.old + 8 ≤ vec_capacity out.old }
+    ensures items { out.new.items ≡ out.old.items ++ eight_bytes number }
+    ensures len { vec_len out.new ≡ vec_len out.old + 8 }
+    ensures capacity { vec_capacity out.old ≤ vec_capacity out.new }
+{
+    put(&number.to_be_bytes(), out);
+}
+
+impl Answer {
+    ghost use Rattle.std.specs.Prelude.{◌≡◌, ◌+◌, ◌≤◌, ◌++◌, vec_len, vec_capacity};
+    ghost use Rattle.cs_hub.specs.Messages.{answer_spelling};
+
+    /// Appends the answer. There is room for it.
+    pub(crate) fn put(&self, out: &mut Vec<u8>)
+        requires { vec_len out.old + SHORT ≤ vec_capacity out.old }
+        ensures { out.new.items ≡ out.old.items ++ answer_spelling self.now }
+    {
+        match self {
+            Answer::Accepted {
+                origin,
+                number,
+                version,
+            } => {
+                put_u8(17, out);
+                put_u32(*origin, out);
+                put_u64(*number, out);
+                put_u64(*version, out);
+            }
+            Answer::Stale { newest } => {
+                put_u8(18, out);
+                put_u64(*newest, out);
+            }
+            Answer::Refused(code) => {
+                put_u8(19, out);
+                put_u8(*code, out);
+            }
+        }
+    }
+}
+
+/// Appends an entry.
+fn put_entry(alloc: Global, entry: &LogEntry, out: &mut Vec<u8>) -> Result<(), Memory>
+    requires { FitsMessage entry.now }
+    ensures { OnOk result (out.new.items ≡ out.old.items ++ entry_spelling entry.now) }
+{
+    let Body::Changes(changes) = &entry.body;
+    let mut changeset = Vec::new(alloc);
+    changes.encode(&mut changeset)?;
+    out.reserve(17)?;
+    put_u8(0, out);
+    put_u32(entry.origin, out);
+    put_u64(entry.number, out);
+    put_u32(changeset.len() as u32, out);
+    out.extend_from_slice(&changeset)?;
+    Ok(())
+}
+
+/// The answer that tells these entries, of which the first stands at `first` in the log.
+pub(crate) fn entries_answer(
+    alloc: Global,
+    first: u64,
+    entries: &[LogEntry],
+) -> Result<Vec<u8>, Memory>
+    requires fit { All FitsMessage entries.now }
+    requires few { length entries.now < 2 ^ 32 }
+    ensures { IfOk result (λ answer. answer.items ≡ entries_spelling first entries.now) }
+{
+    let mut out = Vec::with_capacity(alloc, 13)?;
+    put_u8(20, &mut out);
+    put_u64(first, &mut out);
+    put_u32(entries.len() as u32, &mut out);
+    for entry in entries {
+        put_entry(alloc, entry, &mut out)?;
+    }
+    Ok(out)
+}

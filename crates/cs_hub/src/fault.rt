@@ -1,0 +1,52 @@
+//! Why the hub refuses.
+
+ghost use Rattle.std.specs.Prelude.{◌≡◌};
+ghost use Rattle.cs_hub.specs.declared.fault.HubFault.TheVariants.{Memory};
+
+use std::alloc::{AllocError, AllocFailed};
+use thiserror::Error;
+
+/// Why the hub refuses a push or a pull. The text is the name that programs print. (Profile of this project.)
+#[derive(Clone, Copy, Debug, PartialEq, Eq, Error)]
+pub enum HubFault {
+    /// Memory was refused; nothing has changed.
+    #[error("Memory")]
+    Memory = 1,
+    /// The base, or the first entry asked for, is above the log's length.
+    #[error("Ahead")]
+    Ahead = 2,
+    /// A change is not defined on the tables.
+    #[error("Conflict")]
+    Conflict = 3,
+    /// The changeset has no change.
+    #[error("Empty")]
+    Empty = 4,
+    /// The log has `MAX_ENTRIES` entries.
+    #[error("Full")]
+    Full = 5,
+}
+
+impl From<AllocError> for HubFault {
+    ghost from_gives = { λ _ e. e ≡ Memory };
+
+    fn from(_e: AllocError) -> HubFault {
+        HubFault::Memory
+    }
+}
+
+impl<T: Drop> From<AllocFailed<T>> for HubFault {
+    ghost from_gives = { λ _ e. e ≡ Memory };
+
+    fn from(_e: AllocFailed<T>) -> HubFault {
+        HubFault::Memory
+    }
+}
+
+/// What the hub made of a push that it read. (Profile of this project.)
+#[derive(Clone, Copy, Debug, PartialEq, Eq)]
+pub enum Pushed {
+    /// The push is entry `version - 1` of the log: it was appended, or it was there before.
+    Accepted(u64),
+    /// Another push stands at its base; the log has so many entries.
+    Stale(u64),
+}

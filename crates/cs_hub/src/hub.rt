@@ -1,0 +1,303 @@
+//! The hub's log and tables, and what it answers.
+
+ghost use Rattle.std.specs.Prelude.{◌≡◌, ◌↔◌, IsTrue};
+ghost use Rattle.cs_hub.specs.Pushes.{entry_with};
+
+use crate::answer::{Answer, SHORT, entries_answer};
+use crate::code;
+use crate::fault::{HubFault, Pushed};
+use crate::request::Request;
+use crate::rows::KeyedRow;
+use crate::tables::Tables;
+use cs_change::Changeset;
+use cs_changeset::{Body, CodecFault, LogEntry, decode};
+use cs_normal::{Normal, Unfit, normalise};
+use cs_value::{Catalog, Memory};
+use std::alloc::{AllocError, Global};
+use std::marker::Model;
+
+/// The most entries of the log. (Profile of this project.)
+pub const MAX_ENTRIES: usize = 4096;
+
+/// The most bytes of a changeset in a message. (Profile of this project.)
+pub const MAX_CHANGESET: u64 = 4_294_967_295;
+
+/// An append-only log of accepted pushes, and the tables that it makes. Contracts see the catalog and the log. (Profile
+/// of this project.)
+#[derive(Drop)]
+pub struct Hub {
+    alloc: Global,
+    catalog: Catalog,
+    tables: Tables,
+    log: Vec<LogEntry>,
+}
+
+impl Model for Hub {
+    ghost use Rattle.cs_hub.specs.Hub.{HubState};
+    ghost use Rattle.cs_hub.specs.Sound.{IsSound};
+
+    ghost Value = { HubState };
+
+    ghost view = { λ hub. record { catalog = hub.catalog; log = hub.log.items } };
+
+    ghost invariant = { λ hub. IsSound hub.catalog hub.log.items hub.tables };
+}
+
+/// Whether the entry is a push with this origin, number and changeset.
+fn is_push(entry: &LogEntry, origin: u32, number: u64, changes: &Normal) -> bool
+    ensures { IsTrue result ↔ (entry.now ≡ entry_with origin number changes.now) }
+{
+    let Body::Changes(held) = &entry.body;
+    entry.origin == origin && entry.number == number && held.same(changes)
+}
+
+impl Hub {
+    ghost use Rattle.std.specs.Prelude.{◌≡◌, ◌↔◌, ◌≤◌, ◌<◌, ◌^◌, ◌+◌, ◌≢◌, ℕ, List, [], Some, Ok, IsTrue, IfOk, OnErr, MatchResult, length};
+    ghost use Rattle.cs_change.specs.Spelling.{FitsChangeset, changeset_spelling};
+    ghost use Rattle.cs_hub.specs.Messages.{AsksPush, AsksPull, answer_spelling};
+    ghost use Rattle.cs_hub.specs.Serves.{AnswersAsked, AnswersChangeset, AnswersGroups, AnswersPush, Serves};
+    ghost use Rattle.std.specs.List.{slice_get};
+    ghost use Rattle.cs_value.specs.declared.catalog.TableDef.{TableDef};
+    ghost use Rattle.cs_normal.specs.Normal.{FitsCatalog, normal_spelling};
+    ghost use Rattle.cs_hub.specs.Hub.{HubState, fresh, entries_from};
+    ghost use Rattle.cs_hub.specs.Rows.{IsInOrder, row_at};
+    ghost use Rattle.cs_hub.specs.Tables.{place_at};
+    ghost use Rattle.cs_hub.specs.Pushes.{Push, Pushes, PushesIf};
+
+    /// A hub of these tables that has taken nothing yet. It keeps `alloc` for later calls.
+    ///
+    /// # Errors
+    ///
+    /// `Memory` where memory was refused.
+    pub fn new(alloc: Global, catalog: &Catalog) -> Result<Hub, Memory>
+        ensures { IfOk result (λ hub. hub ≡ fresh catalog.now) }
+    {
+        Ok(Hub {
+            alloc,
+            catalog: catalog.copy(alloc)?,
+            tables: Tables::new(alloc, catalog.tables())?,
+            log: Vec::new(alloc),
+        })
+    }
+
+    /// How many entries the log has, which is the newest version.
+    pub fn newest(&self) -> u64
+        ensures newest { result ≡ length self.now.log }
+        ensures limit { result ≤ MAX_ENTRIES }
+    {
+        self.log.len() as u64
+    }
+
+    /// The entries from `first` on, at most `limit`. It takes no memory.
+    ///
+    /// # Errors
+    ///
+    /// `Ahead` where `first` is above the log's length.
+    pub fn entries(&self, first: u64, limit: u32) -> Result<&[LogEntry], HubFault>
+        ensures { MatchResult result (λ entries. (first ≤ length self.now.log) × (entries.now ≡ entries_from first limit self.now.log))
+            (λ fault. (fault ≡ HubFault.Ahead) × (length self.now.log < first)) }
+    {
+        let newest = self.log.len();
+        if first > newest as u64 {
+            return Err(HubFault::Ahead);
+        }
+        let first = first as usize;
+        let count = (limit as usize).min(newest - first);
+        Ok(&self.log[first..first + count])
+    }
+
+    /// The rows of the catalog's table at this place at the newest version, behind the bytes of their keys and in the
+    /// order of these; none past the last table.
+    pub fn rows(&self, table: usize) -> &[KeyedRow]
+        ensures rows { (place : TableDef) → slice_get self.now.catalog table ≡ Some place
+            → (key : List ℕ) → row_at key result.now ≡ place_at self.now.log place.name key }
+        ensures ordered { IsInOrder result.now }
+        ensures none { length self.now.catalog ≤ table → result.now ≡ [] }
+    {
+        self.tables.rows(table)
+    }
+
+    /// The answer to a push whose base is below the newest version.
+    fn recall(&self, base: u64, origin: u32, number: u64, changes: &Normal) -> Pushed
+        requires below { base < length self.now.log }
+        requires some { changes.now ≢ [] }
+        ensures { Pushes self.now.log (record { base = base; origin = origin; number = number; changes = changes.now }) (Ok result) self.now.log }
+    {
+        if is_push(&self.log[base as usize], origin, number, changes) {
+            return Pushed::Accepted(base + 1);
+        }
+        Pushed::Stale(self.newest())
+    }
+
+    /// Takes a push: a changeset that the replica `origin` made as its push `number` on the tables of the version `base`.
+    /// The first case that fits holds: no change; a base above the newest version; below it, the same push again or
+    /// another one; a full log; a change that is not defined on the tables; else the push is appended. (Profile of this
+    /// project.)
+    ///
+    /// # Errors
+    ///
+    /// `Empty`, `Ahead`, `Full` and `Conflict` in these cases; `Memory` where memory was refused. Nothing has changed then.
+    pub fn push(
+        &mut self,
+        base: u64,
+        origin: u32,
+        number: u64,
+        changes: &Normal,
+    ) -> Result<Pushed, HubFault>
+        requires fits { FitsCatalog self.old.catalog changes.now }
+        requires size { length (normal_spelling changes.now) ≤ MAX_CHANGESET }
+        ensures pushed { PushesIf self.old.log (record { base = base; origin = origin; number = number; changes = changes.now }) result self.new.log }
+        ensures catalog { self.new.catalog ≡ self.old.catalog }
+    {
+        if changes.tables().is_empty() {
+            return Err(HubFault::Empty);
+        }
+        let newest = self.newest();
+        if base > newest {
+            return Err(HubFault::Ahead);
+        }
+        if base < newest {
+            return Ok(self.recall(base, origin, number, changes));
+        }
+        if self.log.len() >= MAX_ENTRIES {
+            return Err(HubFault::Full);
+        }
+        if !self.tables.stage(self.alloc, changes.tables())? {
+            return Err(HubFault::Conflict);
+        }
+        let body = Body::Changes(changes.copy(self.alloc)?);
+        self.log.reserve(1)?;
+        self.tables.commit();
+        self.log.push_reserved(LogEntry {
+            origin,
+            number,
+            body,
+        });
+        Ok(Pushed::Accepted(base + 1))
+    }
+
+    /// Answers the bytes of a request with the bytes of an answer. The room of the answer is taken before anything
+    /// changes. (Profile of this project.)
+    ///
+    /// # Errors
+    ///
+    /// `Memory` where memory was refused; nothing has changed then.
+    pub fn serve(&mut self, request: &[u8]) -> Result<Vec<u8>, Memory>
+        ensures served { IfOk result (λ answer. Serves self.old request.now answer.items self.new) }
+        ensures refused { OnErr result (self.new ≡ self.old) }
+    {
+        match Request::decode(request) {
+            Err(fault) => self.spell(Answer::Refused(code::of_request(fault))),
+            Ok(Request::Pull { first, limit }) => self.serve_pull(first, limit),
+            Ok(
+                Request::Push {
+                    origin,
+                    number,
+                    base,
+                    changeset,
+                },
+            ) => self.serve_push(origin, number, base, changeset),
+        }
+    }
+
+    /// The bytes of an answer but entries.
+    fn spell(&self, answer: Answer) -> Result<Vec<u8>, Memory>
+        ensures { IfOk result (λ bytes. bytes.items ≡ answer_spelling answer) }
+    {
+        let mut bytes = Vec::with_capacity(self.alloc, SHORT)?;
+        answer.put(&mut bytes);
+        Ok(bytes)
+    }
+
+    /// The answer to a Pull.
+    fn serve_pull(&self, first: u64, limit: u32) -> Result<Vec<u8>, Memory>
+        ensures { IfOk result (λ bytes. AnswersAsked self.now (AsksPull first limit) bytes.items self.now) }
+    {
+        match self.entries(first, limit) {
+            Ok(entries) => entries_answer(self.alloc, first, entries),
+            Err(fault) => self.spell(Answer::Refused(code::of_hub(fault))),
+        }
+    }
+
+    /// The answer to a Push. Its room is taken before anything changes.
+    fn serve_push(
+        &mut self,
+        origin: u32,
+        number: u64,
+        base: u64,
+        changeset: &[u8],
+    ) -> Result<Vec<u8>, Memory>
+        requires { length changeset.now < 2 ^ 32 }
+        ensures ok { IfOk result (λ bytes. AnswersAsked self.old (AsksPush origin number base changeset.now) bytes.items self.new) }
+        ensures err { OnErr result (self.new ≡ self.old) }
+    {
+        let mut told = Vec::with_capacity(self.alloc, SHORT)?;
+        let answer = self.take_changeset(origin, number, base, changeset)?;
+        answer.put(&mut told);
+        Ok(told)
+    }
+
+    /// Takes a push whose changeset is yet to be read.
+    fn take_changeset(
+        &mut self,
+        origin: u32,
+        number: u64,
+        base: u64,
+        changeset: &[u8],
+    ) -> Result<Answer, Memory>
+        requires { length changeset.now < 2 ^ 32 }
+        ensures ok { IfOk result (λ answer. AnswersChangeset self.old origin number base changeset.now answer self.new) }
+        ensures err { OnErr result (self.new ≡ self.old) }
+    {
+        match decode(self.alloc, changeset) {
+            Ok(groups) => self.take_groups(origin, number, base, &groups),
+            Err(CodecFault::Memory) => Err(AllocError),
+            Err(CodecFault::At { fault, .. }) => Ok(Answer::Refused(code::of_fault(fault))),
+        }
+    }
+
+    /// Takes a push whose changeset is yet to be brought into normal form.
+    fn take_groups(
+        &mut self,
+        origin: u32,
+        number: u64,
+        base: u64,
+        groups: &Changeset,
+    ) -> Result<Answer, Memory>
+        requires fits { FitsChangeset groups.now }
+        requires size { length (changeset_spelling groups.now) < 2 ^ 32 }
+        ensures ok { IfOk result (λ answer. AnswersGroups self.old origin number base groups.now answer self.new) }
+        ensures err { OnErr result (self.new ≡ self.old) }
+    {
+        match normalise(self.alloc, &self.catalog, groups) {
+            Ok(changes) => self.take(base, origin, number, &changes),
+            Err(Unfit::Memory) => Err(AllocError),
+            Err(unfit) => Ok(Answer::Refused(code::of_unfit(unfit))),
+        }
+    }
+
+    /// Takes a push, and tells what became of it.
+    fn take(
+        &mut self,
+        base: u64,
+        origin: u32,
+        number: u64,
+        changes: &Normal,
+    ) -> Result<Answer, Memory>
+        requires fits { FitsCatalog self.old.catalog changes.now }
+        requires size { length (normal_spelling changes.now) < 2 ^ 32 }
+        ensures ok { IfOk result (λ answer. AnswersPush self.old (record { base = base; origin = origin; number = number; changes = changes.now }) answer self.new) }
+        ensures err { OnErr result (self.new ≡ self.old) }
+    {
+        match self.push(base, origin, number, changes) {
+            Ok(Pushed::Accepted(version)) => Ok(Answer::Accepted {
+                origin,
+                number,
+                version,
+            }),
+            Ok(Pushed::Stale(newest)) => Ok(Answer::Stale { newest }),
+            Err(HubFault::Memory) => Err(AllocError),
+            Err(fault) => Ok(Answer::Refused(code::of_hub(fault))),
+        }
+    }
+}

@@ -1,0 +1,27 @@
+//! The hub: an append-only log of accepted pushes, the tables that the log makes, and the answers to requests. `Hub::push`
+//! gives exactly the definition's answer to a push (`specs/Pushes.antt`), `Hub::rows` the rows that the log makes
+//! (`specs/Tables.antt`), and `Hub::serve` the answer to the bytes of a request (`specs/Serves.antt`); want of memory
+//! changes nothing. `laws::one_request` says that bytes ask one thing. The crate stands on changesets (`cs_changeset`), their
+//! normal forms (`cs_normal`) and what a change does at its place (`cs_change`). Requests and answers are private modules.
+#![tactic(auto)]
+
+mod answer;
+mod code;
+mod fault;
+mod hub;
+mod outcome;
+mod request;
+mod rows;
+mod serve;
+mod table;
+mod tables;
+
+pub use fault::{HubFault, Pushed};
+pub use hub::{Hub, MAX_CHANGESET, MAX_ENTRIES};
+
+pub mod laws;
+
+pub use rows::KeyedRow;
+
+#[cfg(test)]
+mod tests;

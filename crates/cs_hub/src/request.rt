@@ -1,0 +1,116 @@
+//! Requests: what a replica asks of the hub.
+
+ghost use Rattle.std.specs.Prelude.{◌≡◌, ◌<◌, ◌++◌, length, MatchOption};
+ghost use Rattle.cs_hub.specs.Messages.{four_bytes, eight_bytes, push_numbers, pull_numbers};
+
+/// A request. (Profile of this project.)
+pub(crate) enum Request<'a> {
+    /// Take the changeset that a replica made on the tables of the version `base`.
+    Push {
+        origin: u32,
+        number: u64,
+        base: u64,
+        changeset: &'a [u8],
+    },
+    /// Tell the entries from `first` on, at most `limit`.
+    Pull {
+        first: u64,
+        limit: u32,
+    },
+}
+
+/// What is wrong with bytes that spell no request.
+#[derive(Clone, Copy)]
+pub(crate) enum RequestFault {
+    /// The bytes end early.
+    Truncated,
+    /// No request has this tag.
+    BadTag,
+    /// There are bytes behind the request.
+    TooLong,
+}
+
+/// The number in the first four bytes, and the rest.
+fn split_u32(bytes: &[u8]) -> Option<(u32, &[u8])>
+    ensures { MatchOption result (length bytes.now < 4) (λ split. bytes.now ≡ four_bytes split.0 ++ split.1.now) }
+{
+    let (front, rest) = bytes.split_first_chunk::<4>()?;
+    Some((u32::from_be_bytes(*front), rest))
+}
+
+/// The number in the first eight bytes, and the rest.
+fn split_u64(bytes: &[u8]) -> Option<(u64, &[u8])>
+    ensures { MatchOption result (length bytes.now < 8) (λ split. bytes.now ≡ eight_bytes split.0 ++ split.1.now) }
+{
+    let (front, rest) = bytes.split_first_chunk::<8>()?;
+    Some((u64::from_be_bytes(*front), rest))
+}
+
+/// The numbers of a Push: origin, number, base, length; and the rest.
+fn split_push(bytes: &[u8]) -> Option<(u32, u64, u64, u32, &[u8])>
+    ensures { MatchOption result (length bytes.now < 24) (λ split. bytes.now ≡ push_numbers split.0 split.1 split.2 split.3 split.4.now) }
+{
+    let (origin, rest) = split_u32(bytes)?;
+    let (number, rest) = split_u64(rest)?;
+    let (base, rest) = split_u64(rest)?;
+    let (size, rest) = split_u32(rest)?;
+    Some((origin, number, base, size, rest))
+}
+
+/// The numbers of a Pull: first, limit; and the rest.
+fn split_pull(bytes: &[u8]) -> Option<(u64, u32, &[u8])>
+    ensures { MatchOption result (length bytes.now < 12) (λ split. bytes.now ≡ pull_numbers split.0 split.1 split.2.now) }
+{
+    let (first, rest) = split_u64(bytes)?;
+    let (limit, rest) = split_u32(rest)?;
+    Some((first, limit, rest))
+}
+
+impl<'a> Request<'a> {
+    ghost use Rattle.std.specs.Prelude.{◌∷◌};
+    ghost use Rattle.cs_hub.specs.Messages.{Asks, asked};
+
+    /// Reads a request: the whole of the bytes.
+    pub(crate) fn decode(bytes: &'a [u8]) -> Result<Request<'a>, RequestFault>
+        ensures { Asks bytes.now (asked result) }
+    {
+        match bytes.split_first() {
+            None => Err(RequestFault::Truncated),
+            Some((1, rest)) => Self::decode_push(rest),
+            Some((2, rest)) => Self::decode_pull(rest),
+            Some(_) => Err(RequestFault::BadTag),
+        }
+    }
+
+    fn decode_push(rest: &'a [u8]) -> Result<Request<'a>, RequestFault>
+        ensures { Asks (1 ∷ rest.now) (asked result) }
+    {
+        let Some((origin, number, base, size, changeset)) = split_push(rest) else {
+            return Err(RequestFault::Truncated);
+        };
+        if changeset.len() < size as usize {
+            return Err(RequestFault::Truncated);
+        }
+        if changeset.len() > size as usize {
+            return Err(RequestFault::TooLong);
+        }
+        Ok(Request::Push {
+            origin,
+            number,
+            base,
+            changeset,
+        })
+    }
+
+    fn decode_pull(rest: &'a [u8]) -> Result<Request<'a>, RequestFault>
+        ensures { Asks (2 ∷ rest.now) (asked result) }
+    {
+        let Some((first, limit, more)) = split_pull(rest) else {
+            return Err(RequestFault::Truncated);
+        };
+        if !more.is_empty() {
+            return Err(RequestFault::TooLong);
+        }
+        Ok(Request::Pull { first, limit })
+    }
+}
