@@ -1,20 +1,20 @@
 -- Where a change is spelled nothing is wrong, a fault stays whatever follows, and there is one.
-use Rattle.std.proofs.Common.{◌≡◌, ℕ, suc, ◌+◌, ◌<◌, ◌≤◌, Bool, true, false, cond, List, [], ◌∷◌, ◌++◌, length, map, Option, Some, None, refl, sym, ap, ◌∙◌, append_assoc, arith, inl, inr, subst, length-append}
-use Rattle.std.specs.Prelude.{◌≢◌, ◌⊎◌}
+use Rattle.std.proofs.Common.{◌≡◌, ℕ, suc, Bool, true, false, cond, List, [], ◌∷◌, ◌++◌, length, map, Some, None, refl, sym, ap, ◌∙◌, append_assoc, arith, inl, inr, subst, length-append}
+use Rattle.std.specs.Prelude.{◌≢◌}
 use Rattle.std.specs.List.{AllByRecursion}
 use Rattle.cs_value.specs.Same.{same_value, same_value-refl}
 use Rattle.cs_value.specs.declared.value.Value.{Value}
 use Rattle.cs_value.specs.declared.value.Field.{Field}
 use Rattle.cs_value.specs.declared.value.Field.TheVariants.{Undefined, Is}
-use Rattle.cs_record.specs.Spelling.{field, record_of, Fits}
+use Rattle.cs_record.specs.Spelling.{record_of, Fits}
 use Rattle.cs_change.specs.Columns.{holds}
 use Rattle.cs_change.specs.declared.change.Change.{Change}
 use Rattle.cs_change.specs.declared.change.Change.TheVariants.{Insert, Delete, Update}
 use Rattle.cs_change.specs.Spelling.{row_bytes, flag_byte, change_spelling, FitsRow, FitsChange, IsUpdateColumn, AreUpdateColumns}
-use Rattle.cs_changeset.specs.Records.{Rule, InRow, InOld, InNew, IsRight, AreRight, IsRecordFault, field_fault, row_rules, old_rules, new_rules}
+use Rattle.cs_changeset.specs.Records.{InOld, InNew, IsRight, AreRight, IsRecordFault, row_rules, old_rules, new_rules}
 use Rattle.cs_changeset.specs.Reading.{IsUpdateFault, IsRecordsFault, IsOperation, IsFlaggedFault, IsChangeFault}
 use Rattle.cs_changeset.specs.declared.fault.Fault.{Fault}
-use Rattle.cs_changeset.specs.declared.fault.Fault.TheVariants.{Truncated, BadFlag, Patchset, BadOperation, KeyChanged}
+use Rattle.cs_changeset.specs.declared.fault.Fault.TheVariants.{Truncated, KeyChanged}
 use Rattle.cs_changeset.proofs.ChangeLaws.{row_fields, flag_small}
 use Rattle.cs_changeset.proofs.RecordApart.{records_apart, record_right, record_stays, one_record, record_end}
 

@@ -1,9 +1,9 @@
 -- Changes in their bytes.
-use Rattle.std.proofs.Common.{◌≡◌, ℕ, suc, ◌+◌, ◌-◌, ◌<◌, ◌≤◌, Bool, true, false, not, cond, List, [], ◌∷◌, ◌++◌, length, take, drop, map, Some, None, refl, sym, ap, ◌∙◌, append_assoc, arith, inl, inr, subst, length-append}
-use Rattle.std.specs.Prelude.{◌⊎◌, Result, Err}
+use Rattle.std.proofs.Common.{◌≡◌, ℕ, suc, ◌+◌, ◌-◌, ◌<◌, ◌≤◌, Bool, true, false, cond, List, [], ◌∷◌, ◌++◌, length, take, drop, map, Some, None, refl, ap, ◌∙◌, arith, inl, inr, subst, length-append}
+use Rattle.std.specs.Prelude.{◌⊎◌, Err}
 use Rattle.std.proofs.lemmas.List.{length-drop}
-use Rattle.std.specs.List.{flat_map, AllByRecursion}
-use Rattle.cs_value.specs.Same.{same_value, same_value-Decides, same_value-refl}
+use Rattle.std.specs.List.{AllByRecursion}
+use Rattle.cs_value.specs.Same.{same_value, same_value-Decides}
 use Rattle.cs_value.specs.declared.value.Value.{Value}
 use Rattle.cs_value.specs.declared.value.Field.{Field}
 use Rattle.cs_value.specs.declared.value.Field.TheVariants.{Undefined, Is}
@@ -15,7 +15,7 @@ use Rattle.cs_change.specs.Columns.{holds}
 use Rattle.cs_change.specs.declared.change.Change.{Change}
 use Rattle.cs_change.specs.declared.change.Change.TheVariants.{Insert, Delete, Update}
 use Rattle.cs_change.specs.Spelling.{row_bytes, flag_byte, change_spelling, changes_spelling, FitsRow, FitsChange, IsUpdateColumn, AreUpdateColumns}
-use Rattle.cs_changeset.specs.Records.{Rule, InRow, InOld, InNew, IsRight, AreRight, IsColumnFault, IsRecordFault, row_rules, old_rules, new_rules}
+use Rattle.cs_changeset.specs.Records.{Rule, InOld, InNew, IsRight, AreRight, IsColumnFault, IsRecordFault, row_rules, old_rules, new_rules}
 use Rattle.cs_changeset.specs.Reading.{IsUpdateFault, IsRecordsFault, IsFlaggedFault, IsChangeFault, IsChangesFault}
 use Rattle.cs_changeset.specs.Steps.{AreColumnsAt, ReadsFlag, ReadsFlaggedRow, ReadsOperation}
 use Rattle.cs_changeset.specs.declared.fault.CodecFault.{CodecFault}

@@ -1,5 +1,5 @@
 -- Groups in their bytes.
-use Rattle.std.proofs.Common.{◌≡◌, ℕ, suc, ◌+◌, ◌-◌, ◌<◌, ◌≤◌, List, [], ◌∷◌, ◌++◌, length, take, drop, refl, sym, ap, ◌∙◌, append_assoc, arith, inl, inr, subst, length-append}
+use Rattle.std.proofs.Common.{◌≡◌, ℕ, ◌+◌, ◌-◌, ◌<◌, ◌≤◌, List, [], ◌∷◌, ◌++◌, length, take, drop, refl, sym, ap, ◌∙◌, arith, inl, inr, subst, length-append}
 use Rattle.std.specs.List.{AllByRecursion}
 use Rattle.std.proofs.lemmas.List.{length-drop, drop-drop, take_all}
 use Rattle.cs_varint.specs.Varint.{spelling}
@@ -8,7 +8,7 @@ use Rattle.cs_record.proofs.Records.{reaches}
 use Rattle.cs_record.proofs.Sequences.{parts, take-add}
 use Rattle.cs_change.specs.declared.change.Change.{Change}
 use Rattle.cs_change.specs.declared.group.Group.{Group}
-use Rattle.cs_change.specs.Spelling.{marks_of, header_spelling, changes_spelling, group_spelling, changeset_spelling, FitsHeader, FitsChange, FitsGroup, FitsChangeset}
+use Rattle.cs_change.specs.Spelling.{marks_of, header_spelling, changes_spelling, changeset_spelling, FitsHeader, FitsChange, FitsChangeset}
 use Rattle.cs_changeset.specs.Reading.{IsHeaderFault, IsChangesFault, IsGroupFault, IsGroupsFault}
 use Rattle.cs_changeset.specs.Steps.{BeginsGroup, EndsGroup}
 use Rattle.cs_changeset.specs.declared.fault.Fault.{Fault}

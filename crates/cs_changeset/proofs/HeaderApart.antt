@@ -1,12 +1,12 @@
 -- Where a header is spelled nothing is wrong, a fault stays whatever follows, and there is one.
 use Rattle.std.proofs.Common.{◌≡◌, ℕ, ◌+◌, ◌<◌, ◌≤◌, ◌^◌, Bool, true, false, List, [], ◌∷◌, ◌++◌, length, refl, sym, ap, ◌∙◌, append_assoc, arith, inl, inr, subst, length-append}
 use Rattle.std.specs.Prelude.{◌≢◌, ◌⊎◌, IsUtf8}
-use Rattle.std.specs.List.{list_any, AllByRecursion}
+use Rattle.std.specs.List.{list_any}
 use Rattle.cs_varint.specs.Varint.{spelling, IsPartial, IsTooLong}
 use Rattle.cs_varint.proofs.Apart.{spellings_apart, partial_never, too_long_never, partial_not_long, too_long_stays}
 use Rattle.cs_record.proofs.Apart.{same_length}
 use Rattle.cs_change.specs.Spelling.{is_nonzero, header_spelling, FitsHeader}
-use Rattle.cs_changeset.specs.Reading.{HasKey, HasNoZero, IsPartialHeader, IsHeaderFault}
+use Rattle.cs_changeset.specs.Reading.{HasNoZero, IsPartialHeader, IsHeaderFault}
 use Rattle.cs_changeset.specs.declared.fault.Fault.{Fault}
 use Rattle.cs_changeset.specs.declared.fault.Fault.TheVariants.{Truncated, NotShortest, BadType, Real, NotUtf8, Patchset, BadMark, BadOperation, BadFlag, Columns, NoKeyColumn, UndefinedHere, KeyChanged}
 

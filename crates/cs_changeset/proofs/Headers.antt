@@ -1,8 +1,8 @@
 -- Headers in their bytes.
-use Rattle.std.proofs.Common.{◌≡◌, ℕ, suc, ◌+◌, ◌-◌, ◌<◌, ◌≤◌, ◌^◌, eqb, true, false, nat_eq, nat_lt, List, [], ◌∷◌, ◌++◌, length, take, drop, get_or, Some, None, refl, sym, ap, ◌∙◌, append_assoc, arith, inl, inr, subst, length-append}
+use Rattle.std.proofs.Common.{◌≡◌, ℕ, suc, ◌+◌, ◌-◌, ◌<◌, ◌≤◌, ◌^◌, true, false, nat_eq, nat_lt, List, [], ◌∷◌, ◌++◌, length, take, drop, get_or, Some, None, refl, sym, ap, ◌∙◌, append_assoc, arith, inl, inr, subst, length-append}
 use Rattle.std.specs.Prelude.{◌≢◌, ◌⊎◌, IsUtf8}
 use Rattle.std.specs.List.{list_any, position, position_or_len, AllByRecursion}
-use Rattle.std.proofs.lemmas.List.{take_all, length-drop, length-take-le, take-append-drop, drop_more, take_at, get_or-take}
+use Rattle.std.proofs.lemmas.List.{take_all, length-drop, length-take-le, take-append-drop, drop_more, get_or-take}
 use Rattle.std.proofs.lemmas.Bool.{eqb-true, cases_lt, lt-ltb}
 use Rattle.std.proofs.lemmas.List.Quantifiers.{position-Some}
 use Rattle.std.proofs.lemmas.List.Sums.{fails_before_first}
@@ -12,7 +12,7 @@ use Rattle.cs_record.specs.Reading.{StandsAt}
 use Rattle.cs_record.proofs.Records.{reaches}
 use Rattle.cs_record.proofs.Sequences.{parts}
 use Rattle.cs_change.specs.Spelling.{is_nonzero, header_spelling, FitsHeader}
-use Rattle.cs_changeset.specs.Reading.{HasWidth, HasKey, HasNoZero, IsHeaderFault}
+use Rattle.cs_changeset.specs.Reading.{HasKey, HasNoZero, IsHeaderFault}
 use Rattle.cs_changeset.specs.declared.fault.Fault.TheVariants.{Truncated, NotShortest, Columns, NoKeyColumn, NotUtf8}
 
 -- what is left behind a place

@@ -1,5 +1,5 @@
 -- A changeset as headers and changes one after another: no such list begins another, and there is one fault.
-use Rattle.std.proofs.Common.{◌≡◌, ℕ, suc, ◌+◌, ◌<◌, ◌≤◌, Bool, List, [], ◌∷◌, ◌++◌, length, map, Option, Some, None, Result, Ok, Err, refl, sym, ap, ◌∙◌, append_assoc, append-nil, arith, inl, inr, subst, length-append}
+use Rattle.std.proofs.Common.{◌≡◌, ℕ, ◌+◌, Bool, List, [], ◌∷◌, ◌++◌, length, map, Option, Some, None, Result, Ok, Err, refl, sym, ap, ◌∙◌, append_assoc, arith, inl, inr, subst, length-append}
 use Rattle.std.specs.Prelude.{◌≢◌, ◌⊎◌}
 use Rattle.std.specs.List.{flat_map, AllByRecursion}
 use Rattle.std.proofs.lemmas.Grind.{flat_map-append}
@@ -7,8 +7,8 @@ use Rattle.std.proofs.lemmas.List.{append_cancel_left}
 use Rattle.cs_change.specs.declared.change.Change.{Change}
 use Rattle.cs_change.specs.declared.change.Change.TheVariants.{Insert, Delete, Update}
 use Rattle.cs_change.specs.declared.group.Group.{Group}
-use Rattle.cs_change.specs.Spelling.{marks_of, header_spelling, change_spelling, changes_spelling, group_spelling, changeset_spelling, FitsHeader, FitsChange, FitsGroup, FitsChangeset}
-use Rattle.cs_changeset.specs.Reading.{IsHeaderFault, IsChangeFault, IsChangesFault, IsBodyFault, IsMarkFault, IsGroupFault, IsGroupsFault, IsFault, ReadsChangeset, Finds, Tells}
+use Rattle.cs_change.specs.Spelling.{marks_of, header_spelling, change_spelling, changes_spelling, group_spelling, changeset_spelling, FitsHeader, FitsChange, FitsChangeset}
+use Rattle.cs_changeset.specs.Reading.{IsHeaderFault, IsChangeFault, IsMarkFault, IsGroupFault, IsGroupsFault, IsFault, ReadsChangeset, Finds, Tells}
 use Rattle.cs_changeset.specs.declared.fault.Fault.{Fault}
 use Rattle.cs_changeset.specs.declared.fault.Fault.TheVariants.{Truncated, NotShortest, BadType, Real, NotUtf8, Patchset, BadMark, BadOperation, BadFlag, Columns, NoKeyColumn, UndefinedHere, KeyChanged}
 use Rattle.cs_changeset.specs.declared.fault.CodecFault.{CodecFault}

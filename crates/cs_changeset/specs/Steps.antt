@@ -1,5 +1,5 @@
 -- What the steps of reading a changeset give.
-use Rattle.std.specs.Prelude.{◌≡◌, ℕ, ◌≤◌, ◌⊎◌, Bool, true, false, List, [], ◌∷◌, ◌++◌, length, map, drop, Option, Some, None, Result, Ok, Err}
+use Rattle.std.specs.Prelude.{◌≡◌, ℕ, ◌⊎◌, Bool, List, [], ◌∷◌, ◌++◌, length, map, drop, Option, Some, None, Result, Ok, Err}
 use Rattle.std.specs.Borrow.{Bor}
 use Rattle.std.specs.Global.{Vec}
 use Rattle.std.specs.List.{AllByRecursion}
@@ -12,11 +12,9 @@ use Rattle.cs_record.specs.Reading.{StandsAt, IsFieldFault}
 use Rattle.cs_record.specs.declared.fault.Fault.{Fault as FieldFault}
 use Rattle.cs_change.specs.declared.change.Change.{Change}
 use Rattle.cs_change.specs.declared.group.Group.{Group}
-use Rattle.cs_change.specs.Spelling.{marks_of, flag_byte, row_bytes, change_spelling, FitsRow, AreUpdateColumns, header_spelling, changes_spelling, group_spelling, FitsHeader, FitsChange, FitsGroup, FitsChangeset, changeset_spelling}
+use Rattle.cs_change.specs.Spelling.{flag_byte, row_bytes, change_spelling, FitsRow, AreUpdateColumns, header_spelling, changes_spelling, group_spelling, FitsHeader, FitsChange, FitsGroup, FitsChangeset, changeset_spelling}
 use Rattle.cs_changeset.specs.Records.{Rule, InRow, of_field, IsRight, AreRight, IsColumnFault, IsRecordFault, row_rules}
 use Rattle.cs_changeset.specs.Reading.{HasKey, IsHeaderFault, IsUpdateFault, IsFlaggedFault, IsChangeFault, IsChangesFault, IsGroupFault, IsGroupsFault}
-use Rattle.cs_changeset.specs.declared.fault.Fault.{Fault}
-use Rattle.cs_changeset.specs.declared.fault.Fault.TheVariants.{Truncated, BadFlag}
 use Rattle.cs_changeset.specs.declared.fault.CodecFault.{CodecFault}
 use Rattle.cs_changeset.specs.declared.fault.CodecFault.TheVariants.{Memory, At}
 

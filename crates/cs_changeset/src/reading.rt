@@ -89,4 +89,3 @@ pub fn decode(alloc: Global, bytes: &[u8]) -> Result<Changeset, CodecFault>
 {
     read_changeset(alloc, bytes)
 }
-

@@ -39,10 +39,12 @@ fn comes_back(rt: &impl Abort, alloc: Global, bytes: &[u8]) -> Result<Changeset,
 
 fn told(rt: &impl Abort, alloc: Global, bytes: &[u8], fault: Fault, offset: usize) {
     match decode(alloc, bytes) {
-        Err(CodecFault::At {
-            fault: found,
-            offset: at,
-        }) => {
+        Err(
+            CodecFault::At {
+                fault: found,
+                offset: at,
+            },
+        ) => {
             assert_eq!(rt; found, fault);
             assert_eq!(rt; at, offset, "{fault}");
         }
@@ -61,11 +63,30 @@ fn reads_what_it_writes(rt: HostRuntime) -> Result<(), Fail> {
     let cases = [
         Vec::new(alloc),
         joined(alloc, &[&T1])?,
-        joined(alloc, &[&[0x54, 2, 2, 0, 0x74, 0x31, 0, 0x12, 0], &ONE, &V1])?,
+        joined(
+            alloc,
+            &[&[0x54, 2, 2, 0, 0x74, 0x31, 0, 0x12, 0], &ONE, &V1],
+        )?,
         joined(alloc, &[&T1, &[0x17, 0], &ONE, &V1, &[0], &V2])?,
         joined(alloc, &[&T1, &[0x17, 1], &ONE, &V1, &ONE, &V2])?,
-        joined(alloc, &[&T1, &[9, 1], &ONE, &[5], &T2, &T1, &[9, 0], &TWO, &[4, 1, 0xff]])?,
-        joined(alloc, &[&T2, &[0x17, 0], &ONE, &[3, 0, 5, 0, 0, 4, 0, 3, 0, 0]])?,
+        joined(
+            alloc,
+            &[
+                &T1,
+                &[9, 1],
+                &ONE,
+                &[5],
+                &T2,
+                &T1,
+                &[9, 0],
+                &TWO,
+                &[4, 1, 0xff],
+            ],
+        )?,
+        joined(
+            alloc,
+            &[&T2, &[0x17, 0], &ONE, &[3, 0, 5, 0, 0, 4, 0, 3, 0, 0]],
+        )?,
         joined(alloc, &[&T2, &[0x17, 0], &ONE, &V1, &[5, 0, 0, 0, 0, 0]])?,
     ];
     for bytes in &cases {
@@ -101,7 +122,13 @@ fn faults_of_headers(rt: HostRuntime) {
     told(&rt, rt.alloc(), &[0x54, 0x8f, 0x50], Fault::Truncated, 3);
     told(&rt, rt.alloc(), &[0x54, 0x80, 1], Fault::NotShortest, 1);
     told(&rt, rt.alloc(), &[0x54, 2, 0, 0], Fault::NoKeyColumn, 2);
-    told(&rt, rt.alloc(), &[0x54, 2, 1, 0, 0xff, 0], Fault::NotUtf8, 4);
+    told(
+        &rt,
+        rt.alloc(),
+        &[0x54, 2, 1, 0, 0xff, 0],
+        Fault::NotUtf8,
+        4,
+    );
     told(&rt, rt.alloc(), &[0x54, 2, 1, 0, 0xff], Fault::Truncated, 5);
 }
 
@@ -117,21 +144,37 @@ fn faults_of_changes(rt: HostRuntime) -> Result<(), Fail> {
         (&[&T1, &[0x17, 0, 0]], Fault::UndefinedHere, 9),
         (&[&T1, &[0x12, 0], &ONE, &[6]], Fault::BadType(6), 18),
         (&[&T1, &[0x12, 0], &ONE, &[2]], Fault::Real, 18),
-        (&[&T1, &[0x12, 0], &ONE, &[3, 0x80, 2]], Fault::NotShortest, 19),
+        (
+            &[&T1, &[0x12, 0], &ONE, &[3, 0x80, 2]],
+            Fault::NotShortest,
+            19,
+        ),
         (&[&T1, &[0x12, 0], &ONE, &[3, 1, 0xff]], Fault::NotUtf8, 20),
         (
             &[&T1, &[0x12, 0], &ONE, &[3], &[0xff; 9]],
             Fault::Truncated,
             28,
         ),
-        (&[&T1, &[0x17, 0], &ONE, &V1, &TWO, &V2], Fault::KeyChanged, 22),
-        (&[&T1, &[0x17, 0], &ONE, &[0, 0], &V2], Fault::UndefinedHere, 20),
+        (
+            &[&T1, &[0x17, 0], &ONE, &V1, &TWO, &V2],
+            Fault::KeyChanged,
+            22,
+        ),
+        (
+            &[&T1, &[0x17, 0], &ONE, &[0, 0], &V2],
+            Fault::UndefinedHere,
+            20,
+        ),
         (
             &[&T1, &[0x12, 0], &ONE, &V1, &T1, &[0x12, 0], &ONE, &[2]],
             Fault::Real,
             40,
         ),
-        (&[&T1, &[0x12, 0], &ONE, &V1, &[0x54, 0]], Fault::Columns, 23),
+        (
+            &[&T1, &[0x12, 0], &ONE, &V1, &[0x54, 0]],
+            Fault::Columns,
+            23,
+        ),
         (&[&T1, &[0x12, 0], &ONE, &V1, &[1]], Fault::BadOperation, 22),
     ];
     for (pieces, fault, offset) in &cases {

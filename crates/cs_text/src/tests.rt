@@ -31,17 +31,24 @@ fn prints_each_kind_of_change(rt: HostRuntime) -> Result<(), Fail> {
     let empty = Items::from_vec(Vec::new(alloc));
     let update = Change::Update {
         flag: false,
-        old_fields: Items::from_vec(
-            vec![in alloc; Field::Is(Value::Int(1)), Field::Is(text(alloc, "")?), Field::Is(Value::Null), Field::Undefined]?,
-        ),
-        new_fields: Items::from_vec(
-            vec![in alloc; Field::Undefined, Field::Is(Value::Blob(empty)), Field::Is(text(alloc, "")?), Field::Undefined]?,
-        ),
+        old_fields: Items::from_vec(vec![in alloc;
+            Field::Is(Value::Int(1)),
+            Field::Is(text(alloc, "")?),
+            Field::Is(Value::Null),
+            Field::Undefined,
+        ]?),
+        new_fields: Items::from_vec(vec![in alloc;
+            Field::Undefined,
+            Field::Is(Value::Blob(empty)),
+            Field::Is(text(alloc, "")?),
+            Field::Undefined,
+        ]?),
     };
     let second = group(alloc, "t2", &[2, 0, 0, 0], vec![in alloc; update]?)?;
     let groups = [first, second];
     let printed = format!(in alloc; "{}", ChangesetText(&groups))?;
-    let expected = "table t1 10\ninsert 0 1 t=v1\ndelete 1 -9223372036854775808 null\ntable t2 1000\nupdate 0 1 t= null - > - x= t= -\n";
+    let expected =
+        "table t1 10\ninsert 0 1 t=v1\ndelete 1 -9223372036854775808 null\ntable t2 1000\nupdate 0 1 t= null - > - x= t= -\n";
     assert_eq!(rt; printed.as_str(), expected);
     Ok(())
 }

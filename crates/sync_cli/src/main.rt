@@ -1,6 +1,7 @@
 //! The program `sync`: it answers requests in hex, line by line.
 //!
-//! It stands on `clap` for the command line and on `cs_lines` for the lines, and only wires them.
+//! It stands on `clap` for the command line, on `cs_lines` for the lines, on `cs_hub` for the answers and on `cs_text` for
+//! what `show` prints, and only wires them.
 //! `run` carries the promise: over any reader and writers, where it ends with 0 the command line
 //! names tables that are a catalog, and each line of the input has got the answer of a hub of these
 //! tables. `main` hands it the words, the standard streams and the allocator.
@@ -44,6 +45,9 @@ fn tell_refused_start<E: Write>(error: &io::Error, errors: &mut E) -> u8 {
         _ => run::tell(errors, run::MEMORY, run::REFUSED_INPUT),
     }
 }
+
+#[cfg(test)]
+mod sessions;
 
 #[cfg(test)]
 mod tests;

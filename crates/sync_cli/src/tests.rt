@@ -8,7 +8,7 @@ use std::process::Abort;
 use std::test::Fail;
 
 // Runs on the words and the input, and compares all that comes out.
-fn expect(
+pub fn expect(
     rt: &impl Abort,
     alloc: Global,
     words: &[&str],
@@ -30,13 +30,13 @@ fn expect(
     Ok(())
 }
 
-// The stand-in hub answers each request by `1314`.
+// A first byte that is no request's tag is answered by `1314`, no byte at all by `1302`.
 #[test]
 fn answers_lines(rt: HostRuntime) -> Result<(), Fail> {
     let words = ["sync", "hub", "t1:10", "a:b:1", "%41%c:1"].as_slice();
     let cases = [
         (b"".as_slice(), ""),
-        (b"\n".as_slice(), "1314\n"),
+        (b"\n".as_slice(), "1302\n"),
         (b"07".as_slice(), "1314\n"),
         (b"07\n".as_slice(), "1314\n"),
         (b"zz\n".as_slice(), "1316\n"),
@@ -44,7 +44,7 @@ fn answers_lines(rt: HostRuntime) -> Result<(), Fail> {
         (b"07\r\n".as_slice(), "1316\n"),
         (
             b"0a0B\n\nff\n 07\n0".as_slice(),
-            "1314\n1314\n1314\n1316\n1316\n",
+            "1314\n1302\n1314\n1316\n1316\n",
         ),
     ];
     for (input, output) in cases {
@@ -238,7 +238,7 @@ fn tells_a_failed_read(rt: HostRuntime) -> Result<(), Fail> {
         &mut errors,
     );
     assert_eq!(rt; status, 1);
-    assert!(rt; output.as_slice() == b"1314\n1314\n".as_slice());
+    assert!(rt; output.as_slice() == b"1302\n1302\n".as_slice());
     assert!(rt; errors.as_slice() == b"sync: Read\n".as_slice());
     Ok(())
 }

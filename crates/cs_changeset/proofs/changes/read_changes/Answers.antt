@@ -1,4 +1,4 @@
-use Rattle.std.proofs.Common.{◌∙◌, ◌+◌, ◌-◌, length, take, drop, ap, arith}
+use Rattle.std.proofs.Common.{◌-◌, length, take, drop, ap, arith}
 use Rattle.std.proofs.lemmas.List.{length-drop}
 use Rattle.cs_change.specs.Spelling.{marks_of, change_spelling, FitsChange}
 use Rattle.cs_record.proofs.Sequences.{stands_more, all_more}

@@ -1,9 +1,9 @@
-use Rattle.std.proofs.Common.{◌∙◌, ◌+◌, ◌-◌, length, take, drop, ap, sym, arith}
+use Rattle.std.proofs.Common.{◌-◌, length, take, drop, ap, arith}
 use Rattle.std.proofs.lemmas.List.{length-drop}
 use Rattle.cs_change.specs.Spelling.{marks_of}
-use Rattle.cs_changeset.specs.Records.{old_rules, new_rules}
+use Rattle.cs_changeset.specs.Records.{new_rules}
 use Rattle.cs_changeset.proofs.Headers.{tail}
-use Rattle.cs_changeset.proofs.ChangeLaws.{record_within, update_records, new_fault_behind}
+use Rattle.cs_changeset.proofs.ChangeLaws.{record_within, update_records}
 use Rattle.cs_changeset.proofs.changes.read_update_records.Goals as goal
 
 pub overflow_add-at : goal.overflow_add-at
