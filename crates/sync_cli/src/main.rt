@@ -48,6 +48,5 @@ fn tell_refused_start<E: Write>(error: &io::Error, errors: &mut E) -> u8 {
 
 #[cfg(test)]
 mod sessions;
-
 #[cfg(test)]
 mod tests;

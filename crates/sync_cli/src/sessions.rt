@@ -36,8 +36,11 @@ fn seven_lines(rt: HostRuntime) -> Result<(), Fail> {
     let pull = "0200000000000000000000000A\n";
     let input = format!(in alloc; "{first}{first}{stale}{pull}{conflict}{ahead}{empty}")?;
     let accepted = "110000000700000000000000010000000000000001";
-    let entries = "14000000000000000000000001000000000700000000000000010000001654020100743100120001000000000000000103027631";
-    let output = format!(in alloc; "{accepted}\n{accepted}\n120000000000000001\n{entries}\n1329\n1328\n132a\n")?;
+    let entries =
+        "14000000000000000000000001000000000700000000000000010000001654020100743100120001000000000000000103027631";
+    let output = format!(in alloc;
+        "{accepted}\n{accepted}\n120000000000000001\n{entries}\n1329\n1328\n132a\n"
+    )?;
     expect(
         &rt,
         alloc,
@@ -70,16 +73,9 @@ fn updates_and_deletes(rt: HostRuntime) -> Result<(), Fail> {
     )?;
     let again = push(alloc, 8, 3, 3, INSERT)?;
     let input = format!(in alloc; "{insert}{update}{old_row}{delete}{again}")?;
-    let output = "110000000700000000000000010000000000000001\n110000000700000000000000020000000000000002\n1329\n110000000800000000000000020000000000000003\n110000000800000000000000030000000000000004\n";
-    expect(
-        &rt,
-        alloc,
-        HUB.as_slice(),
-        input.as_bytes(),
-        0,
-        output,
-        "",
-    )
+    let output =
+        "110000000700000000000000010000000000000001\n110000000700000000000000020000000000000002\n1329\n110000000800000000000000020000000000000003\n110000000800000000000000030000000000000004\n";
+    expect(&rt, alloc, HUB.as_slice(), input.as_bytes(), 0, output, "")
 }
 
 #[test]
@@ -91,7 +87,10 @@ fn refused_requests(rt: HostRuntime) -> Result<(), Fail> {
         ("99\n", "1314\n"),
         ("0200000000000000000000000a00\n", "1315\n"),
         ("0200000000000000000000000\n", "1316\n"),
-        ("02000000000000000000000000\n", "14000000000000000000000000\n"),
+        (
+            "02000000000000000000000000\n",
+            "14000000000000000000000000\n",
+        ),
         ("0200000000000000010000000a\n", "1328\n"),
         ("030000000900000000000000000000000a\n", "1314\n"),
     ];
@@ -136,15 +135,7 @@ fn refused_changesets(rt: HostRuntime) -> Result<(), Fail> {
     ];
     for (changeset, output) in cases {
         let input = push(alloc, 7, 1, 0, changeset)?;
-        expect(
-            &rt,
-            alloc,
-            HUB.as_slice(),
-            input.as_bytes(),
-            0,
-            output,
-            "",
-        )?;
+        expect(&rt, alloc, HUB.as_slice(), input.as_bytes(), 0, output, "")?;
     }
     Ok(())
 }
@@ -155,15 +146,7 @@ fn fronts_of_a_pushed_insert(rt: HostRuntime) -> Result<(), Fail> {
     for len in 1..22 {
         let input = push(alloc, 7, 1, 0, INSERT.get(..2 * len).ok_or("front")?)?;
         let output = if len == 7 { "132a\n" } else { "1302\n" };
-        expect(
-            &rt,
-            alloc,
-            HUB.as_slice(),
-            input.as_bytes(),
-            0,
-            output,
-            "",
-        )?;
+        expect(&rt, alloc, HUB.as_slice(), input.as_bytes(), 0, output, "")?;
     }
     Ok(())
 }
