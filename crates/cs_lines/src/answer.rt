@@ -10,7 +10,7 @@ use std::io;
 use std::io::Write;
 
 // How many bytes are turned into digits at a time.
-const PIECE: usize = 64;
+const PIECE: usize = 1024;
 
 /// The answer to one line. The two refusals take no memory.
 #[derive(Drop)]
@@ -55,7 +55,7 @@ pub fn write_hex_line<W: Write>(writer: &mut W, bytes: &[u8]) -> io::Result<()>
 }
 
 fn write_hex<W: Write>(writer: &mut W, piece: &[u8]) -> io::Result<()>
-    requires { length piece.now ≤ 64 }
+    requires { length piece.now ≤ PIECE }
     ensures { OnOk result (Appends (W.contents writer.old) (W.contents writer.new) (encode_lower piece.now)) }
 {
     let mut text = [0u8; 2 * PIECE];

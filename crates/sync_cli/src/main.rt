@@ -12,9 +12,12 @@ mod run;
 mod show;
 mod table;
 
-use std::io::{BufReader, ErrorKind, Write};
+use std::io::{BufReader, BufWriter, ErrorKind, Write};
 use std::process::ExitCode;
 use std::{env, io};
+
+/// The bytes of the output's buffer. It is taken before the first request, and flushed behind each answer.
+const OUTPUT_BUFFER: usize = 65_536;
 
 fn main(rt: HostRuntime) -> ExitCode {
     match start(&rt) {
@@ -27,7 +30,7 @@ fn start(rt: &HostRuntime) -> io::Result<u8> {
     let alloc = rt.alloc();
     let words: Vec<String> = env::args(rt)?.collect(alloc)?;
     let mut reader = BufReader::new(alloc, rt.reader())?;
-    let mut writer = io::writer(rt);
+    let mut writer = BufWriter::with_capacity(alloc, OUTPUT_BUFFER, io::writer(rt))?;
     let mut errors = rt.stderr();
     Ok(run::run(
         alloc,

@@ -20,6 +20,7 @@ use cs_hub::Hub;
 use cs_lines::{Stop, serve_lines};
 use std::alloc::Global;
 use std::convert::AsStr;
+use std::io;
 use std::io::{BufRead, Write};
 
 /// All was done.
@@ -87,12 +88,17 @@ fn tell_refused_command<W: Write, E: Write>(error: &Error, writer: &mut W, error
 {
     match error.kind() {
         ErrorKind::OutOfMemory => tell(errors, MEMORY, REFUSED_INPUT),
-        ErrorKind::DisplayHelp => match write!(writer, "{error}") {
+        ErrorKind::DisplayHelp => match show_help(error, writer) {
             Ok(()) => DONE,
             Err(_) => tell(errors, "sync: Write", REFUSED_INPUT),
         },
         _ => tell(errors, COMMAND_LINE, REFUSED_COMMAND),
     }
+}
+
+fn show_help<W: Write>(error: &Error, writer: &mut W) -> io::Result<()> {
+    write!(writer, "{error}")?;
+    writer.flush()
 }
 
 fn tell_refused_tables<E: Write>(refused: &Refused, errors: &mut E) -> u8
