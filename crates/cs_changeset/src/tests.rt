@@ -4,10 +4,10 @@ use std::process::Abort;
 use std::test::Fail;
 
 /// The header of a table t1 with a key column and another.
-const T1: [u8; 7] = [0x54, 2, 1, 0, 0x74, 0x31, 0];
+const HEADER: [u8; 7] = [0x54, 2, 1, 0, 0x74, 0x31, 0];
 
 /// The header of a table t2 with a key column and three others.
-const T2: [u8; 9] = [0x54, 4, 1, 0, 0, 0, 0x74, 0x32, 0];
+const WIDE_HEADER: [u8; 9] = [0x54, 4, 1, 0, 0, 0, 0x74, 0x32, 0];
 
 /// The integer 1.
 const ONE: [u8; 9] = [1, 0, 0, 0, 0, 0, 0, 0, 1];
@@ -56,28 +56,28 @@ fn told(rt: &impl Abort, alloc: Global, bytes: &[u8], fault: Fault, offset: usiz
 #[test]
 fn reads_what_it_writes(rt: HostRuntime) -> Result<(), Fail> {
     let alloc = rt.alloc();
-    let insert = joined(alloc, &[&T1, &[0x12, 0], &ONE, &V1])?;
+    let insert = joined(alloc, &[&HEADER, &[0x12, 0], &ONE, &V1])?;
     assert_eq!(rt; insert.len(), 22);
     let read = comes_back(&rt, alloc, &insert)?;
     assert_eq!(rt; read.as_slice().len(), 1);
     let cases = [
         Vec::new(alloc),
-        joined(alloc, &[&T1])?,
+        joined(alloc, &[&HEADER])?,
         joined(
             alloc,
             &[&[0x54, 2, 2, 0, 0x74, 0x31, 0, 0x12, 0], &ONE, &V1],
         )?,
-        joined(alloc, &[&T1, &[0x17, 0], &ONE, &V1, &[0], &V2])?,
-        joined(alloc, &[&T1, &[0x17, 1], &ONE, &V1, &ONE, &V2])?,
+        joined(alloc, &[&HEADER, &[0x17, 0], &ONE, &V1, &[0], &V2])?,
+        joined(alloc, &[&HEADER, &[0x17, 1], &ONE, &V1, &ONE, &V2])?,
         joined(
             alloc,
             &[
-                &T1,
+                &HEADER,
                 &[9, 1],
                 &ONE,
                 &[5],
-                &T2,
-                &T1,
+                &WIDE_HEADER,
+                &HEADER,
                 &[9, 0],
                 &TWO,
                 &[4, 1, 0xff],
@@ -85,9 +85,17 @@ fn reads_what_it_writes(rt: HostRuntime) -> Result<(), Fail> {
         )?,
         joined(
             alloc,
-            &[&T2, &[0x17, 0], &ONE, &[3, 0, 5, 0, 0, 4, 0, 3, 0, 0]],
+            &[
+                &WIDE_HEADER,
+                &[0x17, 0],
+                &ONE,
+                &[3, 0, 5, 0, 0, 4, 0, 3, 0, 0],
+            ],
         )?,
-        joined(alloc, &[&T2, &[0x17, 0], &ONE, &V1, &[5, 0, 0, 0, 0, 0]])?,
+        joined(
+            alloc,
+            &[&WIDE_HEADER, &[0x17, 0], &ONE, &V1, &[5, 0, 0, 0, 0, 0]],
+        )?,
     ];
     for bytes in &cases {
         comes_back(&rt, alloc, bytes)?;
@@ -95,17 +103,48 @@ fn reads_what_it_writes(rt: HostRuntime) -> Result<(), Fail> {
     Ok(())
 }
 
-#[test]
-fn each_front_of_an_insert(rt: HostRuntime) -> Result<(), Fail> {
-    let alloc = rt.alloc();
-    let insert = joined(alloc, &[&T1, &[0x12, 0], &ONE, &V1])?;
-    for len in 0..insert.len() {
-        let front = &insert[..len];
-        if len == 0 || len == 7 {
-            comes_back(&rt, alloc, front)?;
+/// Reads each proper front: one of these lengths is a changeset itself, any other is cut.
+fn each_front(rt: &impl Abort, alloc: Global, bytes: &[u8], whole: &[usize]) -> Result<(), Fail> {
+    for len in 0..bytes.len() {
+        let front = &bytes[..len];
+        if whole.contains(&len) {
+            comes_back(rt, alloc, front)?;
         } else {
-            told(&rt, alloc, front, Fault::Truncated, len);
+            told(rt, alloc, front, Fault::Truncated, len);
         }
+    }
+    Ok(())
+}
+
+#[test]
+fn fronts(rt: HostRuntime) -> Result<(), Fail> {
+    let alloc = rt.alloc();
+    let cases: [(&[&[u8]], &[usize]); 7] = [
+        (&[&HEADER, &[0x12, 0], &ONE, &V1], &[0, 7]),
+        (&[&HEADER, &[0x17, 0], &ONE, &V1, &[0], &V2], &[0, 7]),
+        (&[&HEADER, &[0x17, 0], &ONE, &V1, &ONE, &V2], &[0, 7]),
+        (&[&HEADER, &[9, 0], &ONE, &V1], &[0, 7]),
+        (
+            &[&HEADER, &[0x12, 0], &ONE, &V1, &HEADER, &[9, 0], &TWO, &V2],
+            &[0, 7, 22, 29],
+        ),
+        (
+            &[&HEADER, &[0x12, 0], &ONE, &V1, &[0x12, 1], &TWO, &[5]],
+            &[0, 7, 22],
+        ),
+        (
+            &[
+                &WIDE_HEADER,
+                &[0x17, 0],
+                &ONE,
+                &[3, 0, 5, 0, 0, 4, 0, 3, 0, 0],
+            ],
+            &[0, 9],
+        ),
+    ];
+    for (pieces, whole) in &cases {
+        let bytes = joined(alloc, pieces)?;
+        each_front(&rt, alloc, &bytes, whole)?;
     }
     Ok(())
 }
@@ -136,46 +175,63 @@ fn faults_of_headers(rt: HostRuntime) {
 fn faults_of_changes(rt: HostRuntime) -> Result<(), Fail> {
     let alloc = rt.alloc();
     let cases: [(&[&[u8]], Fault, usize); 16] = [
-        (&[&T1, &[0x13]], Fault::BadOperation, 7),
-        (&[&T1, &[0x50]], Fault::Patchset, 7),
-        (&[&T1, &[0x12, 2]], Fault::BadFlag, 8),
-        (&[&T1, &[0x12, 0, 0]], Fault::UndefinedHere, 9),
-        (&[&T1, &[9, 0, 0]], Fault::UndefinedHere, 9),
-        (&[&T1, &[0x17, 0, 0]], Fault::UndefinedHere, 9),
-        (&[&T1, &[0x12, 0], &ONE, &[6]], Fault::BadType(6), 18),
-        (&[&T1, &[0x12, 0], &ONE, &[2]], Fault::Real, 18),
+        (&[&HEADER, &[0x13]], Fault::BadOperation, 7),
+        (&[&HEADER, &[0x50]], Fault::Patchset, 7),
+        (&[&HEADER, &[0x12, 2]], Fault::BadFlag, 8),
+        (&[&HEADER, &[0x12, 0, 0]], Fault::UndefinedHere, 9),
+        (&[&HEADER, &[9, 0, 0]], Fault::UndefinedHere, 9),
+        (&[&HEADER, &[0x17, 0, 0]], Fault::UndefinedHere, 9),
+        (&[&HEADER, &[0x12, 0], &ONE, &[6]], Fault::BadType(6), 18),
+        (&[&HEADER, &[0x12, 0], &ONE, &[2]], Fault::Real, 18),
         (
-            &[&T1, &[0x12, 0], &ONE, &[3, 0x80, 2]],
+            &[&HEADER, &[0x12, 0], &ONE, &[3, 0x80, 2]],
             Fault::NotShortest,
             19,
         ),
-        (&[&T1, &[0x12, 0], &ONE, &[3, 1, 0xff]], Fault::NotUtf8, 20),
         (
-            &[&T1, &[0x12, 0], &ONE, &[3], &[0xff; 9]],
+            &[&HEADER, &[0x12, 0], &ONE, &[3, 1, 0xff]],
+            Fault::NotUtf8,
+            20,
+        ),
+        (
+            &[&HEADER, &[0x12, 0], &ONE, &[3], &[0xff; 9]],
             Fault::Truncated,
             28,
         ),
         (
-            &[&T1, &[0x17, 0], &ONE, &V1, &TWO, &V2],
+            &[&HEADER, &[0x17, 0], &ONE, &V1, &TWO, &V2],
             Fault::KeyChanged,
             22,
         ),
         (
-            &[&T1, &[0x17, 0], &ONE, &[0, 0], &V2],
+            &[&HEADER, &[0x17, 0], &ONE, &[0, 0], &V2],
             Fault::UndefinedHere,
             20,
         ),
         (
-            &[&T1, &[0x12, 0], &ONE, &V1, &T1, &[0x12, 0], &ONE, &[2]],
+            &[
+                &HEADER,
+                &[0x12, 0],
+                &ONE,
+                &V1,
+                &HEADER,
+                &[0x12, 0],
+                &ONE,
+                &[2],
+            ],
             Fault::Real,
             40,
         ),
         (
-            &[&T1, &[0x12, 0], &ONE, &V1, &[0x54, 0]],
+            &[&HEADER, &[0x12, 0], &ONE, &V1, &[0x54, 0]],
             Fault::Columns,
             23,
         ),
-        (&[&T1, &[0x12, 0], &ONE, &V1, &[1]], Fault::BadOperation, 22),
+        (
+            &[&HEADER, &[0x12, 0], &ONE, &V1, &[1]],
+            Fault::BadOperation,
+            22,
+        ),
     ];
     for (pieces, fault, offset) in &cases {
         let bytes = joined(alloc, pieces)?;

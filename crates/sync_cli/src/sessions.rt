@@ -152,6 +152,20 @@ fn fronts_of_a_pushed_insert(rt: HostRuntime) -> Result<(), Fail> {
 }
 
 #[test]
+fn fronts_of_requests(rt: HostRuntime) -> Result<(), Fail> {
+    let alloc = rt.alloc();
+    let pushed = push(alloc, 7, 1, 0, INSERT)?;
+    for request in [pushed.as_str(), "0200000000000000000000000a\n"] {
+        for digits in 0..request.len().saturating_sub(1) {
+            let input = format!(in alloc; "{}\n", request.get(..digits).ok_or("front")?)?;
+            let output = if digits % 2 == 0 { "1302\n" } else { "1316\n" };
+            expect(&rt, alloc, HUB.as_slice(), input.as_bytes(), 0, output, "")?;
+        }
+    }
+    Ok(())
+}
+
+#[test]
 fn long_hostile_lines(rt: HostRuntime) -> Result<(), Fail> {
     let alloc = rt.alloc();
     let mut long = String::with_capacity(alloc, 131_072)?;
