@@ -1,0 +1,71 @@
+/* Changesets in the format of SQLite's session extension: read, written again, and brought into normal form.
+ *
+ * Link out/libcs_ffi.a, and behind it the toolchain's c/liblibc_c.a, which gives it memory by malloc, realloc and free.
+ * The functions give back all memory before they return. They may be
+ * called from several threads, each on bytes of its own; not from a signal handler.
+ *
+ * A pointer must not be null, also where its length is 0. The bytes that are read and those that are written must not
+ * overlap. */
+#ifndef CS_FFI_H
+#define CS_FFI_H
+
+#include <stddef.h>
+#include <stdint.h>
+
+#ifdef __cplusplus
+extern "C" {
+#endif
+
+/* What is wrong with the bytes. */
+enum cs_ffi_fault {
+    CS_FFI_READ = 0,            /* nothing */
+    CS_FFI_MEMORY = 1,          /* memory is wanting; it says nothing of the bytes */
+    CS_FFI_TRUNCATED = 2,       /* the bytes end early */
+    CS_FFI_NOT_SHORTEST = 3,    /* a varint is longer than it needs to be */
+    CS_FFI_BAD_TYPE = 4,        /* no field has this type */
+    CS_FFI_REAL = 5,            /* a field is a real number */
+    CS_FFI_NOT_UTF8 = 6,        /* a text or a name is not UTF-8 */
+    CS_FFI_PATCHSET = 7,        /* a group begins as one of a patchset */
+    CS_FFI_BAD_MARK = 8,        /* the first byte begins no group */
+    CS_FFI_BAD_OPERATION = 9,   /* a byte in a change's place is no operation */
+    CS_FFI_BAD_FLAG = 10,       /* a flag is neither 0 nor 1 */
+    CS_FFI_COLUMNS = 11,        /* a group has no column or more than 2,000 */
+    CS_FFI_NO_KEY_COLUMN = 12,  /* a group has no key column */
+    CS_FFI_UNDEFINED_HERE = 13, /* a field is undefined where a value is owed */
+    CS_FFI_KEY_CHANGED = 14,    /* an UPDATE has another value in its key */
+    CS_FFI_UNKNOWN_TABLE = 30,  /* no declared table has the group's name */
+    CS_FFI_SHAPE = 31,          /* the table of the group's name has another column count or other key columns */
+    CS_FFI_NULL_KEY = 32,       /* a change has NULL at a key column */
+    CS_FFI_KEY_TWICE = 33,      /* two changes of one table have one key */
+    CS_FFI_NO_TABLES = 50       /* the declared tables are no changeset, or its headers are no tables */
+};
+
+/* What is told of bytes: the number of their first fault, its offset in bytes from the front (0 where there is none),
+ * and a count (0 beside a fault). */
+struct cs_ffi_answer {
+    uint32_t fault;
+    size_t offset;
+    size_t count;
+};
+
+/* Reads a changeset, the whole of the bytes. The count is that of its changes. */
+struct cs_ffi_answer cs_ffi_decode(const uint8_t *input, size_t input_length);
+
+/* Reads a changeset and writes it again to the front of the output. The count is that of the bytes it takes, which are
+ * the bytes that were read. Where the output has no room for them, and beside a fault, nothing is written. */
+struct cs_ffi_answer cs_ffi_reencode(const uint8_t *input, size_t input_length, uint8_t *output, size_t output_length);
+
+/* Brings a changeset into normal form and writes that to the front of the output: for each declared table, in their
+ * order, its changes, one a key, in the order of the keys' bytes, each in its shortest form. The tables are declared by
+ * the headers of another changeset, one group each; its changes, if it has any, don't matter. The count is that of the
+ * bytes that the normal form takes, at most as many as the input's. Where the output has no room for them, and beside a
+ * fault, nothing is written. The tables are judged first, then the bytes of the input (faults 2 to 14 and their offset
+ * are the input's), then the changeset (faults 30 to 33, without an offset). */
+struct cs_ffi_answer cs_ffi_normalise(const uint8_t *declared, size_t declared_length, const uint8_t *input,
+                                      size_t input_length, uint8_t *output, size_t output_length);
+
+#ifdef __cplusplus
+}
+#endif
+
+#endif

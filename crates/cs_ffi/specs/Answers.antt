@@ -1,0 +1,80 @@
+-- What the library answers of bytes (profile of this project over SQLite's "changeset format").
+use Rattle.std.specs.Prelude.{◌≡◌, ℕ, ◌<◌, ◌≤◌, ◌⊎◌, List, ◌++◌, length, sum_by, drop}
+use Rattle.cs_change.specs.declared.group.Group.{Group}
+use Rattle.cs_change.specs.Spelling.{FitsChangeset, changeset_spelling}
+use Rattle.cs_changeset.specs.Reading.{IsFault}
+use Rattle.cs_changeset.specs.declared.fault.Fault.{Fault}
+use Rattle.cs_changeset.specs.declared.fault.Fault.TheVariants.{Truncated, NotShortest, BadType, Real, NotUtf8, Patchset, BadMark, BadOperation, BadFlag, Columns, NoKeyColumn, UndefinedHere, KeyChanged}
+use Rattle.cs_changeset.specs.declared.fault.CodecFault.{CodecFault}
+use Rattle.cs_changeset.specs.declared.fault.CodecFault.TheVariants.{Memory, At}
+use Rattle.cs_ffi.specs.declared.answer.Answer.{Answer}
+
+-- the number of a fault; 0 is none, and 1 is want of memory
+abbrev pub fault_number : Fault → ℕ
+fault_number Truncated = 2
+fault_number NotShortest = 3
+fault_number (BadType kind) = 4
+fault_number Real = 5
+fault_number NotUtf8 = 6
+fault_number Patchset = 7
+fault_number BadMark = 8
+fault_number BadOperation = 9
+fault_number BadFlag = 10
+fault_number Columns = 11
+fault_number NoKeyColumn = 12
+fault_number UndefinedHere = 13
+fault_number KeyChanged = 14
+
+-- nothing is wrong, and this many changes or bytes
+abbrev pub read : ℕ → Answer
+read count = record { fault = 0; offset = 0; count = count }
+
+-- memory is wanting
+abbrev pub no_memory : Answer
+no_memory = record { fault = 1; offset = 0; count = 0 }
+
+-- a fault, and where
+abbrev pub refused : Fault → ℕ → Answer
+refused fault offset = record { fault = fault_number fault; offset = offset; count = 0 }
+
+abbrev pub answer_of : CodecFault → Answer
+answer_of Memory = no_memory
+answer_of (At fault offset) = refused fault offset
+
+-- the first fault of the bytes, or want of memory
+abbrev pub IsRefusal : List ℕ → Answer → Type 0
+IsRefusal bytes answer =
+    (answer ≡ no_memory) ⊎ ((fault : Fault) × (offset : ℕ) × IsFault fault offset bytes × (answer ≡ refused fault offset))
+
+-- how many changes the groups have
+abbrev pub change_count : List Group → ℕ
+change_count groups = sum_by (λ group. length group.changes) groups
+
+-- the bytes spell this changeset
+abbrev pub Spell : List ℕ → List Group → Type 0
+Spell bytes groups = FitsChangeset groups × (bytes ≡ changeset_spelling groups)
+
+-- the answer of reading alone: the number of the changes that the bytes spell, or why they spell none
+abbrev pub AnswersCount : List ℕ → Answer → Type 0
+AnswersCount bytes answer =
+    ((groups : List Group) × Spell bytes groups × (answer ≡ read (change_count groups))) ⊎ IsRefusal bytes answer
+
+-- what stands in the caller's memory after these bytes were handed over: they in front, if they have room
+pub record IsHanded (bytes before after : List ℕ) : Type 0 where
+  pub room : length bytes ≤ length before → after ≡ bytes ++ drop (length bytes) before
+  pub no_room : length before < length bytes → after ≡ before
+
+-- the answer of writing again: the spelling of what was read is handed over and its length told, or nothing is
+-- written and it is told why
+abbrev pub AnswersAgain : List ℕ → List ℕ → List ℕ → Answer → Type 0
+AnswersAgain bytes before after answer =
+    ((groups : List Group) × Spell bytes groups × IsHanded (changeset_spelling groups) before after × (answer ≡ read (length (changeset_spelling groups))))
+    ⊎ (IsRefusal bytes answer × (after ≡ before))
+
+-- this count is told, or memory is wanting
+abbrev pub TellsCount : ℕ → Answer → Type 0
+TellsCount count answer = (answer ≡ read count) ⊎ (answer ≡ no_memory)
+
+-- this fault is told, or memory is wanting
+abbrev pub TellsFault : Fault → ℕ → Answer → Type 0
+TellsFault fault offset answer = (answer ≡ refused fault offset) ⊎ (answer ≡ no_memory)

@@ -1,0 +1,120 @@
+-- What the library answers where it brings a changeset into normal form (profile of this project).
+use Rattle.std.specs.Prelude.{◌≡◌, ℕ, ◌≤◌, ◌⊎◌, List, length, map, Result, Ok, Err}
+use Rattle.std.specs.Global.{Vec}
+use Rattle.cs_value.specs.Catalog.{AreTables, IsFault as IsTablesFault}
+use Rattle.cs_value.specs.declared.catalog.TableDef.{TableDef}
+use Rattle.cs_value.specs.declared.catalog.CatalogFault.{CatalogFault}
+use Rattle.cs_change.specs.declared.group.Group.{Group}
+use Rattle.cs_change.specs.Spelling.{marks_of, changeset_spelling, FitsChangeset}
+use Rattle.cs_changeset.specs.Reading.{IsFault}
+use Rattle.cs_changeset.specs.declared.fault.Fault.{Fault}
+use Rattle.cs_normal.specs.Normal.{groups_of, normal_spelling}
+use Rattle.cs_normal.specs.NormalFormOf.{AreFit, IsNormalFormOf, IsUnfit}
+use Rattle.cs_normal.specs.declared.normal.TableChanges.{TableChanges}
+use Rattle.cs_normal.specs.declared.unfit.Unfit.{Unfit}
+use Rattle.cs_normal.specs.declared.unfit.Unfit.TheVariants as unfit
+use Rattle.cs_ffi.specs.declared.answer.Answer.{Answer}
+use Rattle.cs_ffi.specs.Answers.{no_memory, read, Spell, IsRefusal, IsHanded}
+
+-- the number of the reason why a changeset has no normal form
+abbrev pub unfit_number : Unfit → ℕ
+unfit_number unfit.Memory = 1
+unfit_number unfit.UnknownTable = 30
+unfit_number unfit.Shape = 31
+unfit_number unfit.NullKey = 32
+unfit_number unfit.KeyTwice = 33
+
+abbrev pub unfit_answer : Unfit → Answer
+unfit_answer fault = record { fault = unfit_number fault; offset = 0; count = 0 }
+
+-- the first bytes declare no tables
+abbrev pub no_tables : Answer
+no_tables = record { fault = 50; offset = 0; count = 0 }
+
+-- the table that a group's header declares
+abbrev pub table_of : Group → TableDef
+table_of group = record { name = group.name; key_marks = marks_of group.marks }
+
+-- the bytes declare these tables: a group each, whose changes don't matter
+abbrev pub Declare : List ℕ → List TableDef → Type 0
+Declare bytes tables = (groups : List Group) × Spell bytes groups × (tables ≡ map table_of groups) × AreTables tables
+
+-- the bytes spell no changeset, or one whose headers are no catalog
+abbrev pub DeclareNone : List ℕ → Type 0
+DeclareNone bytes =
+    ((fault : Fault) × (offset : ℕ) × IsFault fault offset bytes)
+    ⊎ ((groups : List Group) × (fault : CatalogFault) × Spell bytes groups × IsTablesFault fault (map table_of groups))
+
+-- what reading the tables gives
+abbrev pub ReadsTables : List ℕ → Result (List TableDef) Answer → Type 0
+ReadsTables bytes (Ok tables) = Declare bytes tables
+ReadsTables bytes (Err answer) = (answer ≡ no_memory) ⊎ ((answer ≡ no_tables) × DeclareNone bytes)
+
+-- these tables are read, or memory is wanting
+abbrev pub FindsTables : Result (List TableDef) Answer → List TableDef → Type 0
+FindsTables (Ok found) tables = found ≡ tables
+FindsTables (Err answer) tables = answer ≡ no_memory
+
+-- the input spells a changeset that fits the declared tables
+pub record IsFitInput (declared input : List ℕ) : Type 0 where
+  pub tables : List TableDef
+  pub groups : List Group
+  pub declares : Declare declared tables
+  pub spells : Spell input groups
+  pub fit : AreFit tables groups
+
+-- nothing is wrong, or memory is wanting
+abbrev pub TellsNoFault : Answer → Type 0
+TellsNoFault answer = (answer.fault ≡ 0) ⊎ (answer ≡ no_memory)
+
+-- the bytes are the spelling of the normal form of this changeset by a catalog; the reader takes them, and they are no
+-- more than the changeset's
+pub record SpellForm (tables : List TableDef) (groups : List Group) (bytes : List ℕ) : Type 0 where
+  pub normal : List TableChanges
+  pub fit : AreFit tables groups
+  pub form : IsNormalFormOf tables groups normal
+  pub spelled : bytes ≡ normal_spelling normal
+  pub taken : FitsChangeset (groups_of normal)
+  pub shorter : length bytes ≤ length (changeset_spelling groups)
+
+-- the same of the changeset that the input spells, by the declared tables
+pub record SpellNormal (declared input bytes : List ℕ) : Type 0 where
+  pub tables : List TableDef
+  pub groups : List Group
+  pub declares : Declare declared tables
+  pub spells : Spell input groups
+  pub form : SpellForm tables groups bytes
+
+-- the input has no normal form by the declared tables
+pub record HasNoForm (declared input : List ℕ) (answer : Answer) : Type 0 where
+  pub tables : List TableDef
+  pub groups : List Group
+  pub fault : Unfit
+  pub declares : Declare declared tables
+  pub spells : Spell input groups
+  pub told : IsUnfit fault tables groups
+  pub number : answer ≡ unfit_answer fault
+
+-- why there is no normal form: the tables first, then the bytes, then the changeset
+abbrev pub IsNormalRefusal : List ℕ → List ℕ → Answer → Type 0
+IsNormalRefusal declared input answer =
+    (answer ≡ no_memory)
+    ⊎ ((answer ≡ no_tables) × DeclareNone declared)
+    ⊎ (((tables : List TableDef) × Declare declared tables) × IsRefusal input answer)
+    ⊎ HasNoForm declared input answer
+
+-- the bytes of the normal form, or why there is none
+abbrev pub GivesNormal : List ℕ → List ℕ → Result (Vec ℕ) Answer → Type 0
+GivesNormal declared input (Ok bytes) = SpellNormal declared input bytes.items
+GivesNormal declared input (Err answer) = IsNormalRefusal declared input answer
+
+-- the bytes of the normal form of one changeset by a catalog, or why there is none
+abbrev pub SpellsForm : List TableDef → List Group → Result (Vec ℕ) Unfit → Type 0
+SpellsForm tables groups (Ok bytes) = SpellForm tables groups bytes.items
+SpellsForm tables groups (Err fault) = IsUnfit fault tables groups
+
+-- the answer: the normal form is handed over and its length told, or nothing is written and it is told why
+abbrev pub AnswersNormal : List ℕ → List ℕ → List ℕ → List ℕ → Answer → Type 0
+AnswersNormal declared input before after answer =
+    ((bytes : List ℕ) × SpellNormal declared input bytes × IsHanded bytes before after × (answer ≡ read (length bytes)))
+    ⊎ (IsNormalRefusal declared input answer × (after ≡ before))

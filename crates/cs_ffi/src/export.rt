@@ -1,0 +1,51 @@
+//! The functions that C calls.
+
+ghost use Rattle.std.specs.Prelude.{◌≡◌, ℕ, List, length};
+ghost use Rattle.cs_change.specs.Spelling.{changeset_spelling};
+ghost use Rattle.cs_change.specs.declared.group.Group.{Group};
+ghost use Rattle.cs_changeset.specs.Reading.{IsFault};
+ghost use Rattle.cs_changeset.specs.declared.fault.Fault.{Fault};
+ghost use Rattle.cs_ffi.specs.Answers.{AnswersAgain, AnswersCount, change_count, Spell, TellsCount, TellsFault};
+ghost use Rattle.cs_ffi.specs.NormalAnswers.{AnswersNormal, IsFitInput, TellsNoFault};
+
+use crate::answer::Answer;
+use crate::normal::write_normal;
+use crate::reading::{count, reencode};
+use std::alloc::Global;
+
+/// Reads a changeset and counts its changes. See `cs_ffi.h`. (SQLite's "changeset format"; the faults are of this
+/// project's profile.)
+#[unsafe(no_mangle)]
+pub extern "C" fn cs_ffi_decode(alloc: Global, input: &[u8]) -> Answer
+    ensures answers { AnswersCount input.now result }
+    ensures only { (groups : List Group) → Spell input.now groups → TellsCount (change_count groups) result }
+    ensures told { (fault : Fault) (offset : ℕ) → IsFault fault offset input.now → TellsFault fault offset result }
+{
+    count(alloc, input)
+}
+
+/// Reads a changeset and writes it again into the caller's memory. See `cs_ffi.h`. (SQLite's "changeset format"; the
+/// faults are of this project's profile.)
+#[unsafe(no_mangle)]
+pub extern "C" fn cs_ffi_reencode(alloc: Global, input: &[u8], output: &mut [u8]) -> Answer
+    ensures answers { AnswersAgain input.now output.old output.new result }
+    ensures only { (groups : List Group) → Spell input.now groups → TellsCount (length (changeset_spelling groups)) result }
+    ensures told { (fault : Fault) (offset : ℕ) → IsFault fault offset input.now → TellsFault fault offset result }
+{
+    reencode(alloc, input, output)
+}
+
+/// Brings a changeset into normal form by the tables that the headers of another declare, and writes it into the
+/// caller's memory. See `cs_ffi.h`. (Profile of this project over SQLite's "changeset format".)
+#[unsafe(no_mangle)]
+pub extern "C" fn cs_ffi_normalise(
+    alloc: Global,
+    declared: &[u8],
+    input: &[u8],
+    output: &mut [u8],
+) -> Answer
+    ensures answers { AnswersNormal declared.now input.now output.old output.new result }
+    ensures fit { IsFitInput declared.now input.now → TellsNoFault result }
+{
+    write_normal(alloc, declared, input, output)
+}
