@@ -36,7 +36,7 @@ lenient_update (m ∷ marks) [] new u = absurd u
 lenient_update (m ∷ marks) (o ∷ old) [] u = absurd u
 
 -- what the reader takes is lenient at the key that is read from it
-lenient : (marks : List Bool) (change : Change) → FitsChange marks change → IsLenient marks (change_key marks change) change
+pub lenient : (marks : List Bool) (change : Change) → FitsChange marks change → IsLenient marks (change_key marks change) change
 lenient marks (Insert flag new) f = record { wide = f.0; keyed = refl }
 lenient marks (Delete flag old) f = record { wide = f.0; keyed = refl }
 lenient marks (Update flag old new) f = lenient_update marks old new f.0

@@ -1,5 +1,8 @@
 pub mod Changes
+pub mod FirstTables
+pub mod Headers
 pub mod Laws
+pub mod Meaning
 pub mod Normal
 pub mod NormalForm
 pub mod NormalFormOf

@@ -1,6 +1,6 @@
 -- A changeset in normal form.
-use Rattle.std.specs.Prelude.{◌≡◌, ◌≢◌, ◌⊎◌, ℕ, List, [], ◌∷◌, ◌++◌, map, Option, None, if◌then◌else◌}
-use Rattle.std.specs.List.{AllByRecursion, flat_map}
+use Rattle.std.specs.Prelude.{◌≡◌, ◌≢◌, ◌⊎◌, ℕ, List, [], ◌∷◌, ◌++◌, map, length, Option, None, if◌then◌else◌}
+use Rattle.std.specs.List.{AllByRecursion, flat_map, sum_by}
 use Rattle.std.specs.Str.{bytes_eq}
 use Rattle.cs_value.specs.declared.catalog.TableDef.{TableDef}
 use Rattle.cs_change.specs.Spelling.{flag_byte, change_spelling, header_spelling}
@@ -38,6 +38,10 @@ IsNormalChangeset tables = AllByRecursion IsNormalTable tables
 abbrev pub changes_in : List ℕ → List TableChanges → Changes
 changes_in name [] = []
 changes_in name (table ∷ tables) = if bytes_eq table.name name then table.changes else changes_in name tables
+
+-- how many changes there are
+abbrev pub count_of : List TableChanges → ℕ
+count_of tables = sum_by (λ table. length table.changes) tables
 
 -- a group with marks written as 1 and 0, and the changes in their order
 abbrev pub table_spelling : TableChanges → List ℕ

@@ -1,21 +1,25 @@
 //! Changesets in normal form: for each table of a catalog the changes behind the bytes of their keys, in order, each
 //! key once, each change in its shortest form. It stands on changes and groups as read (`cs_change`), records
-//! (`cs_record`) and catalogs (`cs_value`). `normalise` brings what was read into normal form or tells the first
-//! fault; `Normal` keeps the form and is copied, compared and spelled exactly; `laws` says that a normal form means
-//! what was read, that there is one, also when it is read again, and that a changeset fits or has one fault.
+//! (`cs_record`) and catalogs (`cs_value`). `catalog_of` makes the catalog that headers tell of, `normalise` the normal
+//! form of what was read, or each tells the fault; `Normal` keeps the form and is counted, searched, copied, compared
+//! and spelled exactly; `laws` says that a normal form means what was read, over whole states too, that there is one,
+//! also when it is read again, and that a changeset fits or has one fault.
 #![tactic(auto)]
 
 mod changes;
 mod comparing;
 mod fitting;
 mod groups;
+mod headers;
 mod normal;
 mod normal_form;
+mod searching;
 mod unfit;
 mod writing;
 
 pub use changes::{Bytes, Changes, KeyedChange, copy_keyed, encode_key};
 pub use groups::normalise;
+pub use headers::{HeaderFault, catalog_of};
 
 pub mod laws;
 

@@ -2,11 +2,13 @@
 
 ghost use Rattle.std.specs.Prelude.{◌≡◌, IfOk};
 
-use crate::changes::{Changes, copy_changes};
+use crate::changes::{Changes, copy_changes, encode_key};
 use crate::comparing::same_tables;
 use crate::fitting::tables_fit;
+use crate::searching::{change_with, changes_named, count_changes};
 use crate::writing::put_tables;
-use cs_value::{Catalog, Items, Marks, Memory, Text};
+use cs_change::Change;
+use cs_value::{Catalog, Items, Key, Marks, Memory, Text};
 use std::alloc::Global;
 use std::marker::Model;
 
@@ -62,8 +64,9 @@ impl Model for Normal {
 }
 
 impl Normal {
-    ghost use Rattle.std.specs.Prelude.{◌≡◌, ◌↔◌, ◌++◌, IsTrue, IfOk, OnOk, OnErr};
-    ghost use Rattle.cs_normal.specs.Normal.{FitsCatalog, IsNormalChangeset, normal_spelling};
+    ghost use Rattle.std.specs.Prelude.{◌≡◌, ◌↔◌, ◌++◌, min, IsTrue, Some, None, IfOk, OnOk, OnErr, MatchOption};
+    ghost use Rattle.cs_normal.specs.Changes.{key_bytes};
+    ghost use Rattle.cs_normal.specs.Normal.{FitsCatalog, IsNormalChangeset, change_of, count_of, normal_spelling};
 
     /// The changeset of these tables, which are in normal form. It takes no memory.
     pub fn from_tables(tables: Vec<TableChanges>) -> Normal
@@ -79,6 +82,24 @@ impl Normal {
         ensures normal { IsNormalChangeset self.now }
     {
         self.tables.as_slice()
+    }
+
+    /// The number of changes, over all tables; `usize::MAX` where there are more, which no machine has memory for. It
+    /// takes no memory.
+    pub fn len(&self) -> usize
+        ensures { result ≡ min (count_of self.now) usize.MAX }
+    {
+        count_changes(self.tables())
+    }
+
+    /// The change at this place: of the table with this name and the row with this key; `None` where there is none. The
+    /// memory is for the bytes of the key, by which the change is found by halves.
+    pub fn change(&self, alloc: Global, name: &str, key: &Key) -> Result<Option<&Change>, Memory>
+        ensures { IfOk result (λ found. MatchOption found (change_of name.now (key_bytes key.now) self.now ≡ None)
+            (λ change. change_of name.now (key_bytes key.now) self.now ≡ Some change.now)) }
+    {
+        let bytes = encode_key(alloc, key.as_slice())?;
+        Ok(change_with(changes_named(self.tables(), name), bytes.as_slice()))
     }
 
     /// The same changeset, in memory of its own.

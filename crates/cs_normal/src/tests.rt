@@ -256,3 +256,118 @@ fn apart(rt: HostRuntime) -> Result<(), Fail> {
     assert!(rt; !one.fits(&other));
     Ok(())
 }
+
+/// The names and key columns of a catalog, one after another.
+fn shown(alloc: Global, catalog: &Catalog) -> Result<String, Memory> {
+    let mut text = String::new(alloc);
+    for table in catalog.tables() {
+        text.push_str(table.name.as_str())?;
+        for mark in table.key_marks.as_slice() {
+            text.push_str(if *mark { "+" } else { "-" })?;
+        }
+    }
+    Ok(text)
+}
+
+/// A group without changes.
+fn header(alloc: Global, name: &str, marks: &[u8]) -> Result<Group, Memory> {
+    Ok(Group {
+        marks: Items::from_vec(Vec::from_slice(alloc, marks)?),
+        name: Text::from_string(String::from_str(alloc, name)?),
+        changes: Items::from_vec(Vec::new(alloc)),
+    })
+}
+
+/// A changeset of groups without changes.
+fn header_list(alloc: Global, spelled: &[(&str, &[u8])]) -> Result<Changeset, Memory> {
+    let mut groups = Vec::new(alloc);
+    for (name, marks) in spelled {
+        groups.push(header(alloc, name, marks)?)?;
+    }
+    Ok(Items::from_vec(groups))
+}
+
+#[test]
+fn tables_as_they_first_came(rt: HostRuntime) -> Result<(), Fail> {
+    let alloc = rt.alloc();
+    let changesets = vec![in alloc;
+        header_list(alloc, &[("t2", &[1, 0]), ("t1", &[0, 1])])?,
+        header_list(alloc, &[])?,
+        header_list(
+            alloc,
+            &[("t2", &[2, 0]), ("t3", &[1, 2, 0]), ("t1", &[0, 9])]
+        )?,
+    ]?;
+    let catalog = catalog_of(alloc, &changesets)?;
+    assert_eq!(rt; shown(alloc, &catalog)?.as_str(), "t2+-t1-+t3++-");
+    Ok(())
+}
+
+#[test]
+fn header_faults(rt: HostRuntime) -> Result<(), Fail> {
+    let alloc = rt.alloc();
+    let cases: [(&[(&str, &[u8])], HeaderFault); 5] = [
+        (
+            &[("t1", &[1, 0]), ("t2", &[1]), ("t1", &[1, 1])],
+            HeaderFault::Shape,
+        ),
+        (&[("t1", &[1, 0]), ("t1", &[1, 0, 0])], HeaderFault::Shape),
+        (
+            &[("", &[1]), ("t1", &[1, 0]), ("t1", &[0, 1])],
+            HeaderFault::Shape,
+        ),
+        (&[("t1", &[1]), ("", &[1])], HeaderFault::BadCatalog),
+        (&[("t1", &[0, 0])], HeaderFault::BadCatalog),
+    ];
+    for (spelled, fault) in &cases {
+        let changesets = vec![in alloc; header_list(alloc, spelled)?]?;
+        match catalog_of(alloc, &changesets) {
+            Err(HeaderFault::Memory) => return Err(AllocError)?,
+            Err(told) => assert_eq!(rt; told, *fault),
+            Ok(_) => panic!(rt; "no fault was told"),
+        }
+    }
+    assert_eq!(rt;
+        format!(in alloc; "{}", HeaderFault::BadCatalog)?.as_str(),
+        "BadCatalog"
+    );
+    Ok(())
+}
+
+#[test]
+fn more_names_than_a_catalog_has(rt: HostRuntime) -> Result<(), Fail> {
+    let alloc = rt.alloc();
+    let mut groups = Vec::new(alloc);
+    for number in 0..1001u16 {
+        let name = format!(in alloc; "t{number}")?;
+        groups.push(header(alloc, name.as_str(), &[1])?)?;
+    }
+    let changesets = vec![in alloc; Items::from_vec(groups)]?;
+    assert!(rt; matches!(catalog_of(alloc, &changesets), Err(HeaderFault::BadCatalog)));
+    Ok(())
+}
+
+#[test]
+fn changes_are_counted_and_found(rt: HostRuntime) -> Result<(), Fail> {
+    let alloc = rt.alloc();
+    let catalog = Catalog::new(tables(alloc)?)?;
+    let spelled: [(&str, &[u8]); 3] = [("t2", &[1]), ("t1", &[5, 2, 9]), ("t1", &[1])];
+    let normal = normalise(alloc, &catalog, &changeset(alloc, &spelled)?)?;
+    assert_eq!(rt; normal.len(), 5);
+    let cases = [
+        ("t1", 1, true),
+        ("t1", 5, true),
+        ("t1", 9, true),
+        ("t1", 3, false),
+        ("t1", 10, false),
+        ("t2", 1, true),
+        ("t2", 2, false),
+        ("t3", 1, false),
+    ];
+    for (name, number, there) in cases {
+        let key = Items::from_vec(vec![in alloc; key_value(number)]?);
+        let found = normal.change(alloc, name, &key)?;
+        assert_eq!(rt; matches!(found, Some(Change::Insert { .. })), there);
+    }
+    Ok(())
+}

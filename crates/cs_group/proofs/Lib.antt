@@ -1,0 +1,14 @@
+pub mod Added
+pub mod Empty
+pub mod Ends
+pub mod Entries
+pub mod Groups
+pub mod Inverses
+pub mod KeyBytes
+pub mod MergeLaws
+pub mod MergeSteps
+pub mod Joined
+pub mod NetOf
+pub mod PerTable
+pub mod ThenAll
+pub mod ThenNormal

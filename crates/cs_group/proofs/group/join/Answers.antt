@@ -1,0 +1,20 @@
+use Rattle.cs_group.specs.TableByTable.{IsNormalJoinOf}
+use Rattle.cs_group.proofs.Groups.{joined_each}
+use Rattle.cs_group.proofs.PerTable.{list_fits, made_fits, made_normal, made_each}
+use Rattle.cs_group.proofs.group.join.Goals as goal
+
+pub join_tables-requires : goal.join_tables-requires
+join_tables-requires c =
+    rw c.tables.ensures.same (list_fits c.args.catalog.now c.args.list.now c.tables.ensures.tables c.requires)
+
+pub from_tables-requires : goal.from_tables-requires
+from_tables-requires c =
+    made_normal (IsNormalJoinOf c.args.list.now) (λ table changes h. h.0) c.in_ok-tables.ensures
+
+pub returns-clause-fits : goal.returns-clause-fits
+returns-clause-fits c =
+    rw c.from_tables.ensures (made_fits (IsNormalJoinOf c.args.list.now) (rw c.tables.ensures.same at c.in_ok-tables.ensures))
+
+pub returns-clause-joined : goal.returns-clause-joined
+returns-clause-joined c =
+    rw c.from_tables.ensures (joined_each c.args.catalog.now c.args.list.now c.in_ok-tables.tables.items (made_each (IsNormalJoinOf c.args.list.now) c.args.catalog.now c.in_ok-tables.tables.items c.tables.ensures.tables (rw c.tables.ensures.same at c.in_ok-tables.ensures)))

@@ -1,0 +1,17 @@
+use Rattle.std.proofs.Common.{◌≡◌, ℕ, List, length}
+use Rattle.std.specs.List.{AllByRecursion}
+use Rattle.cs_normal.specs.Changes.{change_at, IsOrdered, IsEntry}
+use Rattle.cs_group.specs.Combine.{combine}
+use Rattle.cs_group.specs.Joining.{seen, IsReady}
+use Rattle.cs_group.proofs.joining.add_changes.Given as goal
+
+abbrev pub invariant-loop-keyed : goal.invariant-loop-keyed
+invariant-loop-keyed l = record {
+  ready : IsReady l.marks (seen l.joined.entries);
+  ordered : IsOrdered l.rest;
+  entries : AllByRecursion (IsEntry l.marks) l.rest;
+  then : (key : List ℕ) → combine l.marks (change_at key (seen l.joined.entries)) (change_at key l.rest) ≡ combine l.marks (change_at key (seen l.fn.joined.entries)) (change_at key l.changes);
+}
+
+abbrev pub decreases-loop-keyed : goal.decreases-loop-keyed
+decreases-loop-keyed l = length l.rest

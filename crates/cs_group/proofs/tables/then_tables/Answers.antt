@@ -1,0 +1,15 @@
+use Rattle.cs_group.specs.TableByTable.{IsThenOf}
+use Rattle.cs_group.proofs.PerTable.{made_none, made_more, made_all}
+use Rattle.cs_group.proofs.tables.then_tables.Goals as goal
+
+pub loop-table-init : goal.loop-table-init
+loop-table-init c =
+    record { earlier = c.requires.earlier; later = c.requires.later; made = made_none (IsThenOf c.args.earlier.now c.args.later.now) c.args.tables.now c.new-made.result.items c.new-made.ensures.items }
+
+pub loop-table-preserved : goal.loop-table-preserved
+loop-table-preserved c =
+    let so_far = rw c.in-Some.ensures.cases.0 at c.loop-table.invariant in
+    record { earlier = so_far.earlier.1; later = so_far.later.1; made = made_more (IsThenOf c.args.earlier.now c.args.later.now) c.in-Some.table.now c.in_ok-changes.changes.items c.in-Some.more.now c.args.tables.now c.loop-table.made.items c.put_changes.new.made.items c.in_ok-put_changes.ensures c.in_ok-changes.ensures so_far.made }
+
+pub returns : goal.returns
+returns c = made_all (IsThenOf c.args.earlier.now c.args.later.now) c.loop-table.rest.now c.args.tables.now c.loop-table.made.items c.in_default.ensures.cases c.loop-table.invariant.made

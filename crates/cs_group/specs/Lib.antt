@@ -1,0 +1,10 @@
+pub mod Adding
+pub mod Combine
+pub mod Inverse
+pub mod Joining
+pub mod Merges
+pub mod NetOf
+pub mod OneKey
+pub mod TableByTable
+pub mod Tables
+pub mod ThenNormal

@@ -1,0 +1,27 @@
+//! Consolidation: changes taken together as one. It stands on changesets in normal form (`cs_normal`) and the algebra
+//! of changes at one place (`cs_change`). `then` takes two changesets together, `join` a list of them and `add_one` one
+//! more change, key by key by SQLite's rules for a changegroup; `invert` takes a changeset back; `net` is the one
+//! change from a row or none to another. `laws` says that changes that follow on one another lead, taken together,
+//! from the first state to the last, that an inverse leads back, that `join` is `then` one by one, and that the bytes
+//! of keys tell the keys apart.
+#![tactic(auto)]
+
+mod adding;
+mod columns;
+mod group;
+mod inverting;
+mod joining;
+pub mod laws;
+mod merge;
+mod net_change;
+mod pairs;
+mod spelled;
+mod tables;
+
+pub use adding::add_one;
+pub use group::{join, then};
+pub use inverting::invert;
+pub use net_change::net;
+
+#[cfg(test)]
+mod tests;
