@@ -1,0 +1,61 @@
+#!/bin/sh
+# Refuses the program `sync` each of its allocations in turn, in a session of its own a refusal: the run ends with
+# `sync: Memory`, or one line is answered `1301` and every other line as in a session without that line, or the program
+# did without that memory and every line has its answer.
+# Usage: bench/refuse_memory.sh SYNC [INPUT]
+# SYNC is the proved program (crates/sync_cli/out/sync_cli), which has to take its memory from the C library. INPUT holds
+# requests, one a line; the stored run's, each sent twice, where none is given.
+set -eu
+bench="$(cd "$(dirname "$0")" && pwd)"
+sync="$1"
+. "$bench/common.sh"
+command -v cc > /dev/null || { echo "no allocation refused: there is no C compiler here"; exit 0; }
+mkdir -p "$out"
+cc -O2 -Wall -Wextra -shared -fPIC "$bench/refuse_memory.c" -o "$out/refuse_memory.so" -ldl
+
+if [ $# -gt 1 ]; then
+    cp "$2" "$out/requests"
+else
+    sed p "$crate/../sync_cli/stdin" > "$out/requests"
+fi
+"$sync" hub t1:10 < "$out/requests" > "$out/answers_whole"
+wanted="$(wc -l < "$out/requests")"
+
+number=0
+ended=0
+answered=0
+spared=0
+while true; do
+    number=$((number + 1))
+    status=0
+    REFUSE=$number LD_PRELOAD="$out/refuse_memory.so" timeout 20 "$sync" hub t1:10 < "$out/requests" \
+        > "$out/answers" 2> "$out/errors" 9> "$out/reached" || status=$?
+    [ ! -s "$out/reached" ] || break
+
+    if [ "$status" -eq 1 ] && [ "$(cat "$out/errors")" = "sync: Memory" ]; then
+        [ ! -s "$out/answers" ] || { echo "allocation $number: answers before the run gave up" >&2; exit 1; }
+        ended=$((ended + 1))
+        continue
+    fi
+    if [ "$status" -eq 0 ] && cmp -s "$out/answers" "$out/answers_whole"; then
+        spared=$((spared + 1))
+        [ "$spared" -lt 20 ] || { echo "the program doesn't take its memory from the C library" >&2; exit 1; }
+        continue
+    fi
+    [ "$status" -eq 0 ] && [ "$(grep -c '^1301$' "$out/answers")" -eq 1 ] \
+        && [ "$(wc -l < "$out/answers")" -eq "$wanted" ] || {
+        echo "allocation $number: status $status, $(cat "$out/errors")" >&2
+        exit 1
+    }
+    line="$(grep -n '^1301$' "$out/answers" | cut -d: -f1)"
+    sed "${line}d" "$out/answers" > "$out/answers_left"
+    sed "${line}d" "$out/requests" | "$sync" hub t1:10 > "$out/answers_without"
+    cmp "$out/answers_left" "$out/answers_without" || {
+        echo "allocation $number: line $line was refused and left something behind" >&2
+        exit 1
+    }
+    answered=$((answered + 1))
+done
+[ "$answered" -gt 0 ] || { echo "no line was refused for want of memory" >&2; exit 1; }
+echo "allocations refused in turn: $((number - 1)); runs ended with Memory: $ended; lines answered 1301: $answered; \
+done without: $spared"
