@@ -2,6 +2,7 @@ pub mod Added
 pub mod Empty
 pub mod Ends
 pub mod Entries
+pub mod Forms
 pub mod Groups
 pub mod Inverses
 pub mod KeyBytes

@@ -1,5 +1,6 @@
 pub mod Adding
 pub mod Combine
+pub mod Combined
 pub mod Inverse
 pub mod Joining
 pub mod Merges

@@ -1,7 +1,7 @@
 //! Changesets taken together.
 
 ghost use Rattle.std.specs.Prelude.{All, IfOk};
-ghost use Rattle.cs_normal.specs.Normal.{FitsCatalog};
+ghost use Rattle.cs_normal.specs.Normal.{FitsCatalog, IsNormalChangeset};
 ghost use Rattle.cs_group.specs.Tables.{AreThen, AreJoined, State, IsState, Leads};
 
 use crate::tables::{join_tables, then_tables};
@@ -38,6 +38,7 @@ pub fn then(
 pub fn join(alloc: Global, catalog: &Catalog, list: &[Normal]) -> Result<Normal, Memory>
     requires { All (FitsCatalog catalog.now) list.now }
     ensures fits { IfOk result (FitsCatalog catalog.now) }
+    ensures normal { IfOk result IsNormalChangeset }
     ensures joined { IfOk result (AreJoined catalog.now list.now) }
 {
     let tables = join_tables(alloc, catalog.tables(), list)?;

@@ -8,6 +8,7 @@
 
 mod adding;
 mod columns;
+mod combining;
 mod group;
 mod inverting;
 mod joining;
@@ -19,6 +20,7 @@ mod spelled;
 mod tables;
 
 pub use adding::add_one;
+pub use combining::{CombineFault, combine};
 pub use group::{join, then};
 pub use inverting::invert;
 pub use net_change::net;

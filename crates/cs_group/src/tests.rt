@@ -88,16 +88,22 @@ fn group(alloc: Global, mark: u8, name: &str, changes: Vec<Change>) -> Result<Gr
     })
 }
 
-/// The changeset of this change of the table `t1`, or the empty one.
-fn one(alloc: Global, catalog: &Catalog, told: Option<Told>) -> Result<Normal, Unfit>
-    ensures { IfOk result (FitsCatalog catalog.now) }
+/// The changeset of this change of the table `t1`, or of none, as it is read.
+fn as_read(alloc: Global, told: Option<Told>) -> Result<Changeset, Memory>
+    ensures { IfOk result FitsChangeset }
 {
     let mut changes = Vec::new(alloc);
     if let Some(told) = told {
         changes.push(change(alloc, told)?)?;
     }
-    let groups = Items::from_vec(vec![in alloc; group(alloc, 1, "t1", changes)?]?);
-    normalise(alloc, catalog, &groups)
+    Ok(Items::from_vec(vec![in alloc; group(alloc, 1, "t1", changes)?]?))
+}
+
+/// The same in normal form.
+fn one(alloc: Global, catalog: &Catalog, told: Option<Told>) -> Result<Normal, Unfit>
+    ensures { IfOk result (FitsCatalog catalog.now) }
+{
+    normalise(alloc, catalog, &as_read(alloc, told)?)
 }
 
 fn table(alloc: Global, name: &str) -> Result<TableDef, Memory>
@@ -288,5 +294,33 @@ fn one_more(rt: HostRuntime) -> Result<(), Fail> {
     };
     let both = add_one(alloc, &catalog, &changeset, 0, &change)?;
     assert!(rt; both.same(&nothing));
+    Ok(())
+}
+
+#[test]
+fn as_read_together(rt: HostRuntime) -> Result<(), Fail> {
+    let alloc = rt.alloc();
+    let catalog = Catalog::new(vec![in alloc; table(alloc, "t1")?]?)?;
+    let list = [
+        as_read(alloc, Some(Told::Insert(false, "v1")))?,
+        as_read(alloc, None)?,
+        as_read(alloc, Some(Told::Update(false, "v1", "v2")))?,
+    ];
+    let want = one(alloc, &catalog, Some(Told::Insert(false, "v2")))?;
+    assert!(rt; combine(alloc, &list)?.same(&want));
+    assert_eq!(rt; combine(alloc, &[])?.len(), 0);
+    Ok(())
+}
+
+#[test]
+fn a_key_twice_is_told(rt: HostRuntime) -> Result<(), Fail> {
+    let alloc = rt.alloc();
+    let changes = vec![in alloc;
+        change(alloc, Told::Insert(false, "v1"))?,
+        change(alloc, Told::Insert(false, "v2"))?,
+    ]?;
+    let twice = Items::from_vec(vec![in alloc; group(alloc, 1, "t1", changes)?]?);
+    let told = combine(alloc, &[as_read(alloc, None)?, twice]);
+    assert!(rt; matches!(told, Err(CombineFault::Unfit(Unfit::KeyTwice))));
     Ok(())
 }

@@ -15,6 +15,10 @@ pub returns-clause-fits : goal.returns-clause-fits
 returns-clause-fits c =
     rw c.from_tables.ensures (made_fits (IsNormalJoinOf c.args.list.now) (rw c.tables.ensures.same at c.in_ok-tables.ensures))
 
+pub returns-clause-normal : goal.returns-clause-normal
+returns-clause-normal c =
+    rw c.from_tables.ensures (made_normal (IsNormalJoinOf c.args.list.now) (λ table changes h. h.0) c.in_ok-tables.ensures)
+
 pub returns-clause-joined : goal.returns-clause-joined
 returns-clause-joined c =
     rw c.from_tables.ensures (joined_each c.args.catalog.now c.args.list.now c.in_ok-tables.tables.items (made_each (IsNormalJoinOf c.args.list.now) c.args.catalog.now c.in_ok-tables.tables.items c.tables.ensures.tables (rw c.tables.ensures.same at c.in_ok-tables.ensures)))
