@@ -1,3 +1,4 @@
 pub mod CatalogLemmas
 pub mod FoundLemmas
+pub mod InputLemmas
 pub mod WordLemmas

@@ -4,6 +4,7 @@ use Rattle.std.specs.List.{AllZip, HoldsAt}
 use Rattle.cs_value.specs.Catalog.{AreTables}
 use Rattle.cs_value.specs.declared.catalog.TableDef.{TableDef}
 use Rattle.sync_cli.specs.TableWord.{SpellsTable}
+use Rattle.sync_cli.specs.declared.command.Tool.{Tool}
 use Rattle.sync_cli.specs.declared.table.Refused.{Refused}
 use Rattle.sync_cli.specs.declared.table.Refused.TheVariants.{Memory, Word}
 
@@ -11,11 +12,15 @@ use Rattle.sync_cli.specs.declared.table.Refused.TheVariants.{Memory, Word}
 abbrev pub IsCatalogOf : List (List ℕ) → List TableDef → Type 0
 IsCatalogOf words tables = AllZip SpellsTable words tables × AreTables tables
 
+-- the words spell no catalog
+abbrev pub AreNoCatalog : List (List ℕ) → Type 0
+AreNoCatalog words = (tables : List TableDef) → IsCatalogOf words tables → ⊥
+
 -- the words up to this place spell no catalog, but those before it do
 abbrev pub IsRefusedAt : List (List ℕ) → ℕ → Type 0
 IsRefusedAt words place =
     ((tables : List TableDef) × IsCatalogOf (take place words) tables)
-    × ((tables : List TableDef) → IsCatalogOf (take (place + 1) words) tables → ⊥)
+    × AreNoCatalog (take (place + 1) words)
 
 -- memory was refused, or the word stands at the first place at which the words are refused
 abbrev pub IsFirstRefused : Refused → List (List ℕ) → Type 0
@@ -23,10 +28,11 @@ IsFirstRefused Memory words = Unit {0}
 IsFirstRefused (Word word) words =
     (place : ℕ) × HoldsAt (λ w. w ≡ word.now) words place × IsRefusedAt words place
 
--- a command line that clap takes is refused: it has no command, or its table words are no catalog
-abbrev pub AreRefused : Option (List (List ℕ)) → Type 0
-AreRefused None = Unit {0}
-AreRefused (Some words) = (tables : List TableDef) → IsCatalogOf words tables → ⊥
+-- a command line that the parser takes is refused: its table words are no catalog, or it asks for nothing
+abbrev pub IsRefused : Option (List (List ℕ)) → Option Tool → Type 0
+IsRefused (Some words) tool = AreNoCatalog words
+IsRefused None None = Unit {0}
+IsRefused None (Some tool) = ⊥
 
 -- the status with which a run ends for this
 abbrev pub status_of : Refused → ℕ

@@ -1,8 +1,10 @@
--- The command line of `sync`, as the parser sees it.
-use Rattle.std.specs.Prelude.{List, [], Option, Some, None, true, unwrap_or, if◌then◌else◌, codes}
+-- The command line of `sync`, as the parser sees it, and what it asks for.
+use Rattle.std.specs.Prelude.{List, [], Option, Some, None, Bool, true, false, unwrap_or, if◌then◌else◌, codes}
 use Rattle.std.specs.Str.{bytes_eq}
-use Rattle.clap.specs.Words.{App, Row, Rule, Text, all_of, new_app, new_rule, subcommand_of, with_rule, with_subcommand}
+use Rattle.clap.specs.Words.{App, Row, Rule, Text, all_of, first_of, new_app, new_rule, subcommand_of, with_rule, with_subcommand}
 use Rattle.clap.specs.declared.builder.action.ArgAction.TheVariants.{Append}
+use Rattle.sync_cli.specs.declared.command.Tool.{Tool}
+use Rattle.sync_cli.specs.declared.command.Tool.TheVariants.{Combine, ShowChangeset}
 
 -- `TABLE...`, which may be left out
 abbrev pub table_rule : Rule
@@ -18,8 +20,12 @@ what_rule = record (new_rule (codes "WHAT")) { required = true }
 abbrev pub show_app : App
 show_app = with_rule (new_app (codes "show")) what_rule
 
+abbrev pub combine_app : App
+combine_app = new_app (codes "combine")
+
 abbrev pub sync_app : App
-sync_app = with_subcommand (with_subcommand (new_app (codes "sync")) hub_app.top) show_app.top
+sync_app =
+    with_subcommand (with_subcommand (with_subcommand (new_app (codes "sync")) hub_app.top) show_app.top) combine_app.top
 
 -- the table words of a subcommand's matches, where it is `hub`
 abbrev pub tables_in : Option (Text × List Row) → Option (List Text)
@@ -30,3 +36,26 @@ tables_in (Some found) =
 -- the table words of a whole command line
 abbrev pub tables_of : List Text → Option (List Text)
 tables_of words = tables_in (subcommand_of sync_app words)
+
+abbrev pub is_text : Text → Option Text → Bool
+is_text text None = false
+is_text text (Some found) = bytes_eq found text
+
+-- whether `show` is to show a changeset
+abbrev pub is_changeset : List Row → Bool
+is_changeset rows = is_text (codes "changeset") (first_of (codes "WHAT") rows)
+
+-- the tool that a subcommand and its words ask for
+abbrev pub tool_by : Text → List Row → Option Tool
+tool_by name rows =
+    if bytes_eq name (codes "combine") then Some Combine
+    else if bytes_eq name (codes "show") then (if is_changeset rows then Some ShowChangeset else None)
+    else None
+
+abbrev pub tool_in : Option (Text × List Row) → Option Tool
+tool_in None = None
+tool_in (Some found) = tool_by found.0 found.1
+
+-- the tool that a whole command line asks for
+abbrev pub tool_of : List Text → Option Tool
+tool_of words = tool_in (subcommand_of sync_app words)

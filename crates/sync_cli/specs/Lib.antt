@@ -1,3 +1,5 @@
 pub mod CatalogWords
+pub mod CombinedLines
 pub mod CommandLine
+pub mod LinesRead
 pub mod TableWord

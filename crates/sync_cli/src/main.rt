@@ -1,17 +1,22 @@
-//! The program `sync`: it answers requests in hex, line by line.
+//! The program `sync`: a hub that answers requests line by line, and tools for changesets, all in hex.
 //!
-//! It stands on `clap` for the command line, on `cs_lines` for the lines, on `cs_hub` for the answers and on `cs_text` for
-//! what `show` prints, and only wires them.
-//! `run` carries the promise: over any reader and writers, where it ends with 0 the command line
-//! names tables that are a catalog, and each line of the input has got the answer of a hub of these
-//! tables. `main` hands it the words, the standard streams and the allocator.
+//! It stands on `clap` for the command line, on `cs_lines` for the lines, on `cs_hub` for the answers, on `cs_group` for
+//! changesets as one and on `cs_text` for what `show` prints, and only wires them. `run` carries the promise: over any
+//! reader and writers, where it ends with 0, `hub` has given each line of the input the answer of a hub of the tables
+//! that the command line names, and `combine` has written the changesets of all lines as one. `main` hands it the
+//! words, the standard streams and the allocator.
 #![tactic(auto)]
 
+mod combine;
 mod command;
+mod hub;
+mod input;
 mod run;
 mod show;
 mod table;
+mod told;
 
+use crate::told::{COMMAND_LINE, MEMORY, REFUSED_COMMAND, REFUSED_INPUT, tell};
 use std::io::{BufReader, BufWriter, ErrorKind, Write};
 use std::process::ExitCode;
 use std::{env, io};
@@ -44,11 +49,13 @@ fn start(rt: &HostRuntime) -> io::Result<u8> {
 // A word that is no text is refused; else there was no memory to begin with.
 fn tell_refused_start<E: Write>(error: &io::Error, errors: &mut E) -> u8 {
     match error.kind() {
-        ErrorKind::InvalidData => run::tell(errors, run::COMMAND_LINE, run::REFUSED_COMMAND),
-        _ => run::tell(errors, run::MEMORY, run::REFUSED_INPUT),
+        ErrorKind::InvalidData => tell(errors, COMMAND_LINE, REFUSED_COMMAND),
+        _ => tell(errors, MEMORY, REFUSED_INPUT),
     }
 }
 
+#[cfg(test)]
+mod combines;
 #[cfg(test)]
 mod sessions;
 #[cfg(test)]

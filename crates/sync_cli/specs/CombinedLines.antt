@@ -1,0 +1,27 @@
+-- What `combine` writes: the changesets that the lines of the input spell, as one (profile of this project over
+-- SQLite's changegroup).
+use Rattle.std.specs.Prelude.{◌≡◌, ℕ, List, Ok}
+use Rattle.std.specs.List.{AllZip}
+use Rattle.hex.specs.Hex.{decode_of}
+use Rattle.cs_change.specs.Spelling.{FitsChangeset, changeset_spelling}
+use Rattle.cs_change.specs.declared.group.Group.{Group}
+use Rattle.cs_normal.specs.Normal.{normal_spelling}
+use Rattle.cs_normal.specs.declared.normal.TableChanges.{TableChanges}
+use Rattle.cs_group.specs.Combined.{IsCombined}
+
+-- the line is hex, and its bytes are the changeset's
+abbrev pub SpellsChangeset : List ℕ → List Group → Type 0
+SpellsChangeset line groups = FitsChangeset groups × (decode_of line ≡ Ok (changeset_spelling groups))
+
+-- each line spells a changeset, in order
+abbrev pub SpellChangesets : List (List ℕ) → List (List Group) → Type 0
+SpellChangesets lines changesets = AllZip SpellsChangeset lines changesets
+
+-- the bytes are the spelling of the left fold of consolidation, from the empty changeset, over the normal forms of the
+-- lines' changesets by the catalog of all their headers
+pub record SpellsCombined (lines : List (List ℕ)) (bytes : List ℕ) : Type 0 where
+  pub changesets : List (List Group)
+  pub both : List TableChanges
+  pub read : SpellChangesets lines changesets
+  pub combined : IsCombined changesets both
+  pub spelled : bytes ≡ normal_spelling both
