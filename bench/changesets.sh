@@ -10,8 +10,7 @@ need_sqlite || { echo "SQLite's library with its session extension can't be had 
 build_library
 build_capture
 rustc --edition 2021 -O --crate-type staticlib "$bench/decode_plain.rs" -o "$out/libdecode_plain.a"
-cc -O2 -Wall -Wextra $sqlite_flags "$bench/decode.c" "$library" "$out/libdecode_plain.a" "$(heap_library)" \
-    -lsqlite3 -lpthread -ldl -lm -o "$out/decode"
+build_program decode "$out/libdecode_plain.a"
 
 for count in 1000 10000 100000; do
     "$out/sqlite_capture" changes "$count" "$out/$count.changeset"

@@ -27,12 +27,13 @@ static void check_cut(const char *path, struct file *file) {
 }
 
 static void check_normal(const char *path, struct file *file) {
-    struct file normal = {file->output, ours_normalise(file, file->length), malloc(file->length + 1)};
-    if (normal.length > file->length || !normal.output) fail(path, "no normal form");
+    size_t length = ours_normalise(file, file->length);
+    if (length > file->length) fail(path, "no normal form");
+    struct file normal = copy_file(file->output, length);
     if (sqlite_decode(&normal) != sqlite_decode(file)) fail(path, "the normal form has other changes");
     if (ours_normalise(&normal, normal.length) != normal.length) fail(path, "the normal form has another");
     if (memcmp(normal.bytes, normal.output, normal.length) != 0) fail(path, "the normal form has another");
-    free(normal.output);
+    free_file(&normal);
 }
 
 static void check_file(const char *path) {

@@ -41,3 +41,11 @@ build_library() {
 build_capture() {
     cc -O2 -Wall -Wextra $sqlite_flags "$bench/sqlite_capture.c" -o "$out/sqlite_capture" -lsqlite3
 }
+
+# A program of this folder over the library and SQLite; further words are what else it is linked with.
+build_program() {
+    local name="$1"
+    shift
+    cc -O2 -Wall -Wextra $sqlite_flags "$bench/$name.c" "$library" "$@" "$(heap_library)" -lsqlite3 -lpthread -ldl -lm \
+        -o "$out/$name"
+}

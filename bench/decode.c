@@ -3,7 +3,6 @@
  *
  * decode ROUNDS FILE..   times each file (best of ROUNDS) and prints the ratios; fails where bytes or counts differ */
 #include "common.h"
-#include <time.h>
 
 /* The plain baseline (decode_plain.rs): the count of changes or of bytes, or -1. */
 ptrdiff_t plain_decode(const uint8_t *input, size_t length);
@@ -30,19 +29,6 @@ static void check_file(const char *path, struct file *file) {
     if (normalise(file) > file->length) fail(path, "no normal form");
 }
 
-static double now(void) {
-    struct timespec time;
-    clock_gettime(CLOCK_MONOTONIC, &time);
-    return (double)time.tv_sec * 1e9 + (double)time.tv_nsec;
-}
-
-/* One of the things that are timed, and its best time so far, in nanoseconds. */
-struct contender {
-    const char *name;
-    size_t (*run)(struct file *);
-    double best;
-};
-
 static void time_file(const char *path, int rounds) {
     struct file file = read_file(path);
     check_file(path, &file);
@@ -54,21 +40,9 @@ static void time_file(const char *path, int rounds) {
     };
     size_t kinds = sizeof contenders / sizeof contenders[0];
     size_t changes = sqlite_decode(&file);
-    int repeats = (int)(200000 / (changes + 1)) + 1;
-    for (int round = 0; round < rounds; round++) {
-        for (size_t kind = 0; kind < kinds; kind++) {
-            double start = now();
-            for (int repeat = 0; repeat < repeats; repeat++) contenders[kind].run(&file);
-            double spent = (now() - start) / repeats;
-            if (spent < contenders[kind].best) contenders[kind].best = spent;
-        }
-    }
+    time_contenders(contenders, kinds, &file, rounds, (int)(200000 / (changes + 1)) + 1);
     printf("%zu changes, %zu bytes\n", changes, file.length);
-    for (size_t kind = 0; kind < kinds; kind++) {
-        double best = contenders[kind].best;
-        printf("  %-34s %8.1f ns a change, %6.0f MB/s\n", contenders[kind].name, best / (double)changes,
-               (double)file.length * 1e3 / best);
-    }
+    print_contenders(contenders, kinds, &file, changes);
     printf("  ratio of decode to SQLite %.2f, to plain Rust %.2f; of decode and encode to plain Rust %.2f\n",
            contenders[0].best / contenders[1].best, contenders[0].best / contenders[2].best,
            contenders[3].best / contenders[4].best);

@@ -1,45 +1,26 @@
 /* Captures changesets with SQLite's session extension, for the checks and the benchmarks of this folder.
  *
- * sqlite_capture cases DIRECTORY      writes DIRECTORY/NAME.changeset for each of the small cases below
- * sqlite_capture changes COUNT FILE   writes one changeset of COUNT changes of a table with four columns
+ * sqlite_capture cases DIRECTORY               writes DIRECTORY/NAME.changeset for each of the small cases below
+ * sqlite_capture changes COUNT FILE            writes one changeset of COUNT changes of a table with four columns
+ * sqlite_capture overlapping COUNT SIZE FILE   writes COUNT changesets of SIZE changes of that table one after another,
+ *                                              and how long each is, one a line, into FILE.lengths
  *
  * No case has a REAL value: this project's profile of the format refuses them. */
-#include <sqlite3.h>
-#include <stdint.h>
-#include <stdio.h>
-#include <stdlib.h>
-#include <string.h>
+#include "session.h"
 
-static void fail(const char *what, sqlite3 *db) {
-    fprintf(stderr, "sqlite_capture: %s: %s\n", what, db ? sqlite3_errmsg(db) : "");
-    exit(1);
-}
-
-static void run(sqlite3 *db, const char *sql) {
-    if (sqlite3_exec(db, sql, NULL, NULL, NULL) != SQLITE_OK) fail(sql, db);
-}
-
-static sqlite3 *open_memory(void) {
-    sqlite3 *db;
-    if (sqlite3_open(":memory:", &db) != SQLITE_OK) fail("open", db);
-    return db;
-}
-
-static sqlite3_session *watch(sqlite3 *db) {
-    sqlite3_session *session;
-    if (sqlite3session_create(db, "main", &session) != SQLITE_OK) fail("session", db);
-    if (sqlite3session_attach(session, NULL) != SQLITE_OK) fail("attach", db);
-    return session;
-}
-
-/* Writes what the session captured to a file. */
-static void write_changeset(sqlite3 *db, sqlite3_session *session, const char *path) {
-    int size = 0;
-    void *bytes = NULL;
-    if (sqlite3session_changeset(session, &size, &bytes) != SQLITE_OK) fail("changeset", db);
-    FILE *file = fopen(path, "wb");
-    if (!file || fwrite(bytes, 1, (size_t)size, file) != (size_t)size || fclose(file) != 0) fail(path, NULL);
+/* Writes what the session captured, and gives its length in bytes. The session is over. */
+static size_t append_changeset(sqlite3 *db, sqlite3_session *session, FILE *stream) {
+    size_t length;
+    void *bytes = end_session(db, session, &length);
+    if (length > 0 && fwrite(bytes, 1, length, stream) != length) fail("changeset", "can't be written");
     sqlite3_free(bytes);
+    return length;
+}
+
+static void write_changeset(sqlite3 *db, sqlite3_session *session, const char *path) {
+    FILE *stream = create(path);
+    append_changeset(db, session, stream);
+    if (fclose(stream) != 0) fail(path, "can't be written");
 }
 
 /* A small case: what is there before the session begins, and what the session captures. */
@@ -88,7 +69,6 @@ static void capture_wide(const char *path) {
     sqlite3_session *session = watch(db);
     run(db, "INSERT INTO wide(c0, c1, c198) VALUES(2, 'first', x'c198'); UPDATE wide SET c100 = 100 WHERE c0 = 1;");
     write_changeset(db, session, path);
-    sqlite3session_delete(session);
     sqlite3_free(create);
     sqlite3_close(db);
 }
@@ -103,7 +83,6 @@ static void capture_indirect(const char *path) {
     sqlite3session_indirect(session, 1);
     run(db, "INSERT INTO t VALUES(2, 'told so')");
     write_changeset(db, session, path);
-    sqlite3session_delete(session);
     sqlite3_close(db);
 }
 
@@ -116,21 +95,12 @@ static void capture_cases(const char *directory) {
         run(db, cases[i].captured);
         snprintf(path, sizeof path, "%s/%s.changeset", directory, cases[i].name);
         write_changeset(db, session, path);
-        sqlite3session_delete(session);
         sqlite3_close(db);
     }
     snprintf(path, sizeof path, "%s/wide.changeset", directory);
     capture_wide(path);
     snprintf(path, sizeof path, "%s/indirect.changeset", directory);
     capture_indirect(path);
-}
-
-/* The next of a fixed sequence of numbers (xorshift), so that each run writes the same bytes. */
-static uint64_t next_number(uint64_t *state) {
-    *state ^= *state << 13;
-    *state ^= *state >> 7;
-    *state ^= *state << 17;
-    return *state;
 }
 
 /* A text of 5 to 50 bytes. */
@@ -141,64 +111,125 @@ static void bind_text(sqlite3_stmt *statement, int parameter, uint64_t *state) {
     sqlite3_bind_text(statement, parameter, text, length, SQLITE_TRANSIENT);
 }
 
-static sqlite3_stmt *prepare(sqlite3 *db, const char *sql) {
-    sqlite3_stmt *statement;
-    if (sqlite3_prepare_v2(db, sql, -1, &statement, NULL) != SQLITE_OK) fail(sql, db);
-    return statement;
+/* The table with four columns, and what changes it. */
+struct items {
+    sqlite3 *db;
+    sqlite3_stmt *insert, *update, *delete;
+    uint64_t state; /* of the sequence of numbers */
+};
+
+static struct items open_items(void) {
+    sqlite3 *db = open_memory();
+    run(db, "CREATE TABLE items(id INTEGER PRIMARY KEY, name TEXT, amount INTEGER, note TEXT)");
+    return (struct items){
+        .db = db,
+        .insert = prepare(db, "INSERT INTO items VALUES(?1, ?2, ?3, ?4)"),
+        .update = prepare(db, "UPDATE items SET name = ?2, amount = ?3 WHERE id = ?1"),
+        .delete = prepare(db, "DELETE FROM items WHERE id = ?1"),
+        .state = 88172645463325252u,
+    };
 }
 
-static void step(sqlite3 *db, sqlite3_stmt *statement) {
-    if (sqlite3_step(statement) != SQLITE_DONE) fail("step", db);
-    sqlite3_reset(statement);
+static void close_items(struct items *items) {
+    sqlite3_finalize(items->insert);
+    sqlite3_finalize(items->update);
+    sqlite3_finalize(items->delete);
+    sqlite3_close(items->db);
+}
+
+/* Runs one of the three statements for a key, with new values. */
+static void change_item(struct items *items, sqlite3_stmt *statement, sqlite3_int64 id) {
+    sqlite3_bind_int64(statement, 1, id);
+    if (statement != items->delete) {
+        bind_text(statement, 2, &items->state);
+        sqlite3_bind_int64(statement, 3, (sqlite3_int64)next_number(&items->state));
+    }
+    if (statement == items->insert) bind_text(statement, 4, &items->state);
+    execute(items->db, statement);
 }
 
 /* COUNT changes, by turns an INSERT, an UPDATE of two columns and a DELETE. */
 static void capture_changes(long count, const char *path) {
-    sqlite3 *db = open_memory();
-    uint64_t state = 88172645463325252u;
-    run(db, "CREATE TABLE items(id INTEGER PRIMARY KEY, name TEXT, amount INTEGER, note TEXT); BEGIN");
-    sqlite3_stmt *insert = prepare(db, "INSERT INTO items VALUES(?1, ?2, ?3, ?4)");
-    sqlite3_stmt *update = prepare(db, "UPDATE items SET name = ?2, amount = ?3 WHERE id = ?1");
-    sqlite3_stmt *delete = prepare(db, "DELETE FROM items WHERE id = ?1");
+    struct items items = open_items();
+    run(items.db, "BEGIN");
     for (long id = 0; id < count; id++) {
-        if (id % 3 == 0) continue;
-        sqlite3_bind_int64(insert, 1, id);
-        bind_text(insert, 2, &state);
-        sqlite3_bind_int64(insert, 3, (sqlite3_int64)next_number(&state));
-        bind_text(insert, 4, &state);
-        step(db, insert);
+        if (id % 3 != 0) change_item(&items, items.insert, id);
     }
-    run(db, "COMMIT");
-    sqlite3_session *session = watch(db);
-    run(db, "BEGIN");
+    run(items.db, "COMMIT");
+    sqlite3_session *session = watch(items.db);
+    run(items.db, "BEGIN");
     for (long id = 0; id < count; id++) {
-        sqlite3_stmt *statement = id % 3 == 0 ? insert : id % 3 == 1 ? update : delete;
-        sqlite3_bind_int64(statement, 1, id);
-        if (id % 3 != 2) {
-            bind_text(statement, 2, &state);
-            sqlite3_bind_int64(statement, 3, (sqlite3_int64)next_number(&state));
-        }
-        if (id % 3 == 0) bind_text(statement, 4, &state);
-        step(db, statement);
+        change_item(&items, id % 3 == 0 ? items.insert : id % 3 == 1 ? items.update : items.delete, id);
     }
-    run(db, "COMMIT");
-    write_changeset(db, session, path);
-    sqlite3session_delete(session);
-    sqlite3_finalize(insert);
-    sqlite3_finalize(update);
-    sqlite3_finalize(delete);
-    sqlite3_close(db);
+    run(items.db, "COMMIT");
+    write_changeset(items.db, session, path);
+    close_items(&items);
+}
+
+/* A key that a changeset changes, and whether its row is there. */
+struct slot {
+    sqlite3_int64 id;
+    int there;
+};
+
+/* Puts a row there, or gives it new values, or takes it away one time in five. */
+static void change_slot(struct items *items, struct slot *slot) {
+    int goes = slot->there && next_number(&items->state) % 5 == 0;
+    change_item(items, !slot->there ? items->insert : goes ? items->delete : items->update, slot->id);
+    slot->there = !goes;
+}
+
+/* New keys for the slots from this one on. */
+static void renew(struct slot *slots, long from, long size, sqlite3_int64 *next_id) {
+    for (long i = from; i < size; i++) slots[i] = (struct slot){(*next_id)++, 0};
+}
+
+/* The keys of the next changeset: each second one of those of the changeset before, and as many new ones. */
+static void move_on(struct slot *slots, long size, sqlite3_int64 *next_id) {
+    for (long i = 0; i < size / 2; i++) slots[i] = slots[2 * i];
+    renew(slots, size / 2, size, next_id);
+}
+
+static void change_slots(struct items *items, struct slot *slots, long size) {
+    run(items->db, "BEGIN");
+    for (long i = 0; i < size; i++) change_slot(items, &slots[i]);
+    run(items->db, "COMMIT");
+}
+
+/* COUNT changesets of SIZE changes each, which follow on one another. Half of the keys of each are keys of the one before:
+ * of those, half were new there, so that a key stays for two changesets on average, and some for many. */
+static void capture_overlapping(long count, long size, const char *path) {
+    char lengths_path[4096];
+    snprintf(lengths_path, sizeof lengths_path, "%s.lengths", path);
+    FILE *stream = create(path), *lengths = create(lengths_path);
+    struct items items = open_items();
+    struct slot *slots = calloc((size_t)size, sizeof *slots);
+    if (!slots) fail(path, "no memory");
+    sqlite3_int64 next_id = 0;
+    renew(slots, 0, size, &next_id);
+    change_slots(&items, slots, size);
+    for (long changeset = 0; changeset < count; changeset++) {
+        move_on(slots, size, &next_id);
+        sqlite3_session *session = watch(items.db);
+        change_slots(&items, slots, size);
+        fprintf(lengths, "%zu\n", append_changeset(items.db, session, stream));
+    }
+    if (fclose(stream) != 0 || fclose(lengths) != 0) fail(path, "can't be written");
+    free(slots);
+    close_items(&items);
 }
 
 int main(int count, char **words) {
-    if (count == 3 && strcmp(words[1], "cases") == 0) {
+    const char *mode = count > 1 ? words[1] : "";
+    if (count == 3 && strcmp(mode, "cases") == 0) {
         capture_cases(words[2]);
-        return 0;
-    }
-    if (count == 4 && strcmp(words[1], "changes") == 0) {
+    } else if (count == 4 && strcmp(mode, "changes") == 0) {
         capture_changes(strtol(words[2], NULL, 10), words[3]);
-        return 0;
+    } else if (count == 5 && strcmp(mode, "overlapping") == 0) {
+        capture_overlapping(strtol(words[2], NULL, 10), strtol(words[3], NULL, 10), words[4]);
+    } else {
+        fprintf(stderr, "usage: sqlite_capture cases DIRECTORY | changes COUNT FILE | overlapping COUNT SIZE FILE\n");
+        return 2;
     }
-    fprintf(stderr, "usage: sqlite_capture cases DIRECTORY | changes COUNT FILE\n");
-    return 2;
+    return 0;
 }

@@ -1,10 +1,11 @@
-/* Changesets in the format of SQLite's session extension: read, written again, and brought into normal form.
+/* Changesets in the format of SQLite's session extension: read, written again, brought into normal form, taken together
+ * and taken back.
  *
  * Link out/libcs_ffi.a, and behind it the toolchain's c/liblibc_c.a, which gives it memory by malloc, realloc and free.
  * The functions give back all memory before they return. They may be
  * called from several threads, each on bytes of its own; not from a signal handler.
  *
- * A pointer must not be null, also where its length is 0. The bytes that are read and those that are written must not
+ * A pointer must not be null, also where its length is 0. What is read (bytes and lengths) and what is written must not
  * overlap. */
 #ifndef CS_FFI_H
 #define CS_FFI_H
@@ -37,7 +38,8 @@ enum cs_ffi_fault {
     CS_FFI_SHAPE = 31,          /* the table of the group's name has another column count or other key columns */
     CS_FFI_NULL_KEY = 32,       /* a change has NULL at a key column */
     CS_FFI_KEY_TWICE = 33,      /* two changes of one table have one key */
-    CS_FFI_NO_TABLES = 50       /* the declared tables are no changeset, or its headers are no tables */
+    CS_FFI_NO_TABLES = 50,      /* the declared tables are no changeset, or the headers are no tables */
+    CS_FFI_LENGTHS = 51         /* the lengths of the inputs don't add up to the bytes */
 };
 
 /* What is told of bytes: the number of their first fault, its offset in bytes from the front (0 where there is none),
@@ -63,6 +65,20 @@ struct cs_ffi_answer cs_ffi_reencode(const uint8_t *input, size_t input_length, 
  * are the input's), then the changeset (faults 30 to 33, without an offset). */
 struct cs_ffi_answer cs_ffi_normalise(const uint8_t *declared, size_t declared_length, const uint8_t *input,
                                       size_t input_length, uint8_t *output, size_t output_length);
+
+/* Takes changesets together as one, as sqlite3changegroup_add and sqlite3changegroup_output do, and writes that in normal
+ * form to the front of the output. The changesets stand one after another in the inputs, each as long as its place in the
+ * lengths says; there may be none. The tables are those that the headers of all of them tell of, in the order in which
+ * each name first comes. The count is that of the bytes that it takes. Where the output has no room for them, and beside
+ * a fault, nothing is written. The lengths are judged first (fault 51), then each changeset's bytes in order (faults 2 to
+ * 14; the offset is from the front of all the inputs), then the headers (31 where one name comes with two shapes, else
+ * 50), then each changeset in order (32 and 33). */
+struct cs_ffi_answer cs_ffi_combine(const uint8_t *inputs, size_t inputs_length, const size_t *lengths,
+                                    size_t lengths_count, uint8_t *output, size_t output_length);
+
+/* Takes a changeset back, as sqlite3changeset_invert does, and writes that in normal form, by the tables that its own
+ * headers tell of, to the front of the output. Counts and faults are as those of cs_ffi_combine over the one input. */
+struct cs_ffi_answer cs_ffi_invert(const uint8_t *input, size_t input_length, uint8_t *output, size_t output_length);
 
 #ifdef __cplusplus
 }

@@ -1,6 +1,6 @@
 -- No more changes than bytes, and what is told of a fault.
 use Rattle.std.specs.Prelude.{◌≡◌, ℕ, ◌+◌, ◌≤◌, List, [], ◌∷◌, length, Err, refl}
-use Rattle.std.proofs.Common.{arith, inl, inr, length-append}
+use Rattle.std.proofs.Common.{◌∙◌, ap, arith, inl, inr, length-append}
 use Rattle.std.proofs.lemmas.List.Sums.{sum_by-cons}
 use Rattle.cs_change.specs.Spelling.{change_spelling, changes_spelling, group_spelling, header_spelling, changeset_spelling}
 use Rattle.cs_change.specs.declared.change.Change.{Change}
@@ -10,7 +10,8 @@ use Rattle.cs_changeset.specs.Reading.{Tells}
 use Rattle.cs_changeset.specs.declared.fault.Fault.{Fault}
 use Rattle.cs_changeset.specs.declared.fault.CodecFault.{CodecFault}
 use Rattle.cs_changeset.specs.declared.fault.CodecFault.TheVariants.{Memory, At}
-use Rattle.cs_ffi.specs.Answers.{change_count, answer_of, TellsFault}
+use Rattle.cs_ffi.specs.Answers.{change_count, answer_of, refused, TellsFault}
+use Rattle.cs_ffi.specs.declared.answer.Answer.{Answer}
 
 change-spelled : (change : Change) → 1 ≤ length (change_spelling change)
 change-spelled (Insert flag new) = omega arith
@@ -40,3 +41,8 @@ count-spelled (group ∷ groups) =
 pub tells-answer : (found : CodecFault) (fault : Fault) (offset : ℕ) → Tells (Err found) fault offset → TellsFault fault offset (answer_of found)
 tells-answer Memory fault offset told = inr refl
 tells-answer (At f at) fault offset told = inl (grind (arith, told.0, told.1))
+
+-- the same behind other bytes
+pub tells-behind : (at : ℕ) (found fault : Fault) (there offset : ℕ) (answer : Answer) → answer ≡ refused found (at + there) → (found ≡ fault) × (there ≡ offset) → TellsFault fault (at + offset) answer
+tells-behind at found fault there offset answer is told =
+    inl (is ∙ ap (λ (f : Fault). refused f (at + there)) told.0 ∙ ap (λ (o : ℕ). refused fault (at + o)) told.1)

@@ -1,2 +1,4 @@
 pub mod Counts
+pub mod Fit
+pub mod Parts
 pub mod Tables

@@ -2,9 +2,13 @@
 
 ghost use Rattle.std.specs.Prelude.{◌≡◌};
 ghost use Rattle.cs_ffi.specs.Answers.{answer_of, fault_number, no_memory, read};
+ghost use Rattle.cs_ffi.specs.CombinedAnswers.{combine_answer, combine_number, header_number, wrong_lengths};
 ghost use Rattle.cs_ffi.specs.NormalAnswers.{no_tables, unfit_answer, unfit_number};
 
 use cs_changeset::{CodecFault, Fault, Unfit};
+use cs_group::CombineFault;
+use cs_normal::HeaderFault;
+use std::alloc::{AllocError, AllocFailed};
 
 /// The number that says that nothing is wrong.
 const READ: u32 = 0;
@@ -14,6 +18,9 @@ const MEMORY: u32 = 1;
 
 /// The number of bytes that declare no tables.
 const NO_TABLES: u32 = 50;
+
+/// The number of lengths that don't add up to the bytes.
+const LENGTHS: u32 = 51;
 
 /// What is told of bytes: the number of their fault, 0 where they were read; the offset of the fault in bytes from the
 /// front, or 0; and how much was read (changes) or is written (bytes), or 0 beside a fault. (Profile of this project.)
@@ -59,6 +66,28 @@ fn unfit_number(fault: Unfit) -> u32
     }
 }
 
+/// The number of the reason why there is no catalog of headers.
+fn header_number(fault: HeaderFault) -> u32
+    ensures { result ≡ header_number fault }
+{
+    match fault {
+        HeaderFault::Memory => MEMORY,
+        HeaderFault::Shape => 31,
+        HeaderFault::BadCatalog => NO_TABLES,
+    }
+}
+
+/// The number of the reason why changesets can't be taken together.
+fn combine_number(fault: CombineFault) -> u32
+    ensures { result ≡ combine_number fault }
+{
+    match fault {
+        CombineFault::Memory => MEMORY,
+        CombineFault::Headers(fault) => header_number(fault),
+        CombineFault::Unfit(fault) => unfit_number(fault),
+    }
+}
+
 impl Answer {
     /// The bytes were read.
     pub(crate) fn read(count: usize) -> Answer
@@ -93,6 +122,17 @@ impl Answer {
         }
     }
 
+    /// The lengths don't add up to the bytes.
+    pub(crate) fn wrong_lengths() -> Answer
+        ensures { result ≡ wrong_lengths }
+    {
+        Answer {
+            fault: LENGTHS,
+            offset: 0,
+            count: 0,
+        }
+    }
+
     /// The changeset has no normal form.
     pub(crate) fn unfit(fault: Unfit) -> Answer
         ensures { result ≡ unfit_answer fault }
@@ -115,6 +155,34 @@ impl Answer {
                 offset,
                 count: 0,
             },
+        }
+    }
+}
+
+impl From<AllocError> for Answer {
+    ghost from_gives = { λ _ answer. answer ≡ no_memory };
+
+    fn from(_error: AllocError) -> Answer {
+        Answer::no_memory()
+    }
+}
+
+impl<T: Drop> From<AllocFailed<T>> for Answer {
+    ghost from_gives = { λ _ answer. answer ≡ no_memory };
+
+    fn from(_error: AllocFailed<T>) -> Answer {
+        Answer::no_memory()
+    }
+}
+
+impl From<CombineFault> for Answer {
+    ghost from_gives = { λ fault answer. answer ≡ combine_answer fault };
+
+    fn from(fault: CombineFault) -> Answer {
+        Answer {
+            fault: combine_number(fault),
+            offset: 0,
+            count: 0,
         }
     }
 }

@@ -1,14 +1,16 @@
 //! The functions that C calls.
 
-ghost use Rattle.std.specs.Prelude.{◌≡◌, ℕ, List, length};
+ghost use Rattle.std.specs.Prelude.{◌≡◌, ◌≢◌, ℕ, List, length, sum};
 ghost use Rattle.cs_change.specs.Spelling.{changeset_spelling};
 ghost use Rattle.cs_change.specs.declared.group.Group.{Group};
 ghost use Rattle.cs_changeset.specs.Reading.{IsFault};
 ghost use Rattle.cs_changeset.specs.declared.fault.Fault.{Fault};
 ghost use Rattle.cs_ffi.specs.Answers.{AnswersAgain, AnswersCount, change_count, Spell, TellsCount, TellsFault};
+ghost use Rattle.cs_ffi.specs.CombinedAnswers.{AnswersCombined, AnswersInverse, AreFitInputs, IsFitAlone, wrong_lengths};
 ghost use Rattle.cs_ffi.specs.NormalAnswers.{AnswersNormal, IsFitInput, TellsNoFault};
 
 use crate::answer::Answer;
+use crate::combined::{write_combined, write_inverse};
 use crate::normal::write_normal;
 use crate::reading::{count, reencode};
 use std::alloc::Global;
@@ -48,4 +50,31 @@ pub extern "C" fn cs_ffi_normalise(
     ensures fit { IsFitInput declared.now input.now → TellsNoFault result }
 {
     write_normal(alloc, declared, input, output)
+}
+
+/// Takes changesets together as one and writes that, in normal form, into the caller's memory. See `cs_ffi.h`.
+/// (SQLite's "Session Extension", changegroup; the faults are of this project's profile.)
+#[unsafe(no_mangle)]
+pub extern "C" fn cs_ffi_combine(
+    alloc: Global,
+    inputs: &[u8],
+    lengths: &[usize],
+    output: &mut [u8],
+) -> Answer
+    ensures answers { AnswersCombined lengths.now inputs.now output.old output.new result }
+    ensures lengths { sum lengths.now ≢ length inputs.now → result ≡ wrong_lengths }
+    ensures fit { AreFitInputs lengths.now inputs.now → TellsNoFault result }
+{
+    write_combined(alloc, inputs, lengths, output)
+}
+
+/// Takes a changeset back and writes that, in normal form, into the caller's memory. See `cs_ffi.h`. (SQLite's "Session
+/// Extension", inversion of a changeset; the faults are of this project's profile.)
+#[unsafe(no_mangle)]
+pub extern "C" fn cs_ffi_invert(alloc: Global, input: &[u8], output: &mut [u8]) -> Answer
+    ensures answers { AnswersInverse input.now output.old output.new result }
+    ensures told { (fault : Fault) (offset : ℕ) → IsFault fault offset input.now → TellsFault fault offset result }
+    ensures fit { IsFitAlone input.now → TellsNoFault result }
+{
+    write_inverse(alloc, input, output)
 }

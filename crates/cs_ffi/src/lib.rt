@@ -1,17 +1,19 @@
 //! Changesets for other languages: a static library of C functions over bytes, declared in `cs_ffi.h`. It stands on
-//! the codec (`cs_changeset`), whose faults it tells by number. `cs_ffi_decode` reads a changeset and counts its
-//! changes; `cs_ffi_reencode` reads it and writes it again into the caller's memory: what is written is the spelling
-//! of what was read. `cs_ffi_normalise` writes its normal form by the tables that other headers declare. Each tells the
-//! first fault, the first two its offset too, and reads nothing but the bytes that it is handed.
+//! the codec (`cs_changeset`) and on consolidation (`cs_group`), whose faults it tells by number. `cs_ffi_decode` reads
+//! a changeset and counts its changes; the others write into the caller's memory: `cs_ffi_reencode` the spelling of
+//! what was read, `cs_ffi_normalise` its normal form by the tables that other headers declare, `cs_ffi_combine` several
+//! changesets as one, and `cs_ffi_invert` the inverse of one. Each tells the first fault, where it is one of the bytes
+//! its offset too, and reads nothing but the bytes that it is handed.
 #![tactic(auto)]
 
 mod answer;
+mod combined;
 mod export;
 mod normal;
 mod reading;
 
 pub use answer::Answer;
-pub use export::{cs_ffi_decode, cs_ffi_normalise, cs_ffi_reencode};
+pub use export::{cs_ffi_combine, cs_ffi_decode, cs_ffi_invert, cs_ffi_normalise, cs_ffi_reencode};
 
 #[cfg(test)]
 mod tests;

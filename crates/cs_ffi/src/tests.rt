@@ -1,4 +1,5 @@
 use super::*;
+use crate::combined::{write_combined, write_inverse};
 use crate::normal::write_normal;
 use crate::reading::{count, reencode};
 use std::test::Fail;
@@ -140,4 +141,135 @@ fn tells_why_there_is_no_normal_form(rt: HostRuntime) {
         assert_eq!(rt; told, refused(*fault, *offset));
     }
     assert!(rt; output == [0xee; 64], "some bytes were written");
+}
+
+/// A table `t1` of two columns, the first its key: INSERT (1, 'v1').
+const INSERT: [u8; 22] = [
+    0x54, 2, 1, 0, 0x74, 0x31, 0, 0x12, 0, 1, 0, 0, 0, 0, 0, 0, 0, 1, 3, 2, 0x76, 0x31,
+];
+
+/// The same table: the column 'v1' of the key 1 becomes 'v2'.
+const UPDATE: [u8; 27] = [
+    0x54, 2, 1, 0, 0x74, 0x31, 0, 0x17, 0, 1, 0, 0, 0, 0, 0, 0, 0, 1, 3, 2, 0x76, 0x31, 0, 3, 2,
+    0x76, 0x32,
+];
+
+/// The same table: DELETE (1, 'v2').
+const DELETE: [u8; 22] = [
+    0x54, 2, 1, 0, 0x74, 0x31, 0, 9, 0, 1, 0, 0, 0, 0, 0, 0, 0, 1, 3, 2, 0x76, 0x32,
+];
+
+#[test]
+fn takes_changesets_together(rt: HostRuntime) {
+    let alloc = rt.alloc();
+    let insert_then_update: [u8; 49] = [
+        0x54, 2, 1, 0, 0x74, 0x31, 0, 0x12, 0, 1, 0, 0, 0, 0, 0, 0, 0, 1, 3, 2, 0x76, 0x31, 0x54,
+        2, 1, 0, 0x74, 0x31, 0, 0x17, 0, 1, 0, 0, 0, 0, 0, 0, 0, 1, 3, 2, 0x76, 0x31, 0, 3, 2,
+        0x76, 0x32,
+    ];
+    let update_then_delete: [u8; 49] = [
+        0x54, 2, 1, 0, 0x74, 0x31, 0, 0x17, 0, 1, 0, 0, 0, 0, 0, 0, 0, 1, 3, 2, 0x76, 0x31, 0, 3,
+        2, 0x76, 0x32, 0x54, 2, 1, 0, 0x74, 0x31, 0, 9, 0, 1, 0, 0, 0, 0, 0, 0, 0, 1, 3, 2, 0x76,
+        0x32,
+    ];
+    // What SQLite's rules for a changegroup make of them: INSERT (1, 'v2'), and DELETE (1, 'v1').
+    let inserted: [u8; 22] = [
+        0x54, 2, 1, 0, 0x74, 0x31, 0, 0x12, 0, 1, 0, 0, 0, 0, 0, 0, 0, 1, 3, 2, 0x76, 0x32,
+    ];
+    let deleted: [u8; 22] = [
+        0x54, 2, 1, 0, 0x74, 0x31, 0, 9, 0, 1, 0, 0, 0, 0, 0, 0, 0, 1, 3, 2, 0x76, 0x31,
+    ];
+    let cases: [(&[u8], &[usize], &[u8]); 5] = [
+        (&insert_then_update, &[22, 27], &inserted),
+        (&update_then_delete, &[27, 22], &deleted),
+        (&INSERT, &[0, 22, 0], &INSERT),
+        (&[], &[], &[]),
+        (&[], &[0], &[]),
+    ];
+    for (inputs, lengths, both) in &cases {
+        let mut output = [0xee; 23];
+        let told = write_combined(alloc, inputs, lengths, &mut output);
+        assert_eq!(rt; told, read(both.len()));
+        assert!(rt; output.starts_with(both), "other bytes were written");
+        assert!(rt; output[22] == 0xee, "more bytes were written");
+    }
+    let mut short = [0xee; 21];
+    assert_eq!(rt;
+        cs_ffi_combine(alloc, &insert_then_update, &[22, 27], &mut short),
+        read(22)
+    );
+    assert!(rt; short == [0xee; 21], "some bytes were written");
+}
+
+#[test]
+fn tells_why_changesets_are_not_taken_together(rt: HostRuntime) {
+    let alloc = rt.alloc();
+    // Of tables of one column: INSERT 'a' twice, INSERT NULL, two headers of one name, and a byte that is no operation.
+    let twice: &[u8] = &[
+        0x54, 1, 1, 0x74, 0, 0x12, 0, 3, 1, 0x61, 0x12, 0, 3, 1, 0x61,
+    ];
+    let null: &[u8] = &[0x54, 1, 1, 0x74, 0, 0x12, 0, 5];
+    let two_shapes: &[u8] = &[0x54, 1, 1, 0x74, 0, 0x54, 2, 1, 0, 0x74, 0];
+    let second: &[u8] = &[0x54, 1, 1, 0x74, 0, 0x54, 1, 1, 0x75, 0, 0x13];
+    let unnamed: &[u8] = &[0x54, 1, 1, 0];
+    let cases: [(&[u8], &[usize], u32, usize); 12] = [
+        (&INSERT, &[21], 51, 0),
+        (&INSERT, &[22, 1], 51, 0),
+        (&INSERT, &[], 51, 0),
+        (&[], &[usize::MAX, 1], 51, 0),
+        (second, &[5, 6], 9, 10),
+        (second, &[3, 8], 2, 3),
+        (second, &[5, 5, 1], 8, 10),
+        (twice, &[15], 33, 0),
+        (null, &[8], 32, 0),
+        (two_shapes, &[5, 6], 31, 0),
+        (two_shapes, &[11], 31, 0),
+        (unnamed, &[4], 50, 0),
+    ];
+    let mut output = [0xee; 64];
+    for (inputs, lengths, fault, offset) in &cases {
+        let told = write_combined(alloc, inputs, lengths, &mut output);
+        assert_eq!(rt; told, refused(*fault, *offset));
+    }
+    assert!(rt; output == [0xee; 64], "some bytes were written");
+}
+
+#[test]
+fn takes_a_changeset_back(rt: HostRuntime) {
+    let alloc = rt.alloc();
+    // DELETE (1, 'v1'), the column 'v2' of the key 1 becomes 'v1', and INSERT (1, 'v2').
+    let delete: [u8; 22] = [
+        0x54, 2, 1, 0, 0x74, 0x31, 0, 9, 0, 1, 0, 0, 0, 0, 0, 0, 0, 1, 3, 2, 0x76, 0x31,
+    ];
+    let update: [u8; 27] = [
+        0x54, 2, 1, 0, 0x74, 0x31, 0, 0x17, 0, 1, 0, 0, 0, 0, 0, 0, 0, 1, 3, 2, 0x76, 0x32, 0, 3,
+        2, 0x76, 0x31,
+    ];
+    let insert: [u8; 22] = [
+        0x54, 2, 1, 0, 0x74, 0x31, 0, 0x12, 0, 1, 0, 0, 0, 0, 0, 0, 0, 1, 3, 2, 0x76, 0x32,
+    ];
+    let cases: [(&[u8], &[u8]); 4] = [
+        (&INSERT, &delete),
+        (&UPDATE, &update),
+        (&DELETE, &insert),
+        (&[], &[]),
+    ];
+    for (input, inverse) in &cases {
+        let mut output = [0xee; 28];
+        let told = write_inverse(alloc, input, &mut output);
+        assert_eq!(rt; told, read(inverse.len()));
+        assert!(rt; output.starts_with(inverse), "other bytes were written");
+        assert!(rt; output[27] == 0xee, "more bytes were written");
+    }
+    let mut short = [0xee; 21];
+    assert_eq!(rt; cs_ffi_invert(alloc, &INSERT, &mut short), read(22));
+    assert_eq!(rt;
+        cs_ffi_invert(alloc, &[0x54, 1, 1, 0x74, 0, 0x13], &mut short),
+        refused(9, 5)
+    );
+    assert_eq!(rt;
+        cs_ffi_invert(alloc, &[0x54, 1, 1, 0x74, 0, 0x12, 0, 5], &mut short),
+        refused(32, 0)
+    );
+    assert!(rt; short == [0xee; 21], "some bytes were written");
 }
