@@ -1,6 +1,6 @@
 //! Reading groups and changesets.
 
-ghost use Rattle.std.specs.Prelude.{◌≡◌, ◌++◌, ℕ, List, length};
+ghost use Rattle.std.specs.Prelude.{◌≡◌, ◌≤◌, ◌++◌, ℕ, List, length};
 ghost use Rattle.cs_change.specs.Spelling.{changeset_spelling, FitsChangeset};
 ghost use Rattle.cs_change.specs.declared.group.Group.{Group};
 ghost use Rattle.cs_changeset.specs.Reading.{Finds, IsFault, ReadsChangeset, Tells};
@@ -82,6 +82,9 @@ pub fn decode(alloc: Global, bytes: &[u8]) -> Result<Changeset, CodecFault>
 
     // A fault of the bytes is told, or memory is wanting. So there is one, and none where a changeset is spelled.
     ensures told { (fault : Fault) (offset : ℕ) → IsFault fault offset bytes.now → Tells result fault offset }
+
+    // A fault is told within the bytes, or at their end.
+    ensures within { (fault : Fault) (offset : ℕ) → IsFault fault offset bytes.now → offset ≤ length bytes.now }
 
     // A front of a spelling that is no spelling itself is Truncated.
     ensures front { (groups : List Group) (rest : List ℕ) → FitsChangeset groups → changeset_spelling groups ≡ bytes.now ++ rest

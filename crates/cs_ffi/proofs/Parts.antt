@@ -7,24 +7,9 @@ use Rattle.std.proofs.lemmas.List.Sums.{sum_by-cons, sum-map}
 use Rattle.std.proofs.lemmas.List.Concat.{length-flat_map}
 use Rattle.cs_change.specs.declared.group.Group.{Group}
 use Rattle.cs_change.specs.Spelling.{changeset_spelling, FitsChangeset}
-use Rattle.cs_changeset.specs.Reading.{IsFault, IsMarkFault}
-use Rattle.cs_changeset.specs.declared.fault.Fault.{Fault}
-use Rattle.cs_changeset.proofs.GroupLaws.{group_within}
 use Rattle.cs_ffi.specs.Answers.{no_memory, Spell}
 use Rattle.cs_ffi.specs.CombinedAnswers.{spellings, spelled_lengths, IsCut}
 use Rattle.cs_ffi.specs.declared.answer.Answer.{Answer}
-
--- ---- a fault stands within its bytes
-
-mark_within : (fault : Fault) (offset : ℕ) (bytes : List ℕ) → IsMarkFault fault offset bytes → offset ≤ length bytes
-mark_within fault offset [] told = absurd told
-mark_within fault offset (mark ∷ rest) (inl told) = omega (arith, told.2)
-mark_within fault offset (mark ∷ rest) (inr told) = omega (arith, told.3)
-
-pub fault_within : (fault : Fault) (offset : ℕ) (bytes : List ℕ) → IsFault fault offset bytes → offset ≤ length bytes
-fault_within fault offset bytes (inl told) = mark_within fault offset bytes told
-fault_within fault offset bytes (inr told) =
-    omega (arith, told.there, ap length told.parts, length-append (changeset_spelling told.before) told.rest, group_within fault told.inner told.rest told.told)
 
 -- ---- cutting
 

@@ -10,6 +10,7 @@ pub mod MergeLaws
 pub mod MergeSteps
 pub mod Joined
 pub mod NetOf
+pub mod OneCombined
 pub mod PerTable
 pub mod ThenAll
 pub mod ThenNormal

@@ -1,5 +1,5 @@
 -- Changesets as read, taken together by the catalog that their own headers tell of.
-use Rattle.std.specs.Prelude.{◌⊎◌, List, [], ◌∷◌}
+use Rattle.std.specs.Prelude.{◌≡◌, ◌⊎◌, List, [], ◌∷◌}
 use Rattle.std.specs.List.{AllZip}
 use Rattle.cs_value.specs.Catalog.{AreTables}
 use Rattle.cs_value.specs.declared.catalog.TableDef.{TableDef}
@@ -34,6 +34,14 @@ pub record IsCombined (changesets : List (List Group)) (both : List TableChanges
   pub normal : IsNormalChangeset both
   pub fits : FitsCatalog (tables_of changesets) both
   pub joined : AreJoined (tables_of changesets) normals both
+
+-- there is one such changeset
+abbrev pub OneCombined : Type 0
+OneCombined =
+    (changesets : List (List Group)) (some others : List TableChanges)
+    → IsCombined changesets some
+    → IsCombined changesets others
+    → some ≡ others
 
 -- the first changeset that has no normal form has this fault
 abbrev pub HasFirstUnfit : Unfit → List TableDef → List (List Group) → Type 0

@@ -9,7 +9,6 @@ ghost use Rattle.cs_group.specs.Adding.{IsChangeOf, one_change};
 ghost use Rattle.cs_group.specs.Tables.{AreThen};
 
 use crate::group::then;
-use crate::tables::{copy_marks, copy_name};
 use cs_change::Change;
 use cs_normal::{Bytes, Normal, TableChanges};
 use cs_record::encode_value;
@@ -79,8 +78,8 @@ fn changeset_of(alloc: Global, table: &TableDef, change: &Change) -> Result<Norm
     let bytes = key_of_change(alloc, table.key_marks.as_slice(), change)?;
     let keyed = (bytes, change.copy(alloc)?);
     let only = TableChanges {
-        name: copy_name(alloc, &table.name)?,
-        marks: copy_marks(alloc, &table.key_marks)?,
+        name: table.name.copy(alloc)?,
+        marks: table.key_marks.copied(alloc)?,
         changes: Items::from_vec(vec![in alloc; keyed]?),
     };
     Ok(Normal::from_tables(vec![in alloc; only]?))

@@ -4,7 +4,6 @@ ghost use Rattle.std.specs.Prelude.{◌≡◌, ◌++◌, IfOk};
 ghost use Rattle.cs_change.specs.Then.{inverse_old, inverse_new, inverse_old_fields, inverse_new_fields};
 ghost use Rattle.cs_group.specs.Inverse.{inverse_change, inverse_changes, inverse_table, inverse_changeset};
 
-use crate::tables::{copy_marks, copy_name};
 use cs_change::Change;
 use cs_normal::{KeyedChange, Normal, TableChanges};
 use cs_value::{Field, Items, Memory};
@@ -113,8 +112,8 @@ fn invert_table(alloc: Global, table: &TableChanges) -> Result<TableChanges, Mem
 {
     let changes = invert_changes(alloc, table.changes.as_slice())?;
     Ok(TableChanges {
-        name: copy_name(alloc, &table.name)?,
-        marks: copy_marks(alloc, &table.marks)?,
+        name: table.name.copy(alloc)?,
+        marks: table.marks.copied(alloc)?,
         changes: Items::from_vec(changes),
     })
 }

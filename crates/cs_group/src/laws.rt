@@ -1,5 +1,6 @@
 //! The laws of changes taken together, each the contract of a function that does nothing.
 
+ghost use Rattle.cs_group.specs.Combined.{OneCombined};
 ghost use Rattle.cs_group.specs.Inverse.{InverseLeadsBack, InverseTwice};
 ghost use Rattle.cs_group.specs.NetOf.{BytesTellKeys, ThenLeads};
 ghost use Rattle.cs_group.specs.Tables.{JoinIsThenOfAll};
@@ -39,6 +40,14 @@ pub fn bytes_tell_keys()
 /// The join of a list is what `then` makes of the empty changeset and those of the list, one by one.
 pub fn join_is_then_of_all()
     ensures { JoinIsThenOfAll }
+{
+    cs_normal::laws::normal_again();
+    cs_normal::laws::one_normal_form();
+}
+
+/// Changesets as read are, taken together, one changeset.
+pub fn one_combined()
+    ensures { OneCombined }
 {
     cs_normal::laws::normal_again();
     cs_normal::laws::one_normal_form();

@@ -3,7 +3,7 @@
 //! more change, key by key by SQLite's rules for a changegroup; `invert` takes a changeset back; `net` is the one
 //! change from a row or none to another. `laws` says that changes that follow on one another lead, taken together,
 //! from the first state to the last, that an inverse leads back, that `join` is `then` one by one, and that the bytes
-//! of keys tell the keys apart.
+//! of keys tell the keys apart. `combine` takes changesets as read together, by the catalog of all their headers.
 #![tactic(auto)]
 
 mod adding;

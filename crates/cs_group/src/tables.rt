@@ -10,7 +10,7 @@ ghost use Rattle.cs_group.specs.TableByTable.{AreMade, FitsTable, HasNormal, IsN
 use crate::joining::join_table;
 use crate::merge::then_changes;
 use cs_normal::{KeyedChange, Normal, TableChanges};
-use cs_value::{Items, Marks, Memory, TableDef, Text};
+use cs_value::{Items, Memory, TableDef};
 use std::alloc::Global;
 
 fn is_named(table: &TableChanges, name: &str) -> bool
@@ -33,18 +33,6 @@ pub(crate) fn changes_of<'a>(tables: &'a [TableChanges], name: &str) -> &'a [Key
     &[]
 }
 
-pub(crate) fn copy_name(alloc: Global, name: &Text) -> Result<Text, Memory>
-    ensures { IfOk result (λ copied. copied ≡ name.now) }
-{
-    Ok(Text::from_string(String::from_str(alloc, name.as_str())?))
-}
-
-pub(crate) fn copy_marks(alloc: Global, marks: &Marks) -> Result<Marks, Memory>
-    ensures { IfOk result (λ copied. copied ≡ marks.now) }
-{
-    Ok(Items::from_vec(Vec::from_slice(alloc, marks.as_slice())?))
-}
-
 /// Puts a table's changes behind the others, if there are some.
 pub(crate) fn put_changes(
     alloc: Global,
@@ -58,8 +46,8 @@ pub(crate) fn put_changes(
         return Ok(());
     }
     made.push(TableChanges {
-        name: copy_name(alloc, &table.name)?,
-        marks: copy_marks(alloc, &table.key_marks)?,
+        name: table.name.copy(alloc)?,
+        marks: table.key_marks.copied(alloc)?,
         changes: Items::from_vec(changes),
     })?;
     Ok(())

@@ -7,7 +7,7 @@ ghost use Rattle.cs_normal.specs.NormalFormOf.{HasTable, HaveTables, HaveKeys, A
 ghost use Rattle.cs_normal.specs.TableByTable.{AreTablesOf, AnyUnfit, HasTableFault, IsHeaderFault, table_changes};
 
 use crate::changes::KeyedChange;
-use crate::normal::{Normal, TableChanges, copy_marks, copy_text};
+use crate::normal::{Normal, TableChanges};
 use crate::normal_form::normalise_table;
 use crate::unfit::Unfit;
 use cs_change::{Changeset, Group};
@@ -77,8 +77,8 @@ fn put_changes(
         return Ok(());
     }
     normal.push(TableChanges {
-        name: copy_text(alloc, &table.name)?,
-        marks: copy_marks(alloc, &table.key_marks)?,
+        name: table.name.copy(alloc)?,
+        marks: table.key_marks.copied(alloc)?,
         changes: Items::from_vec(changes),
     })?;
     Ok(())

@@ -9,7 +9,6 @@ ghost use Rattle.cs_normal.specs.FirstTables.{with_new, AreFirstTables, Neighbou
 ghost use Rattle.cs_normal.specs.declared.headers.HeaderFault.TheVariants.{Memory as OutOfMemory};
 
 use crate::comparing::{same_marks, same_name};
-use crate::normal::copy_text;
 use cs_change::{Changeset, Group};
 use cs_value::{Catalog, Items, MAX_TABLES, Marks, Memory, TableDef};
 use std::alloc::{AllocError, AllocFailed, Global};
@@ -61,7 +60,7 @@ fn read_header(alloc: Global, group: &Group) -> Result<TableDef, Memory>
     ensures { IfOk result (λ table. table ≡ header group.now) }
 {
     Ok(TableDef {
-        name: copy_text(alloc, &group.name)?,
+        name: group.name.copy(alloc)?,
         key_marks: read_marks(alloc, group.marks.as_slice())?,
     })
 }

@@ -8,7 +8,7 @@ use crate::fitting::tables_fit;
 use crate::searching::{change_with, changes_named, count_changes};
 use crate::writing::put_tables;
 use cs_change::Change;
-use cs_value::{Catalog, Items, Key, Marks, Memory, Text};
+use cs_value::{Catalog, Key, Marks, Memory, Text};
 use std::alloc::Global;
 use std::marker::Model;
 
@@ -21,26 +21,12 @@ pub struct TableChanges {
     pub changes: Changes,
 }
 
-/// The same marks, in memory of their own.
-pub(crate) fn copy_marks(alloc: Global, marks: &Marks) -> Result<Marks, Memory>
-    ensures { IfOk result (λ copied. copied ≡ marks.now) }
-{
-    Ok(Items::from_vec(Vec::from_slice(alloc, marks.as_slice())?))
-}
-
-/// The same text, in memory of its own.
-pub(crate) fn copy_text(alloc: Global, text: &Text) -> Result<Text, Memory>
-    ensures { IfOk result (λ copied. copied ≡ text.now) }
-{
-    Ok(Text::from_string(String::from_str(alloc, text.as_str())?))
-}
-
 fn copy_table(alloc: Global, table: &TableChanges) -> Result<TableChanges, Memory>
     ensures { IfOk result (λ copied. copied ≡ table.now) }
 {
     Ok(TableChanges {
-        name: copy_text(alloc, &table.name)?,
-        marks: copy_marks(alloc, &table.marks)?,
+        name: table.name.copy(alloc)?,
+        marks: table.marks.copied(alloc)?,
         changes: copy_changes(alloc, &table.changes)?,
     })
 }

@@ -1,11 +1,10 @@
 use Rattle.std.proofs.Common.{arith}
 use Rattle.cs_ffi.proofs.Counts.{tells-behind}
-use Rattle.cs_ffi.proofs.Parts.{fault_within}
 use Rattle.cs_ffi.proofs.combined.read_part.Goals as goal
 
 pub overflow_add-at : goal.overflow_add-at
 overflow_add-at c =
-    let within = fault_within c.in-Err-At.fault c.in-Err-At.offset c.args.part.now (rw c.in-Err-At.field-0-is at c.in-Err-At.ensures.reads) in
+    let within = c.in-Err-At.ensures.within c.in-Err-At.fault c.in-Err-At.offset (rw c.in-Err-At.field-0-is at c.in-Err-At.ensures.reads) in
     let requires = c.requires in
     omega (arith, within, requires)
 
