@@ -1,7 +1,8 @@
 #!/bin/sh
-# Refuses the program `sync` each of its allocations in turn, in a session of its own a refusal: the run ends with
+# Refuses the program `sync` each of its allocations in turn, in a session of its own a refusal. A hub's run ends with
 # `sync: Memory`, or one line is answered `1301` and every other line as in a session without that line, or the program
-# did without that memory and every line has its answer.
+# did without that memory and every line has its answer. A run of `combine` or `show` ends with `sync: Memory` and
+# nothing written, or the program did without.
 # Usage: bench/refuse_memory.sh SYNC [INPUT]
 # SYNC is the proved program (crates/sync_cli/out/sync_cli), which has to take its memory from the C library. INPUT holds
 # requests, one a line; the stored run's, each sent twice, where none is given.
@@ -12,6 +13,37 @@ sync="$1"
 command -v cc > /dev/null || { echo "no allocation refused: there is no C compiler here"; exit 0; }
 mkdir -p "$out"
 cc -O2 -Wall -Wextra -shared -fPIC "$bench/refuse_memory.c" -o "$out/refuse_memory.so" -ldl
+
+# Runs the program with an input and words, and with the allocation of this number refused; false where it makes no such
+# allocation. `status`, `answers` and `errors` are those of the run.
+run_refused() {
+    local refused="$1" input="$2"
+    shift 2
+    status=0
+    REFUSE=$refused LD_PRELOAD="$out/refuse_memory.so" timeout 20 "$sync" "$@" < "$input" \
+        > "$out/answers" 2> "$out/errors" 9> "$out/reached" || status=$?
+    [ ! -s "$out/reached" ]
+}
+
+# Refuses a tool each of its allocations on an input.
+refuse_tool() {
+    local input="$1" number=1 ended=0 spared=0
+    shift
+    "$sync" "$@" < "$input" > "$out/answers_whole"
+    while run_refused "$number" "$input" "$@"; do
+        if [ "$status" -eq 0 ] && cmp -s "$out/answers" "$out/answers_whole"; then
+            spared=$((spared + 1))
+        elif [ "$status" -eq 1 ] && [ "$(cat "$out/errors")" = "sync: Memory" ] && [ ! -s "$out/answers" ]; then
+            ended=$((ended + 1))
+        else
+            echo "$*, allocation $number: status $status, $(cat "$out/errors")" >&2
+            return 1
+        fi
+        number=$((number + 1))
+    done
+    [ "$ended" -gt 0 ] || { echo "no run of $* ended for want of memory" >&2; return 1; }
+    echo "$*: allocations refused in turn: $((number - 1)); runs ended with Memory: $ended; done without: $spared"
+}
 
 if [ $# -gt 1 ]; then
     cp "$2" "$out/requests"
@@ -27,10 +59,7 @@ answered=0
 spared=0
 while true; do
     number=$((number + 1))
-    status=0
-    REFUSE=$number LD_PRELOAD="$out/refuse_memory.so" timeout 20 "$sync" hub t1:10 < "$out/requests" \
-        > "$out/answers" 2> "$out/errors" 9> "$out/reached" || status=$?
-    [ ! -s "$out/reached" ] || break
+    run_refused "$number" "$out/requests" hub t1:10 || break
 
     if [ "$status" -eq 1 ] && [ "$(cat "$out/errors")" = "sync: Memory" ]; then
         [ ! -s "$out/answers" ] || { echo "allocation $number: answers before the run gave up" >&2; exit 1; }
@@ -59,3 +88,10 @@ done
 [ "$answered" -gt 0 ] || { echo "no line was refused for want of memory" >&2; exit 1; }
 echo "allocations refused in turn: $((number - 1)); runs ended with Memory: $ended; lines answered 1301: $answered; \
 done without: $spared"
+
+# An INSERT, an UPDATE of its row, a DELETE of another and a second table.
+printf '%s\n' 54020100743100120001000000000000000103027631 \
+    540201007431001700010000000000000001030276310003027632 \
+    54020100743100090001000000000000000203027631540101743200120001000000000000000a > "$out/changesets"
+refuse_tool "$out/changesets" combine
+refuse_tool "$out/changesets" show changeset
