@@ -1,32 +1,69 @@
 //! The lines of a changeset.
 
+ghost use Rattle.std.specs.Prelude.{Some};
+ghost use Rattle.std.specs.Fmt.{WritesOnOk};
+ghost use Rattle.cs_text.specs.Text.{values_text, fields_text, bit_text, marks_text, operation_text, change_text, header_text, changes_text, group_text, changeset_text};
+
 use crate::words::{FieldText, NameText, ValueText};
 use cs_change::{Change, Group};
 use cs_value::{Field, Value};
 use std::fmt;
 
-fn write_values<W: fmt::Write>(values: &[Value], f: &mut fmt::Formatter<W>) -> fmt::Result {
+fn write_values<W: fmt::Write>(values: &[Value], f: &mut fmt::Formatter<W>) -> fmt::Result
+    ensures { WritesOnOk W.write_str_gives f.old result (values_text values.now) f.new }
+{
     for value in values {
         write!(f, " {}", ValueText(value))?;
     }
     Ok(())
 }
 
-fn write_fields<W: fmt::Write>(fields: &[Field], f: &mut fmt::Formatter<W>) -> fmt::Result {
+fn write_fields<W: fmt::Write>(fields: &[Field], f: &mut fmt::Formatter<W>) -> fmt::Result
+    ensures { WritesOnOk W.write_str_gives f.old result (fields_text fields.now) f.new }
+{
     for field in fields {
         write!(f, " {}", FieldText(field))?;
     }
     Ok(())
 }
 
-fn write_change<W: fmt::Write>(change: &Change, f: &mut fmt::Formatter<W>) -> fmt::Result {
+fn write_bit<W: fmt::Write>(bit: bool, f: &mut fmt::Formatter<W>) -> fmt::Result
+    ensures { WritesOnOk W.write_str_gives f.old result (bit_text bit) f.new }
+{
+    if bit {
+        f.write_str("1")
+    } else {
+        f.write_str("0")
+    }
+}
+
+fn write_marks<W: fmt::Write>(marks: &[u8], f: &mut fmt::Formatter<W>) -> fmt::Result
+    ensures { WritesOnOk W.write_str_gives f.old result (marks_text marks.now) f.new }
+{
+    for mark in marks {
+        write_bit(*mark != 0, f)?;
+    }
+    Ok(())
+}
+
+fn write_operation<W: fmt::Write>(word: &str, flag: bool, f: &mut fmt::Formatter<W>) -> fmt::Result
+    ensures { WritesOnOk W.write_str_gives f.old result (operation_text word.now flag) f.new }
+{
+    f.write_str(word)?;
+    f.write_str(" ")?;
+    write_bit(flag, f)
+}
+
+fn write_change<W: fmt::Write>(change: &Change, f: &mut fmt::Formatter<W>) -> fmt::Result
+    ensures { WritesOnOk W.write_str_gives f.old result (change_text change.now) f.new }
+{
     match change {
         Change::Insert { flag, new_row } => {
-            write!(f, "insert {}", u8::from(*flag))?;
+            write_operation("insert", *flag, f)?;
             write_values(new_row.as_slice(), f)
         }
         Change::Delete { flag, old_row } => {
-            write!(f, "delete {}", u8::from(*flag))?;
+            write_operation("delete", *flag, f)?;
             write_values(old_row.as_slice(), f)
         }
         Change::Update {
@@ -34,7 +71,7 @@ fn write_change<W: fmt::Write>(change: &Change, f: &mut fmt::Formatter<W>) -> fm
             old_fields,
             new_fields,
         } => {
-            write!(f, "update {}", u8::from(*flag))?;
+            write_operation("update", *flag, f)?;
             write_fields(old_fields.as_slice(), f)?;
             f.write_str(" >")?;
             write_fields(new_fields.as_slice(), f)
@@ -42,17 +79,29 @@ fn write_change<W: fmt::Write>(change: &Change, f: &mut fmt::Formatter<W>) -> fm
     }
 }
 
-fn write_group<W: fmt::Write>(group: &Group, f: &mut fmt::Formatter<W>) -> fmt::Result {
-    write!(f, "table {} ", NameText(&group.name))?;
-    for mark in group.marks.as_slice() {
-        f.write_str(if *mark == 0 { "0" } else { "1" })?;
-    }
-    f.write_str("\n")?;
-    for change in group.changes.as_slice() {
+fn write_changes<W: fmt::Write>(changes: &[Change], f: &mut fmt::Formatter<W>) -> fmt::Result
+    ensures { WritesOnOk W.write_str_gives f.old result (changes_text changes.now) f.new }
+{
+    for change in changes {
         write_change(change, f)?;
         f.write_str("\n")?;
     }
     Ok(())
+}
+
+fn write_header<W: fmt::Write>(group: &Group, f: &mut fmt::Formatter<W>) -> fmt::Result
+    ensures { WritesOnOk W.write_str_gives f.old result (header_text group.now) f.new }
+{
+    write!(f, "table {} ", NameText(&group.name))?;
+    write_marks(group.marks.as_slice(), f)
+}
+
+fn write_group<W: fmt::Write>(group: &Group, f: &mut fmt::Formatter<W>) -> fmt::Result
+    ensures { WritesOnOk W.write_str_gives f.old result (group_text group.now) f.new }
+{
+    write_header(group, f)?;
+    f.write_str("\n")?;
+    write_changes(group.changes.as_slice(), f)
 }
 
 /// A changeset as text: `table NAME MARKS` for a group (a 1 marks a key column), then a line for each of its changes:
@@ -61,6 +110,8 @@ fn write_group<W: fmt::Write>(group: &Group, f: &mut fmt::Formatter<W>) -> fmt::
 pub struct ChangesetText<'a>(pub &'a [Group]);
 
 impl fmt::Display for ChangesetText<'_> {
+    ghost output = { λ changeset. Some (changeset_text changeset.0.now) };
+
     fn fmt<W: fmt::Write>(&self, f: &mut fmt::Formatter<W>) -> fmt::Result {
         for group in self.0 {
             write_group(group, f)?;

@@ -1,7 +1,7 @@
-//! Changesets as text, for people: one line a group and one a change. It stands on changes (`cs_change`). What is
-//! printed is shown by tests; no clause speaks of it. The text is a format of this project, described in
-//! docs/FORMATS.md: words apart by one space, a value as `null`, a number, `t=` and text or `x=` and hex, `-` for an
-//! undefined field, and each byte of a text outside 21 to 7e, and `%`, as `%` and two upper case hex digits.
+//! Changesets as text, for people: one line a group and one a change. It stands on changes (`cs_change`) and values
+//! (`cs_value`). The definitions of `Text` state each text exactly, and each type here promises its own: what `{}`
+//! writes of a `ChangesetText`, a `NameText`, a `ValueText` or a `FieldText` is that text and nothing else, so
+//! `format!` ensures it where it succeeds. The text is a format of this project, described in docs/FORMATS.md.
 #![tactic(auto)]
 
 mod changesets;

@@ -1,20 +1,49 @@
 //! The words of a line: names, values and fields.
 
+ghost use Rattle.std.specs.Prelude.{◌≡◌, Some};
+ghost use Rattle.std.specs.Fmt.{WritesOnOk};
+ghost use Rattle.cs_text.specs.Text.{is_plain, escaped, escaped_text, lower_hex, hex_text, name_text, value_text, field_text};
+
 use cs_value::{Field, Text, Value};
 use std::fmt;
 
 /// Whether a byte of a text stands for itself.
-fn is_plain(byte: u8) -> bool {
+fn is_plain(byte: u8) -> bool
+    ensures { result ≡ is_plain byte }
+{
     (0x21..=0x7e).contains(&byte) && byte != b'%'
 }
 
-fn write_escaped<W: fmt::Write>(text: &str, f: &mut fmt::Formatter<W>) -> fmt::Result {
+fn write_byte<W: fmt::Write>(byte: u8, f: &mut fmt::Formatter<W>) -> fmt::Result
+    ensures { WritesOnOk W.write_str_gives f.old result (escaped byte) f.new }
+{
+    if is_plain(byte) {
+        f.write_char(char::from(byte))
+    } else {
+        write!(f, "%{byte:02X}")
+    }
+}
+
+fn write_escaped<W: fmt::Write>(text: &str, f: &mut fmt::Formatter<W>) -> fmt::Result
+    ensures { WritesOnOk W.write_str_gives f.old result (escaped_text text.now) f.new }
+{
     for byte in text.as_bytes() {
-        if is_plain(*byte) {
-            f.write_char(char::from(*byte))?;
-        } else {
-            write!(f, "%{byte:02X}")?;
-        }
+        write_byte(*byte, f)?;
+    }
+    Ok(())
+}
+
+fn write_hex_byte<W: fmt::Write>(byte: u8, f: &mut fmt::Formatter<W>) -> fmt::Result
+    ensures { WritesOnOk W.write_str_gives f.old result (lower_hex byte) f.new }
+{
+    write!(f, "{byte:02x}")
+}
+
+fn write_hex<W: fmt::Write>(bytes: &[u8], f: &mut fmt::Formatter<W>) -> fmt::Result
+    ensures { WritesOnOk W.write_str_gives f.old result (hex_text bytes.now) f.new }
+{
+    for byte in bytes {
+        write_hex_byte(*byte, f)?;
     }
     Ok(())
 }
@@ -24,6 +53,8 @@ fn write_escaped<W: fmt::Write>(text: &str, f: &mut fmt::Formatter<W>) -> fmt::R
 pub struct NameText<'a>(pub &'a Text);
 
 impl fmt::Display for NameText<'_> {
+    ghost output = { λ name. Some (name_text name.0.now) };
+
     fn fmt<W: fmt::Write>(&self, f: &mut fmt::Formatter<W>) -> fmt::Result {
         write_escaped(self.0.as_str(), f)
     }
@@ -34,6 +65,8 @@ impl fmt::Display for NameText<'_> {
 pub struct ValueText<'a>(pub &'a Value);
 
 impl fmt::Display for ValueText<'_> {
+    ghost output = { λ value. Some (value_text value.0.now) };
+
     fn fmt<W: fmt::Write>(&self, f: &mut fmt::Formatter<W>) -> fmt::Result {
         match self.0 {
             Value::Null => f.write_str("null"),
@@ -44,10 +77,7 @@ impl fmt::Display for ValueText<'_> {
             }
             Value::Blob(bytes) => {
                 f.write_str("x=")?;
-                for byte in bytes.as_slice() {
-                    write!(f, "{byte:02x}")?;
-                }
-                Ok(())
+                write_hex(bytes.as_slice(), f)
             }
         }
     }
@@ -58,6 +88,8 @@ impl fmt::Display for ValueText<'_> {
 pub struct FieldText<'a>(pub &'a Field);
 
 impl fmt::Display for FieldText<'_> {
+    ghost output = { λ field. Some (field_text field.0.now) };
+
     fn fmt<W: fmt::Write>(&self, f: &mut fmt::Formatter<W>) -> fmt::Result {
         match self.0 {
             Field::Undefined => f.write_str("-"),

@@ -4,7 +4,8 @@ use Rattle.std.specs.Prelude.{Option, Some, None, option_map, IsUtf8}
 use Rattle.std.proofs.lemmas.List.Elements.{All-head, All-tail}
 use Rattle.cs_value.specs.declared.catalog.TableDef.{TableDef}
 use Rattle.std.proofs.lemmas.List.{take_more, map-append}
-use Rattle.sync_cli.specs.TableWord.{is_plain, digit_value, plain_onto, escaped_onto, spelled_name, mark_digit, SpellsTable}
+use Rattle.cs_text.specs.Text.{is_plain}
+use Rattle.sync_cli.specs.TableWord.{digit_value, plain_onto, escaped_onto, spelled_name, mark_digit, SpellsTable}
 
 plain_not_percent : (a : ℕ) → is_plain a ≡ true → eqb a 37 ≡ false
 plain_not_percent a p = grind arith

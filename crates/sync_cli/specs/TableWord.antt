@@ -1,10 +1,7 @@
 -- A table as a word of the command line: `NAME:MARKS` (profile of this project).
-use Rattle.std.specs.Prelude.{◌≡◌, ℕ, ◌+◌, ◌-◌, ◌*◌, ◌==◌, ◌&&◌, nat_le, not, Bool, true, false, if◌then◌else◌, List, [], ◌∷◌, ◌++◌, map, Option, Some, None, option_map, IsUtf8}
+use Rattle.std.specs.Prelude.{◌≡◌, ℕ, ◌+◌, ◌-◌, ◌*◌, ◌==◌, ◌&&◌, nat_le, Bool, true, false, if◌then◌else◌, List, [], ◌∷◌, ◌++◌, map, Option, Some, None, option_map, IsUtf8}
 use Rattle.cs_value.specs.declared.catalog.TableDef.{TableDef}
-
--- a byte that stands for itself in a name: from `!` to `~`, and not `%`
-abbrev pub is_plain : ℕ → Bool
-is_plain byte = nat_le 0x21 byte && nat_le byte 0x7e && not (byte == 0x25)
+use Rattle.cs_text.specs.Text.{is_plain}
 
 -- the value of a hex digit, `0` to `9` and `A` to `F`
 abbrev pub digit_value : ℕ → Option ℕ

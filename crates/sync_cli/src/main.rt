@@ -3,8 +3,8 @@
 //! It stands on `clap` for the command line, on `cs_lines` for the lines, on `cs_hub` for the answers, on `cs_group` for
 //! changesets as one and on `cs_text` for what `show` prints, and only wires them. `run` carries the promise: over any
 //! reader and writers, where it ends with 0, `hub` has given each line of the input the answer of a hub of the tables
-//! that the command line names, and `combine` has written the changesets of all lines as one. `main` hands it the
-//! words, the standard streams and the allocator.
+//! that the command line names, `combine` has written the changesets of all lines as one, and `show` the text of the
+//! first. `main` hands it the words, the standard streams and the allocator.
 #![tactic(auto)]
 
 mod combine;

@@ -9,7 +9,8 @@ ghost use Rattle.cs_value.specs.declared.catalog.TableDef.{TableDef};
 ghost use Rattle.sync_cli.specs.CatalogWords.{IsCatalogOf, IsRefused};
 ghost use Rattle.sync_cli.specs.CombinedLines.{SpellsCombined};
 ghost use Rattle.sync_cli.specs.CommandLine.{sync_app, tables_of, tool_of};
-ghost use Rattle.sync_cli.specs.declared.command.Tool.TheVariants.{Combine};
+ghost use Rattle.sync_cli.specs.ShownLine.{ShowsFirst};
+ghost use Rattle.sync_cli.specs.declared.command.Tool.TheVariants.{Combine, ShowChangeset};
 ghost use Rattle.cs_hub.specs.Hub.{HubState, fresh};
 ghost use Rattle.cs_hub.specs.Serves.{Serves};
 
@@ -50,6 +51,12 @@ pub fn run<S: AsStr, R: BufRead, W: Write, E: Write>(
         → tool_of (map S.text words.now) ≡ Some Combine
         → IfSome (R.remaining reader.old) (λ input. (bytes : List ℕ) × SpellsCombined (lines_of input) bytes
         × Appends (W.contents writer.old) (W.contents writer.new) (hex_line bytes)) }
+
+    // The changeset of the first line as text.
+    ensures shown { result ≡ 0 → takes sync_app (map S.text words.now) ≡ true
+        → tool_of (map S.text words.now) ≡ Some ShowChangeset
+        → IfSome (R.remaining reader.old) (λ input. (text : List ℕ) × ShowsFirst (lines_of input) text
+        × Appends (W.contents writer.old) (W.contents writer.new) text) }
 
     ensures refused { result ≡ 2 → takes sync_app (map S.text words.now) ≡ true
         → IsRefused (tables_of (map S.text words.now)) (tool_of (map S.text words.now)) }

@@ -2,7 +2,8 @@
 
 ghost use Rattle.std.specs.Prelude.{◌≡◌, ◌≢◌, ℕ, ◌++◌, ◌∷◌, ◌<◌, Bool, List, None, All, IfOk, IfErr, IfSome, MatchOption, length, map, option_map};
 ghost use Rattle.cs_value.specs.declared.catalog.TableDef.{TableDef as Table};
-ghost use Rattle.sync_cli.specs.TableWord.{is_plain, digit_value, mark_digit, spelled_name, SpellsTable};
+ghost use Rattle.cs_text.specs.Text.{is_plain};
+ghost use Rattle.sync_cli.specs.TableWord.{digit_value, mark_digit, spelled_name, SpellsTable};
 ghost use Rattle.sync_cli.specs.CatalogWords.{IsCatalogOf, IsFirstRefused};
 
 use cs_value::{Catalog, Items, Memory, TableDef, Text};

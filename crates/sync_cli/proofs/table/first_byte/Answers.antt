@@ -1,5 +1,5 @@
 use Rattle.std.proofs.Common.{rules, ◌≡◌, ◌<◌, length, get_or, true, arith, length-drop}
-use Rattle.sync_cli.specs.TableWord.{is_plain}
+use Rattle.cs_text.specs.Text.{is_plain}
 use Rattle.sync_cli.proofs.WordLemmas.{plain_first, rest_is}
 use Rattle.sync_cli.proofs.table.first_byte.Goals as goal
 
