@@ -1,5 +1,5 @@
 -- Changesets that can be taken together have no fault.
-use Rattle.std.proofs.Common.{◌≡◌, List, [], ◌∷◌, ◌++◌, refl, ap, ◌∙◌, inl, inr}
+use Rattle.std.proofs.Common.{◌≡◌, List, [], ◌∷◌, refl, ap, inl, inr}
 use Rattle.std.specs.List.{AllByRecursion}
 use Rattle.cs_value.specs.Catalog.{AreTables}
 use Rattle.cs_value.specs.declared.catalog.TableDef.{TableDef}
@@ -27,8 +27,3 @@ fault_is_memory law (Headers in_headers.Shape) changesets can told = absurd (can
 fault_is_memory law (Headers in_headers.BadCatalog) changesets can told = absurd (told.1 can.catalog)
 fault_is_memory law (NoForm fault) changesets can told =
     ap (λ (f : Unfit). combine_answer (NoForm f)) (unfit_is_memory law fault (tables_of changesets) changesets can.catalog can.fit told.1)
-
--- the one changeset that was put into a list
-pub one_alone : (all pushed before : List (List Group)) (read groups : List Group) → all ≡ pushed → pushed ≡ before ++ read ∷ [] → before ≡ [] → read ≡ groups → all ≡ groups ∷ []
-one_alone all pushed before read groups same put none found =
-    same ∙ put ∙ ap (λ (t : List (List Group)). t ++ read ∷ []) none ∙ ap (λ (g : List Group). g ∷ []) found

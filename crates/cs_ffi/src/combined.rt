@@ -11,7 +11,7 @@ ghost use Rattle.cs_ffi.specs.CombinedAnswers.{AnswersCombined, AnswersInverse, 
 use crate::answer::Answer;
 use crate::reading::hand_over;
 use cs_changeset::{Changeset, CodecFault, decode};
-use cs_group::{combine, invert};
+use cs_group::{combine, invert, normalise_alone};
 use cs_normal::laws::no_fault_where_fit;
 use std::alloc::Global;
 
@@ -92,9 +92,8 @@ fn inverse_bytes(alloc: Global, input: &[u8]) -> Result<Vec<u8>, Answer>
 {
     // What fits has no fault: a law, for the proof.
     no_fault_where_fit();
-    let mut changesets = Vec::new(alloc);
-    changesets.push(read_part(alloc, input, 0)?)?;
-    let alone = combine(alloc, &changesets)?;
+    let changeset = read_part(alloc, input, 0)?;
+    let alone = normalise_alone(alloc, &changeset)?;
     let mut bytes = Vec::new(alloc);
     invert(alloc, &alone)?.encode(&mut bytes)?;
     Ok(bytes)

@@ -9,7 +9,6 @@ use Rattle.cs_normal.specs.Normal.{changes_in, groups_of}
 use Rattle.cs_normal.specs.NormalForm.{IsNormalOf}
 use Rattle.cs_normal.specs.NormalFormOf.{changes_of}
 use Rattle.cs_normal.specs.declared.normal.TableChanges.{TableChanges}
-use Rattle.cs_group.specs.Combine.{combine}
 use Rattle.cs_group.specs.Combined.{tables_of, AreForms, OneCombined}
 use Rattle.cs_group.specs.TableByTable.{HasNormal}
 use Rattle.cs_group.specs.Tables.{changes_along, combine_all}

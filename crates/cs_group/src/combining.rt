@@ -1,6 +1,6 @@
 //! Changesets as read, taken together.
 
-ghost use Rattle.std.specs.Prelude.{◌≡◌, IfOk, IfErr};
+ghost use Rattle.std.specs.Prelude.{◌≡◌, [], ◌∷◌, IfOk, IfErr};
 ghost use Rattle.std.specs.List.{AllByRecursion};
 ghost use Rattle.cs_change.specs.Spelling.{FitsChangeset};
 ghost use Rattle.cs_group.specs.Combined.{AreForms, IsCombined, HasCombineFault, HasFirstUnfit, of_headers, of_unfit};
@@ -11,6 +11,7 @@ use cs_change::Changeset;
 use cs_normal::{HeaderFault, Normal, Unfit, catalog_of, normalise};
 use cs_value::Catalog;
 use std::alloc::{AllocError, Global};
+use std::slice;
 use thiserror::Error;
 
 /// Why changesets can't be taken together. The text is the name that programs print. (Profile of this project.)
@@ -88,4 +89,20 @@ pub fn combine(alloc: Global, changesets: &[Changeset]) -> Result<Normal, Combin
     let catalog = catalog_of(alloc, changesets)?;
     let normals = normalise_all(alloc, &catalog, changesets)?;
     Ok(join(alloc, &catalog, &normals)?)
+}
+
+/// The normal form of a changeset by the catalog of its own headers, which is what it is taken together alone. The
+/// headers are judged first. (Profile of this project over SQLite's "changeset format".)
+pub fn normalise_alone(alloc: Global, changeset: &Changeset) -> Result<Normal, CombineFault>
+    // The changeset is one that the reader takes.
+    requires { FitsChangeset changeset.now }
+
+    ensures combined { IfOk result (IsCombined (changeset.now ∷ [])) }
+    ensures fault { IfErr result (λ fault. HasCombineFault fault (changeset.now ∷ [])) }
+{
+    let catalog = catalog_of(alloc, slice::from_ref(changeset))?;
+    let normal = normalise(alloc, &catalog, changeset)?;
+    // That its tables are normal, for the proof.
+    let _ = normal.tables();
+    Ok(normal)
 }

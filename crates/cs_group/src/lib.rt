@@ -3,7 +3,8 @@
 //! more change, key by key by SQLite's rules for a changegroup; `invert` takes a changeset back; `net` is the one
 //! change from a row or none to another. `laws` says that changes that follow on one another lead, taken together,
 //! from the first state to the last, that an inverse leads back, that `join` is `then` one by one, and that the bytes
-//! of keys tell the keys apart. `combine` takes changesets as read together, by the catalog of all their headers.
+//! of keys tell the keys apart. `combine` takes changesets as read together, by the catalog of all their headers;
+//! `normalise_alone` is that for one.
 #![tactic(auto)]
 
 mod adding;
@@ -20,7 +21,7 @@ mod spelled;
 mod tables;
 
 pub use adding::add_one;
-pub use combining::{CombineFault, combine};
+pub use combining::{CombineFault, combine, normalise_alone};
 pub use group::{join, then};
 pub use inverting::invert;
 pub use net_change::net;

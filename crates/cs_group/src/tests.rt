@@ -309,6 +309,9 @@ fn as_read_together(rt: HostRuntime) -> Result<(), Fail> {
     let want = one(alloc, &catalog, Some(Told::Insert(false, "v2")))?;
     assert!(rt; combine(alloc, &list)?.same(&want));
     assert_eq!(rt; combine(alloc, &[])?.len(), 0);
+    let [first, _, _] = &list;
+    let want = one(alloc, &catalog, Some(Told::Insert(false, "v1")))?;
+    assert!(rt; normalise_alone(alloc, first)?.same(&want));
     Ok(())
 }
 
