@@ -3,8 +3,8 @@ pub mod Combine
 pub mod Combined
 pub mod Inverse
 pub mod Joining
+pub mod Leads
 pub mod Merges
-pub mod NetOf
 pub mod OneKey
 pub mod TableByTable
 pub mod Tables

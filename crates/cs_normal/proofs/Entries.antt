@@ -17,6 +17,7 @@ use Rattle.cs_normal.specs.Changes.{key_bytes, IsEntry}
 use Rattle.cs_normal.specs.Laws.{LenientUpdate, no_column, key_column, key_again, unmodified, modified, IsLenient}
 use Rattle.cs_normal.specs.NormalForm.{marked_fields, change_key, has_key, normal_form}
 use Rattle.cs_normal.specs.Prepared.{Entries, prepared, kept}
+use Rattle.cs_normal.proofs.Fitted.{FitsIfAny, form_fits}
 use Rattle.cs_normal.proofs.Keeps.{keeps}
 use Rattle.cs_normal.proofs.NormalLaws.{by_test}
 
@@ -46,15 +47,16 @@ abbrev IsReady : List Bool → List ℕ × Option Change → Type 0
 IsReady marks (bytes, None) = Unit {0}
 IsReady marks (bytes, Some change) = IsEntry marks (bytes, change)
 
-ready : (marks : List Bool) (key : List Value) (change : Option Change) → list_all is_set key ≡ true → IsNormalIfAny marks key (action_any change) → IsReady marks (key_bytes key, change)
-ready marks key None set normal = tt
-ready marks key (Some change) set normal = record { key = key; set = set; bytes = refl; normal = normal }
+ready : (marks : List Bool) (key : List Value) (change : Option Change) → list_all is_set key ≡ true → IsNormalIfAny marks key (action_any change) → FitsIfAny marks change → IsReady marks (key_bytes key, change)
+ready marks key None set normal fits = tt
+ready marks key (Some change) set normal fits =
+    record { key = key; set = set; bytes = refl; normal = normal; fits = fits }
 
 prepared_ready : (marks : List Bool) (changes : List Change) → AllByRecursion (FitsChange marks) changes → AllByRecursion (IsReady marks) (prepared marks changes)
 unfolding prepared
 prepared_ready marks [] f = tt
 prepared_ready marks (c ∷ changes) f =
-    by_test (has_key marks c) _ (λ e. simp e (ready marks (change_key marks c) (normal_form marks c) e (keeps marks (change_key marks c) c (lenient marks c f.0)).0, prepared_ready marks changes f.1)) (λ e. simp e tt)
+    by_test (has_key marks c) _ (λ e. simp e (ready marks (change_key marks c) (normal_form marks c) e (keeps marks (change_key marks c) c (lenient marks c f.0)).0 (form_fits marks c f.0), prepared_ready marks changes f.1)) (λ e. simp e tt)
 
 kept_entries : (marks : List Bool) (es : Entries) → AllByRecursion (IsReady marks) es → AllByRecursion (IsEntry marks) (kept es)
 unfolding kept

@@ -1,18 +1,19 @@
 -- A changeset has one normal form.
 use Rattle.std.proofs.Common.{◌≡◌, ℕ, Bool, true, false, List, [], ◌∷◌, refl, sym, ap, ◌∙◌, inl, inr}
-use Rattle.std.specs.List.{AllByRecursion}
+use Rattle.std.specs.List.{AllByRecursion, Contains}
 use Rattle.std.specs.Str.{bytes_eq}
-use Rattle.std.proofs.lemmas.List.Elements.{recursion_from_All}
+use Rattle.std.proofs.lemmas.List.Elements.{recursion_from_All, All-contains_itself}
 use Rattle.cs_value.specs.declared.catalog.TableDef.{TableDef}
 use Rattle.cs_change.specs.declared.group.Group.{Group}
 use Rattle.cs_normal.specs.Changes.{Changes}
-use Rattle.cs_normal.specs.Laws.{OneNormalForm}
-use Rattle.cs_normal.specs.Normal.{IsOfTable, FitsCatalog, IsNormalChangeset, changes_in}
+use Rattle.cs_normal.specs.Laws.{OneNormal, OneNormalForm}
+use Rattle.cs_normal.specs.Normal.{AreApart, IsOfTable, FitsCatalog, IsNormalChangeset, change_of, changes_in}
 use Rattle.cs_normal.specs.NormalForm.{IsNormalOf}
 use Rattle.cs_normal.specs.NormalFormOf.{changes_of}
 use Rattle.cs_normal.specs.declared.normal.TableChanges.{TableChanges}
-use Rattle.cs_normal.proofs.Names.{HasOtherName, AreApart, are_apart, named, other_named}
+use Rattle.cs_normal.proofs.Names.{HasOtherName, are_apart, named, other_named}
 use Rattle.cs_normal.proofs.OneOrder.{one_order}
+use Rattle.cs_normal.proofs.Searched.{table_ordered}
 
 -- the first table of the catalog is the first of the changeset, or none of it
 data View (table : TableDef) (tables : List TableDef) : List TableChanges → Type 0 where
@@ -80,11 +81,11 @@ AreAlike tables =
 step : (table : TableDef) (tables : List TableDef) {some others : List TableChanges} → AreAlike tables → AllByRecursion (HasOtherName table) tables → IsNormalChangeset some → IsNormalChangeset others → Agree some others (table ∷ tables) → View table tables some → View table tables others → some ≡ others
 step table tables rest apart left right agree (takes first others of fits) (takes first' others' of' fits') =
     let changes = sym (here table first others of) ∙ agree.0 ∙ here table first' others' of' in
-    conjoin first first' others others' (same_table first first' (of.0 ∙ sym of'.0) (of.1 ∙ sym of'.1) changes) (rest others others' left.1 right.1 fits fits' (behind_both table tables first first' others others' apart of of' agree.1))
+    conjoin first first' others others' (same_table first first' (of.0 ∙ sym of'.0) (of.1 ∙ sym of'.1) changes) (rest others others' left.2 right.2 fits fits' (behind_both table tables first first' others others' apart of of' agree.1))
 step table tables rest apart left right agree (takes first others of fits) (passes normal' fits') =
-    absurd (left.0.1 (sym (here table first others of) ∙ agree.0 ∙ absent table tables normal' apart fits'))
+    absurd (left.0.some (sym (here table first others of) ∙ agree.0 ∙ absent table tables normal' apart fits'))
 step table tables rest apart left right agree (passes normal fits) (takes first' others' of' fits') =
-    absurd (right.0.1 (sym (here table first' others' of') ∙ sym agree.0 ∙ absent table tables normal apart fits))
+    absurd (right.0.some (sym (here table first' others' of') ∙ sym agree.0 ∙ absent table tables normal apart fits))
 step table tables rest apart left right agree (passes normal fits) (passes normal' fits') =
     rest normal normal' left right fits fits' agree.1
 
@@ -102,5 +103,16 @@ one_each groups some others (table ∷ tables) s o =
     (one_order (changes_in table.name some) (changes_in table.name others) s.0.0 o.0.0 (λ key. s.0.1 key ∙ sym (o.0.1 key)), one_each groups some others tables s.1 o.1)
 
 pub one_normal_form : OneNormalForm
-one_normal_form tables groups some others are left right s o =
-    alike tables (are_apart tables are) some others left right s.0 o.0 (one_each groups some others tables (recursion_from_All (λ table. IsNormalOf table.key_marks (changes_of table.name groups) (changes_in table.name some)) tables s.1) (recursion_from_All (λ table. IsNormalOf table.key_marks (changes_of table.name groups) (changes_in table.name others)) tables o.1))
+one_normal_form tables groups some others are s o =
+    alike tables (are_apart tables are) some others s.normal o.normal s.of_catalog o.of_catalog (one_each groups some others tables (recursion_from_All (λ table. IsNormalOf table.key_marks (changes_of table.name groups) (changes_in table.name some)) tables s.each) (recursion_from_All (λ table. IsNormalOf table.key_marks (changes_of table.name groups) (changes_in table.name others)) tables o.each))
+
+-- the changes at the same places, table by table
+agree_each : (all tables : List TableDef) (some others : List TableChanges) → AllByRecursion (Contains all) tables → IsNormalChangeset some → IsNormalChangeset others → ((table : TableDef) (key : List ℕ) → Contains all table → change_of table.name key some ≡ change_of table.name key others) → Agree some others tables
+agree_each all [] some others in' left right same = tt
+agree_each all (table ∷ tables) some others in' left right same =
+    (one_order (changes_in table.name some) (changes_in table.name others) (table_ordered table.name some left) (table_ordered table.name others right) (λ key. same table key in'.0), agree_each all tables some others in'.1 left right same)
+
+pub one_normal : OneNormal
+one_normal tables some others are left right fits fits' same =
+    let contained = recursion_from_All (Contains tables) tables (All-contains_itself tables) in
+    alike tables (are_apart tables are) some others left right fits fits' (agree_each tables tables some others contained left right same)

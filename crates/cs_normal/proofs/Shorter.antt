@@ -12,12 +12,12 @@ use Rattle.cs_change.specs.declared.change.Change.{Change}
 use Rattle.cs_change.specs.declared.change.Change.TheVariants.{Insert, Delete, Update}
 use Rattle.cs_change.specs.declared.group.Group.{Group}
 use Rattle.cs_normal.specs.Changes.{Changes}
-use Rattle.cs_normal.specs.Normal.{table_spelling, normal_spelling}
+use Rattle.cs_normal.specs.Normal.{AreApart, table_spelling, normal_spelling}
 use Rattle.cs_normal.specs.NormalFormOf.{changes_of}
 use Rattle.cs_normal.specs.TableByTable.{IsTableOf, AreTablesOf, no_table, next}
 use Rattle.cs_normal.specs.declared.normal.TableChanges.{TableChanges}
 use Rattle.cs_normal.proofs.NormalLaws.{by_test}
-use Rattle.cs_normal.proofs.Names.{HasOtherName, AreApart, other_named}
+use Rattle.cs_normal.proofs.Names.{HasOtherName, other_named}
 
 -- the groups of the table's name have its columns
 abbrev pub HaveShape : List Group → TableDef → Type 0

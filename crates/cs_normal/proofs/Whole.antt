@@ -7,23 +7,23 @@ use Rattle.cs_value.specs.Catalog.{AreTables}
 use Rattle.cs_value.specs.declared.catalog.TableDef.{TableDef}
 use Rattle.cs_change.specs.Spelling.{FitsChangeset, changeset_spelling}
 use Rattle.cs_change.specs.declared.group.Group.{Group}
-use Rattle.cs_normal.specs.Normal.{IsNormalChangeset, groups_of, normal_spelling}
-use Rattle.cs_normal.specs.NormalFormOf.{HaveTables, AreFit, IsNormalFormOf, IsUnfit}
-use Rattle.cs_normal.specs.TableByTable.{AreTablesOf, IsHeaderFault}
+use Rattle.cs_normal.specs.Normal.{IsNormalChangeset, normal_spelling}
+use Rattle.cs_normal.specs.NormalFormOf.{HaveTables, IsNormalFormOf, IsUnfit}
+use Rattle.cs_normal.specs.TableByTable.{AreTablesOf, IsUnfitHeader}
 use Rattle.cs_normal.specs.declared.normal.TableChanges.{TableChanges}
 use Rattle.cs_normal.specs.declared.unfit.Unfit.{Unfit}
 use Rattle.cs_normal.proofs.AsRead.{all_shape, all_read}
 use Rattle.cs_normal.proofs.GroupFaults.{header_unfit, unfit_more}
 use Rattle.cs_normal.proofs.Names.{are_apart}
-use Rattle.cs_normal.proofs.PerTable.{have_keys, is_normal_form, are_normal}
-use Rattle.cs_normal.proofs.ReadAgain.{read_again}
+use Rattle.cs_normal.proofs.PerTable.{have_keys, fits_catalog, forms_all}
+use Rattle.cs_normal.proofs.ReadAgain.{fitting_normal, tables_normal}
 use Rattle.cs_normal.proofs.Shorter.{is_shorter}
 
 -- the groups up to where a header is wrong, or to the end
 pub record IsFront (tables : List TableDef) (groups : List Group) (count : ℕ) (stop : Option Unfit) : Type 0 where
   pub within : count ≤ length groups
   pub fit : HaveTables tables (take count groups)
-  pub next : MatchOption stop (count ≡ length groups) (λ fault. (count < length groups) × HoldsAt (IsHeaderFault fault tables) groups count)
+  pub next : MatchOption stop (count ≡ length groups) (λ fault. (count < length groups) × HoldsAt (IsUnfitHeader fault tables) groups count)
 
 module _ (tables : List TableDef) (groups : List Group) (count : ℕ) (are : AreTables tables) where
   -- all headers fit
@@ -37,21 +37,20 @@ module _ (tables : List TableDef) (groups : List Group) (count : ℕ) (are : Are
     made_all : AreTablesOf groups tables normal
     made_all = subst (λ (gs : List Group). AreTablesOf gs tables normal) all made
 
-    pub all_fit : AreFit tables groups
-    all_fit = (have, have_keys made_all)
+    pub all_normal : FitsChangeset groups → IsNormalChangeset normal
+    all_normal fits =
+        fitting_normal tables normal (are_apart tables are) (fits_catalog made_all) (tables_normal fits (all_shape tables groups are have) (all_read tables groups are have fits) made_all)
 
-    pub all_form : IsNormalFormOf tables groups normal
-    all_form = is_normal_form (are_apart tables are) made_all
+    pub all_form : FitsChangeset groups → IsNormalFormOf tables groups normal
+    all_form fits = record {
+      fit = (have, have_keys made_all);
+      normal = all_normal fits;
+      of_catalog = fits_catalog made_all;
+      each = forms_all (are_apart tables are) made_all;
+    }
 
     pub all_shorter : length (normal_spelling normal) ≤ length (changeset_spelling groups)
     all_shorter = is_shorter (are_apart tables are) (all_shape tables groups are have) made_all
-
-    pub all_normal : FitsChangeset groups → IsNormalChangeset normal
-    all_normal fits = are_normal (all_read tables groups are have fits) made_all
-
-    pub all_taken : FitsChangeset groups → FitsChangeset (groups_of normal)
-    all_taken fits =
-        read_again fits (all_shape tables groups are have) (all_read tables groups are have fits) made_all
 
   -- the next header is wrong
   pub stop_unfit : (fault : Unfit) (normal : List TableChanges) → IsFront tables groups count (Some fault) → AreTablesOf (take count groups) tables normal → IsUnfit fault tables groups

@@ -7,8 +7,7 @@ use Rattle.cs_value.specs.declared.value.Value.TheVariants.{Null, Int, Text, Blo
 use Rattle.cs_value.specs.declared.value.Field.TheVariants.{Is}
 use Rattle.cs_record.specs.Spelling.{field}
 use Rattle.cs_record.proofs.Apart.{fields_apart}
-use Rattle.cs_normal.specs.Changes.{key_bytes}
-use Rattle.cs_group.specs.NetOf.{IsSpelled}
+use Rattle.cs_normal.specs.Changes.{key_bytes, IsSpelled}
 
 -- a field takes a byte at least
 some_byte : (v : Value) (rest : List ℕ) → [] ≡ field (Is v) ++ rest → ⊥

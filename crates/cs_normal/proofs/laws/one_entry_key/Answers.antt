@@ -1,0 +1,5 @@
+use Rattle.cs_normal.proofs.States as law
+use Rattle.cs_normal.proofs.laws.one_entry_key.Goals as goal
+
+pub returns : goal.returns
+returns c = law.one_entry_key
