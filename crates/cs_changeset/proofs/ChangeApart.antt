@@ -11,7 +11,7 @@ use Rattle.cs_change.specs.Columns.{holds}
 use Rattle.cs_change.specs.declared.change.Change.{Change}
 use Rattle.cs_change.specs.declared.change.Change.TheVariants.{Insert, Delete, Update}
 use Rattle.cs_change.specs.Spelling.{row_bytes, flag_byte, change_spelling, FitsRow, FitsChange, IsUpdateColumn, AreUpdateColumns}
-use Rattle.cs_changeset.specs.Records.{InOld, InNew, IsRight, AreRight, IsRecordFault, row_rules, old_rules, new_rules}
+use Rattle.cs_changeset.specs.Records.{InOld, InNew, IsRight, AreRight, IsColumnsFault, row_rules, old_rules, new_rules}
 use Rattle.cs_changeset.specs.Reading.{IsUpdateFault, IsRecordsFault, IsOperation, IsFlaggedFault, IsChangeFault}
 use Rattle.cs_changeset.specs.declared.fault.Fault.{Fault}
 use Rattle.cs_changeset.specs.declared.fault.Fault.TheVariants.{Truncated, KeyChanged}
@@ -88,7 +88,7 @@ operation_known n (inl is) = (λ e. omega (arith, is, e), λ e. omega (arith, is
 operation_known n (inr (inl is)) = (λ e. omega (arith, is, e), λ e. omega (arith, is, e))
 operation_known n (inr (inr is)) = (λ e. omega (arith, is, e), λ e. omega (arith, is, e))
 
-row_bytes_right : (marks : List Bool) (row : List Value) (fault : Fault) (offset : ℕ) (bytes x : List ℕ) → FitsRow (length marks) row → bytes ≡ row_bytes row ++ x → IsRecordFault (row_rules marks) fault offset bytes → ⊥
+row_bytes_right : (marks : List Bool) (row : List Value) (fault : Fault) (offset : ℕ) (bytes x : List ℕ) → FitsRow (length marks) row → bytes ≡ row_bytes row ++ x → IsColumnsFault (row_rules marks) fault offset bytes → ⊥
 row_bytes_right marks row fault offset bytes x fits e told =
     record_right (row_rules marks) (map (λ v. Is v) row) fault offset bytes x (row_right marks row fits) (e ∙ ap (λ (t : List ℕ). t ++ x) (sym (row_fields row))) told
 
@@ -201,7 +201,7 @@ one_update marks f g o p bytes (inl told) (inr (old, rest, inner, is, right, tol
 one_update marks f g o p bytes (inr (old, rest, inner, is, right, told, there)) (inl told') = absurd (record_right (old_rules marks) old g p bytes rest right is told')
 one_update marks f g o p bytes (inr (old, rest, inner, is, right, told, there)) (inr (old', rest', inner', is', right', told', there')) =
     let same = records_apart (old_rules marks) old old' rest rest' right right' (sym is ∙ is') in
-    let here : IsRecordFault (new_rules marks old') f inner rest' = subst (λ (q : List Field). IsRecordFault (new_rules marks q) f inner rest') same.0 (subst (IsRecordFault (new_rules marks old) f inner) same.1 told) in
+    let here : IsColumnsFault (new_rules marks old') f inner rest' = subst (λ (q : List Field). IsColumnsFault (new_rules marks q) f inner rest') same.0 (subst (IsColumnsFault (new_rules marks old) f inner) same.1 told) in
     let one = one_record (new_rules marks old') f g inner inner' rest' here told' in
     (one.0, there ∙ omega (arith, ap (λ (q : List Field). length (record_of q)) same.0, one.1) ∙ sym there')
 

@@ -15,7 +15,7 @@ use Rattle.cs_change.specs.Columns.{holds}
 use Rattle.cs_change.specs.declared.change.Change.{Change}
 use Rattle.cs_change.specs.declared.change.Change.TheVariants.{Insert, Delete, Update}
 use Rattle.cs_change.specs.Spelling.{row_bytes, flag_byte, change_spelling, changes_spelling, FitsRow, FitsChange, IsUpdateColumn, AreUpdateColumns}
-use Rattle.cs_changeset.specs.Records.{Rule, InOld, InNew, IsRight, AreRight, IsColumnFault, IsRecordFault, row_rules, old_rules, new_rules}
+use Rattle.cs_changeset.specs.Records.{Rule, InOld, InNew, IsRight, AreRight, IsColumnFault, IsColumnsFault, row_rules, old_rules, new_rules}
 use Rattle.cs_changeset.specs.Reading.{IsUpdateFault, IsRecordsFault, IsFlaggedFault, IsChangeFault, IsChangesFault}
 use Rattle.cs_changeset.specs.Steps.{AreColumnsAt, ReadsFlag, ReadsFlaggedRow, ReadsOperation}
 use Rattle.cs_changeset.specs.declared.fault.CodecFault.{CodecFault}
@@ -30,7 +30,7 @@ column_within : (rule : Rule) (fault : Fault) (offset : ℕ) (bytes : List ℕ) 
 column_within rule fault offset bytes (inl (inner, is, told)) = field_fault_within inner offset bytes told
 column_within rule fault offset bytes (inr (next, rest, is, fits, wrong, there)) = omega (arith, there)
 
-pub record_within : (rules : List Rule) (fault : Fault) (offset : ℕ) (bytes : List ℕ) → IsRecordFault rules fault offset bytes → offset ≤ length bytes
+pub record_within : (rules : List Rule) (fault : Fault) (offset : ℕ) (bytes : List ℕ) → IsColumnsFault rules fault offset bytes → offset ≤ length bytes
 record_within [] fault offset bytes told = absurd told
 record_within (rule ∷ rules) fault offset bytes (inl told) = column_within rule fault offset bytes told
 record_within (rule ∷ rules) fault offset bytes (inr (next, rest, inner, is, right, told, there)) =
@@ -117,10 +117,10 @@ update_records marks bytes old new at len (right, stands) (right', stands') =
       },
     )
 
-pub new_fault_behind : (marks : List Bool) (bytes : List ℕ) (old : List Field) (at : ℕ) (fault : Fault) (inner : ℕ) → AreColumnsAt (old_rules marks) bytes old at → IsRecordFault (new_rules marks old) fault inner (take (length bytes - at) (drop at bytes))
+pub new_fault_behind : (marks : List Bool) (bytes : List ℕ) (old : List Field) (at : ℕ) (fault : Fault) (inner : ℕ) → AreColumnsAt (old_rules marks) bytes old at → IsColumnsFault (new_rules marks old) fault inner (take (length bytes - at) (drop at bytes))
     → IsUpdateFault marks fault (at + inner) bytes
 new_fault_behind marks bytes old at fault inner (right, stands) told =
-    inr (old, drop at bytes, inner, parts bytes (record_of old) at stands, right, subst (IsRecordFault (new_rules marks old) fault inner) (tail bytes at) told, ap (λ (n : ℕ). n + inner) (reaches bytes (record_of old) at stands))
+    inr (old, drop at bytes, inner, parts bytes (record_of old) at stands, right, subst (IsColumnsFault (new_rules marks old) fault inner) (tail bytes at) told, ap (λ (n : ℕ). n + inner) (reaches bytes (record_of old) at stands))
 
 -- ---- errors that are passed on
 

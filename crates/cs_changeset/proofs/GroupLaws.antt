@@ -9,7 +9,7 @@ use Rattle.cs_record.proofs.Sequences.{parts, take-add}
 use Rattle.cs_change.specs.declared.change.Change.{Change}
 use Rattle.cs_change.specs.declared.group.Group.{Group}
 use Rattle.cs_change.specs.Spelling.{marks_of, header_spelling, changes_spelling, changeset_spelling, FitsHeader, FitsChange, FitsChangeset}
-use Rattle.cs_changeset.specs.Reading.{IsHeaderFault, IsChangesFault, IsGroupFault, IsMarkFault, IsGroupsFault, IsFault}
+use Rattle.cs_changeset.specs.Reading.{IsHeaderFault, IsChangesFault, IsGroupFault, IsMarkFault, IsGroupsFault, IsChangesetFault}
 use Rattle.cs_changeset.specs.Steps.{BeginsGroup, EndsGroup}
 use Rattle.cs_changeset.specs.declared.fault.Fault.{Fault}
 use Rattle.cs_changeset.specs.declared.fault.Fault.TheVariants.{Truncated, NotShortest, BadType, Real, NotUtf8, Patchset, BadMark, BadOperation, BadFlag, Columns, NoKeyColumn, UndefinedHere, KeyChanged}
@@ -100,7 +100,7 @@ mark_within fault offset (mark ∷ rest) (inl told) = omega (arith, told.2)
 mark_within fault offset (mark ∷ rest) (inr told) = omega (arith, told.3)
 
 -- a fault stands within its bytes
-pub fault_within : (fault : Fault) (offset : ℕ) (bytes : List ℕ) → IsFault fault offset bytes → offset ≤ length bytes
+pub fault_within : (fault : Fault) (offset : ℕ) (bytes : List ℕ) → IsChangesetFault fault offset bytes → offset ≤ length bytes
 fault_within fault offset bytes (inl told) = mark_within fault offset bytes told
 fault_within fault offset bytes (inr told) =
     omega (arith, told.there, ap length told.parts, length-append (changeset_spelling told.before) told.rest, group_within fault told.inner told.rest told.told)

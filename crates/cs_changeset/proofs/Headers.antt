@@ -12,7 +12,7 @@ use Rattle.cs_record.specs.Reading.{StandsAt}
 use Rattle.cs_record.proofs.Records.{reaches}
 use Rattle.cs_record.proofs.Sequences.{parts}
 use Rattle.cs_change.specs.Spelling.{is_nonzero, header_spelling, FitsHeader}
-use Rattle.cs_changeset.specs.Reading.{HasKey, HasNoZero, IsHeaderFault}
+use Rattle.cs_changeset.specs.Reading.{FitsMarks, HasNoZero, IsHeaderFault}
 use Rattle.cs_changeset.specs.declared.fault.Fault.TheVariants.{Truncated, NotShortest, Columns, NoKeyColumn, NotUtf8}
 
 -- what is left behind a place
@@ -68,7 +68,7 @@ no_key behind count at within front some limit room none =
 
 pub columns_read : (behind : List ℕ) (count at : ℕ) → at ≤ length behind → take at behind ≡ spelling count → 0 < count → count ≤ 2000 → count ≤ length (take (length behind - at) (drop at behind))
     → list_any is_nonzero (take count (take (length behind - at) (drop at behind))) ≡ true
-    → HasKey (take count (take (length behind - at) (drop at behind))) × StandsAt behind (spelling (length (take count (take (length behind - at) (drop at behind)))) ++ take count (take (length behind - at) (drop at behind))) (at + count)
+    → FitsMarks (take count (take (length behind - at) (drop at behind))) × StandsAt behind (spelling (length (take count (take (length behind - at) (drop at behind)))) ++ take count (take (length behind - at) (drop at behind))) (at + count)
 columns_read behind count at within front some limit room key =
     let m = marked behind count at within front room in
     let marks = take count (take (length behind - at) (drop at behind)) in
@@ -102,7 +102,7 @@ name_before rest len e =
       eqb-true (get_or rest len 0) 0 at.1,
     )
 
-pub name_cut : (behind marks : List ℕ) (at : ℕ) → HasKey marks → StandsAt behind (spelling (length marks) ++ marks) at → None ≡ position (λ byte. nat_eq byte 0) (take (length behind - at) (drop at behind)) → IsHeaderFault Truncated (length behind + 1) (84 ∷ behind)
+pub name_cut : (behind marks : List ℕ) (at : ℕ) → FitsMarks marks → StandsAt behind (spelling (length marks) ++ marks) at → None ≡ position (λ byte. nat_eq byte 0) (take (length behind - at) (drop at behind)) → IsHeaderFault Truncated (length behind + 1) (84 ∷ behind)
 name_cut behind marks at key there none =
     (omega arith, inr (inr (marks, drop at behind, ap (λ (t : List ℕ). 84 ∷ t) (parts behind (spelling (length marks) ++ marks) at there), key, no_end (drop at behind) (rw tail at none))))
 
@@ -115,14 +115,14 @@ name_whole behind marks at len there e =
     let cut : rest ≡ take len rest ++ 0 ∷ drop (len + 1) rest = sym (take-append-drop len rest) ∙ ap (λ (t : List ℕ). take len rest ++ t) (drop_more rest len 0 found.0 ∙ ap (λ (n : ℕ). n ∷ drop (len + 1) rest) found.2) in
     ap (λ (t : List ℕ). 84 ∷ t) (parts behind (spelling (length marks) ++ marks) at there ∙ ap (λ (t : List ℕ). spelling (length marks) ++ marks ++ t) cut ∙ simp append_assoc refl)
 
-pub bad_name : (behind marks : List ℕ) (at len : ℕ) → HasKey marks → StandsAt behind (spelling (length marks) ++ marks) at → Some len ≡ position (λ byte. nat_eq byte 0) (take (length behind - at) (drop at behind))
+pub bad_name : (behind marks : List ℕ) (at len : ℕ) → FitsMarks marks → StandsAt behind (spelling (length marks) ++ marks) at → Some len ≡ position (λ byte. nat_eq byte 0) (take (length behind - at) (drop at behind))
     → (IsUtf8 (take len (take (length behind - at) (drop at behind))) → ⊥) → IsHeaderFault NotUtf8 (at + 1) (84 ∷ behind)
 bad_name behind marks at len key there e no_text =
     let e' : position (λ byte. nat_eq byte 0) (drop at behind) ≡ Some len = sym (rw tail at e) in
     let reach = reaches behind (spelling (length marks) ++ marks) at there ∙ length-append (spelling (length marks)) marks in
     (marks, take len (drop at behind), drop (len + 1) (drop at behind), name_whole behind marks at len there e', key, (name_before (drop at behind) len e').1, rw tail at no_text, omega (arith, reach))
 
-pub header_read : (behind marks : List ℕ) (at len : ℕ) → HasKey marks → StandsAt behind (spelling (length marks) ++ marks) at → Some len ≡ position (λ byte. nat_eq byte 0) (take (length behind - at) (drop at behind))
+pub header_read : (behind marks : List ℕ) (at len : ℕ) → FitsMarks marks → StandsAt behind (spelling (length marks) ++ marks) at → Some len ≡ position (λ byte. nat_eq byte 0) (take (length behind - at) (drop at behind))
     → IsUtf8 (take len (take (length behind - at) (drop at behind)))
     → FitsHeader marks (take len (take (length behind - at) (drop at behind))) × StandsAt (84 ∷ behind) (header_spelling marks (take len (take (length behind - at) (drop at behind)))) (at + len + 2)
 header_read behind marks at len key there e text =

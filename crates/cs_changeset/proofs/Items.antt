@@ -8,7 +8,7 @@ use Rattle.cs_change.specs.declared.change.Change.{Change}
 use Rattle.cs_change.specs.declared.change.Change.TheVariants.{Insert, Delete, Update}
 use Rattle.cs_change.specs.declared.group.Group.{Group}
 use Rattle.cs_change.specs.Spelling.{marks_of, header_spelling, change_spelling, changes_spelling, group_spelling, changeset_spelling, FitsHeader, FitsChange, FitsChangeset}
-use Rattle.cs_changeset.specs.Reading.{IsHeaderFault, IsChangeFault, IsMarkFault, IsGroupFault, IsGroupsFault, IsFault, ReadsChangeset, Finds, Tells}
+use Rattle.cs_changeset.specs.Reading.{IsHeaderFault, IsChangeFault, IsMarkFault, IsGroupFault, IsGroupsFault, IsChangesetFault, ReadsChangeset, FindsChangeset, TellsChangesetFault}
 use Rattle.cs_changeset.specs.declared.fault.Fault.{Fault}
 use Rattle.cs_changeset.specs.declared.fault.Fault.TheVariants.{Truncated, NotShortest, BadType, Real, NotUtf8, Patchset, BadMark, BadOperation, BadFlag, Columns, NoKeyColumn, UndefinedHere, KeyChanged}
 use Rattle.cs_changeset.specs.declared.fault.CodecFault.{CodecFault}
@@ -320,7 +320,7 @@ group_wrong fault offset bytes t (inr body) =
 -- ---- what reading says
 
 -- a fault of the bytes, as one behind items
-to_wrong : (fault : Fault) (offset : ℕ) (bytes : List ℕ) → IsFault fault offset bytes → Wrong None fault offset bytes
+to_wrong : (fault : Fault) (offset : ℕ) (bytes : List ℕ) → IsChangesetFault fault offset bytes → Wrong None fault offset bytes
 unfolding AreItems after
 to_wrong fault offset bytes (inl told) = record {
   items = [];
@@ -366,14 +366,14 @@ wrong_end offset bytes w =
     omega (arith, w.there, item_end (after None w.items) w.inner w.rest w.told, ap length w.parts, length-append (flat_map item_bytes w.items) w.rest)
 
 -- what is spelled is read
-pub only_changeset : (bytes : List ℕ) (r : Result (List Group) CodecFault) → ReadsChangeset bytes r → (groups : List Group) → FitsChangeset groups → bytes ≡ changeset_spelling groups → Finds r groups
+pub only_changeset : (bytes : List ℕ) (r : Result (List Group) CodecFault) → ReadsChangeset bytes r → (groups : List Group) → FitsChangeset groups → bytes ≡ changeset_spelling groups → FindsChangeset r groups
 only_changeset bytes (Ok found) (fits, is) groups fits' is' =
     groups_same found groups (items_same None (items_of found) (items_of groups) (groups_fit found None fits) (groups_fit groups None fits') (groups_spelled found ∙ sym is ∙ is' ∙ sym (groups_spelled groups)))
 only_changeset bytes (Err Memory) reads groups fits is = tt
 only_changeset bytes (Err (At fault offset)) reads groups fits is = not_wrong groups fault offset bytes fits is (to_wrong fault offset bytes reads)
 
 -- a fault is told
-pub told_changeset : (bytes : List ℕ) (r : Result (List Group) CodecFault) → ReadsChangeset bytes r → (fault : Fault) (offset : ℕ) → IsFault fault offset bytes → Tells r fault offset
+pub told_changeset : (bytes : List ℕ) (r : Result (List Group) CodecFault) → ReadsChangeset bytes r → (fault : Fault) (offset : ℕ) → IsChangesetFault fault offset bytes → TellsChangesetFault r fault offset
 told_changeset bytes (Ok found) (fits, is) fault offset told = not_wrong found fault offset bytes fits is (to_wrong fault offset bytes told)
 told_changeset bytes (Err Memory) reads fault offset told = tt
 told_changeset bytes (Err (At f o)) reads fault offset told = one_wrong f fault o offset bytes (to_wrong f o bytes reads) (to_wrong fault offset bytes told)
@@ -395,7 +395,7 @@ truncated_or_not KeyChanged = inr (λ e. cc)
 
 -- a proper front of a spelling that is no spelling itself is Truncated
 pub front_changeset : (bytes : List ℕ) (r : Result (List Group) CodecFault) → ReadsChangeset bytes r → (groups : List Group) (rest : List ℕ) → FitsChangeset groups → changeset_spelling groups ≡ bytes ++ rest
-    → ((others : List Group) → FitsChangeset others → bytes ≡ changeset_spelling others → ⊥) → Tells r Truncated (length bytes)
+    → ((others : List Group) → FitsChangeset others → bytes ≡ changeset_spelling others → ⊥) → TellsChangesetFault r Truncated (length bytes)
 front_changeset bytes (Ok found) (fits, is) groups rest fits' e none = absurd (none found fits is)
 front_changeset bytes (Err Memory) reads groups rest fits e none = tt
 front_changeset bytes (Err (At fault offset)) reads groups rest fits e none =

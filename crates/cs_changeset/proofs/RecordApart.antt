@@ -12,7 +12,7 @@ use Rattle.cs_record.specs.declared.fault.Fault.{Fault as FieldFault}
 use Rattle.cs_record.specs.declared.fault.Fault.TheVariants as in_field
 use Rattle.cs_record.proofs.Apart.{fields_apart, field_is_right, field_fault_stays, one_field_fault}
 use Rattle.cs_record.proofs.Sequences.{same_items}
-use Rattle.cs_changeset.specs.Records.{Rule, InRow, InOld, InNew, IsRight, AreRight, IsColumnFault, IsRecordFault, field_fault, of_field}
+use Rattle.cs_changeset.specs.Records.{Rule, InRow, InOld, InNew, IsRight, AreRight, IsColumnFault, IsColumnsFault, field_fault, of_field}
 use Rattle.cs_changeset.specs.declared.fault.Fault.{Fault}
 use Rattle.cs_changeset.specs.declared.fault.Fault.TheVariants.{Truncated, KeyChanged}
 
@@ -92,7 +92,7 @@ wide (r ∷ rules) [] right = absurd right
 pub records_apart : (rules : List Rule) (a b : List Field) (x y : List ℕ) → AreRight rules a → AreRight rules b → record_of a ++ x ≡ record_of b ++ y → (a ≡ b) × (x ≡ y)
 records_apart rules a b x y ra rb e = same_items field Fits fields_apart a b x y (all_fit rules a ra) (all_fit rules b rb) (wide rules a ra ∙ sym (wide rules b rb)) e
 
-pub record_right : (rules : List Rule) (fields : List Field) (fault : Fault) (offset : ℕ) (bytes x : List ℕ) → AreRight rules fields → bytes ≡ record_of fields ++ x → IsRecordFault rules fault offset bytes → ⊥
+pub record_right : (rules : List Rule) (fields : List Field) (fault : Fault) (offset : ℕ) (bytes x : List ℕ) → AreRight rules fields → bytes ≡ record_of fields ++ x → IsColumnsFault rules fault offset bytes → ⊥
 record_right [] [] fault offset bytes x right e told = told
 record_right (rule ∷ rules) (a ∷ fields) fault offset bytes x right e (inl told) = column_right rule a fault offset bytes (record_of fields ++ x) right.0 (e ∙ append_assoc (field a) (record_of fields) x) told
 record_right (rule ∷ rules) (a ∷ fields) fault offset bytes x right e (inr (next, rest, inner, is, right', told, there)) =
@@ -101,20 +101,20 @@ record_right (rule ∷ rules) (a ∷ fields) fault offset bytes x right e (inr (
 record_right [] (a ∷ fields) fault offset bytes x right e told = right
 record_right (rule ∷ rules) [] fault offset bytes x right e told = right
 
-pub record_stays : (rules : List Rule) (fault : Fault) (offset : ℕ) (bytes more : List ℕ) → fault ≢ Truncated → IsRecordFault rules fault offset bytes → IsRecordFault rules fault offset (bytes ++ more)
+pub record_stays : (rules : List Rule) (fault : Fault) (offset : ℕ) (bytes more : List ℕ) → fault ≢ Truncated → IsColumnsFault rules fault offset bytes → IsColumnsFault rules fault offset (bytes ++ more)
 record_stays [] fault offset bytes more whole told = told
 record_stays (rule ∷ rules) fault offset bytes more whole (inl told) = inl (column_stays rule fault offset bytes more whole told)
 record_stays (rule ∷ rules) fault offset bytes more whole (inr (next, rest, inner, is, right, told, there)) =
     inr (next, rest ++ more, inner, ap (λ (t : List ℕ). t ++ more) is ∙ append_assoc (field next) rest more, right, record_stays rules fault inner rest more whole told, there)
 
-pub one_record : (rules : List Rule) (f g : Fault) (o p : ℕ) (bytes : List ℕ) → IsRecordFault rules f o bytes → IsRecordFault rules g p bytes → (f ≡ g) × (o ≡ p)
+pub one_record : (rules : List Rule) (f g : Fault) (o p : ℕ) (bytes : List ℕ) → IsColumnsFault rules f o bytes → IsColumnsFault rules g p bytes → (f ≡ g) × (o ≡ p)
 one_record [] f g o p bytes told told' = absurd told
 one_record (rule ∷ rules) f g o p bytes (inl told) (inl told') = one_column rule f g o p bytes told told'
 one_record (rule ∷ rules) f g o p bytes (inl told) (inr (next, rest, inner, is, right, told', there)) = absurd (column_right rule next f o bytes rest right is told)
 one_record (rule ∷ rules) f g o p bytes (inr (next, rest, inner, is, right, told, there)) (inl told') = absurd (column_right rule next g p bytes rest right is told')
 one_record (rule ∷ rules) f g o p bytes (inr (next, rest, inner, is, right, told, there)) (inr (next', rest', inner', is', right', told', there')) =
     let same = next_same next next' bytes rest rest' right.0 right'.0 is is' in
-    let one = one_record rules f g inner inner' rest' (subst (IsRecordFault rules f inner) same.1 told) told' in
+    let one = one_record rules f g inner inner' rest' (subst (IsColumnsFault rules f inner) same.1 told) told' in
     (one.0, there ∙ omega (arith, ap (λ (t : Field). length (field t)) same.0, one.1) ∙ sym there')
 
 -- ---- what ends early is told at the end
@@ -135,7 +135,7 @@ never_truncated (InNew false Undefined) Undefined e = cc
 never_truncated (InNew false Undefined) (Is v) e = cc
 never_truncated (InNew false (Is u)) next e = cc
 
-pub record_end : (rules : List Rule) (offset : ℕ) (bytes : List ℕ) → IsRecordFault rules Truncated offset bytes → offset ≡ length bytes
+pub record_end : (rules : List Rule) (offset : ℕ) (bytes : List ℕ) → IsColumnsFault rules Truncated offset bytes → offset ≡ length bytes
 record_end [] offset bytes told = absurd told
 record_end (rule ∷ rules) offset bytes (inl (inl (inner, is, told))) =
     let early : IsFieldFault in_field.Truncated offset bytes = subst (λ (f : FieldFault). IsFieldFault f offset bytes) (of_field_same inner in_field.Truncated (sym is)) told in early.0

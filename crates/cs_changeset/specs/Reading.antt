@@ -7,7 +7,7 @@ use Rattle.cs_record.specs.Spelling.{record_of}
 use Rattle.cs_change.specs.declared.change.Change.{Change}
 use Rattle.cs_change.specs.declared.group.Group.{Group}
 use Rattle.cs_change.specs.Spelling.{is_nonzero, marks_of, header_spelling, changes_spelling, changeset_spelling, FitsHeader, FitsChange, FitsChangeset}
-use Rattle.cs_changeset.specs.Records.{AreRight, IsRecordFault, row_rules, old_rules, new_rules}
+use Rattle.cs_changeset.specs.Records.{AreRight, IsColumnsFault, row_rules, old_rules, new_rules}
 use Rattle.cs_changeset.specs.declared.fault.Fault.{Fault}
 use Rattle.cs_changeset.specs.declared.fault.Fault.TheVariants.{Truncated, NotShortest, NotUtf8, Patchset, BadMark, BadOperation, BadFlag, Columns, NoKeyColumn}
 use Rattle.cs_changeset.specs.declared.fault.CodecFault.{CodecFault}
@@ -15,11 +15,11 @@ use Rattle.cs_changeset.specs.declared.fault.CodecFault.TheVariants.{Memory, At}
 
 -- ---- headers; the bytes begin with the header's
 
-abbrev pub HasWidth : List ℕ → Type 0
-HasWidth marks = (0 < length marks) × (length marks ≤ 2000)
+abbrev pub FitsCount : List ℕ → Type 0
+FitsCount marks = (0 < length marks) × (length marks ≤ 2000)
 
-abbrev pub HasKey : List ℕ → Type 0
-HasKey marks = HasWidth marks × (list_any is_nonzero marks ≡ true)
+abbrev pub FitsMarks : List ℕ → Type 0
+FitsMarks marks = FitsCount marks × (list_any is_nonzero marks ≡ true)
 
 abbrev pub HasNoZero : List ℕ → Type 0
 HasNoZero name = AllByRecursion (λ byte. byte ≢ 0) name
@@ -29,7 +29,7 @@ abbrev pub IsPartialHeader : List ℕ → Type 0
 IsPartialHeader bytes =
     ((rest : List ℕ) × (bytes ≡ 84 ∷ rest) × IsPartial rest)
     ⊎ ((count : ℕ) × (marks : List ℕ) × (bytes ≡ 84 ∷ (spelling count ++ marks)) × (0 < count) × (count ≤ 2000) × (length marks < count))
-    ⊎ ((marks : List ℕ) × (name : List ℕ) × (bytes ≡ 84 ∷ (spelling (length marks) ++ marks ++ name)) × HasKey marks × HasNoZero name)
+    ⊎ ((marks : List ℕ) × (name : List ℕ) × (bytes ≡ 84 ∷ (spelling (length marks) ++ marks ++ name)) × FitsMarks marks × HasNoZero name)
 
 -- what is wrong with the header at the front, and where it is told
 abbrev pub IsHeaderFault : Fault → ℕ → List ℕ → Type 0
@@ -38,9 +38,9 @@ IsHeaderFault NotShortest offset bytes = (rest : List ℕ) × (bytes ≡ 84 ∷ 
 IsHeaderFault Columns offset bytes =
     (count : ℕ) × (rest : List ℕ) × (bytes ≡ 84 ∷ (spelling count ++ rest)) × (count < 2 ^ 64) × ((count ≡ 0) ⊎ (2000 < count)) × (offset ≡ 1)
 IsHeaderFault NoKeyColumn offset bytes =
-    (marks : List ℕ) × (rest : List ℕ) × (bytes ≡ 84 ∷ (spelling (length marks) ++ marks ++ rest)) × HasWidth marks × (list_any is_nonzero marks ≡ false) × (offset ≡ 1 + length (spelling (length marks)))
+    (marks : List ℕ) × (rest : List ℕ) × (bytes ≡ 84 ∷ (spelling (length marks) ++ marks ++ rest)) × FitsCount marks × (list_any is_nonzero marks ≡ false) × (offset ≡ 1 + length (spelling (length marks)))
 IsHeaderFault NotUtf8 offset bytes =
-    (marks : List ℕ) × (name : List ℕ) × (rest : List ℕ) × (bytes ≡ header_spelling marks name ++ rest) × HasKey marks × HasNoZero name × (IsUtf8 name → ⊥) × (offset ≡ 1 + length (spelling (length marks)) + length marks)
+    (marks : List ℕ) × (name : List ℕ) × (rest : List ℕ) × (bytes ≡ header_spelling marks name ++ rest) × FitsMarks marks × HasNoZero name × (IsUtf8 name → ⊥) × (offset ≡ 1 + length (spelling (length marks)) + length marks)
 IsHeaderFault _ offset bytes = ⊥
 
 -- ---- changes; the bytes stand in a change's place
@@ -48,13 +48,13 @@ IsHeaderFault _ offset bytes = ⊥
 -- the old record of an UPDATE is wrong, or it is right and the new one is wrong
 abbrev pub IsUpdateFault : List Bool → Fault → ℕ → List ℕ → Type 0
 IsUpdateFault marks fault offset bytes =
-    IsRecordFault (old_rules marks) fault offset bytes
-    ⊎ ((old : List Field) × (rest : List ℕ) × (inner : ℕ) × (bytes ≡ record_of old ++ rest) × AreRight (old_rules marks) old × IsRecordFault (new_rules marks old) fault inner rest × (offset ≡ length (record_of old) + inner))
+    IsColumnsFault (old_rules marks) fault offset bytes
+    ⊎ ((old : List Field) × (rest : List ℕ) × (inner : ℕ) × (bytes ≡ record_of old ++ rest) × AreRight (old_rules marks) old × IsColumnsFault (new_rules marks old) fault inner rest × (offset ≡ length (record_of old) + inner))
 
 -- what is wrong with the records of an operation
 abbrev pub IsRecordsFault : List Bool → ℕ → Fault → ℕ → List ℕ → Type 0
 IsRecordsFault marks operation fault offset bytes =
-    (((operation ≡ 18) ⊎ (operation ≡ 9)) × IsRecordFault (row_rules marks) fault offset bytes)
+    (((operation ≡ 18) ⊎ (operation ≡ 9)) × IsColumnsFault (row_rules marks) fault offset bytes)
     ⊎ ((operation ≡ 23) × IsUpdateFault marks fault offset bytes)
 
 abbrev pub IsOperation : ℕ → Type 0
@@ -119,24 +119,24 @@ pub record IsGroupsFault (fault : Fault) (offset : ℕ) (bytes : List ℕ) : Typ
   pub there : offset ≡ length (changeset_spelling before) + inner
 
 -- the first fault of bytes that spell no changeset, and where it is told
-abbrev pub IsFault : Fault → ℕ → List ℕ → Type 0
-IsFault fault offset bytes = IsMarkFault fault offset bytes ⊎ IsGroupsFault fault offset bytes
+abbrev pub IsChangesetFault : Fault → ℕ → List ℕ → Type 0
+IsChangesetFault fault offset bytes = IsMarkFault fault offset bytes ⊎ IsGroupsFault fault offset bytes
 
 -- ---- what the reader takes
 
 abbrev pub ReadsChangeset : List ℕ → Result (List Group) CodecFault → Type 0
 ReadsChangeset bytes (Ok groups) = FitsChangeset groups × (bytes ≡ changeset_spelling groups)
 ReadsChangeset bytes (Err Memory) = Unit {0}
-ReadsChangeset bytes (Err (At fault offset)) = IsFault fault offset bytes
+ReadsChangeset bytes (Err (At fault offset)) = IsChangesetFault fault offset bytes
 
 -- this changeset is read, or memory is wanting
-abbrev pub Finds : Result (List Group) CodecFault → List Group → Type 0
-Finds (Ok found) groups = found ≡ groups
-Finds (Err Memory) groups = Unit {0}
-Finds (Err (At fault offset)) groups = ⊥
+abbrev pub FindsChangeset : Result (List Group) CodecFault → List Group → Type 0
+FindsChangeset (Ok found) groups = found ≡ groups
+FindsChangeset (Err Memory) groups = Unit {0}
+FindsChangeset (Err (At fault offset)) groups = ⊥
 
 -- this fault is told, or memory is wanting
-abbrev pub Tells : Result (List Group) CodecFault → Fault → ℕ → Type 0
-Tells (Ok found) fault offset = ⊥
-Tells (Err Memory) fault offset = Unit {0}
-Tells (Err (At told at)) fault offset = (told ≡ fault) × (at ≡ offset)
+abbrev pub TellsChangesetFault : Result (List Group) CodecFault → Fault → ℕ → Type 0
+TellsChangesetFault (Ok found) fault offset = ⊥
+TellsChangesetFault (Err Memory) fault offset = Unit {0}
+TellsChangesetFault (Err (At told at)) fault offset = (told ≡ fault) × (at ≡ offset)

@@ -61,8 +61,8 @@ IsColumnFault rule fault offset bytes =
     ⊎ ((next : Field) × (rest : List ℕ) × (bytes ≡ field next ++ rest) × Fits next × (field_fault rule next ≡ Some fault) × (offset ≡ 0))
 
 -- the first column is wrong, or it is right and the columns behind it have the fault
-abbrev pub IsRecordFault : List Rule → Fault → ℕ → List ℕ → Type 0
-IsRecordFault [] fault offset bytes = ⊥
-IsRecordFault (rule ∷ rules) fault offset bytes =
+abbrev pub IsColumnsFault : List Rule → Fault → ℕ → List ℕ → Type 0
+IsColumnsFault [] fault offset bytes = ⊥
+IsColumnsFault (rule ∷ rules) fault offset bytes =
     IsColumnFault rule fault offset bytes
-    ⊎ ((next : Field) × (rest : List ℕ) × (inner : ℕ) × (bytes ≡ field next ++ rest) × IsRight rule next × IsRecordFault rules fault inner rest × (offset ≡ length (field next) + inner))
+    ⊎ ((next : Field) × (rest : List ℕ) × (inner : ℕ) × (bytes ≡ field next ++ rest) × IsRight rule next × IsColumnsFault rules fault inner rest × (offset ≡ length (field next) + inner))

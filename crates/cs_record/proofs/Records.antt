@@ -7,7 +7,7 @@ use Rattle.std.proofs.lemmas.List.{length-take-le, take-append-le, drop-append-l
 use Rattle.cs_value.specs.declared.value.Field.{Field}
 use Rattle.cs_varint.specs.Varint.{spelling}
 use Rattle.cs_record.specs.Spelling.{counted, field, record_of, Fits}
-use Rattle.cs_record.specs.Reading.{StandsAt, IsFieldFault, IsFieldAt, IsRecordAt, IsRecordFault, ReadsField, ReadsRecord, FindsField, FindsRecord, Tells}
+use Rattle.cs_record.specs.Reading.{StandsAt, IsFieldFault, IsFieldAt, IsRecordAt, IsRecordFault, ReadsField, ReadsRecord, FindsField, FindsRecord, TellsRecordFault}
 use Rattle.cs_record.specs.declared.fault.Fault.{Fault}
 use Rattle.cs_record.specs.declared.fault.Fault.TheVariants.{Truncated, NotShortest, BadType, Real, NotUtf8}
 use Rattle.cs_record.specs.declared.fault.RecordFault.{RecordFault}
@@ -69,7 +69,7 @@ module _ (bytes : List ℕ) where
   only_field (Err Memory) reads value len is = tt
   only_field (Err (At fault offset)) reads value len (fits, stands) = field_is_right value fault offset bytes (drop len bytes) fits (parts bytes (field value) len stands) reads
 
-  pub told_field : (r : Result (Field × ℕ) RecordFault) → ReadsField bytes r → (fault : Fault) (offset : ℕ) → IsFieldFault fault offset bytes → Tells r fault offset
+  pub told_field : (r : Result (Field × ℕ) RecordFault) → ReadsField bytes r → (fault : Fault) (offset : ℕ) → IsFieldFault fault offset bytes → TellsRecordFault r fault offset
   told_field (Ok found) (fits, stands) fault offset is = field_is_right found.0 fault offset bytes (drop found.1 bytes) fits (parts bytes (field found.0) found.1 stands) is
   told_field (Err Memory) reads fault offset is = tt
   told_field (Err (At f o)) reads fault offset is = one_field_fault f fault o offset bytes reads is
@@ -81,7 +81,7 @@ module _ (bytes : List ℕ) where
   only_record count (Err Memory) reads fields len is = tt
   only_record count (Err (At fault offset)) reads fields len (wide, fits, stands) = record_is_right count fields fault offset bytes (drop len bytes) wide fits (parts bytes (record_of fields) len stands) reads
 
-  pub told_record : (count : ℕ) (r : Result (Vec Field × ℕ) RecordFault) → ReadsRecord count bytes r → (fault : Fault) (offset : ℕ) → IsRecordFault count fault offset bytes → Tells r fault offset
+  pub told_record : (count : ℕ) (r : Result (Vec Field × ℕ) RecordFault) → ReadsRecord count bytes r → (fault : Fault) (offset : ℕ) → IsRecordFault count fault offset bytes → TellsRecordFault r fault offset
   told_record count (Ok found) (wide, fits, stands) fault offset is = record_is_right count found.0.items fault offset bytes (drop found.1 bytes) wide fits (parts bytes (record_of found.0.items) found.1 stands) is
   told_record count (Err Memory) reads fault offset is = tt
   told_record count (Err (At f o)) reads fault offset is = one_record_fault count f fault o offset bytes reads is
@@ -91,7 +91,7 @@ module _ (bytes : List ℕ) where
 
   -- a proper front of a record is no record, and has no fault that stays
   pub front_record : (count : ℕ) (r : Result (Vec Field × ℕ) RecordFault) → ReadsRecord count bytes r → (fields : List Field) (rest : List ℕ) → length fields ≡ count → AllByRecursion Fits fields → rest ≢ [] → record_of fields ≡ bytes ++ rest
-      → Tells r Truncated (length bytes)
+      → TellsRecordFault r Truncated (length bytes)
   front_record count (Ok found) (wide, fits, stands) fields rest len fits' some e =
       let behind : bytes ++ rest ≡ record_of found.0.items ++ (drop found.1 bytes ++ rest) = ap (λ (t : List ℕ). t ++ rest) (parts bytes (record_of found.0.items) found.1 stands) ∙ append_assoc (record_of found.0.items) (drop found.1 bytes) rest in
       let same = same_items field Fits fields_apart found.0.items fields (drop found.1 bytes ++ rest) [] fits fits' (wide ∙ sym len) (sym behind ∙ sym e ∙ sym (append-nil (record_of fields))) in

@@ -8,7 +8,7 @@ use Rattle.std.proofs.lemmas.List.Elements.{All-get_or}
 use Rattle.cs_value.specs.declared.catalog.TableDef.{TableDef}
 use Rattle.cs_value.specs.declared.catalog.CatalogFault.{CatalogFault}
 use Rattle.cs_value.specs.declared.catalog.CatalogFault.TheVariants.{Width, NoKey, TwiceNamed, Name, TooMany}
-use Rattle.cs_value.specs.Catalog.{IsTable, IsTableFault, EachIsTable, AreTables, HasFirstFault, IsFault}
+use Rattle.cs_value.specs.Catalog.{IsTable, IsTableFault, EachIsTable, AreTables, HasFirstTableFault, IsCatalogFault}
 
 no_table : TableDef
 no_table = record { name = []; key_marks = [] }
@@ -51,7 +51,7 @@ stands_before tables place stop lt within each d =
     let there = each place below d in
     rw (take-take place stop tables (omega (arith, lt)), get_or-take stop tables place d lt) at there
 
-first_alone : (fault other : CatalogFault) (tables : List TableDef) → HasFirstFault fault tables → HasFirstFault other tables → fault ≡ other
+first_alone : (fault other : CatalogFault) (tables : List TableDef) → HasFirstTableFault fault tables → HasFirstTableFault other tables → fault ≡ other
 first_alone fault other tables a b =
     let apart : (f : CatalogFault) (p q : ℕ) → p < q → q < length tables → EachIsTable (take q tables) → HoldsAt (IsTableFault f (take p tables)) tables p → ⊥ =
     λ f p q lt within each told. fault_here f (take p tables) (get_or tables p no_table) (told no_table) (stands_before tables p q lt within each no_table) in
@@ -64,7 +64,7 @@ first_alone fault other tables a b =
     ]
 
 -- too many, or a first fault
-told_where : (fault : CatalogFault) (tables : List TableDef) → IsFault fault tables → ((length tables ≤ 1000) × HasFirstFault fault tables) ⊎ ((1000 < length tables) × (fault ≡ TooMany))
+told_where : (fault : CatalogFault) (tables : List TableDef) → IsCatalogFault fault tables → ((length tables ≤ 1000) × HasFirstTableFault fault tables) ⊎ ((1000 < length tables) × (fault ≡ TooMany))
 told_where TooMany tables is = inr (is, refl)
 told_where Width tables is = inl is
 told_where NoKey tables is = inl is
@@ -72,7 +72,7 @@ told_where TwiceNamed tables is = inl is
 told_where Name tables is = inl is
 
 -- tables with a fault are no catalog
-pub fault_refuses : (fault : CatalogFault) (tables : List TableDef) → IsFault fault tables → AreTables tables → ⊥
+pub fault_refuses : (fault : CatalogFault) (tables : List TableDef) → IsCatalogFault fault tables → AreTables tables → ⊥
 fault_refuses fault tables is are =
     elim (told_where fault tables is) [
       | inl w ↦ fault_here fault (take w.1.0 tables) (get_or tables w.1.0 no_table) (w.1.3 no_table) (are.1 w.1.0 w.1.1 no_table)
@@ -80,7 +80,7 @@ fault_refuses fault tables is are =
     ]
 
 -- there is one fault
-pub one_fault : (fault other : CatalogFault) (tables : List TableDef) → IsFault fault tables → IsFault other tables → fault ≡ other
+pub one_fault : (fault other : CatalogFault) (tables : List TableDef) → IsCatalogFault fault tables → IsCatalogFault other tables → fault ≡ other
 one_fault fault other tables a b =
     elim (told_where fault tables a) [
       | inl v ↦ elim (told_where other tables b) [ inl w ↦ first_alone fault other tables v.1 w.1 | inr w ↦ absurd (omega (arith, v.0, w.0)) ]
