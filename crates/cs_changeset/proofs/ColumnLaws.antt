@@ -6,12 +6,10 @@ use Rattle.cs_value.specs.declared.value.Field.{Field}
 use Rattle.cs_value.specs.declared.value.Field.TheVariants.{Is}
 use Rattle.cs_record.specs.Spelling.{field, record_of, Fits}
 use Rattle.cs_record.specs.Reading.{StandsAt}
-use Rattle.cs_record.proofs.Sequences.{parts, stands_more}
-use Rattle.cs_record.proofs.Records.{reaches}
+use Rattle.cs_record.specs.Facts.{parts, reaches, stands_more, tail}
 use Rattle.cs_changeset.specs.Records.{Rule, IsRight, AreRight, IsColumnFault, IsColumnsFault, field_fault}
 use Rattle.cs_changeset.specs.Steps.{AreColumnsAt}
 use Rattle.cs_changeset.specs.declared.fault.Fault.{Fault}
-use Rattle.cs_changeset.proofs.Headers.{tail}
 
 -- a whole field that may not stand there
 pub wrong_column : (rule : Rule) (next : Field) (fault : Fault) (bytes : List ℕ) (len : ℕ) → Fits next → StandsAt bytes (field next) len → Some fault ≡ field_fault rule next → IsColumnFault rule fault 0 bytes
@@ -52,7 +50,15 @@ fault_behind : (done left : List Rule) (fields : List Field) (fault : Fault) (in
     → IsColumnsFault (done ++ left) fault (length (record_of fields) + inner) bytes
 fault_behind [] left [] fault inner bytes rest right e told = subst (λ (b : List ℕ). IsColumnsFault left fault (0 + inner) b) (sym e) (subst (λ (n : ℕ). IsColumnsFault left fault n rest) (omega arith) told)
 fault_behind (d ∷ done) left (f ∷ fields) fault inner bytes rest right e told =
-    inr (f, record_of fields ++ rest, length (record_of fields) + inner, e ∙ append_assoc (field f) (record_of fields) rest, right.0, fault_behind done left fields fault inner (record_of fields ++ rest) rest right.1 refl told, omega (arith, length-append (field f) (record_of fields)))
+    inr (record {
+      before = f;
+      rest = record_of fields ++ rest;
+      inner = length (record_of fields) + inner;
+      whole = right.0;
+      parts = e ∙ append_assoc (field f) (record_of fields) rest;
+      wrong = fault_behind done left fields fault inner (record_of fields ++ rest) rest right.1 refl told;
+      there = omega (arith, length-append (field f) (record_of fields));
+    })
 fault_behind [] left (f ∷ fields) fault inner bytes rest right e told = absurd right
 fault_behind (d ∷ done) left [] fault inner bytes rest right e told = absurd right
 

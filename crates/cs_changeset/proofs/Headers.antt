@@ -2,46 +2,35 @@
 use Rattle.std.proofs.Common.{◌≡◌, ℕ, suc, ◌+◌, ◌-◌, ◌<◌, ◌≤◌, ◌^◌, true, false, nat_eq, nat_lt, List, [], ◌∷◌, ◌++◌, length, take, drop, get_or, Some, None, refl, sym, ap, ◌∙◌, append_assoc, arith, inl, inr, subst, length-append}
 use Rattle.std.specs.Prelude.{◌≢◌, ◌⊎◌, IsUtf8}
 use Rattle.std.specs.List.{list_any, position, position_or_len, AllByRecursion}
-use Rattle.std.proofs.lemmas.List.{take_all, length-drop, length-take-le, take-append-drop, drop_more, get_or-take}
+use Rattle.std.proofs.lemmas.List.{length-take-le, take-append-drop, drop_more, get_or-take}
 use Rattle.std.proofs.lemmas.Bool.{eqb-true, cases_lt, lt-ltb}
 use Rattle.std.proofs.lemmas.List.Quantifiers.{position-Some}
 use Rattle.std.proofs.lemmas.List.Sums.{fails_before_first}
-use Rattle.std.proofs.Math.Seq.{take-append_seam}
 use Rattle.cs_varint.specs.Varint.{spelling, IsPartial, IsTooLong}
 use Rattle.cs_record.specs.Reading.{StandsAt}
-use Rattle.cs_record.proofs.Records.{reaches}
-use Rattle.cs_record.proofs.Sequences.{parts}
+use Rattle.cs_record.specs.Facts.{parts, reaches, stands, tail}
 use Rattle.cs_change.specs.Spelling.{is_nonzero, header_spelling, FitsHeader}
-use Rattle.cs_changeset.specs.Reading.{FitsMarks, HasNoZero, IsHeaderFault}
+use Rattle.cs_changeset.specs.Reading.{FitsMarks, HasNoZero, EndsEarly, LongCount, BadCount, NoKeyMark, BadName, IsHeaderFault}
 use Rattle.cs_changeset.specs.declared.fault.Fault.TheVariants.{Truncated, NotShortest, Columns, NoKeyColumn, NotUtf8}
-
--- what is left behind a place
-pub tail : (bytes : List ℕ) (at : ℕ) → take (length bytes - at) (drop at bytes) ≡ drop at bytes
-tail bytes at = take_all (length bytes - at) (drop at bytes) (omega (arith, length-drop at bytes))
 
 pub split : (bytes spelled : List ℕ) (at : ℕ) → take at bytes ≡ spelled → bytes ≡ spelled ++ drop at bytes
 split bytes spelled at front = sym (take-append-drop at bytes) ∙ ap (λ (t : List ℕ). t ++ drop at bytes) front
 
-pub stands : (bytes spelled rest : List ℕ) → bytes ≡ spelled ++ rest → StandsAt bytes spelled (length spelled)
-stands bytes spelled rest e = record {
-  within = omega (arith, ap length e, length-append spelled rest);
-  front = ap (take (length spelled)) e ∙ take-append_seam spelled rest;
-}
-
 -- ---- the count and the column bytes
 
 pub count_partial : (behind : List ℕ) → IsPartial behind → IsHeaderFault Truncated (length behind + 1) (84 ∷ behind)
-count_partial behind partial = (omega arith, inl (behind, refl, partial))
+count_partial behind partial = (EndsEarly, refl, (omega arith, inl (behind, refl, partial)))
 
 pub count_too_long : (behind : List ℕ) → IsTooLong behind → IsHeaderFault NotShortest 1 (84 ∷ behind)
-count_too_long behind long = (behind, refl, long, refl)
+count_too_long behind long = (LongCount, refl, (behind, refl, long, refl))
 
 pub bad_count : (behind : List ℕ) (count at : ℕ) → take at behind ≡ spelling count → count < 2 ^ 64 → (count ≡ 0) ⊎ (2000 < count) → IsHeaderFault Columns 1 (84 ∷ behind)
-bad_count behind count at front below bad = (count, drop at behind, ap (λ (t : List ℕ). 84 ∷ t) (split behind (spelling count) at front), below, bad, refl)
+bad_count behind count at front below bad =
+    (BadCount, refl, (count, drop at behind, ap (λ (t : List ℕ). 84 ∷ t) (split behind (spelling count) at front), below, bad, refl))
 
 pub few_marks : (behind : List ℕ) (count at : ℕ) → take at behind ≡ spelling count → 0 < count → count ≤ 2000 → length (take (length behind - at) (drop at behind)) < count → IsHeaderFault Truncated (length behind + 1) (84 ∷ behind)
 few_marks behind count at front some limit less =
-    (omega arith, inr (inl (count, drop at behind, ap (λ (t : List ℕ). 84 ∷ t) (split behind (spelling count) at front), some, limit, rw (tail behind at) at less)))
+    (EndsEarly, refl, (omega arith, inr (inl (count, drop at behind, ap (λ (t : List ℕ). 84 ∷ t) (split behind (spelling count) at front), some, limit, rw (tail behind at) at less))))
 
 -- the column bytes behind their count
 record Marked (behind : List ℕ) (count at : ℕ) (marks : List ℕ) : Type 0 where
@@ -64,7 +53,7 @@ pub no_key : (behind : List ℕ) (count at : ℕ) → at ≤ length behind → t
 no_key behind count at within front some limit room none =
     let m = marked behind count at within front room in
     let marks = take count (take (length behind - at) (drop at behind)) in
-    (marks, drop count (drop at behind), ap (λ (t : List ℕ). 84 ∷ t) m.apart, (omega (arith, m.wide), omega (arith, m.wide)), none, omega (arith, m.after))
+    (NoKeyMark, refl, (marks, drop count (drop at behind), ap (λ (t : List ℕ). 84 ∷ t) m.apart, (omega (arith, m.wide), omega (arith, m.wide)), none, omega (arith, m.after)))
 
 pub columns_read : (behind : List ℕ) (count at : ℕ) → at ≤ length behind → take at behind ≡ spelling count → 0 < count → count ≤ 2000 → count ≤ length (take (length behind - at) (drop at behind))
     → list_any is_nonzero (take count (take (length behind - at) (drop at behind))) ≡ true
@@ -104,7 +93,7 @@ name_before rest len e =
 
 pub name_cut : (behind marks : List ℕ) (at : ℕ) → FitsMarks marks → StandsAt behind (spelling (length marks) ++ marks) at → None ≡ position (λ byte. nat_eq byte 0) (take (length behind - at) (drop at behind)) → IsHeaderFault Truncated (length behind + 1) (84 ∷ behind)
 name_cut behind marks at key there none =
-    (omega arith, inr (inr (marks, drop at behind, ap (λ (t : List ℕ). 84 ∷ t) (parts behind (spelling (length marks) ++ marks) at there), key, no_end (drop at behind) (rw tail at none))))
+    (EndsEarly, refl, (omega arith, inr (inr (marks, drop at behind, ap (λ (t : List ℕ). 84 ∷ t) (parts behind (spelling (length marks) ++ marks) at there), key, no_end (drop at behind) (rw tail at none)))))
 
 -- a name and its end, behind the column bytes
 name_whole : (behind marks : List ℕ) (at len : ℕ) → StandsAt behind (spelling (length marks) ++ marks) at → position (λ byte. nat_eq byte 0) (drop at behind) ≡ Some len
@@ -120,7 +109,7 @@ pub bad_name : (behind marks : List ℕ) (at len : ℕ) → FitsMarks marks → 
 bad_name behind marks at len key there e no_text =
     let e' : position (λ byte. nat_eq byte 0) (drop at behind) ≡ Some len = sym (rw tail at e) in
     let reach = reaches behind (spelling (length marks) ++ marks) at there ∙ length-append (spelling (length marks)) marks in
-    (marks, take len (drop at behind), drop (len + 1) (drop at behind), name_whole behind marks at len there e', key, (name_before (drop at behind) len e').1, rw tail at no_text, omega (arith, reach))
+    (BadName, refl, (marks, take len (drop at behind), drop (len + 1) (drop at behind), name_whole behind marks at len there e', key, (name_before (drop at behind) len e').1, rw tail at no_text, omega (arith, reach)))
 
 pub header_read : (behind marks : List ℕ) (at len : ℕ) → FitsMarks marks → StandsAt behind (spelling (length marks) ++ marks) at → Some len ≡ position (λ byte. nat_eq byte 0) (take (length behind - at) (drop at behind))
     → IsUtf8 (take len (take (length behind - at) (drop at behind)))

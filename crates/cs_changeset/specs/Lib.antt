@@ -1,3 +1,4 @@
 pub mod Records
 pub mod Reading
 pub mod Steps
+pub mod Laws

@@ -2,9 +2,8 @@
 use Rattle.std.specs.Prelude.{◌≡◌, ◌≢◌, ℕ, ◌+◌, ◌<◌, ◌≤◌, ◌⊎◌, ◌^◌, Bool, true, false, List, [], ◌∷◌, ◌++◌, length, IsUtf8, Result, Ok, Err}
 use Rattle.std.specs.List.{list_any, AllByRecursion}
 use Rattle.cs_varint.specs.Varint.{spelling, IsPartial, IsTooLong}
-use Rattle.cs_value.specs.declared.value.Field.{Field}
 use Rattle.cs_record.specs.Spelling.{record_of}
-use Rattle.cs_change.specs.declared.change.Change.{Change}
+use Rattle.cs_record.specs.Reading.{FaultBehind}
 use Rattle.cs_change.specs.declared.group.Group.{Group}
 use Rattle.cs_change.specs.Spelling.{is_nonzero, marks_of, header_spelling, changes_spelling, changeset_spelling, FitsHeader, FitsChange, FitsChangeset}
 use Rattle.cs_changeset.specs.Records.{AreRight, IsColumnsFault, row_rules, old_rules, new_rules}
@@ -31,17 +30,37 @@ IsPartialHeader bytes =
     ⊎ ((count : ℕ) × (marks : List ℕ) × (bytes ≡ 84 ∷ (spelling count ++ marks)) × (0 < count) × (count ≤ 2000) × (length marks < count))
     ⊎ ((marks : List ℕ) × (name : List ℕ) × (bytes ≡ 84 ∷ (spelling (length marks) ++ marks ++ name)) × FitsMarks marks × HasNoZero name)
 
+-- what can be wrong with a header: it ends early, its count is longer than it needs to be or out of range, none of its
+-- column bytes marks a key column, or its name is no text
+pub data HeaderFlaw : Type 0 where
+  EndsEarly : HeaderFlaw
+  LongCount : HeaderFlaw
+  BadCount : HeaderFlaw
+  NoKeyMark : HeaderFlaw
+  BadName : HeaderFlaw
+
+-- the flaw of a header, as a fault of a changeset
+abbrev pub of_header : HeaderFlaw → Fault
+of_header EndsEarly = Truncated
+of_header LongCount = NotShortest
+of_header BadCount = Columns
+of_header NoKeyMark = NoKeyColumn
+of_header BadName = NotUtf8
+
+-- which flaw the header at the front has, and where it is told
+abbrev pub IsHeaderFlaw : HeaderFlaw → ℕ → List ℕ → Type 0
+IsHeaderFlaw EndsEarly offset bytes = (offset ≡ length bytes) × IsPartialHeader bytes
+IsHeaderFlaw LongCount offset bytes = (rest : List ℕ) × (bytes ≡ 84 ∷ rest) × IsTooLong rest × (offset ≡ 1)
+IsHeaderFlaw BadCount offset bytes =
+    (count : ℕ) × (rest : List ℕ) × (bytes ≡ 84 ∷ (spelling count ++ rest)) × (count < 2 ^ 64) × ((count ≡ 0) ⊎ (2000 < count)) × (offset ≡ 1)
+IsHeaderFlaw NoKeyMark offset bytes =
+    (marks : List ℕ) × (rest : List ℕ) × (bytes ≡ 84 ∷ (spelling (length marks) ++ marks ++ rest)) × FitsCount marks × (list_any is_nonzero marks ≡ false) × (offset ≡ 1 + length (spelling (length marks)))
+IsHeaderFlaw BadName offset bytes =
+    (marks : List ℕ) × (name : List ℕ) × (rest : List ℕ) × (bytes ≡ header_spelling marks name ++ rest) × FitsMarks marks × HasNoZero name × (IsUtf8 name → ⊥) × (offset ≡ 1 + length (spelling (length marks)) + length marks)
+
 -- what is wrong with the header at the front, and where it is told
 abbrev pub IsHeaderFault : Fault → ℕ → List ℕ → Type 0
-IsHeaderFault Truncated offset bytes = (offset ≡ length bytes) × IsPartialHeader bytes
-IsHeaderFault NotShortest offset bytes = (rest : List ℕ) × (bytes ≡ 84 ∷ rest) × IsTooLong rest × (offset ≡ 1)
-IsHeaderFault Columns offset bytes =
-    (count : ℕ) × (rest : List ℕ) × (bytes ≡ 84 ∷ (spelling count ++ rest)) × (count < 2 ^ 64) × ((count ≡ 0) ⊎ (2000 < count)) × (offset ≡ 1)
-IsHeaderFault NoKeyColumn offset bytes =
-    (marks : List ℕ) × (rest : List ℕ) × (bytes ≡ 84 ∷ (spelling (length marks) ++ marks ++ rest)) × FitsCount marks × (list_any is_nonzero marks ≡ false) × (offset ≡ 1 + length (spelling (length marks)))
-IsHeaderFault NotUtf8 offset bytes =
-    (marks : List ℕ) × (name : List ℕ) × (rest : List ℕ) × (bytes ≡ header_spelling marks name ++ rest) × FitsMarks marks × HasNoZero name × (IsUtf8 name → ⊥) × (offset ≡ 1 + length (spelling (length marks)) + length marks)
-IsHeaderFault _ offset bytes = ⊥
+IsHeaderFault fault offset bytes = (flaw : HeaderFlaw) × (fault ≡ of_header flaw) × IsHeaderFlaw flaw offset bytes
 
 -- ---- changes; the bytes stand in a change's place
 
@@ -49,7 +68,7 @@ IsHeaderFault _ offset bytes = ⊥
 abbrev pub IsUpdateFault : List Bool → Fault → ℕ → List ℕ → Type 0
 IsUpdateFault marks fault offset bytes =
     IsColumnsFault (old_rules marks) fault offset bytes
-    ⊎ ((old : List Field) × (rest : List ℕ) × (inner : ℕ) × (bytes ≡ record_of old ++ rest) × AreRight (old_rules marks) old × IsColumnsFault (new_rules marks old) fault inner rest × (offset ≡ length (record_of old) + inner))
+    ⊎ FaultBehind record_of (AreRight (old_rules marks)) (λ old. IsColumnsFault (new_rules marks old)) fault offset bytes
 
 -- what is wrong with the records of an operation
 abbrev pub IsRecordsFault : List Bool → ℕ → Fault → ℕ → List ℕ → Type 0
@@ -78,25 +97,14 @@ IsChangeFault marks fault offset (operation ∷ rest) =
 -- ---- groups
 
 -- whole changes, and behind them something that is wrong in a change's place
-pub record IsChangesFault (marks : List Bool) (fault : Fault) (offset : ℕ) (bytes : List ℕ) : Type 0 where
-  pub before : List Change
-  pub rest : List ℕ
-  pub inner : ℕ
-  pub fits : AllByRecursion (FitsChange marks) before
-  pub parts : bytes ≡ changes_spelling before ++ rest
-  pub told : IsChangeFault marks fault inner rest
-  pub there : offset ≡ length (changes_spelling before) + inner
+abbrev pub IsChangesFault : List Bool → Fault → ℕ → List ℕ → Type 0
+IsChangesFault marks fault offset bytes =
+    FaultBehind changes_spelling (AllByRecursion (FitsChange marks)) (λ _. IsChangeFault marks) fault offset bytes
 
--- a whole header, and behind it changes with a fault
-pub record IsBodyFault (fault : Fault) (offset : ℕ) (bytes : List ℕ) : Type 0 where
-  pub marks : List ℕ
-  pub name : List ℕ
-  pub rest : List ℕ
-  pub inner : ℕ
-  pub header : FitsHeader marks name
-  pub parts : bytes ≡ header_spelling marks name ++ rest
-  pub told : IsChangesFault (marks_of marks) fault inner rest
-  pub there : offset ≡ length (header_spelling marks name) + inner
+-- a whole header of these column bytes and this name, and behind it changes with a fault
+abbrev pub IsBodyFault : Fault → ℕ → List ℕ → Type 0
+IsBodyFault fault offset bytes =
+    FaultBehind (λ (header : List ℕ × List ℕ). header_spelling header.0 header.1) (λ header. FitsHeader header.0 header.1) (λ header. IsChangesFault (marks_of header.0)) fault offset bytes
 
 -- a group begins, and is wrong
 abbrev pub IsGroupFault : Fault → ℕ → List ℕ → Type 0
@@ -109,14 +117,8 @@ IsMarkFault fault offset (mark ∷ rest) =
     ((mark ≡ 80) × (fault ≡ Patchset) × (offset ≡ 0)) ⊎ ((mark ≢ 80) × (mark ≢ 84) × (fault ≡ BadMark) × (offset ≡ 0))
 
 -- whole groups, and behind them one that is wrong
-pub record IsGroupsFault (fault : Fault) (offset : ℕ) (bytes : List ℕ) : Type 0 where
-  pub before : List Group
-  pub rest : List ℕ
-  pub inner : ℕ
-  pub fits : FitsChangeset before
-  pub parts : bytes ≡ changeset_spelling before ++ rest
-  pub told : IsGroupFault fault inner rest
-  pub there : offset ≡ length (changeset_spelling before) + inner
+abbrev pub IsGroupsFault : Fault → ℕ → List ℕ → Type 0
+IsGroupsFault fault offset bytes = FaultBehind changeset_spelling FitsChangeset (λ _. IsGroupFault) fault offset bytes
 
 -- the first fault of bytes that spell no changeset, and where it is told
 abbrev pub IsChangesetFault : Fault → ℕ → List ℕ → Type 0

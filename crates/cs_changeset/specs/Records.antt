@@ -1,10 +1,10 @@
 -- What the columns of a record may hold, and the first that is wrong (SQLite's "changeset format"; the faults are
 -- this project's).
-use Rattle.std.specs.Prelude.{◌≡◌, ℕ, ◌+◌, ◌⊎◌, Bool, true, false, if◌then◌else◌, List, [], ◌∷◌, ◌++◌, length, map, Option, Some, None}
+use Rattle.std.specs.Prelude.{◌≡◌, ℕ, ◌⊎◌, Bool, true, false, if◌then◌else◌, List, [], ◌∷◌, ◌++◌, map, Option, Some, None}
 use Rattle.cs_value.specs.declared.value.Field.{Field}
 use Rattle.cs_value.specs.declared.value.Field.TheVariants.{Undefined, Is}
 use Rattle.cs_record.specs.Spelling.{field, Fits}
-use Rattle.cs_record.specs.Reading.{IsFieldFault}
+use Rattle.cs_record.specs.Reading.{FaultBehind, IsFieldFault}
 use Rattle.cs_record.specs.declared.fault.Fault.{Fault as FieldFault}
 use Rattle.cs_record.specs.declared.fault.Fault.TheVariants as in_field
 use Rattle.cs_change.specs.Columns.{holds}
@@ -64,5 +64,4 @@ IsColumnFault rule fault offset bytes =
 abbrev pub IsColumnsFault : List Rule → Fault → ℕ → List ℕ → Type 0
 IsColumnsFault [] fault offset bytes = ⊥
 IsColumnsFault (rule ∷ rules) fault offset bytes =
-    IsColumnFault rule fault offset bytes
-    ⊎ ((next : Field) × (rest : List ℕ) × (inner : ℕ) × (bytes ≡ field next ++ rest) × IsRight rule next × IsColumnsFault rules fault inner rest × (offset ≡ length (field next) + inner))
+    IsColumnFault rule fault offset bytes ⊎ FaultBehind field (IsRight rule) (λ _. IsColumnsFault rules) fault offset bytes

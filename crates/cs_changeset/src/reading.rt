@@ -11,6 +11,7 @@ ghost use Rattle.cs_changeset.specs.declared.fault.Fault.TheVariants.{Truncated}
 use crate::changes::read_changes;
 use crate::fault::{CodecFault, Fault};
 use crate::header::header;
+use crate::laws;
 use cs_change::{Changeset, Group};
 use cs_value::{Items, Text};
 use std::alloc::Global;
@@ -80,7 +81,7 @@ pub fn decode(alloc: Global, bytes: &[u8]) -> Result<Changeset, CodecFault>
     // What the bytes spell is read, or memory is wanting.
     ensures only { (groups : List Group) → FitsChangeset groups → bytes.now ≡ changeset_spelling groups → FindsChangeset result groups }
 
-    // A fault of the bytes is told, or memory is wanting. So there is one, and none where a changeset is spelled.
+    // A fault of the bytes is told, or memory is wanting. There is one (`laws::changesets`).
     ensures told { (fault : Fault) (offset : ℕ) → IsChangesetFault fault offset bytes.now → TellsChangesetFault result fault offset }
 
     // A fault is told within the bytes, or at their end.
@@ -90,5 +91,6 @@ pub fn decode(alloc: Global, bytes: &[u8]) -> Result<Changeset, CodecFault>
     ensures front { (groups : List Group) (rest : List ℕ) → FitsChangeset groups → changeset_spelling groups ≡ bytes.now ++ rest
         → ((others : List Group) → FitsChangeset others → bytes.now ≡ changeset_spelling others → ⊥) → TellsChangesetFault result Truncated (length bytes.now) }
 {
+    laws::changesets();
     read_changeset(alloc, bytes)
 }
