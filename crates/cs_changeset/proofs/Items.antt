@@ -11,6 +11,7 @@ use Rattle.cs_varint.specs.Laws.{VarintLaws}
 use Rattle.cs_record.specs.Facts.{behind_stays, behind_end}
 use Rattle.cs_record.specs.Laws.{FieldLaws, RecordLaws}
 use Rattle.cs_record.specs.Reading.{FaultBehind}
+use Rattle.cs_changeset.proofs.CodeLaws.{one_fault_code}
 use Rattle.cs_changeset.proofs.GroupLaws.{fault_within}
 use Rattle.cs_changeset.specs.Laws.{OneChangeset, NoFaultAtChangeset, OneChangesetFault, FrontOfChangeset, OneDecoding, ChangesetLaws}
 use Rattle.cs_changeset.specs.Reading.{IsHeaderFault, IsChangeFault, IsMarkFault, IsGroupFault, IsGroupsFault, IsChangesetFault, ReadsChangeset, FindsChangeset, TellsChangesetFault}
@@ -397,6 +398,7 @@ module _ (varints : VarintLaws) (fields : FieldLaws) (records : RecordLaws) wher
     answer = one_answer;
     headers = λ m n m' n' x y fits fits' e. headers_apart varints m n m' n' x y fits fits' e;
     changes = λ marks a b x y fits fits' e. changes_apart fields records marks a b x y fits fits' e;
+    code = one_fault_code;
   }
 
 -- ---- what reading says

@@ -3,9 +3,10 @@ use Rattle.std.specs.Prelude.{◌≡◌, ℕ, ◌≤◌, ◌⊎◌, Bool, List, 
 use Rattle.cs_change.specs.declared.change.Change.{Change}
 use Rattle.cs_change.specs.declared.group.Group.{Group}
 use Rattle.cs_change.specs.Spelling.{header_spelling, change_spelling, changeset_spelling, FitsHeader, FitsChange, FitsChangeset}
+use Rattle.cs_changeset.specs.Codes.{fault_code}
 use Rattle.cs_changeset.specs.Reading.{IsChangesetFault, ReadsChangeset}
 use Rattle.cs_changeset.specs.declared.fault.Fault.{Fault}
-use Rattle.cs_changeset.specs.declared.fault.Fault.TheVariants.{Truncated}
+use Rattle.cs_changeset.specs.declared.fault.Fault.TheVariants.{Truncated, BadType}
 use Rattle.cs_changeset.specs.declared.fault.CodecFault.{CodecFault}
 use Rattle.cs_changeset.specs.declared.fault.CodecFault.TheVariants.{Memory}
 
@@ -55,6 +56,13 @@ ChangesApart =
     (marks : List Bool) (a b : Change) (x y : List ℕ) → FitsChange marks a → FitsChange marks b
     → change_spelling a ++ x ≡ change_spelling b ++ y → (a ≡ b) × (x ≡ y)
 
+abbrev pub IsBadType : Fault → Type 0
+IsBadType fault = (kind : ℕ) × (fault ≡ BadType kind)
+
+-- a code stands for one fault, but that of a bad type for each type
+abbrev pub OneFaultCode : Type 0
+OneFaultCode = (f g : Fault) → fault_code f ≡ fault_code g → (f ≡ g) ⊎ (IsBadType f × IsBadType g)
+
 -- the laws of changesets together
 pub record ChangesetLaws : Type 0 where
   pub one : OneChangeset
@@ -65,3 +73,4 @@ pub record ChangesetLaws : Type 0 where
   pub answer : OneDecoding
   pub headers : HeadersApart
   pub changes : ChangesApart
+  pub code : OneFaultCode
