@@ -2,7 +2,7 @@
 use Rattle.std.proofs.Common.{◌≡◌, ℕ, ◌+◌, ◌<◌, ◌≤◌, ◌^◌, Bool, true, false, List, [], ◌∷◌, ◌++◌, length, refl, sym, ap, ◌∙◌, append_assoc, arith, inl, inr, subst, length-append}
 use Rattle.std.specs.Prelude.{◌≢◌, ◌⊎◌, IsUtf8}
 use Rattle.std.specs.List.{list_any}
-use Rattle.cs_varint.specs.Varint.{spelling, IsPartial, IsTooLong}
+use Rattle.cs_varint.specs.Varint.{spelling, IsPartialVarint, IsTooLong}
 use Rattle.cs_varint.specs.Laws.{VarintLaws}
 use Rattle.cs_record.specs.Facts.{same_length}
 use Rattle.cs_change.specs.Spelling.{is_nonzero, header_spelling, FitsHeader}
@@ -83,7 +83,7 @@ module _ (varints : VarintLaws) where
   marks_same : {bytes m n x y : List ℕ} → Counted bytes (length m) (m ++ x) → Counted bytes (length n) (n ++ y) → (m ≡ n) × (x ≡ y)
   marks_same {bytes} {m} {n} {x} {y} a b = let one = counts_same a b in same_length m n x y one.0 one.1
 
-  not_partial : {bytes rest : List ℕ} {c : ℕ} {x : List ℕ} → Counted bytes c x → bytes ≡ 84 ∷ rest → IsPartial rest → ⊥
+  not_partial : {bytes rest : List ℕ} {c : ℕ} {x : List ℕ} → Counted bytes c x → bytes ≡ 84 ∷ rest → IsPartialVarint rest → ⊥
   not_partial {bytes} {rest} {c} {x} a e partial = (varints.right c rest x a.below (behind (sym e ∙ a.is))).0 partial
 
   not_long : {bytes rest : List ℕ} {c : ℕ} {x : List ℕ} → Counted bytes c x → bytes ≡ 84 ∷ rest → IsTooLong rest → ⊥

@@ -29,7 +29,9 @@ OneChangesetFault =
 
 -- a fault is told within the bytes, or at their end
 abbrev pub ChangesetFaultWithin : Type 0
-ChangesetFaultWithin = (fault : Fault) (offset : ℕ) (bytes : List ℕ) → IsChangesetFault fault offset bytes → offset ≤ length bytes
+ChangesetFaultWithin =
+    (fault : Fault) (offset : ℕ) (bytes : List ℕ) → IsChangesetFault fault offset bytes
+    → offset ≤ length bytes
 
 -- a fault of the front of a spelling is Truncated, told at the end
 abbrev pub FrontOfChangeset : Type 0

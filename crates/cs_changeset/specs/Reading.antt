@@ -1,7 +1,7 @@
 -- What reading a changeset gives (SQLite's "changeset format"; the faults and their offsets are this project's).
 use Rattle.std.specs.Prelude.{◌≡◌, ◌≢◌, ℕ, ◌+◌, ◌<◌, ◌≤◌, ◌⊎◌, ◌^◌, Bool, true, false, List, [], ◌∷◌, ◌++◌, length, IsUtf8, Result, Ok, Err}
 use Rattle.std.specs.List.{list_any, AllByRecursion}
-use Rattle.cs_varint.specs.Varint.{spelling, IsPartial, IsTooLong}
+use Rattle.cs_varint.specs.Varint.{spelling, IsPartialVarint, IsTooLong}
 use Rattle.cs_record.specs.Spelling.{record_of}
 use Rattle.cs_record.specs.Reading.{FaultBehind}
 use Rattle.cs_change.specs.declared.group.Group.{Group}
@@ -26,9 +26,11 @@ HasNoZero name = AllByRecursion (λ byte. byte ≢ 0) name
 -- the front of a header: within its count, its column bytes or its name
 abbrev pub IsPartialHeader : List ℕ → Type 0
 IsPartialHeader bytes =
-    ((rest : List ℕ) × (bytes ≡ 84 ∷ rest) × IsPartial rest)
-    ⊎ ((count : ℕ) × (marks : List ℕ) × (bytes ≡ 84 ∷ (spelling count ++ marks)) × (0 < count) × (count ≤ 2000) × (length marks < count))
-    ⊎ ((marks : List ℕ) × (name : List ℕ) × (bytes ≡ 84 ∷ (spelling (length marks) ++ marks ++ name)) × FitsMarks marks × HasNoZero name)
+    ((rest : List ℕ) × (bytes ≡ 84 ∷ rest) × IsPartialVarint rest)
+    ⊎ ((count : ℕ) × (marks : List ℕ) × (bytes ≡ 84 ∷ (spelling count ++ marks))
+    × (0 < count) × (count ≤ 2000) × (length marks < count))
+    ⊎ ((marks : List ℕ) × (name : List ℕ) × (bytes ≡ 84 ∷ (spelling (length marks) ++ marks ++ name))
+    × FitsMarks marks × HasNoZero name)
 
 -- what can be wrong with a header: it ends early, its count is longer than it needs to be or out of range, none of its
 -- column bytes marks a key column, or its name is no text
@@ -52,11 +54,16 @@ abbrev pub IsHeaderFlaw : HeaderFlaw → ℕ → List ℕ → Type 0
 IsHeaderFlaw EndsEarly offset bytes = (offset ≡ length bytes) × IsPartialHeader bytes
 IsHeaderFlaw LongCount offset bytes = (rest : List ℕ) × (bytes ≡ 84 ∷ rest) × IsTooLong rest × (offset ≡ 1)
 IsHeaderFlaw BadCount offset bytes =
-    (count : ℕ) × (rest : List ℕ) × (bytes ≡ 84 ∷ (spelling count ++ rest)) × (count < 2 ^ 64) × ((count ≡ 0) ⊎ (2000 < count)) × (offset ≡ 1)
+    (count : ℕ) × (rest : List ℕ) × (bytes ≡ 84 ∷ (spelling count ++ rest)) × (count < 2 ^ 64)
+    × ((count ≡ 0) ⊎ (2000 < count)) × (offset ≡ 1)
 IsHeaderFlaw NoKeyMark offset bytes =
-    (marks : List ℕ) × (rest : List ℕ) × (bytes ≡ 84 ∷ (spelling (length marks) ++ marks ++ rest)) × FitsCount marks × (list_any is_nonzero marks ≡ false) × (offset ≡ 1 + length (spelling (length marks)))
+    (marks : List ℕ) × (rest : List ℕ) × (bytes ≡ 84 ∷ (spelling (length marks) ++ marks ++ rest))
+    × FitsCount marks × (list_any is_nonzero marks ≡ false)
+    × (offset ≡ 1 + length (spelling (length marks)))
 IsHeaderFlaw BadName offset bytes =
-    (marks : List ℕ) × (name : List ℕ) × (rest : List ℕ) × (bytes ≡ header_spelling marks name ++ rest) × FitsMarks marks × HasNoZero name × (IsUtf8 name → ⊥) × (offset ≡ 1 + length (spelling (length marks)) + length marks)
+    (marks : List ℕ) × (name : List ℕ) × (rest : List ℕ) × (bytes ≡ header_spelling marks name ++ rest)
+    × FitsMarks marks × HasNoZero name × (IsUtf8 name → ⊥)
+    × (offset ≡ 1 + length (spelling (length marks)) + length marks)
 
 -- what is wrong with the header at the front, and where it is told
 abbrev pub IsHeaderFault : Fault → ℕ → List ℕ → Type 0
@@ -68,7 +75,8 @@ IsHeaderFault fault offset bytes = (flaw : HeaderFlaw) × (fault ≡ of_header f
 abbrev pub IsUpdateFault : List Bool → Fault → ℕ → List ℕ → Type 0
 IsUpdateFault marks fault offset bytes =
     IsColumnsFault (old_rules marks) fault offset bytes
-    ⊎ FaultBehind record_of (AreRight (old_rules marks)) (λ old. IsColumnsFault (new_rules marks old)) fault offset bytes
+    ⊎ FaultBehind record_of (AreRight (old_rules marks)) (λ old. IsColumnsFault (new_rules marks old))
+    fault offset bytes
 
 -- what is wrong with the records of an operation
 abbrev pub IsRecordsFault : List Bool → ℕ → Fault → ℕ → List ℕ → Type 0
@@ -104,7 +112,9 @@ IsChangesFault marks fault offset bytes =
 -- a whole header of these column bytes and this name, and behind it changes with a fault
 abbrev pub IsBodyFault : Fault → ℕ → List ℕ → Type 0
 IsBodyFault fault offset bytes =
-    FaultBehind (λ (header : List ℕ × List ℕ). header_spelling header.0 header.1) (λ header. FitsHeader header.0 header.1) (λ header. IsChangesFault (marks_of header.0)) fault offset bytes
+    FaultBehind (λ (header : List ℕ × List ℕ). header_spelling header.0 header.1)
+    (λ header. FitsHeader header.0 header.1) (λ header. IsChangesFault (marks_of header.0))
+    fault offset bytes
 
 -- a group begins, and is wrong
 abbrev pub IsGroupFault : Fault → ℕ → List ℕ → Type 0

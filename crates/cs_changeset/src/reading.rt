@@ -79,17 +79,22 @@ pub fn decode(alloc: Global, bytes: &[u8]) -> Result<Changeset, CodecFault>
     ensures reads { ReadsChangeset bytes.now result }
 
     // What the bytes spell is read, or memory is wanting.
-    ensures only { (groups : List Group) → FitsChangeset groups → bytes.now ≡ changeset_spelling groups → FindsChangeset result groups }
+    ensures only { (groups : List Group) → FitsChangeset groups → bytes.now ≡ changeset_spelling groups
+        → FindsChangeset result groups }
 
     // A fault of the bytes is told, or memory is wanting. There is one (`laws::changesets`).
-    ensures told { (fault : Fault) (offset : ℕ) → IsChangesetFault fault offset bytes.now → TellsChangesetFault result fault offset }
+    ensures told { (fault : Fault) (offset : ℕ) → IsChangesetFault fault offset bytes.now
+        → TellsChangesetFault result fault offset }
 
     // A fault is told within the bytes, or at their end.
-    ensures within { (fault : Fault) (offset : ℕ) → IsChangesetFault fault offset bytes.now → offset ≤ length bytes.now }
+    ensures within { (fault : Fault) (offset : ℕ) → IsChangesetFault fault offset bytes.now
+        → offset ≤ length bytes.now }
 
     // A front of a spelling that is no spelling itself is Truncated.
-    ensures front { (groups : List Group) (rest : List ℕ) → FitsChangeset groups → changeset_spelling groups ≡ bytes.now ++ rest
-        → ((others : List Group) → FitsChangeset others → bytes.now ≡ changeset_spelling others → ⊥) → TellsChangesetFault result Truncated (length bytes.now) }
+    ensures front { (groups : List Group) (rest : List ℕ) → FitsChangeset groups
+        → changeset_spelling groups ≡ bytes.now ++ rest
+        → ((others : List Group) → FitsChangeset others → bytes.now ≡ changeset_spelling others → ⊥)
+        → TellsChangesetFault result Truncated (length bytes.now) }
 {
     laws::changesets();
     read_changeset(alloc, bytes)

@@ -16,6 +16,7 @@ use Rattle.cs_record.specs.Facts.{same_length}
 use Rattle.cs_record.specs.Reading.{IsCutOff, HasLength, IsPartialField, IsFieldFault}
 use Rattle.cs_record.specs.declared.fault.Fault.{Fault}
 use Rattle.cs_record.specs.declared.fault.Fault.TheVariants.{Truncated, NotShortest, BadType, Real, NotUtf8}
+
 length-integer : (number : ℤ) → length (integer_bytes number) ≡ 8
 unfolding integer_bytes
 length-integer number = refl
