@@ -8,7 +8,7 @@ use Rattle.cs_value.specs.declared.value.Value.{Value}
 use Rattle.cs_value.specs.declared.value.Field.{Field}
 use Rattle.cs_value.specs.declared.value.Field.TheVariants.{Undefined, Is}
 use Rattle.std.proofs.lemmas.List.{append_cancel_left}
-use Rattle.cs_record.specs.Facts.{behind_stays, behind_end}
+use Rattle.cs_record.specs.Facts.{head_same, tail_same, behind_stays, behind_end}
 use Rattle.cs_record.specs.Laws.{FieldLaws, RecordLaws}
 use Rattle.cs_record.specs.Spelling.{record_of, Fits}
 use Rattle.cs_change.specs.Columns.{holds}
@@ -21,12 +21,6 @@ use Rattle.cs_changeset.specs.declared.fault.Fault.{Fault}
 use Rattle.cs_changeset.specs.declared.fault.Fault.TheVariants.{Truncated, KeyChanged}
 use Rattle.cs_changeset.proofs.ChangeLaws.{row_fields, flag_small}
 use Rattle.cs_changeset.proofs.RecordApart.{records_apart, record_right, record_stays, one_record, record_end}
-
-behind : {k l : ℕ} {x y : List ℕ} → k ∷ x ≡ l ∷ y → x ≡ y
-behind e = cc
-
-head_same : {k l : ℕ} {x y : List ℕ} → k ∷ x ≡ l ∷ y → k ≡ l
-head_same e = cc
 
 -- ---- what fits is right, column by column
 
@@ -153,7 +147,7 @@ module _ (fields : FieldLaws) (records : RecordLaws) where
   flagged_right : (marks : List Bool) (c : Change) (fault : Fault) (offset : ℕ) (rest x : List ℕ) → FitsChange marks c → rest ≡ flag_byte (flag_of c) ∷ (records_of c ++ x) → IsFlaggedFault marks (operation_of c) fault offset rest → ⊥
   flagged_right marks c fault offset [] x fits e told = cc
   flagged_right marks c fault offset (flag ∷ rest) x fits e (inl (big, is, there)) = omega (arith, big, head_same e, flag_small (flag_of c))
-  flagged_right marks c fault offset (flag ∷ rest) x fits e (inr (small, (inner, told, there))) = records_right marks c fault inner rest x fits (behind e) told
+  flagged_right marks c fault offset (flag ∷ rest) x fits e (inr (small, (inner, told, there))) = records_right marks c fault inner rest x fits (tail_same e) told
 
   pub change_right : (marks : List Bool) (c : Change) (fault : Fault) (offset : ℕ) (bytes x : List ℕ) → FitsChange marks c → bytes ≡ change_spelling c ++ x → IsChangeFault marks fault offset bytes → ⊥
   change_right marks c fault offset [] x fits e told = told
@@ -166,7 +160,7 @@ module _ (fields : FieldLaws) (records : RecordLaws) where
       is = head_same apart
 
       wrong : IsChangeFault marks fault offset (operation ∷ rest) → ⊥
-      wrong (inl (op, told)) = flagged_right marks c fault offset rest x fits (behind apart) (subst (λ (n : ℕ). IsFlaggedFault marks n fault offset rest) is told)
+      wrong (inl (op, told)) = flagged_right marks c fault offset rest x fits (tail_same apart) (subst (λ (n : ℕ). IsFlaggedFault marks n fault offset rest) is told)
       wrong (inr (inl (patch, told, there))) = (operation_known operation (subst IsOperation (sym is) (is_operation c))).0 patch
       wrong (inr (inr (none, other, head, told, there))) = none (subst IsOperation (sym is) (is_operation c))
 
@@ -178,14 +172,14 @@ module _ (fields : FieldLaws) (records : RecordLaws) where
 
   same_change : (marks : List Bool) (a b : Change) (x y : List ℕ) → FitsChange marks a → FitsChange marks b → change_spelling a ++ x ≡ change_spelling b ++ y → a ≡ b
   same_change marks (Insert f r) (Insert g s) x y fa fb e =
-      let flag = flags_same f g (head_same (behind e)) in let row = rows_apart marks r s x y fa fb (behind (behind e)) in cc
+      let flag = flags_same f g (head_same (tail_same e)) in let row = rows_apart marks r s x y fa fb (tail_same (tail_same e)) in cc
   same_change marks (Delete f r) (Delete g s) x y fa fb e =
-      let flag = flags_same f g (head_same (behind e)) in let row = rows_apart marks r s x y fa fb (behind (behind e)) in cc
+      let flag = flags_same f g (head_same (tail_same e)) in let row = rows_apart marks r s x y fa fb (tail_same (tail_same e)) in cc
   same_change marks (Update f o n) (Update g p m) x y (are, fo, fn) (are', fo', fn') e =
-      let flag = flags_same f g (head_same (behind e)) in
+      let flag = flags_same f g (head_same (tail_same e)) in
       let a = columns_right marks o n are fo fn in
       let b = columns_right marks p m are' fo' fn' in
-      let parts : record_of o ++ (record_of n ++ x) ≡ record_of p ++ (record_of m ++ y) = sym (append_assoc (record_of o) (record_of n) x) ∙ behind (behind e) ∙ append_assoc (record_of p) (record_of m) y in
+      let parts : record_of o ++ (record_of n ++ x) ≡ record_of p ++ (record_of m ++ y) = sym (append_assoc (record_of o) (record_of n) x) ∙ tail_same (tail_same e) ∙ append_assoc (record_of p) (record_of m) y in
       let old = records_apart fields records (old_rules marks) o p (record_of n ++ x) (record_of m ++ y) a.0 b.0 parts in
       let new = records_apart fields records (new_rules marks p) n m x y (subst (λ (q : List Field). AreRight (new_rules marks q) n) old.0 a.1) b.1 old.1 in
       let olds = old.0 in

@@ -4,14 +4,11 @@ use Rattle.std.specs.Prelude.{◌≢◌, ◌⊎◌, IsUtf8}
 use Rattle.std.specs.List.{list_any}
 use Rattle.cs_varint.specs.Varint.{spelling, IsPartialVarint, IsTooLong}
 use Rattle.cs_varint.specs.Laws.{VarintLaws}
-use Rattle.cs_record.specs.Facts.{same_length}
+use Rattle.cs_record.specs.Facts.{tail_same, same_length}
 use Rattle.cs_change.specs.Spelling.{is_nonzero, header_spelling, FitsHeader}
 use Rattle.cs_changeset.specs.Reading.{HasNoZero, IsPartialHeader, HeaderFlaw, EndsEarly, LongCount, BadCount, NoKeyMark, BadName, of_header, IsHeaderFlaw, IsHeaderFault}
 use Rattle.cs_changeset.specs.declared.fault.Fault.{Fault}
 use Rattle.cs_changeset.specs.declared.fault.Fault.TheVariants.{Truncated}
-
-behind : {k l : ℕ} {x y : List ℕ} → k ∷ x ≡ l ∷ y → x ≡ y
-behind e = cc
 
 -- the parts of a header, one behind the other
 pub header_parts : (marks name x : List ℕ) → header_spelling marks name ++ x ≡ 84 ∷ (spelling (length marks) ++ (marks ++ (name ++ 0 ∷ x)))
@@ -22,12 +19,12 @@ marks_parts marks rest = append_assoc (spelling (length marks)) marks rest
 
 -- a name up to its zero byte
 names_apart : (m n x y : List ℕ) → HasNoZero m → HasNoZero n → m ++ 0 ∷ x ≡ n ++ 0 ∷ y → (m ≡ n) × (x ≡ y)
-names_apart [] [] x y hm hn e = (refl, behind e)
+names_apart [] [] x y hm hn e = (refl, tail_same e)
 names_apart [] (b ∷ n) x y hm hn e = absurd (hn.0 (let h : b ≡ 0 = cc in h))
 names_apart (a ∷ m) [] x y hm hn e = absurd (hm.0 (let h : a ≡ 0 = cc in h))
 names_apart (a ∷ m) (b ∷ n) x y hm hn e =
     let head : a ≡ b = cc in
-    let rest = names_apart m n x y hm.1 hn.1 (behind e) in
+    let rest = names_apart m n x y hm.1 hn.1 (tail_same e) in
     (let tails = rest.0 in cc, rest.1)
 
 no_zero_inside : (m x : List ℕ) → HasNoZero (m ++ 0 ∷ x) → ⊥
@@ -78,16 +75,16 @@ begins_84 fault offset bytes (BadName, is, told) = (_, told.3)
 
 module _ (varints : VarintLaws) where
   counts_same : {bytes : List ℕ} {c d : ℕ} {x y : List ℕ} → Counted bytes c x → Counted bytes d y → (c ≡ d) × (x ≡ y)
-  counts_same {bytes} {c} {d} {x} {y} a b = varints.apart c d x y a.below b.below (behind (sym a.is ∙ b.is))
+  counts_same {bytes} {c} {d} {x} {y} a b = varints.apart c d x y a.below b.below (tail_same (sym a.is ∙ b.is))
 
   marks_same : {bytes m n x y : List ℕ} → Counted bytes (length m) (m ++ x) → Counted bytes (length n) (n ++ y) → (m ≡ n) × (x ≡ y)
   marks_same {bytes} {m} {n} {x} {y} a b = let one = counts_same a b in same_length m n x y one.0 one.1
 
   not_partial : {bytes rest : List ℕ} {c : ℕ} {x : List ℕ} → Counted bytes c x → bytes ≡ 84 ∷ rest → IsPartialVarint rest → ⊥
-  not_partial {bytes} {rest} {c} {x} a e partial = (varints.right c rest x a.below (behind (sym e ∙ a.is))).0 partial
+  not_partial {bytes} {rest} {c} {x} a e partial = (varints.right c rest x a.below (tail_same (sym e ∙ a.is))).0 partial
 
   not_long : {bytes rest : List ℕ} {c : ℕ} {x : List ℕ} → Counted bytes c x → bytes ≡ 84 ∷ rest → IsTooLong rest → ⊥
-  not_long {bytes} {rest} {c} {x} a e long = (varints.right c rest x a.below (behind (sym e ∙ a.is))).1 long
+  not_long {bytes} {rest} {c} {x} a e long = (varints.right c rest x a.below (tail_same (sym e ∙ a.is))).1 long
 
   pub headers_apart : (m n m' n' x y : List ℕ) → FitsHeader m n → FitsHeader m' n' → header_spelling m n ++ x ≡ header_spelling m' n' ++ y → (m ≡ m') × (n ≡ n') × (x ≡ y)
   headers_apart m n m' n' x y f g e =
@@ -140,7 +137,7 @@ module _ (varints : VarintLaws) where
   -- ---- there is one fault
 
   early_long : (bytes rest : List ℕ) → IsPartialHeader bytes → bytes ≡ 84 ∷ rest → IsTooLong rest → ⊥
-  early_long bytes rest (inl (rest', is, partial)) e long = varints.one rest' partial (subst IsTooLong (behind (sym e ∙ is)) long)
+  early_long bytes rest (inl (rest', is, partial)) e long = varints.one rest' partial (subst IsTooLong (tail_same (sym e ∙ is)) long)
   early_long bytes rest (inr (inl (count, marks, is, some, limit, less))) e long = not_long (record { below = few count limit; is = is }) e long
   early_long bytes rest (inr (inr (marks, name, is, key, none))) e long = not_long (marks_counted bytes marks name key.0.1 is) e long
 

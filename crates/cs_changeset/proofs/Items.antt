@@ -8,7 +8,7 @@ use Rattle.cs_change.specs.declared.change.Change.TheVariants.{Insert, Delete, U
 use Rattle.cs_change.specs.declared.group.Group.{Group}
 use Rattle.cs_change.specs.Spelling.{marks_of, header_spelling, change_spelling, changes_spelling, group_spelling, changeset_spelling, FitsHeader, FitsChange, FitsChangeset}
 use Rattle.cs_varint.specs.Laws.{VarintLaws}
-use Rattle.cs_record.specs.Facts.{behind_stays, behind_end}
+use Rattle.cs_record.specs.Facts.{head_same, behind_stays, behind_end}
 use Rattle.cs_record.specs.Laws.{FieldLaws, RecordLaws}
 use Rattle.cs_record.specs.Reading.{FaultBehind}
 use Rattle.cs_changeset.proofs.CodeLaws.{one_fault_code}
@@ -54,9 +54,6 @@ IsItemFault None fault offset bytes = IsHeaderFault fault offset bytes ⊎ IsMar
 IsItemFault (Some marks) fault offset bytes = IsHeaderFault fault offset bytes ⊎ IsChangeFault marks fault offset bytes
 
 -- ---- one item
-
-head_same : {k l : ℕ} {x y : List ℕ} → k ∷ x ≡ l ∷ y → k ≡ l
-head_same e = cc
 
 not_84 : (c : Change) (rest x : List ℕ) → change_spelling c ++ x ≡ 84 ∷ rest → ⊥
 not_84 c rest x e = (operation_known (operation_of c) (is_operation c)).1 (head_same (sym (ap (λ (t : List ℕ). t ++ x) (spelled c)) ∙ e))

@@ -12,7 +12,7 @@ use Rattle.cs_value.specs.declared.value.Value.TheVariants.{Null, Int, Text, Blo
 use Rattle.cs_value.specs.declared.value.Field.{Field}
 use Rattle.cs_value.specs.declared.value.Field.TheVariants.{Undefined, Is}
 use Rattle.cs_record.specs.Spelling.{counted, integer_bytes, field, Fits}
-use Rattle.cs_record.specs.Facts.{same_length}
+use Rattle.cs_record.specs.Facts.{head_same, tail_same, same_length}
 use Rattle.cs_record.specs.Reading.{IsCutOff, HasLength, IsPartialField, IsFieldFault}
 use Rattle.cs_record.specs.declared.fault.Fault.{Fault}
 use Rattle.cs_record.specs.declared.fault.Fault.TheVariants.{Truncated, NotShortest, BadType, Real, NotUtf8}
@@ -26,9 +26,6 @@ unfolding integer_bytes
 integer_apart m n fm fn e =
     let same : cast_unsigned w64 m ≡ cast_unsigned w64 n = sym (from_be_bytes-to_be_bytes_8 (cast_unsigned w64 m) (Fits-lt-pow (Fits-of_z fm))) ∙ ap (from_be_bytes w64) e ∙ from_be_bytes-to_be_bytes_8 (cast_unsigned w64 n) (Fits-lt-pow (Fits-of_z fn)) in
     sym (to_z-of_z w64 m fm) ∙ ap (cast_signed w64) same ∙ to_z-of_z w64 n fn
-
-behind : {k : ℕ} {x y : List ℕ} → k ∷ x ≡ k ∷ y → x ≡ y
-behind e = cc
 
 -- a type byte is at most 5, and no real's
 abbrev kind_of : Field → ℕ
@@ -61,17 +58,6 @@ long_is : (kind : ℕ) → HasLength kind → (kind ≤ 4) × (kind ≢ 2)
 long_is kind (inl h) = (omega (arith, h), λ e. omega (arith, h, e))
 long_is kind (inr h) = (omega (arith, h), λ e. omega (arith, h, e))
 
--- the faults in the order in which they are named
-abbrev rank : Fault → ℕ
-rank Truncated = 0
-rank NotShortest = 1
-rank (BadType kind) = 2
-rank Real = 3
-rank NotUtf8 = 4
-
-head_same : {k l : ℕ} {x y : List ℕ} → k ∷ x ≡ l ∷ y → k ≡ l
-head_same e = cc
-
 module _ (varints : VarintLaws) where
   pub counted_apart : (s t x y : List ℕ) → length s < 2 ^ 64 → length t < 2 ^ 64 → counted s ++ x ≡ counted t ++ y → (s ≡ t) × (x ≡ y)
   counted_apart s t x y bs bt e =
@@ -84,9 +70,9 @@ module _ (varints : VarintLaws) where
   same_field Undefined Undefined x y fa fb e = refl
   same_field (Is Null) (Is Null) x y fa fb e = refl
   same_field (Is (Int m)) (Is (Int n)) x y fa fb e =
-      ap (λ k. Is (Int k)) (integer_apart m n fa fb (same_length (integer_bytes m) (integer_bytes n) x y (length-integer m ∙ sym (length-integer n)) (behind e)).0)
-  same_field (Is (Text s)) (Is (Text t)) x y fa fb e = ap (λ k. Is (Text k)) (counted_apart s t x y fa.0 fb.0 (behind e)).0
-  same_field (Is (Blob s)) (Is (Blob t)) x y fa fb e = ap (λ k. Is (Blob k)) (counted_apart s t x y fa fb (behind e)).0
+      ap (λ k. Is (Int k)) (integer_apart m n fa fb (same_length (integer_bytes m) (integer_bytes n) x y (length-integer m ∙ sym (length-integer n)) (tail_same e)).0)
+  same_field (Is (Text s)) (Is (Text t)) x y fa fb e = ap (λ k. Is (Text k)) (counted_apart s t x y fa.0 fb.0 (tail_same e)).0
+  same_field (Is (Blob s)) (Is (Blob t)) x y fa fb e = ap (λ k. Is (Blob k)) (counted_apart s t x y fa fb (tail_same e)).0
   same_field Undefined (Is Null) x y fa fb e = cc
   same_field Undefined (Is (Int n)) x y fa fb e = cc
   same_field Undefined (Is (Text n)) x y fa fb e = cc
@@ -157,7 +143,7 @@ module _ (varints : VarintLaws) where
   no_text Undefined x text rest fits e len no_utf8 = cc
   no_text (Is Null) x text rest fits e len no_utf8 = cc
   no_text (Is (Int n)) x text rest fits e len no_utf8 = cc
-  no_text (Is (Text t)) x text rest fits e len no_utf8 = no_utf8 (subst IsUtf8 (counted_apart t text x rest fits.0 len (behind e)).0 fits.1)
+  no_text (Is (Text t)) x text rest fits e len no_utf8 = no_utf8 (subst IsUtf8 (counted_apart t text x rest fits.0 len (tail_same e)).0 fits.1)
   no_text (Is (Blob t)) x text rest fits e len no_utf8 = cc
 
   pub field_is_right : (a : Field) (fault : Fault) (offset : ℕ) (bytes x : List ℕ) → Fits a → bytes ≡ field a ++ x → IsFieldFault fault offset bytes → ⊥
@@ -185,38 +171,39 @@ module _ (varints : VarintLaws) where
   early_or_long kind rest (inr (has, inl partial)) h long = varints.one rest partial long
   early_or_long kind rest (inr (has, inr (count, more, is, below, less))) h long = (varints.right count rest more below is).1 long
 
-  clash : (f g : Fault) (o p : ℕ) (bytes : List ℕ) → rank f < rank g → IsFieldFault f o bytes → IsFieldFault g p bytes → ⊥
-  clash Truncated NotShortest o p bytes less (at, partial) (kind, rest, is, has, long, there) = early_or_long kind rest (subst IsPartialField is partial) has long
-  clash Truncated (BadType k) o p bytes less (at, partial) (rest, is, above, there) = omega (arith, above, (early_kind k rest (subst IsPartialField is partial)).0)
-  clash Truncated Real o p bytes less (at, partial) (rest, is, there) = (early_kind 2 rest (subst IsPartialField is partial)).1 refl
-  clash Truncated NotUtf8 o p bytes less (at, partial) (text, rest, is, len, no_utf8, there) = early_text text rest len (subst IsPartialField is partial)
+  early_bad : (k o p : ℕ) (bytes : List ℕ) → IsFieldFault Truncated o bytes → IsFieldFault (BadType k) p bytes → ⊥
+  early_bad k o p bytes (at, partial) (rest, is, above, there) = omega (arith, above, (early_kind k rest (subst IsPartialField is partial)).0)
+
+  early_real : (o p : ℕ) (bytes : List ℕ) → IsFieldFault Truncated o bytes → IsFieldFault Real p bytes → ⊥
+  early_real o p bytes (at, partial) (rest, is, there) = (early_kind 2 rest (subst IsPartialField is partial)).1 refl
+
+  early_text : (o p : ℕ) (bytes : List ℕ) → IsFieldFault Truncated o bytes → IsFieldFault NotUtf8 p bytes → ⊥
+  early_text o p bytes (at, partial) (text, rest, is, len, no_utf8, there) = cut_text text rest len (subst IsPartialField is partial)
     where
-      early_text : (t x : List ℕ) → length t < 2 ^ 64 → IsPartialField (3 ∷ (counted t ++ x)) → ⊥
-      early_text t x len (inl p) = omega (arith, p.0)
-      early_text t x len (inr q) = uncut t x len q.1
-  clash NotShortest (BadType k) o p bytes less (kind, rest, is, has, long, there) (rest', is', above, there') = omega (arith, above, head_same (sym is ∙ is'), (long_is kind has).0)
-  clash NotShortest Real o p bytes less (kind, rest, is, has, long, there) (rest', is', there') = (long_is kind has).1 (head_same (sym is ∙ is'))
-  clash NotShortest NotUtf8 o p bytes less (kind, rest, is, has, long, there) (text, rest', is', len, no_utf8, there') =
-      let same : rest ≡ counted text ++ rest' = (let e = sym is ∙ is' in cc) in
-      not_long text rest' len (subst IsTooLong same long)
-  clash (BadType k) Real o p bytes less (rest, is, above, there) (rest', is', there') = omega (arith, above, head_same (sym is ∙ is'))
-  clash (BadType k) NotUtf8 o p bytes less (rest, is, above, there) (text, rest', is', len, no_utf8, there') = omega (arith, above, head_same (sym is ∙ is'))
-  clash Real NotUtf8 o p bytes less (rest, is, there) (text, rest', is', len, no_utf8, there') = omega (arith, head_same (sym is ∙ is'))
-  clash Truncated Truncated o p bytes less at at' = absurd (omega (arith, less))
-  clash NotShortest Truncated o p bytes less at at' = absurd (omega (arith, less))
-  clash NotShortest NotShortest o p bytes less at at' = absurd (omega (arith, less))
-  clash (BadType k) Truncated o p bytes less at at' = absurd (omega (arith, less))
-  clash (BadType k) NotShortest o p bytes less at at' = absurd (omega (arith, less))
-  clash (BadType k) (BadType l) o p bytes less at at' = absurd (omega (arith, less))
-  clash Real Truncated o p bytes less at at' = absurd (omega (arith, less))
-  clash Real NotShortest o p bytes less at at' = absurd (omega (arith, less))
-  clash Real (BadType l) o p bytes less at at' = absurd (omega (arith, less))
-  clash Real Real o p bytes less at at' = absurd (omega (arith, less))
-  clash NotUtf8 Truncated o p bytes less at at' = absurd (omega (arith, less))
-  clash NotUtf8 NotShortest o p bytes less at at' = absurd (omega (arith, less))
-  clash NotUtf8 (BadType l) o p bytes less at at' = absurd (omega (arith, less))
-  clash NotUtf8 Real o p bytes less at at' = absurd (omega (arith, less))
-  clash NotUtf8 NotUtf8 o p bytes less at at' = absurd (omega (arith, less))
+      cut_text : (t x : List ℕ) → length t < 2 ^ 64 → IsPartialField (3 ∷ (counted t ++ x)) → ⊥
+      cut_text t x len (inl p) = omega (arith, p.0)
+      cut_text t x len (inr q) = uncut t x len q.1
+
+  long_bad : (k o p : ℕ) (bytes : List ℕ) → IsFieldFault NotShortest o bytes → IsFieldFault (BadType k) p bytes → ⊥
+  long_bad k o p bytes (kind, rest, is, has, long, there) (rest', is', above, there') = omega (arith, above, head_same (sym is ∙ is'), (long_is kind has).0)
+
+  long_real : (o p : ℕ) (bytes : List ℕ) → IsFieldFault NotShortest o bytes → IsFieldFault Real p bytes → ⊥
+  long_real o p bytes (kind, rest, is, has, long, there) (rest', is', there') = (long_is kind has).1 (head_same (sym is ∙ is'))
+
+  long_text : (o p : ℕ) (bytes : List ℕ) → IsFieldFault NotShortest o bytes → IsFieldFault NotUtf8 p bytes → ⊥
+  long_text o p bytes (kind, rest, is, has, long, there) (text, rest', is', len, no_utf8, there') = not_long text rest' len (subst IsTooLong (tail_same (sym is ∙ is')) long)
+
+  bad_real : (k o p : ℕ) (bytes : List ℕ) → IsFieldFault (BadType k) o bytes → IsFieldFault Real p bytes → ⊥
+  bad_real k o p bytes (rest, is, above, there) (rest', is', there') = omega (arith, above, head_same (sym is ∙ is'))
+
+  bad_text : (k o p : ℕ) (bytes : List ℕ) → IsFieldFault (BadType k) o bytes → IsFieldFault NotUtf8 p bytes → ⊥
+  bad_text k o p bytes (rest, is, above, there) (text, rest', is', len, no_utf8, there') = omega (arith, above, head_same (sym is ∙ is'))
+
+  real_text : (o p : ℕ) (bytes : List ℕ) → IsFieldFault Real o bytes → IsFieldFault NotUtf8 p bytes → ⊥
+  real_text o p bytes (rest, is, there) (text, rest', is', len, no_utf8, there') = omega (arith, head_same (sym is ∙ is'))
+
+  early_long : (o p : ℕ) (bytes : List ℕ) → IsFieldFault Truncated o bytes → IsFieldFault NotShortest p bytes → ⊥
+  early_long o p bytes (at, partial) (kind, rest, is, has, long, there) = early_or_long kind rest (subst IsPartialField is partial) has long
 
   pub one_field_fault : (f g : Fault) (o p : ℕ) (bytes : List ℕ) → IsFieldFault f o bytes → IsFieldFault g p bytes → (f ≡ g) × (o ≡ p)
   one_field_fault Truncated Truncated o p bytes at at' = (refl, at.0 ∙ sym at'.0)
@@ -224,25 +211,25 @@ module _ (varints : VarintLaws) where
   one_field_fault (BadType k) (BadType l) o p bytes (rest, is, above, there) (rest', is', above', there') = (ap (λ n. BadType n) (head_same (sym is ∙ is')), there ∙ sym there')
   one_field_fault Real Real o p bytes (rest, is, there) (rest', is', there') = (refl, there ∙ sym there')
   one_field_fault NotUtf8 NotUtf8 o p bytes (text, rest, is, len, no_utf8, there) (text', rest', is', len', no_utf8', there') =
-      let same = (counted_apart text text' rest rest' len len' (behind (sym is ∙ is'))).0 in
+      let same = (counted_apart text text' rest rest' len len' (tail_same (sym is ∙ is'))).0 in
       (refl, there ∙ ap (λ (t : List ℕ). 1 + length (spelling (length t))) same ∙ sym there')
-  one_field_fault Truncated NotShortest o p bytes at at' = absurd (clash Truncated NotShortest o p bytes (omega arith) at at')
-  one_field_fault Truncated (BadType l) o p bytes at at' = absurd (clash Truncated (BadType l) o p bytes (omega arith) at at')
-  one_field_fault Truncated Real o p bytes at at' = absurd (clash Truncated Real o p bytes (omega arith) at at')
-  one_field_fault Truncated NotUtf8 o p bytes at at' = absurd (clash Truncated NotUtf8 o p bytes (omega arith) at at')
-  one_field_fault NotShortest Truncated o p bytes at at' = absurd (clash Truncated NotShortest p o bytes (omega arith) at' at)
-  one_field_fault NotShortest (BadType l) o p bytes at at' = absurd (clash NotShortest (BadType l) o p bytes (omega arith) at at')
-  one_field_fault NotShortest Real o p bytes at at' = absurd (clash NotShortest Real o p bytes (omega arith) at at')
-  one_field_fault NotShortest NotUtf8 o p bytes at at' = absurd (clash NotShortest NotUtf8 o p bytes (omega arith) at at')
-  one_field_fault (BadType k) Truncated o p bytes at at' = absurd (clash Truncated (BadType k) p o bytes (omega arith) at' at)
-  one_field_fault (BadType k) NotShortest o p bytes at at' = absurd (clash NotShortest (BadType k) p o bytes (omega arith) at' at)
-  one_field_fault (BadType k) Real o p bytes at at' = absurd (clash (BadType k) Real o p bytes (omega arith) at at')
-  one_field_fault (BadType k) NotUtf8 o p bytes at at' = absurd (clash (BadType k) NotUtf8 o p bytes (omega arith) at at')
-  one_field_fault Real Truncated o p bytes at at' = absurd (clash Truncated Real p o bytes (omega arith) at' at)
-  one_field_fault Real NotShortest o p bytes at at' = absurd (clash NotShortest Real p o bytes (omega arith) at' at)
-  one_field_fault Real (BadType l) o p bytes at at' = absurd (clash (BadType l) Real p o bytes (omega arith) at' at)
-  one_field_fault Real NotUtf8 o p bytes at at' = absurd (clash Real NotUtf8 o p bytes (omega arith) at at')
-  one_field_fault NotUtf8 Truncated o p bytes at at' = absurd (clash Truncated NotUtf8 p o bytes (omega arith) at' at)
-  one_field_fault NotUtf8 NotShortest o p bytes at at' = absurd (clash NotShortest NotUtf8 p o bytes (omega arith) at' at)
-  one_field_fault NotUtf8 (BadType l) o p bytes at at' = absurd (clash (BadType l) NotUtf8 p o bytes (omega arith) at' at)
-  one_field_fault NotUtf8 Real o p bytes at at' = absurd (clash Real NotUtf8 p o bytes (omega arith) at' at)
+  one_field_fault Truncated NotShortest o p bytes at at' = absurd (early_long o p bytes at at')
+  one_field_fault Truncated (BadType l) o p bytes at at' = absurd (early_bad l o p bytes at at')
+  one_field_fault Truncated Real o p bytes at at' = absurd (early_real o p bytes at at')
+  one_field_fault Truncated NotUtf8 o p bytes at at' = absurd (early_text o p bytes at at')
+  one_field_fault NotShortest Truncated o p bytes at at' = absurd (early_long p o bytes at' at)
+  one_field_fault NotShortest (BadType l) o p bytes at at' = absurd (long_bad l o p bytes at at')
+  one_field_fault NotShortest Real o p bytes at at' = absurd (long_real o p bytes at at')
+  one_field_fault NotShortest NotUtf8 o p bytes at at' = absurd (long_text o p bytes at at')
+  one_field_fault (BadType k) Truncated o p bytes at at' = absurd (early_bad k p o bytes at' at)
+  one_field_fault (BadType k) NotShortest o p bytes at at' = absurd (long_bad k p o bytes at' at)
+  one_field_fault (BadType k) Real o p bytes at at' = absurd (bad_real k o p bytes at at')
+  one_field_fault (BadType k) NotUtf8 o p bytes at at' = absurd (bad_text k o p bytes at at')
+  one_field_fault Real Truncated o p bytes at at' = absurd (early_real p o bytes at' at)
+  one_field_fault Real NotShortest o p bytes at at' = absurd (long_real p o bytes at' at)
+  one_field_fault Real (BadType l) o p bytes at at' = absurd (bad_real l p o bytes at' at)
+  one_field_fault Real NotUtf8 o p bytes at at' = absurd (real_text o p bytes at at')
+  one_field_fault NotUtf8 Truncated o p bytes at at' = absurd (early_text p o bytes at' at)
+  one_field_fault NotUtf8 NotShortest o p bytes at at' = absurd (long_text p o bytes at' at)
+  one_field_fault NotUtf8 (BadType l) o p bytes at at' = absurd (bad_text l p o bytes at' at)
+  one_field_fault NotUtf8 Real o p bytes at at' = absurd (real_text p o bytes at' at)

@@ -12,6 +12,13 @@ use Rattle.cs_record.specs.Reading.{StandsAt, FaultBehind, IsFieldFault}
 
 -- ---- lists
 
+-- the first bytes of equal lists, and what follows them
+pub head_same : {k l : ℕ} {x y : List ℕ} → k ∷ x ≡ l ∷ y → k ≡ l
+head_same e = cc
+
+pub tail_same : {k l : ℕ} {x y : List ℕ} → k ∷ x ≡ l ∷ y → x ≡ y
+tail_same e = cc
+
 -- lists of one length at the front are the same list
 pub same_length : (s t x y : List ℕ) → length s ≡ length t → s ++ x ≡ t ++ y → (s ≡ t) × (x ≡ y)
 same_length s t x y len e =
