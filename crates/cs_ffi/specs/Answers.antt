@@ -2,7 +2,7 @@
 use Rattle.std.specs.Prelude.{◌≡◌, ℕ, ◌<◌, ◌≤◌, ◌⊎◌, List, ◌++◌, length, sum_by, drop}
 use Rattle.cs_change.specs.declared.group.Group.{Group}
 use Rattle.cs_change.specs.Spelling.{FitsChangeset, changeset_spelling}
-use Rattle.cs_changeset.specs.Reading.{IsFault}
+use Rattle.cs_changeset.specs.Reading.{IsChangesetFault}
 use Rattle.cs_changeset.specs.declared.fault.Fault.{Fault}
 use Rattle.cs_changeset.specs.declared.fault.Fault.TheVariants.{Truncated, NotShortest, BadType, Real, NotUtf8, Patchset, BadMark, BadOperation, BadFlag, Columns, NoKeyColumn, UndefinedHere, KeyChanged}
 use Rattle.cs_changeset.specs.declared.fault.CodecFault.{CodecFault}
@@ -44,7 +44,7 @@ answer_of (At fault offset) = refused fault offset
 -- the first fault of the bytes, or want of memory
 abbrev pub IsRefusal : List ℕ → Answer → Type 0
 IsRefusal bytes answer =
-    (answer ≡ no_memory) ⊎ ((fault : Fault) × (offset : ℕ) × IsFault fault offset bytes × (answer ≡ refused fault offset))
+    (answer ≡ no_memory) ⊎ ((fault : Fault) × (offset : ℕ) × IsChangesetFault fault offset bytes × (answer ≡ refused fault offset))
 
 -- how many changes the groups have
 abbrev pub change_count : List Group → ℕ

@@ -5,7 +5,7 @@ use Rattle.std.specs.List.{flat_map, AllByRecursion}
 use Rattle.cs_value.specs.Catalog.{AreTables}
 use Rattle.cs_change.specs.declared.group.Group.{Group}
 use Rattle.cs_change.specs.Spelling.{changeset_spelling, FitsChangeset}
-use Rattle.cs_changeset.specs.Reading.{IsFault}
+use Rattle.cs_changeset.specs.Reading.{IsChangesetFault}
 use Rattle.cs_changeset.specs.declared.fault.Fault.{Fault}
 use Rattle.cs_normal.specs.Headers.{headers, HasTwoShapes}
 use Rattle.cs_normal.specs.Normal.{normal_spelling}
@@ -64,7 +64,7 @@ pub record IsPartFault (lengths bytes : List ℕ) (fault : Fault) (offset : ℕ)
   pub fit : AllByRecursion FitsChangeset before
   pub spelled : bytes ≡ spellings before ++ (part ++ rest)
   pub parts : lengths ≡ spelled_lengths before ++ (length part ∷ others)
-  pub told : IsFault fault inner part
+  pub told : IsChangesetFault fault inner part
   pub there : offset ≡ length (spellings before) + inner
 
 -- the first part that spells no changeset, or want of memory
@@ -77,7 +77,7 @@ IsPartRefusal lengths bytes answer =
 abbrev pub ReadsPart : ℕ → List ℕ → Result (List Group) Answer → Type 0
 ReadsPart at part (Ok groups) = Spell part groups
 ReadsPart at part (Err answer) =
-    (answer ≡ no_memory) ⊎ ((fault : Fault) × (inner : ℕ) × IsFault fault inner part × (answer ≡ refused fault (at + inner)))
+    (answer ≡ no_memory) ⊎ ((fault : Fault) × (inner : ℕ) × IsChangesetFault fault inner part × (answer ≡ refused fault (at + inner)))
 
 -- this changeset is read, or memory is wanting
 abbrev pub FindsPart : Result (List Group) Answer → List Group → Type 0

@@ -1,12 +1,12 @@
 -- What the library answers where it brings a changeset into normal form (profile of this project).
 use Rattle.std.specs.Prelude.{◌≡◌, ℕ, ◌≤◌, ◌⊎◌, List, length, map, Result, Ok, Err}
 use Rattle.std.specs.Global.{Vec}
-use Rattle.cs_value.specs.Catalog.{AreTables, IsFault as IsTablesFault}
+use Rattle.cs_value.specs.Catalog.{AreTables, IsCatalogFault as IsTablesFault}
 use Rattle.cs_value.specs.declared.catalog.TableDef.{TableDef}
 use Rattle.cs_value.specs.declared.catalog.CatalogFault.{CatalogFault}
 use Rattle.cs_change.specs.declared.group.Group.{Group}
 use Rattle.cs_change.specs.Spelling.{marks_of, changeset_spelling, FitsChangeset}
-use Rattle.cs_changeset.specs.Reading.{IsFault}
+use Rattle.cs_changeset.specs.Reading.{IsChangesetFault}
 use Rattle.cs_changeset.specs.declared.fault.Fault.{Fault}
 use Rattle.cs_normal.specs.Normal.{groups_of, normal_spelling}
 use Rattle.cs_normal.specs.NormalFormOf.{AreFit, IsNormalFormOf, IsUnfit}
@@ -42,7 +42,7 @@ Declare bytes tables = (groups : List Group) × Spell bytes groups × (tables �
 -- the bytes spell no changeset, or one whose headers are no catalog
 abbrev pub DeclareNone : List ℕ → Type 0
 DeclareNone bytes =
-    ((fault : Fault) × (offset : ℕ) × IsFault fault offset bytes)
+    ((fault : Fault) × (offset : ℕ) × IsChangesetFault fault offset bytes)
     ⊎ ((groups : List Group) × (fault : CatalogFault) × Spell bytes groups × IsTablesFault fault (map table_of groups))
 
 -- what reading the tables gives

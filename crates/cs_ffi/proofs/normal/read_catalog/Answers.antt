@@ -1,5 +1,5 @@
 use Rattle.std.proofs.Common.{◌≡◌, ◌∙◌, ap, map, subst, sym, List}
-use Rattle.cs_value.specs.Catalog.{AreTables, IsFault}
+use Rattle.cs_value.specs.Catalog.{AreTables, IsCatalogFault}
 use Rattle.cs_value.specs.declared.catalog.TableDef.{TableDef}
 use Rattle.cs_ffi.specs.NormalAnswers.{table_of}
 use Rattle.cs_ffi.proofs.Tables.{tables-apart}
@@ -19,5 +19,5 @@ returns-clause-only c = λ tables declares.
     let groups = c.as_slice.ensures ∙ found in
     let same : c.in-Ok-tables_of.tables.items ≡ tables =
     c.in-Ok-tables_of.ensures ∙ (ap (λ groups. map table_of groups) groups ∙ sym declares.2) in
-    let P : List TableDef → Type 0 = λ some. IsFault c.in-Err.field-0 some in
+    let P : List TableDef → Type 0 = λ some. IsCatalogFault c.in-Err.field-0 some in
     absurd (tables-apart _ tables declares.3 (subst P same c.in-Err.ensures.fault))
