@@ -12,6 +12,7 @@ use Rattle.cs_hub.specs.Rows.{Rows, row_at}
 use Rattle.cs_hub.specs.Sound.{IsSound, HoldsRows}
 use Rattle.cs_hub.specs.Staged.{TableState, no_rows}
 use Rattle.cs_hub.specs.Tables.{place_at}
+use Rattle.cs_hub.proofs.LogGrown.{no_entry}
 
 no_table : TableDef
 no_table = record { name = []; key_marks = [] }
@@ -41,6 +42,7 @@ fresh_sound catalog log tables empty is =
     rw (empty, is) (record {
       names = names_of catalog;
       rows = holds_none catalog;
+      entries = no_entry catalog [] refl;
       few = lit≤ tt;
       sizes = λ k d lt. absurd (omega (arith, lt));
     })

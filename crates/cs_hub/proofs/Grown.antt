@@ -13,11 +13,14 @@ use Rattle.cs_normal.specs.Changes.{Changes, change_at, IsOrdered}
 use Rattle.cs_normal.specs.Normal.{FitsCatalog, IsNormalChangeset, changes_in, normal_spelling}
 use Rattle.cs_normal.specs.declared.normal.TableChanges.{TableChanges}
 use Rattle.cs_changeset.specs.declared.log.LogEntry.{LogEntry}
+use Rattle.cs_hub.specs.Log.{IsNextEntry}
 use Rattle.cs_hub.specs.Pushes.{entry_with}
 use Rattle.cs_hub.specs.Rows.{Rows, row_at}
 use Rattle.cs_hub.specs.Sound.{IsSound, HoldsRows, FitsMessage}
 use Rattle.cs_hub.specs.Staged.{TableState, held, KeepsRows, AnswersStage, AnswersStages, CommitsOne, Commits, written}
 use Rattle.cs_hub.specs.Tables.{left_at, change_in, place_at, place_after, IsDefinedOn, IsUndefinedOn}
+use Rattle.cs_hub.specs.declared.hub.TheConstants.{MAX_ENTRIES}
+use Rattle.cs_hub.proofs.LogGrown.{one_more}
 use Rattle.cs_hub.proofs.Written.{outcomes_leave, outcomes_refuse}
 
 name_of : TableState → List ℕ
@@ -43,6 +46,7 @@ pub sound_kept : (catalog : List TableDef) (log : List LogEntry) (old new : List
 sound_kept catalog log old new sound kept = record {
   names = names_same old new kept.as_many (λ k d lt. ap (λ (p : List ℕ × Rows). p.0) (kept.same k d)) ∙ sound.names;
   rows = λ k d lt. holds_held log (get_or old k d) (get_or new k d) (kept.same k d) (sound.rows k d (omega (arith, kept.as_many)));
+  entries = sound.entries;
   few = sound.few;
   sizes = sound.sizes;
 }
@@ -59,14 +63,15 @@ holds_grown log changes origin number old new holds staged commits key =
     ap (λ (o : Option Place). unwrap_or o (place_at log old.name key)) at_place in
     rw commits.0 (commits.1 key ∙ sym (grown ∙ is))
 
-pub sound_grown : (catalog : List TableDef) (log : List LogEntry) (changes : List TableChanges) (origin number : ℕ) (old staged new : List TableState) → IsSound catalog log old → KeepsRows old staged → AnswersStages changes staged true → Commits staged new → length log < 4096 → length (normal_spelling changes) < 2 ^ 32 → IsSound catalog (log ++ entry_with origin number changes ∷ []) new
-sound_grown catalog log changes origin number old staged new sound kept answers commits room size =
+pub sound_grown : (catalog : List TableDef) (log : List LogEntry) (changes : List TableChanges) (origin number : ℕ) (old staged new : List TableState) → IsSound catalog log old → KeepsRows old staged → AnswersStages changes staged true → Commits staged new → IsNextEntry catalog log (entry_with origin number changes) → length log < MAX_ENTRIES → length (normal_spelling changes) < 2 ^ 32 → IsSound catalog (log ++ entry_with origin number changes ∷ []) new
+sound_grown catalog log changes origin number old staged new sound kept answers commits entry room size =
     let between = sound_kept catalog log old staged sound kept in
     record {
       names = names_same staged new commits.as_many (λ k d lt. let e = commits.each k d lt in e.0) ∙ between.names;
       rows = λ k d lt.
           let within : k < length staged = omega (arith, commits.as_many) in
           holds_grown log changes origin number (get_or staged k d) (get_or new k d) (between.rows k d within) (answers k d within) (commits.each k d within);
+      entries = one_more catalog log (entry_with origin number changes) sound.entries entry;
       few = simp length-append (omega arith);
       sizes = All-append FitsMessage log (entry_with origin number changes ∷ []) between.sizes (one_size origin number changes size);
     }

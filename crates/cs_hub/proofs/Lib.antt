@@ -1,6 +1,8 @@
 pub mod Bytes
+pub mod Decided
 pub mod Fresh
 pub mod Grown
+pub mod LogGrown
 pub mod OneAnswer
 pub mod Reading
 pub mod Served

@@ -12,9 +12,9 @@ use Rattle.cs_changeset.specs.declared.log.Body.{Body}
 use Rattle.cs_changeset.specs.declared.log.Body.TheVariants.{Changes}
 use Rattle.cs_changeset.specs.declared.log.LogEntry.{LogEntry}
 
--- the changeset of an entry
-abbrev pub changes_of : Body → List TableChanges
-changes_of (Changes changes) = changes
+-- the changeset of an entry's body
+abbrev pub body_changes : Body → List TableChanges
+body_changes (Changes changes) = changes
 
 -- the change at a place: a table's name and the bytes of a key
 abbrev pub change_in : List ℕ → List ℕ → List TableChanges → Option Change
@@ -26,7 +26,7 @@ left_at change place = after_any (action_any change) place
 
 -- what stands at a place after an entry; where its change is not defined, the place stays
 abbrev pub place_after : List ℕ → List ℕ → Place → LogEntry → Place
-place_after name key place entry = unwrap_or (left_at (change_in name key (changes_of entry.body)) place) place
+place_after name key place entry = unwrap_or (left_at (change_in name key (body_changes entry.body)) place) place
 
 -- what stands at a place after a log: none at first
 abbrev pub place_at : List LogEntry → List ℕ → List ℕ → Place

@@ -60,6 +60,7 @@ impl Hub {
     ghost use Rattle.cs_value.specs.declared.catalog.TableDef.{TableDef};
     ghost use Rattle.cs_normal.specs.Normal.{FitsCatalog, normal_spelling};
     ghost use Rattle.cs_hub.specs.Hub.{HubState, fresh, entries_from};
+    ghost use Rattle.cs_hub.specs.Log.{IsLog};
     ghost use Rattle.cs_hub.specs.Rows.{IsInOrder, row_at};
     ghost use Rattle.cs_hub.specs.Tables.{place_at};
     ghost use Rattle.cs_hub.specs.Pushes.{Push, Pushes, PushesIf};
@@ -84,6 +85,9 @@ impl Hub {
     pub fn newest(&self) -> u64
         ensures newest { result ≡ length self.now.log }
         ensures limit { result ≤ MAX_ENTRIES }
+
+        // Each entry is a changeset of the catalog's tables in normal form, defined on the tables before it.
+        ensures log { IsLog self.now.catalog self.now.log }
     {
         self.log.len() as u64
     }

@@ -1,5 +1,7 @@
-use Rattle.std.proofs.Common.{arith, ◌≡◌, length, true, false, inr, refl, ap, rules}
+use Rattle.std.proofs.Common.{arith, ◌≡◌, ◌<◌, length, true, false, refl, ap, sym, rules}
 use Rattle.cs_hub.specs.Hub.{HubState}
+use Rattle.cs_hub.specs.declared.hub.TheConstants.{MAX_ENTRIES}
+use Rattle.cs_hub.proofs.Decided.{conflict, next}
 use Rattle.cs_hub.proofs.Grown.{sound_kept, sound_grown, defined, undefined, answered}
 use Rattle.cs_hub.proofs.hub.Hub.push.Goals as goal
 
@@ -23,15 +25,24 @@ returns-then-not-branch-clause-pushed c =
     let log : c.self.inside.log.items ≡ c.args.self.now.log = ap (λ (h : HubState). h.log) c.self.view_is in
     let many : length c.self.inside.log.items ≡ length c.args.self.now.log = ap length log in
     let undefined_there = undefined _ _ _ _ _ c.self.invariant c.stage.ensures.kept answer c.tables-2.ensures.normal in
-    ((search rules, omega (arith, c.self.inside.log.ok.0), omega (arith, c.self.inside.log.ok.0)), rw (← log) undefined_there, log)
+    rw log (conflict _ _ (search rules) (omega (arith, c.self.inside.log.ok.0)) (omega (arith, c.self.inside.log.ok.0)) (rw (← log) undefined_there))
 
 -- the changes are written, and the push is appended
 pub invariant_of-self-2 : goal.invariant_of-self-2
 invariant_of-self-2 c =
     let answer = answered _ _ _ _ true c.tables-2.ensures.same c.if-not-branch.false c.in_ok-stage.ensures.staged in
+    let catalog : c.self.inside.catalog ≡ c.args.self.now.catalog = ap (λ (h : HubState). h.catalog) c.self.view_is in
     let same : c.in_ok-copy.field-0 ≡ c.args.changes.now = c.in_ok-copy.ensures in
+    let fits = rw (← catalog) at c.requires.fits in
     rw (c.push_reserved.ensures.items, c.reserve.ensures.items, same)
-    (sound_grown _ _ _ _ _ _ _ _ c.self.invariant c.stage.ensures.kept answer c.commit.ensures (omega (arith, c.self.inside.log.ok.0)) (omega (arith, c.requires.size)))
+    (sound_grown _ _ _ _ _ _ _ _ c.self.invariant c.stage.ensures.kept answer c.commit.ensures
+    (record {
+      normal = c.tables-2.ensures.normal;
+      some = search rules;
+      of_catalog = fits;
+      defined = defined _ _ _ _ _ c.self.invariant c.stage.ensures.kept answer fits;
+    })
+    (omega (arith, c.self.inside.log.ok.0)) (omega (arith, c.requires.size)))
 
 pub returns-clause-pushed : goal.returns-clause-pushed
 returns-clause-pushed c =
@@ -41,4 +52,5 @@ returns-clause-pushed c =
     let many : length c.self.inside.log.items ≡ length c.args.self.now.log = ap length log in
     let same : c.in_ok-copy.field-0 ≡ c.args.changes.now = c.in_ok-copy.ensures in
     let defined_there = defined _ _ _ _ _ c.self.invariant c.stage.ensures.kept answer (rw (← catalog) at c.requires.fits) in
-    (refl, inr ((search rules, omega (arith, c.self.inside.log.ok.0), omega (arith, c.self.inside.log.ok.0)), rw (← log) defined_there, rw (c.push_reserved.ensures.items, c.reserve.ensures.items, same, log) refl))
+    rw (c.push_reserved.ensures.items, c.reserve.ensures.items, same, log)
+    (next _ _ (search rules) (omega (arith, c.self.inside.log.ok.0)) (omega (arith, c.self.inside.log.ok.0)) (rw (← log) defined_there))
