@@ -14,13 +14,15 @@ use Rattle.cs_normal.specs.Normal.{FitsCatalog, IsNormalChangeset, changes_in, n
 use Rattle.cs_normal.specs.declared.normal.TableChanges.{TableChanges}
 use Rattle.cs_changeset.specs.declared.log.LogEntry.{LogEntry}
 use Rattle.cs_hub.specs.Log.{IsNextEntry}
-use Rattle.cs_hub.specs.Pushes.{entry_with}
+use Rattle.cs_hub.specs.Pushes.{entry_of}
 use Rattle.cs_hub.specs.Rows.{Rows, row_at}
 use Rattle.cs_hub.specs.Sound.{IsSound, HoldsRows, FitsMessage}
 use Rattle.cs_hub.specs.Staged.{TableState, held, KeepsRows, AnswersStage, AnswersStages, CommitsOne, Commits, written}
 use Rattle.cs_hub.specs.Tables.{left_at, change_in, place_at, place_after, IsDefinedOn, IsUndefinedOn}
 use Rattle.cs_hub.specs.declared.hub.TheConstants.{MAX_ENTRIES}
+use Rattle.cs_hub.specs.declared.push.PushHead.{PushHead}
 use Rattle.cs_hub.proofs.LogGrown.{one_more}
+use Rattle.cs_hub.proofs.Served.{push_of}
 use Rattle.cs_hub.proofs.Written.{outcomes_leave, outcomes_refuse}
 
 name_of : TableState → List ℕ
@@ -52,33 +54,33 @@ sound_kept catalog log old new sound kept = record {
 }
 
 -- one table after a push
-holds_grown : (log : List LogEntry) (changes : List TableChanges) (origin number : ℕ) (old new : TableState) → HoldsRows log old → AnswersStage changes old true → CommitsOne old new → HoldsRows (log ++ entry_with origin number changes ∷ []) new
-holds_grown log changes origin number old new holds staged commits key =
+holds_grown : (log : List LogEntry) (changes : List TableChanges) (head : PushHead) (old new : TableState) → HoldsRows log old → AnswersStage changes old true → CommitsOne old new → HoldsRows (log ++ entry_of (push_of head changes) ∷ []) new
+holds_grown log changes head old new holds staged commits key =
     let leaves = outcomes_leave old.rows (changes_in old.name changes) old.staged staged key in
     let at_place : left_at (change_in old.name key changes) (place_at log old.name key) ≡ Some (written old.staged key (row_at key old.rows)) =
     subst (λ (p : Place). left_at (change_in old.name key changes) p ≡ Some (written old.staged key (row_at key old.rows))) (holds key) leaves in
-    let grown : place_at (log ++ entry_with origin number changes ∷ []) old.name key ≡ unwrap_or (left_at (change_in old.name key changes) (place_at log old.name key)) (place_at log old.name key) =
-    fold-append (place_after old.name key) None log (entry_with origin number changes ∷ []) in
+    let grown : place_at (log ++ entry_of (push_of head changes) ∷ []) old.name key ≡ unwrap_or (left_at (change_in old.name key changes) (place_at log old.name key)) (place_at log old.name key) =
+    fold-append (place_after old.name key) None log (entry_of (push_of head changes) ∷ []) in
     let is : unwrap_or (left_at (change_in old.name key changes) (place_at log old.name key)) (place_at log old.name key) ≡ written old.staged key (row_at key old.rows) =
     ap (λ (o : Option Place). unwrap_or o (place_at log old.name key)) at_place in
     rw commits.0 (commits.1 key ∙ sym (grown ∙ is))
 
-pub sound_grown : (catalog : List TableDef) (log : List LogEntry) (changes : List TableChanges) (origin number : ℕ) (old staged new : List TableState) → IsSound catalog log old → KeepsRows old staged → AnswersStages changes staged true → Commits staged new → IsNextEntry catalog log (entry_with origin number changes) → length log < MAX_ENTRIES → length (normal_spelling changes) < 2 ^ 32 → IsSound catalog (log ++ entry_with origin number changes ∷ []) new
-sound_grown catalog log changes origin number old staged new sound kept answers commits entry room size =
+pub sound_grown : (catalog : List TableDef) (log : List LogEntry) (changes : List TableChanges) (head : PushHead) (old staged new : List TableState) → IsSound catalog log old → KeepsRows old staged → AnswersStages changes staged true → Commits staged new → IsNextEntry catalog log (entry_of (push_of head changes)) → length log < MAX_ENTRIES → length (normal_spelling changes) < 2 ^ 32 → IsSound catalog (log ++ entry_of (push_of head changes) ∷ []) new
+sound_grown catalog log changes head old staged new sound kept answers commits entry room size =
     let between = sound_kept catalog log old staged sound kept in
     record {
       names = names_same staged new commits.as_many (λ k d lt. let e = commits.each k d lt in e.0) ∙ between.names;
       rows = λ k d lt.
           let within : k < length staged = omega (arith, commits.as_many) in
-          holds_grown log changes origin number (get_or staged k d) (get_or new k d) (between.rows k d within) (answers k d within) (commits.each k d within);
-      entries = one_more catalog log (entry_with origin number changes) sound.entries entry;
+          holds_grown log changes head (get_or staged k d) (get_or new k d) (between.rows k d within) (answers k d within) (commits.each k d within);
+      entries = one_more catalog log (entry_of (push_of head changes)) sound.entries entry;
       few = simp length-append (omega arith);
-      sizes = All-append FitsMessage log (entry_with origin number changes ∷ []) between.sizes (one_size origin number changes size);
+      sizes = All-append FitsMessage log (entry_of (push_of head changes) ∷ []) between.sizes (one_size head changes size);
     }
   where
-    one_size : (origin number : ℕ) (changes : List TableChanges) → length (normal_spelling changes) < 2 ^ 32 → All FitsMessage (entry_with origin number changes ∷ [])
-    one_size origin number changes size zero d lt = size
-    one_size origin number changes size (suc k) d lt = absurd (omega (arith, lt))
+    one_size : (head : PushHead) (changes : List TableChanges) → length (normal_spelling changes) < 2 ^ 32 → All FitsMessage (entry_of (push_of head changes) ∷ [])
+    one_size head changes size zero d lt = size
+    one_size head changes size (suc k) d lt = absurd (omega (arith, lt))
 
 -- ---- whether the changeset is defined
 

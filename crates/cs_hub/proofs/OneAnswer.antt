@@ -3,7 +3,7 @@ use Rattle.std.proofs.Common.{◌≡◌, List, Result, sym, ◌∙◌}
 use Rattle.cs_changeset.specs.declared.log.LogEntry.{LogEntry}
 use Rattle.cs_hub.specs.Laws.{OneAnswer}
 use Rattle.cs_hub.specs.declared.fault.HubFault.{HubFault}
-use Rattle.cs_hub.specs.declared.fault.Pushed.{Pushed}
+use Rattle.cs_hub.specs.declared.push.Pushed.{Pushed}
 use Rattle.cs_hub.proofs.Decided.{one_row}
 
 abbrev Outcome : Type 0

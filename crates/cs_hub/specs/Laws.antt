@@ -4,7 +4,7 @@ use Rattle.cs_changeset.specs.declared.log.LogEntry.{LogEntry}
 use Rattle.cs_hub.specs.Messages.{Asked, Asks}
 use Rattle.cs_hub.specs.Pushes.{Push, Pushes}
 use Rattle.cs_hub.specs.declared.fault.HubFault.{HubFault}
-use Rattle.cs_hub.specs.declared.fault.Pushed.{Pushed}
+use Rattle.cs_hub.specs.declared.push.Pushed.{Pushed}
 
 -- bytes ask one thing: a request that they spell, or the one fault that they have
 abbrev pub OneRequest : Type 0

@@ -8,26 +8,23 @@ use Rattle.cs_hub.specs.Tables.{IsDefinedOn, IsUndefinedOn}
 use Rattle.cs_hub.specs.declared.hub.TheConstants.{MAX_ENTRIES}
 use Rattle.cs_hub.specs.declared.fault.HubFault.{HubFault}
 use Rattle.cs_hub.specs.declared.fault.HubFault.TheVariants.{Memory, Ahead, Conflict, Empty, Full}
-use Rattle.cs_hub.specs.declared.fault.Pushed.{Pushed}
-use Rattle.cs_hub.specs.declared.fault.Pushed.TheVariants.{Accepted, Stale}
+use Rattle.cs_hub.specs.declared.push.PushHead.{PushHead}
+use Rattle.cs_hub.specs.declared.push.Pushed.{Pushed}
+use Rattle.cs_hub.specs.declared.push.Pushed.TheVariants.{Accepted, Stale}
 
 -- a changeset that was made on the tables of the first entries, as many as its base
 pub record Push : Type 0 where
-  pub origin : ℕ
-  pub number : ℕ
-  pub base : ℕ
+  pub head : PushHead
   pub changes : List TableChanges
 
 -- the entry of the log that a push becomes
-abbrev pub entry_with : ℕ → ℕ → List TableChanges → LogEntry
-entry_with origin number changes = record { origin = origin; number = number; body = Changes changes }
-
 abbrev pub entry_of : Push → LogEntry
-entry_of push = entry_with push.origin push.number push.changes
+entry_of push =
+    record { origin = push.head.origin; number = push.head.number; body = Changes push.changes }
 
 -- the entry at its base is this very push
 abbrev pub IsRepeat : List LogEntry → Push → Type 0
-IsRepeat log push = slice_get log push.base ≡ Some (entry_of push)
+IsRepeat log push = slice_get log push.head.base ≡ Some (entry_of push)
 
 -- a row of a table: where its guard holds it decides, else the rows below do
 abbrev pub Row : Type 0 → Type 0 → Type 0 → Type 0
@@ -37,12 +34,12 @@ Row guard decided below = (guard × decided) ⊎ ((guard → ⊥) × below)
 abbrev pub Pushes : List LogEntry → Push → Result Pushed HubFault → List LogEntry → Type 0
 Pushes old push answer new =
     Row (push.changes ≡ []) ((answer ≡ Err Empty) × (new ≡ old))
-    (Row (length old < push.base) ((answer ≡ Err Ahead) × (new ≡ old))
-    (Row (IsRepeat old push) ((answer ≡ Ok (Accepted (push.base + 1))) × (new ≡ old))
-    (Row (push.base < length old) ((answer ≡ Ok (Stale (length old))) × (new ≡ old))
+    (Row (length old < push.head.base) ((answer ≡ Err Ahead) × (new ≡ old))
+    (Row (IsRepeat old push) ((answer ≡ Ok (Accepted (push.head.base + 1))) × (new ≡ old))
+    (Row (push.head.base < length old) ((answer ≡ Ok (Stale (length old))) × (new ≡ old))
     (Row (MAX_ENTRIES ≤ length old) ((answer ≡ Err Full) × (new ≡ old))
     (Row (IsUndefinedOn push.changes old) ((answer ≡ Err Conflict) × (new ≡ old))
-    (IsDefinedOn push.changes old × (answer ≡ Ok (Accepted (push.base + 1))) × (new ≡ old ++ entry_of push ∷ [])))))))
+    (IsDefinedOn push.changes old × (answer ≡ Ok (Accepted (push.head.base + 1))) × (new ≡ old ++ entry_of push ∷ [])))))))
 
 -- the same, or want of memory, which changes nothing
 abbrev pub PushesIf : List LogEntry → Push → Result Pushed HubFault → List LogEntry → Type 0

@@ -35,7 +35,7 @@ invariant_of-self-2 c =
     let same : c.in_ok-copy.field-0 ≡ c.args.changes.now = c.in_ok-copy.ensures in
     let fits = rw (← catalog) at c.requires.fits in
     rw (c.push_reserved.ensures.items, c.reserve.ensures.items, same)
-    (sound_grown _ _ _ _ _ _ _ _ c.self.invariant c.stage.ensures.kept answer c.commit.ensures
+    (sound_grown _ _ c.args.changes.now c.args.head _ _ _ c.self.invariant c.stage.ensures.kept answer c.commit.ensures
     (record {
       normal = c.tables-2.ensures.normal;
       some = search rules;
