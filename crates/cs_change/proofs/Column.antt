@@ -1,6 +1,7 @@
 -- One column of two rows of one key.
 use Rattle.std.proofs.Common.{◌≡◌, Bool, true, not, arith}
-use Rattle.cs_value.specs.Same.{same_value, same_value-tells}
+use Rattle.cs_value.specs.Facts.{same_value-tells}
+use Rattle.cs_value.specs.Same.{same_value}
 use Rattle.cs_value.specs.declared.value.Value.{Value}
 use Rattle.cs_change.specs.Columns.{is_defined, holds, column_fits, field_or}
 use Rattle.cs_change.specs.Net.{old_field, new_field}

@@ -2,7 +2,8 @@
 use Rattle.std.proofs.Common.{◌≡◌, Bool, true, false, refl, arith, ap, sym, ◌∙◌, subst, List, [], ◌∷◌, Some, None, length}
 use Rattle.cs_value.specs.Key.{Place, FitsPlace, HasKey}
 use Rattle.cs_value.specs.Catalog.{marked}
-use Rattle.cs_value.specs.Same.{same_value, same_value-tells, same_value-Decides, same_row, same_row-Decides, same_row-refl}
+use Rattle.cs_value.specs.Facts.{same_value-tells, same_value-Decides, same_row-Decides, same_row-refl}
+use Rattle.cs_value.specs.Same.{same_value, same_row}
 use Rattle.cs_value.specs.declared.value.Value.{Value}
 use Rattle.cs_value.specs.declared.value.Field.{Field}
 use Rattle.cs_value.specs.declared.value.Field.TheVariants.{Undefined, Is}

@@ -1,7 +1,8 @@
 -- Changes taken together and taken back, column by column and row by row.
 use Rattle.std.proofs.Common.{◌≡◌, Bool, true, false, refl, arith, ap, sym, List, Some, None}
 use Rattle.cs_value.specs.Key.{Place, FitsPlace}
-use Rattle.cs_value.specs.Same.{same_value-tells, same_row, same_row-refl, same_row-Decides}
+use Rattle.cs_value.specs.Facts.{same_value-tells, same_row-refl, same_row-Decides}
+use Rattle.cs_value.specs.Same.{same_row}
 use Rattle.cs_value.specs.declared.value.Value.{Value}
 use Rattle.cs_change.specs.Action.{Inserts, Deletes}
 use Rattle.cs_change.specs.Columns.{holds, set_columns, field_or}

@@ -1,28 +1,27 @@
 -- Changes in their bytes.
-use Rattle.std.proofs.Common.{◌≡◌, ℕ, suc, ◌+◌, ◌-◌, ◌<◌, ◌≤◌, Bool, true, false, cond, List, [], ◌∷◌, ◌++◌, length, take, drop, map, Some, None, refl, ap, ◌∙◌, arith, inl, inr, subst, length-append}
+use Rattle.std.proofs.Common.{◌≡◌, ℕ, suc, ◌+◌, ◌-◌, ◌<◌, ◌≤◌, Bool, true, false, cond, List, [], ◌∷◌, ◌++◌, length, take, drop, map, Some, None, refl, ap, ◌∙◌, arith, inl, inr}
 use Rattle.std.specs.Prelude.{◌⊎◌, Err}
 use Rattle.std.proofs.lemmas.List.{length-drop}
 use Rattle.std.specs.List.{AllByRecursion}
-use Rattle.cs_value.specs.Same.{same_value, same_value-Decides}
+use Rattle.cs_value.specs.Facts.{same_value-Decides}
+use Rattle.cs_value.specs.Same.{same_value}
 use Rattle.cs_value.specs.declared.value.Value.{Value}
 use Rattle.cs_value.specs.declared.value.Field.{Field}
 use Rattle.cs_value.specs.declared.value.Field.TheVariants.{Undefined, Is}
 use Rattle.cs_record.specs.Spelling.{field, record_of, Fits}
 use Rattle.cs_record.specs.Reading.{StandsAt}
-use Rattle.cs_record.proofs.Records.{field_fault_within, reaches}
-use Rattle.cs_record.proofs.Sequences.{parts, take-add}
+use Rattle.cs_record.specs.Facts.{field_fault_within, reaches, tail, stands_both, behind_at, behind_within}
 use Rattle.cs_change.specs.Columns.{holds}
 use Rattle.cs_change.specs.declared.change.Change.{Change}
 use Rattle.cs_change.specs.declared.change.Change.TheVariants.{Insert, Delete, Update}
 use Rattle.cs_change.specs.Spelling.{row_bytes, flag_byte, change_spelling, changes_spelling, FitsRow, FitsChange, IsUpdateColumn, AreUpdateColumns}
-use Rattle.cs_changeset.specs.Records.{Rule, InOld, InNew, IsRight, AreRight, IsColumnFault, IsRecordFault, row_rules, old_rules, new_rules}
+use Rattle.cs_changeset.specs.Records.{Rule, InOld, InNew, IsRight, AreRight, IsColumnFault, IsColumnsFault, row_rules, old_rules, new_rules}
 use Rattle.cs_changeset.specs.Reading.{IsUpdateFault, IsRecordsFault, IsFlaggedFault, IsChangeFault, IsChangesFault}
 use Rattle.cs_changeset.specs.Steps.{AreColumnsAt, ReadsFlag, ReadsFlaggedRow, ReadsOperation}
 use Rattle.cs_changeset.specs.declared.fault.CodecFault.{CodecFault}
 use Rattle.cs_changeset.specs.declared.fault.CodecFault.TheVariants.{Memory, At}
 use Rattle.cs_changeset.specs.declared.fault.Fault.{Fault}
 use Rattle.cs_changeset.specs.declared.fault.Fault.TheVariants.{KeyChanged}
-use Rattle.cs_changeset.proofs.Headers.{tail}
 
 -- ---- faults are told within the bytes
 
@@ -30,16 +29,16 @@ column_within : (rule : Rule) (fault : Fault) (offset : ℕ) (bytes : List ℕ) 
 column_within rule fault offset bytes (inl (inner, is, told)) = field_fault_within inner offset bytes told
 column_within rule fault offset bytes (inr (next, rest, is, fits, wrong, there)) = omega (arith, there)
 
-pub record_within : (rules : List Rule) (fault : Fault) (offset : ℕ) (bytes : List ℕ) → IsRecordFault rules fault offset bytes → offset ≤ length bytes
+pub record_within : (rules : List Rule) (fault : Fault) (offset : ℕ) (bytes : List ℕ) → IsColumnsFault rules fault offset bytes → offset ≤ length bytes
 record_within [] fault offset bytes told = absurd told
 record_within (rule ∷ rules) fault offset bytes (inl told) = column_within rule fault offset bytes told
-record_within (rule ∷ rules) fault offset bytes (inr (next, rest, inner, is, right, told, there)) =
-    omega (arith, there, ap length is, length-append (field next) rest, record_within rules fault inner rest told)
+record_within (rule ∷ rules) fault offset bytes (inr told) =
+    behind_within field (IsRight rule) (λ _. IsColumnsFault rules) fault (λ _ o b wrong. record_within rules fault o b wrong) offset bytes told
 
 pub update_within : (marks : List Bool) (fault : Fault) (offset : ℕ) (bytes : List ℕ) → IsUpdateFault marks fault offset bytes → offset ≤ length bytes
 update_within marks fault offset bytes (inl told) = record_within (old_rules marks) fault offset bytes told
-update_within marks fault offset bytes (inr (old, rest, inner, is, right, told, there)) =
-    omega (arith, there, ap length is, length-append (record_of old) rest, record_within (new_rules marks old) fault inner rest told)
+update_within marks fault offset bytes (inr told) =
+    behind_within record_of (AreRight (old_rules marks)) (λ old. IsColumnsFault (new_rules marks old)) fault (λ old o b wrong. record_within (new_rules marks old) fault o b wrong) offset bytes told
 
 -- ---- rows
 
@@ -106,21 +105,13 @@ right_columns (m ∷ marks) (o ∷ old) [] ro rn = absurd rn
 pub update_records : (marks : List Bool) (bytes : List ℕ) (old new : List Field) (at len : ℕ) → AreColumnsAt (old_rules marks) bytes old at → AreColumnsAt (new_rules marks old) (take (length bytes - at) (drop at bytes)) new len
     → AreUpdateColumns marks old new × AllByRecursion Fits old × AllByRecursion Fits new × StandsAt bytes (record_of old ++ record_of new) (at + len)
 update_records marks bytes old new at len (right, stands) (right', stands') =
-    let rest = tail bytes at in
-    let columns = right_columns marks old new right right' in (
-      columns.0,
-      columns.1,
-      columns.2,
-      record {
-        within = omega (arith, stands'.within, ap length rest, length-drop at bytes, stands.within);
-        front = take-add at len bytes ∙ rw (stands.front, rw rest at stands'.front) refl;
-      },
-    )
+    let columns = right_columns marks old new right right' in
+    (columns.0, columns.1, columns.2, stands_both bytes (record_of old) (record_of new) at len stands stands')
 
-pub new_fault_behind : (marks : List Bool) (bytes : List ℕ) (old : List Field) (at : ℕ) (fault : Fault) (inner : ℕ) → AreColumnsAt (old_rules marks) bytes old at → IsRecordFault (new_rules marks old) fault inner (take (length bytes - at) (drop at bytes))
+pub new_fault_behind : (marks : List Bool) (bytes : List ℕ) (old : List Field) (at : ℕ) (fault : Fault) (inner : ℕ) → AreColumnsAt (old_rules marks) bytes old at → IsColumnsFault (new_rules marks old) fault inner (take (length bytes - at) (drop at bytes))
     → IsUpdateFault marks fault (at + inner) bytes
 new_fault_behind marks bytes old at fault inner (right, stands) told =
-    inr (old, drop at bytes, inner, parts bytes (record_of old) at stands, right, subst (IsRecordFault (new_rules marks old) fault inner) (tail bytes at) told, ap (λ (n : ℕ). n + inner) (reaches bytes (record_of old) at stands))
+    inr (behind_at record_of (AreRight (old_rules marks)) (λ old. IsColumnsFault (new_rules marks old)) fault old bytes at inner right stands told)
 
 -- ---- errors that are passed on
 
@@ -152,15 +143,8 @@ takes_bytes bytes change at len within stands =
 
 pub changes_fault : (marks : List Bool) (bytes : List ℕ) (before : List Change) (at : ℕ) (fault : Fault) (inner : ℕ) → AllByRecursion (FitsChange marks) before → StandsAt bytes (changes_spelling before) at
     → IsChangeFault marks fault inner (take (length bytes - at) (drop at bytes)) → IsChangesFault marks fault (at + inner) bytes
-changes_fault marks bytes before at fault inner fits stands told = record {
-  before = before;
-  rest = drop at bytes;
-  inner = inner;
-  fits = fits;
-  parts = parts bytes (changes_spelling before) at stands;
-  told = subst (IsChangeFault marks fault inner) (tail bytes at) told;
-  there = ap (λ (n : ℕ). n + inner) (reaches bytes (changes_spelling before) at stands);
-}
+changes_fault marks bytes before at fault inner fits stands told =
+    behind_at changes_spelling (AllByRecursion (FitsChange marks)) (λ _. IsChangeFault marks) fault before bytes at inner fits stands told
 
 operation_within : (marks : List Bool) (operation : ℕ) (fault : Fault) (offset : ℕ) (behind : List ℕ) → IsFlaggedFault marks operation fault offset behind → offset ≤ suc (length behind)
 operation_within marks operation fault offset [] told = omega (arith, told.1)

@@ -6,12 +6,10 @@ use Rattle.cs_value.specs.declared.value.Field.{Field}
 use Rattle.cs_value.specs.declared.value.Field.TheVariants.{Is}
 use Rattle.cs_record.specs.Spelling.{field, record_of, Fits}
 use Rattle.cs_record.specs.Reading.{StandsAt}
-use Rattle.cs_record.proofs.Sequences.{parts, stands_more}
-use Rattle.cs_record.proofs.Records.{reaches}
-use Rattle.cs_changeset.specs.Records.{Rule, IsRight, AreRight, IsColumnFault, IsRecordFault, field_fault}
+use Rattle.cs_record.specs.Facts.{parts, reaches, stands_more, tail}
+use Rattle.cs_changeset.specs.Records.{Rule, IsRight, AreRight, IsColumnFault, IsColumnsFault, field_fault}
 use Rattle.cs_changeset.specs.Steps.{AreColumnsAt}
 use Rattle.cs_changeset.specs.declared.fault.Fault.{Fault}
-use Rattle.cs_changeset.proofs.Headers.{tail}
 
 -- a whole field that may not stand there
 pub wrong_column : (rule : Rule) (next : Field) (fault : Fault) (bytes : List ℕ) (len : ℕ) → Fits next → StandsAt bytes (field next) len → Some fault ≡ field_fault rule next → IsColumnFault rule fault 0 bytes
@@ -48,20 +46,28 @@ read_one all left rule bytes fields next at len so_far right there = record {
 }
 
 -- behind columns that are right, the rest has the fault
-fault_behind : (done left : List Rule) (fields : List Field) (fault : Fault) (inner : ℕ) (bytes rest : List ℕ) → AreRight done fields → bytes ≡ record_of fields ++ rest → IsRecordFault left fault inner rest
-    → IsRecordFault (done ++ left) fault (length (record_of fields) + inner) bytes
-fault_behind [] left [] fault inner bytes rest right e told = subst (λ (b : List ℕ). IsRecordFault left fault (0 + inner) b) (sym e) (subst (λ (n : ℕ). IsRecordFault left fault n rest) (omega arith) told)
+fault_behind : (done left : List Rule) (fields : List Field) (fault : Fault) (inner : ℕ) (bytes rest : List ℕ) → AreRight done fields → bytes ≡ record_of fields ++ rest → IsColumnsFault left fault inner rest
+    → IsColumnsFault (done ++ left) fault (length (record_of fields) + inner) bytes
+fault_behind [] left [] fault inner bytes rest right e told = subst (λ (b : List ℕ). IsColumnsFault left fault (0 + inner) b) (sym e) (subst (λ (n : ℕ). IsColumnsFault left fault n rest) (omega arith) told)
 fault_behind (d ∷ done) left (f ∷ fields) fault inner bytes rest right e told =
-    inr (f, record_of fields ++ rest, length (record_of fields) + inner, e ∙ append_assoc (field f) (record_of fields) rest, right.0, fault_behind done left fields fault inner (record_of fields ++ rest) rest right.1 refl told, omega (arith, length-append (field f) (record_of fields)))
+    inr (record {
+      before = f;
+      rest = record_of fields ++ rest;
+      inner = length (record_of fields) + inner;
+      whole = right.0;
+      parts = e ∙ append_assoc (field f) (record_of fields) rest;
+      wrong = fault_behind done left fields fault inner (record_of fields ++ rest) rest right.1 refl told;
+      there = omega (arith, length-append (field f) (record_of fields));
+    })
 fault_behind [] left (f ∷ fields) fault inner bytes rest right e told = absurd right
 fault_behind (d ∷ done) left [] fault inner bytes rest right e told = absurd right
 
 pub read_fault : (all left : List Rule) (rule : Rule) (bytes : List ℕ) (fields : List Field) (at : ℕ) (fault : Fault) (inner : ℕ) → ReadTo all (rule ∷ left) bytes fields at → IsColumnFault rule fault inner (take (length bytes - at) (drop at bytes))
-    → IsRecordFault all fault (at + inner) bytes
+    → IsColumnsFault all fault (at + inner) bytes
 read_fault all left rule bytes fields at fault inner so_far told =
-    let here : IsRecordFault (rule ∷ left) fault inner (drop at bytes) = inl (subst (IsColumnFault rule fault inner) (tail bytes at) told) in
+    let here : IsColumnsFault (rule ∷ left) fault inner (drop at bytes) = inl (subst (IsColumnFault rule fault inner) (tail bytes at) told) in
     let whole = fault_behind so_far.done (rule ∷ left) fields fault inner bytes (drop at bytes) so_far.right (parts bytes (record_of fields) at so_far.stands) here in
-    subst (λ (r : List Rule). IsRecordFault r fault (at + inner) bytes) (sym so_far.split) (subst (λ (n : ℕ). IsRecordFault (so_far.done ++ rule ∷ left) fault (n + inner) bytes) (sym (reaches bytes (record_of fields) at so_far.stands)) whole)
+    subst (λ (r : List Rule). IsColumnsFault r fault (at + inner) bytes) (sym so_far.split) (subst (λ (n : ℕ). IsColumnsFault (so_far.done ++ rule ∷ left) fault (n + inner) bytes) (sym (reaches bytes (record_of fields) at so_far.stands)) whole)
 
 pub read_all : (all : List Rule) (bytes : List ℕ) (fields : List Field) (at : ℕ) → ReadTo all [] bytes fields at → AreColumnsAt all bytes fields at
 read_all all bytes fields at so_far = (subst (λ (r : List Rule). AreRight r fields) (sym (so_far.split ∙ append-nil so_far.done)) so_far.right, so_far.stands)

@@ -3,17 +3,23 @@ use Rattle.std.proofs.Common.{◌≡◌, ℕ, ◌+◌, Bool, List, [], ◌∷◌
 use Rattle.std.specs.Prelude.{◌≢◌, ◌⊎◌}
 use Rattle.std.specs.List.{flat_map, AllByRecursion}
 use Rattle.std.proofs.lemmas.Grind.{flat_map-append}
-use Rattle.std.proofs.lemmas.List.{append_cancel_left}
 use Rattle.cs_change.specs.declared.change.Change.{Change}
 use Rattle.cs_change.specs.declared.change.Change.TheVariants.{Insert, Delete, Update}
 use Rattle.cs_change.specs.declared.group.Group.{Group}
 use Rattle.cs_change.specs.Spelling.{marks_of, header_spelling, change_spelling, changes_spelling, group_spelling, changeset_spelling, FitsHeader, FitsChange, FitsChangeset}
-use Rattle.cs_changeset.specs.Reading.{IsHeaderFault, IsChangeFault, IsMarkFault, IsGroupFault, IsGroupsFault, IsFault, ReadsChangeset, Finds, Tells}
+use Rattle.cs_varint.specs.Laws.{VarintLaws}
+use Rattle.cs_record.specs.Facts.{head_same, behind_stays, behind_end}
+use Rattle.cs_record.specs.Laws.{FieldLaws, RecordLaws}
+use Rattle.cs_record.specs.Reading.{FaultBehind}
+use Rattle.cs_changeset.proofs.CodeLaws.{one_fault_code}
+use Rattle.cs_changeset.proofs.GroupLaws.{fault_within}
+use Rattle.cs_changeset.specs.Laws.{OneChangeset, NoFaultAtChangeset, OneChangesetFault, FrontOfChangeset, OneDecoding, ChangesetLaws}
+use Rattle.cs_changeset.specs.Reading.{IsHeaderFault, IsChangeFault, IsMarkFault, IsGroupFault, IsGroupsFault, IsChangesetFault, ReadsChangeset, FindsChangeset, TellsChangesetFault}
 use Rattle.cs_changeset.specs.declared.fault.Fault.{Fault}
 use Rattle.cs_changeset.specs.declared.fault.Fault.TheVariants.{Truncated, NotShortest, BadType, Real, NotUtf8, Patchset, BadMark, BadOperation, BadFlag, Columns, NoKeyColumn, UndefinedHere, KeyChanged}
 use Rattle.cs_changeset.specs.declared.fault.CodecFault.{CodecFault}
 use Rattle.cs_changeset.specs.declared.fault.CodecFault.TheVariants.{Memory, At}
-use Rattle.cs_changeset.proofs.HeaderApart.{headers_apart, header_right, header_stays, one_header}
+use Rattle.cs_changeset.proofs.HeaderApart.{begins_84, header_end, headers_apart, header_right, header_stays, one_header}
 use Rattle.cs_changeset.proofs.ChangeApart.{operation_of, spelled, is_operation, operation_known, changes_apart, change_right, change_stays, one_change, change_end}
 
 data Item : Type 0 where
@@ -49,26 +55,6 @@ IsItemFault (Some marks) fault offset bytes = IsHeaderFault fault offset bytes �
 
 -- ---- one item
 
-begins_84 : (fault : Fault) (offset : ℕ) (bytes : List ℕ) → IsHeaderFault fault offset bytes → (rest : List ℕ) × (bytes ≡ 84 ∷ rest)
-begins_84 Truncated offset bytes (there, inl (rest, is, partial)) = (rest, is)
-begins_84 Truncated offset bytes (there, inr (inl told)) = (_, told.2)
-begins_84 Truncated offset bytes (there, inr (inr told)) = (_, told.2)
-begins_84 NotShortest offset bytes told = (told.0, told.1)
-begins_84 Columns offset bytes told = (_, told.2)
-begins_84 NoKeyColumn offset bytes told = (_, told.2)
-begins_84 NotUtf8 offset bytes told = (_, told.3)
-begins_84 (BadType kind) offset bytes told = absurd told
-begins_84 Real offset bytes told = absurd told
-begins_84 Patchset offset bytes told = absurd told
-begins_84 BadMark offset bytes told = absurd told
-begins_84 BadOperation offset bytes told = absurd told
-begins_84 BadFlag offset bytes told = absurd told
-begins_84 UndefinedHere offset bytes told = absurd told
-begins_84 KeyChanged offset bytes told = absurd told
-
-head_same : {k l : ℕ} {x y : List ℕ} → k ∷ x ≡ l ∷ y → k ≡ l
-head_same e = cc
-
 not_84 : (c : Change) (rest x : List ℕ) → change_spelling c ++ x ≡ 84 ∷ rest → ⊥
 not_84 c rest x e = (operation_known (operation_of c) (is_operation c)).1 (head_same (sym (ap (λ (t : List ℕ). t ++ x) (spelled c)) ∙ e))
 
@@ -85,38 +71,9 @@ change_not_84 marks fault offset (first ∷ more) rest e (inl (inr (inr is), tol
 change_not_84 marks fault offset (first ∷ more) rest e (inr (inl told)) = let first_is : first ≡ 84 = cc in omega (arith, told.0, first_is)
 change_not_84 marks fault offset (first ∷ more) rest e (inr (inr told)) = told.2 (let first_is : first ≡ 84 = cc in first_is)
 
--- the same item stands at the front, and what follows it
-item_same : (s : Option (List Bool)) (a b : Item) (x y : List ℕ) → FitsThere s a → FitsThere s b → item_bytes a ++ x ≡ item_bytes b ++ y → (a ≡ b) × (x ≡ y)
-item_same s (Head m n) (Head m' n') x y fa fb e =
-    let one = headers_apart m n m' n' x y fa fb e in
-    let marks = one.0 in
-    let name = one.1 in
-    (cc, one.2)
-item_same (Some marks) (One a) (One b) x y fa fb e =
-    let same = changes_apart marks a b x y fa fb e in
-    (ap (λ (c : Change). One c) same, append_cancel_left (change_spelling a) x y (e ∙ ap (λ (c : Change). change_spelling c ++ y) (sym same)))
-item_same None (One a) (One b) x y fa fb e = absurd fa
-item_same s (Head m n) (One b) x y fa fb e = absurd (not_84 b _ y (sym e))
-item_same s (One a) (Head m n) x y fa fb e = absurd (not_84 a _ x e)
-
-item_right : (s : Option (List Bool)) (a : Item) (fault : Fault) (offset : ℕ) (bytes x : List ℕ) → FitsThere s a → bytes ≡ item_bytes a ++ x → IsItemFault s fault offset bytes → ⊥
-item_right None (Head m n) fault offset bytes x fits e (inl told) = header_right m n fault offset bytes x fits e told
-item_right None (Head m n) fault offset bytes x fits e (inr told) = mark_not_84 fault offset bytes _ e told
-item_right (Some marks) (Head m n) fault offset bytes x fits e (inl told) = header_right m n fault offset bytes x fits e told
-item_right (Some marks) (Head m n) fault offset bytes x fits e (inr told) = change_not_84 marks fault offset bytes _ e told
-item_right (Some marks) (One c) fault offset bytes x fits e (inl told) = let first = begins_84 fault offset bytes told in not_84 c first.0 x (sym e ∙ first.1)
-item_right (Some marks) (One c) fault offset bytes x fits e (inr told) = change_right marks c fault offset bytes x fits e told
-item_right None (One c) fault offset bytes x fits e told = fits
-
 mark_stays : (fault : Fault) (offset : ℕ) (bytes more : List ℕ) → IsMarkFault fault offset bytes → IsMarkFault fault offset (bytes ++ more)
 mark_stays fault offset [] more told = absurd told
 mark_stays fault offset (first ∷ rest) more told = told
-
-item_stays : (s : Option (List Bool)) (fault : Fault) (offset : ℕ) (bytes more : List ℕ) → fault ≢ Truncated → IsItemFault s fault offset bytes → IsItemFault s fault offset (bytes ++ more)
-item_stays None fault offset bytes more whole (inl told) = inl (header_stays fault offset bytes more whole told)
-item_stays None fault offset bytes more whole (inr told) = inr (mark_stays fault offset bytes more told)
-item_stays (Some marks) fault offset bytes more whole (inl told) = inl (header_stays fault offset bytes more whole told)
-item_stays (Some marks) fault offset bytes more whole (inr told) = inr (change_stays marks fault offset bytes more whole told)
 
 one_mark : (f g : Fault) (o p : ℕ) (bytes : List ℕ) → IsMarkFault f o bytes → IsMarkFault g p bytes → (f ≡ g) × (o ≡ p)
 one_mark f g o p [] told told' = absurd told
@@ -124,16 +81,6 @@ one_mark f g o p (first ∷ rest) (inl told) (inl told') = (told.1 ∙ sym told'
 one_mark f g o p (first ∷ rest) (inr told) (inr told') = (told.2 ∙ sym told'.2, told.3 ∙ sym told'.3)
 one_mark f g o p (first ∷ rest) (inl told) (inr told') = absurd (told'.0 told.0)
 one_mark f g o p (first ∷ rest) (inr told) (inl told') = absurd (told.0 told'.0)
-
-one_item : (s : Option (List Bool)) (f g : Fault) (o p : ℕ) (bytes : List ℕ) → IsItemFault s f o bytes → IsItemFault s g p bytes → (f ≡ g) × (o ≡ p)
-one_item None f g o p bytes (inl told) (inl told') = one_header f g o p bytes told told'
-one_item None f g o p bytes (inr told) (inr told') = one_mark f g o p bytes told told'
-one_item None f g o p bytes (inl told) (inr told') = let first = begins_84 f o bytes told in absurd (mark_not_84 g p bytes first.0 first.1 told')
-one_item None f g o p bytes (inr told) (inl told') = let first = begins_84 g p bytes told' in absurd (mark_not_84 f o bytes first.0 first.1 told)
-one_item (Some marks) f g o p bytes (inl told) (inl told') = one_header f g o p bytes told told'
-one_item (Some marks) f g o p bytes (inr told) (inr told') = one_change marks f g o p bytes told told'
-one_item (Some marks) f g o p bytes (inl told) (inr told') = let first = begins_84 f o bytes told in absurd (change_not_84 marks g p bytes first.0 first.1 told')
-one_item (Some marks) f g o p bytes (inr told) (inl told') = let first = begins_84 g p bytes told' in absurd (change_not_84 marks f o bytes first.0 first.1 told)
 
 no_fault_at_end : (s : Option (List Bool)) (fault : Fault) (offset : ℕ) → IsItemFault s fault offset [] → ⊥
 no_fault_at_end None fault offset (inl told) = let first = begins_84 fault offset [] told in cc
@@ -150,49 +97,11 @@ no_item_at_end (One (Update flag old new)) x e = cc
 -- ---- items one after another
 
 -- items, and behind them one that is wrong
-record Wrong (s : Option (List Bool)) (fault : Fault) (offset : ℕ) (bytes : List ℕ) : Type 0 where
-  pub items : List Item
-  pub rest : List ℕ
-  pub inner : ℕ
-  pub fits : AreItems s items
-  pub parts : bytes ≡ flat_map item_bytes items ++ rest
-  pub told : IsItemFault (after s items) fault inner rest
-  pub there : offset ≡ length (flat_map item_bytes items) + inner
+abbrev Wrong : Option (List Bool) → Fault → ℕ → List ℕ → Type 0
+Wrong s fault offset bytes = FaultBehind (flat_map item_bytes) (AreItems s) (λ items. IsItemFault (after s items)) fault offset bytes
 
 behind_first : (i : Item) (items : List Item) (x : List ℕ) → flat_map item_bytes (i ∷ items) ++ x ≡ item_bytes i ++ (flat_map item_bytes items ++ x)
 behind_first i items x = append_assoc (item_bytes i) (flat_map item_bytes items) x
-
--- where items are spelled to the end, nothing is wrong behind items at the front
-items_right : (s : Option (List Bool)) (whole front : List Item) (x : List ℕ) (fault : Fault) (offset : ℕ) → AreItems s whole → AreItems s front → flat_map item_bytes whole ≡ flat_map item_bytes front ++ x → IsItemFault (after s front) fault offset x → ⊥
-unfolding AreItems after
-items_right s [] [] x fault offset fw ff e told = no_fault_at_end s fault offset (subst (IsItemFault s fault offset) (sym e) told)
-items_right s (w ∷ whole) [] x fault offset fw ff e told = item_right s w fault offset x (flat_map item_bytes whole) fw.0 (sym e) told
-items_right s [] (f ∷ front) x fault offset fw ff e told = no_item_at_end f (flat_map item_bytes front ++ x) (e ∙ behind_first f front x)
-items_right s (w ∷ whole) (f ∷ front) x fault offset fw ff e told =
-    let same = item_same s w f (flat_map item_bytes whole) (flat_map item_bytes front ++ x) fw.0 ff.0 (e ∙ behind_first f front x) in
-    items_right (step s f) whole front x fault offset (subst (λ (i : Item). AreItems (step s i) whole) same.0 fw.1) ff.1 same.1 told
-
-items_same : (s : Option (List Bool)) (a b : List Item) → AreItems s a → AreItems s b → flat_map item_bytes a ≡ flat_map item_bytes b → a ≡ b
-unfolding AreItems
-items_same s [] [] fa fb e = refl
-items_same s (i ∷ a) (j ∷ b) fa fb e =
-    let same = item_same s i j (flat_map item_bytes a) (flat_map item_bytes b) fa.0 fb.0 e in
-    let rest = items_same (step s j) a b (subst (λ (k : Item). AreItems (step s k) a) same.0 fa.1) fb.1 same.1 in
-    ap (λ (k : Item). k ∷ a) same.0 ∙ ap (λ (t : List Item). j ∷ t) rest
-items_same s [] (j ∷ b) fa fb e = absurd (no_item_at_end j (flat_map item_bytes b) e)
-items_same s (i ∷ a) [] fa fb e = absurd (no_item_at_end i (flat_map item_bytes a) (sym e))
-
-wrong_same : (s : Option (List Bool)) (a b : List Item) (x y : List ℕ) (f g : Fault) (o p : ℕ) → AreItems s a → AreItems s b → flat_map item_bytes a ++ x ≡ flat_map item_bytes b ++ y → IsItemFault (after s a) f o x → IsItemFault (after s b) g p y
-    → (length (flat_map item_bytes a) ≡ length (flat_map item_bytes b)) × (f ≡ g) × (o ≡ p)
-unfolding AreItems after
-wrong_same s [] [] x y f g o p fa fb e told told' = let one = one_item s f g o p y (subst (IsItemFault s f o) e told) told' in (refl, one.0, one.1)
-wrong_same s [] (j ∷ b) x y f g o p fa fb e told told' = absurd (item_right s j f o x (flat_map item_bytes b ++ y) fb.0 (e ∙ behind_first j b y) told)
-wrong_same s (i ∷ a) [] x y f g o p fa fb e told told' = absurd (item_right s i g p y (flat_map item_bytes a ++ x) fa.0 (sym e ∙ behind_first i a x) told')
-wrong_same s (i ∷ a) (j ∷ b) x y f g o p fa fb e told told' =
-    let same = item_same s i j (flat_map item_bytes a ++ x) (flat_map item_bytes b ++ y) fa.0 fb.0 (sym (behind_first i a x) ∙ e ∙ behind_first j b y) in
-    let rest = wrong_same (step s j) a b x y f g o p (subst (λ (k : Item). AreItems (step s k) a) same.0 fa.1) fb.1 same.1 (subst (λ (k : Item). IsItemFault (after (step s k) a) f o x) same.0 told) told' in
-    let first : length (item_bytes i) ≡ length (item_bytes j) = ap (λ (k : Item). length (item_bytes k)) same.0 in
-    (length-append (item_bytes i) (flat_map item_bytes a) ∙ omega (arith, first, rest.0, length-append (item_bytes j) (flat_map item_bytes b)), rest.1, rest.2)
 
 -- ---- groups as items
 
@@ -290,93 +199,58 @@ header_item (Some marks) fault offset bytes told = inl told
 group_wrong : (fault : Fault) (offset : ℕ) (bytes : List ℕ) (t : IsGroupsFault fault offset bytes) → IsGroupFault fault t.inner t.rest → Wrong None fault offset bytes
 unfolding AreItems after
 group_wrong fault offset bytes t (inl header) = record {
-  items = items_of t.before;
+  before = items_of t.before;
   rest = t.rest;
   inner = t.inner;
-  fits = groups_fit t.before None t.fits;
+  whole = groups_fit t.before None t.whole;
   parts = t.parts ∙ ap (λ (b : List ℕ). b ++ t.rest) (sym (groups_spelled t.before));
-  told = header_item (after None (items_of t.before)) fault t.inner t.rest header;
+  wrong = header_item (after None (items_of t.before)) fault t.inner t.rest header;
   there = t.there ∙ ap (λ (b : List ℕ). length b + t.inner) (sym (groups_spelled t.before));
 }
 group_wrong fault offset bytes t (inr body) =
-    let changes = body.told in
-    let last = Head body.marks body.name ∷ map (λ c. One c) changes.before in
-    let spelled_last : flat_map item_bytes last ≡ header_spelling body.marks body.name ++ changes_spelling changes.before = ap (λ (b : List ℕ). header_spelling body.marks body.name ++ b) (changes_spelled changes.before) in
-    let spelled_all : flat_map item_bytes (items_of t.before ++ last) ≡ changeset_spelling t.before ++ (header_spelling body.marks body.name ++ changes_spelling changes.before) =
+    let changes = body.wrong in
+    let last = Head body.before.0 body.before.1 ∷ map (λ c. One c) changes.before in
+    let spelled_last : flat_map item_bytes last ≡ header_spelling body.before.0 body.before.1 ++ changes_spelling changes.before = ap (λ (b : List ℕ). header_spelling body.before.0 body.before.1 ++ b) (changes_spelled changes.before) in
+    let spelled_all : flat_map item_bytes (items_of t.before ++ last) ≡ changeset_spelling t.before ++ (header_spelling body.before.0 body.before.1 ++ changes_spelling changes.before) =
     flat_map-append item_bytes (items_of t.before) last ∙ ap (λ (b : List ℕ). b ++ flat_map item_bytes last) (groups_spelled t.before) ∙ ap (λ (b : List ℕ). changeset_spelling t.before ++ b) spelled_last in
-    let state : after None (items_of t.before ++ last) ≡ Some (marks_of body.marks) = after_append None (items_of t.before) last ∙ changes_after (marks_of body.marks) changes.before in
-    let long = length-append (changeset_spelling t.before) (header_spelling body.marks body.name ++ changes_spelling changes.before) in
-    let long' = length-append (header_spelling body.marks body.name) (changes_spelling changes.before) in
+    let state : after None (items_of t.before ++ last) ≡ Some (marks_of body.before.0) = after_append None (items_of t.before) last ∙ changes_after (marks_of body.before.0) changes.before in
+    let long = length-append (changeset_spelling t.before) (header_spelling body.before.0 body.before.1 ++ changes_spelling changes.before) in
+    let long' = length-append (header_spelling body.before.0 body.before.1) (changes_spelling changes.before) in
     record {
-      items = items_of t.before ++ last;
+      before = items_of t.before ++ last;
       rest = changes.rest;
       inner = changes.inner;
-      fits = items_append None (items_of t.before) last (groups_fit t.before None t.fits) (body.header, changes_fit (marks_of body.marks) changes.before changes.fits);
-      parts = t.parts ∙ ap (λ (b : List ℕ). changeset_spelling t.before ++ b) (body.parts ∙ ap (λ (b : List ℕ). header_spelling body.marks body.name ++ b) changes.parts) ∙ simp append_assoc refl ∙ ap (λ (b : List ℕ). b ++ changes.rest) (sym spelled_all);
-      told = subst (λ (s : Option (List Bool)). IsItemFault s fault changes.inner changes.rest) (sym state) (inr changes.told);
+      whole = items_append None (items_of t.before) last (groups_fit t.before None t.whole) (body.whole, changes_fit (marks_of body.before.0) changes.before changes.whole);
+      parts = t.parts ∙ ap (λ (b : List ℕ). changeset_spelling t.before ++ b) (body.parts ∙ ap (λ (b : List ℕ). header_spelling body.before.0 body.before.1 ++ b) changes.parts) ∙ simp append_assoc refl ∙ ap (λ (b : List ℕ). b ++ changes.rest) (sym spelled_all);
+      wrong = subst (λ (s : Option (List Bool)). IsItemFault s fault changes.inner changes.rest) (sym state) (inr changes.wrong);
       there = omega (arith, t.there, body.there, changes.there, long, long', ap length spelled_all);
     }
 
--- ---- what reading says
-
 -- a fault of the bytes, as one behind items
-to_wrong : (fault : Fault) (offset : ℕ) (bytes : List ℕ) → IsFault fault offset bytes → Wrong None fault offset bytes
+to_wrong : (fault : Fault) (offset : ℕ) (bytes : List ℕ) → IsChangesetFault fault offset bytes → Wrong None fault offset bytes
 unfolding AreItems after
 to_wrong fault offset bytes (inl told) = record {
-  items = [];
+  before = [];
   rest = bytes;
   inner = offset;
-  fits = tt;
+  whole = tt;
   parts = refl;
-  told = inr told;
+  wrong = inr told;
   there = omega arith;
 }
-to_wrong fault offset bytes (inr told) = group_wrong fault offset bytes told told.told
-
-wrong_stays : (fault : Fault) (offset : ℕ) (bytes more : List ℕ) → fault ≢ Truncated → Wrong None fault offset bytes → Wrong None fault offset (bytes ++ more)
-wrong_stays fault offset bytes more whole w = record {
-  items = w.items;
-  rest = w.rest ++ more;
-  inner = w.inner;
-  fits = w.fits;
-  parts = ap (λ (b : List ℕ). b ++ more) w.parts ∙ append_assoc (flat_map item_bytes w.items) w.rest more;
-  told = item_stays (after None w.items) fault w.inner w.rest more whole w.told;
-  there = w.there;
-}
-
-not_wrong : (groups : List Group) (fault : Fault) (offset : ℕ) (bytes : List ℕ) → FitsChangeset groups → bytes ≡ changeset_spelling groups → Wrong None fault offset bytes → ⊥
-not_wrong groups fault offset bytes fits e w =
-    items_right None (items_of groups) w.items w.rest fault w.inner (groups_fit groups None fits) w.fits (groups_spelled groups ∙ sym e ∙ w.parts) w.told
-
-one_wrong : (f g : Fault) (o p : ℕ) (bytes : List ℕ) → Wrong None f o bytes → Wrong None g p bytes → (f ≡ g) × (o ≡ p)
-one_wrong f g o p bytes w v =
-    let one = wrong_same None w.items v.items w.rest v.rest f g w.inner v.inner w.fits v.fits (sym w.parts ∙ v.parts) w.told v.told in
-    (one.1, omega (arith, w.there, v.there, one.0, one.2))
+to_wrong fault offset bytes (inr told) = group_wrong fault offset bytes told told.wrong
 
 item_end : (s : Option (List Bool)) (offset : ℕ) (bytes : List ℕ) → IsItemFault s Truncated offset bytes → offset ≡ length bytes
-item_end None offset bytes (inl told) = told.0
+item_end None offset bytes (inl told) = header_end offset bytes told
 item_end None offset [] (inr told) = absurd told
 item_end None offset (first ∷ rest) (inr (inl told)) = let is = told.1 in cc
 item_end None offset (first ∷ rest) (inr (inr told)) = let is = told.2 in cc
-item_end (Some marks) offset bytes (inl told) = told.0
+item_end (Some marks) offset bytes (inl told) = header_end offset bytes told
 item_end (Some marks) offset bytes (inr told) = change_end marks offset bytes told
 
 wrong_end : (offset : ℕ) (bytes : List ℕ) → Wrong None Truncated offset bytes → offset ≡ length bytes
 wrong_end offset bytes w =
-    omega (arith, w.there, item_end (after None w.items) w.inner w.rest w.told, ap length w.parts, length-append (flat_map item_bytes w.items) w.rest)
-
--- what is spelled is read
-pub only_changeset : (bytes : List ℕ) (r : Result (List Group) CodecFault) → ReadsChangeset bytes r → (groups : List Group) → FitsChangeset groups → bytes ≡ changeset_spelling groups → Finds r groups
-only_changeset bytes (Ok found) (fits, is) groups fits' is' =
-    groups_same found groups (items_same None (items_of found) (items_of groups) (groups_fit found None fits) (groups_fit groups None fits') (groups_spelled found ∙ sym is ∙ is' ∙ sym (groups_spelled groups)))
-only_changeset bytes (Err Memory) reads groups fits is = tt
-only_changeset bytes (Err (At fault offset)) reads groups fits is = not_wrong groups fault offset bytes fits is (to_wrong fault offset bytes reads)
-
--- a fault is told
-pub told_changeset : (bytes : List ℕ) (r : Result (List Group) CodecFault) → ReadsChangeset bytes r → (fault : Fault) (offset : ℕ) → IsFault fault offset bytes → Tells r fault offset
-told_changeset bytes (Ok found) (fits, is) fault offset told = not_wrong found fault offset bytes fits is (to_wrong fault offset bytes told)
-told_changeset bytes (Err Memory) reads fault offset told = tt
-told_changeset bytes (Err (At f o)) reads fault offset told = one_wrong f fault o offset bytes (to_wrong f o bytes reads) (to_wrong fault offset bytes told)
+    behind_end (flat_map item_bytes) (AreItems None) (λ items. IsItemFault (after None items)) Truncated (λ items o b early. item_end (after None items) o b early) offset bytes w
 
 truncated_or_not : (fault : Fault) → (fault ≡ Truncated) ⊎ (fault ≢ Truncated)
 truncated_or_not Truncated = inl refl
@@ -393,13 +267,155 @@ truncated_or_not NoKeyColumn = inr (λ e. cc)
 truncated_or_not UndefinedHere = inr (λ e. cc)
 truncated_or_not KeyChanged = inr (λ e. cc)
 
--- a proper front of a spelling that is no spelling itself is Truncated
-pub front_changeset : (bytes : List ℕ) (r : Result (List Group) CodecFault) → ReadsChangeset bytes r → (groups : List Group) (rest : List ℕ) → FitsChangeset groups → changeset_spelling groups ≡ bytes ++ rest
-    → ((others : List Group) → FitsChangeset others → bytes ≡ changeset_spelling others → ⊥) → Tells r Truncated (length bytes)
-front_changeset bytes (Ok found) (fits, is) groups rest fits' e none = absurd (none found fits is)
-front_changeset bytes (Err Memory) reads groups rest fits e none = tt
-front_changeset bytes (Err (At fault offset)) reads groups rest fits e none =
-    elim (truncated_or_not fault) [
-      | inl is ↦ (is, wrong_end offset bytes (subst (λ (f : Fault). Wrong None f offset bytes) is (to_wrong fault offset bytes reads)))
-      | inr other ↦ absurd (not_wrong groups fault offset (bytes ++ rest) fits (sym e) (wrong_stays fault offset bytes rest other (to_wrong fault offset bytes reads)))
-    ]
+module _ (varints : VarintLaws) (fields : FieldLaws) (records : RecordLaws) where
+  -- the same item stands at the front, and what follows it
+  item_same : (s : Option (List Bool)) (a b : Item) (x y : List ℕ) → FitsThere s a → FitsThere s b → item_bytes a ++ x ≡ item_bytes b ++ y → (a ≡ b) × (x ≡ y)
+  item_same s (Head m n) (Head m' n') x y fa fb e =
+      let one = headers_apart varints m n m' n' x y fa fb e in
+      let marks = one.0 in
+      let name = one.1 in
+      (cc, one.2)
+  item_same (Some marks) (One a) (One b) x y fa fb e =
+      let same = changes_apart fields records marks a b x y fa fb e in
+      (ap (λ (c : Change). One c) same.0, same.1)
+  item_same None (One a) (One b) x y fa fb e = absurd fa
+  item_same s (Head m n) (One b) x y fa fb e = absurd (not_84 b _ y (sym e))
+  item_same s (One a) (Head m n) x y fa fb e = absurd (not_84 a _ x e)
+
+  item_right : (s : Option (List Bool)) (a : Item) (fault : Fault) (offset : ℕ) (bytes x : List ℕ) → FitsThere s a → bytes ≡ item_bytes a ++ x → IsItemFault s fault offset bytes → ⊥
+  item_right None (Head m n) fault offset bytes x fits e (inl told) = header_right varints m n fault offset bytes x fits e told
+  item_right None (Head m n) fault offset bytes x fits e (inr told) = mark_not_84 fault offset bytes _ e told
+  item_right (Some marks) (Head m n) fault offset bytes x fits e (inl told) = header_right varints m n fault offset bytes x fits e told
+  item_right (Some marks) (Head m n) fault offset bytes x fits e (inr told) = change_not_84 marks fault offset bytes _ e told
+  item_right (Some marks) (One c) fault offset bytes x fits e (inl told) = let first = begins_84 fault offset bytes told in not_84 c first.0 x (sym e ∙ first.1)
+  item_right (Some marks) (One c) fault offset bytes x fits e (inr told) = change_right fields records marks c fault offset bytes x fits e told
+  item_right None (One c) fault offset bytes x fits e told = fits
+
+  item_stays : (s : Option (List Bool)) (fault : Fault) (offset : ℕ) (bytes more : List ℕ) → fault ≢ Truncated → IsItemFault s fault offset bytes → IsItemFault s fault offset (bytes ++ more)
+  item_stays None fault offset bytes more whole (inl told) = inl (header_stays varints fault offset bytes more whole told)
+  item_stays None fault offset bytes more whole (inr told) = inr (mark_stays fault offset bytes more told)
+  item_stays (Some marks) fault offset bytes more whole (inl told) = inl (header_stays varints fault offset bytes more whole told)
+  item_stays (Some marks) fault offset bytes more whole (inr told) = inr (change_stays fields records marks fault offset bytes more whole told)
+
+  one_item : (s : Option (List Bool)) (f g : Fault) (o p : ℕ) (bytes : List ℕ) → IsItemFault s f o bytes → IsItemFault s g p bytes → (f ≡ g) × (o ≡ p)
+  one_item None f g o p bytes (inl told) (inl told') = one_header varints f g o p bytes told told'
+  one_item None f g o p bytes (inr told) (inr told') = one_mark f g o p bytes told told'
+  one_item None f g o p bytes (inl told) (inr told') = let first = begins_84 f o bytes told in absurd (mark_not_84 g p bytes first.0 first.1 told')
+  one_item None f g o p bytes (inr told) (inl told') = let first = begins_84 g p bytes told' in absurd (mark_not_84 f o bytes first.0 first.1 told)
+  one_item (Some marks) f g o p bytes (inl told) (inl told') = one_header varints f g o p bytes told told'
+  one_item (Some marks) f g o p bytes (inr told) (inr told') = one_change fields records marks f g o p bytes told told'
+  one_item (Some marks) f g o p bytes (inl told) (inr told') = let first = begins_84 f o bytes told in absurd (change_not_84 marks g p bytes first.0 first.1 told')
+  one_item (Some marks) f g o p bytes (inr told) (inl told') = let first = begins_84 g p bytes told' in absurd (change_not_84 marks f o bytes first.0 first.1 told)
+
+  -- ---- items one after another
+
+  -- where items are spelled to the end, nothing is wrong behind items at the front
+  items_right : (s : Option (List Bool)) (whole front : List Item) (x : List ℕ) (fault : Fault) (offset : ℕ) → AreItems s whole → AreItems s front → flat_map item_bytes whole ≡ flat_map item_bytes front ++ x → IsItemFault (after s front) fault offset x → ⊥
+  unfolding AreItems after
+  items_right s [] [] x fault offset fw ff e told = no_fault_at_end s fault offset (subst (IsItemFault s fault offset) (sym e) told)
+  items_right s (w ∷ whole) [] x fault offset fw ff e told = item_right s w fault offset x (flat_map item_bytes whole) fw.0 (sym e) told
+  items_right s [] (f ∷ front) x fault offset fw ff e told = no_item_at_end f (flat_map item_bytes front ++ x) (e ∙ behind_first f front x)
+  items_right s (w ∷ whole) (f ∷ front) x fault offset fw ff e told =
+      let same = item_same s w f (flat_map item_bytes whole) (flat_map item_bytes front ++ x) fw.0 ff.0 (e ∙ behind_first f front x) in
+      items_right (step s f) whole front x fault offset (subst (λ (i : Item). AreItems (step s i) whole) same.0 fw.1) ff.1 same.1 told
+
+  items_same : (s : Option (List Bool)) (a b : List Item) → AreItems s a → AreItems s b → flat_map item_bytes a ≡ flat_map item_bytes b → a ≡ b
+  unfolding AreItems
+  items_same s [] [] fa fb e = refl
+  items_same s (i ∷ a) (j ∷ b) fa fb e =
+      let same = item_same s i j (flat_map item_bytes a) (flat_map item_bytes b) fa.0 fb.0 e in
+      let rest = items_same (step s j) a b (subst (λ (k : Item). AreItems (step s k) a) same.0 fa.1) fb.1 same.1 in
+      ap (λ (k : Item). k ∷ a) same.0 ∙ ap (λ (t : List Item). j ∷ t) rest
+  items_same s [] (j ∷ b) fa fb e = absurd (no_item_at_end j (flat_map item_bytes b) e)
+  items_same s (i ∷ a) [] fa fb e = absurd (no_item_at_end i (flat_map item_bytes a) (sym e))
+
+  wrong_same : (s : Option (List Bool)) (a b : List Item) (x y : List ℕ) (f g : Fault) (o p : ℕ) → AreItems s a → AreItems s b → flat_map item_bytes a ++ x ≡ flat_map item_bytes b ++ y → IsItemFault (after s a) f o x → IsItemFault (after s b) g p y
+      → (length (flat_map item_bytes a) ≡ length (flat_map item_bytes b)) × (f ≡ g) × (o ≡ p)
+  unfolding AreItems after
+  wrong_same s [] [] x y f g o p fa fb e told told' = let one = one_item s f g o p y (subst (IsItemFault s f o) e told) told' in (refl, one.0, one.1)
+  wrong_same s [] (j ∷ b) x y f g o p fa fb e told told' = absurd (item_right s j f o x (flat_map item_bytes b ++ y) fb.0 (e ∙ behind_first j b y) told)
+  wrong_same s (i ∷ a) [] x y f g o p fa fb e told told' = absurd (item_right s i g p y (flat_map item_bytes a ++ x) fa.0 (sym e ∙ behind_first i a x) told')
+  wrong_same s (i ∷ a) (j ∷ b) x y f g o p fa fb e told told' =
+      let same = item_same s i j (flat_map item_bytes a ++ x) (flat_map item_bytes b ++ y) fa.0 fb.0 (sym (behind_first i a x) ∙ e ∙ behind_first j b y) in
+      let rest = wrong_same (step s j) a b x y f g o p (subst (λ (k : Item). AreItems (step s k) a) same.0 fa.1) fb.1 same.1 (subst (λ (k : Item). IsItemFault (after (step s k) a) f o x) same.0 told) told' in
+      let first : length (item_bytes i) ≡ length (item_bytes j) = ap (λ (k : Item). length (item_bytes k)) same.0 in
+      (length-append (item_bytes i) (flat_map item_bytes a) ∙ omega (arith, first, rest.0, length-append (item_bytes j) (flat_map item_bytes b)), rest.1, rest.2)
+
+  wrong_stays : (fault : Fault) (offset : ℕ) (bytes more : List ℕ) → fault ≢ Truncated → Wrong None fault offset bytes → Wrong None fault offset (bytes ++ more)
+  wrong_stays fault offset bytes more whole w =
+      behind_stays (flat_map item_bytes) (AreItems None) (λ items. IsItemFault (after None items)) fault more (λ items o b wrong. item_stays (after None items) fault o b more whole wrong) offset bytes w
+
+  not_wrong : (groups : List Group) (fault : Fault) (offset : ℕ) (bytes : List ℕ) → FitsChangeset groups → bytes ≡ changeset_spelling groups → Wrong None fault offset bytes → ⊥
+  not_wrong groups fault offset bytes fits e w =
+      items_right None (items_of groups) w.before w.rest fault w.inner (groups_fit groups None fits) w.whole (groups_spelled groups ∙ sym e ∙ w.parts) w.wrong
+
+  -- ---- the laws
+
+  one_changeset : OneChangeset
+  one_changeset a b fa fb e =
+      groups_same a b (items_same None (items_of a) (items_of b) (groups_fit a None fa) (groups_fit b None fb) (groups_spelled a ∙ e ∙ sym (groups_spelled b)))
+
+  changeset_right : NoFaultAtChangeset
+  changeset_right groups fault offset fits told = not_wrong groups fault offset (changeset_spelling groups) fits refl (to_wrong fault offset (changeset_spelling groups) told)
+
+  one_changeset_fault : OneChangesetFault
+  one_changeset_fault f g o p bytes a b =
+      let w = to_wrong f o bytes a in
+      let v = to_wrong g p bytes b in
+      let one = wrong_same None w.before v.before w.rest v.rest f g w.inner v.inner w.whole v.whole (sym w.parts ∙ v.parts) w.wrong v.wrong in
+      (one.1, omega (arith, w.there, v.there, one.0, one.2))
+
+  changeset_front : FrontOfChangeset
+  changeset_front groups fault offset bytes rest fits e told =
+      elim (truncated_or_not fault) [
+        | inl is ↦ (is, wrong_end offset bytes (subst (λ (f : Fault). Wrong None f offset bytes) is (to_wrong fault offset bytes told)))
+        | inr other ↦ absurd (not_wrong groups fault offset (bytes ++ rest) fits (sym e) (wrong_stays fault offset bytes rest other (to_wrong fault offset bytes told)))
+      ]
+
+  one_answer : OneDecoding
+  one_answer bytes (Ok a) (Ok b) (fits, is) (fits', is') = inr (inr (ap (λ (g : List Group). Ok g) (one_changeset a b fits fits' (sym is ∙ is'))))
+  one_answer bytes (Ok a) (Err (At f o)) (fits, is) told = absurd (changeset_right a f o fits (subst (IsChangesetFault f o) is told))
+  one_answer bytes (Err (At f o)) (Ok a) told (fits, is) = absurd (changeset_right a f o fits (subst (IsChangesetFault f o) is told))
+  one_answer bytes (Err (At f o)) (Err (At g p)) a b =
+      let one = one_changeset_fault f g o p bytes a b in
+      let fault = one.0 in
+      let offset = one.1 in
+      inr (inr (cc))
+  one_answer bytes (Err Memory) s a b = inl refl
+  one_answer bytes (Ok a) (Err Memory) told b = inr (inl refl)
+  one_answer bytes (Err (At f o)) (Err Memory) told b = inr (inl refl)
+
+  pub changeset_laws : ChangesetLaws
+  changeset_laws = record {
+    one = one_changeset;
+    right = changeset_right;
+    fault = one_changeset_fault;
+    within = fault_within;
+    front = changeset_front;
+    answer = one_answer;
+    headers = λ m n m' n' x y fits fits' e. headers_apart varints m n m' n' x y fits fits' e;
+    changes = λ marks a b x y fits fits' e. changes_apart fields records marks a b x y fits fits' e;
+    code = one_fault_code;
+  }
+
+-- ---- what reading says
+
+module _ (laws : ChangesetLaws) where
+  -- what is spelled is read
+  pub only_changeset : (bytes : List ℕ) (r : Result (List Group) CodecFault) → ReadsChangeset bytes r → (groups : List Group) → FitsChangeset groups → bytes ≡ changeset_spelling groups → FindsChangeset r groups
+  only_changeset bytes (Ok found) (fits, is) groups fits' is' = laws.one found groups fits fits' (sym is ∙ is')
+  only_changeset bytes (Err Memory) reads groups fits is = tt
+  only_changeset bytes (Err (At fault offset)) reads groups fits is = laws.right groups fault offset fits (subst (IsChangesetFault fault offset) is reads)
+
+  -- a fault is told
+  pub told_changeset : (bytes : List ℕ) (r : Result (List Group) CodecFault) → ReadsChangeset bytes r → (fault : Fault) (offset : ℕ) → IsChangesetFault fault offset bytes → TellsChangesetFault r fault offset
+  told_changeset bytes (Ok found) (fits, is) fault offset told = laws.right found fault offset fits (subst (IsChangesetFault fault offset) is told)
+  told_changeset bytes (Err Memory) reads fault offset told = tt
+  told_changeset bytes (Err (At f o)) reads fault offset told = laws.fault f fault o offset bytes reads told
+
+  -- a front of a spelling that is no spelling itself is Truncated
+  pub front_changeset : (bytes : List ℕ) (r : Result (List Group) CodecFault) → ReadsChangeset bytes r → (groups : List Group) (rest : List ℕ) → FitsChangeset groups → changeset_spelling groups ≡ bytes ++ rest
+      → ((others : List Group) → FitsChangeset others → bytes ≡ changeset_spelling others → ⊥) → TellsChangesetFault r Truncated (length bytes)
+  front_changeset bytes (Ok found) (fits, is) groups rest fits' e none = absurd (none found fits is)
+  front_changeset bytes (Err Memory) reads groups rest fits e none = tt
+  front_changeset bytes (Err (At fault offset)) reads groups rest fits e none = laws.front groups fault offset bytes rest fits e reads

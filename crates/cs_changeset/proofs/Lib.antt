@@ -6,3 +6,4 @@ pub mod RecordApart
 pub mod HeaderApart
 pub mod ChangeApart
 pub mod Items
+pub mod CodeLaws

@@ -1,3 +1,5 @@
 pub mod Records
 pub mod Reading
 pub mod Steps
+pub mod Laws
+pub mod Codes

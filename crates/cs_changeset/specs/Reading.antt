@@ -1,13 +1,12 @@
 -- What reading a changeset gives (SQLite's "changeset format"; the faults and their offsets are this project's).
 use Rattle.std.specs.Prelude.{◌≡◌, ◌≢◌, ℕ, ◌+◌, ◌<◌, ◌≤◌, ◌⊎◌, ◌^◌, Bool, true, false, List, [], ◌∷◌, ◌++◌, length, IsUtf8, Result, Ok, Err}
 use Rattle.std.specs.List.{list_any, AllByRecursion}
-use Rattle.cs_varint.specs.Varint.{spelling, IsPartial, IsTooLong}
-use Rattle.cs_value.specs.declared.value.Field.{Field}
+use Rattle.cs_varint.specs.Varint.{spelling, IsPartialVarint, IsTooLong}
 use Rattle.cs_record.specs.Spelling.{record_of}
-use Rattle.cs_change.specs.declared.change.Change.{Change}
+use Rattle.cs_record.specs.Reading.{FaultBehind}
 use Rattle.cs_change.specs.declared.group.Group.{Group}
 use Rattle.cs_change.specs.Spelling.{is_nonzero, marks_of, header_spelling, changes_spelling, changeset_spelling, FitsHeader, FitsChange, FitsChangeset}
-use Rattle.cs_changeset.specs.Records.{AreRight, IsRecordFault, row_rules, old_rules, new_rules}
+use Rattle.cs_changeset.specs.Records.{AreRight, IsColumnsFault, row_rules, old_rules, new_rules}
 use Rattle.cs_changeset.specs.declared.fault.Fault.{Fault}
 use Rattle.cs_changeset.specs.declared.fault.Fault.TheVariants.{Truncated, NotShortest, NotUtf8, Patchset, BadMark, BadOperation, BadFlag, Columns, NoKeyColumn}
 use Rattle.cs_changeset.specs.declared.fault.CodecFault.{CodecFault}
@@ -15,11 +14,11 @@ use Rattle.cs_changeset.specs.declared.fault.CodecFault.TheVariants.{Memory, At}
 
 -- ---- headers; the bytes begin with the header's
 
-abbrev pub HasWidth : List ℕ → Type 0
-HasWidth marks = (0 < length marks) × (length marks ≤ 2000)
+abbrev pub FitsCount : List ℕ → Type 0
+FitsCount marks = (0 < length marks) × (length marks ≤ 2000)
 
-abbrev pub HasKey : List ℕ → Type 0
-HasKey marks = HasWidth marks × (list_any is_nonzero marks ≡ true)
+abbrev pub FitsMarks : List ℕ → Type 0
+FitsMarks marks = FitsCount marks × (list_any is_nonzero marks ≡ true)
 
 abbrev pub HasNoZero : List ℕ → Type 0
 HasNoZero name = AllByRecursion (λ byte. byte ≢ 0) name
@@ -27,34 +26,62 @@ HasNoZero name = AllByRecursion (λ byte. byte ≢ 0) name
 -- the front of a header: within its count, its column bytes or its name
 abbrev pub IsPartialHeader : List ℕ → Type 0
 IsPartialHeader bytes =
-    ((rest : List ℕ) × (bytes ≡ 84 ∷ rest) × IsPartial rest)
-    ⊎ ((count : ℕ) × (marks : List ℕ) × (bytes ≡ 84 ∷ (spelling count ++ marks)) × (0 < count) × (count ≤ 2000) × (length marks < count))
-    ⊎ ((marks : List ℕ) × (name : List ℕ) × (bytes ≡ 84 ∷ (spelling (length marks) ++ marks ++ name)) × HasKey marks × HasNoZero name)
+    ((rest : List ℕ) × (bytes ≡ 84 ∷ rest) × IsPartialVarint rest)
+    ⊎ ((count : ℕ) × (marks : List ℕ) × (bytes ≡ 84 ∷ (spelling count ++ marks))
+    × (0 < count) × (count ≤ 2000) × (length marks < count))
+    ⊎ ((marks : List ℕ) × (name : List ℕ) × (bytes ≡ 84 ∷ (spelling (length marks) ++ marks ++ name))
+    × FitsMarks marks × HasNoZero name)
+
+-- what can be wrong with a header: it ends early, its count is longer than it needs to be or out of range, none of its
+-- column bytes marks a key column, or its name is no text
+pub data HeaderFlaw : Type 0 where
+  EndsEarly : HeaderFlaw
+  LongCount : HeaderFlaw
+  BadCount : HeaderFlaw
+  NoKeyMark : HeaderFlaw
+  BadName : HeaderFlaw
+
+-- the flaw of a header, as a fault of a changeset
+abbrev pub of_header : HeaderFlaw → Fault
+of_header EndsEarly = Truncated
+of_header LongCount = NotShortest
+of_header BadCount = Columns
+of_header NoKeyMark = NoKeyColumn
+of_header BadName = NotUtf8
+
+-- which flaw the header at the front has, and where it is told
+abbrev pub IsHeaderFlaw : HeaderFlaw → ℕ → List ℕ → Type 0
+IsHeaderFlaw EndsEarly offset bytes = (offset ≡ length bytes) × IsPartialHeader bytes
+IsHeaderFlaw LongCount offset bytes = (rest : List ℕ) × (bytes ≡ 84 ∷ rest) × IsTooLong rest × (offset ≡ 1)
+IsHeaderFlaw BadCount offset bytes =
+    (count : ℕ) × (rest : List ℕ) × (bytes ≡ 84 ∷ (spelling count ++ rest)) × (count < 2 ^ 64)
+    × ((count ≡ 0) ⊎ (2000 < count)) × (offset ≡ 1)
+IsHeaderFlaw NoKeyMark offset bytes =
+    (marks : List ℕ) × (rest : List ℕ) × (bytes ≡ 84 ∷ (spelling (length marks) ++ marks ++ rest))
+    × FitsCount marks × (list_any is_nonzero marks ≡ false)
+    × (offset ≡ 1 + length (spelling (length marks)))
+IsHeaderFlaw BadName offset bytes =
+    (marks : List ℕ) × (name : List ℕ) × (rest : List ℕ) × (bytes ≡ header_spelling marks name ++ rest)
+    × FitsMarks marks × HasNoZero name × (IsUtf8 name → ⊥)
+    × (offset ≡ 1 + length (spelling (length marks)) + length marks)
 
 -- what is wrong with the header at the front, and where it is told
 abbrev pub IsHeaderFault : Fault → ℕ → List ℕ → Type 0
-IsHeaderFault Truncated offset bytes = (offset ≡ length bytes) × IsPartialHeader bytes
-IsHeaderFault NotShortest offset bytes = (rest : List ℕ) × (bytes ≡ 84 ∷ rest) × IsTooLong rest × (offset ≡ 1)
-IsHeaderFault Columns offset bytes =
-    (count : ℕ) × (rest : List ℕ) × (bytes ≡ 84 ∷ (spelling count ++ rest)) × (count < 2 ^ 64) × ((count ≡ 0) ⊎ (2000 < count)) × (offset ≡ 1)
-IsHeaderFault NoKeyColumn offset bytes =
-    (marks : List ℕ) × (rest : List ℕ) × (bytes ≡ 84 ∷ (spelling (length marks) ++ marks ++ rest)) × HasWidth marks × (list_any is_nonzero marks ≡ false) × (offset ≡ 1 + length (spelling (length marks)))
-IsHeaderFault NotUtf8 offset bytes =
-    (marks : List ℕ) × (name : List ℕ) × (rest : List ℕ) × (bytes ≡ header_spelling marks name ++ rest) × HasKey marks × HasNoZero name × (IsUtf8 name → ⊥) × (offset ≡ 1 + length (spelling (length marks)) + length marks)
-IsHeaderFault _ offset bytes = ⊥
+IsHeaderFault fault offset bytes = (flaw : HeaderFlaw) × (fault ≡ of_header flaw) × IsHeaderFlaw flaw offset bytes
 
 -- ---- changes; the bytes stand in a change's place
 
 -- the old record of an UPDATE is wrong, or it is right and the new one is wrong
 abbrev pub IsUpdateFault : List Bool → Fault → ℕ → List ℕ → Type 0
 IsUpdateFault marks fault offset bytes =
-    IsRecordFault (old_rules marks) fault offset bytes
-    ⊎ ((old : List Field) × (rest : List ℕ) × (inner : ℕ) × (bytes ≡ record_of old ++ rest) × AreRight (old_rules marks) old × IsRecordFault (new_rules marks old) fault inner rest × (offset ≡ length (record_of old) + inner))
+    IsColumnsFault (old_rules marks) fault offset bytes
+    ⊎ FaultBehind record_of (AreRight (old_rules marks)) (λ old. IsColumnsFault (new_rules marks old))
+    fault offset bytes
 
 -- what is wrong with the records of an operation
 abbrev pub IsRecordsFault : List Bool → ℕ → Fault → ℕ → List ℕ → Type 0
 IsRecordsFault marks operation fault offset bytes =
-    (((operation ≡ 18) ⊎ (operation ≡ 9)) × IsRecordFault (row_rules marks) fault offset bytes)
+    (((operation ≡ 18) ⊎ (operation ≡ 9)) × IsColumnsFault (row_rules marks) fault offset bytes)
     ⊎ ((operation ≡ 23) × IsUpdateFault marks fault offset bytes)
 
 abbrev pub IsOperation : ℕ → Type 0
@@ -78,25 +105,16 @@ IsChangeFault marks fault offset (operation ∷ rest) =
 -- ---- groups
 
 -- whole changes, and behind them something that is wrong in a change's place
-pub record IsChangesFault (marks : List Bool) (fault : Fault) (offset : ℕ) (bytes : List ℕ) : Type 0 where
-  pub before : List Change
-  pub rest : List ℕ
-  pub inner : ℕ
-  pub fits : AllByRecursion (FitsChange marks) before
-  pub parts : bytes ≡ changes_spelling before ++ rest
-  pub told : IsChangeFault marks fault inner rest
-  pub there : offset ≡ length (changes_spelling before) + inner
+abbrev pub IsChangesFault : List Bool → Fault → ℕ → List ℕ → Type 0
+IsChangesFault marks fault offset bytes =
+    FaultBehind changes_spelling (AllByRecursion (FitsChange marks)) (λ _. IsChangeFault marks) fault offset bytes
 
--- a whole header, and behind it changes with a fault
-pub record IsBodyFault (fault : Fault) (offset : ℕ) (bytes : List ℕ) : Type 0 where
-  pub marks : List ℕ
-  pub name : List ℕ
-  pub rest : List ℕ
-  pub inner : ℕ
-  pub header : FitsHeader marks name
-  pub parts : bytes ≡ header_spelling marks name ++ rest
-  pub told : IsChangesFault (marks_of marks) fault inner rest
-  pub there : offset ≡ length (header_spelling marks name) + inner
+-- a whole header of these column bytes and this name, and behind it changes with a fault
+abbrev pub IsBodyFault : Fault → ℕ → List ℕ → Type 0
+IsBodyFault fault offset bytes =
+    FaultBehind (λ (header : List ℕ × List ℕ). header_spelling header.0 header.1)
+    (λ header. FitsHeader header.0 header.1) (λ header. IsChangesFault (marks_of header.0))
+    fault offset bytes
 
 -- a group begins, and is wrong
 abbrev pub IsGroupFault : Fault → ℕ → List ℕ → Type 0
@@ -109,34 +127,28 @@ IsMarkFault fault offset (mark ∷ rest) =
     ((mark ≡ 80) × (fault ≡ Patchset) × (offset ≡ 0)) ⊎ ((mark ≢ 80) × (mark ≢ 84) × (fault ≡ BadMark) × (offset ≡ 0))
 
 -- whole groups, and behind them one that is wrong
-pub record IsGroupsFault (fault : Fault) (offset : ℕ) (bytes : List ℕ) : Type 0 where
-  pub before : List Group
-  pub rest : List ℕ
-  pub inner : ℕ
-  pub fits : FitsChangeset before
-  pub parts : bytes ≡ changeset_spelling before ++ rest
-  pub told : IsGroupFault fault inner rest
-  pub there : offset ≡ length (changeset_spelling before) + inner
+abbrev pub IsGroupsFault : Fault → ℕ → List ℕ → Type 0
+IsGroupsFault fault offset bytes = FaultBehind changeset_spelling FitsChangeset (λ _. IsGroupFault) fault offset bytes
 
 -- the first fault of bytes that spell no changeset, and where it is told
-abbrev pub IsFault : Fault → ℕ → List ℕ → Type 0
-IsFault fault offset bytes = IsMarkFault fault offset bytes ⊎ IsGroupsFault fault offset bytes
+abbrev pub IsChangesetFault : Fault → ℕ → List ℕ → Type 0
+IsChangesetFault fault offset bytes = IsMarkFault fault offset bytes ⊎ IsGroupsFault fault offset bytes
 
 -- ---- what the reader takes
 
 abbrev pub ReadsChangeset : List ℕ → Result (List Group) CodecFault → Type 0
 ReadsChangeset bytes (Ok groups) = FitsChangeset groups × (bytes ≡ changeset_spelling groups)
 ReadsChangeset bytes (Err Memory) = Unit {0}
-ReadsChangeset bytes (Err (At fault offset)) = IsFault fault offset bytes
+ReadsChangeset bytes (Err (At fault offset)) = IsChangesetFault fault offset bytes
 
 -- this changeset is read, or memory is wanting
-abbrev pub Finds : Result (List Group) CodecFault → List Group → Type 0
-Finds (Ok found) groups = found ≡ groups
-Finds (Err Memory) groups = Unit {0}
-Finds (Err (At fault offset)) groups = ⊥
+abbrev pub FindsChangeset : Result (List Group) CodecFault → List Group → Type 0
+FindsChangeset (Ok found) groups = found ≡ groups
+FindsChangeset (Err Memory) groups = Unit {0}
+FindsChangeset (Err (At fault offset)) groups = ⊥
 
 -- this fault is told, or memory is wanting
-abbrev pub Tells : Result (List Group) CodecFault → Fault → ℕ → Type 0
-Tells (Ok found) fault offset = ⊥
-Tells (Err Memory) fault offset = Unit {0}
-Tells (Err (At told at)) fault offset = (told ≡ fault) × (at ≡ offset)
+abbrev pub TellsChangesetFault : Result (List Group) CodecFault → Fault → ℕ → Type 0
+TellsChangesetFault (Ok found) fault offset = ⊥
+TellsChangesetFault (Err Memory) fault offset = Unit {0}
+TellsChangesetFault (Err (At told at)) fault offset = (told ≡ fault) × (at ≡ offset)

@@ -13,27 +13,30 @@ use Rattle.cs_record.specs.declared.fault.Fault.{Fault as FieldFault}
 use Rattle.cs_change.specs.declared.change.Change.{Change}
 use Rattle.cs_change.specs.declared.group.Group.{Group}
 use Rattle.cs_change.specs.Spelling.{flag_byte, row_bytes, change_spelling, FitsRow, AreUpdateColumns, header_spelling, changes_spelling, group_spelling, FitsHeader, FitsChange, FitsGroup, FitsChangeset, changeset_spelling}
-use Rattle.cs_changeset.specs.Records.{Rule, InRow, of_field, IsRight, AreRight, IsColumnFault, IsRecordFault, row_rules}
-use Rattle.cs_changeset.specs.Reading.{HasKey, IsHeaderFault, IsUpdateFault, IsFlaggedFault, IsChangeFault, IsChangesFault, IsGroupFault, IsGroupsFault}
+use Rattle.cs_changeset.specs.Records.{Rule, InRow, of_field, IsRight, AreRight, IsColumnFault, IsColumnsFault, row_rules}
+use Rattle.cs_changeset.specs.Reading.{FitsMarks, IsHeaderFault, IsUpdateFault, IsFlaggedFault, IsChangeFault, IsChangesFault, IsGroupFault, IsGroupsFault}
 use Rattle.cs_changeset.specs.declared.fault.CodecFault.{CodecFault}
 use Rattle.cs_changeset.specs.declared.fault.CodecFault.TheVariants.{Memory, At}
 
 -- the column count and the column bytes, behind the byte that begins a group
 abbrev pub ReadsColumns : List ℕ → Result (Bor (List ℕ) × ℕ) CodecFault → Type 0
-ReadsColumns behind (Ok found) = HasKey found.0.now × StandsAt behind (spelling (length found.0.now) ++ found.0.now) found.1
+ReadsColumns behind (Ok found) =
+    FitsMarks found.0.now × StandsAt behind (spelling (length found.0.now) ++ found.0.now) found.1
 ReadsColumns behind (Err Memory) = ⊥
 ReadsColumns behind (Err (At fault offset)) = IsHeaderFault fault offset (84 ∷ behind)
 
 abbrev pub ReadsHeader : List ℕ → Result (Bor (List ℕ) × Bor (List ℕ) × ℕ) CodecFault → Type 0
-ReadsHeader behind (Ok found) = FitsHeader found.0.now found.1.now × StandsAt (84 ∷ behind) (header_spelling found.0.now found.1.now) found.2
+ReadsHeader behind (Ok found) =
+    FitsHeader found.0.now found.1.now × StandsAt (84 ∷ behind) (header_spelling found.0.now found.1.now) found.2
 ReadsHeader behind (Err Memory) = ⊥
 ReadsHeader behind (Err (At fault offset)) = IsHeaderFault fault offset (84 ∷ behind)
 
 -- the field at the front
-abbrev pub ReadsField : List ℕ → Result (Field × ℕ) CodecFault → Type 0
-ReadsField bytes (Ok found) = Fits found.0 × StandsAt bytes (field found.0) found.1
-ReadsField bytes (Err Memory) = Unit {0}
-ReadsField bytes (Err (At fault offset)) = (inner : FieldFault) × (fault ≡ of_field inner) × IsFieldFault inner offset bytes
+abbrev pub ReadsOneField : List ℕ → Result (Field × ℕ) CodecFault → Type 0
+ReadsOneField bytes (Ok found) = Fits found.0 × StandsAt bytes (field found.0) found.1
+ReadsOneField bytes (Err Memory) = Unit {0}
+ReadsOneField bytes (Err (At fault offset)) =
+    (inner : FieldFault) × (fault ≡ of_field inner) × IsFieldFault inner offset bytes
 
 abbrev pub ReadsValue : List ℕ → Result (Value × ℕ) CodecFault → Type 0
 ReadsValue bytes (Ok found) = IsRight InRow (Is found.0) × StandsAt bytes (field (Is found.0)) found.1
@@ -53,35 +56,40 @@ AreColumnsAt rules bytes fields len = AreRight rules fields × StandsAt bytes (r
 abbrev pub ReadsRow : List Bool → List ℕ → Result (Vec Value × ℕ) CodecFault → Type 0
 ReadsRow marks bytes (Ok found) = AreColumnsAt (row_rules marks) bytes (map (λ v. Is v) found.0.items) found.1
 ReadsRow marks bytes (Err Memory) = Unit {0}
-ReadsRow marks bytes (Err (At fault offset)) = IsRecordFault (row_rules marks) fault offset bytes
+ReadsRow marks bytes (Err (At fault offset)) = IsColumnsFault (row_rules marks) fault offset bytes
 
-abbrev pub ReadsRecord : List Rule → List ℕ → Result (Vec Field × ℕ) CodecFault → Type 0
-ReadsRecord rules bytes (Ok found) = AreColumnsAt rules bytes found.0.items found.1
-ReadsRecord rules bytes (Err Memory) = Unit {0}
-ReadsRecord rules bytes (Err (At fault offset)) = IsRecordFault rules fault offset bytes
+abbrev pub ReadsAllColumns : List Rule → List ℕ → Result (Vec Field × ℕ) CodecFault → Type 0
+ReadsAllColumns rules bytes (Ok found) = AreColumnsAt rules bytes found.0.items found.1
+ReadsAllColumns rules bytes (Err Memory) = Unit {0}
+ReadsAllColumns rules bytes (Err (At fault offset)) = IsColumnsFault rules fault offset bytes
 
 -- the flag behind an operation's byte, and what follows it
 abbrev pub ReadsFlag : List ℕ → Result (Bool × Bor (List ℕ)) CodecFault → Type 0
 ReadsFlag behind (Ok found) = behind ≡ flag_byte found.0 ∷ found.1.now
 ReadsFlag behind (Err Memory) = ⊥
-ReadsFlag behind (Err (At fault offset)) = (marks : List Bool) (operation : ℕ) → IsFlaggedFault marks operation fault offset behind
+ReadsFlag behind (Err (At fault offset)) =
+    (marks : List Bool) (operation : ℕ) → IsFlaggedFault marks operation fault offset behind
 
 -- the flag and the row behind an operation's byte
 abbrev pub ReadsFlaggedRow : List Bool → List ℕ → Result (Bool × List Value × ℕ) CodecFault → Type 0
-ReadsFlaggedRow marks behind (Ok found) = FitsRow (length marks) found.1 × StandsAt behind (flag_byte found.0 ∷ row_bytes found.1) found.2
+ReadsFlaggedRow marks behind (Ok found) =
+    FitsRow (length marks) found.1 × StandsAt behind (flag_byte found.0 ∷ row_bytes found.1) found.2
 ReadsFlaggedRow marks behind (Err Memory) = Unit {0}
-ReadsFlaggedRow marks behind (Err (At fault offset)) = (operation : ℕ) → (operation ≡ 18) ⊎ (operation ≡ 9) → IsFlaggedFault marks operation fault offset behind
+ReadsFlaggedRow marks behind (Err (At fault offset)) =
+    (operation : ℕ) → (operation ≡ 18) ⊎ (operation ≡ 9) → IsFlaggedFault marks operation fault offset behind
 
 -- the two records of an UPDATE
 abbrev pub ReadsUpdate : List Bool → List ℕ → Result (List Field × List Field × ℕ) CodecFault → Type 0
 ReadsUpdate marks bytes (Ok found) =
-    AreUpdateColumns marks found.0 found.1 × AllByRecursion Fits found.0 × AllByRecursion Fits found.1 × StandsAt bytes (record_of found.0 ++ record_of found.1) found.2
+    AreUpdateColumns marks found.0 found.1 × AllByRecursion Fits found.0 × AllByRecursion Fits found.1
+    × StandsAt bytes (record_of found.0 ++ record_of found.1) found.2
 ReadsUpdate marks bytes (Err Memory) = Unit {0}
 ReadsUpdate marks bytes (Err (At fault offset)) = IsUpdateFault marks fault offset bytes
 
 -- the change whose operation stands before these bytes
 abbrev pub ReadsOperation : List Bool → ℕ → List ℕ → Result (Change × ℕ) CodecFault → Type 0
-ReadsOperation marks operation behind (Ok found) = FitsChange marks found.0 × StandsAt (operation ∷ behind) (change_spelling found.0) found.1
+ReadsOperation marks operation behind (Ok found) =
+    FitsChange marks found.0 × StandsAt (operation ∷ behind) (change_spelling found.0) found.1
 ReadsOperation marks operation behind (Err Memory) = Unit {0}
 ReadsOperation marks operation behind (Err (At fault offset)) = IsFlaggedFault marks operation fault offset behind
 
@@ -102,7 +110,9 @@ ReadsChange marks bytes (Err (At fault offset)) = IsChangeFault marks fault offs
 
 -- the changes up to the group's end
 abbrev pub ReadsChanges : List Bool → List ℕ → Result (Vec Change × ℕ) CodecFault → Type 0
-ReadsChanges marks bytes (Ok found) = AllByRecursion (FitsChange marks) found.0.items × StandsAt bytes (changes_spelling found.0.items) found.1 × EndsGroup (drop found.1 bytes)
+ReadsChanges marks bytes (Ok found) =
+    AllByRecursion (FitsChange marks) found.0.items × StandsAt bytes (changes_spelling found.0.items) found.1
+    × EndsGroup (drop found.1 bytes)
 ReadsChanges marks bytes (Err Memory) = Unit {0}
 ReadsChanges marks bytes (Err (At fault offset)) = IsChangesFault marks fault offset bytes
 
@@ -113,7 +123,8 @@ BeginsGroup (next ∷ rest) = next ≡ 84
 
 -- the group at the front
 abbrev pub ReadsGroup : List ℕ → Result (Group × ℕ) CodecFault → Type 0
-ReadsGroup bytes (Ok found) = FitsGroup found.0 × StandsAt bytes (group_spelling found.0) found.1 × EndsGroup (drop found.1 bytes)
+ReadsGroup bytes (Ok found) =
+    FitsGroup found.0 × StandsAt bytes (group_spelling found.0) found.1 × EndsGroup (drop found.1 bytes)
 ReadsGroup bytes (Err Memory) = Unit {0}
 ReadsGroup bytes (Err (At fault offset)) = IsGroupFault fault offset bytes
 

@@ -3,7 +3,7 @@
 ghost use Rattle.std.specs.Prelude.{◌≡◌};
 ghost use Rattle.cs_change.specs.Spelling.{marks_of};
 ghost use Rattle.cs_changeset.specs.Records.{of_field, field_fault, InOld, InNew, old_rules, new_rules};
-ghost use Rattle.cs_changeset.specs.Steps.{ReadsColumn, ReadsField, ReadsRecord, ReadsRow, ReadsValue};
+ghost use Rattle.cs_changeset.specs.Steps.{ReadsColumn, ReadsOneField, ReadsAllColumns, ReadsRow, ReadsValue};
 
 use crate::fault::{CodecFault, Fault};
 use cs_record::RecordFault;
@@ -24,7 +24,7 @@ fn from_field(fault: cs_record::Fault) -> Fault
 
 /// The field at the front, and how many bytes it takes.
 fn read_field(alloc: Global, bytes: &[u8]) -> Result<(Field, usize), CodecFault>
-    ensures { ReadsField bytes.now result }
+    ensures { ReadsOneField bytes.now result }
 {
     match cs_record::decode_field(alloc, bytes) {
         Ok(found) => Ok(found),

@@ -1,6 +1,7 @@
 //! Why bytes are no changeset.
 
 ghost use Rattle.std.specs.Prelude.{◌≡◌};
+ghost use Rattle.cs_changeset.specs.Codes.{fault_code};
 ghost use Rattle.cs_changeset.specs.declared.fault.CodecFault.TheVariants.{Memory, At};
 
 use std::alloc::{AllocError, AllocFailed};
@@ -61,6 +62,27 @@ pub enum CodecFault {
 }
 
 impl Fault {
+    /// The code by which programs tell the fault: 2 to 14. (Profile of this project.)
+    pub fn code(self) -> u8
+        ensures { result ≡ fault_code self }
+    {
+        match self {
+            Fault::Truncated => 2,
+            Fault::NotShortest => 3,
+            Fault::BadType(_) => 4,
+            Fault::Real => 5,
+            Fault::NotUtf8 => 6,
+            Fault::Patchset => 7,
+            Fault::BadMark => 8,
+            Fault::BadOperation => 9,
+            Fault::BadFlag => 10,
+            Fault::Columns => 11,
+            Fault::NoKeyColumn => 12,
+            Fault::UndefinedHere => 13,
+            Fault::KeyChanged => 14,
+        }
+    }
+
     /// The fault, told at an offset.
     pub(crate) fn at(self, offset: usize) -> CodecFault
         ensures { result ≡ At self offset }

@@ -8,6 +8,7 @@ mod changes;
 mod columns;
 mod fault;
 mod header;
+pub mod laws;
 mod log;
 mod reading;
 mod records;

@@ -3,7 +3,7 @@
 ghost use Rattle.std.specs.Prelude.{◌≡◌, ◌≤◌, ◌++◌, ℕ, List, length};
 ghost use Rattle.cs_change.specs.Spelling.{changeset_spelling, FitsChangeset};
 ghost use Rattle.cs_change.specs.declared.group.Group.{Group};
-ghost use Rattle.cs_changeset.specs.Reading.{Finds, IsFault, ReadsChangeset, Tells};
+ghost use Rattle.cs_changeset.specs.Reading.{FindsChangeset, IsChangesetFault, ReadsChangeset, TellsChangesetFault};
 ghost use Rattle.cs_changeset.specs.Steps.{BeginsGroup, EndsGroup, ReadsGroup, ReadsGroups};
 ghost use Rattle.cs_changeset.specs.declared.fault.Fault.{Fault};
 ghost use Rattle.cs_changeset.specs.declared.fault.Fault.TheVariants.{Truncated};
@@ -11,6 +11,7 @@ ghost use Rattle.cs_changeset.specs.declared.fault.Fault.TheVariants.{Truncated}
 use crate::changes::read_changes;
 use crate::fault::{CodecFault, Fault};
 use crate::header::header;
+use crate::laws;
 use cs_change::{Changeset, Group};
 use cs_value::{Items, Text};
 use std::alloc::Global;
@@ -78,17 +79,23 @@ pub fn decode(alloc: Global, bytes: &[u8]) -> Result<Changeset, CodecFault>
     ensures reads { ReadsChangeset bytes.now result }
 
     // What the bytes spell is read, or memory is wanting.
-    ensures only { (groups : List Group) → FitsChangeset groups → bytes.now ≡ changeset_spelling groups → Finds result groups }
+    ensures only { (groups : List Group) → FitsChangeset groups → bytes.now ≡ changeset_spelling groups
+        → FindsChangeset result groups }
 
-    // A fault of the bytes is told, or memory is wanting. So there is one, and none where a changeset is spelled.
-    ensures told { (fault : Fault) (offset : ℕ) → IsFault fault offset bytes.now → Tells result fault offset }
+    // A fault of the bytes is told, or memory is wanting. There is one (`laws::changesets`).
+    ensures told { (fault : Fault) (offset : ℕ) → IsChangesetFault fault offset bytes.now
+        → TellsChangesetFault result fault offset }
 
     // A fault is told within the bytes, or at their end.
-    ensures within { (fault : Fault) (offset : ℕ) → IsFault fault offset bytes.now → offset ≤ length bytes.now }
+    ensures within { (fault : Fault) (offset : ℕ) → IsChangesetFault fault offset bytes.now
+        → offset ≤ length bytes.now }
 
     // A front of a spelling that is no spelling itself is Truncated.
-    ensures front { (groups : List Group) (rest : List ℕ) → FitsChangeset groups → changeset_spelling groups ≡ bytes.now ++ rest
-        → ((others : List Group) → FitsChangeset others → bytes.now ≡ changeset_spelling others → ⊥) → Tells result Truncated (length bytes.now) }
+    ensures front { (groups : List Group) (rest : List ℕ) → FitsChangeset groups
+        → changeset_spelling groups ≡ bytes.now ++ rest
+        → ((others : List Group) → FitsChangeset others → bytes.now ≡ changeset_spelling others → ⊥)
+        → TellsChangesetFault result Truncated (length bytes.now) }
 {
+    laws::changesets();
     read_changeset(alloc, bytes)
 }

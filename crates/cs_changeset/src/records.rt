@@ -3,7 +3,7 @@
 ghost use Rattle.std.specs.Prelude.{◌≡◌, ◌<◌, ◌≤◌, length};
 ghost use Rattle.cs_change.specs.Spelling.{marks_of};
 ghost use Rattle.cs_changeset.specs.Records.{old_rules, new_rules};
-ghost use Rattle.cs_changeset.specs.Steps.{ReadsRecord, ReadsRow};
+ghost use Rattle.cs_changeset.specs.Steps.{ReadsAllColumns, ReadsRow};
 
 use crate::columns::{read_new, read_old, read_value};
 use crate::fault::CodecFault;
@@ -41,7 +41,7 @@ pub fn read_olds(
     bytes: &[u8],
     marks: &[u8],
 ) -> Result<(Vec<Field>, usize), CodecFault>
-    ensures { ReadsRecord (old_rules (marks_of marks.now)) bytes.now result }
+    ensures { ReadsAllColumns (old_rules (marks_of marks.now)) bytes.now result }
 {
     let mut fields = Vec::new(alloc);
     let mut at = 0;
@@ -67,7 +67,7 @@ pub fn read_news(
     marks: &[u8],
     old: &[Field],
 ) -> Result<(Vec<Field>, usize), CodecFault>
-    ensures { ReadsRecord (new_rules (marks_of marks.now) old.now) bytes.now result }
+    ensures { ReadsAllColumns (new_rules (marks_of marks.now) old.now) bytes.now result }
 {
     let mut fields = Vec::new(alloc);
     let mut at = 0;

@@ -239,3 +239,36 @@ fn faults_of_changes(rt: HostRuntime) -> Result<(), Fail> {
     }
     Ok(())
 }
+
+#[test]
+fn names_and_codes_of_faults(rt: HostRuntime) -> Result<(), Fail> {
+    let alloc = rt.alloc();
+    let cases = [
+        (Fault::Truncated, "Truncated at 7", 2),
+        (Fault::NotShortest, "NotShortest at 7", 3),
+        (Fault::BadType(6), "BadType at 7", 4),
+        (Fault::Real, "Real at 7", 5),
+        (Fault::NotUtf8, "NotUtf8 at 7", 6),
+        (Fault::Patchset, "Patchset at 7", 7),
+        (Fault::BadMark, "BadMark at 7", 8),
+        (Fault::BadOperation, "BadOperation at 7", 9),
+        (Fault::BadFlag, "BadFlag at 7", 10),
+        (Fault::Columns, "Columns at 7", 11),
+        (Fault::NoKeyColumn, "NoKeyColumn at 7", 12),
+        (Fault::UndefinedHere, "UndefinedHere at 7", 13),
+        (Fault::KeyChanged, "KeyChanged at 7", 14),
+    ];
+    for (fault, printed, code) in &cases {
+        assert_eq!(rt; fault.code(), *code);
+        let told = CodecFault::At {
+            fault: *fault,
+            offset: 7,
+        };
+        assert_eq!(rt; format!(in alloc; "{told}")?.as_str(), *printed);
+    }
+    assert_eq!(rt;
+        format!(in alloc; "{}", CodecFault::Memory)?.as_str(),
+        "Memory"
+    );
+    Ok(())
+}

@@ -1,24 +1,25 @@
 -- The inverse of a changeset in normal form is in normal form, leads back, and has it as its inverse.
-use Rattle.std.proofs.Common.{◌≡◌, ◌≢◌, ℕ, Bool, true, false, List, [], ◌∷◌, Option, Some, None, cond, refl, sym, ap, ◌∙◌, get_or}
+use Rattle.std.proofs.Common.{◌≡◌, ◌≢◌, ℕ, Bool, true, false, List, [], ◌∷◌, Option, Some, None, cond, refl, sym, ap, subst, ◌∙◌, inl, inr}
 use Rattle.std.specs.List.{AllByRecursion}
 use Rattle.std.specs.Str.{bytes_eq}
 use Rattle.std.specs.Map.{keys_of}
 use Rattle.std.proofs.lemmas.List.Elements.{All-from_recursion, recursion_from_All}
+use Rattle.cs_value.specs.declared.catalog.TableDef.{TableDef}
 use Rattle.cs_value.specs.declared.value.Value.{Value}
 use Rattle.cs_value.specs.declared.value.Field.{Field}
 use Rattle.cs_value.specs.declared.value.Field.TheVariants.{Undefined, Is}
 use Rattle.cs_change.specs.Action.{action, action_any}
 use Rattle.cs_change.specs.Columns.{is_blank}
-use Rattle.cs_change.specs.Laws.{InverseIsNet}
 use Rattle.cs_change.specs.Normal.{IsNormal, NormalUpdate, no_column, key_column, unmodified, modified}
+use Rattle.cs_change.specs.Spelling.{FitsChange}
 use Rattle.cs_change.specs.Then.{inverse, inverse_any, inverse_old_fields, inverse_new_fields}
 use Rattle.cs_change.specs.declared.change.Change.{Change}
 use Rattle.cs_change.specs.declared.change.Change.TheVariants.{Insert, Delete, Update}
-use Rattle.cs_normal.specs.Changes.{Changes, same_bytes, change_at, key_bytes, IsOrdered, IsEntry, AreNormal}
-use Rattle.cs_normal.specs.Normal.{IsNormalChangeset, changes_in}
+use Rattle.cs_normal.specs.Changes.{Changes, same_bytes, change_at, IsOrdered, IsEntry, AreNormal}
+use Rattle.cs_normal.specs.Normal.{FitsCatalog, IsNormalChangeset, change_of, changes_in}
 use Rattle.cs_normal.specs.declared.normal.TableChanges.{TableChanges}
-use Rattle.cs_group.specs.Inverse.{inverse_change, inverse_changes, inverse_changeset, InverseLeadsBack, InverseTwice}
-use Rattle.cs_group.specs.NetOf.{Rows, HasKeys, IsNetOf}
+use Rattle.cs_group.specs.Inverse.{inverse_change, inverse_changes, inverse_changeset, InverseTwice}
+use Rattle.cs_group.proofs.InRange.{AreInRange, in_range, normal_fits, inverse_in_range}
 
 inverse_update : {marks : List Bool} {key : List Value} {old new : List Field} → NormalUpdate marks key old new → NormalUpdate marks key (inverse_old_fields old new) (inverse_new_fields old new)
 unfolding inverse_old_fields inverse_new_fields
@@ -63,6 +64,16 @@ change_twice marks key (Update flag old new) h =
     let n = new_twice h.0 in
     ap (λ t. Update flag t (inverse_new_fields (inverse_old_fields old new) (inverse_new_fields old new))) o ∙ ap (λ t. Update flag old t) n
 
+same_action : (change : Change) → action (inverse_change change) ≡ inverse (action change)
+unfolding inverse
+same_action (Insert flag new) = refl
+same_action (Delete flag old) = refl
+same_action (Update flag old new) = refl
+
+back_fits : (marks : List Bool) (key : List Value) (change : Change) → IsNormal marks key (action change) → FitsChange marks change → FitsChange marks (inverse_change change)
+back_fits marks key change n f =
+    normal_fits marks key (inverse_change change) (inverse_normal marks key change n) (subst AreInRange (sym (same_action change)) (inverse_in_range (action change) (in_range marks change f)))
+
 -- ---- lists of changes
 
 same_keys : (changes : Changes) → keys_of (inverse_changes changes) ≡ keys_of changes
@@ -75,7 +86,7 @@ inverse_ordered changes o = rw (same_keys changes) o
 inverse_entries : (marks : List Bool) (changes : Changes) → AllByRecursion (IsEntry marks) changes → AllByRecursion (IsEntry marks) (inverse_changes changes)
 inverse_entries marks [] h = tt
 inverse_entries marks (c ∷ changes) h =
-    (record { key = h.0.key; set = h.0.set; bytes = h.0.bytes; normal = inverse_normal marks h.0.key c.1 h.0.normal }, inverse_entries marks changes h.1)
+    (record { key = h.0.key; set = h.0.set; bytes = h.0.bytes; normal = inverse_normal marks h.0.key c.1 h.0.normal; fits = back_fits marks h.0.key c.1 h.0.normal h.0.fits }, inverse_entries marks changes h.1)
 
 changes_twice : (marks : List Bool) (changes : Changes) → AllByRecursion (IsEntry marks) changes → inverse_changes (inverse_changes changes) ≡ changes
 changes_twice marks [] h = refl
@@ -93,16 +104,20 @@ inverse_are_normal marks changes h =
 
 -- ---- changesets
 
+same_names : (name : List ℕ) (tables : List TableChanges) → AllByRecursion (λ (other : TableChanges). name ≢ other.name) tables → AllByRecursion (λ (other : TableChanges). name ≢ other.name) (inverse_changeset tables)
+same_names name [] h = tt
+same_names name (table ∷ tables) h = (h.0, same_names name tables h.1)
+
 pub inverse_changeset_normal : (tables : List TableChanges) → IsNormalChangeset tables → IsNormalChangeset (inverse_changeset tables)
 inverse_changeset_normal [] h = tt
 inverse_changeset_normal (table ∷ tables) h =
-    ((inverse_are_normal table.marks table.changes h.0.0, some_left table.changes h.0.1), inverse_changeset_normal tables h.1)
+    (record { changes = inverse_are_normal table.marks table.changes h.0.changes; some = some_left table.changes h.0.some; header = h.0.header }, same_names table.name tables h.1, inverse_changeset_normal tables h.2)
 
 pub inverse_twice : InverseTwice
 inverse_twice [] h = refl
 inverse_twice (table ∷ tables) h =
-    let one = changes_twice table.marks table.changes (recursion_from_All (IsEntry table.marks) table.changes h.0.0.1) in
-    ap (λ (t : Changes). record { name = table.name; marks = table.marks; changes = t } ∷ inverse_changeset (inverse_changeset tables)) one ∙ ap (λ (t : List TableChanges). table ∷ t) (inverse_twice tables h.1)
+    let one = changes_twice table.marks table.changes (recursion_from_All (IsEntry table.marks) table.changes h.0.changes.1) in
+    ap (λ (t : Changes). record { name = table.name; marks = table.marks; changes = t } ∷ inverse_changeset (inverse_changeset tables)) one ∙ ap (λ (t : List TableChanges). table ∷ t) (inverse_twice tables h.2)
 
 inverse_in : (name : List ℕ) (tables : List TableChanges) → changes_in name (inverse_changeset tables) ≡ inverse_changes (changes_in name tables)
 inverse_in name [] = refl
@@ -116,20 +131,23 @@ any_inverse None = None
 any_inverse (Some change) = Some (inverse_change change)
 
 inverse_at : (key : List ℕ) (changes : Changes) → action_any (change_at key (inverse_changes changes)) ≡ inverse_any (action_any (change_at key changes))
-unfolding inverse
 inverse_at key [] = refl
 inverse_at key ((k, c) ∷ changes) =
     let rest = inverse_at key changes in
-    let one : (d : Change) → action (inverse_change d) ≡ inverse (action d) = elim [ Insert flag new ↦ refl | Delete flag old ↦ refl | Update flag old new ↦ refl ] in
-    let split : (b : Bool) → action_any (cond b (Some (inverse_change c)) (change_at key (inverse_changes changes))) ≡ inverse_any (action_any (cond b (Some c) (change_at key changes))) = elim [ true ↦ ap (λ a. Some a) (one c) | false ↦ rest ] in
+    let split : (b : Bool) → action_any (cond b (Some (inverse_change c)) (change_at key (inverse_changes changes))) ≡ inverse_any (action_any (cond b (Some c) (change_at key changes))) = elim [ true ↦ ap (λ a. Some a) (same_action c) | false ↦ rest ] in
     split (same_bytes key k)
 
-table_back : InverseIsNet → (marks : List Bool) (changes : Changes) (before after : Rows) → HasKeys marks before → HasKeys marks after → IsNetOf marks changes before after → IsNetOf marks (inverse_changes changes) after before
-table_back law marks changes before after kb ka is key spelled =
-    inverse_at (key_bytes key) changes ∙ ap inverse_any (is key spelled) ∙ law marks key (before key) (after key) (kb key spelled) (ka key spelled)
+-- the action at a place, taken back
+pub inverse_place : (name key : List ℕ) (changes : List TableChanges) → action_any (change_of name key (inverse_changeset changes)) ≡ inverse_any (action_any (change_of name key changes))
+inverse_place name key changes =
+    ap (λ (cs : Changes). action_any (change_at key cs)) (inverse_in name changes) ∙ inverse_at key (changes_in name changes)
 
-pub leads_back : InverseIsNet → InverseLeadsBack
-leads_back law tables changes before after kb ka is k d within =
-    let table = get_or tables k d in
-    let back = table_back law table.key_marks (changes_in table.name changes) (before table.name) (after table.name) (kb k d within) (ka k d within) (is k d within) in
-    rw (inverse_in table.name changes) back
+pub inverse_fits : (tables : List TableDef) (changes : List TableChanges) → FitsCatalog tables changes → FitsCatalog tables (inverse_changeset changes)
+inverse_fits [] [] f = tt
+inverse_fits (table ∷ tables) [] f = tt
+inverse_fits [] (first ∷ others) f = absurd f
+inverse_fits (table ∷ tables) (first ∷ others) f =
+    elim f [
+      | inl here ↦ inl (here.0, inverse_fits tables others here.1)
+      | inr behind ↦ inr (inverse_fits tables (first ∷ others) behind)
+    ]

@@ -16,15 +16,14 @@ use Rattle.std.proofs.lemmas.List.Elements.{All-from_recursion}
 use Rattle.std.proofs.lemmas.Map.{lookup-remove_entry}
 use Rattle.std.proofs.lemmas.Map.Keys.{sorted_head, sorted_tail, IsDistinct-from_sorted}
 use Rattle.std.proofs.lemmas.Map.Lookups.{exact_bytes}
-use Rattle.cs_change.specs.Laws.{NetTakes}
 use Rattle.cs_change.specs.declared.change.Change.{Change}
 use Rattle.cs_normal.specs.Changes.{Changes, by_bytes, same_bytes, change_at, IsOrdered, IsEntry, AreNormal}
 use Rattle.cs_normal.specs.Normal.{changes_in}
 use Rattle.cs_normal.specs.declared.normal.TableChanges.{TableChanges}
-use Rattle.cs_group.specs.Combine.{combine, IsThen}
-use Rattle.cs_group.specs.Joining.{seen, HoldsEntries, IsReady, IsAdded, AreSpelledIfAny}
-use Rattle.cs_group.specs.Tables.{changes_along, combine_all}
-use Rattle.cs_group.proofs.Entries.{IsEntryIfAny, pair_entry}
+use Rattle.cs_group.specs.Combine.{then_change_any, IsThen}
+use Rattle.cs_group.specs.Joining.{seen, HoldsEntries, IsReady, IsAdded}
+use Rattle.cs_group.specs.Tables.{changes_along, then_change_all}
+use Rattle.cs_group.proofs.Entries.{IsEntryIfAny, PairLaws, pair_entry}
 use Rattle.cs_group.proofs.MergeLaws.{by_test, same_is, none_at}
 
 Pairs : Type 0
@@ -100,12 +99,12 @@ nothing_put k q changes none =
 
 module _ (marks : List Bool) (k : List ℕ) (later : Change) (old left now : Changes) (earlier change : Option Change)
     (found : earlier ≡ change_at k old) (gone : (q : List ℕ) → change_at q left ≡ cond (same_bytes q k) None (change_at q old))
-    (made : change ≡ combine marks earlier (Some later)) (was_put : (q : List ℕ) → change_at q now ≡ cond (same_bytes q k) change (change_at q left)) where
+    (made : change ≡ then_change_any marks earlier (Some later)) (was_put : (q : List ℕ) → change_at q now ≡ cond (same_bytes q k) change (change_at q left)) where
   pub is_added : IsAdded marks (k, later) old now
   is_added q =
       by_test (same_bytes q k) _ (λ e.
       let is = same_is q k e in
-      let here : change ≡ combine marks (change_at q old) (Some later) = made ∙ ap (λ x. combine marks x (Some later)) (found ∙ ap (λ b. change_at b old) (sym is)) in
+      let here : change ≡ then_change_any marks (change_at q old) (Some later) = made ∙ ap (λ x. then_change_any marks x (Some later)) (found ∙ ap (λ b. change_at b old) (sym is)) in
       was_put q ∙ (simp e here)) (λ e. was_put q ∙ (simp e (gone q ∙ simp e refl)))
 
   any_entry : (o : Option Change) → ((c : Change) → o ≡ Some c → IsEntry marks (k, c)) → IsEntryIfAny marks k o
@@ -115,14 +114,14 @@ module _ (marks : List Bool) (k : List ℕ) (later : Change) (old left now : Cha
   entry_is : (o : Option Change) (c : Change) → IsEntryIfAny marks k o → o ≡ Some c → IsEntry marks (k, c)
   entry_is o c h is = let h' = subst (IsEntryIfAny marks k) is h in h'
 
-  made_entry : NetTakes → (o : Option Change) → IsEntryIfAny marks k o → IsEntry marks (k, later) → AreSpelledIfAny o later → IsEntryIfAny marks k (combine marks o (Some later))
-  made_entry law None h l s = l
-  made_entry law (Some e) h l s = pair_entry law marks k e later h l s
+  made_entry : PairLaws → (o : Option Change) → IsEntryIfAny marks k o → IsEntry marks (k, later) → IsEntryIfAny marks k (then_change_any marks o (Some later))
+  made_entry law None h l = l
+  made_entry law (Some e) h l = pair_entry law marks k e later h l
 
-  pub still_entries : NetTakes → HoldsEntries marks old → IsEntry marks (k, later) → AreSpelledIfAny earlier later → HoldsEntries marks now
-  still_entries law entries entry spelled q c at =
+  pub still_entries : PairLaws → HoldsEntries marks old → IsEntry marks (k, later) → HoldsEntries marks now
+  still_entries law entries entry q c at =
       let here : IsEntryIfAny marks k earlier = any_entry earlier (λ c e. entries k c (sym found ∙ e)) in
-      let new : IsEntryIfAny marks k change = subst (IsEntryIfAny marks k) (sym made) (made_entry law earlier here entry spelled) in
+      let new : IsEntryIfAny marks k change = subst (IsEntryIfAny marks k) (sym made) (made_entry law earlier here entry) in
       by_test (same_bytes q k) _ (λ e.
       let is = same_is q k e in
       let same : change ≡ Some c = (let h = sym (was_put q) ∙ at in simp e at h) in
@@ -132,21 +131,21 @@ module _ (marks : List Bool) (k : List ℕ) (later : Change) (old left now : Cha
 
 -- ---- the changes of a changeset are taken
 
-pub combine_none : (marks : List Bool) (o : Option Change) → combine marks o None ≡ o
+pub combine_none : (marks : List Bool) (o : Option Change) → then_change_any marks o None ≡ o
 combine_none marks None = refl
 combine_none marks (Some c) = refl
 
 pub added_then : (marks : List Bool) (old now rest : Changes) (keyed : List ℕ × Change) → IsOrdered (keyed ∷ rest) → IsAdded marks keyed old now
-    → (q : List ℕ) → combine marks (change_at q now) (change_at q rest) ≡ combine marks (change_at q old) (change_at q (keyed ∷ rest))
+    → (q : List ℕ) → then_change_any marks (change_at q now) (change_at q rest) ≡ then_change_any marks (change_at q old) (change_at q (keyed ∷ rest))
 added_then marks old now rest keyed o added q =
     by_test (same_bytes q keyed.0) _ (λ e.
     let is = same_is q keyed.0 e in
     let none : change_at q rest ≡ None = subst (λ (b : List ℕ). change_at b rest ≡ None) (sym is) (none_at keyed.0 rest (sorted_head by_bytes keyed.0 _ o)) in
     let at = added q in
-    let at' : change_at q now ≡ combine marks (change_at q old) (Some keyed.1) = at ∙ simp e refl in
-    ap (λ x. combine marks x (change_at q rest)) at' ∙ ap (λ x. combine marks (combine marks (change_at q old) (Some keyed.1)) x) none ∙ combine_none marks _ ∙ simp e refl) (λ e.
+    let at' : change_at q now ≡ then_change_any marks (change_at q old) (Some keyed.1) = at ∙ simp e refl in
+    ap (λ x. then_change_any marks x (change_at q rest)) at' ∙ ap (λ x. then_change_any marks (then_change_any marks (change_at q old) (Some keyed.1)) x) none ∙ combine_none marks _ ∙ simp e refl) (λ e.
     let at' : change_at q now ≡ change_at q old = added q ∙ simp e refl in
-    ap (λ x. combine marks x (change_at q rest)) at' ∙ simp e refl)
+    ap (λ x. then_change_any marks x (change_at q rest)) at' ∙ simp e refl)
 
 pub ordered_rest : (keyed : List ℕ × Change) (rest : Changes) → IsOrdered (keyed ∷ rest) → IsOrdered rest
 ordered_rest keyed rest o = sorted_tail by_bytes keyed.0 _ o
@@ -170,8 +169,8 @@ nothing_ready marks changes is = rw is (tt, λ q c e. cc)
 -- ---- the changesets of a list are taken
 
 pub folded_more : (marks : List Bool) (name q : List ℕ) (old now : Changes) (first : List TableChanges) (rest : List (List TableChanges)) → IsThen marks old (changes_in name first) now
-    → fold (combine marks) (change_at q now) (changes_along name q rest) ≡ fold (combine marks) (change_at q old) (changes_along name q (first ∷ rest))
-folded_more marks name q old now first rest is = ap (λ x. fold (combine marks) x (changes_along name q rest)) (is q)
+    → fold (then_change_any marks) (change_at q now) (changes_along name q rest) ≡ fold (then_change_any marks) (change_at q old) (changes_along name q (first ∷ rest))
+folded_more marks name q old now first rest is = ap (λ x. fold (then_change_any marks) x (changes_along name q rest)) (is q)
 
 pub on_ok : {T E : Type 0} (r : Result T E) (P Q : Type 0) → (P → Q) → OnOk r P → OnOk r Q
 on_ok (Ok x) P Q h p = h p
@@ -182,8 +181,8 @@ on_ok_both (Ok x) P Q R h p q = h p q
 on_ok_both (Err e) P Q R h p q = tt
 
 pub joined_end : (marks : List Bool) (name : List ℕ) (rest list : List (List TableChanges)) (held : Changes) → length rest ≡ 0 → IsReady marks held
-    → ((key : List ℕ) → fold (combine marks) (change_at key held) (changes_along name key rest) ≡ combine_all marks (changes_along name key list))
-    → (changes : Changes) → changes ≡ held → AreNormal marks changes × ((key : List ℕ) → change_at key changes ≡ combine_all marks (changes_along name key list))
+    → ((key : List ℕ) → fold (then_change_any marks) (change_at key held) (changes_along name key rest) ≡ then_change_all marks (changes_along name key list))
+    → (changes : Changes) → changes ≡ held → AreNormal marks changes × ((key : List ℕ) → change_at key changes ≡ then_change_all marks (changes_along name key list))
 joined_end marks name [] list held none ready folded changes is =
     rw is (ready_normal marks held ready, folded)
 joined_end marks name (first ∷ rest) list held none ready folded changes is = absurd (omega (arith, none))

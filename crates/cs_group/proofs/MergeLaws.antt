@@ -49,7 +49,7 @@ pub merge_above : {marks : List Bool} {a b r : Changes} (low : List ℕ) → Mer
 merge_above low ended ha hb = tt
 merge_above low (earlier g m) ha hb = (ha.0, merge_above low m ha.1 hb)
 merge_above low (later g m) ha hb = (hb.0, merge_above low m ha hb.1)
-merge_above {marks} low (both {key = key} {x = x} {y = y} {r = r} spelled m) ha hb =
+merge_above {marks} low (both {key = key} {x = x} {y = y} {r = r} m) ha hb =
     let rest = merge_above low m ha.1 hb.1 in
     let split : (c : _) → AllAbove low (before key c r) = elim [ None ↦ rest | Some change ↦ (ha.0, rest) ] in
     split (then_change marks x y)
@@ -67,7 +67,7 @@ merge_ordered (earlier {key = key} {change = change} {a = a} {b = b} {r = r} g m
 merge_ordered (later {key = key} {change = change} {a = a} {b = b} {r = r} g m) oa ob =
     let tb = sorted_tail by_bytes key (keys_of b) ob in
     cons_ordered key change r (merge_above key m (above_first key a oa g) (sorted_head by_bytes key (keys_of b) ob)) (merge_ordered m oa tb)
-merge_ordered {marks} (both {key = key} {x = x} {y = y} {a = a} {b = b} {r = r} spelled m) oa ob =
+merge_ordered {marks} (both {key = key} {x = x} {y = y} {a = a} {b = b} {r = r} m) oa ob =
     let ta = sorted_tail by_bytes key (keys_of a) oa in
     let tb = sorted_tail by_bytes key (keys_of b) ob in
     let above = merge_above key m (sorted_head by_bytes key (keys_of a) oa) (sorted_head by_bytes key (keys_of b) ob) in
@@ -90,7 +90,7 @@ merge_then {marks} (later {key = key} {change = change} {a = a} {b = b} {r = r} 
     let is = same_is q key e in
     let none : change_at q a ≡ None = subst (λ (k : List ℕ). change_at k a ≡ None) (sym is) (none_at key a (above_first key a oa g)) in
     simp (e, none) refl) (λ e. simp e (merge_then m oa tb q))
-merge_then {marks} (both {key = key} {x = x} {y = y} {a = a} {b = b} {r = r} spelled m) oa ob q =
+merge_then {marks} (both {key = key} {x = x} {y = y} {a = a} {b = b} {r = r} m) oa ob q =
     let ta = sorted_tail by_bytes key (keys_of a) oa in
     let tb = sorted_tail by_bytes key (keys_of b) ob in
     let above = merge_above key m (sorted_head by_bytes key (keys_of a) oa) (sorted_head by_bytes key (keys_of b) ob) in

@@ -3,11 +3,10 @@ use Rattle.std.proofs.Common.{◌≡◌, ℕ, Bool, List, [], ◌∷◌, ◌++�
 use Rattle.std.specs.declared.cmp.Ordering.TheVariants.{Less, Greater}
 use Rattle.std.specs.Prelude.{Result, Ok, Err, IfOk}
 use Rattle.std.proofs.lemmas.Cmp.{nat_list_cmp_total}
-use Rattle.cs_change.specs.Action.{action}
 use Rattle.cs_change.specs.declared.change.Change.{Change}
 use Rattle.cs_normal.specs.Changes.{Changes, by_bytes}
 use Rattle.cs_group.specs.Combine.{then_change}
-use Rattle.cs_group.specs.Merges.{Merges, ended, earlier, later, both, GoesBefore, before, ArePairSpelled}
+use Rattle.cs_group.specs.Merges.{Merges, ended, earlier, later, both, GoesBefore, before}
 
 pub no_changes : (changes : Changes) → length changes ≡ 0 → changes ≡ []
 no_changes [] h = refl
@@ -48,9 +47,9 @@ module _ (marks : List Bool) (all_a all_b a b out : Changes) (h : Carries marks 
   before_append key None more = refl
   before_append key (Some change) more = refl
 
-  pub merge_both : (first second : List ℕ × Change) (rest others pushed : Changes) → a ≡ first ∷ rest → b ≡ second ∷ others → first.0 ≡ second.0 → ArePairSpelled (action first.1) (action second.1) → pushed ≡ out ++ before first.0 (then_change marks first.1 second.1) [] → Carries marks all_a all_b rest others pushed
-  merge_both first second rest others pushed ia ib same spelled p more m =
-      let one : Merges marks (first ∷ rest) ((first.0, second.1) ∷ others) (before first.0 (then_change marks first.1 second.1) more) = both spelled m in
+  pub merge_both : (first second : List ℕ × Change) (rest others pushed : Changes) → a ≡ first ∷ rest → b ≡ second ∷ others → first.0 ≡ second.0 → pushed ≡ out ++ before first.0 (then_change marks first.1 second.1) [] → Carries marks all_a all_b rest others pushed
+  merge_both first second rest others pushed ia ib same p more m =
+      let one : Merges marks (first ∷ rest) ((first.0, second.1) ∷ others) (before first.0 (then_change marks first.1 second.1) more) = both m in
       let two : Merges marks (first ∷ rest) (second ∷ others) (before first.0 (then_change marks first.1 second.1) more) = subst (λ (k : List ℕ). Merges marks (first ∷ rest) ((k, second.1) ∷ others) (before first.0 (then_change marks first.1 second.1) more)) same one in
       let start : Merges marks a b (before first.0 (then_change marks first.1 second.1) more) = rw (ia, ib) two in
       rw (p, append_assoc, before_append) (h (before first.0 (then_change marks first.1 second.1) more) start)

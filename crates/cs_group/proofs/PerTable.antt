@@ -1,18 +1,30 @@
 -- What is made table by table, together.
-use Rattle.std.proofs.Common.{◌≡◌, true, false, List, [], ◌∷◌, ◌++◌, refl, sym, ap, ◌∙◌, subst, arith, inl, inr, length, append_assoc, append-nil}
-use Rattle.std.specs.List.{All, AllByRecursion}
+use Rattle.std.proofs.Common.{◌≡◌, ◌≢◌, ℕ, true, false, List, [], ◌∷◌, ◌++◌, refl, sym, ap, ◌∙◌, subst, arith, inl, inr, length, append_assoc, append-nil}
+use Rattle.std.specs.List.{All, AllByRecursion, Contains}
+use Rattle.std.specs.Str.{IsUtf8}
 use Rattle.std.specs.Str.{bytes_eq}
-use Rattle.std.proofs.lemmas.List.Elements.{All-from_recursion, recursion_from_All}
+use Rattle.std.proofs.lemmas.List.Elements.{All-from_recursion, recursion_from_All, All-contains_itself}
+use Rattle.std.proofs.lemmas.Slice.Eq.{bytes_eq-Decides}
 use Rattle.cs_value.specs.Catalog.{AreTables}
 use Rattle.cs_value.specs.declared.catalog.TableDef.{TableDef}
 use Rattle.cs_normal.specs.Changes.{Changes, AreNormal}
-use Rattle.cs_normal.specs.Normal.{FitsCatalog, IsNormalChangeset, changes_in}
+use Rattle.cs_normal.specs.Laws.{CatalogIsApart, FittingIsNormal, HeadersFit}
+use Rattle.cs_normal.specs.Normal.{AreApart, FitsCatalog, IsNormalTable, IsNormalChangeset, changes_in}
 use Rattle.cs_normal.specs.TableByTable.{table_changes}
 use Rattle.cs_normal.specs.declared.normal.TableChanges.{TableChanges}
-use Rattle.cs_normal.proofs.CatalogOrder.{fits_more}
-use Rattle.cs_normal.proofs.Names.{HasOtherName, AreApart, are_apart, named, other_named}
 use Rattle.cs_group.specs.TableByTable.{AreMade, no_table, next, HasNormal, FitsTable}
 use Rattle.cs_group.proofs.Empty.{none_normal}
+use Rattle.cs_group.proofs.MergeLaws.{by_test}
+
+abbrev HasOtherName : TableDef → TableDef → Type 0
+HasOtherName table other = table.name ≢ other.name
+
+named : (name : List ℕ) → bytes_eq name name ≡ true
+named name = (bytes_eq-Decides name name).1 refl
+
+other_named : (some other : List ℕ) → some ≢ other → bytes_eq some other ≡ false
+other_named some other differ =
+    by_test (bytes_eq some other) _ (λ e. absurd (differ ((bytes_eq-Decides some other).0 e))) (λ e. e)
 
 module _ (Holds : TableDef → Changes → Type 0) where
   -- with what is made of the tables that are left, all are made
@@ -33,14 +45,26 @@ module _ (Holds : TableDef → Changes → Type 0) where
 
   pub made_fits : {tables : List TableDef} {made : List TableChanges} → AreMade Holds tables made → FitsCatalog tables made
   made_fits no_table = tt
-  made_fits (next table [] {tables} {made} h rest) = fits_more table tables made (made_fits rest)
+  made_fits (next table [] {tables} {made} h rest) =
+      let behind_one : (normal : List TableChanges) → FitsCatalog tables normal → FitsCatalog (table ∷ tables) normal = elim [ [] ↦ λ f. tt | first ∷ others ↦ λ f. inr f ] in
+      behind_one made (made_fits rest)
   made_fits (next table (change ∷ changes) h rest) = inl ((refl, refl), made_fits rest)
 
-  pub made_normal : ((table : TableDef) (changes : Changes) → Holds table changes → AreNormal table.key_marks changes) → {tables : List TableDef} {made : List TableChanges} → AreMade Holds tables made → IsNormalChangeset made
-  made_normal normal no_table = tt
-  made_normal normal (next table [] h rest) = made_normal normal rest
-  made_normal normal (next table (change ∷ changes) h rest) =
-      ((normal table (change ∷ changes) h, λ e. cc), made_normal normal rest)
+  -- what holds of a table's changes makes a table in normal form
+  abbrev pub IsNormalBy : Type 0
+  IsNormalBy =
+      (table : TableDef) (changes : Changes) → Holds table changes → AreNormal table.key_marks changes × IsUtf8 table.name
+
+  normal_each : HeadersFit → IsNormalBy → (all : List TableDef) → AreTables all → {tables : List TableDef} {made : List TableChanges} → AllByRecursion (Contains all) tables → AreMade Holds tables made → AllByRecursion IsNormalTable made
+  normal_each law normal all are in' no_table = tt
+  normal_each law normal all are in' (next table [] h rest) = normal_each law normal all are in'.1 rest
+  normal_each law normal all are in' (next table (change ∷ changes) h rest) =
+      let of = normal table (change ∷ changes) h in
+      (record { changes = of.0; some = λ e. cc; header = law all table are in'.0 of.1 }, normal_each law normal all are in'.1 rest)
+
+  pub made_normal : HeadersFit → FittingIsNormal → IsNormalBy → (tables : List TableDef) (made : List TableChanges) → AreTables tables → AreMade Holds tables made → IsNormalChangeset made
+  made_normal law fitting normal tables made are h =
+      fitting tables made are (made_fits h) (normal_each law normal tables are (recursion_from_All (Contains tables) tables (All-contains_itself tables)) h)
 
   -- a name that no table has has no changes
   absent : {tables : List TableDef} {made : List TableChanges} (table : TableDef) → AllByRecursion (HasOtherName table) tables → AreMade Holds tables made → changes_in table.name made ≡ []
@@ -69,8 +93,8 @@ module _ (Holds : TableDef → Changes → Type 0) where
       let e = named table.name in
       (simp e h, behind table (change ∷ changes) made tables apart.0 (each_holds apart.1 rest))
 
-  pub made_each : (tables : List TableDef) (made : List TableChanges) → AreTables tables → AreMade Holds tables made → All (HoldsIn made) tables
-  made_each tables made are h = All-from_recursion (HoldsIn made) tables (each_holds (are_apart tables are) h)
+  pub made_each : CatalogIsApart → (tables : List TableDef) (made : List TableChanges) → AreTables tables → AreMade Holds tables made → All (HoldsIn made) tables
+  made_each law tables made are h = All-from_recursion (HoldsIn made) tables (each_holds (law tables are) h)
 
 -- ---- the changes of each table in a changeset that fits
 
@@ -97,16 +121,16 @@ has_each (table ∷ tables) [] apart normal f =
     (none_normal table.key_marks, has_each tables [] apart.1 normal tt)
 has_each (table ∷ tables) (first ∷ others) apart normal (inl (is, f)) =
     let e : bytes_eq first.name table.name ≡ true = ap (λ n. bytes_eq n table.name) is.0 ∙ named table.name in
-    let one = subst (λ marks. AreNormal marks first.changes) is.1 normal.0.0 in
-    (simp e one, has_behind table first others tables is.0 apart.0 (has_each tables others apart.1 normal.1 f))
+    let one = subst (λ marks. AreNormal marks first.changes) is.1 normal.0.changes in
+    (simp e one, has_behind table first others tables is.0 apart.0 (has_each tables others apart.1 normal.2 f))
 has_each (table ∷ tables) (first ∷ others) apart normal (inr f) =
     (subst (AreNormal table.key_marks) (sym (absent_fits table tables (first ∷ others) apart.0 f)) (none_normal table.key_marks), has_each tables (first ∷ others) apart.1 normal f)
 
-pub has_normal : (tables : List TableDef) (changes : List TableChanges) → AreTables tables → IsNormalChangeset changes → FitsCatalog tables changes → AllByRecursion (HasNormal changes) tables
-has_normal tables changes are normal f = has_each tables changes (are_apart tables are) normal f
+pub has_normal : CatalogIsApart → (tables : List TableDef) (changes : List TableChanges) → AreTables tables → IsNormalChangeset changes → FitsCatalog tables changes → AllByRecursion (HasNormal changes) tables
+has_normal law tables changes are normal f = has_each tables changes (law tables are) normal f
 
-pub list_fits : (tables : List TableDef) (list : List (List TableChanges)) → AreTables tables → All (FitsCatalog tables) list → AllByRecursion (λ table. AllByRecursion (FitsTable table) list) tables
-list_fits tables list are fits =
-    let fitting : (changes : List TableChanges) → FitsCatalog tables changes → All (λ table. FitsTable table changes) tables = λ changes f k d within normal. All-from_recursion (HasNormal changes) tables (has_normal tables changes are normal f) k d within in
+pub list_fits : CatalogIsApart → (tables : List TableDef) (list : List (List TableChanges)) → AreTables tables → All (FitsCatalog tables) list → AllByRecursion (λ table. AllByRecursion (FitsTable table) list) tables
+list_fits law tables list are fits =
+    let fitting : (changes : List TableChanges) → FitsCatalog tables changes → All (λ table. FitsTable table changes) tables = λ changes f k d within normal. All-from_recursion (HasNormal changes) tables (has_normal law tables changes are normal f) k d within in
     let each : All (λ table. AllByRecursion (FitsTable table) list) tables = λ k d within. recursion_from_All (FitsTable _) list (λ j d' within'. fitting _ (fits j d' within') k d within) in
     recursion_from_All (λ table. AllByRecursion (FitsTable table) list) tables each

@@ -2,11 +2,9 @@
 use Rattle.std.specs.Prelude.{◌≡◌, ℕ, Bool, List, [], ◌∷◌, Option, Some, None, if◌then◌else◌}
 use Rattle.std.specs.declared.vec.Vec.{Vec}
 use Rattle.std.specs.declared.alloc.Global.{Global}
-use Rattle.cs_change.specs.Action.{action}
 use Rattle.cs_change.specs.declared.change.Change.{Change}
 use Rattle.cs_normal.specs.Changes.{Changes, same_bytes, change_at, IsOrdered, IsEntry}
-use Rattle.cs_group.specs.Combine.{combine}
-use Rattle.cs_group.specs.Merges.{ArePairSpelled}
+use Rattle.cs_group.specs.Combine.{then_change_any}
 
 -- the entries of a map, as changes behind the bytes of their keys
 abbrev pub seen : List (Vec ℕ Global × Change) → Changes
@@ -25,9 +23,4 @@ IsReady marks changes = IsOrdered changes × HoldsEntries marks changes
 -- the changes with one more taken together with that of its key
 abbrev pub IsAdded : List Bool → List ℕ × Change → Changes → Changes → Type 0
 IsAdded marks keyed before after =
-    (key : List ℕ) → change_at key after ≡ (if same_bytes key keyed.0 then combine marks (change_at key before) (Some keyed.1) else change_at key before)
-
--- the rows of a pair whose first change may be missing have spellings
-abbrev pub AreSpelledIfAny : Option Change → Change → Type 0
-AreSpelledIfAny None later = Unit {0}
-AreSpelledIfAny (Some earlier) later = ArePairSpelled (action earlier) (action later)
+    (key : List ℕ) → change_at key after ≡ (if same_bytes key keyed.0 then then_change_any marks (change_at key before) (Some keyed.1) else change_at key before)

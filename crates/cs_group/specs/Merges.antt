@@ -1,11 +1,9 @@
 -- The merge of two ordered lists of changes, step by step.
 use Rattle.std.specs.Prelude.{◌≡◌, ℕ, Bool, List, [], ◌∷◌, Option, Some, None}
 use Rattle.std.specs.declared.cmp.Ordering.TheVariants.{Less}
-use Rattle.cs_change.specs.Action.{Action, Inserts, Deletes, action}
 use Rattle.cs_change.specs.declared.change.Change.{Change}
 use Rattle.cs_normal.specs.Changes.{Changes, by_bytes}
 use Rattle.cs_group.specs.Combine.{then_change}
-use Rattle.cs_group.specs.NetOf.{IsSpelled}
 
 -- the key goes before the first of these changes
 abbrev pub GoesBefore : List ℕ → Changes → Type 0
@@ -17,13 +15,8 @@ abbrev pub before : List ℕ → Option Change → Changes → Changes
 before key None changes = changes
 before key (Some change) changes = (key, change) ∷ changes
 
--- the rows of a pair that becomes an update have spellings
-abbrev pub ArePairSpelled : Action → Action → Type 0
-ArePairSpelled (Deletes old) (Inserts new) = IsSpelled old × IsSpelled new
-ArePairSpelled _ _ = Unit {0}
-
 pub data Merges (marks : List Bool) : Changes → Changes → Changes → Type 0 where
   ended : Merges marks [] [] []
   earlier : {key : List ℕ} {change : Change} {a b r : Changes} → GoesBefore key b → Merges marks a b r → Merges marks ((key, change) ∷ a) b ((key, change) ∷ r)
   later : {key : List ℕ} {change : Change} {a b r : Changes} → GoesBefore key a → Merges marks a b r → Merges marks a ((key, change) ∷ b) ((key, change) ∷ r)
-  both : {key : List ℕ} {x y : Change} {a b r : Changes} → ArePairSpelled (action x) (action y) → Merges marks a b r → Merges marks ((key, x) ∷ a) ((key, y) ∷ b) (before key (then_change marks x y) r)
+  both : {key : List ℕ} {x y : Change} {a b r : Changes} → Merges marks a b r → Merges marks ((key, x) ∷ a) ((key, y) ∷ b) (before key (then_change marks x y) r)

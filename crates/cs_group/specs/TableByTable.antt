@@ -1,5 +1,5 @@
 -- What the code holds on the way, table by table.
-use Rattle.std.specs.Prelude.{List, [], ◌∷◌, ◌++◌}
+use Rattle.std.specs.Prelude.{List, [], ◌∷◌, ◌++◌, IsUtf8}
 use Rattle.cs_value.specs.declared.catalog.TableDef.{TableDef}
 use Rattle.cs_normal.specs.Changes.{Changes, AreNormal}
 use Rattle.cs_normal.specs.Normal.{IsNormalChangeset, changes_in}
@@ -21,11 +21,14 @@ HasNormal changes table = AreNormal table.key_marks (changes_in table.name chang
 abbrev pub FitsTable : TableDef → List TableChanges → Type 0
 FitsTable table changes = IsNormalChangeset changes → HasNormal changes table
 
--- the table's changes of both, taken together
-abbrev pub IsThenOf : List TableChanges → List TableChanges → TableDef → Changes → Type 0
-IsThenOf earlier later table both =
-    AreNormal table.key_marks both × IsThen table.key_marks (changes_in table.name earlier) (changes_in table.name later) both
+-- the table's changes of both, taken together; its name is a text
+pub record IsThenOf (earlier later : List TableChanges) (table : TableDef) (both : Changes) : Type 0 where
+  pub normal : AreNormal table.key_marks both
+  pub then : IsThen table.key_marks (changes_in table.name earlier) (changes_in table.name later) both
+  pub text : IsUtf8 table.name
 
--- the table's changes of all, taken together
-abbrev pub IsNormalJoinOf : List (List TableChanges) → TableDef → Changes → Type 0
-IsNormalJoinOf list table joined = AreNormal table.key_marks joined × IsJoinOf list table joined
+-- the table's changes of all, taken together; its name is a text
+pub record IsNormalJoinOf (list : List (List TableChanges)) (table : TableDef) (joined : Changes) : Type 0 where
+  pub normal : AreNormal table.key_marks joined
+  pub join : IsJoinOf list table joined
+  pub text : IsUtf8 table.name

@@ -1,9 +1,10 @@
 //! One more change.
 
-ghost use Rattle.std.specs.Prelude.{◌≡◌, ◌++◌, ◌<◌, length, HoldsAt, IfOk};
+ghost use Rattle.std.specs.Prelude.{◌≡◌, ◌++◌, ◌<◌, length, map, HoldsAt, IfOk};
 ghost use Rattle.cs_value.specs.Catalog.{marked};
 ghost use Rattle.cs_normal.specs.Changes.{key_bytes};
-ghost use Rattle.cs_normal.specs.Normal.{FitsCatalog};
+ghost use Rattle.cs_change.specs.Spelling.{flag_byte, FitsHeader};
+ghost use Rattle.cs_normal.specs.Normal.{FitsCatalog, IsNormalChangeset};
 ghost use Rattle.cs_normal.specs.NormalForm.{marked_fields, change_bytes};
 ghost use Rattle.cs_group.specs.Adding.{IsChangeOf, one_change};
 ghost use Rattle.cs_group.specs.Tables.{AreThen};
@@ -72,7 +73,8 @@ fn key_of_change(alloc: Global, marks: &[bool], change: &Change) -> Result<Bytes
 
 /// The changeset of one change.
 fn changeset_of(alloc: Global, table: &TableDef, change: &Change) -> Result<Normal, Memory>
-    requires { IsChangeOf table.now change.now }
+    requires change { IsChangeOf table.now change.now }
+    requires header { FitsHeader (map flag_byte table.now.key_marks) table.now.name }
     ensures { IfOk result (λ changeset. changeset ≡ one_change table.now change.now) }
 {
     let bytes = key_of_change(alloc, table.key_marks.as_slice(), change)?;
@@ -98,8 +100,13 @@ pub fn add_one(
     requires table { table < length catalog.now }
     requires change { HoldsAt (λ table. IsChangeOf table change.now) catalog.now table }
     ensures fits { IfOk result (FitsCatalog catalog.now) }
+    ensures normal { IfOk result IsNormalChangeset }
     ensures then { IfOk result (λ both. HoldsAt (λ table. AreThen catalog.now changeset.now (one_change table change.now) both) catalog.now table) }
 {
-    let one = changeset_of(alloc, &catalog.tables()[table], change)?;
+    cs_normal::laws::headers_fit();
+    let table = &catalog.tables()[table];
+    // That the name is a text, for the header.
+    let _name = table.name.as_str();
+    let one = changeset_of(alloc, table, change)?;
     then(alloc, catalog, changeset, &one)
 }

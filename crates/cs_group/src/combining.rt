@@ -3,7 +3,7 @@
 ghost use Rattle.std.specs.Prelude.{◌≡◌, [], ◌∷◌, IfOk, IfErr};
 ghost use Rattle.std.specs.List.{AllByRecursion};
 ghost use Rattle.cs_change.specs.Spelling.{FitsChangeset};
-ghost use Rattle.cs_group.specs.Combined.{AreForms, IsCombined, HasCombineFault, HasFirstUnfit, of_headers, of_unfit};
+ghost use Rattle.cs_group.specs.Combined.{AreForms, IsCombined, HasCombineFault, HasFirstUnfitChangeset, of_headers, of_unfit};
 ghost use Rattle.cs_group.specs.declared.combining.CombineFault.TheVariants.{Memory as NoMemory};
 
 use crate::group::join;
@@ -65,7 +65,7 @@ fn normalise_all(
 ) -> Result<Vec<Normal>, Unfit>
     requires { AllByRecursion FitsChangeset changesets.now }
     ensures forms { IfOk result (λ normals. AreForms catalog.now changesets.now normals.items) }
-    ensures fault { IfErr result (λ fault. HasFirstUnfit fault catalog.now changesets.now) }
+    ensures fault { IfErr result (λ fault. HasFirstUnfitChangeset fault catalog.now changesets.now) }
 {
     let mut normals = Vec::new(alloc);
     let mut rest = changesets;
@@ -101,8 +101,5 @@ pub fn normalise_alone(alloc: Global, changeset: &Changeset) -> Result<Normal, C
     ensures fault { IfErr result (λ fault. HasCombineFault fault (changeset.now ∷ [])) }
 {
     let catalog = catalog_of(alloc, slice::from_ref(changeset))?;
-    let normal = normalise(alloc, &catalog, changeset)?;
-    // That its tables are normal, for the proof.
-    let _ = normal.tables();
-    Ok(normal)
+    Ok(normalise(alloc, &catalog, changeset)?)
 }

@@ -2,8 +2,10 @@
 
 ghost use Rattle.std.specs.Prelude.{All, IfOk};
 ghost use Rattle.cs_normal.specs.Normal.{FitsCatalog, IsNormalChangeset};
-ghost use Rattle.cs_group.specs.Tables.{AreThen, AreJoined, State, IsState, Leads};
+ghost use Rattle.cs_normal.specs.State.{IsApplied, IsStateOf, State};
+ghost use Rattle.cs_group.specs.Tables.{AreThen, AreJoined};
 
+use crate::laws::then_leads;
 use crate::tables::{join_tables, then_tables};
 use cs_normal::Normal;
 use cs_value::{Catalog, Memory};
@@ -22,12 +24,18 @@ pub fn then(
     requires earlier { FitsCatalog catalog.now earlier.now }
     requires later { FitsCatalog catalog.now later.now }
     ensures fits { IfOk result (FitsCatalog catalog.now) }
+    ensures normal { IfOk result IsNormalChangeset }
     ensures then { IfOk result (AreThen catalog.now earlier.now later.now) }
 
     // Where the earlier one leads to a state from which the later one leads on, the result leads the whole way.
-    ensures leads { IfOk result (λ both. (before middle after : State) → IsState catalog.now before → IsState catalog.now middle → IsState catalog.now after → Leads catalog.now earlier.now before middle → Leads catalog.now later.now middle after → Leads catalog.now both before after) }
+    ensures leads { IfOk result (λ both. (before middle end : State) → IsStateOf catalog.now before
+        → IsApplied catalog.now earlier.now before middle → IsApplied catalog.now later.now middle end
+        → IsApplied catalog.now both before end) }
 {
-    cs_change::laws::then_is_net();
+    cs_normal::laws::catalog_is_apart();
+    cs_normal::laws::fitting_is_normal();
+    cs_normal::laws::headers_fit();
+    then_leads();
     let tables = then_tables(alloc, catalog.tables(), earlier.tables(), later.tables())?;
     Ok(Normal::from_tables(tables))
 }
@@ -41,6 +49,9 @@ pub fn join(alloc: Global, catalog: &Catalog, list: &[Normal]) -> Result<Normal,
     ensures normal { IfOk result IsNormalChangeset }
     ensures joined { IfOk result (AreJoined catalog.now list.now) }
 {
+    cs_normal::laws::catalog_is_apart();
+    cs_normal::laws::fitting_is_normal();
+    cs_normal::laws::headers_fit();
     let tables = join_tables(alloc, catalog.tables(), list)?;
     Ok(Normal::from_tables(tables))
 }

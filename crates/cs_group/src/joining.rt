@@ -4,12 +4,11 @@
 ghost use Rattle.std.specs.Prelude.{◌≡◌, IfOk, OnOk, Some, None, List, ℕ, if◌then◌else◌};
 ghost use Rattle.std.specs.List.{AllByRecursion};
 ghost use Rattle.cs_normal.specs.Changes.{same_bytes, change_at, AreNormal, IsEntry, IsOrdered};
-ghost use Rattle.cs_group.specs.Combine.{combine, IsThen};
-ghost use Rattle.cs_group.specs.Joining.{seen, IsReady, IsAdded, AreSpelledIfAny};
+ghost use Rattle.cs_group.specs.Combine.{then_change_any, IsThen};
+ghost use Rattle.cs_group.specs.Joining.{seen, IsReady, IsAdded};
 ghost use Rattle.cs_group.specs.TableByTable.{FitsTable, IsNormalJoinOf};
 
 use crate::pairs::then_one;
-use crate::spelled::pair_spelled;
 use crate::tables::changes_of;
 use cs_change::Change;
 use cs_normal::{KeyedChange, Normal};
@@ -27,15 +26,11 @@ fn combined(
     earlier: &Option<Change>,
     later: &Change,
 ) -> Result<Option<Change>, Memory>
-    ensures combined { IfOk result (λ change. change ≡ combine marks.now earlier.now (Some later.now)) }
-    ensures spelled { OnOk result (AreSpelledIfAny earlier.now later.now) }
+    ensures { IfOk result (λ change. change ≡ then_change_any marks.now earlier.now (Some later.now)) }
 {
     match earlier {
         None => Ok(Some(later.copy(alloc)?)),
-        Some(earlier) => {
-            pair_spelled(earlier, later);
-            then_one(alloc, marks, earlier, later)
-        }
+        Some(earlier) => then_one(alloc, marks, earlier, later),
     }
 }
 
@@ -90,6 +85,8 @@ fn add_change(
     ensures added { OnOk result (IsAdded marks.now keyed.now (seen joined.old.entries) (seen joined.new.entries)) }
 {
     cs_change::laws::net_takes();
+    cs_normal::laws::one_entry_key();
+    cs_normal::laws::set_columns_fit();
     let bytes = keyed.0.as_slice();
     let earlier = take(bytes, joined);
     let change = combined(alloc, marks, &earlier, &keyed.1)?;
@@ -137,11 +134,12 @@ pub(crate) fn join_table(
     requires { AllByRecursion (FitsTable table.now) list.now }
     ensures { IfOk result (λ changes. IsNormalJoinOf list.now table.now changes.items) }
 {
+    let name = table.name.as_str();
     let marks = table.key_marks.as_slice();
     let mut joined = BTreeMap::new(alloc);
     let mut rest = list;
     while let Some((normal, more)) = rest.split_first() {
-        let changes = changes_of(normal.tables(), table.name.as_str());
+        let changes = changes_of(normal.tables(), name);
         add_changes(alloc, marks, changes, &mut joined)?;
         rest = more;
     }

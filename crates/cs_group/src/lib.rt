@@ -17,7 +17,6 @@ pub mod laws;
 mod merge;
 mod net_change;
 mod pairs;
-mod spelled;
 mod tables;
 
 pub use adding::add_one;

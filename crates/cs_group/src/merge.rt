@@ -1,13 +1,11 @@
 //! The changes of one table taken together, in one pass over both.
 
 ghost use Rattle.std.specs.Prelude.{◌≡◌, ◌++◌, [], OnOk, IfOk};
-ghost use Rattle.cs_change.specs.Action.{action};
 ghost use Rattle.cs_group.specs.Combine.{then_change, IsThen};
-ghost use Rattle.cs_group.specs.Merges.{Merges, ArePairSpelled, before};
+ghost use Rattle.cs_group.specs.Merges.{Merges, before};
 ghost use Rattle.cs_normal.specs.Changes.{by_bytes, AreNormal};
 
 use crate::pairs::then_one;
-use crate::spelled::pair_spelled;
 use cs_normal::{KeyedChange, copy_keyed};
 use cs_value::{Items, Memory};
 use std::alloc::Global;
@@ -26,6 +24,8 @@ pub(crate) fn then_changes(
     ensures then { IfOk result (λ both. IsThen marks.now earlier.now later.now both.items) }
 {
     cs_change::laws::net_takes();
+    cs_normal::laws::one_entry_key();
+    cs_normal::laws::set_columns_fit();
     merged(alloc, marks, earlier, later)
 }
 
@@ -87,10 +87,8 @@ fn push_both(
     second: &KeyedChange,
     both: &mut Vec<KeyedChange>,
 ) -> Result<(), Memory>
-    ensures spelled { OnOk result (ArePairSpelled (action first.now.1) (action second.now.1)) }
-    ensures pushed { OnOk result (both.new.items ≡ both.old.items ++ before first.now.0 (then_change marks.now first.now.1 second.now.1) []) }
+    ensures { OnOk result (both.new.items ≡ both.old.items ++ before first.now.0 (then_change marks.now first.now.1 second.now.1) []) }
 {
-    pair_spelled(&first.1, &second.1);
     if let Some(change) = then_one(alloc, marks, &first.1, &second.1)? {
         let bytes = Items::from_vec(Vec::from_slice(alloc, first.0.as_slice())?);
         both.push((bytes, change))?;

@@ -14,7 +14,7 @@ use Rattle.std.proofs.lemmas.Cmp.{nat_list_cmp_total}
 use Rattle.cs_change.specs.declared.change.Change.{Change}
 use Rattle.cs_normal.specs.declared.unfit.Unfit.TheVariants.{KeyTwice, NullKey}
 use Rattle.cs_normal.specs.Changes.{by_bytes, same_bytes}
-use Rattle.cs_normal.specs.NormalForm.{has_key, change_bytes, AreKeyed, HasFirstFault}
+use Rattle.cs_normal.specs.NormalForm.{has_key, change_bytes, AreKeyed, HasFirstUnfitChange}
 use Rattle.cs_normal.specs.Prepared.{Entries, prepared, all_keyed, rises, rises_from}
 use Rattle.cs_normal.proofs.NormalLaws.{by_test, distinct_on}
 
@@ -38,7 +38,7 @@ null_at marks (c ∷ changes) h =
     record { before = c ∷ rest.before; change = rest.change; others = rest.others; is = ap (λ (t : List Change). c ∷ t) rest.is; set = simp e rest.set; bytes = simp e (ap (λ (t : List (List ℕ)). change_bytes marks c ∷ t) rest.bytes); null = rest.null }) (λ e.
     record { before = []; change = c; others = changes; is = refl; set = refl; bytes = simp e refl; null = e })
 
-pub null_fault : (marks : List Bool) (changes : List Change) → all_keyed marks changes ≡ false → IsDistinct same_bytes (keys_of (prepared marks changes)) → HasFirstFault NullKey marks changes
+pub null_fault : (marks : List Bool) (changes : List Change) → all_keyed marks changes ≡ false → IsDistinct same_bytes (keys_of (prepared marks changes)) → HasFirstUnfitChange NullKey marks changes
 null_fault marks changes h d =
     let n = null_at marks changes h in
     (n.before, n.change, n.others, n.is, (n.set, subst (IsDistinct same_bytes) n.bytes d), n.null)
@@ -49,7 +49,7 @@ map_append marks (x ∷ xs) ys =
     ap (λ (t : List (List ℕ)). change_bytes marks x ∷ t) (map_append marks xs ys)
 
 -- the keys are distinct, or there is a first one that an earlier change has
-twice_from : (marks : List Bool) (before changes : List Change) → AreKeyed marks before → IsDistinct same_bytes (map (change_bytes marks) before ++ keys_of (prepared marks changes)) ⊎ HasFirstFault KeyTwice marks (before ++ changes)
+twice_from : (marks : List Bool) (before changes : List Change) → AreKeyed marks before → IsDistinct same_bytes (map (change_bytes marks) before ++ keys_of (prepared marks changes)) ⊎ HasFirstUnfitChange KeyTwice marks (before ++ changes)
 unfolding prepared
 twice_from marks before [] k = inl (rw append-nil k.1)
 twice_from marks before (c ∷ changes) k =
@@ -62,7 +62,7 @@ twice_from marks before (c ∷ changes) k =
     let rest = twice_from marks (before ++ c ∷ []) changes keyed in
     simp e (rw (map_append marks before (c ∷ []), append_assoc, append_assoc) at rest))) (λ e. simp e (inl (rw append-nil k.1)))
 
-pub twice : (marks : List Bool) (changes : List Change) → IsDistinct same_bytes (keys_of (prepared marks changes)) ⊎ HasFirstFault KeyTwice marks changes
+pub twice : (marks : List Bool) (changes : List Change) → IsDistinct same_bytes (keys_of (prepared marks changes)) ⊎ HasFirstUnfitChange KeyTwice marks changes
 unfolding IsDistinct
 twice marks changes = twice_from marks [] changes (refl, tt)
 
@@ -99,14 +99,14 @@ unfolding rises
 sorted_rises [] up d = refl
 sorted_rises (x ∷ xs) up d = rises_behind x xs up d
 
-pub none_twice : (marks : List Bool) (changes : List Change) → (IsDistinct same_bytes (keys_of (prepared marks changes)) → ⊥) → HasFirstFault KeyTwice marks changes
+pub none_twice : (marks : List Bool) (changes : List Change) → (IsDistinct same_bytes (keys_of (prepared marks changes)) → ⊥) → HasFirstUnfitChange KeyTwice marks changes
 none_twice marks changes never =
-    let split : (IsDistinct same_bytes (keys_of (prepared marks changes)) ⊎ HasFirstFault KeyTwice marks changes) → HasFirstFault KeyTwice marks changes =
+    let split : (IsDistinct same_bytes (keys_of (prepared marks changes)) ⊎ HasFirstUnfitChange KeyTwice marks changes) → HasFirstUnfitChange KeyTwice marks changes =
     elim [ inl d ↦ absurd (never d) | inr f ↦ f ] in
     split (twice marks changes)
 
 -- ordered and not rising: a key is there twice
-pub twice_fault : (marks : List Bool) (changes : List Change) (fs : Entries) → IsPermutation (prepared marks changes) fs → IsSortedBy key_below fs → rises fs ≡ false → HasFirstFault KeyTwice marks changes
+pub twice_fault : (marks : List Bool) (changes : List Change) (fs : Entries) → IsPermutation (prepared marks changes) fs → IsSortedBy key_below fs → rises fs ≡ false → HasFirstUnfitChange KeyTwice marks changes
 twice_fault marks changes fs p up not_up =
     none_twice marks changes (λ d.
     let df = distinct_on (prepared marks changes) fs p d in

@@ -15,8 +15,6 @@ use Rattle.cs_normal.specs.NormalForm.{has_key, changes_value, normal_old, norma
 use Rattle.cs_normal.specs.Prepared.{Entries, prepared, kept}
 use Rattle.cs_normal.proofs.NormalLaws.{by_test}
 
--- ---- one change
-
 old_fits : (m : Bool) (o n : Field) → Fits o → Fits (normal_old m o n)
 old_fits true o n f = f
 old_fits false o n f = by_test (changes_value false o n) _ (λ e. simp e f) (λ e. simp e tt)
@@ -56,38 +54,13 @@ news_fit (m ∷ marks) [] new f = tt
 news_fit (m ∷ marks) (o ∷ old) [] f = tt
 news_fit (m ∷ marks) (o ∷ old) (n ∷ new) f = (new_fits m o n f.0, news_fit marks old new f.1)
 
-abbrev FitsIfAny : List Bool → Option Change → Type 0
+abbrev pub FitsIfAny : List Bool → Option Change → Type 0
 FitsIfAny marks None = Unit {0}
 FitsIfAny marks (Some change) = FitsChange marks change
 
-form_fits : (marks : List Bool) (change : Change) → FitsChange marks change → FitsIfAny marks (normal_form marks change)
+pub form_fits : (marks : List Bool) (change : Change) → FitsChange marks change → FitsIfAny marks (normal_form marks change)
 unfolding normal_form
 form_fits marks (Insert flag new) f = f
 form_fits marks (Delete flag old) f = f
 form_fits marks (Update flag old new) f =
     by_test (is_blank (normal_news marks old new)) _ (λ e. simp e tt) (λ e. simp e (columns_fit marks old new f.0, olds_fit marks old new f.1, news_fit marks old new f.2))
-
--- ---- the changes of one table
-
-abbrev EntryFits : List Bool → List ℕ × Option Change → Type 0
-EntryFits marks entry = FitsIfAny marks entry.1
-
-prepared_fit : (marks : List Bool) (changes : List Change) → AllByRecursion (FitsChange marks) changes → AllByRecursion (EntryFits marks) (prepared marks changes)
-unfolding prepared
-prepared_fit marks [] f = tt
-prepared_fit marks (c ∷ changes) f =
-    by_test (has_key marks c) _ (λ e. simp e (form_fits marks c f.0, prepared_fit marks changes f.1)) (λ e. simp e tt)
-
-abbrev KeyedFits : List Bool → List ℕ × Change → Type 0
-KeyedFits marks keyed = FitsChange marks keyed.1
-
-kept_fit : (marks : List Bool) (es : Entries) → AllByRecursion (EntryFits marks) es → AllByRecursion (KeyedFits marks) (kept es)
-unfolding kept
-kept_fit marks [] h = tt
-kept_fit marks ((key, None) ∷ es) h = kept_fit marks es h.1
-kept_fit marks ((key, Some change) ∷ es) h = (h.0, kept_fit marks es h.1)
-
-pub all_fitted : (marks : List Bool) (changes : List Change) (fs : Entries) → IsPermutation (prepared marks changes) fs → AllByRecursion (FitsChange marks) changes → AllByRecursion (λ keyed. FitsChange marks keyed.1) (kept fs)
-all_fitted marks changes fs p f =
-    let es : All (EntryFits marks) (prepared marks changes) = All-from_recursion (EntryFits marks) (prepared marks changes) (prepared_fit marks changes f) in
-    kept_fit marks fs (recursion_from_All (EntryFits marks) fs (All-permutation (EntryFits marks) (prepared marks changes) fs p es))

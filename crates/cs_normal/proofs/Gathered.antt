@@ -10,7 +10,6 @@ use Rattle.cs_normal.specs.NormalFormOf.{changes_of}
 use Rattle.cs_normal.specs.Prepared.{Entries, prepared, all_keyed, kept, rises}
 use Rattle.cs_normal.specs.TableByTable.{IsTableOf}
 use Rattle.cs_normal.proofs.Entries.{are_entries}
-use Rattle.cs_normal.proofs.Fitted.{all_fitted}
 use Rattle.cs_normal.proofs.NormalLaws.{by_test, both_true, are_keyed, is_normal}
 use Rattle.cs_normal.proofs.Sizes.{kept_shorter}
 
@@ -67,6 +66,5 @@ is_table_of groups table fs p up whole =
       keyed = are_keyed marks changes fs p up whole;
       normal = is_normal marks changes fs p up whole;
       entries = are_entries marks changes fs p;
-      fits = all_fitted marks changes fs p;
       shorter = kept_shorter marks changes fs p;
     }

@@ -15,9 +15,9 @@ use Rattle.cs_value.specs.declared.catalog.TableDef.{TableDef}
 use Rattle.cs_change.specs.declared.change.Change.{Change}
 use Rattle.cs_change.specs.declared.group.Group.{Group}
 use Rattle.cs_normal.specs.Changes.{same_bytes}
-use Rattle.cs_normal.specs.NormalForm.{has_key, change_bytes, AreKeyed, HasFirstFault, AreUnfit}
-use Rattle.cs_normal.specs.NormalFormOf.{changes_of, HasTable, HaveTables, HaveKeys, AreFit, IsGroupOf, IsGroupFault, IsUnfit}
-use Rattle.cs_normal.specs.TableByTable.{HasTableFault, AnyUnfit, IsHeaderFault}
+use Rattle.cs_normal.specs.NormalForm.{has_key, change_bytes, AreKeyed, HasFirstUnfitChange, AreUnfit}
+use Rattle.cs_normal.specs.NormalFormOf.{changes_of, HasTable, HaveTables, HaveKeys, AreFit, IsGroupOf, IsUnfitGroup, IsUnfit}
+use Rattle.cs_normal.specs.TableByTable.{HasTableFault, AnyUnfit, IsUnfitHeader}
 use Rattle.cs_normal.specs.declared.unfit.Unfit.{Unfit}
 use Rattle.cs_normal.specs.declared.unfit.Unfit.TheVariants.{Memory, UnknownTable, Shape, NullKey, KeyTwice}
 use Rattle.cs_normal.proofs.AsRead.{shape_of}
@@ -38,7 +38,7 @@ distinct_before (x ∷ xs) y ys d =
     simp turned (distinct_before xs y ys (IsDistinct-tail same_bytes x (xs ++ y ∷ ys) d))
 
 -- changes that have keys of their own have no fault
-pub no_fault : (fault : Unfit) (marks : List Bool) (changes : List Change) → AreKeyed marks changes → HasFirstFault fault marks changes → ⊥
+pub no_fault : (fault : Unfit) (marks : List Bool) (changes : List Change) → AreKeyed marks changes → HasFirstUnfitChange fault marks changes → ⊥
 no_fault Memory marks changes keyed (before, change, others, is, front, wrong) = wrong
 no_fault UnknownTable marks changes keyed (before, change, others, is, front, wrong) = wrong
 no_fault Shape marks changes keyed (before, change, others, is, front, wrong) = wrong
@@ -53,7 +53,7 @@ no_fault KeyTwice marks changes keyed (before, change, others, is, front, wrong)
     let some = wrong.1 in
     cc
 
-unfit_at : (fault : Unfit) (tables : List TableDef) (before : List Group) (group : Group) (others groups : List Group) → groups ≡ before ++ group ∷ others → AreFit tables before → IsGroupFault fault tables before group → IsUnfit fault tables groups
+unfit_at : (fault : Unfit) (tables : List TableDef) (before : List Group) (group : Group) (others groups : List Group) → groups ≡ before ++ group ∷ others → AreFit tables before → IsUnfitGroup fault tables before group → IsUnfit fault tables groups
 unfit_at Memory tables before group others groups is fit wrong = tt
 unfit_at UnknownTable tables before group others groups is fit wrong = (before, group, others, is, fit, wrong)
 unfit_at Shape tables before group others groups is fit wrong = (before, group, others, is, fit, wrong)
@@ -77,7 +77,7 @@ unfit_more Shape tables groups rest (before, group, others, is, fit, wrong) = (b
 unfit_more NullKey tables groups rest (before, group, others, is, fit, wrong) = (before, group, others ++ rest, rw is (append_assoc before (group ∷ others) rest), fit, wrong)
 unfit_more KeyTwice tables groups rest (before, group, others, is, fit, wrong) = (before, group, others ++ rest, rw is (append_assoc before (group ∷ others) rest), fit, wrong)
 
-header_wrong : (fault : Unfit) (tables : List TableDef) (before : List Group) (group : Group) → IsHeaderFault fault tables group → IsGroupFault fault tables before group
+header_wrong : (fault : Unfit) (tables : List TableDef) (before : List Group) (group : Group) → IsUnfitHeader fault tables group → IsUnfitGroup fault tables before group
 header_wrong Memory tables before group wrong = wrong
 header_wrong UnknownTable tables before group wrong = wrong
 header_wrong Shape tables before group wrong = wrong
@@ -85,12 +85,12 @@ header_wrong NullKey tables before group wrong = absurd wrong
 header_wrong KeyTwice tables before group wrong = absurd wrong
 
 -- behind groups that fit, a header is wrong
-pub header_unfit : (fault : Unfit) (tables : List TableDef) (groups : List Group) (place : ℕ) → place < length groups → AreFit tables (take place groups) → HoldsAt (IsHeaderFault fault tables) groups place → IsUnfit fault tables groups
+pub header_unfit : (fault : Unfit) (tables : List TableDef) (groups : List Group) (place : ℕ) → place < length groups → AreFit tables (take place groups) → HoldsAt (IsUnfitHeader fault tables) groups place → IsUnfit fault tables groups
 header_unfit fault tables groups place within fit wrong =
     let group = get_or groups place nowhere in
     unfit_at fault tables (take place groups) group (drop (place + 1) groups) groups (cut groups place nowhere within) fit (header_wrong fault tables (take place groups) group (wrong nowhere))
 
-named_wrong : (fault : Unfit) (tables : List TableDef) (before : List Group) (group : Group) (table : TableDef) → Contains tables table → IsGroupOf table group → HasFirstFault fault table.key_marks (changes_of table.name before ++ group.changes) → IsGroupFault fault tables before group
+named_wrong : (fault : Unfit) (tables : List TableDef) (before : List Group) (group : Group) (table : TableDef) → Contains tables table → IsGroupOf table group → HasFirstUnfitChange fault table.key_marks (changes_of table.name before ++ group.changes) → IsUnfitGroup fault tables before group
 named_wrong Memory tables before group table in' of (some, change, others, is, front, wrong) = wrong
 named_wrong UnknownTable tables before group table in' of (some, change, others, is, front, wrong) = absurd wrong
 named_wrong Shape tables before group table in' of (some, change, others, is, front, wrong) = absurd wrong
@@ -98,16 +98,16 @@ named_wrong NullKey tables before group table in' of first = (table, in', of, fi
 named_wrong KeyTwice tables before group table in' of first = (table, in', of, first)
 
 -- a fault that came with one more group is that group's
-changes_wrong : (fault : Unfit) (tables : List TableDef) (before : List Group) (group : Group) → AreTables tables → HaveKeys tables before → HasTable tables group → HasTableFault fault tables (before ++ group ∷ []) → IsGroupFault fault tables before group
+changes_wrong : (fault : Unfit) (tables : List TableDef) (before : List Group) (group : Group) → AreTables tables → HaveKeys tables before → HasTable tables group → HasTableFault fault tables (before ++ group ∷ []) → IsUnfitGroup fault tables before group
 changes_wrong fault tables before group are keys has (table, in', wrong) =
     let joined : changes_of table.name (before ++ group ∷ []) ≡ changes_of table.name before ++ changes_of table.name (group ∷ []) = flat_map-append _ before (group ∷ []) in
     by_test (bytes_eq group.name table.name) _ (λ e.
     let same : group.name ≡ table.name = (bytes_eq-Decides group.name table.name).0 e in
     let alone : changes_of table.name (group ∷ []) ≡ group.changes = simp e (append-nil group.changes) in
-    let here = subst (HasFirstFault fault table.key_marks) (joined ∙ ap (λ (cs : List Change). changes_of table.name before ++ cs) alone) wrong in
+    let here = subst (HasFirstUnfitChange fault table.key_marks) (joined ∙ ap (λ (cs : List Change). changes_of table.name before ++ cs) alone) wrong in
     named_wrong fault tables before group table in' (same, shape_of tables table group are in' has same) here) (λ e.
     let alone : changes_of table.name (group ∷ []) ≡ [] = simp e refl in
-    let here = subst (HasFirstFault fault table.key_marks) (joined ∙ ap (λ (cs : List Change). changes_of table.name before ++ cs) alone ∙ append-nil (changes_of table.name before)) wrong in
+    let here = subst (HasFirstUnfitChange fault table.key_marks) (joined ∙ ap (λ (cs : List Change). changes_of table.name before ++ cs) alone ∙ append-nil (changes_of table.name before)) wrong in
     absurd (no_fault fault table.key_marks (changes_of table.name before) (All-contains (λ t. AreKeyed t.key_marks (changes_of t.name before)) tables table keys in') here))
 
 -- the halves have met: the fault is that of the group between them

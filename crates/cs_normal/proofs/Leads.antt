@@ -15,21 +15,22 @@ use Rattle.cs_value.specs.declared.value.Field.{Field}
 use Rattle.cs_value.specs.declared.value.Field.TheVariants.{Undefined, Is}
 use Rattle.cs_record.specs.Spelling.{Fits}
 use Rattle.cs_change.specs.Action.{action, action_any, after, after_any}
-use Rattle.cs_change.specs.Spelling.{FitsChange, AreUpdateColumns, marks_of}
+use Rattle.cs_change.specs.Spelling.{FitsChange, FitsChangeset, marks_of}
 use Rattle.cs_change.specs.declared.change.Change.{Change}
 use Rattle.cs_change.specs.declared.change.Change.TheVariants.{Insert, Delete, Update}
 use Rattle.cs_change.specs.declared.group.Group.{Group}
-use Rattle.cs_normal.specs.Changes.{key_bytes, same_bytes, change_at}
-use Rattle.cs_normal.specs.Normal.{changes_in}
+use Rattle.cs_normal.specs.Changes.{key_bytes, IsSpelled, same_bytes, change_at}
+use Rattle.cs_normal.specs.Normal.{change_of, changes_in}
 use Rattle.cs_normal.specs.NormalForm.{marked_fields, change_key, change_bytes, keyed, normal_form_any, AreKeyed, IsNormalOf}
-use Rattle.cs_normal.specs.NormalFormOf.{HasTable, changes_of}
-use Rattle.cs_normal.specs.Meaning.{State, IsAfterChanges, IsAfterGroups, NormalFormLeads}
+use Rattle.cs_normal.specs.NormalFormOf.{HasTable, changes_of, IsNormalFormOf}
+use Rattle.cs_normal.specs.State.{State, IsStateOf, left_at, IsAfterChanges, IsAfterGroups, NormalFormLeads}
+use Rattle.cs_normal.specs.declared.normal.TableChanges.{TableChanges}
 use Rattle.cs_normal.proofs.AsRead.{shape_of, all_read}
 use Rattle.cs_normal.proofs.Entries.{lenient}
 use Rattle.cs_normal.proofs.Keeps.{keeps}
 use Rattle.cs_normal.proofs.NormalLaws.{by_test, same_is}
 use Rattle.cs_normal.proofs.PerTable.{AreAsRead}
-use Rattle.cs_normal.proofs.Searched.{of_table}
+use Rattle.cs_normal.proofs.States.{key_spelled, state_place, named_or_not, absent_name}
 
 same_self : (key : List ℕ) → same_bytes key key ≡ true
 same_self key = (eq_by_cmp_equiv nat_list_cmp_total).refl key
@@ -105,31 +106,8 @@ found marks key (c ∷ changes) change fits h =
     let is : c ≡ change = (let h' = simp t at h in cc) in
     subst (λ (x : Change). FitsChange marks x × (key ≡ change_bytes marks x)) is (fits.0, same_is key (change_bytes marks c) t)) (λ f. found marks key changes change fits.1 (simp f at h))
 
-abbrev AreSpelled : List Value → Type 0
-AreSpelled key = AllByRecursion (λ v. Fits (Is v)) key
-
-marked_spelled : (marks : List Bool) (row : List Value) → AreSpelled row → AreSpelled (marked marks row)
-marked_spelled [] row f = tt
-marked_spelled (m ∷ marks) [] f = tt
-marked_spelled (true ∷ marks) (v ∷ row) f = (f.0, marked_spelled marks row f.1)
-marked_spelled (false ∷ marks) (v ∷ row) f = marked_spelled marks row f.1
-
-fields_spelled : (marks : List Bool) (old new : List Field) → AreUpdateColumns marks old new → AllByRecursion Fits old → AreSpelled (marked_fields marks old)
-unfolding marked_fields
-fields_spelled [] old new u f = tt
-fields_spelled (m ∷ marks) [] new u f = tt
-fields_spelled (m ∷ marks) (o ∷ old) [] u f = absurd u
-fields_spelled (true ∷ marks) (Is k ∷ old) (n ∷ new) u f = (f.0, fields_spelled marks old new u.1 f.1)
-fields_spelled (true ∷ marks) (Undefined ∷ old) (n ∷ new) u f = absurd u.0
-fields_spelled (false ∷ marks) (o ∷ old) (n ∷ new) u f = fields_spelled marks old new u.1 f.1
-
-key_spelled : (marks : List Bool) (change : Change) → FitsChange marks change → AreSpelled (change_key marks change)
-key_spelled marks (Insert flag new) f = marked_spelled marks new f.1
-key_spelled marks (Delete flag old) f = marked_spelled marks old f.1
-key_spelled marks (Update flag old new) f = fields_spelled marks old new f.0 f.1
-
 -- at one place
-place_leads : (marks : List Bool) (key : List ℕ) (changes : List Change) (before end : Place) → ((values : List Value) → key ≡ key_bytes values → AreSpelled values → FitsPlace marks values before) → AllByRecursion (FitsChange marks) changes → after_any (action_any (change_at key (keyed marks changes))) before ≡ Some end → after_any (action_any (normal_form_any marks (change_at key (keyed marks changes)))) before ≡ Some end
+place_leads : (marks : List Bool) (key : List ℕ) (changes : List Change) (before end : Place) → ((values : List Value) → key ≡ key_bytes values → IsSpelled values → FitsPlace marks values before) → AllByRecursion (FitsChange marks) changes → after_any (action_any (change_at key (keyed marks changes))) before ≡ Some end → after_any (action_any (normal_form_any marks (change_at key (keyed marks changes)))) before ≡ Some end
 place_leads marks key changes before end row fits h =
     let split : (found_there : Option Change) → change_at key (keyed marks changes) ≡ found_there → after_any (action_any found_there) before ≡ Some end → after_any (action_any (normal_form_any marks found_there)) before ≡ Some end = elim [
       | None ↦ λ e step. step
@@ -139,15 +117,42 @@ place_leads marks key changes before end row fits h =
     ] in
     split (change_at key (keyed marks changes)) refl h
 
+-- a name that no group has keeps what it had
+others_keep : (name key : List ℕ) (groups : List Group) (before end : State) → AllByRecursion (λ (group : Group). name ≢ group.name) groups → IsAfterGroups groups before end → end name key ≡ before name key
+others_keep name key [] before end apart h = h name key
+others_keep name key (group ∷ groups) before end apart h =
+    others_keep name key groups h.0 end apart.1 h.2 ∙ elsewhere group.name name (marks_of group.marks) key group.changes before h.0 apart.0 h.1
+
+-- no group has a name that no table has
+no_group : (tables : List TableDef) (name : List ℕ) (groups : List Group) → ((table : TableDef) → Contains tables table → table.name ≢ name) → AllByRecursion (HasTable tables) groups → AllByRecursion (λ (group : Group). name ≢ group.name) groups
+no_group tables name [] none have = tt
+no_group tables name (group ∷ groups) none have =
+    (λ e. none have.0.0 have.0.1 (sym (e ∙ have.0.2.0)), no_group tables name groups none have.1)
+
+module _ (tables : List TableDef) (groups : List Group) (normal : List TableChanges) (before end : State) (are : AreTables tables) (fits : FitsChangeset groups) (form : IsNormalFormOf tables groups normal) (state : IsStateOf tables before) (h : IsAfterGroups groups before end) where
+  at_table : (table : TableDef) (key : List ℕ) → Contains tables table → after_any (action_any (change_of table.name key normal)) (before table.name key) ≡ Some (end table.name key)
+  at_table table key one =
+      let name = table.name in
+      let marks = table.key_marks in
+      let changes = changes_of name groups in
+      let at = at_groups tables table are one key groups before end (recursion_from_All (HasTable tables) groups form.fit.0) h in
+      let keys = All-contains (λ (t : TableDef). AreKeyed t.key_marks (changes_of t.name groups)) tables table form.fit.1 one in
+      let normal_of = All-contains (λ (t : TableDef). IsNormalOf t.key_marks (changes_of t.name groups) (changes_in t.name normal)) tables table form.each one in
+      let read = All-contains (AreAsRead groups) tables table (All-from_recursion (AreAsRead groups) tables (all_read tables groups are form.fit.0 fits)) one in
+      let step = at_once marks key changes (before name key) (end name key) keys.1 at in
+      let led = place_leads marks key changes (before name key) (end name key) (λ (values : List Value) is spelled. subst (λ (k : List ℕ). FitsPlace marks values (before name k)) (sym is) (state_place tables before table values are state one spelled)) read step in
+      rw (normal_of.1 key) led
+
+  at_name : (name key : List ℕ) → left_at normal before name key ≡ Some (end name key)
+  at_name name key =
+      elim (named_or_not tables name) [
+        | inl is ↦ subst (λ (n : List ℕ). left_at normal before n key ≡ Some (end n key)) is.2 (at_table is.0 key is.1)
+        | inr none ↦
+            (let kept = others_keep name key groups before end (no_group tables name groups none (recursion_from_All (HasTable tables) groups form.fit.0)) h in
+            let gone = absent_name tables name normal none form.of_catalog in
+            rw gone (ap (λ p. Some p) (sym kept)))
+      ]
+
 pub leads : NormalFormLeads
-leads tables groups normal before end are fits fit form state h = λ table key one.
-    let name = table.name in
-    let marks = table.key_marks in
-    let changes = changes_of name groups in
-    let at = at_groups tables table are one key groups before end (recursion_from_All (HasTable tables) groups fit.0) h in
-    let keys = All-contains (λ (t : TableDef). AreKeyed t.key_marks (changes_of t.name groups)) tables table fit.1 one in
-    let normal_of = All-contains (λ (t : TableDef). IsNormalOf t.key_marks (changes_of t.name groups) (changes_in t.name normal)) tables table form.1 one in
-    let read = All-contains (AreAsRead groups) tables table (All-from_recursion (AreAsRead groups) tables (all_read tables groups are fit.0 fits)) one in
-    let step = at_once marks key changes (before name key) (end name key) keys.1 at in
-    let led = place_leads marks key changes (before name key) (end name key) (λ (values : List Value) is spelled. subst (λ (k : List ℕ). FitsPlace marks values (before name k)) (sym is) (state table values one spelled)) read step in
-    rw (of_table name key normal, normal_of.1 key) led
+leads tables groups normal before end are fits form state h =
+    (form.of_catalog, at_name tables groups normal before end are fits form state h)

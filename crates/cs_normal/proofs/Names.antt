@@ -9,15 +9,12 @@ use Rattle.std.proofs.lemmas.List.Elements.{recursion_from_All}
 use Rattle.std.proofs.lemmas.Slice.Eq.{bytes_eq-Decides}
 use Rattle.cs_value.specs.Catalog.{AreTables}
 use Rattle.cs_value.specs.declared.catalog.TableDef.{TableDef}
+use Rattle.cs_normal.specs.Laws.{CatalogIsApart}
+use Rattle.cs_normal.specs.Normal.{AreApart}
 use Rattle.cs_normal.proofs.NormalLaws.{by_test}
 
 abbrev pub HasOtherName : TableDef → TableDef → Type 0
 HasOtherName table other = table.name ≢ other.name
-
--- each table has another name than those behind it
-abbrev pub AreApart : List TableDef → Type 0
-AreApart [] = Unit {0}
-AreApart (table ∷ tables) = AllByRecursion (HasOtherName table) tables × AreApart tables
 
 pairs_apart : (tables : List TableDef) → AreTables tables → AllPairs HasOtherName tables
 pairs_apart tables are i j d before within =
@@ -32,7 +29,7 @@ apart_from_pairs (table ∷ tables) pairs =
     let rest : AllPairs HasOtherName tables = λ i j d before within. (let h = pairs (i + 1) (j + 1) d (omega (arith, before)) (omega (arith, within)) in simp unary_clauses at h) in
     (recursion_from_All (HasOtherName table) tables behind, apart_from_pairs tables rest)
 
-pub are_apart : (tables : List TableDef) → AreTables tables → AreApart tables
+pub are_apart : CatalogIsApart
 are_apart tables are = apart_from_pairs tables (pairs_apart tables are)
 
 -- two tables of one name are one

@@ -21,11 +21,11 @@ use Rattle.cs_change.specs.declared.change.Change.{Change}
 use Rattle.cs_change.specs.declared.change.Change.TheVariants.{Insert, Delete, Update}
 use Rattle.cs_normal.specs.Changes.{Changes, by_bytes, same_bytes, change_at, key_bytes, IsEntry, AreNormal}
 use Rattle.cs_normal.specs.Laws.{NormalAgain}
-use Rattle.cs_normal.specs.Normal.{IsOfTable, FitsCatalog, IsNormalChangeset, changes_in, group_of, groups_of, normal_spelling}
+use Rattle.cs_normal.specs.Normal.{AreApart, IsOfTable, FitsCatalog, IsNormalChangeset, changes_in, group_of, groups_of, normal_spelling}
 use Rattle.cs_normal.specs.NormalForm.{marked_fields, change_key, change_bytes, has_key, normal_olds, normal_news, normal_form, normal_form_any, keyed, AreKeyed, IsNormalOf}
 use Rattle.cs_normal.specs.NormalFormOf.{changes_of, HasTable}
 use Rattle.cs_normal.specs.declared.normal.TableChanges.{TableChanges}
-use Rattle.cs_normal.proofs.Names.{HasOtherName, AreApart, are_apart, named, other_named}
+use Rattle.cs_normal.proofs.Names.{HasOtherName, are_apart, named, other_named}
 use Rattle.cs_normal.proofs.NormalLaws.{by_test}
 
 conjoin : {A : Type 0} {a a' : A} {r r' : List A} → a ≡ a' → r ≡ r' → a ∷ r ≡ a' ∷ r'
@@ -54,7 +54,7 @@ columns_stay (modified u v differ l) =
       | inr e ↦ record { olds = simp e.0 (conjoin refl rest.olds); news = simp e.0 (conjoin refl rest.news); keyed = rest.keyed }
     ]
 
-change_stays : (marks : List Bool) (key : List Value) (change : Change) → IsNormal marks key (action change) → (normal_form marks change ≡ Some change) × (change_key marks change ≡ key)
+pub change_stays : (marks : List Bool) (key : List Value) (change : Change) → IsNormal marks key (action change) → (normal_form marks change ≡ Some change) × (change_key marks change ≡ key)
 unfolding normal_form
 change_stays marks key (Insert flag new) n = (refl, n.keyed)
 change_stays marks key (Delete flag old) n = (refl, n.keyed)
@@ -142,8 +142,8 @@ all_held (table ∷ tables) (first ∷ others) apart n fits =
           let none = absent table tables others apart.0 here.1 in
           let front : changes_of table.name (groups_of (first ∷ others)) ≡ only_changes first.changes ++ changes_of table.name (groups_of others) = simp e refl in
           let at : changes_in table.name (first ∷ others) ≡ first.changes = simp e refl in
-          let form : AreNormal table.key_marks first.changes = subst (λ (marks : List Bool). AreNormal marks first.changes) here.0.1 n.0.0 in
-          (record { same = front ∙ ap (λ (cs : List Change). only_changes first.changes ++ cs) none.0 ∙ append-nil (only_changes first.changes) ∙ ap only_changes (sym at); form = subst (AreNormal table.key_marks) (sym at) form }, in_front table tables first others apart.0 here.0.0 (all_held tables others apart.1 n.1 here.1)))
+          let form : AreNormal table.key_marks first.changes = subst (λ (marks : List Bool). AreNormal marks first.changes) here.0.1 n.0.changes in
+          (record { same = front ∙ ap (λ (cs : List Change). only_changes first.changes ++ cs) none.0 ∙ append-nil (only_changes first.changes) ∙ ap only_changes (sym at); form = subst (AreNormal table.key_marks) (sym at) form }, in_front table tables first others apart.0 here.0.0 (all_held tables others apart.1 n.2 here.1)))
       | inr behind ↦
           (let none = absent table tables (first ∷ others) apart.0 behind in
           (record { same = none.0 ∙ ap only_changes (sym none.1); form = subst (AreNormal table.key_marks) (sym none.1) (no_changes table.key_marks) }, all_held tables (first ∷ others) apart.1 n behind))
@@ -180,7 +180,7 @@ tables_each all (table ∷ tables) (first ∷ others) in' fits =
       | inr behind ↦ tables_each all tables (first ∷ others) in'.1 behind
     ]
 
-spelled_alike : (normal : List TableChanges) → changeset_spelling (groups_of normal) ≡ normal_spelling normal
+pub spelled_alike : (normal : List TableChanges) → changeset_spelling (groups_of normal) ≡ normal_spelling normal
 spelled_alike [] = refl
 spelled_alike (table ∷ tables) =
     let changes : changes_spelling (only_changes table.changes) ≡ flat_map (λ keyed. change_spelling keyed.1) table.changes = flat_map-map change_spelling (λ (keyed : List ℕ × Change). keyed.1) table.changes in
@@ -191,4 +191,10 @@ pub normal_again : NormalAgain
 normal_again tables normal are n fits =
     let held = all_held tables normal (are_apart tables are) n fits in
     let groups = groups_of normal in
-    (spelled_alike normal, (All-from_recursion (HasTable tables) groups (tables_each tables tables normal (recursion_from_All (Contains tables) tables (All-contains_itself tables)) fits), All-from_recursion (λ table. AreKeyed table.key_marks (changes_of table.name groups)) tables (keys_each normal tables held)), (fits, All-from_recursion (λ table. IsNormalOf table.key_marks (changes_of table.name groups) (changes_in table.name normal)) tables (forms_each normal tables held)))
+    let contained = recursion_from_All (Contains tables) tables (All-contains_itself tables) in
+    record {
+      fit = (All-from_recursion (HasTable tables) groups (tables_each tables tables normal contained fits), All-from_recursion (λ table. AreKeyed table.key_marks (changes_of table.name groups)) tables (keys_each normal tables held));
+      normal = n;
+      of_catalog = fits;
+      each = All-from_recursion (λ table. IsNormalOf table.key_marks (changes_of table.name groups) (changes_in table.name normal)) tables (forms_each normal tables held);
+    }

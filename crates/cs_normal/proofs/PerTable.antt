@@ -1,19 +1,19 @@
 -- What the tables' normal forms are together.
 use Rattle.std.proofs.Common.{◌≡◌, false, List, [], ◌∷◌, ◌++◌, refl, sym, subst, arith, inl, length, append_assoc, append-nil}
-use Rattle.std.specs.List.{AllByRecursion}
+use Rattle.std.specs.List.{All, AllByRecursion}
 use Rattle.std.specs.Str.{bytes_eq}
 use Rattle.std.proofs.lemmas.List.Elements.{All-from_recursion}
 use Rattle.cs_value.specs.declared.catalog.TableDef.{TableDef}
 use Rattle.cs_change.specs.Spelling.{FitsChange}
 use Rattle.cs_change.specs.declared.group.Group.{Group}
 use Rattle.cs_normal.specs.Changes.{Changes}
-use Rattle.cs_normal.specs.Normal.{FitsCatalog, IsNormalChangeset, changes_in}
+use Rattle.cs_normal.specs.Normal.{AreApart, FitsCatalog, changes_in}
 use Rattle.cs_normal.specs.NormalForm.{AreKeyed, IsNormalOf}
-use Rattle.cs_normal.specs.NormalFormOf.{changes_of, HaveKeys, IsNormalFormOf}
+use Rattle.cs_normal.specs.NormalFormOf.{changes_of, HaveKeys}
 use Rattle.cs_normal.specs.TableByTable.{AreTablesOf, no_table, next, table_changes, IsTableOf}
 use Rattle.cs_normal.specs.declared.normal.TableChanges.{TableChanges}
 use Rattle.cs_normal.proofs.CatalogOrder.{fits_more}
-use Rattle.cs_normal.proofs.Names.{HasOtherName, AreApart, named, other_named}
+use Rattle.cs_normal.proofs.Names.{HasOtherName, named, other_named}
 
 -- with what is made of the tables that are left, all are made
 abbrev Completes : List Group → List TableDef → List TableDef → List TableChanges → Type 0
@@ -39,7 +39,7 @@ pub have_keys : {groups : List Group} {tables : List TableDef} {normal : List Ta
 have_keys {groups} {tables} made =
     All-from_recursion (λ table. AreKeyed table.key_marks (changes_of table.name groups)) tables (have_keys_each made)
 
-fits_catalog : {groups : List Group} {tables : List TableDef} {normal : List TableChanges} → AreTablesOf groups tables normal → FitsCatalog tables normal
+pub fits_catalog : {groups : List Group} {tables : List TableDef} {normal : List TableChanges} → AreTablesOf groups tables normal → FitsCatalog tables normal
 fits_catalog no_table = tt
 fits_catalog (next table [] {tables} {normal} h rest) = fits_more table tables normal (fits_catalog rest)
 fits_catalog (next table (change ∷ changes) h rest) = inl ((refl, refl), fits_catalog rest)
@@ -47,11 +47,6 @@ fits_catalog (next table (change ∷ changes) h rest) = inl ((refl, refl), fits_
 -- the changes of this table are as the reader takes them
 abbrev pub AreAsRead : List Group → TableDef → Type 0
 AreAsRead groups table = AllByRecursion (FitsChange table.key_marks) (changes_of table.name groups)
-
-pub are_normal : {groups : List Group} {tables : List TableDef} {normal : List TableChanges} → AllByRecursion (AreAsRead groups) tables → AreTablesOf groups tables normal → IsNormalChangeset normal
-are_normal read no_table = tt
-are_normal read (next table [] h rest) = are_normal read.1 rest
-are_normal read (next table (change ∷ changes) h rest) = (((h.normal.0, h.entries read.0), λ e. cc), are_normal read.1 rest)
 
 -- a name that no table has has no changes
 absent : {groups : List Group} {tables : List TableDef} {normal : List TableChanges} (table : TableDef) → AllByRecursion (HasOtherName table) tables → AreTablesOf groups tables normal → changes_in table.name normal ≡ []
@@ -62,7 +57,7 @@ absent table apart (next other (change ∷ changes) h rest) =
     simp e (absent table apart.1 rest)
 
 -- these are the table's changes in normal form
-abbrev HasNormalForm : List Group → List TableChanges → TableDef → Type 0
+abbrev pub HasNormalForm : List Group → List TableChanges → TableDef → Type 0
 HasNormalForm groups normal table = IsNormalOf table.key_marks (changes_of table.name groups) (changes_in table.name normal)
 
 -- a table of another name in front changes nothing
@@ -81,6 +76,6 @@ normal_forms {groups} apart (next table (change ∷ changes) {tables} {normal} h
     let e = named table.name in
     (simp e h.normal, behind groups table (change ∷ changes) normal tables apart.0 (normal_forms apart.1 rest))
 
-pub is_normal_form : {groups : List Group} {tables : List TableDef} {normal : List TableChanges} → AreApart tables → AreTablesOf groups tables normal → IsNormalFormOf tables groups normal
-is_normal_form {groups} {tables} {normal} apart made =
-    (fits_catalog made, All-from_recursion (HasNormalForm groups normal) tables (normal_forms apart made))
+pub forms_all : {groups : List Group} {tables : List TableDef} {normal : List TableChanges} → AreApart tables → AreTablesOf groups tables normal → All (HasNormalForm groups normal) tables
+forms_all {groups} {tables} {normal} apart made =
+    All-from_recursion (HasNormalForm groups normal) tables (normal_forms apart made)

@@ -16,15 +16,9 @@ use Rattle.std.proofs.lemmas.Map.Lookups.{exact_bytes}
 use Rattle.std.proofs.lemmas.Option.{slice_get-get_or, slice_get_within, get_or_from_slice_get}
 use Rattle.cs_change.specs.declared.change.Change.{Change}
 use Rattle.cs_normal.specs.Changes.{Changes, by_bytes, change_at, IsOrdered}
-use Rattle.cs_normal.specs.Normal.{IsNormalChangeset, change_of, changes_in, count_of}
+use Rattle.cs_normal.specs.Normal.{IsNormalChangeset, changes_in, count_of}
 use Rattle.cs_normal.specs.declared.normal.TableChanges.{TableChanges}
 use Rattle.cs_normal.proofs.NormalLaws.{by_test}
-
--- the changes at a place are those of its table at its key
-pub of_table : (name key : List ℕ) (tables : List TableChanges) → change_of name key tables ≡ change_at key (changes_in name tables)
-of_table name key [] = refl
-of_table name key (table ∷ tables) =
-    by_test (bytes_eq table.name name) _ (λ e. simp e refl) (λ e. simp e (of_table name key tables))
 
 abbrev Entry : Type 0
 Entry = List ℕ × Change
@@ -37,7 +31,7 @@ no_changes_ordered = tt
 pub table_ordered : (name : List ℕ) (tables : List TableChanges) → IsNormalChangeset tables → IsOrdered (changes_in name tables)
 table_ordered name [] normal = no_changes_ordered
 table_ordered name (table ∷ tables) normal =
-    by_test (bytes_eq table.name name) _ (λ e. simp e normal.0.0.0) (λ e. simp e (table_ordered name tables normal.1))
+    by_test (bytes_eq table.name name) _ (λ e. simp e normal.0.changes.0) (λ e. simp e (table_ordered name tables normal.2))
 
 abbrev HoldsChange : List ℕ → Changes → Entry → Type 0
 HoldsChange key changes entry = change_at key changes ≡ Some entry.1

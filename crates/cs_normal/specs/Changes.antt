@@ -1,7 +1,7 @@
 -- A table's changes in normal form: a sorted map from the bytes of a key to the change of that key.
 use Rattle.std.specs.Prelude.{◌≡◌, ℕ, Bool, true, List, Option}
 use Rattle.std.specs.Cmp.Lexicographic.{slice_cmp}
-use Rattle.std.specs.List.{flat_map, list_all, All}
+use Rattle.std.specs.List.{flat_map, list_all, All, AllByRecursion}
 use Rattle.std.specs.List.Sorted.{IsStrictlySortedBy}
 use Rattle.std.specs.Map.{keys_of, lookup}
 use Rattle.std.specs.Ordering.{nat_cmp, eq_by_cmp}
@@ -9,14 +9,19 @@ use Rattle.std.specs.declared.cmp.Ordering.{Ordering}
 use Rattle.cs_value.specs.declared.value.Value.{Value}
 use Rattle.cs_value.specs.declared.value.Field.TheVariants.{Is}
 use Rattle.cs_value.specs.Catalog.{is_set}
-use Rattle.cs_record.specs.Spelling.{field}
+use Rattle.cs_record.specs.Spelling.{field, Fits}
 use Rattle.cs_change.specs.Action.{action}
 use Rattle.cs_change.specs.Normal.{IsNormal}
+use Rattle.cs_change.specs.Spelling.{FitsChange}
 use Rattle.cs_change.specs.declared.change.Change.{Change}
 
 -- the record of a key
 abbrev pub key_bytes : List Value → List ℕ
 key_bytes key = flat_map (λ v. field (Is v)) key
+
+-- a key whose values have spellings
+abbrev pub IsSpelled : List Value → Type 0
+IsSpelled key = AllByRecursion (λ v. Fits (Is v)) key
 
 -- the order of keys: that of their bytes
 abbrev pub by_bytes : List ℕ → List ℕ → Ordering
@@ -37,12 +42,13 @@ change_at key changes = lookup (same_bytes key) changes
 abbrev pub IsOrdered : Changes → Type 0
 IsOrdered changes = IsStrictlySortedBy by_bytes (keys_of changes)
 
--- a normal change beside the bytes of its key, of which no value is NULL
+-- a normal change, in range, beside the bytes of its key, of which no value is NULL
 pub record IsEntry (marks : List Bool) (entry : List ℕ × Change) : Type 0 where
   pub key : List Value
   pub set : list_all is_set key ≡ true
   pub bytes : entry.0 ≡ key_bytes key
   pub normal : IsNormal marks key (action entry.1)
+  pub fits : FitsChange marks entry.1
 
 -- the changes of one table in normal form
 abbrev pub AreNormal : List Bool → Changes → Type 0

@@ -33,8 +33,27 @@ abbrev pub HasTwoShapes : List TableDef → Type 0
 HasTwoShapes headers =
     (some : TableDef) × (other : TableDef) × Contains headers some × Contains headers other × AreTwoShapes some other
 
+-- each name has one shape, and the tables are a catalog
+abbrev pub HaveCatalog : List TableDef → Type 0
+HaveCatalog headers = (HasTwoShapes headers → ⊥) × AreTables (tables_of_headers headers)
+
 -- why there is no catalog of these headers; want of memory says nothing of them
 abbrev pub HasHeaderFault : HeaderFault → List TableDef → Type 0
 HasHeaderFault Memory headers = Unit {0}
 HasHeaderFault Shape headers = HasTwoShapes headers
 HasHeaderFault BadCatalog headers = (HasTwoShapes headers → ⊥) × (AreTables (tables_of_headers headers) → ⊥)
+
+-- where there is a catalog of them, headers have no fault
+abbrev pub NoFaultWhereCatalog : Type 0
+NoFaultWhereCatalog =
+    (fault : HeaderFault) (headers : List TableDef) → HaveCatalog headers → HasHeaderFault fault headers → fault ≡ Memory
+
+-- headers have one fault
+abbrev pub OneHeaderFault : Type 0
+OneHeaderFault =
+    (some other : HeaderFault) (headers : List TableDef)
+    → HasHeaderFault some headers
+    → HasHeaderFault other headers
+    → some ≢ Memory
+    → other ≢ Memory
+    → some ≡ other

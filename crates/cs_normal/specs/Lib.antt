@@ -2,9 +2,9 @@ pub mod Changes
 pub mod FirstTables
 pub mod Headers
 pub mod Laws
-pub mod Meaning
 pub mod Normal
 pub mod NormalForm
 pub mod NormalFormOf
 pub mod Prepared
+pub mod State
 pub mod TableByTable

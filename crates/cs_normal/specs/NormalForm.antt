@@ -89,18 +89,18 @@ IsNormalOf marks changes normal =
     IsOrdered normal × ((key : List ℕ) → change_at key normal ≡ normal_form_any marks (change_at key (keyed marks changes)))
 
 -- what is wrong with a change behind those
-abbrev pub IsChangeFault : Unfit → List Bool → List Change → Change → Type 0
-IsChangeFault unfit.NullKey marks before change = has_key marks change ≡ false
-IsChangeFault unfit.KeyTwice marks before change =
+abbrev pub IsUnfitChange : Unfit → List Bool → List Change → Change → Type 0
+IsUnfitChange unfit.NullKey marks before change = has_key marks change ≡ false
+IsUnfitChange unfit.KeyTwice marks before change =
     (has_key marks change ≡ true) × (list_any (same_bytes (change_bytes marks change)) (map (change_bytes marks) before) ≡ true)
-IsChangeFault _ marks before change = ⊥
+IsUnfitChange _ marks before change = ⊥
 
 -- the first change that has a fault
-abbrev pub HasFirstFault : Unfit → List Bool → List Change → Type 0
-HasFirstFault fault marks changes =
-    (before : List Change) × (change : Change) × (others : List Change) × (changes ≡ before ++ change ∷ others) × AreKeyed marks before × IsChangeFault fault marks before change
+abbrev pub HasFirstUnfitChange : Unfit → List Bool → List Change → Type 0
+HasFirstUnfitChange fault marks changes =
+    (before : List Change) × (change : Change) × (others : List Change) × (changes ≡ before ++ change ∷ others) × AreKeyed marks before × IsUnfitChange fault marks before change
 
 -- why a table's changes have no normal form
 abbrev pub AreUnfit : Unfit → List Bool → List Change → Type 0
 AreUnfit unfit.Memory marks changes = Unit {0}
-AreUnfit fault marks changes = HasFirstFault fault marks changes
+AreUnfit fault marks changes = HasFirstUnfitChange fault marks changes

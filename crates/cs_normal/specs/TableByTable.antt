@@ -5,7 +5,7 @@ use Rattle.cs_value.specs.declared.catalog.TableDef.{TableDef}
 use Rattle.cs_change.specs.Spelling.{marks_of, change_spelling, changes_spelling, FitsChange}
 use Rattle.cs_change.specs.declared.group.Group.{Group}
 use Rattle.cs_normal.specs.Changes.{Changes, IsEntry}
-use Rattle.cs_normal.specs.NormalForm.{AreKeyed, IsNormalOf, HasFirstFault}
+use Rattle.cs_normal.specs.NormalForm.{AreKeyed, IsNormalOf, HasFirstUnfitChange}
 use Rattle.cs_normal.specs.NormalFormOf.{changes_of}
 use Rattle.cs_normal.specs.declared.normal.TableChanges.{TableChanges}
 use Rattle.cs_normal.specs.declared.unfit.Unfit.{Unfit}
@@ -16,7 +16,6 @@ pub record IsTableOf (groups : List Group) (table : TableDef) (changes : Changes
   pub keyed : AreKeyed table.key_marks (changes_of table.name groups)
   pub normal : IsNormalOf table.key_marks (changes_of table.name groups) changes
   pub entries : AllByRecursion (FitsChange table.key_marks) (changes_of table.name groups) → All (IsEntry table.key_marks) changes
-  pub fits : AllByRecursion (FitsChange table.key_marks) (changes_of table.name groups) → AllByRecursion (λ keyed. FitsChange table.key_marks keyed.1) changes
   pub shorter : length (flat_map (λ keyed. change_spelling keyed.1) changes) ≤ length (changes_spelling (changes_of table.name groups))
 
 -- the table with these changes, if there are some
@@ -33,7 +32,7 @@ pub data AreTablesOf (groups : List Group) : List TableDef → List TableChanges
 -- the changes of one of the tables have this fault
 abbrev pub HasTableFault : Unfit → List TableDef → List Group → Type 0
 HasTableFault fault tables groups =
-    (table : TableDef) × Contains tables table × HasFirstFault fault table.key_marks (changes_of table.name groups)
+    (table : TableDef) × Contains tables table × HasFirstUnfitChange fault table.key_marks (changes_of table.name groups)
 
 -- the same; want of memory says nothing
 abbrev pub AnyUnfit : Unfit → List TableDef → List Group → Type 0
@@ -41,8 +40,8 @@ AnyUnfit unfit.Memory tables groups = Unit {0}
 AnyUnfit fault tables groups = HasTableFault fault tables groups
 
 -- what is wrong with a group's header
-abbrev pub IsHeaderFault : Unfit → List TableDef → Group → Type 0
-IsHeaderFault unfit.UnknownTable tables group = All (λ table. table.name ≢ group.name) tables
-IsHeaderFault unfit.Shape tables group =
+abbrev pub IsUnfitHeader : Unfit → List TableDef → Group → Type 0
+IsUnfitHeader unfit.UnknownTable tables group = All (λ table. table.name ≢ group.name) tables
+IsUnfitHeader unfit.Shape tables group =
     (table : TableDef) × Contains tables table × (group.name ≡ table.name) × (marks_of group.marks ≢ table.key_marks)
-IsHeaderFault _ tables group = ⊥
+IsUnfitHeader _ tables group = ⊥

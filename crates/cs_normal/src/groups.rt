@@ -2,9 +2,9 @@
 
 ghost use Rattle.std.specs.Prelude.{◌≡◌, ◌<◌, ◌≤◌, ◌↔◌, ◌++◌, length, take, map, HoldsAt, IsTrue, IfOk, IfErr, OnOk, MatchOption};
 ghost use Rattle.cs_change.specs.Spelling.{FitsChangeset, changeset_spelling, marks_of};
-ghost use Rattle.cs_normal.specs.Normal.{groups_of, normal_spelling};
-ghost use Rattle.cs_normal.specs.NormalFormOf.{HasTable, HaveTables, HaveKeys, AreFit, IsNormalFormOf, IsUnfit};
-ghost use Rattle.cs_normal.specs.TableByTable.{AreTablesOf, AnyUnfit, HasTableFault, IsHeaderFault, table_changes};
+ghost use Rattle.cs_normal.specs.Normal.{normal_spelling};
+ghost use Rattle.cs_normal.specs.NormalFormOf.{HasTable, HaveTables, HaveKeys, IsNormalFormOf, IsUnfit};
+ghost use Rattle.cs_normal.specs.TableByTable.{AreTablesOf, AnyUnfit, HasTableFault, IsUnfitHeader, table_changes};
 
 use crate::changes::KeyedChange;
 use crate::normal::{Normal, TableChanges};
@@ -37,7 +37,7 @@ fn same_shape(marks: &[u8], key_marks: &[bool]) -> bool
 
 /// What is wrong with a group's header.
 fn header_fault(catalog: &Catalog, group: &Group) -> Option<Unfit>
-    ensures { MatchOption result (HasTable catalog.now group.now) (λ fault. IsHeaderFault fault catalog.now group.now) }
+    ensures { MatchOption result (HasTable catalog.now group.now) (λ fault. IsUnfitHeader fault catalog.now group.now) }
 {
     let Some(place) = catalog.find(group.name.as_str()) else {
         return Some(Unfit::UnknownTable);
@@ -54,7 +54,7 @@ fn fitting_headers(catalog: &Catalog, groups: &[Group]) -> (usize, Option<Unfit>
     ensures count { result.0 ≤ length groups.now }
     ensures fit { HaveTables catalog.now (take result.0 groups.now) }
     ensures stop { MatchOption result.1 (result.0 ≡ length groups.now)
-        (λ fault. (result.0 < length groups.now) × HoldsAt (IsHeaderFault fault catalog.now) groups.now result.0) }
+        (λ fault. (result.0 < length groups.now) × HoldsAt (IsUnfitHeader fault catalog.now) groups.now result.0) }
 {
     for (index, group) in groups.iter().enumerate() {
         if let Some(fault) = header_fault(catalog, group) {
@@ -154,16 +154,11 @@ pub fn normalise(alloc: Global, catalog: &Catalog, changeset: &Changeset) -> Res
     // The changeset is one that the reader takes.
     requires { FitsChangeset changeset.now }
 
-    ensures fit { OnOk result (AreFit catalog.now changeset.now) }
-
-    // At each key of each table stands the normal form of the change that was read.
+    // The changeset fits, and at each key of each table stands the normal form of the change that was read.
     ensures normal { IfOk result (λ normal. IsNormalFormOf catalog.now changeset.now normal) }
 
     // The first group that is wrong, in the order of the bytes: its table, then its changes.
     ensures fault { IfErr result (λ fault. IsUnfit fault catalog.now changeset.now) }
-
-    // The reader takes what is written of it.
-    ensures taken { IfOk result (λ normal. FitsChangeset (groups_of normal)) }
 
     ensures shorter { IfOk result (λ normal. length (normal_spelling normal) ≤ length (changeset_spelling changeset.now)) }
 {

@@ -52,7 +52,8 @@ impl Model for Normal {
 impl Normal {
     ghost use Rattle.std.specs.Prelude.{◌≡◌, ◌↔◌, ◌++◌, min, IsTrue, Some, None, IfOk, OnOk, OnErr, MatchOption};
     ghost use Rattle.cs_normal.specs.Changes.{key_bytes};
-    ghost use Rattle.cs_normal.specs.Normal.{FitsCatalog, IsNormalChangeset, change_of, count_of, normal_spelling};
+    ghost use Rattle.cs_change.specs.Spelling.{FitsChangeset, changeset_spelling};
+    ghost use Rattle.cs_normal.specs.Normal.{FitsCatalog, IsNormalChangeset, change_of, count_of, groups_of, normal_spelling};
 
     /// The changeset of these tables, which are in normal form. It takes no memory.
     pub fn from_tables(tables: Vec<TableChanges>) -> Normal
@@ -113,10 +114,12 @@ impl Normal {
         tables_fit(catalog.tables(), self.tables())
     }
 
-    /// Appends the spelling of the changeset. An `Err` changes nothing. (SQLite's "changeset format".)
+    /// Appends the spelling of the changeset, which the reader takes. An `Err` changes nothing. (SQLite's "changeset
+    /// format".)
     pub fn encode(&self, out: &mut Vec<u8>) -> Result<(), Memory>
         ensures ok { OnOk result (out.new.items ≡ out.old.items ++ normal_spelling self.now) }
         ensures err { OnErr result (out.new.items ≡ out.old.items) }
+        ensures taken { FitsChangeset (groups_of self.now) × (changeset_spelling (groups_of self.now) ≡ normal_spelling self.now) }
     {
         let len = out.len();
         let written = put_tables(self.tables(), out);

@@ -1,33 +1,21 @@
 -- One field stands at the front, or one fault.
-use Rattle.std.proofs.Common.{◌≡◌, ℕ, ◌+◌, ◌^◌, ◌<◌, ◌≤◌, List, ◌∷◌, ◌++◌, length, take, refl, sym, ap, ◌∙◌, append_assoc, arith, inl, inr, length-append, subst}
+use Rattle.std.proofs.Common.{◌≡◌, ℕ, ◌+◌, ◌^◌, ◌<◌, ◌≤◌, List, ◌∷◌, ◌++◌, length, refl, sym, ap, ◌∙◌, append_assoc, arith, inl, inr, length-append, subst}
 use Rattle.std.specs.Prelude.{ℤ, FitsSigned, ◌≢◌, IsUtf8}
 use Rattle.std.specs.Int.{w64, cast_unsigned, cast_signed, from_be_bytes}
-use Rattle.std.proofs.Math.Seq.{take-append_seam}
 use Rattle.std.proofs.Math.Facts.{Fits-of_z, Fits-lt-pow}
 use Rattle.std.proofs.lemmas.Int.{to_z-of_z}
 use Rattle.std.proofs.lemmas.List.{append_cancel_left}
 use Rattle.std.proofs.lemmas.Nat.{from_be_bytes-to_be_bytes_8}
 use Rattle.cs_varint.specs.Varint.{spelling, IsTooLong}
-use Rattle.cs_varint.proofs.Apart.{spellings_apart, partial_never, too_long_never, partial_not_long, too_long_stays}
+use Rattle.cs_varint.specs.Laws.{VarintLaws}
 use Rattle.cs_value.specs.declared.value.Value.TheVariants.{Null, Int, Text, Blob}
 use Rattle.cs_value.specs.declared.value.Field.{Field}
 use Rattle.cs_value.specs.declared.value.Field.TheVariants.{Undefined, Is}
 use Rattle.cs_record.specs.Spelling.{counted, integer_bytes, field, Fits}
+use Rattle.cs_record.specs.Facts.{head_same, tail_same, same_length}
 use Rattle.cs_record.specs.Reading.{IsCutOff, HasLength, IsPartialField, IsFieldFault}
 use Rattle.cs_record.specs.declared.fault.Fault.{Fault}
 use Rattle.cs_record.specs.declared.fault.Fault.TheVariants.{Truncated, NotShortest, BadType, Real, NotUtf8}
-
--- lists of one length at the front are the same list
-pub same_length : (s t x y : List ℕ) → length s ≡ length t → s ++ x ≡ t ++ y → (s ≡ t) × (x ≡ y)
-same_length s t x y len e =
-    let same : s ≡ t = sym (take-append_seam s x) ∙ ap (take (length s)) e ∙ ap (λ (n : ℕ). take n (t ++ y)) len ∙ take-append_seam t y in
-    (same, append_cancel_left s x y (e ∙ ap (λ (r : List ℕ). r ++ y) (sym same)))
-
-pub counted_apart : (s t x y : List ℕ) → length s < 2 ^ 64 → length t < 2 ^ 64 → counted s ++ x ≡ counted t ++ y → (s ≡ t) × (x ≡ y)
-counted_apart s t x y bs bt e =
-    let e' : spelling (length s) ++ (s ++ x) ≡ spelling (length t) ++ (t ++ y) = sym (append_assoc (spelling (length s)) s x) ∙ e ∙ append_assoc (spelling (length t)) t y in
-    let one = spellings_apart (length s) (length t) (s ++ x) (t ++ y) bs bt e' in
-    same_length s t x y one.0 one.1
 
 length-integer : (number : ℤ) → length (integer_bytes number) ≡ 8
 unfolding integer_bytes
@@ -38,77 +26,6 @@ unfolding integer_bytes
 integer_apart m n fm fn e =
     let same : cast_unsigned w64 m ≡ cast_unsigned w64 n = sym (from_be_bytes-to_be_bytes_8 (cast_unsigned w64 m) (Fits-lt-pow (Fits-of_z fm))) ∙ ap (from_be_bytes w64) e ∙ from_be_bytes-to_be_bytes_8 (cast_unsigned w64 n) (Fits-lt-pow (Fits-of_z fn)) in
     sym (to_z-of_z w64 m fm) ∙ ap (cast_signed w64) same ∙ to_z-of_z w64 n fn
-
-behind : {k : ℕ} {x y : List ℕ} → k ∷ x ≡ k ∷ y → x ≡ y
-behind e = cc
-
--- no spelling of a field begins another
-pub fields_apart : (a b : Field) (x y : List ℕ) → Fits a → Fits b → field a ++ x ≡ field b ++ y → a ≡ b
-fields_apart Undefined Undefined x y fa fb e = refl
-fields_apart (Is Null) (Is Null) x y fa fb e = refl
-fields_apart (Is (Int m)) (Is (Int n)) x y fa fb e =
-    ap (λ k. Is (Int k)) (integer_apart m n fa fb (same_length (integer_bytes m) (integer_bytes n) x y (length-integer m ∙ sym (length-integer n)) (behind e)).0)
-fields_apart (Is (Text s)) (Is (Text t)) x y fa fb e = ap (λ k. Is (Text k)) (counted_apart s t x y fa.0 fb.0 (behind e)).0
-fields_apart (Is (Blob s)) (Is (Blob t)) x y fa fb e = ap (λ k. Is (Blob k)) (counted_apart s t x y fa fb (behind e)).0
-fields_apart Undefined (Is Null) x y fa fb e = cc
-fields_apart Undefined (Is (Int n)) x y fa fb e = cc
-fields_apart Undefined (Is (Text n)) x y fa fb e = cc
-fields_apart Undefined (Is (Blob n)) x y fa fb e = cc
-fields_apart (Is Null) Undefined x y fa fb e = cc
-fields_apart (Is Null) (Is (Int n)) x y fa fb e = cc
-fields_apart (Is Null) (Is (Text n)) x y fa fb e = cc
-fields_apart (Is Null) (Is (Blob n)) x y fa fb e = cc
-fields_apart (Is (Int m)) Undefined x y fa fb e = cc
-fields_apart (Is (Int m)) (Is Null) x y fa fb e = cc
-fields_apart (Is (Int m)) (Is (Text n)) x y fa fb e = cc
-fields_apart (Is (Int m)) (Is (Blob n)) x y fa fb e = cc
-fields_apart (Is (Text m)) Undefined x y fa fb e = cc
-fields_apart (Is (Text m)) (Is Null) x y fa fb e = cc
-fields_apart (Is (Text m)) (Is (Int n)) x y fa fb e = cc
-fields_apart (Is (Text m)) (Is (Blob n)) x y fa fb e = cc
-fields_apart (Is (Blob m)) Undefined x y fa fb e = cc
-fields_apart (Is (Blob m)) (Is Null) x y fa fb e = cc
-fields_apart (Is (Blob m)) (Is (Int n)) x y fa fb e = cc
-fields_apart (Is (Blob m)) (Is (Text n)) x y fa fb e = cc
-
--- ---- where a field is spelled, nothing is wrong
-
-grouped : (t x : List ℕ) → counted t ++ x ≡ spelling (length t) ++ (t ++ x)
-grouped t x = append_assoc (spelling (length t)) t x
-
-uncut : (t x : List ℕ) → length t < 2 ^ 64 → IsCutOff (counted t ++ x) → ⊥
-uncut t x fits (inl partial) = partial_never (length t) (counted t ++ x) (t ++ x) fits (grouped t x) partial
-uncut t x fits (inr cut) =
-    let one = spellings_apart (length t) cut.0 (t ++ x) cut.1 fits cut.3 (sym (grouped t x) ∙ cut.2) in
-    omega (arith, cut.4, one.0, ap length one.1, length-append t x)
-
-not_long : (t x : List ℕ) → length t < 2 ^ 64 → IsTooLong (counted t ++ x) → ⊥
-not_long t x fits long = too_long_never (length t) (counted t ++ x) (t ++ x) fits (grouped t x) long
-
-whole_field : (a : Field) (x : List ℕ) → Fits a → IsPartialField (field a ++ x) → ⊥
-whole_field Undefined x fits (inl p) = omega (arith, p.0)
-whole_field Undefined x fits (inr (inl e, cut)) = omega (arith, e)
-whole_field Undefined x fits (inr (inr e, cut)) = omega (arith, e)
-whole_field (Is Null) x fits (inl p) = omega (arith, p.0)
-whole_field (Is Null) x fits (inr (inl e, cut)) = omega (arith, e)
-whole_field (Is Null) x fits (inr (inr e, cut)) = omega (arith, e)
-whole_field (Is (Int n)) x fits (inl p) = omega (arith, p.1, length-append (integer_bytes n) x, length-integer n)
-whole_field (Is (Int n)) x fits (inr (inl e, cut)) = omega (arith, e)
-whole_field (Is (Int n)) x fits (inr (inr e, cut)) = omega (arith, e)
-whole_field (Is (Text t)) x fits (inl p) = omega (arith, p.0)
-whole_field (Is (Text t)) x fits (inr p) = uncut t x fits.0 p.1
-whole_field (Is (Blob t)) x fits (inl p) = omega (arith, p.0)
-whole_field (Is (Blob t)) x fits (inr p) = uncut t x fits p.1
-
-long_kind : (a : Field) (x rest : List ℕ) (kind : ℕ) → Fits a → field a ++ x ≡ kind ∷ rest → HasLength kind → IsTooLong rest → ⊥
-long_kind Undefined x rest kind fits e (inl h) long = cc
-long_kind Undefined x rest kind fits e (inr h) long = cc
-long_kind (Is Null) x rest kind fits e (inl h) long = cc
-long_kind (Is Null) x rest kind fits e (inr h) long = cc
-long_kind (Is (Int n)) x rest kind fits e (inl h) long = cc
-long_kind (Is (Int n)) x rest kind fits e (inr h) long = cc
-long_kind (Is (Text t)) x rest kind fits e h long = not_long t x fits.0 (subst IsTooLong (let same : rest ≡ counted t ++ x = cc in same) long)
-long_kind (Is (Blob t)) x rest kind fits e h long = not_long t x fits (subst IsTooLong (let same : rest ≡ counted t ++ x = cc in same) long)
 
 -- a type byte is at most 5, and no real's
 abbrev kind_of : Field → ℕ
@@ -132,38 +49,6 @@ known_kind (Is (Int n)) = (omega arith, λ e. omega (arith, e))
 known_kind (Is (Text t)) = (omega arith, λ e. omega (arith, e))
 known_kind (Is (Blob t)) = (omega arith, λ e. omega (arith, e))
 
-no_text : (a : Field) (x text rest : List ℕ) → Fits a → field a ++ x ≡ 3 ∷ (counted text ++ rest) → length text < 2 ^ 64 → (IsUtf8 text → ⊥) → ⊥
-no_text Undefined x text rest fits e len no_utf8 = cc
-no_text (Is Null) x text rest fits e len no_utf8 = cc
-no_text (Is (Int n)) x text rest fits e len no_utf8 = cc
-no_text (Is (Text t)) x text rest fits e len no_utf8 = no_utf8 (subst IsUtf8 (counted_apart t text x rest fits.0 len (behind e)).0 fits.1)
-no_text (Is (Blob t)) x text rest fits e len no_utf8 = cc
-
-pub field_is_right : (a : Field) (fault : Fault) (offset : ℕ) (bytes x : List ℕ) → Fits a → bytes ≡ field a ++ x → IsFieldFault fault offset bytes → ⊥
-field_is_right a Truncated offset bytes x fits e (there, partial) = whole_field a x fits (subst IsPartialField e partial)
-field_is_right a NotShortest offset bytes x fits e (kind, rest, is, has, long, there) = long_kind a x rest kind fits (sym e ∙ is) has long
-field_is_right a (BadType k) offset bytes x fits e (rest, is, above, there) = omega (arith, above, kind_is a x rest k (sym e ∙ is), (known_kind a).0)
-field_is_right a Real offset bytes x fits e (rest, is, there) = (known_kind a).1 (sym (kind_is a x rest 2 (sym e ∙ is)))
-field_is_right a NotUtf8 offset bytes x fits e (text, rest, is, len, no_utf8, there) = no_text a x text rest fits (sym e ∙ is) len no_utf8
-
--- ---- a fault stays, whatever follows, where the bytes don't end early
-
-pub field_fault_stays : (fault : Fault) (offset : ℕ) (bytes more : List ℕ) → fault ≢ Truncated → IsFieldFault fault offset bytes → IsFieldFault fault offset (bytes ++ more)
-field_fault_stays Truncated offset bytes more whole told = absurd (whole refl)
-field_fault_stays NotShortest offset bytes more whole (kind, rest, is, has, long, there) = (kind, rest ++ more, ap (λ (t : List ℕ). t ++ more) is, has, too_long_stays rest more long, there)
-field_fault_stays (BadType k) offset bytes more whole (rest, is, above, there) = (rest ++ more, ap (λ (t : List ℕ). t ++ more) is, above, there)
-field_fault_stays Real offset bytes more whole (rest, is, there) = (rest ++ more, ap (λ (t : List ℕ). t ++ more) is, there)
-field_fault_stays NotUtf8 offset bytes more whole (text, rest, is, len, no_utf8, there) =
-    (text, rest ++ more, ap (λ (t : List ℕ). t ++ more) is ∙ append_assoc (3 ∷ counted text) rest more, len, no_utf8, there)
-
--- ---- there is one fault
-
-early_or_long : (kind : ℕ) (rest : List ℕ) → IsPartialField (kind ∷ rest) → HasLength kind → IsTooLong rest → ⊥
-early_or_long kind rest (inl p) (inl h) long = omega (arith, p.0, h)
-early_or_long kind rest (inl p) (inr h) long = omega (arith, p.0, h)
-early_or_long kind rest (inr (has, inl partial)) h long = partial_not_long rest partial long
-early_or_long kind rest (inr (has, inr (count, more, is, below, less))) h long = too_long_never count rest more below is long
-
 early_kind : (kind : ℕ) (rest : List ℕ) → IsPartialField (kind ∷ rest) → (kind ≤ 4) × (kind ≢ 2)
 early_kind kind rest (inl p) = (omega (arith, p.0), λ e. omega (arith, p.0, e))
 early_kind kind rest (inr (inl h, cut)) = (omega (arith, h), λ e. omega (arith, h, e))
@@ -173,75 +58,178 @@ long_is : (kind : ℕ) → HasLength kind → (kind ≤ 4) × (kind ≢ 2)
 long_is kind (inl h) = (omega (arith, h), λ e. omega (arith, h, e))
 long_is kind (inr h) = (omega (arith, h), λ e. omega (arith, h, e))
 
--- the faults in the order in which they are named
-abbrev rank : Fault → ℕ
-rank Truncated = 0
-rank NotShortest = 1
-rank (BadType kind) = 2
-rank Real = 3
-rank NotUtf8 = 4
+module _ (varints : VarintLaws) where
+  pub counted_apart : (s t x y : List ℕ) → length s < 2 ^ 64 → length t < 2 ^ 64 → counted s ++ x ≡ counted t ++ y → (s ≡ t) × (x ≡ y)
+  counted_apart s t x y bs bt e =
+      let e' : spelling (length s) ++ (s ++ x) ≡ spelling (length t) ++ (t ++ y) = sym (append_assoc (spelling (length s)) s x) ∙ e ∙ append_assoc (spelling (length t)) t y in
+      let one = varints.apart (length s) (length t) (s ++ x) (t ++ y) bs bt e' in
+      same_length s t x y one.0 one.1
 
-head_same : {k l : ℕ} {x y : List ℕ} → k ∷ x ≡ l ∷ y → k ≡ l
-head_same e = cc
+  -- the same field stands at the front
+  same_field : (a b : Field) (x y : List ℕ) → Fits a → Fits b → field a ++ x ≡ field b ++ y → a ≡ b
+  same_field Undefined Undefined x y fa fb e = refl
+  same_field (Is Null) (Is Null) x y fa fb e = refl
+  same_field (Is (Int m)) (Is (Int n)) x y fa fb e =
+      ap (λ k. Is (Int k)) (integer_apart m n fa fb (same_length (integer_bytes m) (integer_bytes n) x y (length-integer m ∙ sym (length-integer n)) (tail_same e)).0)
+  same_field (Is (Text s)) (Is (Text t)) x y fa fb e = ap (λ k. Is (Text k)) (counted_apart s t x y fa.0 fb.0 (tail_same e)).0
+  same_field (Is (Blob s)) (Is (Blob t)) x y fa fb e = ap (λ k. Is (Blob k)) (counted_apart s t x y fa fb (tail_same e)).0
+  same_field Undefined (Is Null) x y fa fb e = cc
+  same_field Undefined (Is (Int n)) x y fa fb e = cc
+  same_field Undefined (Is (Text n)) x y fa fb e = cc
+  same_field Undefined (Is (Blob n)) x y fa fb e = cc
+  same_field (Is Null) Undefined x y fa fb e = cc
+  same_field (Is Null) (Is (Int n)) x y fa fb e = cc
+  same_field (Is Null) (Is (Text n)) x y fa fb e = cc
+  same_field (Is Null) (Is (Blob n)) x y fa fb e = cc
+  same_field (Is (Int m)) Undefined x y fa fb e = cc
+  same_field (Is (Int m)) (Is Null) x y fa fb e = cc
+  same_field (Is (Int m)) (Is (Text n)) x y fa fb e = cc
+  same_field (Is (Int m)) (Is (Blob n)) x y fa fb e = cc
+  same_field (Is (Text m)) Undefined x y fa fb e = cc
+  same_field (Is (Text m)) (Is Null) x y fa fb e = cc
+  same_field (Is (Text m)) (Is (Int n)) x y fa fb e = cc
+  same_field (Is (Text m)) (Is (Blob n)) x y fa fb e = cc
+  same_field (Is (Blob m)) Undefined x y fa fb e = cc
+  same_field (Is (Blob m)) (Is Null) x y fa fb e = cc
+  same_field (Is (Blob m)) (Is (Int n)) x y fa fb e = cc
+  same_field (Is (Blob m)) (Is (Text n)) x y fa fb e = cc
 
-clash : (f g : Fault) (o p : ℕ) (bytes : List ℕ) → rank f < rank g → IsFieldFault f o bytes → IsFieldFault g p bytes → ⊥
-clash Truncated NotShortest o p bytes less (at, partial) (kind, rest, is, has, long, there) = early_or_long kind rest (subst IsPartialField is partial) has long
-clash Truncated (BadType k) o p bytes less (at, partial) (rest, is, above, there) = omega (arith, above, (early_kind k rest (subst IsPartialField is partial)).0)
-clash Truncated Real o p bytes less (at, partial) (rest, is, there) = (early_kind 2 rest (subst IsPartialField is partial)).1 refl
-clash Truncated NotUtf8 o p bytes less (at, partial) (text, rest, is, len, no_utf8, there) = early_text text rest len (subst IsPartialField is partial)
-  where
-    early_text : (t x : List ℕ) → length t < 2 ^ 64 → IsPartialField (3 ∷ (counted t ++ x)) → ⊥
-    early_text t x len (inl p) = omega (arith, p.0)
-    early_text t x len (inr q) = uncut t x len q.1
-clash NotShortest (BadType k) o p bytes less (kind, rest, is, has, long, there) (rest', is', above, there') = omega (arith, above, head_same (sym is ∙ is'), (long_is kind has).0)
-clash NotShortest Real o p bytes less (kind, rest, is, has, long, there) (rest', is', there') = (long_is kind has).1 (head_same (sym is ∙ is'))
-clash NotShortest NotUtf8 o p bytes less (kind, rest, is, has, long, there) (text, rest', is', len, no_utf8, there') =
-    let same : rest ≡ counted text ++ rest' = (let e = sym is ∙ is' in cc) in
-    not_long text rest' len (subst IsTooLong same long)
-clash (BadType k) Real o p bytes less (rest, is, above, there) (rest', is', there') = omega (arith, above, head_same (sym is ∙ is'))
-clash (BadType k) NotUtf8 o p bytes less (rest, is, above, there) (text, rest', is', len, no_utf8, there') = omega (arith, above, head_same (sym is ∙ is'))
-clash Real NotUtf8 o p bytes less (rest, is, there) (text, rest', is', len, no_utf8, there') = omega (arith, head_same (sym is ∙ is'))
-clash Truncated Truncated o p bytes less at at' = absurd (omega (arith, less))
-clash NotShortest Truncated o p bytes less at at' = absurd (omega (arith, less))
-clash NotShortest NotShortest o p bytes less at at' = absurd (omega (arith, less))
-clash (BadType k) Truncated o p bytes less at at' = absurd (omega (arith, less))
-clash (BadType k) NotShortest o p bytes less at at' = absurd (omega (arith, less))
-clash (BadType k) (BadType l) o p bytes less at at' = absurd (omega (arith, less))
-clash Real Truncated o p bytes less at at' = absurd (omega (arith, less))
-clash Real NotShortest o p bytes less at at' = absurd (omega (arith, less))
-clash Real (BadType l) o p bytes less at at' = absurd (omega (arith, less))
-clash Real Real o p bytes less at at' = absurd (omega (arith, less))
-clash NotUtf8 Truncated o p bytes less at at' = absurd (omega (arith, less))
-clash NotUtf8 NotShortest o p bytes less at at' = absurd (omega (arith, less))
-clash NotUtf8 (BadType l) o p bytes less at at' = absurd (omega (arith, less))
-clash NotUtf8 Real o p bytes less at at' = absurd (omega (arith, less))
-clash NotUtf8 NotUtf8 o p bytes less at at' = absurd (omega (arith, less))
+  -- no spelling of a field begins another
+  pub fields_apart : (a b : Field) (x y : List ℕ) → Fits a → Fits b → field a ++ x ≡ field b ++ y → (a ≡ b) × (x ≡ y)
+  fields_apart a b x y fa fb e =
+      let same = same_field a b x y fa fb e in
+      (same, append_cancel_left (field a) x y (e ∙ ap (λ (f : Field). field f ++ y) (sym same)))
 
-pub one_field_fault : (f g : Fault) (o p : ℕ) (bytes : List ℕ) → IsFieldFault f o bytes → IsFieldFault g p bytes → (f ≡ g) × (o ≡ p)
-one_field_fault Truncated Truncated o p bytes at at' = (refl, at.0 ∙ sym at'.0)
-one_field_fault NotShortest NotShortest o p bytes (kind, rest, is, has, long, there) (kind', rest', is', has', long', there') = (refl, there ∙ sym there')
-one_field_fault (BadType k) (BadType l) o p bytes (rest, is, above, there) (rest', is', above', there') = (ap (λ n. BadType n) (head_same (sym is ∙ is')), there ∙ sym there')
-one_field_fault Real Real o p bytes (rest, is, there) (rest', is', there') = (refl, there ∙ sym there')
-one_field_fault NotUtf8 NotUtf8 o p bytes (text, rest, is, len, no_utf8, there) (text', rest', is', len', no_utf8', there') =
-    let same = (counted_apart text text' rest rest' len len' (behind (sym is ∙ is'))).0 in
-    (refl, there ∙ ap (λ (t : List ℕ). 1 + length (spelling (length t))) same ∙ sym there')
-one_field_fault Truncated NotShortest o p bytes at at' = absurd (clash Truncated NotShortest o p bytes (omega arith) at at')
-one_field_fault Truncated (BadType l) o p bytes at at' = absurd (clash Truncated (BadType l) o p bytes (omega arith) at at')
-one_field_fault Truncated Real o p bytes at at' = absurd (clash Truncated Real o p bytes (omega arith) at at')
-one_field_fault Truncated NotUtf8 o p bytes at at' = absurd (clash Truncated NotUtf8 o p bytes (omega arith) at at')
-one_field_fault NotShortest Truncated o p bytes at at' = absurd (clash Truncated NotShortest p o bytes (omega arith) at' at)
-one_field_fault NotShortest (BadType l) o p bytes at at' = absurd (clash NotShortest (BadType l) o p bytes (omega arith) at at')
-one_field_fault NotShortest Real o p bytes at at' = absurd (clash NotShortest Real o p bytes (omega arith) at at')
-one_field_fault NotShortest NotUtf8 o p bytes at at' = absurd (clash NotShortest NotUtf8 o p bytes (omega arith) at at')
-one_field_fault (BadType k) Truncated o p bytes at at' = absurd (clash Truncated (BadType k) p o bytes (omega arith) at' at)
-one_field_fault (BadType k) NotShortest o p bytes at at' = absurd (clash NotShortest (BadType k) p o bytes (omega arith) at' at)
-one_field_fault (BadType k) Real o p bytes at at' = absurd (clash (BadType k) Real o p bytes (omega arith) at at')
-one_field_fault (BadType k) NotUtf8 o p bytes at at' = absurd (clash (BadType k) NotUtf8 o p bytes (omega arith) at at')
-one_field_fault Real Truncated o p bytes at at' = absurd (clash Truncated Real p o bytes (omega arith) at' at)
-one_field_fault Real NotShortest o p bytes at at' = absurd (clash NotShortest Real p o bytes (omega arith) at' at)
-one_field_fault Real (BadType l) o p bytes at at' = absurd (clash (BadType l) Real p o bytes (omega arith) at' at)
-one_field_fault Real NotUtf8 o p bytes at at' = absurd (clash Real NotUtf8 o p bytes (omega arith) at at')
-one_field_fault NotUtf8 Truncated o p bytes at at' = absurd (clash Truncated NotUtf8 p o bytes (omega arith) at' at)
-one_field_fault NotUtf8 NotShortest o p bytes at at' = absurd (clash NotShortest NotUtf8 p o bytes (omega arith) at' at)
-one_field_fault NotUtf8 (BadType l) o p bytes at at' = absurd (clash (BadType l) NotUtf8 p o bytes (omega arith) at' at)
-one_field_fault NotUtf8 Real o p bytes at at' = absurd (clash Real NotUtf8 p o bytes (omega arith) at' at)
+  -- ---- where a field is spelled, nothing is wrong
+
+  grouped : (t x : List ℕ) → counted t ++ x ≡ spelling (length t) ++ (t ++ x)
+  grouped t x = append_assoc (spelling (length t)) t x
+
+  uncut : (t x : List ℕ) → length t < 2 ^ 64 → IsCutOff (counted t ++ x) → ⊥
+  uncut t x fits (inl partial) = (varints.right (length t) (counted t ++ x) (t ++ x) fits (grouped t x)).0 partial
+  uncut t x fits (inr cut) =
+      let one = varints.apart (length t) cut.0 (t ++ x) cut.1 fits cut.3 (sym (grouped t x) ∙ cut.2) in
+      omega (arith, cut.4, one.0, ap length one.1, length-append t x)
+
+  not_long : (t x : List ℕ) → length t < 2 ^ 64 → IsTooLong (counted t ++ x) → ⊥
+  not_long t x fits long = (varints.right (length t) (counted t ++ x) (t ++ x) fits (grouped t x)).1 long
+
+  whole_field : (a : Field) (x : List ℕ) → Fits a → IsPartialField (field a ++ x) → ⊥
+  whole_field Undefined x fits (inl p) = omega (arith, p.0)
+  whole_field Undefined x fits (inr (inl e, cut)) = omega (arith, e)
+  whole_field Undefined x fits (inr (inr e, cut)) = omega (arith, e)
+  whole_field (Is Null) x fits (inl p) = omega (arith, p.0)
+  whole_field (Is Null) x fits (inr (inl e, cut)) = omega (arith, e)
+  whole_field (Is Null) x fits (inr (inr e, cut)) = omega (arith, e)
+  whole_field (Is (Int n)) x fits (inl p) = omega (arith, p.1, length-append (integer_bytes n) x, length-integer n)
+  whole_field (Is (Int n)) x fits (inr (inl e, cut)) = omega (arith, e)
+  whole_field (Is (Int n)) x fits (inr (inr e, cut)) = omega (arith, e)
+  whole_field (Is (Text t)) x fits (inl p) = omega (arith, p.0)
+  whole_field (Is (Text t)) x fits (inr p) = uncut t x fits.0 p.1
+  whole_field (Is (Blob t)) x fits (inl p) = omega (arith, p.0)
+  whole_field (Is (Blob t)) x fits (inr p) = uncut t x fits p.1
+
+  long_kind : (a : Field) (x rest : List ℕ) (kind : ℕ) → Fits a → field a ++ x ≡ kind ∷ rest → HasLength kind → IsTooLong rest → ⊥
+  long_kind Undefined x rest kind fits e (inl h) long = cc
+  long_kind Undefined x rest kind fits e (inr h) long = cc
+  long_kind (Is Null) x rest kind fits e (inl h) long = cc
+  long_kind (Is Null) x rest kind fits e (inr h) long = cc
+  long_kind (Is (Int n)) x rest kind fits e (inl h) long = cc
+  long_kind (Is (Int n)) x rest kind fits e (inr h) long = cc
+  long_kind (Is (Text t)) x rest kind fits e h long = not_long t x fits.0 (subst IsTooLong (let same : rest ≡ counted t ++ x = cc in same) long)
+  long_kind (Is (Blob t)) x rest kind fits e h long = not_long t x fits (subst IsTooLong (let same : rest ≡ counted t ++ x = cc in same) long)
+
+  no_text : (a : Field) (x text rest : List ℕ) → Fits a → field a ++ x ≡ 3 ∷ (counted text ++ rest) → length text < 2 ^ 64 → (IsUtf8 text → ⊥) → ⊥
+  no_text Undefined x text rest fits e len no_utf8 = cc
+  no_text (Is Null) x text rest fits e len no_utf8 = cc
+  no_text (Is (Int n)) x text rest fits e len no_utf8 = cc
+  no_text (Is (Text t)) x text rest fits e len no_utf8 = no_utf8 (subst IsUtf8 (counted_apart t text x rest fits.0 len (tail_same e)).0 fits.1)
+  no_text (Is (Blob t)) x text rest fits e len no_utf8 = cc
+
+  pub field_is_right : (a : Field) (fault : Fault) (offset : ℕ) (bytes x : List ℕ) → Fits a → bytes ≡ field a ++ x → IsFieldFault fault offset bytes → ⊥
+  field_is_right a Truncated offset bytes x fits e (there, partial) = whole_field a x fits (subst IsPartialField e partial)
+  field_is_right a NotShortest offset bytes x fits e (kind, rest, is, has, long, there) = long_kind a x rest kind fits (sym e ∙ is) has long
+  field_is_right a (BadType k) offset bytes x fits e (rest, is, above, there) = omega (arith, above, kind_is a x rest k (sym e ∙ is), (known_kind a).0)
+  field_is_right a Real offset bytes x fits e (rest, is, there) = (known_kind a).1 (sym (kind_is a x rest 2 (sym e ∙ is)))
+  field_is_right a NotUtf8 offset bytes x fits e (text, rest, is, len, no_utf8, there) = no_text a x text rest fits (sym e ∙ is) len no_utf8
+
+  -- ---- a fault stays, whatever follows, where the bytes don't end early
+
+  pub field_fault_stays : (fault : Fault) (offset : ℕ) (bytes more : List ℕ) → fault ≢ Truncated → IsFieldFault fault offset bytes → IsFieldFault fault offset (bytes ++ more)
+  field_fault_stays Truncated offset bytes more whole told = absurd (whole refl)
+  field_fault_stays NotShortest offset bytes more whole (kind, rest, is, has, long, there) = (kind, rest ++ more, ap (λ (t : List ℕ). t ++ more) is, has, varints.stays rest more long, there)
+  field_fault_stays (BadType k) offset bytes more whole (rest, is, above, there) = (rest ++ more, ap (λ (t : List ℕ). t ++ more) is, above, there)
+  field_fault_stays Real offset bytes more whole (rest, is, there) = (rest ++ more, ap (λ (t : List ℕ). t ++ more) is, there)
+  field_fault_stays NotUtf8 offset bytes more whole (text, rest, is, len, no_utf8, there) =
+      (text, rest ++ more, ap (λ (t : List ℕ). t ++ more) is ∙ append_assoc (3 ∷ counted text) rest more, len, no_utf8, there)
+
+  -- ---- there is one fault
+
+  early_or_long : (kind : ℕ) (rest : List ℕ) → IsPartialField (kind ∷ rest) → HasLength kind → IsTooLong rest → ⊥
+  early_or_long kind rest (inl p) (inl h) long = omega (arith, p.0, h)
+  early_or_long kind rest (inl p) (inr h) long = omega (arith, p.0, h)
+  early_or_long kind rest (inr (has, inl partial)) h long = varints.one rest partial long
+  early_or_long kind rest (inr (has, inr (count, more, is, below, less))) h long = (varints.right count rest more below is).1 long
+
+  early_bad : (k o p : ℕ) (bytes : List ℕ) → IsFieldFault Truncated o bytes → IsFieldFault (BadType k) p bytes → ⊥
+  early_bad k o p bytes (at, partial) (rest, is, above, there) = omega (arith, above, (early_kind k rest (subst IsPartialField is partial)).0)
+
+  early_real : (o p : ℕ) (bytes : List ℕ) → IsFieldFault Truncated o bytes → IsFieldFault Real p bytes → ⊥
+  early_real o p bytes (at, partial) (rest, is, there) = (early_kind 2 rest (subst IsPartialField is partial)).1 refl
+
+  early_text : (o p : ℕ) (bytes : List ℕ) → IsFieldFault Truncated o bytes → IsFieldFault NotUtf8 p bytes → ⊥
+  early_text o p bytes (at, partial) (text, rest, is, len, no_utf8, there) = cut_text text rest len (subst IsPartialField is partial)
+    where
+      cut_text : (t x : List ℕ) → length t < 2 ^ 64 → IsPartialField (3 ∷ (counted t ++ x)) → ⊥
+      cut_text t x len (inl p) = omega (arith, p.0)
+      cut_text t x len (inr q) = uncut t x len q.1
+
+  long_bad : (k o p : ℕ) (bytes : List ℕ) → IsFieldFault NotShortest o bytes → IsFieldFault (BadType k) p bytes → ⊥
+  long_bad k o p bytes (kind, rest, is, has, long, there) (rest', is', above, there') = omega (arith, above, head_same (sym is ∙ is'), (long_is kind has).0)
+
+  long_real : (o p : ℕ) (bytes : List ℕ) → IsFieldFault NotShortest o bytes → IsFieldFault Real p bytes → ⊥
+  long_real o p bytes (kind, rest, is, has, long, there) (rest', is', there') = (long_is kind has).1 (head_same (sym is ∙ is'))
+
+  long_text : (o p : ℕ) (bytes : List ℕ) → IsFieldFault NotShortest o bytes → IsFieldFault NotUtf8 p bytes → ⊥
+  long_text o p bytes (kind, rest, is, has, long, there) (text, rest', is', len, no_utf8, there') = not_long text rest' len (subst IsTooLong (tail_same (sym is ∙ is')) long)
+
+  bad_real : (k o p : ℕ) (bytes : List ℕ) → IsFieldFault (BadType k) o bytes → IsFieldFault Real p bytes → ⊥
+  bad_real k o p bytes (rest, is, above, there) (rest', is', there') = omega (arith, above, head_same (sym is ∙ is'))
+
+  bad_text : (k o p : ℕ) (bytes : List ℕ) → IsFieldFault (BadType k) o bytes → IsFieldFault NotUtf8 p bytes → ⊥
+  bad_text k o p bytes (rest, is, above, there) (text, rest', is', len, no_utf8, there') = omega (arith, above, head_same (sym is ∙ is'))
+
+  real_text : (o p : ℕ) (bytes : List ℕ) → IsFieldFault Real o bytes → IsFieldFault NotUtf8 p bytes → ⊥
+  real_text o p bytes (rest, is, there) (text, rest', is', len, no_utf8, there') = omega (arith, head_same (sym is ∙ is'))
+
+  early_long : (o p : ℕ) (bytes : List ℕ) → IsFieldFault Truncated o bytes → IsFieldFault NotShortest p bytes → ⊥
+  early_long o p bytes (at, partial) (kind, rest, is, has, long, there) = early_or_long kind rest (subst IsPartialField is partial) has long
+
+  pub one_field_fault : (f g : Fault) (o p : ℕ) (bytes : List ℕ) → IsFieldFault f o bytes → IsFieldFault g p bytes → (f ≡ g) × (o ≡ p)
+  one_field_fault Truncated Truncated o p bytes at at' = (refl, at.0 ∙ sym at'.0)
+  one_field_fault NotShortest NotShortest o p bytes (kind, rest, is, has, long, there) (kind', rest', is', has', long', there') = (refl, there ∙ sym there')
+  one_field_fault (BadType k) (BadType l) o p bytes (rest, is, above, there) (rest', is', above', there') = (ap (λ n. BadType n) (head_same (sym is ∙ is')), there ∙ sym there')
+  one_field_fault Real Real o p bytes (rest, is, there) (rest', is', there') = (refl, there ∙ sym there')
+  one_field_fault NotUtf8 NotUtf8 o p bytes (text, rest, is, len, no_utf8, there) (text', rest', is', len', no_utf8', there') =
+      let same = (counted_apart text text' rest rest' len len' (tail_same (sym is ∙ is'))).0 in
+      (refl, there ∙ ap (λ (t : List ℕ). 1 + length (spelling (length t))) same ∙ sym there')
+  one_field_fault Truncated NotShortest o p bytes at at' = absurd (early_long o p bytes at at')
+  one_field_fault Truncated (BadType l) o p bytes at at' = absurd (early_bad l o p bytes at at')
+  one_field_fault Truncated Real o p bytes at at' = absurd (early_real o p bytes at at')
+  one_field_fault Truncated NotUtf8 o p bytes at at' = absurd (early_text o p bytes at at')
+  one_field_fault NotShortest Truncated o p bytes at at' = absurd (early_long p o bytes at' at)
+  one_field_fault NotShortest (BadType l) o p bytes at at' = absurd (long_bad l o p bytes at at')
+  one_field_fault NotShortest Real o p bytes at at' = absurd (long_real o p bytes at at')
+  one_field_fault NotShortest NotUtf8 o p bytes at at' = absurd (long_text o p bytes at at')
+  one_field_fault (BadType k) Truncated o p bytes at at' = absurd (early_bad k p o bytes at' at)
+  one_field_fault (BadType k) NotShortest o p bytes at at' = absurd (long_bad k p o bytes at' at)
+  one_field_fault (BadType k) Real o p bytes at at' = absurd (bad_real k o p bytes at at')
+  one_field_fault (BadType k) NotUtf8 o p bytes at at' = absurd (bad_text k o p bytes at at')
+  one_field_fault Real Truncated o p bytes at at' = absurd (early_real p o bytes at' at)
+  one_field_fault Real NotShortest o p bytes at at' = absurd (long_real p o bytes at' at)
+  one_field_fault Real (BadType l) o p bytes at at' = absurd (bad_real l p o bytes at' at)
+  one_field_fault Real NotUtf8 o p bytes at at' = absurd (real_text o p bytes at at')
+  one_field_fault NotUtf8 Truncated o p bytes at at' = absurd (early_text p o bytes at' at)
+  one_field_fault NotUtf8 NotShortest o p bytes at at' = absurd (long_text p o bytes at' at)
+  one_field_fault NotUtf8 (BadType l) o p bytes at at' = absurd (bad_text l p o bytes at' at)
+  one_field_fault NotUtf8 Real o p bytes at at' = absurd (real_text p o bytes at' at)

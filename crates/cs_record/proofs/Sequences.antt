@@ -1,39 +1,13 @@
 -- Spellings one after another, where no spelling of an item begins another.
-use Rattle.std.proofs.Common.{◌≡◌, ℕ, ◌+◌, ◌-◌, ◌<◌, List, [], ◌∷◌, ◌++◌, length, take, drop, refl, sym, ap, ◌∙◌, append_assoc, arith, inl, inr, subst}
+use Rattle.std.proofs.Common.{◌≡◌, ℕ, ◌<◌, List, [], ◌∷◌, ◌++◌, length, refl, sym, ap, ◌∙◌, append_assoc, arith, inl, inr, subst}
 use Rattle.std.proofs.lemmas.Bool.{cases_lt}
 use Rattle.std.specs.List.{flat_map, AllByRecursion}
-use Rattle.std.proofs.lemmas.List.{append_cancel_left, take-append-drop, take-take, drop-take, take_all, length-drop, flat_map_more}
-use Rattle.cs_record.specs.Reading.{StandsAt}
 
--- what stands at the front, and the rest
-pub parts : (bytes spelled : List ℕ) (at : ℕ) → StandsAt bytes spelled at → bytes ≡ spelled ++ drop at bytes
-parts bytes spelled at stands = sym (take-append-drop at bytes) ∙ ap (λ (t : List ℕ). t ++ drop at bytes) stands.front
-
--- a front, and what stands behind it
-pub take-add : (n m : ℕ) (bytes : List ℕ) → take (n + m) bytes ≡ take n bytes ++ take m (drop n bytes)
-take-add n m bytes = sym (take-append-drop n (take (n + m) bytes)) ∙ rw (take-take n (n + m) bytes (omega arith), drop-take n m bytes) refl
-
--- items at the front, and one more behind them
-pub stands_more : {X : Type 0} (sp : X → List ℕ) (bytes : List ℕ) (items : List X) (next : X) (at len : ℕ) → StandsAt bytes (flat_map sp items) at → StandsAt (take (length bytes - at) (drop at bytes)) (sp next) len
-    → StandsAt bytes (flat_map sp (items ++ next ∷ [])) (at + len)
-stands_more sp bytes items next at len stands after =
-    let rest : take (length bytes - at) (drop at bytes) ≡ drop at bytes = take_all (length bytes - at) (drop at bytes) (omega (arith, length-drop at bytes)) in
-    record {
-      within = omega (arith, after.within, ap length rest, length-drop at bytes, stands.within);
-      front = take-add at len bytes ∙ rw (stands.front, rw rest at after.front) (flat_map_more sp [] items next);
-    }
-
-pub all_more : {X : Type 0} (P : X → Type 0) (items : List X) (next : X) → AllByRecursion P items → P next → AllByRecursion P (items ++ next ∷ [])
-all_more P [] next each one = (one, tt)
-all_more P (first ∷ items) next each one = (each.0, all_more P items next each.1 one)
-
-module _ {X : Type 0} (sp : X → List ℕ) (Fits : X → Type 0) (apart : (a b : X) (x y : List ℕ) → Fits a → Fits b → sp a ++ x ≡ sp b ++ y → a ≡ b) where
+module _ {X : Type 0} (sp : X → List ℕ) (Fits : X → Type 0) (apart : (a b : X) (x y : List ℕ) → Fits a → Fits b → sp a ++ x ≡ sp b ++ y → (a ≡ b) × (x ≡ y)) where
   -- the first items are equal, and so is what follows them
   first_apart : (a b : X) (xs ys x y : List ℕ) → Fits a → Fits b → (sp a ++ xs) ++ x ≡ (sp b ++ ys) ++ y → (a ≡ b) × (xs ++ x ≡ ys ++ y)
   first_apart a b xs ys x y fa fb e =
-      let e' : sp a ++ (xs ++ x) ≡ sp b ++ (ys ++ y) = sym (append_assoc (sp a) xs x) ∙ e ∙ append_assoc (sp b) ys y in
-      let same = apart a b (xs ++ x) (ys ++ y) fa fb e' in
-      (same, append_cancel_left (sp a) (xs ++ x) (ys ++ y) (e' ∙ ap (λ (c : X). sp c ++ (ys ++ y)) (sym same)))
+      apart a b (xs ++ x) (ys ++ y) fa fb (sym (append_assoc (sp a) xs x) ∙ e ∙ append_assoc (sp b) ys y)
 
   -- as many items at the front are the same items
   pub same_items : (ms ns : List X) (x y : List ℕ) → AllByRecursion Fits ms → AllByRecursion Fits ns → length ms ≡ length ns → flat_map sp ms ++ x ≡ flat_map sp ns ++ y → (ms ≡ ns) × (x ≡ y)
@@ -44,6 +18,15 @@ module _ {X : Type 0} (sp : X → List ℕ) (Fits : X → Type 0) (apart : (a b 
       (ap (λ (c : X). c ∷ ms) first.0 ∙ ap (λ (t : List X). b ∷ t) rest.0, rest.1)
   same_items [] (b ∷ ns) x y fa fb len e = absurd (omega (arith, len))
   same_items (a ∷ ms) [] x y fa fb len e = absurd (omega (arith, len))
+
+  -- items to the end are the same items, where an item takes bytes
+  pub same_all : ((a : X) (x : List ℕ) → sp a ++ x ≡ [] → ⊥) → (ms ns : List X) → AllByRecursion Fits ms → AllByRecursion Fits ns → flat_map sp ms ≡ flat_map sp ns → ms ≡ ns
+  same_all some [] [] fa fb e = refl
+  same_all some (a ∷ ms) (b ∷ ns) fa fb e =
+      let first = apart a b (flat_map sp ms) (flat_map sp ns) fa.0 fb.0 e in
+      ap (λ (c : X). c ∷ ms) first.0 ∙ ap (λ (t : List X). b ∷ t) (same_all some ms ns fa.1 fb.1 first.1)
+  same_all some [] (b ∷ ns) fa fb e = absurd (some b (flat_map sp ns) (sym e))
+  same_all some (a ∷ ms) [] fa fb e = absurd (some a (flat_map sp ms) e)
 
   -- fewer items at the front are followed by an item
   pub item_follows : (ms ns : List X) (x y : List ℕ) → AllByRecursion Fits ms → AllByRecursion Fits ns → length ms < length ns → flat_map sp ms ++ x ≡ flat_map sp ns ++ y → (b : X) × (rest : List ℕ) × Fits b × (x ≡ sp b ++ rest)

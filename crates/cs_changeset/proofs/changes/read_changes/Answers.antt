@@ -1,8 +1,7 @@
 use Rattle.std.proofs.Common.{◌-◌, length, take, drop, ap, arith}
 use Rattle.std.proofs.lemmas.List.{length-drop}
 use Rattle.cs_change.specs.Spelling.{marks_of, change_spelling, FitsChange}
-use Rattle.cs_record.proofs.Sequences.{stands_more, all_more}
-use Rattle.cs_changeset.proofs.Headers.{tail}
+use Rattle.cs_record.specs.Facts.{stands_more, all_more, tail}
 use Rattle.cs_changeset.proofs.ChangeLaws.{change_within, changes_fault}
 use Rattle.cs_changeset.proofs.changes.read_changes.Goals as goal
 

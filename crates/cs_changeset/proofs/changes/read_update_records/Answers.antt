@@ -2,7 +2,7 @@ use Rattle.std.proofs.Common.{◌-◌, length, take, drop, ap, arith}
 use Rattle.std.proofs.lemmas.List.{length-drop}
 use Rattle.cs_change.specs.Spelling.{marks_of}
 use Rattle.cs_changeset.specs.Records.{new_rules}
-use Rattle.cs_changeset.proofs.Headers.{tail}
+use Rattle.cs_record.specs.Facts.{tail}
 use Rattle.cs_changeset.proofs.ChangeLaws.{record_within, update_records}
 use Rattle.cs_changeset.proofs.changes.read_update_records.Goals as goal
 

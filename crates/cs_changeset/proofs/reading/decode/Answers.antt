@@ -1,15 +1,14 @@
-use Rattle.cs_changeset.proofs.GroupLaws.{fault_within}
 use Rattle.cs_changeset.proofs.Items.{only_changeset, told_changeset, front_changeset}
 use Rattle.cs_changeset.proofs.reading.decode.Goals as goal
 
 pub returns-clause-only : goal.returns-clause-only
-returns-clause-only c = only_changeset c.args.bytes.now c.read_changeset.result c.read_changeset.ensures
+returns-clause-only c = only_changeset c.changesets.ensures c.args.bytes.now c.read_changeset.result c.read_changeset.ensures
 
 pub returns-clause-told : goal.returns-clause-told
-returns-clause-told c = told_changeset c.args.bytes.now c.read_changeset.result c.read_changeset.ensures
+returns-clause-told c = told_changeset c.changesets.ensures c.args.bytes.now c.read_changeset.result c.read_changeset.ensures
 
 pub returns-clause-within : goal.returns-clause-within
-returns-clause-within c = λ fault offset told. fault_within fault offset c.args.bytes.now told
+returns-clause-within c = λ fault offset told. c.changesets.ensures.within fault offset c.args.bytes.now told
 
 pub returns-clause-front : goal.returns-clause-front
-returns-clause-front c = front_changeset c.args.bytes.now c.read_changeset.result c.read_changeset.ensures
+returns-clause-front c = front_changeset c.changesets.ensures c.args.bytes.now c.read_changeset.result c.read_changeset.ensures

@@ -1,6 +1,6 @@
 use Rattle.std.proofs.Common.{◌-◌, length, take, drop, ap, arith}
 use Rattle.std.proofs.lemmas.List.{length-drop}
-use Rattle.cs_changeset.proofs.Headers.{tail}
+use Rattle.cs_record.specs.Facts.{tail}
 use Rattle.cs_changeset.proofs.GroupLaws.{changes_within, header_within, group_read, body_fault}
 use Rattle.cs_changeset.proofs.reading.read_group.Goals as goal
 

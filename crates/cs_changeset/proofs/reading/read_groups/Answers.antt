@@ -1,8 +1,7 @@
 use Rattle.std.proofs.Common.{◌-◌, length, take, drop, ap, arith}
 use Rattle.std.proofs.lemmas.List.{length-drop}
-use Rattle.cs_record.proofs.Sequences.{stands_more, all_more}
+use Rattle.cs_record.specs.Facts.{stands_more, all_more, tail}
 use Rattle.cs_change.specs.Spelling.{group_spelling, FitsGroup}
-use Rattle.cs_changeset.proofs.Headers.{tail}
 use Rattle.cs_changeset.proofs.GroupLaws.{begins_there, ends_there, group_within}
 use Rattle.cs_changeset.proofs.reading.read_groups.Goals as goal
 

@@ -10,7 +10,7 @@ loop-changeset-init c = formed_none c.args.catalog.now c.args.changesets.now c.n
 pub loop-changeset-preserved : goal.loop-changeset-preserved
 loop-changeset-preserved c =
     let so_far = rw c.in-Some.ensures.cases.0 at c.loop-changeset.invariant in
-    formed_more c.args.catalog.now c.in-Some.changeset.now c.in-Some.more.now c.args.changesets.now c.in_ok-normalise.field-0 c.loop-changeset.normals.items c.push.new.self.items c.in_ok-push.ensures.items c.in_ok-normalise.ensures.fit c.in_ok-normalise.ensures.normal so_far
+    formed_more c.args.catalog.now c.in-Some.changeset.now c.in-Some.more.now c.args.changesets.now c.in_ok-normalise.field-0 c.loop-changeset.normals.items c.push.new.self.items c.in_ok-push.ensures.items c.in_ok-normalise.ensures.normal so_far
 
 pub returns-clause-forms : goal.returns-clause-forms
 returns-clause-forms c = formed_all c.args.catalog.now c.loop-changeset.rest.now c.args.changesets.now c.loop-changeset.normals.items c.in_default.ensures.cases c.loop-changeset.invariant

@@ -14,4 +14,6 @@ loop-normal-init c =
 
 pub returns : goal.returns
 returns c =
-    if_ok c.listed.result _ _ (λ changes is. joined_end c.args.table.now.key_marks c.args.table.now.name c.loop-normal.rest.now c.args.list.now (seen c.loop-normal.joined.entries) c.in_default.ensures.cases c.loop-normal.invariant.ready c.loop-normal.invariant.folded changes.items is) c.listed.ensures
+    if_ok c.listed.result _ _ (λ changes is.
+    let ended = joined_end c.args.table.now.key_marks c.args.table.now.name c.loop-normal.rest.now c.args.list.now (seen c.loop-normal.joined.entries) c.in_default.ensures.cases c.loop-normal.invariant.ready c.loop-normal.invariant.folded changes.items is in
+    record { normal = ended.0; join = ended.1; text = rw c.as_str-name.ensures at c.as_str-name.utf8 }) c.listed.ensures

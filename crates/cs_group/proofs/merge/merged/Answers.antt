@@ -26,4 +26,4 @@ loop-both-preserved-in-Greater c =
 
 pub loop-both-preserved : goal.loop-both-preserved
 loop-both-preserved c =
-    merge_both _ _ _ _ _ _ c.loop-both.invariant c.in-Some-Some.first.now c.in-Some-Some.second.now c.in-Some-Some.more.now c.in-Some-Some.rest.now _ c.in-Some-Some.ensures.cases.0 c.in-Some-Some.ensures'.cases.0 (exact_bytes _ _ (sym c.order.ensures ∙ c.in-Equal.is)) c.in_ok-push_both-in-Equal.ensures.spelled c.in_ok-push_both-in-Equal.ensures.pushed
+    merge_both _ _ _ _ _ _ c.loop-both.invariant c.in-Some-Some.first.now c.in-Some-Some.second.now c.in-Some-Some.more.now c.in-Some-Some.rest.now _ c.in-Some-Some.ensures.cases.0 c.in-Some-Some.ensures'.cases.0 (exact_bytes _ _ (sym c.order.ensures ∙ c.in-Equal.is)) c.in_ok-push_both-in-Equal.ensures

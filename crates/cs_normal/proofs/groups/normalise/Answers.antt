@@ -3,7 +3,7 @@ use Rattle.cs_change.specs.Spelling.{FitsChangeset, changeset_spelling}
 use Rattle.cs_normal.specs.Normal.{groups_of, normal_spelling}
 use Rattle.cs_normal.specs.NormalFormOf.{IsNormalFormOf}
 use Rattle.cs_normal.specs.declared.normal.TableChanges.{TableChanges}
-use Rattle.cs_normal.proofs.Whole.{IsFront, all_fit, all_form, all_shorter, all_normal, all_taken, stop_unfit, front_unfit}
+use Rattle.cs_normal.proofs.Whole.{IsFront, all_form, all_shorter, all_normal, stop_unfit, front_unfit}
 use Rattle.cs_normal.proofs.groups.normalise.Goals as goal
 
 pub from_tables-requires : goal.from_tables-requires
@@ -18,18 +18,6 @@ from_tables-requires c =
     let made = rw (c.as_slice-groups.ensures, c.tables.ensures.same) at c.in-Ok-None.ensures.normal in
     all_normal tables groups found.result.0 c.tables.ensures.tables front c.in-Ok-None.tables.items made c.requires
 
-pub returns-in-Ok-None-clause-fit : goal.returns-in-Ok-None-clause-fit
-returns-in-Ok-None-clause-fit c =
-    let found = c.fitting_headers-count in
-    let tables = c.args.catalog.now in
-    let groups = c.args.changeset.now in
-    let next = rw (c.in-Ok-None.is-1, c.as_slice-groups.ensures) at found.ensures.stop in
-    let fit = rw c.as_slice-groups.ensures at found.ensures.fit in
-    let within = rw c.as_slice-groups.ensures at found.ensures.count in
-    let front : IsFront tables groups found.result.0 None = record { within = within; fit = fit; next = next } in
-    let made = rw (c.as_slice-groups.ensures, c.tables.ensures.same) at c.in-Ok-None.ensures.normal in
-    all_fit tables groups found.result.0 c.tables.ensures.tables front c.in-Ok-None.tables.items made
-
 pub returns-in-Ok-None-clause-normal : goal.returns-in-Ok-None-clause-normal
 returns-in-Ok-None-clause-normal c =
     let found = c.fitting_headers-count in
@@ -40,7 +28,7 @@ returns-in-Ok-None-clause-normal c =
     let within = rw c.as_slice-groups.ensures at found.ensures.count in
     let front : IsFront tables groups found.result.0 None = record { within = within; fit = fit; next = next } in
     let made = rw (c.as_slice-groups.ensures, c.tables.ensures.same) at c.in-Ok-None.ensures.normal in
-    subst (IsNormalFormOf tables groups) (sym c.from_tables.ensures) (all_form tables groups found.result.0 c.tables.ensures.tables front c.in-Ok-None.tables.items made)
+    subst (IsNormalFormOf tables groups) (sym c.from_tables.ensures) (all_form tables groups found.result.0 c.tables.ensures.tables front c.in-Ok-None.tables.items made c.requires)
 
 pub returns-in-Ok-None-clause-shorter : goal.returns-in-Ok-None-clause-shorter
 returns-in-Ok-None-clause-shorter c =
@@ -53,18 +41,6 @@ returns-in-Ok-None-clause-shorter c =
     let front : IsFront tables groups found.result.0 None = record { within = within; fit = fit; next = next } in
     let made = rw (c.as_slice-groups.ensures, c.tables.ensures.same) at c.in-Ok-None.ensures.normal in
     subst (λ (normal : List TableChanges). length (normal_spelling normal) ≤ length (changeset_spelling groups)) (sym c.from_tables.ensures) (all_shorter tables groups found.result.0 c.tables.ensures.tables front c.in-Ok-None.tables.items made)
-
-pub returns-in-Ok-None-clause-taken : goal.returns-in-Ok-None-clause-taken
-returns-in-Ok-None-clause-taken c =
-    let found = c.fitting_headers-count in
-    let tables = c.args.catalog.now in
-    let groups = c.args.changeset.now in
-    let next = rw (c.in-Ok-None.is-1, c.as_slice-groups.ensures) at found.ensures.stop in
-    let fit = rw c.as_slice-groups.ensures at found.ensures.fit in
-    let within = rw c.as_slice-groups.ensures at found.ensures.count in
-    let front : IsFront tables groups found.result.0 None = record { within = within; fit = fit; next = next } in
-    let made = rw (c.as_slice-groups.ensures, c.tables.ensures.same) at c.in-Ok-None.ensures.normal in
-    subst (λ (normal : List TableChanges). FitsChangeset (groups_of normal)) (sym c.from_tables.ensures) (all_taken tables groups found.result.0 c.tables.ensures.tables front c.in-Ok-None.tables.items made c.requires)
 
 pub returns-in-Ok-Some-clause-fault : goal.returns-in-Ok-Some-clause-fault
 returns-in-Ok-Some-clause-fault c =
@@ -82,4 +58,4 @@ pub returns-in_ok-first_fault-in-Err-default : goal.returns-in_ok-first_fault-in
 returns-in_ok-first_fault-in-Err-default c =
     let found = c.fitting_headers-count in
     let unfit = rw c.as_slice-groups.ensures at c.in_ok-first_fault-in-Err-default.ensures in
-    record { fit = tt; normal = tt; taken = tt; fault = front_unfit c.args.catalog.now c.args.changeset.now found.result.0 c.tables.ensures.tables c.in_ok-first_fault-in-Err-default.field-0 unfit; shorter = tt }
+    record { normal = tt; fault = front_unfit c.args.catalog.now c.args.changeset.now found.result.0 c.tables.ensures.tables c.in_ok-first_fault-in-Err-default.field-0 unfit; shorter = tt }

@@ -1,6 +1,6 @@
 use Rattle.std.proofs.Common.{◌∙◌, ◌+◌, ap}
 use Rattle.std.proofs.lemmas.List.{length_push}
-use Rattle.cs_record.proofs.Sequences.{stands_more, all_more}
+use Rattle.cs_record.specs.Facts.{stands_more, all_more}
 use Rattle.cs_record.specs.Spelling.{field, Fits}
 use Rattle.cs_record.proofs.reading.read_record.Goals as goal
 

@@ -1,5 +1,4 @@
-use Rattle.cs_normal.specs.Changes.{key_bytes}
-use Rattle.cs_normal.proofs.Searched.{of_table, table_ordered}
+use Rattle.cs_normal.proofs.Searched.{table_ordered}
 use Rattle.cs_normal.proofs.normal.Normal.change.Goals as goal
 
 pub change_with-requires : goal.change_with-requires
@@ -8,5 +7,4 @@ change_with-requires c =
 
 pub returns : goal.returns
 returns c =
-    let found = rw (c.as_slice-2.ensures, c.in_ok-bytes.ensures, c.as_slice.ensures, c.changes_named.ensures, c.tables.ensures.same) at c.change_with.ensures in
-    rw (of_table c.args.name.now (key_bytes c.args.key.now) c.args.self.now) found
+    rw (c.as_slice-2.ensures, c.in_ok-bytes.ensures, c.as_slice.ensures, c.changes_named.ensures, c.tables.ensures.same) at c.change_with.ensures
