@@ -6,7 +6,7 @@ use Rattle.cs_change.specs.Spelling.{change_spelling, changes_spelling, group_sp
 use Rattle.cs_change.specs.declared.change.Change.{Change}
 use Rattle.cs_change.specs.declared.change.Change.TheVariants.{Insert, Delete, Update}
 use Rattle.cs_change.specs.declared.group.Group.{Group}
-use Rattle.cs_changeset.specs.Reading.{Tells}
+use Rattle.cs_changeset.specs.Reading.{TellsChangesetFault}
 use Rattle.cs_changeset.specs.declared.fault.Fault.{Fault}
 use Rattle.cs_changeset.specs.declared.fault.CodecFault.{CodecFault}
 use Rattle.cs_changeset.specs.declared.fault.CodecFault.TheVariants.{Memory, At}
@@ -38,7 +38,7 @@ count-spelled (group ∷ groups) =
     omega arith
 
 -- the fault that the reader tells is the fault that is answered
-pub tells-answer : (found : CodecFault) (fault : Fault) (offset : ℕ) → Tells (Err found) fault offset → TellsFault fault offset (answer_of found)
+pub tells-answer : (found : CodecFault) (fault : Fault) (offset : ℕ) → TellsChangesetFault (Err found) fault offset → TellsFault fault offset (answer_of found)
 tells-answer Memory fault offset told = inr refl
 tells-answer (At f at) fault offset told = inl (grind (arith, told.0, told.1))
 

@@ -3,7 +3,7 @@
 ghost use Rattle.std.specs.Prelude.{◌≡◌, ◌≢◌, ℕ, List, length, sum};
 ghost use Rattle.cs_change.specs.Spelling.{changeset_spelling};
 ghost use Rattle.cs_change.specs.declared.group.Group.{Group};
-ghost use Rattle.cs_changeset.specs.Reading.{IsFault};
+ghost use Rattle.cs_changeset.specs.Reading.{IsChangesetFault};
 ghost use Rattle.cs_changeset.specs.declared.fault.Fault.{Fault};
 ghost use Rattle.cs_ffi.specs.Answers.{AnswersAgain, AnswersCount, change_count, Spell, TellsCount, TellsFault};
 ghost use Rattle.cs_ffi.specs.CombinedAnswers.{AnswersCombined, AnswersInverse, AreFitInputs, IsFitAlone, wrong_lengths};
@@ -21,7 +21,7 @@ use std::alloc::Global;
 pub extern "C" fn cs_ffi_decode(alloc: Global, input: &[u8]) -> Answer
     ensures answers { AnswersCount input.now result }
     ensures only { (groups : List Group) → Spell input.now groups → TellsCount (change_count groups) result }
-    ensures told { (fault : Fault) (offset : ℕ) → IsFault fault offset input.now → TellsFault fault offset result }
+    ensures told { (fault : Fault) (offset : ℕ) → IsChangesetFault fault offset input.now → TellsFault fault offset result }
 {
     count(alloc, input)
 }
@@ -32,7 +32,7 @@ pub extern "C" fn cs_ffi_decode(alloc: Global, input: &[u8]) -> Answer
 pub extern "C" fn cs_ffi_reencode(alloc: Global, input: &[u8], output: &mut [u8]) -> Answer
     ensures answers { AnswersAgain input.now output.old output.new result }
     ensures only { (groups : List Group) → Spell input.now groups → TellsCount (length (changeset_spelling groups)) result }
-    ensures told { (fault : Fault) (offset : ℕ) → IsFault fault offset input.now → TellsFault fault offset result }
+    ensures told { (fault : Fault) (offset : ℕ) → IsChangesetFault fault offset input.now → TellsFault fault offset result }
 {
     reencode(alloc, input, output)
 }
@@ -73,7 +73,7 @@ pub extern "C" fn cs_ffi_combine(
 #[unsafe(no_mangle)]
 pub extern "C" fn cs_ffi_invert(alloc: Global, input: &[u8], output: &mut [u8]) -> Answer
     ensures answers { AnswersInverse input.now output.old output.new result }
-    ensures told { (fault : Fault) (offset : ℕ) → IsFault fault offset input.now → TellsFault fault offset result }
+    ensures told { (fault : Fault) (offset : ℕ) → IsChangesetFault fault offset input.now → TellsFault fault offset result }
     ensures fit { IsFitAlone input.now → TellsNoFault result }
 {
     write_inverse(alloc, input, output)

@@ -3,7 +3,7 @@
 ghost use Rattle.std.specs.Prelude.{◌≡◌, ◌<◌, ◌^◌, ℕ, List, length, IfOk};
 ghost use Rattle.cs_change.specs.Spelling.{changeset_spelling};
 ghost use Rattle.cs_change.specs.declared.group.Group.{Group};
-ghost use Rattle.cs_changeset.specs.Reading.{IsFault};
+ghost use Rattle.cs_changeset.specs.Reading.{IsChangesetFault};
 ghost use Rattle.cs_changeset.specs.declared.fault.Fault.{Fault};
 ghost use Rattle.cs_ffi.specs.Answers.{AnswersAgain, AnswersCount, change_count, IsHanded, Spell, TellsCount, TellsFault};
 
@@ -31,7 +31,7 @@ pub fn count(alloc: Global, input: &[u8]) -> Answer
     ensures only { (groups : List Group) → Spell input.now groups → TellsCount (change_count groups) result }
 
     // A fault of the bytes is told, or memory is wanting.
-    ensures told { (fault : Fault) (offset : ℕ) → IsFault fault offset input.now → TellsFault fault offset result }
+    ensures told { (fault : Fault) (offset : ℕ) → IsChangesetFault fault offset input.now → TellsFault fault offset result }
 {
     match decode(alloc, input) {
         Ok(changeset) => Answer::read(count_changes(changeset.as_slice())),
@@ -66,7 +66,7 @@ pub fn reencode(alloc: Global, input: &[u8], output: &mut [u8]) -> Answer
     ensures only { (groups : List Group) → Spell input.now groups → TellsCount (length (changeset_spelling groups)) result }
 
     // A fault of the bytes is told, or memory is wanting.
-    ensures told { (fault : Fault) (offset : ℕ) → IsFault fault offset input.now → TellsFault fault offset result }
+    ensures told { (fault : Fault) (offset : ℕ) → IsChangesetFault fault offset input.now → TellsFault fault offset result }
 {
     match decode(alloc, input) {
         Ok(changeset) => match spelled(alloc, &changeset) {

@@ -3,7 +3,7 @@ use Rattle.std.proofs.Common.{◌≡◌, ℕ, zero, suc, List, [], ◌∷◌, le
 use Rattle.std.proofs.lemmas.List.{length-map}
 use Rattle.std.proofs.lemmas.Option.{get_or_from_slice_get, slice_get_within}
 use Rattle.std.specs.List.{All}
-use Rattle.cs_value.specs.Catalog.{AreTables, IsFault}
+use Rattle.cs_value.specs.Catalog.{AreTables, IsCatalogFault}
 use Rattle.cs_value.specs.declared.catalog.CatalogFault.{CatalogFault}
 use Rattle.cs_value.specs.declared.catalog.CatalogFault.TheVariants.{Width, NoKey, TwiceNamed, Name, TooMany}
 use Rattle.cs_value.specs.declared.catalog.TableDef.{TableDef}
@@ -18,7 +18,7 @@ no_table : TableDef
 no_table = record { name = []; key_marks = [] }
 
 -- the tables of a catalog have no fault
-pub no_fault : (fault : CatalogFault) (tables : List TableDef) → AreTables tables → IsFault fault tables → ⊥
+pub no_fault : (fault : CatalogFault) (tables : List TableDef) → AreTables tables → IsCatalogFault fault tables → ⊥
 no_fault TooMany tables are h = omega (arith, are.0)
 no_fault Width tables are h = (h.1.3 no_table) (are.1 h.1.0 h.1.1 no_table).0
 no_fault NoKey tables are h = let f = h.1.3 no_table in f.1 (are.1 h.1.0 h.1.1 no_table).1

@@ -1,8 +1,11 @@
--- The laws of requests and pushes.
+-- The laws of requests, pushes and what a hub answers.
 use Rattle.std.specs.Prelude.{◌≡◌, ℕ, List, Result}
 use Rattle.cs_changeset.specs.declared.log.LogEntry.{LogEntry}
+use Rattle.cs_value.specs.Catalog.{AreTables}
+use Rattle.cs_hub.specs.Hub.{HubState}
 use Rattle.cs_hub.specs.Messages.{Asked, Asks}
 use Rattle.cs_hub.specs.Pushes.{Push, Pushes}
+use Rattle.cs_hub.specs.Serves.{Serves}
 use Rattle.cs_hub.specs.declared.fault.HubFault.{HubFault}
 use Rattle.cs_hub.specs.declared.push.Pushed.{Pushed}
 
@@ -17,3 +20,12 @@ OneAnswer =
     → Pushes old push one new
     → Pushes old push other last
     → (one ≡ other) × (new ≡ last)
+
+-- a request has one answer, and leaves one hub
+abbrev pub OneService : Type 0
+OneService =
+    (old new last : HubState) (request answer other : List ℕ)
+    → AreTables old.catalog
+    → Serves old request answer new
+    → Serves old request other last
+    → (answer ≡ other) × (new ≡ last)

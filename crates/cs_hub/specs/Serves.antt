@@ -6,7 +6,7 @@ use Rattle.cs_normal.specs.declared.unfit.Unfit.{Unfit}
 use Rattle.cs_normal.specs.declared.unfit.Unfit.TheVariants as unfit
 use Rattle.cs_change.specs.Spelling.{FitsChangeset, changeset_spelling}
 use Rattle.cs_change.specs.declared.group.Group.{Group}
-use Rattle.cs_changeset.specs.Reading.{IsFault}
+use Rattle.cs_changeset.specs.Reading.{IsChangesetFault}
 use Rattle.cs_changeset.specs.declared.fault.Fault.{Fault}
 use Rattle.cs_hub.specs.Codes.{fault_code, hub_code, request_code, unfit_code}
 use Rattle.cs_hub.specs.Hub.{HubState, entries_from}
@@ -40,7 +40,7 @@ AnswersGroups old head groups answer new =
 -- the answer to a push: what is wrong with the bytes of its changeset, or that of the changeset
 abbrev pub AnswersChangeset : HubState → PushHead → List ℕ → Answer → HubState → Type 0
 AnswersChangeset old head changeset answer new =
-    ((fault : Fault) × (offset : ℕ) × IsFault fault offset changeset × (answer ≡ Refused (fault_code fault)) × (new ≡ old))
+    ((fault : Fault) × (offset : ℕ) × IsChangesetFault fault offset changeset × (answer ≡ Refused (fault_code fault)) × (new ≡ old))
     ⊎ ((groups : List Group) × FitsChangeset groups × (changeset ≡ changeset_spelling groups) × AnswersGroups old head groups answer new)
 
 -- the answer to what is asked

@@ -1,6 +1,9 @@
-//! The laws of requests and pushes, each the contract of a function that does nothing.
+//! The laws of requests, pushes and what a hub answers, each the contract of a function that does nothing.
 
-ghost use Rattle.cs_hub.specs.Laws.{OneAnswer, OneRequest};
+ghost use Rattle.cs_hub.specs.Laws.{OneAnswer, OneRequest, OneService};
+
+use cs_changeset::laws::changesets;
+use cs_normal::laws::{no_fault_where_fit, one_normal_form, one_unfit};
 
 /// Bytes spell one request, or have one fault and spell none.
 pub fn one_request()
@@ -11,3 +14,16 @@ pub fn one_request()
 pub fn one_answer()
     ensures { OneAnswer }
 {}
+
+/// The answer to the bytes of a request, and the hub after it, are determined by the hub and the bytes, up to want of
+/// memory.
+pub fn one_service()
+    ensures { OneService }
+{
+    one_request();
+    one_answer();
+    changesets();
+    no_fault_where_fit();
+    one_unfit();
+    one_normal_form();
+}
