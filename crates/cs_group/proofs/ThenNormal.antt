@@ -2,7 +2,7 @@
 use Rattle.std.proofs.Common.{◌≡◌, Bool, List, [], ◌∷◌, Some, refl, ap, ◌∙◌, arith, length, inl, inr}
 use Rattle.cs_value.specs.Catalog.{marked}
 use Rattle.cs_value.specs.Key.{HasKey}
-use Rattle.cs_value.specs.Same.{same_value-tells}
+use Rattle.cs_value.specs.Facts.{same_value-tells}
 use Rattle.cs_value.specs.declared.value.Value.{Value}
 use Rattle.cs_value.specs.declared.value.Field.{Field}
 use Rattle.cs_change.specs.Action.{Action, Inserts, Deletes, Updates}

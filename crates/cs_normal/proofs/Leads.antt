@@ -20,6 +20,7 @@ use Rattle.cs_change.specs.declared.change.Change.{Change}
 use Rattle.cs_change.specs.declared.change.Change.TheVariants.{Insert, Delete, Update}
 use Rattle.cs_change.specs.declared.group.Group.{Group}
 use Rattle.cs_normal.specs.Changes.{key_bytes, IsSpelled, same_bytes, change_at}
+use Rattle.cs_normal.specs.Laws.{BytesTellKeys}
 use Rattle.cs_normal.specs.Normal.{change_of, changes_in}
 use Rattle.cs_normal.specs.NormalForm.{marked_fields, change_key, change_bytes, keyed, normal_form_any, AreKeyed, IsNormalOf}
 use Rattle.cs_normal.specs.NormalFormOf.{HasTable, changes_of, IsNormalFormOf}
@@ -129,7 +130,7 @@ no_group tables name [] none have = tt
 no_group tables name (group ∷ groups) none have =
     (λ e. none have.0.0 have.0.1 (sym (e ∙ have.0.2.0)), no_group tables name groups none have.1)
 
-module _ (tables : List TableDef) (groups : List Group) (normal : List TableChanges) (before end : State) (are : AreTables tables) (fits : FitsChangeset groups) (form : IsNormalFormOf tables groups normal) (state : IsStateOf tables before) (h : IsAfterGroups groups before end) where
+module _ (apart : BytesTellKeys) (tables : List TableDef) (groups : List Group) (normal : List TableChanges) (before end : State) (are : AreTables tables) (fits : FitsChangeset groups) (form : IsNormalFormOf tables groups normal) (state : IsStateOf tables before) (h : IsAfterGroups groups before end) where
   at_table : (table : TableDef) (key : List ℕ) → Contains tables table → after_any (action_any (change_of table.name key normal)) (before table.name key) ≡ Some (end table.name key)
   at_table table key one =
       let name = table.name in
@@ -140,7 +141,7 @@ module _ (tables : List TableDef) (groups : List Group) (normal : List TableChan
       let normal_of = All-contains (λ (t : TableDef). IsNormalOf t.key_marks (changes_of t.name groups) (changes_in t.name normal)) tables table form.each one in
       let read = All-contains (AreAsRead groups) tables table (All-from_recursion (AreAsRead groups) tables (all_read tables groups are form.fit.0 fits)) one in
       let step = at_once marks key changes (before name key) (end name key) keys.1 at in
-      let led = place_leads marks key changes (before name key) (end name key) (λ (values : List Value) is spelled. subst (λ (k : List ℕ). FitsPlace marks values (before name k)) (sym is) (state_place tables before table values are state one spelled)) read step in
+      let led = place_leads marks key changes (before name key) (end name key) (λ (values : List Value) is spelled. subst (λ (k : List ℕ). FitsPlace marks values (before name k)) (sym is) (state_place apart tables before table values are state one spelled)) read step in
       rw (normal_of.1 key) led
 
   at_name : (name key : List ℕ) → left_at normal before name key ≡ Some (end name key)
@@ -153,6 +154,6 @@ module _ (tables : List TableDef) (groups : List Group) (normal : List TableChan
             rw gone (ap (λ p. Some p) (sym kept)))
       ]
 
-pub leads : NormalFormLeads
-leads tables groups normal before end are fits form state h =
-    (form.of_catalog, at_name tables groups normal before end are fits form state h)
+pub leads : BytesTellKeys → NormalFormLeads
+leads apart tables groups normal before end are fits form state h =
+    (form.of_catalog, at_name apart tables groups normal before end are fits form state h)

@@ -7,7 +7,8 @@ use Rattle.std.proofs.lemmas.List.Elements.{recursion_from_All, All-from_recursi
 use Rattle.std.proofs.lemmas.Slice.Eq.{bytes_eq-Decides}
 use Rattle.cs_value.specs.Catalog.{AreTables, is_set, marked}
 use Rattle.cs_value.specs.Key.{Place, FitsPlace, HasKey}
-use Rattle.cs_value.specs.Same.{same_row, same_row-refl}
+use Rattle.cs_value.specs.Facts.{same_row-refl}
+use Rattle.cs_value.specs.Same.{same_row}
 use Rattle.cs_value.specs.declared.catalog.TableDef.{TableDef}
 use Rattle.cs_value.specs.declared.value.Value.{Value}
 use Rattle.cs_value.specs.declared.value.Field.{Field}
@@ -21,12 +22,11 @@ use Rattle.cs_change.specs.Spelling.{FitsChange, FitsRow, AreUpdateColumns}
 use Rattle.cs_change.specs.declared.change.Change.{Change}
 use Rattle.cs_change.specs.declared.change.Change.TheVariants.{Insert, Delete, Update}
 use Rattle.cs_normal.specs.Changes.{Changes, key_bytes, IsSpelled, same_bytes, change_at, IsEntry}
-use Rattle.cs_normal.specs.Laws.{OneEntryKey, SetColumnsFit}
+use Rattle.cs_normal.specs.Laws.{BytesTellKeys, OneEntryKey, SetColumnsFit}
 use Rattle.cs_normal.specs.Normal.{FitsCatalog, IsNormalChangeset, IsOfTable, change_of, changes_in}
 use Rattle.cs_normal.specs.NormalForm.{marked_fields, change_key}
 use Rattle.cs_normal.specs.State.{State, IsRowOf, MayStandAt, IsStateOf, left_at, IsDefinedOn, IsApplied, IsNetChange, DefinedIsApplied, AppliedIsNet, NetIsApplied, OneKeyStands}
 use Rattle.cs_normal.specs.declared.normal.TableChanges.{TableChanges}
-use Rattle.cs_normal.proofs.KeyBytes.{keys_apart}
 use Rattle.cs_normal.proofs.Names.{one_table}
 use Rattle.cs_normal.proofs.NormalAgain.{change_stays}
 use Rattle.cs_normal.proofs.NormalLaws.{by_test, same_is}
@@ -58,9 +58,9 @@ entry_spelled : (marks : List Bool) (entry : List ℕ × Change) (is : IsEntry m
 entry_spelled marks entry is =
     subst IsSpelled (change_stays marks is.key entry.1 is.normal).1 (key_spelled marks entry.1 is.fits)
 
-pub one_entry_key : OneEntryKey
-one_entry_key marks bytes some other s o =
-    keys_apart s.key o.key (entry_spelled marks (bytes, some) s) (entry_spelled marks (bytes, other) o) (sym s.bytes ∙ o.bytes)
+pub one_entry_key : BytesTellKeys → OneEntryKey
+one_entry_key apart marks bytes some other s o =
+    apart s.key o.key (entry_spelled marks (bytes, some) s) (entry_spelled marks (bytes, other) o) (sym s.bytes ∙ o.bytes)
 
 -- ---- the tables of a name
 
@@ -130,19 +130,19 @@ found_in tables name key (first ∷ others) change of normal e =
 
 -- ---- what stands at a place has the place's key
 
-row_fits : (tables : List TableDef) (table : TableDef) (key : List ℕ) (values : List Value) (place : Place) → AreTables tables → Contains tables table → IsSpelled values → key ≡ key_bytes values → MayStandAt tables table.name key place → FitsPlace table.key_marks values place
-row_fits tables table key values None are one spelled is at = tt
-row_fits tables table key values (Some row) are one spelled is at =
+row_fits : BytesTellKeys → (tables : List TableDef) (table : TableDef) (key : List ℕ) (values : List Value) (place : Place) → AreTables tables → Contains tables table → IsSpelled values → key ≡ key_bytes values → MayStandAt tables table.name key place → FitsPlace table.key_marks values place
+row_fits apart tables table key values None are one spelled is at = tt
+row_fits apart tables table key values (Some row) are one spelled is at =
     let same : at.0 ≡ table = one_table tables at.0 table are at.1 one at.2 in
     let r : IsRowOf table key row = subst (λ (t : TableDef). IsRowOf t key row) same at.3 in
     record {
       wide = r.fits.0;
-      keyed = keys_apart (marked table.key_marks row) values (marked_spelled table.key_marks row r.fits.1) spelled (sym r.keyed ∙ is);
+      keyed = apart (marked table.key_marks row) values (marked_spelled table.key_marks row r.fits.1) spelled (sym r.keyed ∙ is);
     }
 
-pub state_place : (tables : List TableDef) (state : State) (table : TableDef) (values : List Value) → AreTables tables → IsStateOf tables state → Contains tables table → IsSpelled values → FitsPlace table.key_marks values (state table.name (key_bytes values))
-state_place tables state table values are is one spelled =
-    row_fits tables table (key_bytes values) values (state table.name (key_bytes values)) are one spelled refl (is table.name (key_bytes values))
+pub state_place : BytesTellKeys → (tables : List TableDef) (state : State) (table : TableDef) (values : List Value) → AreTables tables → IsStateOf tables state → Contains tables table → IsSpelled values → FitsPlace table.key_marks values (state table.name (key_bytes values))
+state_place apart tables state table values are is one spelled =
+    row_fits apart tables table (key_bytes values) values (state table.name (key_bytes values)) are one spelled refl (is table.name (key_bytes values))
 
 -- ---- what a change leaves is in range
 
@@ -202,7 +202,7 @@ unfolding net
 net_same marks None = refl
 net_same marks (Some row) = simp (same_row-refl row) refl
 
-module _ (law : NormalIsNet) (tables : List TableDef) (changes : List TableChanges) (before end : State) (are : AreTables tables) (normal : IsNormalChangeset changes) (state : IsStateOf tables before) (applied : IsApplied tables changes before end) where
+module _ (apart : BytesTellKeys) (law : NormalIsNet) (tables : List TableDef) (changes : List TableChanges) (before end : State) (are : AreTables tables) (normal : IsNormalChangeset changes) (state : IsStateOf tables before) (applied : IsApplied tables changes before end) where
   -- at a place that has a change
   record AtChange (name key : List ℕ) (change : Change) : Type 0 where
     table : TableDef
@@ -218,7 +218,7 @@ module _ (law : NormalIsNet) (tables : List TableDef) (changes : List TableChang
       let marks = table.key_marks in
       let values = entry.key in
       let spelled = entry_spelled marks (key, change) entry in
-      let place = row_fits tables table key values base are one spelled entry.bytes (state table.name key) in
+      let place = row_fits apart tables table key values base are one spelled entry.bytes (state table.name key) in
       let step : after (action change) base ≡ Some left = rw found at (applied.1 table.name key) in
       let is = law marks values (action change) base left entry.normal place step in
       record {
@@ -258,9 +258,9 @@ module _ (law : NormalIsNet) (tables : List TableDef) (changes : List TableChang
       ] in
       split (change_of table.name key changes) refl
 
-pub applied_is_net : NormalIsNet → AppliedIsNet
-applied_is_net law tables changes before end are normal state applied =
-    (leaves_state law tables changes before end are normal state applied, (applied.0, is_net_change law tables changes before end are normal state applied))
+pub applied_is_net : BytesTellKeys → NormalIsNet → AppliedIsNet
+applied_is_net apart law tables changes before end are normal state applied =
+    (leaves_state apart law tables changes before end are normal state applied, (applied.0, is_net_change apart law tables changes before end are normal state applied))
 
 -- the values of the key of what stands at a place
 abbrev HasValues : TableDef → List ℕ → Place → Type 0
@@ -274,27 +274,27 @@ values_at tables table key (Some row) are one at =
     let r : IsRowOf table key row = subst (λ (t : TableDef). IsRowOf t key row) same at.3 in
     (marked_spelled table.key_marks row r.fits.1, r.keyed)
 
-net_after : NetTakes → (tables : List TableDef) (table : TableDef) (key : List ℕ) (base left : Place) → AreTables tables → Contains tables table → MayStandAt tables table.name key base → MayStandAt tables table.name key left → after_any (net table.key_marks base left) base ≡ Some left
-net_after law tables table key None None are one b l = (law table.key_marks [] None None tt tt).1
-net_after law tables table key None (Some row) are one b l =
+net_after : BytesTellKeys → NetTakes → (tables : List TableDef) (table : TableDef) (key : List ℕ) (base left : Place) → AreTables tables → Contains tables table → MayStandAt tables table.name key base → MayStandAt tables table.name key left → after_any (net table.key_marks base left) base ≡ Some left
+net_after apart law tables table key None None are one b l = (law table.key_marks [] None None tt tt).1
+net_after apart law tables table key None (Some row) are one b l =
     let v = values_at tables table key (Some row) are one l in
-    (law table.key_marks (marked table.key_marks row) None (Some row) tt (row_fits tables table key (marked table.key_marks row) (Some row) are one v.0 v.1 l)).1
-net_after law tables table key (Some row) left are one b l =
+    (law table.key_marks (marked table.key_marks row) None (Some row) tt (row_fits apart tables table key (marked table.key_marks row) (Some row) are one v.0 v.1 l)).1
+net_after apart law tables table key (Some row) left are one b l =
     let v = values_at tables table key (Some row) are one b in
-    (law table.key_marks (marked table.key_marks row) (Some row) left (row_fits tables table key (marked table.key_marks row) (Some row) are one v.0 v.1 b) (row_fits tables table key (marked table.key_marks row) left are one v.0 v.1 l)).1
+    (law table.key_marks (marked table.key_marks row) (Some row) left (row_fits apart tables table key (marked table.key_marks row) (Some row) are one v.0 v.1 b) (row_fits apart tables table key (marked table.key_marks row) left are one v.0 v.1 l)).1
 
 -- nothing stands at a name that no table has
 nothing_at : (tables : List TableDef) (name key : List ℕ) (place : Place) → ((table : TableDef) → Contains tables table → table.name ≢ name) → MayStandAt tables name key place → place ≡ None
 nothing_at tables name key None none at = refl
 nothing_at tables name key (Some row) none at = absurd (none at.0 at.1 at.2)
 
-pub net_is_applied : NetTakes → NetIsApplied
-net_is_applied law tables changes before end are old new net' = (
+pub net_is_applied : BytesTellKeys → NetTakes → NetIsApplied
+net_is_applied apart law tables changes before end are old new net' = (
   net'.0,
   λ name key.
       elim (named_or_not tables name) [
         | inl (table, one, is) ↦
-            (let step = net_after law tables table key (before table.name key) (end table.name key) are one (old table.name key) (new table.name key) in
+            (let step = net_after apart law tables table key (before table.name key) (end table.name key) are one (old table.name key) (new table.name key) in
             let at : left_at changes before table.name key ≡ Some (end table.name key) = rw (net'.1 table key one) step in
             subst (λ (n : List ℕ). left_at changes before n key ≡ Some (end n key)) is at)
         | inr none ↦
@@ -318,16 +318,16 @@ defined_is_applied tables changes before =
     (λ d. (λ name key. unwrap_or (left_at changes before name key) None, (d.0, λ name key. defined_there (left_at changes before name key) None (d.1 name key))), λ a. (a.1.0, λ name key. some_there (left_at changes before name key) (a.0 name key) (a.1.1 name key)))
 
 -- the key of a row that stands there is that of all
-of_row : (tables : List TableDef) (table : TableDef) (bytes : List ℕ) (row : List Value) (place : Place) → AreTables tables → Contains tables table → MayStandAt tables table.name bytes (Some row) → MayStandAt tables table.name bytes place → FitsPlace table.key_marks (marked table.key_marks row) place
-of_row tables table bytes row place are one at there =
+of_row : BytesTellKeys → (tables : List TableDef) (table : TableDef) (bytes : List ℕ) (row : List Value) (place : Place) → AreTables tables → Contains tables table → MayStandAt tables table.name bytes (Some row) → MayStandAt tables table.name bytes place → FitsPlace table.key_marks (marked table.key_marks row) place
+of_row apart tables table bytes row place are one at there =
     let v = values_at tables table bytes (Some row) are one at in
-    row_fits tables table bytes (marked table.key_marks row) place are one v.0 v.1 there
+    row_fits apart tables table bytes (marked table.key_marks row) place are one v.0 v.1 there
 
-pub one_key_stands : OneKeyStands
-one_key_stands tables table bytes None None None are one s o t = ([], tt, tt, tt)
-one_key_stands tables table bytes None None (Some row) are one s o t =
-    (marked table.key_marks row, tt, tt, of_row tables table bytes row (Some row) are one t t)
-one_key_stands tables table bytes None (Some row) third are one s o t =
-    (marked table.key_marks row, tt, of_row tables table bytes row (Some row) are one o o, of_row tables table bytes row third are one o t)
-one_key_stands tables table bytes (Some row) other third are one s o t =
-    (marked table.key_marks row, of_row tables table bytes row (Some row) are one s s, of_row tables table bytes row other are one s o, of_row tables table bytes row third are one s t)
+pub one_key_stands : BytesTellKeys → OneKeyStands
+one_key_stands apart tables table bytes None None None are one s o t = ([], tt, tt, tt)
+one_key_stands apart tables table bytes None None (Some row) are one s o t =
+    (marked table.key_marks row, tt, tt, of_row apart tables table bytes row (Some row) are one t t)
+one_key_stands apart tables table bytes None (Some row) third are one s o t =
+    (marked table.key_marks row, tt, of_row apart tables table bytes row (Some row) are one o o, of_row apart tables table bytes row third are one o t)
+one_key_stands apart tables table bytes (Some row) other third are one s o t =
+    (marked table.key_marks row, of_row apart tables table bytes row (Some row) are one s s, of_row apart tables table bytes row other are one s o, of_row apart tables table bytes row third are one s t)

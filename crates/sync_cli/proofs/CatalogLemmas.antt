@@ -5,7 +5,7 @@ use Rattle.std.proofs.lemmas.List.{map_more, get_or-map, get_or-take, length-map
 use Rattle.cs_value.specs.declared.catalog.TableDef.{TableDef}
 use Rattle.cs_value.specs.declared.catalog.CatalogFault.{CatalogFault}
 use Rattle.cs_value.specs.declared.catalog.CatalogFault.TheVariants.{Width, NoKey, TwiceNamed, Name, TooMany}
-use Rattle.cs_value.specs.Catalog.{AreTables, IsFault, IsTable, IsTableFault, HasFirstFault}
+use Rattle.cs_value.specs.Catalog.{AreTables, IsCatalogFault, IsTable, IsTableFault, HasFirstTableFault}
 use Rattle.sync_cli.specs.TableWord.{SpellsTable}
 use Rattle.sync_cli.specs.CatalogWords.{IsCatalogOf, IsFirstRefused, IsRefusedAt, status_of}
 use Rattle.sync_cli.specs.declared.table.Refused.{Refused}
@@ -48,11 +48,11 @@ fault_here Name before table fault is = fault.2 is.2
 fault_here TwiceNamed before table fault is = fault.3 is.3
 fault_here TooMany before table fault is = fault
 
-fault_first : (fault : CatalogFault) (tables : List TableDef) → HasFirstFault fault tables → AreTables tables → ⊥
+fault_first : (fault : CatalogFault) (tables : List TableDef) → HasFirstTableFault fault tables → AreTables tables → ⊥
 fault_first fault tables has are =
     fault_here fault (take has.0 tables) (get_or tables has.0 none_such) (has.3 none_such) (are.1 has.0 has.1 none_such)
 
-fault_refuses : (fault : CatalogFault) (tables : List TableDef) → IsFault fault tables → AreTables tables → ⊥
+fault_refuses : (fault : CatalogFault) (tables : List TableDef) → IsCatalogFault fault tables → AreTables tables → ⊥
 fault_refuses TooMany tables fault are = omega arith
 fault_refuses Width tables fault are = fault_first Width tables fault.1 are
 fault_refuses NoKey tables fault are = fault_first NoKey tables fault.1 are
@@ -60,7 +60,7 @@ fault_refuses TwiceNamed tables fault are = fault_first TwiceNamed tables fault.
 fault_refuses Name tables fault are = fault_first Name tables fault.1 are
 
 pub no_catalog : (words : List (List ℕ)) (spelled : List TableDef) (fault : CatalogFault) → AllZip SpellsTable words spelled
-    → IsFault fault spelled → (tables : List TableDef) → IsCatalogOf words tables → ⊥
+    → IsCatalogFault fault spelled → (tables : List TableDef) → IsCatalogOf words tables → ⊥
 no_catalog words spelled fault all is = λ tables catalog.
     fault_refuses fault spelled is (subst AreTables (sym (zip_once words spelled tables all catalog.0)) catalog.1)
 
