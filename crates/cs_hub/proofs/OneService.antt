@@ -1,15 +1,14 @@
 -- A request has one answer, and leaves one hub.
 use Rattle.std.proofs.Common.{◌≡◌, ℕ, ◌<◌, ◌≤◌, List, length, inl, inr, refl, sym, ap, subst, ◌∙◌, arith}
 use Rattle.cs_value.specs.Catalog.{AreTables}
-use Rattle.cs_value.specs.declared.catalog.TableDef.{TableDef}
 use Rattle.cs_change.specs.declared.group.Group.{Group}
 use Rattle.cs_changeset.specs.declared.fault.Fault.{Fault}
-use Rattle.cs_changeset.specs.declared.log.LogEntry.{LogEntry}
 use Rattle.cs_changeset.specs.Laws.{ChangesetLaws}
 use Rattle.cs_normal.specs.Laws.{NoFaultWhereFit, OneNormalForm, OneUnfit}
 use Rattle.cs_normal.specs.declared.unfit.Unfit.{Unfit}
 use Rattle.cs_normal.specs.declared.normal.TableChanges.{TableChanges}
-use Rattle.cs_hub.specs.Codes.{fault_code, unfit_code}
+use Rattle.cs_changeset.specs.Codes.{fault_code}
+use Rattle.cs_hub.specs.Codes.{unfit_code}
 use Rattle.cs_hub.specs.Hub.{HubState}
 use Rattle.cs_hub.specs.Laws.{OneAnswer, OneRequest, OneService}
 use Rattle.cs_hub.specs.Messages.{Asked, AsksPush, AsksPull, AsksNothing, answer_spelling}
@@ -34,17 +33,10 @@ Agree one other new last = (one ≡ other) × (new ≡ last)
 refuse : (old new last : HubState) (one other : Answer) (code number : ℕ) → code ≡ number → one ≡ Refused code → other ≡ Refused number → new ≡ old → last ≡ old → Agree one other new last
 refuse old new last one other code number same a b n m = (a ∙ ap (λ (k : ℕ). Refused k) same ∙ sym b, n ∙ sym m)
 
-abbrev hub_of : List TableDef → List LogEntry → HubState
-hub_of catalog log = record { catalog = catalog; log = log }
-
-same_hub : (new last : HubState) → new.catalog ≡ last.catalog → new.log ≡ last.log → new ≡ last
-same_hub new last catalog log =
-    ap (λ (c : List TableDef). hub_of c new.log) catalog ∙ ap (λ (l : List LogEntry). hub_of last.catalog l) log
-
 pushes_agree : (laws : Below) (old new last : HubState) (push : Push) (one other : Answer) → AnswersPush old push one new → AnswersPush old push other last → Agree one other new last
-pushes_agree laws old new last push one other (some, p, a, n) (others, q, b, m) =
-    let both = laws.answer old.log push some others new.log last.log p q in
-    (a ∙ ap (told push) both.0 ∙ sym b, same_hub new last (n ∙ sym m) both.1)
+pushes_agree laws old new last push one other (some, p, a) (others, q, b) =
+    let both = laws.answer old new last push some others p q in
+    (a ∙ ap (told push) both.0 ∙ sym b, both.1)
 
 forms_agree : (laws : Below) (old new last : HubState) (head : PushHead) (some others : List TableChanges) (one other : Answer) → some ≡ others
     → AnswersPush old (record { head = head; changes = some }) one new

@@ -2,16 +2,17 @@
 use Rattle.std.specs.Prelude.{◌≡◌, ◌≢◌, ℕ, List, [], take, Some}
 use Rattle.std.specs.List.{slice_get}
 use Rattle.cs_value.specs.declared.catalog.TableDef.{TableDef}
-use Rattle.cs_normal.specs.Normal.{FitsCatalog, IsNormalChangeset}
+use Rattle.cs_normal.specs.Normal.{IsNormalChangeset}
+use Rattle.cs_normal.specs.State.{IsDefinedOn}
 use Rattle.cs_changeset.specs.declared.log.LogEntry.{LogEntry}
-use Rattle.cs_hub.specs.Tables.{body_changes, IsDefinedOn}
+use Rattle.cs_hub.specs.Tables.{entry_changes, state_of}
 
--- an entry behind a log: some changes in normal form, of the catalog's tables, each defined on the tables of the log
+-- an entry behind a log: a normal changeset with a change, of the catalog's tables, each of its changes defined at its
+-- place on the tables that the log makes
 pub record IsNextEntry (catalog : List TableDef) (log : List LogEntry) (entry : LogEntry) : Type 0 where
-  pub normal : IsNormalChangeset (body_changes entry.body)
-  pub some : body_changes entry.body ≢ []
-  pub of_catalog : FitsCatalog catalog (body_changes entry.body)
-  pub defined : IsDefinedOn (body_changes entry.body) log
+  pub normal : IsNormalChangeset (entry_changes entry)
+  pub some : entry_changes entry ≢ []
+  pub defined : IsDefinedOn catalog (entry_changes entry) (state_of log)
 
 -- a log of these tables: each entry is one behind those before it
 abbrev pub IsLog : List TableDef → List LogEntry → Type 0

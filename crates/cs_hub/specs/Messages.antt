@@ -5,7 +5,7 @@ use Rattle.std.specs.Int.{w32, w64, to_be_bytes}
 use Rattle.std.specs.List.{flat_map}
 use Rattle.cs_normal.specs.Normal.{normal_spelling}
 use Rattle.cs_changeset.specs.declared.log.LogEntry.{LogEntry}
-use Rattle.cs_hub.specs.Tables.{body_changes}
+use Rattle.cs_hub.specs.Tables.{entry_changes}
 use Rattle.cs_hub.specs.declared.answer.Answer.{Answer}
 use Rattle.cs_hub.specs.declared.answer.Answer.TheVariants.{Accepted, Stale, Refused}
 use Rattle.cs_hub.specs.declared.push.PushHead.{PushHead}
@@ -106,7 +106,7 @@ refused_spelling code = 19 ∷ code ∷ []
 -- an entry: its kind, its origin, its number, and the changeset behind its length
 abbrev pub entry_spelling : LogEntry → List ℕ
 entry_spelling entry =
-    let changeset = normal_spelling (body_changes entry.body) in
+    let changeset = normal_spelling (entry_changes entry) in
     0 ∷ (four_bytes entry.origin ++ (eight_bytes entry.number ++ (four_bytes (length changeset) ++ changeset)))
 
 -- entries: the first one's place, how many there are, and each

@@ -6,9 +6,10 @@ use Rattle.cs_normal.specs.declared.unfit.Unfit.{Unfit}
 use Rattle.cs_normal.specs.declared.unfit.Unfit.TheVariants as unfit
 use Rattle.cs_change.specs.Spelling.{FitsChangeset, changeset_spelling}
 use Rattle.cs_change.specs.declared.group.Group.{Group}
+use Rattle.cs_changeset.specs.Codes.{fault_code}
 use Rattle.cs_changeset.specs.Reading.{IsChangesetFault}
 use Rattle.cs_changeset.specs.declared.fault.Fault.{Fault}
-use Rattle.cs_hub.specs.Codes.{fault_code, hub_code, request_code, unfit_code}
+use Rattle.cs_hub.specs.Codes.{hub_code, request_code, unfit_code}
 use Rattle.cs_hub.specs.Hub.{HubState, entries_from}
 use Rattle.cs_hub.specs.Messages.{Asked, AsksPush, AsksPull, AsksNothing, Asks, answer_spelling, entries_spelling}
 use Rattle.cs_hub.specs.Pushes.{Push, Pushes}
@@ -29,7 +30,7 @@ told push (Err fault) = Refused (hub_code fault)
 -- the answer to a push whose changeset was read and brought into normal form
 abbrev pub AnswersPush : HubState → Push → Answer → HubState → Type 0
 AnswersPush old push answer new =
-    (outcome : Result Pushed HubFault) × Pushes old.log push outcome new.log × (answer ≡ told push outcome) × (new.catalog ≡ old.catalog)
+    (outcome : Result Pushed HubFault) × Pushes old push outcome new × (answer ≡ told push outcome)
 
 -- the answer to a push whose changeset was read: what is wrong by the catalog, or that of its normal form
 abbrev pub AnswersGroups : HubState → PushHead → List Group → Answer → HubState → Type 0

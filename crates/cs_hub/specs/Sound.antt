@@ -6,16 +6,16 @@ use Rattle.cs_normal.specs.Normal.{normal_spelling}
 use Rattle.cs_hub.specs.Log.{IsLog}
 use Rattle.cs_hub.specs.Rows.{row_at}
 use Rattle.cs_hub.specs.Staged.{TableState}
-use Rattle.cs_hub.specs.Tables.{body_changes, place_at}
+use Rattle.cs_hub.specs.Tables.{entry_changes, state_of}
 use Rattle.cs_hub.specs.declared.hub.TheConstants.{MAX_ENTRIES}
 
 -- a table holds the rows that the log makes
 abbrev pub HoldsRows : List LogEntry → TableState → Type 0
-HoldsRows log table = (key : List ℕ) → row_at key table.rows ≡ place_at log table.name key
+HoldsRows log table = (key : List ℕ) → row_at key table.rows ≡ state_of log table.name key
 
 -- an entry's changeset fits a message
 abbrev pub FitsMessage : LogEntry → Type 0
-FitsMessage entry = length (normal_spelling (body_changes entry.body)) < 2 ^ 32
+FitsMessage entry = length (normal_spelling (entry_changes entry)) < 2 ^ 32
 
 -- the log is one of the catalog's tables; the tables are the catalog's, and hold the rows that the log makes
 pub record IsSound (catalog : List TableDef) (log : List LogEntry) (tables : List TableState) : Type 0 where

@@ -63,7 +63,7 @@ impl Hub {
     ghost use Rattle.cs_hub.specs.Hub.{HubState, fresh, entries_from};
     ghost use Rattle.cs_hub.specs.Log.{IsLog};
     ghost use Rattle.cs_hub.specs.Rows.{IsInOrder, row_at};
-    ghost use Rattle.cs_hub.specs.Tables.{place_at};
+    ghost use Rattle.cs_hub.specs.Tables.{state_of};
     ghost use Rattle.cs_hub.specs.Pushes.{Push, Pushes, PushesIf};
 
     /// A hub of these tables that has taken nothing yet. It keeps `alloc` for later calls.
@@ -115,7 +115,7 @@ impl Hub {
     /// order of these; none past the last table.
     pub fn rows(&self, table: usize) -> &[KeyedRow]
         ensures rows { (place : TableDef) → slice_get self.now.catalog table ≡ Some place
-            → (key : List ℕ) → row_at key result.now ≡ place_at self.now.log place.name key }
+            → (key : List ℕ) → row_at key result.now ≡ state_of self.now.log place.name key }
         ensures ordered { IsInOrder result.now }
         ensures none { length self.now.catalog ≤ table → result.now ≡ [] }
     {
@@ -126,7 +126,7 @@ impl Hub {
     fn recall(&self, head: PushHead, changes: &Normal) -> Pushed
         requires below { head.base < length self.now.log }
         requires some { changes.now ≢ [] }
-        ensures { Pushes self.now.log (record { head = head; changes = changes.now }) (Ok result) self.now.log }
+        ensures { Pushes self.now (record { head = head; changes = changes.now }) (Ok result) self.now }
     {
         if is_push(&self.log[head.base as usize], head, changes) {
             return Pushed::Accepted(head.base + 1);
@@ -145,8 +145,7 @@ impl Hub {
     pub fn push(&mut self, head: PushHead, changes: &Normal) -> Result<Pushed, HubFault>
         requires fits { FitsCatalog self.old.catalog changes.now }
         requires size { length (normal_spelling changes.now) ≤ MAX_CHANGESET }
-        ensures pushed { PushesIf self.old.log (record { head = head; changes = changes.now }) result self.new.log }
-        ensures catalog { self.new.catalog ≡ self.old.catalog }
+        ensures { PushesIf self.old (record { head = head; changes = changes.now }) result self.new }
     {
         if changes.tables().is_empty() {
             return Err(HubFault::Empty);
@@ -232,7 +231,7 @@ impl Hub {
         match decode(self.alloc, changeset) {
             Ok(groups) => self.take_groups(head, &groups),
             Err(CodecFault::Memory) => Err(AllocError),
-            Err(CodecFault::At { fault, .. }) => Ok(Answer::Refused(code::of_fault(fault))),
+            Err(CodecFault::At { fault, .. }) => Ok(Answer::Refused(fault.code())),
         }
     }
 
