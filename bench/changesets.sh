@@ -11,6 +11,7 @@ build_library
 build_capture
 rustc --edition 2021 -O --crate-type staticlib "$bench/decode_plain.rs" -o "$out/libdecode_plain.a"
 build_program decode "$out/libdecode_plain.a"
+print_machine_and_sqlite
 
 for count in 1000 10000 100000; do
     "$out/sqlite_capture" changes "$count" "$out/$count.changeset"

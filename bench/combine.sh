@@ -11,6 +11,7 @@ need_sqlite || { echo "SQLite's library with its session extension can't be had 
 build_library
 build_capture
 build_program combine
+print_machine_and_sqlite
 
 "$out/sqlite_capture" overlapping 100 100 "$out/small"
 "$out/sqlite_capture" overlapping 1000 1000 "$out/large"

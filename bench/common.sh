@@ -6,10 +6,12 @@ sqlite_flags="-DSQLITE_ENABLE_SESSION -DSQLITE_ENABLE_PREUPDATE_HOOK"
 crate="$bench/../crates/cs_ffi"
 library="${library:-}"
 
-# Whether a C program against SQLite with its session extension can be built.
+# Whether a C program against SQLite with its session extension can be built. What is built prints SQLite's version.
 can_build() {
     mkdir -p "$out"
-    printf '#include <sqlite3.h>\nint main(void) { return sqlite3session_create(0, "main", 0) == SQLITE_OK; }\n' > "$out/probe.c"
+    printf '%s\n' '#include <sqlite3.h>' '#include <stdio.h>' \
+        'int main(int count, char **words) { return count > 1 ? sqlite3session_create(0, *words, 0) : puts(sqlite3_libversion()) < 0; }' \
+        > "$out/probe.c"
     cc $sqlite_flags "$out/probe.c" -o "$out/probe" -lsqlite3 2> "$out/probe.log"
 }
 
@@ -48,4 +50,16 @@ build_program() {
     shift
     cc -O2 -Wall -Wextra $sqlite_flags "$bench/$name.c" "$library" "$@" "$(heap_library)" -lsqlite3 -lpthread -ldl -lm \
         -o "$out/$name"
+}
+
+# What the figures depend on beside the code: the machine, and the compilers of what is compared.
+print_machine() {
+    echo "processor: $(sed -n 's/^model name[^:]*: *//p' /proc/cpuinfo | head -n 1), $(nproc) of them"
+    echo "toolchain: $(rt version); $(cc --version | head -n 1); $(rustc --version)"
+}
+
+# The same, and the version of SQLite that is compared with. After need_sqlite.
+print_machine_and_sqlite() {
+    print_machine
+    echo "SQLite: $("$out/probe")"
 }

@@ -1,4 +1,6 @@
 pub mod Counts
+pub mod Declared
 pub mod Fit
+pub mod OneAnswer
+pub mod PartFaults
 pub mod Parts
-pub mod Tables

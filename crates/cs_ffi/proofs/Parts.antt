@@ -19,7 +19,7 @@ cut_adds_up lengths bytes changesets cut =
     ∙ sym (ap length cut.spelled ∙ length-flat_map changeset_spelling changesets)
 
 -- the first part spells the first changeset, and what is left is cut into the others
-cut_first : (n : ℕ) (more rest : List ℕ) (changesets : List (List Group)) → IsCut (n ∷ more) rest changesets
+pub cut_first : (n : ℕ) (more rest : List ℕ) (changesets : List (List Group)) → IsCut (n ∷ more) rest changesets
     → (groups : List Group) × (others : List (List Group)) × (changesets ≡ groups ∷ others) × Spell (take n rest) groups × IsCut more (drop n rest) others
 cut_first n more rest [] cut = absurd (omega (arith, ap length cut.parts))
 cut_first n more rest (groups ∷ others) cut =
@@ -35,7 +35,7 @@ cut_first n more rest (groups ∷ others) cut =
       },
     )
 
-no_parts : (changesets : List (List Group)) → [] ≡ spelled_lengths changesets → changesets ≡ []
+pub no_parts : (changesets : List (List Group)) → [] ≡ spelled_lengths changesets → changesets ≡ []
 no_parts [] parts = refl
 no_parts (groups ∷ others) parts = absurd (omega (arith, ap length parts))
 

@@ -2,28 +2,14 @@
 use Rattle.std.specs.Prelude.{◌≡◌, ℕ, ◌<◌, ◌≤◌, ◌⊎◌, List, ◌++◌, length, sum_by, drop}
 use Rattle.cs_change.specs.declared.group.Group.{Group}
 use Rattle.cs_change.specs.Spelling.{FitsChangeset, changeset_spelling}
+use Rattle.cs_changeset.specs.Codes.{fault_code}
 use Rattle.cs_changeset.specs.Reading.{IsChangesetFault}
 use Rattle.cs_changeset.specs.declared.fault.Fault.{Fault}
-use Rattle.cs_changeset.specs.declared.fault.Fault.TheVariants.{Truncated, NotShortest, BadType, Real, NotUtf8, Patchset, BadMark, BadOperation, BadFlag, Columns, NoKeyColumn, UndefinedHere, KeyChanged}
 use Rattle.cs_changeset.specs.declared.fault.CodecFault.{CodecFault}
 use Rattle.cs_changeset.specs.declared.fault.CodecFault.TheVariants.{Memory, At}
 use Rattle.cs_ffi.specs.declared.answer.Answer.{Answer}
 
--- the number of a fault; 0 is none, and 1 is want of memory
-abbrev pub fault_number : Fault → ℕ
-fault_number Truncated = 2
-fault_number NotShortest = 3
-fault_number (BadType kind) = 4
-fault_number Real = 5
-fault_number NotUtf8 = 6
-fault_number Patchset = 7
-fault_number BadMark = 8
-fault_number BadOperation = 9
-fault_number BadFlag = 10
-fault_number Columns = 11
-fault_number NoKeyColumn = 12
-fault_number UndefinedHere = 13
-fault_number KeyChanged = 14
+-- a fault is told by number: 0 is none, 1 want of memory, and one of the bytes its code
 
 -- nothing is wrong, and this many changes or bytes
 abbrev pub read : ℕ → Answer
@@ -35,7 +21,7 @@ no_memory = record { fault = 1; offset = 0; count = 0 }
 
 -- a fault, and where
 abbrev pub refused : Fault → ℕ → Answer
-refused fault offset = record { fault = fault_number fault; offset = offset; count = 0 }
+refused fault offset = record { fault = fault_code fault; offset = offset; count = 0 }
 
 abbrev pub answer_of : CodecFault → Answer
 answer_of Memory = no_memory
@@ -78,3 +64,7 @@ TellsCount count answer = (answer ≡ read count) ⊎ (answer ≡ no_memory)
 -- this fault is told, or memory is wanting
 abbrev pub TellsFault : Fault → ℕ → Answer → Type 0
 TellsFault fault offset answer = (answer ≡ refused fault offset) ⊎ (answer ≡ no_memory)
+
+-- the two answers are the same, or one of them tells want of memory
+abbrev pub UpToMemory : Answer → Answer → Type 0 → Type 0
+UpToMemory one other same = (one ≡ no_memory) ⊎ (other ≡ no_memory) ⊎ same

@@ -2,12 +2,11 @@
 use Rattle.std.specs.Prelude.{◌≡◌, ◌≢◌, ℕ, ◌+◌, ◌⊎◌, List, [], ◌∷◌, ◌++◌, length, map, sum, Result, Ok, Err}
 use Rattle.std.specs.Global.{Vec}
 use Rattle.std.specs.List.{flat_map, AllByRecursion}
-use Rattle.cs_value.specs.Catalog.{AreTables}
 use Rattle.cs_change.specs.declared.group.Group.{Group}
 use Rattle.cs_change.specs.Spelling.{changeset_spelling, FitsChangeset}
 use Rattle.cs_changeset.specs.Reading.{IsChangesetFault}
 use Rattle.cs_changeset.specs.declared.fault.Fault.{Fault}
-use Rattle.cs_normal.specs.Headers.{headers, HasTwoShapes}
+use Rattle.cs_normal.specs.Headers.{headers, HaveCatalog}
 use Rattle.cs_normal.specs.Normal.{normal_spelling}
 use Rattle.cs_normal.specs.NormalFormOf.{AreFit}
 use Rattle.cs_normal.specs.declared.headers.HeaderFault.{HeaderFault}
@@ -100,10 +99,9 @@ pub record NotCombined (changesets : List (List Group)) (answer : Answer) : Type
   pub told : HasCombineFault fault changesets
   pub number : answer ≡ combine_answer fault
 
--- the changesets can be taken together: each name has one shape, the tables are a catalog, and each changeset fits it
+-- the changesets can be taken together: there is a catalog of their headers, and each changeset fits it
 pub record CanCombine (changesets : List (List Group)) : Type 0 where
-  pub one_shape : HasTwoShapes (headers changesets) → ⊥
-  pub catalog : AreTables (tables_of changesets)
+  pub catalog : HaveCatalog (headers changesets)
   pub fit : AllByRecursion (AreFit (tables_of changesets)) changesets
 
 -- the inputs are cut into changesets that can be taken together

@@ -1,3 +1,4 @@
 pub mod Answers
 pub mod CombinedAnswers
+pub mod Laws
 pub mod NormalAnswers

@@ -1,18 +1,20 @@
 -- What the library answers where it brings a changeset into normal form (profile of this project).
-use Rattle.std.specs.Prelude.{◌≡◌, ℕ, ◌≤◌, ◌⊎◌, List, length, map, Result, Ok, Err}
+use Rattle.std.specs.Prelude.{◌≡◌, ℕ, ◌≤◌, ◌⊎◌, List, [], ◌∷◌, length, Result, Ok, Err}
 use Rattle.std.specs.Global.{Vec}
-use Rattle.cs_value.specs.Catalog.{AreTables, IsCatalogFault as IsTablesFault}
 use Rattle.cs_value.specs.declared.catalog.TableDef.{TableDef}
-use Rattle.cs_value.specs.declared.catalog.CatalogFault.{CatalogFault}
 use Rattle.cs_change.specs.declared.group.Group.{Group}
-use Rattle.cs_change.specs.Spelling.{marks_of, changeset_spelling, FitsChangeset}
+use Rattle.cs_change.specs.Spelling.{changeset_spelling, FitsChangeset}
 use Rattle.cs_changeset.specs.Reading.{IsChangesetFault}
 use Rattle.cs_changeset.specs.declared.fault.Fault.{Fault}
+use Rattle.cs_normal.specs.Headers.{headers, HaveCatalog}
 use Rattle.cs_normal.specs.Normal.{groups_of, normal_spelling}
 use Rattle.cs_normal.specs.NormalFormOf.{AreFit, IsNormalFormOf, IsUnfit}
+use Rattle.cs_normal.specs.declared.headers.HeaderFault.{HeaderFault}
+use Rattle.cs_normal.specs.declared.headers.HeaderFault.TheVariants as in_headers
 use Rattle.cs_normal.specs.declared.normal.TableChanges.{TableChanges}
 use Rattle.cs_normal.specs.declared.unfit.Unfit.{Unfit}
 use Rattle.cs_normal.specs.declared.unfit.Unfit.TheVariants as unfit
+use Rattle.cs_group.specs.Combined.{tables_of}
 use Rattle.cs_ffi.specs.declared.answer.Answer.{Answer}
 use Rattle.cs_ffi.specs.Answers.{no_memory, read, Spell, IsRefusal, IsHanded}
 
@@ -31,19 +33,24 @@ unfit_answer fault = record { fault = unfit_number fault; offset = 0; count = 0 
 abbrev pub no_tables : Answer
 no_tables = record { fault = 50; offset = 0; count = 0 }
 
--- the table that a group's header declares
-abbrev pub table_of : Group → TableDef
-table_of group = record { name = group.name; key_marks = marks_of group.marks }
+-- what is told of headers that are no catalog's
+abbrev pub undeclared : HeaderFault → Answer
+undeclared in_headers.Memory = no_memory
+undeclared in_headers.Shape = no_tables
+undeclared in_headers.BadCatalog = no_tables
 
--- the bytes declare these tables: a group each, whose changes don't matter
-abbrev pub Declare : List ℕ → List TableDef → Type 0
-Declare bytes tables = (groups : List Group) × Spell bytes groups × (tables ≡ map table_of groups) × AreTables tables
+-- the bytes declare these tables: they spell a changeset whose headers tell of them; its changes don't matter
+pub record Declare (bytes : List ℕ) (tables : List TableDef) : Type 0 where
+  pub groups : List Group
+  pub spells : Spell bytes groups
+  pub catalog : HaveCatalog (headers (groups ∷ []))
+  pub are : tables ≡ tables_of (groups ∷ [])
 
--- the bytes spell no changeset, or one whose headers are no catalog
+-- the bytes declare none: they spell no changeset, or one whose headers are no catalog's
 abbrev pub DeclareNone : List ℕ → Type 0
 DeclareNone bytes =
     ((fault : Fault) × (offset : ℕ) × IsChangesetFault fault offset bytes)
-    ⊎ ((groups : List Group) × (fault : CatalogFault) × Spell bytes groups × IsTablesFault fault (map table_of groups))
+    ⊎ ((groups : List Group) × Spell bytes groups × (HaveCatalog (headers (groups ∷ [])) → ⊥))
 
 -- what reading the tables gives
 abbrev pub ReadsTables : List ℕ → Result (List TableDef) Answer → Type 0
@@ -67,11 +74,10 @@ pub record IsFitInput (declared input : List ℕ) : Type 0 where
 abbrev pub TellsNoFault : Answer → Type 0
 TellsNoFault answer = (answer.fault ≡ 0) ⊎ (answer ≡ no_memory)
 
--- the bytes are the spelling of the normal form of this changeset by a catalog; the reader takes them, and they are no
--- more than the changeset's
+-- the bytes are the spelling of the normal form of this changeset by a catalog, which has no table without changes; the
+-- reader takes them, and they are no more than the changeset's
 pub record SpellForm (tables : List TableDef) (groups : List Group) (bytes : List ℕ) : Type 0 where
   pub normal : List TableChanges
-  pub fit : AreFit tables groups
   pub form : IsNormalFormOf tables groups normal
   pub spelled : bytes ≡ normal_spelling normal
   pub taken : FitsChangeset (groups_of normal)

@@ -1,13 +1,13 @@
 //! What is told to the caller.
 
 ghost use Rattle.std.specs.Prelude.{◌≡◌};
-ghost use Rattle.cs_ffi.specs.Answers.{answer_of, fault_number, no_memory, read};
+ghost use Rattle.cs_ffi.specs.Answers.{answer_of, no_memory, read};
 ghost use Rattle.cs_ffi.specs.CombinedAnswers.{combine_answer, combine_number, header_number, wrong_lengths};
-ghost use Rattle.cs_ffi.specs.NormalAnswers.{no_tables, unfit_answer, unfit_number};
+ghost use Rattle.cs_ffi.specs.NormalAnswers.{no_tables, undeclared, unfit_answer, unfit_number};
 
-use cs_changeset::{CodecFault, Fault, Unfit};
+use cs_changeset::CodecFault;
 use cs_group::CombineFault;
-use cs_normal::HeaderFault;
+use cs_normal::{HeaderFault, Unfit};
 use std::alloc::{AllocError, AllocFailed};
 
 /// The number that says that nothing is wrong.
@@ -30,27 +30,6 @@ pub struct Answer {
     pub fault: u32,
     pub offset: usize,
     pub count: usize,
-}
-
-/// The number of a fault, as the programs tell it.
-fn fault_number(fault: Fault) -> u32
-    ensures { result ≡ fault_number fault }
-{
-    match fault {
-        Fault::Truncated => 2,
-        Fault::NotShortest => 3,
-        Fault::BadType(_) => 4,
-        Fault::Real => 5,
-        Fault::NotUtf8 => 6,
-        Fault::Patchset => 7,
-        Fault::BadMark => 8,
-        Fault::BadOperation => 9,
-        Fault::BadFlag => 10,
-        Fault::Columns => 11,
-        Fault::NoKeyColumn => 12,
-        Fault::UndefinedHere => 13,
-        Fault::KeyChanged => 14,
-    }
 }
 
 /// The number of the reason why a changeset has no normal form.
@@ -122,6 +101,16 @@ impl Answer {
         }
     }
 
+    /// The headers of the first bytes are no catalog's.
+    pub(crate) fn undeclared(fault: HeaderFault) -> Answer
+        ensures { result ≡ undeclared fault }
+    {
+        match fault {
+            HeaderFault::Memory => Answer::no_memory(),
+            HeaderFault::Shape | HeaderFault::BadCatalog => Answer::no_tables(),
+        }
+    }
+
     /// The lengths don't add up to the bytes.
     pub(crate) fn wrong_lengths() -> Answer
         ensures { result ≡ wrong_lengths }
@@ -151,7 +140,7 @@ impl Answer {
         match fault {
             CodecFault::Memory => Answer::no_memory(),
             CodecFault::At { fault, offset } => Answer {
-                fault: fault_number(fault),
+                fault: u32::from(fault.code()),
                 offset,
                 count: 0,
             },

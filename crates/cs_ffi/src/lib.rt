@@ -9,6 +9,7 @@
 mod answer;
 mod combined;
 mod export;
+pub mod laws;
 mod normal;
 mod reading;
 

@@ -1,50 +1,21 @@
 //! Bringing a changeset into normal form.
 
-ghost use Rattle.std.specs.Prelude.{◌≡◌, List, map, IfOk, IfErr};
+ghost use Rattle.std.specs.Prelude.{◌≡◌, List, IfErr};
 ghost use Rattle.cs_value.specs.declared.catalog.TableDef.{TableDef};
 ghost use Rattle.cs_ffi.specs.Answers.{no_memory};
-ghost use Rattle.cs_change.specs.Spelling.{marks_of, FitsChangeset};
-ghost use Rattle.cs_ffi.specs.NormalAnswers.{AnswersNormal, Declare, FindsTables, GivesNormal, IsFitInput, ReadsTables, SpellsForm, TellsNoFault, table_of};
+ghost use Rattle.cs_change.specs.Spelling.{FitsChangeset};
+ghost use Rattle.cs_ffi.specs.NormalAnswers.{AnswersNormal, Declare, FindsTables, GivesNormal, IsFitInput, ReadsTables, SpellsForm, TellsNoFault};
 
 use crate::answer::Answer;
 use crate::reading::hand_over;
-use cs_changeset::{Changeset, CodecFault, Group, Unfit, decode, normalise};
+use cs_changeset::{Changeset, CodecFault, decode};
 use cs_normal::laws::no_fault_where_fit;
-use cs_value::{Catalog, Items, Marks, Memory, TableDef, Text};
+use cs_normal::{Unfit, catalog_of, normalise};
+use cs_value::Catalog;
 use std::alloc::Global;
+use std::slice;
 
-/// Which columns the bytes of a header mark as key columns.
-fn marks_of(alloc: Global, marks: &[u8]) -> Result<Marks, Memory>
-    ensures { IfOk result (λ found. found ≡ marks_of marks.now) }
-{
-    let mut found = Vec::with_capacity(alloc, marks.len())?;
-    for mark in marks {
-        found.push(*mark != 0)?;
-    }
-    Ok(Items::from_vec(found))
-}
-
-/// The table that a group's header declares.
-fn table_of(alloc: Global, group: &Group) -> Result<TableDef, Memory>
-    ensures { IfOk result (λ table. table ≡ table_of group.now) }
-{
-    Ok(TableDef {
-        name: Text::from_string(String::from_str(alloc, group.name.as_str())?),
-        key_marks: marks_of(alloc, group.marks.as_slice())?,
-    })
-}
-
-fn tables_of(alloc: Global, groups: &[Group]) -> Result<Vec<TableDef>, Memory>
-    ensures { IfOk result (λ tables. tables.items ≡ map table_of groups.now) }
-{
-    let mut tables = Vec::with_capacity(alloc, groups.len())?;
-    for group in groups {
-        tables.push(table_of(alloc, group)?)?;
-    }
-    Ok(tables)
-}
-
-/// The catalog of the tables that the headers of a changeset declare.
+/// The catalog of the tables that the headers of a changeset tell of.
 fn read_catalog(alloc: Global, declared: &[u8]) -> Result<Catalog, Answer>
     ensures reads { ReadsTables declared.now result }
     ensures only { (tables : List TableDef) → Declare declared.now tables → FindsTables result tables }
@@ -54,13 +25,11 @@ fn read_catalog(alloc: Global, declared: &[u8]) -> Result<Catalog, Answer>
         Err(CodecFault::Memory) => return Err(Answer::no_memory()),
         Err(CodecFault::At { .. }) => return Err(Answer::no_tables()),
     };
-    let Ok(tables) = tables_of(alloc, changeset.as_slice()) else {
-        return Err(Answer::no_memory());
+    let catalog = match catalog_of(alloc, slice::from_ref(&changeset)) {
+        Ok(catalog) => catalog,
+        Err(fault) => return Err(Answer::undeclared(fault)),
     };
-    match Catalog::new(tables) {
-        Ok(catalog) => Ok(catalog),
-        Err(_) => Err(Answer::no_tables()),
-    }
+    Ok(catalog)
 }
 
 /// The spelling of the normal form of a changeset.

@@ -11,7 +11,8 @@ use Rattle.cs_changeset.specs.declared.log.LogEntry.{LogEntry}
 use Rattle.cs_hub.specs.Rows.{Rows, row_at}
 use Rattle.cs_hub.specs.Sound.{IsSound, HoldsRows}
 use Rattle.cs_hub.specs.Staged.{TableState, no_rows}
-use Rattle.cs_hub.specs.Tables.{place_at}
+use Rattle.cs_hub.specs.Tables.{state_of}
+use Rattle.cs_hub.proofs.LogGrown.{no_entry}
 
 no_table : TableDef
 no_table = record { name = []; key_marks = [] }
@@ -41,6 +42,7 @@ fresh_sound catalog log tables empty is =
     rw (empty, is) (record {
       names = names_of catalog;
       rows = holds_none catalog;
+      entries = no_entry catalog [] refl;
       few = lit≤ tt;
       sizes = λ k d lt. absurd (omega (arith, lt));
     })
@@ -55,11 +57,11 @@ same_name (c ∷ catalog) (t ∷ tables) zero table names there =
 same_name (c ∷ catalog) (t ∷ tables) (suc place) table names there =
     same_name catalog tables place table (cc) there
 
-rows_held : (log : List LogEntry) (held : TableState) (name : List ℕ) (rows : Rows) → held.name ≡ name → rows ≡ held.rows → HoldsRows log held → (key : List ℕ) → row_at key rows ≡ place_at log name key
+rows_held : (log : List LogEntry) (held : TableState) (name : List ℕ) (rows : Rows) → held.name ≡ name → rows ≡ held.rows → HoldsRows log held → (key : List ℕ) → row_at key rows ≡ state_of log name key
 rows_held log held name rows n r holds key = rw (r, ← n) (holds key)
 
 -- the rows of the catalog's table at a place
-pub rows_there : (catalog : List TableDef) (log : List LogEntry) (tables : List TableState) → IsSound catalog log tables → (place : ℕ) (rows : Rows) → ((held : TableState) → slice_get tables place ≡ Some held → rows ≡ held.rows) → (table : TableDef) → slice_get catalog place ≡ Some table → (key : List ℕ) → row_at key rows ≡ place_at log table.name key
+pub rows_there : (catalog : List TableDef) (log : List LogEntry) (tables : List TableState) → IsSound catalog log tables → (place : ℕ) (rows : Rows) → ((held : TableState) → slice_get tables place ≡ Some held → rows ≡ held.rows) → (table : TableDef) → slice_get catalog place ≡ Some table → (key : List ℕ) → row_at key rows ≡ state_of log table.name key
 rows_there catalog log tables sound place rows are table there key =
     let held = same_name catalog tables place table sound.names there in
     let holds = sound.rows place held.0 (slice_get_within tables place held.0 held.1) in

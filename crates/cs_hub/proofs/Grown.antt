@@ -7,18 +7,26 @@ use Rattle.std.specs.Str.{bytes_eq}
 use Rattle.std.proofs.lemmas.List.Elements.{All-append}
 use Rattle.std.proofs.lemmas.List.Sums.{fold-append}
 use Rattle.std.proofs.lemmas.Slice.Eq.{bytes_eq-Decides}
+use mathlib.Core.Bool.{false≢true}
 use Rattle.cs_value.specs.Key.{Place}
+use Rattle.cs_change.specs.declared.change.Change.{Change}
 use Rattle.cs_value.specs.declared.catalog.TableDef.{TableDef}
 use Rattle.cs_normal.specs.Changes.{Changes, change_at, IsOrdered}
 use Rattle.cs_normal.specs.Normal.{FitsCatalog, IsNormalChangeset, changes_in, normal_spelling}
+use Rattle.cs_normal.specs.State.{State, IsDefinedOn, left_at}
 use Rattle.cs_normal.specs.declared.normal.TableChanges.{TableChanges}
 use Rattle.cs_changeset.specs.declared.log.LogEntry.{LogEntry}
-use Rattle.cs_hub.specs.Pushes.{entry_with}
+use Rattle.cs_hub.specs.Log.{IsNextEntry}
+use Rattle.cs_hub.specs.Pushes.{entry_of}
 use Rattle.cs_hub.specs.Rows.{Rows, row_at}
 use Rattle.cs_hub.specs.Sound.{IsSound, HoldsRows, FitsMessage}
 use Rattle.cs_hub.specs.Staged.{TableState, held, KeepsRows, AnswersStage, AnswersStages, CommitsOne, Commits, written}
-use Rattle.cs_hub.specs.Tables.{left_at, change_in, place_at, place_after, IsDefinedOn, IsUndefinedOn}
-use Rattle.cs_hub.proofs.Written.{outcomes_leave, outcomes_refuse}
+use Rattle.cs_hub.specs.Tables.{after_entry, empty_state, state_of}
+use Rattle.cs_hub.specs.declared.hub.TheConstants.{MAX_ENTRIES}
+use Rattle.cs_hub.specs.declared.push.PushHead.{PushHead}
+use Rattle.cs_hub.proofs.LogGrown.{one_more}
+use Rattle.cs_hub.proofs.Served.{push_of}
+use Rattle.cs_hub.proofs.Written.{left_by, outcomes_leave, outcomes_refuse}
 
 name_of : TableState → List ℕ
 name_of table = table.name
@@ -43,37 +51,46 @@ pub sound_kept : (catalog : List TableDef) (log : List LogEntry) (old new : List
 sound_kept catalog log old new sound kept = record {
   names = names_same old new kept.as_many (λ k d lt. ap (λ (p : List ℕ × Rows). p.0) (kept.same k d)) ∙ sound.names;
   rows = λ k d lt. holds_held log (get_or old k d) (get_or new k d) (kept.same k d) (sound.rows k d (omega (arith, kept.as_many)));
+  entries = sound.entries;
   few = sound.few;
   sizes = sound.sizes;
 }
 
+-- what a table's staged changes leave, they leave on the state that its rows are of
+leaves_there : (log : List LogEntry) (changes : List TableChanges) (table : TableState) (key : List ℕ) (end : Option Place) → HoldsRows log table
+    → left_by (change_at key (changes_in table.name changes)) (row_at key table.rows) ≡ end → left_at changes (state_of log) table.name key ≡ end
+leaves_there log changes table key end holds h =
+    subst (λ (p : Place). left_by (change_at key (changes_in table.name changes)) p ≡ end) (holds key) h
+
+pub one_more_state : (log : List LogEntry) (entry : LogEntry) → state_of (log ++ entry ∷ []) ≡ after_entry (state_of log) entry
+one_more_state log entry = fold-append after_entry empty_state log (entry ∷ [])
+
 -- one table after a push
-holds_grown : (log : List LogEntry) (changes : List TableChanges) (origin number : ℕ) (old new : TableState) → HoldsRows log old → AnswersStage changes old true → CommitsOne old new → HoldsRows (log ++ entry_with origin number changes ∷ []) new
-holds_grown log changes origin number old new holds staged commits key =
-    let leaves = outcomes_leave old.rows (changes_in old.name changes) old.staged staged key in
-    let at_place : left_at (change_in old.name key changes) (place_at log old.name key) ≡ Some (written old.staged key (row_at key old.rows)) =
-    subst (λ (p : Place). left_at (change_in old.name key changes) p ≡ Some (written old.staged key (row_at key old.rows))) (holds key) leaves in
-    let grown : place_at (log ++ entry_with origin number changes ∷ []) old.name key ≡ unwrap_or (left_at (change_in old.name key changes) (place_at log old.name key)) (place_at log old.name key) =
-    fold-append (place_after old.name key) None log (entry_with origin number changes ∷ []) in
-    let is : unwrap_or (left_at (change_in old.name key changes) (place_at log old.name key)) (place_at log old.name key) ≡ written old.staged key (row_at key old.rows) =
-    ap (λ (o : Option Place). unwrap_or o (place_at log old.name key)) at_place in
+holds_grown : (log : List LogEntry) (changes : List TableChanges) (head : PushHead) (old new : TableState) → HoldsRows log old → AnswersStage changes old true → CommitsOne old new → HoldsRows (log ++ entry_of (push_of head changes) ∷ []) new
+holds_grown log changes head old new holds staged commits key =
+    let there = leaves_there log changes old key (Some (written old.staged key (row_at key old.rows))) holds (outcomes_leave old.rows (changes_in old.name changes) old.staged staged key) in
+    let grown : state_of (log ++ entry_of (push_of head changes) ∷ []) old.name key ≡ unwrap_or (left_at changes (state_of log) old.name key) (state_of log old.name key) =
+    ap (λ (s : State). s old.name key) (one_more_state log (entry_of (push_of head changes))) in
+    let is : unwrap_or (left_at changes (state_of log) old.name key) (state_of log old.name key) ≡ written old.staged key (row_at key old.rows) =
+    ap (λ (o : Option Place). unwrap_or o (state_of log old.name key)) there in
     rw commits.0 (commits.1 key ∙ sym (grown ∙ is))
 
-pub sound_grown : (catalog : List TableDef) (log : List LogEntry) (changes : List TableChanges) (origin number : ℕ) (old staged new : List TableState) → IsSound catalog log old → KeepsRows old staged → AnswersStages changes staged true → Commits staged new → length log < 4096 → length (normal_spelling changes) < 2 ^ 32 → IsSound catalog (log ++ entry_with origin number changes ∷ []) new
-sound_grown catalog log changes origin number old staged new sound kept answers commits room size =
+pub sound_grown : (catalog : List TableDef) (log : List LogEntry) (changes : List TableChanges) (head : PushHead) (old staged new : List TableState) → IsSound catalog log old → KeepsRows old staged → AnswersStages changes staged true → Commits staged new → IsNextEntry catalog log (entry_of (push_of head changes)) → length log < MAX_ENTRIES → length (normal_spelling changes) < 2 ^ 32 → IsSound catalog (log ++ entry_of (push_of head changes) ∷ []) new
+sound_grown catalog log changes head old staged new sound kept answers commits entry room size =
     let between = sound_kept catalog log old staged sound kept in
     record {
       names = names_same staged new commits.as_many (λ k d lt. let e = commits.each k d lt in e.0) ∙ between.names;
       rows = λ k d lt.
           let within : k < length staged = omega (arith, commits.as_many) in
-          holds_grown log changes origin number (get_or staged k d) (get_or new k d) (between.rows k d within) (answers k d within) (commits.each k d within);
+          holds_grown log changes head (get_or staged k d) (get_or new k d) (between.rows k d within) (answers k d within) (commits.each k d within);
+      entries = one_more catalog log (entry_of (push_of head changes)) sound.entries entry;
       few = simp length-append (omega arith);
-      sizes = All-append FitsMessage log (entry_with origin number changes ∷ []) between.sizes (one_size origin number changes size);
+      sizes = All-append FitsMessage log (entry_of (push_of head changes) ∷ []) between.sizes (one_size head changes size);
     }
   where
-    one_size : (origin number : ℕ) (changes : List TableChanges) → length (normal_spelling changes) < 2 ^ 32 → All FitsMessage (entry_with origin number changes ∷ [])
-    one_size origin number changes size zero d lt = size
-    one_size origin number changes size (suc k) d lt = absurd (omega (arith, lt))
+    one_size : (head : PushHead) (changes : List TableChanges) → length (normal_spelling changes) < 2 ^ 32 → All FitsMessage (entry_of (push_of head changes) ∷ [])
+    one_size head changes size zero d lt = size
+    one_size head changes size (suc k) d lt = absurd (omega (arith, lt))
 
 -- ---- whether the changeset is defined
 
@@ -107,22 +124,23 @@ unnamed (t ∷ catalog) (first ∷ changes) name (inl fits) none =
     split (bytes_eq first.name name) refl
 unnamed (t ∷ catalog) (first ∷ changes) name (inr fits) none = unnamed catalog (first ∷ changes) name fits none.1
 
-pub defined : (catalog : List TableDef) (log : List LogEntry) (changes : List TableChanges) (old staged : List TableState) → IsSound catalog log old → KeepsRows old staged → AnswersStages changes staged true → FitsCatalog catalog changes → IsDefinedOn changes log
-defined catalog log changes old staged sound kept answers fits name key =
-    let between = sound_kept catalog log old staged sound kept in
-    elim (named name staged) [
-      | inl found ↦
-          let t = get_or staged found.0 (record { name = []; rows = []; staged = [] }) in
-          let n : t.name ≡ name = found.2 _ in
-          let leaves = outcomes_leave t.rows (changes_in t.name changes) t.staged (answers found.0 _ found.1) key in
-          let at_place : left_at (change_in t.name key changes) (place_at log t.name key) ≡ Some (written t.staged key (row_at key t.rows)) =
-          subst (λ (p : Place). left_at (change_in t.name key changes) p ≡ Some (written t.staged key (row_at key t.rows))) (between.rows found.0 _ found.1 key) leaves in
-          subst (λ (m : List ℕ). IsSome (left_at (change_in m key changes) (place_at log m key))) n
-          (subst (λ (o : Option Place). IsSome o) (sym at_place) refl)
-      | inr none ↦
-          let absent = unnamed catalog changes name fits (subst (NoneNamed name) between.names none) in
-          subst (λ (cs : Changes). IsSome (left_at (change_at key cs) (place_at log name key))) (sym absent) refl
-    ]
+pub defined : (catalog : List TableDef) (log : List LogEntry) (changes : List TableChanges) (old staged : List TableState) → IsSound catalog log old → KeepsRows old staged → AnswersStages changes staged true → FitsCatalog catalog changes → IsDefinedOn catalog changes (state_of log)
+defined catalog log changes old staged sound kept answers fits = (
+  fits,
+  λ name key.
+      let between = sound_kept catalog log old staged sound kept in
+      elim (named name staged) [
+        | inl found ↦
+            let t = get_or staged found.0 (record { name = []; rows = []; staged = [] }) in
+            let leaves = outcomes_leave t.rows (changes_in t.name changes) t.staged (answers found.0 _ found.1) key in
+            let there = leaves_there log changes t key (Some (written t.staged key (row_at key t.rows))) (between.rows found.0 _ found.1) leaves in
+            subst (λ (m : List ℕ). IsSome (left_at changes (state_of log) m key)) (found.2 _)
+            (subst (λ (o : Option Place). IsSome o) (sym there) refl)
+        | inr none ↦
+            let absent = unnamed catalog changes name fits (subst (NoneNamed name) between.names none) in
+            subst (λ (c : Option Change). IsSome (left_by c (state_of log name key))) (sym (ap (change_at key) absent)) refl
+      ],
+)
 
 none_ordered : IsOrdered []
 unfolding IsStrictlySortedBy
@@ -132,15 +150,16 @@ ordered_in : (changes : List TableChanges) (name : List ℕ) → IsNormalChanges
 ordered_in [] name normal = none_ordered
 ordered_in (t ∷ changes) name normal =
     let split : (b : Bool) → IsOrdered (cond b t.changes (changes_in name changes)) =
-    elim [ true ↦ normal.0.0.0 | false ↦ ordered_in changes name normal.1 ] in
+    elim [ true ↦ normal.0.changes.0 | false ↦ ordered_in changes name normal.2 ] in
     split (bytes_eq t.name name)
 
-pub undefined : (catalog : List TableDef) (log : List LogEntry) (changes : List TableChanges) (old staged : List TableState) → IsSound catalog log old → KeepsRows old staged → AnswersStages changes staged false → IsNormalChangeset changes → IsUndefinedOn changes log
-undefined catalog log changes old staged sound kept answers normal =
+pub undefined : (catalog : List TableDef) (log : List LogEntry) (changes : List TableChanges) (old staged : List TableState) → IsSound catalog log old → KeepsRows old staged → AnswersStages changes staged false → IsNormalChangeset changes → IsDefinedOn catalog changes (state_of log) → ⊥
+undefined catalog log changes old staged sound kept answers normal on =
     let between = sound_kept catalog log old staged sound kept in
     let t = get_or staged answers.0 (record { name = []; rows = []; staged = [] }) in
     let refused = outcomes_refuse t.rows (changes_in t.name changes) (ordered_in changes t.name normal) (answers.2 _) in
-    (t.name, refused.0, subst (λ (p : Place). left_at (change_in t.name refused.0 changes) p ≡ None) (between.rows answers.0 _ answers.1 refused.0) refused.1)
+    let there = leaves_there log changes t refused.0 None (between.rows answers.0 _ answers.1) refused.1 in
+    false≢true (subst (λ (o : Option Place). IsSome o) there (on.1 t.name refused.0))
 
 pub answered : (changes others : List TableChanges) (staged : List TableState) (answer expected : Bool) → others ≡ changes → answer ≡ expected → AnswersStages others staged answer → AnswersStages changes staged expected
 answered changes others staged answer expected e is h =

@@ -1,7 +1,10 @@
 pub mod Bytes
+pub mod Decided
 pub mod Fresh
 pub mod Grown
+pub mod LogGrown
 pub mod OneAnswer
+pub mod OneService
 pub mod Reading
 pub mod Served
 pub mod Sorted

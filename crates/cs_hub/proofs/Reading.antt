@@ -4,6 +4,7 @@ use Rattle.std.specs.Int.{w32, w64, from_be_bytes}
 use Rattle.std.proofs.lemmas.Nat.{from_be_bytes-to_be_bytes_4, from_be_bytes-to_be_bytes_8}
 use Rattle.std.proofs.lemmas.Bool.Decides.{nat_tests}
 use Rattle.cs_hub.specs.Messages.{four_bytes, eight_bytes, push_numbers, pull_numbers, FitsPush, FitsPull, Asked, AsksPush, AsksPull, AsksNothing, Asks}
+use Rattle.cs_hub.specs.declared.push.PushHead.{PushHead}
 use Rattle.cs_hub.specs.declared.request.RequestFault.TheVariants.{Truncated, BadTag, TooLong}
 use Rattle.cs_hub.proofs.Bytes.{after_four, after_eight}
 
@@ -32,22 +33,22 @@ eight_rest number rest = refl
 
 -- ---- a Push
 
-sized : ℕ → ℕ → ℕ → ℕ → List ℕ → Asked
-sized origin number base size part =
-    cond (nat_lt (length part) size) (AsksNothing Truncated) (cond (nat_lt size (length part)) (AsksNothing TooLong) (AsksPush origin number base part))
+sized : PushHead → ℕ → List ℕ → Asked
+sized head size part =
+    cond (nat_lt (length part) size) (AsksNothing Truncated) (cond (nat_lt size (length part)) (AsksNothing TooLong) (AsksPush head part))
 
 of_push : List ℕ → Asked
 of_push rest =
     cond (nat_lt (length rest) 24) (AsksNothing Truncated)
-    (sized (four rest) (eight (drop 4 rest)) (eight (drop 8 (drop 4 rest))) (four (drop 8 (drop 8 (drop 4 rest)))) (drop 4 (drop 8 (drop 8 (drop 4 rest)))))
+    (sized (record { origin = four rest; number = eight (drop 4 rest); base = eight (drop 8 (drop 4 rest)) }) (four (drop 8 (drop 8 (drop 4 rest)))) (drop 4 (drop 8 (drop 8 (drop 4 rest)))))
 
-push_length : (origin number base size : ℕ) (part : List ℕ) → length (push_numbers origin number base size part) ≡ 24 + length part
-push_length origin number base size part =
+push_length : (head : PushHead) (size : ℕ) (part : List ℕ) → length (push_numbers head size part) ≡ 24 + length part
+push_length head size part =
     omega (
       arith,
-      after_four (push_numbers origin number base size part) (eight_bytes number ++ (eight_bytes base ++ (four_bytes size ++ part))) origin refl,
-      after_eight (eight_bytes number ++ (eight_bytes base ++ (four_bytes size ++ part))) (eight_bytes base ++ (four_bytes size ++ part)) number refl,
-      after_eight (eight_bytes base ++ (four_bytes size ++ part)) (four_bytes size ++ part) base refl,
+      after_four (push_numbers head size part) (eight_bytes head.number ++ (eight_bytes head.base ++ (four_bytes size ++ part))) head.origin refl,
+      after_eight (eight_bytes head.number ++ (eight_bytes head.base ++ (four_bytes size ++ part))) (eight_bytes head.base ++ (four_bytes size ++ part)) head.number refl,
+      after_eight (eight_bytes head.base ++ (four_bytes size ++ part)) (four_bytes size ++ part) head.base refl,
       after_four (four_bytes size ++ part) part size refl,
     )
 
@@ -57,11 +58,11 @@ not_below n m le = grind (arith, nat_tests)
 below : (n m : ℕ) → n < m → nat_lt n m ≡ true
 below n m lt = grind (arith, nat_tests)
 
-push_back : (origin number base size : ℕ) (part : List ℕ) → FitsPush origin number base size → of_push (push_numbers origin number base size part) ≡ sized origin number base size part
+push_back : (head : PushHead) (size : ℕ) (part : List ℕ) → FitsPush head size → of_push (push_numbers head size part) ≡ sized head size part
 unfolding of_push
-push_back origin number base size part fits =
-    let long = not_below (length (push_numbers origin number base size part)) 24 (omega (arith, push_length origin number base size part)) in
-    rw (long, four_rest, eight_rest, eight_rest, four_rest, four_back origin _ fits.origin_fits, eight_back number _ fits.number_fits, eight_back base _ fits.base_fits, four_back size part fits.size_fits) refl
+push_back head size part fits =
+    let long = not_below (length (push_numbers head size part)) 24 (omega (arith, push_length head size part)) in
+    rw (long, four_rest, eight_rest, eight_rest, four_rest, four_back head.origin _ fits.origin_fits, eight_back head.number _ fits.number_fits, eight_back head.base _ fits.base_fits, four_back size part fits.size_fits) refl
 
 -- ---- a Pull
 
@@ -101,20 +102,20 @@ reading (tag ∷ rest) =
 
 pub reads : (bytes : List ℕ) (asked : Asked) → Asks bytes asked → reading bytes ≡ asked
 unfolding reading sized
-reads bytes (AsksPush origin number base changeset) (fits, is) =
+reads bytes (AsksPush head changeset) (fits, is) =
     let same = not_below (length changeset) (length changeset) (omega arith) in
-    rw (is, push_back origin number base (length changeset) changeset fits, same) refl
+    rw (is, push_back head (length changeset) changeset fits, same) refl
 reads bytes (AsksPull first limit) (fits, is) = rw (is, pull_back first limit [] fits) refl
 reads bytes (AsksNothing Truncated) (inl is) = rw is refl
 reads bytes (AsksNothing Truncated) (inr (inl (rest, is, few))) = rw (is, push_short rest few) refl
 reads bytes (AsksNothing Truncated) (inr (inr (inl (rest, is, few)))) = rw (is, pull_short rest few) refl
-reads bytes (AsksNothing Truncated) (inr (inr (inr (origin, number, base, size, part, fits, is, few)))) =
-    rw (is, push_back origin number base size part fits, below (length part) size few) refl
+reads bytes (AsksNothing Truncated) (inr (inr (inr (head, size, part, fits, is, few)))) =
+    rw (is, push_back head size part fits, below (length part) size few) refl
 reads bytes (AsksNothing BadTag) (tag, rest, is, one, two) =
     let first : nat_eq tag 1 ≡ false = grind (arith, nat_tests) in
     let second : nat_eq tag 2 ≡ false = grind (arith, nat_tests) in
     rw (is, first, second) refl
-reads bytes (AsksNothing TooLong) (inl (origin, number, base, size, more, fits, is, many)) =
-    rw (is, push_back origin number base size more fits, not_below (length more) size (omega arith), below size (length more) many) refl
+reads bytes (AsksNothing TooLong) (inl (head, size, more, fits, is, many)) =
+    rw (is, push_back head size more fits, not_below (length more) size (omega arith), below size (length more) many) refl
 reads bytes (AsksNothing TooLong) (inr (first, limit, more, fits, is, many)) =
     rw (is, pull_back first limit more fits, below 0 (length more) many) refl

@@ -8,14 +8,15 @@ use Rattle.cs_hub.specs.Hub.{HubState}
 use Rattle.cs_hub.specs.Pushes.{Push}
 use Rattle.cs_hub.specs.Serves.{AnswersPush, AnswersGroups}
 use Rattle.cs_hub.specs.declared.answer.Answer.{Answer}
+use Rattle.cs_hub.specs.declared.push.PushHead.{PushHead}
 
-abbrev pub push_of : ℕ → ℕ → ℕ → List TableChanges → Push
-push_of base origin number changes = record { base = base; origin = origin; number = number; changes = changes }
+abbrev pub push_of : PushHead → List TableChanges → Push
+push_of head changes = record { head = head; changes = changes }
 
 -- the answer to a push whose normal form was found
-pub normal_answer : {E : Type 0} (answer : Result Answer E) (old new : HubState) (origin number base : ℕ) (groups : List Group) (changes : List TableChanges) (catalog : List TableDef) → catalog ≡ old.catalog → IsNormalFormOf catalog groups changes
-    → IfOk answer (λ a. AnswersPush old (push_of base origin number changes) a new)
-    → IfOk answer (λ a. AnswersGroups old origin number base groups a new)
-normal_answer (Err e) old new origin number base groups changes catalog is normal h = tt
-normal_answer (Ok answer) old new origin number base groups changes catalog is normal h =
+pub normal_answer : {E : Type 0} (answer : Result Answer E) (old new : HubState) (head : PushHead) (groups : List Group) (changes : List TableChanges) (catalog : List TableDef) → catalog ≡ old.catalog → IsNormalFormOf catalog groups changes
+    → IfOk answer (λ a. AnswersPush old (push_of head changes) a new)
+    → IfOk answer (λ a. AnswersGroups old head groups a new)
+normal_answer (Err e) old new head groups changes catalog is normal h = tt
+normal_answer (Ok answer) old new head groups changes catalog is normal h =
     inr (changes, subst (λ (tables : List TableDef). IsNormalFormOf tables groups changes) is normal, h)

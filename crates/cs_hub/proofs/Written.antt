@@ -1,7 +1,7 @@
 -- Writes that are planned, and written.
 use Rattle.std.proofs.Common.{◌≡◌, ℕ, Bool, true, false, cond, List, [], ◌∷◌, ◌++◌, Option, Some, None, refl, sym, subst, ap, ◌∙◌, append_assoc, length, arith}
 use Rattle.cs_value.specs.Key.{Place}
-use Rattle.cs_change.specs.Action.{action, after}
+use Rattle.cs_change.specs.Action.{action, action_any, after, after_any}
 use Rattle.cs_change.specs.declared.change.Change.{Change}
 use Rattle.cs_normal.specs.Changes.{Changes, change_at, same_bytes, IsOrdered}
 use Rattle.cs_hub.specs.Rows.{Rows, row_at}
@@ -11,9 +11,12 @@ use Rattle.std.proofs.lemmas.Map.Entries.{none_past_head}
 use Rattle.std.proofs.lemmas.Map.Keys.{IsDistinct-from_sorted, sorted_tail}
 use Rattle.std.specs.Map.{keys_of}
 use Rattle.cs_normal.specs.Changes.{by_bytes}
-use Rattle.cs_hub.specs.Tables.{left_at}
 use Rattle.cs_hub.proofs.Sorted.{same_is, same_refl}
 use Rattle.cs_hub.specs.Staged.{Writes, with_write, outcomes, written}
+
+-- what a change, if any, leaves at its place; outer none where it is not defined there
+abbrev pub left_by : Option Change → Place → Option Place
+left_by change place = after_any (action_any change) place
 
 -- writes before those of the rest, if there are any
 abbrev pub prepend : Writes → Option Writes → Option Writes
@@ -47,8 +50,8 @@ commit_end (w ∷ staged) key place end none h = absurd (omega (arith, none))
 -- a change before others, case by case: its outcome, theirs, and whether the key is its own
 leave_split : (rows : Rows) (c : List ℕ × Change) (changes : Changes) (writes : Writes) (key : List ℕ) (o : Option Place) (m : Option Writes) (t : Bool)
     → after (action c.1) (row_at c.0 rows) ≡ o → same_bytes key c.0 ≡ t → with_write c.0 o m ≡ Some writes
-    → ((more : Writes) → m ≡ Some more → left_at (change_at key changes) (row_at key rows) ≡ Some (written more key (row_at key rows)))
-    → left_at (cond t (Some c.1) (change_at key changes)) (row_at key rows) ≡ Some (written writes key (row_at key rows))
+    → ((more : Writes) → m ≡ Some more → left_by (change_at key changes) (row_at key rows) ≡ Some (written more key (row_at key rows)))
+    → left_by (cond t (Some c.1) (change_at key changes)) (row_at key rows) ≡ Some (written writes key (row_at key rows))
 unfolding written
 leave_split rows c changes writes key None m t ho ht h others = cc
 leave_split rows c changes writes key (Some left) None t ho ht h others = cc
@@ -60,10 +63,10 @@ leave_split rows c changes writes key (Some left) (Some more) true ho ht h other
 leave_split rows c changes writes key (Some left) (Some more) false ho ht h others =
     let e : (c.0, left) ∷ more ≡ writes = cc in
     let flip : same_bytes c.0 key ≡ false = (eq_by_cmp_equiv nat_list_cmp_total).symm c.0 key ∙ ht in
-    subst (λ (w : Writes). left_at (change_at key changes) (row_at key rows) ≡ Some (written w key (row_at key rows))) e (rw flip (others more refl))
+    subst (λ (w : Writes). left_by (change_at key changes) (row_at key rows) ≡ Some (written w key (row_at key rows))) e (rw flip (others more refl))
 
 -- what the writes leave at a key is what the change of that key leaves there
-pub outcomes_leave : (rows : Rows) (changes : Changes) (writes : Writes) → outcomes rows changes ≡ Some writes → (key : List ℕ) → left_at (change_at key changes) (row_at key rows) ≡ Some (written writes key (row_at key rows))
+pub outcomes_leave : (rows : Rows) (changes : Changes) (writes : Writes) → outcomes rows changes ≡ Some writes → (key : List ℕ) → left_by (change_at key changes) (row_at key rows) ≡ Some (written writes key (row_at key rows))
 unfolding outcomes written
 outcomes_leave rows [] writes h key =
     let e : [] ≡ writes = cc in subst (λ (w : Writes). Some (row_at key rows) ≡ Some (written w key (row_at key rows))) e refl
@@ -78,14 +81,14 @@ first_alone c changes sorted =
     (none_past_head (eq_by_cmp_equiv nat_list_cmp_total) c.0 c changes (IsDistinct-from_sorted by_bytes (keys_of (c ∷ changes)) sorted) (same_refl c.0))
 
 abbrev RefusedAt : Rows → Changes → List ℕ → Type 0
-RefusedAt rows changes key = left_at (change_at key changes) (row_at key rows) ≡ None
+RefusedAt rows changes key = left_by (change_at key changes) (row_at key rows) ≡ None
 
-later_refused : (rows : Rows) (c : List ℕ × Change) (changes : Changes) (key : List ℕ) (t : Bool) → IsOrdered (c ∷ changes) → same_bytes key c.0 ≡ t → RefusedAt rows changes key → left_at (cond t (Some c.1) (change_at key changes)) (row_at key rows) ≡ None
+later_refused : (rows : Rows) (c : List ℕ × Change) (changes : Changes) (key : List ℕ) (t : Bool) → IsOrdered (c ∷ changes) → same_bytes key c.0 ≡ t → RefusedAt rows changes key → left_by (cond t (Some c.1) (change_at key changes)) (row_at key rows) ≡ None
 later_refused rows c changes key false sorted ht h = h
 later_refused rows c changes key true sorted ht h =
     let k : key ≡ c.0 = same_is key c.0 ht in
     let none : change_at key changes ≡ None = rw k (first_alone c changes sorted) in
-    let some : left_at (change_at key changes) (row_at key rows) ≡ Some (row_at key rows) = rw none refl in
+    let some : left_by (change_at key changes) (row_at key rows) ≡ Some (row_at key rows) = rw none refl in
     cc
 
 refuse_split : (rows : Rows) (c : List ℕ × Change) (changes : Changes) (o : Option Place) (m : Option Writes)

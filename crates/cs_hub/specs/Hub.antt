@@ -1,5 +1,5 @@
 -- What a hub is seen as.
-use Rattle.std.specs.Prelude.{ℕ, List, [], take, drop}
+use Rattle.std.specs.Prelude.{ℕ, List, [], ◌∷◌, ◌++◌, take, drop}
 use Rattle.cs_value.specs.declared.catalog.TableDef.{TableDef}
 use Rattle.cs_changeset.specs.declared.log.LogEntry.{LogEntry}
 
@@ -11,6 +11,10 @@ pub record HubState : Type 0 where
 -- a hub that has taken nothing yet
 abbrev pub fresh : List TableDef → HubState
 fresh catalog = record { catalog = catalog; log = [] }
+
+-- a hub that has taken one push more
+abbrev pub with_entry : HubState → LogEntry → HubState
+with_entry hub entry = record { catalog = hub.catalog; log = hub.log ++ entry ∷ [] }
 
 -- the entries from one on, so many at most
 abbrev pub entries_from : ℕ → ℕ → List LogEntry → List LogEntry

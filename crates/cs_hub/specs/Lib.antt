@@ -1,6 +1,7 @@
 pub mod Codes
 pub mod Hub
 pub mod Laws
+pub mod Log
 pub mod Messages
 pub mod Pushes
 pub mod Rows

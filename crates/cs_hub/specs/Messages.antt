@@ -5,9 +5,10 @@ use Rattle.std.specs.Int.{w32, w64, to_be_bytes}
 use Rattle.std.specs.List.{flat_map}
 use Rattle.cs_normal.specs.Normal.{normal_spelling}
 use Rattle.cs_changeset.specs.declared.log.LogEntry.{LogEntry}
-use Rattle.cs_hub.specs.Tables.{changes_of}
+use Rattle.cs_hub.specs.Tables.{entry_changes}
 use Rattle.cs_hub.specs.declared.answer.Answer.{Answer}
 use Rattle.cs_hub.specs.declared.answer.Answer.TheVariants.{Accepted, Stale, Refused}
+use Rattle.cs_hub.specs.declared.push.PushHead.{PushHead}
 use Rattle.cs_hub.specs.declared.request.Request.{Request}
 use Rattle.cs_hub.specs.declared.request.Request.TheVariants.{Push, Pull}
 use Rattle.cs_hub.specs.declared.request.RequestFault.{RequestFault}
@@ -22,13 +23,13 @@ eight_bytes number = to_be_bytes w64 number
 -- ---- requests
 
 -- the numbers of a Push, and what follows them
-abbrev pub push_numbers : ℕ → ℕ → ℕ → ℕ → List ℕ → List ℕ
-push_numbers origin number base size rest =
-    four_bytes origin ++ (eight_bytes number ++ (eight_bytes base ++ (four_bytes size ++ rest)))
+abbrev pub push_numbers : PushHead → ℕ → List ℕ → List ℕ
+push_numbers head size rest =
+    four_bytes head.origin ++ (eight_bytes head.number ++ (eight_bytes head.base ++ (four_bytes size ++ rest)))
 
 -- a tag, the origin, the number, the base, and the changeset behind its length
-abbrev pub push_spelling : ℕ → ℕ → ℕ → List ℕ → List ℕ
-push_spelling origin number base changeset = 1 ∷ push_numbers origin number base (length changeset) changeset
+abbrev pub push_spelling : PushHead → List ℕ → List ℕ
+push_spelling head changeset = 1 ∷ push_numbers head (length changeset) changeset
 
 -- the numbers of a Pull, and what follows them
 abbrev pub pull_numbers : ℕ → ℕ → List ℕ → List ℕ
@@ -39,10 +40,10 @@ abbrev pub pull_spelling : ℕ → ℕ → List ℕ
 pull_spelling first limit = 2 ∷ pull_numbers first limit []
 
 -- the numbers of a Push are in range
-pub record FitsPush (origin number base size : ℕ) : Type 0 where
-  pub origin_fits : origin < 2 ^ 32
-  pub number_fits : number < 2 ^ 64
-  pub base_fits : base < 2 ^ 64
+pub record FitsPush (head : PushHead) (size : ℕ) : Type 0 where
+  pub origin_fits : head.origin < 2 ^ 32
+  pub number_fits : head.number < 2 ^ 64
+  pub base_fits : head.base < 2 ^ 64
   pub size_fits : size < 2 ^ 32
 
 -- the numbers of a Pull are in range
@@ -56,12 +57,12 @@ IsPartial bytes =
     (bytes ≡ [])
     ⊎ ((rest : List ℕ) × (bytes ≡ 1 ∷ rest) × (length rest < 24))
     ⊎ ((rest : List ℕ) × (bytes ≡ 2 ∷ rest) × (length rest < 12))
-    ⊎ ((origin : ℕ) × (number : ℕ) × (base : ℕ) × (size : ℕ) × (part : List ℕ) × FitsPush origin number base size × (bytes ≡ 1 ∷ push_numbers origin number base size part) × (length part < size))
+    ⊎ ((head : PushHead) × (size : ℕ) × (part : List ℕ) × FitsPush head size × (bytes ≡ 1 ∷ push_numbers head size part) × (length part < size))
 
 -- a request, and bytes behind it
 abbrev pub IsLonger : List ℕ → Type 0
 IsLonger bytes =
-    ((origin : ℕ) × (number : ℕ) × (base : ℕ) × (size : ℕ) × (more : List ℕ) × FitsPush origin number base size × (bytes ≡ 1 ∷ push_numbers origin number base size more) × (size < length more))
+    ((head : PushHead) × (size : ℕ) × (more : List ℕ) × FitsPush head size × (bytes ≡ 1 ∷ push_numbers head size more) × (size < length more))
     ⊎ ((first : ℕ) × (limit : ℕ) × (more : List ℕ) × FitsPull first limit × (bytes ≡ 2 ∷ pull_numbers first limit more) × (0 < length more))
 
 -- what is wrong with bytes that spell no request
@@ -72,19 +73,19 @@ IsRequestFault TooLong bytes = IsLonger bytes
 
 -- what bytes ask of a hub
 pub data Asked : Type 0 where
-  AsksPush : (origin number base : ℕ) (changeset : List ℕ) → Asked
+  AsksPush : (head : PushHead) (changeset : List ℕ) → Asked
   AsksPull : (first limit : ℕ) → Asked
   AsksNothing : RequestFault → Asked
 
 abbrev pub Asks : List ℕ → Asked → Type 0
-Asks bytes (AsksPush origin number base changeset) =
-    FitsPush origin number base (length changeset) × (bytes ≡ push_spelling origin number base changeset)
+Asks bytes (AsksPush head changeset) =
+    FitsPush head (length changeset) × (bytes ≡ push_spelling head changeset)
 Asks bytes (AsksPull first limit) = FitsPull first limit × (bytes ≡ pull_spelling first limit)
 Asks bytes (AsksNothing fault) = IsRequestFault fault bytes
 
 -- what a request as read asks
 abbrev pub asked : Result Request RequestFault → Asked
-asked (Ok (Push origin number base changeset)) = AsksPush origin number base changeset.now
+asked (Ok (Push head changeset)) = AsksPush head changeset.now
 asked (Ok (Pull first limit)) = AsksPull first limit
 asked (Err fault) = AsksNothing fault
 
@@ -105,7 +106,7 @@ refused_spelling code = 19 ∷ code ∷ []
 -- an entry: its kind, its origin, its number, and the changeset behind its length
 abbrev pub entry_spelling : LogEntry → List ℕ
 entry_spelling entry =
-    let changeset = normal_spelling (changes_of entry.body) in
+    let changeset = normal_spelling (entry_changes entry) in
     0 ∷ (four_bytes entry.origin ++ (eight_bytes entry.number ++ (four_bytes (length changeset) ++ changeset)))
 
 -- entries: the first one's place, how many there are, and each

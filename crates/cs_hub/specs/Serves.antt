@@ -6,9 +6,10 @@ use Rattle.cs_normal.specs.declared.unfit.Unfit.{Unfit}
 use Rattle.cs_normal.specs.declared.unfit.Unfit.TheVariants as unfit
 use Rattle.cs_change.specs.Spelling.{FitsChangeset, changeset_spelling}
 use Rattle.cs_change.specs.declared.group.Group.{Group}
+use Rattle.cs_changeset.specs.Codes.{fault_code}
 use Rattle.cs_changeset.specs.Reading.{IsChangesetFault}
 use Rattle.cs_changeset.specs.declared.fault.Fault.{Fault}
-use Rattle.cs_hub.specs.Codes.{fault_code, hub_code, request_code, unfit_code}
+use Rattle.cs_hub.specs.Codes.{hub_code, request_code, unfit_code}
 use Rattle.cs_hub.specs.Hub.{HubState, entries_from}
 use Rattle.cs_hub.specs.Messages.{Asked, AsksPush, AsksPull, AsksNothing, Asks, answer_spelling, entries_spelling}
 use Rattle.cs_hub.specs.Pushes.{Push, Pushes}
@@ -16,31 +17,32 @@ use Rattle.cs_hub.specs.declared.answer.Answer.{Answer}
 use Rattle.cs_hub.specs.declared.answer.Answer.TheVariants.{Accepted, Stale, Refused}
 use Rattle.cs_hub.specs.declared.fault.HubFault.{HubFault}
 use Rattle.cs_hub.specs.declared.fault.HubFault.TheVariants.{Ahead}
-use Rattle.cs_hub.specs.declared.fault.Pushed.{Pushed}
-use Rattle.cs_hub.specs.declared.fault.Pushed.TheVariants as pushed
+use Rattle.cs_hub.specs.declared.push.PushHead.{PushHead}
+use Rattle.cs_hub.specs.declared.push.Pushed.{Pushed}
+use Rattle.cs_hub.specs.declared.push.Pushed.TheVariants as pushed
 
 -- the answer that tells what became of a push
 abbrev pub told : Push → Result Pushed HubFault → Answer
-told push (Ok (pushed.Accepted version)) = Accepted push.origin push.number version
+told push (Ok (pushed.Accepted version)) = Accepted push.head.origin push.head.number version
 told push (Ok (pushed.Stale newest)) = Stale newest
 told push (Err fault) = Refused (hub_code fault)
 
 -- the answer to a push whose changeset was read and brought into normal form
 abbrev pub AnswersPush : HubState → Push → Answer → HubState → Type 0
 AnswersPush old push answer new =
-    (outcome : Result Pushed HubFault) × Pushes old.log push outcome new.log × (answer ≡ told push outcome) × (new.catalog ≡ old.catalog)
+    (outcome : Result Pushed HubFault) × Pushes old push outcome new × (answer ≡ told push outcome)
 
 -- the answer to a push whose changeset was read: what is wrong by the catalog, or that of its normal form
-abbrev pub AnswersGroups : HubState → ℕ → ℕ → ℕ → List Group → Answer → HubState → Type 0
-AnswersGroups old origin number base groups answer new =
+abbrev pub AnswersGroups : HubState → PushHead → List Group → Answer → HubState → Type 0
+AnswersGroups old head groups answer new =
     ((fault : Unfit) × (fault ≢ unfit.Memory) × IsUnfit fault old.catalog groups × (answer ≡ Refused (unfit_code fault)) × (new ≡ old))
-    ⊎ ((changes : List TableChanges) × IsNormalFormOf old.catalog groups changes × AnswersPush old (record { base = base; origin = origin; number = number; changes = changes }) answer new)
+    ⊎ ((changes : List TableChanges) × IsNormalFormOf old.catalog groups changes × AnswersPush old (record { head = head; changes = changes }) answer new)
 
 -- the answer to a push: what is wrong with the bytes of its changeset, or that of the changeset
-abbrev pub AnswersChangeset : HubState → ℕ → ℕ → ℕ → List ℕ → Answer → HubState → Type 0
-AnswersChangeset old origin number base changeset answer new =
+abbrev pub AnswersChangeset : HubState → PushHead → List ℕ → Answer → HubState → Type 0
+AnswersChangeset old head changeset answer new =
     ((fault : Fault) × (offset : ℕ) × IsChangesetFault fault offset changeset × (answer ≡ Refused (fault_code fault)) × (new ≡ old))
-    ⊎ ((groups : List Group) × FitsChangeset groups × (changeset ≡ changeset_spelling groups) × AnswersGroups old origin number base groups answer new)
+    ⊎ ((groups : List Group) × FitsChangeset groups × (changeset ≡ changeset_spelling groups) × AnswersGroups old head groups answer new)
 
 -- the answer to what is asked
 abbrev pub AnswersAsked : HubState → Asked → List ℕ → HubState → Type 0
@@ -50,8 +52,8 @@ AnswersAsked old (AsksPull first limit) bytes new =
     (((length old.log < first) × (bytes ≡ answer_spelling (Refused (hub_code Ahead))))
     ⊎ ((first ≤ length old.log) × (bytes ≡ entries_spelling first (entries_from first limit old.log))))
     × (new ≡ old)
-AnswersAsked old (AsksPush origin number base changeset) bytes new =
-    (answer : Answer) × (bytes ≡ answer_spelling answer) × AnswersChangeset old origin number base changeset answer new
+AnswersAsked old (AsksPush head changeset) bytes new =
+    (answer : Answer) × (bytes ≡ answer_spelling answer) × AnswersChangeset old head changeset answer new
 
 -- the hub answers the bytes of a request with these bytes, and is then another
 abbrev pub Serves : HubState → List ℕ → List ℕ → HubState → Type 0

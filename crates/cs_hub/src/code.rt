@@ -1,33 +1,11 @@
-//! The code of each refusal.
+//! The code of each refusal but those of bytes that spell no changeset, which `cs_changeset` has.
 
 ghost use Rattle.std.specs.Prelude.{◌≡◌};
-ghost use Rattle.cs_hub.specs.Codes.{fault_code, hub_code, request_code, unfit_code};
+ghost use Rattle.cs_hub.specs.Codes.{hub_code, request_code, unfit_code};
 
 use crate::fault::HubFault;
 use crate::request::RequestFault;
-use cs_changeset::Fault;
 use cs_normal::Unfit;
-
-/// The code of bytes that spell no changeset.
-pub(crate) fn of_fault(fault: Fault) -> u8
-    ensures { result ≡ fault_code fault }
-{
-    match fault {
-        Fault::Truncated => 2,
-        Fault::NotShortest => 3,
-        Fault::BadType(_) => 4,
-        Fault::Real => 5,
-        Fault::NotUtf8 => 6,
-        Fault::Patchset => 7,
-        Fault::BadMark => 8,
-        Fault::BadOperation => 9,
-        Fault::BadFlag => 10,
-        Fault::Columns => 11,
-        Fault::NoKeyColumn => 12,
-        Fault::UndefinedHere => 13,
-        Fault::KeyChanged => 14,
-    }
-}
 
 /// The code of bytes that spell no request.
 pub(crate) fn of_request(fault: RequestFault) -> u8

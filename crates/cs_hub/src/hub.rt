@@ -1,11 +1,12 @@
 //! The hub's log and tables, and what it answers.
 
 ghost use Rattle.std.specs.Prelude.{◌≡◌, ◌↔◌, IsTrue};
-ghost use Rattle.cs_hub.specs.Pushes.{entry_with};
+ghost use Rattle.cs_hub.specs.Pushes.{entry_of};
 
 use crate::answer::{Answer, SHORT, entries_answer};
 use crate::code;
-use crate::fault::{HubFault, Pushed};
+use crate::fault::HubFault;
+use crate::push::{PushHead, Pushed};
 use crate::request::Request;
 use crate::rows::KeyedRow;
 use crate::tables::Tables;
@@ -43,12 +44,12 @@ impl Model for Hub {
     ghost invariant = { λ hub. IsSound hub.catalog hub.log.items hub.tables };
 }
 
-/// Whether the entry is a push with this origin, number and changeset.
-fn is_push(entry: &LogEntry, origin: u32, number: u64, changes: &Normal) -> bool
-    ensures { IsTrue result ↔ (entry.now ≡ entry_with origin number changes.now) }
+/// Whether the entry is this push.
+fn is_push(entry: &LogEntry, head: PushHead, changes: &Normal) -> bool
+    ensures { IsTrue result ↔ (entry.now ≡ entry_of (record { head = head; changes = changes.now })) }
 {
-    let Body::Changes(held) = &entry.body;
-    entry.origin == origin && entry.number == number && held.same(changes)
+    let Body::Changes(kept) = &entry.body;
+    entry.origin == head.origin && entry.number == head.number && kept.same(changes)
 }
 
 impl Hub {
@@ -60,8 +61,9 @@ impl Hub {
     ghost use Rattle.cs_value.specs.declared.catalog.TableDef.{TableDef};
     ghost use Rattle.cs_normal.specs.Normal.{FitsCatalog, normal_spelling};
     ghost use Rattle.cs_hub.specs.Hub.{HubState, fresh, entries_from};
+    ghost use Rattle.cs_hub.specs.Log.{IsLog};
     ghost use Rattle.cs_hub.specs.Rows.{IsInOrder, row_at};
-    ghost use Rattle.cs_hub.specs.Tables.{place_at};
+    ghost use Rattle.cs_hub.specs.Tables.{state_of};
     ghost use Rattle.cs_hub.specs.Pushes.{Push, Pushes, PushesIf};
 
     /// A hub of these tables that has taken nothing yet. It keeps `alloc` for later calls.
@@ -84,6 +86,9 @@ impl Hub {
     pub fn newest(&self) -> u64
         ensures newest { result ≡ length self.now.log }
         ensures limit { result ≤ MAX_ENTRIES }
+
+        // Each entry is a changeset of the catalog's tables in normal form, defined on the tables before it.
+        ensures log { IsLog self.now.catalog self.now.log }
     {
         self.log.len() as u64
     }
@@ -110,7 +115,7 @@ impl Hub {
     /// order of these; none past the last table.
     pub fn rows(&self, table: usize) -> &[KeyedRow]
         ensures rows { (place : TableDef) → slice_get self.now.catalog table ≡ Some place
-            → (key : List ℕ) → row_at key result.now ≡ place_at self.now.log place.name key }
+            → (key : List ℕ) → row_at key result.now ≡ state_of self.now.log place.name key }
         ensures ordered { IsInOrder result.now }
         ensures none { length self.now.catalog ≤ table → result.now ≡ [] }
     {
@@ -118,46 +123,39 @@ impl Hub {
     }
 
     /// The answer to a push whose base is below the newest version.
-    fn recall(&self, base: u64, origin: u32, number: u64, changes: &Normal) -> Pushed
-        requires below { base < length self.now.log }
+    fn recall(&self, head: PushHead, changes: &Normal) -> Pushed
+        requires below { head.base < length self.now.log }
         requires some { changes.now ≢ [] }
-        ensures { Pushes self.now.log (record { base = base; origin = origin; number = number; changes = changes.now }) (Ok result) self.now.log }
+        ensures { Pushes self.now (record { head = head; changes = changes.now }) (Ok result) self.now }
     {
-        if is_push(&self.log[base as usize], origin, number, changes) {
-            return Pushed::Accepted(base + 1);
+        if is_push(&self.log[head.base as usize], head, changes) {
+            return Pushed::Accepted(head.base + 1);
         }
         Pushed::Stale(self.newest())
     }
 
-    /// Takes a push: a changeset that the replica `origin` made as its push `number` on the tables of the version `base`.
-    /// The first case that fits holds: no change; a base above the newest version; below it, the same push again or
-    /// another one; a full log; a change that is not defined on the tables; else the push is appended. (Profile of this
-    /// project.)
+    /// Takes a push: a changeset that the replica `head.origin` made as its push `head.number` on the tables of the version
+    /// `head.base`. The first case that fits holds: no change; a base above the newest version; below it, the same push
+    /// again or another one; a full log; a change that is not defined on the tables; else the push is appended. (Profile
+    /// of this project.)
     ///
     /// # Errors
     ///
     /// `Empty`, `Ahead`, `Full` and `Conflict` in these cases; `Memory` where memory was refused. Nothing has changed then.
-    pub fn push(
-        &mut self,
-        base: u64,
-        origin: u32,
-        number: u64,
-        changes: &Normal,
-    ) -> Result<Pushed, HubFault>
+    pub fn push(&mut self, head: PushHead, changes: &Normal) -> Result<Pushed, HubFault>
         requires fits { FitsCatalog self.old.catalog changes.now }
         requires size { length (normal_spelling changes.now) ≤ MAX_CHANGESET }
-        ensures pushed { PushesIf self.old.log (record { base = base; origin = origin; number = number; changes = changes.now }) result self.new.log }
-        ensures catalog { self.new.catalog ≡ self.old.catalog }
+        ensures { PushesIf self.old (record { head = head; changes = changes.now }) result self.new }
     {
         if changes.tables().is_empty() {
             return Err(HubFault::Empty);
         }
         let newest = self.newest();
-        if base > newest {
+        if head.base > newest {
             return Err(HubFault::Ahead);
         }
-        if base < newest {
-            return Ok(self.recall(base, origin, number, changes));
+        if head.base < newest {
+            return Ok(self.recall(head, changes));
         }
         if self.log.len() >= MAX_ENTRIES {
             return Err(HubFault::Full);
@@ -169,11 +167,11 @@ impl Hub {
         self.log.reserve(1)?;
         self.tables.commit();
         self.log.push_reserved(LogEntry {
-            origin,
-            number,
+            origin: head.origin,
+            number: head.number,
             body,
         });
-        Ok(Pushed::Accepted(base + 1))
+        Ok(Pushed::Accepted(head.base + 1))
     }
 
     /// Answers the bytes of a request with the bytes of an answer. The room of the answer is taken before anything
@@ -189,14 +187,7 @@ impl Hub {
         match Request::decode(request) {
             Err(fault) => self.spell(Answer::Refused(code::of_request(fault))),
             Ok(Request::Pull { first, limit }) => self.serve_pull(first, limit),
-            Ok(
-                Request::Push {
-                    origin,
-                    number,
-                    base,
-                    changeset,
-                },
-            ) => self.serve_push(origin, number, base, changeset),
+            Ok(Request::Push { head, changeset }) => self.serve_push(head, changeset),
         }
     }
 
@@ -220,79 +211,55 @@ impl Hub {
     }
 
     /// The answer to a Push. Its room is taken before anything changes.
-    fn serve_push(
-        &mut self,
-        origin: u32,
-        number: u64,
-        base: u64,
-        changeset: &[u8],
-    ) -> Result<Vec<u8>, Memory>
+    fn serve_push(&mut self, head: PushHead, changeset: &[u8]) -> Result<Vec<u8>, Memory>
         requires { length changeset.now < 2 ^ 32 }
-        ensures ok { IfOk result (λ bytes. AnswersAsked self.old (AsksPush origin number base changeset.now) bytes.items self.new) }
+        ensures ok { IfOk result (λ bytes. AnswersAsked self.old (AsksPush head changeset.now) bytes.items self.new) }
         ensures err { OnErr result (self.new ≡ self.old) }
     {
         let mut told = Vec::with_capacity(self.alloc, SHORT)?;
-        let answer = self.take_changeset(origin, number, base, changeset)?;
+        let answer = self.take_changeset(head, changeset)?;
         answer.put(&mut told);
         Ok(told)
     }
 
     /// Takes a push whose changeset is yet to be read.
-    fn take_changeset(
-        &mut self,
-        origin: u32,
-        number: u64,
-        base: u64,
-        changeset: &[u8],
-    ) -> Result<Answer, Memory>
+    fn take_changeset(&mut self, head: PushHead, changeset: &[u8]) -> Result<Answer, Memory>
         requires { length changeset.now < 2 ^ 32 }
-        ensures ok { IfOk result (λ answer. AnswersChangeset self.old origin number base changeset.now answer self.new) }
+        ensures ok { IfOk result (λ answer. AnswersChangeset self.old head changeset.now answer self.new) }
         ensures err { OnErr result (self.new ≡ self.old) }
     {
         match decode(self.alloc, changeset) {
-            Ok(groups) => self.take_groups(origin, number, base, &groups),
+            Ok(groups) => self.take_groups(head, &groups),
             Err(CodecFault::Memory) => Err(AllocError),
-            Err(CodecFault::At { fault, .. }) => Ok(Answer::Refused(code::of_fault(fault))),
+            Err(CodecFault::At { fault, .. }) => Ok(Answer::Refused(fault.code())),
         }
     }
 
     /// Takes a push whose changeset is yet to be brought into normal form.
-    fn take_groups(
-        &mut self,
-        origin: u32,
-        number: u64,
-        base: u64,
-        groups: &Changeset,
-    ) -> Result<Answer, Memory>
+    fn take_groups(&mut self, head: PushHead, groups: &Changeset) -> Result<Answer, Memory>
         requires fits { FitsChangeset groups.now }
         requires size { length (changeset_spelling groups.now) < 2 ^ 32 }
-        ensures ok { IfOk result (λ answer. AnswersGroups self.old origin number base groups.now answer self.new) }
+        ensures ok { IfOk result (λ answer. AnswersGroups self.old head groups.now answer self.new) }
         ensures err { OnErr result (self.new ≡ self.old) }
     {
         match normalise(self.alloc, &self.catalog, groups) {
-            Ok(changes) => self.take(base, origin, number, &changes),
+            Ok(changes) => self.take(head, &changes),
             Err(Unfit::Memory) => Err(AllocError),
             Err(unfit) => Ok(Answer::Refused(code::of_unfit(unfit))),
         }
     }
 
     /// Takes a push, and tells what became of it.
-    fn take(
-        &mut self,
-        base: u64,
-        origin: u32,
-        number: u64,
-        changes: &Normal,
-    ) -> Result<Answer, Memory>
+    fn take(&mut self, head: PushHead, changes: &Normal) -> Result<Answer, Memory>
         requires fits { FitsCatalog self.old.catalog changes.now }
         requires size { length (normal_spelling changes.now) < 2 ^ 32 }
-        ensures ok { IfOk result (λ answer. AnswersPush self.old (record { base = base; origin = origin; number = number; changes = changes.now }) answer self.new) }
+        ensures ok { IfOk result (λ answer. AnswersPush self.old (record { head = head; changes = changes.now }) answer self.new) }
         ensures err { OnErr result (self.new ≡ self.old) }
     {
-        match self.push(base, origin, number, changes) {
+        match self.push(head, changes) {
             Ok(Pushed::Accepted(version)) => Ok(Answer::Accepted {
-                origin,
-                number,
+                origin: head.origin,
+                number: head.number,
                 version,
             }),
             Ok(Pushed::Stale(newest)) => Ok(Answer::Stale { newest }),

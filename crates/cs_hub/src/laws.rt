@@ -1,13 +1,34 @@
-//! The laws of requests and pushes, each the contract of a function that does nothing.
+//! The laws of requests, pushes and what a hub answers, each the contract of a function that does nothing.
 
-ghost use Rattle.cs_hub.specs.Laws.{OneAnswer, OneRequest};
+ghost use Rattle.cs_hub.specs.Laws.{LogIsApplied, OneAnswer, OneRequest, OneService};
+
+use cs_changeset::laws::changesets;
+use cs_normal::laws::{no_fault_where_fit, one_normal_form, one_unfit};
 
 /// Bytes spell one request, or have one fault and spell none.
 pub fn one_request()
     ensures { OneRequest }
 {}
 
-/// The answer to a push, and the log after it, are determined by the log and the push.
+/// The answer to a push, and the hub after it, are determined by the hub and the push.
 pub fn one_answer()
     ensures { OneAnswer }
+{}
+
+/// The answer to the bytes of a request, and the hub after it, are determined by the hub and the bytes, up to want of
+/// memory.
+pub fn one_service()
+    ensures { OneService }
+{
+    one_request();
+    one_answer();
+    changesets();
+    no_fault_where_fit();
+    one_unfit();
+    one_normal_form();
+}
+
+/// The state that a log makes is that of its entries, each applied to what the earlier ones left: each is defined there.
+pub fn log_is_applied()
+    ensures { LogIsApplied }
 {}

@@ -10,14 +10,16 @@ mod code;
 mod fault;
 mod hub;
 mod outcome;
+mod push;
 mod request;
 mod rows;
 mod serve;
 mod table;
 mod tables;
 
-pub use fault::{HubFault, Pushed};
+pub use fault::HubFault;
 pub use hub::{Hub, MAX_CHANGESET, MAX_ENTRIES};
+pub use push::{PushHead, Pushed};
 
 pub mod laws;
 

@@ -3,20 +3,14 @@
 ghost use Rattle.std.specs.Prelude.{◌≡◌, ◌<◌, ◌++◌, length, MatchOption};
 ghost use Rattle.cs_hub.specs.Messages.{four_bytes, eight_bytes, push_numbers, pull_numbers};
 
+use crate::push::PushHead;
+
 /// A request. (Profile of this project.)
 pub(crate) enum Request<'a> {
     /// Take the changeset that a replica made on the tables of the version `base`.
-    Push {
-        origin: u32,
-        number: u64,
-        base: u64,
-        changeset: &'a [u8],
-    },
+    Push { head: PushHead, changeset: &'a [u8] },
     /// Tell the entries from `first` on, at most `limit`.
-    Pull {
-        first: u64,
-        limit: u32,
-    },
+    Pull { first: u64, limit: u32 },
 }
 
 /// What is wrong with bytes that spell no request.
@@ -46,15 +40,20 @@ fn split_u64(bytes: &[u8]) -> Option<(u64, &[u8])>
     Some((u64::from_be_bytes(*front), rest))
 }
 
-/// The numbers of a Push: origin, number, base, length; and the rest.
-fn split_push(bytes: &[u8]) -> Option<(u32, u64, u64, u32, &[u8])>
-    ensures { MatchOption result (length bytes.now < 24) (λ split. bytes.now ≡ push_numbers split.0 split.1 split.2 split.3 split.4.now) }
+/// The head of a Push, the length of its changeset, and the rest.
+fn split_push(bytes: &[u8]) -> Option<(PushHead, u32, &[u8])>
+    ensures { MatchOption result (length bytes.now < 24) (λ split. bytes.now ≡ push_numbers split.0 split.1 split.2.now) }
 {
     let (origin, rest) = split_u32(bytes)?;
     let (number, rest) = split_u64(rest)?;
     let (base, rest) = split_u64(rest)?;
     let (size, rest) = split_u32(rest)?;
-    Some((origin, number, base, size, rest))
+    let head = PushHead {
+        origin,
+        number,
+        base,
+    };
+    Some((head, size, rest))
 }
 
 /// The numbers of a Pull: first, limit; and the rest.
@@ -85,7 +84,7 @@ impl<'a> Request<'a> {
     fn decode_push(rest: &'a [u8]) -> Result<Request<'a>, RequestFault>
         ensures { Asks (1 ∷ rest.now) (asked result) }
     {
-        let Some((origin, number, base, size, changeset)) = split_push(rest) else {
+        let Some((head, size, changeset)) = split_push(rest) else {
             return Err(RequestFault::Truncated);
         };
         if changeset.len() < size as usize {
@@ -94,12 +93,7 @@ impl<'a> Request<'a> {
         if changeset.len() > size as usize {
             return Err(RequestFault::TooLong);
         }
-        Ok(Request::Push {
-            origin,
-            number,
-            base,
-            changeset,
-        })
+        Ok(Request::Push { head, changeset })
     }
 
     fn decode_pull(rest: &'a [u8]) -> Result<Request<'a>, RequestFault>

@@ -36,7 +36,7 @@ impl Model for Table {
 }
 
 /// The changes of the table with this name.
-fn changes_of<'a>(name: &str, tables: &'a [TableChanges]) -> &'a [KeyedChange]
+fn changes_in<'a>(name: &str, tables: &'a [TableChanges]) -> &'a [KeyedChange]
     ensures { result.now ≡ changes_in name.now tables.now }
 {
     let mut rest = tables;
@@ -104,7 +104,7 @@ impl Table {
         ensures rows { self.new.rows ≡ self.old.rows }
         ensures staged { IfOk result (AnswersStage changes.now self.new) }
     {
-        let changes = changes_of(self.name.as_str(), changes);
+        let changes = changes_in(self.name.as_str(), changes);
         let Some(writes) = plan(alloc, self.rows.as_slice(), changes)? else {
             return Ok(false);
         };

@@ -78,7 +78,12 @@ fn a_push(rt: HostRuntime) -> Result<(), Fail> {
     let catalog = catalog_of_t1(alloc)?;
     let mut hub = Hub::new(alloc, &catalog)?;
     let changes = normalise(alloc, &catalog, &decode(alloc, &INSERT)?)?;
-    assert_eq!(rt; hub.push(0, 7, 1, &changes)?, Pushed::Accepted(1));
+    let head = PushHead {
+        origin: 7,
+        number: 1,
+        base: 0,
+    };
+    assert_eq!(rt; hub.push(head, &changes)?, Pushed::Accepted(1));
     let rows = hub.rows(0);
     assert_eq!(rt; rows.len(), 1);
     let (key, row) = &rows[0];

@@ -1,6 +1,11 @@
-use Rattle.std.proofs.Common.{arith, ◌≡◌, length, true, false, inr, refl, ap, rules}
-use Rattle.cs_hub.specs.Hub.{HubState}
+use Rattle.std.proofs.Common.{arith, ◌≡◌, ◌+◌, length, true, false, Ok, Err, ap, sym, subst, rules}
+use Rattle.cs_hub.specs.Hub.{HubState, with_entry}
+use Rattle.cs_hub.specs.Pushes.{Pushes, CanFollow, entry_of}
+use Rattle.cs_hub.specs.declared.fault.HubFault.TheVariants.{Conflict}
+use Rattle.cs_hub.specs.declared.push.Pushed.TheVariants.{Accepted}
+use Rattle.cs_hub.proofs.Decided.{conflict, next}
 use Rattle.cs_hub.proofs.Grown.{sound_kept, sound_grown, defined, undefined, answered}
+use Rattle.cs_hub.proofs.Served.{push_of}
 use Rattle.cs_hub.proofs.hub.Hub.push.Goals as goal
 
 -- what is staged changes neither names nor rows
@@ -17,28 +22,41 @@ pub invariant_of-self-in_err-reserve : goal.invariant_of-self-in_err-reserve
 invariant_of-self-in_err-reserve c = rw c.reserve.ensures.items (sound_kept _ _ _ _ c.self.invariant c.stage.ensures.kept)
 
 -- a change was refused
-pub returns-then-not-branch-clause-pushed : goal.returns-then-not-branch-clause-pushed
-returns-then-not-branch-clause-pushed c =
+pub returns-then-not-branch : goal.returns-then-not-branch
+returns-then-not-branch c =
+    let push = push_of c.args.head c.args.changes.now in
     let answer = answered _ _ _ _ false c.tables-2.ensures.same c.if-not-branch.true c.in_ok-stage.ensures.staged in
-    let log : c.self.inside.log.items ≡ c.args.self.now.log = ap (λ (h : HubState). h.log) c.self.view_is in
-    let many : length c.self.inside.log.items ≡ length c.args.self.now.log = ap length log in
-    let undefined_there = undefined _ _ _ _ _ c.self.invariant c.stage.ensures.kept answer c.tables-2.ensures.normal in
-    ((search rules, omega (arith, c.self.inside.log.ok.0), omega (arith, c.self.inside.log.ok.0)), rw (← log) undefined_there, log)
+    let many : length c.self.inside.log.items ≡ length c.args.self.now.log = ap (λ (h : HubState). length h.log) c.self.view_is in
+    let apart = undefined _ _ _ _ _ c.self.invariant c.stage.ensures.kept answer c.tables-2.ensures.normal in
+    let refused = conflict c.args.self.now push (search rules) (omega (arith, c.self.inside.log.ok.0)) (omega (arith, c.self.inside.log.ok.0))
+    (subst (λ (h : HubState). CanFollow h push → ⊥) c.self.view_is apart) in
+    subst (λ (h : HubState). Pushes c.args.self.now push (Err Conflict) h) (sym c.self.view_is) refused
 
 -- the changes are written, and the push is appended
 pub invariant_of-self-2 : goal.invariant_of-self-2
 invariant_of-self-2 c =
     let answer = answered _ _ _ _ true c.tables-2.ensures.same c.if-not-branch.false c.in_ok-stage.ensures.staged in
-    let same : c.in_ok-copy.field-0 ≡ c.args.changes.now = c.in_ok-copy.ensures in
-    rw (c.push_reserved.ensures.items, c.reserve.ensures.items, same)
-    (sound_grown _ _ _ _ _ _ _ _ c.self.invariant c.stage.ensures.kept answer c.commit.ensures (omega (arith, c.self.inside.log.ok.0)) (omega (arith, c.requires.size)))
-
-pub returns-clause-pushed : goal.returns-clause-pushed
-returns-clause-pushed c =
-    let answer = answered _ _ _ _ true c.tables-2.ensures.same c.if-not-branch.false c.in_ok-stage.ensures.staged in
-    let log : c.self.inside.log.items ≡ c.args.self.now.log = ap (λ (h : HubState). h.log) c.self.view_is in
     let catalog : c.self.inside.catalog ≡ c.args.self.now.catalog = ap (λ (h : HubState). h.catalog) c.self.view_is in
-    let many : length c.self.inside.log.items ≡ length c.args.self.now.log = ap length log in
     let same : c.in_ok-copy.field-0 ≡ c.args.changes.now = c.in_ok-copy.ensures in
-    let defined_there = defined _ _ _ _ _ c.self.invariant c.stage.ensures.kept answer (rw (← catalog) at c.requires.fits) in
-    (refl, inr ((search rules, omega (arith, c.self.inside.log.ok.0), omega (arith, c.self.inside.log.ok.0)), rw (← log) defined_there, rw (c.push_reserved.ensures.items, c.reserve.ensures.items, same, log) refl))
+    let fits = rw (← catalog) at c.requires.fits in
+    rw (c.push_reserved.ensures.items, c.reserve.ensures.items, same)
+    (sound_grown _ _ c.args.changes.now c.args.head _ _ _ c.self.invariant c.stage.ensures.kept answer c.commit.ensures
+    (record {
+      normal = c.tables-2.ensures.normal;
+      some = search rules;
+      defined = defined _ _ _ _ _ c.self.invariant c.stage.ensures.kept answer fits;
+    })
+    (omega (arith, c.self.inside.log.ok.0)) (omega (arith, c.requires.size)))
+
+pub returns : goal.returns
+returns c =
+    let push = push_of c.args.head c.args.changes.now in
+    let answer = answered _ _ _ _ true c.tables-2.ensures.same c.if-not-branch.false c.in_ok-stage.ensures.staged in
+    let catalog : c.self.inside.catalog ≡ c.args.self.now.catalog = ap (λ (h : HubState). h.catalog) c.self.view_is in
+    let many : length c.self.inside.log.items ≡ length c.args.self.now.log = ap (λ (h : HubState). length h.log) c.self.view_is in
+    let same : c.in_ok-copy.field-0 ≡ c.args.changes.now = c.in_ok-copy.ensures in
+    let on = defined _ _ _ _ _ c.self.invariant c.stage.ensures.kept answer (rw (← catalog) at c.requires.fits) in
+    let taken = next c.args.self.now push (search rules) (omega (arith, c.self.inside.log.ok.0)) (omega (arith, c.self.inside.log.ok.0))
+    (subst (λ (h : HubState). CanFollow h push) c.self.view_is on) in
+    rw (c.push_reserved.ensures.items, c.reserve.ensures.items, same)
+    (subst (λ (h : HubState). Pushes c.args.self.now push (Ok (Accepted (c.args.head.base + 1))) (with_entry h (entry_of push))) (sym c.self.view_is) taken)

@@ -1,0 +1,21 @@
+//! The laws of the C functions, the contract of a function that does nothing.
+
+ghost use Rattle.cs_ffi.specs.Laws.{AnswerLaws};
+
+use cs_changeset::laws::changesets;
+use cs_group::laws::{no_fault_where_combined, one_combine_fault, one_combined};
+use cs_normal::laws::{no_fault_where_fit, one_normal_form, one_unfit};
+
+/// Two answers of a C function to one input are equal, and so is what stands in the caller's memory after them, unless one
+/// of them tells want of memory.
+pub fn answers()
+    ensures { AnswerLaws }
+{
+    changesets();
+    no_fault_where_fit();
+    one_unfit();
+    one_normal_form();
+    one_combined();
+    no_fault_where_combined();
+    one_combine_fault();
+}
