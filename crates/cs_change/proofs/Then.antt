@@ -7,19 +7,19 @@ use Rattle.cs_value.specs.declared.value.Value.{Value}
 use Rattle.cs_change.specs.Action.{Inserts, Deletes}
 use Rattle.cs_change.specs.Columns.{holds, set_columns, field_or}
 use Rattle.cs_change.specs.Net.{net, old_record, new_record, old_field, new_field}
-use Rattle.cs_change.specs.Then.{is_idle, then_old, then_new, then_old_fields, then_new_fields, then_one, then_any, inverse_old, inverse_new, inverse_old_fields, inverse_new_fields, inverse, inverse_any}
+use Rattle.cs_change.specs.Then.{is_idle, then_column, then_old_fields, then_new_fields, then_one, then_any, inverse_old, inverse_new, inverse_old_fields, inverse_new_fields, inverse, inverse_any}
 use Rattle.cs_change.proofs.Net.{by_rows}
 use Rattle.cs_change.proofs.Rows as rows
 use Rattle.cs_change.proofs.Rows.{Alike, none, column, alike_from_keys, conjoin}
 
 -- one column: from b to p and then to q
 module _ (m : Bool) (b p q : Value) (key : m ≡ true → (b ≡ p) × (b ≡ q)) where
-  old_after_two : then_old (old_field m b p) (new_field b p) (old_field m p q) (new_field p q) ≡ old_field m b q
+  old_after_two : (then_column (old_field m b p) (new_field b p) (old_field m p q) (new_field p q)).0 ≡ old_field m b q
   unfolding is_idle holds
   old_after_two =
       grind (arith, same_value-tells b p, same_value-tells p q, same_value-tells b q)
 
-  new_after_two : then_new (old_field m b p) (new_field b p) (old_field m p q) (new_field p q) ≡ new_field b q
+  new_after_two : (then_column (old_field m b p) (new_field b p) (old_field m p q) (new_field p q)).1 ≡ new_field b q
   unfolding is_idle holds
   new_after_two =
       grind (arith, same_value-tells b p, same_value-tells p q, same_value-tells b q)

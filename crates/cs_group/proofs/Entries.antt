@@ -9,7 +9,7 @@ use Rattle.cs_change.specs.Normal.{IsNormal, IsNormalIfAny}
 use Rattle.cs_change.specs.declared.change.Change.{Change}
 use Rattle.cs_normal.specs.Changes.{Changes, IsEntry}
 use Rattle.cs_group.specs.Combine.{then_change}
-use Rattle.cs_group.specs.Merges.{Merges, ended, earlier, later, both, before}
+use Rattle.cs_group.specs.Steps.Merges.{Merges, ended, earlier, later, both, before}
 use Rattle.cs_normal.specs.Laws.{OneEntryKey, SetColumnsFit}
 use Rattle.cs_group.proofs.Flags.{then_change_action}
 use Rattle.cs_group.proofs.InRange.{AreInRangeIfAny, in_range, normal_fits, then_in_range}

@@ -11,7 +11,7 @@ use Rattle.cs_change.specs.Columns.{is_blank, overlay_field}
 use Rattle.cs_change.specs.Net.{net, old_field, new_field, old_record, new_record}
 use Rattle.cs_change.specs.Normal.{IsNormal, NormalUpdate, no_column, key_column, unmodified, modified}
 use Rattle.cs_change.specs.Spelling.{AreUpdateColumns, FitsChange}
-use Rattle.cs_change.specs.Then.{is_idle, then_old, then_new, then_old_fields, then_new_fields, then_one, inverse, inverse_old, inverse_new, inverse_old_fields, inverse_new_fields}
+use Rattle.cs_change.specs.Then.{is_idle, then_column, then_old_fields, then_new_fields, then_one, inverse, inverse_old, inverse_new, inverse_old_fields, inverse_new_fields}
 use Rattle.cs_change.specs.declared.change.Change.{Change}
 use Rattle.cs_change.specs.declared.change.Change.TheVariants.{Insert, Delete, Update}
 use Rattle.cs_normal.specs.Changes.{IsSpelled}
@@ -51,11 +51,11 @@ overlay_fits : (f g : Field) → Fits f → Fits g → Fits (overlay_field f g)
 overlay_fits f Undefined h k = h
 overlay_fits f (Is v) h k = k
 
-old_fits : (o1 n1 o2 n2 : Field) → Fits o1 → Fits o2 → Fits (then_old o1 n1 o2 n2)
+old_fits : (o1 n1 o2 n2 : Field) → Fits o1 → Fits o2 → Fits (then_column o1 n1 o2 n2).0
 old_fits o1 n1 o2 n2 h k =
     by_test (is_idle (overlay_field o2 o1) (overlay_field n1 n2)) _ (λ e. simp e tt) (λ e. simp e (overlay_fits o2 o1 k h))
 
-new_fits : (o1 n1 o2 n2 : Field) → Fits n1 → Fits n2 → Fits (then_new o1 n1 o2 n2)
+new_fits : (o1 n1 o2 n2 : Field) → Fits n1 → Fits n2 → Fits (then_column o1 n1 o2 n2).1
 new_fits o1 n1 o2 n2 h k =
     by_test (is_idle (overlay_field o2 o1) (overlay_field n1 n2)) _ (λ e. simp e tt) (λ e. simp e (overlay_fits n1 n2 h k))
 

@@ -21,7 +21,7 @@ use Rattle.cs_normal.specs.Changes.{Changes, by_bytes, same_bytes, change_at, Is
 use Rattle.cs_normal.specs.Normal.{changes_in}
 use Rattle.cs_normal.specs.declared.normal.TableChanges.{TableChanges}
 use Rattle.cs_group.specs.Combine.{then_change_any, IsThen}
-use Rattle.cs_group.specs.Joining.{seen, HoldsEntries, IsReady, IsAdded}
+use Rattle.cs_group.specs.Steps.Joining.{seen, HoldsEntries, IsReady, IsAdded}
 use Rattle.cs_group.specs.Tables.{changes_along, then_change_all}
 use Rattle.cs_group.proofs.Entries.{IsEntryIfAny, PairLaws, pair_entry}
 use Rattle.cs_group.proofs.MergeLaws.{by_test, same_is, none_at}

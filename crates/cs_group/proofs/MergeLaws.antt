@@ -12,7 +12,7 @@ use Rattle.std.proofs.lemmas.Cmp.{nat_list_cmp_total}
 use Rattle.cs_change.specs.declared.change.Change.{Change}
 use Rattle.cs_normal.specs.Changes.{Changes, by_bytes, same_bytes, change_at, IsOrdered}
 use Rattle.cs_group.specs.Combine.{then_change, IsThen}
-use Rattle.cs_group.specs.Merges.{Merges, ended, earlier, later, both, GoesBefore, before}
+use Rattle.cs_group.specs.Steps.Merges.{Merges, ended, earlier, later, both, GoesBefore, before}
 
 pub by_test : (t : Bool) (P : Type 0) → (t ≡ true → P) → (t ≡ false → P) → P
 by_test true P one other = one refl

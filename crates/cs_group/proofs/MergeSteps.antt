@@ -6,7 +6,7 @@ use Rattle.std.proofs.lemmas.Cmp.{nat_list_cmp_total}
 use Rattle.cs_change.specs.declared.change.Change.{Change}
 use Rattle.cs_normal.specs.Changes.{Changes, by_bytes}
 use Rattle.cs_group.specs.Combine.{then_change}
-use Rattle.cs_group.specs.Merges.{Merges, ended, earlier, later, both, GoesBefore, before}
+use Rattle.cs_group.specs.Steps.Merges.{Merges, ended, earlier, later, both, GoesBefore, before}
 
 pub no_changes : (changes : Changes) → length changes ≡ 0 → changes ≡ []
 no_changes [] h = refl

@@ -10,9 +10,9 @@ use Rattle.cs_value.specs.declared.catalog.TableDef.{TableDef}
 use Rattle.cs_normal.specs.Changes.{Changes, AreNormal}
 use Rattle.cs_normal.specs.Laws.{CatalogIsApart, FittingIsNormal, HeadersFit}
 use Rattle.cs_normal.specs.Normal.{AreApart, FitsCatalog, IsNormalTable, IsNormalChangeset, changes_in}
-use Rattle.cs_normal.specs.TableByTable.{table_changes}
+use Rattle.cs_normal.specs.Steps.TableByTable.{table_changes}
 use Rattle.cs_normal.specs.declared.normal.TableChanges.{TableChanges}
-use Rattle.cs_group.specs.TableByTable.{AreMade, no_table, next, HasNormal, FitsTable}
+use Rattle.cs_group.specs.Steps.TableByTable.{AreMade, no_table, next, HasNormal, FitsTable}
 use Rattle.cs_group.proofs.Empty.{none_normal}
 use Rattle.cs_group.proofs.MergeLaws.{by_test}
 

@@ -2,7 +2,7 @@
 
 ghost use Rattle.std.specs.Prelude.{◌≡◌, ◌++◌, IfOk};
 ghost use Rattle.cs_change.specs.Columns.{overlay_field, set_columns, is_blank};
-ghost use Rattle.cs_change.specs.Then.{is_idle, then_old, then_new, then_old_fields, then_new_fields};
+ghost use Rattle.cs_change.specs.Then.{is_idle, then_column, then_old_fields, then_new_fields};
 
 use cs_value::{Field, Memory, Value};
 use std::alloc::Global;
@@ -37,8 +37,8 @@ fn then_column(
     old_later: &Field,
     new_later: &Field,
 ) -> Result<(Field, Field), Memory>
-    ensures { IfOk result (λ column. (column.0 ≡ then_old old_earlier.now new_earlier.now old_later.now new_later.now)
-        × (column.1 ≡ then_new old_earlier.now new_earlier.now old_later.now new_later.now)) }
+    ensures { IfOk result (λ column.
+        column ≡ then_column old_earlier.now new_earlier.now old_later.now new_later.now) }
 {
     let old = overlay(old_later, old_earlier);
     let new = overlay(new_earlier, new_later);

@@ -5,8 +5,8 @@ ghost use Rattle.std.specs.Prelude.{◌≡◌, IfOk, OnOk, Some, None, List, ℕ
 ghost use Rattle.std.specs.List.{AllByRecursion};
 ghost use Rattle.cs_normal.specs.Changes.{same_bytes, change_at, AreNormal, IsEntry, IsOrdered};
 ghost use Rattle.cs_group.specs.Combine.{then_change_any, IsThen};
-ghost use Rattle.cs_group.specs.Joining.{seen, IsReady, IsAdded};
-ghost use Rattle.cs_group.specs.TableByTable.{FitsTable, IsNormalJoinOf};
+ghost use Rattle.cs_group.specs.Steps.Joining.{seen, IsReady, IsAdded};
+ghost use Rattle.cs_group.specs.Steps.TableByTable.{FitsTable, IsNormalJoinOf};
 
 use crate::pairs::then_one;
 use crate::tables::changes_of;

@@ -2,7 +2,7 @@
 
 ghost use Rattle.std.specs.Prelude.{◌≡◌, ◌++◌, [], OnOk, IfOk};
 ghost use Rattle.cs_group.specs.Combine.{then_change, IsThen};
-ghost use Rattle.cs_group.specs.Merges.{Merges, before};
+ghost use Rattle.cs_group.specs.Steps.Merges.{Merges, before};
 ghost use Rattle.cs_normal.specs.Changes.{by_bytes, AreNormal};
 
 use crate::pairs::then_one;

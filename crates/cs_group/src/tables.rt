@@ -4,8 +4,8 @@ ghost use Rattle.std.specs.Prelude.{◌≡◌, ◌++◌, IfOk, OnOk};
 ghost use Rattle.std.specs.List.{AllByRecursion};
 ghost use Rattle.std.specs.Str.{bytes_eq};
 ghost use Rattle.cs_normal.specs.Normal.{changes_in};
-ghost use Rattle.cs_normal.specs.TableByTable.{table_changes};
-ghost use Rattle.cs_group.specs.TableByTable.{AreMade, FitsTable, HasNormal, IsNormalJoinOf, IsThenOf};
+ghost use Rattle.cs_normal.specs.Steps.TableByTable.{table_changes};
+ghost use Rattle.cs_group.specs.Steps.TableByTable.{AreMade, FitsTable, HasNormal, IsNormalJoinOf, IsThenOf};
 
 use crate::joining::join_table;
 use crate::merge::then_changes;

@@ -15,7 +15,7 @@ use Rattle.cs_change.specs.declared.change.Change.{Change}
 use Rattle.cs_normal.specs.declared.unfit.Unfit.TheVariants.{KeyTwice, NullKey}
 use Rattle.cs_normal.specs.Changes.{by_bytes, same_bytes}
 use Rattle.cs_normal.specs.NormalForm.{has_key, change_bytes, AreKeyed, HasFirstUnfitChange}
-use Rattle.cs_normal.specs.Prepared.{Entries, prepared, all_keyed, rises, rises_from}
+use Rattle.cs_normal.specs.Steps.Prepared.{Entries, prepared, all_keyed, rises, rises_from}
 use Rattle.cs_normal.proofs.NormalLaws.{by_test, distinct_on}
 
 -- changes with keys, and one without

@@ -12,7 +12,7 @@ use Rattle.cs_change.specs.Spelling.{FitsChange, AreUpdateColumns, IsUpdateColum
 use Rattle.cs_change.specs.declared.change.Change.{Change}
 use Rattle.cs_change.specs.declared.change.Change.TheVariants.{Insert, Delete, Update}
 use Rattle.cs_normal.specs.NormalForm.{has_key, changes_value, normal_old, normal_new, normal_olds, normal_news, normal_form}
-use Rattle.cs_normal.specs.Prepared.{Entries, prepared, kept}
+use Rattle.cs_normal.specs.Steps.Prepared.{Entries, prepared, kept}
 use Rattle.cs_normal.proofs.NormalLaws.{by_test}
 
 old_fits : (m : Bool) (o n : Field) → Fits o → Fits (normal_old m o n)

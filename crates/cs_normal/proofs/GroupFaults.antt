@@ -17,7 +17,7 @@ use Rattle.cs_change.specs.declared.group.Group.{Group}
 use Rattle.cs_normal.specs.Changes.{same_bytes}
 use Rattle.cs_normal.specs.NormalForm.{has_key, change_bytes, AreKeyed, HasFirstUnfitChange, AreUnfit}
 use Rattle.cs_normal.specs.NormalFormOf.{changes_of, HasTable, HaveTables, HaveKeys, AreFit, IsGroupOf, IsUnfitGroup, IsUnfit}
-use Rattle.cs_normal.specs.TableByTable.{HasTableFault, AnyUnfit, IsUnfitHeader}
+use Rattle.cs_normal.specs.Steps.TableByTable.{HasTableFault, AnyUnfit, IsUnfitHeader}
 use Rattle.cs_normal.specs.declared.unfit.Unfit.{Unfit}
 use Rattle.cs_normal.specs.declared.unfit.Unfit.TheVariants.{Memory, UnknownTable, Shape, NullKey, KeyTwice}
 use Rattle.cs_normal.proofs.AsRead.{shape_of}

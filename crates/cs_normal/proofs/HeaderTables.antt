@@ -19,7 +19,7 @@ use Rattle.cs_value.specs.Catalog.{AreTables}
 use Rattle.cs_value.specs.declared.catalog.TableDef.{TableDef}
 use Rattle.cs_normal.specs.Changes.{by_bytes}
 use Rattle.cs_normal.specs.Headers.{has_other_name, tables_of_headers, HasTwoShapes}
-use Rattle.cs_normal.specs.FirstTables.{is_new, with_new, IsFrontOf, AreFirstTables, DifferFrom, NeighboursDiffer}
+use Rattle.cs_normal.specs.Steps.FirstTables.{is_new, with_new, IsFrontOf, AreFirstTables, DifferFrom, NeighboursDiffer}
 use Rattle.cs_normal.proofs.NormalLaws.{by_test}
 
 -- ---- the first table of each name

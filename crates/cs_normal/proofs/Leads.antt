@@ -22,13 +22,14 @@ use Rattle.cs_change.specs.declared.group.Group.{Group}
 use Rattle.cs_normal.specs.Changes.{key_bytes, IsSpelled, same_bytes, change_at}
 use Rattle.cs_normal.specs.Laws.{BytesTellKeys}
 use Rattle.cs_normal.specs.Normal.{change_of, changes_in}
-use Rattle.cs_normal.specs.NormalForm.{marked_fields, change_key, change_bytes, keyed, normal_form_any, AreKeyed, IsNormalOf}
+use Rattle.cs_normal.specs.NormalForm.{change_key, change_bytes, AreKeyed, IsNormalOf}
 use Rattle.cs_normal.specs.NormalFormOf.{HasTable, changes_of, IsNormalFormOf}
 use Rattle.cs_normal.specs.State.{State, IsStateOf, left_at, IsAfterChanges, IsAfterGroups, NormalFormLeads}
 use Rattle.cs_normal.specs.declared.normal.TableChanges.{TableChanges}
 use Rattle.cs_normal.proofs.AsRead.{shape_of, all_read}
 use Rattle.cs_normal.proofs.Entries.{lenient}
 use Rattle.cs_normal.proofs.Keeps.{keeps}
+use Rattle.cs_normal.proofs.Membership.{normal_form_any, keyed, by_key}
 use Rattle.cs_normal.proofs.NormalLaws.{by_test, same_is}
 use Rattle.cs_normal.proofs.PerTable.{AreAsRead}
 use Rattle.cs_normal.proofs.States.{key_spelled, state_place, named_or_not, absent_name}
@@ -142,7 +143,7 @@ module _ (apart : BytesTellKeys) (tables : List TableDef) (groups : List Group) 
       let read = All-contains (AreAsRead groups) tables table (All-from_recursion (AreAsRead groups) tables (all_read tables groups are form.fit.0 fits)) one in
       let step = at_once marks key changes (before name key) (end name key) keys.1 at in
       let led = place_leads marks key changes (before name key) (end name key) (λ (values : List Value) is spelled. subst (λ (k : List ℕ). FitsPlace marks values (before name k)) (sym is) (state_place apart tables before table values are state one spelled)) read step in
-      rw (normal_of.1 key) led
+      rw ((by_key marks changes (changes_in name normal) normal_of).1 key) led
 
   at_name : (name key : List ℕ) → left_at normal before name key ≡ Some (end name key)
   at_name name key =

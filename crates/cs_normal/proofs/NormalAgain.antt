@@ -22,9 +22,10 @@ use Rattle.cs_change.specs.declared.change.Change.TheVariants.{Insert, Delete, U
 use Rattle.cs_normal.specs.Changes.{Changes, by_bytes, same_bytes, change_at, key_bytes, IsEntry, AreNormal}
 use Rattle.cs_normal.specs.Laws.{NormalAgain}
 use Rattle.cs_normal.specs.Normal.{AreApart, IsOfTable, FitsCatalog, IsNormalChangeset, changes_in, group_of, groups_of, normal_spelling}
-use Rattle.cs_normal.specs.NormalForm.{marked_fields, change_key, change_bytes, has_key, normal_olds, normal_news, normal_form, normal_form_any, keyed, AreKeyed, IsNormalOf}
+use Rattle.cs_normal.specs.NormalForm.{marked_fields, change_key, change_bytes, has_key, normal_olds, normal_news, normal_form, AreKeyed, IsNormalOf}
 use Rattle.cs_normal.specs.NormalFormOf.{changes_of, HasTable}
 use Rattle.cs_normal.specs.declared.normal.TableChanges.{TableChanges}
+use Rattle.cs_normal.proofs.Membership.{normal_form_any, keyed, by_membership}
 use Rattle.cs_normal.proofs.Names.{HasOtherName, are_apart, named, other_named}
 use Rattle.cs_normal.proofs.NormalLaws.{by_test}
 
@@ -97,7 +98,8 @@ changes_keyed marks changes n =
     (have_key marks changes h, subst (IsDistinct same_bytes) (sym (keys_stay marks changes h)) (IsDistinct-from_sorted by_bytes (keys_of changes) n.0))
 
 changes_stay : (marks : List Bool) (changes : Changes) → AreNormal marks changes → IsNormalOf marks (only_changes changes) changes
-changes_stay marks changes n = (n.0, λ key. stands_alike marks changes key (recursion_from_All (IsEntry marks) changes n.1))
+changes_stay marks changes n =
+    by_membership marks (only_changes changes) changes (changes_keyed marks changes n) (n.0, λ key. stands_alike marks changes key (recursion_from_All (IsEntry marks) changes n.1))
 
 -- ---- all tables
 

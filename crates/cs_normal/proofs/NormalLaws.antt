@@ -14,8 +14,8 @@ use Rattle.std.proofs.lemmas.Map.Views.{Contains-from_lookup, lookup-from_Contai
 use Rattle.std.proofs.lemmas.Cmp.{nat_list_cmp_total}
 use Rattle.cs_change.specs.declared.change.Change.{Change}
 use Rattle.cs_normal.specs.Changes.{Changes, by_bytes, same_bytes, change_at, IsOrdered}
-use Rattle.cs_normal.specs.NormalForm.{normal_form_any, has_key, change_bytes, keyed, AreKeyed, IsNormalOf}
-use Rattle.cs_normal.specs.Prepared.{Entries, prepared, all_keyed, kept, rises, rises_from}
+use Rattle.cs_normal.specs.NormalForm.{has_key, change_bytes, AreKeyed}
+use Rattle.cs_normal.specs.Steps.Prepared.{Entries, prepared, all_keyed, kept, rises, rises_from}
 
 pub by_test : (t : Bool) (P : Type 0) → (t ≡ true → P) → (t ≡ false → P) → P
 by_test true P one other = one refl
@@ -142,14 +142,6 @@ prepared_keys marks (c ∷ changes) h =
     let parts = both_true (has_key marks c) (all_keyed marks changes) h in
     simp parts.0 (ap (λ (t : List (List ℕ)). change_bytes marks c ∷ t) (prepared_keys marks changes parts.1))
 
-pub prepared_at : (marks : List Bool) (changes : List Change) → all_keyed marks changes ≡ true → (q : List ℕ) → join (lookup (same_bytes q) (prepared marks changes)) ≡ normal_form_any marks (change_at q (keyed marks changes))
-unfolding prepared all_keyed
-prepared_at marks [] h q = refl
-prepared_at marks (c ∷ changes) h q =
-    let parts = both_true (has_key marks c) (all_keyed marks changes) h in
-    let rest = prepared_at marks changes parts.1 q in
-    by_test (same_bytes q (change_bytes marks c)) _ (λ e. simp (parts.0, e) refl) (λ e. simp (parts.0, e) rest)
-
 pub all_keyed_is : (marks : List Bool) (changes : List Change) → all_keyed marks changes ≡ list_all (has_key marks) changes
 unfolding all_keyed
 all_keyed_is marks [] = refl
@@ -164,8 +156,3 @@ module _ (marks : List Bool) (changes : List Change) (fs : Entries) (p : IsPermu
   pub are_keyed : all_keyed marks changes ≡ true → AreKeyed marks changes
   are_keyed whole =
       (sym (all_keyed_is marks changes) ∙ whole, subst (IsDistinct same_bytes) (prepared_keys marks changes whole) prepared_distinct)
-
-  pub is_normal : all_keyed marks changes ≡ true → IsNormalOf marks changes (kept fs)
-  is_normal whole =
-      let sorted = rises_sorted fs up in
-      (kept_ordered fs sorted, λ q. kept_at q fs sorted ∙ (ap join (found_alike (prepared marks changes) fs p prepared_distinct (IsDistinct-from_sorted by_bytes (keys_of fs) sorted) q) ∙ prepared_at marks changes whole q))

@@ -10,7 +10,7 @@ use Rattle.cs_normal.specs.Changes.{Changes}
 use Rattle.cs_normal.specs.Normal.{AreApart, FitsCatalog, changes_in}
 use Rattle.cs_normal.specs.NormalForm.{AreKeyed, IsNormalOf}
 use Rattle.cs_normal.specs.NormalFormOf.{changes_of, HaveKeys}
-use Rattle.cs_normal.specs.TableByTable.{AreTablesOf, no_table, next, table_changes, IsTableOf}
+use Rattle.cs_normal.specs.Steps.TableByTable.{AreTablesOf, no_table, next, table_changes, IsTableOf}
 use Rattle.cs_normal.specs.declared.normal.TableChanges.{TableChanges}
 use Rattle.cs_normal.proofs.CatalogOrder.{fits_more}
 use Rattle.cs_normal.proofs.Names.{HasOtherName, named, other_named}

@@ -14,7 +14,7 @@ use Rattle.cs_normal.specs.Changes.{Changes, IsEntry}
 use Rattle.cs_normal.specs.Laws.{FittingIsNormal, HeadersFit, NormalIsTaken}
 use Rattle.cs_normal.specs.Normal.{AreApart, FitsCatalog, IsNormalTable, IsNormalChangeset, groups_of}
 use Rattle.cs_normal.specs.NormalFormOf.{changes_of}
-use Rattle.cs_normal.specs.TableByTable.{AreTablesOf, no_table, next}
+use Rattle.cs_normal.specs.Steps.TableByTable.{AreTablesOf, no_table, next}
 use Rattle.cs_normal.specs.declared.normal.TableChanges.{TableChanges}
 use Rattle.cs_normal.proofs.Names.{HasOtherName, are_apart}
 use Rattle.cs_normal.proofs.NormalAgain.{marks_stay, spelled_alike}
@@ -77,7 +77,7 @@ tables_normal {groups} fits shape read (next table (change ∷ changes) h rest) 
     let first : length (flat_map (λ keyed. change_spelling keyed.1) (change ∷ changes)) ≡ length (change_spelling change.1) + length (flat_map (λ keyed. change_spelling keyed.1) changes) = length-append (change_spelling change.1) (flat_map (λ keyed. change_spelling keyed.1) changes) in
     let some : 0 < length (changes_spelling (changes_of table.name groups)) = omega (arith, h.shorter, first, change_takes_a_byte change.1) in (
       record {
-        changes = (h.normal.0, h.entries read.0);
+        changes = (h.normal.ordered, h.entries read.0);
         some = λ e. cc;
         header = header_of table groups shape.0 fits some;
       },

@@ -1,10 +1,8 @@
 pub mod Changes
-pub mod FirstTables
 pub mod Headers
 pub mod Laws
 pub mod Normal
 pub mod NormalForm
 pub mod NormalFormOf
-pub mod Prepared
 pub mod State
-pub mod TableByTable
+pub mod Steps

@@ -1,5 +1,5 @@
 -- The normal form of changes as read: of one change, and of the changes of one table.
-use Rattle.std.specs.Prelude.{◌≡◌, ℕ, Bool, true, false, not, ◌&&◌, ◌||◌, List, [], ◌∷◌, ◌++◌, map, Option, Some, None, if◌then◌else◌}
+use Rattle.std.specs.Prelude.{◌≡◌, ℕ, Bool, true, false, not, ◌&&◌, ◌||◌, List, [], ◌∷◌, ◌++◌, map, Option, Some, None, Contains, ◌↔◌, if◌then◌else◌}
 use Rattle.std.specs.List.{list_all, list_any, IsDistinct}
 use Rattle.cs_value.specs.declared.value.Value.{Value}
 use Rattle.cs_value.specs.declared.value.Value.TheVariants.{Null}
@@ -10,7 +10,7 @@ use Rattle.cs_change.specs.Columns.{is_defined, is_blank}
 use Rattle.cs_change.specs.Then.{is_idle}
 use Rattle.cs_change.specs.declared.change.Change.{Change}
 use Rattle.cs_change.specs.declared.change.Change.TheVariants.{Insert, Delete, Update}
-use Rattle.cs_normal.specs.Changes.{Changes, key_bytes, same_bytes, change_at, IsOrdered}
+use Rattle.cs_normal.specs.Changes.{Changes, key_bytes, same_bytes, IsOrdered}
 use Rattle.cs_normal.specs.declared.unfit.Unfit.{Unfit}
 use Rattle.cs_normal.specs.declared.unfit.Unfit.TheVariants as unfit
 
@@ -60,11 +60,6 @@ normal_form marks (Delete flag old) = Some (Delete flag old)
 normal_form marks (Update flag old new) =
     update_unless_blank flag (normal_olds marks old new) (normal_news marks old new)
 
--- the same where there may be no change
-abbrev pub normal_form_any : List Bool → Option Change → Option Change
-normal_form_any marks None = None
-normal_form_any marks (Some change) = normal_form marks change
-
 -- no value of its key is NULL
 abbrev pub has_key : List Bool → Change → Bool
 has_key marks change = list_all is_set (change_key marks change)
@@ -73,20 +68,18 @@ has_key marks change = list_all is_set (change_key marks change)
 abbrev pub change_bytes : List Bool → Change → List ℕ
 change_bytes marks change = key_bytes (change_key marks change)
 
--- the changes behind the bytes of their keys
-abbrev pub keyed : List Bool → List Change → Changes
-keyed marks [] = []
-keyed marks (c ∷ changes) = (change_bytes marks c, c) ∷ keyed marks changes
-
 -- each change has a key of its own without NULL
 abbrev pub AreKeyed : List Bool → List Change → Type 0
 AreKeyed marks changes =
     (list_all (has_key marks) changes ≡ true) × IsDistinct same_bytes (map (change_bytes marks) changes)
 
--- these are the changes as read in normal form: at each key the normal form of the one that was read
-abbrev pub IsNormalOf : List Bool → List Change → Changes → Type 0
-IsNormalOf marks changes normal =
-    IsOrdered normal × ((key : List ℕ) → change_at key normal ≡ normal_form_any marks (change_at key (keyed marks changes)))
+-- these are the changes as read in normal form: each of those has a key of its own; in the order of the keys' bytes
+-- there stands behind a key the normal form of the change that was read with it, and nothing else
+pub record IsNormalOf (marks : List Bool) (changes : List Change) (form : Changes) : Type 0 where
+  pub keyed : AreKeyed marks changes
+  pub ordered : IsOrdered form
+  pub each : (key : List ℕ) (change : Change) → Contains form (key, change)
+      ↔ ((read : Change) × Contains changes read × (change_bytes marks read ≡ key) × (normal_form marks read ≡ Some change))
 
 -- what is wrong with a change behind those
 abbrev pub IsUnfitChange : Unfit → List Bool → List Change → Change → Type 0

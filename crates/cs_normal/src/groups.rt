@@ -4,7 +4,7 @@ ghost use Rattle.std.specs.Prelude.{◌≡◌, ◌<◌, ◌≤◌, ◌↔◌, �
 ghost use Rattle.cs_change.specs.Spelling.{FitsChangeset, changeset_spelling, marks_of};
 ghost use Rattle.cs_normal.specs.Normal.{normal_spelling};
 ghost use Rattle.cs_normal.specs.NormalFormOf.{HasTable, HaveTables, HaveKeys, IsNormalFormOf, IsUnfit};
-ghost use Rattle.cs_normal.specs.TableByTable.{AreTablesOf, AnyUnfit, HasTableFault, IsUnfitHeader, table_changes};
+ghost use Rattle.cs_normal.specs.Steps.TableByTable.{AreTablesOf, AnyUnfit, HasTableFault, IsUnfitHeader, table_changes};
 
 use crate::changes::KeyedChange;
 use crate::normal::{Normal, TableChanges};

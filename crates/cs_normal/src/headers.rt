@@ -5,7 +5,7 @@ ghost use Rattle.std.specs.List.{list_any};
 ghost use Rattle.std.specs.Str.{bytes_eq};
 ghost use Rattle.cs_change.specs.Spelling.{marks_of};
 ghost use Rattle.cs_normal.specs.Headers.{header, headers, tables_of_headers, AreTwoShapes, HasTwoShapes, HasHeaderFault};
-ghost use Rattle.cs_normal.specs.FirstTables.{with_new, AreFirstTables, NeighboursDiffer};
+ghost use Rattle.cs_normal.specs.Steps.FirstTables.{with_new, AreFirstTables, NeighboursDiffer};
 ghost use Rattle.cs_normal.specs.declared.headers.HeaderFault.TheVariants.{Memory as OutOfMemory};
 
 use crate::comparing::{same_marks, same_name};

@@ -9,8 +9,8 @@ ghost use Rattle.cs_normal.specs.Changes.{key_bytes};
 ghost use Rattle.cs_normal.specs.NormalForm.{changes_value, change_key, has_key, change_bytes, marked_fields, value_or_null, normal_old, normal_new, normal_olds, normal_news, normal_form, AreKeyed, IsNormalOf, AreUnfit};
 ghost use Rattle.std.specs.Str.{bytes_eq};
 ghost use Rattle.cs_normal.specs.NormalFormOf.{changes_of};
-ghost use Rattle.cs_normal.specs.TableByTable.{IsTableOf};
-ghost use Rattle.cs_normal.specs.Prepared.{prepared, all_keyed, kept, rises};
+ghost use Rattle.cs_normal.specs.Steps.TableByTable.{IsTableOf};
+ghost use Rattle.cs_normal.specs.Steps.Prepared.{prepared, all_keyed, kept, rises};
 
 use crate::changes::{Bytes, KeyedChange};
 use crate::unfit::Unfit;
@@ -209,7 +209,7 @@ fn normal_change(alloc: Global, marks: &[bool], change: &Change) -> Result<Optio
 }
 
 /// Appends the changes before the first one without a key, each prepared, and tells whether these are all.
-#[tactic(auto, unfolding(crate::specs::Prepared::prepared, crate::specs::Prepared::all_keyed))]
+#[tactic(auto, unfolding(crate::specs::Steps::Prepared::prepared, crate::specs::Steps::Prepared::all_keyed))]
 fn prepare(
     alloc: Global,
     marks: &[bool],
@@ -262,7 +262,7 @@ fn prepare_table(
 }
 
 /// Whether each key is below the next.
-#[tactic(auto, unfolding(crate::specs::Prepared::rises, crate::specs::Prepared::rises_from))]
+#[tactic(auto, unfolding(crate::specs::Steps::Prepared::rises, crate::specs::Steps::Prepared::rises_from))]
 fn keys_rise(entries: &[Prepared]) -> bool
     ensures { result ≡ rises entries.now }
 {
@@ -281,7 +281,7 @@ fn keys_rise(entries: &[Prepared]) -> bool
     true
 }
 
-#[tactic(auto, unfolding(crate::specs::Prepared::kept))]
+#[tactic(auto, unfolding(crate::specs::Steps::Prepared::kept))]
 fn keep_one(
     key: Bytes,
     change: Option<Change>,
@@ -296,7 +296,7 @@ fn keep_one(
 }
 
 /// The changes that are left.
-#[tactic(auto, using(crate::proofs::NormalLaws::kept_append), unfolding(crate::specs::Prepared::kept))]
+#[tactic(auto, using(crate::proofs::NormalLaws::kept_append), unfolding(crate::specs::Steps::Prepared::kept))]
 fn keep(alloc: Global, entries: Vec<Prepared>) -> Result<Vec<KeyedChange>, Memory>
     ensures { IfOk result (λ changes. changes.items ≡ kept entries.items) }
 {

@@ -1,4 +1,4 @@
-use Rattle.cs_group.specs.TableByTable.{IsNormalJoinOf}
+use Rattle.cs_group.specs.Steps.TableByTable.{IsNormalJoinOf}
 use Rattle.cs_group.proofs.PerTable.{list_fits, made_fits, made_normal, made_each}
 use Rattle.cs_group.proofs.group.join.Goals as goal
 

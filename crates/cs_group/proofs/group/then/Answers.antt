@@ -1,4 +1,4 @@
-use Rattle.cs_group.specs.TableByTable.{IsThenOf}
+use Rattle.cs_group.specs.Steps.TableByTable.{IsThenOf}
 use Rattle.cs_group.specs.Tables.{AreThen}
 use Rattle.cs_group.proofs.PerTable.{has_normal, made_fits, made_normal, made_each}
 use Rattle.cs_group.proofs.group.then.Goals as goal

@@ -1,5 +1,5 @@
 use Rattle.std.proofs.Common.{◌∙◌, refl, sym, subst}
-use Rattle.cs_group.specs.Joining.{seen, IsAdded}
+use Rattle.cs_group.specs.Steps.Joining.{seen, IsAdded}
 use Rattle.cs_normal.specs.Changes.{IsEntry}
 use Rattle.cs_group.proofs.Joined.{same_self, is_added, still_entries, on_ok, on_ok_both}
 use Rattle.cs_group.proofs.joining.add_change.Goals as goal

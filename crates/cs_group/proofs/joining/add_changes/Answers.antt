@@ -1,5 +1,5 @@
 use Rattle.std.proofs.Common.{◌∙◌}
-use Rattle.cs_group.specs.Joining.{seen}
+use Rattle.cs_group.specs.Steps.Joining.{seen}
 use Rattle.cs_group.proofs.Joined.{added_then, ordered_rest}
 use Rattle.cs_group.proofs.joining.add_changes.Goals as goal
 

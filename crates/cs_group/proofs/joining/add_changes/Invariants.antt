@@ -2,7 +2,7 @@ use Rattle.std.proofs.Common.{◌≡◌, ℕ, List, length}
 use Rattle.std.specs.List.{AllByRecursion}
 use Rattle.cs_normal.specs.Changes.{change_at, IsOrdered, IsEntry}
 use Rattle.cs_group.specs.Combine.{then_change_any}
-use Rattle.cs_group.specs.Joining.{seen, IsReady}
+use Rattle.cs_group.specs.Steps.Joining.{seen, IsReady}
 use Rattle.cs_group.proofs.joining.add_changes.Given as goal
 
 abbrev pub invariant-loop-keyed : goal.invariant-loop-keyed

@@ -1,5 +1,5 @@
 use Rattle.std.proofs.Common.{refl}
-use Rattle.cs_group.specs.Joining.{seen}
+use Rattle.cs_group.specs.Steps.Joining.{seen}
 use Rattle.cs_group.proofs.Joined.{nothing_ready, joined_end}
 use Rattle.cs_group.proofs.MergeSteps.{if_ok}
 use Rattle.cs_group.proofs.joining.join_table.Goals as goal

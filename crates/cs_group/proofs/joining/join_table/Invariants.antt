@@ -2,8 +2,8 @@ use Rattle.std.proofs.Common.{◌≡◌, ℕ, List, fold, length}
 use Rattle.std.specs.List.{AllByRecursion}
 use Rattle.cs_normal.specs.Changes.{change_at}
 use Rattle.cs_group.specs.Combine.{then_change_any}
-use Rattle.cs_group.specs.Joining.{seen, IsReady}
-use Rattle.cs_group.specs.TableByTable.{FitsTable}
+use Rattle.cs_group.specs.Steps.Joining.{seen, IsReady}
+use Rattle.cs_group.specs.Steps.TableByTable.{FitsTable}
 use Rattle.cs_group.specs.Tables.{changes_along, then_change_all}
 use Rattle.cs_group.proofs.joining.join_table.Given as goal
 

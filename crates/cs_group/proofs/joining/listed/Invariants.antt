@@ -1,6 +1,6 @@
 use Rattle.std.proofs.Common.{◌≡◌, ◌++◌}
 use Rattle.std.specs.BTreeMap.{btree_map_len}
-use Rattle.cs_group.specs.Joining.{seen}
+use Rattle.cs_group.specs.Steps.Joining.{seen}
 use Rattle.cs_group.proofs.joining.listed.Given as goal
 
 abbrev pub invariant-loop-key : goal.invariant-loop-key

@@ -1,4 +1,4 @@
-use Rattle.cs_group.specs.Joining.{seen}
+use Rattle.cs_group.specs.Steps.Joining.{seen}
 use Rattle.cs_group.proofs.Joined.{nothing_put}
 use Rattle.cs_group.proofs.joining.put_any.Goals as goal
 

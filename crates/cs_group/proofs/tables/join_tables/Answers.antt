@@ -1,4 +1,4 @@
-use Rattle.cs_group.specs.TableByTable.{IsNormalJoinOf}
+use Rattle.cs_group.specs.Steps.TableByTable.{IsNormalJoinOf}
 use Rattle.cs_group.proofs.PerTable.{made_none, made_more, made_all}
 use Rattle.cs_group.proofs.tables.join_tables.Goals as goal
 

@@ -1,4 +1,4 @@
-use Rattle.cs_group.specs.TableByTable.{IsThenOf}
+use Rattle.cs_group.specs.Steps.TableByTable.{IsThenOf}
 use Rattle.cs_group.proofs.PerTable.{made_none, made_more, made_all}
 use Rattle.cs_group.proofs.tables.then_tables.Goals as goal
 

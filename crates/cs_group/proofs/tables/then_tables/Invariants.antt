@@ -1,6 +1,6 @@
 use Rattle.std.proofs.Common.{length}
 use Rattle.std.specs.List.{AllByRecursion}
-use Rattle.cs_group.specs.TableByTable.{IsThenOf, HasNormal}
+use Rattle.cs_group.specs.Steps.TableByTable.{IsThenOf, HasNormal}
 use Rattle.cs_group.proofs.PerTable.{Completes}
 use Rattle.cs_group.proofs.tables.then_tables.Given as goal
 

@@ -1,5 +1,5 @@
 use Rattle.std.proofs.Common.{◌≡◌, length}
-use Rattle.cs_normal.specs.Prepared.{rises, rises_from}
+use Rattle.cs_normal.specs.Steps.Prepared.{rises, rises_from}
 use Rattle.cs_normal.proofs.normal_form.keys_rise.Given as goal
 
 abbrev pub invariant-loop-next : goal.invariant-loop-next

@@ -4,8 +4,8 @@ use Rattle.std.proofs.lemmas.List.Sorted.{ranks_by, answers_always}
 use Rattle.std.proofs.lemmas.Cmp.{nat_list_cmp_total}
 use Rattle.cs_change.specs.declared.change.Change.{Change}
 use Rattle.cs_normal.specs.NormalFormOf.{changes_of}
-use Rattle.cs_normal.specs.Prepared.{Entries, prepared, rises}
-use Rattle.cs_normal.specs.TableByTable.{IsTableOf}
+use Rattle.cs_normal.specs.Steps.Prepared.{Entries, prepared, rises}
+use Rattle.cs_normal.specs.Steps.TableByTable.{IsTableOf}
 use Rattle.cs_normal.proofs.NormalLaws.{prepared_distinct}
 use Rattle.cs_normal.proofs.Faults.{null_fault, twice_fault, key_below}
 use Rattle.cs_normal.proofs.Gathered.{is_table_of}

@@ -1,5 +1,5 @@
 use Rattle.std.proofs.Common.{◌≡◌, ◌++◌, length}
-use Rattle.cs_normal.specs.Prepared.{prepared, all_keyed}
+use Rattle.cs_normal.specs.Steps.Prepared.{prepared, all_keyed}
 use Rattle.cs_normal.proofs.normal_form.prepare.Given as goal
 
 abbrev pub invariant-loop-change : goal.invariant-loop-change

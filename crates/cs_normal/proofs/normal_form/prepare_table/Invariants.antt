@@ -1,6 +1,6 @@
 use Rattle.std.proofs.Common.{◌≡◌, ◌++◌, length}
 use Rattle.cs_normal.specs.NormalFormOf.{changes_of}
-use Rattle.cs_normal.specs.Prepared.{prepared, all_keyed}
+use Rattle.cs_normal.specs.Steps.Prepared.{prepared, all_keyed}
 use Rattle.cs_normal.proofs.normal_form.prepare_table.Given as goal
 
 abbrev pub invariant-loop-group : goal.invariant-loop-group

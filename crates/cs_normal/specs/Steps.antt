@@ -1,0 +1,4 @@
+-- What the code holds on its way: no definition that a public clause cites.
+pub mod FirstTables
+pub mod Prepared
+pub mod TableByTable
