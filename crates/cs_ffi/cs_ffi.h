@@ -38,7 +38,7 @@ enum cs_ffi_fault {
     CS_FFI_SHAPE = 31,          /* the table of the group's name has another column count or other key columns */
     CS_FFI_NULL_KEY = 32,       /* a change has NULL at a key column */
     CS_FFI_KEY_TWICE = 33,      /* two changes of one table have one key */
-    CS_FFI_NO_TABLES = 50,      /* the declared tables are no changeset, or the headers are no tables */
+    CS_FFI_NO_TABLES = 50,      /* the declaring bytes are no changeset, or headers are no catalog's */
     CS_FFI_LENGTHS = 51         /* the lengths of the inputs don't add up to the bytes */
 };
 
@@ -58,11 +58,11 @@ struct cs_ffi_answer cs_ffi_decode(const uint8_t *input, size_t input_length);
 struct cs_ffi_answer cs_ffi_reencode(const uint8_t *input, size_t input_length, uint8_t *output, size_t output_length);
 
 /* Brings a changeset into normal form and writes that to the front of the output: for each declared table, in their
- * order, its changes, one a key, in the order of the keys' bytes, each in its shortest form. The tables are declared by
- * the headers of another changeset, one group each; its changes, if it has any, don't matter. The count is that of the
- * bytes that the normal form takes, at most as many as the input's. Where the output has no room for them, and beside a
- * fault, nothing is written. The tables are judged first, then the bytes of the input (faults 2 to 14 and their offset
- * are the input's), then the changeset (faults 30 to 33, without an offset). */
+ * order, its changes, one a key, in the order of the keys' bytes, each in its shortest form. The tables are those that the
+ * headers of another changeset tell of, in the order in which each name first comes; its changes, if it has any, don't
+ * matter. The count is that of the bytes that the normal form takes, at most as many as the input's. Where the output has
+ * no room for them, and beside a fault, nothing is written. The tables are judged first (fault 50), then the bytes of the
+ * input (faults 2 to 14 and their offset are the input's), then the changeset (faults 30 to 33, without an offset). */
 struct cs_ffi_answer cs_ffi_normalise(const uint8_t *declared, size_t declared_length, const uint8_t *input,
                                       size_t input_length, uint8_t *output, size_t output_length);
 

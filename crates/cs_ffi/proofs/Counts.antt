@@ -6,11 +6,11 @@ use Rattle.cs_change.specs.Spelling.{change_spelling, changes_spelling, group_sp
 use Rattle.cs_change.specs.declared.change.Change.{Change}
 use Rattle.cs_change.specs.declared.change.Change.TheVariants.{Insert, Delete, Update}
 use Rattle.cs_change.specs.declared.group.Group.{Group}
-use Rattle.cs_changeset.specs.Reading.{TellsChangesetFault}
+use Rattle.cs_changeset.specs.Reading.{ReadsChangeset, TellsChangesetFault}
 use Rattle.cs_changeset.specs.declared.fault.Fault.{Fault}
 use Rattle.cs_changeset.specs.declared.fault.CodecFault.{CodecFault}
 use Rattle.cs_changeset.specs.declared.fault.CodecFault.TheVariants.{Memory, At}
-use Rattle.cs_ffi.specs.Answers.{change_count, answer_of, refused, TellsFault}
+use Rattle.cs_ffi.specs.Answers.{change_count, answer_of, refused, IsRefusal, TellsFault}
 use Rattle.cs_ffi.specs.declared.answer.Answer.{Answer}
 
 change-spelled : (change : Change) → 1 ≤ length (change_spelling change)
@@ -46,3 +46,8 @@ tells-answer (At f at) fault offset told = inl (grind (arith, told.0, told.1))
 pub tells-behind : (at : ℕ) (found fault : Fault) (there offset : ℕ) (answer : Answer) → answer ≡ refused found (at + there) → (found ≡ fault) × (there ≡ offset) → TellsFault fault (at + offset) answer
 tells-behind at found fault there offset answer is told =
     inl (is ∙ ap (λ (f : Fault). refused f (at + there)) told.0 ∙ ap (λ (o : ℕ). refused fault (at + o)) told.1)
+
+-- the fault that the reader tells is the refusal that is answered
+pub told-refusal : (found : CodecFault) (bytes : List ℕ) → ReadsChangeset bytes (Err found) → IsRefusal bytes (answer_of found)
+told-refusal Memory bytes told = inl refl
+told-refusal (At fault offset) bytes told = inr (fault, offset, told, refl)

@@ -20,8 +20,8 @@ use Rattle.cs_group.specs.Inverse.{inverse_changeset}
 use Rattle.cs_group.specs.declared.combining.CombineFault.{CombineFault}
 use Rattle.cs_group.specs.declared.combining.CombineFault.TheVariants as in_all
 use Rattle.cs_ffi.specs.Answers.{no_memory, read, refused, change_count, Spell, IsRefusal, IsHanded, UpToMemory}
-use Rattle.cs_ffi.specs.CombinedAnswers.{combine_answer, IsCut, IsCombineRefusal, IsInverseRefusal, IsPartRefusal, NotCombined, SpellCombined, SpellInverse}
-use Rattle.cs_ffi.specs.NormalAnswers.{unfit_answer, Declare, DeclareNone, HasNoForm, IsNormalRefusal, SpellForm, SpellNormal}
+use Rattle.cs_ffi.specs.CombinedAnswers.{combine_answer, AnswersCombined, AnswersInverse, IsCut, IsCombineRefusal, IsInverseRefusal, IsPartRefusal, NotCombined, SpellCombined, SpellInverse}
+use Rattle.cs_ffi.specs.NormalAnswers.{unfit_answer, AnswersNormal, Declare, DeclareNone, HasNoForm, IsNormalRefusal, SpellForm, SpellNormal}
 use Rattle.cs_ffi.specs.Laws.{AnswerLaws, OneCount, OneCopy, OneNormalAnswer, OneCombinedAnswer, OneInverseAnswer}
 use Rattle.cs_ffi.specs.declared.answer.Answer.{Answer}
 use Rattle.cs_ffi.proofs.PartFaults.{one_cut, no_part_fault, one_part_fault}
@@ -317,3 +317,22 @@ answer_laws laws = record {
   combined = one_combined_answer laws;
   inverse = one_inverse_answer laws;
 }
+
+-- ---- what is owed is told
+
+without_content : {one other : Answer} {after last : List ℕ} → UpToMemory one other ((one ≡ other) × (after ≡ last)) → Same one other
+without_content (inl m) = inl m
+without_content (inr (inl m)) = inr (inl m)
+without_content (inr (inr is)) = inr (inr is.0)
+
+pub normal_told : AnswerLaws → (declared input before after : List ℕ) (result answer : Answer) → AnswersNormal declared input before after result → IsNormalRefusal declared input answer → UpToMemory result answer (result ≡ answer)
+normal_told laws declared input before after result answer answers owed =
+    without_content (laws.normal declared input before after before result answer answers (inr (owed, refl)))
+
+pub combined_told : AnswerLaws → (lengths inputs before after : List ℕ) (result answer : Answer) → AnswersCombined lengths inputs before after result → IsCombineRefusal lengths inputs answer → UpToMemory result answer (result ≡ answer)
+combined_told laws lengths inputs before after result answer answers owed =
+    without_content (laws.combined lengths inputs before after before result answer answers (inr (owed, refl)))
+
+pub inverse_told : AnswerLaws → (input before after : List ℕ) (result answer : Answer) → AnswersInverse input before after result → IsInverseRefusal input answer → UpToMemory result answer (result ≡ answer)
+inverse_told laws input before after result answer answers owed =
+    without_content (laws.inverse input before after before result answer answers (inr (owed, refl)))

@@ -5,12 +5,14 @@ ghost use Rattle.cs_change.specs.Spelling.{changeset_spelling};
 ghost use Rattle.cs_change.specs.declared.group.Group.{Group};
 ghost use Rattle.cs_changeset.specs.Reading.{IsChangesetFault};
 ghost use Rattle.cs_changeset.specs.declared.fault.Fault.{Fault};
-ghost use Rattle.cs_ffi.specs.Answers.{AnswersAgain, AnswersCount, change_count, Spell, TellsCount, TellsFault};
-ghost use Rattle.cs_ffi.specs.CombinedAnswers.{AnswersCombined, AnswersInverse, AreFitInputs, IsFitAlone, wrong_lengths};
-ghost use Rattle.cs_ffi.specs.NormalAnswers.{AnswersNormal, IsFitInput, TellsNoFault};
+ghost use Rattle.cs_ffi.specs.Answers.{AnswersAgain, AnswersCount, change_count, Spell, TellsCount, TellsFault, UpToMemory};
+ghost use Rattle.cs_ffi.specs.CombinedAnswers.{AnswersCombined, AnswersInverse, AreFitInputs, IsCombineRefusal, IsFitAlone, IsInverseRefusal, wrong_lengths};
+ghost use Rattle.cs_ffi.specs.NormalAnswers.{AnswersNormal, IsFitInput, IsNormalRefusal, TellsNoFault};
+ghost use Rattle.cs_ffi.specs.declared.answer.Answer.{Answer};
 
 use crate::answer::Answer;
 use crate::combined::{write_combined, write_inverse};
+use crate::laws::answers;
 use crate::normal::write_normal;
 use crate::reading::{count, reencode};
 use std::alloc::Global;
@@ -47,8 +49,11 @@ pub extern "C" fn cs_ffi_normalise(
     output: &mut [u8],
 ) -> Answer
     ensures answers { AnswersNormal declared.now input.now output.old output.new result }
+    ensures refused { (owed : Answer) → IsNormalRefusal declared.now input.now owed → UpToMemory result owed (result ≡ owed) }
     ensures fit { IsFitInput declared.now input.now → TellsNoFault result }
 {
+    // What is refused is refused in one way: a law, for the proof.
+    answers();
     write_normal(alloc, declared, input, output)
 }
 
@@ -62,9 +67,12 @@ pub extern "C" fn cs_ffi_combine(
     output: &mut [u8],
 ) -> Answer
     ensures answers { AnswersCombined lengths.now inputs.now output.old output.new result }
+    ensures refused { (owed : Answer) → IsCombineRefusal lengths.now inputs.now owed → UpToMemory result owed (result ≡ owed) }
     ensures lengths { sum lengths.now ≢ length inputs.now → result ≡ wrong_lengths }
     ensures fit { AreFitInputs lengths.now inputs.now → TellsNoFault result }
 {
+    // What is refused is refused in one way: a law, for the proof.
+    answers();
     write_combined(alloc, inputs, lengths, output)
 }
 
@@ -74,7 +82,10 @@ pub extern "C" fn cs_ffi_combine(
 pub extern "C" fn cs_ffi_invert(alloc: Global, input: &[u8], output: &mut [u8]) -> Answer
     ensures answers { AnswersInverse input.now output.old output.new result }
     ensures told { (fault : Fault) (offset : ℕ) → IsChangesetFault fault offset input.now → TellsFault fault offset result }
+    ensures refused { (owed : Answer) → IsInverseRefusal input.now owed → UpToMemory result owed (result ≡ owed) }
     ensures fit { IsFitAlone input.now → TellsNoFault result }
 {
+    // What is refused is refused in one way: a law, for the proof.
+    answers();
     write_inverse(alloc, input, output)
 }

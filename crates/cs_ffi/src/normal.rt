@@ -25,11 +25,14 @@ fn read_catalog(alloc: Global, declared: &[u8]) -> Result<Catalog, Answer>
         Err(CodecFault::Memory) => return Err(Answer::no_memory()),
         Err(CodecFault::At { .. }) => return Err(Answer::no_tables()),
     };
-    let catalog = match catalog_of(alloc, slice::from_ref(&changeset)) {
-        Ok(catalog) => catalog,
-        Err(fault) => return Err(Answer::undeclared(fault)),
-    };
-    Ok(catalog)
+    match catalog_of(alloc, slice::from_ref(&changeset)) {
+        Ok(catalog) => {
+            // That they are a catalog's tables, for the proof.
+            let _ = catalog.tables();
+            Ok(catalog)
+        }
+        Err(fault) => Err(Answer::undeclared(fault)),
+    }
 }
 
 /// The spelling of the normal form of a changeset.
