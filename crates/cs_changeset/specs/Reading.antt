@@ -71,14 +71,17 @@ IsHeaderFault fault offset bytes = (flaw : HeaderFlaw) × (fault ≡ of_header f
 
 -- ---- changes; the bytes stand in a change's place
 
--- the old record of an UPDATE is wrong, or it is right and the new one is wrong
+-- the old record of an UPDATE is right, and the new one behind it is wrong
+abbrev pub IsNewRecordFault : List Bool → Fault → ℕ → List ℕ → Type 0
+IsNewRecordFault marks =
+    FaultBehind record_of (AreRight (old_rules marks)) (λ old. IsColumnsFault (new_rules marks old))
+
+-- what is wrong with the records of an UPDATE
 abbrev pub IsUpdateFault : List Bool → Fault → ℕ → List ℕ → Type 0
 IsUpdateFault marks fault offset bytes =
-    IsColumnsFault (old_rules marks) fault offset bytes
-    ⊎ FaultBehind record_of (AreRight (old_rules marks)) (λ old. IsColumnsFault (new_rules marks old))
-    fault offset bytes
+    IsColumnsFault (old_rules marks) fault offset bytes ⊎ IsNewRecordFault marks fault offset bytes
 
--- what is wrong with the records of an operation
+-- what is wrong with the row of an INSERT or a DELETE, or with the records of an UPDATE
 abbrev pub IsRecordsFault : List Bool → ℕ → Fault → ℕ → List ℕ → Type 0
 IsRecordsFault marks operation fault offset bytes =
     (((operation ≡ 18) ⊎ (operation ≡ 9)) × IsColumnsFault (row_rules marks) fault offset bytes)
@@ -106,15 +109,14 @@ IsChangeFault marks fault offset (operation ∷ rest) =
 
 -- whole changes, and behind them something that is wrong in a change's place
 abbrev pub IsChangesFault : List Bool → Fault → ℕ → List ℕ → Type 0
-IsChangesFault marks fault offset bytes =
-    FaultBehind changes_spelling (AllByRecursion (FitsChange marks)) (λ _. IsChangeFault marks) fault offset bytes
+IsChangesFault marks =
+    FaultBehind changes_spelling (AllByRecursion (FitsChange marks)) (λ _. IsChangeFault marks)
 
 -- a whole header of these column bytes and this name, and behind it changes with a fault
 abbrev pub IsBodyFault : Fault → ℕ → List ℕ → Type 0
-IsBodyFault fault offset bytes =
+IsBodyFault =
     FaultBehind (λ (header : List ℕ × List ℕ). header_spelling header.0 header.1)
     (λ header. FitsHeader header.0 header.1) (λ header. IsChangesFault (marks_of header.0))
-    fault offset bytes
 
 -- a group begins, and is wrong
 abbrev pub IsGroupFault : Fault → ℕ → List ℕ → Type 0
@@ -128,7 +130,7 @@ IsMarkFault fault offset (mark ∷ rest) =
 
 -- whole groups, and behind them one that is wrong
 abbrev pub IsGroupsFault : Fault → ℕ → List ℕ → Type 0
-IsGroupsFault fault offset bytes = FaultBehind changeset_spelling FitsChangeset (λ _. IsGroupFault) fault offset bytes
+IsGroupsFault = FaultBehind changeset_spelling FitsChangeset (λ _. IsGroupFault)
 
 -- the first fault of bytes that spell no changeset, and where it is told
 abbrev pub IsChangesetFault : Fault → ℕ → List ℕ → Type 0

@@ -1,7 +1,8 @@
 //! Changesets in the format of SQLite's session extension. `decode` and `encode` are exact: what is read is spelled by
 //! exactly the bytes that were read, what is refused is spelled by nothing, and the fault and its offset are the
-//! definition's. `normalise` gives the one normal form of a changeset by a catalog. A `LogEntry` is what a hub keeps.
-//! The crate stands on changes (`cs_change`) and normal forms (`cs_normal`), whose public items it hands on.
+//! definition's. `laws` says that bytes spell one changeset, or have one fault at one place. `normalise` gives the one
+//! normal form of a changeset by a catalog. A `LogEntry` is what a hub keeps. The crate stands on changes (`cs_change`)
+//! and normal forms (`cs_normal`), whose public items it hands on.
 #![tactic(auto)]
 
 mod changes;

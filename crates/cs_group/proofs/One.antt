@@ -6,7 +6,7 @@ use Rattle.cs_value.specs.Catalog.{AreTables}
 use Rattle.cs_value.specs.declared.catalog.TableDef.{TableDef}
 use Rattle.cs_change.specs.declared.group.Group.{Group}
 use Rattle.cs_normal.specs.Changes.{change_at}
-use Rattle.cs_normal.specs.Headers.{NoFaultWhereCatalog, OneHeaderFault}
+use Rattle.cs_normal.specs.Headers.{NoHeaderFaultWhereCatalog, OneHeaderFault}
 use Rattle.cs_normal.specs.Laws.{NoFaultWhereFit, OneNormal, OneNormalForm, OneUnfit}
 use Rattle.cs_normal.specs.Normal.{changes_in, change_of}
 use Rattle.cs_normal.specs.NormalFormOf.{AreFit}
@@ -69,7 +69,7 @@ none_unfit law fault tables (groups ∷ changesets) (normal ∷ normals) are for
 none_unfit law fault tables (groups ∷ changesets) (normal ∷ normals) are forms (inr h) =
     none_unfit law fault tables changesets normals are forms.1 h.1
 
-pub no_fault_where_combined : NoFaultWhereCatalog → NoFaultWhereFit → NoFaultWhereCombined
+pub no_fault_where_combined : NoHeaderFaultWhereCatalog → NoFaultWhereFit → NoFaultWhereCombined
 no_fault_where_combined headers fit changesets both Memory is h = refl
 no_fault_where_combined headers fit changesets both (Headers fault) is h = absurd (h.0 (headers fault _ is.catalog h.1))
 no_fault_where_combined headers fit changesets both (NoForm fault) is h =
@@ -77,7 +77,7 @@ no_fault_where_combined headers fit changesets both (NoForm fault) is h =
 
 -- what the laws of changesets in normal form say of faults
 pub record FaultLaws : Type 0 where
-  pub headers : NoFaultWhereCatalog
+  pub headers : NoHeaderFaultWhereCatalog
   pub header : OneHeaderFault
   pub fit : NoFaultWhereFit
   pub unfit : OneUnfit
