@@ -19,7 +19,7 @@ use Rattle.cs_group.specs.Combined.{tables_of, IsCombined, HasCombineFault, NoFa
 use Rattle.cs_group.specs.Inverse.{inverse_changeset}
 use Rattle.cs_group.specs.declared.combining.CombineFault.{CombineFault}
 use Rattle.cs_group.specs.declared.combining.CombineFault.TheVariants as in_all
-use Rattle.cs_ffi.specs.Answers.{no_memory, read, refused, change_count, Spell, IsRefusal, IsHanded, UpToMemory}
+use Rattle.cs_ffi.specs.Answers.{no_memory, read, refused, change_count, Spell, IsRefusal, Hands, IsHanded, UpToMemory}
 use Rattle.cs_ffi.specs.CombinedAnswers.{combine_answer, AnswersCombined, AnswersInverse, IsCut, IsCombineRefusal, IsInverseRefusal, IsPartRefusal, NotCombined, SpellCombined, SpellInverse}
 use Rattle.cs_ffi.specs.NormalAnswers.{unfit_answer, AnswersNormal, Declare, DeclareNone, HasNoForm, IsNormalRefusal, SpellForm, SpellNormal}
 use Rattle.cs_ffi.specs.Laws.{AnswerLaws, OneCount, OneCopy, OneNormalAnswer, OneCombinedAnswer, OneInverseAnswer}
@@ -89,6 +89,19 @@ handed_alike : (bytes more before after last : List ℕ) (one other : Answer) �
     → UpToMemory one other ((one ≡ other) × (after ≡ last))
 handed_alike bytes more before after last one other is a l told told' =
     inr (inr (by_each told told' (ap (λ (b : List ℕ). read (length b)) is), one_handed more before after last (subst (λ (b : List ℕ). IsHanded b before after) is a) l))
+
+-- bytes of which there is one, and which nothing refuses, are handed over in one way
+one_hand : (AreMade : List ℕ → Type 0) (IsRefused : Answer → Type 0) → ((bytes more : List ℕ) → AreMade bytes → AreMade more → bytes ≡ more)
+    → ((bytes : List ℕ) (answer : Answer) → AreMade bytes → IsRefused answer → answer ≡ no_memory) → ((one other : Answer) → IsRefused one → IsRefused other → Same one other)
+    → (before after last : List ℕ) (one other : Answer) → Hands AreMade IsRefused before after one → Hands AreMade IsRefused before last other → UpToMemory one other ((one ≡ other) × (after ≡ last))
+one_hand AreMade IsRefused alike none refuse before after last one other (inl (bytes, m, h, a)) (inl (more, n, h', b)) =
+    handed_alike bytes more before after last one other (alike bytes more m n) h h' a b
+one_hand AreMade IsRefused alike none refuse before after last one other (inl (bytes, m, h, a)) (inr (r, kept)) =
+    inr (inl (none bytes other m r))
+one_hand AreMade IsRefused alike none refuse before after last one other (inr (r, kept)) (inl (bytes, m, h, a)) =
+    inl (none bytes one m r)
+one_hand AreMade IsRefused alike none refuse before after last one other (inr (r, kept)) (inr (r', kept')) =
+    unchanged kept kept' (refuse one other r r')
 
 -- ---- reading, and writing again
 
@@ -192,14 +205,8 @@ one_normal_refusal laws declared input one other (inr (inr (inr s))) (inr (inr (
     one_unfit laws declared input one other s o
 
 one_normal_answer : Below → OneNormalAnswer
-one_normal_answer laws declared input before after last one other (inl (bytes, s, h, a)) (inl (more, o, h', b)) =
-    handed_alike bytes more before after last one other (one_form laws declared input bytes more s o) h h' a b
-one_normal_answer laws declared input before after last one other (inl (bytes, s, h, a)) (inr (r, kept)) =
-    inr (inl (no_normal_refusal laws declared input bytes other s r))
-one_normal_answer laws declared input before after last one other (inr (r, kept)) (inl (bytes, s, h, a)) =
-    inl (no_normal_refusal laws declared input bytes one s r)
-one_normal_answer laws declared input before after last one other (inr (r, kept)) (inr (s, kept')) =
-    unchanged kept kept' (one_normal_refusal laws declared input one other r s)
+one_normal_answer laws declared input =
+    one_hand (SpellNormal declared input) (IsNormalRefusal declared input) (one_form laws declared input) (no_normal_refusal laws declared input) (one_normal_refusal laws declared input)
 
 -- ---- taking together
 
@@ -268,16 +275,14 @@ one_combine_refusal laws lengths inputs one other (inr (inr (inr (changesets, cu
 one_combine_refusal laws lengths inputs one other (inr (inr (inr (some, cut, not)))) (inr (inr (inr (others, cut', not')))) =
     one_not_combined laws some others one other (one_cut laws.changesets lengths inputs some others cut cut') not not'
 
-one_combined_answer : Below → OneCombinedAnswer
-one_combined_answer laws lengths inputs before after last one other (inl (bytes, s, h, a)) (inl (more, o, h', b)) =
+one_together_spelled : Below → (lengths inputs bytes more : List ℕ) → SpellCombined lengths inputs bytes → SpellCombined lengths inputs more → bytes ≡ more
+one_together_spelled laws lengths inputs bytes more s o =
     let both = one_together laws s.changesets o.changesets s.both o.both (one_cut laws.changesets lengths inputs s.changesets o.changesets s.cut o.cut) s.combined o.combined in
-    handed_alike bytes more before after last one other (by_each s.spelled o.spelled (ap (λ (n : List TableChanges). normal_spelling n) both)) h h' a b
-one_combined_answer laws lengths inputs before after last one other (inl (bytes, s, h, a)) (inr (r, kept)) =
-    inr (inl (no_combine_refusal laws lengths inputs bytes other s r))
-one_combined_answer laws lengths inputs before after last one other (inr (r, kept)) (inl (bytes, s, h, a)) =
-    inl (no_combine_refusal laws lengths inputs bytes one s r)
-one_combined_answer laws lengths inputs before after last one other (inr (r, kept)) (inr (s, kept')) =
-    unchanged kept kept' (one_combine_refusal laws lengths inputs one other r s)
+    by_each s.spelled o.spelled (ap (λ (n : List TableChanges). normal_spelling n) both)
+
+one_combined_answer : Below → OneCombinedAnswer
+one_combined_answer laws lengths inputs =
+    one_hand (SpellCombined lengths inputs) (IsCombineRefusal lengths inputs) (one_together_spelled laws lengths inputs) (no_combine_refusal laws lengths inputs) (one_combine_refusal laws lengths inputs)
 
 -- ---- taking back
 
@@ -298,16 +303,14 @@ one_inverse_refusal laws input one other (inr (groups, spells, not)) (inl r) =
 one_inverse_refusal laws input one other (inr (some, spells, not)) (inr (others, spells', not')) =
     one_not_combined laws (some ∷ []) (others ∷ []) one other (one_alone laws.changesets input some others spells spells') not not'
 
-one_inverse_answer : Below → OneInverseAnswer
-one_inverse_answer laws input before after last one other (inl (bytes, s, h, a)) (inl (more, o, h', b)) =
+one_inverse_spelled : Below → (input bytes more : List ℕ) → SpellInverse input bytes → SpellInverse input more → bytes ≡ more
+one_inverse_spelled laws input bytes more s o =
     let alone = one_together laws (s.groups ∷ []) (o.groups ∷ []) s.alone o.alone (one_alone laws.changesets input s.groups o.groups s.spells o.spells) s.combined o.combined in
-    handed_alike bytes more before after last one other (by_each s.spelled o.spelled (ap (λ (n : List TableChanges). normal_spelling (inverse_changeset n)) alone)) h h' a b
-one_inverse_answer laws input before after last one other (inl (bytes, s, h, a)) (inr (r, kept)) =
-    inr (inl (no_inverse_refusal laws input bytes other s r))
-one_inverse_answer laws input before after last one other (inr (r, kept)) (inl (bytes, s, h, a)) =
-    inl (no_inverse_refusal laws input bytes one s r)
-one_inverse_answer laws input before after last one other (inr (r, kept)) (inr (s, kept')) =
-    unchanged kept kept' (one_inverse_refusal laws input one other r s)
+    by_each s.spelled o.spelled (ap (λ (n : List TableChanges). normal_spelling (inverse_changeset n)) alone)
+
+one_inverse_answer : Below → OneInverseAnswer
+one_inverse_answer laws input =
+    one_hand (SpellInverse input) (IsInverseRefusal input) (one_inverse_spelled laws input) (no_inverse_refusal laws input) (one_inverse_refusal laws input)
 
 pub answer_laws : Below → AnswerLaws
 answer_laws laws = record {

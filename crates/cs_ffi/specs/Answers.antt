@@ -30,7 +30,8 @@ answer_of (At fault offset) = refused fault offset
 -- the first fault of the bytes, or want of memory
 abbrev pub IsRefusal : List ℕ → Answer → Type 0
 IsRefusal bytes answer =
-    (answer ≡ no_memory) ⊎ ((fault : Fault) × (offset : ℕ) × IsChangesetFault fault offset bytes × (answer ≡ refused fault offset))
+    (answer ≡ no_memory)
+    ⊎ ((fault : Fault) × (offset : ℕ) × IsChangesetFault fault offset bytes × (answer ≡ refused fault offset))
 
 -- how many changes the groups have
 abbrev pub change_count : List Group → ℕ
@@ -50,11 +51,18 @@ pub record IsHanded (bytes before after : List ℕ) : Type 0 where
   pub room : length bytes ≤ length before → after ≡ bytes ++ drop (length bytes) before
   pub no_room : length before < length bytes → after ≡ before
 
+-- bytes that were made are handed over and their length told, or nothing is written and it is told why
+abbrev pub Hands : (List ℕ → Type 0) → (Answer → Type 0) → List ℕ → List ℕ → Answer → Type 0
+Hands AreMade IsRefused before after answer =
+    ((bytes : List ℕ) × AreMade bytes × IsHanded bytes before after × (answer ≡ read (length bytes)))
+    ⊎ (IsRefused answer × (after ≡ before))
+
 -- the answer of writing again: the spelling of what was read is handed over and its length told, or nothing is
 -- written and it is told why
 abbrev pub AnswersAgain : List ℕ → List ℕ → List ℕ → Answer → Type 0
 AnswersAgain bytes before after answer =
-    ((groups : List Group) × Spell bytes groups × IsHanded (changeset_spelling groups) before after × (answer ≡ read (length (changeset_spelling groups))))
+    ((groups : List Group) × Spell bytes groups × IsHanded (changeset_spelling groups) before after
+    × (answer ≡ read (length (changeset_spelling groups))))
     ⊎ (IsRefusal bytes answer × (after ≡ before))
 
 -- this count is told, or memory is wanting

@@ -17,7 +17,7 @@ use Rattle.cs_group.specs.Inverse.{inverse_changeset}
 use Rattle.cs_group.specs.declared.combining.CombineFault.{CombineFault}
 use Rattle.cs_group.specs.declared.combining.CombineFault.TheVariants.{Memory, Headers, Unfit as NoForm}
 use Rattle.cs_ffi.specs.declared.answer.Answer.{Answer}
-use Rattle.cs_ffi.specs.Answers.{no_memory, read, refused, Spell, IsRefusal, IsHanded}
+use Rattle.cs_ffi.specs.Answers.{no_memory, refused, Spell, IsRefusal, Hands}
 use Rattle.cs_ffi.specs.NormalAnswers.{unfit_number}
 
 -- the number of the reason why there is no catalog of the headers
@@ -76,7 +76,8 @@ IsPartRefusal lengths bytes answer =
 abbrev pub ReadsPart : ℕ → List ℕ → Result (List Group) Answer → Type 0
 ReadsPart at part (Ok groups) = Spell part groups
 ReadsPart at part (Err answer) =
-    (answer ≡ no_memory) ⊎ ((fault : Fault) × (inner : ℕ) × IsChangesetFault fault inner part × (answer ≡ refused fault (at + inner)))
+    (answer ≡ no_memory)
+    ⊎ ((fault : Fault) × (inner : ℕ) × IsChangesetFault fault inner part × (answer ≡ refused fault (at + inner)))
 
 -- this changeset is read, or memory is wanting
 abbrev pub FindsPart : Result (List Group) Answer → List Group → Type 0
@@ -131,12 +132,10 @@ abbrev pub GivesCombined : List ℕ → List ℕ → Result (Vec ℕ) Answer →
 GivesCombined lengths inputs (Ok bytes) = SpellCombined lengths inputs bytes.items
 GivesCombined lengths inputs (Err answer) = IsCombineRefusal lengths inputs answer
 
--- the answer: the changesets taken together are handed over and their length told, or nothing is written and it is told
--- why
+-- the answer: the changesets taken together are handed over, or it is told why they can't be
 abbrev pub AnswersCombined : List ℕ → List ℕ → List ℕ → List ℕ → Answer → Type 0
 AnswersCombined lengths inputs before after answer =
-    ((bytes : List ℕ) × SpellCombined lengths inputs bytes × IsHanded bytes before after × (answer ≡ read (length bytes)))
-    ⊎ (IsCombineRefusal lengths inputs answer × (after ≡ before))
+    Hands (SpellCombined lengths inputs) (IsCombineRefusal lengths inputs) before after answer
 
 -- the input spells a changeset that can be brought into normal form by the tables of its own headers
 abbrev pub IsFitAlone : List ℕ → Type 0
@@ -160,8 +159,7 @@ abbrev pub GivesInverse : List ℕ → Result (Vec ℕ) Answer → Type 0
 GivesInverse input (Ok bytes) = SpellInverse input bytes.items
 GivesInverse input (Err answer) = IsInverseRefusal input answer
 
--- the answer: the inverse is handed over and its length told, or nothing is written and it is told why
+-- the answer: the inverse is handed over, or it is told why there is none
 abbrev pub AnswersInverse : List ℕ → List ℕ → List ℕ → Answer → Type 0
 AnswersInverse input before after answer =
-    ((bytes : List ℕ) × SpellInverse input bytes × IsHanded bytes before after × (answer ≡ read (length bytes)))
-    ⊎ (IsInverseRefusal input answer × (after ≡ before))
+    Hands (SpellInverse input) (IsInverseRefusal input) before after answer

@@ -16,7 +16,7 @@ use Rattle.cs_normal.specs.declared.unfit.Unfit.{Unfit}
 use Rattle.cs_normal.specs.declared.unfit.Unfit.TheVariants as unfit
 use Rattle.cs_group.specs.Combined.{tables_of}
 use Rattle.cs_ffi.specs.declared.answer.Answer.{Answer}
-use Rattle.cs_ffi.specs.Answers.{no_memory, read, Spell, IsRefusal, IsHanded}
+use Rattle.cs_ffi.specs.Answers.{no_memory, Spell, IsRefusal, Hands}
 
 -- the number of the reason why a changeset has no normal form
 abbrev pub unfit_number : Unfit → ℕ
@@ -119,8 +119,7 @@ abbrev pub SpellsForm : List TableDef → List Group → Result (Vec ℕ) Unfit 
 SpellsForm tables groups (Ok bytes) = SpellForm tables groups bytes.items
 SpellsForm tables groups (Err fault) = IsUnfit fault tables groups
 
--- the answer: the normal form is handed over and its length told, or nothing is written and it is told why
+-- the answer: the normal form is handed over, or it is told why there is none
 abbrev pub AnswersNormal : List ℕ → List ℕ → List ℕ → List ℕ → Answer → Type 0
 AnswersNormal declared input before after answer =
-    ((bytes : List ℕ) × SpellNormal declared input bytes × IsHanded bytes before after × (answer ≡ read (length bytes)))
-    ⊎ (IsNormalRefusal declared input answer × (after ≡ before))
+    Hands (SpellNormal declared input) (IsNormalRefusal declared input) before after answer

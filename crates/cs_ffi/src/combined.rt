@@ -35,7 +35,8 @@ fn read_part(alloc: Global, part: &[u8], at: usize) -> Result<Changeset, Answer>
     requires { at + length part.now < 2 ^ 64 }
     ensures reads { ReadsPart at part.now result }
     ensures only { (groups : List Group) → Spell part.now groups → FindsPart result groups }
-    ensures told { (fault : Fault) (offset : ℕ) → IsChangesetFault fault offset part.now → IsErrAnd result (TellsFault fault (at + offset)) }
+    ensures told { (fault : Fault) (offset : ℕ) → IsChangesetFault fault offset part.now
+        → IsErrAnd result (TellsFault fault (at + offset)) }
 {
     match decode(alloc, part) {
         Ok(changeset) => Ok(changeset),
@@ -51,7 +52,8 @@ fn read_part(alloc: Global, part: &[u8], at: usize) -> Result<Changeset, Answer>
 fn read_all(alloc: Global, inputs: &[u8], lengths: &[usize]) -> Result<Vec<Changeset>, Answer>
     requires { sum lengths.now ≡ length inputs.now }
     ensures reads { ReadsAll lengths.now inputs.now result }
-    ensures only { (changesets : List (List Group)) → IsCut lengths.now inputs.now changesets → FindsAll result changesets }
+    ensures only { (changesets : List (List Group)) → IsCut lengths.now inputs.now changesets
+        → FindsAll result changesets }
 {
     let mut changesets = Vec::new(alloc);
     let mut rest = inputs;
@@ -87,7 +89,8 @@ fn combined_bytes(alloc: Global, inputs: &[u8], lengths: &[usize]) -> Result<Vec
 /// The spelling of the inverse of the changeset that the input spells.
 fn inverse_bytes(alloc: Global, input: &[u8]) -> Result<Vec<u8>, Answer>
     ensures gives { GivesInverse input.now result }
-    ensures told { (fault : Fault) (offset : ℕ) → IsChangesetFault fault offset input.now → IsErrAnd result (TellsFault fault offset) }
+    ensures told { (fault : Fault) (offset : ℕ) → IsChangesetFault fault offset input.now
+        → IsErrAnd result (TellsFault fault offset) }
     ensures fit { IsFitAlone input.now → IfErr result (λ answer. answer ≡ no_memory) }
 {
     // What fits has no fault: a law, for the proof.
@@ -127,7 +130,8 @@ pub fn write_inverse(alloc: Global, input: &[u8], output: &mut [u8]) -> Answer
     ensures answers { AnswersInverse input.now output.old output.new result }
 
     // A fault of the bytes is told, or memory is wanting.
-    ensures told { (fault : Fault) (offset : ℕ) → IsChangesetFault fault offset input.now → TellsFault fault offset result }
+    ensures told { (fault : Fault) (offset : ℕ) → IsChangesetFault fault offset input.now
+        → TellsFault fault offset result }
 
     // What has a normal form by its own tables is taken back, or memory is wanting.
     ensures fit { IsFitAlone input.now → TellsNoFault result }

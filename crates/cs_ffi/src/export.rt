@@ -23,7 +23,8 @@ use std::alloc::Global;
 pub extern "C" fn cs_ffi_decode(alloc: Global, input: &[u8]) -> Answer
     ensures answers { AnswersCount input.now result }
     ensures only { (groups : List Group) → Spell input.now groups → TellsCount (change_count groups) result }
-    ensures told { (fault : Fault) (offset : ℕ) → IsChangesetFault fault offset input.now → TellsFault fault offset result }
+    ensures told { (fault : Fault) (offset : ℕ) → IsChangesetFault fault offset input.now
+        → TellsFault fault offset result }
 {
     count(alloc, input)
 }
@@ -33,8 +34,10 @@ pub extern "C" fn cs_ffi_decode(alloc: Global, input: &[u8]) -> Answer
 #[unsafe(no_mangle)]
 pub extern "C" fn cs_ffi_reencode(alloc: Global, input: &[u8], output: &mut [u8]) -> Answer
     ensures answers { AnswersAgain input.now output.old output.new result }
-    ensures only { (groups : List Group) → Spell input.now groups → TellsCount (length (changeset_spelling groups)) result }
-    ensures told { (fault : Fault) (offset : ℕ) → IsChangesetFault fault offset input.now → TellsFault fault offset result }
+    ensures only { (groups : List Group) → Spell input.now groups
+        → TellsCount (length (changeset_spelling groups)) result }
+    ensures told { (fault : Fault) (offset : ℕ) → IsChangesetFault fault offset input.now
+        → TellsFault fault offset result }
 {
     reencode(alloc, input, output)
 }
@@ -49,7 +52,8 @@ pub extern "C" fn cs_ffi_normalise(
     output: &mut [u8],
 ) -> Answer
     ensures answers { AnswersNormal declared.now input.now output.old output.new result }
-    ensures refused { (owed : Answer) → IsNormalRefusal declared.now input.now owed → UpToMemory result owed (result ≡ owed) }
+    ensures refused { (owed : Answer) → IsNormalRefusal declared.now input.now owed
+        → UpToMemory result owed (result ≡ owed) }
     ensures fit { IsFitInput declared.now input.now → TellsNoFault result }
 {
     // What is refused is refused in one way: a law, for the proof.
@@ -67,7 +71,8 @@ pub extern "C" fn cs_ffi_combine(
     output: &mut [u8],
 ) -> Answer
     ensures answers { AnswersCombined lengths.now inputs.now output.old output.new result }
-    ensures refused { (owed : Answer) → IsCombineRefusal lengths.now inputs.now owed → UpToMemory result owed (result ≡ owed) }
+    ensures refused { (owed : Answer) → IsCombineRefusal lengths.now inputs.now owed
+        → UpToMemory result owed (result ≡ owed) }
     ensures lengths { sum lengths.now ≢ length inputs.now → result ≡ wrong_lengths }
     ensures fit { AreFitInputs lengths.now inputs.now → TellsNoFault result }
 {
@@ -81,8 +86,10 @@ pub extern "C" fn cs_ffi_combine(
 #[unsafe(no_mangle)]
 pub extern "C" fn cs_ffi_invert(alloc: Global, input: &[u8], output: &mut [u8]) -> Answer
     ensures answers { AnswersInverse input.now output.old output.new result }
-    ensures told { (fault : Fault) (offset : ℕ) → IsChangesetFault fault offset input.now → TellsFault fault offset result }
-    ensures refused { (owed : Answer) → IsInverseRefusal input.now owed → UpToMemory result owed (result ≡ owed) }
+    ensures told { (fault : Fault) (offset : ℕ) → IsChangesetFault fault offset input.now
+        → TellsFault fault offset result }
+    ensures refused { (owed : Answer) → IsInverseRefusal input.now owed
+        → UpToMemory result owed (result ≡ owed) }
     ensures fit { IsFitAlone input.now → TellsNoFault result }
 {
     // What is refused is refused in one way: a law, for the proof.

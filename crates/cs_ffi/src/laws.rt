@@ -6,8 +6,8 @@ use cs_changeset::laws::changesets;
 use cs_group::laws::{no_fault_where_combined, one_combine_fault, one_combined};
 use cs_normal::laws::{no_fault_where_fit, one_normal_form, one_unfit};
 
-/// Two answers of a C function to one input are equal, and so is what stands in the caller's memory after them, unless one
-/// of them tells want of memory.
+/// Two answers of a C function to one input are equal, and so is what stands in the caller's memory after them, unless
+/// one of them tells want of memory.
 pub fn answers()
     ensures { AnswerLaws }
 {

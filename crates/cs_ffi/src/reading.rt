@@ -31,7 +31,8 @@ pub fn count(alloc: Global, input: &[u8]) -> Answer
     ensures only { (groups : List Group) → Spell input.now groups → TellsCount (change_count groups) result }
 
     // A fault of the bytes is told, or memory is wanting.
-    ensures told { (fault : Fault) (offset : ℕ) → IsChangesetFault fault offset input.now → TellsFault fault offset result }
+    ensures told { (fault : Fault) (offset : ℕ) → IsChangesetFault fault offset input.now
+        → TellsFault fault offset result }
 {
     match decode(alloc, input) {
         Ok(changeset) => Answer::read(count_changes(changeset.as_slice())),
@@ -63,10 +64,12 @@ pub fn reencode(alloc: Global, input: &[u8], output: &mut [u8]) -> Answer
     ensures answers { AnswersAgain input.now output.old output.new result }
 
     // What the bytes spell is read, or memory is wanting.
-    ensures only { (groups : List Group) → Spell input.now groups → TellsCount (length (changeset_spelling groups)) result }
+    ensures only { (groups : List Group) → Spell input.now groups
+        → TellsCount (length (changeset_spelling groups)) result }
 
     // A fault of the bytes is told, or memory is wanting.
-    ensures told { (fault : Fault) (offset : ℕ) → IsChangesetFault fault offset input.now → TellsFault fault offset result }
+    ensures told { (fault : Fault) (offset : ℕ) → IsChangesetFault fault offset input.now
+        → TellsFault fault offset result }
 {
     match decode(alloc, input) {
         Ok(changeset) => match spelled(alloc, &changeset) {

@@ -20,7 +20,7 @@ use Rattle.cs_hub.specs.Log.{IsNextEntry}
 use Rattle.cs_hub.specs.Pushes.{entry_of}
 use Rattle.cs_hub.specs.Rows.{Rows, row_at}
 use Rattle.cs_hub.specs.Sound.{IsSound, HoldsRows, FitsMessage}
-use Rattle.cs_hub.specs.Staged.{TableState, held, KeepsRows, AnswersStage, AnswersStages, CommitsOne, Commits, written}
+use Rattle.cs_hub.specs.Staged.{TableState, name_and_rows, KeepsRows, AnswersStage, AnswersStages, CommitsOne, Commits, written}
 use Rattle.cs_hub.specs.Tables.{after_entry, empty_state, state_of}
 use Rattle.cs_hub.specs.declared.hub.TheConstants.{MAX_ENTRIES}
 use Rattle.cs_hub.specs.declared.push.PushHead.{PushHead}
@@ -41,7 +41,7 @@ names_same (o ∷ old) (n ∷ new) e h =
     let rest = names_same old new (omega (arith, e)) (λ k d lt. h (suc k) d (omega arith)) in
     cc
 
-holds_held : (log : List LogEntry) (old new : TableState) → held new ≡ held old → HoldsRows log old → HoldsRows log new
+holds_held : (log : List LogEntry) (old new : TableState) → name_and_rows new ≡ name_and_rows old → HoldsRows log old → HoldsRows log new
 holds_held log old new e h key =
     let n : new.name ≡ old.name = ap (λ (p : List ℕ × Rows). p.0) e in
     let r : new.rows ≡ old.rows = ap (λ (p : List ℕ × Rows). p.1) e in

@@ -13,7 +13,7 @@ use Rattle.cs_hub.specs.Hub.{HubState}
 use Rattle.cs_hub.specs.Laws.{OneAnswer, OneRequest, OneService}
 use Rattle.cs_hub.specs.Messages.{Asked, AsksPush, AsksPull, AsksNothing, answer_spelling}
 use Rattle.cs_hub.specs.Pushes.{Push}
-use Rattle.cs_hub.specs.Serves.{AnswersPush, AnswersGroups, AnswersChangeset, AnswersAsked, Serves, told}
+use Rattle.cs_hub.specs.Serves.{AnswersPush, AnswersGroups, AnswersChangeset, AnswersAsked, Serves, push_answer}
 use Rattle.cs_hub.specs.declared.answer.Answer.{Answer}
 use Rattle.cs_hub.specs.declared.answer.Answer.TheVariants.{Refused}
 use Rattle.cs_hub.specs.declared.push.PushHead.{PushHead}
@@ -36,7 +36,7 @@ refuse old new last one other code number same a b n m = (a ∙ ap (λ (k : ℕ)
 pushes_agree : (laws : Below) (old new last : HubState) (push : Push) (one other : Answer) → AnswersPush old push one new → AnswersPush old push other last → Agree one other new last
 pushes_agree laws old new last push one other (some, p, a) (others, q, b) =
     let both = laws.answer old new last push some others p q in
-    (a ∙ ap (told push) both.0 ∙ sym b, both.1)
+    (a ∙ ap (push_answer push) both.0 ∙ sym b, both.1)
 
 forms_agree : (laws : Below) (old new last : HubState) (head : PushHead) (some others : List TableChanges) (one other : Answer) → some ≡ others
     → AnswersPush old (record { head = head; changes = some }) one new

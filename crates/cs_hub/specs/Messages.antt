@@ -57,13 +57,16 @@ IsPartial bytes =
     (bytes ≡ [])
     ⊎ ((rest : List ℕ) × (bytes ≡ 1 ∷ rest) × (length rest < 24))
     ⊎ ((rest : List ℕ) × (bytes ≡ 2 ∷ rest) × (length rest < 12))
-    ⊎ ((head : PushHead) × (size : ℕ) × (part : List ℕ) × FitsPush head size × (bytes ≡ 1 ∷ push_numbers head size part) × (length part < size))
+    ⊎ ((head : PushHead) × (size : ℕ) × (part : List ℕ) × FitsPush head size
+    × (bytes ≡ 1 ∷ push_numbers head size part) × (length part < size))
 
 -- a request, and bytes behind it
 abbrev pub IsLonger : List ℕ → Type 0
 IsLonger bytes =
-    ((head : PushHead) × (size : ℕ) × (more : List ℕ) × FitsPush head size × (bytes ≡ 1 ∷ push_numbers head size more) × (size < length more))
-    ⊎ ((first : ℕ) × (limit : ℕ) × (more : List ℕ) × FitsPull first limit × (bytes ≡ 2 ∷ pull_numbers first limit more) × (0 < length more))
+    ((head : PushHead) × (size : ℕ) × (more : List ℕ) × FitsPush head size
+    × (bytes ≡ 1 ∷ push_numbers head size more) × (size < length more))
+    ⊎ ((first : ℕ) × (limit : ℕ) × (more : List ℕ) × FitsPull first limit
+    × (bytes ≡ 2 ∷ pull_numbers first limit more) × (0 < length more))
 
 -- what is wrong with bytes that spell no request
 abbrev pub IsRequestFault : RequestFault → List ℕ → Type 0
@@ -84,10 +87,10 @@ Asks bytes (AsksPull first limit) = FitsPull first limit × (bytes ≡ pull_spel
 Asks bytes (AsksNothing fault) = IsRequestFault fault bytes
 
 -- what a request as read asks
-abbrev pub asked : Result Request RequestFault → Asked
-asked (Ok (Push head changeset)) = AsksPush head changeset.now
-asked (Ok (Pull first limit)) = AsksPull first limit
-asked (Err fault) = AsksNothing fault
+abbrev pub asked_by : Result Request RequestFault → Asked
+asked_by (Ok (Push head changeset)) = AsksPush head changeset.now
+asked_by (Ok (Pull first limit)) = AsksPull first limit
+asked_by (Err fault) = AsksNothing fault
 
 -- ---- answers
 

@@ -22,27 +22,31 @@ use Rattle.cs_hub.specs.declared.push.Pushed.{Pushed}
 use Rattle.cs_hub.specs.declared.push.Pushed.TheVariants as pushed
 
 -- the answer that tells what became of a push
-abbrev pub told : Push → Result Pushed HubFault → Answer
-told push (Ok (pushed.Accepted version)) = Accepted push.head.origin push.head.number version
-told push (Ok (pushed.Stale newest)) = Stale newest
-told push (Err fault) = Refused (hub_code fault)
+abbrev pub push_answer : Push → Result Pushed HubFault → Answer
+push_answer push (Ok (pushed.Accepted version)) = Accepted push.head.origin push.head.number version
+push_answer push (Ok (pushed.Stale newest)) = Stale newest
+push_answer push (Err fault) = Refused (hub_code fault)
 
 -- the answer to a push whose changeset was read and brought into normal form
 abbrev pub AnswersPush : HubState → Push → Answer → HubState → Type 0
 AnswersPush old push answer new =
-    (outcome : Result Pushed HubFault) × Pushes old push outcome new × (answer ≡ told push outcome)
+    (outcome : Result Pushed HubFault) × Pushes old push outcome new × (answer ≡ push_answer push outcome)
 
 -- the answer to a push whose changeset was read: what is wrong by the catalog, or that of its normal form
 abbrev pub AnswersGroups : HubState → PushHead → List Group → Answer → HubState → Type 0
 AnswersGroups old head groups answer new =
-    ((fault : Unfit) × (fault ≢ unfit.Memory) × IsUnfit fault old.catalog groups × (answer ≡ Refused (unfit_code fault)) × (new ≡ old))
-    ⊎ ((changes : List TableChanges) × IsNormalFormOf old.catalog groups changes × AnswersPush old (record { head = head; changes = changes }) answer new)
+    ((fault : Unfit) × (fault ≢ unfit.Memory) × IsUnfit fault old.catalog groups
+    × (answer ≡ Refused (unfit_code fault)) × (new ≡ old))
+    ⊎ ((changes : List TableChanges) × IsNormalFormOf old.catalog groups changes
+    × AnswersPush old (record { head = head; changes = changes }) answer new)
 
 -- the answer to a push: what is wrong with the bytes of its changeset, or that of the changeset
 abbrev pub AnswersChangeset : HubState → PushHead → List ℕ → Answer → HubState → Type 0
 AnswersChangeset old head changeset answer new =
-    ((fault : Fault) × (offset : ℕ) × IsChangesetFault fault offset changeset × (answer ≡ Refused (fault_code fault)) × (new ≡ old))
-    ⊎ ((groups : List Group) × FitsChangeset groups × (changeset ≡ changeset_spelling groups) × AnswersGroups old head groups answer new)
+    ((fault : Fault) × (offset : ℕ) × IsChangesetFault fault offset changeset
+    × (answer ≡ Refused (fault_code fault)) × (new ≡ old))
+    ⊎ ((groups : List Group) × FitsChangeset groups × (changeset ≡ changeset_spelling groups)
+    × AnswersGroups old head groups answer new)
 
 -- the answer to what is asked
 abbrev pub AnswersAsked : HubState → Asked → List ℕ → HubState → Type 0

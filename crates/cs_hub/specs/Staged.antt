@@ -48,13 +48,13 @@ AnswersStages changes tables false =
     (k : ℕ) × (k < length tables) × HoldsAt (λ (t : TableState). AnswersStage changes t false) tables k
 
 -- a table's name and rows
-abbrev pub held : TableState → List ℕ × Rows
-held table = (table.name, table.rows)
+abbrev pub name_and_rows : TableState → List ℕ × Rows
+name_and_rows table = (table.name, table.rows)
 
 -- the names and the rows stay
 pub record KeepsRows (old new : List TableState) : Type 0 where
   pub as_many : length new ≡ length old
-  pub same : (k : ℕ) (d : TableState) → held (slice_index_or new k d) ≡ held (slice_index_or old k d)
+  pub same : (k : ℕ) (d : TableState) → name_and_rows (slice_index_or new k d) ≡ name_and_rows (slice_index_or old k d)
 
 -- the name stays, and what was staged is written
 abbrev pub CommitsOne : TableState → TableState → Type 0

@@ -26,6 +26,18 @@ pub(crate) enum Answer {
     Refused(u8),
 }
 
+/// The first bytes of answers. (Profile of this project.)
+const ACCEPTED: u8 = 17;
+
+const STALE: u8 = 18;
+
+const REFUSED: u8 = 19;
+
+const ENTRIES: u8 = 20;
+
+/// The kind of an entry that has a changeset, which each entry has so far. (Profile of this project.)
+const CHANGES: u8 = 0;
+
 /// The most bytes of an answer but entries.
 pub(crate) const SHORT: usize = 21;
 
@@ -84,17 +96,17 @@ impl Answer {
                 number,
                 version,
             } => {
-                put_u8(17, out);
+                put_u8(ACCEPTED, out);
                 put_u32(*origin, out);
                 put_u64(*number, out);
                 put_u64(*version, out);
             }
             Answer::Stale { newest } => {
-                put_u8(18, out);
+                put_u8(STALE, out);
                 put_u64(*newest, out);
             }
             Answer::Refused(code) => {
-                put_u8(19, out);
+                put_u8(REFUSED, out);
                 put_u8(*code, out);
             }
         }
@@ -110,7 +122,7 @@ fn put_entry(alloc: Global, entry: &LogEntry, out: &mut Vec<u8>) -> Result<(), M
     let mut changeset = Vec::new(alloc);
     changes.encode(&mut changeset)?;
     out.reserve(17)?;
-    put_u8(0, out);
+    put_u8(CHANGES, out);
     put_u32(entry.origin, out);
     put_u64(entry.number, out);
     put_u32(changeset.len() as u32, out);
@@ -129,7 +141,7 @@ pub(crate) fn entries_answer(
     ensures { IfOk result (λ answer. answer.items ≡ entries_spelling first entries.now) }
 {
     let mut out = Vec::with_capacity(alloc, 13)?;
-    put_u8(20, &mut out);
+    put_u8(ENTRIES, &mut out);
     put_u64(first, &mut out);
     put_u32(entries.len() as u32, &mut out);
     for entry in entries {

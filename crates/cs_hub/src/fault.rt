@@ -11,19 +11,19 @@ use thiserror::Error;
 pub enum HubFault {
     /// Memory was refused; nothing has changed.
     #[error("Memory")]
-    Memory = 1,
+    Memory,
     /// The base, or the first entry asked for, is above the log's length.
     #[error("Ahead")]
-    Ahead = 2,
+    Ahead,
     /// A change is not defined on the tables.
     #[error("Conflict")]
-    Conflict = 3,
+    Conflict,
     /// The changeset has no change.
     #[error("Empty")]
-    Empty = 4,
+    Empty,
     /// The log has `MAX_ENTRIES` entries.
     #[error("Full")]
-    Full = 5,
+    Full,
 }
 
 impl From<AllocError> for HubFault {

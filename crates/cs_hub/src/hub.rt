@@ -253,7 +253,8 @@ impl Hub {
     fn take(&mut self, head: PushHead, changes: &Normal) -> Result<Answer, Memory>
         requires fits { FitsCatalog self.old.catalog changes.now }
         requires size { length (normal_spelling changes.now) < 2 ^ 32 }
-        ensures ok { IfOk result (λ answer. AnswersPush self.old (record { head = head; changes = changes.now }) answer self.new) }
+        ensures ok { IfOk result (λ answer.
+            AnswersPush self.old (record { head = head; changes = changes.now }) answer self.new) }
         ensures err { OnErr result (self.new ≡ self.old) }
     {
         match self.push(head, changes) {

@@ -5,6 +5,11 @@ ghost use Rattle.cs_hub.specs.Messages.{four_bytes, eight_bytes, push_numbers, p
 
 use crate::push::PushHead;
 
+/// The first bytes of requests. (Profile of this project.)
+const PUSH: u8 = 1;
+
+const PULL: u8 = 2;
+
 /// A request. (Profile of this project.)
 pub(crate) enum Request<'a> {
     /// Take the changeset that a replica made on the tables of the version `base`.
@@ -67,22 +72,22 @@ fn split_pull(bytes: &[u8]) -> Option<(u64, u32, &[u8])>
 
 impl<'a> Request<'a> {
     ghost use Rattle.std.specs.Prelude.{◌∷◌};
-    ghost use Rattle.cs_hub.specs.Messages.{Asks, asked};
+    ghost use Rattle.cs_hub.specs.Messages.{Asks, asked_by};
 
     /// Reads a request: the whole of the bytes.
     pub(crate) fn decode(bytes: &'a [u8]) -> Result<Request<'a>, RequestFault>
-        ensures { Asks bytes.now (asked result) }
+        ensures { Asks bytes.now (asked_by result) }
     {
         match bytes.split_first() {
             None => Err(RequestFault::Truncated),
-            Some((1, rest)) => Self::decode_push(rest),
-            Some((2, rest)) => Self::decode_pull(rest),
+            Some((&PUSH, rest)) => Self::decode_push(rest),
+            Some((&PULL, rest)) => Self::decode_pull(rest),
             Some(_) => Err(RequestFault::BadTag),
         }
     }
 
     fn decode_push(rest: &'a [u8]) -> Result<Request<'a>, RequestFault>
-        ensures { Asks (1 ∷ rest.now) (asked result) }
+        ensures { Asks (1 ∷ rest.now) (asked_by result) }
     {
         let Some((head, size, changeset)) = split_push(rest) else {
             return Err(RequestFault::Truncated);
@@ -97,7 +102,7 @@ impl<'a> Request<'a> {
     }
 
     fn decode_pull(rest: &'a [u8]) -> Result<Request<'a>, RequestFault>
-        ensures { Asks (2 ∷ rest.now) (asked result) }
+        ensures { Asks (2 ∷ rest.now) (asked_by result) }
     {
         let Some((first, limit, more)) = split_pull(rest) else {
             return Err(RequestFault::Truncated);

@@ -117,7 +117,8 @@ impl Table {
     /// Writes what is staged.
     pub(crate) fn commit(&mut self)
         ensures name { self.new.name ≡ self.old.name }
-        ensures rows { (key : List ℕ) → row_at key self.new.rows ≡ written self.old.staged key (row_at key self.old.rows) }
+        ensures rows { (key : List ℕ)
+            → row_at key self.new.rows ≡ written self.old.staged key (row_at key self.old.rows) }
     {
         while let Some((key, row)) = self.staged.pop() {
             put(&mut self.rows, key, row);
