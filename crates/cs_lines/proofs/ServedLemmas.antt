@@ -5,23 +5,18 @@ use Rattle.std.specs.Io.KnownBytes.{Appends, IsAtEnd}
 use Rattle.std.proofs.lemmas.Grind.{flat_map-append}
 use Rattle.std.proofs.KnownBytes.{Appends-trans, Appends-nil}
 use Rattle.cs_lines.specs.Lines.{lines_of, hex_line}
-use Rattle.cs_lines.specs.Reading.{TakesLine}
+use Rattle.cs_lines.specs.Reading.{AreTaken, TakesLine}
 use Rattle.cs_lines.specs.Served.{Answers, AnswersAll, AreAllLines, AreFirstLines, StaysSent}
 use Rattle.cs_lines.specs.Turns.{HasFailed, TakesTurn}
 use Rattle.cs_lines.specs.declared.serve.Stop.{Stop}
 use Rattle.cs_lines.specs.declared.serve.Stop.TheVariants.{Read, Write}
 use Rattle.cs_lines.specs.Writing.{AppendsBroken}
 
--- these lines were taken off the input
-abbrev pub AreTaken : Option (List ℕ) → Option (List ℕ) → List (List ℕ) → Type 0
-AreTaken None left lines = Unit {0}
-AreTaken (Some input) left lines = (rest : List ℕ) × (left ≡ Some rest) × (lines_of input ≡ lines ++ lines_of rest)
-
-taken_none : (input : Option (List ℕ)) → AreTaken input input []
+pub taken_none : (input : Option (List ℕ)) → AreTaken input input []
 taken_none None = tt
 taken_none (Some input) = (input, refl, refl)
 
-taken_more : (input left after : Option (List ℕ)) (lines : List (List ℕ)) (line : List ℕ) → AreTaken input left lines
+pub taken_more : (input left after : Option (List ℕ)) (lines : List (List ℕ)) (line : List ℕ) → AreTaken input left lines
     → TakesLine [] left after line → AreTaken input after (lines ++ line ∷ [])
 taken_more None left after lines line taken takes = tt
 taken_more (Some input) left after lines line taken takes =
@@ -35,7 +30,7 @@ taken_first : (input left : Option (List ℕ)) (lines : List (List ℕ)) → Are
 taken_first None left lines taken = tt
 taken_first (Some input) left lines taken = (lines_of taken.0, taken.2)
 
-taken_all : (input left : Option (List ℕ)) (lines : List (List ℕ)) → AreTaken input left lines → IsAtEnd left → AreAllLines input lines
+pub taken_all : (input left : Option (List ℕ)) (lines : List (List ℕ)) → AreTaken input left lines → IsAtEnd left → AreAllLines input lines
 taken_all None left lines taken end = tt
 taken_all (Some input) left lines taken end =
     let none : taken.0 ≡ [] = subst IsAtEnd taken.1 end in

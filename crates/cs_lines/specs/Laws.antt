@@ -1,7 +1,23 @@
--- The law of a run: its lines have one list of answers.
-use Rattle.std.specs.Prelude.{◌≡◌, ◌≢◌, ℕ, List, [], ◌∷◌}
+-- The laws of lines and runs: lines are taken one after another, and have one list of answers.
+use Rattle.std.specs.Prelude.{◌≡◌, ◌≢◌, ℕ, List, [], ◌∷◌, ◌++◌, Option}
+use Rattle.std.specs.Io.KnownBytes.{IsAtEnd}
 use Rattle.std.specs.List.{AllByRecursion}
-use Rattle.cs_lines.specs.Served.{Answers, AnswersAll, no_memory}
+use Rattle.cs_lines.specs.Reading.{AreTaken, TakesLine}
+use Rattle.cs_lines.specs.Served.{Answers, AnswersAll, AreAllLines, no_memory}
+
+-- before the first line none is taken
+abbrev pub NoneTaken : Type 0
+NoneTaken = (input : Option (List ℕ)) → AreTaken input input []
+
+-- one line more is taken
+abbrev pub OneMoreTaken : Type 0
+OneMoreTaken = (input left after : Option (List ℕ)) (lines : List (List ℕ)) (line : List ℕ) → AreTaken input left lines
+    → TakesLine [] left after line → AreTaken input after (lines ++ line ∷ [])
+
+-- at the end all are taken
+abbrev pub AllTaken : Type 0
+AllTaken = (input left : Option (List ℕ)) (lines : List (List ℕ)) → AreTaken input left lines
+    → IsAtEnd left → AreAllLines input lines
 
 -- at this state each request has one answer, and one state after it
 abbrev pub HasOneAnswer : {State : Type 0} → (State → List ℕ → List ℕ → State → Type 0) → State → Type 0

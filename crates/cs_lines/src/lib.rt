@@ -14,7 +14,7 @@ mod reply;
 mod serve;
 mod streams;
 
-pub use laws::one_run;
+pub use laws::{lines_taken, one_run};
 pub use line::{LineRead, read_line};
 pub use reply::write_hex_line;
 pub use serve::{ASKS, Serve, Stop, serve_lines};
