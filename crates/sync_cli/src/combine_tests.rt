@@ -187,25 +187,16 @@ fn tables_and_keys_in_order(rt: HostRuntime) -> Result<(), Fail> {
     )
 }
 
+// The first line that is refused is told of; what each refusal is called stands in one table of its own.
 #[test]
 fn refused_inputs(rt: HostRuntime) -> Result<(), Fail> {
     let cases = [
-        ("zz\n", "sync: BadHex\n"),
-        ("540\n", "sync: BadHex\n"),
         (
             "\n54020100743100120001000000000000000102\nzz\n",
             "sync: Real at 18\n",
         ),
         ("54020100743100\n540201007431\n", "sync: Truncated at 6\n"),
-        ("50\n", "sync: Patchset at 0\n"),
-        ("54020100743100\n54020001743100\n", "sync: Shape\n"),
         ("540101743100\n54020100743100\n", "sync: Shape\n"),
-        ("54010100\n", "sync: BadCatalog\n"),
-        ("5402010074310012000503027631\n", "sync: NullKey\n"),
-        (
-            "54020100743100120001000000000000000103027631120001000000000000000103027632\n",
-            "sync: KeyTwice\n",
-        ),
     ];
     for (input, told) in cases {
         expect(

@@ -59,6 +59,8 @@ fn tell_refused_start<E: Write>(error: &io::Error, errors: &mut E) -> u8 {
 #[cfg(test)]
 mod combine_tests;
 #[cfg(test)]
+mod fault_texts;
+#[cfg(test)]
 mod sessions;
 #[cfg(test)]
 mod tests;

@@ -1,6 +1,7 @@
 use crate::run::run;
 use crate::table;
 use crate::table::Refused;
+use cs_lines::{LineOutput, write_whole};
 use std::alloc::Global;
 use std::io;
 use std::io::{BufReader, Read, Write};
@@ -201,6 +202,20 @@ impl Read for Breaking {
         buf[..given].fill(b'\n');
         self.left -= given;
         Ok(given)
+    }
+}
+
+impl LineOutput for Narrow {
+    ghost sent = { λ _. Unit {0} };
+
+    ghost failed = { λ _. Unit {0} };
+
+    fn put(&mut self, bytes: &[u8]) -> io::Result<()> {
+        write_whole(self, bytes)
+    }
+
+    fn send(&mut self) -> io::Result<()> {
+        self.flush()
     }
 }
 
