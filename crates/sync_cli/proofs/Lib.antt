@@ -1,4 +1,5 @@
 pub mod CatalogLemmas
+pub mod CommandLemmas
 pub mod EndingLemmas
 pub mod FoundLemmas
 pub mod InputLemmas
