@@ -1,12 +1,46 @@
 -- What a run has done so far, and one more line.
-use Rattle.std.proofs.Common.{◌≡◌, ℕ, List, [], ◌∷◌, ◌++◌, refl, sym, ap, ◌∙◌, append_assoc, append-nil, subst, IfSome}
-use Rattle.std.specs.Prelude.{Option, Some, None, flat_map}
+use Rattle.std.proofs.Common.{◌≡◌, ℕ, ◌+◌, ◌⊎◌, inl, inr, List, [], ◌∷◌, ◌++◌, length, refl, sym, ap, ◌∙◌, arith, append_assoc, append-nil, length-append, subst}
+use Rattle.std.specs.Prelude.{Option, Some, None, Err, flat_map}
 use Rattle.std.specs.Io.KnownBytes.{Appends, IsAtEnd}
 use Rattle.std.proofs.lemmas.Grind.{flat_map-append}
 use Rattle.std.proofs.KnownBytes.{Appends-trans, Appends-nil}
 use Rattle.cs_lines.specs.Lines.{lines_of, hex_line}
-use Rattle.cs_lines.specs.Reading.{TakesLine}
-use Rattle.cs_lines.specs.Served.{Answers, AnswersAll}
+use Rattle.cs_lines.specs.Reading.{AreTaken, TakesLine}
+use Rattle.cs_lines.specs.Served.{Answers, AnswersAll, AreAllLines, AreFirstLines, StaysSent}
+use Rattle.cs_lines.specs.Turns.{HasFailed, TakesTurn}
+use Rattle.cs_lines.specs.declared.serve.Stop.{Stop}
+use Rattle.cs_lines.specs.declared.serve.Stop.TheVariants.{Read, Write}
+use Rattle.cs_lines.specs.Writing.{AppendsBroken}
+
+pub taken_none : (input : Option (List ℕ)) → AreTaken input input []
+taken_none None = tt
+taken_none (Some input) = (input, refl, refl)
+
+pub taken_more : (input left after : Option (List ℕ)) (lines : List (List ℕ)) (line : List ℕ) → AreTaken input left lines
+    → TakesLine [] left after line → AreTaken input after (lines ++ line ∷ [])
+taken_more None left after lines line taken takes = tt
+taken_more (Some input) left after lines line taken takes =
+    let next = subst (λ (o : Option (List ℕ)). TakesLine [] o after line) taken.1 takes in (
+      next.0,
+      next.1,
+      taken.2 ∙ ap (λ l. lines ++ l) next.2 ∙ sym (append_assoc lines (line ∷ []) (lines_of next.0)),
+    )
+
+taken_first : (input left : Option (List ℕ)) (lines : List (List ℕ)) → AreTaken input left lines → AreFirstLines input lines
+taken_first None left lines taken = tt
+taken_first (Some input) left lines taken = (lines_of taken.0, taken.2)
+
+pub taken_all : (input left : Option (List ℕ)) (lines : List (List ℕ)) → AreTaken input left lines → IsAtEnd left → AreAllLines input lines
+taken_all None left lines taken end = tt
+taken_all (Some input) left lines taken end =
+    let none : taken.0 ≡ [] = subst IsAtEnd taken.1 end in
+    sym (taken.2 ∙ ap (λ l. lines ++ lines_of l) none ∙ append-nil lines)
+
+-- what was sent before the turns so far, and through one more
+pub sent_through : (T U : Type 0) (stop : Stop) (before mid after : Type 0) → (before → mid)
+    → StaysSent {T = T} (Err stop) mid after → StaysSent {T = U} (Err stop) before after
+sent_through T U Read before mid after so_far now = λ sent. now (so_far sent)
+sent_through T U Write before mid after so_far now = tt
 
 module _ {State : Type 0} (serves : State → List ℕ → List ℕ → State → Type 0) where
   AnswersAll-more : (old : State) (lines answers : List (List ℕ)) (mid : State) (line answer : List ℕ) (new : State)
@@ -19,55 +53,96 @@ module _ {State : Type 0} (serves : State → List ℕ → List ℕ → State �
   AnswersAll-more old [] (a ∷ answers) mid line answer new before now = absurd before
   AnswersAll-more old (l ∷ lines) [] mid line answer new before now = absurd before
 
-  -- the input's lines up to `rest` were answered
-  pub record Has (input rest : List ℕ) (old new : State) (before after : Option (List ℕ)) : Type 0 where
+  -- so many lines of the input were taken and answered
+  pub record HasServed (input left : Option (List ℕ)) (old new : State) (before after : Option (List ℕ)) (count : ℕ) : Type 0 where
     pub lines : List (List ℕ)
     pub answers : List (List ℕ)
-    pub split : lines_of input ≡ lines ++ lines_of rest
+    pub taken : AreTaken input left lines
     pub answered : AnswersAll serves old lines answers new
     pub written : Appends before after (flat_map hex_line answers)
+    pub counted : length lines ≡ count
 
-  -- the same, where the reader's bytes are known
-  abbrev pub HasServed : Option (List ℕ) → Option (List ℕ) → State → State → Option (List ℕ) → Option (List ℕ) → Type 0
-  HasServed None left old new before after = Unit {0}
-  HasServed (Some input) left old new before after =
-      (rest : List ℕ) × (left ≡ Some rest) × Has input rest old new before after
+  pub served_none : (input : Option (List ℕ)) (server : State) (w : Option (List ℕ)) → HasServed input input server server w w 0
+  served_none input server w = record {
+    lines = [];
+    answers = [];
+    taken = taken_none input;
+    answered = refl;
+    written = Appends-nil w;
+    counted = refl;
+  }
 
-  pub HasServed-none : (input : Option (List ℕ)) (server : State) (w : Option (List ℕ)) → HasServed input input server server w w
-  HasServed-none None server w = tt
-  HasServed-none (Some input) server w =
-      (input, refl, record { lines = []; answers = []; split = refl; answered = refl; written = Appends-nil w })
+  pub served_more : (input left after : Option (List ℕ)) (old mid new : State) (w v u : Option (List ℕ)) (count : ℕ) (line answer : List ℕ)
+      → HasServed input left old mid w v count → TakesLine [] left after line → Answers serves mid line answer new
+      → Appends v u (hex_line answer) → HasServed input after old new w u (count + 1)
+  served_more input left after old mid new w v u count line answer has took now wrote = record {
+    lines = has.lines ++ line ∷ [];
+    answers = has.answers ++ answer ∷ [];
+    taken = taken_more input left after has.lines line has.taken took;
+    answered = AnswersAll-more old has.lines has.answers mid line answer new has.answered now;
+    written = rw (flat_map-append hex_line has.answers (answer ∷ []))
+        (rw (append-nil (hex_line answer)) (Appends-trans w v u (flat_map hex_line has.answers) (hex_line answer) has.written wrote));
+    counted = omega (arith, length-append has.lines (line ∷ []), has.counted);
+  }
 
-  pub HasServed-all : (input left : Option (List ℕ)) (old mid new : State) (w v u : Option (List ℕ))
-      → HasServed input left old mid w v → IsAtEnd left → new ≡ mid → u ≡ v
-      → IfSome input (λ xs. (answers : List (List ℕ)) × AnswersAll serves old (lines_of xs) answers new × Appends w u (flat_map hex_line answers))
-  HasServed-all None left old mid new w v u served end same wrote = tt
-  HasServed-all (Some input) left old mid new w v u served end same wrote =
-      let has = served.2 in
-      let none : served.0 ≡ [] = subst IsAtEnd served.1 end in
-      let split : has.lines ≡ lines_of input =
-      sym (has.split ∙ ap (λ l. has.lines ++ lines_of l) none ∙ append-nil has.lines) in (
-        has.answers,
-        subst (λ (s : State). AnswersAll serves old (lines_of input) has.answers s) (sym same)
-            (subst (λ (l : List (List ℕ)). AnswersAll serves old l has.answers mid) split has.answered),
-        subst (λ (o : Option (List ℕ)). Appends w o (flat_map hex_line has.answers)) (sym wrote) has.written,
-      )
+  -- at the input's end all lines were answered
+  pub served_all : (input left : Option (List ℕ)) (old mid new : State) (w v u : Option (List ℕ)) (count : ℕ)
+      → HasServed input left old mid w v count → (new ≡ mid) × IsAtEnd left × (u ≡ v)
+      → (lines : List (List ℕ)) × (answers : List (List ℕ)) × AreAllLines input lines
+      × AnswersAll serves old lines answers new × Appends w u (flat_map hex_line answers)
+  served_all input left old mid new w v u count has turn = (
+    has.lines,
+    has.answers,
+    taken_all input left has.lines has.taken turn.1,
+    subst (λ (s : State). AnswersAll serves old has.lines has.answers s) (sym turn.0) has.answered,
+    subst (λ (o : Option (List ℕ)). Appends w o (flat_map hex_line has.answers)) (sym turn.2) has.written,
+  )
 
-  pub HasServed-more : (input left after : Option (List ℕ)) (old mid new : State) (w v u : Option (List ℕ)) (line answer : List ℕ)
-      → HasServed input left old mid w v → TakesLine [] left after line → Answers serves mid line answer new
-      → Appends v u (hex_line answer) → HasServed input after old new w u
-  HasServed-more None left after old mid new w v u line answer served took now wrote = tt
-  HasServed-more (Some input) left after old mid new w v u line answer served took now wrote =
-      let has = served.2 in
-      let taken = subst (λ (o : Option (List ℕ)). TakesLine [] o after line) served.1 took in (
-        taken.0,
-        taken.1,
-        record {
-          lines = has.lines ++ line ∷ [];
-          answers = has.answers ++ answer ∷ [];
-          split = has.split ∙ ap (λ l. has.lines ++ l) taken.2 ∙ sym (append_assoc has.lines (line ∷ []) (lines_of taken.0));
-          answered = AnswersAll-more old has.lines has.answers mid line answer new has.answered now;
-          written = rw (flat_map-append hex_line has.answers (answer ∷ []))
-              (rw (append-nil (hex_line answer)) (Appends-trans w v u (flat_map hex_line has.answers) (hex_line answer) has.written wrote));
-        },
+  -- where the reader stops, the lines that it gave were answered
+  served_front : (Failed : Type 0) (asks : ℕ) (input left : Option (List ℕ)) (old mid new : State) (w v u : Option (List ℕ)) (count : ℕ)
+      → HasServed input left old mid w v count → (new ≡ mid) × (u ≡ v) → Failed ⊎ (count ≡ asks)
+      → (lines : List (List ℕ)) × (answers : List (List ℕ)) × AreFirstLines input lines
+      × AnswersAll serves old lines answers new × Appends w u (flat_map hex_line answers) × (Failed ⊎ (length lines ≡ asks))
+  served_front Failed asks input left old mid new w v u count has turn why = (
+    has.lines,
+    has.answers,
+    taken_first input left has.lines has.taken,
+    subst (λ (s : State). AnswersAll serves old has.lines has.answers s) (sym turn.0) has.answered,
+    subst (λ (o : Option (List ℕ)). Appends w o (flat_map hex_line has.answers)) (sym turn.1) has.written,
+    elim why [ inl failed ↦ inl failed | inr all ↦ inr (has.counted ∙ all) ],
+  )
+
+  pub served_all_asked : (Failed : Type 0) (asks : ℕ) (input left : Option (List ℕ)) (old mid : State) (w v : Option (List ℕ)) (count : ℕ)
+      → HasServed input left old mid w v count → count ≡ asks
+      → (lines : List (List ℕ)) × (answers : List (List ℕ)) × AreFirstLines input lines
+      × AnswersAll serves old lines answers mid × Appends w v (flat_map hex_line answers) × (Failed ⊎ (length lines ≡ asks))
+  served_all_asked Failed asks input left old mid w v count has all =
+      served_front Failed asks input left old mid mid w v v count has (refl, refl) (inr all)
+
+  pub stopped_reading : (Reader Writer : Type 0) (asks : ℕ) (stop : Stop) (input left after : Option (List ℕ)) (old mid new : State)
+      (w v u : Option (List ℕ)) (count : ℕ) → HasServed input left old mid w v count
+      → TakesTurn (Err stop) serves mid new left after v u → HasFailed stop Reader Writer → stop ≡ Read
+      → (lines : List (List ℕ)) × (answers : List (List ℕ)) × AreFirstLines input lines
+      × AnswersAll serves old lines answers new × Appends w u (flat_map hex_line answers) × (Reader ⊎ (length lines ≡ asks))
+  stopped_reading Reader Writer asks Read input left after old mid new w v u count has turn failed is =
+      served_front Reader asks input left old mid new w v u count has turn (inl failed)
+  stopped_reading Reader Writer asks Write input left after old mid new w v u count has turn failed is = absurd (cc)
+
+  -- where the writer fails, a front of the last answer's line is written
+  pub stopped_writing : (Reader Writer : Type 0) (stop : Stop) (input left after : Option (List ℕ)) (old mid new : State)
+      (w v u : Option (List ℕ)) (count : ℕ) → HasServed input left old mid w v count
+      → TakesTurn (Err stop) serves mid new left after v u → HasFailed stop Reader Writer → stop ≡ Write
+      → (lines : List (List ℕ)) × (answers : List (List ℕ)) × AreFirstLines input lines
+      × AnswersAll serves old lines answers new × AppendsBroken w u answers × Writer
+  stopped_writing Reader Writer Read input left after old mid new w v u count has turn failed is = absurd (cc)
+  stopped_writing Reader Writer Write input left after old mid new w v u count has turn failed is =
+      let line = turn.0 in
+      let answer = turn.1 in
+      let wrote = turn.4 in (
+        has.lines ++ line ∷ [],
+        has.answers ++ answer ∷ [],
+        taken_first input after (has.lines ++ line ∷ []) (taken_more input left after has.lines line has.taken turn.2),
+        AnswersAll-more old has.lines has.answers mid line answer new has.answered turn.3,
+        (has.answers, answer, wrote.0, wrote.1, refl, wrote.2, Appends-trans w v u (flat_map hex_line has.answers) wrote.0 has.written wrote.3),
+        failed,
       )

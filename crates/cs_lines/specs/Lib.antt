@@ -1,5 +1,7 @@
+pub mod Laws
 pub mod Lines
 pub mod Reading
 pub mod Served
 pub mod Shown
 pub mod Turns
+pub mod Writing

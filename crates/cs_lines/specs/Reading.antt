@@ -22,3 +22,9 @@ abbrev pub HasSkipped : LineRead → List ℕ → Option (List ℕ) → Option (
 HasSkipped Whole front old new = ⊥
 HasSkipped Skipped front old new = (skipped : List ℕ) × TakesLine front old new skipped
 HasSkipped End front old new = (front ≡ []) × IsAtEnd old × Keeps old new
+
+-- these lines were taken, one after another, and the rest of the lines is left
+abbrev pub AreTaken : Option (List ℕ) → Option (List ℕ) → List (List ℕ) → Type 0
+AreTaken None new lines = Unit {0}
+AreTaken (Some input) new lines =
+    (rest : List ℕ) × (new ≡ Some rest) × (lines_of input ≡ lines ++ lines_of rest)

@@ -1,7 +1,10 @@
 -- What a server answers to a list of lines.
-use Rattle.std.specs.Prelude.{◌≡◌, ℕ, ◌⊎◌, Result, Ok, Err, List, [], ◌∷◌}
+use Rattle.std.specs.Prelude.{◌≡◌, ℕ, ◌++◌, ◌⊎◌, Option, Some, None, Result, Ok, Err, List, [], ◌∷◌}
 use Rattle.hex.specs.Hex.{decode_of}
 use Rattle.hex.specs.declared.error.FromHexError.{FromHexError}
+use Rattle.cs_lines.specs.Lines.{lines_of}
+use Rattle.cs_lines.specs.declared.serve.Stop.{Stop}
+use Rattle.cs_lines.specs.declared.serve.Stop.TheVariants.{Read, Write}
 
 -- the answers to a line that is no hex, and to one for which memory ran out
 abbrev pub not_hex : List ℕ
@@ -30,3 +33,19 @@ AnswersAll {State} serves old (line ∷ lines) (answer ∷ answers) new =
     (mid : State) × Answers serves old line answer mid × AnswersAll serves mid lines answers new
 AnswersAll serves old [] (answer ∷ answers) new = ⊥
 AnswersAll serves old (line ∷ lines) [] new = ⊥
+
+-- these are all lines of the input, where its bytes are known
+abbrev pub AreAllLines : Option (List ℕ) → List (List ℕ) → Type 0
+AreAllLines None lines = Unit {0}
+AreAllLines (Some input) lines = lines ≡ lines_of input
+
+-- these are the first lines of the input, where its bytes are known
+abbrev pub AreFirstLines : Option (List ℕ) → List (List ℕ) → Type 0
+AreFirstLines None lines = Unit {0}
+AreFirstLines (Some input) lines = (rest : List (List ℕ)) × (lines_of input ≡ lines ++ rest)
+
+-- but where the writer failed, what was sent before is sent still
+abbrev pub StaysSent : {T : Type 0} → Result T Stop → Type 0 → Type 0 → Type 0
+StaysSent (Err Write) before after = Unit {0}
+StaysSent (Err Read) before after = before → after
+StaysSent (Ok x) before after = before → after

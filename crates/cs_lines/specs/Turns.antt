@@ -1,17 +1,30 @@
--- What one turn of a run does.
-use Rattle.std.specs.Prelude.{◌≡◌, ℕ, Option, List, []}
+-- What one turn of a run comes to.
+use Rattle.std.specs.Prelude.{◌≡◌, ℕ, Option, Result, Ok, Err, List, []}
 use Rattle.std.specs.Io.KnownBytes.{Appends, IsAtEnd}
+use Rattle.cs_lines.specs.declared.serve.Stop.{Stop}
+use Rattle.cs_lines.specs.declared.serve.Stop.TheVariants.{Read, Write}
 use Rattle.cs_lines.specs.declared.serve.Turn.{Turn}
 use Rattle.cs_lines.specs.declared.serve.Turn.TheVariants.{Answered, Ended}
 use Rattle.cs_lines.specs.Lines.{hex_line}
 use Rattle.cs_lines.specs.Reading.{TakesLine}
 use Rattle.cs_lines.specs.Served.{Answers}
+use Rattle.cs_lines.specs.Writing.{AppendsFront}
 
--- a line was taken, answered, and its answer written; or the input was at its end and nothing happened
-abbrev pub TakesTurn : {State : Type 0} → Turn → (State → List ℕ → List ℕ → State → Type 0) → State → State
-    → Option (List ℕ) → Option (List ℕ) → Option (List ℕ) → Option (List ℕ) → Type 0
-TakesTurn Answered serves old new input rest before after =
+-- a line was taken and answered, and its answer written, or a front of it where the writer failed; at the input's end
+-- and where the reader failed nothing happened
+abbrev pub TakesTurn : {State : Type 0} → Result Turn Stop → (State → List ℕ → List ℕ → State → Type 0) → State
+    → State → Option (List ℕ) → Option (List ℕ) → Option (List ℕ) → Option (List ℕ) → Type 0
+TakesTurn (Ok Answered) serves old new input rest before after =
     (line : List ℕ) × (answer : List ℕ) × TakesLine [] input rest line
     × Answers serves old line answer new × Appends before after (hex_line answer)
-TakesTurn Ended serves old new input rest before after =
+TakesTurn (Ok Ended) serves old new input rest before after =
     (new ≡ old) × IsAtEnd input × (after ≡ before)
+TakesTurn (Err Read) serves old new input rest before after = (new ≡ old) × (after ≡ before)
+TakesTurn (Err Write) serves old new input rest before after =
+    (line : List ℕ) × (answer : List ℕ) × TakesLine [] input rest line
+    × Answers serves old line answer new × AppendsFront before after (hex_line answer)
+
+-- the side that stopped the run has failed
+abbrev pub HasFailed : Stop → Type 0 → Type 0 → Type 0
+HasFailed Read reader writer = reader
+HasFailed Write reader writer = writer

@@ -2,18 +2,24 @@
 //!
 //! It stands on `hex` and on std's readers and writers, and knows nothing of what a request means.
 //! `serve_lines` promises that each line of the input gets its answer, in order, as one line of
-//! lower case hex; `read_line` takes exactly one line off a reader, also where memory runs out in
-//! the middle of it; `write_hex_line` writes bytes as one line without taking memory.
+//! lower case hex, and where the run stops early, which lines were answered and which side failed;
+//! `read_line` takes exactly one line off a reader, also where memory runs out in the middle of
+//! it; `write_hex_line` writes bytes as one line without taking memory, and holds nothing of it
+//! back. `LineInput` and `LineOutput` say what a reader and a writer owe for that.
 #![tactic(auto)]
 
-mod answer;
+mod laws;
 mod line;
+mod reply;
 mod serve;
+mod streams;
 
-pub use answer::write_hex_line;
+pub use laws::{lines_taken, one_run};
 pub use line::{LineRead, read_line};
+pub use reply::write_hex_line;
 pub use serve::{ASKS, Serve, Stop, serve_lines};
 use std::alloc::AllocError;
+pub use streams::{LineInput, LineOutput, write_whole};
 
 /// Memory was refused.
 pub type Memory = AllocError;

@@ -1,12 +1,13 @@
 //! One line at a time.
 
-ghost use Rattle.std.specs.Prelude.{◌≡◌, IfOk};
+ghost use Rattle.std.specs.Prelude.{◌≡◌, IfOk, OnErr};
 ghost use Rattle.std.specs.Io.{StopsAt};
 ghost use Rattle.std.specs.Io.BufRead.{ends_with_byte, strip_last};
 ghost use Rattle.cs_lines.specs.Reading.{HasRead, HasSkipped};
 
+use crate::streams::LineInput;
 use std::io;
-use std::io::{BufRead, ErrorKind};
+use std::io::ErrorKind;
 
 /// What a read of one line came to.
 #[derive(Clone, Copy, Debug, PartialEq, Eq)]
@@ -24,12 +25,13 @@ pub enum LineRead {
 /// A line ends by a line feed; a last line without one counts where it has bytes. Where memory
 /// runs out, the rest of the line is skipped without asking for more, so that the next read begins
 /// at the next line. Any other failure of the reader is handed on. (Profile of this project.)
-pub fn read_line<R: BufRead>(reader: &mut R, line: &mut Vec<u8>) -> io::Result<LineRead>
-    ensures { IfOk result (λ read.
+pub fn read_line<R: LineInput>(reader: &mut R, line: &mut Vec<u8>) -> io::Result<LineRead>
+    ensures read { IfOk result (λ read.
         HasRead read (R.remaining reader.old) (R.remaining reader.new) line.new.items) }
+    ensures failed { OnErr result (R.failed reader.new) }
 {
     line.clear();
-    match reader.read_until(b'\n', line) {
+    match reader.read_through(line) {
         Ok(0) => Ok(LineRead::End),
         Ok(_) => {
             drop_line_feed(line);
@@ -60,14 +62,15 @@ fn is_ended(line: &[u8]) -> bool
 }
 
 // Skips the rest of the line of which `front` was read.
-fn skip_line<R: BufRead>(reader: &mut R, front: &[u8]) -> io::Result<LineRead>
-    ensures { StopsAt front.now 10 → IfOk result (λ read.
+fn skip_line<R: LineInput>(reader: &mut R, front: &[u8]) -> io::Result<LineRead>
+    ensures skipped { StopsAt front.now 10 → IfOk result (λ read.
         HasSkipped read front.now (R.remaining reader.old) (R.remaining reader.new)) }
+    ensures failed { OnErr result (R.failed reader.new) }
 {
     if is_ended(front) {
         return Ok(LineRead::Skipped);
     }
-    let skipped = reader.skip_until(b'\n')?;
+    let skipped = reader.skip_through()?;
     if skipped == 0 && front.is_empty() {
         Ok(LineRead::End)
     } else {

@@ -1,18 +1,19 @@
 //! Lines in, lines out.
 
-ghost use Rattle.std.specs.Prelude.{◌≡◌, List, ℕ, IfOk, IfSome, OnOk, OnErr, flat_map};
+ghost use Rattle.std.specs.Prelude.{◌≡◌, ◌⊎◌, List, ℕ, length, IfOk, IfErr, OnOk, OnErr, flat_map};
 ghost use Rattle.std.specs.Io.KnownBytes.{Appends};
-ghost use Rattle.cs_lines.specs.Lines.{hex_line, lines_of};
-ghost use Rattle.cs_lines.specs.Served.{Answers, AnswersAll};
+ghost use Rattle.cs_lines.specs.Lines.{hex_line};
+ghost use Rattle.cs_lines.specs.Served.{Answers, AnswersAll, AreAllLines, AreFirstLines, StaysSent};
 ghost use Rattle.cs_lines.specs.Shown.{bytes_of};
-ghost use Rattle.cs_lines.specs.Turns.{TakesTurn};
+ghost use Rattle.cs_lines.specs.Turns.{HasFailed, TakesTurn};
+ghost use Rattle.cs_lines.specs.Writing.{AppendsBroken, AppendsFront};
 
 use crate::Memory;
-use crate::answer::{Answer, write_answer};
 use crate::line::{LineRead, read_line};
+use crate::reply::{Reply, write_reply};
+use crate::streams::{LineInput, LineOutput};
 use hex::FromHexError;
 use std::alloc::Global;
-use std::io::{BufRead, Write};
 
 /// How often a run asks its reader for a line before it gives up.
 pub const ASKS: u64 = 1 << 40;
@@ -44,24 +45,41 @@ pub(crate) enum Turn {
     Ended,
 }
 
-/// Answers each line of the reader, up to its end, by a line of lower case hex, and flushes the
-/// writer after each.
+/// Answers each line of the reader, up to its end, by a line of lower case hex, and sends each answer before it reads on.
 ///
 /// A line of hex digits of either case is a request, the empty line the empty one. A line that is
 /// no hex is answered `1316`. A line for which memory runs out is answered `1301`, and the server
-/// is then as it was. (Profile of this project.)
-pub fn serve_lines<S: Serve, R: BufRead, W: Write>(
+/// is then as it was; the next line is read as ever. (Profile of this project.)
+pub fn serve_lines<S: Serve, R: LineInput, W: LineOutput>(
     alloc: Global,
     server: &mut S,
     reader: &mut R,
     writer: &mut W,
 ) -> Result<(), Stop>
-    ensures { OnOk result (IfSome (R.remaining reader.old) (λ input. (answers : List (List ℕ))
-        × AnswersAll S.serves server.old (lines_of input) answers server.new
-        × Appends (W.contents writer.old) (W.contents writer.new) (flat_map hex_line answers))) }
+    // All lines were answered.
+    ensures served { OnOk result ((lines : List (List ℕ)) × (answers : List (List ℕ))
+        × AreAllLines (R.remaining reader.old) lines
+        × AnswersAll S.serves server.old lines answers server.new
+        × Appends (W.contents writer.old) (W.contents writer.new) (flat_map hex_line answers)) }
+
+    // The reader failed, or gave a whole run's lines: each line that it gave was answered.
+    ensures read { IfErr result (λ stop. stop ≡ Stop.Read → (lines : List (List ℕ)) × (answers : List (List ℕ))
+        × AreFirstLines (R.remaining reader.old) lines
+        × AnswersAll S.serves server.old lines answers server.new
+        × Appends (W.contents writer.old) (W.contents writer.new) (flat_map hex_line answers)
+        × (R.failed reader.new ⊎ (length lines ≡ ASKS))) }
+
+    // The writer failed, within the answer to the last line that was taken.
+    ensures write { IfErr result (λ stop. stop ≡ Stop.Write → (lines : List (List ℕ)) × (answers : List (List ℕ))
+        × AreFirstLines (R.remaining reader.old) lines
+        × AnswersAll S.serves server.old lines answers server.new
+        × AppendsBroken (W.contents writer.old) (W.contents writer.new) answers
+        × W.failed writer.new) }
+
+    ensures sent { StaysSent result (W.sent writer.old) (W.sent writer.new) }
 {
     let mut line = Vec::new(alloc);
-    for _ in 0..ASKS {
+    for asked in 0..ASKS {
         match serve_line(alloc, server, reader, writer, &mut line)? {
             Turn::Answered => {}
             Turn::Ended => return Ok(()),
@@ -71,47 +89,53 @@ pub fn serve_lines<S: Serve, R: BufRead, W: Write>(
 }
 
 // Answers one line, for which the buffer is used.
-fn serve_line<S: Serve, R: BufRead, W: Write>(
+fn serve_line<S: Serve, R: LineInput, W: LineOutput>(
     alloc: Global,
     server: &mut S,
     reader: &mut R,
     writer: &mut W,
     line: &mut Vec<u8>,
 ) -> Result<Turn, Stop>
-    ensures { IfOk result (λ turn. TakesTurn turn S.serves server.old server.new
-        (R.remaining reader.old) (R.remaining reader.new) (W.contents writer.old) (W.contents writer.new)) }
+    ensures turn { TakesTurn result S.serves server.old server.new
+        (R.remaining reader.old) (R.remaining reader.new) (W.contents writer.old) (W.contents writer.new) }
+    ensures sent { StaysSent result (W.sent writer.old) (W.sent writer.new) }
+    ensures failed { IfErr result (λ stop. HasFailed stop (R.failed reader.new) (W.failed writer.new)) }
 {
     match read_line(reader, line) {
         Ok(LineRead::Whole) => {
-            let answer = answer_line(alloc, server, line);
-            send(writer, &answer)
+            let reply = answer_line(alloc, server, line);
+            send(writer, &reply)
         }
-        Ok(LineRead::Skipped) => send(writer, &Answer::NoMemory),
+        Ok(LineRead::Skipped) => send(writer, &Reply::NoMemory),
         Ok(LineRead::End) => Ok(Turn::Ended),
         Err(_) => Err(Stop::Read),
     }
 }
 
-fn send<W: Write>(writer: &mut W, answer: &Answer) -> Result<Turn, Stop>
+fn send<W: LineOutput>(writer: &mut W, reply: &Reply) -> Result<Turn, Stop>
     ensures turn { IfOk result (λ turn. turn ≡ Turn.Answered) }
-    ensures sent { OnOk result (Appends (W.contents writer.old) (W.contents writer.new) (hex_line (bytes_of answer.now))) }
+    ensures stop { IfErr result (λ stop. stop ≡ Stop.Write) }
+    ensures written { OnOk result (Appends (W.contents writer.old) (W.contents writer.new) (hex_line (bytes_of reply.now))) }
+    ensures sent { OnOk result (W.sent writer.new) }
+    ensures front { OnErr result (AppendsFront (W.contents writer.old) (W.contents writer.new) (hex_line (bytes_of reply.now))) }
+    ensures failed { OnErr result (W.failed writer.new) }
 {
-    match write_answer(writer, answer) {
+    match write_reply(writer, reply) {
         Ok(()) => Ok(Turn::Answered),
         Err(_) => Err(Stop::Write),
     }
 }
 
 // Answers one line. Where memory runs out, the server stays.
-fn answer_line<S: Serve>(alloc: Global, server: &mut S, line: &[u8]) -> Answer
+fn answer_line<S: Serve>(alloc: Global, server: &mut S, line: &[u8]) -> Reply
     ensures { Answers S.serves server.old line.now (bytes_of result) server.new }
 {
     match hex::decode(alloc, line) {
         Ok(request) => match server.serve(&request) {
-            Ok(answer) => Answer::Bytes(answer),
-            Err(_) => Answer::NoMemory,
+            Ok(answer) => Reply::Bytes(answer),
+            Err(_) => Reply::NoMemory,
         },
-        Err(FromHexError::OutOfMemory) => Answer::NoMemory,
-        Err(_) => Answer::NotHex,
+        Err(FromHexError::OutOfMemory) => Reply::NoMemory,
+        Err(_) => Reply::NotHex,
     }
 }

@@ -1,7 +1,9 @@
-use crate::{LineRead, Memory, Serve, Stop, read_line, serve_lines, write_hex_line};
+use crate::{
+    LineOutput, LineRead, Memory, Serve, Stop, read_line, serve_lines, write_hex_line, write_whole,
+};
 use std::alloc::Global;
 use std::io;
-use std::io::{BufReader, Read, Write};
+use std::io::{BufReader, BufWriter, Read, Write};
 use std::test::Fail;
 
 // A server that answers by how many requests it has served, and by the request.
@@ -100,6 +102,34 @@ impl Write for Narrow {
         }
         Ok(())
     }
+}
+
+impl LineOutput for Narrow {
+    ghost sent = { λ _. Unit {0} };
+
+    ghost failed = { λ _. Unit {0} };
+
+    fn put(&mut self, bytes: &[u8]) -> io::Result<()> {
+        write_whole(self, bytes)
+    }
+
+    fn send(&mut self) -> io::Result<()> {
+        self.flush()
+    }
+}
+
+// Nothing waits in the writer's buffer once a line is answered.
+#[test]
+fn holds_nothing_back(rt: HostRuntime) -> Result<(), Fail> {
+    let alloc = rt.alloc();
+    let mut server = Counter { alloc, served: 0 };
+    let mut input = b"\n".as_slice();
+    let mut output = BufWriter::new(alloc, Vec::new(alloc))?;
+    let ended = serve_lines(alloc, &mut server, &mut input, &mut output);
+    assert!(rt; ended == Ok(()));
+    assert!(rt; output.buffer().is_empty());
+    assert!(rt; output.get_ref().as_slice() == b"00\n".as_slice());
+    Ok(())
 }
 
 #[test]

@@ -1,12 +1,14 @@
 -- Words and their tables, in order.
-use Rattle.std.proofs.Common.{◌≡◌, ℕ, zero, suc, ◌+◌, ◌<◌, List, [], ◌∷◌, ◌++◌, length, map, take, get_or, refl, sym, ap, ap₂, arith, subst, take_all, ◌≤◌, length-take}
+use Rattle.std.proofs.Common.{◌≡◌, inl, inr, ℕ, zero, suc, ◌+◌, ◌<◌, List, [], ◌∷◌, ◌++◌, length, map, take, get_or, refl, sym, ap, ap₂, arith, subst, take_all, ◌≤◌, length-take}
 use Rattle.std.specs.List.{AllZip, HoldsAt}
+use Rattle.std.proofs.lemmas.Bool.{cases_order}
 use Rattle.std.proofs.lemmas.List.{map_more, get_or-map, get_or-take, length-map, take-take}
 use Rattle.cs_value.specs.declared.catalog.TableDef.{TableDef}
 use Rattle.cs_value.specs.declared.catalog.CatalogFault.{CatalogFault}
 use Rattle.cs_value.specs.declared.catalog.CatalogFault.TheVariants.{Width, NoKey, TwiceNamed, Name, TooMany}
 use Rattle.cs_value.specs.Catalog.{AreTables, IsCatalogFault, IsTable, IsTableFault, HasFirstTableFault}
 use Rattle.sync_cli.specs.TableWord.{SpellsTable}
+use Rattle.sync_cli.specs.Laws.{NoCatalogRefused, OneCatalog, OneRefusedWord}
 use Rattle.sync_cli.specs.CatalogWords.{IsCatalogOf, IsFirstRefused, IsRefusedAt, status_of}
 use Rattle.sync_cli.specs.declared.table.Refused.{Refused}
 use Rattle.sync_cli.specs.declared.table.Refused.TheVariants.{Memory, Word}
@@ -90,13 +92,38 @@ tables_front n tables are = (
       rw (take-take place n tables (omega (arith, below)), get_or-take n tables place d below) (are.1 place within d),
 )
 
+-- the front of words that are a catalog
+catalog_front : (words : List (List ℕ)) (tables : List TableDef) (n : ℕ) → IsCatalogOf words tables
+    → IsCatalogOf (take n words) (take n tables)
+catalog_front words tables n catalog = (zip_front n words tables catalog.0, tables_front n tables catalog.1)
+
+pub one_catalog : OneCatalog
+one_catalog words tables others first second = zip_once words tables others first.0 second.0
+
+pub no_catalog_refused : NoCatalogRefused
+no_catalog_refused words tables place catalog refused =
+    refused.1 (take (place + 1) tables) (catalog_front words tables (place + 1) catalog)
+
+-- words are not refused at a place before another at which they are
+refused_before : (words : List (List ℕ)) (place other : ℕ) → place < other → IsRefusedAt words place → IsRefusedAt words other → ⊥
+refused_before words place other lt refused later =
+    let front = catalog_front (take other words) later.0.0 (place + 1) later.0.1 in
+    refused.1 (take (place + 1) later.0.0)
+    (subst (λ (ws : List (List ℕ)). IsCatalogOf ws (take (place + 1) later.0.0)) (take-take (place + 1) other words (omega (arith, lt))) front)
+
+pub one_refused_word : OneRefusedWord
+one_refused_word words place other first second =
+    elim (cases_order place other) [
+      | inl same ↦ same
+      | inr (inl before) ↦ absurd (refused_before words place other before first second)
+      | inr (inr behind) ↦ absurd (refused_before words other place behind second first)
+    ]
+
 -- words that are refused somewhere are no catalog
 pub refused_words : (refused : Refused) (words : List (List ℕ)) → IsFirstRefused refused words → status_of refused ≡ 2
     → (tables : List TableDef) → IsCatalogOf words tables → ⊥
 refused_words Memory words first two = absurd (omega arith)
-refused_words (Word word) words first two = λ tables catalog.
-    let next = first.0 + 1 in
-    first.2.1 (take next tables) (zip_front next words tables catalog.0, tables_front next tables catalog.1)
+refused_words (Word word) words first two = λ tables catalog. no_catalog_refused words tables first.0 catalog first.2
 
 -- the same over things that hold a word each
 module _ {A : Type 0} (word_of : A → List ℕ) (xs : List A) where

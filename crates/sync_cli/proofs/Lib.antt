@@ -1,4 +1,6 @@
 pub mod CatalogLemmas
+pub mod CommandLemmas
+pub mod EndingLemmas
 pub mod FoundLemmas
 pub mod InputLemmas
 pub mod WordLemmas

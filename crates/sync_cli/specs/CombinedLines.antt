@@ -1,8 +1,10 @@
 -- What `combine` writes: the changesets that the lines of the input spell, as one (profile of this project over
 -- SQLite's changegroup).
-use Rattle.std.specs.Prelude.{◌≡◌, ℕ, List, Ok}
+use Rattle.std.specs.Prelude.{◌≡◌, ℕ, List, Ok, Option}
 use Rattle.std.specs.List.{AllZip}
 use Rattle.hex.specs.Hex.{decode_of}
+use Rattle.cs_lines.specs.Lines.{hex_line}
+use Rattle.cs_lines.specs.Served.{AreAllLines}
 use Rattle.cs_change.specs.Spelling.{FitsChangeset, changeset_spelling}
 use Rattle.cs_change.specs.declared.group.Group.{Group}
 use Rattle.cs_normal.specs.Normal.{normal_spelling}
@@ -25,3 +27,8 @@ pub record SpellsCombined (lines : List (List ℕ)) (bytes : List ℕ) : Type 0 
   pub read : SpellChangesets lines changesets
   pub combined : IsCombined changesets both
   pub spelled : bytes ≡ normal_spelling both
+
+-- the text is one line of hex: the spelling of the changesets of all lines of the input, as one
+abbrev pub CombinesAll : Option (List ℕ) → List ℕ → Type 0
+CombinesAll input text = (lines : List (List ℕ)) × (bytes : List ℕ)
+    × AreAllLines input lines × SpellsCombined lines bytes × (text ≡ hex_line bytes)

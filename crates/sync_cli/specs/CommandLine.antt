@@ -1,6 +1,8 @@
 -- The command line of `sync`, as the parser sees it, and what it asks for.
 use Rattle.std.specs.Prelude.{List, [], Option, Some, None, Bool, true, false, unwrap_or, if◌then◌else◌, codes}
 use Rattle.std.specs.Str.{bytes_eq}
+use Rattle.clap.specs.Faults.{fault_of}
+use Rattle.clap.specs.Kinds.{Kinds}
 use Rattle.clap.specs.Words.{App, Row, Rule, Text, all_of, first_of, new_app, new_rule, subcommand_of, with_rule, with_subcommand}
 use Rattle.clap.specs.declared.builder.action.ArgAction.TheVariants.{Append}
 use Rattle.sync_cli.specs.declared.command.Tool.{Tool}
@@ -26,6 +28,10 @@ combine_app = new_app (codes "combine")
 abbrev pub sync_app : App
 sync_app =
     with_subcommand (with_subcommand (with_subcommand (new_app (codes "sync")) hub_app.top) show_app.top) combine_app.top
+
+-- the kinds of which the parser's refusal of a command line may be; none where it takes it
+abbrev pub faults_of : List Text → Kinds
+faults_of words = fault_of sync_app words
 
 -- the table words of a subcommand's matches, where it is `hub`
 abbrev pub tables_in : Option (Text × List Row) → Option (List Text)

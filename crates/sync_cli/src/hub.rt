@@ -1,21 +1,16 @@
 //! `hub TABLE...`: requests in hex, answered line by line.
 
-ghost use Rattle.std.specs.Prelude.{◌≡◌, List, ℕ, IfSome, flat_map, map};
-ghost use Rattle.std.specs.Io.KnownBytes.{Appends};
-ghost use Rattle.cs_lines.specs.Lines.{hex_line, lines_of};
-ghost use Rattle.cs_lines.specs.Served.{AnswersAll};
-ghost use Rattle.cs_value.specs.declared.catalog.TableDef.{TableDef};
-ghost use Rattle.cs_hub.specs.Hub.{HubState, fresh};
-ghost use Rattle.cs_hub.specs.Serves.{Serves};
-ghost use Rattle.sync_cli.specs.CatalogWords.{AreNoCatalog, IsCatalogOf, status_of};
+ghost use Rattle.std.specs.Prelude.{◌≡◌, map};
+ghost use Rattle.sync_cli.specs.CatalogWords.{status_of};
+ghost use Rattle.sync_cli.specs.Endings.{EndsServing};
 
+use crate::status::{DONE, MEMORY, READ, REFUSED_COMMAND, REFUSED_INPUT, WRITE, tell};
 use crate::table;
 use crate::table::Refused;
-use crate::told::{DONE, MEMORY, READ, REFUSED_COMMAND, REFUSED_INPUT, WRITE, tell};
 use cs_hub::Hub;
-use cs_lines::{Stop, serve_lines};
+use cs_lines::{LineInput, LineOutput, Stop, serve_lines};
 use std::alloc::Global;
-use std::io::{BufRead, Write};
+use std::io::Write;
 
 fn tell_refused_tables<E: Write>(refused: &Refused, errors: &mut E) -> u8
     ensures { result ≡ status_of refused.now }
@@ -32,18 +27,16 @@ fn tell_refused_tables<E: Write>(refused: &Refused, errors: &mut E) -> u8
 /// Answers each line of the input as a new hub of the tables that the words spell, and answers the status: 0 where all
 /// was answered; 1 where memory was refused or a read or write failed; 2 where the words spell no catalog. (Profile of
 /// this project.)
-pub fn serve_hub<R: BufRead, W: Write, E: Write>(
+pub fn serve_hub<R: LineInput, W: LineOutput, E: Write>(
     alloc: Global,
     table_words: &[&str],
     reader: &mut R,
     writer: &mut W,
     errors: &mut E,
 ) -> u8
-    ensures done { result ≡ 0 → (tables : List TableDef) × IsCatalogOf (map (λ word. word.now) table_words.now) tables
-        × IfSome (R.remaining reader.old) (λ input. (answers : List (List ℕ)) × (end : HubState)
-        × AnswersAll Serves (fresh tables) (lines_of input) answers end
-        × Appends (W.contents writer.old) (W.contents writer.new) (flat_map hex_line answers)) }
-    ensures refused { result ≡ 2 → AreNoCatalog (map (λ word. word.now) table_words.now) }
+    ensures ends { EndsServing result (map (λ word. word.now) table_words.now) (R.remaining reader.old)
+        (R.failed reader.new) (W.failed writer.new) (W.contents writer.old) (W.contents writer.new) }
+    ensures sent { result ≡ 0 → W.sent writer.old → W.sent writer.new }
 {
     let catalog = match table::catalog(alloc, table_words) {
         Ok(catalog) => catalog,

@@ -1,20 +1,20 @@
 //! Changesets in hex, line by line, and why an input is refused.
 
-ghost use Rattle.std.specs.Prelude.{◌≡◌, Ok, IfOk, IfSome};
+ghost use Rattle.std.specs.Prelude.{◌≡◌, ℕ, List, Ok, IfOk};
 ghost use Rattle.std.specs.List.{AllByRecursion};
 ghost use Rattle.cs_change.specs.Spelling.{FitsChangeset};
 ghost use Rattle.hex.specs.Hex.{decode_of};
-ghost use Rattle.cs_lines.specs.Lines.{lines_of};
+ghost use Rattle.cs_lines.specs.Served.{AreAllLines};
 ghost use Rattle.sync_cli.specs.CombinedLines.{SpellsChangeset, SpellChangesets};
 ghost use Rattle.sync_cli.specs.LinesRead.{TakesChangeset};
 
-use crate::told::REFUSED_INPUT;
+use crate::status::REFUSED_INPUT;
 use cs_changeset::{Changeset, CodecFault};
 use cs_group::CombineFault;
-use cs_lines::{ASKS, LineRead, read_line};
+use cs_lines::{ASKS, LineInput, LineRead, lines_taken, read_line};
 use hex::FromHexError;
 use std::alloc::{AllocError, Global};
-use std::io::{BufRead, Write};
+use std::io::Write;
 use thiserror::Error;
 
 /// Why the input is refused. The text is what is told of it behind `sync: `. (Profile of this project.)
@@ -56,7 +56,7 @@ fn read_changeset(alloc: Global, line: &[u8]) -> Result<Changeset, Refusal>
 }
 
 /// The changeset that the next line spells, if there is a line. The buffer is for the line.
-pub fn next_changeset<R: BufRead>(
+pub fn next_changeset<R: LineInput>(
     alloc: Global,
     reader: &mut R,
     line: &mut Vec<u8>,
@@ -72,10 +72,15 @@ pub fn next_changeset<R: BufRead>(
 }
 
 /// The changesets that the lines spell, one each, up to the end of the input.
-pub fn all_changesets<R: BufRead>(alloc: Global, reader: &mut R) -> Result<Vec<Changeset>, Refusal>
+pub fn all_changesets<R: LineInput>(
+    alloc: Global,
+    reader: &mut R,
+) -> Result<Vec<Changeset>, Refusal>
     ensures fit { IfOk result (λ changesets. AllByRecursion FitsChangeset changesets.items) }
-    ensures spelled { IfOk result (λ changesets. IfSome (R.remaining reader.old) (λ input. SpellChangesets (lines_of input) changesets.items)) }
+    ensures spelled { IfOk result (λ changesets. (lines : List (List ℕ))
+        × AreAllLines (R.remaining reader.old) lines × SpellChangesets lines changesets.items) }
 {
+    lines_taken();
     let mut line = Vec::new(alloc);
     let mut changesets = Vec::new(alloc);
     for _ in 0..ASKS {

@@ -11,12 +11,14 @@ mod combine;
 mod command;
 mod hub;
 mod input;
+mod laws;
+mod output;
 mod run;
 mod show;
+mod status;
 mod table;
-mod told;
 
-use crate::told::{COMMAND_LINE, MEMORY, REFUSED_COMMAND, REFUSED_INPUT, tell};
+use crate::status::{COMMAND_LINE, MEMORY, REFUSED_COMMAND, REFUSED_INPUT, tell};
 use std::io::{BufReader, BufWriter, ErrorKind, Write};
 use std::process::ExitCode;
 use std::{env, io};
@@ -55,7 +57,9 @@ fn tell_refused_start<E: Write>(error: &io::Error, errors: &mut E) -> u8 {
 }
 
 #[cfg(test)]
-mod combines;
+mod combine_tests;
+#[cfg(test)]
+mod fault_texts;
 #[cfg(test)]
 mod sessions;
 #[cfg(test)]

@@ -1,69 +1,72 @@
 //! One run of the program, over any reader and writers.
 
-ghost use Rattle.std.specs.Prelude.{◌≡◌, List, ℕ, IfSome, Some, flat_map, map, true};
-ghost use Rattle.std.specs.Io.KnownBytes.{Appends};
-ghost use Rattle.clap.specs.Words.{kind_of, takes};
-ghost use Rattle.cs_lines.specs.Lines.{hex_line, lines_of};
-ghost use Rattle.cs_lines.specs.Served.{AnswersAll};
-ghost use Rattle.cs_value.specs.declared.catalog.TableDef.{TableDef};
-ghost use Rattle.sync_cli.specs.CatalogWords.{IsCatalogOf, IsRefused};
-ghost use Rattle.sync_cli.specs.CombinedLines.{SpellsCombined};
-ghost use Rattle.sync_cli.specs.CommandLine.{sync_app, tables_of, tool_of};
+ghost use Rattle.std.specs.Prelude.{◌≡◌, ◌≢◌, ◌≤◌, ◌⊎◌, [], List, ℕ, None, Some, map};
+ghost use Rattle.std.specs.Io.KnownBytes.{Keeps};
+ghost use Rattle.clap.specs.Words.{kind_of};
+ghost use Rattle.sync_cli.specs.CombinedLines.{CombinesAll};
+ghost use Rattle.sync_cli.specs.CommandLine.{faults_of, tables_of, tool_of};
+ghost use Rattle.sync_cli.specs.Endings.{EndsServing, EndsUnasked, EndsUntaken, EndsWriting};
 ghost use Rattle.sync_cli.specs.ShownLine.{ShowsFirst};
 ghost use Rattle.sync_cli.specs.declared.command.Tool.TheVariants.{Combine, ShowChangeset};
-ghost use Rattle.cs_hub.specs.Hub.{HubState, fresh};
-ghost use Rattle.cs_hub.specs.Serves.{Serves};
 
 use crate::combine::combine_lines;
 use crate::command;
 use crate::command::Tool;
 use crate::hub::serve_hub;
+use crate::output::write_text;
 use crate::show::show_changeset;
-use crate::told::{COMMAND_LINE, DONE, MEMORY, REFUSED_COMMAND, REFUSED_INPUT, WRITE, tell};
+use crate::status::{COMMAND_LINE, DONE, MEMORY, REFUSED_COMMAND, REFUSED_INPUT, WRITE, tell};
 use clap::Error;
 use clap::error::ErrorKind;
+use cs_lines::{LineInput, LineOutput};
 use std::alloc::Global;
 use std::convert::AsStr;
-use std::io;
-use std::io::{BufRead, Write};
+use std::io::Write;
 
 /// Runs `sync` on its words, of which the first is the program's name, and answers the status with
 /// which the program ends: 0 where all was done, also where help was asked for; 1 where the input or memory was
 /// refused or a read or write failed; 2 where the command line was refused. Each status but 0 comes
 /// with one line on `errors`. (Profile of this project.)
-pub fn run<S: AsStr, R: BufRead, W: Write, E: Write>(
+pub fn run<S: AsStr, R: LineInput, W: LineOutput, E: Write>(
     alloc: Global,
     words: &[S],
     reader: &mut R,
     writer: &mut W,
     errors: &mut E,
 ) -> u8
-    // A hub answers each line: one lower case hex line each, by the catalog of the table words.
-    ensures served { result ≡ 0 → takes sync_app (map S.text words.now) ≡ true
+    ensures status { result ≤ 2 }
+
+    // Where all was done, nothing that was written is held back.
+    ensures sent { result ≡ 0 → W.sent writer.old → W.sent writer.new }
+
+    // Words that the command line doesn't take, among them those that ask for help.
+    ensures untaken { faults_of (map S.text words.now) ≢ []
+        → EndsUntaken result (faults_of (map S.text words.now)) (W.contents writer.old) (W.contents writer.new) }
+
+    // `hub TABLE...`: a hub of these tables answers each line by a line of lower case hex.
+    ensures hub { faults_of (map S.text words.now) ≡ []
         → (table_words : List (List ℕ)) → tables_of (map S.text words.now) ≡ Some table_words
-        → (tables : List TableDef) × IsCatalogOf table_words tables
-        × IfSome (R.remaining reader.old) (λ input. (answers : List (List ℕ)) × (end : HubState)
-        × AnswersAll Serves (fresh tables) (lines_of input) answers end
-        × Appends (W.contents writer.old) (W.contents writer.new) (flat_map hex_line answers)) }
+        → EndsServing result table_words (R.remaining reader.old) (R.failed reader.new) (W.failed writer.new)
+        (W.contents writer.old) (W.contents writer.new) }
 
-    // The changesets of all lines as one: one lower case hex line.
-    ensures combined { result ≡ 0 → takes sync_app (map S.text words.now) ≡ true
-        → tool_of (map S.text words.now) ≡ Some Combine
-        → IfSome (R.remaining reader.old) (λ input. (bytes : List ℕ) × SpellsCombined (lines_of input) bytes
-        × Appends (W.contents writer.old) (W.contents writer.new) (hex_line bytes)) }
+    // `combine`: the changesets of all lines as one, as a line of lower case hex.
+    ensures combine { faults_of (map S.text words.now) ≡ [] → tool_of (map S.text words.now) ≡ Some Combine
+        → EndsWriting result (CombinesAll (R.remaining reader.old)) (W.failed writer.new)
+        (W.contents writer.old) (W.contents writer.new) }
 
-    // The changeset of the first line as text.
-    ensures shown { result ≡ 0 → takes sync_app (map S.text words.now) ≡ true
-        → tool_of (map S.text words.now) ≡ Some ShowChangeset
-        → IfSome (R.remaining reader.old) (λ input. (text : List ℕ) × ShowsFirst (lines_of input) text
-        × Appends (W.contents writer.old) (W.contents writer.new) text) }
+    // `show changeset`: the changeset of the first line as text, and the rest of the lines is left.
+    ensures show { faults_of (map S.text words.now) ≡ [] → tool_of (map S.text words.now) ≡ Some ShowChangeset
+        → EndsWriting result (ShowsFirst (R.remaining reader.old) (R.remaining reader.new)) (W.failed writer.new)
+        (W.contents writer.old) (W.contents writer.new) }
 
-    ensures refused { result ≡ 2 → takes sync_app (map S.text words.now) ≡ true
-        → IsRefused (tables_of (map S.text words.now)) (tool_of (map S.text words.now)) }
+    // Words that the command line takes and that ask for nothing.
+    ensures unasked { faults_of (map S.text words.now) ≡ [] → tables_of (map S.text words.now) ≡ None
+        → tool_of (map S.text words.now) ≡ None
+        → EndsUnasked result (W.contents writer.old) (W.contents writer.new) }
 {
     let matches = match command::parse(alloc, words) {
         Ok(matches) => matches,
-        Err(error) => return tell_refused_command(&error, writer, errors),
+        Err(error) => return tell_refused_command(alloc, &error, writer, errors),
     };
     if let Some(table_words) = command::tables(&matches) {
         return serve_hub(alloc, table_words, reader, writer, errors);
@@ -76,20 +79,41 @@ pub fn run<S: AsStr, R: BufRead, W: Write, E: Write>(
 }
 
 // Help goes to the output; any other refusal is one line on the errors.
-fn tell_refused_command<W: Write, E: Write>(error: &Error, writer: &mut W, errors: &mut E) -> u8
-    ensures { kind_of error.now ≡ ErrorKind.OutOfMemory → result ≡ 1 }
+fn tell_refused_command<W: LineOutput, E: Write>(
+    alloc: Global,
+    error: &Error,
+    writer: &mut W,
+    errors: &mut E,
+) -> u8
+    ensures status { (result ≡ 0) ⊎ (result ≡ 1) ⊎ (result ≡ 2) }
+    ensures sent { result ≡ 0 → W.sent writer.new }
+    ensures memory { kind_of error.now ≡ ErrorKind.OutOfMemory
+        → (result ≡ 1) × Keeps (W.contents writer.old) (W.contents writer.new) }
+    ensures help { result ≡ 0 → kind_of error.now ≡ ErrorKind.DisplayHelp }
+    ensures refused { result ≡ 2
+        → (kind_of error.now ≢ ErrorKind.DisplayHelp) × Keeps (W.contents writer.old) (W.contents writer.new) }
 {
     match error.kind() {
         ErrorKind::OutOfMemory => tell(errors, MEMORY, REFUSED_INPUT),
-        ErrorKind::DisplayHelp => match show_help(error, writer) {
-            Ok(()) => DONE,
-            Err(_) => tell(errors, WRITE, REFUSED_INPUT),
-        },
+        ErrorKind::DisplayHelp => show_help(alloc, error, writer, errors),
         _ => tell(errors, COMMAND_LINE, REFUSED_COMMAND),
     }
 }
 
-fn show_help<W: Write>(error: &Error, writer: &mut W) -> io::Result<()> {
-    write!(writer, "{error}")?;
-    writer.flush()
+fn show_help<W: LineOutput, E: Write>(
+    alloc: Global,
+    error: &Error,
+    writer: &mut W,
+    errors: &mut E,
+) -> u8
+    ensures status { (result ≡ 0) ⊎ (result ≡ 1) }
+    ensures sent { result ≡ 0 → W.sent writer.new }
+{
+    let Ok(help) = format!(in alloc; "{error}") else {
+        return tell(errors, MEMORY, REFUSED_INPUT);
+    };
+    match write_text(writer, help.as_str()) {
+        Ok(()) => DONE,
+        Err(_) => tell(errors, WRITE, REFUSED_INPUT),
+    }
 }

@@ -1,5 +1,6 @@
 //! Whole runs: what a person types, and what comes back.
 
+use crate::run::run;
 use crate::tests::expect;
 use std::alloc::Global;
 use std::test::Fail;
@@ -209,6 +210,20 @@ fn a_full_log(rt: HostRuntime) -> Result<(), Fail> {
     )
 }
 
+// The line behind the first is left to whoever reads on.
+#[test]
+fn shows_one_line(rt: HostRuntime) -> Result<(), Fail> {
+    let alloc = rt.alloc();
+    let mut input = b"54020100743100\nnext\n".as_slice();
+    let mut output = Vec::new(alloc);
+    let mut errors = Vec::new(alloc);
+    let words = ["sync", "show", "changeset"].as_slice();
+    let status = run(alloc, words, &mut input, &mut output, &mut errors);
+    assert_eq!(rt; status, 0);
+    assert!(rt; input == b"next\n".as_slice());
+    Ok(())
+}
+
 #[test]
 fn shows_changesets(rt: HostRuntime) -> Result<(), Fail> {
     let words = ["sync", "show", "changeset"].as_slice();
@@ -227,19 +242,6 @@ fn shows_changesets(rt: HostRuntime) -> Result<(), Fail> {
     ];
     for (input, output) in shown {
         expect(&rt, rt.alloc(), words, input.as_bytes(), 0, output, "")?;
-    }
-    let refused = [
-        ("zz\n", "sync: BadHex\n"),
-        ("5\n", "sync: BadHex\n"),
-        ("50\n", "sync: Patchset at 0\n"),
-        ("5402\n", "sync: Truncated at 2\n"),
-        (
-            "54020100743100120001000000000000000106\n",
-            "sync: BadType at 18\n",
-        ),
-    ];
-    for (input, told) in refused {
-        expect(&rt, rt.alloc(), words, input.as_bytes(), 1, "", told)?;
     }
     let told = "sync: command line\n";
     expect(&rt, rt.alloc(), &["sync", "show"], b"50\n", 2, "", told)?;

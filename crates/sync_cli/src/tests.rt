@@ -1,6 +1,7 @@
 use crate::run::run;
 use crate::table;
 use crate::table::Refused;
+use cs_lines::{LineOutput, write_whole};
 use std::alloc::Global;
 use std::io;
 use std::io::{BufReader, Read, Write};
@@ -145,24 +146,27 @@ fn reads_table_words(rt: HostRuntime) -> Result<(), Fail> {
     Ok(())
 }
 
+// What help says: the usage line by the program's own name, and a line of words for each command.
 #[test]
 fn tells_help(rt: HostRuntime) -> Result<(), Fail> {
-    let alloc = rt.alloc();
-    let mut input = b"07\n".as_slice();
-    let mut output = Vec::new(alloc);
-    let mut errors = Vec::new(alloc);
-    let words = ["sync", "--help"];
-    let status = run(
-        alloc,
-        words.as_slice(),
-        &mut input,
-        &mut output,
-        &mut errors,
-    );
-    assert_eq!(rt; status, 0);
-    assert!(rt; output.starts_with(b"Usage: sync"));
-    assert!(rt; errors.is_empty());
-    Ok(())
+    let whole =
+        "Offline-first table sync: a hub, and tools for changesets\n\nUsage: sync [COMMAND]\n\nCommands:\n  hub      Answer requests, one a line in hex, as a hub of these tables\n  show     Show the changeset that the first line spells in hex\n  combine  Take the changesets that the lines spell in hex together as one\n  help     Print this message or the help of the given subcommand(s)\n\nOptions:\n  -h, --help  Print help\n";
+    let combine =
+        "Take the changesets that the lines spell in hex together as one\n\nUsage: sync combine\n\nOptions:\n  -h, --help  Print help\n";
+    expect(&rt, rt.alloc(), &["sync", "--help"], b"07\n", 0, whole, "")?;
+    expect(&rt, rt.alloc(), &["any", "help"], b"07\n", 0, whole, "")?;
+    let words = ["sync", "help", "combine"].as_slice();
+    expect(&rt, rt.alloc(), words, b"07\n", 0, combine, "")?;
+    let told = "sync: command line\n";
+    expect(
+        &rt,
+        rt.alloc(),
+        &["sync", "help", "frob"],
+        b"07\n",
+        2,
+        "",
+        told,
+    )
 }
 
 // A writer that takes a number of bytes and then fails.
@@ -201,6 +205,20 @@ impl Read for Breaking {
         buf[..given].fill(b'\n');
         self.left -= given;
         Ok(given)
+    }
+}
+
+impl LineOutput for Narrow {
+    ghost sent = { λ _. Unit {0} };
+
+    ghost failed = { λ _. Unit {0} };
+
+    fn put(&mut self, bytes: &[u8]) -> io::Result<()> {
+        write_whole(self, bytes)
+    }
+
+    fn send(&mut self) -> io::Result<()> {
+        self.flush()
     }
 }
 

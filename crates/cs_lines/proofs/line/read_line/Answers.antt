@@ -4,21 +4,21 @@ use Rattle.std.specs.Io.KnownBytes.{Consumes}
 use Rattle.cs_lines.proofs.ReadLemmas.{TakesLine-read, HasRead-skipped, Keeps-end}
 use Rattle.cs_lines.proofs.line.read_line.Goals as goal
 
-pub returns-in-Ok-eq0 : goal.returns-in-Ok-eq0
-returns-in-Ok-eq0 g c =
+pub returns-in-Ok-eq0-clause-read : goal.returns-in-Ok-eq0-clause-read
+returns-in-Ok-eq0-clause-read g c =
     let end = c.in-Ok-eq0.ensures.end (search rules) in (end, Keeps-end _ _ end c.in-Ok-eq0.ensures.rest)
 
-pub returns-in-Ok : goal.returns-in-Ok
-returns-in-Ok g c =
+pub returns-in-Ok-clause-read : goal.returns-in-Ok-clause-read
+returns-in-Ok-clause-read g c =
     let took = rw c.clear.ensures.items at c.in-Ok.ensures.bytes in
-    let some : 0 < length c.read_until.new.buf.items = search rules in
+    let some : 0 < length c.read_through.new.line.items = search rules in
     rw c.drop_line_feed.ensures (TakesLine-read _ _ _ took c.in-Ok.ensures.rest some)
 
-pub returns-in-OutOfMemory : goal.returns-in-OutOfMemory
-returns-in-OutOfMemory g c =
+pub returns-in-OutOfMemory-clause-read : goal.returns-in-OutOfMemory-clause-read
+returns-in-OutOfMemory-clause-read g c =
     let lost = rw c.clear.ensures.items at c.in-Err.ensures.none_lost in
-    let took : Consumes (g.R.Read.remaining c.args.reader.now) (g.R.Read.remaining c.read_until.new.self) c.deref.result.now =
+    let took : Consumes (g.R.Read.remaining c.args.reader.now) (g.R.Read.remaining c.read_through.new.self) c.deref.result.now =
     rw c.deref.ensures.value lost in
     let ends = rw c.clear.ensures.items at c.in-Err.ensures.stops in
     let stops : StopsAt c.deref.result.now 10 = rw c.deref.ensures.value ends in
-    HasRead-skipped _ _ _ _ _ _ took (c.skip_line.ensures stops)
+    HasRead-skipped _ _ _ _ _ _ took (c.skip_line.ensures.skipped stops)

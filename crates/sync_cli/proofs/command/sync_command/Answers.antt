@@ -1,19 +1,18 @@
-use Rattle.std.proofs.Common.{rules, ◌≡◌, ap, ap₂, ◌∙◌, codes}
-use Rattle.clap.specs.Words.{App, app_of, new_app, rule_of, with_rule, with_subcommand}
-use Rattle.sync_cli.specs.CommandLine.{table_rule, hub_app, what_rule, show_app, combine_app}
+use Rattle.std.proofs.Common.{rules, ◌≡◌, ap, ap₂, ◌∙◌, codes, refl}
+use Rattle.clap.specs.Words.{App, app_of, new_app, with_subcommand}
+use Rattle.sync_cli.specs.CommandLine.{hub_app, show_app, combine_app}
+use Rattle.sync_cli.proofs.CommandLemmas.{no_globals}
 use Rattle.sync_cli.proofs.command.sync_command.Goals as goal
 
-pub returns-clause-app : goal.returns-clause-app
-returns-clause-app c =
-    let table_is : rule_of c.action-table.result ≡ table_rule = search rules in
-    let hub_is : app_of c.in_ok-hub.hub ≡ hub_app =
-    c.in_ok-hub.ensures.shape (search rules) ∙ ap₂ with_rule c.new-2.ensures.app table_is in
-    let what_is : rule_of c.required-what.result ≡ what_rule = search rules in
-    let show_is : app_of c.in_ok-show.show ≡ show_app =
-    c.in_ok-show.ensures.shape (search rules) ∙ ap₂ with_rule c.new-4.ensures.app what_is in
-    let combine_is : app_of c.new-combine.result ≡ combine_app = c.new-combine.ensures.app in
+pub returns : goal.returns
+returns c =
+    let sync_is : app_of c.override_usage-sync.result ≡ new_app (codes "sync") = search rules in
+    let hub_is : app_of c.in_ok-hub.hub ≡ hub_app = c.in_ok-hub.ensures in
+    let show_is : app_of c.in_ok-show.show ≡ show_app = c.in_ok-show.ensures in
+    let combine_is : app_of c.combine_command-combine.result ≡ combine_app = c.combine_command-combine.ensures in
     let one_is : app_of c.in_ok-one.one ≡ with_subcommand (new_app (codes "sync")) hub_app.top =
-    c.in_ok-one.ensures.shape (search rules) ∙ ap₂ with_subcommand c.new-5.ensures.app (ap (λ (a : App). a.top) hub_is) in
+    c.in_ok-one.ensures.shape (no_globals _ _ _ _ (ap (λ (a : App). a.top.is_plain) hub_is)) ∙ ap₂ with_subcommand sync_is (ap (λ (a : App). a.top) hub_is) in
     let two_is : app_of c.in_ok-two.two ≡ with_subcommand (with_subcommand (new_app (codes "sync")) hub_app.top) show_app.top =
-    c.in_ok-two.ensures.shape (search rules) ∙ ap₂ with_subcommand one_is (ap (λ (a : App). a.top) show_is) in
-    c.in_ok-sync.ensures.shape (search rules) ∙ ap₂ with_subcommand two_is (ap (λ (a : App). a.top) combine_is)
+    c.in_ok-two.ensures.shape (no_globals _ _ _ _ (ap (λ (a : App). a.top.is_plain) show_is)) ∙ ap₂ with_subcommand one_is (ap (λ (a : App). a.top) show_is) in
+    c.in_ok-whole.ensures.shape (no_globals _ _ _ _ (ap (λ (a : App). a.top.is_plain) combine_is))
+    ∙ ap₂ with_subcommand two_is (ap (λ (a : App). a.top) combine_is)

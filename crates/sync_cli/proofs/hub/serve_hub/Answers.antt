@@ -1,7 +1,6 @@
-use Rattle.std.proofs.Common.{sym, ◌∙◌}
-use Rattle.sync_cli.proofs.CatalogLemmas.{refused_words}
+use Rattle.sync_cli.proofs.EndingLemmas.{refused_hub}
 use Rattle.sync_cli.proofs.hub.serve_hub.Goals as goal
 
-pub returns-in-Err-clause-refused : goal.returns-in-Err-clause-refused
-returns-in-Err-clause-refused g c = λ two.
-    refused_words _ _ c.in-Err.ensures.refused (sym c.tell_refused_tables.ensures ∙ two)
+pub returns-in-Err-clause-ends : goal.returns-in-Err-clause-ends
+returns-in-Err-clause-ends g c =
+    refused_hub _ _ _ _ _ _ _ c.tell_refused_tables.ensures c.in-Err.ensures.refused

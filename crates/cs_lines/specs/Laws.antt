@@ -1,0 +1,43 @@
+-- The laws of lines and runs: lines are taken one after another, and have one list of answers.
+use Rattle.std.specs.Prelude.{◌≡◌, ◌≢◌, ℕ, List, [], ◌∷◌, ◌++◌, Option}
+use Rattle.std.specs.Io.KnownBytes.{IsAtEnd}
+use Rattle.std.specs.List.{AllByRecursion}
+use Rattle.cs_lines.specs.Reading.{AreTaken, TakesLine}
+use Rattle.cs_lines.specs.Served.{Answers, AnswersAll, AreAllLines, no_memory}
+
+-- before the first line none is taken
+abbrev pub NoneTaken : Type 0
+NoneTaken = (input : Option (List ℕ)) → AreTaken input input []
+
+-- one line more is taken
+abbrev pub OneMoreTaken : Type 0
+OneMoreTaken = (input left after : Option (List ℕ)) (lines : List (List ℕ)) (line : List ℕ) → AreTaken input left lines
+    → TakesLine [] left after line → AreTaken input after (lines ++ line ∷ [])
+
+-- at the end all are taken
+abbrev pub AllTaken : Type 0
+AllTaken = (input left : Option (List ℕ)) (lines : List (List ℕ)) → AreTaken input left lines
+    → IsAtEnd left → AreAllLines input lines
+
+-- at this state each request has one answer, and one state after it
+abbrev pub HasOneAnswer : {State : Type 0} → (State → List ℕ → List ℕ → State → Type 0) → State → Type 0
+HasOneAnswer {State} serves old = (request one other : List ℕ) (new next : State)
+    → serves old request one new → serves old request other next → (one ≡ other) × (new ≡ next)
+
+-- so it is at each state at which one of these lines can be answered
+abbrev pub HasOneAnswerAlong : {State : Type 0} → (State → List ℕ → List ℕ → State → Type 0)
+    → State → List (List ℕ) → Type 0
+HasOneAnswerAlong serves old [] = Unit {0}
+HasOneAnswerAlong {State} serves old (line ∷ lines) = HasOneAnswer serves old
+    × ((answer : List ℕ) (mid : State) → Answers serves old line answer mid → HasOneAnswerAlong serves mid lines)
+
+-- no line was refused for want of memory
+abbrev pub AreInMemory : List (List ℕ) → Type 0
+AreInMemory answers = AllByRecursion (λ answer. answer ≢ no_memory) answers
+
+-- two lists of answers to the same lines, in which memory was never wanting, are the same, and so are the states
+abbrev pub OneRun : {State : Type 0} → (State → List ℕ → List ℕ → State → Type 0) → Type 0
+OneRun {State} serves = (old new next : State) (lines ones others : List (List ℕ))
+    → HasOneAnswerAlong serves old lines → AreInMemory ones → AreInMemory others
+    → AnswersAll serves old lines ones new → AnswersAll serves old lines others next
+    → (ones ≡ others) × (new ≡ next)

@@ -1,0 +1,42 @@
+-- How commands end.
+use Rattle.std.proofs.Common.{◌≡◌, ◌≢◌, ℕ, zero, suc, List, inl, inr, refl, arith, subst}
+use Rattle.std.specs.Prelude.{◌⊎◌, Option}
+use Rattle.std.specs.Io.KnownBytes.{Keeps}
+use Rattle.std.proofs.KnownBytes.{Keeps-refl}
+use Rattle.clap.specs.Kinds.{IsAmong, Kinds}
+use Rattle.clap.specs.declared.error.kind.ErrorKind.{ErrorKind}
+use Rattle.clap.specs.declared.error.kind.ErrorKind.TheVariants as kind
+use Rattle.cs_lines.specs.Writing.{AppendsFront}
+use Rattle.sync_cli.specs.CatalogWords.{IsFirstRefused, status_of}
+use Rattle.sync_cli.specs.Endings.{EndsServing, EndsUntaken, EndsWriting}
+use Rattle.sync_cli.specs.declared.table.Refused.{Refused}
+use Rattle.sync_cli.specs.declared.table.Refused.TheVariants.{Memory, Word}
+use Rattle.sync_cli.proofs.CatalogLemmas.{refused_words}
+
+-- a text that is owed, of which a front was written
+pub broken_off : (status : ℕ) (IsOwed : List ℕ → Type 0) (failed : Type 0) (old new : Option (List ℕ)) (text : List ℕ) → status ≡ 1
+    → IsOwed text → AppendsFront old new text → failed → EndsWriting status IsOwed failed old new
+broken_off status IsOwed failed old new text is owed front why = rw is (inr (text, owed, front, why))
+
+-- words that are no catalog, before anything is read or written
+pub refused_hub : (refused : Refused) (words : List (List ℕ)) (status : ℕ) (input : Option (List ℕ)) (read_failed write_failed : Type 0)
+    (writer : Option (List ℕ)) → status ≡ status_of refused → IsFirstRefused refused words
+    → EndsServing status words input read_failed write_failed writer writer
+refused_hub Memory words status input read_failed write_failed writer is first = rw is (inl (Keeps-refl writer))
+refused_hub (Word word) words status input read_failed write_failed writer is first =
+    rw is (refused_words (Word word) words first refl, Keeps-refl writer)
+
+-- a refusal by the parser, of a kind that the words can have
+pub untaken : (kinds : Kinds) (why : ErrorKind) (status : ℕ) (old new : Option (List ℕ)) → (why ≡ kind.OutOfMemory) ⊎ IsAmong why kinds
+    → (status ≡ 0) ⊎ (status ≡ 1) ⊎ (status ≡ 2) → (why ≡ kind.OutOfMemory → (status ≡ 1) × Keeps old new)
+    → (status ≡ 0 → why ≡ kind.DisplayHelp) → (status ≡ 2 → (why ≢ kind.DisplayHelp) × Keeps old new)
+    → EndsUntaken status kinds old new
+untaken kinds why zero old new (inl memory) ends is_memory help refused = absurd (omega (arith, (is_memory memory).0))
+untaken kinds why zero old new (inr among) ends is_memory help refused = subst (λ k. IsAmong k kinds) (help refl) among
+untaken kinds why (suc zero) old new has ends is_memory help refused = tt
+untaken kinds why (suc (suc zero)) old new (inl memory) ends is_memory help refused = absurd (omega (arith, (is_memory memory).0))
+untaken kinds why (suc (suc zero)) old new (inr among) ends is_memory help refused =
+    ((why, among, (refused refl).0), (refused refl).1)
+untaken kinds why (suc (suc (suc n))) old new has (inl ends) is_memory help refused = absurd (omega arith)
+untaken kinds why (suc (suc (suc n))) old new has (inr (inl ends)) is_memory help refused = absurd (omega arith)
+untaken kinds why (suc (suc (suc n))) old new has (inr (inr ends)) is_memory help refused = absurd (omega arith)

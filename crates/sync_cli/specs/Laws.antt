@@ -1,0 +1,61 @@
+-- The laws of command lines: table words are one catalog, or have one first word that is refused; and what some command
+-- lines ask for, so that no clause on a run is empty.
+use Rattle.std.specs.Prelude.{◌≡◌, ℕ, List, [], ◌∷◌, Some, None, codes}
+use Rattle.clap.specs.Words.{Text}
+use Rattle.clap.specs.declared.error.kind.ErrorKind.TheVariants as kind
+use Rattle.cs_value.specs.declared.catalog.TableDef.{TableDef}
+use Rattle.sync_cli.specs.CatalogWords.{IsCatalogOf, IsRefusedAt}
+use Rattle.sync_cli.specs.CommandLine.{faults_of, tables_of, tool_of}
+use Rattle.sync_cli.specs.declared.command.Tool.TheVariants.{Combine, ShowChangeset}
+
+-- table words are one catalog
+abbrev pub OneCatalog : Type 0
+OneCatalog = (words : List (List ℕ)) (tables others : List TableDef) → IsCatalogOf words tables
+    → IsCatalogOf words others → tables ≡ others
+
+-- they are refused at one place
+abbrev pub OneRefusedWord : Type 0
+OneRefusedWord = (words : List (List ℕ)) (place other : ℕ) → IsRefusedAt words place
+    → IsRefusedAt words other → place ≡ other
+
+-- and nowhere where they are a catalog
+abbrev pub NoCatalogRefused : Type 0
+NoCatalogRefused = (words : List (List ℕ)) (tables : List TableDef) (place : ℕ) → IsCatalogOf words tables
+    → IsRefusedAt words place → ⊥
+
+-- the words of `sync hub t1:10`, and so on
+abbrev pub hub_words : List Text
+hub_words = codes "sync" ∷ codes "hub" ∷ codes "t1:10" ∷ []
+
+abbrev pub combine_words : List Text
+combine_words = codes "sync" ∷ codes "combine" ∷ []
+
+abbrev pub show_words : List Text
+show_words = codes "sync" ∷ codes "show" ∷ codes "changeset" ∷ []
+
+abbrev pub blob_words : List Text
+blob_words = codes "sync" ∷ codes "show" ∷ codes "blob" ∷ []
+
+abbrev pub help_words : List Text
+help_words = codes "sync" ∷ codes "--help" ∷ []
+
+abbrev pub flag_words : List Text
+flag_words = codes "sync" ∷ codes "hub" ∷ codes "--flag" ∷ []
+
+abbrev pub AsksForAHub : Type 0
+AsksForAHub = (faults_of hub_words ≡ []) × (tables_of hub_words ≡ Some (codes "t1:10" ∷ []))
+
+abbrev pub AsksToCombine : Type 0
+AsksToCombine = (faults_of combine_words ≡ []) × (tool_of combine_words ≡ Some Combine)
+
+abbrev pub AsksToShow : Type 0
+AsksToShow = (faults_of show_words ≡ []) × (tool_of show_words ≡ Some ShowChangeset)
+
+abbrev pub AsksForNothing : Type 0
+AsksForNothing = (faults_of blob_words ≡ []) × (tables_of blob_words ≡ None) × (tool_of blob_words ≡ None)
+
+abbrev pub AsksForHelp : Type 0
+AsksForHelp = faults_of help_words ≡ kind.DisplayHelp ∷ []
+
+abbrev pub IsNotTaken : Type 0
+IsNotTaken = faults_of flag_words ≡ kind.UnknownArgument ∷ []

@@ -1,0 +1,49 @@
+//! The laws of command lines, and what some of them ask for, by computation: each is the contract of a function that
+//! does nothing.
+
+ghost use Rattle.sync_cli.specs.Laws.{AsksForAHub, AsksForHelp, AsksForNothing, AsksToCombine, AsksToShow, IsNotTaken, NoCatalogRefused, OneCatalog, OneRefusedWord};
+
+/// Table words are one catalog.
+pub fn one_catalog()
+    ensures { OneCatalog }
+{}
+
+/// Table words that are no catalog have one first word that is refused.
+pub fn one_refused_word()
+    ensures { OneRefusedWord }
+{}
+
+/// No word of a catalog is refused.
+pub fn no_catalog_refused()
+    ensures { NoCatalogRefused }
+{}
+
+/// `sync hub t1:10` is taken and asks for a hub of that table word.
+pub fn asks_for_a_hub()
+    ensures { AsksForAHub }
+{}
+
+/// `sync combine` is taken and asks to combine.
+pub fn asks_to_combine()
+    ensures { AsksToCombine }
+{}
+
+/// `sync show changeset` is taken and asks to show a changeset.
+pub fn asks_to_show()
+    ensures { AsksToShow }
+{}
+
+/// `sync show blob` is taken and asks for nothing.
+pub fn asks_for_nothing()
+    ensures { AsksForNothing }
+{}
+
+/// `sync --help` asks for help.
+pub fn asks_for_help()
+    ensures { AsksForHelp }
+{}
+
+/// `sync hub --flag` is refused.
+pub fn is_not_taken()
+    ensures { IsNotTaken }
+{}
