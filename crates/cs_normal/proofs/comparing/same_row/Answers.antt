@@ -1,4 +1,4 @@
-use Rattle.cs_value.specs.Same.{same_row-Decides}
+use Rattle.cs_value.specs.Facts.{same_row-Decides}
 use Rattle.cs_normal.proofs.comparing.same_row.Goals as goal
 
 pub returns : goal.returns
