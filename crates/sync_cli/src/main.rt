@@ -5,10 +5,11 @@
 //! status (`specs/Endings.antt`): `hub` gives each line of the input the answer of a hub of the tables that the command
 //! line names, `combine` writes the changesets of all lines as one, and `show` the text of the first.
 //!
-//! `run`'s clauses stand over a reader and a writer whose bytes are known, as slices and vectors, and standard input and
-//! output are none such in the toolchain: of `main`, which hands `run` the words, the standard streams and the
-//! allocator, they say the statuses alone. What the built program reads and writes on files and pipes is shown by tests
-//! instead: the stored run (`stdin`, `stdout`) and `bench/check_program.sh`.
+//! `run`'s clauses stand over a reader and a writer whose bytes are known, as those of slices and vectors are. Standard
+//! input and output are none such in the toolchain: of `main`, which hands `run` the words, the standard streams and the
+//! allocator, the clauses say which status may come for which words, and nothing of the bytes. What the built program
+//! reads and writes on files and pipes is shown by tests instead: the stored run (`stdin`, `stdout`) and
+//! `bench/check_program.sh`.
 #![tactic(auto)]
 
 mod combine;
