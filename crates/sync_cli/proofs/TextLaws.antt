@@ -1,11 +1,14 @@
 -- An input has one text that `combine` owes, and one that `show` does.
-use Rattle.std.proofs.Common.{◌≡◌, ℕ, inl, inr, List, [], ◌∷◌, sym, ap, ap₂, ◌∙◌, refl, subst}
+use Rattle.std.proofs.Common.{◌≡◌, ℕ, inl, inr, List, [], ◌∷◌, ◌++◌, length, arith, length-append, sym, ap, ap₂, ◌∙◌, refl, subst}
 use Rattle.std.specs.Prelude.{Option, Some, None, Ok}
+use Rattle.std.specs.Io.KnownBytes.{Keeps}
+use Rattle.std.proofs.lemmas.List.{append_cancel_left}
 use Rattle.hex.specs.Hex.{decode_of}
 use Rattle.cs_change.specs.Spelling.{changeset_spelling}
 use Rattle.cs_change.specs.declared.group.Group.{Group}
 use Rattle.cs_group.specs.Combined.{IsCombined, OneCombined}
 use Rattle.cs_lines.specs.Lines.{hex_line, lines_of}
+use Rattle.cs_lines.specs.Reading.{IsCut}
 use Rattle.cs_normal.specs.Normal.{normal_spelling}
 use Rattle.cs_text.specs.Text.{changeset_text}
 use Rattle.sync_cli.specs.CombinedLines.{SpellsChangeset, SpellChangesets, SpellsCombined}
@@ -61,6 +64,39 @@ one_first once input left next groups others (inr first) (inl second) =
     absurd (nothing_taken input second.0 (lines_of second.1.0) first.0.0 second.1.2)
 one_first once input left next groups others (inr first) (inr second) = first.1 ∙ sym second.1
 
+-- behind one line stands one rest
+same_rest : (bytes line rest other : List ℕ) → IsCut bytes line rest → IsCut bytes line other → rest ≡ other
+same_rest bytes line rest other (inl first) (inl second) =
+    let both : 10 ∷ rest ≡ 10 ∷ other = append_cancel_left line (10 ∷ rest) (10 ∷ other) (sym first ∙ second) in cc
+same_rest bytes line rest other (inl first) (inr second) =
+    let longer : length line ≡ length (line ++ 10 ∷ rest) = ap length (sym second.0 ∙ first) in
+    absurd (omega (arith, length-append line (10 ∷ rest), longer))
+same_rest bytes line rest other (inr first) (inl second) =
+    let longer : length line ≡ length (line ++ 10 ∷ other) = ap length (sym first.0 ∙ second) in
+    absurd (omega (arith, length-append line (10 ∷ other), longer))
+same_rest bytes line rest other (inr first) (inr second) = first.1 ∙ sym second.1
+
+kept_is : (input : List ℕ) (left : Option (List ℕ)) → Keeps (Some input) left → left ≡ Some input
+kept_is input None kept = absurd kept
+kept_is input (Some bytes) kept = ap Some kept
+
+one_rest : (input : List ℕ) (left next : Option (List ℕ)) (groups others : List Group)
+    → TakesFirst (Some input) left groups → TakesFirst (Some input) next others → left ≡ next
+one_rest input left next groups others (inl first) (inl second) =
+    let both : first.0 ∷ lines_of first.1.0 ≡ second.0 ∷ lines_of second.1.0 = sym first.1.2 ∙ second.1.2 in
+    let line : first.0 ≡ second.0 = cc in
+    let rest = same_rest input first.0 first.1.0 second.1.0 first.1.3
+        (subst (λ (l : List ℕ). IsCut input l second.1.0) (sym line) second.1.3) in
+    first.1.1 ∙ ap Some rest ∙ sym second.1.1
+one_rest input left next groups others (inl first) (inr second) =
+    absurd (nothing_taken input first.0 (lines_of first.1.0) second.0.0 first.1.2)
+one_rest input left next groups others (inr first) (inl second) =
+    absurd (nothing_taken input second.0 (lines_of second.1.0) first.0.0 second.1.2)
+one_rest input left next groups others (inr first) (inr second) =
+    kept_is input left first.0.1 ∙ sym (kept_is input next second.0.1)
+
 pub one_shown_text : OneShownText
-one_shown_text once input text other left next first second =
-    first.2 ∙ ap changeset_text (one_first once input left next first.0 second.0 first.1 second.1) ∙ sym second.2
+one_shown_text once input text other left next first second = (
+  first.2 ∙ ap changeset_text (one_first once input left next first.0 second.0 first.1 second.1) ∙ sym second.2,
+  one_rest input left next first.0 second.0 first.1 second.1,
+)

@@ -23,10 +23,10 @@ abbrev pub OneCombinedText : Type 0
 OneCombinedText = OneSpelling → (input text other : List ℕ) → CombinesAll (Some input) text
     → CombinesAll (Some input) other → text ≡ other
 
--- and its first line has one that `show` owes
+-- and its first line has one that `show` owes, and one rest that it leaves
 abbrev pub OneShownText : Type 0
 OneShownText = OneSpelling → (input text other : List ℕ) (left next : Option (List ℕ)) → ShowsFirst (Some input) left text
-    → ShowsFirst (Some input) next other → text ≡ other
+    → ShowsFirst (Some input) next other → (text ≡ other) × (left ≡ next)
 
 -- table words are one catalog
 abbrev pub OneCatalog : Type 0

@@ -10,7 +10,7 @@ pub fn one_combined_text()
     cs_group::laws::one_combined();
 }
 
-/// Where bytes spell one changeset, an input has one text that `show` owes.
+/// Where bytes spell one changeset, an input has one text that `show` owes, and one rest that it leaves.
 pub fn one_shown_text()
     ensures { OneShownText }
 {}
