@@ -3,7 +3,6 @@ use Rattle.std.proofs.Common.{◌≡◌, ℕ, inl, inr, List, [], ◌∷◌, ◌
 use Rattle.std.specs.Prelude.{Option, Some, None, Ok}
 use Rattle.std.specs.Io.KnownBytes.{Keeps}
 use Rattle.std.proofs.lemmas.List.{append_cancel_left}
-use Rattle.hex.specs.Hex.{decode_of}
 use Rattle.cs_change.specs.Spelling.{changeset_spelling}
 use Rattle.cs_change.specs.declared.group.Group.{Group}
 use Rattle.cs_group.specs.Combined.{IsCombined, OneCombined}
@@ -86,7 +85,7 @@ one_rest input left next groups others (inl first) (inl second) =
     let both : first.0 ∷ lines_of first.1.0 ≡ second.0 ∷ lines_of second.1.0 = sym first.1.2 ∙ second.1.2 in
     let line : first.0 ≡ second.0 = cc in
     let rest = same_rest input first.0 first.1.0 second.1.0 first.1.3
-        (subst (λ (l : List ℕ). IsCut input l second.1.0) (sym line) second.1.3) in
+    (subst (λ (l : List ℕ). IsCut input l second.1.0) (sym line) second.1.3) in
     first.1.1 ∙ ap Some rest ∙ sym second.1.1
 one_rest input left next groups others (inl first) (inr second) =
     absurd (nothing_taken input first.0 (lines_of first.1.0) second.0.0 first.1.2)
