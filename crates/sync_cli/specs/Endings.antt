@@ -21,14 +21,15 @@ EndsWriting (suc zero) IsOwed failed old new =
     Keeps old new ⊎ ((text : List ℕ) × IsOwed text × AppendsFront old new text × failed)
 EndsWriting (suc (suc n)) IsOwed failed old new = ⊥
 
--- the reader failed, or gave the lines of a whole run, and each has its answer; or the writer failed within the last one
+-- the reader failed, or gave the lines of a whole run, and each has its answer; or the writer failed within the last
 abbrev pub StopsServing : Type 0 → Type 0 → Option (List ℕ) → Option (List ℕ) → List (List ℕ) → List (List ℕ) → Type 0
 StopsServing read_failed write_failed old new lines answers =
     (Appends old new (flat_map hex_line answers) × (read_failed ⊎ (length lines ≡ ASKS)))
     ⊎ (AppendsBroken old new answers × write_failed)
 
 -- `hub` of these table words: a new hub of their tables answered all lines; or the first ones; or there is no such hub
-abbrev pub EndsServing : ℕ → List (List ℕ) → Option (List ℕ) → Type 0 → Type 0 → Option (List ℕ) → Option (List ℕ) → Type 0
+abbrev pub EndsServing : ℕ → List (List ℕ) → Option (List ℕ) → Type 0 → Type 0 → Option (List ℕ) → Option (List ℕ)
+    → Type 0
 EndsServing zero words input read_failed write_failed old new =
     (tables : List TableDef) × (lines : List (List ℕ)) × (answers : List (List ℕ)) × (end : HubState)
     × IsCatalogOf words tables × AreAllLines input lines

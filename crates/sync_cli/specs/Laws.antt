@@ -25,8 +25,8 @@ OneCombinedText = OneSpelling → (input text other : List ℕ) → CombinesAll 
 
 -- and its first line has one that `show` owes, and one rest that it leaves
 abbrev pub OneShownText : Type 0
-OneShownText = OneSpelling → (input text other : List ℕ) (left next : Option (List ℕ)) → ShowsFirst (Some input) left text
-    → ShowsFirst (Some input) next other → (text ≡ other) × (left ≡ next)
+OneShownText = OneSpelling → (input text other : List ℕ) (left next : Option (List ℕ))
+    → ShowsFirst (Some input) left text → ShowsFirst (Some input) next other → (text ≡ other) × (left ≡ next)
 
 -- table words are one catalog
 abbrev pub OneCatalog : Type 0
