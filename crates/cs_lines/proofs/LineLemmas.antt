@@ -1,6 +1,7 @@
 -- The first line of an input is what a read up to a line feed takes.
-use Rattle.std.proofs.Common.{◌≡◌, ℕ, suc, ◌-◌, ◌<◌, Bool, true, false, eqb, ◌&&◌, nat_lt, List, [], ◌∷◌, cond, length, take, get_or, refl, sym, ap, ◌∙◌, arith}
+use Rattle.std.proofs.Common.{◌≡◌, ℕ, suc, ◌-◌, ◌<◌, Bool, true, false, eqb, ◌&&◌, nat_lt, List, [], ◌∷◌, ◌++◌, inl, inr, cond, length, take, get_or, refl, sym, ap, ◌∙◌, arith}
 use Rattle.std.specs.Io.BufRead.{take_through, drop_through, strip_last, first_piece}
+use Rattle.cs_lines.specs.Reading.{IsCut}
 use Rattle.cs_lines.specs.Lines.{lines_of, onto_first}
 
 kept : (here there hit : Bool) (k x : ℕ) (l : List ℕ) → here ≡ true → there ≡ true
@@ -47,3 +48,24 @@ pub lines_of-first : (xs : List ℕ) → 0 < length xs
 lines_of-first [] some = absurd (omega arith)
 lines_of-first (x ∷ []) some = lone (eqb x 10) x refl
 lines_of-first (x ∷ y ∷ ys) some = longer (eqb x 10) x (y ∷ ys) refl (omega arith) (lines_of-first (y ∷ ys) (omega arith))
+
+lone_cut : (b : Bool) (x : ℕ) → eqb x 10 ≡ b → IsCut (x ∷ []) (strip_last 10 (cond b (x ∷ []) (x ∷ []))) (cond b [] [])
+lone_cut true x h = let ten : x ≡ 10 = grind arith in rw ten (inl refl)
+lone_cut false x h = rw h (inr (refl, refl))
+
+longer_cut : (b : Bool) (x : ℕ) (l : List ℕ) → eqb x 10 ≡ b → 0 < length l
+    → IsCut l (first_piece 10 l) (drop_through 10 l)
+    → IsCut (x ∷ l) (strip_last 10 (cond b (x ∷ []) (x ∷ take_through 10 l))) (cond b l (drop_through 10 l))
+longer_cut true x l h some cut = let ten : x ≡ 10 = grind arith in rw ten (inl refl)
+longer_cut false x l h some cut =
+    let line = strip_last-cons 10 x (take_through 10 l) (nonempty l some) in
+    elim cut [
+      | inl ended ↦ inl (ap (λ r. x ∷ r) ended ∙ ap (λ f. f ++ 10 ∷ drop_through 10 l) (sym line))
+      | inr whole ↦ inr (ap (λ r. x ∷ r) whole.0 ∙ sym line, whole.1)
+    ]
+
+-- that read cuts off the line and its line feed
+pub first_cut : (xs : List ℕ) → 0 < length xs → IsCut xs (first_piece 10 xs) (drop_through 10 xs)
+first_cut [] some = absurd (omega arith)
+first_cut (x ∷ []) some = lone_cut (eqb x 10) x refl
+first_cut (x ∷ y ∷ ys) some = longer_cut (eqb x 10) x (y ∷ ys) refl (omega arith) (first_cut (y ∷ ys) (omega arith))

@@ -12,8 +12,8 @@ use Rattle.std.proofs.lemmas.Grind.{common_steps}
 use Rattle.cs_lines.specs.declared.line.LineRead.{LineRead}
 use Rattle.cs_lines.specs.declared.line.LineRead.TheVariants.{Whole, Skipped, End}
 use Rattle.cs_lines.specs.Lines.{lines_of}
-use Rattle.cs_lines.specs.Reading.{TakesLine, HasRead, HasSkipped}
-use Rattle.cs_lines.proofs.LineLemmas.{lines_of-first}
+use Rattle.cs_lines.specs.Reading.{IsCut, TakesLine, HasRead, HasSkipped}
+use Rattle.cs_lines.proofs.LineLemmas.{first_cut, lines_of-first}
 
 -- some bytes up to a line feed were read
 pub TakesLine-read : (old new : Option (List ℕ)) (line : List ℕ) → IfSome old (λ xs. line ≡ take_through 10 xs)
@@ -24,6 +24,7 @@ TakesLine-read (Some input) new line took dropped some =
       drop_through 10 input,
       dropped,
       lines_of-first input here ∙ ap (λ t. strip_last 10 t ∷ lines_of (drop_through 10 input)) (sym took),
+      subst (λ (t : List ℕ). IsCut input (strip_last 10 t) (drop_through 10 input)) (sym took) (first_cut input here),
     )
 
 -- a read at the end leaves the end
@@ -37,7 +38,8 @@ TakesLine-front : (old mid new : Option (List ℕ)) (front line : List ℕ) → 
     → TakesLine front mid new line → TakesLine [] old new line
 TakesLine-front None mid new front line took takes = tt
 TakesLine-front (Some x) None new front line took takes = absurd took
-TakesLine-front (Some x) (Some y) new front line took takes = (takes.0, takes.1, ap lines_of took ∙ takes.2)
+TakesLine-front (Some x) (Some y) new front line took takes =
+    (takes.0, takes.1, ap lines_of took ∙ takes.2, subst (λ (l : List ℕ). IsCut l line takes.0) (sym took) takes.3)
 
 HasRead-end : (old mid new : Option (List ℕ)) (front : List ℕ) → Consumes old mid front → front ≡ []
     → IsAtEnd mid → Keeps mid new → IsAtEnd old × Keeps old new
@@ -69,6 +71,8 @@ skipped_ended (Some rest) front stops ended =
         refl,
         lines_of-first all (omega (arith, length-append front rest))
             ∙ ap (λ r. strip_last 10 (take_through 10 all) ∷ lines_of r) part.1,
+        subst (λ (r : List ℕ). IsCut all (strip_last 10 (take_through 10 all)) r) part.1
+            (first_cut all (omega (arith, length-append front rest))),
       ),
     )
 
@@ -93,6 +97,8 @@ skipped_rest (Some rest) new front stops unended dropped some =
         lines_of-first all some
             ∙ ap (λ r. strip_last 10 (take_through 10 all) ∷ lines_of r)
             (drop_through-append 10 front rest (no_line_feed front stops unended)),
+        subst (λ (r : List ℕ). IsCut all (strip_last 10 (take_through 10 all)) r)
+            (drop_through-append 10 front rest (no_line_feed front stops unended)) (first_cut all some),
       ),
     )
 

@@ -1,15 +1,20 @@
 -- What reading a line takes off an input, where the input's bytes are known.
-use Rattle.std.specs.Prelude.{◌≡◌, ℕ, Option, Some, None, List, [], ◌∷◌, ◌++◌}
+use Rattle.std.specs.Prelude.{◌≡◌, ◌⊎◌, ℕ, Option, Some, None, List, [], ◌∷◌, ◌++◌}
 use Rattle.std.specs.Io.KnownBytes.{IsAtEnd, Keeps}
 use Rattle.cs_lines.specs.declared.line.LineRead.{LineRead}
 use Rattle.cs_lines.specs.declared.line.LineRead.TheVariants.{Whole, Skipped, End}
 use Rattle.cs_lines.specs.Lines.{lines_of}
 
--- the line was the first of `front` and what was left, and the rest of the lines is left
+-- the bytes are the line, the line feed that ends it, and the rest; or the line alone, and there is no rest
+abbrev pub IsCut : List ℕ → List ℕ → List ℕ → Type 0
+IsCut bytes line rest = (bytes ≡ line ++ 10 ∷ rest) ⊎ ((bytes ≡ line) × (rest ≡ []))
+
+-- the line was the first of `front` and what was left, and what stands behind it is left
 abbrev pub TakesLine : List ℕ → Option (List ℕ) → Option (List ℕ) → List ℕ → Type 0
 TakesLine front None new line = Unit {0}
 TakesLine front (Some input) new line =
     (rest : List ℕ) × (new ≡ Some rest) × (lines_of (front ++ input) ≡ line ∷ lines_of rest)
+    × IsCut (front ++ input) line rest
 
 -- a line was read, or skipped, or there was none
 abbrev pub HasRead : LineRead → Option (List ℕ) → Option (List ℕ) → List ℕ → Type 0

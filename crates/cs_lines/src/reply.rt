@@ -29,9 +29,11 @@ const NOT_HEX: [u8; 2] = [0x13, 0x16];
 const NO_MEMORY: [u8; 2] = [0x13, 0x01];
 
 pub(crate) fn write_reply<W: LineOutput>(writer: &mut W, reply: &Reply) -> io::Result<()>
-    ensures written { OnOk result (Appends (W.contents writer.old) (W.contents writer.new) (hex_line (bytes_of reply.now))) }
+    ensures written { OnOk result (Appends (W.contents writer.old) (W.contents writer.new)
+        (hex_line (bytes_of reply.now))) }
     ensures sent { OnOk result (W.sent writer.new) }
-    ensures front { OnErr result (AppendsFront (W.contents writer.old) (W.contents writer.new) (hex_line (bytes_of reply.now))) }
+    ensures front { OnErr result (AppendsFront (W.contents writer.old) (W.contents writer.new)
+        (hex_line (bytes_of reply.now))) }
     ensures failed { OnErr result (W.failed writer.new) }
 {
     match reply {
@@ -63,8 +65,10 @@ pub fn write_hex_line<W: LineOutput>(writer: &mut W, bytes: &[u8]) -> io::Result
 
 fn write_hex<W: LineOutput>(writer: &mut W, piece: &[u8]) -> io::Result<()>
     requires { length piece.now ≤ PIECE }
-    ensures written { OnOk result (Appends (W.contents writer.old) (W.contents writer.new) (encode_lower piece.now)) }
-    ensures front { OnErr result (AppendsFront (W.contents writer.old) (W.contents writer.new) (encode_lower piece.now)) }
+    ensures written { OnOk result (Appends (W.contents writer.old) (W.contents writer.new)
+        (encode_lower piece.now)) }
+    ensures front { OnErr result (AppendsFront (W.contents writer.old) (W.contents writer.new)
+        (encode_lower piece.now)) }
     ensures failed { OnErr result (W.failed writer.new) }
 {
     let mut text = [0u8; 2 * PIECE];

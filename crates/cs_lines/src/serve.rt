@@ -45,7 +45,8 @@ pub(crate) enum Turn {
     Ended,
 }
 
-/// Answers each line of the reader, up to its end, by a line of lower case hex, and sends each answer before it reads on.
+/// Answers each line of the reader, up to its end, by a line of lower case hex, and sends each
+/// answer before it reads on.
 ///
 /// A line of hex digits of either case is a request, the empty line the empty one. A line that is
 /// no hex is answered `1316`. A line for which memory runs out is answered `1301`, and the server
@@ -115,9 +116,11 @@ fn serve_line<S: Serve, R: LineInput, W: LineOutput>(
 fn send<W: LineOutput>(writer: &mut W, reply: &Reply) -> Result<Turn, Stop>
     ensures turn { IfOk result (λ turn. turn ≡ Turn.Answered) }
     ensures stop { IfErr result (λ stop. stop ≡ Stop.Write) }
-    ensures written { OnOk result (Appends (W.contents writer.old) (W.contents writer.new) (hex_line (bytes_of reply.now))) }
+    ensures written { OnOk result (Appends (W.contents writer.old) (W.contents writer.new)
+        (hex_line (bytes_of reply.now))) }
     ensures sent { OnOk result (W.sent writer.new) }
-    ensures front { OnErr result (AppendsFront (W.contents writer.old) (W.contents writer.new) (hex_line (bytes_of reply.now))) }
+    ensures front { OnErr result (AppendsFront (W.contents writer.old) (W.contents writer.new)
+        (hex_line (bytes_of reply.now))) }
     ensures failed { OnErr result (W.failed writer.new) }
 {
     match write_reply(writer, reply) {

@@ -8,7 +8,7 @@ mod changesets;
 mod words;
 
 pub use changesets::ChangesetText;
-pub use words::{FieldText, NameText, ValueText};
+pub use words::{FieldText, NameText, ValueText, is_plain};
 
 #[cfg(test)]
 mod tests;

@@ -7,8 +7,8 @@ ghost use Rattle.cs_text.specs.Text.{is_plain, escaped, escaped_text, lower_hex,
 use cs_value::{Field, Text, Value};
 use std::fmt;
 
-/// Whether a byte of a text stands for itself.
-fn is_plain(byte: u8) -> bool
+/// Whether a byte of a text stands for itself: from `!` to `~`, and not `%`.
+pub fn is_plain(byte: u8) -> bool
     ensures { result ≡ is_plain byte }
 {
     (0x21..=0x7e).contains(&byte) && byte != b'%'

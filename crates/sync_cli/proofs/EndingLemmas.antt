@@ -1,7 +1,7 @@
 -- How commands end.
 use Rattle.std.proofs.Common.{◌≡◌, ◌≢◌, ℕ, zero, suc, List, inl, inr, refl, arith, subst}
 use Rattle.std.specs.Prelude.{◌⊎◌, Option}
-use Rattle.std.specs.Io.KnownBytes.{Keeps}
+use Rattle.std.specs.Io.KnownBytes.{Appends, Keeps}
 use Rattle.std.proofs.KnownBytes.{Keeps-refl}
 use Rattle.clap.specs.Kinds.{IsAmong, Kinds}
 use Rattle.clap.specs.declared.error.kind.ErrorKind.{ErrorKind}
@@ -26,17 +26,30 @@ refused_hub Memory words status input read_failed write_failed writer is first =
 refused_hub (Word word) words status input read_failed write_failed writer is first =
     rw is (refused_words (Word word) words first refl, Keeps-refl writer)
 
+-- help is among the kinds that the words can have, where it is the one that came
+is_help : (kinds : Kinds) (why : ErrorKind) → (why ≡ kind.OutOfMemory) ⊎ IsAmong why kinds → why ≡ kind.DisplayHelp
+    → IsAmong kind.DisplayHelp kinds
+is_help kinds why (inl memory) help = absurd (cc)
+is_help kinds why (inr among) help = subst (λ k. IsAmong k kinds) help among
+
 -- a refusal by the parser, of a kind that the words can have
-pub untaken : (kinds : Kinds) (why : ErrorKind) (status : ℕ) (old new : Option (List ℕ)) → (why ≡ kind.OutOfMemory) ⊎ IsAmong why kinds
-    → (status ≡ 0) ⊎ (status ≡ 1) ⊎ (status ≡ 2) → (why ≡ kind.OutOfMemory → (status ≡ 1) × Keeps old new)
-    → (status ≡ 0 → why ≡ kind.DisplayHelp) → (status ≡ 2 → (why ≢ kind.DisplayHelp) × Keeps old new)
-    → EndsUntaken status kinds old new
-untaken kinds why zero old new (inl memory) ends is_memory help refused = absurd (omega (arith, (is_memory memory).0))
-untaken kinds why zero old new (inr among) ends is_memory help refused = subst (λ k. IsAmong k kinds) (help refl) among
-untaken kinds why (suc zero) old new has ends is_memory help refused = tt
-untaken kinds why (suc (suc zero)) old new (inl memory) ends is_memory help refused = absurd (omega (arith, (is_memory memory).0))
-untaken kinds why (suc (suc zero)) old new (inr among) ends is_memory help refused =
+pub untaken : (kinds : Kinds) (why : ErrorKind) (status : ℕ) (failed : Type 0) (old new : Option (List ℕ))
+    → (why ≡ kind.OutOfMemory) ⊎ IsAmong why kinds → (status ≡ 0) ⊎ (status ≡ 1) ⊎ (status ≡ 2)
+    → (why ≡ kind.OutOfMemory → (status ≡ 1) × Keeps old new)
+    → (status ≡ 0 → (why ≡ kind.DisplayHelp) × ((help : List ℕ) × Appends old new help))
+    → (status ≡ 1 → Keeps old new ⊎ ((why ≡ kind.DisplayHelp) × failed × ((front : List ℕ) × Appends old new front)))
+    → (status ≡ 2 → (why ≢ kind.DisplayHelp) × Keeps old new) → EndsUntaken status kinds failed old new
+untaken kinds why zero failed old new has ends is_memory help stopped refused =
+    let told = help refl in (is_help kinds why has told.0, told.1)
+untaken kinds why (suc zero) failed old new has ends is_memory help stopped refused =
+    elim (stopped refl) [
+      | inl kept ↦ inl kept
+      | inr broken ↦ inr (is_help kinds why has broken.0, broken.1, broken.2)
+    ]
+untaken kinds why (suc (suc zero)) failed old new (inl memory) ends is_memory help stopped refused =
+    absurd (omega (arith, (is_memory memory).0))
+untaken kinds why (suc (suc zero)) failed old new (inr among) ends is_memory help stopped refused =
     ((why, among, (refused refl).0), (refused refl).1)
-untaken kinds why (suc (suc (suc n))) old new has (inl ends) is_memory help refused = absurd (omega arith)
-untaken kinds why (suc (suc (suc n))) old new has (inr (inl ends)) is_memory help refused = absurd (omega arith)
-untaken kinds why (suc (suc (suc n))) old new has (inr (inr ends)) is_memory help refused = absurd (omega arith)
+untaken kinds why (suc (suc (suc n))) failed old new has (inl ends) is_memory help stopped refused = absurd (omega arith)
+untaken kinds why (suc (suc (suc n))) failed old new has (inr (inl ends)) is_memory help stopped refused = absurd (omega arith)
+untaken kinds why (suc (suc (suc n))) failed old new has (inr (inr ends)) is_memory help stopped refused = absurd (omega arith)

@@ -1,6 +1,6 @@
 -- What has been read of an input, line by line.
 use Rattle.std.proofs.Common.{◌≡◌, ℕ, List, [], ◌∷◌, ◌++◌}
-use Rattle.std.specs.Prelude.{Option, Some, None}
+use Rattle.std.specs.Prelude.{Option, Some}
 use Rattle.std.specs.List.{AllZip, AllByRecursion}
 use Rattle.std.specs.Io.KnownBytes.{IsAtEnd}
 use Rattle.cs_change.specs.Spelling.{FitsChangeset}

@@ -3,4 +3,5 @@ pub mod CommandLemmas
 pub mod EndingLemmas
 pub mod FoundLemmas
 pub mod InputLemmas
+pub mod TextLaws
 pub mod WordLemmas

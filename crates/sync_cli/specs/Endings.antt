@@ -21,14 +21,15 @@ EndsWriting (suc zero) IsOwed failed old new =
     Keeps old new ⊎ ((text : List ℕ) × IsOwed text × AppendsFront old new text × failed)
 EndsWriting (suc (suc n)) IsOwed failed old new = ⊥
 
--- the reader failed, or gave the lines of a whole run, and each has its answer; or the writer failed within the last one
+-- the reader failed, or gave the lines of a whole run, and each has its answer; or the writer failed within the last
 abbrev pub StopsServing : Type 0 → Type 0 → Option (List ℕ) → Option (List ℕ) → List (List ℕ) → List (List ℕ) → Type 0
 StopsServing read_failed write_failed old new lines answers =
     (Appends old new (flat_map hex_line answers) × (read_failed ⊎ (length lines ≡ ASKS)))
     ⊎ (AppendsBroken old new answers × write_failed)
 
 -- `hub` of these table words: a new hub of their tables answered all lines; or the first ones; or there is no such hub
-abbrev pub EndsServing : ℕ → List (List ℕ) → Option (List ℕ) → Type 0 → Type 0 → Option (List ℕ) → Option (List ℕ) → Type 0
+abbrev pub EndsServing : ℕ → List (List ℕ) → Option (List ℕ) → Type 0 → Type 0 → Option (List ℕ) → Option (List ℕ)
+    → Type 0
 EndsServing zero words input read_failed write_failed old new =
     (tables : List TableDef) × (lines : List (List ℕ)) × (answers : List (List ℕ)) × (end : HubState)
     × IsCatalogOf words tables × AreAllLines input lines
@@ -42,14 +43,15 @@ EndsServing (suc zero) words input read_failed write_failed old new =
 EndsServing (suc (suc zero)) words input read_failed write_failed old new = AreNoCatalog words × Keeps old new
 EndsServing (suc (suc (suc n))) words input read_failed write_failed old new = ⊥
 
--- words that the command line doesn't take: help was asked for and told; or memory was wanting or the writer failed; or
--- they were refused
-abbrev pub EndsUntaken : ℕ → Kinds → Option (List ℕ) → Option (List ℕ) → Type 0
-EndsUntaken zero kinds old new = IsAmong kind.DisplayHelp kinds
-EndsUntaken (suc zero) kinds old new = Unit {0}
-EndsUntaken (suc (suc zero)) kinds old new =
+-- words that the command line doesn't take: help was asked for and written; or it wasn't, or a front of it, where the
+-- writer failed; or the words were refused
+abbrev pub EndsUntaken : ℕ → Kinds → Type 0 → Option (List ℕ) → Option (List ℕ) → Type 0
+EndsUntaken zero kinds failed old new = IsAmong kind.DisplayHelp kinds × ((help : List ℕ) × Appends old new help)
+EndsUntaken (suc zero) kinds failed old new =
+    Keeps old new ⊎ (IsAmong kind.DisplayHelp kinds × failed × ((front : List ℕ) × Appends old new front))
+EndsUntaken (suc (suc zero)) kinds failed old new =
     ((why : ErrorKind) × IsAmong why kinds × (why ≢ kind.DisplayHelp)) × Keeps old new
-EndsUntaken (suc (suc (suc n))) kinds old new = ⊥
+EndsUntaken (suc (suc (suc n))) kinds failed old new = ⊥
 
 -- words that ask for nothing: refused, or memory was wanting
 abbrev pub EndsUnasked : ℕ → Option (List ℕ) → Option (List ℕ) → Type 0

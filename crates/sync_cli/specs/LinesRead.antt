@@ -1,5 +1,5 @@
 -- What has been read of an input whose lines spell changesets.
-use Rattle.std.specs.Prelude.{◌≡◌, ℕ, List, [], Option, Some, None}
+use Rattle.std.specs.Prelude.{ℕ, List, [], Option, Some, None}
 use Rattle.std.specs.Io.KnownBytes.{IsAtEnd, Keeps}
 use Rattle.cs_change.specs.declared.group.Group.{Group}
 use Rattle.cs_lines.specs.Reading.{AreTaken, TakesLine}

@@ -1,7 +1,19 @@
-//! The laws of command lines, and what some of them ask for, by computation: each is the contract of a function that
-//! does nothing.
+//! The laws of the program, and what some command lines ask for, by computation: each is the contract of a function
+//! that does nothing.
 
-ghost use Rattle.sync_cli.specs.Laws.{AsksForAHub, AsksForHelp, AsksForNothing, AsksToCombine, AsksToShow, IsNotTaken, NoCatalogRefused, OneCatalog, OneRefusedWord};
+ghost use Rattle.sync_cli.specs.Laws.{AsksForAHub, AsksForHelp, AsksForNothing, AsksToCombine, AsksToShow, IsNotTaken, NoCatalogRefused, OneCatalog, OneCombinedText, OneRefusedWord, OneShownText};
+
+/// Where bytes spell one changeset, an input has one text that `combine` owes.
+pub fn one_combined_text()
+    ensures { OneCombinedText }
+{
+    cs_group::laws::one_combined();
+}
+
+/// Where bytes spell one changeset, an input has one text that `show` owes, and one rest that it leaves.
+pub fn one_shown_text()
+    ensures { OneShownText }
+{}
 
 /// Table words are one catalog.
 pub fn one_catalog()

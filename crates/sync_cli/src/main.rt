@@ -1,10 +1,15 @@
 //! The program `sync`: a hub that answers requests line by line, and tools for changesets, all in hex.
 //!
 //! It stands on `clap` for the command line, on `cs_lines` for the lines, on `cs_hub` for the answers, on `cs_group` for
-//! changesets as one and on `cs_text` for what `show` prints, and only wires them. `run` carries the promise: over any
-//! reader and writers, where it ends with 0, `hub` has given each line of the input the answer of a hub of the tables
-//! that the command line names, `combine` has written the changesets of all lines as one, and `show` the text of the
-//! first. `main` hands it the words, the standard streams and the allocator.
+//! changesets as one and on `cs_text` for what `show` prints, and only wires them. `run` carries the promise, status by
+//! status (`specs/Endings.antt`): `hub` gives each line of the input the answer of a hub of the tables that the command
+//! line names, `combine` writes the changesets of all lines as one, and `show` the text of the first.
+//!
+//! `run`'s clauses stand over a reader and a writer whose bytes are known, as those of slices and vectors are. Standard
+//! input and output are none such in the toolchain: of `main`, which hands `run` the words, the standard streams and the
+//! allocator, the clauses say which status may come for which words, and nothing of the bytes. What the built program
+//! reads and writes on files and pipes is shown by tests instead: the stored run (`stdin`, `stdout`) and
+//! `bench/check_program.sh`.
 #![tactic(auto)]
 
 mod combine;

@@ -1,7 +1,7 @@
 //! One run of the program, over any reader and writers.
 
 ghost use Rattle.std.specs.Prelude.{◌≡◌, ◌≢◌, ◌≤◌, ◌⊎◌, [], List, ℕ, None, Some, map};
-ghost use Rattle.std.specs.Io.KnownBytes.{Keeps};
+ghost use Rattle.std.specs.Io.KnownBytes.{Appends, Keeps};
 ghost use Rattle.clap.specs.Words.{kind_of};
 ghost use Rattle.sync_cli.specs.CombinedLines.{CombinesAll};
 ghost use Rattle.sync_cli.specs.CommandLine.{faults_of, tables_of, tool_of};
@@ -41,7 +41,8 @@ pub fn run<S: AsStr, R: LineInput, W: LineOutput, E: Write>(
 
     // Words that the command line doesn't take, among them those that ask for help.
     ensures untaken { faults_of (map S.text words.now) ≢ []
-        → EndsUntaken result (faults_of (map S.text words.now)) (W.contents writer.old) (W.contents writer.new) }
+        → EndsUntaken result (faults_of (map S.text words.now)) (W.failed writer.new)
+        (W.contents writer.old) (W.contents writer.new) }
 
     // `hub TABLE...`: a hub of these tables answers each line by a line of lower case hex.
     ensures hub { faults_of (map S.text words.now) ≡ []
@@ -89,7 +90,11 @@ fn tell_refused_command<W: LineOutput, E: Write>(
     ensures sent { result ≡ 0 → W.sent writer.new }
     ensures memory { kind_of error.now ≡ ErrorKind.OutOfMemory
         → (result ≡ 1) × Keeps (W.contents writer.old) (W.contents writer.new) }
-    ensures help { result ≡ 0 → kind_of error.now ≡ ErrorKind.DisplayHelp }
+    ensures help { result ≡ 0 → (kind_of error.now ≡ ErrorKind.DisplayHelp)
+        × ((help : List ℕ) × Appends (W.contents writer.old) (W.contents writer.new) help) }
+    ensures stopped { result ≡ 1 → Keeps (W.contents writer.old) (W.contents writer.new)
+        ⊎ ((kind_of error.now ≡ ErrorKind.DisplayHelp) × W.failed writer.new
+        × ((front : List ℕ) × Appends (W.contents writer.old) (W.contents writer.new) front)) }
     ensures refused { result ≡ 2
         → (kind_of error.now ≢ ErrorKind.DisplayHelp) × Keeps (W.contents writer.old) (W.contents writer.new) }
 {
@@ -108,6 +113,10 @@ fn show_help<W: LineOutput, E: Write>(
 ) -> u8
     ensures status { (result ≡ 0) ⊎ (result ≡ 1) }
     ensures sent { result ≡ 0 → W.sent writer.new }
+    ensures help { result ≡ 0 → (help : List ℕ) × Appends (W.contents writer.old) (W.contents writer.new) help }
+    ensures stopped { result ≡ 1 → Keeps (W.contents writer.old) (W.contents writer.new)
+        ⊎ (W.failed writer.new
+        × ((front : List ℕ) × Appends (W.contents writer.old) (W.contents writer.new) front)) }
 {
     let Ok(help) = format!(in alloc; "{error}") else {
         return tell(errors, MEMORY, REFUSED_INPUT);

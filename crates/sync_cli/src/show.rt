@@ -34,8 +34,8 @@ pub fn show_changeset<R: LineInput, W: LineOutput, E: Write>(
     writer: &mut W,
     errors: &mut E,
 ) -> u8
-    ensures ends { EndsWriting result (ShowsFirst (R.remaining reader.old) (R.remaining reader.new)) (W.failed writer.new)
-        (W.contents writer.old) (W.contents writer.new) }
+    ensures ends { EndsWriting result (ShowsFirst (R.remaining reader.old) (R.remaining reader.new))
+        (W.failed writer.new) (W.contents writer.old) (W.contents writer.new) }
     ensures sent { result ≡ 0 → W.sent writer.new }
 {
     let changeset = match first_changeset(alloc, reader) {

@@ -2,10 +2,10 @@
 
 ghost use Rattle.std.specs.Prelude.{◌≡◌, ◌≢◌, ℕ, ◌++◌, ◌∷◌, ◌<◌, Bool, List, None, All, IfOk, IfErr, IfSome, MatchOption, length, map, option_map};
 ghost use Rattle.cs_value.specs.declared.catalog.TableDef.{TableDef as Table};
-ghost use Rattle.cs_text.specs.Text.{is_plain};
 ghost use Rattle.sync_cli.specs.TableWord.{digit_value, mark_digit, spelled_name, SpellsTable};
 ghost use Rattle.sync_cli.specs.CatalogWords.{IsCatalogOf, IsFirstRefused};
 
+use cs_text::is_plain;
 use cs_value::{Catalog, Items, Memory, TableDef, Text};
 use std::alloc::Global;
 use std::str;
@@ -143,13 +143,6 @@ fn first_byte(text: &[u8]) -> Option<(u8, &[u8])>
         [byte, rest @ ..] if is_plain(*byte) => Some((*byte, rest)),
         _ => None,
     }
-}
-
-// Whether a byte stands for itself in a name.
-fn is_plain(byte: u8) -> bool
-    ensures { result ≡ is_plain byte }
-{
-    (0x21..=0x7e).contains(&byte) && byte != b'%'
 }
 
 // The value of an upper case hex digit.

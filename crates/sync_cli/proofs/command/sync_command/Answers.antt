@@ -1,4 +1,4 @@
-use Rattle.std.proofs.Common.{rules, ◌≡◌, ap, ap₂, ◌∙◌, codes, refl}
+use Rattle.std.proofs.Common.{rules, ◌≡◌, ap, ap₂, ◌∙◌, codes}
 use Rattle.clap.specs.Words.{App, app_of, new_app, with_subcommand}
 use Rattle.sync_cli.specs.CommandLine.{hub_app, show_app, combine_app}
 use Rattle.sync_cli.proofs.CommandLemmas.{no_globals}

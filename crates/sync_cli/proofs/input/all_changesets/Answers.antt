@@ -1,4 +1,4 @@
-use Rattle.sync_cli.proofs.InputLemmas.{read_none, read_more, read_all}
+use Rattle.sync_cli.proofs.InputLemmas.{read_none, read_more}
 use Rattle.sync_cli.proofs.input.all_changesets.Goals as goal
 
 pub loop-init : goal.loop-init
