@@ -1,5 +1,5 @@
 -- A request has one answer, and leaves one hub.
-use Rattle.std.proofs.Common.{◌≡◌, ℕ, ◌<◌, ◌≤◌, List, length, inl, inr, refl, sym, ap, subst, ◌∙◌, arith}
+use Rattle.std.proofs.Common.{◌≡◌, ℕ, List, inl, inr, sym, ap, subst, ◌∙◌, arith}
 use Rattle.cs_value.specs.Catalog.{AreTables}
 use Rattle.cs_change.specs.declared.group.Group.{Group}
 use Rattle.cs_changeset.specs.declared.fault.Fault.{Fault}
@@ -13,7 +13,7 @@ use Rattle.cs_hub.specs.Hub.{HubState}
 use Rattle.cs_hub.specs.Laws.{OneAnswer, OneRequest, OneService}
 use Rattle.cs_hub.specs.Messages.{Asked, AsksPush, AsksPull, AsksNothing, answer_spelling}
 use Rattle.cs_hub.specs.Pushes.{Push}
-use Rattle.cs_hub.specs.Serves.{AnswersPush, AnswersGroups, AnswersChangeset, AnswersAsked, Serves, push_answer}
+use Rattle.cs_hub.specs.Serves.{AnswersPush, AnswersGroups, AnswersChangeset, AnswersAsked, push_answer}
 use Rattle.cs_hub.specs.declared.answer.Answer.{Answer}
 use Rattle.cs_hub.specs.declared.answer.Answer.TheVariants.{Refused}
 use Rattle.cs_hub.specs.declared.push.PushHead.{PushHead}

@@ -13,7 +13,7 @@ use crate::tables::Tables;
 use cs_change::Changeset;
 use cs_changeset::{Body, CodecFault, LogEntry, decode};
 use cs_normal::{Normal, Unfit, normalise};
-use cs_value::{Catalog, Memory};
+use cs_value::{Catalog, Memory, TableDef};
 use std::alloc::{AllocError, Global};
 use std::marker::Model;
 
@@ -58,6 +58,7 @@ impl Hub {
     ghost use Rattle.cs_hub.specs.Messages.{AsksPush, AsksPull, answer_spelling};
     ghost use Rattle.cs_hub.specs.Serves.{AnswersAsked, AnswersChangeset, AnswersGroups, AnswersPush, Serves};
     ghost use Rattle.std.specs.List.{slice_get};
+    ghost use Rattle.cs_value.specs.Catalog.{AreTables};
     ghost use Rattle.cs_value.specs.declared.catalog.TableDef.{TableDef};
     ghost use Rattle.cs_normal.specs.Normal.{FitsCatalog, normal_spelling};
     ghost use Rattle.cs_hub.specs.Hub.{HubState, fresh, entries_from};
@@ -80,6 +81,14 @@ impl Hub {
             tables: Tables::new(alloc, catalog.tables())?,
             log: Vec::new(alloc),
         })
+    }
+
+    /// The tables that are synced, in the catalog's order.
+    pub fn tables(&self) -> &[TableDef]
+        ensures same { result.now ≡ self.now.catalog }
+        ensures tables { AreTables self.now.catalog }
+    {
+        self.catalog.tables()
     }
 
     /// How many entries the log has, which is the newest version.

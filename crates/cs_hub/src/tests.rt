@@ -116,6 +116,7 @@ fn refused_requests(rt: HostRuntime) -> Result<(), Fail> {
 fn a_new_hub(rt: HostRuntime) -> Result<(), Fail> {
     let hub = hub_of_t1(rt.alloc())?;
     assert_eq!(rt; hub.newest(), 0);
+    assert_eq!(rt; hub.tables().len(), 1);
     assert_eq!(rt; hub.rows(0).len(), 0);
     assert_eq!(rt; hub.rows(1).len(), 0);
     assert_eq!(rt; hub.entries(0, 10)?.len(), 0);
