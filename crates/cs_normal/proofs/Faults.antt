@@ -15,7 +15,7 @@ use Rattle.cs_change.specs.declared.change.Change.{Change}
 use Rattle.cs_normal.specs.declared.unfit.Unfit.TheVariants.{KeyTwice, NullKey}
 use Rattle.cs_normal.specs.Changes.{by_bytes, same_bytes}
 use Rattle.cs_normal.specs.NormalForm.{has_key, change_bytes, AreKeyed, HasFirstUnfitChange}
-use Rattle.cs_normal.specs.Steps.Prepared.{Entries, prepared, all_keyed, rises, rises_from}
+use Rattle.cs_normal.specs.Steps.Prepared.{Entries, prepared, all_keyed, rises, rises_from, is_below}
 use Rattle.cs_normal.proofs.NormalLaws.{by_test, distinct_on}
 
 -- changes with keys, and one without
@@ -67,9 +67,6 @@ unfolding IsDistinct
 twice marks changes = twice_from marks [] changes (refl, tt)
 
 -- what is in order and has distinct keys rises
-abbrev pub key_below : List ℕ × Option Change → List ℕ × Option Change → Bool
-key_below x y = is_lt (by_bytes x.0 y.0)
-
 below : (x y : List ℕ) → is_lt (by_bytes y x) ≡ false → same_bytes x y ≡ false → by_bytes x y ≡ Less
 below x y not_less apart =
     let turned = nat_list_cmp_total.antisymm y x in
@@ -80,11 +77,11 @@ below x y not_less apart =
     ] in
     split (by_bytes x y) refl
 
-sorted_rest : (x : List ℕ × Option Change) (xs : Entries) → IsSortedBy key_below (x ∷ xs) → IsSortedBy key_below xs
+sorted_rest : (x : List ℕ × Option Change) (xs : Entries) → IsSortedBy is_below (x ∷ xs) → IsSortedBy is_below xs
 sorted_rest x xs up k d low high =
     let h = up (k + 1) d (omega arith) (omega arith) in simp unary_clauses (simp unary_clauses at h)
 
-rises_behind : (x : List ℕ × Option Change) (xs : Entries) → IsSortedBy key_below (x ∷ xs) → IsDistinct same_bytes (keys_of (x ∷ xs)) → rises_from x.0 xs ≡ true
+rises_behind : (x : List ℕ × Option Change) (xs : Entries) → IsSortedBy is_below (x ∷ xs) → IsDistinct same_bytes (keys_of (x ∷ xs)) → rises_from x.0 xs ≡ true
 unfolding rises_from
 rises_behind x [] up d = refl
 rises_behind x (y ∷ xs) up d =
@@ -94,7 +91,7 @@ rises_behind x (y ∷ xs) up d =
     let rest = rises_behind y xs (sorted_rest x (y ∷ xs) up) (IsDistinct-tail same_bytes x.0 (keys_of (y ∷ xs)) d) in
     simp less rest
 
-pub sorted_rises : (xs : Entries) → IsSortedBy key_below xs → IsDistinct same_bytes (keys_of xs) → rises xs ≡ true
+pub sorted_rises : (xs : Entries) → IsSortedBy is_below xs → IsDistinct same_bytes (keys_of xs) → rises xs ≡ true
 unfolding rises
 sorted_rises [] up d = refl
 sorted_rises (x ∷ xs) up d = rises_behind x xs up d
@@ -106,7 +103,7 @@ none_twice marks changes never =
     split (twice marks changes)
 
 -- ordered and not rising: a key is there twice
-pub twice_fault : (marks : List Bool) (changes : List Change) (fs : Entries) → IsPermutation (prepared marks changes) fs → IsSortedBy key_below fs → rises fs ≡ false → HasFirstUnfitChange KeyTwice marks changes
+pub twice_fault : (marks : List Bool) (changes : List Change) (fs : Entries) → IsPermutation (prepared marks changes) fs → IsSortedBy is_below fs → rises fs ≡ false → HasFirstUnfitChange KeyTwice marks changes
 twice_fault marks changes fs p up not_up =
     none_twice marks changes (λ d.
     let df = distinct_on (prepared marks changes) fs p d in

@@ -1,11 +1,10 @@
 -- A table's changes in normal form: a sorted map from the bytes of a key to the change of that key.
 use Rattle.std.specs.Prelude.{◌≡◌, ℕ, Bool, true, List, Option}
-use Rattle.std.specs.Cmp.Lexicographic.{slice_cmp}
 use Rattle.std.specs.List.{flat_map, list_all, All, AllByRecursion}
 use Rattle.std.specs.List.Sorted.{IsStrictlySortedBy}
 use Rattle.std.specs.Map.{keys_of, lookup}
-use Rattle.std.specs.Ordering.{nat_cmp, eq_by_cmp}
-use Rattle.std.specs.declared.cmp.Ordering.{Ordering}
+-- the order of keys is that of their bytes
+pub use Rattle.cs_order.specs.Order.{by_bytes, same_bytes}
 use Rattle.cs_value.specs.declared.value.Value.{Value}
 use Rattle.cs_value.specs.declared.value.Field.TheVariants.{Is}
 use Rattle.cs_value.specs.Catalog.{is_set}
@@ -22,13 +21,6 @@ key_bytes key = flat_map (λ v. field (Is v)) key
 -- a key whose values have spellings
 abbrev pub IsSpelled : List Value → Type 0
 IsSpelled key = AllByRecursion (λ v. Fits (Is v)) key
-
--- the order of keys: that of their bytes
-abbrev pub by_bytes : List ℕ → List ℕ → Ordering
-by_bytes = slice_cmp nat_cmp
-
-abbrev pub same_bytes : List ℕ → List ℕ → Bool
-same_bytes = eq_by_cmp by_bytes
 
 -- changes with the bytes of their keys
 abbrev pub Changes : Type 0

@@ -11,6 +11,7 @@ mod comparing;
 mod fitting;
 mod groups;
 mod headers;
+mod key_order;
 mod normal;
 mod normal_form;
 mod searching;

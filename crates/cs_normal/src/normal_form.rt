@@ -13,6 +13,7 @@ ghost use Rattle.cs_normal.specs.Steps.TableByTable.{IsTableOf};
 ghost use Rattle.cs_normal.specs.Steps.Prepared.{prepared, all_keyed, kept, rises};
 
 use crate::changes::{Bytes, KeyedChange};
+use crate::key_order::in_key_order;
 use crate::unfit::Unfit;
 use cs_change::{Change, Group};
 use cs_record::encode_value;
@@ -21,7 +22,7 @@ use std::alloc::Global;
 use std::cmp::Ordering;
 
 /// The bytes of a key, and the change in normal form if one is left.
-type Prepared = (Bytes, Option<Change>);
+pub(crate) type Prepared = (Bytes, Option<Change>);
 
 fn set(value: &Value) -> bool
     ensures { result ≡ is_set value.now }
@@ -316,8 +317,8 @@ pub(crate) fn normalise_table(
     ensures normal { IfOk result (λ changes. IsTableOf groups.now table.now changes.items) }
     ensures fault { IfErr result (λ fault. AreUnfit fault table.now.key_marks (changes_of table.now.name groups.now)) }
 {
-    let (mut entries, whole) = prepare_table(alloc, table, groups)?;
-    entries.sort_unstable_by(|left, right| left.0.as_slice().cmp(right.0.as_slice()));
+    let (entries, whole) = prepare_table(alloc, table, groups)?;
+    let entries = in_key_order(alloc, entries)?;
     if !keys_rise(entries.as_slice()) {
         return Err(Unfit::KeyTwice);
     }

@@ -1,13 +1,10 @@
-use Rattle.std.proofs.Common.{◌≡◌, true, sym, ap, ◌∙◌, subst, List, ℕ, Option, rules}
+use Rattle.std.proofs.Common.{◌≡◌, true, sym, ap, ◌∙◌, subst, List, ℕ}
 use Rattle.std.specs.List.Sorted.{IsPermutation}
-use Rattle.std.proofs.lemmas.List.Sorted.{ranks_by, answers_always}
-use Rattle.std.proofs.lemmas.Cmp.{nat_list_cmp_total}
-use Rattle.cs_change.specs.declared.change.Change.{Change}
 use Rattle.cs_normal.specs.NormalFormOf.{changes_of}
 use Rattle.cs_normal.specs.Steps.Prepared.{Entries, prepared, rises}
 use Rattle.cs_normal.specs.Steps.TableByTable.{IsTableOf}
 use Rattle.cs_normal.proofs.NormalLaws.{prepared_distinct}
-use Rattle.cs_normal.proofs.Faults.{null_fault, twice_fault, key_below}
+use Rattle.cs_normal.proofs.Faults.{null_fault, twice_fault}
 use Rattle.cs_normal.proofs.Gathered.{is_table_of}
 use Rattle.cs_normal.proofs.normal_form.normalise_table.Goals as goal
 
@@ -16,8 +13,8 @@ returns-clause-normal c =
     let table = c.args.table.now in
     let groups = c.args.groups.now in
     let e = c.in_ok-entries.ensures in
-    let fs = c.sort_unstable_by.new.self.items in
-    let p : IsPermutation (prepared table.key_marks (changes_of table.name groups)) fs = subst (λ (es : Entries). IsPermutation es fs) e.0 c.sort_unstable_by.ensures.permutation in
+    let fs = c.in_ok-entries-2.entries.items in
+    let p : IsPermutation (prepared table.key_marks (changes_of table.name groups)) fs = subst (λ (es : Entries). IsPermutation es fs) e.0 c.in_ok-entries-2.ensures.moved in
     let up : rises fs ≡ true = ap rises (sym c.as_slice.ensures.value) ∙ (sym c.keys_rise.ensures ∙ c.if-not-keys_rise.false) in
     subst (IsTableOf groups table) (sym c.in_ok-keep.ensures) (is_table_of groups table fs p up (sym e.1 ∙ c.if-not-whole.false))
 
@@ -26,8 +23,8 @@ returns-then-not-whole-clause-fault c =
     let marks = c.args.table.now.key_marks in
     let changes = changes_of c.args.table.now.name c.args.groups.now in
     let e = c.in_ok-entries.ensures in
-    let fs = c.sort_unstable_by.new.self.items in
-    let p : IsPermutation (prepared marks changes) fs = subst (λ (es : Entries). IsPermutation es fs) e.0 c.sort_unstable_by.ensures.permutation in
+    let fs = c.in_ok-entries-2.entries.items in
+    let p : IsPermutation (prepared marks changes) fs = subst (λ (es : Entries). IsPermutation es fs) e.0 c.in_ok-entries-2.ensures.moved in
     let up : rises fs ≡ true = ap rises (sym c.as_slice.ensures.value) ∙ (sym c.keys_rise.ensures ∙ c.if-not-keys_rise.false) in
     null_fault marks changes (sym e.1 ∙ c.if-not-whole.true) (prepared_distinct marks changes fs p up)
 
@@ -36,6 +33,6 @@ returns-then-not-keys_rise-clause-fault c =
     let marks = c.args.table.now.key_marks in
     let changes = changes_of c.args.table.now.name c.args.groups.now in
     let e = c.in_ok-entries.ensures in
-    let fs = c.sort_unstable_by.new.self.items in
-    let p : IsPermutation (prepared marks changes) fs = subst (λ (es : Entries). IsPermutation es fs) e.0 c.sort_unstable_by.ensures.permutation in
-    twice_fault marks changes fs p (c.sort_unstable_by.ensures.sorted key_below (ranks_by nat_list_cmp_total (λ (x : List ℕ × Option Change). x.0)) (answers_always _ _ _ (λ f a r f' called. search rules))) (ap rises (sym c.as_slice.ensures.value) ∙ (sym c.keys_rise.ensures ∙ c.if-not-keys_rise.true))
+    let fs = c.in_ok-entries-2.entries.items in
+    let p : IsPermutation (prepared marks changes) fs = subst (λ (es : Entries). IsPermutation es fs) e.0 c.in_ok-entries-2.ensures.moved in
+    twice_fault marks changes fs p c.in_ok-entries-2.ensures.ordered (ap rises (sym c.as_slice.ensures.value) ∙ (sym c.keys_rise.ensures ∙ c.if-not-keys_rise.true))
