@@ -1,10 +1,9 @@
 -- The table words of a command line (profile of this project).
-use Rattle.std.specs.Prelude.{◌≡◌, ℕ, ◌+◌, Option, Some, None, List, take}
+use Rattle.std.specs.Prelude.{◌≡◌, ℕ, ◌+◌, List, take}
 use Rattle.std.specs.List.{AllZip, HoldsAt}
 use Rattle.cs_value.specs.Catalog.{AreTables}
 use Rattle.cs_value.specs.declared.catalog.TableDef.{TableDef}
 use Rattle.sync_cli.specs.TableWord.{SpellsTable}
-use Rattle.sync_cli.specs.declared.command.Tool.{Tool}
 use Rattle.sync_cli.specs.declared.table.Refused.{Refused}
 use Rattle.sync_cli.specs.declared.table.Refused.TheVariants.{Memory, Word}
 
@@ -27,12 +26,6 @@ abbrev pub IsFirstRefused : Refused → List (List ℕ) → Type 0
 IsFirstRefused Memory words = Unit {0}
 IsFirstRefused (Word word) words =
     (place : ℕ) × HoldsAt (λ w. w ≡ word.now) words place × IsRefusedAt words place
-
--- a command line that the parser takes is refused: its table words are no catalog, or it asks for nothing
-abbrev pub IsRefused : Option (List (List ℕ)) → Option Tool → Type 0
-IsRefused (Some words) tool = AreNoCatalog words
-IsRefused None None = Unit {0}
-IsRefused None (Some tool) = ⊥
 
 -- the status with which a run ends for this
 abbrev pub status_of : Refused → ℕ
