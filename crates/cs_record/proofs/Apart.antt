@@ -1,31 +1,17 @@
 -- One field stands at the front, or one fault.
 use Rattle.std.proofs.Common.{◌≡◌, ℕ, ◌+◌, ◌^◌, ◌<◌, ◌≤◌, List, ◌∷◌, ◌++◌, length, refl, sym, ap, ◌∙◌, append_assoc, arith, inl, inr, length-append, subst}
-use Rattle.std.specs.Prelude.{ℤ, FitsSigned, ◌≢◌, IsUtf8}
-use Rattle.std.specs.Int.{w64, cast_unsigned, cast_signed, from_be_bytes}
-use Rattle.std.proofs.Math.Facts.{Fits-of_z, Fits-lt-pow}
-use Rattle.std.proofs.lemmas.Int.{to_z-of_z}
-use Rattle.std.proofs.lemmas.List.{append_cancel_left}
-use Rattle.std.proofs.lemmas.Nat.{from_be_bytes-to_be_bytes_8}
+use Rattle.std.specs.Prelude.{◌≢◌, IsUtf8}
 use Rattle.cs_varint.specs.Varint.{spelling, IsTooLong}
 use Rattle.cs_varint.specs.Laws.{VarintLaws}
 use Rattle.cs_value.specs.declared.value.Value.TheVariants.{Null, Int, Text, Blob}
 use Rattle.cs_value.specs.declared.value.Field.{Field}
 use Rattle.cs_value.specs.declared.value.Field.TheVariants.{Undefined, Is}
 use Rattle.cs_record.specs.Spelling.{counted, integer_bytes, field, Fits}
-use Rattle.cs_record.specs.Facts.{head_same, tail_same, same_length}
+use Rattle.cs_record.specs.Facts.{head_same, tail_same}
+use Rattle.cs_record.specs.OneSpelling.{length-integer, counted_apart, fields_apart}
 use Rattle.cs_record.specs.Reading.{IsCutOff, HasLength, IsPartialField, IsFieldFault}
 use Rattle.cs_record.specs.declared.fault.Fault.{Fault}
 use Rattle.cs_record.specs.declared.fault.Fault.TheVariants.{Truncated, NotShortest, BadType, Real, NotUtf8}
-
-length-integer : (number : ℤ) → length (integer_bytes number) ≡ 8
-unfolding integer_bytes
-length-integer number = refl
-
-integer_apart : (m n : ℤ) → FitsSigned w64 m → FitsSigned w64 n → integer_bytes m ≡ integer_bytes n → m ≡ n
-unfolding integer_bytes
-integer_apart m n fm fn e =
-    let same : cast_unsigned w64 m ≡ cast_unsigned w64 n = sym (from_be_bytes-to_be_bytes_8 (cast_unsigned w64 m) (Fits-lt-pow (Fits-of_z fm))) ∙ ap (from_be_bytes w64) e ∙ from_be_bytes-to_be_bytes_8 (cast_unsigned w64 n) (Fits-lt-pow (Fits-of_z fn)) in
-    sym (to_z-of_z w64 m fm) ∙ ap (cast_signed w64) same ∙ to_z-of_z w64 n fn
 
 -- a type byte is at most 5, and no real's
 abbrev kind_of : Field → ℕ
@@ -59,47 +45,6 @@ long_is kind (inl h) = (omega (arith, h), λ e. omega (arith, h, e))
 long_is kind (inr h) = (omega (arith, h), λ e. omega (arith, h, e))
 
 module _ (varints : VarintLaws) where
-  pub counted_apart : (s t x y : List ℕ) → length s < 2 ^ 64 → length t < 2 ^ 64 → counted s ++ x ≡ counted t ++ y → (s ≡ t) × (x ≡ y)
-  counted_apart s t x y bs bt e =
-      let e' : spelling (length s) ++ (s ++ x) ≡ spelling (length t) ++ (t ++ y) = sym (append_assoc (spelling (length s)) s x) ∙ e ∙ append_assoc (spelling (length t)) t y in
-      let one = varints.apart (length s) (length t) (s ++ x) (t ++ y) bs bt e' in
-      same_length s t x y one.0 one.1
-
-  -- the same field stands at the front
-  same_field : (a b : Field) (x y : List ℕ) → Fits a → Fits b → field a ++ x ≡ field b ++ y → a ≡ b
-  same_field Undefined Undefined x y fa fb e = refl
-  same_field (Is Null) (Is Null) x y fa fb e = refl
-  same_field (Is (Int m)) (Is (Int n)) x y fa fb e =
-      ap (λ k. Is (Int k)) (integer_apart m n fa fb (same_length (integer_bytes m) (integer_bytes n) x y (length-integer m ∙ sym (length-integer n)) (tail_same e)).0)
-  same_field (Is (Text s)) (Is (Text t)) x y fa fb e = ap (λ k. Is (Text k)) (counted_apart s t x y fa.0 fb.0 (tail_same e)).0
-  same_field (Is (Blob s)) (Is (Blob t)) x y fa fb e = ap (λ k. Is (Blob k)) (counted_apart s t x y fa fb (tail_same e)).0
-  same_field Undefined (Is Null) x y fa fb e = cc
-  same_field Undefined (Is (Int n)) x y fa fb e = cc
-  same_field Undefined (Is (Text n)) x y fa fb e = cc
-  same_field Undefined (Is (Blob n)) x y fa fb e = cc
-  same_field (Is Null) Undefined x y fa fb e = cc
-  same_field (Is Null) (Is (Int n)) x y fa fb e = cc
-  same_field (Is Null) (Is (Text n)) x y fa fb e = cc
-  same_field (Is Null) (Is (Blob n)) x y fa fb e = cc
-  same_field (Is (Int m)) Undefined x y fa fb e = cc
-  same_field (Is (Int m)) (Is Null) x y fa fb e = cc
-  same_field (Is (Int m)) (Is (Text n)) x y fa fb e = cc
-  same_field (Is (Int m)) (Is (Blob n)) x y fa fb e = cc
-  same_field (Is (Text m)) Undefined x y fa fb e = cc
-  same_field (Is (Text m)) (Is Null) x y fa fb e = cc
-  same_field (Is (Text m)) (Is (Int n)) x y fa fb e = cc
-  same_field (Is (Text m)) (Is (Blob n)) x y fa fb e = cc
-  same_field (Is (Blob m)) Undefined x y fa fb e = cc
-  same_field (Is (Blob m)) (Is Null) x y fa fb e = cc
-  same_field (Is (Blob m)) (Is (Int n)) x y fa fb e = cc
-  same_field (Is (Blob m)) (Is (Text n)) x y fa fb e = cc
-
-  -- no spelling of a field begins another
-  pub fields_apart : (a b : Field) (x y : List ℕ) → Fits a → Fits b → field a ++ x ≡ field b ++ y → (a ≡ b) × (x ≡ y)
-  fields_apart a b x y fa fb e =
-      let same = same_field a b x y fa fb e in
-      (same, append_cancel_left (field a) x y (e ∙ ap (λ (f : Field). field f ++ y) (sym same)))
-
   -- ---- where a field is spelled, nothing is wrong
 
   grouped : (t x : List ℕ) → counted t ++ x ≡ spelling (length t) ++ (t ++ x)

@@ -8,13 +8,14 @@ use Rattle.cs_value.specs.declared.value.Field.{Field}
 use Rattle.cs_value.specs.declared.value.Field.TheVariants.{Undefined, Is}
 use Rattle.cs_record.specs.Spelling.{field, record_of, Fits}
 use Rattle.cs_record.specs.Facts.{parts, reaches, behind_stays, behind_end}
+use Rattle.cs_record.specs.OneSpelling.{one_spelled_record}
 use Rattle.cs_record.specs.Laws.{FieldsApart, OneField, NoFaultAtField, FieldFaultStays, FrontOfField, FieldLaws, RecordsApart, OneRecord, NoFaultAtRecord, OneRecordFault, RecordFaultStays, FrontOfRecord, RecordLaws}
 use Rattle.cs_record.specs.Reading.{IsFieldFault, IsFieldAt, IsRecordAt, IsRecordFault, ReadsField, ReadsRecord, FindsField, FindsRecord, TellsRecordFault}
 use Rattle.cs_record.specs.declared.fault.Fault.{Fault}
 use Rattle.cs_record.specs.declared.fault.Fault.TheVariants.{Truncated, NotShortest, BadType, Real, NotUtf8}
 use Rattle.cs_record.specs.declared.fault.RecordFault.{RecordFault}
 use Rattle.cs_record.specs.declared.fault.RecordFault.TheVariants.{Memory, At}
-use Rattle.cs_record.proofs.Sequences.{same_items, same_all, no_fault_yet, one_fault_behind}
+use Rattle.cs_record.proofs.Sequences.{same_items, no_fault_yet, one_fault_behind}
 
 none_behind : (xs rest : List ℕ) → xs ++ rest ≡ [] → rest ≡ []
 none_behind [] rest e = e
@@ -55,13 +56,6 @@ field_front right stays a fault offset bytes rest fits e told =
 
 -- ---- records
 
-a_field_takes_bytes : (a : Field) (x : List ℕ) → field a ++ x ≡ [] → ⊥
-a_field_takes_bytes Undefined x e = cc
-a_field_takes_bytes (Is Null) x e = cc
-a_field_takes_bytes (Is (Int n)) x e = cc
-a_field_takes_bytes (Is (Text t)) x e = cc
-a_field_takes_bytes (Is (Blob t)) x e = cc
-
 module _ (fields : FieldLaws) where
   records_apart : RecordsApart
   records_apart a b x y fa fb len e = same_items field Fits fields.apart a b x y fa fb len e
@@ -92,7 +86,7 @@ module _ (fields : FieldLaws) where
   pub record_laws : RecordLaws
   record_laws = record {
     apart = records_apart;
-    spelled = same_all field Fits fields.apart a_field_takes_bytes;
+    spelled = one_spelled_record;
     one = one_record;
     right = record_right;
     fault = one_record_fault;
