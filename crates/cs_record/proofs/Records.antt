@@ -1,6 +1,6 @@
 -- One record stands at the front, or one fault.
 use Rattle.std.proofs.Common.{◌≡◌, ℕ, List, [], ◌∷◌, ◌++◌, length, drop, refl, sym, ap, ◌∙◌, append_assoc, append-nil, arith, inl, inr, subst, Result, Ok, Err}
-use Rattle.std.specs.Prelude.{◌≢◌, ◌⊎◌}
+use Rattle.std.specs.Prelude.{◌≢◌, ◌⊎◌, ◌↔◌, IfOk, IsErrOf}
 use Rattle.std.specs.Global.{Vec}
 use Rattle.std.specs.List.{AllByRecursion}
 use Rattle.cs_value.specs.declared.value.Value.TheVariants.{Null, Int, Text, Blob}
@@ -10,9 +10,11 @@ use Rattle.cs_record.specs.Spelling.{field, record_of, Fits}
 use Rattle.cs_record.specs.Facts.{parts, reaches, behind_stays, behind_end}
 use Rattle.cs_record.specs.OneSpelling.{one_spelled_record}
 use Rattle.cs_record.specs.Laws.{FieldsApart, OneField, NoFaultAtField, FieldFaultStays, FrontOfField, FieldLaws, RecordsApart, OneRecord, NoFaultAtRecord, OneRecordFault, RecordFaultStays, FrontOfRecord, RecordLaws}
-use Rattle.cs_record.specs.Reading.{IsFieldFault, IsFieldAt, IsRecordAt, IsRecordFault, ReadsField, ReadsRecord, FindsField, FindsRecord, TellsRecordFault}
+use Rattle.cs_record.specs.Reading.{IsFieldFault, IsFieldAt, IsRecordAt, IsRecordFault, FindsField, FindsRecord, TellsRecordFault}
 use Rattle.cs_record.specs.declared.fault.Fault.{Fault}
 use Rattle.cs_record.specs.declared.fault.Fault.TheVariants.{Truncated, NotShortest, BadType, Real, NotUtf8}
+use Rattle.cs_record.specs.Steps.{ReadsField, ReadsRecord, IsMadeOf}
+use Rattle.cs_record.specs.declared.fault.FaultAt.{FaultAt}
 use Rattle.cs_record.specs.declared.fault.RecordFault.{RecordFault}
 use Rattle.cs_record.specs.declared.fault.RecordFault.TheVariants.{Memory, At}
 use Rattle.cs_record.proofs.Sequences.{same_items, no_fault_yet, one_fault_behind}
@@ -96,44 +98,113 @@ module _ (fields : FieldLaws) where
 
 -- ---- what reading says
 
-module _ (bytes : List ℕ) (fields : FieldLaws) where
-  pub only_field : (r : Result (Field × ℕ) RecordFault) → ReadsField bytes r → (value : Field) (len : ℕ) → IsFieldAt bytes value len → FindsField r value len
-  only_field (Ok found) reads value len is = fields.one bytes found.0 value found.1 len reads is
-  only_field (Err Memory) reads value len is = tt
-  only_field (Err (At fault offset)) reads value len (fits, stands) = fields.right value fault offset bytes (drop len bytes) fits (parts bytes (field value) len stands) reads
+pair_is : {A : Type 0} (found : A × ℕ) (a : A) (n : ℕ) → found.0 ≡ a → found.1 ≡ n → found ≡ (a, n)
+pair_is found a n e f = rw (← e, ← f) refl
 
-  pub told_field : (r : Result (Field × ℕ) RecordFault) → ReadsField bytes r → (fault : Fault) (offset : ℕ) → IsFieldFault fault offset bytes → TellsRecordFault r fault offset
-  told_field (Ok found) (fits, stands) fault offset is = fields.right found.0 fault offset bytes (drop found.1 bytes) fits (parts bytes (field found.0) found.1 stands) is
-  told_field (Err Memory) reads fault offset is = tt
-  told_field (Err (At f o)) reads fault offset is = fields.fault f fault o offset bytes reads is
+abbrev fault_at : Fault → ℕ → FaultAt
+fault_at fault offset = record { fault = fault; offset = offset }
+
+fault_is : (told : FaultAt) (fault : Fault) (offset : ℕ) → told.fault ≡ fault → told.offset ≡ offset → told ≡ fault_at fault offset
+fault_is told fault offset e f = rw (← e, ← f) refl
+
+-- what is read, where there is one thing at the front or one fault
+module _ {A : Type 0} (IsAt : A → ℕ → Type 0) (IsFault : Fault → ℕ → Type 0) (Reads : Result (A × ℕ) FaultAt → Type 0) (at_ok : (found : A × ℕ) → Reads (Ok found) → IsAt found.0 found.1) (at_err : (told : FaultAt) → Reads (Err told) → IsFault told.fault told.offset)
+    (one : (a b : A) (m n : ℕ) → IsAt a m → IsAt b n → (a ≡ b) × (m ≡ n)) (right : (a : A) (n : ℕ) (f : Fault) (o : ℕ) → IsAt a n → IsFault f o → ⊥) (fault : (f g : Fault) (o p : ℕ) → IsFault f o → IsFault g p → (f ≡ g) × (o ≡ p)) where
+  only : (r : Result (A × ℕ) FaultAt) → Reads r → (value : A) (len : ℕ) → IsAt value len → r ≡ Ok (value, len)
+  only (Ok found) reads value len is =
+      let same = one found.0 value found.1 len (at_ok found reads) is in
+      ap (λ (x : A × ℕ). Ok x) (pair_is found value len same.0 same.1)
+  only (Err told) reads value len is = absurd (right value len told.fault told.offset is (at_err told reads))
+
+  exact : (r : Result (A × ℕ) FaultAt) → Reads r → (told : FaultAt) → IsErrOf r told ↔ IsFault told.fault told.offset
+  exact (Ok found) reads told = (λ e. absurd cc, λ is. absurd (right found.0 found.1 told.fault told.offset (at_ok found reads) is))
+  exact (Err here) reads told = (
+    λ e. let same : here ≡ told = cc in subst (λ (t : FaultAt). IsFault t.fault t.offset) same (at_err here reads),
+    λ is.
+        let same = fault here.fault told.fault here.offset told.offset (at_err here reads) is in
+        ap (λ (t : FaultAt). Err t) (fault_is here told.fault told.offset same.0 same.1),
+  )
+
+module _ (bytes : List ℕ) (fields : FieldLaws) where
+  field_right : (a : Field) (n : ℕ) (f : Fault) (o : ℕ) → IsFieldAt bytes a n → IsFieldFault f o bytes → ⊥
+  field_right a n f o (fits, stands) is = fields.right a f o bytes (drop n bytes) fits (parts bytes (field a) n stands) is
+
+  pub only_field : (r : Result (Field × ℕ) FaultAt) → ReadsField bytes r → (value : Field) (len : ℕ) → IsFieldAt bytes value len → r ≡ Ok (value, len)
+  only_field =
+      only (IsFieldAt bytes) (λ f o. IsFieldFault f o bytes) (ReadsField bytes) (λ _ is. is) (λ _ is. is) (fields.one bytes) field_right
+      (λ f g o p. fields.fault f g o p bytes)
+
+  pub exact_field : (r : Result (Field × ℕ) FaultAt) → ReadsField bytes r → (told : FaultAt) → IsErrOf r told ↔ IsFieldFault told.fault told.offset bytes
+  exact_field =
+      exact (IsFieldAt bytes) (λ f o. IsFieldFault f o bytes) (ReadsField bytes) (λ _ is. is) (λ _ is. is) (fields.one bytes) field_right
+      (λ f g o p. fields.fault f g o p bytes)
 
   -- a proper front of a field is no field
-  pub front_field : (r : Result (Field × ℕ) RecordFault) → ReadsField bytes r → (value : Field) (rest : List ℕ) → Fits value → rest ≢ [] → field value ≡ bytes ++ rest → TellsRecordFault r Truncated (length bytes)
+  pub front_field : (r : Result (Field × ℕ) FaultAt) → ReadsField bytes r → (value : Field) (rest : List ℕ) → Fits value → rest ≢ [] → field value ≡ bytes ++ rest → IsErrOf r (fault_at Truncated (length bytes))
   front_field (Ok found) (fits, stands) value rest fits' some e =
       let behind = front_parts bytes rest (field found.0) (field value) found.1 (parts bytes (field found.0) found.1 stands) e in
-      some (none_behind (drop found.1 bytes) rest (fields.apart found.0 value (drop found.1 bytes ++ rest) [] fits fits' behind).1)
-  front_field (Err Memory) reads value rest fits some e = tt
-  front_field (Err (At fault offset)) reads value rest fits some e = fields.front value fault offset bytes rest fits e reads
+      absurd (some (none_behind (drop found.1 bytes) rest (fields.apart found.0 value (drop found.1 bytes ++ rest) [] fits fits' behind).1))
+  front_field (Err told) reads value rest fits some e =
+      let same = fields.front value told.fault told.offset bytes rest fits e reads in
+      ap (λ (t : FaultAt). Err t) (fault_is told Truncated (length bytes) same.0 same.1)
 
-module _ (bytes : List ℕ) (records : RecordLaws) where
-  pub only_record : (count : ℕ) (r : Result (Vec Field × ℕ) RecordFault) → ReadsRecord count bytes r → (fields : List Field) (len : ℕ) → IsRecordAt count bytes fields len → FindsRecord r fields len
-  only_record count (Ok found) reads fields len is = records.one count bytes found.0.items fields found.1 len reads is
-  only_record count (Err Memory) reads fields len is = tt
-  only_record count (Err (At fault offset)) reads fields len (wide, fits, stands) =
-      records.right fields fault offset bytes (drop len bytes) fits (parts bytes (record_of fields) len stands) (subst (λ (n : ℕ). IsRecordFault n fault offset bytes) (sym wide) reads)
+module _ (bytes : List ℕ) (count : ℕ) (records : RecordLaws) where
+  record_right_at : (a : List Field) (n : ℕ) (f : Fault) (o : ℕ) → IsRecordAt count bytes a n → IsRecordFault count f o bytes → ⊥
+  record_right_at a n f o (wide, fits, stands) is =
+      records.right a f o bytes (drop n bytes) fits (parts bytes (record_of a) n stands) (subst (λ (k : ℕ). IsRecordFault k f o bytes) (sym wide) is)
 
-  pub told_record : (count : ℕ) (r : Result (Vec Field × ℕ) RecordFault) → ReadsRecord count bytes r → (fault : Fault) (offset : ℕ) → IsRecordFault count fault offset bytes → TellsRecordFault r fault offset
-  told_record count (Ok found) (wide, fits, stands) fault offset is =
-      records.right found.0.items fault offset bytes (drop found.1 bytes) fits (parts bytes (record_of found.0.items) found.1 stands) (subst (λ (n : ℕ). IsRecordFault n fault offset bytes) (sym wide) is)
-  told_record count (Err Memory) reads fault offset is = tt
-  told_record count (Err (At f o)) reads fault offset is = records.fault count f fault o offset bytes reads is
+  pub only_record : (r : Result (List Field × ℕ) FaultAt) → ReadsRecord count bytes r → (fields : List Field) (len : ℕ) → IsRecordAt count bytes fields len → r ≡ Ok (fields, len)
+  only_record =
+      only (IsRecordAt count bytes) (λ f o. IsRecordFault count f o bytes) (ReadsRecord count bytes) (λ _ is. is) (λ _ is. is) (records.one count bytes) record_right_at
+      (λ f g o p. records.fault count f g o p bytes)
+
+  pub exact_record : (r : Result (List Field × ℕ) FaultAt) → ReadsRecord count bytes r → (told : FaultAt) → IsErrOf r told ↔ IsRecordFault count told.fault told.offset bytes
+  exact_record =
+      exact (IsRecordAt count bytes) (λ f o. IsRecordFault count f o bytes) (ReadsRecord count bytes) (λ _ is. is) (λ _ is. is) (records.one count bytes) record_right_at
+      (λ f g o p. records.fault count f g o p bytes)
 
   -- a proper front of a record is no record
-  pub front_record : (count : ℕ) (r : Result (Vec Field × ℕ) RecordFault) → ReadsRecord count bytes r → (fields : List Field) (rest : List ℕ) → length fields ≡ count → AllByRecursion Fits fields → rest ≢ [] → record_of fields ≡ bytes ++ rest
-      → TellsRecordFault r Truncated (length bytes)
-  front_record count (Ok found) (wide, fits, stands) fields rest len fits' some e =
-      let behind = front_parts bytes rest (record_of found.0.items) (record_of fields) found.1 (parts bytes (record_of found.0.items) found.1 stands) e in
-      some (none_behind (drop found.1 bytes) rest (records.apart found.0.items fields (drop found.1 bytes ++ rest) [] fits fits' (wide ∙ sym len) behind).1)
-  front_record count (Err Memory) reads fields rest len fits some e = tt
-  front_record count (Err (At fault offset)) reads fields rest len fits some e =
-      records.front fields fault offset bytes rest fits e (subst (λ (n : ℕ). IsRecordFault n fault offset bytes) (sym len) reads)
+  pub front_record : (r : Result (List Field × ℕ) FaultAt) → ReadsRecord count bytes r → (fields : List Field) (rest : List ℕ) → length fields ≡ count → AllByRecursion Fits fields → rest ≢ [] → record_of fields ≡ bytes ++ rest
+      → IsErrOf r (fault_at Truncated (length bytes))
+  front_record (Ok found) (wide, fits, stands) fields rest len fits' some e =
+      let behind = front_parts bytes rest (record_of found.0) (record_of fields) found.1 (parts bytes (record_of found.0) found.1 stands) e in
+      absurd (some (none_behind (drop found.1 bytes) rest (records.apart found.0 fields (drop found.1 bytes ++ rest) [] fits fits' (wide ∙ sym len) behind).1))
+  front_record (Err told) reads fields rest len fits some e =
+      let same = records.front fields told.fault told.offset bytes rest fits e (subst (λ (n : ℕ). IsRecordFault n told.fault told.offset bytes) (sym len) reads) in
+      ap (λ (t : FaultAt). Err t) (fault_is told Truncated (length bytes) same.0 same.1)
+
+-- ---- what was made of what was read
+
+module _ {A B : Type 0} (see : B → A) (read : Result A FaultAt) where
+  pub made_found : (r : Result B RecordFault) (P : A → Type 0) → IsMadeOf see read r → IfOk read P → IfOk r (λ found. P (see found))
+  made_found (Ok found) P made holds = subst (λ (q : Result A FaultAt). IfOk q P) made holds
+  made_found (Err fault) P made holds = tt
+
+  pub made_tells : (r : Result B RecordFault) (fault : Fault) (offset : ℕ) → IsMadeOf see read r → read ≡ Err (fault_at fault offset) → TellsRecordFault r fault offset
+  made_tells (Ok found) fault offset made is = absurd (let e = sym made ∙ is in cc)
+  made_tells (Err Memory) fault offset made is = tt
+  made_tells (Err (At f o)) fault offset made is =
+      let same : fault_at f o ≡ fault_at fault offset = (let e = sym made ∙ is in cc) in
+      (ap (λ (t : FaultAt). t.fault) same, ap (λ (t : FaultAt). t.offset) same)
+
+  pub made_fault : (r : Result B RecordFault) (fault : Fault) (offset : ℕ) → IsMadeOf see read r → IsErrOf r (At fault offset) → read ≡ Err (fault_at fault offset)
+  made_fault (Ok found) fault offset made is = absurd cc
+  made_fault (Err Memory) fault offset made is = absurd cc
+  made_fault (Err (At f o)) fault offset made is =
+      let one : f ≡ fault = cc in
+      let two : o ≡ offset = cc in
+      made ∙ rw (one, two) refl
+
+pub made_field : (read : Result (Field × ℕ) FaultAt) (r : Result (Field × ℕ) RecordFault) (value : Field) (len : ℕ) → IsMadeOf (λ found. found) read r → read ≡ Ok (value, len) → FindsField r value len
+made_field read (Ok found) value len made is =
+    let same : found ≡ (value, len) = (let e = sym made ∙ is in cc) in
+    (ap (λ (x : Field × ℕ). x.0) same, ap (λ (x : Field × ℕ). x.1) same)
+made_field read (Err Memory) value len made is = tt
+made_field read (Err (At f o)) value len made is = absurd (let e = sym made ∙ is in cc)
+
+pub made_record : (read : Result (List Field × ℕ) FaultAt) (r : Result (Vec Field × ℕ) RecordFault) (fields : List Field) (len : ℕ) → IsMadeOf (λ found. (found.0.items, found.1)) read r → read ≡ Ok (fields, len) → FindsRecord r fields len
+made_record read (Ok found) fields len made is =
+    let same : (found.0.items, found.1) ≡ (fields, len) = (let e = sym made ∙ is in cc) in
+    (ap (λ (x : List Field × ℕ). x.0) same, ap (λ (x : List Field × ℕ). x.1) same)
+made_record read (Err Memory) fields len made is = tt
+made_record read (Err (At f o)) fields len made is = absurd (let e = sym made ∙ is in cc)

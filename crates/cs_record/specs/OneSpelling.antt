@@ -69,6 +69,10 @@ fields_apart a b x y fa fb e =
     let same = same_field a b x y fa fb e in
     (same, append_cancel_left (field a) x y (e ∙ ap (λ (f : Field). field f ++ y) (sym same)))
 
+-- bytes spell one field
+pub one_spelled_field : (a b : Field) → Fits a → Fits b → field a ≡ field b → a ≡ b
+one_spelled_field a b fa fb e = (fields_apart a b [] [] fa fb (ap (λ (t : List ℕ). t ++ []) e)).0
+
 -- ---- records and rows
 
 pub a_field_takes_bytes : (a : Field) (x : List ℕ) → field a ++ x ≡ [] → ⊥

@@ -1,0 +1,5 @@
+use Rattle.cs_record.proofs.Packed.{same_rows}
+use Rattle.cs_record.proofs.row.Row.same.Goals as goal
+
+pub returns : goal.returns
+returns c = same_rows c.args.self.now c.args.other.now _ _ c.eq.result c.bytes.ensures c.bytes-2.ensures c.eq.ensures
