@@ -1,6 +1,6 @@
 -- Fields, records and rows that stay in their bytes.
 use Rattle.std.proofs.Common.{Decides, ◌≡◌, ℕ, zero, suc, ◌+◌, ◌-◌, ◌<◌, ◌≤◌, Bool, true, false, List, [], ◌∷◌, ◌++◌, length, map, take, drop, get_or, refl, sym, ap, ◌∙◌, append_assoc, add-one, arith, rules, subst, length-append, inl, inr, IsTrue, ◌↔◌}
-use Rattle.std.specs.Prelude.{◌≢◌, ◌^◌, ◌⊎◌, ℤ, FitsSigned}
+use Rattle.std.specs.Prelude.{◌≢◌, ◌^◌, ℤ, FitsSigned}
 use Rattle.std.specs.Int.{w64, cast_signed, from_be_bytes}
 use Rattle.std.specs.Str.{bytes_eq}
 use Rattle.std.specs.List.{flat_map, AllByRecursion}

@@ -1,6 +1,6 @@
 -- Bytes that spell a field, a value, a record or a row. Which one is no matter of choice: each has one spelling, and no
 -- two have the same. So bytes can be kept in place of what they spell.
-use Rattle.std.specs.Prelude.{◌≡◌, ℕ, List, refl}
+use Rattle.std.specs.Prelude.{◌≡◌, ℕ, List}
 use Rattle.std.specs.List.{AllByRecursion, AllByRecursion-prop}
 use Rattle.std.specs.Coded.{×_prop}
 use Rattle.std.proofs.Common.{sym, ◌∙◌}
