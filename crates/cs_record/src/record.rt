@@ -6,7 +6,7 @@ ghost use Rattle.cs_record.specs.Spelling.{record_of};
 ghost use Rattle.cs_record.specs.Spelled.{SpellsRecord, SpelledRecord, SpelledRecord-prop};
 ghost use Rattle.cs_record.specs.Steps.{HasFieldAhead, IsFieldLength};
 
-use crate::cell::count_at;
+use crate::cell::{count_at, same_bytes};
 use crate::column::Column;
 use crate::row::Row;
 use cs_value::Memory;
@@ -84,7 +84,7 @@ impl<'a> Record<'a> {
     pub fn same(&self, other: &Record<'_>) -> bool
         ensures { IsTrue result ↔ (self.now ≡ other.now) }
     {
-        self.bytes() == other.bytes()
+        same_bytes(self.bytes(), other.bytes())
     }
 
     /// The first field, and the others, if there is one.

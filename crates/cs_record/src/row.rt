@@ -5,7 +5,7 @@ ghost use Rattle.cs_value.specs.Same.{same_row};
 ghost use Rattle.cs_record.specs.Spelling.{row_bytes};
 ghost use Rattle.cs_record.specs.Spelled.{SpellsRow, SpelledRow, SpelledRow-prop};
 
-use crate::cell::Cell;
+use crate::cell::{Cell, same_bytes};
 use crate::record::Record;
 use cs_value::Memory;
 use std::marker::Model;
@@ -58,7 +58,7 @@ impl<'a> Row<'a> {
     pub fn same(&self, other: &Row<'_>) -> bool
         ensures { result ≡ same_row self.now other.now }
     {
-        self.bytes() == other.bytes()
+        same_bytes(self.bytes(), other.bytes())
     }
 
     /// The first value, and the others, if there is one.
