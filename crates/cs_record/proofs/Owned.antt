@@ -1,5 +1,5 @@
 -- Records and rows that own their bytes: one is appended to.
-use Rattle.std.proofs.Common.{◌≡◌, ℕ, List, [], ◌∷◌, ◌++◌, sym, ◌∙◌, subst}
+use Rattle.std.proofs.Common.{◌≡◌, ℕ, List, [], ◌∷◌, ◌++◌, refl, sym, ◌∙◌, subst}
 use Rattle.std.specs.Prelude.{Result, Ok, Err, OnOk, OnErr, is_ok, if◌then◌else◌}
 use Rattle.std.specs.List.{flat_map, AllByRecursion}
 use Rattle.std.proofs.lemmas.List.{flat_map_more}
@@ -22,6 +22,11 @@ module _ {X : Type 0} (sp : X → List ℕ) (Fits : X → Type 0) where
   grown (Err x) old new more items item is fits one e =
       let spelled : Spells new items = (is.0, is.1 ∙ sym e) in
       record { ok = tt; err = spelled; some = (items, spelled) }
+
+  -- the same, where the two ends are told apart
+  pub grown_by : {A E : Type 0} (r : Result A E) (old new : List ℕ) (items : List X) (item : X) → Spells old items → Fits item → OnOk r (new ≡ old ++ sp item) → OnErr r (new ≡ old) → Grown r new items item
+  grown_by (Ok x) old new items item is fits ok err = grown (Ok x) old new (sp item) items item is fits refl ok
+  grown_by (Err x) old new items item is fits ok err = grown (Err x) old new (sp item) items item is fits refl err
 
   -- what is held is what is seen
   pub held_spelled : (bytes : List ℕ) (held : (items : List X) × Spells bytes items) (now : List X) → held.0 ≡ now → Spells bytes now

@@ -4,7 +4,8 @@ ghost use Rattle.cs_record.specs.Spelled.{SpelledRecord, SpelledRecord-prop};
 
 use crate::column::Column;
 use crate::record::Record;
-use cs_value::Memory;
+use crate::writing::{encode_field, fits_field};
+use cs_value::{Field, Memory};
 use std::alloc::Global;
 use std::marker::Model;
 
@@ -83,6 +84,15 @@ impl RecordBuf {
         ensures err { OnErr result (self.new ≡ self.old) }
     {
         self.bytes.extend_from_slice(column.bytes())
+    }
+
+    /// Appends a field that is held by itself. An `Err` changes nothing.
+    pub fn push_field(&mut self, field: &Field) -> Result<(), Memory>
+        ensures ok { OnOk result (self.new ≡ self.old ++ field.now ∷ []) }
+        ensures err { OnErr result (self.new ≡ self.old) }
+    {
+        fits_field(field);
+        encode_field(field, &mut self.bytes)
     }
 
     /// The record, in memory of its own.

@@ -4,7 +4,8 @@ ghost use Rattle.cs_record.specs.Spelled.{SpelledRow, SpelledRow-prop};
 
 use crate::cell::Cell;
 use crate::row::Row;
-use cs_value::Memory;
+use crate::writing::{encode_value, fits_value};
+use cs_value::{Memory, Value};
 use std::alloc::Global;
 use std::marker::Model;
 
@@ -83,6 +84,15 @@ impl RowBuf {
         ensures err { OnErr result (self.new ≡ self.old) }
     {
         self.bytes.extend_from_slice(cell.bytes())
+    }
+
+    /// Appends a value that is held by itself. An `Err` changes nothing.
+    pub fn push_value(&mut self, value: &Value) -> Result<(), Memory>
+        ensures ok { OnOk result (self.new ≡ self.old ++ value.now ∷ []) }
+        ensures err { OnErr result (self.new ≡ self.old) }
+    {
+        fits_value(value);
+        encode_value(value, &mut self.bytes)
     }
 
     /// The row, in memory of its own.
