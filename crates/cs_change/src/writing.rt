@@ -1,8 +1,8 @@
 //! Writing changes and groups.
 
 ghost use Rattle.std.specs.Prelude.{◌≡◌, ◌++◌, ◌∷◌, [], OnOk, OnErr};
-ghost use Rattle.cs_record.specs.Spelling.{Extends};
-ghost use Rattle.cs_change.specs.Spelling.{row_bytes, flag_byte, change_spelling, header_spelling, changes_spelling, group_spelling, changeset_spelling};
+ghost use Rattle.cs_record.specs.Spelling.{Extends, row_bytes};
+ghost use Rattle.cs_change.specs.Spelling.{flag_byte, change_spelling, header_spelling, changes_spelling, group_spelling, changeset_spelling};
 
 use crate::change::Change;
 use crate::group::{Changeset, Group};

@@ -10,11 +10,11 @@ use Rattle.cs_value.specs.declared.value.Field.TheVariants.{Undefined, Is}
 use Rattle.std.proofs.lemmas.List.{append_cancel_left}
 use Rattle.cs_record.specs.Facts.{head_same, tail_same, behind_stays, behind_end}
 use Rattle.cs_record.specs.Laws.{FieldLaws, RecordLaws}
-use Rattle.cs_record.specs.Spelling.{record_of, Fits}
+use Rattle.cs_record.specs.Spelling.{record_of, Fits, row_bytes}
 use Rattle.cs_change.specs.Columns.{holds}
 use Rattle.cs_change.specs.declared.change.Change.{Change}
 use Rattle.cs_change.specs.declared.change.Change.TheVariants.{Insert, Delete, Update}
-use Rattle.cs_change.specs.Spelling.{row_bytes, flag_byte, change_spelling, FitsRow, FitsChange, IsUpdateColumn, AreUpdateColumns}
+use Rattle.cs_change.specs.Spelling.{flag_byte, change_spelling, FitsRow, FitsChange, IsUpdateColumn, AreUpdateColumns}
 use Rattle.cs_changeset.specs.Records.{InOld, InNew, IsRight, AreRight, IsColumnsFault, row_rules, old_rules, new_rules}
 use Rattle.cs_changeset.specs.Reading.{IsUpdateFault, IsRecordsFault, IsOperation, IsFlaggedFault, IsChangeFault}
 use Rattle.cs_changeset.specs.declared.fault.Fault.{Fault}

@@ -8,13 +8,13 @@ use Rattle.cs_value.specs.Same.{same_value}
 use Rattle.cs_value.specs.declared.value.Value.{Value}
 use Rattle.cs_value.specs.declared.value.Field.{Field}
 use Rattle.cs_value.specs.declared.value.Field.TheVariants.{Undefined, Is}
-use Rattle.cs_record.specs.Spelling.{field, record_of, Fits}
+use Rattle.cs_record.specs.Spelling.{field, record_of, Fits, row_bytes}
 use Rattle.cs_record.specs.Reading.{StandsAt}
 use Rattle.cs_record.specs.Facts.{field_fault_within, reaches, tail, stands_both, behind_at, behind_within}
 use Rattle.cs_change.specs.Columns.{holds}
 use Rattle.cs_change.specs.declared.change.Change.{Change}
 use Rattle.cs_change.specs.declared.change.Change.TheVariants.{Insert, Delete, Update}
-use Rattle.cs_change.specs.Spelling.{row_bytes, flag_byte, change_spelling, changes_spelling, FitsRow, FitsChange, IsUpdateColumn, AreUpdateColumns}
+use Rattle.cs_change.specs.Spelling.{flag_byte, change_spelling, changes_spelling, FitsRow, FitsChange, IsUpdateColumn, AreUpdateColumns}
 use Rattle.cs_changeset.specs.Records.{Rule, InOld, InNew, IsRight, AreRight, IsColumnFault, IsColumnsFault, row_rules, old_rules, new_rules}
 use Rattle.cs_changeset.specs.Reading.{IsUpdateFault, IsRecordsFault, IsFlaggedFault, IsChangeFault, IsChangesFault}
 use Rattle.cs_changeset.specs.Steps.{AreColumnsAt, ReadsFlag, ReadsFlaggedRow, ReadsOperation}

@@ -4,6 +4,7 @@ pub mod Fresh
 pub mod Grown
 pub mod LogGrown
 pub mod OneAnswer
+pub mod OneHubRun
 pub mod OneService
 pub mod Reading
 pub mod Served

@@ -4,7 +4,9 @@ use Rattle.cs_changeset.specs.declared.log.LogEntry.{LogEntry}
 use Rattle.cs_value.specs.Catalog.{AreTables}
 use Rattle.cs_value.specs.declared.catalog.TableDef.{TableDef}
 use Rattle.cs_normal.specs.State.{AreApplied}
-use Rattle.cs_hub.specs.Hub.{HubState}
+use Rattle.cs_lines.specs.Laws.{AreInMemory}
+use Rattle.cs_lines.specs.Served.{AnswersAll}
+use Rattle.cs_hub.specs.Hub.{HubState, fresh}
 use Rattle.cs_hub.specs.Log.{IsLog}
 use Rattle.cs_hub.specs.Messages.{Asked, Asks}
 use Rattle.cs_hub.specs.Pushes.{Push, Pushes}
@@ -33,6 +35,17 @@ OneService =
     → Serves old request answer new
     → Serves old request other last
     → (answer ≡ other) × (new ≡ last)
+
+-- lines that a new hub answers, none refused for want of memory, have one list of answers, and leave one hub
+abbrev pub OneHubRun : Type 0
+OneHubRun =
+    (tables : List TableDef) (new last : HubState) (lines ones others : List (List ℕ))
+    → AreTables tables
+    → AreInMemory ones
+    → AreInMemory others
+    → AnswersAll Serves (fresh tables) lines ones new
+    → AnswersAll Serves (fresh tables) lines others last
+    → (ones ≡ others) × (new ≡ last)
 
 -- the state that a log makes is that of its changesets, each applied to what the earlier ones left
 abbrev pub LogIsApplied : Type 0

@@ -1,7 +1,8 @@
 //! The laws of requests, pushes and what a hub answers, each the contract of a function that does nothing.
 
-ghost use Rattle.cs_hub.specs.Laws.{LogIsApplied, OneAnswer, OneRequest, OneService};
+ghost use Rattle.cs_hub.specs.Laws.{LogIsApplied, OneAnswer, OneHubRun, OneRequest, OneService};
 
+use crate::Hub;
 use cs_changeset::laws::changesets;
 use cs_normal::laws::{no_fault_where_fit, one_normal_form, one_unfit};
 
@@ -15,8 +16,8 @@ pub fn one_answer()
     ensures { OneAnswer }
 {}
 
-/// The answer to the bytes of a request, and the hub after it, are determined by the hub and the bytes, up to want of
-/// memory.
+/// The answer to the bytes of a request, and the hub after it, are determined by the hub and the bytes, where memory is
+/// not wanting.
 pub fn one_service()
     ensures { OneService }
 {
@@ -26,6 +27,15 @@ pub fn one_service()
     no_fault_where_fit();
     one_unfit();
     one_normal_form();
+}
+
+/// The lines that a new hub answers have one list of answers, up to want of memory. The hub at hand changes nothing: it
+/// names whose lines these are.
+pub fn one_run(hub: &Hub)
+    ensures { OneHubRun }
+{
+    one_service();
+    cs_lines::one_run(hub);
 }
 
 /// The state that a log makes is that of its entries, each applied to what the earlier ones left: each is defined there.

@@ -4,8 +4,6 @@
 use Rattle.std.specs.Prelude.{◌≡◌, ℕ, List, [], ◌∷◌, Option, Some, None, codes}
 use Rattle.clap.specs.Words.{Text}
 use Rattle.clap.specs.declared.error.kind.ErrorKind.TheVariants as kind
-use Rattle.cs_change.specs.Spelling.{FitsChangeset, changeset_spelling}
-use Rattle.cs_change.specs.declared.group.Group.{Group}
 use Rattle.cs_value.specs.declared.catalog.TableDef.{TableDef}
 use Rattle.sync_cli.specs.CatalogWords.{IsCatalogOf, IsRefusedAt}
 use Rattle.sync_cli.specs.CombinedLines.{CombinesAll}
@@ -13,20 +11,15 @@ use Rattle.sync_cli.specs.CommandLine.{faults_of, tables_of, tool_of}
 use Rattle.sync_cli.specs.ShownLine.{ShowsFirst}
 use Rattle.sync_cli.specs.declared.command.Tool.TheVariants.{Combine, ShowChangeset}
 
--- bytes are the spelling of one changeset
-abbrev pub OneSpelling : Type 0
-OneSpelling = (groups others : List Group) → FitsChangeset groups → FitsChangeset others
-    → changeset_spelling groups ≡ changeset_spelling others → groups ≡ others
-
--- then the lines of an input have one text that `combine` owes
+-- the lines of an input have one text that `combine` owes
 abbrev pub OneCombinedText : Type 0
-OneCombinedText = OneSpelling → (input text other : List ℕ) → CombinesAll (Some input) text
-    → CombinesAll (Some input) other → text ≡ other
+OneCombinedText = (input text other : List ℕ) → CombinesAll (Some input) text → CombinesAll (Some input) other
+    → text ≡ other
 
--- and its first line has one that `show` owes, and one rest that it leaves
+-- its first line has one that `show` owes, and one rest that it leaves
 abbrev pub OneShownText : Type 0
-OneShownText = OneSpelling → (input text other : List ℕ) (left next : Option (List ℕ))
-    → ShowsFirst (Some input) left text → ShowsFirst (Some input) next other → (text ≡ other) × (left ≡ next)
+OneShownText = (input text other : List ℕ) (left next : Option (List ℕ)) → ShowsFirst (Some input) left text
+    → ShowsFirst (Some input) next other → (text ≡ other) × (left ≡ next)
 
 -- table words are one catalog
 abbrev pub OneCatalog : Type 0

@@ -3,17 +3,20 @@
 
 ghost use Rattle.sync_cli.specs.Laws.{AsksForAHub, AsksForHelp, AsksForNothing, AsksToCombine, AsksToShow, IsNotTaken, NoCatalogRefused, OneCatalog, OneCombinedText, OneRefusedWord, OneShownText};
 
-/// Where bytes spell one changeset, an input has one text that `combine` owes.
+/// An input has one text that `combine` owes.
 pub fn one_combined_text()
     ensures { OneCombinedText }
 {
+    cs_changeset::laws::changesets();
     cs_group::laws::one_combined();
 }
 
-/// Where bytes spell one changeset, an input has one text that `show` owes, and one rest that it leaves.
+/// An input has one text that `show` owes, and one rest that it leaves.
 pub fn one_shown_text()
     ensures { OneShownText }
-{}
+{
+    cs_changeset::laws::changesets();
+}
 
 /// Table words are one catalog.
 pub fn one_catalog()

@@ -1,5 +1,5 @@
 use Rattle.std.proofs.Common.{◌≡◌, ◌++◌, take}
-use Rattle.cs_change.specs.Spelling.{row_bytes}
+use Rattle.cs_record.specs.Spelling.{row_bytes}
 use Rattle.cs_change.proofs.writing.put_row.Given as goal
 
 abbrev pub invariant-loop-value : goal.invariant-loop-value
