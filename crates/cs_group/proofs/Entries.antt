@@ -1,11 +1,11 @@
 -- The changes that a merge makes are normal.
-use Rattle.std.proofs.Common.{◌≡◌, ℕ, Bool, List, Option, Some, None, sym, ◌∙◌, subst}
+use Rattle.std.proofs.Common.{◌≡◌, ℕ, Bool, List, Option, Some, None}
 use Rattle.std.specs.List.{All, AllByRecursion}
 use Rattle.std.proofs.lemmas.List.Elements.{All-from_recursion, recursion_from_All}
 use Rattle.cs_value.specs.declared.value.Value.{Value}
 use Rattle.cs_change.specs.Action.{Action, Inserts, Deletes, Updates, action, action_any}
 use Rattle.cs_change.specs.Laws.{NetTakes}
-use Rattle.cs_change.specs.Normal.{IsNormal, IsNormalIfAny}
+use Rattle.cs_change.specs.Normal.{IsNormalIfAny}
 use Rattle.cs_change.specs.declared.change.Change.{Change}
 use Rattle.cs_normal.specs.Changes.{Changes, IsEntry}
 use Rattle.cs_group.specs.Combine.{then_change}

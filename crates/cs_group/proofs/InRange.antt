@@ -1,5 +1,5 @@
 -- What is taken together or taken back is in range.
-use Rattle.std.proofs.Common.{Bool, true, false, List, [], ◌∷◌, Option, Some, None, refl, arith, cond}
+use Rattle.std.proofs.Common.{Bool, true, false, List, [], ◌∷◌, Option, Some, None}
 use Rattle.std.specs.List.{AllByRecursion}
 use Rattle.cs_value.specs.Same.{same_value, same_row}
 use Rattle.cs_value.specs.declared.value.Value.{Value}
@@ -11,7 +11,7 @@ use Rattle.cs_change.specs.Columns.{is_blank, overlay_field}
 use Rattle.cs_change.specs.Net.{net, old_field, new_field, old_record, new_record}
 use Rattle.cs_change.specs.Normal.{IsNormal, NormalUpdate, no_column, key_column, unmodified, modified}
 use Rattle.cs_change.specs.Spelling.{AreUpdateColumns, FitsChange}
-use Rattle.cs_change.specs.Then.{is_idle, then_column, then_old_fields, then_new_fields, then_one, inverse, inverse_old, inverse_new, inverse_old_fields, inverse_new_fields}
+use Rattle.cs_change.specs.Then.{is_idle, then_column, then_old_fields, then_new_fields, then_one, inverse, inverse_old_fields, inverse_new_fields}
 use Rattle.cs_change.specs.declared.change.Change.{Change}
 use Rattle.cs_change.specs.declared.change.Change.TheVariants.{Insert, Delete, Update}
 use Rattle.cs_normal.specs.Changes.{IsSpelled}

@@ -4,11 +4,13 @@ pub mod Ends
 pub mod Entries
 pub mod Flags
 pub mod Forms
+pub mod GroupFolds
 pub mod InRange
 pub mod Inverses
 pub mod MergeLaws
 pub mod MergeSteps
 pub mod Joined
+pub mod KeyFolds
 pub mod Leads
 pub mod One
 pub mod PerTable

@@ -1,9 +1,6 @@
 -- The normal form of what the reader takes is what the reader takes.
-use Rattle.std.proofs.Common.{ℕ, Bool, true, false, List, [], ◌∷◌, Option, Some, None}
-use Rattle.std.specs.List.{All, AllByRecursion}
-use Rattle.std.specs.List.Sorted.{IsPermutation}
-use Rattle.std.proofs.lemmas.List.Elements.{All-from_recursion, recursion_from_All}
-use Rattle.std.proofs.lemmas.List.Sorted.{All-permutation}
+use Rattle.std.proofs.Common.{Bool, true, false, List, [], ◌∷◌, Option, Some, None}
+use Rattle.std.specs.List.{AllByRecursion}
 use Rattle.cs_value.specs.declared.value.Field.{Field}
 use Rattle.cs_value.specs.declared.value.Field.TheVariants.{Undefined, Is}
 use Rattle.cs_record.specs.Spelling.{Fits}
@@ -11,8 +8,7 @@ use Rattle.cs_change.specs.Columns.{is_blank}
 use Rattle.cs_change.specs.Spelling.{FitsChange, AreUpdateColumns, IsUpdateColumn}
 use Rattle.cs_change.specs.declared.change.Change.{Change}
 use Rattle.cs_change.specs.declared.change.Change.TheVariants.{Insert, Delete, Update}
-use Rattle.cs_normal.specs.NormalForm.{has_key, changes_value, normal_old, normal_new, normal_olds, normal_news, normal_form}
-use Rattle.cs_normal.specs.Steps.Prepared.{Entries, prepared, kept}
+use Rattle.cs_normal.specs.NormalForm.{changes_value, normal_old, normal_new, normal_olds, normal_news, normal_form}
 use Rattle.cs_normal.proofs.NormalLaws.{by_test}
 
 old_fits : (m : Bool) (o n : Field) → Fits o → Fits (normal_old m o n)

@@ -7,17 +7,13 @@ use Rattle.std.proofs.lemmas.Cmp.{nat_list_cmp_total}
 use Rattle.std.proofs.lemmas.List.Elements.{All-contains, All-from_recursion, recursion_from_All}
 use Rattle.std.proofs.lemmas.Map.Keys.{IsDistinct-head, IsDistinct-tail}
 use Rattle.std.proofs.lemmas.Slice.Eq.{bytes_eq-Decides}
-use Rattle.cs_value.specs.Catalog.{AreTables, marked}
+use Rattle.cs_value.specs.Catalog.{AreTables}
 use Rattle.cs_value.specs.Key.{Place, FitsPlace}
 use Rattle.cs_value.specs.declared.catalog.TableDef.{TableDef}
 use Rattle.cs_value.specs.declared.value.Value.{Value}
-use Rattle.cs_value.specs.declared.value.Field.{Field}
-use Rattle.cs_value.specs.declared.value.Field.TheVariants.{Undefined, Is}
-use Rattle.cs_record.specs.Spelling.{Fits}
 use Rattle.cs_change.specs.Action.{action, action_any, after, after_any}
 use Rattle.cs_change.specs.Spelling.{FitsChange, FitsChangeset, marks_of}
 use Rattle.cs_change.specs.declared.change.Change.{Change}
-use Rattle.cs_change.specs.declared.change.Change.TheVariants.{Insert, Delete, Update}
 use Rattle.cs_change.specs.declared.group.Group.{Group}
 use Rattle.cs_normal.specs.Changes.{key_bytes, IsSpelled, same_bytes, change_at}
 use Rattle.cs_normal.specs.Laws.{BytesTellKeys}

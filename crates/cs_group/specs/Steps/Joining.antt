@@ -1,26 +1,48 @@
--- What a map in the order of keys' bytes holds while changesets are joined.
-use Rattle.std.specs.Prelude.{◌≡◌, ℕ, Bool, List, [], ◌∷◌, Option, Some, None, if◌then◌else◌}
-use Rattle.std.specs.declared.vec.Vec.{Vec}
-use Rattle.std.specs.declared.alloc.Global.{Global}
+-- What the changes of one table in all changesets come to, key by key.
+use Rattle.std.specs.Prelude.{ℕ, Bool, List, [], ◌∷◌, ◌++◌, Option, Some, None, map, slice_get, slice_index, if◌then◌else◌}
+use Rattle.std.specs.Borrow.{Bor}
+use Rattle.std.specs.Map.{keys_of}
 use Rattle.cs_change.specs.declared.change.Change.{Change}
-use Rattle.cs_normal.specs.Changes.{Changes, same_bytes, change_at, IsOrdered, IsEntry}
+use Rattle.cs_order.specs.Order.{key_at}
+use Rattle.cs_normal.specs.Changes.{Changes, same_bytes}
+use Rattle.cs_normal.specs.Normal.{changes_in}
+use Rattle.cs_normal.specs.declared.normal.TableChanges.{TableChanges}
 use Rattle.cs_group.specs.Combine.{then_change_any}
 
--- the entries of a map, as changes behind the bytes of their keys
-abbrev pub seen : List (Vec ℕ Global × Change) → Changes
-seen [] = []
-seen (e ∷ entries) = (e.0.items, e.1) ∷ seen entries
+-- the changes that are lent
+abbrev pub changes_behind : List (Bor (List ℕ × Change)) → Changes
+changes_behind entries = map (λ entry. entry.now) entries
 
--- each change is normal beside the bytes at which it is found
-abbrev pub HoldsEntries : List Bool → Changes → Type 0
-HoldsEntries marks changes =
-    (key : List ℕ) (change : Change) → change_at key changes ≡ Some change → IsEntry marks (key, change)
+-- the table's changes in all changesets, one changeset after another
+abbrev pub in_a_row : List ℕ → List (List TableChanges) → Changes
+in_a_row name [] = []
+in_a_row name (first ∷ rest) = changes_in name first ++ in_a_row name rest
 
--- in order, and each change normal
-abbrev pub IsReady : List Bool → Changes → Type 0
-IsReady marks changes = IsOrdered changes × HoldsEntries marks changes
+abbrev pub change_if : Option (List ℕ × Change) → Option Change
+change_if None = None
+change_if (Some entry) = Some entry.1
 
--- the changes with one more taken together with that of its key
-abbrev pub IsAdded : List Bool → List ℕ × Change → Changes → Changes → Type 0
-IsAdded marks keyed before after =
-    (key : List ℕ) → change_at key after ≡ (if same_bytes key keyed.0 then then_change_any marks (change_at key before) (Some keyed.1) else change_at key before)
+-- the change at a place
+abbrev pub change_there : Changes → ℕ → Option Change
+change_there entries place = change_if (slice_get entries place)
+
+-- what there is, and then the changes at some places, one after another, taken together
+abbrev pub fold_places : List Bool → Changes → Option Change → List ℕ → Option Change
+fold_places marks entries so_far [] = so_far
+fold_places marks entries so_far (place ∷ places) =
+    fold_places marks entries (then_change_any marks so_far (change_there entries place)) places
+
+abbrev pub behind : List ℕ → Option Change → Changes
+behind key None = []
+behind key (Some change) = (key, change) ∷ []
+
+-- what is left of a group of places of one key, behind that key
+abbrev pub entry_of : List Bool → Changes → List ℕ → Changes
+entry_of marks entries group =
+    behind (key_at (keys_of entries) (slice_index group 0)) (fold_places marks entries None group)
+
+-- what there is, and then the changes of a key among these, one after another, taken together
+abbrev pub fold_key : List Bool → List ℕ → Option Change → Changes → Option Change
+fold_key marks key so_far [] = so_far
+fold_key marks key so_far (e ∷ entries) =
+    fold_key marks key (if same_bytes key e.0 then then_change_any marks so_far (Some e.1) else so_far) entries

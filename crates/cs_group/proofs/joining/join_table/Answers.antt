@@ -1,19 +1,23 @@
-use Rattle.std.proofs.Common.{refl}
-use Rattle.cs_group.specs.Steps.Joining.{seen}
-use Rattle.cs_group.proofs.Joined.{nothing_ready, joined_end}
+use Rattle.std.proofs.Common.{◌≡◌, ap, subst, ◌∙◌}
+use Rattle.std.specs.List.{flat_map}
+use Rattle.std.specs.Map.{keys_of}
+use Rattle.cs_order.specs.Order.{keys_behind}
+use Rattle.cs_order.specs.Groups.{IsGrouping}
+use Rattle.cs_group.specs.Steps.Joining.{changes_behind, entry_of}
+use Rattle.cs_group.proofs.KeyFolds.{join_of}
 use Rattle.cs_group.proofs.MergeSteps.{if_ok}
 use Rattle.cs_group.proofs.joining.join_table.Goals as goal
 
-pub loop-normal-init : goal.loop-normal-init
-loop-normal-init c =
-    record {
-      ready = nothing_ready c.args.table.now.key_marks (seen c.new-joined.result.entries) (rw c.new-joined.ensures.empty refl);
-      fits = c.requires;
-      folded = λ q. rw c.new-joined.ensures.empty refl;
-    }
-
 pub returns : goal.returns
 returns c =
-    if_ok c.listed.result _ _ (λ changes is.
-    let ended = joined_end c.args.table.now.key_marks c.args.table.now.name c.loop-normal.rest.now c.args.list.now (seen c.loop-normal.joined.entries) c.in_default.ensures.cases c.loop-normal.invariant.ready c.loop-normal.invariant.folded changes.items is in
-    record { normal = ended.0; join = ended.1; text = rw c.as_str-name.ensures at c.as_str-name.utf8 }) c.listed.ensures
+    let table = c.args.table.now in
+    let list = c.args.list.now in
+    let lent = c.in_ok-entries.entries.items in
+    let es = changes_behind lent in
+    let told = c.in_ok-entries.ensures in
+    let keys_are = ap keys_behind c.as_slice-2.ensures.value ∙ c.in_ok-keys.ensures ∙ ap (λ es. keys_of (changes_behind es)) c.as_slice.ensures.value in
+    if_ok c.fold_groups.result _ _ (λ changes is.
+    let grouped : IsGrouping (keys_of es) c.in_ok-groups.groups = subst (λ ks. IsGrouping ks c.in_ok-groups.groups) keys_are c.in_ok-groups.ensures in
+    let made : changes.items ≡ flat_map (entry_of table.key_marks es) c.in_ok-groups.groups = rw (c.as_slice-3.ensures, c.as_slice-4.ensures.value) at is in
+    let joined = join_of (record { net = c.net_takes.ensures; key = c.one_entry_key.ensures; set = c.set_columns_fit.ensures }) table.key_marks table.name list es c.in_ok-groups.groups changes.items told.normal told.entries grouped made in
+    record { normal = joined.0; join = joined.1; text = told.text }) c.fold_groups.ensures
