@@ -1,8 +1,6 @@
 -- The lines that a new hub answers have one list of answers.
 use Rattle.std.proofs.Common.{◌≡◌, ℕ, inl, inr, List, [], ◌∷◌, ap, sym, ◌∙◌, subst}
 use Rattle.std.specs.Prelude.{Result, Ok, Err}
-use Rattle.hex.specs.Hex.{decode_of}
-use Rattle.hex.specs.declared.error.FromHexError.{FromHexError}
 use Rattle.cs_value.specs.Catalog.{AreTables}
 use Rattle.cs_value.specs.declared.catalog.TableDef.{TableDef}
 use Rattle.cs_change.specs.declared.group.Group.{Group}
@@ -23,17 +21,17 @@ same_catalog : (old new : HubState) → new ≡ old → new.catalog ≡ old.cata
 same_catalog old new same = ap (λ (hub : HubState). hub.catalog) same
 
 pushes_keep : (old new : HubState) (push : Push) (answer : Result Pushed HubFault) → Pushes old push answer new → new.catalog ≡ old.catalog
-pushes_keep old new push answer (inl (g, a, s)) = same_catalog old new s
-pushes_keep old new push answer (inr (g, inl (h, a, s))) = same_catalog old new s
-pushes_keep old new push answer (inr (g, inr (h, inl (i, a, s)))) = same_catalog old new s
-pushes_keep old new push answer (inr (g, inr (h, inr (i, inl (j, a, s))))) = same_catalog old new s
-pushes_keep old new push answer (inr (g, inr (h, inr (i, inr (j, inl (k, a, s)))))) = same_catalog old new s
-pushes_keep old new push answer (inr (g, inr (h, inr (i, inr (j, inr (k, inl (l, a, s))))))) = ap (λ (hub : HubState). hub.catalog) s
-pushes_keep old new push answer (inr (g, inr (h, inr (i, inr (j, inr (k, inr (l, a, s))))))) = same_catalog old new s
+pushes_keep old new push answer (inl (g, (a, s))) = same_catalog old new s
+pushes_keep old new push answer (inr (g, inl (h, (a, s)))) = same_catalog old new s
+pushes_keep old new push answer (inr (g, inr (h, inl (i, (a, s))))) = same_catalog old new s
+pushes_keep old new push answer (inr (g, inr (h, inr (i, inl (j, (a, s)))))) = same_catalog old new s
+pushes_keep old new push answer (inr (g, inr (h, inr (i, inr (j, inl (k, (a, s))))))) = same_catalog old new s
+pushes_keep old new push answer (inr (g, inr (h, inr (i, inr (j, inr (k, inl (l, (a, s)))))))) = ap (λ (hub : HubState). hub.catalog) s
+pushes_keep old new push answer (inr (g, inr (h, inr (i, inr (j, inr (k, inr (l, (a, s)))))))) = same_catalog old new s
 
 groups_keep : (old new : HubState) (head : PushHead) (groups : List Group) (answer : Answer) → AnswersGroups old head groups answer new → new.catalog ≡ old.catalog
 groups_keep old new head groups answer (inl (f, m, u, a, s)) = same_catalog old new s
-groups_keep old new head groups answer (inr (changes, form, outcome, p, a)) =
+groups_keep old new head groups answer (inr (changes, form, (outcome, p, a))) =
     pushes_keep old new (record { head = head; changes = changes }) outcome p
 
 changeset_keeps : (old new : HubState) (head : PushHead) (changeset : List ℕ) (answer : Answer) → AnswersChangeset old head changeset answer new → new.catalog ≡ old.catalog
@@ -45,12 +43,12 @@ asked_keeps old new (AsksNothing fault) answer (a, s) = same_catalog old new s
 asked_keeps old new (AsksPull first limit) answer (a, s) = same_catalog old new s
 asked_keeps old new (AsksPush head changeset) answer (some, a, p) = changeset_keeps old new head changeset some p
 
-decoded_keeps : (old new : HubState) (decoded : Result (List ℕ) FromHexError) (answer : List ℕ) → AnswersDecoded Serves old decoded answer new → new.catalog ≡ old.catalog
+decoded_keeps : (old new : HubState) (decoded : Result (List ℕ) _) (answer : List ℕ) → AnswersDecoded Serves old decoded answer new → new.catalog ≡ old.catalog
 decoded_keeps old new (Ok request) answer (asked, asks, p) = asked_keeps old new asked answer p
 decoded_keeps old new (Err fault) answer (a, s) = same_catalog old new s
 
 answer_keeps : (old new : HubState) (line answer : List ℕ) → Answers Serves old line answer new → new.catalog ≡ old.catalog
-answer_keeps old new line answer (inl served) = decoded_keeps old new (decode_of line) answer served
+answer_keeps old new line answer (inl served) = decoded_keeps old new _ answer served
 answer_keeps old new line answer (inr (a, s)) = same_catalog old new s
 
 along : OneService → (old : HubState) (lines : List (List ℕ)) → AreTables old.catalog → HasOneAnswerAlong Serves old lines

@@ -35,7 +35,7 @@ pub fn one_run(hub: &Hub)
     ensures { OneHubRun }
 {
     one_service();
-    cs_lines::one_run(hub);
+    cs_lines::laws::one_run(hub);
 }
 
 /// The state that a log makes is that of its entries, each applied to what the earlier ones left: each is defined there.

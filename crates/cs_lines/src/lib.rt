@@ -8,13 +8,12 @@
 //! back. `LineInput` and `LineOutput` say what a reader and a writer owe for that.
 #![tactic(auto)]
 
-mod laws;
+pub mod laws;
 mod line;
 mod reply;
 mod serve;
 mod streams;
 
-pub use laws::{lines_taken, one_run};
 pub use line::{LineRead, read_line};
 pub use reply::write_hex_line;
 pub use serve::{ASKS, Serve, Stop, serve_lines};

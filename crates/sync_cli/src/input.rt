@@ -11,7 +11,7 @@ ghost use Rattle.sync_cli.specs.LinesRead.{TakesChangeset};
 use crate::status::REFUSED_INPUT;
 use cs_changeset::{Changeset, CodecFault};
 use cs_group::CombineFault;
-use cs_lines::{ASKS, LineInput, LineRead, lines_taken, read_line};
+use cs_lines::{ASKS, LineInput, LineRead, read_line};
 use hex::FromHexError;
 use std::alloc::{AllocError, Global};
 use std::io::Write;
@@ -80,7 +80,7 @@ pub fn all_changesets<R: LineInput>(
     ensures spelled { IfOk result (λ changesets. (lines : List (List ℕ))
         × AreAllLines (R.remaining reader.old) lines × SpellChangesets lines changesets.items) }
 {
-    lines_taken();
+    cs_lines::laws::lines_taken();
     let mut line = Vec::new(alloc);
     let mut changesets = Vec::new(alloc);
     for _ in 0..ASKS {
