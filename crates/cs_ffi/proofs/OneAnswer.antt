@@ -20,7 +20,7 @@ use Rattle.cs_group.specs.Inverse.{inverse_changeset}
 use Rattle.cs_group.specs.declared.combining.CombineFault.{CombineFault}
 use Rattle.cs_group.specs.declared.combining.CombineFault.TheVariants as in_all
 use Rattle.cs_ffi.specs.Answers.{no_memory, read, refused, change_count, Spell, IsRefusal, Hands, IsHanded, UpToMemory}
-use Rattle.cs_ffi.specs.CombinedAnswers.{combine_answer, AnswersCombined, AnswersInverse, IsCut, IsCombineRefusal, IsInverseRefusal, IsPartRefusal, NotCombined, SpellCombined, SpellInverse}
+use Rattle.cs_ffi.specs.CombinedAnswers.{combine_answer, AnswersCombined, AnswersInverse, ArePartsOf, IsCombineRefusal, IsInverseRefusal, IsPartRefusal, NotCombined, SpellCombined, SpellInverse}
 use Rattle.cs_ffi.specs.NormalAnswers.{unfit_answer, AnswersNormal, Declare, DeclareNone, HasNoForm, IsNormalRefusal, SpellForm, SpellNormal}
 use Rattle.cs_ffi.specs.Laws.{AnswerLaws, OneCount, OneCopy, OneNormalAnswer, OneCombinedAnswer, OneInverseAnswer}
 use Rattle.cs_ffi.specs.declared.answer.Answer.{Answer}
@@ -242,7 +242,7 @@ one_part_refusal laws lengths bytes one other (inr s) (inl m) = inr (inl m)
 one_part_refusal laws lengths bytes one other (inr (f, o, told, a)) (inr (g, p, told', b)) =
     same (by_each a b (refused_alike f g o p (one_part_fault laws lengths bytes f g o p told told')))
 
-no_part_refusal : ChangesetLaws → (lengths bytes : List ℕ) (changesets : List (List Group)) (answer : Answer) → IsCut lengths bytes changesets → IsPartRefusal lengths bytes answer → answer ≡ no_memory
+no_part_refusal : ChangesetLaws → (lengths bytes : List ℕ) (changesets : List (List Group)) (answer : Answer) → ArePartsOf lengths bytes changesets → IsPartRefusal lengths bytes answer → answer ≡ no_memory
 no_part_refusal laws lengths bytes changesets answer cut (inl m) = m
 no_part_refusal laws lengths bytes changesets answer cut (inr (fault, offset, told, is)) =
     absurd (no_part_fault laws lengths bytes changesets fault offset cut told)

@@ -8,10 +8,10 @@ use Rattle.cs_changeset.specs.Laws.{ChangesetLaws}
 use Rattle.cs_changeset.specs.Reading.{IsChangesetFault}
 use Rattle.cs_changeset.specs.declared.fault.Fault.{Fault}
 use Rattle.cs_ffi.specs.Answers.{Spell}
-use Rattle.cs_ffi.specs.CombinedAnswers.{spellings, spelled_lengths, IsCut, IsPartFault}
+use Rattle.cs_ffi.specs.CombinedAnswers.{spellings, spelled_lengths, ArePartsOf, IsPartFault}
 use Rattle.cs_ffi.proofs.Parts.{cut_first, no_parts}
 
-pub one_cut : ChangesetLaws → (lengths bytes : List ℕ) (some others : List (List Group)) → IsCut lengths bytes some → IsCut lengths bytes others → some ≡ others
+pub one_cut : ChangesetLaws → (lengths bytes : List ℕ) (some others : List (List Group)) → ArePartsOf lengths bytes some → ArePartsOf lengths bytes others → some ≡ others
 one_cut laws [] bytes some others s o = no_parts some s.parts ∙ sym (no_parts others o.parts)
 one_cut laws (n ∷ more) bytes some others s o =
     let a = cut_first n more bytes some s in
@@ -70,7 +70,7 @@ no_fault_here : ChangesetLaws → (bytes : List ℕ) (groups : List Group) (faul
 no_fault_here laws bytes groups fault offset spells told =
     laws.right groups fault offset spells.0 (subst (λ (b : List ℕ). IsChangesetFault fault offset b) spells.1 told)
 
-pub no_part_fault : ChangesetLaws → (lengths bytes : List ℕ) (changesets : List (List Group)) (fault : Fault) (offset : ℕ) → IsCut lengths bytes changesets → IsPartFault lengths bytes fault offset → ⊥
+pub no_part_fault : ChangesetLaws → (lengths bytes : List ℕ) (changesets : List (List Group)) (fault : Fault) (offset : ℕ) → ArePartsOf lengths bytes changesets → IsPartFault lengths bytes fault offset → ⊥
 no_part_fault laws [] bytes changesets fault offset cut told = no_first bytes fault offset told
 no_part_fault laws (n ∷ more) bytes changesets fault offset cut told =
     let first = cut_first n more bytes changesets cut in

@@ -8,19 +8,19 @@ use Rattle.std.proofs.lemmas.List.Concat.{length-flat_map}
 use Rattle.cs_change.specs.declared.group.Group.{Group}
 use Rattle.cs_change.specs.Spelling.{changeset_spelling, FitsChangeset}
 use Rattle.cs_ffi.specs.Answers.{no_memory, Spell}
-use Rattle.cs_ffi.specs.CombinedAnswers.{spellings, spelled_lengths, IsCut}
+use Rattle.cs_ffi.specs.CombinedAnswers.{spellings, spelled_lengths, ArePartsOf}
 use Rattle.cs_ffi.specs.declared.answer.Answer.{Answer}
 
 -- ---- cutting
 
-pub cut_adds_up : (lengths bytes : List ℕ) (changesets : List (List Group)) → IsCut lengths bytes changesets → sum lengths ≡ length bytes
+pub cut_adds_up : (lengths bytes : List ℕ) (changesets : List (List Group)) → ArePartsOf lengths bytes changesets → sum lengths ≡ length bytes
 cut_adds_up lengths bytes changesets cut =
     ap sum cut.parts ∙ sum-map (λ groups. length (changeset_spelling groups)) changesets
     ∙ sym (ap length cut.spelled ∙ length-flat_map changeset_spelling changesets)
 
 -- the first part spells the first changeset, and what is left is cut into the others
-pub cut_first : (n : ℕ) (more rest : List ℕ) (changesets : List (List Group)) → IsCut (n ∷ more) rest changesets
-    → (groups : List Group) × (others : List (List Group)) × (changesets ≡ groups ∷ others) × Spell (take n rest) groups × IsCut more (drop n rest) others
+pub cut_first : (n : ℕ) (more rest : List ℕ) (changesets : List (List Group)) → ArePartsOf (n ∷ more) rest changesets
+    → (groups : List Group) × (others : List (List Group)) × (changesets ≡ groups ∷ others) × Spell (take n rest) groups × ArePartsOf more (drop n rest) others
 cut_first n more rest [] cut = absurd (omega (arith, ap length cut.parts))
 cut_first n more rest (groups ∷ others) cut =
     let len : length (changeset_spelling groups) ≡ n = ap (λ (l : List ℕ). get_or l 0 0) (sym cut.parts) in (
@@ -46,7 +46,7 @@ pub record AreRead (lengths bytes left rest : List ℕ) (before : List (List Gro
   pub spelled : bytes ≡ spellings before ++ rest
   pub parts : lengths ≡ spelled_lengths before ++ left
   pub total : sum left ≡ length rest
-  pub only : (changesets : List (List Group)) → IsCut lengths bytes changesets → (more : List (List Group)) × (changesets ≡ before ++ more) × IsCut left rest more
+  pub only : (changesets : List (List Group)) → ArePartsOf lengths bytes changesets → (more : List (List Group)) × (changesets ≡ before ++ more) × ArePartsOf left rest more
 
 pub none_read : (lengths bytes : List ℕ) (before : List (List Group)) → before ≡ [] → sum lengths ≡ length bytes → AreRead lengths bytes lengths bytes before
 none_read lengths bytes before none total = rw none record {
@@ -100,7 +100,7 @@ one_more_read lengths bytes more rest n before after groups pushed are spells sa
     }
 
 -- all parts are read, and there are no others
-pub only_read : (lengths bytes left rest : List ℕ) (before changesets : List (List Group)) → length left ≡ 0 → AreRead lengths bytes left rest before → IsCut lengths bytes changesets → before ≡ changesets
+pub only_read : (lengths bytes left rest : List ℕ) (before changesets : List (List Group)) → length left ≡ 0 → AreRead lengths bytes left rest before → ArePartsOf lengths bytes changesets → before ≡ changesets
 only_read lengths bytes left rest before changesets ended are cut =
     let found = are.only changesets cut in
     let end = no_parts found.0 (sym (nil_from_length left ended) ∙ found.2.parts) in
@@ -112,7 +112,7 @@ only_read lengths bytes left rest before changesets ended are cut =
 pub part_found : (lengths bytes more rest : List ℕ) (n : ℕ) (before : List (List Group)) (answer : Answer)
     → AreRead lengths bytes (n ∷ more) rest before
     → ((groups : List Group) → Spell (take n rest) groups → answer ≡ no_memory)
-    → (changesets : List (List Group)) → IsCut lengths bytes changesets → answer ≡ no_memory
+    → (changesets : List (List Group)) → ArePartsOf lengths bytes changesets → answer ≡ no_memory
 part_found lengths bytes more rest n before answer are memory changesets cut =
     let found = are.only changesets cut in
     let next = cut_first n more rest found.0 found.2 in

@@ -47,8 +47,8 @@ spellings changesets = flat_map changeset_spelling changesets
 abbrev pub spelled_lengths : List (List Group) → List ℕ
 spelled_lengths changesets = map (λ groups. length (changeset_spelling groups)) changesets
 
--- the bytes, cut by the lengths, spell these changesets
-pub record IsCut (lengths bytes : List ℕ) (changesets : List (List Group)) : Type 0 where
+-- the parts of the bytes, as long as the lengths say, spell these changesets
+pub record ArePartsOf (lengths bytes : List ℕ) (changesets : List (List Group)) : Type 0 where
   pub fit : AllByRecursion FitsChangeset changesets
   pub spelled : bytes ≡ spellings changesets
   pub parts : lengths ≡ spelled_lengths changesets
@@ -86,7 +86,7 @@ FindsPart (Err answer) groups = answer ≡ no_memory
 
 -- what reading all parts gives
 abbrev pub ReadsAll : List ℕ → List ℕ → Result (Vec (List Group)) Answer → Type 0
-ReadsAll lengths bytes (Ok changesets) = IsCut lengths bytes changesets.items
+ReadsAll lengths bytes (Ok changesets) = ArePartsOf lengths bytes changesets.items
 ReadsAll lengths bytes (Err answer) = IsPartRefusal lengths bytes answer
 
 -- these changesets are read, or memory is wanting
@@ -108,14 +108,14 @@ pub record CanCombine (changesets : List (List Group)) : Type 0 where
 -- the inputs are cut into changesets that can be taken together
 pub record AreFitInputs (lengths inputs : List ℕ) : Type 0 where
   pub changesets : List (List Group)
-  pub cut : IsCut lengths inputs changesets
+  pub cut : ArePartsOf lengths inputs changesets
   pub can : CanCombine changesets
 
 -- the bytes are the spelling of the changesets that the inputs spell, taken together
 pub record SpellCombined (lengths inputs bytes : List ℕ) : Type 0 where
   pub changesets : List (List Group)
   pub both : List TableChanges
-  pub cut : IsCut lengths inputs changesets
+  pub cut : ArePartsOf lengths inputs changesets
   pub combined : IsCombined changesets both
   pub spelled : bytes ≡ normal_spelling both
 
@@ -125,7 +125,7 @@ IsCombineRefusal lengths inputs answer =
     (answer ≡ no_memory)
     ⊎ ((answer ≡ wrong_lengths) × (sum lengths ≢ length inputs))
     ⊎ ((sum lengths ≡ length inputs) × IsPartRefusal lengths inputs answer)
-    ⊎ ((changesets : List (List Group)) × IsCut lengths inputs changesets × NotCombined changesets answer)
+    ⊎ ((changesets : List (List Group)) × ArePartsOf lengths inputs changesets × NotCombined changesets answer)
 
 -- the bytes of the changesets taken together, or why there are none
 abbrev pub GivesCombined : List ℕ → List ℕ → Result (Vec ℕ) Answer → Type 0

@@ -6,7 +6,7 @@ ghost use Rattle.cs_changeset.specs.Reading.{IsChangesetFault};
 ghost use Rattle.cs_changeset.specs.declared.fault.Fault.{Fault};
 ghost use Rattle.cs_ffi.specs.Answers.{no_memory, Spell, TellsFault};
 ghost use Rattle.cs_ffi.specs.NormalAnswers.{TellsNoFault};
-ghost use Rattle.cs_ffi.specs.CombinedAnswers.{AnswersCombined, AnswersInverse, AreFitInputs, FindsAll, FindsPart, GivesCombined, GivesInverse, IsCut, IsFitAlone, ReadsAll, ReadsPart, wrong_lengths};
+ghost use Rattle.cs_ffi.specs.CombinedAnswers.{AnswersCombined, AnswersInverse, AreFitInputs, FindsAll, FindsPart, GivesCombined, GivesInverse, ArePartsOf, IsFitAlone, ReadsAll, ReadsPart, wrong_lengths};
 
 use crate::answer::Answer;
 use crate::reading::hand_over;
@@ -52,7 +52,7 @@ fn read_part(alloc: Global, part: &[u8], at: usize) -> Result<Changeset, Answer>
 fn read_all(alloc: Global, inputs: &[u8], lengths: &[usize]) -> Result<Vec<Changeset>, Answer>
     requires { sum lengths.now ≡ length inputs.now }
     ensures reads { ReadsAll lengths.now inputs.now result }
-    ensures only { (changesets : List (List Group)) → IsCut lengths.now inputs.now changesets
+    ensures only { (changesets : List (List Group)) → ArePartsOf lengths.now inputs.now changesets
         → FindsAll result changesets }
 {
     let mut changesets = Vec::new(alloc);

@@ -16,7 +16,7 @@ use Rattle.cs_order.specs.Order.{Keys, by_bytes, same_bytes, key_at, places}
 use Rattle.cs_order.specs.Groups.{has_bytes, places_of, IsGrouping}
 use Rattle.cs_change.specs.declared.change.Change.{Change}
 use Rattle.cs_normal.specs.Changes.{Changes, change_at, IsOrdered}
-use Rattle.cs_group.specs.Steps.Joining.{behind, fold_places, entry_of}
+use Rattle.cs_group.specs.Steps.Joining.{behind, fold_places, entry_left}
 use Rattle.cs_group.proofs.MergeLaws.{same_is}
 
 pub by_bool : {G : Type 0} → (b : Bool) → (b ≡ true → G) → (b ≡ false → G) → G
@@ -84,7 +84,7 @@ first_place keys q p ps is =
     let within : All (λ x. x < length keys) (p ∷ ps) = rw is at (All-filter (has_bytes keys q) (λ x. x < length keys) (places keys) (in_range keys)) in
     (same_is q (key_at keys p) (passes 0 p (omega arith)), within 0 p (omega arith))
 
-entry_split : (marks : List Bool) (es : Changes) (q : List ℕ) (ps : List ℕ) → places_of (keys_of es) q ≡ ps → entry_of marks es ps ≡ behind q (fold_places marks es None ps)
+entry_split : (marks : List Bool) (es : Changes) (q : List ℕ) (ps : List ℕ) → places_of (keys_of es) q ≡ ps → entry_left marks es ps ≡ behind q (fold_places marks es None ps)
 entry_split marks es q [] is = refl
 entry_split marks es q (p ∷ ps) is =
     ap (λ (k : List ℕ). behind k (fold_places marks es None (p ∷ ps))) (sym (first_place (keys_of es) q p ps is).0)
@@ -104,15 +104,15 @@ pub record IsFolded (marks : List Bool) (es joined : Changes) : Type 0 where
   pub ordered : IsOrdered joined
   pub at_key : (key : List ℕ) → change_at key joined ≡ fold_places marks es None (places_of (keys_of es) key)
 
-pub is_folded : (marks : List Bool) (es : Changes) (groups : List (List ℕ)) (joined : Changes) → IsGrouping (keys_of es) groups → joined ≡ flat_map (entry_of marks es) groups → IsFolded marks es joined
+pub is_folded : (marks : List Bool) (es : Changes) (groups : List (List ℕ)) (joined : Changes) → IsGrouping (keys_of es) groups → joined ≡ flat_map (entry_left marks es) groups → IsFolded marks es joined
 is_folded marks es groups joined g is =
     let keys = keys_of es in
     let left : List ℕ → Option Change = λ q. fold_places marks es None (places_of keys q) in
     let listed : joined ≡ listing left g.distinct =
     is
-    ∙ ap (λ (gs : List (List ℕ)). flat_map (entry_of marks es) gs) g.each
-    ∙ flat_map-map (entry_of marks es) (places_of keys) g.distinct
-    ∙ entries_same (λ q. entry_of marks es (places_of keys q)) (λ q. behind q (left q)) (λ q. entry_split marks es q (places_of keys q) refl) g.distinct in
+    ∙ ap (λ (gs : List (List ℕ)). flat_map (entry_left marks es) gs) g.each
+    ∙ flat_map-map (entry_left marks es) (places_of keys) g.distinct
+    ∙ entries_same (λ q. entry_left marks es (places_of keys q)) (λ q. behind q (left q)) (λ q. entry_split marks es q (places_of keys q) refl) g.distinct in
     record {
       ordered = rw listed (listing_sorted left g.distinct g.rising);
       at_key = λ q.

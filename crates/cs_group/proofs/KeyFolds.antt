@@ -15,7 +15,7 @@ use Rattle.cs_normal.specs.Changes.{Changes, change_at, IsEntry, AreNormal}
 use Rattle.cs_normal.specs.Normal.{changes_in}
 use Rattle.cs_normal.specs.declared.normal.TableChanges.{TableChanges}
 use Rattle.cs_group.specs.Combine.{then_change_any}
-use Rattle.cs_group.specs.Steps.Joining.{change_if, changes_behind, change_there, fold_places, fold_key, entry_of, in_a_row}
+use Rattle.cs_group.specs.Steps.Joining.{change_if, changes_behind, change_there, fold_places, fold_key, entry_left, in_a_row}
 use Rattle.cs_group.specs.Tables.{changes_along, then_change_all}
 use Rattle.cs_group.proofs.Entries.{IsEntryIfAny, PairLaws, pair_entry}
 use Rattle.cs_group.proofs.GroupFolds.{by_bool, is_folded}
@@ -144,7 +144,7 @@ entry_is : (marks : List Bool) (key : List ℕ) (o : Option Change) (c : Change)
 entry_is marks key o c h is = let h' = subst (IsEntryIfAny marks key) is h in h'
 
 pub join_of : PairLaws → (marks : List Bool) (name : List ℕ) (list : List (List TableChanges)) (es : Changes) (groups : List (List ℕ)) (joined : Changes)
-    → AllByRecursion (λ normal. AreNormal marks (changes_in name normal)) list → es ≡ in_a_row name list → IsGrouping (keys_of es) groups → joined ≡ flat_map (entry_of marks es) groups
+    → AllByRecursion (λ normal. AreNormal marks (changes_in name normal)) list → es ≡ in_a_row name list → IsGrouping (keys_of es) groups → joined ≡ flat_map (entry_left marks es) groups
     → AreNormal marks joined × ((key : List ℕ) → change_at key joined ≡ then_change_all marks (changes_along name key list))
 join_of law marks name list es groups joined all is g made =
     let f = is_folded marks es groups joined g made in

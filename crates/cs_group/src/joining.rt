@@ -8,7 +8,7 @@ ghost use Rattle.std.specs.Map.{keys_of};
 ghost use Rattle.cs_order.specs.Order.{keys_behind, key_at};
 ghost use Rattle.cs_order.specs.Groups.{IsGrouping};
 ghost use Rattle.cs_group.specs.Combine.{then_change_any};
-ghost use Rattle.cs_group.specs.Steps.Joining.{behind, change_there, changes_behind, entry_of, fold_places, in_a_row};
+ghost use Rattle.cs_group.specs.Steps.Joining.{behind, change_there, changes_behind, entry_left, fold_places, in_a_row};
 ghost use Rattle.cs_group.specs.Steps.TableByTable.{FitsTable, HasNormal, IsNormalJoinOf};
 
 use crate::pairs::then_one;
@@ -104,7 +104,7 @@ fn fold_groups(
     groups: &Groups,
 ) -> Result<Vec<KeyedChange>, Memory>
     requires { keys_behind keys.now ≡ keys_of (changes_behind entries.now) }
-    ensures { IfOk result (λ joined. joined.items ≡ flat_map (entry_of marks.now (changes_behind entries.now)) groups.now) }
+    ensures { IfOk result (λ joined. joined.items ≡ flat_map (entry_left marks.now (changes_behind entries.now)) groups.now) }
 {
     let mut joined = Vec::with_capacity(alloc, groups.len())?;
     for at in 0..groups.len() {

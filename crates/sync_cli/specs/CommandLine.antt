@@ -40,8 +40,8 @@ tables_in (Some found) =
     if bytes_eq found.0 (codes "hub") then Some (unwrap_or (all_of (codes "TABLE") found.1) []) else None
 
 -- the table words of a whole command line
-abbrev pub tables_of : List Text → Option (List Text)
-tables_of words = tables_in (subcommand_of sync_app words)
+abbrev pub table_words_of : List Text → Option (List Text)
+table_words_of words = tables_in (subcommand_of sync_app words)
 
 abbrev pub is_text : Text → Option Text → Bool
 is_text text None = false

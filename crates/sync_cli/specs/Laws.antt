@@ -7,7 +7,7 @@ use Rattle.clap.specs.declared.error.kind.ErrorKind.TheVariants as kind
 use Rattle.cs_value.specs.declared.catalog.TableDef.{TableDef}
 use Rattle.sync_cli.specs.CatalogWords.{IsCatalogOf, IsRefusedAt}
 use Rattle.sync_cli.specs.CombinedLines.{CombinesAll}
-use Rattle.sync_cli.specs.CommandLine.{faults_of, tables_of, tool_of}
+use Rattle.sync_cli.specs.CommandLine.{faults_of, table_words_of, tool_of}
 use Rattle.sync_cli.specs.ShownLine.{ShowsFirst}
 use Rattle.sync_cli.specs.declared.command.Tool.TheVariants.{Combine, ShowChangeset}
 
@@ -56,7 +56,7 @@ abbrev pub flag_words : List Text
 flag_words = codes "sync" ∷ codes "hub" ∷ codes "--flag" ∷ []
 
 abbrev pub AsksForAHub : Type 0
-AsksForAHub = (faults_of hub_words ≡ []) × (tables_of hub_words ≡ Some (codes "t1:10" ∷ []))
+AsksForAHub = (faults_of hub_words ≡ []) × (table_words_of hub_words ≡ Some (codes "t1:10" ∷ []))
 
 abbrev pub AsksToCombine : Type 0
 AsksToCombine = (faults_of combine_words ≡ []) × (tool_of combine_words ≡ Some Combine)
@@ -65,7 +65,7 @@ abbrev pub AsksToShow : Type 0
 AsksToShow = (faults_of show_words ≡ []) × (tool_of show_words ≡ Some ShowChangeset)
 
 abbrev pub AsksForNothing : Type 0
-AsksForNothing = (faults_of blob_words ≡ []) × (tables_of blob_words ≡ None) × (tool_of blob_words ≡ None)
+AsksForNothing = (faults_of blob_words ≡ []) × (table_words_of blob_words ≡ None) × (tool_of blob_words ≡ None)
 
 abbrev pub AsksForHelp : Type 0
 AsksForHelp = faults_of help_words ≡ kind.DisplayHelp ∷ []

@@ -4,7 +4,7 @@ ghost use Rattle.std.specs.Prelude.{◌≡◌, ◌≢◌, ◌≤◌, ◌⊎◌, 
 ghost use Rattle.std.specs.Io.KnownBytes.{Appends, Keeps};
 ghost use Rattle.clap.specs.Words.{kind_of};
 ghost use Rattle.sync_cli.specs.CombinedLines.{CombinesAll};
-ghost use Rattle.sync_cli.specs.CommandLine.{faults_of, tables_of, tool_of};
+ghost use Rattle.sync_cli.specs.CommandLine.{faults_of, table_words_of, tool_of};
 ghost use Rattle.sync_cli.specs.Endings.{EndsServing, EndsUnasked, EndsUntaken, EndsWriting};
 ghost use Rattle.sync_cli.specs.ShownLine.{ShowsFirst};
 ghost use Rattle.sync_cli.specs.declared.command.Tool.TheVariants.{Combine, ShowChangeset};
@@ -46,7 +46,7 @@ pub fn run<S: AsStr, R: LineInput, W: LineOutput, E: Write>(
 
     // `hub TABLE...`: a hub of these tables answers each line by a line of lower case hex.
     ensures hub { faults_of (map S.text words.now) ≡ []
-        → (table_words : List (List ℕ)) → tables_of (map S.text words.now) ≡ Some table_words
+        → (table_words : List (List ℕ)) → table_words_of (map S.text words.now) ≡ Some table_words
         → EndsServing result table_words (R.remaining reader.old) (R.failed reader.new) (W.failed writer.new)
         (W.contents writer.old) (W.contents writer.new) }
 
@@ -61,7 +61,7 @@ pub fn run<S: AsStr, R: LineInput, W: LineOutput, E: Write>(
         (W.contents writer.old) (W.contents writer.new) }
 
     // Words that the command line takes and that ask for nothing.
-    ensures unasked { faults_of (map S.text words.now) ≡ [] → tables_of (map S.text words.now) ≡ None
+    ensures unasked { faults_of (map S.text words.now) ≡ [] → table_words_of (map S.text words.now) ≡ None
         → tool_of (map S.text words.now) ≡ None
         → EndsUnasked result (W.contents writer.old) (W.contents writer.new) }
 {

@@ -37,8 +37,8 @@ behind key None = []
 behind key (Some change) = (key, change) ∷ []
 
 -- what is left of a group of places of one key, behind that key
-abbrev pub entry_of : List Bool → Changes → List ℕ → Changes
-entry_of marks entries group =
+abbrev pub entry_left : List Bool → Changes → List ℕ → Changes
+entry_left marks entries group =
     behind (key_at (keys_of entries) (slice_index group 0)) (fold_places marks entries None group)
 
 -- what there is, and then the changes of a key among these, one after another, taken together
