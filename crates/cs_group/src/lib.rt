@@ -1,10 +1,10 @@
-//! Consolidation: changes taken together as one. It stands on changesets in normal form (`cs_normal`) and the algebra
-//! of changes at one place (`cs_change`). `then` takes two changesets together, `join` a list of them and `add_one` one
-//! more change, key by key by SQLite's rules for a changegroup; `invert` takes a changeset back; `net` is the one
-//! change from a row or none to another. `laws` says that changes that follow on one another lead, taken together,
-//! from the first state to the last, that an inverse leads back, that `join` is `then` one by one, and that the bytes
-//! of keys tell the keys apart. `combine` takes changesets as read together, by the catalog of all their headers;
-//! `normalise_alone` is that for one.
+//! Consolidation: changes taken together as one. It stands on changesets in normal form (`cs_normal`), the order of
+//! keys (`cs_order`) and the algebra of changes at one place (`cs_change`). `then` takes two changesets together, `join`
+//! a list of them and `add_one` one more change, key by key by SQLite's rules for a changegroup; `invert` takes a
+//! changeset back; `net` is the one change from a row or none to another. `combine` takes changesets as read together,
+//! by the catalog of all their headers; `normalise_alone` is that for one. `laws` says that each has one answer, that
+//! changes that follow on one another lead, taken together, from the first state to the last, also as read, that an
+//! inverse leads back, and that `join` is `then` one by one.
 #![tactic(auto)]
 
 mod adding;

@@ -1,9 +1,9 @@
 //! Changesets in normal form: for each table of a catalog the changes behind the bytes of their keys, in order, each
 //! key once, each change in its shortest form. It stands on changes and groups as read (`cs_change`), records
-//! (`cs_record`) and catalogs (`cs_value`). `catalog_of` makes the catalog that headers tell of, `normalise` the normal
-//! form of what was read, or each tells the fault; `Normal` keeps the form and is counted, searched, copied, compared
-//! and spelled exactly; `laws` says that a normal form means what was read, over whole states too, that there is one,
-//! also when it is read again, and that a changeset fits or has one fault.
+//! (`cs_record`), the order of keys (`cs_order`) and catalogs (`cs_value`). `catalog_of` makes the catalog that headers
+//! tell of, `normalise` the normal form of what was read, or each tells the fault; `Normal` keeps the form and is
+//! counted, searched, copied, compared and spelled exactly; `laws` says that a normal form means what was read, over
+//! whole states too, that there is one, also when it is read again, and that a changeset fits or has one fault.
 #![tactic(auto)]
 
 mod changes;
