@@ -101,7 +101,8 @@ pub fn add_one(
     requires change { HoldsAt (λ table. IsChangeOf table change.now) catalog.now table }
     ensures fits { IfOk result (FitsCatalog catalog.now) }
     ensures normal { IfOk result IsNormalChangeset }
-    ensures then { IfOk result (λ both. HoldsAt (λ table. AreThen catalog.now changeset.now (one_change table change.now) both) catalog.now table) }
+    ensures then { IfOk result (λ both. HoldsAt
+        (λ table. AreThen catalog.now changeset.now (one_change table change.now) both) catalog.now table) }
 {
     cs_normal::laws::headers_fit();
     let table = &catalog.tables()[table];

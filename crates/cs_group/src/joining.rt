@@ -42,7 +42,8 @@ fn combined_at(
     entries: &[&KeyedChange],
     place: usize,
 ) -> Result<Option<Change>, Memory>
-    ensures { IfOk result (λ change. change ≡ then_change_any marks.now earlier (change_there (changes_behind entries.now) place)) }
+    ensures { IfOk result (λ change. change
+        ≡ then_change_any marks.now earlier (change_there (changes_behind entries.now) place)) }
 {
     if place < entries.len() {
         return combined(alloc, marks, &earlier, &entries[place].1);
@@ -104,7 +105,8 @@ fn fold_groups(
     groups: &Groups,
 ) -> Result<Vec<KeyedChange>, Memory>
     requires { keys_behind keys.now ≡ keys_of (changes_behind entries.now) }
-    ensures { IfOk result (λ joined. joined.items ≡ flat_map (entry_left marks.now (changes_behind entries.now)) groups.now) }
+    ensures { IfOk result (λ joined. joined.items
+        ≡ flat_map (entry_left marks.now (changes_behind entries.now)) groups.now) }
 {
     let mut joined = Vec::with_capacity(alloc, groups.len())?;
     for at in 0..groups.len() {

@@ -87,7 +87,8 @@ fn push_both(
     second: &KeyedChange,
     both: &mut Vec<KeyedChange>,
 ) -> Result<(), Memory>
-    ensures { OnOk result (both.new.items ≡ both.old.items ++ before first.now.0 (then_change marks.now first.now.1 second.now.1) []) }
+    ensures { OnOk result (both.new.items ≡ both.old.items
+        ++ before first.now.0 (then_change marks.now first.now.1 second.now.1) []) }
 {
     if let Some(change) = then_one(alloc, marks, &first.1, &second.1)? {
         let bytes = Items::from_vec(Vec::from_slice(alloc, first.0.as_slice())?);

@@ -22,11 +22,13 @@ pub fn net(
     // The rows have the table's width and one key.
     requires { HaveOneKey table.now.key_marks (option_copied before) (option_copied after) }
 
-    ensures net { IfOk result (λ change. action_any change ≡ the_net table.now.key_marks (option_copied before.entry) (option_copied after.entry)) }
+    ensures net { IfOk result (λ change. action_any change
+        ≡ the_net table.now.key_marks (option_copied before.entry) (option_copied after.entry)) }
     ensures direct { IfOk result IsDirect }
 
     // Applied to what was there, it leaves what is there.
-    ensures takes { IfOk result (λ change. after_any (action_any change) (option_copied before.entry) ≡ Some (option_copied after.entry)) }
+    ensures takes { IfOk result (λ change. after_any (action_any change) (option_copied before.entry)
+        ≡ Some (option_copied after.entry)) }
 {
     cs_change::laws::net_takes();
     net_change(alloc, table.key_marks.as_slice(), before, after)
@@ -39,7 +41,8 @@ fn net_change(
     before: Option<&Row>,
     after: Option<&Row>,
 ) -> Result<Option<Change>, Memory>
-    ensures net { IfOk result (λ change. action_any change ≡ the_net marks.now (option_copied before.entry) (option_copied after.entry)) }
+    ensures net { IfOk result (λ change. action_any change
+        ≡ the_net marks.now (option_copied before.entry) (option_copied after.entry)) }
     ensures direct { IfOk result IsDirect }
 {
     match (before, after) {
@@ -70,7 +73,8 @@ pub(crate) fn net_of_rows(
     old: &Row,
     new: &Row,
 ) -> Result<Option<Change>, Memory>
-    ensures net { IfOk result (λ change. action_any change ≡ the_net marks.now (Some old.now) (Some new.now)) }
+    ensures net { IfOk result (λ change. action_any change
+        ≡ the_net marks.now (Some old.now) (Some new.now)) }
     ensures direct { IfOk result IsDirect }
 {
     if old.same(new) {

@@ -108,7 +108,8 @@ impl Hub {
     ///
     /// `Ahead` where `first` is above the log's length.
     pub fn entries(&self, first: u64, limit: u32) -> Result<&[LogEntry], HubFault>
-        ensures { MatchResult result (λ entries. (first ≤ length self.now.log) × (entries.now ≡ entries_from first limit self.now.log))
+        ensures { MatchResult result (λ entries. (first ≤ length self.now.log)
+            × (entries.now ≡ entries_from first limit self.now.log))
             (λ fault. (fault ≡ HubFault.Ahead) × (length self.now.log < first)) }
     {
         let newest = self.log.len();

@@ -29,7 +29,8 @@ pub(crate) fn put(rows: &mut Vec<KeyedRow>, key: Bytes, row: Option<Row>)
     requires ordered { IsInOrder rows.old.items }
     requires room { vec_len rows.old < vec_capacity rows.old }
     ensures ordered { IsInOrder rows.new.items }
-    ensures put { (other : List ℕ) → row_at other rows.new.items ≡ (if same_bytes key other then row else row_at other rows.old.items) }
+    ensures put { (other : List ℕ) → row_at other rows.new.items
+        ≡ (if same_bytes key other then row else row_at other rows.old.items) }
     ensures len { vec_len rows.new ≤ vec_len rows.old + 1 }
     ensures capacity { vec_capacity rows.new ≡ vec_capacity rows.old }
 {

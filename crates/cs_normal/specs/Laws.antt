@@ -27,10 +27,14 @@ use Rattle.cs_normal.specs.declared.unfit.Unfit.TheVariants.{Memory}
 -- column in both; any other column perhaps in the old one
 pub data LenientUpdate : List Bool → List Value → List Field → List Field → Type 0 where
   no_column : LenientUpdate [] [] [] []
-  key_column : (k : Value) {marks : List Bool} {key : List Value} {old new : List Field} → LenientUpdate marks key old new → LenientUpdate (true ∷ marks) (k ∷ key) (Is k ∷ old) (Undefined ∷ new)
-  key_again : (k : Value) {marks : List Bool} {key : List Value} {old new : List Field} → LenientUpdate marks key old new → LenientUpdate (true ∷ marks) (k ∷ key) (Is k ∷ old) (Is k ∷ new)
-  unmodified : (o : Field) {marks : List Bool} {key : List Value} {old new : List Field} → LenientUpdate marks key old new → LenientUpdate (false ∷ marks) key (o ∷ old) (Undefined ∷ new)
-  modified : (u v : Value) {marks : List Bool} {key : List Value} {old new : List Field} → LenientUpdate marks key old new → LenientUpdate (false ∷ marks) key (Is u ∷ old) (Is v ∷ new)
+  key_column : (k : Value) {marks : List Bool} {key : List Value} {old new : List Field}
+      → LenientUpdate marks key old new → LenientUpdate (true ∷ marks) (k ∷ key) (Is k ∷ old) (Undefined ∷ new)
+  key_again : (k : Value) {marks : List Bool} {key : List Value} {old new : List Field}
+      → LenientUpdate marks key old new → LenientUpdate (true ∷ marks) (k ∷ key) (Is k ∷ old) (Is k ∷ new)
+  unmodified : (o : Field) {marks : List Bool} {key : List Value} {old new : List Field}
+      → LenientUpdate marks key old new → LenientUpdate (false ∷ marks) key (o ∷ old) (Undefined ∷ new)
+  modified : (u v : Value) {marks : List Bool} {key : List Value} {old new : List Field}
+      → LenientUpdate marks key old new → LenientUpdate (false ∷ marks) key (Is u ∷ old) (Is v ∷ new)
 
 -- a change of the place with this key that the reader takes
 abbrev pub IsLenient : List Bool → List Value → Change → Type 0
@@ -45,7 +49,8 @@ NormalFormKeeps =
     (marks : List Bool) (key : List Value) (change : Change)
     → IsLenient marks key change
     → IsNormalIfAny marks key (action_any (normal_form marks change))
-    × ((base end : Place) → FitsPlace marks key base → after (action change) base ≡ Some end → after_any (action_any (normal_form marks change)) base ≡ Some end)
+    × ((base end : Place) → FitsPlace marks key base → after (action change) base ≡ Some end
+    → after_any (action_any (normal_form marks change)) base ≡ Some end)
 
 -- no two keys that have spellings have the same bytes
 abbrev pub BytesTellKeys : Type 0
@@ -55,7 +60,8 @@ BytesTellKeys =
 -- two entries at the same bytes have one key
 abbrev pub OneEntryKey : Type 0
 OneEntryKey =
-    (marks : List Bool) (bytes : List ℕ) (some other : Change) (s : IsEntry marks (bytes, some)) (o : IsEntry marks (bytes, other))
+    (marks : List Bool) (bytes : List ℕ) (some other : Change)
+    (s : IsEntry marks (bytes, some)) (o : IsEntry marks (bytes, other))
     → s.key ≡ o.key
 
 -- a row in range with fields in range set is in range
@@ -110,7 +116,8 @@ OneNormal =
     → IsNormalChangeset others
     → FitsCatalog tables some
     → FitsCatalog tables others
-    → ((table : TableDef) (key : List ℕ) → Contains tables table → change_of table.name key some ≡ change_of table.name key others)
+    → ((table : TableDef) (key : List ℕ) → Contains tables table
+    → change_of table.name key some ≡ change_of table.name key others)
     → some ≡ others
 
 -- the tables of a catalog have names of their own

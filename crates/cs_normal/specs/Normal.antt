@@ -52,7 +52,8 @@ count_of tables = sum_by (λ table. length table.changes) tables
 
 -- a group with marks written as 1 and 0, and the changes in their order
 abbrev pub table_spelling : TableChanges → List ℕ
-table_spelling table = header_spelling (map flag_byte table.marks) table.name ++ flat_map (λ keyed. change_spelling keyed.1) table.changes
+table_spelling table = header_spelling (map flag_byte table.marks) table.name
+    ++ flat_map (λ keyed. change_spelling keyed.1) table.changes
 
 -- one group a table
 abbrev pub normal_spelling : List TableChanges → List ℕ

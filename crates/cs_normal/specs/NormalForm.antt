@@ -85,13 +85,15 @@ pub record IsNormalOf (marks : List Bool) (changes : List Change) (form : Change
 abbrev pub IsUnfitChange : Unfit → List Bool → List Change → Change → Type 0
 IsUnfitChange unfit.NullKey marks before change = has_key marks change ≡ false
 IsUnfitChange unfit.KeyTwice marks before change =
-    (has_key marks change ≡ true) × (list_any (same_bytes (change_bytes marks change)) (map (change_bytes marks) before) ≡ true)
+    (has_key marks change ≡ true)
+    × (list_any (same_bytes (change_bytes marks change)) (map (change_bytes marks) before) ≡ true)
 IsUnfitChange _ marks before change = ⊥
 
 -- the first change that has a fault
 abbrev pub HasFirstUnfitChange : Unfit → List Bool → List Change → Type 0
 HasFirstUnfitChange fault marks changes =
-    (before : List Change) × (change : Change) × (others : List Change) × (changes ≡ before ++ change ∷ others) × AreKeyed marks before × IsUnfitChange fault marks before change
+    (before : List Change) × (change : Change) × (others : List Change)
+    × (changes ≡ before ++ change ∷ others) × AreKeyed marks before × IsUnfitChange fault marks before change
 
 -- why a table's changes have no normal form
 abbrev pub AreUnfit : Unfit → List Bool → List Change → Type 0

@@ -109,7 +109,8 @@ fn table_fault(
     tables: &[TableDef],
     groups: &[Group],
 ) -> Result<Option<Unfit>, Memory>
-    ensures { IfOk result (λ found. MatchOption found (HaveKeys tables.now groups.now) (λ fault. HasTableFault fault tables.now groups.now)) }
+    ensures { IfOk result (λ found. MatchOption found (HaveKeys tables.now groups.now)
+        (λ fault. HasTableFault fault tables.now groups.now)) }
 {
     let Err(fault) = normalise_tables(alloc, tables, groups) else {
         return Ok(None);
@@ -160,7 +161,8 @@ pub fn normalise(alloc: Global, catalog: &Catalog, changeset: &Changeset) -> Res
     // The first group that is wrong, in the order of the bytes: its table, then its changes.
     ensures fault { IfErr result (λ fault. IsUnfit fault catalog.now changeset.now) }
 
-    ensures shorter { IfOk result (λ normal. length (normal_spelling normal) ≤ length (changeset_spelling changeset.now)) }
+    ensures shorter { IfOk result (λ normal.
+        length (normal_spelling normal) ≤ length (changeset_spelling changeset.now)) }
 {
     let groups = changeset.as_slice();
     let (count, stop) = fitting_headers(catalog, groups);

@@ -119,7 +119,8 @@ impl Normal {
     pub fn encode(&self, out: &mut Vec<u8>) -> Result<(), Memory>
         ensures ok { OnOk result (out.new.items ≡ out.old.items ++ normal_spelling self.now) }
         ensures err { OnErr result (out.new.items ≡ out.old.items) }
-        ensures taken { FitsChangeset (groups_of self.now) × (changeset_spelling (groups_of self.now) ≡ normal_spelling self.now) }
+        ensures taken { FitsChangeset (groups_of self.now)
+            × (changeset_spelling (groups_of self.now) ≡ normal_spelling self.now) }
     {
         let len = out.len();
         let written = put_tables(self.tables(), out);

@@ -35,7 +35,8 @@ fn set(value: &Value) -> bool
 
 /// The bytes of a row's key, and whether none of its values is NULL.
 fn row_key(alloc: Global, marks: &[bool], row: &[Value]) -> Result<(Bytes, bool), Memory>
-    ensures { IfOk result (λ key. (key.0 ≡ key_bytes (marked marks.now row.now)) × (key.1 ≡ list_all is_set (marked marks.now row.now))) }
+    ensures { IfOk result (λ key. (key.0 ≡ key_bytes (marked marks.now row.now))
+        × (key.1 ≡ list_all is_set (marked marks.now row.now))) }
 {
     let mut bytes = Vec::new(alloc);
     let mut whole = true;
@@ -58,7 +59,8 @@ fn row_key(alloc: Global, marks: &[bool], row: &[Value]) -> Result<(Bytes, bool)
 /// The same of an old record.
 #[tactic(auto, unfolding(crate::specs::NormalForm::marked_fields))]
 fn record_key(alloc: Global, marks: &[bool], fields: &[Field]) -> Result<(Bytes, bool), Memory>
-    ensures { IfOk result (λ key. (key.0 ≡ key_bytes (marked_fields marks.now fields.now)) × (key.1 ≡ list_all is_set (marked_fields marks.now fields.now))) }
+    ensures { IfOk result (λ key. (key.0 ≡ key_bytes (marked_fields marks.now fields.now))
+        × (key.1 ≡ list_all is_set (marked_fields marks.now fields.now))) }
 {
     let mut bytes = Vec::new(alloc);
     let mut whole = true;
@@ -127,7 +129,8 @@ fn normal_column(
     old: &Field,
     new: &Field,
 ) -> Result<(Field, Field), Memory>
-    ensures { IfOk result (λ column. (column.0 ≡ normal_old in_key old.now new.now) × (column.1 ≡ normal_new in_key old.now new.now)) }
+    ensures { IfOk result (λ column. (column.0 ≡ normal_old in_key old.now new.now)
+        × (column.1 ≡ normal_new in_key old.now new.now)) }
 {
     let gets = gets_value(in_key, old, new);
     Ok((
@@ -143,7 +146,8 @@ fn normal_columns(
     old: &[Field],
     new: &[Field],
 ) -> Result<(Vec<Field>, Vec<Field>), Memory>
-    ensures { IfOk result (λ records. (records.0.items ≡ normal_olds marks.now old.now new.now) × (records.1.items ≡ normal_news marks.now old.now new.now)) }
+    ensures { IfOk result (λ records. (records.0.items ≡ normal_olds marks.now old.now new.now)
+        × (records.1.items ≡ normal_news marks.now old.now new.now)) }
 {
     let mut olds = Vec::with_capacity(alloc, old.len())?;
     let mut news = Vec::with_capacity(alloc, old.len())?;
@@ -246,7 +250,9 @@ fn prepare_table(
     table: &TableDef,
     groups: &[Group],
 ) -> Result<(Vec<Prepared>, bool), Memory>
-    ensures { IfOk result (λ found. (found.0.items ≡ prepared table.now.key_marks (changes_of table.now.name groups.now)) × (found.1 ≡ all_keyed table.now.key_marks (changes_of table.now.name groups.now))) }
+    ensures { IfOk result (λ found.
+        (found.0.items ≡ prepared table.now.key_marks (changes_of table.now.name groups.now))
+        × (found.1 ≡ all_keyed table.now.key_marks (changes_of table.now.name groups.now))) }
 {
     let marks = table.key_marks.as_slice();
     let mut entries = Vec::new(alloc);
