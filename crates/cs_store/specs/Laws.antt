@@ -1,0 +1,116 @@
+-- The laws of stores: one answer for each input, and what a commit leaves at each place.
+use Rattle.std.specs.declared.alloc.Global.{Global}
+use Rattle.std.specs.Prelude.{Vec, ◌≡◌, ◌<◌, ◌+◌, ◌-◌, ◌^◌, ℕ, pos, if◌then◌else◌, nat_eq, ◌&&◌, List, [], ◌∷◌, Option, None, Result, Ok, OnOk, OnErr, IfErr, is_some}
+use Rattle.std.specs.FinMap.{empty, insert}
+use Rattle.cs_order.specs.Order.{same_bytes}
+use Rattle.cs_store.specs.declared.batch.RowEdit.{RowEdit}
+use Rattle.cs_store.specs.declared.batch.MetaEdit.{MetaEdit}
+use Rattle.cs_store.specs.declared.batch.Batch.{Batch}
+use Rattle.cs_store.specs.declared.names.MetaName.{MetaName}
+use Rattle.cs_store.specs.declared.fault.StoreFault.{StoreFault}
+use Rattle.cs_store.specs.declared.fault.StoreFault.TheVariants.{Memory}
+use Rattle.cs_store.specs.Contents.{Contents, IsListing, name_text, nothing, stored_tables, meta_value, log_entry, log_count}
+use Rattle.cs_store.specs.Written.{after_batch, optional_bytes}
+use Rattle.cs_store.specs.Calls.{Commits, CountsFailures}
+
+-- ---- one answer
+
+-- a table has one listing
+abbrev pub OneListing : Type 0
+OneListing =
+    (table : List ℕ → Option (List ℕ)) (some others : List (List ℕ × List ℕ))
+    → IsListing table some → IsListing table others → some ≡ others
+
+-- a table of two rows, and its listing
+abbrev pub TwoRows : Contents
+TwoRows = record nothing { rows = insert (insert empty (pos 5, 98 ∷ []) (2 ∷ [])) (pos 5, 97 ∷ []) (1 ∷ []) }
+
+abbrev pub ListsTwoRows : Type 0
+ListsTwoRows = IsListing (stored_tables TwoRows 5) ((97 ∷ [], 1 ∷ []) ∷ (98 ∷ [], 2 ∷ []) ∷ [])
+
+module _ {S : Type 0} (honest : S → Type 0) (contents : S → Contents) (failed : S → ℕ) (may_leave : S → Contents → Type 0) where
+  -- commits of one batch that succeed leave one store, and a stop then leaves one
+  abbrev pub OneCommit : Type 0
+  OneCommit =
+      (after : Contents) (old new next : S) (result other : Result (Unit {0}) StoreFault)
+      → Commits honest contents failed may_leave after old new result
+      → Commits honest contents failed may_leave after old next other
+      → honest new → honest next
+      → OnOk result (OnOk other ((contents new ≡ contents next)
+      × ((some others : Contents) → may_leave new some → may_leave next others → some ≡ others)))
+
+  -- commits of one batch that are refused leave one store
+  abbrev pub OneRefusal : Type 0
+  OneRefusal =
+      (after : Contents) (old new next : S) (result other : Result (Unit {0}) StoreFault)
+      → Commits honest contents failed may_leave after old new result
+      → Commits honest contents failed may_leave after old next other
+      → honest new → honest next → OnErr result (OnErr other (contents new ≡ contents next))
+
+abbrev pub success : Result (Unit {0}) StoreFault
+success = Ok tt
+
+-- a commit as the clauses have it, of any contents to any other
+abbrev pub CommitCanBe : Type 0
+CommitCanBe =
+    (before after : Contents)
+    → Commits (λ _. Unit {0}) (λ held. held) (λ _. 0) (λ held left. left ≡ held) after before after success
+
+-- ---- faults
+
+-- where the count stood still below its last value, a fault is want of memory
+abbrev pub OnlyMemory : Type 0 → Type 0
+OnlyMemory T =
+    (result : Result T StoreFault) (count : ℕ)
+    → count < 2 ^ 64 - 1 → CountsFailures result count count → IfErr result (λ fault. fault ≡ Memory)
+
+-- ---- what is written
+
+-- what edits leave at a place where a row or none stood: what the last edit there says
+abbrev pub row_after : List RowEdit → ℕ → List ℕ → Option (List ℕ) → Option (List ℕ)
+row_after [] table key row = row
+row_after (edit ∷ edits) table key row =
+    row_after edits table key
+    (if nat_eq table edit.table && same_bytes key edit.key.items then optional_bytes edit.row else row)
+
+-- the same of a value
+abbrev pub value_after : List MetaEdit → MetaName → Option (List ℕ) → Option (List ℕ)
+value_after [] name value = value
+value_after (edit ∷ edits) name value =
+    value_after edits name
+    (if same_bytes (name_text name) (name_text edit.name) then optional_bytes edit.value else value)
+
+-- what a batch leaves at each place of the tables
+abbrev pub WritesRows : Type 0
+WritesRows =
+    (batch : Batch) (before : Contents) (table : ℕ) (key : List ℕ)
+    → stored_tables (after_batch batch before) table key
+    ≡ row_after batch.rows.items table key (stored_tables before table key)
+
+-- what it leaves at each name
+abbrev pub WritesMeta : Type 0
+WritesMeta =
+    (batch : Batch) (before : Contents) (name : MetaName)
+    → meta_value (after_batch batch before) name ≡ value_after batch.meta.items name (meta_value before name)
+
+-- what an entry, if there is one, leaves at a version: its own is how many there were, and no other changes
+abbrev pub entry_after : Option (Vec ℕ Global) → Contents → ℕ → Option (List ℕ)
+entry_after entry before version =
+    if is_some entry && nat_eq version (log_count before) then optional_bytes entry else log_entry before version
+
+-- what it leaves at each version
+abbrev pub WritesLog : Type 0
+WritesLog =
+    (batch : Batch) (before : Contents) (version : ℕ)
+    → log_entry (after_batch batch before) version ≡ entry_after batch.log before version
+
+-- where the version of a new entry is free, there is one more
+abbrev pub CountsLog : Type 0
+CountsLog =
+    (batch : Batch) (before : Contents)
+    → log_entry before (log_count before) ≡ None
+    → log_count (after_batch batch before) ≡ (if is_some batch.log then log_count before + 1 else log_count before)
+
+-- no two names have one text
+abbrev pub NamesApart : Type 0
+NamesApart = (some other : MetaName) → name_text some ≡ name_text other → some ≡ other

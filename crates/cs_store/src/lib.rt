@@ -1,0 +1,26 @@
+//! Stores of rows, of values by name and of a log, in bytes: keys and rows as records' bytes, entries as whole changesets'.
+//! `RowStore` says what any store owes: a read answers what stands there and changes nothing, a commit is whole or changes
+//! nothing, `Device` is answered only where the count of failures rose, and a stop leaves something. `MapStore` is a store
+//! in memory, whose commit of one row costs the logarithm of its rows; `Trip` is a store for tests that refuses one call.
+//! The crate stands on the order of keys (`cs_order`). `laws` says that a listing and a commit have one answer, and what a
+//! commit leaves at each place.
+#![tactic(auto)]
+
+mod batch;
+mod fault;
+pub mod laws;
+mod map_store;
+mod names;
+mod slots;
+mod store;
+mod trip;
+
+pub use batch::{Batch, MetaEdit, RowEdit};
+pub use fault::StoreFault;
+pub use map_store::MapStore;
+pub use names::MetaName;
+pub use store::{RowStore, StoredRow};
+pub use trip::Trip;
+
+#[cfg(test)]
+mod tests;

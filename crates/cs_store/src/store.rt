@@ -1,0 +1,79 @@
+//! What a store owes its callers.
+
+ghost use Rattle.std.specs.Prelude.{◌≡◌, ℕ, IfOk};
+ghost use Rattle.cs_store.specs.Calls.{OnlyReads, Commits};
+ghost use Rattle.cs_store.specs.Contents.{Contents, IsListing, stored_tables, meta_value, log_entry, log_count};
+ghost use Rattle.cs_store.specs.Written.{after_batch, optional_bytes, pairs_of};
+
+use crate::{Batch, MetaName, StoreFault};
+
+/// A row behind the bytes of its key. (Profile of this project.)
+#[derive(Debug, Drop)]
+pub struct StoredRow {
+    /// The bytes of the key.
+    pub key: Vec<u8>,
+    /// The bytes of the row.
+    pub row: Vec<u8>,
+}
+
+/// A store of rows, of values by name and of a log, in bytes. (Profile of this project.) Reads take `&mut self`, since a
+/// device's failure raises `failures`. What a call says of contents it says where the store is honest as the call ends, and
+/// a store that is honest then was so before.
+///
+/// # Errors
+///
+/// Each call but `failures` may answer `Memory`, where memory was refused, and `Device`, where the count of failures rose
+/// or stands at its last value. What the store holds has not changed then.
+pub trait RowStore {
+    /// What it holds, as far as its calls have told.
+    ghost contents: { Self → Contents };
+
+    /// So far the device has returned what was written, and nothing else has written it.
+    ghost honest: { Self → Type 0 };
+
+    /// How often the device has failed.
+    ghost failed: { Self → ℕ };
+
+    /// What a stop at this moment may leave.
+    ghost may_leave: { Self → Contents → Type 0 };
+
+    /// The row at a table's number and the bytes of a key, if there is one.
+    fn get(&mut self, table: u32, key: &[u8]) -> Result<Option<Vec<u8>>, StoreFault>
+        ensures found { honest self.new → IfOk result (λ row.
+            optional_bytes row ≡ stored_tables (contents self.old) table key.now) }
+        ensures reads { OnlyReads honest contents failed may_leave self.old self.new result };
+
+    /// The rows of a table, by ascending bytes of the key.
+    fn list(&mut self, table: u32) -> Result<Vec<StoredRow>, StoreFault>
+        ensures listed { honest self.new → IfOk result (λ rows.
+            IsListing (stored_tables (contents self.old) table) (pairs_of rows.items)) }
+        ensures reads { OnlyReads honest contents failed may_leave self.old self.new result };
+
+    /// The value of a name, if there is one.
+    fn meta(&mut self, name: MetaName) -> Result<Option<Vec<u8>>, StoreFault>
+        ensures found { honest self.new → IfOk result (λ value.
+            optional_bytes value ≡ meta_value (contents self.old) name) }
+        ensures reads { OnlyReads honest contents failed may_leave self.old self.new result };
+
+    /// How many entries the log has.
+    fn log_len(&mut self) -> Result<u32, StoreFault>
+        ensures counted { honest self.new → IfOk result (λ count. count ≡ log_count (contents self.old)) }
+        ensures reads { OnlyReads honest contents failed may_leave self.old self.new result };
+
+    /// The entry of the log at a version, the first being 0, if there is one.
+    fn log_get(&mut self, version: u32) -> Result<Option<Vec<u8>>, StoreFault>
+        ensures found { honest self.new → IfOk result (λ entry.
+            optional_bytes entry ≡ log_entry (contents self.old) version) }
+        ensures reads { OnlyReads honest contents failed may_leave self.old self.new result };
+
+    /// Writes the batch, whole.
+    fn commit(&mut self, batch: &Batch) -> Result<(), StoreFault>
+        ensures { Commits honest contents failed may_leave (after_batch batch.now (contents self.old)) self.old self.new result };
+
+    /// How often the device has failed; at 18,446,744,073,709,551,615 the count stays.
+    fn failures(&self) -> u64
+        ensures { result ≡ failed self.now };
+
+    /// A stop leaves something.
+    ghost leaves: { (s : Self) → honest s → ∥ ((left : Contents) × may_leave s left) ∥₁ };
+}
