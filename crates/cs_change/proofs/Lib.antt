@@ -2,4 +2,5 @@ pub mod Column
 pub mod Extends
 pub mod Rows
 pub mod Net
+pub mod Packed
 pub mod Then

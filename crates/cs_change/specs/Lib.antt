@@ -1,7 +1,10 @@
 pub mod Action
 pub mod Columns
+pub mod Held
 pub mod Laws
+pub mod Listed
 pub mod Net
 pub mod Normal
+pub mod OneChange
 pub mod Spelling
 pub mod Then

@@ -9,33 +9,36 @@ use std::alloc::{AllocError, Global};
 /// One change of a changeset. `flag` marks an indirect change, and has no part in what it means. (SQLite's "changeset
 /// format", changes.)
 #[derive(Drop)]
-pub enum Change {
+pub enum Change<R = Row, F = Fields> {
     /// An INSERT.
     Insert {
         /// Whether the change is indirect.
         flag: bool,
         /// The row that comes in.
-        new_row: Row,
+        new_row: R,
     },
     /// A DELETE.
     Delete {
         /// Whether the change is indirect.
         flag: bool,
         /// The row that goes, whole.
-        old_row: Row,
+        old_row: R,
     },
     /// An UPDATE.
     Update {
         /// Whether the change is indirect.
         flag: bool,
         /// The key's values, and the old value of each modified column; undefined elsewhere.
-        old_fields: Fields,
+        old_fields: F,
         /// The new value of each modified column; undefined elsewhere.
-        new_fields: Fields,
+        new_fields: F,
     },
 }
 
-impl Change {
+/// A change that stays in the bytes that spell it: its rows and records are borrowed.
+pub type ChangeRef<'a> = Change<cs_record::Row<'a>, cs_record::Record<'a>>;
+
+impl<R, F> Change<R, F> {
     /// Whether the change is indirect. (SQLite's "Session Extension", `sqlite3session_indirect`.)
     pub fn is_indirect(&self) -> bool
         ensures { result ≡ flag_of self.now }
@@ -46,9 +49,11 @@ impl Change {
             Change::Update { flag, .. } => *flag,
         }
     }
+}
 
+impl Change<Row, Fields> {
     /// The change, in memory of its own.
-    pub fn copy(&self, alloc: Global) -> Result<Change, AllocError>
+    pub fn copy(&self, alloc: Global) -> Result<Change<Row, Fields>, AllocError>
         ensures { IfOk result (λ copied. copied ≡ self.now) }
     {
         match self {

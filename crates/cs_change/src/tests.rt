@@ -121,6 +121,56 @@ fn one_change(rt: HostRuntime) -> Result<(), Fail> {
 }
 
 #[test]
+fn changes_in_their_bytes(rt: HostRuntime) -> Result<(), Fail> {
+    let alloc = rt.alloc();
+    let Some((new_row, _)) = cs_record::read_row(&INSERT[2..], 2) else {
+        panic!(rt; "no row was read");
+    };
+    let Some((old_row, _)) = cs_record::read_row(&INDIRECT_DELETE[2..], 2) else {
+        panic!(rt; "no row was read");
+    };
+    let Ok((old_fields, at)) = cs_record::read_record(&UPDATE[2..], 2) else {
+        panic!(rt; "no record was read");
+    };
+    let Ok((new_fields, _)) = cs_record::read_record(&UPDATE[2 + at..], 2) else {
+        panic!(rt; "no record was read");
+    };
+    let changes: [(ChangeRef<'_>, &[u8]); 3] = [
+        (
+            Change::Insert {
+                flag: false,
+                new_row,
+            },
+            &INSERT,
+        ),
+        (
+            Change::Delete {
+                flag: true,
+                old_row,
+            },
+            &INDIRECT_DELETE,
+        ),
+        (
+            Change::Update {
+                flag: false,
+                old_fields,
+                new_fields,
+            },
+            &UPDATE,
+        ),
+    ];
+    for (change, bytes) in &changes {
+        let mut kept = ChangesBuf::new(alloc);
+        kept.push(change)?;
+        assert_eq!(rt; kept.spelling(), *bytes);
+        let mut out = Vec::new(alloc);
+        encode_change(&change.to_change(alloc)?, &mut out)?;
+        assert_eq!(rt; out.as_slice(), *bytes);
+    }
+    Ok(())
+}
+
+#[test]
 fn changesets(rt: HostRuntime) -> Result<(), Fail> {
     let alloc = rt.alloc();
     let mut out = Vec::new(alloc);

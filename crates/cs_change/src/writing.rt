@@ -13,13 +13,13 @@ use cs_value::{Memory, Value};
 const TABLE: u8 = b'T';
 
 /// The byte of an INSERT.
-const INSERT: u8 = 18;
+pub(crate) const INSERT: u8 = 18;
 
 /// The byte of a DELETE.
-const DELETE: u8 = 9;
+pub(crate) const DELETE: u8 = 9;
 
 /// The byte of an UPDATE.
-const UPDATE: u8 = 23;
+pub(crate) const UPDATE: u8 = 23;
 
 fn put_row(row: &[Value], out: &mut Vec<u8>) -> Result<(), Memory>
     ensures ok { OnOk result (out.new.items ≡ out.old.items ++ row_bytes row.now) }
@@ -31,7 +31,7 @@ fn put_row(row: &[Value], out: &mut Vec<u8>) -> Result<(), Memory>
     Ok(())
 }
 
-fn put_operation(operation: u8, flag: bool, out: &mut Vec<u8>) -> Result<(), Memory>
+pub(crate) fn put_operation(operation: u8, flag: bool, out: &mut Vec<u8>) -> Result<(), Memory>
     ensures ok { OnOk result (out.new.items ≡ out.old.items ++ operation ∷ flag_byte flag ∷ []) }
     ensures kept { Extends out.old.items out.new.items }
 {
