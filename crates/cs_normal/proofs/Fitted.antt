@@ -6,7 +6,7 @@ use Rattle.cs_value.specs.declared.value.Field.TheVariants.{Undefined, Is}
 use Rattle.cs_record.specs.Spelling.{Fits}
 use Rattle.cs_change.specs.Columns.{is_blank}
 use Rattle.cs_change.specs.Spelling.{FitsChange, AreUpdateColumns, IsUpdateColumn}
-use Rattle.cs_change.specs.declared.change.Change.{Change}
+use Rattle.cs_change.specs.OneChange.{Change}
 use Rattle.cs_change.specs.declared.change.Change.TheVariants.{Insert, Delete, Update}
 use Rattle.cs_normal.specs.NormalForm.{changes_value, normal_old, normal_new, normal_olds, normal_news, normal_form}
 use Rattle.cs_normal.proofs.NormalLaws.{by_test}
@@ -36,14 +36,14 @@ columns_fit [] (o ∷ old) new c = absurd c
 columns_fit (m ∷ marks) [] new c = absurd c
 columns_fit (m ∷ marks) (o ∷ old) [] c = absurd c
 
-olds_fit : (marks : List Bool) (old new : List Field) → AllByRecursion Fits old → AllByRecursion Fits (normal_olds marks old new)
+pub olds_fit : (marks : List Bool) (old new : List Field) → AllByRecursion Fits old → AllByRecursion Fits (normal_olds marks old new)
 unfolding normal_olds
 olds_fit [] old new f = tt
 olds_fit (m ∷ marks) [] new f = tt
 olds_fit (m ∷ marks) (o ∷ old) [] f = tt
 olds_fit (m ∷ marks) (o ∷ old) (n ∷ new) f = (old_fits m o n f.0, olds_fit marks old new f.1)
 
-news_fit : (marks : List Bool) (old new : List Field) → AllByRecursion Fits new → AllByRecursion Fits (normal_news marks old new)
+pub news_fit : (marks : List Bool) (old new : List Field) → AllByRecursion Fits new → AllByRecursion Fits (normal_news marks old new)
 unfolding normal_news
 news_fit [] old new f = tt
 news_fit (m ∷ marks) [] new f = tt

@@ -1,8 +1,10 @@
 pub mod Changes
 pub mod Headers
+pub mod Keyed
 pub mod Laws
 pub mod Normal
 pub mod NormalForm
 pub mod NormalFormOf
+pub mod OneTable
 pub mod State
 pub mod Steps

@@ -7,7 +7,7 @@ use crate::normal::TableChanges;
 use cs_change::Change;
 use cs_value::{Field, Fields, Row, Value};
 
-fn same_bytes(left: &[u8], right: &[u8]) -> bool
+pub(crate) fn same_bytes(left: &[u8], right: &[u8]) -> bool
     ensures { IsTrue result ↔ (left.now ≡ right.now) }
 {
     left == right

@@ -9,7 +9,7 @@ ghost use Rattle.cs_normal.specs.Steps.FirstTables.{with_new, AreFirstTables, Ne
 ghost use Rattle.cs_normal.specs.declared.headers.HeaderFault.TheVariants.{Memory as OutOfMemory};
 
 use crate::comparing::{same_marks, same_name};
-use cs_change::{Changeset, Group};
+use cs_change::{ChangeRef, Changeset, ChangesetRef, Group};
 use cs_value::{Catalog, Items, MAX_TABLES, Marks, Memory, TableDef};
 use std::alloc::{AllocError, AllocFailed, Global};
 use thiserror::Error;
@@ -84,6 +84,32 @@ fn read_headers(alloc: Global, changesets: &[Changeset]) -> Result<Vec<TableDef>
     while let Some((changeset, more)) = rest.split_first() {
         put_headers(alloc, changeset.as_slice(), &mut tables)?;
         rest = more;
+    }
+    Ok(tables)
+}
+
+fn put_lent_headers(
+    alloc: Global,
+    groups: &[Group<ChangeRef<'_>>],
+    tables: &mut Vec<TableDef>,
+) -> Result<(), Memory>
+    ensures { OnOk result (tables.new.items ≡ tables.old.items ++ map header groups.now) }
+{
+    for group in groups {
+        tables.push(TableDef {
+            name: group.name.copy(alloc)?,
+            key_marks: read_marks(alloc, group.marks.as_slice())?,
+        })?;
+    }
+    Ok(())
+}
+
+fn lent_headers(alloc: Global, changesets: &[ChangesetRef<'_>]) -> Result<Vec<TableDef>, Memory>
+    ensures { IfOk result (λ tables. tables.items ≡ headers changesets.now) }
+{
+    let mut tables = Vec::new(alloc);
+    for changeset in changesets {
+        put_lent_headers(alloc, changeset.as_slice(), &mut tables)?;
     }
     Ok(tables)
 }
@@ -163,6 +189,22 @@ fn two_shapes(tables: Vec<TableDef>) -> bool
     neighbours_differ(&tables)
 }
 
+/// The catalog of the tables of these headers.
+fn catalog_of_headers(alloc: Global, all: Vec<TableDef>) -> Result<Catalog, HeaderFault>
+    ensures catalog { IfOk result (λ catalog. catalog ≡ tables_of_headers all.items) }
+    ensures shapes { IfOk result (λ _. HasTwoShapes all.items → ⊥) }
+    ensures fault { IfErr result (λ fault. HasHeaderFault fault all.items) }
+{
+    let tables = first_tables(alloc, &all)?;
+    if two_shapes(all) {
+        return Err(HeaderFault::Shape);
+    }
+    match Catalog::new(tables) {
+        Ok(catalog) => Ok(catalog),
+        Err(_) => Err(HeaderFault::BadCatalog),
+    }
+}
+
 /// The catalog of the tables that the headers of these changesets tell of, in the order in which each name first came.
 /// `Shape` where one name comes with two column counts or other key columns; where none does, `BadCatalog` where
 /// `Catalog::new` refuses those tables. `Memory` says nothing of the changesets. (SQLite's "changeset format", table
@@ -175,13 +217,20 @@ pub fn catalog_of(alloc: Global, changesets: &[Changeset]) -> Result<Catalog, He
 
     ensures fault { IfErr result (λ fault. HasHeaderFault fault (headers changesets.now)) }
 {
-    let all = read_headers(alloc, changesets)?;
-    let tables = first_tables(alloc, &all)?;
-    if two_shapes(all) {
-        return Err(HeaderFault::Shape);
-    }
-    match Catalog::new(tables) {
-        Ok(catalog) => Ok(catalog),
-        Err(_) => Err(HeaderFault::BadCatalog),
-    }
+    catalog_of_headers(alloc, read_headers(alloc, changesets)?)
+}
+
+/// The same of changesets whose changes stay in their bytes.
+pub fn catalog_of_refs(
+    alloc: Global,
+    changesets: &[ChangesetRef<'_>],
+) -> Result<Catalog, HeaderFault>
+    ensures catalog { IfOk result (λ catalog. catalog ≡ tables_of_headers (headers changesets.now)) }
+
+    // Each name has one shape.
+    ensures shapes { IfOk result (λ _. HasTwoShapes (headers changesets.now) → ⊥) }
+
+    ensures fault { IfErr result (λ fault. HasHeaderFault fault (headers changesets.now)) }
+{
+    catalog_of_headers(alloc, lent_headers(alloc, changesets)?)
 }

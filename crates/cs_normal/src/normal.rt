@@ -15,10 +15,10 @@ use std::marker::Model;
 /// The changes of one table in normal form: the table's name, its key columns, and the changes in the order of their
 /// keys' bytes. There is one at least.
 #[derive(Drop)]
-pub struct TableChanges {
+pub struct TableChanges<C = Changes> {
     pub name: Text,
     pub marks: Marks,
-    pub changes: Changes,
+    pub changes: C,
 }
 
 fn copy_table(alloc: Global, table: &TableChanges) -> Result<TableChanges, Memory>
@@ -39,7 +39,7 @@ pub struct Normal {
 
 impl Model for Normal {
     ghost use Rattle.std.specs.Prelude.{List};
-    ghost use Rattle.cs_normal.specs.declared.normal.TableChanges.{TableChanges};
+    ghost use Rattle.cs_normal.specs.OneTable.{TableChanges};
     ghost use Rattle.cs_normal.specs.Normal.{IsNormalChangeset};
 
     ghost Value = { List TableChanges };

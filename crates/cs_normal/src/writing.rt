@@ -24,7 +24,7 @@ fn put_marks(marks: &[bool], out: &mut Vec<u8>) -> Result<(), Memory>
     Ok(())
 }
 
-fn put_header(marks: &[bool], name: &str, out: &mut Vec<u8>) -> Result<(), Memory>
+pub(crate) fn put_header(marks: &[bool], name: &str, out: &mut Vec<u8>) -> Result<(), Memory>
     ensures ok { OnOk result (out.new.items ≡ out.old.items ++ header_spelling (map flag_byte marks.now) name.now) }
     ensures kept { Extends out.old.items out.new.items }
 {

@@ -1,6 +1,6 @@
 use Rattle.std.proofs.Common.{List, ℕ, rules}
 use Rattle.std.proofs.lemmas.Fn.{always_returns_same}
-use Rattle.cs_change.specs.declared.change.Change.{Change}
+use Rattle.cs_change.specs.OneChange.{Change}
 use Rattle.cs_normal.specs.Changes.{by_bytes}
 use Rattle.cs_normal.proofs.Searched.{at_place, in_gap}
 use Rattle.cs_normal.proofs.searching.place_of.Goals as goal

@@ -1,0 +1,24 @@
+-- Changes that stay in their bytes, on the way to the normal form.
+use Rattle.std.specs.Prelude.{◌≡◌, Bool, true, List, [], ◌∷◌, map, if◌then◌else◌}
+use Rattle.std.specs.List.Sorted.{IsPermutation}
+use Rattle.cs_order.specs.Order.{Keys}
+use Rattle.cs_change.specs.OneChange.{Change}
+use Rattle.cs_normal.specs.Changes.{Changes}
+use Rattle.cs_normal.specs.NormalForm.{change_bytes, has_key, normal_form}
+use Rattle.cs_normal.specs.Steps.Prepared.{Entries, all_keyed, kept, prepared, rises}
+
+-- the key of a change, if none of its values is NULL
+abbrev pub key_if_set : List Bool → Change → Keys
+key_if_set marks change = if has_key marks change then change_bytes marks change ∷ [] else []
+
+-- the normal form of each change behind the bytes of its key
+abbrev pub entries_of : List Bool → List Change → Entries
+entries_of marks changes = map (λ change. (change_bytes marks change, normal_form marks change)) changes
+
+-- each change has a key, and these are the normal forms that are left, in the order of their keys
+pub record IsKeptOf (marks : List Bool) (changes : List Change) (made : Changes) : Type 0 where
+  pub whole : all_keyed marks changes ≡ true
+  pub entries : Entries
+  pub moved : IsPermutation (prepared marks changes) entries
+  pub rising : rises entries ≡ true
+  pub left : made ≡ kept entries

@@ -1,0 +1,82 @@
+//! The bytes of the keys of changes that stay in their bytes.
+
+ghost use Rattle.std.specs.Prelude.{◌≡◌, ◌++◌, IfOk};
+ghost use Rattle.std.specs.List.{list_all};
+ghost use Rattle.cs_value.specs.Catalog.{is_set, marked};
+ghost use Rattle.cs_normal.specs.Changes.{key_bytes};
+ghost use Rattle.cs_normal.specs.NormalForm.{change_bytes, has_key, marked_fields};
+
+use cs_change::{Change, ChangeRef};
+use cs_record::{Cell, Record, Row};
+use cs_value::Memory;
+
+/// The byte that spells NULL.
+const NULL: u8 = 5;
+
+/// Appends the bytes of a row's key, and tells whether none of its values is NULL.
+#[inline(always)]
+fn put_row_key(marks: &[bool], row: &Row<'_>, out: &mut Vec<u8>) -> Result<bool, Memory>
+    ensures { IfOk result (λ whole. (out.new.items ≡ out.old.items ++ key_bytes (marked marks.now row.now))
+        × (whole ≡ list_all is_set (marked marks.now row.now))) }
+{
+    let mut whole = true;
+    let mut marks = marks;
+    let mut row = row.again();
+    while let (Some((mark, more_marks)), Some((cell, more_row))) = (
+        marks.split_first(),
+        row.split_first(),
+    ) {
+        if *mark {
+            cell.append(out)?;
+            whole = whole && cell.is_set();
+        }
+        marks = more_marks;
+        row = more_row;
+    }
+    Ok(whole)
+}
+
+/// The same of an old record.
+#[inline(always)]
+#[tactic(auto, unfolding(crate::specs::NormalForm::marked_fields))]
+fn put_record_key(marks: &[bool], fields: &Record<'_>, out: &mut Vec<u8>) -> Result<bool, Memory>
+    ensures { IfOk result (λ whole. (out.new.items ≡ out.old.items ++ key_bytes (marked_fields marks.now fields.now))
+        × (whole ≡ list_all is_set (marked_fields marks.now fields.now))) }
+{
+    let mut whole = true;
+    let mut marks = marks;
+    let mut fields = fields.again();
+    while let (Some((mark, more_marks)), Some((column, more_fields))) = (
+        marks.split_first(),
+        fields.split_first(),
+    ) {
+        if *mark {
+            match Cell::of_column(&column) {
+                Some(cell) => {
+                    cell.append(out)?;
+                    whole = whole && cell.is_set();
+                }
+                None => {
+                    out.push(NULL)?;
+                    whole = false;
+                }
+            }
+        }
+        marks = more_marks;
+        fields = more_fields;
+    }
+    Ok(whole)
+}
+
+/// Appends the bytes of a change's key, and tells whether none of its values is NULL.
+#[inline(always)]
+pub fn put_key(marks: &[bool], change: &ChangeRef<'_>, out: &mut Vec<u8>) -> Result<bool, Memory>
+    ensures { IfOk result (λ whole. (out.new.items ≡ out.old.items ++ change_bytes marks.now change.now)
+        × (whole ≡ has_key marks.now change.now)) }
+{
+    match change {
+        Change::Insert { new_row, .. } => put_row_key(marks, new_row, out),
+        Change::Delete { old_row, .. } => put_row_key(marks, old_row, out),
+        Change::Update { old_fields, .. } => put_record_key(marks, old_fields, out),
+    }
+}

@@ -1,0 +1,194 @@
+//! The normal form of one change that stays in its bytes.
+
+ghost use Rattle.std.specs.Prelude.{◌≡◌, ◌++◌, ◌∷◌, [], ◌&&◌, not, if◌then◌else◌, IfOk, IsTrue, OnOk, Some};
+ghost use Rattle.cs_value.specs.declared.value.Field.TheVariants.{Undefined};
+ghost use Rattle.cs_record.specs.Spelling.{field, record_of};
+ghost use Rattle.cs_change.specs.Columns.{is_blank};
+ghost use Rattle.cs_change.specs.Listed.{listed};
+ghost use Rattle.cs_change.specs.declared.change.Change.TheVariants.{Update};
+ghost use Rattle.cs_normal.specs.NormalForm.{changes_value, normal_form, normal_news, normal_olds};
+ghost use Rattle.cs_normal.specs.Steps.Forms.{normal_columns, is_normal_column};
+
+use cs_change::{Change, ChangeRef, ChangesBuf};
+use cs_record::{Cell, Column, Record};
+use cs_value::Memory;
+use std::alloc::Global;
+
+/// The byte that spells an undefined field.
+const UNDEFINED: u8 = 0;
+
+/// Room for the two records of an update that is made.
+#[derive(Drop)]
+pub(crate) struct Scratch {
+    olds: Vec<u8>,
+    news: Vec<u8>,
+}
+
+impl Scratch {
+    /// Nothing. It takes no memory.
+    pub(crate) fn new(alloc: Global) -> Scratch {
+        Scratch {
+            olds: Vec::new(alloc),
+            news: Vec::new(alloc),
+        }
+    }
+}
+
+#[inline(always)]
+#[tactic(auto, unfolding(cs_change::specs::Then::is_idle, cs_change::specs::Columns::holds))]
+fn gets_value(in_key: bool, old: &Column<'_>, new: &Column<'_>) -> bool
+    ensures { result ≡ changes_value in_key old.now new.now }
+{
+    if in_key {
+        return false;
+    }
+    match (Cell::of_column(new), Cell::of_column(old)) {
+        (None, _) => false,
+        (Some(_), None) => true,
+        (Some(value), Some(before)) => !before.same(&value),
+    }
+}
+
+/// Appends the field, or an undefined one.
+#[inline(always)]
+fn put_if(wanted: bool, column: &Column<'_>, out: &mut Vec<u8>) -> Result<(), Memory>
+    ensures { OnOk result (out.new.items ≡ out.old.items ++ field (if wanted then column.now else Undefined)) }
+{
+    if wanted {
+        column.append(out)
+    } else {
+        out.push(UNDEFINED)?;
+        Ok(())
+    }
+}
+
+/// Appends the two records of the update in normal form, and tells whether a column is left.
+#[tactic(auto, unfolding(crate::specs::NormalForm::normal_olds, crate::specs::NormalForm::normal_news, cs_change::specs::Columns::is_blank, cs_change::specs::Then::is_idle))]
+fn put_normal_columns(
+    marks: &[bool],
+    old: &Record<'_>,
+    new: &Record<'_>,
+    olds: &mut Vec<u8>,
+    news: &mut Vec<u8>,
+) -> Result<bool, Memory>
+    ensures olds { IfOk result (λ left. olds.new.items
+        ≡ olds.old.items ++ record_of (normal_olds marks.now old.now new.now)) }
+    ensures news { IfOk result (λ left. news.new.items
+        ≡ news.old.items ++ record_of (normal_news marks.now old.now new.now)) }
+    ensures left { IfOk result (λ left. not left ≡ is_blank (normal_news marks.now old.now new.now)) }
+{
+    let mut left = false;
+    let mut marks = marks;
+    let mut old = old.again();
+    let mut new = new.again();
+    while let (Some((mark, ms)), Some((o, os)), Some((n, ns))) = (
+        marks.split_first(),
+        old.split_first(),
+        new.split_first(),
+    ) {
+        let gets = gets_value(*mark, &o, &n);
+        put_if(*mark || gets, &o, olds)?;
+        put_if(gets, &n, news)?;
+        left = left || gets;
+        marks = ms;
+        old = os;
+        new = ns;
+    }
+    Ok(left)
+}
+
+/// Appends the update in normal form, if a column is left.
+#[tactic(auto, unfolding(crate::specs::NormalForm::normal_form))]
+fn push_update(
+    marks: &[bool],
+    flag: bool,
+    old: &Record<'_>,
+    new: &Record<'_>,
+    scratch: &mut Scratch,
+    out: &mut ChangesBuf,
+) -> Result<(), Memory>
+    ensures { OnOk result (out.new ≡ out.old ++ listed (normal_form marks.now (Update flag old.now new.now))) }
+{
+    scratch.olds.clear();
+    scratch.news.clear();
+    let left = put_normal_columns(marks, old, new, &mut scratch.olds, &mut scratch.news)?;
+    if !left {
+        return Ok(());
+    }
+    let _ = old.bytes();
+    let _ = new.bytes();
+    let old_fields = Record::new(scratch.olds.as_slice());
+    let new_fields = Record::new(scratch.news.as_slice());
+    out.push(&Change::Update {
+        flag,
+        old_fields,
+        new_fields,
+    })
+}
+
+#[inline(always)]
+#[tactic(auto, unfolding(cs_change::specs::Then::is_idle, cs_change::specs::Columns::holds))]
+fn is_normal_column(in_key: bool, old: &Column<'_>, new: &Column<'_>) -> bool
+    ensures { result ≡ is_normal_column in_key old.now new.now }
+{
+    match (Cell::of_column(new), Cell::of_column(old)) {
+        (None, None) => true,
+        (None, Some(_)) => in_key,
+        (Some(_), None) => !in_key,
+        (Some(value), Some(before)) => !in_key && !before.same(&value),
+    }
+}
+
+/// Whether the columns are those of an update in normal form.
+#[tactic(auto, unfolding(crate::specs::Steps::Forms::normal_columns, cs_change::specs::Columns::is_blank))]
+fn are_normal(marks: &[bool], old: &Record<'_>, new: &Record<'_>) -> bool
+    ensures { result ≡ normal_columns marks.now old.now new.now && not (is_blank new.now) }
+{
+    let mut left = false;
+    let mut marks = marks;
+    let mut old = old.again();
+    let mut new = new.again();
+    while let (Some((mark, ms)), Some((o, os)), Some((n, ns))) = (
+        marks.split_first(),
+        old.split_first(),
+        new.split_first(),
+    ) {
+        if !is_normal_column(*mark, &o, &n) {
+            return false;
+        }
+        left = left || Cell::of_column(&n).is_some();
+        marks = ms;
+        old = os;
+        new = ns;
+    }
+    match (marks.split_first(), old.split_first(), new.split_first()) {
+        (None, None, None) => left,
+        _ => false,
+    }
+}
+
+/// Appends the change in normal form, if one is left. One that is in normal form already is copied as it stands.
+#[inline(always)]
+#[tactic(auto, unfolding(crate::specs::NormalForm::normal_form))]
+pub(crate) fn push_form(
+    marks: &[bool],
+    change: &ChangeRef<'_>,
+    scratch: &mut Scratch,
+    out: &mut ChangesBuf,
+) -> Result<(), Memory>
+    ensures { OnOk result (out.new ≡ out.old ++ listed (normal_form marks.now change.now)) }
+{
+    match change {
+        Change::Update {
+            flag,
+            old_fields,
+            new_fields,
+        } => {
+            if are_normal(marks, old_fields, new_fields) {
+                return out.push(change);
+            }
+            push_update(marks, *flag, old_fields, new_fields, scratch, out)
+        }
+        other => out.push(other),
+    }
+}

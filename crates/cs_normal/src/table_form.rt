@@ -1,0 +1,182 @@
+//! Changes of one table as read, that stay in their bytes, brought into normal form. One order of their keys decides; each
+//! change is looked at where it stands and written once.
+
+ghost use Rattle.std.specs.Prelude.{◌≡◌, ◌++◌, ◌∷◌, [], IfOk, IfErr, OnOk, map};
+ghost use Rattle.std.specs.Map.{keys_of};
+ghost use Rattle.std.specs.Str.{bytes_eq};
+ghost use Rattle.cs_order.specs.Order.{key_at, keys_behind};
+ghost use Rattle.cs_normal.specs.NormalForm.{AreUnfit};
+ghost use Rattle.cs_normal.specs.NormalFormOf.{changes_of};
+ghost use Rattle.cs_normal.specs.Steps.Lent.{entries_of, IsKeptOf};
+ghost use Rattle.cs_normal.specs.Steps.Prepared.{Entries, all_keyed, entry_at, kept, prepared, rises};
+ghost use Rattle.cs_normal.specs.Steps.TableByTable.{IsTableOf};
+
+use crate::keyed_changes::KeyedChanges;
+use crate::keys::Keys;
+use crate::one_form::Scratch;
+use crate::unfit::Unfit;
+use cs_change::{ChangeRef, Group};
+use cs_order::order;
+use cs_value::{Memory, TableDef};
+use std::alloc::Global;
+use std::cmp::Ordering;
+
+/// The keys of the changes before the first one without a key, and whether these are all.
+fn gather_keys(
+    alloc: Global,
+    marks: &[bool],
+    changes: &[ChangeRef<'_>],
+) -> Result<(Keys, bool), Memory>
+    ensures keys { IfOk result (λ found. found.0 ≡ keys_of (prepared marks.now changes.now)) }
+    ensures whole { IfOk result (λ found. found.1 ≡ all_keyed marks.now changes.now) }
+{
+    let mut keys = Keys::new(alloc);
+    let mut at = 0;
+    while at < changes.len() {
+        if !keys.push_of(marks, &changes[at])? {
+            return Ok((keys, false));
+        }
+        at += 1;
+    }
+    Ok((keys, true))
+}
+
+/// The key at a place; none past the end.
+#[inline(always)]
+fn key_there<'a>(keys: &[&'a [u8]], place: usize) -> &'a [u8]
+    ensures { result.now ≡ key_at (keys_behind keys.now) place }
+{
+    if place < keys.len() { keys[place] } else { &[] }
+}
+
+/// Whether each key is below the next.
+#[tactic(auto, unfolding(crate::specs::Steps::Prepared::rises, crate::specs::Steps::Prepared::rises_from))]
+fn keys_rise(keys: &[&[u8]], order: &[usize]) -> bool
+    ensures { (entries : Entries) → keys_behind keys.now ≡ keys_of entries
+        → result ≡ rises (map (entry_at entries) order.now) }
+{
+    let Some((first, rest)) = order.split_first() else {
+        return true;
+    };
+    let mut last = key_there(keys, *first);
+    let mut rest = rest;
+    while let Some((next, more)) = rest.split_first() {
+        let key = key_there(keys, *next);
+        if last.cmp(key) != Ordering::Less {
+            return false;
+        }
+        last = key;
+        rest = more;
+    }
+    true
+}
+
+/// Appends the normal form of the change at a place behind its key, if one is left.
+#[inline(always)]
+fn keep_at(
+    marks: &[bool],
+    keys: &[&[u8]],
+    changes: &[ChangeRef<'_>],
+    place: usize,
+    scratch: &mut Scratch,
+    made: &mut KeyedChanges,
+) -> Result<(), Memory>
+    requires { keys_behind keys.now ≡ keys_of (entries_of marks.now changes.now) }
+    ensures { OnOk result (made.new ≡ made.old ++ kept (entry_at (entries_of marks.now changes.now) place ∷ [])) }
+{
+    if place < changes.len() {
+        return made.push_form(marks, key_there(keys, place), &changes[place], scratch);
+    }
+    Ok(())
+}
+
+/// The normal forms that are left, in this order.
+fn keep(
+    alloc: Global,
+    marks: &[bool],
+    keys: &[&[u8]],
+    changes: &[ChangeRef<'_>],
+    order: &[usize],
+) -> Result<KeyedChanges, Memory>
+    requires { keys_behind keys.now ≡ keys_of (entries_of marks.now changes.now) }
+    ensures { IfOk result (λ made. made ≡ kept (map (entry_at (entries_of marks.now changes.now)) order.now)) }
+{
+    let mut scratch = Scratch::new(alloc);
+    let mut made = KeyedChanges::new(alloc);
+    for place in order {
+        keep_at(marks, keys, changes, *place, &mut scratch, &mut made)?;
+    }
+    Ok(made)
+}
+
+/// The normal form of these changes of one table, or what is wrong with the first that is wrong.
+fn form_of(alloc: Global, marks: &[bool], changes: &[ChangeRef<'_>]) -> Result<KeyedChanges, Unfit>
+    ensures kept { IfOk result (IsKeptOf marks.now changes.now) }
+    ensures fault { IfErr result (λ fault. AreUnfit fault marks.now changes.now) }
+{
+    cs_order::laws::orders();
+    let (keys, whole) = gather_keys(alloc, marks, changes)?;
+    let keys = keys.slices(alloc)?;
+    let order = order(alloc, keys.as_slice())?;
+    if !keys_rise(keys.as_slice(), order.as_slice()) {
+        return Err(Unfit::KeyTwice);
+    }
+    if !whole {
+        return Err(Unfit::NullKey);
+    }
+    Ok(keep(alloc, marks, keys.as_slice(), changes, order.as_slice())?)
+}
+
+/// Whether the group has the table's name.
+fn is_named(group: &Group<ChangeRef<'_>>, table: &TableDef) -> bool
+    ensures { result ≡ bytes_eq group.now.name table.now.name }
+{
+    group.name.as_str() == table.name.as_str()
+}
+
+/// Appends the changes, which stay where they are.
+fn lend<'a>(changes: &[ChangeRef<'a>], lent: &mut Vec<ChangeRef<'a>>) -> Result<(), Memory>
+    ensures { OnOk result (lent.new.items ≡ lent.old.items ++ changes.now) }
+{
+    for change in changes {
+        lent.push(change.again())?;
+    }
+    Ok(())
+}
+
+/// The table's changes over all groups.
+fn lend_table<'a>(
+    alloc: Global,
+    table: &TableDef,
+    groups: &[Group<ChangeRef<'a>>],
+) -> Result<Vec<ChangeRef<'a>>, Memory>
+    ensures { IfOk result (λ lent. lent.items ≡ changes_of table.now.name groups.now) }
+{
+    let mut lent = Vec::new(alloc);
+    for group in groups {
+        if is_named(group, table) {
+            lend(group.changes.as_slice(), &mut lent)?;
+        }
+    }
+    Ok(lent)
+}
+
+/// The normal form of a table's changes over all its groups, or what is wrong with the first change that is wrong.
+pub(crate) fn table_form(
+    alloc: Global,
+    table: &TableDef,
+    groups: &[Group<ChangeRef<'_>>],
+) -> Result<KeyedChanges, Unfit>
+    ensures normal { IfOk result (λ changes. IsTableOf groups.now table.now changes) }
+    ensures fault { IfErr result (λ fault. AreUnfit fault table.now.key_marks (changes_of table.now.name groups.now)) }
+{
+    let marks = table.key_marks.as_slice();
+    if groups.len() == 1 {
+        let group = &groups[0];
+        if is_named(group, table) {
+            return form_of(alloc, marks, group.changes.as_slice());
+        }
+    }
+    let lent = lend_table(alloc, table, groups)?;
+    form_of(alloc, marks, lent.as_slice())
+}
