@@ -1,5 +1,5 @@
 -- Changes in their bytes.
-use Rattle.std.proofs.Common.{◌≡◌, ℕ, suc, ◌+◌, ◌-◌, ◌<◌, ◌≤◌, Bool, true, false, cond, List, [], ◌∷◌, ◌++◌, length, take, drop, map, Some, None, refl, ap, ◌∙◌, arith, inl, inr}
+use Rattle.std.proofs.Common.{◌≡◌, ℕ, suc, ◌+◌, ◌-◌, ◌<◌, ◌≤◌, Bool, true, false, cond, List, [], ◌∷◌, ◌++◌, length, take, drop, map, Some, None, refl, sym, ap, ◌∙◌, arith, inl, inr, subst}
 use Rattle.std.specs.Prelude.{◌⊎◌, Err}
 use Rattle.std.proofs.lemmas.List.{length-drop}
 use Rattle.std.specs.List.{AllByRecursion}
@@ -10,16 +10,17 @@ use Rattle.cs_value.specs.declared.value.Field.{Field}
 use Rattle.cs_value.specs.declared.value.Field.TheVariants.{Undefined, Is}
 use Rattle.cs_record.specs.Spelling.{field, record_of, Fits, row_bytes}
 use Rattle.cs_record.specs.Reading.{StandsAt}
+use Rattle.cs_record.specs.OneSpelling.{one_spelled_row}
+use Rattle.cs_record.specs.Spelled.{SpellsRow, SpelledRow}
 use Rattle.cs_record.specs.Facts.{field_fault_within, reaches, tail, stands_both, behind_at, behind_within}
 use Rattle.cs_change.specs.Columns.{holds}
-use Rattle.cs_change.specs.declared.change.Change.{Change}
+use Rattle.cs_change.specs.OneChange.{Change}
 use Rattle.cs_change.specs.declared.change.Change.TheVariants.{Insert, Delete, Update}
 use Rattle.cs_change.specs.Spelling.{flag_byte, change_spelling, changes_spelling, FitsRow, FitsChange, IsUpdateColumn, AreUpdateColumns}
 use Rattle.cs_changeset.specs.Records.{Rule, InOld, InNew, IsRight, AreRight, IsColumnFault, IsColumnsFault, row_rules, old_rules, new_rules}
 use Rattle.cs_changeset.specs.Reading.{IsUpdateFault, IsRecordsFault, IsFlaggedFault, IsChangeFault, IsChangesFault}
 use Rattle.cs_changeset.specs.Steps.{AreColumnsAt, ReadsFlag, ReadsFlaggedRow, ReadsOperation}
-use Rattle.cs_changeset.specs.declared.fault.CodecFault.{CodecFault}
-use Rattle.cs_changeset.specs.declared.fault.CodecFault.TheVariants.{Memory, At}
+use Rattle.cs_changeset.specs.declared.fault.FirstFault.{FirstFault}
 use Rattle.cs_changeset.specs.declared.fault.Fault.{Fault}
 use Rattle.cs_changeset.specs.declared.fault.Fault.TheVariants.{KeyChanged}
 
@@ -53,6 +54,16 @@ fits_row (m ∷ marks) [] right = absurd right
 pub row_fields : (row : List Value) → record_of (map (λ v. Is v) row) ≡ row_bytes row
 row_fields [] = refl
 row_fields (v ∷ row) = ap (λ (t : List ℕ). field (Is v) ++ t) (row_fields row)
+
+pub row_spelled : (marks : List Bool) (bytes : List ℕ) (row : List Value) (len : ℕ) → AreColumnsAt (row_rules marks) bytes (map (λ v. Is v) row) len → SpelledRow (take len bytes)
+row_spelled marks bytes row len (right, stands) = (row, ((fits_row marks row right).1, sym (row_fields row) ∙ sym stands.front))
+
+-- the row in the bytes that were read
+pub row_back : (marks : List Bool) (bytes : List ℕ) (row read : List Value) (len : ℕ) → AreColumnsAt (row_rules marks) bytes (map (λ v. Is v) row) len → SpellsRow (take len bytes) read
+    → AreColumnsAt (row_rules marks) bytes (map (λ v. Is v) read) len
+row_back marks bytes row read len are spelled =
+    let same : row ≡ read = one_spelled_row row read (fits_row marks row are.0).1 spelled.0 (sym (row_fields row) ∙ sym are.1.front ∙ sym spelled.1) in
+    subst (λ (r : List Value). AreColumnsAt (row_rules marks) bytes (map (λ v. Is v) r) len) same are
 
 -- a byte before what stands at the front
 pub stands_behind : (first : ℕ) (rest spelled : List ℕ) (len : ℕ) → StandsAt rest spelled len → StandsAt (first ∷ rest) (first ∷ spelled) (len + 1)
@@ -115,17 +126,14 @@ new_fault_behind marks bytes old at fault inner (right, stands) told =
 
 -- ---- errors that are passed on
 
-pub flag_error_row : (marks : List Bool) (behind : List ℕ) (e : CodecFault) → ReadsFlag behind (Err e) → ReadsFlaggedRow marks behind (Err e)
-flag_error_row marks behind Memory reads = tt
-flag_error_row marks behind (At fault offset) reads = λ operation _. reads marks operation
+pub flag_error_row : (marks : List Bool) (behind : List ℕ) (told : FirstFault) → ReadsFlag behind (Err told) → ReadsFlaggedRow marks behind (Err told)
+flag_error_row marks behind told reads = λ operation _. reads marks operation
 
-pub flag_error : (marks : List Bool) (operation : ℕ) (behind : List ℕ) (e : CodecFault) → ReadsFlag behind (Err e) → ReadsOperation marks operation behind (Err e)
-flag_error marks operation behind Memory reads = tt
-flag_error marks operation behind (At fault offset) reads = reads marks operation
+pub flag_error : (marks : List Bool) (operation : ℕ) (behind : List ℕ) (told : FirstFault) → ReadsFlag behind (Err told) → ReadsOperation marks operation behind (Err told)
+flag_error marks operation behind told reads = reads marks operation
 
-pub row_error : (marks : List Bool) (operation : ℕ) (behind : List ℕ) (e : CodecFault) → (operation ≡ 18) ⊎ (operation ≡ 9) → ReadsFlaggedRow marks behind (Err e) → ReadsOperation marks operation behind (Err e)
-row_error marks operation behind Memory is reads = tt
-row_error marks operation behind (At fault offset) is reads = reads operation is
+pub row_error : (marks : List Bool) (operation : ℕ) (behind : List ℕ) (told : FirstFault) → (operation ≡ 18) ⊎ (operation ≡ 9) → ReadsFlaggedRow marks behind (Err told) → ReadsOperation marks operation behind (Err told)
+row_error marks operation behind told is reads = reads operation is
 
 -- ---- changes one after another
 

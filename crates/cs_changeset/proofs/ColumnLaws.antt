@@ -1,12 +1,15 @@
 -- The columns of a record, one after another.
 use Rattle.std.proofs.Common.{◌≡◌, ℕ, ◌+◌, ◌-◌, List, [], ◌∷◌, ◌++◌, length, take, drop, map, Some, refl, sym, ◌∙◌, append_assoc, append-nil, arith, inl, inr, subst, length-append}
 use Rattle.std.proofs.lemmas.List.{map-append}
+use Rattle.std.specs.List.{AllByRecursion}
 use Rattle.cs_value.specs.declared.value.Value.{Value}
 use Rattle.cs_value.specs.declared.value.Field.{Field}
 use Rattle.cs_value.specs.declared.value.Field.TheVariants.{Is}
 use Rattle.cs_record.specs.Spelling.{field, record_of, Fits}
 use Rattle.cs_record.specs.Reading.{StandsAt}
 use Rattle.cs_record.specs.Facts.{parts, reaches, stands_more, tail}
+use Rattle.cs_record.specs.OneSpelling.{one_spelled_record}
+use Rattle.cs_record.specs.Spelled.{SpellsRecord, SpelledRecord}
 use Rattle.cs_changeset.specs.Records.{Rule, IsRight, AreRight, IsColumnFault, IsColumnsFault, field_fault}
 use Rattle.cs_changeset.specs.Steps.{AreColumnsAt}
 use Rattle.cs_changeset.specs.declared.fault.Fault.{Fault}
@@ -75,3 +78,20 @@ read_all all bytes fields at so_far = (subst (λ (r : List Rule). AreRight r fie
 -- a row is read as its fields
 pub fields_more : (row : List Value) (next : Value) → map (λ v. Is v) (row ++ next ∷ []) ≡ map (λ v. Is v) row ++ Is next ∷ []
 fields_more row next = map-append (λ v. Is v) row (next ∷ [])
+
+-- ---- columns that stay in their bytes
+
+pub all_fit : (rules : List Rule) (fields : List Field) → AreRight rules fields → AllByRecursion Fits fields
+all_fit [] [] right = tt
+all_fit (r ∷ rules) (f ∷ fields) right = (right.0.0, all_fit rules fields right.1)
+all_fit [] (f ∷ fields) right = absurd right
+all_fit (r ∷ rules) [] right = absurd right
+
+pub columns_spelled : (rules : List Rule) (bytes : List ℕ) (fields : List Field) (len : ℕ) → AreColumnsAt rules bytes fields len → SpelledRecord (take len bytes)
+columns_spelled rules bytes fields len (right, stands) = (fields, (all_fit rules fields right, sym stands.front))
+
+-- the record in the bytes that were read
+pub columns_back : (rules : List Rule) (bytes : List ℕ) (fields read : List Field) (len : ℕ) → AreColumnsAt rules bytes fields len → SpellsRecord (take len bytes) read → AreColumnsAt rules bytes read len
+columns_back rules bytes fields read len are spelled =
+    let same : fields ≡ read = one_spelled_record fields read (all_fit rules fields are.0) spelled.0 (sym are.1.front ∙ sym spelled.1) in
+    subst (λ (fs : List Field). AreColumnsAt rules bytes fs len) same are

@@ -5,10 +5,10 @@ use Rattle.std.proofs.lemmas.List.{length-drop, drop-drop, take_all}
 use Rattle.cs_varint.specs.Varint.{spelling}
 use Rattle.cs_record.specs.Reading.{StandsAt}
 use Rattle.cs_record.specs.Facts.{stands_both, tail, behind_at, behind_within}
-use Rattle.cs_change.specs.declared.change.Change.{Change}
-use Rattle.cs_change.specs.declared.group.Group.{Group}
+use Rattle.cs_change.specs.OneChange.{Change}
+use Rattle.cs_change.specs.OneChange.{Group}
 use Rattle.cs_change.specs.Spelling.{marks_of, header_spelling, changes_spelling, changeset_spelling, FitsHeader, FitsChange, FitsChangeset}
-use Rattle.cs_changeset.specs.Reading.{HeaderFlaw, EndsEarly, LongCount, BadCount, NoKeyMark, BadName, IsHeaderFlaw, IsChangeFault, IsChangesFault, IsGroupFault, IsMarkFault, IsGroupsFault, IsChangesetFault}
+use Rattle.cs_changeset.specs.Reading.{HeaderFlaw, EndsEarly, LongCount, BadCount, NoKeyMark, BadName, IsHeaderFlaw, IsHeaderFault, IsChangeFault, IsChangesFault, IsGroupFault, IsMarkFault, IsGroupsFault, IsChangesetFault}
 use Rattle.cs_changeset.specs.Steps.{BeginsGroup, EndsGroup}
 use Rattle.cs_changeset.specs.declared.fault.Fault.{Fault}
 use Rattle.cs_changeset.proofs.ChangeLaws.{change_within}
@@ -31,6 +31,10 @@ pub group_read : (bytes marks name : List ℕ) (changes : List Change) (at len :
 group_read bytes marks name changes at len is (header, stands) (fits, after, ends) =
     let there = subst (λ (b : List ℕ). StandsAt b (header_spelling marks name) at) (begins bytes is) stands in
     ((header, fits), stands_both bytes (header_spelling marks name) (changes_spelling changes) at len there after, ends_there bytes at len ends)
+
+-- the header's fault is the group's
+pub header_fault : (bytes : List ℕ) (fault : Fault) (offset : ℕ) → BeginsGroup bytes → IsHeaderFault fault offset (84 ∷ take (length bytes - 1) (drop 1 bytes)) → IsGroupFault fault offset bytes
+header_fault bytes fault offset is told = inl (subst (IsHeaderFault fault offset) (begins bytes is) told)
 
 pub body_fault : (bytes marks name : List ℕ) (at : ℕ) (fault : Fault) (inner : ℕ) → BeginsGroup bytes → FitsHeader marks name × StandsAt (84 ∷ take (length bytes - 1) (drop 1 bytes)) (header_spelling marks name) at
     → IsChangesFault (marks_of marks) fault inner (take (length bytes - at) (drop at bytes)) → IsGroupFault fault (at + inner) bytes

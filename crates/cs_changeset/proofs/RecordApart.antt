@@ -1,7 +1,6 @@
 -- Where a record is spelled nothing is wrong, a fault stays whatever follows, and there is one.
 use Rattle.std.proofs.Common.{◌≡◌, ℕ, Bool, true, false, List, [], ◌∷◌, ◌++◌, length, Some, None, refl, sym, ap, ◌∙◌, append_assoc, arith, inl, inr, subst, suc, cond}
 use Rattle.std.specs.Prelude.{◌≢◌}
-use Rattle.std.specs.List.{AllByRecursion}
 use Rattle.cs_value.specs.declared.value.Field.{Field}
 use Rattle.cs_value.specs.declared.value.Field.TheVariants.{Undefined, Is}
 use Rattle.cs_change.specs.Columns.{holds}
@@ -11,6 +10,7 @@ use Rattle.cs_record.specs.declared.fault.Fault.{Fault as FieldFault}
 use Rattle.cs_record.specs.declared.fault.Fault.TheVariants as in_field
 use Rattle.cs_record.specs.Facts.{behind_stays, behind_end}
 use Rattle.cs_record.specs.Laws.{FieldLaws, RecordLaws}
+use Rattle.cs_changeset.proofs.ColumnLaws.{all_fit}
 use Rattle.cs_changeset.specs.Records.{Rule, InRow, InOld, InNew, IsRight, AreRight, IsColumnFault, IsColumnsFault, field_fault, of_field}
 use Rattle.cs_changeset.specs.declared.fault.Fault.{Fault}
 use Rattle.cs_changeset.specs.declared.fault.Fault.TheVariants.{Truncated, KeyChanged}
@@ -25,12 +25,6 @@ truncated_field in_field.NotShortest e = cc
 truncated_field (in_field.BadType k) e = cc
 truncated_field in_field.Real e = cc
 truncated_field in_field.NotUtf8 e = cc
-
-all_fit : (rules : List Rule) (fields : List Field) → AreRight rules fields → AllByRecursion Fits fields
-all_fit [] [] right = tt
-all_fit (r ∷ rules) (f ∷ fields) right = (right.0.0, all_fit rules fields right.1)
-all_fit [] (f ∷ fields) right = absurd right
-all_fit (r ∷ rules) [] right = absurd right
 
 wide : (rules : List Rule) (fields : List Field) → AreRight rules fields → length fields ≡ length rules
 wide [] [] right = refl

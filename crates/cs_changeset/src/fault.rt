@@ -61,6 +61,13 @@ pub enum CodecFault {
     At { fault: Fault, offset: usize },
 }
 
+/// A fault, and where it is told, in bytes from the front of what was read.
+#[derive(Clone, Copy)]
+pub(crate) struct FirstFault {
+    pub fault: Fault,
+    pub offset: usize,
+}
+
 impl Fault {
     /// The code by which programs tell the fault: 2 to 14. (Profile of this project.)
     pub fn code(self) -> u8
@@ -84,12 +91,24 @@ impl Fault {
     }
 
     /// The fault, told at an offset.
-    pub(crate) fn at(self, offset: usize) -> CodecFault
-        ensures { result ≡ At self offset }
+    #[inline(always)]
+    pub(crate) fn at(self, offset: usize) -> FirstFault
+        ensures { result ≡ record { fault = self; offset = offset } }
     {
-        CodecFault::At {
+        FirstFault {
             fault: self,
             offset,
+        }
+    }
+}
+
+impl From<FirstFault> for CodecFault {
+    ghost from_gives = { λ told e. e ≡ At told.fault told.offset };
+
+    fn from(told: FirstFault) -> CodecFault {
+        CodecFault::At {
+            fault: told.fault,
+            offset: told.offset,
         }
     }
 }

@@ -5,7 +5,7 @@ ghost use Rattle.std.specs.List.{list_any, position};
 ghost use Rattle.cs_change.specs.Spelling.{is_nonzero};
 ghost use Rattle.cs_changeset.specs.Steps.{ReadsColumns, ReadsHeader};
 
-use crate::fault::{CodecFault, Fault};
+use crate::fault::{Fault, FirstFault};
 use cs_value::MAX_COLUMNS;
 use cs_varint::VarintFault;
 use std::str;
@@ -17,7 +17,7 @@ fn has_key(marks: &[u8]) -> bool
 }
 
 /// The column bytes behind their count, and how many bytes the two take. The offsets count the byte before them.
-fn columns(behind: &[u8]) -> Result<(&[u8], usize), CodecFault>
+fn columns(behind: &[u8]) -> Result<(&[u8], usize), FirstFault>
     ensures { ReadsColumns behind.now result }
 {
     let end = behind.len() + 1;
@@ -49,7 +49,7 @@ fn name_end(rest: &[u8]) -> Option<usize>
 }
 
 /// The column bytes and the name of the header whose first byte stands before these, and how many bytes it takes.
-pub fn header(behind: &[u8]) -> Result<(&[u8], &str, usize), CodecFault>
+pub fn header(behind: &[u8]) -> Result<(&[u8], &str, usize), FirstFault>
     ensures { ReadsHeader behind.now result }
 {
     let (marks, at) = columns(behind)?;

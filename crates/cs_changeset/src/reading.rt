@@ -2,7 +2,7 @@
 
 ghost use Rattle.std.specs.Prelude.{◌≡◌, ◌≤◌, ◌++◌, ℕ, List, length};
 ghost use Rattle.cs_change.specs.Spelling.{changeset_spelling, FitsChangeset};
-ghost use Rattle.cs_change.specs.declared.group.Group.{Group};
+ghost use Rattle.cs_change.specs.OneChange.{Group as GroupRead};
 ghost use Rattle.cs_changeset.specs.Reading.{FindsChangeset, IsChangesetFault, ReadsChangeset, TellsChangesetFault};
 ghost use Rattle.cs_changeset.specs.Steps.{BeginsGroup, EndsGroup, ReadsGroup, ReadsGroups};
 ghost use Rattle.cs_changeset.specs.declared.fault.Fault.{Fault};
@@ -12,7 +12,7 @@ use crate::changes::read_changes;
 use crate::fault::{CodecFault, Fault};
 use crate::header::header;
 use crate::laws;
-use cs_change::{Changeset, Group};
+use cs_change::{ChangeRef, ChangesetRef, Group};
 use cs_value::{Items, Text};
 use std::alloc::Global;
 
@@ -23,7 +23,7 @@ const TABLE: u8 = b'T';
 const PATCHSET: u8 = b'P';
 
 /// The group at the front, and how many bytes it takes.
-fn read_group(alloc: Global, bytes: &[u8]) -> Result<(Group, usize), CodecFault>
+fn read_group(alloc: Global, bytes: &[u8]) -> Result<(Group<ChangeRef<'_>>, usize), CodecFault>
     requires { BeginsGroup bytes.now }
     ensures { ReadsGroup bytes.now result }
 {
@@ -38,12 +38,12 @@ fn read_group(alloc: Global, bytes: &[u8]) -> Result<(Group, usize), CodecFault>
             Ok((group, at + len))
         }
         Err(CodecFault::Memory) => Err(CodecFault::Memory),
-        Err(CodecFault::At { fault, offset }) => Err(fault.at(at + offset)),
+        Err(CodecFault::At { fault, offset }) => Err(CodecFault::from(fault.at(at + offset))),
     }
 }
 
 /// The groups to the end of the bytes, which begin with a group where there are any.
-fn read_groups(alloc: Global, bytes: &[u8]) -> Result<Vec<Group>, CodecFault>
+fn read_groups(alloc: Global, bytes: &[u8]) -> Result<Vec<Group<ChangeRef<'_>>>, CodecFault>
     requires { EndsGroup bytes.now }
     ensures { ReadsGroups bytes.now result }
 {
@@ -56,30 +56,33 @@ fn read_groups(alloc: Global, bytes: &[u8]) -> Result<Vec<Group>, CodecFault>
                 at += len;
             }
             Err(CodecFault::Memory) => return Err(CodecFault::Memory),
-            Err(CodecFault::At { fault, offset }) => return Err(fault.at(at + offset)),
+            Err(CodecFault::At { fault, offset }) => {
+                return Err(CodecFault::from(fault.at(at + offset)));
+            }
         }
     }
     Ok(groups)
 }
 
-fn read_changeset(alloc: Global, bytes: &[u8]) -> Result<Changeset, CodecFault>
+fn read_changeset(alloc: Global, bytes: &[u8]) -> Result<ChangesetRef<'_>, CodecFault>
     ensures { ReadsChangeset bytes.now result }
 {
     match bytes {
         [] | [TABLE, ..] => Ok(Items::from_vec(read_groups(alloc, bytes)?)),
-        [PATCHSET, ..] => Err(Fault::Patchset.at(0)),
-        _ => Err(Fault::BadMark.at(0)),
+        [PATCHSET, ..] => Err(CodecFault::from(Fault::Patchset.at(0))),
+        _ => Err(CodecFault::from(Fault::BadMark.at(0))),
     }
 }
 
-/// Reads a changeset: the whole of the bytes. (SQLite's "changeset format"; the faults, each told at its offset from
+/// Reads a changeset: the whole of the bytes. Its changes stay in them; memory is taken for the lists of groups and of
+/// changes, and for the header of each group. (SQLite's "changeset format"; the faults, each told at its offset from
 /// the front, are of this project's profile.)
-pub fn decode(alloc: Global, bytes: &[u8]) -> Result<Changeset, CodecFault>
+pub fn read(alloc: Global, bytes: &[u8]) -> Result<ChangesetRef<'_>, CodecFault>
     // What is read is in range, and is spelled by the bytes; what is told is their first fault.
     ensures reads { ReadsChangeset bytes.now result }
 
     // What the bytes spell is read, or memory is wanting.
-    ensures only { (groups : List Group) → FitsChangeset groups → bytes.now ≡ changeset_spelling groups
+    ensures only { (groups : List GroupRead) → FitsChangeset groups → bytes.now ≡ changeset_spelling groups
         → FindsChangeset result groups }
 
     // A fault of the bytes is told, or memory is wanting. There is one (`laws::changesets`).
@@ -91,9 +94,9 @@ pub fn decode(alloc: Global, bytes: &[u8]) -> Result<Changeset, CodecFault>
         → offset ≤ length bytes.now }
 
     // A front of a spelling that is no spelling itself is Truncated.
-    ensures front { (groups : List Group) (rest : List ℕ) → FitsChangeset groups
+    ensures front { (groups : List GroupRead) (rest : List ℕ) → FitsChangeset groups
         → changeset_spelling groups ≡ bytes.now ++ rest
-        → ((others : List Group) → FitsChangeset others → bytes.now ≡ changeset_spelling others → ⊥)
+        → ((others : List GroupRead) → FitsChangeset others → bytes.now ≡ changeset_spelling others → ⊥)
         → TellsChangesetFault result Truncated (length bytes.now) }
 {
     laws::changesets();

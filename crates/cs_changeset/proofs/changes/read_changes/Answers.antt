@@ -15,11 +15,11 @@ loop-change-preserved c =
       stands = stands_more change_spelling c.args.bytes.now changes next c.loop-change.at c.in-Ok-Some.len c.loop-change.invariant.stands found.1;
     }
 
-pub overflow_add-at-in-Err-At : goal.overflow_add-at-in-Err-At
-overflow_add-at-in-Err-At c =
-    let within = change_within (marks_of c.args.marks.now) c.in-Err-At.fault c.in-Err-At.offset (take (length c.args.bytes.now - c.loop-change.at) (drop c.loop-change.at c.args.bytes.now)) (rw c.in-Err-At.field-0-is at c.in-Err-At.ensures) in
-    rw c.in-Err-At.field-0-is (omega (arith, within, ap length (tail c.args.bytes.now c.loop-change.at), length-drop c.loop-change.at c.args.bytes.now, c.loop-change.invariant.stands.within))
+pub overflow_add-at-in-Err : goal.overflow_add-at-in-Err
+overflow_add-at-in-Err c =
+    let within = change_within (marks_of c.args.marks.now) c.in-Err.told.fault c.in-Err.told.offset (take (length c.args.bytes.now - c.loop-change.at) (drop c.loop-change.at c.args.bytes.now)) c.in-Err.ensures in
+    (omega (arith, within, ap length (tail c.args.bytes.now c.loop-change.at), length-drop c.loop-change.at c.args.bytes.now, c.loop-change.invariant.stands.within))
 
-pub returns-in-Err-At : goal.returns-in-Err-At
-returns-in-Err-At c =
-    rw (c.at.ensures, c.in-Err-At.field-0-is) (changes_fault (marks_of c.args.marks.now) c.args.bytes.now c.loop-change.changes.items c.loop-change.at c.in-Err-At.fault c.in-Err-At.offset c.loop-change.invariant.fits c.loop-change.invariant.stands (rw c.in-Err-At.field-0-is at c.in-Err-At.ensures))
+pub returns-in-Err : goal.returns-in-Err
+returns-in-Err c =
+    rw (c.from.ensures, c.at.ensures) (changes_fault (marks_of c.args.marks.now) c.args.bytes.now c.loop-change.changes.items c.loop-change.at c.in-Err.told.fault c.in-Err.told.offset c.loop-change.invariant.fits c.loop-change.invariant.stands c.in-Err.ensures)

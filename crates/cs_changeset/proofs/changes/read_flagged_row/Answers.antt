@@ -10,10 +10,10 @@ returns-in_err-flag c =
     let p = err_from_is_err_and c.from_residual.result c.from_residual.ensures.1 in
     rw (p.1, p.2) (flag_error_row (marks_of c.args.marks.now) c.args.behind.now c.in_err-flag.field-0.0 c.in_err-flag.ensures)
 
-pub overflow_add-offset : goal.overflow_add-offset
-overflow_add-offset c =
-    omega (arith, record_within (row_rules (marks_of c.args.marks.now)) c.in-Err-At.fault c.in-Err-At.offset c.in_ok-flag.rest.now (rw c.in-Err-At.field-0-is at c.in-Err-At.ensures), ap length c.in_ok-flag.ensures)
+pub overflow_add-told : goal.overflow_add-told
+overflow_add-told c =
+    omega (arith, record_within (row_rules (marks_of c.args.marks.now)) c.in-Err.told.fault c.in-Err.told.offset c.in_ok-flag.rest.now c.in-Err.ensures, ap length c.in_ok-flag.ensures)
 
 pub returns-in-Ok : goal.returns-in-Ok
 returns-in-Ok c =
-    rw c.from_vec.ensures (flagged_row (marks_of c.args.marks.now) c.in_ok-flag.flag c.args.behind.now c.in_ok-flag.rest.now c.in-Ok.row.items c.in-Ok.len c.in_ok-flag.ensures c.in-Ok.ensures)
+    flagged_row (marks_of c.args.marks.now) c.in_ok-flag.flag c.args.behind.now c.in_ok-flag.rest.now c.in-Ok.row c.in-Ok.len c.in_ok-flag.ensures c.in-Ok.ensures

@@ -1,8 +1,15 @@
 use Rattle.std.proofs.Common.{◌-◌, length, take, drop, ap, arith}
 use Rattle.std.proofs.lemmas.List.{length-drop}
+use Rattle.std.proofs.lemmas.Result.{err_from_is_err_and}
 use Rattle.cs_record.specs.Facts.{tail}
-use Rattle.cs_changeset.proofs.GroupLaws.{changes_within, header_within, group_read, body_fault}
+use Rattle.cs_changeset.proofs.GroupLaws.{changes_within, header_within, group_read, header_fault, body_fault}
 use Rattle.cs_changeset.proofs.reading.read_group.Goals as goal
+
+pub returns-in_err-marks : goal.returns-in_err-marks
+returns-in_err-marks c =
+    let p = err_from_is_err_and c.from_residual.result c.from_residual.ensures.1 in
+    let told = c.in_err-marks.field-0.0 in
+    rw (p.1, p.2) (header_fault c.args.bytes.now told.fault told.offset c.requires c.in_err-marks.ensures)
 
 pub overflow_add-at : goal.overflow_add-at
 overflow_add-at c =
@@ -19,4 +26,4 @@ returns-in_ok-from_str-in-Ok c =
 
 pub returns-in-Err-At : goal.returns-in-Err-At
 returns-in-Err-At c =
-    rw (c.at.ensures, c.in-Err-At.field-0-is) (body_fault c.args.bytes.now c.in_ok-marks.marks.now c.in_ok-marks.name.now c.in_ok-marks.at c.in-Err-At.fault c.in-Err-At.offset c.requires c.in_ok-marks.ensures (rw c.in-Err-At.field-0-is at c.in-Err-At.ensures))
+    rw (c.from.ensures, c.at.ensures, c.in-Err-At.field-0-is) (body_fault c.args.bytes.now c.in_ok-marks.marks.now c.in_ok-marks.name.now c.in_ok-marks.at c.in-Err-At.fault c.in-Err-At.offset c.requires c.in_ok-marks.ensures (rw c.in-Err-At.field-0-is at c.in-Err-At.ensures))

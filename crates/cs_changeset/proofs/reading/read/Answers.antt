@@ -1,5 +1,5 @@
 use Rattle.cs_changeset.proofs.Items.{only_changeset, told_changeset, front_changeset}
-use Rattle.cs_changeset.proofs.reading.decode.Goals as goal
+use Rattle.cs_changeset.proofs.reading.read.Goals as goal
 
 pub returns-clause-only : goal.returns-clause-only
 returns-clause-only c = only_changeset c.changesets.ensures c.args.bytes.now c.read_changeset.result c.read_changeset.ensures
