@@ -1,15 +1,12 @@
--- The changes that a merge makes are normal.
+-- Two changes in normal form of one key are, taken together, in normal form.
 use Rattle.std.proofs.Common.{◌≡◌, ℕ, Bool, List, Option, Some, None}
-use Rattle.std.specs.List.{All, AllByRecursion}
-use Rattle.std.proofs.lemmas.List.Elements.{All-from_recursion, recursion_from_All}
 use Rattle.cs_value.specs.declared.value.Value.{Value}
 use Rattle.cs_change.specs.Action.{Action, Inserts, Deletes, Updates, action, action_any}
 use Rattle.cs_change.specs.Laws.{NetTakes}
 use Rattle.cs_change.specs.Normal.{IsNormalIfAny}
-use Rattle.cs_change.specs.declared.change.Change.{Change}
-use Rattle.cs_normal.specs.Changes.{Changes, IsEntry}
+use Rattle.cs_change.specs.OneChange.{Change}
+use Rattle.cs_normal.specs.Changes.{IsEntry}
 use Rattle.cs_group.specs.Combine.{then_change}
-use Rattle.cs_group.specs.Steps.Merges.{Merges, ended, earlier, later, both, before}
 use Rattle.cs_normal.specs.Laws.{OneEntryKey, SetColumnsFit}
 use Rattle.cs_group.proofs.Flags.{then_change_action}
 use Rattle.cs_group.proofs.InRange.{AreInRangeIfAny, in_range, normal_fits, then_in_range}
@@ -45,18 +42,3 @@ pair_entry law marks bytes x y ex ey =
       | Some c ↦ λ n r. record { key = ex.key; set = ex.set; bytes = ex.bytes; normal = n; fits = normal_fits marks ex.key c n r }
     ] in
     split (then_change marks x y) normal' range'
-
-before_entries : (marks : List Bool) (key : List ℕ) (change : Option Change) (changes : Changes) → IsEntryIfAny marks key change → AllByRecursion (IsEntry marks) changes → AllByRecursion (IsEntry marks) (before key change changes)
-before_entries marks key None changes e h = h
-before_entries marks key (Some change) changes e h = (e, h)
-
-entries : PairLaws → {marks : List Bool} {a b r : Changes} → Merges marks a b r → AllByRecursion (IsEntry marks) a → AllByRecursion (IsEntry marks) b → AllByRecursion (IsEntry marks) r
-entries law ended ea eb = tt
-entries law (earlier g m) ea eb = (ea.0, entries law m ea.1 eb)
-entries law (later g m) ea eb = (eb.0, entries law m ea eb.1)
-entries law {marks} (both {key = key} {x = x} {y = y} {r = r} m) ea eb =
-    before_entries marks key (then_change marks x y) r (pair_entry law marks key x y ea.0 eb.0) (entries law m ea.1 eb.1)
-
-pub merge_entries : PairLaws → {marks : List Bool} {a b r : Changes} → Merges marks a b r → All (IsEntry marks) a → All (IsEntry marks) b → All (IsEntry marks) r
-merge_entries law {marks} {a} {b} {r} m ea eb =
-    All-from_recursion (IsEntry marks) r (entries law m (recursion_from_All (IsEntry marks) a ea) (recursion_from_All (IsEntry marks) b eb))

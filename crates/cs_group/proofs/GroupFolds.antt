@@ -14,10 +14,10 @@ use Rattle.std.proofs.lemmas.Map.Keys.{IsDistinct-from_sorted}
 use Rattle.std.proofs.lemmas.Map.Views.{list_any-from_Contains}
 use Rattle.cs_order.specs.Order.{Keys, by_bytes, same_bytes, key_at, places}
 use Rattle.cs_order.specs.Groups.{has_bytes, places_of, IsGrouping}
-use Rattle.cs_change.specs.declared.change.Change.{Change}
+use Rattle.cs_change.specs.OneChange.{Change}
 use Rattle.cs_normal.specs.Changes.{Changes, change_at, IsOrdered}
 use Rattle.cs_group.specs.Steps.Joining.{behind, fold_places, entry_left}
-use Rattle.cs_group.proofs.MergeLaws.{same_is}
+use Rattle.cs_group.proofs.Lookups.{same_is}
 
 pub by_bool : {G : Type 0} → (b : Bool) → (b ≡ true → G) → (b ≡ false → G) → G
 by_bool true f g = f refl
@@ -84,35 +84,34 @@ first_place keys q p ps is =
     let within : All (λ x. x < length keys) (p ∷ ps) = rw is at (All-filter (has_bytes keys q) (λ x. x < length keys) (places keys) (in_range keys)) in
     (same_is q (key_at keys p) (passes 0 p (omega arith)), within 0 p (omega arith))
 
-entry_split : (marks : List Bool) (es : Changes) (q : List ℕ) (ps : List ℕ) → places_of (keys_of es) q ≡ ps → entry_left marks es ps ≡ behind q (fold_places marks es None ps)
-entry_split marks es q [] is = refl
-entry_split marks es q (p ∷ ps) is =
-    ap (λ (k : List ℕ). behind k (fold_places marks es None (p ∷ ps))) (sym (first_place (keys_of es) q p ps is).0)
+entry_split : (marks : List Bool) (keys : Keys) (changes : List Change) (q : List ℕ) (ps : List ℕ) → places_of keys q ≡ ps → entry_left marks keys changes ps ≡ behind q (fold_places marks changes None ps)
+entry_split marks keys changes q [] is = refl
+entry_split marks keys changes q (p ∷ ps) is =
+    ap (λ (k : List ℕ). behind k (fold_places marks changes None (p ∷ ps))) (sym (first_place keys q p ps is).0)
 
-nothing_left : (marks : List Bool) (es : Changes) (q : List ℕ) (ps : List ℕ) → (Contains (keys_of es) q → ⊥) → places_of (keys_of es) q ≡ ps → fold_places marks es None ps ≡ None
-nothing_left marks es q [] missing is = refl
-nothing_left marks es q (p ∷ ps) missing is =
-    let first = first_place (keys_of es) q p ps is in
-    absurd (missing (p, first.1, get_or_default (keys_of es) p q [] first.1 ∙ sym first.0))
+nothing_left : (marks : List Bool) (keys : Keys) (changes : List Change) (q : List ℕ) (ps : List ℕ) → (Contains keys q → ⊥) → places_of keys q ≡ ps → fold_places marks changes None ps ≡ None
+nothing_left marks keys changes q [] missing is = refl
+nothing_left marks keys changes q (p ∷ ps) missing is =
+    let first = first_place keys q p ps is in
+    absurd (missing (p, first.1, get_or_default keys p q [] first.1 ∙ sym first.0))
 
 entries_same : (f g : List ℕ → Changes) → ((key : List ℕ) → f key ≡ g key) → (ds : Keys) → flat_map f ds ≡ flat_map g ds
 entries_same f g same [] = refl
 entries_same f g same (d ∷ ds) = ap (λ (es : Changes). es ++ flat_map f ds) (same d) ∙ ap (λ (es : Changes). g d ++ es) (entries_same f g same ds)
 
 -- in order, and at each key the fold of the changes at its places
-pub record IsFolded (marks : List Bool) (es joined : Changes) : Type 0 where
+pub record IsFolded (marks : List Bool) (keys : Keys) (changes : List Change) (joined : Changes) : Type 0 where
   pub ordered : IsOrdered joined
-  pub at_key : (key : List ℕ) → change_at key joined ≡ fold_places marks es None (places_of (keys_of es) key)
+  pub at_key : (key : List ℕ) → change_at key joined ≡ fold_places marks changes None (places_of keys key)
 
-pub is_folded : (marks : List Bool) (es : Changes) (groups : List (List ℕ)) (joined : Changes) → IsGrouping (keys_of es) groups → joined ≡ flat_map (entry_left marks es) groups → IsFolded marks es joined
-is_folded marks es groups joined g is =
-    let keys = keys_of es in
-    let left : List ℕ → Option Change = λ q. fold_places marks es None (places_of keys q) in
+pub is_folded : (marks : List Bool) (keys : Keys) (changes : List Change) (groups : List (List ℕ)) (joined : Changes) → IsGrouping keys groups → joined ≡ flat_map (entry_left marks keys changes) groups → IsFolded marks keys changes joined
+is_folded marks keys changes groups joined g is =
+    let left : List ℕ → Option Change = λ q. fold_places marks changes None (places_of keys q) in
     let listed : joined ≡ listing left g.distinct =
     is
-    ∙ ap (λ (gs : List (List ℕ)). flat_map (entry_left marks es) gs) g.each
-    ∙ flat_map-map (entry_left marks es) (places_of keys) g.distinct
-    ∙ entries_same (λ q. entry_left marks es (places_of keys q)) (λ q. behind q (left q)) (λ q. entry_split marks es q (places_of keys q) refl) g.distinct in
+    ∙ ap (λ (gs : List (List ℕ)). flat_map (entry_left marks keys changes) gs) g.each
+    ∙ flat_map-map (entry_left marks keys changes) (places_of keys) g.distinct
+    ∙ entries_same (λ q. entry_left marks keys changes (places_of keys q)) (λ q. behind q (left q)) (λ q. entry_split marks keys changes q (places_of keys q) refl) g.distinct in
     record {
       ordered = rw listed (listing_sorted left g.distinct g.rising);
       at_key = λ q.
@@ -120,5 +119,5 @@ is_folded marks es groups joined g is =
           ∙ found_at left q g.distinct (IsDistinct-from_sorted by_bytes g.distinct g.rising)
           ∙ by_bool (list_any (same_bytes q) g.distinct)
           (λ e. rw e refl)
-          (λ e. rw e (sym (nothing_left marks es q (places_of keys q) (λ has. let t : list_any (same_bytes q) g.distinct ≡ true = list_any-from_Contains (eq_by_cmp_equiv nat_list_cmp_total) q g.distinct ((g.complete q).0 has) in cc) refl)));
+          (λ e. rw e (sym (nothing_left marks keys changes q (places_of keys q) (λ has. let t : list_any (same_bytes q) g.distinct ≡ true = list_any-from_Contains (eq_by_cmp_equiv nat_list_cmp_total) q g.distinct ((g.complete q).0 has) in cc) refl)));
     }

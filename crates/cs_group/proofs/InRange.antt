@@ -12,11 +12,11 @@ use Rattle.cs_change.specs.Net.{net, old_field, new_field, old_record, new_recor
 use Rattle.cs_change.specs.Normal.{IsNormal, NormalUpdate, no_column, key_column, unmodified, modified}
 use Rattle.cs_change.specs.Spelling.{AreUpdateColumns, FitsChange}
 use Rattle.cs_change.specs.Then.{is_idle, then_column, then_old_fields, then_new_fields, then_one, inverse, inverse_old_fields, inverse_new_fields}
-use Rattle.cs_change.specs.declared.change.Change.{Change}
+use Rattle.cs_change.specs.OneChange.{Change}
 use Rattle.cs_change.specs.declared.change.Change.TheVariants.{Insert, Delete, Update}
 use Rattle.cs_normal.specs.Changes.{IsSpelled}
 use Rattle.cs_normal.specs.Laws.{SetColumnsFit}
-use Rattle.cs_group.proofs.MergeLaws.{by_test}
+use Rattle.cs_group.proofs.Lookups.{by_test}
 
 -- the values of a change have spellings
 abbrev pub AreInRange : Action → Type 0
@@ -59,7 +59,7 @@ new_fits : (o1 n1 o2 n2 : Field) → Fits n1 → Fits n2 → Fits (then_column o
 new_fits o1 n1 o2 n2 h k =
     by_test (is_idle (overlay_field o2 o1) (overlay_field n1 n2)) _ (λ e. simp e tt) (λ e. simp e (overlay_fits n1 n2 h k))
 
-olds_fit : (o1 n1 o2 n2 : List Field) → AllByRecursion Fits o1 → AllByRecursion Fits o2 → AllByRecursion Fits (then_old_fields o1 n1 o2 n2)
+pub olds_fit : (o1 n1 o2 n2 : List Field) → AllByRecursion Fits o1 → AllByRecursion Fits o2 → AllByRecursion Fits (then_old_fields o1 n1 o2 n2)
 unfolding then_old_fields
 olds_fit (a ∷ o1) (b ∷ n1) (c ∷ o2) (d ∷ n2) h k = (old_fits a b c d h.0 k.0, olds_fit o1 n1 o2 n2 h.1 k.1)
 olds_fit [] n1 o2 n2 h k = tt
@@ -67,7 +67,7 @@ olds_fit (a ∷ o1) [] o2 n2 h k = tt
 olds_fit (a ∷ o1) (b ∷ n1) [] n2 h k = tt
 olds_fit (a ∷ o1) (b ∷ n1) (c ∷ o2) [] h k = tt
 
-news_fit : (o1 n1 o2 n2 : List Field) → AllByRecursion Fits n1 → AllByRecursion Fits n2 → AllByRecursion Fits (then_new_fields o1 n1 o2 n2)
+pub news_fit : (o1 n1 o2 n2 : List Field) → AllByRecursion Fits n1 → AllByRecursion Fits n2 → AllByRecursion Fits (then_new_fields o1 n1 o2 n2)
 unfolding then_new_fields
 news_fit (a ∷ o1) (b ∷ n1) (c ∷ o2) (d ∷ n2) h k = (new_fits a b c d h.0 k.0, news_fit o1 n1 o2 n2 h.1 k.1)
 news_fit [] n1 o2 n2 h k = tt
@@ -82,14 +82,14 @@ old_column_fits false b x h = by_test (same_value b x) _ (λ e. simp e tt) (λ e
 new_column_fits : (b x : Value) → Fits (Is x) → Fits (new_field b x)
 new_column_fits b x h = by_test (same_value b x) _ (λ e. simp e tt) (λ e. simp e h)
 
-net_olds_fit : (marks : List Bool) (old new : List Value) → IsSpelled old → AllByRecursion Fits (old_record marks old new)
+pub net_olds_fit : (marks : List Bool) (old new : List Value) → IsSpelled old → AllByRecursion Fits (old_record marks old new)
 unfolding old_record
 net_olds_fit (m ∷ marks) (b ∷ old) (x ∷ new) h = (old_column_fits m b x h.0, net_olds_fit marks old new h.1)
 net_olds_fit [] old new h = tt
 net_olds_fit (m ∷ marks) [] new h = tt
 net_olds_fit (m ∷ marks) (b ∷ old) [] h = tt
 
-net_news_fit : (old new : List Value) → IsSpelled new → AllByRecursion Fits (new_record old new)
+pub net_news_fit : (old new : List Value) → IsSpelled new → AllByRecursion Fits (new_record old new)
 unfolding new_record
 net_news_fit (b ∷ old) (x ∷ new) h = (new_column_fits b x h.0, net_news_fit old new h.1)
 net_news_fit [] new h = tt
@@ -111,14 +111,14 @@ then_in_range law marks (Deletes old) (Deletes row) h k = h
 
 -- ---- taken back
 
-back_olds_fit : (old new : List Field) → AllByRecursion Fits old → AllByRecursion Fits new → AllByRecursion Fits (inverse_old_fields old new)
+pub back_olds_fit : (old new : List Field) → AllByRecursion Fits old → AllByRecursion Fits new → AllByRecursion Fits (inverse_old_fields old new)
 unfolding inverse_old_fields
 back_olds_fit [] new h k = tt
 back_olds_fit (o ∷ old) [] h k = tt
 back_olds_fit (o ∷ old) (Undefined ∷ new) h k = (h.0, back_olds_fit old new h.1 k.1)
 back_olds_fit (o ∷ old) (Is v ∷ new) h k = (k.0, back_olds_fit old new h.1 k.1)
 
-back_news_fit : (old new : List Field) → AllByRecursion Fits old → AllByRecursion Fits (inverse_new_fields old new)
+pub back_news_fit : (old new : List Field) → AllByRecursion Fits old → AllByRecursion Fits (inverse_new_fields old new)
 unfolding inverse_new_fields
 back_news_fit [] new h = tt
 back_news_fit (o ∷ old) [] h = tt

@@ -1,8 +1,8 @@
 -- The inverse of a changeset in normal form is in normal form, leads back, and has it as its inverse.
-use Rattle.std.proofs.Common.{◌≡◌, ◌≢◌, ℕ, Bool, true, false, List, [], ◌∷◌, Option, Some, None, cond, refl, sym, ap, subst, ◌∙◌, inl, inr}
+use Rattle.std.proofs.Common.{◌≡◌, ◌≢◌, ℕ, Bool, true, false, List, [], ◌∷◌, Option, Some, None, cond, map, refl, sym, ap, subst, ◌∙◌, inl, inr}
 use Rattle.std.specs.List.{AllByRecursion}
 use Rattle.std.specs.Str.{bytes_eq}
-use Rattle.std.specs.Map.{keys_of}
+use Rattle.std.specs.Map.{keys_of, values_of}
 use Rattle.std.proofs.lemmas.List.Elements.{All-from_recursion, recursion_from_All}
 use Rattle.cs_value.specs.declared.catalog.TableDef.{TableDef}
 use Rattle.cs_value.specs.declared.value.Value.{Value}
@@ -13,11 +13,12 @@ use Rattle.cs_change.specs.Columns.{is_blank}
 use Rattle.cs_change.specs.Normal.{IsNormal, NormalUpdate, no_column, key_column, unmodified, modified}
 use Rattle.cs_change.specs.Spelling.{FitsChange}
 use Rattle.cs_change.specs.Then.{inverse, inverse_any, inverse_old_fields, inverse_new_fields}
-use Rattle.cs_change.specs.declared.change.Change.{Change}
+use Rattle.cs_change.specs.OneChange.{Change}
 use Rattle.cs_change.specs.declared.change.Change.TheVariants.{Insert, Delete, Update}
 use Rattle.cs_normal.specs.Changes.{Changes, same_bytes, change_at, IsOrdered, IsEntry, AreNormal}
+use Rattle.cs_normal.specs.Keyed.{beside}
 use Rattle.cs_normal.specs.Normal.{FitsCatalog, IsNormalChangeset, change_of, changes_in}
-use Rattle.cs_normal.specs.declared.normal.TableChanges.{TableChanges}
+use Rattle.cs_normal.specs.OneTable.{TableChanges}
 use Rattle.cs_group.specs.Inverse.{inverse_change, inverse_changes, inverse_changeset, InverseTwice}
 use Rattle.cs_group.proofs.InRange.{AreInRange, in_range, normal_fits, inverse_in_range}
 
@@ -79,6 +80,11 @@ back_fits marks key change n f =
 same_keys : (changes : Changes) → keys_of (inverse_changes changes) ≡ keys_of changes
 same_keys [] = refl
 same_keys (c ∷ changes) = ap (λ (t : List (List ℕ)). c.0 ∷ t) (same_keys changes)
+
+-- the keys beside the inverse changes
+pub beside_inverse : (changes : Changes) → beside (keys_of changes) (map inverse_change (values_of changes)) ≡ inverse_changes changes
+beside_inverse [] = refl
+beside_inverse (c ∷ changes) = ap (λ (t : Changes). (c.0, inverse_change c.1) ∷ t) (beside_inverse changes)
 
 inverse_ordered : (changes : Changes) → IsOrdered changes → IsOrdered (inverse_changes changes)
 inverse_ordered changes o = rw (same_keys changes) o

@@ -5,9 +5,9 @@ use Rattle.std.specs.List.{AllByRecursion}
 use Rattle.std.proofs.lemmas.Cmp.{nat_list_cmp_total}
 use Rattle.std.proofs.lemmas.List.Elements.{All-from_recursion}
 use Rattle.std.proofs.lemmas.Map.Keys.{sorted_head, sorted_tail}
-use Rattle.cs_change.specs.declared.change.Change.{Change}
+use Rattle.cs_change.specs.OneChange.{Change}
 use Rattle.cs_normal.specs.Changes.{Changes, by_bytes, same_bytes, change_at, IsOrdered, IsEntry, AreNormal}
-use Rattle.cs_group.proofs.MergeLaws.{by_test, same_is, none_at}
+use Rattle.cs_group.proofs.Lookups.{by_test, same_is, none_at}
 
 -- each change is normal beside the bytes at which it is found
 abbrev pub HoldsEntries : List Bool → Changes → Type 0

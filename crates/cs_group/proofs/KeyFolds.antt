@@ -1,28 +1,26 @@
 -- The fold over the places of a key is the fold over the changes of the key, changeset by changeset.
-use Rattle.std.proofs.Common.{◌≡◌, ℕ, ◌+◌, ◌<◌, ◌≤◌, get_or, ⊎_elim, Bool, true, false, cond, List, [], ◌∷◌, ◌++◌, length, refl, sym, ap, ◌∙◌, subst, arith, append_assoc, length-append, Option, Some, None, fold}
-use Rattle.std.specs.Prelude.{if◌then◌else◌}
+use Rattle.std.proofs.Common.{◌≡◌, ℕ, ◌+◌, Bool, true, false, cond, List, [], ◌∷◌, ◌++◌, length, refl, sym, ap, ◌∙◌, subst, arith, append_assoc, length-append, Option, Some, None, fold}
+use Rattle.std.specs.Prelude.{slice_get, if◌then◌else◌}
 use Rattle.std.specs.List.{AllByRecursion, IsDistinct, filter, flat_map, range_with_len}
-use Rattle.std.specs.Borrow.{Bor}
-use Rattle.std.specs.Map.{keys_of}
-use Rattle.std.proofs.lemmas.List.{length-map, get_or-map}
-use Rattle.std.proofs.lemmas.Option.{slice_get-get_or, slice_get_cases}
+use Rattle.std.specs.Map.{keys_of, values_of}
+use Rattle.std.proofs.lemmas.List.{length-map}
 use Rattle.std.proofs.lemmas.List.Elements.{recursion_from_All}
 use Rattle.std.proofs.lemmas.Map.Keys.{IsDistinct-from_sorted}
-use Rattle.cs_order.specs.Order.{by_bytes, same_bytes, key_at}
+use Rattle.cs_order.specs.Order.{Keys, by_bytes, same_bytes, key_at}
 use Rattle.cs_order.specs.Groups.{has_bytes, places_of, IsGrouping}
-use Rattle.cs_change.specs.declared.change.Change.{Change}
+use Rattle.cs_change.specs.OneChange.{Change}
 use Rattle.cs_normal.specs.Changes.{Changes, change_at, IsEntry, AreNormal}
 use Rattle.cs_normal.specs.Normal.{changes_in}
-use Rattle.cs_normal.specs.declared.normal.TableChanges.{TableChanges}
+use Rattle.cs_normal.specs.OneTable.{TableChanges}
 use Rattle.cs_group.specs.Combine.{then_change_any}
-use Rattle.cs_group.specs.Steps.Joining.{change_if, changes_behind, change_there, fold_places, fold_key, entry_left, in_a_row}
+use Rattle.cs_group.specs.Steps.Joining.{fold_places, fold_key, entry_left, in_a_row}
 use Rattle.cs_group.specs.Tables.{changes_along, then_change_all}
 use Rattle.cs_group.proofs.Entries.{IsEntryIfAny, PairLaws, pair_entry}
 use Rattle.cs_group.proofs.GroupFolds.{by_bool, is_folded}
 use Rattle.cs_group.proofs.Joined.{ready_normal}
-use Rattle.cs_group.proofs.MergeLaws.{same_is}
+use Rattle.cs_group.proofs.Lookups.{same_is}
 
-there_seam : (before : Changes) (e : List ℕ × Change) (rest : Changes) → change_there (before ++ e ∷ rest) (length before) ≡ Some e.1
+there_seam : (before : Changes) (e : List ℕ × Change) (rest : Changes) → slice_get (values_of (before ++ e ∷ rest)) (length before) ≡ Some e.1
 there_seam [] e rest = refl
 there_seam (b ∷ before) e rest = there_seam before e rest
 
@@ -32,23 +30,23 @@ key_seam (b ∷ before) e rest = key_seam before e rest
 
 -- from a place on
 along : (marks : List Bool) (key : List ℕ) (all before rest : Changes) (so_far : Option Change) (at : ℕ) → all ≡ before ++ rest → at ≡ length before
-    → fold_places marks all so_far (filter (has_bytes (keys_of all) key) (range_with_len at (length rest))) ≡ fold_key marks key so_far rest
+    → fold_places marks (values_of all) so_far (filter (has_bytes (keys_of all) key) (range_with_len at (length rest))) ≡ fold_key marks key so_far rest
 along marks key all before [] so_far at is here = refl
 along marks key all before (e ∷ rest) so_far at is here =
     let keys = keys_of all in
-    let found : change_there all at ≡ Some e.1 = rw (is, here) (there_seam before e rest) in
+    let found : slice_get (values_of all) at ≡ Some e.1 = rw (is, here) (there_seam before e rest) in
     let is_key : key_at keys at ≡ e.0 = rw (is, here) (key_seam before e rest) in
     let more : all ≡ (before ++ e ∷ []) ++ rest = is ∙ sym (append_assoc before (e ∷ []) rest) in
     let next : at + 1 ≡ length (before ++ e ∷ []) = omega (arith, here, length-append before (e ∷ [])) in
     let others = filter (has_bytes keys key) (range_with_len (at + 1) (length rest)) in
-    let open_left : (b : Bool) → has_bytes keys key at ≡ b → fold_places marks all so_far (filter (has_bytes keys key) (range_with_len at (length (e ∷ rest)))) ≡ fold_places marks all so_far (cond b (at ∷ others) others) =
-    λ b h. ap (λ (t : Bool). fold_places marks all so_far (cond t (at ∷ others) others)) h in
+    let open_left : (b : Bool) → has_bytes keys key at ≡ b → fold_places marks (values_of all) so_far (filter (has_bytes keys key) (range_with_len at (length (e ∷ rest)))) ≡ fold_places marks (values_of all) so_far (cond b (at ∷ others) others) =
+    λ b h. ap (λ (t : Bool). fold_places marks (values_of all) so_far (cond t (at ∷ others) others)) h in
     let open_right : (b : Bool) → same_bytes key e.0 ≡ b → fold_key marks key (cond b (then_change_any marks so_far (Some e.1)) so_far) rest ≡ fold_key marks key so_far (e ∷ rest) =
     λ b h. ap (λ (t : Bool). fold_key marks key (cond t (then_change_any marks so_far (Some e.1)) so_far) rest) (sym h) in
     by_bool (same_bytes key e.0)
     (λ h.
     open_left true (ap (λ (k : List ℕ). same_bytes key k) is_key ∙ h)
-    ∙ ap (λ (o : Option Change). fold_places marks all (then_change_any marks so_far o) others) found
+    ∙ ap (λ (o : Option Change). fold_places marks (values_of all) (then_change_any marks so_far o) others) found
     ∙ along marks key all (before ++ e ∷ []) rest (then_change_any marks so_far (Some e.1)) (at + 1) more next
     ∙ open_right true h)
     (λ h.
@@ -56,22 +54,9 @@ along marks key all before (e ∷ rest) so_far at is here =
     ∙ along marks key all (before ++ e ∷ []) rest so_far (at + 1) more next
     ∙ open_right false h)
 
-by_places : (marks : List Bool) (key : List ℕ) (es : Changes) → fold_places marks es None (places_of (keys_of es) key) ≡ fold_key marks key None es
+by_places : (marks : List Bool) (key : List ℕ) (es : Changes) → fold_places marks (values_of es) None (places_of (keys_of es) key) ≡ fold_key marks key None es
 by_places marks key es =
-    ap (λ (n : ℕ). fold_places marks es None (filter (has_bytes (keys_of es) key) (range_with_len 0 n))) (length-map es (λ (e : List ℕ × Change). e.0)) ∙ along marks key es [] es None 0 refl refl
-
--- ---- what stands at a place
-
-pub there_is : (lent : List (Bor (List ℕ × Change))) (place : ℕ) (entry : Bor (List ℕ × Change)) → place < length lent → change_there (changes_behind lent) place ≡ Some (get_or lent place entry).now.1
-there_is lent place entry within =
-    let seen = λ (e : Bor (List ℕ × Change)). e.now in
-    let n = length-map lent seen in
-    ap change_if (slice_get-get_or (changes_behind lent) place entry.now (omega (arith, within, n)) ∙ ap Some (get_or-map seen lent place entry entry.now within))
-
-pub none_there : (lent : List (Bor (List ℕ × Change))) (place : ℕ) → length lent ≤ place → change_there (changes_behind lent) place ≡ None
-none_there lent place past =
-    let n = length-map lent (λ (e : Bor (List ℕ × Change)). e.now) in
-    ⊎_elim (λ there. absurd (omega (arith, there.1, n, past))) (λ missing. ap change_if missing.1) (slice_get_cases (changes_behind lent) place).1
+    ap (λ (n : ℕ). fold_places marks (values_of es) None (filter (has_bytes (keys_of es) key) (range_with_len 0 n))) (length-map es (λ (e : List ℕ × Change). e.0)) ∙ along marks key es [] es None 0 refl refl
 
 -- ---- a list that has each key once
 
@@ -143,13 +128,16 @@ all_entries marks name (first ∷ rest) all =
 entry_is : (marks : List Bool) (key : List ℕ) (o : Option Change) (c : Change) → IsEntryIfAny marks key o → o ≡ Some c → IsEntry marks (key, c)
 entry_is marks key o c h is = let h' = subst (IsEntryIfAny marks key) is h in h'
 
-pub join_of : PairLaws → (marks : List Bool) (name : List ℕ) (list : List (List TableChanges)) (es : Changes) (groups : List (List ℕ)) (joined : Changes)
-    → AllByRecursion (λ normal. AreNormal marks (changes_in name normal)) list → es ≡ in_a_row name list → IsGrouping (keys_of es) groups → joined ≡ flat_map (entry_left marks es) groups
+pub join_of : PairLaws → (marks : List Bool) (name : List ℕ) (list : List (List TableChanges)) (keys : Keys) (changes : List Change) (groups : List (List ℕ)) (joined : Changes)
+    → AllByRecursion (λ normal. AreNormal marks (changes_in name normal)) list → keys ≡ keys_of (in_a_row name list) → changes ≡ values_of (in_a_row name list)
+    → IsGrouping keys groups → joined ≡ flat_map (entry_left marks keys changes) groups
     → AreNormal marks joined × ((key : List ℕ) → change_at key joined ≡ then_change_all marks (changes_along name key list))
-join_of law marks name list es groups joined all is g made =
-    let f = is_folded marks es groups joined g made in
-    let at : (key : List ℕ) → change_at key joined ≡ fold_key marks key None es = λ key. f.at_key key ∙ by_places marks key es in
-    let each : AllByRecursion (IsEntry marks) es = subst (AllByRecursion (IsEntry marks)) (sym is) (all_entries marks name list all) in (
+join_of law marks name list keys changes groups joined all keys_are changes_are g made =
+    let es = in_a_row name list in
+    let f = is_folded marks keys changes groups joined g made in
+    let at : (key : List ℕ) → change_at key joined ≡ fold_key marks key None es =
+    λ key. f.at_key key ∙ ap (λ (cs : List Change). fold_places marks cs None (places_of keys key)) changes_are ∙ ap (λ (ks : Keys). fold_places marks (values_of es) None (places_of ks key)) keys_are ∙ by_places marks key es in
+    let each : AllByRecursion (IsEntry marks) es = all_entries marks name list all in (
       ready_normal marks joined (f.ordered, λ key c here. entry_is marks key (fold_key marks key None es) c (fold_entry law marks key None es tt each) (sym (at key) ∙ here)),
-      λ key. at key ∙ ap (fold_key marks key None) is ∙ list_by_list marks name key None list all,
+      λ key. at key ∙ list_by_list marks name key None list all,
     )

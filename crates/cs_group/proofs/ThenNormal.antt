@@ -11,7 +11,7 @@ use Rattle.cs_change.specs.Laws.{NetTakes}
 use Rattle.cs_change.specs.Normal.{IsNormal, IsNormalIfAny, NormalUpdate, no_column, key_column, unmodified, modified}
 use Rattle.cs_change.specs.Then.{then_one, then_old_fields, then_new_fields, is_idle}
 use Rattle.cs_group.specs.ThenNormal.{ThenIsNormal}
-use Rattle.cs_group.proofs.MergeLaws.{by_test}
+use Rattle.cs_group.proofs.Lookups.{by_test}
 
 conjoin : {A : Type 0} {a a' : A} {r r' : List A} → a ≡ a' → r ≡ r' → a ∷ r ≡ a' ∷ r'
 conjoin e f = cc

@@ -1,4 +1,3 @@
 -- What the code holds on its way: no definition that a public clause cites.
 pub mod Joining
-pub mod Merges
 pub mod TableByTable

@@ -4,8 +4,7 @@ use Rattle.cs_value.specs.declared.catalog.TableDef.{TableDef}
 use Rattle.cs_normal.specs.Changes.{Changes, AreNormal}
 use Rattle.cs_normal.specs.Normal.{IsNormalChangeset, changes_in}
 use Rattle.cs_normal.specs.Steps.TableByTable.{table_changes}
-use Rattle.cs_normal.specs.declared.normal.TableChanges.{TableChanges}
-use Rattle.cs_group.specs.Combine.{IsThen}
+use Rattle.cs_normal.specs.OneTable.{TableChanges}
 use Rattle.cs_group.specs.Tables.{IsJoinOf}
 
 -- each table with its changes, where it has some
@@ -20,12 +19,6 @@ HasNormal changes table = AreNormal table.key_marks (changes_in table.name chang
 -- the same, of a changeset in normal form
 abbrev pub FitsTable : TableDef → List TableChanges → Type 0
 FitsTable table changes = IsNormalChangeset changes → HasNormal changes table
-
--- the table's changes of both, taken together; its name is a text
-pub record IsThenOf (earlier later : List TableChanges) (table : TableDef) (both : Changes) : Type 0 where
-  pub normal : AreNormal table.key_marks both
-  pub then : IsThen table.key_marks (changes_in table.name earlier) (changes_in table.name later) both
-  pub text : IsUtf8 table.name
 
 -- the table's changes of all, taken together; its name is a text
 pub record IsNormalJoinOf (list : List (List TableChanges)) (table : TableDef) (joined : Changes) : Type 0 where

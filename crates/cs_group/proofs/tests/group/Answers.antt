@@ -4,7 +4,7 @@ use Rattle.std.specs.List.{AllByRecursion}
 use Rattle.std.specs.Str.{IsUtf8}
 use Rattle.std.proofs.lemmas.Bool.Decides.{Decides-eqb}
 use Rattle.cs_change.specs.Spelling.{is_nonzero, FitsHeader}
-use Rattle.cs_group.proofs.MergeLaws.{by_test}
+use Rattle.cs_group.proofs.Lookups.{by_test}
 use Rattle.cs_group.proofs.tests.group.Goals as goal
 
 is_set_mark : (mark : ℕ) → (mark ≡ 0 → ⊥) → is_nonzero mark ≡ true

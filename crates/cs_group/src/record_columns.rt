@@ -1,0 +1,227 @@
+//! The columns of two records or rows taken together, appended in their bytes.
+
+ghost use Rattle.std.specs.Prelude.{◌≡◌, ◌++◌, IfOk, OnOk, not};
+ghost use Rattle.cs_record.specs.Spelling.{field, record_of, row_bytes};
+ghost use Rattle.cs_change.specs.Columns.{is_blank, is_defined, overlay_field, set_columns};
+ghost use Rattle.cs_change.specs.Net.{old_record, new_record};
+ghost use Rattle.cs_change.specs.Then.{is_idle, inverse_old, inverse_new, inverse_old_fields, inverse_new_fields, then_old_fields, then_new_fields};
+
+use cs_record::{Cell, Column, Record, Row};
+use cs_value::Memory;
+
+/// The byte of an undefined field.
+const UNDEFINED: u8 = 0;
+
+/// The second field where it is defined, else the first.
+#[inline(always)]
+fn overlaid<'b, 'a>(under: &'b Column<'a>, over: &'b Column<'a>) -> &'b Column<'a>
+    ensures { result.now ≡ overlay_field under.now over.now }
+{
+    match Cell::of_column(over) {
+        None => under,
+        Some(_) => over,
+    }
+}
+
+/// Whether a column's new value is its old one.
+#[inline(always)]
+#[tactic(auto, unfolding(cs_change::specs::Then::is_idle, cs_change::specs::Columns::holds))]
+fn keeps_value(old: &Column<'_>, new: &Column<'_>) -> bool
+    ensures { result ≡ is_idle old.now new.now }
+{
+    match (Cell::of_column(new), Cell::of_column(old)) {
+        (None, _) => false,
+        (Some(_), None) => false,
+        (Some(value), Some(before)) => before.same(&value),
+    }
+}
+
+/// Whether the field is defined.
+#[inline(always)]
+fn defined(column: &Column<'_>) -> bool
+    ensures { result ≡ is_defined column.now }
+{
+    Cell::of_column(column).is_some()
+}
+
+/// Appends the two records of two updates taken together, and tells whether a column is left that they modify.
+#[tactic(auto, unfolding(cs_change::specs::Then::then_old_fields, cs_change::specs::Then::then_new_fields, cs_change::specs::Columns::is_blank))]
+pub(crate) fn put_then_columns(
+    old_earlier: &Record<'_>,
+    new_earlier: &Record<'_>,
+    old_later: &Record<'_>,
+    new_later: &Record<'_>,
+    olds: &mut Vec<u8>,
+    news: &mut Vec<u8>,
+) -> Result<bool, Memory>
+    ensures olds { IfOk result (λ left. olds.new.items
+        ≡ olds.old.items ++ record_of (then_old_fields old_earlier.now new_earlier.now old_later.now new_later.now)) }
+    ensures news { IfOk result (λ left. news.new.items
+        ≡ news.old.items ++ record_of (then_new_fields old_earlier.now new_earlier.now old_later.now new_later.now)) }
+    ensures left { IfOk result (λ left. not left
+        ≡ is_blank (then_new_fields old_earlier.now new_earlier.now old_later.now new_later.now)) }
+{
+    let mut left = false;
+    let mut old_earlier = old_earlier.again();
+    let mut new_earlier = new_earlier.again();
+    let mut old_later = old_later.again();
+    let mut new_later = new_later.again();
+    while let (Some((o1, os1)), Some((n1, ns1)), Some((o2, os2)), Some((n2, ns2))) = (
+        old_earlier.split_first(),
+        new_earlier.split_first(),
+        old_later.split_first(),
+        new_later.split_first(),
+    ) {
+        let old = overlaid(&o2, &o1);
+        let new = overlaid(&n1, &n2);
+        if keeps_value(old, new) {
+            olds.push(UNDEFINED)?;
+            news.push(UNDEFINED)?;
+        } else {
+            old.append(olds)?;
+            new.append(news)?;
+            left = left || defined(new);
+        }
+        old_earlier = os1;
+        new_earlier = ns1;
+        old_later = os2;
+        new_later = ns2;
+    }
+    Ok(left)
+}
+
+/// Appends the row with the new fields in it.
+#[tactic(auto, unfolding(cs_change::specs::Columns::set_columns))]
+pub(crate) fn put_set_columns(
+    new: &Record<'_>,
+    row: &Row<'_>,
+    out: &mut Vec<u8>,
+) -> Result<(), Memory>
+    ensures { OnOk result (out.new.items ≡ out.old.items ++ row_bytes (set_columns new.now row.now)) }
+{
+    let mut new = new.again();
+    let mut row = row.again();
+    while let (Some((field, more_new)), Some((value, more_row))) = (
+        new.split_first(),
+        row.split_first(),
+    ) {
+        match Cell::of_column(&field) {
+            Some(cell) => cell.append(out)?,
+            None => value.append(out)?,
+        }
+        new = more_new;
+        row = more_row;
+    }
+    row.append(out)
+}
+
+/// Appends the new record of the update from one row to another.
+#[tactic(auto, unfolding(cs_change::specs::Net::new_record))]
+fn put_new_columns(before: &Row<'_>, after: &Row<'_>, news: &mut Vec<u8>) -> Result<(), Memory>
+    ensures { OnOk result (news.new.items ≡ news.old.items ++ record_of (new_record before.now after.now)) }
+{
+    let mut before = before.again();
+    let mut after = after.again();
+    while let (Some((old, more_before)), Some((new, more_after))) = (
+        before.split_first(),
+        after.split_first(),
+    ) {
+        if old.same(&new) {
+            news.push(UNDEFINED)?;
+        } else {
+            new.append(news)?;
+        }
+        before = more_before;
+        after = more_after;
+    }
+    Ok(())
+}
+
+/// Appends the two records of the update from one row to another.
+#[tactic(auto, unfolding(cs_change::specs::Net::old_record, cs_change::specs::Net::new_record))]
+pub(crate) fn put_net_columns(
+    marks: &[bool],
+    before: &Row<'_>,
+    after: &Row<'_>,
+    olds: &mut Vec<u8>,
+    news: &mut Vec<u8>,
+) -> Result<(), Memory>
+    ensures olds { OnOk result (olds.new.items
+        ≡ olds.old.items ++ record_of (old_record marks.now before.now after.now)) }
+    ensures news { OnOk result (news.new.items
+        ≡ news.old.items ++ record_of (new_record before.now after.now)) }
+{
+    let mut marks = marks;
+    let mut before = before.again();
+    let mut after = after.again();
+    while let (Some((in_key, more_marks)), Some((old, more_before)), Some((new, more_after))) = (
+        marks.split_first(),
+        before.split_first(),
+        after.split_first(),
+    ) {
+        let same = old.same(&new);
+        if *in_key || !same {
+            old.append(olds)?;
+        } else {
+            olds.push(UNDEFINED)?;
+        }
+        if same {
+            news.push(UNDEFINED)?;
+        } else {
+            new.append(news)?;
+        }
+        marks = more_marks;
+        before = more_before;
+        after = more_after;
+    }
+    // Where the marks end before the rows.
+    put_new_columns(&before, &after, news)
+}
+
+/// Appends a column of the inverse's old record.
+#[inline(always)]
+fn put_inverse_old(old: &Column<'_>, new: &Column<'_>, olds: &mut Vec<u8>) -> Result<(), Memory>
+    ensures { OnOk result (olds.new.items ≡ olds.old.items ++ field (inverse_old old.now new.now)) }
+{
+    match Cell::of_column(new) {
+        None => old.append(olds),
+        Some(_) => new.append(olds),
+    }
+}
+
+/// Appends a column of the inverse's new record.
+#[inline(always)]
+fn put_inverse_new(old: &Column<'_>, new: &Column<'_>, news: &mut Vec<u8>) -> Result<(), Memory>
+    ensures { OnOk result (news.new.items ≡ news.old.items ++ field (inverse_new old.now new.now)) }
+{
+    match Cell::of_column(new) {
+        None => news.push(UNDEFINED)?,
+        Some(_) => old.append(news)?,
+    }
+    Ok(())
+}
+
+/// Appends the two records of the update that takes one back.
+#[tactic(auto, unfolding(cs_change::specs::Then::inverse_old_fields, cs_change::specs::Then::inverse_new_fields))]
+pub(crate) fn put_inverse_columns(
+    old: &Record<'_>,
+    new: &Record<'_>,
+    olds: &mut Vec<u8>,
+    news: &mut Vec<u8>,
+) -> Result<(), Memory>
+    ensures olds { OnOk result (olds.new.items ≡ olds.old.items ++ record_of (inverse_old_fields old.now new.now)) }
+    ensures news { OnOk result (news.new.items ≡ news.old.items ++ record_of (inverse_new_fields old.now new.now)) }
+{
+    let mut old = old.again();
+    let mut new = new.again();
+    while let (Some((was, more_old)), Some((is, more_new))) = (
+        old.split_first(),
+        new.split_first(),
+    ) {
+        put_inverse_old(&was, &is, olds)?;
+        put_inverse_new(&was, &is, news)?;
+        old = more_old;
+        new = more_new;
+    }
+    Ok(())
+}
