@@ -1,7 +1,7 @@
 -- Which row of the table of pushes decides.
 use Rattle.std.proofs.Common.{◌≡◌, ◌≢◌, ◌+◌, ◌<◌, List, [], length, inl, inr, Result, Ok, Err, refl, arith}
 use Rattle.std.proofs.lemmas.Option.{slice_get_within}
-use Rattle.cs_changeset.specs.declared.log.LogEntry.{LogEntry}
+use Rattle.cs_hub.specs.declared.log.LogEntry.{LogEntry}
 use Rattle.cs_hub.specs.Hub.{HubState, with_entry}
 use Rattle.cs_hub.specs.Pushes.{Push, Pushes, IsRepeat, CanFollow, Row, entry_of}
 use Rattle.cs_hub.specs.declared.hub.TheConstants.{MAX_ENTRIES}

@@ -7,6 +7,7 @@ pub mod OneAnswer
 pub mod OneHubRun
 pub mod OneService
 pub mod Reading
+pub mod Planned
 pub mod Served
 pub mod Sorted
 pub mod Updated

@@ -1,7 +1,7 @@
 -- A log with one entry more.
 use Rattle.std.proofs.Common.{◌≡◌, ◌⊎◌, inl, inr, ℕ, zero, suc, List, [], ◌∷◌, ◌++◌, take, Option, Some, None, slice_get, refl, sym, ap, subst, map, append_assoc}
 use Rattle.cs_value.specs.declared.catalog.TableDef.{TableDef}
-use Rattle.cs_changeset.specs.declared.log.LogEntry.{LogEntry}
+use Rattle.cs_hub.specs.declared.log.LogEntry.{LogEntry}
 use Rattle.std.specs.Option.{IsSome, unwrap_or}
 use Rattle.std.proofs.lemmas.List.{append-nil}
 use Rattle.std.proofs.lemmas.List.Sums.{fold-append}

@@ -1,7 +1,7 @@
 -- What a hub is seen as.
 use Rattle.std.specs.Prelude.{ℕ, List, [], ◌∷◌, ◌++◌, take, drop}
 use Rattle.cs_value.specs.declared.catalog.TableDef.{TableDef}
-use Rattle.cs_changeset.specs.declared.log.LogEntry.{LogEntry}
+use Rattle.cs_hub.specs.declared.log.LogEntry.{LogEntry}
 
 -- the tables that are synced, and the pushes that were taken
 pub record HubState : Type 0 where

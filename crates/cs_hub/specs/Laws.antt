@@ -1,6 +1,6 @@
 -- The laws of requests, pushes and what a hub answers.
 use Rattle.std.specs.Prelude.{◌≡◌, ℕ, List, map, Result}
-use Rattle.cs_changeset.specs.declared.log.LogEntry.{LogEntry}
+use Rattle.cs_hub.specs.declared.log.LogEntry.{LogEntry}
 use Rattle.cs_value.specs.Catalog.{AreTables}
 use Rattle.cs_value.specs.declared.catalog.TableDef.{TableDef}
 use Rattle.cs_normal.specs.State.{AreApplied}

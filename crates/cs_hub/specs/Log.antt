@@ -4,7 +4,7 @@ use Rattle.std.specs.List.{slice_get}
 use Rattle.cs_value.specs.declared.catalog.TableDef.{TableDef}
 use Rattle.cs_normal.specs.Normal.{IsNormalChangeset}
 use Rattle.cs_normal.specs.State.{IsDefinedOn}
-use Rattle.cs_changeset.specs.declared.log.LogEntry.{LogEntry}
+use Rattle.cs_hub.specs.declared.log.LogEntry.{LogEntry}
 use Rattle.cs_hub.specs.Tables.{entry_changes, state_of}
 
 -- an entry behind a log: a normal changeset with a change, of the catalog's tables, each of its changes defined at its

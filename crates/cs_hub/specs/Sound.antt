@@ -1,7 +1,7 @@
 -- What always holds of the hub's parts.
 use Rattle.std.specs.Prelude.{◌≡◌, ℕ, ◌<◌, ◌≤◌, ◌^◌, List, length, map, All}
 use Rattle.cs_value.specs.declared.catalog.TableDef.{TableDef}
-use Rattle.cs_changeset.specs.declared.log.LogEntry.{LogEntry}
+use Rattle.cs_hub.specs.declared.log.LogEntry.{LogEntry}
 use Rattle.cs_normal.specs.Normal.{normal_spelling}
 use Rattle.cs_hub.specs.Log.{IsLog}
 use Rattle.cs_hub.specs.Rows.{row_at}

@@ -5,7 +5,7 @@ ghost use Rattle.std.specs.List.{flat_map};
 ghost use Rattle.cs_hub.specs.Messages.{four_bytes, eight_bytes, entry_spelling, entries_spelling};
 ghost use Rattle.cs_hub.specs.Sound.{FitsMessage};
 
-use cs_changeset::{Body, LogEntry};
+use crate::log::{Body, LogEntry};
 use cs_value::Memory;
 use std::alloc::Global;
 

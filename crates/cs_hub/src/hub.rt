@@ -6,13 +6,14 @@ ghost use Rattle.cs_hub.specs.Pushes.{entry_of};
 use crate::answer::{Answer, SHORT, entries_answer};
 use crate::code;
 use crate::fault::HubFault;
+use crate::log::{Body, LogEntry};
 use crate::push::{PushHead, Pushed};
 use crate::request::Request;
 use crate::rows::KeyedRow;
 use crate::tables::Tables;
-use cs_change::Changeset;
-use cs_changeset::{Body, CodecFault, LogEntry, decode};
-use cs_normal::{Normal, Unfit, normalise};
+use cs_change::ChangesetRef;
+use cs_changeset::{CodecFault, read};
+use cs_normal::{NormalBuf, Unfit, normalise_buf};
 use cs_value::{Catalog, Memory, TableDef};
 use std::alloc::{AllocError, Global};
 use std::marker::Model;
@@ -45,7 +46,7 @@ impl Model for Hub {
 }
 
 /// Whether the entry is this push.
-fn is_push(entry: &LogEntry, head: PushHead, changes: &Normal) -> bool
+fn is_push(entry: &LogEntry, head: PushHead, changes: &NormalBuf) -> bool
     ensures { IsTrue result ↔ (entry.now ≡ entry_of (record { head = head; changes = changes.now })) }
 {
     let Body::Changes(kept) = &entry.body;
@@ -133,7 +134,7 @@ impl Hub {
     }
 
     /// The answer to a push whose base is below the newest version.
-    fn recall(&self, head: PushHead, changes: &Normal) -> Pushed
+    fn recall(&self, head: PushHead, changes: &NormalBuf) -> Pushed
         requires below { head.base < length self.now.log }
         requires some { changes.now ≢ [] }
         ensures { Pushes self.now (record { head = head; changes = changes.now }) (Ok result) self.now }
@@ -152,10 +153,10 @@ impl Hub {
     /// # Errors
     ///
     /// `Empty`, `Ahead`, `Full` and `Conflict` in these cases; `Memory` where memory was refused. Nothing has changed then.
-    pub fn push(&mut self, head: PushHead, changes: &Normal) -> Result<Pushed, HubFault>
-        requires fits { FitsCatalog self.old.catalog changes.now }
-        requires size { length (normal_spelling changes.now) ≤ MAX_CHANGESET }
-        ensures { PushesIf self.old (record { head = head; changes = changes.now }) result self.new }
+    pub fn push(&mut self, head: PushHead, changes: NormalBuf) -> Result<Pushed, HubFault>
+        requires fits { FitsCatalog self.old.catalog changes }
+        requires size { length (normal_spelling changes) ≤ MAX_CHANGESET }
+        ensures { PushesIf self.old (record { head = head; changes = changes }) result self.new }
     {
         if changes.tables().is_empty() {
             return Err(HubFault::Empty);
@@ -165,7 +166,7 @@ impl Hub {
             return Err(HubFault::Ahead);
         }
         if head.base < newest {
-            return Ok(self.recall(head, changes));
+            return Ok(self.recall(head, &changes));
         }
         if self.log.len() >= MAX_ENTRIES {
             return Err(HubFault::Full);
@@ -173,13 +174,12 @@ impl Hub {
         if !self.tables.stage(self.alloc, changes.tables())? {
             return Err(HubFault::Conflict);
         }
-        let body = Body::Changes(changes.copy(self.alloc)?);
         self.log.reserve(1)?;
         self.tables.commit();
         self.log.push_reserved(LogEntry {
             origin: head.origin,
             number: head.number,
-            body,
+            body: Body::Changes(changes),
         });
         Ok(Pushed::Accepted(head.base + 1))
     }
@@ -238,7 +238,7 @@ impl Hub {
         ensures ok { IfOk result (λ answer. AnswersChangeset self.old head changeset.now answer self.new) }
         ensures err { OnErr result (self.new ≡ self.old) }
     {
-        match decode(self.alloc, changeset) {
+        match read(self.alloc, changeset) {
             Ok(groups) => self.take_groups(head, &groups),
             Err(CodecFault::Memory) => Err(AllocError),
             Err(CodecFault::At { fault, .. }) => Ok(Answer::Refused(fault.code())),
@@ -246,25 +246,25 @@ impl Hub {
     }
 
     /// Takes a push whose changeset is yet to be brought into normal form.
-    fn take_groups(&mut self, head: PushHead, groups: &Changeset) -> Result<Answer, Memory>
+    fn take_groups(&mut self, head: PushHead, groups: &ChangesetRef<'_>) -> Result<Answer, Memory>
         requires fits { FitsChangeset groups.now }
         requires size { length (changeset_spelling groups.now) < 2 ^ 32 }
         ensures ok { IfOk result (λ answer. AnswersGroups self.old head groups.now answer self.new) }
         ensures err { OnErr result (self.new ≡ self.old) }
     {
-        match normalise(self.alloc, &self.catalog, groups) {
-            Ok(changes) => self.take(head, &changes),
+        match normalise_buf(self.alloc, &self.catalog, groups) {
+            Ok(changes) => self.take(head, changes),
             Err(Unfit::Memory) => Err(AllocError),
             Err(unfit) => Ok(Answer::Refused(code::of_unfit(unfit))),
         }
     }
 
     /// Takes a push, and tells what became of it.
-    fn take(&mut self, head: PushHead, changes: &Normal) -> Result<Answer, Memory>
-        requires fits { FitsCatalog self.old.catalog changes.now }
-        requires size { length (normal_spelling changes.now) < 2 ^ 32 }
+    fn take(&mut self, head: PushHead, changes: NormalBuf) -> Result<Answer, Memory>
+        requires fits { FitsCatalog self.old.catalog changes }
+        requires size { length (normal_spelling changes) < 2 ^ 32 }
         ensures ok { IfOk result (λ answer.
-            AnswersPush self.old (record { head = head; changes = changes.now }) answer self.new) }
+            AnswersPush self.old (record { head = head; changes = changes }) answer self.new) }
         ensures err { OnErr result (self.new ≡ self.old) }
     {
         match self.push(head, changes) {

@@ -2,13 +2,15 @@
 //! gives exactly the definition's answer to a push (`specs/Pushes.antt`), `Hub::rows` the rows that the log makes
 //! (`specs/Tables.antt`), and `Hub::serve` the answer to the bytes of a request (`specs/Serves.antt`); want of memory
 //! changes nothing. `laws::one_request` says that bytes ask one thing. The crate stands on changesets (`cs_changeset`), their
-//! normal forms (`cs_normal`) and what a change does at its place (`cs_change`). Requests and answers are private modules.
+//! normal forms (`cs_normal`), rows (`cs_record`) and what a change does at its place (`cs_change`).
+//! Requests and answers are private modules.
 #![tactic(auto)]
 
 mod answer;
 mod code;
 mod fault;
 mod hub;
+mod log;
 mod outcome;
 mod push;
 mod request;
@@ -19,6 +21,7 @@ mod tables;
 
 pub use fault::HubFault;
 pub use hub::{Hub, MAX_CHANGESET, MAX_ENTRIES};
+pub use log::{Body, LogEntry};
 pub use push::{PushHead, Pushed};
 
 pub mod laws;

@@ -4,12 +4,12 @@ ghost use Rattle.std.specs.Prelude.{◌≡◌, ◌+◌, ◌<◌, ◌≤◌, ℕ,
 ghost use Rattle.cs_normal.specs.Changes.{by_bytes, same_bytes};
 ghost use Rattle.cs_hub.specs.Rows.{IsInOrder, IsAt, IsGap, row_at};
 
-use cs_normal::Bytes;
-use cs_value::Row;
+use cs_change::Bytes;
+use cs_record::RowBuf;
 use std::cmp::Ordering;
 
 /// A row behind the bytes of its key.
-pub type KeyedRow = (Bytes, Row);
+pub type KeyedRow = (Bytes, RowBuf);
 
 /// Where the row of the key with these bytes is, or where it would go.
 pub(crate) fn find(rows: &[KeyedRow], key: &[u8]) -> Result<usize, usize>
@@ -25,7 +25,7 @@ pub(crate) fn find(rows: &[KeyedRow], key: &[u8]) -> Result<usize, usize>
 }
 
 /// Puts a row, or none, at a key. There is room for it.
-pub(crate) fn put(rows: &mut Vec<KeyedRow>, key: Bytes, row: Option<Row>)
+pub(crate) fn put(rows: &mut Vec<KeyedRow>, key: Bytes, row: Option<RowBuf>)
     requires ordered { IsInOrder rows.old.items }
     requires room { vec_len rows.old < vec_capacity rows.old }
     ensures ordered { IsInOrder rows.new.items }

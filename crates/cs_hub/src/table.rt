@@ -7,13 +7,15 @@ ghost use Rattle.cs_hub.specs.Staged.{outcomes};
 
 use crate::outcome::outcome;
 use crate::rows::{KeyedRow, put};
-use cs_normal::{Bytes, KeyedChange, TableChanges};
-use cs_value::{Items, Memory, Row, Text};
+use cs_change::Bytes;
+use cs_normal::{KeyedChanges, TableChanges, changes_of};
+use cs_record::RowBuf;
+use cs_value::{Items, Memory, Text};
 use std::alloc::Global;
 use std::marker::Model;
 
 /// What is to stand at a key, behind the key's bytes.
-pub(crate) type Write = (Bytes, Option<Row>);
+pub(crate) type Write = (Bytes, Option<RowBuf>);
 
 /// A table's rows, with room for the writes that are staged.
 #[derive(Drop)]
@@ -35,39 +37,24 @@ impl Model for Table {
     ghost invariant = { λ t. IsInOrder t.rows.items × (vec_len t.rows + vec_len t.staged ≤ vec_capacity t.rows) };
 }
 
-/// The changes of the table with this name.
-fn changes_in<'a>(name: &str, tables: &'a [TableChanges]) -> &'a [KeyedChange]
-    ensures { result.now ≡ changes_in name.now tables.now }
-{
-    let mut rest = tables;
-    while let Some((table, more)) = rest.split_first() {
-        if table.name.as_str() == name {
-            return table.changes.as_slice();
-        }
-        rest = more;
-    }
-    &[]
-}
-
 /// What each change leaves at its key; none where one is not defined there.
 #[tactic(auto, unfolding(crate::specs::Staged::outcomes))]
 fn plan(
     alloc: Global,
     rows: &[KeyedRow],
-    changes: &[KeyedChange],
+    changes: &KeyedChanges,
 ) -> Result<Option<Items<Write>>, Memory>
     requires { IsInOrder rows.now }
     ensures { IfOk result (λ writes. writes ≡ outcomes rows.now changes.now) }
 {
     let mut writes = Vec::with_capacity(alloc, changes.len())?;
-    let mut rest = changes;
-    while let Some((keyed, more)) = rest.split_first() {
-        let Some(left) = outcome(alloc, rows, keyed)? else {
+    let mut at = 0;
+    while let Some((key, change)) = changes.entry(at) {
+        let Some(left) = outcome(alloc, rows, key, &change)? else {
             return Ok(None);
         };
-        let key = Vec::from_slice(alloc, keyed.0.as_slice())?;
-        writes.push((Items::from_vec(key), left))?;
-        rest = more;
+        writes.push((Items::from_vec(Vec::from_slice(alloc, key)?), left))?;
+        at += 1;
     }
     Ok(Some(Items::from_vec(writes)))
 }
@@ -99,12 +86,19 @@ impl Table {
 
     /// Stages what the changes of this table leave, with room for it, and answers whether each is defined. What an
     /// earlier push left staged is dropped.
-    pub(crate) fn stage(&mut self, alloc: Global, changes: &[TableChanges]) -> Result<bool, Memory>
+    pub(crate) fn stage(
+        &mut self,
+        alloc: Global,
+        changes: &[TableChanges<KeyedChanges>],
+    ) -> Result<bool, Memory>
         ensures name { self.new.name ≡ self.old.name }
         ensures rows { self.new.rows ≡ self.old.rows }
         ensures staged { IfOk result (AnswersStage changes.now self.new) }
     {
-        let changes = changes_in(self.name.as_str(), changes);
+        let Some(changes) = changes_of(changes, self.name.as_str()) else {
+            self.staged.clear();
+            return Ok(true);
+        };
         let Some(writes) = plan(alloc, self.rows.as_slice(), changes)? else {
             return Ok(false);
         };

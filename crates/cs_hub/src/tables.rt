@@ -2,7 +2,7 @@
 
 use crate::rows::KeyedRow;
 use crate::table::Table;
-use cs_normal::TableChanges;
+use cs_normal::{KeyedChanges, TableChanges};
 use cs_value::{Memory, TableDef, Text};
 use std::alloc::Global;
 use std::marker::Model;
@@ -54,7 +54,11 @@ impl Tables {
     }
 
     /// Stages the changes of each table, and answers whether each change is defined at its place.
-    pub(crate) fn stage(&mut self, alloc: Global, changes: &[TableChanges]) -> Result<bool, Memory>
+    pub(crate) fn stage(
+        &mut self,
+        alloc: Global,
+        changes: &[TableChanges<KeyedChanges>],
+    ) -> Result<bool, Memory>
         ensures kept { KeepsRows self.old self.new }
         ensures staged { IfOk result (AnswersStages changes.now self.new) }
     {

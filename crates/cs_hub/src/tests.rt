@@ -1,7 +1,7 @@
 use super::*;
-use cs_changeset::decode;
-use cs_normal::normalise;
-use cs_value::{Catalog, Items, TableDef, Text, Value};
+use cs_changeset::read;
+use cs_normal::normalise_buf;
+use cs_value::{Catalog, Items, TableDef, Text};
 use std::alloc::Global;
 use std::process::Abort;
 use std::test::Fail;
@@ -77,18 +77,19 @@ fn a_push(rt: HostRuntime) -> Result<(), Fail> {
     let alloc = rt.alloc();
     let catalog = catalog_of_t1(alloc)?;
     let mut hub = Hub::new(alloc, &catalog)?;
-    let changes = normalise(alloc, &catalog, &decode(alloc, &INSERT)?)?;
+    let changes = normalise_buf(alloc, &catalog, &read(alloc, &INSERT)?)?;
     let head = PushHead {
         origin: 7,
         number: 1,
         base: 0,
     };
-    assert_eq!(rt; hub.push(head, &changes)?, Pushed::Accepted(1));
+    assert_eq!(rt; hub.push(head, changes)?, Pushed::Accepted(1));
     let rows = hub.rows(0);
     assert_eq!(rt; rows.len(), 1);
     let (key, row) = &rows[0];
     assert_eq!(rt; key.as_slice(), [1, 0, 0, 0, 0, 0, 0, 0, 1].as_slice());
-    assert!(rt; matches!(row.as_slice(), [Value::Int(1), Value::Text(_)]));
+    // The row stands at the end of the changeset.
+    assert_eq!(rt; row.as_row().bytes(), &INSERT[INSERT.len() - 13..]);
     let entries = hub.entries(0, 10)?;
     assert_eq!(rt; entries.len(), 1);
     assert_eq!(rt; entries[0].origin, 7);

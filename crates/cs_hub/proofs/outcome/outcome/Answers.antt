@@ -3,10 +3,8 @@ use Rattle.cs_hub.proofs.outcome.outcome.Goals as goal
 
 pub returns-in-Ok : goal.returns-in-Ok
 returns-in-Ok c =
-    let found = rw c.as_slice.ensures at c.in-Ok.ensures.found in
-    outcome_is _ _ _ _ (at_index _ _ _ c.index-rows-at.result c.requires found) c.on_row.ensures
+    outcome_is _ _ _ _ (at_index _ _ _ c.index-rows-at.result c.requires c.in-Ok.ensures.found) c.on_row.ensures
 
 pub returns-in-Err : goal.returns-in-Err
 returns-in-Err c =
-    let gap = rw c.as_slice.ensures at c.in-Err.ensures.absent in
-    outcome_is _ _ _ _ (row_absent _ _ _ c.requires gap) c.on_none.ensures
+    outcome_is _ _ _ _ (row_absent _ _ _ c.requires c.in-Err.ensures.absent) c.on_none.ensures

@@ -15,16 +15,13 @@ invariant_of-self c = sound_kept _ _ _ _ c.self.invariant c.stage.ensures.kept
 pub invariant_of-self-then-not-branch : goal.invariant_of-self-then-not-branch
 invariant_of-self-then-not-branch c = sound_kept _ _ _ _ c.self.invariant c.stage.ensures.kept
 
-pub invariant_of-self-in_err-copy : goal.invariant_of-self-in_err-copy
-invariant_of-self-in_err-copy c = sound_kept _ _ _ _ c.self.invariant c.stage.ensures.kept
-
 pub invariant_of-self-in_err-reserve : goal.invariant_of-self-in_err-reserve
 invariant_of-self-in_err-reserve c = rw c.reserve.ensures.items (sound_kept _ _ _ _ c.self.invariant c.stage.ensures.kept)
 
 -- a change was refused
 pub returns-then-not-branch : goal.returns-then-not-branch
 returns-then-not-branch c =
-    let push = push_of c.args.head c.args.changes.now in
+    let push = push_of c.args.head c.args.changes in
     let answer = answered _ _ _ _ false c.tables-2.ensures.same c.if-not-branch.true c.in_ok-stage.ensures.staged in
     let many : length c.self.inside.log.items ≡ length c.args.self.now.log = ap (λ (h : HubState). length h.log) c.self.view_is in
     let apart = undefined _ _ _ _ _ c.self.invariant c.stage.ensures.kept answer c.tables-2.ensures.normal in
@@ -37,10 +34,9 @@ pub invariant_of-self-2 : goal.invariant_of-self-2
 invariant_of-self-2 c =
     let answer = answered _ _ _ _ true c.tables-2.ensures.same c.if-not-branch.false c.in_ok-stage.ensures.staged in
     let catalog : c.self.inside.catalog ≡ c.args.self.now.catalog = ap (λ (h : HubState). h.catalog) c.self.view_is in
-    let same : c.in_ok-copy.field-0 ≡ c.args.changes.now = c.in_ok-copy.ensures in
     let fits = rw (← catalog) at c.requires.fits in
-    rw (c.push_reserved.ensures.items, c.reserve.ensures.items, same)
-    (sound_grown _ _ c.args.changes.now c.args.head _ _ _ c.self.invariant c.stage.ensures.kept answer c.commit.ensures
+    rw (c.push_reserved.ensures.items, c.reserve.ensures.items)
+    (sound_grown _ _ c.args.changes c.args.head _ _ _ c.self.invariant c.stage.ensures.kept answer c.commit.ensures
     (record {
       normal = c.tables-2.ensures.normal;
       some = search rules;
@@ -50,13 +46,12 @@ invariant_of-self-2 c =
 
 pub returns : goal.returns
 returns c =
-    let push = push_of c.args.head c.args.changes.now in
+    let push = push_of c.args.head c.args.changes in
     let answer = answered _ _ _ _ true c.tables-2.ensures.same c.if-not-branch.false c.in_ok-stage.ensures.staged in
     let catalog : c.self.inside.catalog ≡ c.args.self.now.catalog = ap (λ (h : HubState). h.catalog) c.self.view_is in
     let many : length c.self.inside.log.items ≡ length c.args.self.now.log = ap (λ (h : HubState). length h.log) c.self.view_is in
-    let same : c.in_ok-copy.field-0 ≡ c.args.changes.now = c.in_ok-copy.ensures in
     let on = defined _ _ _ _ _ c.self.invariant c.stage.ensures.kept answer (rw (← catalog) at c.requires.fits) in
     let taken = next c.args.self.now push (search rules) (omega (arith, c.self.inside.log.ok.0)) (omega (arith, c.self.inside.log.ok.0))
     (subst (λ (h : HubState). CanFollow h push) c.self.view_is on) in
-    rw (c.push_reserved.ensures.items, c.reserve.ensures.items, same)
+    rw (c.push_reserved.ensures.items, c.reserve.ensures.items)
     (subst (λ (h : HubState). Pushes c.args.self.now push (Ok (Accepted (c.args.head.base + 1))) (with_entry h (entry_of push))) (sym c.self.view_is) taken)
