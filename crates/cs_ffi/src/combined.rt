@@ -1,7 +1,7 @@
 //! Taking changesets together, and taking one back.
 
 ghost use Rattle.std.specs.Prelude.{◌≡◌, ◌≢◌, ◌↔◌, ◌+◌, ◌<◌, ◌^◌, ℕ, List, length, sum, IsTrue, IfErr, IsErrAnd};
-ghost use Rattle.cs_change.specs.declared.group.Group.{Group};
+ghost use Rattle.cs_change.specs.OneChange.{Group};
 ghost use Rattle.cs_changeset.specs.Reading.{IsChangesetFault};
 ghost use Rattle.cs_changeset.specs.declared.fault.Fault.{Fault};
 ghost use Rattle.cs_ffi.specs.Answers.{no_memory, Spell, TellsFault};
@@ -10,7 +10,7 @@ ghost use Rattle.cs_ffi.specs.CombinedAnswers.{AnswersCombined, AnswersInverse, 
 
 use crate::answer::Answer;
 use crate::reading::hand_over;
-use cs_changeset::{Changeset, CodecFault, decode};
+use cs_changeset::{ChangesetRef, CodecFault, read};
 use cs_group::{combine, invert, normalise_alone};
 use cs_normal::laws::no_fault_where_fit;
 use std::alloc::Global;
@@ -31,14 +31,14 @@ fn add_up(lengths: &[usize], total: usize) -> bool
 }
 
 /// The changeset that a part spells which begins at this offset of the inputs.
-fn read_part(alloc: Global, part: &[u8], at: usize) -> Result<Changeset, Answer>
+fn read_part(alloc: Global, part: &[u8], at: usize) -> Result<ChangesetRef<'_>, Answer>
     requires { at + length part.now < 2 ^ 64 }
     ensures reads { ReadsPart at part.now result }
     ensures only { (groups : List Group) → Spell part.now groups → FindsPart result groups }
     ensures told { (fault : Fault) (offset : ℕ) → IsChangesetFault fault offset part.now
         → IsErrAnd result (TellsFault fault (at + offset)) }
 {
-    match decode(alloc, part) {
+    match read(alloc, part) {
         Ok(changeset) => Ok(changeset),
         Err(CodecFault::Memory) => Err(Answer::no_memory()),
         Err(CodecFault::At { fault, offset }) => Err(Answer::refused(CodecFault::At {
@@ -49,7 +49,11 @@ fn read_part(alloc: Global, part: &[u8], at: usize) -> Result<Changeset, Answer>
 }
 
 /// The changesets that stand one after another in the inputs, each as long as its length says.
-fn read_all(alloc: Global, inputs: &[u8], lengths: &[usize]) -> Result<Vec<Changeset>, Answer>
+fn read_all<'a>(
+    alloc: Global,
+    inputs: &'a [u8],
+    lengths: &[usize],
+) -> Result<Vec<ChangesetRef<'a>>, Answer>
     requires { sum lengths.now ≡ length inputs.now }
     ensures reads { ReadsAll lengths.now inputs.now result }
     ensures only { (changesets : List (List Group)) → ArePartsOf lengths.now inputs.now changesets

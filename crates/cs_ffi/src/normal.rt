@@ -8,9 +8,9 @@ ghost use Rattle.cs_ffi.specs.NormalAnswers.{AnswersNormal, Declare, FindsTables
 
 use crate::answer::Answer;
 use crate::reading::hand_over;
-use cs_changeset::{Changeset, CodecFault, decode};
+use cs_changeset::{ChangesetRef, CodecFault, read};
 use cs_normal::laws::no_fault_where_fit;
-use cs_normal::{Unfit, catalog_of, normalise};
+use cs_normal::{Unfit, catalog_of_refs, normalise_buf};
 use cs_value::Catalog;
 use std::alloc::Global;
 use std::slice;
@@ -20,12 +20,12 @@ fn read_catalog(alloc: Global, declared: &[u8]) -> Result<Catalog, Answer>
     ensures reads { ReadsTables declared.now result }
     ensures only { (tables : List TableDef) → Declare declared.now tables → FindsTables result tables }
 {
-    let changeset = match decode(alloc, declared) {
+    let changeset = match read(alloc, declared) {
         Ok(changeset) => changeset,
         Err(CodecFault::Memory) => return Err(Answer::no_memory()),
         Err(CodecFault::At { .. }) => return Err(Answer::no_tables()),
     };
-    match catalog_of(alloc, slice::from_ref(&changeset)) {
+    match catalog_of_refs(alloc, slice::from_ref(&changeset)) {
         Ok(catalog) => {
             // That they are a catalog's tables, for the proof.
             let _ = catalog.tables();
@@ -36,11 +36,11 @@ fn read_catalog(alloc: Global, declared: &[u8]) -> Result<Catalog, Answer>
 }
 
 /// The spelling of the normal form of a changeset.
-fn spelled_form(alloc: Global, catalog: &Catalog, changeset: &Changeset) -> Result<Vec<u8>, Unfit>
+fn spelled_form(alloc: Global, catalog: &Catalog, changeset: &ChangesetRef<'_>) -> Result<Vec<u8>, Unfit>
     requires { FitsChangeset changeset.now }
     ensures { SpellsForm catalog.now changeset.now result }
 {
-    let normal = normalise(alloc, catalog, changeset)?;
+    let normal = normalise_buf(alloc, catalog, changeset)?;
     let mut bytes = Vec::new(alloc);
     normal.encode(&mut bytes)?;
     Ok(bytes)
@@ -54,7 +54,7 @@ fn normal_bytes(alloc: Global, declared: &[u8], input: &[u8]) -> Result<Vec<u8>,
     // What fits has no fault: a law, for the proof.
     no_fault_where_fit();
     let catalog = read_catalog(alloc, declared)?;
-    match decode(alloc, input) {
+    match read(alloc, input) {
         Ok(changeset) => match spelled_form(alloc, &catalog, &changeset) {
             Ok(bytes) => Ok(bytes),
             Err(fault) => Err(Answer::unfit(fault)),

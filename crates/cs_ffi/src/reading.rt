@@ -1,18 +1,18 @@
 //! Reading, and writing again.
 
-ghost use Rattle.std.specs.Prelude.{◌≡◌, ◌<◌, ◌^◌, ℕ, List, length, IfOk};
+ghost use Rattle.std.specs.Prelude.{◌≡◌, ◌<◌, ◌^◌, ℕ, List, length};
 ghost use Rattle.cs_change.specs.Spelling.{changeset_spelling};
-ghost use Rattle.cs_change.specs.declared.group.Group.{Group};
+ghost use Rattle.cs_change.specs.OneChange.{Group as GroupRead};
 ghost use Rattle.cs_changeset.specs.Reading.{IsChangesetFault};
 ghost use Rattle.cs_changeset.specs.declared.fault.Fault.{Fault};
 ghost use Rattle.cs_ffi.specs.Answers.{AnswersAgain, AnswersCount, change_count, IsHanded, Spell, TellsCount, TellsFault};
 
 use crate::answer::Answer;
-use cs_changeset::{Changeset, Group, decode, encode};
-use std::alloc::{AllocError, Global};
+use cs_changeset::{ChangeRef, Group, read};
+use std::alloc::Global;
 
 /// How many changes the groups have.
-fn count_changes(groups: &[Group]) -> usize
+fn count_changes(groups: &[Group<ChangeRef<'_>>]) -> usize
     requires { change_count groups.now < 2 ^ 64 }
     ensures { result ≡ change_count groups.now }
 {
@@ -28,25 +28,16 @@ pub fn count(alloc: Global, input: &[u8]) -> Answer
     ensures answers { AnswersCount input.now result }
 
     // What the bytes spell is read, or memory is wanting.
-    ensures only { (groups : List Group) → Spell input.now groups → TellsCount (change_count groups) result }
+    ensures only { (groups : List GroupRead) → Spell input.now groups → TellsCount (change_count groups) result }
 
     // A fault of the bytes is told, or memory is wanting.
     ensures told { (fault : Fault) (offset : ℕ) → IsChangesetFault fault offset input.now
         → TellsFault fault offset result }
 {
-    match decode(alloc, input) {
+    match read(alloc, input) {
         Ok(changeset) => Answer::read(count_changes(changeset.as_slice())),
         Err(fault) => Answer::refused(fault),
     }
-}
-
-/// The spelling of a changeset, in memory of its own.
-fn spelled(alloc: Global, changeset: &Changeset) -> Result<Vec<u8>, AllocError>
-    ensures { IfOk result (λ bytes. bytes.items ≡ changeset_spelling changeset.now) }
-{
-    let mut bytes = Vec::new(alloc);
-    encode(changeset, &mut bytes)?;
-    Ok(bytes)
 }
 
 /// Copies the bytes to the front of the caller's memory if they have room there.
@@ -64,21 +55,19 @@ pub fn reencode(alloc: Global, input: &[u8], output: &mut [u8]) -> Answer
     ensures answers { AnswersAgain input.now output.old output.new result }
 
     // What the bytes spell is read, or memory is wanting.
-    ensures only { (groups : List Group) → Spell input.now groups
+    ensures only { (groups : List GroupRead) → Spell input.now groups
         → TellsCount (length (changeset_spelling groups)) result }
 
     // A fault of the bytes is told, or memory is wanting.
     ensures told { (fault : Fault) (offset : ℕ) → IsChangesetFault fault offset input.now
         → TellsFault fault offset result }
 {
-    match decode(alloc, input) {
-        Ok(changeset) => match spelled(alloc, &changeset) {
-            Ok(bytes) => {
-                hand_over(&bytes, output);
-                Answer::read(bytes.len())
-            }
-            Err(_) => Answer::no_memory(),
-        },
-        Err(fault) => Answer::refused(fault),
+    match read(alloc, input) {
+        Ok(_) => {
+            // What was read is spelled by exactly these bytes.
+            hand_over(input, output);
+            Answer::read(input.len())
+        }
+        Err(first_fault) => Answer::refused(first_fault),
     }
 }

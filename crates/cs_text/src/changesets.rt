@@ -5,24 +5,28 @@ ghost use Rattle.std.specs.Fmt.{WritesOnOk};
 ghost use Rattle.cs_text.specs.Text.{values_text, fields_text, bit_text, marks_text, operation_text, change_text, header_text, changes_text, group_text, changeset_text};
 
 use crate::words::{FieldText, NameText, ValueText};
-use cs_change::{Change, Group};
-use cs_value::{Field, Value};
+use cs_change::{Change, ChangeRef, Group};
+use cs_record::{Record, Row};
 use std::fmt;
 
-fn write_values<W: fmt::Write>(values: &[Value], f: &mut fmt::Formatter<W>) -> fmt::Result
+fn write_values<W: fmt::Write>(values: &Row<'_>, f: &mut fmt::Formatter<W>) -> fmt::Result
     ensures { WritesOnOk W.write_str_gives f.old result (values_text values.now) f.new }
 {
-    for value in values {
-        write!(f, " {}", ValueText(value))?;
+    let mut left = values.again();
+    while let Some((cell, rest)) = left.split_first() {
+        write!(f, " {}", ValueText(&cell))?;
+        left = rest;
     }
     Ok(())
 }
 
-fn write_fields<W: fmt::Write>(fields: &[Field], f: &mut fmt::Formatter<W>) -> fmt::Result
+fn write_fields<W: fmt::Write>(fields: &Record<'_>, f: &mut fmt::Formatter<W>) -> fmt::Result
     ensures { WritesOnOk W.write_str_gives f.old result (fields_text fields.now) f.new }
 {
-    for field in fields {
-        write!(f, " {}", FieldText(field))?;
+    let mut left = fields.again();
+    while let Some((column, rest)) = left.split_first() {
+        write!(f, " {}", FieldText(&column))?;
+        left = rest;
     }
     Ok(())
 }
@@ -54,17 +58,17 @@ fn write_operation<W: fmt::Write>(word: &str, flag: bool, f: &mut fmt::Formatter
     write_bit(flag, f)
 }
 
-fn write_change<W: fmt::Write>(change: &Change, f: &mut fmt::Formatter<W>) -> fmt::Result
+fn write_change<W: fmt::Write>(change: &ChangeRef<'_>, f: &mut fmt::Formatter<W>) -> fmt::Result
     ensures { WritesOnOk W.write_str_gives f.old result (change_text change.now) f.new }
 {
     match change {
         Change::Insert { flag, new_row } => {
             write_operation("insert", *flag, f)?;
-            write_values(new_row.as_slice(), f)
+            write_values(new_row, f)
         }
         Change::Delete { flag, old_row } => {
             write_operation("delete", *flag, f)?;
-            write_values(old_row.as_slice(), f)
+            write_values(old_row, f)
         }
         Change::Update {
             flag,
@@ -72,14 +76,14 @@ fn write_change<W: fmt::Write>(change: &Change, f: &mut fmt::Formatter<W>) -> fm
             new_fields,
         } => {
             write_operation("update", *flag, f)?;
-            write_fields(old_fields.as_slice(), f)?;
+            write_fields(old_fields, f)?;
             f.write_str(" >")?;
-            write_fields(new_fields.as_slice(), f)
+            write_fields(new_fields, f)
         }
     }
 }
 
-fn write_changes<W: fmt::Write>(changes: &[Change], f: &mut fmt::Formatter<W>) -> fmt::Result
+fn write_changes<W: fmt::Write>(changes: &[ChangeRef<'_>], f: &mut fmt::Formatter<W>) -> fmt::Result
     ensures { WritesOnOk W.write_str_gives f.old result (changes_text changes.now) f.new }
 {
     for change in changes {
@@ -89,14 +93,20 @@ fn write_changes<W: fmt::Write>(changes: &[Change], f: &mut fmt::Formatter<W>) -
     Ok(())
 }
 
-fn write_header<W: fmt::Write>(group: &Group, f: &mut fmt::Formatter<W>) -> fmt::Result
+fn write_header<W: fmt::Write>(
+    group: &Group<ChangeRef<'_>>,
+    f: &mut fmt::Formatter<W>,
+) -> fmt::Result
     ensures { WritesOnOk W.write_str_gives f.old result (header_text group.now) f.new }
 {
     write!(f, "table {} ", NameText(&group.name))?;
     write_marks(group.marks.as_slice(), f)
 }
 
-fn write_group<W: fmt::Write>(group: &Group, f: &mut fmt::Formatter<W>) -> fmt::Result
+fn write_group<W: fmt::Write>(
+    group: &Group<ChangeRef<'_>>,
+    f: &mut fmt::Formatter<W>,
+) -> fmt::Result
     ensures { WritesOnOk W.write_str_gives f.old result (group_text group.now) f.new }
 {
     write_header(group, f)?;
@@ -105,11 +115,12 @@ fn write_group<W: fmt::Write>(group: &Group, f: &mut fmt::Formatter<W>) -> fmt::
 }
 
 /// A changeset as text: `table NAME MARKS` for a group (a 1 marks a key column), then a line for each of its changes:
-/// `insert FLAG VALUES`, `delete FLAG VALUES` or `update FLAG OLD > NEW`. Each line ends by a line feed.
+/// `insert FLAG VALUES`, `delete FLAG VALUES` or `update FLAG OLD > NEW`. Each line ends by a line feed. The changes stay
+/// in their bytes.
 #[derive(Clone, Copy)]
-pub struct ChangesetText<'a>(pub &'a [Group]);
+pub struct ChangesetText<'a, 'b>(pub &'a [Group<ChangeRef<'b>>]);
 
-impl fmt::Display for ChangesetText<'_> {
+impl fmt::Display for ChangesetText<'_, '_> {
     ghost output = { λ changeset. Some (changeset_text changeset.0.now) };
 
     fn fmt<W: fmt::Write>(&self, f: &mut fmt::Formatter<W>) -> fmt::Result {

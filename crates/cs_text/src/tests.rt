@@ -1,5 +1,6 @@
 use super::*;
-use cs_change::{Change, Group};
+use cs_change::{Change, ChangeRef, Group};
+use cs_record::{RecordBuf, RowBuf};
 use cs_value::{Field, Items, Text, Value};
 use std::alloc::Global;
 use std::test::Fail;
@@ -8,7 +9,28 @@ fn text(alloc: Global, text: &str) -> Result<Value, Fail> {
     Ok(Value::Text(Text::from_string(String::from_str(alloc, text)?)))
 }
 
-fn group(alloc: Global, name: &str, marks: &[u8], changes: Vec<Change>) -> Result<Group, Fail> {
+fn row(alloc: Global, values: &[Value]) -> Result<RowBuf, Fail> {
+    let mut row = RowBuf::new(alloc);
+    for value in values {
+        row.push_value(value)?;
+    }
+    Ok(row)
+}
+
+fn record(alloc: Global, fields: &[Field]) -> Result<RecordBuf, Fail> {
+    let mut record = RecordBuf::new(alloc);
+    for field in fields {
+        record.push_field(field)?;
+    }
+    Ok(record)
+}
+
+fn group<'a>(
+    alloc: Global,
+    name: &str,
+    marks: &[u8],
+    changes: Vec<ChangeRef<'a>>,
+) -> Result<Group<ChangeRef<'a>>, Fail> {
     Ok(Group {
         marks: Items::from_vec(Vec::from_slice(alloc, marks)?),
         name: Text::from_string(String::from_str(alloc, name)?),
@@ -16,52 +38,90 @@ fn group(alloc: Global, name: &str, marks: &[u8], changes: Vec<Change>) -> Resul
     })
 }
 
-#[test]
-fn prints_each_kind_of_change(rt: HostRuntime) -> Result<(), Fail> {
-    let alloc = rt.alloc();
+/// What the changes of the test borrow from.
+#[derive(Drop)]
+struct Held {
+    new_row: RowBuf,
+    old_row: RowBuf,
+    old_fields: RecordBuf,
+    new_fields: RecordBuf,
+}
+
+fn rows_and_records(alloc: Global) -> Result<Held, Fail> {
+    let empty = Items::from_vec(Vec::new(alloc));
+    let old_fields = [
+        Field::Is(Value::Int(1)),
+        Field::Is(text(alloc, "")?),
+        Field::Is(Value::Null),
+        Field::Undefined,
+    ];
+    let new_fields = [
+        Field::Undefined,
+        Field::Is(Value::Blob(empty)),
+        Field::Is(text(alloc, "")?),
+        Field::Undefined,
+    ];
+    Ok(Held {
+        new_row: row(alloc, &[Value::Int(1), text(alloc, "v1")?])?,
+        old_row: row(alloc, &[Value::Int(i64::MIN), Value::Null])?,
+        old_fields: record(alloc, &old_fields)?,
+        new_fields: record(alloc, &new_fields)?,
+    })
+}
+
+/// Two groups: an INSERT and a DELETE, and an UPDATE.
+fn groups<'a>(alloc: Global, held: &'a Held) -> Result<Vec<Group<ChangeRef<'a>>>, Fail> {
     let insert = Change::Insert {
         flag: false,
-        new_row: Items::from_vec(vec![in alloc; Value::Int(1), text(alloc, "v1")?]?),
+        new_row: held.new_row.as_row(),
     };
     let delete = Change::Delete {
         flag: true,
-        old_row: Items::from_vec(vec![in alloc; Value::Int(i64::MIN), Value::Null]?),
+        old_row: held.old_row.as_row(),
     };
-    let first = group(alloc, "t1", &[1, 0], vec![in alloc; insert, delete]?)?;
-    let empty = Items::from_vec(Vec::new(alloc));
     let update = Change::Update {
         flag: false,
-        old_fields: Items::from_vec(vec![in alloc;
-            Field::Is(Value::Int(1)),
-            Field::Is(text(alloc, "")?),
-            Field::Is(Value::Null),
-            Field::Undefined,
-        ]?),
-        new_fields: Items::from_vec(vec![in alloc;
-            Field::Undefined,
-            Field::Is(Value::Blob(empty)),
-            Field::Is(text(alloc, "")?),
-            Field::Undefined,
-        ]?),
+        old_fields: held.old_fields.as_record(),
+        new_fields: held.new_fields.as_record(),
     };
+    let first = group(alloc, "t1", &[1, 0], vec![in alloc; insert, delete]?)?;
     let second = group(alloc, "t2", &[2, 0, 0, 0], vec![in alloc; update]?)?;
-    let groups = [first, second];
-    let printed = format!(in alloc; "{}", ChangesetText(&groups))?;
+    Ok(vec![in alloc; first, second]?)
+}
+
+fn printed(alloc: Global, groups: &[Group<ChangeRef<'_>>]) -> Result<String, Fail> {
+    Ok(format!(in alloc; "{}", ChangesetText(groups))?)
+}
+
+#[test]
+fn prints_each_kind_of_change(rt: HostRuntime) -> Result<(), Fail> {
+    let alloc = rt.alloc();
+    let held = rows_and_records(alloc)?;
+    let groups = groups(alloc, &held)?;
+    let printed = printed(alloc, groups.as_slice())?;
     let expected =
         "table t1 10\ninsert 0 1 t=v1\ndelete 1 -9223372036854775808 null\ntable t2 1000\nupdate 0 1 t= null - > - x= t= -\n";
     assert_eq!(rt; printed.as_str(), expected);
     Ok(())
 }
 
+/// The word of a value.
+fn word(alloc: Global, value: Value) -> Result<String, Fail> {
+    let row = row(alloc, &[value])?;
+    match row.as_row().split_first() {
+        Some((cell, _)) => Ok(format!(in alloc; "{}", ValueText(&cell))?),
+        None => Ok(String::new(alloc)),
+    }
+}
+
 #[test]
 fn escapes_what_is_no_plain_byte(rt: HostRuntime) -> Result<(), Fail> {
     let alloc = rt.alloc();
-    let value = text(alloc, "a b%\u{7f}\u{e9}~!")?;
-    let printed = format!(in alloc; "{}", ValueText(&value))?;
-    assert_eq!(rt; printed.as_str(), "t=a%20b%25%7F%C3%A9~!");
+    let value = word(alloc, text(alloc, "a b%\u{7f}\u{e9}~!")?)?;
+    assert_eq!(rt; value.as_str(), "t=a%20b%25%7F%C3%A9~!");
     let blob = Value::Blob(Items::from_vec(Vec::from_slice(alloc, &[0, 0xab, 0xff])?));
-    let printed = format!(in alloc; "{}", ValueText(&blob))?;
-    assert_eq!(rt; printed.as_str(), "x=00abff");
+    let blob = word(alloc, blob)?;
+    assert_eq!(rt; blob.as_str(), "x=00abff");
     let name = Text::from_string(String::from_str(alloc, "\u{1}n")?);
     let printed = format!(in alloc; "{}", NameText(&name))?;
     assert_eq!(rt; printed.as_str(), "%01n");

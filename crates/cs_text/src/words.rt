@@ -4,7 +4,8 @@ ghost use Rattle.std.specs.Prelude.{◌≡◌, Some};
 ghost use Rattle.std.specs.Fmt.{WritesOnOk};
 ghost use Rattle.cs_text.specs.Text.{is_plain, escaped, escaped_text, lower_hex, hex_text, name_text, value_text, field_text};
 
-use cs_value::{Field, Text, Value};
+use cs_record::{Cell, Column, ValueRef};
+use cs_value::Text;
 use std::fmt;
 
 /// Whether a byte of a text stands for itself: from `!` to `~`, and not `%`.
@@ -60,40 +61,40 @@ impl fmt::Display for NameText<'_> {
     }
 }
 
-/// A value as a word.
+/// A value as a word. It stays in its bytes.
 #[derive(Clone, Copy)]
-pub struct ValueText<'a>(pub &'a Value);
+pub struct ValueText<'a>(pub &'a Cell<'a>);
 
 impl fmt::Display for ValueText<'_> {
     ghost output = { λ value. Some (value_text value.0.now) };
 
     fn fmt<W: fmt::Write>(&self, f: &mut fmt::Formatter<W>) -> fmt::Result {
-        match self.0 {
-            Value::Null => f.write_str("null"),
-            Value::Int(number) => write!(f, "{number}"),
-            Value::Text(text) => {
+        match self.0.get() {
+            ValueRef::Null => f.write_str("null"),
+            ValueRef::Int(number) => write!(f, "{number}"),
+            ValueRef::Text(text) => {
                 f.write_str("t=")?;
-                write_escaped(text.as_str(), f)
+                write_escaped(text, f)
             }
-            Value::Blob(bytes) => {
+            ValueRef::Blob(bytes) => {
                 f.write_str("x=")?;
-                write_hex(bytes.as_slice(), f)
+                write_hex(bytes, f)
             }
         }
     }
 }
 
-/// A field as a word.
+/// A field as a word. It stays in its bytes.
 #[derive(Clone, Copy)]
-pub struct FieldText<'a>(pub &'a Field);
+pub struct FieldText<'a>(pub &'a Column<'a>);
 
 impl fmt::Display for FieldText<'_> {
     ghost output = { λ field. Some (field_text field.0.now) };
 
     fn fmt<W: fmt::Write>(&self, f: &mut fmt::Formatter<W>) -> fmt::Result {
-        match self.0 {
-            Field::Undefined => f.write_str("-"),
-            Field::Is(value) => write!(f, "{}", ValueText(value)),
+        match Cell::of_column(self.0) {
+            None => f.write_str("-"),
+            Some(cell) => write!(f, "{}", ValueText(&cell)),
         }
     }
 }

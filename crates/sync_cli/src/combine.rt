@@ -5,7 +5,7 @@ ghost use Rattle.cs_lines.specs.Served.{AreAllLines};
 ghost use Rattle.sync_cli.specs.CombinedLines.{CombinesAll, SpellsCombined};
 ghost use Rattle.sync_cli.specs.Endings.{EndsWriting};
 
-use crate::input::{Refusal, all_changesets, tell_refusal};
+use crate::input::{Refusal, all_bytes, read_all, tell_refusal};
 use crate::status::{DONE, REFUSED_INPUT, WRITE, tell};
 use cs_group::combine;
 use cs_lines::{LineInput, LineOutput, write_hex_line};
@@ -17,7 +17,12 @@ fn combined_bytes<R: LineInput>(alloc: Global, reader: &mut R) -> Result<Vec<u8>
     ensures { IfOk result (λ bytes. (lines : List (List ℕ))
         × AreAllLines (R.remaining reader.old) lines × SpellsCombined lines bytes.items) }
 {
-    let changesets = all_changesets(alloc, reader)?;
+    let (inputs, refused) = all_bytes(alloc, reader);
+    // The changesets in front of a line that is refused are judged before it.
+    let changesets = read_all(alloc, inputs.as_slice())?;
+    if let Some(refusal) = refused {
+        return Err(refusal);
+    }
     let both = combine(alloc, &changesets)?;
     let mut bytes = Vec::new(alloc);
     both.encode(&mut bytes)?;

@@ -1,15 +1,14 @@
 //! Changesets in hex, line by line, and why an input is refused.
 
-ghost use Rattle.std.specs.Prelude.{◌≡◌, ℕ, List, Ok, IfOk};
+ghost use Rattle.std.specs.Prelude.{◌≡◌, ℕ, List, Ok, None, IfOk};
 ghost use Rattle.std.specs.List.{AllByRecursion};
 ghost use Rattle.cs_change.specs.Spelling.{FitsChangeset};
 ghost use Rattle.hex.specs.Hex.{decode_of};
 ghost use Rattle.cs_lines.specs.Served.{AreAllLines};
-ghost use Rattle.sync_cli.specs.CombinedLines.{SpellsChangeset, SpellChangesets};
-ghost use Rattle.sync_cli.specs.LinesRead.{TakesChangeset};
+ghost use Rattle.sync_cli.specs.LinesRead.{AreHexOf, SpellAll, TakesBytes};
 
 use crate::status::REFUSED_INPUT;
-use cs_changeset::{Changeset, CodecFault};
+use cs_changeset::{ChangesetRef, CodecFault};
 use cs_group::CombineFault;
 use cs_lines::{ASKS, LineInput, LineRead, read_line};
 use hex::FromHexError;
@@ -47,49 +46,55 @@ fn read_hex(alloc: Global, line: &[u8]) -> Result<Vec<u8>, Refusal>
     }
 }
 
-/// The changeset that a line spells.
-fn read_changeset(alloc: Global, line: &[u8]) -> Result<Changeset, Refusal>
-    ensures { IfOk result (SpellsChangeset line.now) }
-{
-    let bytes = read_hex(alloc, line)?;
-    Ok(cs_changeset::decode(alloc, bytes.as_slice())?)
-}
-
-/// The changeset that the next line spells, if there is a line. The buffer is for the line.
-pub fn next_changeset<R: LineInput>(
+/// The bytes that the next line spells in hex, if there is a line. The buffer is for the line.
+pub fn next_bytes<R: LineInput>(
     alloc: Global,
     reader: &mut R,
     line: &mut Vec<u8>,
-) -> Result<Option<Changeset>, Refusal>
-    ensures { IfOk result (λ found. TakesChangeset found (R.remaining reader.old) (R.remaining reader.new)) }
+) -> Result<Option<Vec<u8>>, Refusal>
+    ensures { IfOk result (λ found. TakesBytes found (R.remaining reader.old) (R.remaining reader.new)) }
 {
     match read_line(reader, line) {
-        Ok(LineRead::Whole) => Ok(Some(read_changeset(alloc, line)?)),
+        Ok(LineRead::Whole) => Ok(Some(read_hex(alloc, line)?)),
         Ok(LineRead::End) => Ok(None),
         Ok(LineRead::Skipped) => Err(Refusal::Memory(AllocError)),
         Err(_) => Err(Refusal::Read),
     }
 }
 
-/// The changesets that the lines spell, one each, up to the end of the input.
-pub fn all_changesets<R: LineInput>(
-    alloc: Global,
-    reader: &mut R,
-) -> Result<Vec<Changeset>, Refusal>
-    ensures fit { IfOk result (λ changesets. AllByRecursion FitsChangeset changesets.items) }
-    ensures spelled { IfOk result (λ changesets. (lines : List (List ℕ))
-        × AreAllLines (R.remaining reader.old) lines × SpellChangesets lines changesets.items) }
+/// The bytes that the lines spell in hex, one vector each, up to the end of the input or to the first line that is
+/// refused; and why it is.
+pub fn all_bytes<R: LineInput>(alloc: Global, reader: &mut R) -> (Vec<Vec<u8>>, Option<Refusal>)
+    ensures { result.1 ≡ None → (lines : List (List ℕ))
+        × AreAllLines (R.remaining reader.old) lines × AreHexOf lines result.0.items }
 {
     cs_lines::laws::lines_taken();
     let mut line = Vec::new(alloc);
-    let mut changesets = Vec::new(alloc);
+    let mut inputs = Vec::new(alloc);
     for _ in 0..ASKS {
-        match next_changeset(alloc, reader, &mut line)? {
-            Some(changeset) => changesets.push(changeset)?,
-            None => return Ok(changesets),
+        match next_bytes(alloc, reader, &mut line) {
+            Ok(Some(bytes)) => {
+                if inputs.push(bytes).is_err() {
+                    return (inputs, Some(Refusal::Memory(AllocError)));
+                }
+            }
+            Ok(None) => return (inputs, None),
+            Err(refusal) => return (inputs, Some(refusal)),
         }
     }
-    Err(Refusal::Read)
+    (inputs, Some(Refusal::Read))
+}
+
+/// The changesets that these bytes spell, which stay in them.
+pub fn read_all<'a>(alloc: Global, inputs: &'a [Vec<u8>]) -> Result<Vec<ChangesetRef<'a>>, Refusal>
+    ensures fit { IfOk result (λ changesets. AllByRecursion FitsChangeset changesets.items) }
+    ensures spelled { IfOk result (λ changesets. SpellAll inputs.now changesets.items) }
+{
+    let mut changesets = Vec::with_capacity(alloc, inputs.len())?;
+    for bytes in inputs {
+        changesets.push(cs_changeset::read(alloc, bytes.as_slice())?)?;
+    }
+    Ok(changesets)
 }
 
 /// Tells why the input is refused, and answers the status.

@@ -1,28 +1,52 @@
 //! `show changeset`: a changeset in hex, as text.
 
 ghost use Rattle.std.specs.Prelude.{◌≡◌, IfOk};
+ghost use Rattle.cs_text.specs.Text.{changeset_text};
 ghost use Rattle.sync_cli.specs.Endings.{EndsWriting};
-ghost use Rattle.sync_cli.specs.ShownLine.{ShowsFirst, TakesFirst};
+ghost use Rattle.sync_cli.specs.LinesRead.{TakesFirstBytes};
+ghost use Rattle.sync_cli.specs.ShownLine.{ShowsBytes, ShowsFirst};
 
-use crate::input::{Refusal, next_changeset, tell_refusal};
+use crate::input::{Refusal, next_bytes, tell_refusal};
 use crate::output::write_text;
-use crate::status::{DONE, MEMORY, REFUSED_INPUT, WRITE, tell};
-use cs_changeset::Changeset;
+use crate::status::{DONE, REFUSED_INPUT, WRITE, tell};
+use cs_changeset::{ChangeRef, Group};
 use cs_lines::{LineInput, LineOutput};
 use cs_text::ChangesetText;
-use cs_value::Items;
-use std::alloc::Global;
+use std::alloc::{AllocError, Global};
 use std::io::Write;
 
-/// The changeset that the first line spells; no line is the empty line.
-fn first_changeset<R: LineInput>(alloc: Global, reader: &mut R) -> Result<Changeset, Refusal>
-    ensures { IfOk result (TakesFirst (R.remaining reader.old) (R.remaining reader.new)) }
+/// The bytes that the first line spells in hex; no line is the empty line.
+fn first_bytes<R: LineInput>(alloc: Global, reader: &mut R) -> Result<Vec<u8>, Refusal>
+    ensures { IfOk result (λ bytes. TakesFirstBytes bytes.items (R.remaining reader.old) (R.remaining reader.new)) }
 {
     let mut line = Vec::new(alloc);
-    match next_changeset(alloc, reader, &mut line)? {
-        Some(changeset) => Ok(changeset),
-        None => Ok(Items::from_vec(Vec::new(alloc))),
+    match next_bytes(alloc, reader, &mut line)? {
+        Some(bytes) => Ok(bytes),
+        None => Ok(Vec::new(alloc)),
     }
+}
+
+/// The text of the changeset, which stays in its bytes.
+fn written(alloc: Global, groups: &[Group<ChangeRef<'_>>]) -> Result<String, AllocError>
+    ensures { IfOk result (λ text. text.bytes.items ≡ changeset_text groups.now) }
+{
+    format!(in alloc; "{}", ChangesetText(groups))
+}
+
+/// The text of the changeset that these bytes spell.
+fn text_of(alloc: Global, bytes: &[u8]) -> Result<String, Refusal>
+    ensures { IfOk result (λ text. ShowsBytes bytes.now text.bytes.items) }
+{
+    let changeset = cs_changeset::read(alloc, bytes)?;
+    Ok(written(alloc, changeset.as_slice())?)
+}
+
+/// The text of the changeset that the first line spells in hex.
+fn first_text<R: LineInput>(alloc: Global, reader: &mut R) -> Result<String, Refusal>
+    ensures { IfOk result (λ text. ShowsFirst (R.remaining reader.old) (R.remaining reader.new) text.bytes.items) }
+{
+    let bytes = first_bytes(alloc, reader)?;
+    text_of(alloc, bytes.as_slice())
 }
 
 /// Shows the changeset that the first line of the input spells in hex, and answers the status: 0 where it was shown; 1
@@ -38,12 +62,9 @@ pub fn show_changeset<R: LineInput, W: LineOutput, E: Write>(
         (W.failed writer.new) (W.contents writer.old) (W.contents writer.new) }
     ensures sent { result ≡ 0 → W.sent writer.new }
 {
-    let changeset = match first_changeset(alloc, reader) {
-        Ok(changeset) => changeset,
+    let text = match first_text(alloc, reader) {
+        Ok(text) => text,
         Err(refusal) => return tell_refusal(&refusal, errors),
-    };
-    let Ok(text) = format!(in alloc; "{}", ChangesetText(changeset.as_slice())) else {
-        return tell(errors, MEMORY, REFUSED_INPUT);
     };
     match write_text(writer, text.as_str()) {
         Ok(()) => DONE,

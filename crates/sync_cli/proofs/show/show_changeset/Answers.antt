@@ -5,6 +5,6 @@ use Rattle.sync_cli.proofs.show.show_changeset.Goals as goal
 
 pub returns-clause-ends : goal.returns-clause-ends
 returns-clause-ends g c =
-    let owed : ShowsFirst (g.R.Read.remaining c.args.reader.now) (g.R.Read.remaining c.first_changeset.new.reader) c.as_str.result.now =
+    let owed : ShowsFirst (g.R.Read.remaining c.args.reader.now) (g.R.Read.remaining c.first_text.new.reader) c.as_str.result.now =
     search rules in
-    broken_off _ _ _ _ _ _ c.tell-in-Err-write_text.ensures owed c.in-Err-write_text.ensures.front c.in-Err-write_text.ensures.failed
+    broken_off _ _ _ _ _ _ c.tell.ensures owed c.in-Err-write_text.ensures.front c.in-Err-write_text.ensures.failed
