@@ -20,7 +20,8 @@ run_refused() {
     local refused="$1" input="$2"
     shift 2
     status=0
-    REFUSE=$refused LD_PRELOAD="$out/refuse_memory.so" timeout 20 "$sync" "$@" < "$input" \
+    # Behind `timeout`, whose own allocations are not to be counted.
+    timeout 20 env REFUSE="$refused" LD_PRELOAD="$out/refuse_memory.so" "$sync" "$@" < "$input" \
         > "$out/answers" 2> "$out/errors" 9> "$out/reached" || status=$?
     [ ! -s "$out/reached" ]
 }
