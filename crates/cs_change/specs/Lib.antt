@@ -5,6 +5,5 @@ pub mod Laws
 pub mod Listed
 pub mod Net
 pub mod Normal
-pub mod OneChange
 pub mod Spelling
 pub mod Then

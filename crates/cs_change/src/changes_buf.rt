@@ -2,14 +2,31 @@
 
 ghost use Rattle.std.specs.Prelude.{◌≡◌, ◌++◌, ◌∷◌, [], length, slice_get, IfOk, OnOk, OnErr};
 ghost use Rattle.cs_change.specs.Held.{AreHeld, Held, Held-prop};
+ghost use Rattle.cs_change.specs.Listed.{listed};
 
 use crate::adding::{put_place, put_spelled};
-use crate::change::ChangeRef;
-use crate::change_ref::{change_in, same_if_any};
+use crate::change::Change;
+use crate::comparing::same_if_any;
 use crate::place::Place;
+use crate::spelled::change_in;
 use cs_value::Memory;
 use std::alloc::Global;
 use std::marker::Model;
+
+/// Lends the change at a place, if there is one.
+#[inline(always)]
+fn lend_at<'a>(
+    changes: &'a ChangesBuf,
+    at: usize,
+    lent: &mut Vec<Change<'a>>,
+) -> Result<(), Memory>
+    ensures { OnOk result (lent.new.items ≡ lent.old.items ++ listed (slice_get changes.now at)) }
+{
+    if let Some(change) = changes.get(at) {
+        lent.push(change)?;
+    }
+    Ok(())
+}
 
 #[inline(always)]
 fn clear_all(bytes: &mut Vec<u8>, places: &mut Vec<Place>)
@@ -29,7 +46,7 @@ pub struct ChangesBuf {
 
 impl Model for ChangesBuf {
     ghost use Rattle.std.specs.Prelude.{List};
-    ghost use Rattle.cs_change.specs.OneChange.{Change};
+    ghost use Rattle.cs_change.specs.declared.change.Change.{Change};
 
     ghost Value = { List Change };
 
@@ -39,10 +56,9 @@ impl Model for ChangesBuf {
 impl ChangesBuf {
     ghost use Rattle.std.specs.Prelude.{◌≡◌, ◌↔◌, IsTrue, ◌++◌, ◌∷◌, [], length, slice_get, IfOk, OnOk, OnErr, MatchOption, None, Some};
     ghost use Rattle.std.specs.Prelude.{List};
-    ghost use Rattle.cs_change.specs.OneChange.{Change};
+    ghost use Rattle.cs_change.specs.declared.change.Change.{Change};
     ghost use Rattle.cs_change.specs.Held.{AreHeld, Held, IsChangeIn};
     ghost use Rattle.cs_change.specs.Spelling.{changes_spelling};
-    ghost use Rattle.cs_change.specs.Listed.{listed};
 
     /// No change.
     pub fn new(alloc: Global) -> ChangesBuf
@@ -97,7 +113,7 @@ impl ChangesBuf {
 
     /// The change there.
     #[inline(always)]
-    pub fn get(&self, index: usize) -> Option<ChangeRef<'_>>
+    pub fn get(&self, index: usize) -> Option<Change<'_>>
         ensures { result ≡ slice_get self.now index }
     {
         let (bytes, places) = self.parts();
@@ -111,7 +127,7 @@ impl ChangesBuf {
 
     /// The bytes of the change there, and where it splits.
     #[inline(always)]
-    pub fn spelled(&self, index: usize) -> Option<(&[u8], usize)>
+    fn spelled(&self, index: usize) -> Option<(&[u8], usize)>
         ensures { MatchOption result (slice_get self.now index ≡ None) (λ found. (change : Change) × (slice_get self.now index ≡ Some change) × IsChangeIn found.0.now found.1 change) }
     {
         let (bytes, places) = self.parts();
@@ -121,6 +137,17 @@ impl ChangesBuf {
         let (_, tail) = bytes.split_at(place.start);
         let (front, _) = tail.split_at(place.len);
         Some((front, place.split))
+    }
+
+    /// The changes, lent one by one.
+    pub fn lend(&self, alloc: Global) -> Result<Vec<Change<'_>>, Memory>
+        ensures { IfOk result (λ lent. lent.items ≡ self.now) }
+    {
+        let mut lent = Vec::with_capacity(alloc, self.len())?;
+        for at in 0..self.len() {
+            lend_at(self, at, &mut lent)?;
+        }
+        Ok(lent)
     }
 
     /// Whether two lists hold the same changes in the same order, their flags too.
@@ -171,18 +198,10 @@ impl ChangesBuf {
     }
 
     /// Appends a change. An `Err` changes nothing.
-    pub fn push(&mut self, change: &ChangeRef<'_>) -> Result<(), Memory>
+    pub fn push(&mut self, change: &Change<'_>) -> Result<(), Memory>
         ensures ok { OnOk result (self.new ≡ self.old ++ change.now ∷ []) }
         ensures err { OnErr result (self.new ≡ self.old) }
     {
         put_place(&mut self.bytes, &mut self.places, change)
-    }
-
-    /// Appends the spelling of the changes. An `Err` changes nothing.
-    pub fn encode(&self, out: &mut Vec<u8>) -> Result<(), Memory>
-        ensures ok { OnOk result (out.new.items ≡ out.old.items ++ changes_spelling self.now) }
-        ensures err { OnErr result (out.new.items ≡ out.old.items) }
-    {
-        out.extend_from_slice(self.parts().0)
     }
 }

@@ -1,7 +1,8 @@
 //! Changes, groups and changesets beside bytes that were written by hand.
 
 use super::*;
-use cs_value::{Field, Fields, Items, Memory, Row, Text, Value};
+use cs_record::{read_record, read_row};
+use cs_value::{Items, Memory, Text};
 use std::alloc::Global;
 use std::test::Fail;
 
@@ -29,64 +30,49 @@ const WIDE_UPDATE: [u8; 21] = [
     0x17, 0, 1, 0, 0, 0, 0, 0, 0, 0, 1, 3, 0, 5, 0, 0, 4, 0, 3, 0, 0,
 ];
 
-fn text(alloc: Global, content: &str) -> Result<Text, Memory> {
-    Ok(Text::from_string(String::from_str(alloc, content)?))
+/// The change that these bytes spell, of a table with so many columns.
+fn change_of(bytes: &[u8], columns: usize) -> Option<Change<'_>> {
+    let flag = bytes.get(1)? == &1;
+    let rest = bytes.get(2..)?;
+    match bytes.first()? {
+        18 => {
+            let (new_row, _) = read_row(rest, columns)?;
+            Some(Change::Insert { flag, new_row })
+        }
+        9 => {
+            let (old_row, _) = read_row(rest, columns)?;
+            Some(Change::Delete { flag, old_row })
+        }
+        _ => {
+            let (old_fields, len) = read_record(rest, columns).ok()?;
+            let (new_fields, _) = read_record(rest.get(len..)?, columns).ok()?;
+            Some(Change::Update {
+                flag,
+                old_fields,
+                new_fields,
+            })
+        }
+    }
 }
 
-fn row(alloc: Global) -> Result<Row, Memory> {
-    let second = Value::Text(text(alloc, "v1")?);
-    Ok(Items::from_vec(vec![in alloc; Value::Int(1), second]?))
+/// The change that these bytes spell, as a list.
+fn one(alloc: Global, bytes: &[u8], columns: usize) -> Result<Vec<Change<'_>>, Memory> {
+    let mut changes = Vec::new(alloc);
+    if let Some(change) = change_of(bytes, columns) {
+        changes.push(change)?;
+    }
+    Ok(changes)
 }
 
-fn insert(alloc: Global, flag: bool) -> Result<Change, Memory> {
-    Ok(Change::Insert {
-        flag,
-        new_row: row(alloc)?,
-    })
-}
-
-fn indirect_delete(alloc: Global) -> Result<Change, Memory> {
-    Ok(Change::Delete {
-        flag: true,
-        old_row: row(alloc)?,
-    })
-}
-
-fn update(alloc: Global) -> Result<Change, Memory> {
-    let old = Field::Is(Value::Text(text(alloc, "v1")?));
-    let new = Field::Is(Value::Text(text(alloc, "v2")?));
-    Ok(Change::Update {
-        flag: false,
-        old_fields: Items::from_vec(vec![in alloc; Field::Is(Value::Int(1)), old]?),
-        new_fields: Items::from_vec(vec![in alloc; Field::Undefined, new]?),
-    })
-}
-
-fn wide_update(alloc: Global) -> Result<Change, Memory> {
-    let old: Fields = Items::from_vec(vec![in alloc;
-        Field::Is(Value::Int(1)),
-        Field::Is(Value::Text(text(alloc, "")?)),
-        Field::Is(Value::Null),
-        Field::Undefined,
-    ]?);
-    let blob = Value::Blob(Items::from_vec(Vec::new(alloc)));
-    let new: Fields = Items::from_vec(vec![in alloc;
-        Field::Undefined,
-        Field::Is(blob),
-        Field::Is(Value::Text(text(alloc, "")?)),
-        Field::Undefined,
-    ]?);
-    Ok(Change::Update {
-        flag: false,
-        old_fields: old,
-        new_fields: new,
-    })
-}
-
-fn group(alloc: Global, marks: &[u8], name: &str, changes: Vec<Change>) -> Result<Group, Memory> {
+fn group<'a>(
+    alloc: Global,
+    marks: &[u8],
+    name: &str,
+    changes: Vec<Change<'a>>,
+) -> Result<Group<'a>, Memory> {
     Ok(Group {
         marks: Items::from_vec(Vec::from_slice(alloc, marks)?),
-        name: text(alloc, name)?,
+        name: Text::from_string(String::from_str(alloc, name)?),
         changes: Items::from_vec(changes),
     })
 }
@@ -94,79 +80,53 @@ fn group(alloc: Global, marks: &[u8], name: &str, changes: Vec<Change>) -> Resul
 #[test]
 fn one_change(rt: HostRuntime) -> Result<(), Fail> {
     let alloc = rt.alloc();
-    let changes = vec![in alloc;
-        insert(alloc, false)?,
-        insert(alloc, true)?,
-        indirect_delete(alloc)?,
-        update(alloc)?,
-        wide_update(alloc)?,
-    ]?;
-    let cases: [(&[u8], bool); 5] = [
-        (&INSERT, false),
-        (&INDIRECT_INSERT, true),
-        (&INDIRECT_DELETE, true),
-        (&UPDATE, false),
-        (&WIDE_UPDATE, false),
+    let cases: [(&[u8], usize, bool); 5] = [
+        (&INSERT, 2, false),
+        (&INDIRECT_INSERT, 2, true),
+        (&INDIRECT_DELETE, 2, true),
+        (&UPDATE, 2, false),
+        (&WIDE_UPDATE, 4, false),
     ];
-    for (change, (bytes, indirect)) in changes.iter().zip(&cases) {
+    for (bytes, columns, indirect) in &cases {
+        let Some(change) = change_of(bytes, *columns) else {
+            panic!(rt; "no change was read");
+        };
         assert_eq!(rt; change.is_indirect(), *indirect);
-        let mut out = Vec::new(alloc);
-        encode_change(change, &mut out)?;
-        assert_eq!(rt; out.as_slice(), *bytes);
-        let copied = change.copy(alloc)?;
-        encode_change(&copied, &mut out)?;
-        assert_eq!(rt; &out[bytes.len()..], *bytes);
+        let mut kept = ChangesBuf::new(alloc);
+        kept.push(&change)?;
+        kept.push(&change.again())?;
+        assert_eq!(rt; kept.len(), 2);
+        assert_eq!(rt; &kept.spelling()[..bytes.len()], *bytes);
+        assert_eq!(rt; &kept.spelling()[bytes.len()..], *bytes);
     }
     Ok(())
 }
 
 #[test]
-fn changes_in_their_bytes(rt: HostRuntime) -> Result<(), Fail> {
+fn changes_that_own_their_bytes(rt: HostRuntime) -> Result<(), Fail> {
     let alloc = rt.alloc();
-    let Some((new_row, _)) = cs_record::read_row(&INSERT[2..], 2) else {
-        panic!(rt; "no row was read");
-    };
-    let Some((old_row, _)) = cs_record::read_row(&INDIRECT_DELETE[2..], 2) else {
-        panic!(rt; "no row was read");
-    };
-    let Ok((old_fields, at)) = cs_record::read_record(&UPDATE[2..], 2) else {
-        panic!(rt; "no record was read");
-    };
-    let Ok((new_fields, _)) = cs_record::read_record(&UPDATE[2 + at..], 2) else {
-        panic!(rt; "no record was read");
-    };
-    let changes: [(ChangeRef<'_>, &[u8]); 3] = [
-        (
-            Change::Insert {
-                flag: false,
-                new_row,
-            },
-            &INSERT,
-        ),
-        (
-            Change::Delete {
-                flag: true,
-                old_row,
-            },
-            &INDIRECT_DELETE,
-        ),
-        (
-            Change::Update {
-                flag: false,
-                old_fields,
-                new_fields,
-            },
-            &UPDATE,
-        ),
-    ];
-    for (change, bytes) in &changes {
-        let mut kept = ChangesBuf::new(alloc);
-        kept.push(change)?;
-        assert_eq!(rt; kept.spelling(), *bytes);
-        let mut out = Vec::new(alloc);
-        encode_change(&change.to_change(alloc)?, &mut out)?;
-        assert_eq!(rt; out.as_slice(), *bytes);
+    let mut all = ChangesBuf::with_capacity(alloc, 2, 35)?;
+    for change in &one(alloc, &INSERT, 2)? {
+        all.push(change)?;
     }
+    for change in &one(alloc, &UPDATE, 2)? {
+        all.push(change)?;
+    }
+    let mut last = ChangesBuf::new(alloc);
+    last.push_at(&all, 1)?;
+    last.push_at(&all, 2)?;
+    assert_eq!(rt; last.spelling(), &UPDATE[..]);
+    assert!(rt; last.get(1).is_none());
+    assert!(rt; !last.same(&all));
+    assert!(rt; all.copy(alloc)?.same(&all));
+
+    let mut again = ChangesBuf::new(alloc);
+    for change in &all.lend(alloc)? {
+        again.push(change)?;
+    }
+    assert_eq!(rt; again.spelling(), all.spelling());
+    again.clear();
+    assert_eq!(rt; again.len(), 0);
     Ok(())
 }
 
@@ -177,9 +137,8 @@ fn changesets(rt: HostRuntime) -> Result<(), Fail> {
     encode(&Items::from_vec(Vec::new(alloc)), &mut out)?;
     assert!(rt; out.is_empty());
 
-    let changes = vec![in alloc; insert(alloc, false)?]?;
-    let one = group(alloc, &[1, 0], "t1", changes)?;
-    encode(&Items::from_vec(vec![in alloc; one]?), &mut out)?;
+    let first = group(alloc, &[1, 0], "t1", one(alloc, &INSERT, 2)?)?;
+    encode(&Items::from_vec(vec![in alloc; first]?), &mut out)?;
     let mut spelled = Vec::from_slice(alloc, &FIRST)?;
     spelled.extend_from_slice(&INSERT)?;
     assert_eq!(rt; out, spelled);
@@ -191,11 +150,11 @@ fn changesets(rt: HostRuntime) -> Result<(), Fail> {
 fn several_groups(rt: HostRuntime) -> Result<(), Fail> {
     let alloc = rt.alloc();
     // The bytes of the marks and groups without changes are kept.
-    let first = vec![in alloc; update(alloc)?, indirect_delete(alloc)?]?;
-    let second = vec![in alloc; wide_update(alloc)?]?;
+    let mut first = one(alloc, &UPDATE, 2)?;
+    first.append(&mut one(alloc, &INDIRECT_DELETE, 2)?)?;
     let groups = vec![in alloc;
         group(alloc, &[1, 0], "t1", first)?,
-        group(alloc, &[1, 0, 0, 0], "t2", second)?,
+        group(alloc, &[1, 0, 0, 0], "t2", one(alloc, &WIDE_UPDATE, 4)?)?,
         group(alloc, &[2, 0], "t1", Vec::new(alloc))?,
     ]?;
     let mut out = vec![in alloc; 0xeeu8]?;

@@ -1,13 +1,13 @@
 //! Writing changes and groups.
 
-ghost use Rattle.std.specs.Prelude.{◌≡◌, ◌++◌, ◌∷◌, [], OnOk, OnErr};
-ghost use Rattle.cs_record.specs.Spelling.{Extends, row_bytes};
+ghost use Rattle.std.specs.Prelude.{◌≡◌, ◌++◌, ◌∷◌, [], IfOk, OnOk, OnErr};
+ghost use Rattle.cs_record.specs.Spelling.{Extends};
+ghost use Rattle.cs_change.specs.Held.{IsInRange, split_of};
 ghost use Rattle.cs_change.specs.Spelling.{flag_byte, change_spelling, header_spelling, changes_spelling, group_spelling, changeset_spelling};
 
 use crate::change::Change;
 use crate::group::{Changeset, Group};
-use cs_record::{encode_record, encode_value};
-use cs_value::{Memory, Value};
+use cs_value::Memory;
 
 /// The byte before a table's header.
 const TABLE: u8 = b'T';
@@ -19,19 +19,9 @@ pub(crate) const INSERT: u8 = 18;
 pub(crate) const DELETE: u8 = 9;
 
 /// The byte of an UPDATE.
-pub(crate) const UPDATE: u8 = 23;
+const UPDATE: u8 = 23;
 
-fn put_row(row: &[Value], out: &mut Vec<u8>) -> Result<(), Memory>
-    ensures ok { OnOk result (out.new.items ≡ out.old.items ++ row_bytes row.now) }
-    ensures kept { Extends out.old.items out.new.items }
-{
-    for value in row {
-        encode_value(value, out)?;
-    }
-    Ok(())
-}
-
-pub(crate) fn put_operation(operation: u8, flag: bool, out: &mut Vec<u8>) -> Result<(), Memory>
+fn put_operation(operation: u8, flag: bool, out: &mut Vec<u8>) -> Result<(), Memory>
     ensures ok { OnOk result (out.new.items ≡ out.old.items ++ operation ∷ flag_byte flag ∷ []) }
     ensures kept { Extends out.old.items out.new.items }
 {
@@ -40,18 +30,22 @@ pub(crate) fn put_operation(operation: u8, flag: bool, out: &mut Vec<u8>) -> Res
     Ok(())
 }
 
-fn put_change(change: &Change, out: &mut Vec<u8>) -> Result<(), Memory>
-    ensures ok { OnOk result (out.new.items ≡ out.old.items ++ change_spelling change.now) }
+/// Appends a change, and tells where its new record begins.
+fn put_parts(change: &Change<'_>, out: &mut Vec<u8>) -> Result<usize, Memory>
+    ensures ok { IfOk result (λ split. (out.new.items ≡ out.old.items ++ change_spelling change.now)
+        × (split ≡ split_of change.now) × IsInRange change.now) }
     ensures kept { Extends out.old.items out.new.items }
 {
     match change {
         Change::Insert { flag, new_row } => {
             put_operation(INSERT, *flag, out)?;
-            put_row(new_row.as_slice(), out)
+            out.extend_from_slice(new_row.bytes())?;
+            Ok(2)
         }
         Change::Delete { flag, old_row } => {
             put_operation(DELETE, *flag, out)?;
-            put_row(old_row.as_slice(), out)
+            out.extend_from_slice(old_row.bytes())?;
+            Ok(2)
         }
         Change::Update {
             flag,
@@ -59,18 +53,34 @@ fn put_change(change: &Change, out: &mut Vec<u8>) -> Result<(), Memory>
             new_fields,
         } => {
             put_operation(UPDATE, *flag, out)?;
-            encode_record(old_fields.as_slice(), out)?;
-            encode_record(new_fields.as_slice(), out)
+            let old = old_fields.bytes();
+            out.extend_from_slice(old)?;
+            out.extend_from_slice(new_fields.bytes())?;
+            Ok(2 + old.len())
         }
     }
 }
 
-fn put_changes(changes: &[Change], out: &mut Vec<u8>) -> Result<(), Memory>
+/// Appends a change, and tells where its new record begins. An `Err` changes nothing.
+pub(crate) fn put_change(change: &Change<'_>, out: &mut Vec<u8>) -> Result<usize, Memory>
+    ensures ok { IfOk result (λ split. (out.new.items ≡ out.old.items ++ change_spelling change.now)
+        × (split ≡ split_of change.now) × IsInRange change.now) }
+    ensures err { OnErr result (out.new.items ≡ out.old.items) }
+{
+    let len = out.len();
+    let written = put_parts(change, out);
+    if written.is_err() {
+        out.truncate(len);
+    }
+    written
+}
+
+fn put_changes(changes: &[Change<'_>], out: &mut Vec<u8>) -> Result<(), Memory>
     ensures ok { OnOk result (out.new.items ≡ out.old.items ++ changes_spelling changes.now) }
     ensures kept { Extends out.old.items out.new.items }
 {
     for change in changes {
-        put_change(change, out)?;
+        put_parts(change, out)?;
     }
     Ok(())
 }
@@ -87,7 +97,7 @@ fn put_header(marks: &[u8], name: &str, out: &mut Vec<u8>) -> Result<(), Memory>
     Ok(())
 }
 
-fn put_group(group: &Group, out: &mut Vec<u8>) -> Result<(), Memory>
+fn put_group(group: &Group<'_>, out: &mut Vec<u8>) -> Result<(), Memory>
     ensures ok { OnOk result (out.new.items ≡ out.old.items ++ group_spelling group.now) }
     ensures kept { Extends out.old.items out.new.items }
 {
@@ -95,7 +105,7 @@ fn put_group(group: &Group, out: &mut Vec<u8>) -> Result<(), Memory>
     put_changes(group.changes.as_slice(), out)
 }
 
-fn put_groups(groups: &[Group], out: &mut Vec<u8>) -> Result<(), Memory>
+fn put_groups(groups: &[Group<'_>], out: &mut Vec<u8>) -> Result<(), Memory>
     ensures ok { OnOk result (out.new.items ≡ out.old.items ++ changeset_spelling groups.now) }
     ensures kept { Extends out.old.items out.new.items }
 {
@@ -105,21 +115,8 @@ fn put_groups(groups: &[Group], out: &mut Vec<u8>) -> Result<(), Memory>
     Ok(())
 }
 
-/// Appends the spelling of a change. An `Err` changes nothing. (SQLite's "changeset format".)
-pub fn encode_change(change: &Change, out: &mut Vec<u8>) -> Result<(), Memory>
-    ensures ok { OnOk result (out.new.items ≡ out.old.items ++ change_spelling change.now) }
-    ensures err { OnErr result (out.new.items ≡ out.old.items) }
-{
-    let len = out.len();
-    let written = put_change(change, out);
-    if written.is_err() {
-        out.truncate(len);
-    }
-    written
-}
-
 /// Appends the spelling of a changeset. An `Err` changes nothing. (SQLite's "changeset format".)
-pub fn encode(changeset: &Changeset, out: &mut Vec<u8>) -> Result<(), Memory>
+pub fn encode(changeset: &Changeset<'_>, out: &mut Vec<u8>) -> Result<(), Memory>
     ensures ok { OnOk result (out.new.items ≡ out.old.items ++ changeset_spelling changeset.now) }
     ensures err { OnErr result (out.new.items ≡ out.old.items) }
 {

@@ -1,6 +1,6 @@
 use Rattle.cs_change.proofs.Extends.{extends_through}
 use Rattle.cs_change.proofs.writing.put_changes.Goals as goal
 
-pub returns-in_err-put_change-clause-kept : goal.returns-in_err-put_change-clause-kept
-returns-in_err-put_change-clause-kept c =
-    extends_through c.args.out.now.items c.loop-change.out.items c.put_change.new.out.items _ c.loop-change.invariant c.in_err-put_change.ensures.kept
+pub returns-in_err-put_parts-clause-kept : goal.returns-in_err-put_parts-clause-kept
+returns-in_err-put_parts-clause-kept c =
+    extends_through c.args.out.now.items c.loop-change.out.items c.put_parts.new.out.items _ c.loop-change.invariant c.in_err-put_parts.ensures.kept
