@@ -11,6 +11,7 @@ mod changes_buf;
 mod comparing;
 mod group;
 mod place;
+mod scratch;
 mod spelled;
 mod writing;
 
@@ -20,6 +21,7 @@ pub use group::{Bytes, Changeset, Group};
 pub mod laws;
 
 pub use changes_buf::ChangesBuf;
+pub use scratch::Scratch;
 pub use writing::encode;
 
 #[cfg(test)]

@@ -12,7 +12,7 @@ use Rattle.cs_record.specs.Facts.{head_same, tail_same, behind_stays, behind_end
 use Rattle.cs_record.specs.Laws.{FieldLaws, RecordLaws}
 use Rattle.cs_record.specs.Spelling.{record_of, Fits, row_bytes}
 use Rattle.cs_change.specs.Columns.{holds}
-use Rattle.cs_change.specs.OneChange.{Change}
+use Rattle.cs_change.specs.declared.change.Change.{Change}
 use Rattle.cs_change.specs.declared.change.Change.TheVariants.{Insert, Delete, Update}
 use Rattle.cs_change.specs.Spelling.{flag_byte, change_spelling, FitsRow, FitsChange, IsUpdateColumn, AreUpdateColumns}
 use Rattle.cs_changeset.specs.Records.{InOld, InNew, IsRight, AreRight, IsColumnsFault, row_rules, old_rules, new_rules}

@@ -14,7 +14,7 @@ use Rattle.cs_record.specs.OneSpelling.{one_spelled_row}
 use Rattle.cs_record.specs.Spelled.{SpellsRow, SpelledRow}
 use Rattle.cs_record.specs.Facts.{field_fault_within, reaches, tail, stands_both, behind_at, behind_within}
 use Rattle.cs_change.specs.Columns.{holds}
-use Rattle.cs_change.specs.OneChange.{Change}
+use Rattle.cs_change.specs.declared.change.Change.{Change}
 use Rattle.cs_change.specs.declared.change.Change.TheVariants.{Insert, Delete, Update}
 use Rattle.cs_change.specs.Spelling.{flag_byte, change_spelling, changes_spelling, FitsRow, FitsChange, IsUpdateColumn, AreUpdateColumns}
 use Rattle.cs_changeset.specs.Records.{Rule, InOld, InNew, IsRight, AreRight, IsColumnFault, IsColumnsFault, row_rules, old_rules, new_rules}

@@ -5,8 +5,8 @@ use Rattle.std.proofs.lemmas.List.{length-drop, drop-drop, take_all}
 use Rattle.cs_varint.specs.Varint.{spelling}
 use Rattle.cs_record.specs.Reading.{StandsAt}
 use Rattle.cs_record.specs.Facts.{stands_both, tail, behind_at, behind_within}
-use Rattle.cs_change.specs.OneChange.{Change}
-use Rattle.cs_change.specs.OneChange.{Group}
+use Rattle.cs_change.specs.declared.change.Change.{Change}
+use Rattle.cs_change.specs.declared.group.Group.{Group}
 use Rattle.cs_change.specs.Spelling.{marks_of, header_spelling, changes_spelling, changeset_spelling, FitsHeader, FitsChange, FitsChangeset}
 use Rattle.cs_changeset.specs.Reading.{HeaderFlaw, EndsEarly, LongCount, BadCount, NoKeyMark, BadName, IsHeaderFlaw, IsHeaderFault, IsChangeFault, IsChangesFault, IsGroupFault, IsMarkFault, IsGroupsFault, IsChangesetFault}
 use Rattle.cs_changeset.specs.Steps.{BeginsGroup, EndsGroup}

@@ -1,7 +1,7 @@
 -- The laws of changesets: bytes spell one changeset, or have one fault.
 use Rattle.std.specs.Prelude.{◌≡◌, ℕ, ◌≤◌, ◌⊎◌, Bool, List, ◌++◌, length, Result, Err}
-use Rattle.cs_change.specs.OneChange.{Change}
-use Rattle.cs_change.specs.OneChange.{Group}
+use Rattle.cs_change.specs.declared.change.Change.{Change}
+use Rattle.cs_change.specs.declared.group.Group.{Group}
 use Rattle.cs_change.specs.Spelling.{header_spelling, change_spelling, changeset_spelling, FitsHeader, FitsChange, FitsChangeset}
 use Rattle.cs_changeset.specs.Codes.{fault_code}
 use Rattle.cs_changeset.specs.Reading.{IsChangesetFault, ReadsChangeset}

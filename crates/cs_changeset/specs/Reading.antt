@@ -4,7 +4,7 @@ use Rattle.std.specs.List.{list_any, AllByRecursion}
 use Rattle.cs_varint.specs.Varint.{spelling, IsPartialVarint, IsTooLong}
 use Rattle.cs_record.specs.Spelling.{record_of}
 use Rattle.cs_record.specs.Reading.{FaultBehind}
-use Rattle.cs_change.specs.OneChange.{Group}
+use Rattle.cs_change.specs.declared.group.Group.{Group}
 use Rattle.cs_change.specs.Spelling.{is_nonzero, marks_of, header_spelling, changes_spelling, changeset_spelling, FitsHeader, FitsChange, FitsChangeset}
 use Rattle.cs_changeset.specs.Records.{AreRight, IsColumnsFault, row_rules, old_rules, new_rules}
 use Rattle.cs_changeset.specs.declared.fault.Fault.{Fault}

@@ -10,8 +10,8 @@ use Rattle.cs_value.specs.declared.value.Field.TheVariants.{Is}
 use Rattle.cs_record.specs.Spelling.{field, record_of, Fits, row_bytes}
 use Rattle.cs_record.specs.Reading.{StandsAt, IsFieldFault}
 use Rattle.cs_record.specs.declared.fault.Fault.{Fault as FieldFault}
-use Rattle.cs_change.specs.OneChange.{Change}
-use Rattle.cs_change.specs.OneChange.{Group}
+use Rattle.cs_change.specs.declared.change.Change.{Change}
+use Rattle.cs_change.specs.declared.group.Group.{Group}
 use Rattle.cs_change.specs.Spelling.{flag_byte, change_spelling, FitsRow, AreUpdateColumns, header_spelling, changes_spelling, group_spelling, FitsHeader, FitsChange, FitsGroup, FitsChangeset, changeset_spelling}
 use Rattle.cs_changeset.specs.Records.{Rule, InRow, of_field, IsRight, AreRight, IsColumnFault, IsColumnsFault, row_rules}
 use Rattle.cs_changeset.specs.Reading.{FitsMarks, IsHeaderFault, IsUpdateFault, IsFlaggedFault, IsChangeFault, IsChangesFault, IsGroupFault, IsGroupsFault}

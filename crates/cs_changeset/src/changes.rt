@@ -6,7 +6,7 @@ ghost use Rattle.cs_changeset.specs.Steps.{ReadsChange, ReadsChanges, ReadsFlag,
 
 use crate::fault::{CodecFault, Fault, FirstFault};
 use crate::records::{read_new_fields, read_old_fields, read_row};
-use cs_change::{Change, ChangeRef};
+use cs_change::Change;
 use cs_record::{Record, Row};
 use std::alloc::Global;
 
@@ -56,7 +56,7 @@ fn read_flagged_row<'a>(
 
 /// The INSERT whose operation stands before these bytes.
 #[inline(always)]
-fn read_insert<'a>(marks: &[u8], behind: &'a [u8]) -> Result<(ChangeRef<'a>, usize), FirstFault>
+fn read_insert<'a>(marks: &[u8], behind: &'a [u8]) -> Result<(Change<'a>, usize), FirstFault>
     ensures { ReadsOperation (marks_of marks.now) INSERT behind.now result }
 {
     let (flag, new_row, len) = read_flagged_row(marks, behind)?;
@@ -65,7 +65,7 @@ fn read_insert<'a>(marks: &[u8], behind: &'a [u8]) -> Result<(ChangeRef<'a>, usi
 
 /// The DELETE whose operation stands before these bytes.
 #[inline(always)]
-fn read_delete<'a>(marks: &[u8], behind: &'a [u8]) -> Result<(ChangeRef<'a>, usize), FirstFault>
+fn read_delete<'a>(marks: &[u8], behind: &'a [u8]) -> Result<(Change<'a>, usize), FirstFault>
     ensures { ReadsOperation (marks_of marks.now) DELETE behind.now result }
 {
     let (flag, old_row, len) = read_flagged_row(marks, behind)?;
@@ -89,7 +89,7 @@ fn read_update_records<'a>(
 
 /// The UPDATE whose operation stands before these bytes.
 #[inline(always)]
-fn read_update<'a>(marks: &[u8], behind: &'a [u8]) -> Result<(ChangeRef<'a>, usize), FirstFault>
+fn read_update<'a>(marks: &[u8], behind: &'a [u8]) -> Result<(Change<'a>, usize), FirstFault>
     ensures { ReadsOperation (marks_of marks.now) UPDATE behind.now result }
 {
     let (flag, rest) = read_flag(behind)?;
@@ -111,7 +111,7 @@ fn read_update<'a>(marks: &[u8], behind: &'a [u8]) -> Result<(ChangeRef<'a>, usi
 fn read_change<'a>(
     marks: &[u8],
     bytes: &'a [u8],
-) -> Result<Option<(ChangeRef<'a>, usize)>, FirstFault>
+) -> Result<Option<(Change<'a>, usize)>, FirstFault>
     ensures { ReadsChange (marks_of marks.now) bytes.now result }
 {
     match bytes {
@@ -130,7 +130,7 @@ pub(crate) fn read_changes<'a>(
     alloc: Global,
     marks: &[u8],
     bytes: &'a [u8],
-) -> Result<(Vec<ChangeRef<'a>>, usize), CodecFault>
+) -> Result<(Vec<Change<'a>>, usize), CodecFault>
     ensures { ReadsChanges (marks_of marks.now) bytes.now result }
 {
     let mut changes = Vec::new(alloc);

@@ -2,7 +2,7 @@
 
 ghost use Rattle.std.specs.Prelude.{◌≡◌, ◌≤◌, ◌++◌, ℕ, List, length};
 ghost use Rattle.cs_change.specs.Spelling.{changeset_spelling, FitsChangeset};
-ghost use Rattle.cs_change.specs.OneChange.{Group as GroupRead};
+ghost use Rattle.cs_change.specs.declared.group.Group.{Group as GroupRead};
 ghost use Rattle.cs_changeset.specs.Reading.{FindsChangeset, IsChangesetFault, ReadsChangeset, TellsChangesetFault};
 ghost use Rattle.cs_changeset.specs.Steps.{BeginsGroup, EndsGroup, ReadsGroup, ReadsGroups};
 ghost use Rattle.cs_changeset.specs.declared.fault.Fault.{Fault};
@@ -12,7 +12,7 @@ use crate::changes::read_changes;
 use crate::fault::{CodecFault, Fault};
 use crate::header::header;
 use crate::laws;
-use cs_change::{ChangeRef, ChangesetRef, Group};
+use cs_change::{Change, Changeset, Group};
 use cs_value::{Items, Text};
 use std::alloc::Global;
 
@@ -23,7 +23,7 @@ const TABLE: u8 = b'T';
 const PATCHSET: u8 = b'P';
 
 /// The group at the front, and how many bytes it takes.
-fn read_group(alloc: Global, bytes: &[u8]) -> Result<(Group<ChangeRef<'_>>, usize), CodecFault>
+fn read_group(alloc: Global, bytes: &[u8]) -> Result<(Group<'_>, usize), CodecFault>
     requires { BeginsGroup bytes.now }
     ensures { ReadsGroup bytes.now result }
 {
@@ -43,7 +43,7 @@ fn read_group(alloc: Global, bytes: &[u8]) -> Result<(Group<ChangeRef<'_>>, usiz
 }
 
 /// The groups to the end of the bytes, which begin with a group where there are any.
-fn read_groups(alloc: Global, bytes: &[u8]) -> Result<Vec<Group<ChangeRef<'_>>>, CodecFault>
+fn read_groups(alloc: Global, bytes: &[u8]) -> Result<Vec<Group<'_>>, CodecFault>
     requires { EndsGroup bytes.now }
     ensures { ReadsGroups bytes.now result }
 {
@@ -64,7 +64,7 @@ fn read_groups(alloc: Global, bytes: &[u8]) -> Result<Vec<Group<ChangeRef<'_>>>,
     Ok(groups)
 }
 
-fn read_changeset(alloc: Global, bytes: &[u8]) -> Result<ChangesetRef<'_>, CodecFault>
+fn read_changeset(alloc: Global, bytes: &[u8]) -> Result<Changeset<'_>, CodecFault>
     ensures { ReadsChangeset bytes.now result }
 {
     match bytes {
@@ -77,7 +77,7 @@ fn read_changeset(alloc: Global, bytes: &[u8]) -> Result<ChangesetRef<'_>, Codec
 /// Reads a changeset: the whole of the bytes. Its changes stay in them; memory is taken for the lists of groups and of
 /// changes, and for the header of each group. (SQLite's "changeset format"; the faults, each told at its offset from
 /// the front, are of this project's profile.)
-pub fn read(alloc: Global, bytes: &[u8]) -> Result<ChangesetRef<'_>, CodecFault>
+pub fn read(alloc: Global, bytes: &[u8]) -> Result<Changeset<'_>, CodecFault>
     // What is read is in range, and is spelled by the bytes; what is told is their first fault.
     ensures reads { ReadsChangeset bytes.now result }
 

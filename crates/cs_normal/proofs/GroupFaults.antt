@@ -12,8 +12,8 @@ use Rattle.std.proofs.lemmas.Map.Keys.{IsDistinct-head, IsDistinct-tail}
 use Rattle.std.proofs.lemmas.Slice.Eq.{bytes_eq-Decides}
 use Rattle.cs_value.specs.Catalog.{AreTables}
 use Rattle.cs_value.specs.declared.catalog.TableDef.{TableDef}
-use Rattle.cs_change.specs.OneChange.{Change}
-use Rattle.cs_change.specs.OneChange.{Group}
+use Rattle.cs_change.specs.declared.change.Change.{Change}
+use Rattle.cs_change.specs.declared.group.Group.{Group}
 use Rattle.cs_normal.specs.Changes.{same_bytes}
 use Rattle.cs_normal.specs.NormalForm.{has_key, change_bytes, AreKeyed, HasFirstUnfitChange, AreUnfit}
 use Rattle.cs_normal.specs.NormalFormOf.{changes_of, HasTable, HaveTables, HaveKeys, AreFit, IsGroupOf, IsUnfitGroup, IsUnfit}

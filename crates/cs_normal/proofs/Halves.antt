@@ -12,7 +12,7 @@ use Rattle.std.proofs.lemmas.Map.Entries.{length-keys_of, lookup_from_place, loo
 use Rattle.std.proofs.lemmas.Map.Keys.{IsDistinct-from_sorted, Less-from_sorted}
 use Rattle.std.proofs.lemmas.Map.Lookups.{exact_bytes}
 use Rattle.std.proofs.lemmas.Option.{slice_get-map, slice_get_within, get_or_from_slice_get}
-use Rattle.cs_change.specs.OneChange.{Change}
+use Rattle.cs_change.specs.declared.change.Change.{Change}
 use Rattle.cs_normal.specs.Changes.{Changes, by_bytes, change_at, IsOrdered}
 
 -- each key before the place is below the key

@@ -5,7 +5,7 @@ use Rattle.std.specs.List.{All, slice_range}
 use Rattle.std.proofs.lemmas.List.{take_all, length-drop, drop-append-le, take-append-le, map-append, take_more}
 use Rattle.std.proofs.lemmas.List.Elements.{All-append}
 use Rattle.std.proofs.Math.Seq.{drop-append_seam}
-use Rattle.cs_change.specs.OneChange.{Change}
+use Rattle.cs_change.specs.declared.change.Change.{Change}
 use Rattle.cs_normal.specs.Keyed.{IsSpotIn, keys_in}
 use Rattle.cs_normal.specs.NormalForm.{change_bytes, has_key}
 use Rattle.cs_normal.specs.Steps.Lent.{key_if_set}

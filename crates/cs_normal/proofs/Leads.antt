@@ -13,15 +13,15 @@ use Rattle.cs_value.specs.declared.catalog.TableDef.{TableDef}
 use Rattle.cs_value.specs.declared.value.Value.{Value}
 use Rattle.cs_change.specs.Action.{action, action_any, after, after_any}
 use Rattle.cs_change.specs.Spelling.{FitsChange, FitsChangeset, marks_of}
-use Rattle.cs_change.specs.OneChange.{Change}
-use Rattle.cs_change.specs.OneChange.{Group}
+use Rattle.cs_change.specs.declared.change.Change.{Change}
+use Rattle.cs_change.specs.declared.group.Group.{Group}
 use Rattle.cs_normal.specs.Changes.{key_bytes, IsSpelled, same_bytes, change_at}
 use Rattle.cs_normal.specs.Laws.{BytesTellKeys}
 use Rattle.cs_normal.specs.Normal.{change_of, changes_in}
 use Rattle.cs_normal.specs.NormalForm.{change_key, change_bytes, AreKeyed, IsNormalOf}
 use Rattle.cs_normal.specs.NormalFormOf.{HasTable, changes_of, IsNormalFormOf}
 use Rattle.cs_normal.specs.State.{State, IsStateOf, left_at, IsAfterChanges, IsAfterGroups, NormalFormLeads}
-use Rattle.cs_normal.specs.OneTable.{TableChanges}
+use Rattle.cs_normal.specs.declared.normal.TableChanges.{TableChanges}
 use Rattle.cs_normal.proofs.AsRead.{shape_of, all_read}
 use Rattle.cs_normal.proofs.Entries.{lenient}
 use Rattle.cs_normal.proofs.Keeps.{keeps}

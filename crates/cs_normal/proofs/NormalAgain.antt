@@ -17,14 +17,14 @@ use Rattle.cs_change.specs.Columns.{holds}
 use Rattle.cs_change.specs.Normal.{NormalUpdate, no_column, key_column, unmodified, modified, IsNormal}
 use Rattle.cs_change.specs.Spelling.{flag_byte, marks_of, change_spelling, changes_spelling, header_spelling, changeset_spelling}
 use Rattle.cs_change.specs.Then.{is_idle}
-use Rattle.cs_change.specs.OneChange.{Change}
+use Rattle.cs_change.specs.declared.change.Change.{Change}
 use Rattle.cs_change.specs.declared.change.Change.TheVariants.{Insert, Delete, Update}
 use Rattle.cs_normal.specs.Changes.{Changes, by_bytes, same_bytes, change_at, key_bytes, IsEntry, AreNormal}
 use Rattle.cs_normal.specs.Laws.{NormalAgain}
 use Rattle.cs_normal.specs.Normal.{AreApart, IsOfTable, FitsCatalog, IsNormalChangeset, changes_in, group_of, groups_of, normal_spelling}
 use Rattle.cs_normal.specs.NormalForm.{marked_fields, change_key, change_bytes, has_key, normal_olds, normal_news, normal_form, AreKeyed, IsNormalOf}
 use Rattle.cs_normal.specs.NormalFormOf.{changes_of, HasTable}
-use Rattle.cs_normal.specs.OneTable.{TableChanges}
+use Rattle.cs_normal.specs.declared.normal.TableChanges.{TableChanges}
 use Rattle.cs_normal.proofs.Membership.{normal_form_any, keyed, by_membership}
 use Rattle.cs_normal.proofs.Names.{HasOtherName, are_apart, named, other_named}
 use Rattle.cs_normal.proofs.NormalLaws.{by_test}

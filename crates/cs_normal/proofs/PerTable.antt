@@ -5,13 +5,13 @@ use Rattle.std.specs.Str.{bytes_eq}
 use Rattle.std.proofs.lemmas.List.Elements.{All-from_recursion}
 use Rattle.cs_value.specs.declared.catalog.TableDef.{TableDef}
 use Rattle.cs_change.specs.Spelling.{FitsChange}
-use Rattle.cs_change.specs.OneChange.{Group}
+use Rattle.cs_change.specs.declared.group.Group.{Group}
 use Rattle.cs_normal.specs.Changes.{Changes}
 use Rattle.cs_normal.specs.Normal.{AreApart, FitsCatalog, changes_in}
 use Rattle.cs_normal.specs.NormalForm.{AreKeyed, IsNormalOf}
 use Rattle.cs_normal.specs.NormalFormOf.{changes_of, HaveKeys}
 use Rattle.cs_normal.specs.Steps.TableByTable.{AreTablesOf, no_table, next, table_changes, IsTableOf}
-use Rattle.cs_normal.specs.OneTable.{TableChanges}
+use Rattle.cs_normal.specs.declared.normal.TableChanges.{TableChanges}
 use Rattle.cs_normal.proofs.CatalogOrder.{fits_more}
 use Rattle.cs_normal.proofs.Names.{HasOtherName, named, other_named}
 

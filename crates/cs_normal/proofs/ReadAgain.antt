@@ -8,14 +8,14 @@ use Rattle.std.proofs.lemmas.Slice.Eq.{bytes_eq-Decides}
 use Rattle.cs_value.specs.Catalog.{IsTable}
 use Rattle.cs_value.specs.declared.catalog.TableDef.{TableDef}
 use Rattle.cs_change.specs.Spelling.{flag_byte, is_nonzero, marks_of, change_spelling, changes_spelling, FitsChange, FitsHeader, FitsChangeset}
-use Rattle.cs_change.specs.OneChange.{Change}
-use Rattle.cs_change.specs.OneChange.{Group}
+use Rattle.cs_change.specs.declared.change.Change.{Change}
+use Rattle.cs_change.specs.declared.group.Group.{Group}
 use Rattle.cs_normal.specs.Changes.{Changes, IsEntry}
 use Rattle.cs_normal.specs.Laws.{FittingIsNormal, HeadersFit, NormalIsTaken}
 use Rattle.cs_normal.specs.Normal.{AreApart, FitsCatalog, IsNormalTable, IsNormalChangeset, groups_of}
 use Rattle.cs_normal.specs.NormalFormOf.{changes_of}
 use Rattle.cs_normal.specs.Steps.TableByTable.{AreTablesOf, no_table, next}
-use Rattle.cs_normal.specs.OneTable.{TableChanges}
+use Rattle.cs_normal.specs.declared.normal.TableChanges.{TableChanges}
 use Rattle.cs_normal.proofs.Names.{HasOtherName, are_apart}
 use Rattle.cs_normal.proofs.NormalAgain.{marks_stay, spelled_alike}
 use Rattle.cs_normal.proofs.NormalLaws.{by_test}

@@ -12,14 +12,14 @@ use Rattle.cs_record.specs.Spelling.{Fits}
 use Rattle.cs_change.specs.Columns.{set_columns}
 use Rattle.cs_change.specs.Normal.{IsNormalIfAny}
 use Rattle.cs_change.specs.Spelling.{flag_byte, FitsHeader, FitsChangeset, changeset_spelling}
-use Rattle.cs_change.specs.OneChange.{Change}
+use Rattle.cs_change.specs.declared.change.Change.{Change}
 use Rattle.cs_change.specs.declared.change.Change.TheVariants.{Insert, Delete, Update}
-use Rattle.cs_change.specs.OneChange.{Group}
+use Rattle.cs_change.specs.declared.group.Group.{Group}
 use Rattle.cs_normal.specs.Changes.{Changes, key_bytes, IsSpelled, change_at, IsOrdered, IsEntry}
 use Rattle.cs_normal.specs.Normal.{AreApart, FitsCatalog, IsNormalTable, IsNormalChangeset, change_of, groups_of, normal_spelling}
 use Rattle.cs_normal.specs.NormalForm.{normal_form}
 use Rattle.cs_normal.specs.NormalFormOf.{AreFit, IsNormalFormOf, IsUnfit}
-use Rattle.cs_normal.specs.OneTable.{TableChanges}
+use Rattle.cs_normal.specs.declared.normal.TableChanges.{TableChanges}
 use Rattle.cs_normal.specs.declared.unfit.Unfit.{Unfit}
 use Rattle.cs_normal.specs.declared.unfit.Unfit.TheVariants.{Memory}
 

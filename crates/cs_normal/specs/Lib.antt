@@ -5,6 +5,5 @@ pub mod Laws
 pub mod Normal
 pub mod NormalForm
 pub mod NormalFormOf
-pub mod OneTable
 pub mod State
 pub mod Steps

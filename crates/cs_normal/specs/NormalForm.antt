@@ -8,7 +8,7 @@ use Rattle.cs_value.specs.declared.value.Field.TheVariants.{Undefined, Is}
 use Rattle.cs_value.specs.Catalog.{marked, is_set}
 use Rattle.cs_change.specs.Columns.{is_defined, is_blank}
 use Rattle.cs_change.specs.Then.{is_idle}
-use Rattle.cs_change.specs.OneChange.{Change}
+use Rattle.cs_change.specs.declared.change.Change.{Change}
 use Rattle.cs_change.specs.declared.change.Change.TheVariants.{Insert, Delete, Update}
 use Rattle.cs_normal.specs.Changes.{Changes, key_bytes, same_bytes, IsOrdered}
 use Rattle.cs_normal.specs.declared.unfit.Unfit.{Unfit}

@@ -1,21 +1,22 @@
-//! Changesets as read, brought into normal form.
+//! Changesets as read, that stay in their bytes, brought into normal form.
 
-ghost use Rattle.std.specs.Prelude.{◌≡◌, ◌<◌, ◌≤◌, ◌↔◌, ◌++◌, length, take, map, HoldsAt, IsTrue, IfOk, IfErr, OnOk, MatchOption};
-ghost use Rattle.cs_change.specs.Spelling.{FitsChangeset, changeset_spelling, marks_of};
+ghost use Rattle.std.specs.Prelude.{◌≡◌, ◌<◌, ◌≤◌, ◌++◌, length, take, map, HoldsAt, IfOk, IfErr, OnOk, MatchOption};
+ghost use Rattle.cs_change.specs.Spelling.{FitsChangeset, changeset_spelling};
 ghost use Rattle.cs_normal.specs.Normal.{normal_spelling};
 ghost use Rattle.cs_normal.specs.NormalFormOf.{HasTable, HaveTables, HaveKeys, IsNormalFormOf, IsUnfit};
 ghost use Rattle.cs_normal.specs.Steps.TableByTable.{AreTablesOf, AnyUnfit, HasTableFault, IsUnfitHeader, table_changes};
 
-use crate::changes::KeyedChange;
-use crate::normal::{Normal, TableChanges};
-use crate::normal_form::normalise_table;
+use crate::keyed_changes::KeyedChanges;
+use crate::normal::TableChanges;
+use crate::normal::Normal;
+use crate::table_form::table_form;
 use crate::unfit::Unfit;
-use cs_change::{Changeset, Group};
-use cs_value::{Catalog, Items, Memory, TableDef};
+use cs_change::{Change, Changeset, Group};
+use cs_value::{Catalog, Memory, TableDef};
 use std::alloc::{AllocError, Global};
 
 /// Whether the marks of a group are those of a table: any byte but 0 marks a key column.
-pub(crate) fn same_shape(marks: &[u8], key_marks: &[bool]) -> bool
+fn same_shape(marks: &[u8], key_marks: &[bool]) -> bool
     ensures { IsTrue result ↔ (marks_of marks.now ≡ key_marks.now) }
 {
     let mut marks = marks;
@@ -36,7 +37,7 @@ pub(crate) fn same_shape(marks: &[u8], key_marks: &[bool]) -> bool
 }
 
 /// What is wrong with a group's header.
-fn header_fault(catalog: &Catalog, group: &Group) -> Option<Unfit>
+fn header_fault(catalog: &Catalog, group: &Group<'_>) -> Option<Unfit>
     ensures { MatchOption result (HasTable catalog.now group.now) (λ fault. IsUnfitHeader fault catalog.now group.now) }
 {
     let Some(place) = catalog.find(group.name.as_str()) else {
@@ -50,7 +51,7 @@ fn header_fault(catalog: &Catalog, group: &Group) -> Option<Unfit>
 }
 
 /// How many groups stand before the first whose header is wrong, and what is wrong with it.
-fn fitting_headers(catalog: &Catalog, groups: &[Group]) -> (usize, Option<Unfit>)
+fn fitting_headers(catalog: &Catalog, groups: &[Group<'_>]) -> (usize, Option<Unfit>)
     ensures count { result.0 ≤ length groups.now }
     ensures fit { HaveTables catalog.now (take result.0 groups.now) }
     ensures stop { MatchOption result.1 (result.0 ≡ length groups.now)
@@ -68,10 +69,10 @@ fn fitting_headers(catalog: &Catalog, groups: &[Group]) -> (usize, Option<Unfit>
 fn put_changes(
     alloc: Global,
     table: &TableDef,
-    changes: Vec<KeyedChange>,
+    changes: KeyedChanges,
     normal: &mut Vec<TableChanges>,
 ) -> Result<(), Memory>
-    ensures { OnOk result (normal.new.items ≡ normal.old.items ++ table_changes table.now changes.items) }
+    ensures { OnOk result (normal.new.items ≡ normal.old.items ++ table_changes table.now changes) }
 {
     if changes.is_empty() {
         return Ok(());
@@ -79,7 +80,7 @@ fn put_changes(
     normal.push(TableChanges {
         name: table.name.copy(alloc)?,
         marks: table.key_marks.copied(alloc)?,
-        changes: Items::from_vec(changes),
+        changes,
     })?;
     Ok(())
 }
@@ -88,7 +89,7 @@ fn put_changes(
 fn normalise_tables(
     alloc: Global,
     tables: &[TableDef],
-    groups: &[Group],
+    groups: &[Group<'_>],
 ) -> Result<Vec<TableChanges>, Unfit>
     ensures normal { IfOk result (λ normal. AreTablesOf groups.now tables.now normal.items) }
     ensures fault { IfErr result (λ fault. AnyUnfit fault tables.now groups.now) }
@@ -96,7 +97,7 @@ fn normalise_tables(
     let mut normal = Vec::new(alloc);
     let mut rest = tables;
     while let Some((table, more)) = rest.split_first() {
-        let changes = normalise_table(alloc, table, groups)?;
+        let changes = table_form(alloc, table, groups)?;
         put_changes(alloc, table, changes, &mut normal)?;
         rest = more;
     }
@@ -107,7 +108,7 @@ fn normalise_tables(
 fn table_fault(
     alloc: Global,
     tables: &[TableDef],
-    groups: &[Group],
+    groups: &[Group<'_>],
 ) -> Result<Option<Unfit>, Memory>
     ensures { IfOk result (λ found. MatchOption found (HaveKeys tables.now groups.now)
         (λ fault. HasTableFault fault tables.now groups.now)) }
@@ -125,7 +126,7 @@ fn table_fault(
 fn first_fault(
     alloc: Global,
     catalog: &Catalog,
-    groups: &[Group],
+    groups: &[Group<'_>],
     fault: Unfit,
 ) -> Result<Unfit, Memory>
     requires headers { HaveTables catalog.now groups.now }
@@ -151,7 +152,11 @@ fn first_fault(
 /// The normal form of a changeset by a catalog: each table's changes over all its groups, one change a key, in the
 /// order of the keys' bytes; or what is wrong with the first group that is wrong. `Memory` says nothing of the
 /// changeset. (Profile of this project over SQLite's "changeset format".)
-pub fn normalise(alloc: Global, catalog: &Catalog, changeset: &Changeset) -> Result<Normal, Unfit>
+pub fn normalise(
+    alloc: Global,
+    catalog: &Catalog,
+    changeset: &Changeset<'_>,
+) -> Result<Normal, Unfit>
     // The changeset is one that the reader takes.
     requires { FitsChangeset changeset.now }
 

@@ -9,7 +9,7 @@ ghost use Rattle.cs_normal.specs.Steps.FirstTables.{with_new, AreFirstTables, Ne
 ghost use Rattle.cs_normal.specs.declared.headers.HeaderFault.TheVariants.{Memory as OutOfMemory};
 
 use crate::comparing::{same_marks, same_name};
-use cs_change::{ChangeRef, Changeset, ChangesetRef, Group};
+use cs_change::{Changeset, Group};
 use cs_value::{Catalog, Items, MAX_TABLES, Marks, Memory, TableDef};
 use std::alloc::{AllocError, AllocFailed, Global};
 use thiserror::Error;
@@ -56,41 +56,9 @@ fn read_marks(alloc: Global, marks: &[u8]) -> Result<Marks, Memory>
     Ok(Items::from_vec(read))
 }
 
-fn read_header(alloc: Global, group: &Group) -> Result<TableDef, Memory>
-    ensures { IfOk result (λ table. table ≡ header group.now) }
-{
-    Ok(TableDef {
-        name: group.name.copy(alloc)?,
-        key_marks: read_marks(alloc, group.marks.as_slice())?,
-    })
-}
-
-fn put_headers(alloc: Global, groups: &[Group], tables: &mut Vec<TableDef>) -> Result<(), Memory>
-    ensures { OnOk result (tables.new.items ≡ tables.old.items ++ map header groups.now) }
-{
-    let mut rest = groups;
-    while let Some((group, more)) = rest.split_first() {
-        tables.push(read_header(alloc, group)?)?;
-        rest = more;
-    }
-    Ok(())
-}
-
-fn read_headers(alloc: Global, changesets: &[Changeset]) -> Result<Vec<TableDef>, Memory>
-    ensures { IfOk result (λ tables. tables.items ≡ headers changesets.now) }
-{
-    let mut tables = Vec::new(alloc);
-    let mut rest = changesets;
-    while let Some((changeset, more)) = rest.split_first() {
-        put_headers(alloc, changeset.as_slice(), &mut tables)?;
-        rest = more;
-    }
-    Ok(tables)
-}
-
-fn put_lent_headers(
+fn put_headers(
     alloc: Global,
-    groups: &[Group<ChangeRef<'_>>],
+    groups: &[Group<'_>],
     tables: &mut Vec<TableDef>,
 ) -> Result<(), Memory>
     ensures { OnOk result (tables.new.items ≡ tables.old.items ++ map header groups.now) }
@@ -104,12 +72,12 @@ fn put_lent_headers(
     Ok(())
 }
 
-fn lent_headers(alloc: Global, changesets: &[ChangesetRef<'_>]) -> Result<Vec<TableDef>, Memory>
+fn read_headers(alloc: Global, changesets: &[Changeset<'_>]) -> Result<Vec<TableDef>, Memory>
     ensures { IfOk result (λ tables. tables.items ≡ headers changesets.now) }
 {
     let mut tables = Vec::new(alloc);
     for changeset in changesets {
-        put_lent_headers(alloc, changeset.as_slice(), &mut tables)?;
+        put_headers(alloc, changeset.as_slice(), &mut tables)?;
     }
     Ok(tables)
 }
@@ -209,7 +177,7 @@ fn catalog_of_headers(alloc: Global, all: Vec<TableDef>) -> Result<Catalog, Head
 /// `Shape` where one name comes with two column counts or other key columns; where none does, `BadCatalog` where
 /// `Catalog::new` refuses those tables. `Memory` says nothing of the changesets. (SQLite's "changeset format", table
 /// header; profile of this project.)
-pub fn catalog_of(alloc: Global, changesets: &[Changeset]) -> Result<Catalog, HeaderFault>
+pub fn catalog_of(alloc: Global, changesets: &[Changeset<'_>]) -> Result<Catalog, HeaderFault>
     ensures catalog { IfOk result (λ catalog. catalog ≡ tables_of_headers (headers changesets.now)) }
 
     // Each name has one shape.
@@ -218,19 +186,4 @@ pub fn catalog_of(alloc: Global, changesets: &[Changeset]) -> Result<Catalog, He
     ensures fault { IfErr result (λ fault. HasHeaderFault fault (headers changesets.now)) }
 {
     catalog_of_headers(alloc, read_headers(alloc, changesets)?)
-}
-
-/// The same of changesets whose changes stay in their bytes.
-pub fn catalog_of_refs(
-    alloc: Global,
-    changesets: &[ChangesetRef<'_>],
-) -> Result<Catalog, HeaderFault>
-    ensures catalog { IfOk result (λ catalog. catalog ≡ tables_of_headers (headers changesets.now)) }
-
-    // Each name has one shape.
-    ensures shapes { IfOk result (λ _. HasTwoShapes (headers changesets.now) → ⊥) }
-
-    ensures fault { IfErr result (λ fault. HasHeaderFault fault (headers changesets.now)) }
-{
-    catalog_of_headers(alloc, lent_headers(alloc, changesets)?)
 }

@@ -6,7 +6,7 @@ ghost use Rattle.cs_value.specs.Catalog.{is_set, marked};
 ghost use Rattle.cs_normal.specs.Changes.{key_bytes};
 ghost use Rattle.cs_normal.specs.NormalForm.{change_bytes, has_key, marked_fields};
 
-use cs_change::{Change, ChangeRef};
+use cs_change::Change;
 use cs_record::{Cell, Record, Row};
 use cs_value::Memory;
 
@@ -70,7 +70,7 @@ fn put_record_key(marks: &[bool], fields: &Record<'_>, out: &mut Vec<u8>) -> Res
 
 /// Appends the bytes of a change's key, and tells whether none of its values is NULL.
 #[inline(always)]
-pub fn put_key(marks: &[bool], change: &ChangeRef<'_>, out: &mut Vec<u8>) -> Result<bool, Memory>
+pub fn put_key(marks: &[bool], change: &Change<'_>, out: &mut Vec<u8>) -> Result<bool, Memory>
     ensures { IfOk result (λ whole. (out.new.items ≡ out.old.items ++ change_bytes marks.now change.now)
         × (whole ≡ has_key marks.now change.now)) }
 {

@@ -6,8 +6,8 @@ ghost use Rattle.cs_normal.specs.NormalForm.{normal_form};
 ghost use Rattle.cs_normal.specs.Steps.Prepared.{kept};
 
 use crate::keys::Keys;
-use crate::one_form::{Scratch, push_form};
-use cs_change::{ChangeRef, ChangesBuf};
+use crate::one_form::push_form;
+use cs_change::{Change, ChangesBuf, Scratch};
 use cs_value::Memory;
 use std::alloc::{AllocError, Global};
 use std::cmp::Ordering;
@@ -27,7 +27,7 @@ fn put_both(
     keys: &mut Keys,
     changes: &mut ChangesBuf,
     key: &[u8],
-    change: &ChangeRef<'_>,
+    change: &Change<'_>,
 ) -> Result<(), Memory>
     requires { length keys.old ≡ length changes.old }
     ensures as_many { length keys.new ≡ length changes.new }
@@ -53,7 +53,7 @@ fn put_form(
     changes: &mut ChangesBuf,
     marks: &[bool],
     key: &[u8],
-    change: &ChangeRef<'_>,
+    change: &Change<'_>,
     scratch: &mut Scratch,
 ) -> Result<(), Memory>
     requires { length keys.old ≡ length changes.old }
@@ -79,7 +79,7 @@ fn put_form(
 
 impl Model for KeyedChanges {
     ghost use Rattle.std.specs.Prelude.{List, ℕ};
-    ghost use Rattle.cs_change.specs.OneChange.{Change as One};
+    ghost use Rattle.cs_change.specs.declared.change.Change.{Change as One};
     ghost use Rattle.cs_normal.specs.Keyed.{beside};
 
     ghost Value = { List (List ℕ × One) };
@@ -142,7 +142,7 @@ impl KeyedChanges {
     }
 
     /// The change behind the key with these bytes, found by halves.
-    pub fn find(&self, key: &[u8]) -> Option<ChangeRef<'_>>
+    pub fn find(&self, key: &[u8]) -> Option<Change<'_>>
         requires { IsOrdered self.now }
         ensures { result ≡ change_at key.now self.now }
     {
@@ -178,7 +178,7 @@ impl KeyedChanges {
 
     /// The change there.
     #[inline(always)]
-    pub fn change(&self, at: usize) -> Option<ChangeRef<'_>>
+    pub fn change(&self, at: usize) -> Option<Change<'_>>
         ensures { result ≡ slice_get (values_of self.now) at }
     {
         self.parts().1.get(at)
@@ -186,7 +186,7 @@ impl KeyedChanges {
 
     /// The key and the change there, if there is one.
     #[inline(always)]
-    pub fn entry(&self, at: usize) -> Option<(&[u8], ChangeRef<'_>)>
+    pub fn entry(&self, at: usize) -> Option<(&[u8], Change<'_>)>
         ensures { MatchOption result (slice_get self.now at ≡ None)
             (λ entry. slice_get self.now at ≡ Some (entry.0.now, entry.1)) }
     {
@@ -197,7 +197,7 @@ impl KeyedChanges {
     }
 
     /// Appends a change behind the bytes of its key. An `Err` leaves no change.
-    pub fn push(&mut self, key: &[u8], change: &ChangeRef<'_>) -> Result<(), Memory>
+    pub fn push(&mut self, key: &[u8], change: &Change<'_>) -> Result<(), Memory>
         ensures { OnOk result (self.new ≡ self.old ++ (key.now, change.now) ∷ []) }
     {
         put_both(&mut self.keys, &mut self.changes, key, change)
@@ -209,7 +209,7 @@ impl KeyedChanges {
         &mut self,
         marks: &[bool],
         key: &[u8],
-        change: &ChangeRef<'_>,
+        change: &Change<'_>,
         scratch: &mut Scratch,
     ) -> Result<(), Memory>
         ensures { OnOk result (self.new ≡ self.old ++ kept ((key.now, normal_form marks.now change.now) ∷ [])) }

@@ -8,7 +8,7 @@ ghost use Rattle.cs_normal.specs.Steps.Lent.{key_if_set};
 
 use crate::comparing::same_bytes;
 use crate::key_of_change::put_key;
-use cs_change::ChangeRef;
+use cs_change::Change;
 use cs_value::Memory;
 use std::alloc::{AllocError, Global};
 use std::marker::Model;
@@ -56,7 +56,7 @@ fn put_of(
     bytes: &mut Vec<u8>,
     spots: &mut Vec<(usize, usize)>,
     marks: &[bool],
-    change: &ChangeRef<'_>,
+    change: &Change<'_>,
 ) -> Result<bool, Memory>
     requires { All (IsSpotIn (length bytes.old.items)) spots.old.items }
     ensures within { All (IsSpotIn (length bytes.new.items)) spots.new.items }
@@ -152,7 +152,7 @@ impl Keys {
 
     /// Appends the key of a change, if none of its values is NULL, and tells whether that is so. An `Err` leaves no key.
     #[inline(always)]
-    pub(crate) fn push_of(&mut self, marks: &[bool], change: &ChangeRef<'_>) -> Result<bool, Memory>
+    pub(crate) fn push_of(&mut self, marks: &[bool], change: &Change<'_>) -> Result<bool, Memory>
         ensures ok { OnOk result (self.new ≡ self.old ++ key_if_set marks.now change.now) }
         ensures whole { IfOk result (λ whole. whole ≡ has_key marks.now change.now) }
     {

@@ -1,12 +1,10 @@
-//! Changesets in normal form.
+//! Changesets in normal form that own their bytes.
 
-ghost use Rattle.std.specs.Prelude.{◌≡◌, IfOk};
-
-use crate::changes::{Changes, copy_changes, encode_key};
-use crate::comparing::same_tables;
-use crate::fitting::tables_fit;
-use crate::searching::{change_with, changes_named, count_changes};
-use crate::writing::put_tables;
+use crate::tables::{
+    change_with, copy_tables, count_changes, put_tables, same_tables, tables_fit,
+};
+use crate::key_bytes::encode_key;
+use crate::keyed_changes::KeyedChanges;
 use cs_change::Change;
 use cs_value::{Catalog, Key, Marks, Memory, Text};
 use std::alloc::Global;
@@ -15,23 +13,13 @@ use std::marker::Model;
 /// The changes of one table in normal form: the table's name, its key columns, and the changes in the order of their
 /// keys' bytes. There is one at least.
 #[derive(Drop)]
-pub struct TableChanges<C = Changes> {
+pub struct TableChanges {
     pub name: Text,
     pub marks: Marks,
-    pub changes: C,
+    pub changes: KeyedChanges,
 }
 
-fn copy_table(alloc: Global, table: &TableChanges) -> Result<TableChanges, Memory>
-    ensures { IfOk result (λ copied. copied ≡ table.now) }
-{
-    Ok(TableChanges {
-        name: table.name.copy(alloc)?,
-        marks: table.marks.copied(alloc)?,
-        changes: copy_changes(alloc, &table.changes)?,
-    })
-}
-
-/// A changeset in normal form: tables with their changes. (Profile of this project over SQLite's "changeset format".)
+/// A changeset in normal form, which owns its bytes: tables with their changes. (Profile of this project over SQLite's "changeset format".)
 #[derive(Drop)]
 pub struct Normal {
     tables: Vec<TableChanges>,
@@ -39,7 +27,7 @@ pub struct Normal {
 
 impl Model for Normal {
     ghost use Rattle.std.specs.Prelude.{List};
-    ghost use Rattle.cs_normal.specs.OneTable.{TableChanges};
+    ghost use Rattle.cs_normal.specs.declared.normal.TableChanges.{TableChanges};
     ghost use Rattle.cs_normal.specs.Normal.{IsNormalChangeset};
 
     ghost Value = { List TableChanges };
@@ -50,7 +38,7 @@ impl Model for Normal {
 }
 
 impl Normal {
-    ghost use Rattle.std.specs.Prelude.{◌≡◌, ◌↔◌, ◌++◌, min, IsTrue, Some, None, IfOk, OnOk, OnErr, MatchOption};
+    ghost use Rattle.std.specs.Prelude.{◌≡◌, ◌↔◌, ◌++◌, min, IsTrue, IfOk, OnOk, OnErr};
     ghost use Rattle.cs_normal.specs.Changes.{key_bytes};
     ghost use Rattle.cs_change.specs.Spelling.{FitsChangeset, changeset_spelling};
     ghost use Rattle.cs_normal.specs.Normal.{FitsCatalog, IsNormalChangeset, change_of, count_of, groups_of, normal_spelling};
@@ -81,23 +69,23 @@ impl Normal {
 
     /// The change at this place: of the table with this name and the row with this key; `None` where there is none. The
     /// memory is for the bytes of the key, by which the change is found by halves.
-    pub fn change(&self, alloc: Global, name: &str, key: &Key) -> Result<Option<&Change>, Memory>
-        ensures { IfOk result (λ found. MatchOption found (change_of name.now (key_bytes key.now) self.now ≡ None)
-            (λ change. change_of name.now (key_bytes key.now) self.now ≡ Some change.now)) }
+    pub fn change(
+        &self,
+        alloc: Global,
+        name: &str,
+        key: &Key,
+    ) -> Result<Option<Change<'_>>, Memory>
+        ensures { IfOk result (λ found. found ≡ change_of name.now (key_bytes key.now) self.now) }
     {
         let bytes = encode_key(alloc, key.as_slice())?;
-        Ok(change_with(changes_named(self.tables(), name), bytes.as_slice()))
+        Ok(change_with(self.tables(), name, bytes.as_slice()))
     }
 
     /// The same changeset, in memory of its own.
     pub fn copy(&self, alloc: Global) -> Result<Normal, Memory>
         ensures { IfOk result (λ copied. copied ≡ self.now) }
     {
-        let mut copied = Vec::with_capacity(alloc, self.tables().len())?;
-        for table in self.tables() {
-            copied.push(copy_table(alloc, table)?)?;
-        }
-        Ok(Normal { tables: copied })
+        Ok(Normal::from_tables(copy_tables(alloc, self.tables())?))
     }
 
     /// Whether two changesets are the same, the flags of their changes too.
@@ -114,8 +102,8 @@ impl Normal {
         tables_fit(catalog.tables(), self.tables())
     }
 
-    /// Appends the spelling of the changeset, which the reader takes. An `Err` changes nothing. (SQLite's "changeset
-    /// format".)
+    /// Appends the spelling of the changeset, which the reader takes: for each table its header, and one copy of its
+    /// changes' bytes. An `Err` changes nothing. (SQLite's "changeset format".)
     pub fn encode(&self, out: &mut Vec<u8>) -> Result<(), Memory>
         ensures ok { OnOk result (out.new.items ≡ out.old.items ++ normal_spelling self.now) }
         ensures err { OnErr result (out.new.items ≡ out.old.items) }

@@ -9,30 +9,12 @@ ghost use Rattle.cs_change.specs.declared.change.Change.TheVariants.{Update};
 ghost use Rattle.cs_normal.specs.NormalForm.{changes_value, normal_form, normal_news, normal_olds};
 ghost use Rattle.cs_normal.specs.Steps.Forms.{normal_columns, is_normal_column};
 
-use cs_change::{Change, ChangeRef, ChangesBuf};
+use cs_change::{Change, ChangesBuf, Scratch};
 use cs_record::{Cell, Column, Record};
 use cs_value::Memory;
-use std::alloc::Global;
 
 /// The byte that spells an undefined field.
 const UNDEFINED: u8 = 0;
-
-/// Room for the two records of an update that is made.
-#[derive(Drop)]
-pub(crate) struct Scratch {
-    olds: Vec<u8>,
-    news: Vec<u8>,
-}
-
-impl Scratch {
-    /// Nothing. It takes no memory.
-    pub(crate) fn new(alloc: Global) -> Scratch {
-        Scratch {
-            olds: Vec::new(alloc),
-            news: Vec::new(alloc),
-        }
-    }
-}
 
 #[inline(always)]
 #[tactic(auto, unfolding(cs_change::specs::Then::is_idle, cs_change::specs::Columns::holds))]
@@ -172,7 +154,7 @@ fn are_normal(marks: &[bool], old: &Record<'_>, new: &Record<'_>) -> bool
 #[tactic(auto, unfolding(crate::specs::NormalForm::normal_form))]
 pub(crate) fn push_form(
     marks: &[bool],
-    change: &ChangeRef<'_>,
+    change: &Change<'_>,
     scratch: &mut Scratch,
     out: &mut ChangesBuf,
 ) -> Result<(), Memory>

@@ -13,9 +13,8 @@ ghost use Rattle.cs_normal.specs.Steps.TableByTable.{IsTableOf};
 
 use crate::keyed_changes::KeyedChanges;
 use crate::keys::Keys;
-use crate::one_form::Scratch;
 use crate::unfit::Unfit;
-use cs_change::{ChangeRef, Group};
+use cs_change::{Change, Group, Scratch};
 use cs_order::order;
 use cs_value::{Memory, TableDef};
 use std::alloc::Global;
@@ -25,7 +24,7 @@ use std::cmp::Ordering;
 fn gather_keys(
     alloc: Global,
     marks: &[bool],
-    changes: &[ChangeRef<'_>],
+    changes: &[Change<'_>],
 ) -> Result<(Keys, bool), Memory>
     ensures keys { IfOk result (λ found. found.0 ≡ keys_of (prepared marks.now changes.now)) }
     ensures whole { IfOk result (λ found. found.1 ≡ all_keyed marks.now changes.now) }
@@ -76,7 +75,7 @@ fn keys_rise(keys: &[&[u8]], order: &[usize]) -> bool
 fn keep_at(
     marks: &[bool],
     keys: &[&[u8]],
-    changes: &[ChangeRef<'_>],
+    changes: &[Change<'_>],
     place: usize,
     scratch: &mut Scratch,
     made: &mut KeyedChanges,
@@ -95,7 +94,7 @@ fn keep(
     alloc: Global,
     marks: &[bool],
     keys: &[&[u8]],
-    changes: &[ChangeRef<'_>],
+    changes: &[Change<'_>],
     order: &[usize],
 ) -> Result<KeyedChanges, Memory>
     requires { keys_behind keys.now ≡ keys_of (entries_of marks.now changes.now) }
@@ -110,7 +109,7 @@ fn keep(
 }
 
 /// The normal form of these changes of one table, or what is wrong with the first that is wrong.
-fn form_of(alloc: Global, marks: &[bool], changes: &[ChangeRef<'_>]) -> Result<KeyedChanges, Unfit>
+fn form_of(alloc: Global, marks: &[bool], changes: &[Change<'_>]) -> Result<KeyedChanges, Unfit>
     ensures kept { IfOk result (IsKeptOf marks.now changes.now) }
     ensures fault { IfErr result (λ fault. AreUnfit fault marks.now changes.now) }
 {
@@ -128,14 +127,14 @@ fn form_of(alloc: Global, marks: &[bool], changes: &[ChangeRef<'_>]) -> Result<K
 }
 
 /// Whether the group has the table's name.
-fn is_named(group: &Group<ChangeRef<'_>>, table: &TableDef) -> bool
+fn is_named(group: &Group<'_>, table: &TableDef) -> bool
     ensures { result ≡ bytes_eq group.now.name table.now.name }
 {
     group.name.as_str() == table.name.as_str()
 }
 
 /// Appends the changes, which stay where they are.
-fn lend<'a>(changes: &[ChangeRef<'a>], lent: &mut Vec<ChangeRef<'a>>) -> Result<(), Memory>
+fn lend<'a>(changes: &[Change<'a>], lent: &mut Vec<Change<'a>>) -> Result<(), Memory>
     ensures { OnOk result (lent.new.items ≡ lent.old.items ++ changes.now) }
 {
     for change in changes {
@@ -148,8 +147,8 @@ fn lend<'a>(changes: &[ChangeRef<'a>], lent: &mut Vec<ChangeRef<'a>>) -> Result<
 fn lend_table<'a>(
     alloc: Global,
     table: &TableDef,
-    groups: &[Group<ChangeRef<'a>>],
-) -> Result<Vec<ChangeRef<'a>>, Memory>
+    groups: &[Group<'a>],
+) -> Result<Vec<Change<'a>>, Memory>
     ensures { IfOk result (λ lent. lent.items ≡ changes_of table.now.name groups.now) }
 {
     let mut lent = Vec::new(alloc);
@@ -165,7 +164,7 @@ fn lend_table<'a>(
 pub(crate) fn table_form(
     alloc: Global,
     table: &TableDef,
-    groups: &[Group<ChangeRef<'_>>],
+    groups: &[Group<'_>],
 ) -> Result<KeyedChanges, Unfit>
     ensures normal { IfOk result (λ changes. IsTableOf groups.now table.now changes) }
     ensures fault { IfErr result (λ fault. AreUnfit fault table.now.key_marks (changes_of table.now.name groups.now)) }

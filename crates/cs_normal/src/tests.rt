@@ -1,14 +1,9 @@
 //! Changesets as read and their normal forms, byte for byte.
 
-ghost use Rattle.std.specs.Prelude.{◌≡◌, true, false, ◌∷◌, [], IfOk};
-ghost use Rattle.std.specs.List.{AllByRecursion};
-ghost use Rattle.cs_value.specs.declared.value.Field.TheVariants.{Is};
-ghost use Rattle.cs_record.specs.Spelling.{Fits};
-ghost use Rattle.cs_change.specs.Spelling.{FitsChange, FitsChangeset, FitsGroup, FitsRow};
-
 use super::*;
 use cs_change::{Change, Changeset, Group};
-use cs_value::{Catalog, Field, Fields, Items, Memory, Row, TableDef, Text, Value};
+use cs_changeset::read;
+use cs_value::{Catalog, Items, Memory, TableDef, Text, Value};
 use std::alloc::{AllocError, Global};
 use std::test::Fail;
 
@@ -18,93 +13,54 @@ const FIRST: [u8; 7] = [0x54, 2, 1, 0, 0x74, 0x31, 0];
 const SECOND: [u8; 7] = [0x54, 2, 1, 0, 0x74, 0x32, 0];
 
 /// NULL for 0, else the number.
-fn key_value(key: u8) -> Value
-    ensures { Fits (Is result) }
-{
+fn put_key(key: u8, out: &mut Vec<u8>) -> Result<(), Memory> {
     match key {
-        0 => Value::Null,
-        number => Value::Int(i64::from(number)),
+        0 => out.push(5)?,
+        number => out.extend_from_slice(&[1, 0, 0, 0, 0, 0, 0, 0, number])?,
     }
+    Ok(())
 }
 
-fn text_value(alloc: Global, text: &str) -> Result<Value, Memory>
-    ensures { IfOk result (λ value. Fits (Is value)) }
-{
-    Ok(Value::Text(Text::from_string(String::from_str(alloc, text)?)))
+fn put_text(text: &str, out: &mut Vec<u8>) -> Result<(), Memory> {
+    out.push(3)?;
+    out.push(text.len() as u8)?;
+    out.extend_from_slice(text.as_bytes())?;
+    Ok(())
 }
 
-fn row(alloc: Global, key: u8, text: &str) -> Result<Row, Memory>
-    ensures { IfOk result (λ row. FitsRow 2 row) }
-{
-    let value = text_value(alloc, text)?;
-    Ok(Items::from_vec(vec![in alloc; key_value(key), value]?))
+/// The header of a table of two columns, of which the first has this mark.
+fn put_header(mark: u8, name: &str, out: &mut Vec<u8>) -> Result<(), Memory> {
+    out.extend_from_slice(&[0x54, 2, mark, 0])?;
+    out.extend_from_slice(name.as_bytes())?;
+    out.push(0)?;
+    Ok(())
 }
 
-fn insert(alloc: Global, key: u8, text: &str) -> Result<Change, Memory>
-    ensures { IfOk result (FitsChange (true ∷ false ∷ [])) }
-{
-    Ok(Change::Insert {
-        flag: false,
-        new_row: row(alloc, key, text)?,
-    })
-}
-
-fn record(alloc: Global, key: Value, value: Value) -> Result<Fields, Memory>
-    ensures { IfOk result (λ fields. fields ≡ Is key ∷ Is value ∷ []) }
-{
-    Ok(Items::from_vec(vec![in alloc; Field::Is(key), Field::Is(value)]?))
+fn put_insert(key: u8, text: &str, out: &mut Vec<u8>) -> Result<(), Memory> {
+    out.extend_from_slice(&[0x12, 0])?;
+    put_key(key, out)?;
+    put_text(text, out)
 }
 
 /// An UPDATE as other writers spell it, with the key in the new record too.
-fn update(alloc: Global, key: u8, before: &str, after: &str) -> Result<Change, Memory>
-    ensures { IfOk result (FitsChange (true ∷ false ∷ [])) }
-{
-    let key = key_value(key);
-    let again = key.copy(alloc)?;
-    let old = text_value(alloc, before)?;
-    let new = text_value(alloc, after)?;
-    Ok(Change::Update {
-        flag: false,
-        old_fields: record(alloc, key, old)?,
-        new_fields: record(alloc, again, new)?,
-    })
+fn put_update(key: u8, before: &str, after: &str, out: &mut Vec<u8>) -> Result<(), Memory> {
+    out.extend_from_slice(&[0x17, 0])?;
+    put_key(key, out)?;
+    put_text(before, out)?;
+    put_key(key, out)?;
+    put_text(after, out)
 }
 
-/// A group of a table of two columns, of which the first has this mark.
-fn group(alloc: Global, mark: u8, name: &str, changes: Vec<Change>) -> Result<Group, Memory>
-    requires { AllByRecursion (FitsChange (true ∷ false ∷ [])) changes.items }
-    ensures { IfOk result FitsGroup }
-{
-    if mark == 0 || name.as_bytes().contains(&0) {
-        return Err(AllocError);
-    }
-    Ok(Group {
-        marks: Items::from_vec(vec![in alloc; mark, 0u8]?),
-        name: Text::from_string(String::from_str(alloc, name)?),
-        changes: Items::from_vec(changes),
-    })
-}
-
-/// A group of INSERTs with these keys.
-fn inserts(alloc: Global, name: &str, keys: &[u8]) -> Result<Group, Memory>
-    ensures { IfOk result FitsGroup }
-{
-    let mut changes = Vec::new(alloc);
-    for key in keys {
-        changes.push(insert(alloc, *key, "v1")?)?;
-    }
-    group(alloc, 1, name, changes)
-}
-
-/// Groups of INSERTs, each of a table.
-fn changeset(alloc: Global, spelled: &[(&str, &[u8])]) -> Result<Changeset, Memory>
-    ensures { IfOk result FitsChangeset }
-{
-    let mut groups = Vec::new(alloc);
+/// The bytes of groups of INSERTs with these keys, each of a table.
+fn inserts(alloc: Global, spelled: &[(&str, &[u8])]) -> Result<Vec<u8>, Memory> {
+    let mut bytes = Vec::new(alloc);
     for (name, keys) in spelled {
-        groups.push(inserts(alloc, name, keys)?)?;
+        put_header(1, name, &mut bytes)?;
+        for key in *keys {
+            put_insert(*key, "v1", &mut bytes)?;
+        }
     }
-    Ok(Items::from_vec(groups))
+    Ok(bytes)
 }
 
 fn table(alloc: Global, name: &str, last: bool) -> Result<TableDef, Memory> {
@@ -123,6 +79,12 @@ fn tables(alloc: Global) -> Result<Vec<TableDef>, Memory> {
     Ok(tables)
 }
 
+/// The normal form of these bytes.
+fn normal_of(alloc: Global, catalog: &Catalog, bytes: &[u8]) -> Result<Normal, Fail> {
+    let changeset = read(alloc, bytes)?;
+    Ok(normalise(alloc, catalog, &changeset)?)
+}
+
 fn bytes_of(alloc: Global, normal: &Normal) -> Result<Vec<u8>, Memory> {
     let mut out = Vec::new(alloc);
     normal.encode(&mut out)?;
@@ -133,9 +95,11 @@ fn bytes_of(alloc: Global, normal: &Normal) -> Result<Vec<u8>, Memory> {
 fn in_key_order_with_marks_of_one(rt: HostRuntime) -> Result<(), Fail> {
     let alloc = rt.alloc();
     let catalog = Catalog::new(tables(alloc)?)?;
-    let changes = vec![in alloc; insert(alloc, 2, "v2")?, insert(alloc, 1, "v1")?]?;
-    let groups = Items::from_vec(vec![in alloc; group(alloc, 2, "t1", changes)?]?);
-    let normal = normalise(alloc, &catalog, &groups)?;
+    let mut bytes = Vec::new(alloc);
+    put_header(2, "t1", &mut bytes)?;
+    put_insert(2, "v2", &mut bytes)?;
+    put_insert(1, "v1", &mut bytes)?;
+    let normal = normal_of(alloc, &catalog, bytes.as_slice())?;
     let mut want = Vec::from_slice(alloc, &FIRST)?;
     want.extend_from_slice(&[0x12, 0, 1, 0, 0, 0, 0, 0, 0, 0, 1, 3, 2, 0x76, 0x31])?;
     want.extend_from_slice(&[0x12, 0, 1, 0, 0, 0, 0, 0, 0, 0, 2, 3, 2, 0x76, 0x32])?;
@@ -147,12 +111,11 @@ fn in_key_order_with_marks_of_one(rt: HostRuntime) -> Result<(), Fail> {
 fn updates(rt: HostRuntime) -> Result<(), Fail> {
     let alloc = rt.alloc();
     let catalog = Catalog::new(tables(alloc)?)?;
-    let changes = vec![in alloc;
-        update(alloc, 1, "v1", "v2")?,
-        update(alloc, 2, "v1", "v1")?,
-    ]?;
-    let groups = Items::from_vec(vec![in alloc; group(alloc, 1, "t1", changes)?]?);
-    let normal = normalise(alloc, &catalog, &groups)?;
+    let mut bytes = Vec::new(alloc);
+    put_header(1, "t1", &mut bytes)?;
+    put_update(1, "v1", "v2", &mut bytes)?;
+    put_update(2, "v1", "v1", &mut bytes)?;
+    let normal = normal_of(alloc, &catalog, bytes.as_slice())?;
     let mut want = Vec::from_slice(alloc, &FIRST)?;
     want.extend_from_slice(&[0x17, 0, 1, 0, 0, 0, 0, 0, 0, 0, 1, 3, 2, 0x76, 0x31])?;
     want.extend_from_slice(&[0, 3, 2, 0x76, 0x32])?;
@@ -164,12 +127,11 @@ fn updates(rt: HostRuntime) -> Result<(), Fail> {
 fn nothing_left(rt: HostRuntime) -> Result<(), Fail> {
     let alloc = rt.alloc();
     let catalog = Catalog::new(tables(alloc)?)?;
-    let idle = vec![in alloc; update(alloc, 1, "v1", "v1")?]?;
-    let groups = Items::from_vec(vec![in alloc;
-        group(alloc, 1, "t1", idle)?,
-        inserts(alloc, "t2", &[])?,
-    ]?);
-    let normal = normalise(alloc, &catalog, &groups)?;
+    let mut bytes = Vec::new(alloc);
+    put_header(1, "t1", &mut bytes)?;
+    put_update(1, "v1", "v1", &mut bytes)?;
+    put_header(1, "t2", &mut bytes)?;
+    let normal = normal_of(alloc, &catalog, bytes.as_slice())?;
     assert_eq!(rt; bytes_of(alloc, &normal)?.len(), 0);
     Ok(())
 }
@@ -178,9 +140,12 @@ fn nothing_left(rt: HostRuntime) -> Result<(), Fail> {
 fn dropped_update_has_a_key(rt: HostRuntime) -> Result<(), Fail> {
     let alloc = rt.alloc();
     let catalog = Catalog::new(tables(alloc)?)?;
-    let changes = vec![in alloc; update(alloc, 1, "v1", "v1")?, insert(alloc, 1, "v1")?]?;
-    let groups = Items::from_vec(vec![in alloc; group(alloc, 1, "t1", changes)?]?);
-    assert!(rt; matches!(normalise(alloc, &catalog, &groups), Err(Unfit::KeyTwice)));
+    let mut bytes = Vec::new(alloc);
+    put_header(1, "t1", &mut bytes)?;
+    put_update(1, "v1", "v1", &mut bytes)?;
+    put_insert(1, "v1", &mut bytes)?;
+    let changeset = read(alloc, bytes.as_slice())?;
+    assert!(rt; matches!(normalise(alloc, &catalog, &changeset), Err(Unfit::KeyTwice)));
     Ok(())
 }
 
@@ -189,7 +154,7 @@ fn tables_in_the_catalogs_order(rt: HostRuntime) -> Result<(), Fail> {
     let alloc = rt.alloc();
     let catalog = Catalog::new(tables(alloc)?)?;
     let spelled: [(&str, &[u8]); 3] = [("t2", &[1]), ("t1", &[2]), ("t1", &[1])];
-    let normal = normalise(alloc, &catalog, &changeset(alloc, &spelled)?)?;
+    let normal = normal_of(alloc, &catalog, inserts(alloc, &spelled)?.as_slice())?;
     let mut want = Vec::from_slice(alloc, &FIRST)?;
     want.extend_from_slice(&[0x12, 0, 1, 0, 0, 0, 0, 0, 0, 0, 1, 3, 2, 0x76, 0x31])?;
     want.extend_from_slice(&[0x12, 0, 1, 0, 0, 0, 0, 0, 0, 0, 2, 3, 2, 0x76, 0x31])?;
@@ -224,7 +189,9 @@ fn first_faults(rt: HostRuntime) -> Result<(), Fail> {
         ),
     ];
     for (spelled, fault) in &cases {
-        match normalise(alloc, &catalog, &changeset(alloc, spelled)?) {
+        let bytes = inserts(alloc, spelled)?;
+        let changeset = read(alloc, bytes.as_slice())?;
+        match normalise(alloc, &catalog, &changeset) {
             Err(Unfit::Memory) => return Err(AllocError)?,
             Err(told) => assert_eq!(rt; told, *fault),
             Ok(_) => panic!(rt; "no fault was told"),
@@ -241,16 +208,10 @@ fn apart(rt: HostRuntime) -> Result<(), Fail> {
         table(alloc, "t2", false)?,
         table(alloc, "t1", false)?,
     ]?)?;
-    let one = normalise(
-        alloc,
-        &catalog,
-        &changeset(alloc, &[("t1", &[1]), ("t2", &[1])])?,
-    )?;
-    let two = normalise(
-        alloc,
-        &catalog,
-        &changeset(alloc, &[("t1", &[1]), ("t2", &[2])])?,
-    )?;
+    let first = inserts(alloc, &[("t1", &[1]), ("t2", &[1])])?;
+    let second = inserts(alloc, &[("t1", &[1]), ("t2", &[2])])?;
+    let one = normal_of(alloc, &catalog, first.as_slice())?;
+    let two = normal_of(alloc, &catalog, second.as_slice())?;
     assert!(rt; !one.same(&two));
     assert!(rt; one.fits(&catalog));
     assert!(rt; !one.fits(&other));
@@ -270,7 +231,7 @@ fn shown(alloc: Global, catalog: &Catalog) -> Result<String, Memory> {
 }
 
 /// A group without changes.
-fn header(alloc: Global, name: &str, marks: &[u8]) -> Result<Group, Memory> {
+fn header<'a>(alloc: Global, name: &str, marks: &[u8]) -> Result<Group<'a>, Memory> {
     Ok(Group {
         marks: Items::from_vec(Vec::from_slice(alloc, marks)?),
         name: Text::from_string(String::from_str(alloc, name)?),
@@ -279,7 +240,10 @@ fn header(alloc: Global, name: &str, marks: &[u8]) -> Result<Group, Memory> {
 }
 
 /// A changeset of groups without changes.
-fn header_list(alloc: Global, spelled: &[(&str, &[u8])]) -> Result<Changeset, Memory> {
+fn header_list<'a>(
+    alloc: Global,
+    spelled: &[(&str, &[u8])],
+) -> Result<Changeset<'a>, Memory> {
     let mut groups = Vec::new(alloc);
     for (name, marks) in spelled {
         groups.push(header(alloc, name, marks)?)?;
@@ -352,7 +316,7 @@ fn changes_are_counted_and_found(rt: HostRuntime) -> Result<(), Fail> {
     let alloc = rt.alloc();
     let catalog = Catalog::new(tables(alloc)?)?;
     let spelled: [(&str, &[u8]); 3] = [("t2", &[1]), ("t1", &[5, 2, 9]), ("t1", &[1])];
-    let normal = normalise(alloc, &catalog, &changeset(alloc, &spelled)?)?;
+    let normal = normal_of(alloc, &catalog, inserts(alloc, &spelled)?.as_slice())?;
     assert_eq!(rt; normal.len(), 5);
     let cases = [
         ("t1", 1, true),
@@ -365,7 +329,7 @@ fn changes_are_counted_and_found(rt: HostRuntime) -> Result<(), Fail> {
         ("t3", 1, false),
     ];
     for (name, number, there) in cases {
-        let key = Items::from_vec(vec![in alloc; key_value(number)]?);
+        let key = Items::from_vec(vec![in alloc; Value::Int(i64::from(number))]?);
         let found = normal.change(alloc, name, &key)?;
         assert_eq!(rt; matches!(found, Some(Change::Insert { .. })), there);
     }

@@ -2,7 +2,7 @@
 use Rattle.std.specs.Prelude.{◌≡◌, Bool, true, List, [], ◌∷◌, map, if◌then◌else◌}
 use Rattle.std.specs.List.Sorted.{IsPermutation}
 use Rattle.cs_order.specs.Order.{Keys}
-use Rattle.cs_change.specs.OneChange.{Change}
+use Rattle.cs_change.specs.declared.change.Change.{Change}
 use Rattle.cs_normal.specs.Changes.{Changes}
 use Rattle.cs_normal.specs.NormalForm.{change_bytes, has_key, normal_form}
 use Rattle.cs_normal.specs.Steps.Prepared.{Entries, all_keyed, kept, prepared, rises}

@@ -3,11 +3,11 @@ use Rattle.std.specs.Prelude.{◌≡◌, ◌≢◌, ◌≤◌, List, [], ◌∷�
 use Rattle.std.specs.List.{flat_map, AllByRecursion}
 use Rattle.cs_value.specs.declared.catalog.TableDef.{TableDef}
 use Rattle.cs_change.specs.Spelling.{marks_of, change_spelling, changes_spelling, FitsChange}
-use Rattle.cs_change.specs.OneChange.{Group}
+use Rattle.cs_change.specs.declared.group.Group.{Group}
 use Rattle.cs_normal.specs.Changes.{Changes, IsEntry}
 use Rattle.cs_normal.specs.NormalForm.{AreKeyed, IsNormalOf, HasFirstUnfitChange}
 use Rattle.cs_normal.specs.NormalFormOf.{changes_of}
-use Rattle.cs_normal.specs.OneTable.{TableChanges}
+use Rattle.cs_normal.specs.declared.normal.TableChanges.{TableChanges}
 use Rattle.cs_normal.specs.declared.unfit.Unfit.{Unfit}
 use Rattle.cs_normal.specs.declared.unfit.Unfit.TheVariants as unfit
 

@@ -16,7 +16,7 @@ loop-table-preserved c =
     let so_far = rw c.in-Some.ensures.cases.0 at c.loop-table.invariant in
     record {
       passed = so_far.passed.1;
-      built = built_more c.args.groups.now c.in-Some.table.now c.in_ok-changes.changes.items c.in-Some.more.now c.args.tables.now c.loop-table.normal.items c.put_changes.new.normal.items c.in_ok-put_changes.ensures c.in_ok-changes.ensures.normal so_far.built;
+      built = built_more c.args.groups.now c.in-Some.table.now c.in_ok-changes.changes c.in-Some.more.now c.args.tables.now c.loop-table.normal.items c.put_changes.new.normal.items c.in_ok-put_changes.ensures c.in_ok-changes.ensures.normal so_far.built;
     }
 
 pub returns-clause-normal : goal.returns-clause-normal

@@ -1,6 +1,6 @@
 use Rattle.std.proofs.Common.{◌≡◌, ◌∙◌, ◌++◌, ◌∷◌, [], List, sym, ap}
 use Rattle.cs_change.specs.Listed.{listed}
-use Rattle.cs_change.specs.OneChange.{Change}
+use Rattle.cs_change.specs.declared.change.Change.{Change}
 use Rattle.cs_normal.specs.NormalForm.{normal_form}
 use Rattle.cs_normal.proofs.OneForm.{update_kept, on_ok}
 use Rattle.cs_normal.proofs.one_form.push_form.Goals as goal

@@ -1,7 +1,7 @@
 use Rattle.std.proofs.Common.{◌≡◌, ◌∙◌, ◌++◌, false, List, refl, sym, ap}
 use Rattle.cs_record.specs.Spelling.{record_of}
 use Rattle.cs_change.specs.Columns.{is_blank}
-use Rattle.cs_change.specs.OneChange.{Change}
+use Rattle.cs_change.specs.declared.change.Change.{Change}
 use Rattle.cs_normal.specs.NormalForm.{normal_news, normal_olds}
 use Rattle.cs_normal.proofs.Fitted.{olds_fit, news_fit}
 use Rattle.cs_normal.proofs.OneForm.{left_is, on_ok}

@@ -1,6 +1,0 @@
-use Rattle.std.proofs.Common.{take}
-use Rattle.cs_normal.specs.NormalFormOf.{HaveTables}
-use Rattle.cs_normal.proofs.groups_form.fitting_headers.Given as goal
-
-abbrev pub invariant-loop-index : goal.invariant-loop-index
-invariant-loop-index l = HaveTables l.catalog (take l.index l.groups)

@@ -1,7 +1,0 @@
-use Rattle.std.proofs.Common.{◌≡◌, take}
-use Rattle.std.specs.Map.{keys_of}
-use Rattle.cs_order.specs.Order.{keys_behind}
-use Rattle.cs_normal.proofs.key_order.keys.Given as goal
-
-abbrev pub invariant-loop-entry : goal.invariant-loop-entry
-invariant-loop-entry l = keys_behind l.keys.items ≡ keys_of (take l.entry-index l.entries)

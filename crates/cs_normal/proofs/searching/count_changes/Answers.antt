@@ -1,5 +1,0 @@
-use Rattle.cs_normal.proofs.Searched.{counted}
-use Rattle.cs_normal.proofs.searching.count_changes.Goals as goal
-
-pub returns : goal.returns
-returns c = counted c.loop-table.count c.loop-table.rest.now c.args.tables.now c.in_default.ensures.cases c.loop-table.invariant.0 c.loop-table.invariant.1
