@@ -1,7 +1,7 @@
 //! Changesets as read, that stay in their bytes, brought into normal form.
 
-ghost use Rattle.std.specs.Prelude.{◌≡◌, ◌<◌, ◌≤◌, ◌++◌, length, take, map, HoldsAt, IfOk, IfErr, OnOk, MatchOption};
-ghost use Rattle.cs_change.specs.Spelling.{FitsChangeset, changeset_spelling};
+ghost use Rattle.std.specs.Prelude.{◌≡◌, ◌<◌, ◌≤◌, ◌++◌, ◌↔◌, length, take, map, HoldsAt, IsTrue, IfOk, IfErr, OnOk, MatchOption};
+ghost use Rattle.cs_change.specs.Spelling.{FitsChangeset, changeset_spelling, marks_of};
 ghost use Rattle.cs_normal.specs.Normal.{normal_spelling};
 ghost use Rattle.cs_normal.specs.NormalFormOf.{HasTable, HaveTables, HaveKeys, IsNormalFormOf, IsUnfit};
 ghost use Rattle.cs_normal.specs.Steps.TableByTable.{AreTablesOf, AnyUnfit, HasTableFault, IsUnfitHeader, table_changes};

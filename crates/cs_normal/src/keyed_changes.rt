@@ -1,6 +1,6 @@
 //! Changes that stay in their bytes, behind the bytes of their keys.
 
-ghost use Rattle.std.specs.Prelude.{◌≡◌, ◌++◌, ◌∷◌, [], OnOk, length};
+ghost use Rattle.std.specs.Prelude.{◌≡◌, ◌++◌, ◌∷◌, [], OnErr, OnOk, length};
 ghost use Rattle.cs_normal.specs.Keyed.{beside};
 ghost use Rattle.cs_normal.specs.NormalForm.{normal_form};
 ghost use Rattle.cs_normal.specs.Steps.Prepared.{kept};
@@ -21,7 +21,7 @@ pub struct KeyedChanges {
     ghost as_many: { length keys ≡ length changes },
 }
 
-/// Appends a key and a change. An `Err` leaves neither.
+/// Appends a key and a change. An `Err` leaves nothing.
 #[tactic(auto, using(crate::proofs::Beside::beside_more))]
 fn put_both(
     keys: &mut Keys,
@@ -31,7 +31,9 @@ fn put_both(
 ) -> Result<(), Memory>
     requires { length keys.old ≡ length changes.old }
     ensures as_many { length keys.new ≡ length changes.new }
-    ensures pushed { OnOk result (beside keys.new changes.new ≡ beside keys.old changes.old ++ (key.now, change.now) ∷ []) }
+    ensures pushed { OnOk result (beside keys.new changes.new
+        ≡ beside keys.old changes.old ++ (key.now, change.now) ∷ []) }
+    ensures err { OnErr result (beside keys.new changes.new ≡ []) }
 {
     let Ok(_) = keys.push(key) else {
         keys.clear();
@@ -46,7 +48,7 @@ fn put_both(
     Ok(())
 }
 
-/// Appends a key and the normal form of a change, if one is left. An `Err` leaves neither.
+/// Appends a key and the normal form of a change, if one is left. An `Err` leaves nothing.
 #[inline(always)]
 fn put_form(
     keys: &mut Keys,
@@ -60,6 +62,7 @@ fn put_form(
     ensures as_many { length keys.new ≡ length changes.new }
     ensures pushed { OnOk result (beside keys.new changes.new
         ≡ beside keys.old changes.old ++ kept ((key.now, normal_form marks.now change.now) ∷ [])) }
+    ensures err { OnErr result (beside keys.new changes.new ≡ []) }
 {
     let before = changes.len();
     let Ok(_) = push_form(marks, change, scratch, changes) else {
@@ -88,7 +91,7 @@ impl Model for KeyedChanges {
 }
 
 impl KeyedChanges {
-    ghost use Rattle.std.specs.Prelude.{◌≡◌, ◌↔◌, ◌++◌, ◌∷◌, ◌<◌, [], length, IsTrue, IfOk, OnOk, MatchOption, None, Some, slice_get, slice_index_or};
+    ghost use Rattle.std.specs.Prelude.{◌≡◌, ◌↔◌, ◌++◌, ◌∷◌, ◌<◌, [], length, IsTrue, IfOk, OnErr, OnOk, MatchOption, None, Some, slice_get, slice_index_or};
     ghost use Rattle.std.specs.Map.{keys_of, values_of};
     ghost use Rattle.std.specs.List.{flat_map};
     ghost use Rattle.cs_change.specs.Spelling.{change_spelling};
@@ -198,7 +201,8 @@ impl KeyedChanges {
 
     /// Appends a change behind the bytes of its key. An `Err` leaves no change.
     pub fn push(&mut self, key: &[u8], change: &Change<'_>) -> Result<(), Memory>
-        ensures { OnOk result (self.new ≡ self.old ++ (key.now, change.now) ∷ []) }
+        ensures ok { OnOk result (self.new ≡ self.old ++ (key.now, change.now) ∷ []) }
+        ensures err { OnErr result (self.new ≡ []) }
     {
         put_both(&mut self.keys, &mut self.changes, key, change)
     }
@@ -212,7 +216,9 @@ impl KeyedChanges {
         change: &Change<'_>,
         scratch: &mut Scratch,
     ) -> Result<(), Memory>
-        ensures { OnOk result (self.new ≡ self.old ++ kept ((key.now, normal_form marks.now change.now) ∷ [])) }
+        ensures ok { OnOk result (self.new
+            ≡ self.old ++ kept ((key.now, normal_form marks.now change.now) ∷ [])) }
+        ensures err { OnErr result (self.new ≡ []) }
     {
         put_form(
             &mut self.keys,

@@ -37,8 +37,10 @@ impl Model for Keys {
 fn put(bytes: &mut Vec<u8>, spots: &mut Vec<(usize, usize)>, key: &[u8]) -> Result<(), Memory>
     requires { All (IsSpotIn (length bytes.old.items)) spots.old.items }
     ensures within { All (IsSpotIn (length bytes.new.items)) spots.new.items }
-    ensures ok { OnOk result (keys_in bytes.new.items spots.new.items ≡ keys_in bytes.old.items spots.old.items ++ key.now ∷ []) }
-    ensures err { OnErr result (keys_in bytes.new.items spots.new.items ≡ keys_in bytes.old.items spots.old.items) }
+    ensures ok { OnOk result (keys_in bytes.new.items spots.new.items
+        ≡ keys_in bytes.old.items spots.old.items ++ key.now ∷ []) }
+    ensures err { OnErr result (keys_in bytes.new.items spots.new.items
+        ≡ keys_in bytes.old.items spots.old.items) }
 {
     let start = bytes.len();
     bytes.extend_from_slice(key)?;
@@ -63,6 +65,7 @@ fn put_of(
     ensures ok { OnOk result (keys_in bytes.new.items spots.new.items
         ≡ keys_in bytes.old.items spots.old.items ++ key_if_set marks.now change.now) }
     ensures whole { IfOk result (λ whole. whole ≡ has_key marks.now change.now) }
+    ensures err { OnErr result (keys_in bytes.new.items spots.new.items ≡ []) }
 {
     let start = bytes.len();
     let Ok(whole) = put_key(marks, change, bytes) else {
@@ -116,7 +119,7 @@ impl Keys {
     }
 
     /// Takes all keys out.
-    pub fn clear(&mut self)
+    pub(crate) fn clear(&mut self)
         ensures { self.new ≡ [] }
     {
         self.spots.clear();
@@ -155,6 +158,7 @@ impl Keys {
     pub(crate) fn push_of(&mut self, marks: &[bool], change: &Change<'_>) -> Result<bool, Memory>
         ensures ok { OnOk result (self.new ≡ self.old ++ key_if_set marks.now change.now) }
         ensures whole { IfOk result (λ whole. whole ≡ has_key marks.now change.now) }
+        ensures err { OnErr result (self.new ≡ []) }
     {
         put_of(&mut self.bytes, &mut self.spots, marks, change)
     }
