@@ -8,6 +8,7 @@ use Rattle.std.proofs.Math.Seq.{take-append_seam, drop-append_seam}
 use Rattle.cs_record.specs.Spelling.{record_of}
 use Rattle.cs_change.specs.declared.change.Change.{Change}
 use Rattle.cs_change.specs.declared.change.Change.TheVariants.{Insert, Delete, Update}
+use Rattle.cs_change.specs.Listed.{listed, listed_more}
 use Rattle.cs_change.specs.declared.place.Place.{Place}
 use Rattle.cs_change.specs.Spelling.{flag_byte, change_spelling, changes_spelling}
 use Rattle.cs_change.specs.Held.{IsInRange, split_of, IsChangeIn, SpelledChange, IsPlace, ArePlaces, AreHeld, Held, one_list, one_change}
@@ -162,3 +163,10 @@ same_more (x ∷ xs) (y ∷ ys) (suc at) less long same so_far =
 
 pub same_all : (xs ys : List Change) (at : ℕ) → length xs ≤ at → length xs ≡ length ys → take at xs ≡ take at ys → xs ≡ ys
 same_all xs ys at past long so_far = sym (take_all at xs past) ∙ so_far ∙ take_all at ys (omega (arith, past, long))
+
+-- ---- lending
+
+-- one change more is lent
+pub lent_more : (first so_far now changes : List Change) (at : ℕ) → at < length changes → so_far ≡ first ++ take at changes → now ≡ so_far ++ listed (slice_get changes at) → now ≡ first ++ take (at + 1) changes
+lent_more first so_far now changes at less before is =
+    rw (is, before) (append_assoc first (take at changes) (listed (slice_get changes at)) ∙ ap (λ (cs : List Change). first ++ cs) (sym (listed_more changes at less)))

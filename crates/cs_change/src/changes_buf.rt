@@ -139,15 +139,14 @@ impl ChangesBuf {
         Some((front, place.split))
     }
 
-    /// The changes, lent one by one.
-    pub fn lend(&self, alloc: Global) -> Result<Vec<Change<'_>>, Memory>
-        ensures { IfOk result (λ lent. lent.items ≡ self.now) }
+    /// Lends the changes one by one, behind those that are lent already.
+    pub fn lend<'a>(&'a self, lent: &mut Vec<Change<'a>>) -> Result<(), Memory>
+        ensures { OnOk result (lent.new.items ≡ lent.old.items ++ self.now) }
     {
-        let mut lent = Vec::with_capacity(alloc, self.len())?;
         for at in 0..self.len() {
-            lend_at(self, at, &mut lent)?;
+            lend_at(self, at, lent)?;
         }
-        Ok(lent)
+        Ok(())
     }
 
     /// Whether two lists hold the same changes in the same order, their flags too.

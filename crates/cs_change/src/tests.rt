@@ -121,7 +121,9 @@ fn changes_that_own_their_bytes(rt: HostRuntime) -> Result<(), Fail> {
     assert!(rt; all.copy(alloc)?.same(&all));
 
     let mut again = ChangesBuf::new(alloc);
-    for change in &all.lend(alloc)? {
+    let mut lent = Vec::new(alloc);
+    all.lend(&mut lent)?;
+    for change in &lent {
         again.push(change)?;
     }
     assert_eq!(rt; again.spelling(), all.spelling());

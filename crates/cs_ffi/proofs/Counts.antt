@@ -3,9 +3,9 @@ use Rattle.std.specs.Prelude.{◌≡◌, ℕ, ◌+◌, ◌≤◌, List, [], ◌�
 use Rattle.std.proofs.Common.{◌∙◌, ap, arith, inl, inr, length-append}
 use Rattle.std.proofs.lemmas.List.Sums.{sum_by-cons}
 use Rattle.cs_change.specs.Spelling.{change_spelling, changes_spelling, group_spelling, header_spelling, changeset_spelling}
-use Rattle.cs_change.specs.OneChange.{Change}
+use Rattle.cs_change.specs.declared.change.Change.{Change}
 use Rattle.cs_change.specs.declared.change.Change.TheVariants.{Insert, Delete, Update}
-use Rattle.cs_change.specs.OneChange.{Group}
+use Rattle.cs_change.specs.declared.group.Group.{Group}
 use Rattle.cs_changeset.specs.Reading.{ReadsChangeset, TellsChangesetFault}
 use Rattle.cs_changeset.specs.declared.fault.Fault.{Fault}
 use Rattle.cs_changeset.specs.declared.fault.CodecFault.{CodecFault}

@@ -2,7 +2,7 @@
 use Rattle.std.proofs.Common.{◌≡◌, ◌⊎◌, inl, inr, ℕ, List, [], ◌∷◌, refl, subst}
 use Rattle.cs_value.specs.Catalog.{AreTables}
 use Rattle.cs_value.specs.declared.catalog.TableDef.{TableDef}
-use Rattle.cs_change.specs.OneChange.{Group}
+use Rattle.cs_change.specs.declared.group.Group.{Group}
 use Rattle.cs_normal.specs.Headers.{headers, tables_of_headers, HaveCatalog, HasTwoShapes, HasHeaderFault}
 use Rattle.cs_normal.specs.declared.headers.HeaderFault.{HeaderFault}
 use Rattle.cs_normal.specs.declared.headers.HeaderFault.TheVariants.{Memory, Shape, BadCatalog}

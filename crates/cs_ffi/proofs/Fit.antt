@@ -3,7 +3,7 @@ use Rattle.std.proofs.Common.{◌≡◌, List, [], ◌∷◌, refl, ap, inl, inr
 use Rattle.std.specs.List.{AllByRecursion}
 use Rattle.cs_value.specs.Catalog.{AreTables}
 use Rattle.cs_value.specs.declared.catalog.TableDef.{TableDef}
-use Rattle.cs_change.specs.OneChange.{Group}
+use Rattle.cs_change.specs.declared.group.Group.{Group}
 use Rattle.cs_normal.specs.Laws.{NoFaultWhereFit}
 use Rattle.cs_normal.specs.NormalFormOf.{AreFit}
 use Rattle.cs_normal.specs.declared.headers.HeaderFault.TheVariants as in_headers

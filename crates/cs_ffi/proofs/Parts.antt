@@ -5,7 +5,7 @@ use Rattle.std.specs.List.{AllByRecursion}
 use Rattle.std.proofs.lemmas.List.{take-append-drop, take_at, drop_at, length-take-le, length-drop, flat_map_more, map_push, append-nil, nil_from_length}
 use Rattle.std.proofs.lemmas.List.Sums.{sum_by-cons, sum-map}
 use Rattle.std.proofs.lemmas.List.Concat.{length-flat_map}
-use Rattle.cs_change.specs.OneChange.{Group}
+use Rattle.cs_change.specs.declared.group.Group.{Group}
 use Rattle.cs_change.specs.Spelling.{changeset_spelling, FitsChangeset}
 use Rattle.cs_ffi.specs.Answers.{no_memory, Spell}
 use Rattle.cs_ffi.specs.CombinedAnswers.{spellings, spelled_lengths, ArePartsOf}

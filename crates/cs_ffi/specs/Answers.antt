@@ -1,6 +1,6 @@
 -- What the library answers of bytes (profile of this project over SQLite's "changeset format").
 use Rattle.std.specs.Prelude.{◌≡◌, ℕ, ◌<◌, ◌≤◌, ◌⊎◌, List, ◌++◌, length, sum_by, drop}
-use Rattle.cs_change.specs.OneChange.{Group}
+use Rattle.cs_change.specs.declared.group.Group.{Group}
 use Rattle.cs_change.specs.Spelling.{FitsChangeset, changeset_spelling}
 use Rattle.cs_changeset.specs.Codes.{fault_code}
 use Rattle.cs_changeset.specs.Reading.{IsChangesetFault}

@@ -2,7 +2,7 @@
 use Rattle.std.specs.Prelude.{◌≡◌, ◌≢◌, ℕ, ◌+◌, ◌⊎◌, List, [], ◌∷◌, ◌++◌, length, map, sum, Result, Ok, Err}
 use Rattle.std.specs.Global.{Vec}
 use Rattle.std.specs.List.{flat_map, AllByRecursion}
-use Rattle.cs_change.specs.OneChange.{Group}
+use Rattle.cs_change.specs.declared.group.Group.{Group}
 use Rattle.cs_change.specs.Spelling.{changeset_spelling, FitsChangeset}
 use Rattle.cs_changeset.specs.Reading.{IsChangesetFault}
 use Rattle.cs_changeset.specs.declared.fault.Fault.{Fault}
@@ -11,7 +11,7 @@ use Rattle.cs_normal.specs.Normal.{normal_spelling}
 use Rattle.cs_normal.specs.NormalFormOf.{AreFit}
 use Rattle.cs_normal.specs.declared.headers.HeaderFault.{HeaderFault}
 use Rattle.cs_normal.specs.declared.headers.HeaderFault.TheVariants as in_headers
-use Rattle.cs_normal.specs.OneTable.{TableChanges}
+use Rattle.cs_normal.specs.declared.normal.TableChanges.{TableChanges}
 use Rattle.cs_group.specs.Combined.{tables_of, IsCombined, HasCombineFault}
 use Rattle.cs_group.specs.Inverse.{inverse_changeset}
 use Rattle.cs_group.specs.declared.combining.CombineFault.{CombineFault}

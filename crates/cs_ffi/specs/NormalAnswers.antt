@@ -2,7 +2,7 @@
 use Rattle.std.specs.Prelude.{◌≡◌, ℕ, ◌≤◌, ◌⊎◌, List, [], ◌∷◌, length, Result, Ok, Err}
 use Rattle.std.specs.Global.{Vec}
 use Rattle.cs_value.specs.declared.catalog.TableDef.{TableDef}
-use Rattle.cs_change.specs.OneChange.{Group}
+use Rattle.cs_change.specs.declared.group.Group.{Group}
 use Rattle.cs_change.specs.Spelling.{changeset_spelling, FitsChangeset}
 use Rattle.cs_changeset.specs.Reading.{IsChangesetFault}
 use Rattle.cs_changeset.specs.declared.fault.Fault.{Fault}
@@ -11,7 +11,7 @@ use Rattle.cs_normal.specs.Normal.{groups_of, normal_spelling}
 use Rattle.cs_normal.specs.NormalFormOf.{AreFit, IsNormalFormOf, IsUnfit}
 use Rattle.cs_normal.specs.declared.headers.HeaderFault.{HeaderFault}
 use Rattle.cs_normal.specs.declared.headers.HeaderFault.TheVariants as in_headers
-use Rattle.cs_normal.specs.OneTable.{TableChanges}
+use Rattle.cs_normal.specs.declared.normal.TableChanges.{TableChanges}
 use Rattle.cs_normal.specs.declared.unfit.Unfit.{Unfit}
 use Rattle.cs_normal.specs.declared.unfit.Unfit.TheVariants as unfit
 use Rattle.cs_group.specs.Combined.{tables_of}

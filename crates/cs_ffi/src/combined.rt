@@ -1,7 +1,7 @@
 //! Taking changesets together, and taking one back.
 
 ghost use Rattle.std.specs.Prelude.{◌≡◌, ◌≢◌, ◌↔◌, ◌+◌, ◌<◌, ◌^◌, ℕ, List, length, sum, IsTrue, IfErr, IsErrAnd};
-ghost use Rattle.cs_change.specs.OneChange.{Group};
+ghost use Rattle.cs_change.specs.declared.group.Group.{Group};
 ghost use Rattle.cs_changeset.specs.Reading.{IsChangesetFault};
 ghost use Rattle.cs_changeset.specs.declared.fault.Fault.{Fault};
 ghost use Rattle.cs_ffi.specs.Answers.{no_memory, Spell, TellsFault};
@@ -10,7 +10,7 @@ ghost use Rattle.cs_ffi.specs.CombinedAnswers.{AnswersCombined, AnswersInverse, 
 
 use crate::answer::Answer;
 use crate::reading::hand_over;
-use cs_changeset::{ChangesetRef, CodecFault, read};
+use cs_changeset::{Changeset, CodecFault, read};
 use cs_group::{combine, invert, normalise_alone};
 use cs_normal::laws::no_fault_where_fit;
 use std::alloc::Global;
@@ -31,7 +31,7 @@ fn add_up(lengths: &[usize], total: usize) -> bool
 }
 
 /// The changeset that a part spells which begins at this offset of the inputs.
-fn read_part(alloc: Global, part: &[u8], at: usize) -> Result<ChangesetRef<'_>, Answer>
+fn read_part(alloc: Global, part: &[u8], at: usize) -> Result<Changeset<'_>, Answer>
     requires { at + length part.now < 2 ^ 64 }
     ensures reads { ReadsPart at part.now result }
     ensures only { (groups : List Group) → Spell part.now groups → FindsPart result groups }
@@ -53,7 +53,7 @@ fn read_all<'a>(
     alloc: Global,
     inputs: &'a [u8],
     lengths: &[usize],
-) -> Result<Vec<ChangesetRef<'a>>, Answer>
+) -> Result<Vec<Changeset<'a>>, Answer>
     requires { sum lengths.now ≡ length inputs.now }
     ensures reads { ReadsAll lengths.now inputs.now result }
     ensures only { (changesets : List (List Group)) → ArePartsOf lengths.now inputs.now changesets

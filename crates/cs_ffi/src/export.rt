@@ -2,7 +2,7 @@
 
 ghost use Rattle.std.specs.Prelude.{◌≡◌, ◌≢◌, ℕ, List, length, sum};
 ghost use Rattle.cs_change.specs.Spelling.{changeset_spelling};
-ghost use Rattle.cs_change.specs.OneChange.{Group};
+ghost use Rattle.cs_change.specs.declared.group.Group.{Group};
 ghost use Rattle.cs_changeset.specs.Reading.{IsChangesetFault};
 ghost use Rattle.cs_changeset.specs.declared.fault.Fault.{Fault};
 ghost use Rattle.cs_ffi.specs.Answers.{AnswersAgain, AnswersCount, change_count, Spell, TellsCount, TellsFault, UpToMemory};

@@ -8,9 +8,9 @@ ghost use Rattle.cs_ffi.specs.NormalAnswers.{AnswersNormal, Declare, FindsTables
 
 use crate::answer::Answer;
 use crate::reading::hand_over;
-use cs_changeset::{ChangesetRef, CodecFault, read};
+use cs_changeset::{Changeset, CodecFault, read};
 use cs_normal::laws::no_fault_where_fit;
-use cs_normal::{Unfit, catalog_of_refs, normalise_buf};
+use cs_normal::{Unfit, catalog_of, normalise};
 use cs_value::Catalog;
 use std::alloc::Global;
 use std::slice;
@@ -25,7 +25,7 @@ fn read_catalog(alloc: Global, declared: &[u8]) -> Result<Catalog, Answer>
         Err(CodecFault::Memory) => return Err(Answer::no_memory()),
         Err(CodecFault::At { .. }) => return Err(Answer::no_tables()),
     };
-    match catalog_of_refs(alloc, slice::from_ref(&changeset)) {
+    match catalog_of(alloc, slice::from_ref(&changeset)) {
         Ok(catalog) => {
             // That they are a catalog's tables, for the proof.
             let _ = catalog.tables();
@@ -36,11 +36,11 @@ fn read_catalog(alloc: Global, declared: &[u8]) -> Result<Catalog, Answer>
 }
 
 /// The spelling of the normal form of a changeset.
-fn spelled_form(alloc: Global, catalog: &Catalog, changeset: &ChangesetRef<'_>) -> Result<Vec<u8>, Unfit>
+fn spelled_form(alloc: Global, catalog: &Catalog, changeset: &Changeset<'_>) -> Result<Vec<u8>, Unfit>
     requires { FitsChangeset changeset.now }
     ensures { SpellsForm catalog.now changeset.now result }
 {
-    let normal = normalise_buf(alloc, catalog, changeset)?;
+    let normal = normalise(alloc, catalog, changeset)?;
     let mut bytes = Vec::new(alloc);
     normal.encode(&mut bytes)?;
     Ok(bytes)

@@ -2,17 +2,17 @@
 
 ghost use Rattle.std.specs.Prelude.{◌≡◌, ◌<◌, ◌^◌, ℕ, List, length};
 ghost use Rattle.cs_change.specs.Spelling.{changeset_spelling};
-ghost use Rattle.cs_change.specs.OneChange.{Group as GroupRead};
+ghost use Rattle.cs_change.specs.declared.group.Group.{Group as GroupRead};
 ghost use Rattle.cs_changeset.specs.Reading.{IsChangesetFault};
 ghost use Rattle.cs_changeset.specs.declared.fault.Fault.{Fault};
 ghost use Rattle.cs_ffi.specs.Answers.{AnswersAgain, AnswersCount, change_count, IsHanded, Spell, TellsCount, TellsFault};
 
 use crate::answer::Answer;
-use cs_changeset::{ChangeRef, Group, read};
+use cs_changeset::{Change, Group, read};
 use std::alloc::Global;
 
 /// How many changes the groups have.
-fn count_changes(groups: &[Group<ChangeRef<'_>>]) -> usize
+fn count_changes(groups: &[Group<'_>]) -> usize
     requires { change_count groups.now < 2 ^ 64 }
     ensures { result ≡ change_count groups.now }
 {

@@ -4,13 +4,13 @@ use Rattle.std.specs.List.{AllByRecursion}
 use Rattle.cs_value.specs.Catalog.{AreTables}
 use Rattle.cs_value.specs.declared.catalog.TableDef.{TableDef}
 use Rattle.cs_change.specs.Spelling.{FitsChangeset}
-use Rattle.cs_change.specs.OneChange.{Group}
+use Rattle.cs_change.specs.declared.group.Group.{Group}
 use Rattle.cs_normal.specs.Headers.{headers, HaveCatalog, HasHeaderFault, HasTwoShapes}
 use Rattle.cs_normal.specs.Normal.{FitsCatalog, IsNormalChangeset}
 use Rattle.cs_normal.specs.NormalFormOf.{IsNormalFormOf}
 use Rattle.cs_normal.specs.declared.headers.HeaderFault.{HeaderFault}
 use Rattle.cs_normal.specs.declared.headers.HeaderFault.TheVariants as in_headers
-use Rattle.cs_normal.specs.OneTable.{TableChanges}
+use Rattle.cs_normal.specs.declared.normal.TableChanges.{TableChanges}
 use Rattle.cs_normal.specs.declared.unfit.Unfit.{Unfit}
 use Rattle.cs_normal.specs.declared.unfit.Unfit.TheVariants as in_changes
 use Rattle.cs_group.specs.Combined.{tables_of, AreForms, IsCombined, HasCombineFault, HasFirstUnfitChangeset, of_headers, of_unfit}

@@ -14,7 +14,7 @@ use Rattle.std.proofs.lemmas.Map.Keys.{IsDistinct-from_sorted}
 use Rattle.std.proofs.lemmas.Map.Views.{list_any-from_Contains}
 use Rattle.cs_order.specs.Order.{Keys, by_bytes, same_bytes, key_at, places}
 use Rattle.cs_order.specs.Groups.{has_bytes, places_of, IsGrouping}
-use Rattle.cs_change.specs.OneChange.{Change}
+use Rattle.cs_change.specs.declared.change.Change.{Change}
 use Rattle.cs_normal.specs.Changes.{Changes, change_at, IsOrdered}
 use Rattle.cs_group.specs.Steps.Joining.{behind, fold_places, entry_left}
 use Rattle.cs_group.proofs.Lookups.{same_is}

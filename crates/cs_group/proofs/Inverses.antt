@@ -13,12 +13,12 @@ use Rattle.cs_change.specs.Columns.{is_blank}
 use Rattle.cs_change.specs.Normal.{IsNormal, NormalUpdate, no_column, key_column, unmodified, modified}
 use Rattle.cs_change.specs.Spelling.{FitsChange}
 use Rattle.cs_change.specs.Then.{inverse, inverse_any, inverse_old_fields, inverse_new_fields}
-use Rattle.cs_change.specs.OneChange.{Change}
+use Rattle.cs_change.specs.declared.change.Change.{Change}
 use Rattle.cs_change.specs.declared.change.Change.TheVariants.{Insert, Delete, Update}
 use Rattle.cs_normal.specs.Changes.{Changes, same_bytes, change_at, IsOrdered, IsEntry, AreNormal}
 use Rattle.cs_normal.specs.Keyed.{beside}
 use Rattle.cs_normal.specs.Normal.{FitsCatalog, IsNormalChangeset, change_of, changes_in}
-use Rattle.cs_normal.specs.OneTable.{TableChanges}
+use Rattle.cs_normal.specs.declared.normal.TableChanges.{TableChanges}
 use Rattle.cs_group.specs.Inverse.{inverse_change, inverse_changes, inverse_changeset, InverseTwice}
 use Rattle.cs_group.proofs.InRange.{AreInRange, in_range, normal_fits, inverse_in_range}
 

@@ -8,10 +8,10 @@ use Rattle.std.proofs.lemmas.List.Elements.{recursion_from_All}
 use Rattle.std.proofs.lemmas.Map.Keys.{IsDistinct-from_sorted}
 use Rattle.cs_order.specs.Order.{Keys, by_bytes, same_bytes, key_at}
 use Rattle.cs_order.specs.Groups.{has_bytes, places_of, IsGrouping}
-use Rattle.cs_change.specs.OneChange.{Change}
+use Rattle.cs_change.specs.declared.change.Change.{Change}
 use Rattle.cs_normal.specs.Changes.{Changes, change_at, IsEntry, AreNormal}
 use Rattle.cs_normal.specs.Normal.{changes_in}
-use Rattle.cs_normal.specs.OneTable.{TableChanges}
+use Rattle.cs_normal.specs.declared.normal.TableChanges.{TableChanges}
 use Rattle.cs_group.specs.Combine.{then_change_any}
 use Rattle.cs_group.specs.Steps.Joining.{fold_places, fold_key, entry_left, in_a_row}
 use Rattle.cs_group.specs.Tables.{changes_along, then_change_all}

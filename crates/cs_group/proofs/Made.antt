@@ -14,7 +14,7 @@ use Rattle.cs_change.specs.Columns.{set_columns, is_blank}
 use Rattle.cs_change.specs.Listed.{listed}
 use Rattle.cs_change.specs.Net.{net, old_record, new_record}
 use Rattle.cs_change.specs.Then.{then_old_fields, then_new_fields, update_if_any, inverse_old_fields, inverse_new_fields}
-use Rattle.cs_change.specs.OneChange.{Change}
+use Rattle.cs_change.specs.declared.change.Change.{Change}
 use Rattle.cs_change.specs.declared.change.Change.TheVariants.{Update}
 use Rattle.cs_group.specs.Combine.{with_flag_any}
 use Rattle.cs_group.proofs.InRange.{olds_fit, news_fit, net_olds_fit, net_news_fit, back_olds_fit, back_news_fit}

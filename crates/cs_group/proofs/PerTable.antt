@@ -11,7 +11,7 @@ use Rattle.cs_normal.specs.Changes.{Changes, AreNormal}
 use Rattle.cs_normal.specs.Laws.{CatalogIsApart, FittingIsNormal, HeadersFit}
 use Rattle.cs_normal.specs.Normal.{AreApart, FitsCatalog, IsNormalTable, IsNormalChangeset, changes_in}
 use Rattle.cs_normal.specs.Steps.TableByTable.{table_changes}
-use Rattle.cs_normal.specs.OneTable.{TableChanges}
+use Rattle.cs_normal.specs.declared.normal.TableChanges.{TableChanges}
 use Rattle.cs_group.specs.Steps.TableByTable.{AreMade, no_table, next, HasNormal, FitsTable}
 use Rattle.cs_group.proofs.Empty.{none_normal}
 use Rattle.cs_group.proofs.Lookups.{by_test}

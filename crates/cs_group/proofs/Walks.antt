@@ -4,24 +4,14 @@ use Rattle.std.specs.Prelude.{slice_get}
 use Rattle.std.specs.Borrow.{Bor}
 use Rattle.std.proofs.lemmas.List.{take_more, drop_more, map-append, length-map, get_or-map}
 use Rattle.std.proofs.lemmas.Option.{slice_get-get_or}
-use Rattle.cs_change.specs.Listed.{listed}
-use Rattle.cs_change.specs.OneChange.{Change}
-use Rattle.cs_normal.specs.OneTable.{TableChanges}
+use Rattle.cs_change.specs.Listed.{listed, listed_more}
+use Rattle.cs_change.specs.declared.change.Change.{Change}
+use Rattle.cs_normal.specs.declared.normal.TableChanges.{TableChanges}
 use Rattle.cs_group.specs.Steps.Joining.{tables_behind}
 
 -- a key more has been walked over
 pub taken_more : (keys : List (List ℕ)) (at : ℕ) → at < length keys → take (at + 1) keys ≡ take at keys ++ get_or keys at [] ∷ []
 taken_more keys at less = take_more keys at [] less
-
--- a change more has been walked over
-listed_more : (changes : List Change) (at : ℕ) → at < length changes → take (at + 1) changes ≡ take at changes ++ listed (slice_get changes at)
-listed_more [] at less = absurd (omega (arith, less))
-listed_more (c ∷ changes) at less =
-    take_more (c ∷ changes) at c less ∙ ap (λ (o : Option Change). take at (c ∷ changes) ++ listed o) (sym (slice_get-get_or (c ∷ changes) at c less))
-
-pub lent_more : (first so_far now changes : List Change) (at : ℕ) → at < length changes → so_far ≡ first ++ take at changes → now ≡ so_far ++ listed (slice_get changes at) → now ≡ first ++ take (at + 1) changes
-lent_more first so_far now changes at less before is =
-    rw (is, before) (append_assoc first (take at changes) (listed (slice_get changes at)) ∙ ap (λ (cs : List Change). first ++ cs) (sym (listed_more changes at less)))
 
 pub map_listed_more : (f : Change → Change) (changes : List Change) (at : ℕ) → at < length changes → map f (take (at + 1) changes) ≡ map f (take at changes) ++ map f (listed (slice_get changes at))
 map_listed_more f changes at less =

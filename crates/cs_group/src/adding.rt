@@ -7,8 +7,8 @@ ghost use Rattle.cs_group.specs.Adding.{IsChangeOf, one_change};
 ghost use Rattle.cs_group.specs.Tables.{AreThen};
 
 use crate::group::then;
-use cs_change::ChangeRef;
-use cs_normal::{KeyedChanges, NormalBuf, TableChanges, put_key};
+use cs_change::Change;
+use cs_normal::{KeyedChanges, Normal, TableChanges, put_key};
 use cs_value::{Catalog, Memory, TableDef};
 use std::alloc::Global;
 
@@ -16,8 +16,8 @@ use std::alloc::Global;
 fn changeset_of(
     alloc: Global,
     table: &TableDef,
-    change: &ChangeRef<'_>,
-) -> Result<NormalBuf, Memory>
+    change: &Change<'_>,
+) -> Result<Normal, Memory>
     requires change { IsChangeOf table.now change.now }
     requires header { FitsHeader (map flag_byte table.now.key_marks) table.now.name }
     ensures { IfOk result (λ changeset. changeset ≡ one_change table.now change.now) }
@@ -31,7 +31,7 @@ fn changeset_of(
         marks: table.key_marks.copied(alloc)?,
         changes,
     };
-    Ok(NormalBuf::from_tables(vec![in alloc; only]?))
+    Ok(Normal::from_tables(vec![in alloc; only]?))
 }
 
 /// The changeset, and then one more change of a table of the catalog, by its place. (SQLite's "Session Extension",
@@ -39,10 +39,10 @@ fn changeset_of(
 pub fn add_one(
     alloc: Global,
     catalog: &Catalog,
-    changeset: &NormalBuf,
+    changeset: &Normal,
     table: usize,
-    change: &ChangeRef<'_>,
-) -> Result<NormalBuf, Memory>
+    change: &Change<'_>,
+) -> Result<Normal, Memory>
     requires changeset { FitsCatalog catalog.now changeset.now }
     requires table { table < length catalog.now }
     requires change { HoldsAt (λ table. IsChangeOf table change.now) catalog.now table }

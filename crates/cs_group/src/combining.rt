@@ -7,8 +7,8 @@ ghost use Rattle.cs_group.specs.Combined.{AreForms, IsCombined, HasCombineFault,
 ghost use Rattle.cs_group.specs.declared.combining.CombineFault.TheVariants.{Memory as NoMemory};
 
 use crate::group::join;
-use cs_change::ChangesetRef;
-use cs_normal::{HeaderFault, NormalBuf, Unfit, catalog_of_refs, normalise_buf};
+use cs_change::Changeset;
+use cs_normal::{HeaderFault, Normal, Unfit, catalog_of, normalise};
 use cs_value::Catalog;
 use std::alloc::{AllocError, Global};
 use std::slice;
@@ -61,15 +61,15 @@ impl From<Unfit> for CombineFault {
 fn normalise_all(
     alloc: Global,
     catalog: &Catalog,
-    changesets: &[ChangesetRef<'_>],
-) -> Result<Vec<NormalBuf>, Unfit>
+    changesets: &[Changeset<'_>],
+) -> Result<Vec<Normal>, Unfit>
     requires { AllByRecursion FitsChangeset changesets.now }
     ensures forms { IfOk result (λ normals. AreForms catalog.now changesets.now normals.items) }
     ensures fault { IfErr result (λ fault. HasFirstUnfitChangeset fault catalog.now changesets.now) }
 {
     let mut normals = Vec::new(alloc);
     for changeset in changesets {
-        normals.push(normalise_buf(alloc, catalog, changeset)?)?;
+        normals.push(normalise(alloc, catalog, changeset)?)?;
     }
     Ok(normals)
 }
@@ -77,14 +77,14 @@ fn normalise_all(
 /// Changesets as read, as one: the normal form of each by the catalog of all their headers, joined in order. No
 /// changeset gives the empty one. The headers are judged first, then the changesets in order. (SQLite's "Session
 /// Extension", changegroup; that the headers have to be a catalog is this project's profile.)
-pub fn combine(alloc: Global, changesets: &[ChangesetRef<'_>]) -> Result<NormalBuf, CombineFault>
+pub fn combine(alloc: Global, changesets: &[Changeset<'_>]) -> Result<Normal, CombineFault>
     // The changesets are such as the reader takes.
     requires { AllByRecursion FitsChangeset changesets.now }
 
     ensures combined { IfOk result (IsCombined changesets.now) }
     ensures fault { IfErr result (λ fault. HasCombineFault fault changesets.now) }
 {
-    let catalog = catalog_of_refs(alloc, changesets)?;
+    let catalog = catalog_of(alloc, changesets)?;
     let normals = normalise_all(alloc, &catalog, changesets)?;
     Ok(join(alloc, &catalog, &normals)?)
 }
@@ -93,14 +93,14 @@ pub fn combine(alloc: Global, changesets: &[ChangesetRef<'_>]) -> Result<NormalB
 /// headers are judged first. (Profile of this project over SQLite's "changeset format".)
 pub fn normalise_alone(
     alloc: Global,
-    changeset: &ChangesetRef<'_>,
-) -> Result<NormalBuf, CombineFault>
+    changeset: &Changeset<'_>,
+) -> Result<Normal, CombineFault>
     // The changeset is one that the reader takes.
     requires { FitsChangeset changeset.now }
 
     ensures combined { IfOk result (IsCombined (changeset.now ∷ [])) }
     ensures fault { IfErr result (λ fault. HasCombineFault fault (changeset.now ∷ [])) }
 {
-    let catalog = catalog_of_refs(alloc, slice::from_ref(changeset))?;
-    Ok(normalise_buf(alloc, &catalog, changeset)?)
+    let catalog = catalog_of(alloc, slice::from_ref(changeset))?;
+    Ok(normalise(alloc, &catalog, changeset)?)
 }

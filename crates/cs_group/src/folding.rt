@@ -7,9 +7,8 @@ ghost use Rattle.cs_change.specs.Listed.{listed};
 ghost use Rattle.cs_group.specs.Combine.{then_change_any};
 ghost use Rattle.cs_group.specs.Steps.Joining.{entry_left, fold_places};
 
-use crate::scratch::Scratch;
 use crate::two_changes::then_into;
-use cs_change::{ChangeRef, ChangesBuf};
+use cs_change::{Change, ChangesBuf, Scratch};
 use cs_normal::{KeyedChanges, Keys};
 use cs_order::Groups;
 use cs_value::Memory;
@@ -26,7 +25,7 @@ struct Room {
 
 /// The change at a place, if there is one.
 #[inline(always)]
-fn change_at<'b, 'a>(changes: &'b [ChangeRef<'a>], place: usize) -> Option<&'b ChangeRef<'a>>
+fn change_at<'b, 'a>(changes: &'b [Change<'a>], place: usize) -> Option<&'b Change<'a>>
     ensures { MatchOption result (slice_get changes.now place ≡ None)
         (λ change. slice_get changes.now place ≡ Some change.now) }
 {
@@ -42,7 +41,7 @@ fn change_at<'b, 'a>(changes: &'b [ChangeRef<'a>], place: usize) -> Option<&'b C
 fn push_combined(
     marks: &[bool],
     so_far: &ChangesBuf,
-    later: &ChangeRef<'_>,
+    later: &Change<'_>,
     scratch: &mut Scratch,
     out: &mut ChangesBuf,
 ) -> Result<(), Memory>
@@ -61,7 +60,7 @@ fn push_combined(
 fn push_combined_at(
     marks: &[bool],
     so_far: &ChangesBuf,
-    changes: &[ChangeRef<'_>],
+    changes: &[Change<'_>],
     place: usize,
     scratch: &mut Scratch,
     out: &mut ChangesBuf,
@@ -78,7 +77,7 @@ fn push_combined_at(
 /// Appends what is left of the changes at these places, taken together in their order.
 fn fold_many(
     marks: &[bool],
-    changes: &[ChangeRef<'_>],
+    changes: &[Change<'_>],
     group: &[usize],
     room: &mut Room,
     out: &mut ChangesBuf,
@@ -109,7 +108,7 @@ fn fold_many(
 /// The same, with less work where there are one or two.
 fn fold_group(
     marks: &[bool],
-    changes: &[ChangeRef<'_>],
+    changes: &[Change<'_>],
     group: &[usize],
     room: &mut Room,
     out: &mut ChangesBuf,
@@ -149,7 +148,7 @@ pub(crate) fn fold_groups(
     alloc: Global,
     marks: &[bool],
     keys: &[&[u8]],
-    changes: &[ChangeRef<'_>],
+    changes: &[Change<'_>],
     groups: &Groups,
 ) -> Result<KeyedChanges, Memory>
     ensures { IfOk result (λ joined. joined

@@ -4,10 +4,9 @@ ghost use Rattle.std.specs.Prelude.{◌≡◌, ◌++◌, IfOk, OnOk, map, slice_
 ghost use Rattle.cs_change.specs.Listed.{listed};
 ghost use Rattle.cs_group.specs.Inverse.{inverse_change, inverse_changes, inverse_table, inverse_changeset};
 
-use crate::scratch::Scratch;
 use crate::taking_back::invert_into;
-use cs_change::ChangesBuf;
-use cs_normal::{KeyedChanges, NormalBuf, TableChanges};
+use cs_change::{ChangesBuf, Scratch};
+use cs_normal::{KeyedChanges, Normal, TableChanges};
 use cs_value::Memory;
 use std::alloc::Global;
 
@@ -52,8 +51,8 @@ fn invert_changes(alloc: Global, keyed: &KeyedChanges) -> Result<KeyedChanges, M
 
 fn invert_table(
     alloc: Global,
-    table: &TableChanges<KeyedChanges>,
-) -> Result<TableChanges<KeyedChanges>, Memory>
+    table: &TableChanges,
+) -> Result<TableChanges, Memory>
     ensures { IfOk result (λ inverted. inverted ≡ inverse_table table.now) }
 {
     let changes = invert_changes(alloc, &table.changes)?;
@@ -66,8 +65,8 @@ fn invert_table(
 
 fn invert_tables(
     alloc: Global,
-    tables: &[TableChanges<KeyedChanges>],
-) -> Result<Vec<TableChanges<KeyedChanges>>, Memory>
+    tables: &[TableChanges],
+) -> Result<Vec<TableChanges>, Memory>
     ensures { IfOk result (λ inverted. inverted.items ≡ inverse_changeset tables.now) }
 {
     let mut inverted = Vec::with_capacity(alloc, tables.len())?;
@@ -82,9 +81,9 @@ fn invert_tables(
 /// The changeset that takes this one back: an INSERT becomes a DELETE, a DELETE an INSERT, and an UPDATE exchanges the
 /// old and new values of what it modifies and keeps the key. Each change keeps its flag. (SQLite's "Session
 /// Extension", inversion of a changeset.)
-pub fn invert(alloc: Global, changeset: &NormalBuf) -> Result<NormalBuf, Memory>
+pub fn invert(alloc: Global, changeset: &Normal) -> Result<Normal, Memory>
     ensures { IfOk result (λ inverted. inverted ≡ inverse_changeset changeset.now) }
 {
     let tables = invert_tables(alloc, changeset.tables())?;
-    Ok(NormalBuf::from_tables(tables))
+    Ok(Normal::from_tables(tables))
 }

@@ -2,18 +2,17 @@
 //! places of each key, so the cost is near linear in all the changes, however many changesets there are; each change is
 //! looked at where it stands, and what is left of a key is written once.
 
-ghost use Rattle.std.specs.Prelude.{◌≡◌, ◌++◌, IfOk, IsUtf8, OnOk, slice_get};
+ghost use Rattle.std.specs.Prelude.{◌≡◌, ◌++◌, IfOk, IsUtf8, OnOk};
 ghost use Rattle.std.specs.List.{AllByRecursion};
 ghost use Rattle.std.specs.Map.{keys_of, values_of};
 ghost use Rattle.cs_order.specs.Order.{keys_behind};
-ghost use Rattle.cs_change.specs.Listed.{listed};
 ghost use Rattle.cs_normal.specs.Normal.{changes_in, IsNormalChangeset};
 ghost use Rattle.cs_group.specs.Steps.Joining.{in_a_row, tables_behind};
 ghost use Rattle.cs_group.specs.Steps.TableByTable.{FitsTable, HasNormal, IsNormalJoinOf};
 
 use crate::folding::fold_groups;
-use cs_change::{ChangeRef, ChangesBuf};
-use cs_normal::{KeyedChanges, Keys, NormalBuf, changes_of};
+use cs_change::Change;
+use cs_normal::{KeyedChanges, Keys, Normal, changes_of};
 use cs_order::group_keys;
 use cs_value::{Memory, TableDef};
 use std::alloc::Global;
@@ -22,7 +21,7 @@ use std::alloc::Global;
 #[derive(Drop)]
 struct Lent<'a> {
     keys: Vec<&'a [u8]>,
-    changes: Vec<ChangeRef<'a>>,
+    changes: Vec<Change<'a>>,
 }
 
 /// Lends the keys of one more changeset.
@@ -36,36 +35,8 @@ fn lend_keys<'a>(keys: &'a Keys, lent: &mut Vec<&'a [u8]>) -> Result<(), Memory>
     Ok(())
 }
 
-/// Lends the change at a place, if there is one.
-#[inline(always)]
-fn lend_at<'a>(
-    changes: &'a ChangesBuf,
-    at: usize,
-    lent: &mut Vec<ChangeRef<'a>>,
-) -> Result<(), Memory>
-    ensures { OnOk result (lent.new.items ≡ lent.old.items ++ listed (slice_get changes.now at)) }
-{
-    if let Some(change) = changes.get(at) {
-        lent.push(change)?;
-    }
-    Ok(())
-}
-
-/// Lends the changes of one more changeset.
-pub(crate) fn lend_changes<'a>(
-    changes: &'a ChangesBuf,
-    lent: &mut Vec<ChangeRef<'a>>,
-) -> Result<(), Memory>
-    ensures { OnOk result (lent.new.items ≡ lent.old.items ++ changes.now) }
-{
-    for at in 0..changes.len() {
-        lend_at(changes, at, lent)?;
-    }
-    Ok(())
-}
-
 /// Lends the changes of the table with this name of one more changeset, and their keys.
-fn lend_table<'a>(name: &str, more: &'a NormalBuf, lent: &mut Lent<'a>) -> Result<(), Memory>
+fn lend_table<'a>(name: &str, more: &'a Normal, lent: &mut Lent<'a>) -> Result<(), Memory>
     ensures keys { OnOk result (keys_behind lent.new.keys.items
         ≡ keys_behind lent.old.keys.items ++ keys_of (changes_in name.now more.now)) }
     ensures changes { OnOk result (lent.new.changes.items
@@ -75,13 +46,13 @@ fn lend_table<'a>(name: &str, more: &'a NormalBuf, lent: &mut Lent<'a>) -> Resul
     if let Some(table) = changes_of(more.tables(), name) {
         let (keys, changes) = table.parts();
         lend_keys(keys, &mut lent.keys)?;
-        lend_changes(changes, &mut lent.changes)?;
+        changes.lend(&mut lent.changes)?;
     }
     Ok(())
 }
 
 /// The table's changes of all changesets, one changeset after another.
-fn lend_all<'a>(alloc: Global, table: &TableDef, list: &[&'a NormalBuf]) -> Result<Lent<'a>, Memory>
+fn lend_all<'a>(alloc: Global, table: &TableDef, list: &[&'a Normal]) -> Result<Lent<'a>, Memory>
     requires { AllByRecursion (FitsTable table.now) (tables_behind list.now) }
     ensures keys { IfOk result (λ lent. keys_behind lent.keys.items
         ≡ keys_of (in_a_row table.now.name (tables_behind list.now))) }
@@ -105,7 +76,7 @@ fn lend_all<'a>(alloc: Global, table: &TableDef, list: &[&'a NormalBuf]) -> Resu
 pub(crate) fn join_table(
     alloc: Global,
     table: &TableDef,
-    list: &[&NormalBuf],
+    list: &[&Normal],
 ) -> Result<KeyedChanges, Memory>
     requires { AllByRecursion (FitsTable table.now) (tables_behind list.now) }
     ensures { IfOk result (λ changes. IsNormalJoinOf (tables_behind list.now) table.now changes) }

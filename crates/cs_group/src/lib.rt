@@ -15,7 +15,6 @@ mod inverting;
 mod joining;
 pub mod laws;
 mod record_columns;
-mod scratch;
 mod tables;
 mod taking_back;
 mod two_changes;

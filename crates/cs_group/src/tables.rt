@@ -7,7 +7,7 @@ ghost use Rattle.cs_group.specs.Steps.Joining.{tables_behind};
 ghost use Rattle.cs_group.specs.Steps.TableByTable.{AreMade, FitsTable, IsNormalJoinOf};
 
 use crate::joining::join_table;
-use cs_normal::{KeyedChanges, NormalBuf, TableChanges};
+use cs_normal::{KeyedChanges, Normal, TableChanges};
 use cs_value::{Memory, TableDef};
 use std::alloc::Global;
 
@@ -16,7 +16,7 @@ fn put_changes(
     alloc: Global,
     table: &TableDef,
     changes: KeyedChanges,
-    made: &mut Vec<TableChanges<KeyedChanges>>,
+    made: &mut Vec<TableChanges>,
 ) -> Result<(), Memory>
     ensures { OnOk result (made.new.items ≡ made.old.items ++ table_changes table.now changes) }
 {
@@ -35,8 +35,8 @@ fn put_changes(
 pub(crate) fn join_tables(
     alloc: Global,
     tables: &[TableDef],
-    list: &[&NormalBuf],
-) -> Result<Vec<TableChanges<KeyedChanges>>, Memory>
+    list: &[&Normal],
+) -> Result<Vec<TableChanges>, Memory>
     requires { AllByRecursion (λ table. AllByRecursion (FitsTable table) (tables_behind list.now)) tables.now }
     ensures { IfOk result (λ joined. AreMade (IsNormalJoinOf (tables_behind list.now)) tables.now joined.items) }
 {

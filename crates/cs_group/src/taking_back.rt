@@ -6,15 +6,14 @@ ghost use Rattle.cs_change.specs.declared.change.Change.TheVariants.{Update};
 ghost use Rattle.cs_group.specs.Inverse.{inverse_change};
 
 use crate::record_columns::put_inverse_columns;
-use crate::scratch::Scratch;
-use cs_change::{Change, ChangeRef, ChangesBuf};
+use cs_change::{Change, ChangesBuf, Scratch};
 use cs_record::Record;
 use cs_value::Memory;
 
 /// Appends the change that takes this one back, with its flag.
 #[tactic(auto, unfolding(cs_change::specs::Then::inverse))]
 pub(crate) fn invert_into(
-    change: &ChangeRef<'_>,
+    change: &Change<'_>,
     scratch: &mut Scratch,
     out: &mut ChangesBuf,
 ) -> Result<(), Memory>

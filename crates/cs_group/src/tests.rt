@@ -12,8 +12,8 @@ ghost use Rattle.cs_normal.specs.Normal.{FitsCatalog};
 
 use super::*;
 use crate::joining::lend_changes;
-use cs_change::{Change, ChangeRef, ChangesBuf, ChangesetRef, Group};
-use cs_normal::{NormalBuf, Unfit, normalise_buf};
+use cs_change::{Change, ChangesBuf, Changeset, Group};
+use cs_normal::{Normal, Unfit, normalise};
 use cs_record::{RecordBuf, Row, RowBuf};
 use cs_value::{Catalog, Field, Items, Memory, TableDef, Text, Value};
 use std::alloc::{AllocError, Global};
@@ -113,8 +113,8 @@ fn group<'a>(
     alloc: Global,
     mark: u8,
     name: &str,
-    changes: Vec<ChangeRef<'a>>,
-) -> Result<Group<ChangeRef<'a>>, Memory>
+    changes: Vec<Change<'a>>,
+) -> Result<Group<'a>, Memory>
     requires { AllByRecursion (FitsChange (true ∷ false ∷ [])) changes.items }
     ensures { IfOk result FitsGroup }
 {
@@ -129,7 +129,7 @@ fn group<'a>(
 }
 
 /// The changeset of these changes of the table `t1`, as it is read.
-fn as_read(alloc: Global, changes: &ChangesBuf) -> Result<ChangesetRef<'_>, Memory>
+fn as_read(alloc: Global, changes: &ChangesBuf) -> Result<Changeset<'_>, Memory>
     requires { AllByRecursion (FitsChange (true ∷ false ∷ [])) changes.now }
     ensures { IfOk result FitsChangeset }
 {
@@ -139,11 +139,11 @@ fn as_read(alloc: Global, changes: &ChangesBuf) -> Result<ChangesetRef<'_>, Memo
 }
 
 /// The normal form of this change, or of none.
-fn one(alloc: Global, catalog: &Catalog, change: Option<Told>) -> Result<NormalBuf, Unfit>
+fn one(alloc: Global, catalog: &Catalog, change: Option<Told>) -> Result<Normal, Unfit>
     ensures { IfOk result (FitsCatalog catalog.now) }
 {
     let changes = in_bytes(alloc, change)?;
-    normalise_buf(alloc, catalog, &as_read(alloc, &changes)?)
+    normalise(alloc, catalog, &as_read(alloc, &changes)?)
 }
 
 fn table(alloc: Global, name: &str) -> Result<TableDef, Memory>
@@ -156,7 +156,7 @@ fn table(alloc: Global, name: &str) -> Result<TableDef, Memory>
 }
 
 /// Whether both are spelled by the same bytes.
-fn are_same(alloc: Global, left: &NormalBuf, right: &NormalBuf) -> Result<bool, Memory> {
+fn are_same(alloc: Global, left: &Normal, right: &Normal) -> Result<bool, Memory> {
     let mut bytes = Vec::new(alloc);
     left.encode(&mut bytes)?;
     let mut others = Vec::new(alloc);
@@ -394,7 +394,7 @@ fn combined(
     first: &ChangesBuf,
     second: &ChangesBuf,
     third: &ChangesBuf,
-) -> Result<NormalBuf, CombineFault>
+) -> Result<Normal, CombineFault>
     requires first { AllByRecursion (FitsChange (true ∷ false ∷ [])) first.now }
     requires second { AllByRecursion (FitsChange (true ∷ false ∷ [])) second.now }
     requires third { AllByRecursion (FitsChange (true ∷ false ∷ [])) third.now }

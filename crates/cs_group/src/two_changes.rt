@@ -10,8 +10,7 @@ ghost use Rattle.cs_change.specs.declared.change.Change.TheVariants.{Insert, Del
 ghost use Rattle.cs_group.specs.Combine.{then_change, with_flag, with_flag_any};
 
 use crate::record_columns::{put_net_columns, put_set_columns, put_then_columns};
-use crate::scratch::Scratch;
-use cs_change::{Change, ChangeRef, ChangesBuf};
+use cs_change::{Change, ChangesBuf, Scratch};
 use cs_record::{Record, Row};
 use cs_value::Memory;
 
@@ -19,8 +18,8 @@ use cs_value::Memory;
 #[tactic(auto, unfolding(cs_change::specs::Then::then_one))]
 pub(crate) fn then_into(
     marks: &[bool],
-    earlier: &ChangeRef<'_>,
-    later: &ChangeRef<'_>,
+    earlier: &Change<'_>,
+    later: &Change<'_>,
     scratch: &mut Scratch,
     out: &mut ChangesBuf,
 ) -> Result<(), Memory>
@@ -57,7 +56,7 @@ pub(crate) fn then_into(
 }
 
 /// Appends the change with this flag.
-fn push_flagged(flag: bool, change: &ChangeRef<'_>, out: &mut ChangesBuf) -> Result<(), Memory>
+fn push_flagged(flag: bool, change: &Change<'_>, out: &mut ChangesBuf) -> Result<(), Memory>
     ensures { OnOk result (out.new ≡ out.old ++ with_flag flag (action change.now) ∷ []) }
 {
     match change {

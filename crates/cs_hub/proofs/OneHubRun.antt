@@ -3,8 +3,8 @@ use Rattle.std.proofs.Common.{◌≡◌, ℕ, inl, inr, List, [], ◌∷◌, ap,
 use Rattle.std.specs.Prelude.{Result, Ok, Err}
 use Rattle.cs_value.specs.Catalog.{AreTables}
 use Rattle.cs_value.specs.declared.catalog.TableDef.{TableDef}
-use Rattle.cs_change.specs.OneChange.{Group}
-use Rattle.cs_normal.specs.OneTable.{TableChanges}
+use Rattle.cs_change.specs.declared.group.Group.{Group}
+use Rattle.cs_normal.specs.declared.normal.TableChanges.{TableChanges}
 use Rattle.cs_lines.specs.Laws.{HasOneAnswerAlong, OneRun}
 use Rattle.cs_lines.specs.Served.{Answers, AnswersDecoded}
 use Rattle.cs_hub.specs.Hub.{HubState, fresh}

@@ -1,12 +1,12 @@
 -- A request has one answer, and leaves one hub.
 use Rattle.std.proofs.Common.{◌≡◌, ℕ, List, inl, inr, sym, ap, subst, ◌∙◌, arith}
 use Rattle.cs_value.specs.Catalog.{AreTables}
-use Rattle.cs_change.specs.OneChange.{Group}
+use Rattle.cs_change.specs.declared.group.Group.{Group}
 use Rattle.cs_changeset.specs.declared.fault.Fault.{Fault}
 use Rattle.cs_changeset.specs.Laws.{ChangesetLaws}
 use Rattle.cs_normal.specs.Laws.{NoFaultWhereFit, OneNormalForm, OneUnfit}
 use Rattle.cs_normal.specs.declared.unfit.Unfit.{Unfit}
-use Rattle.cs_normal.specs.OneTable.{TableChanges}
+use Rattle.cs_normal.specs.declared.normal.TableChanges.{TableChanges}
 use Rattle.cs_changeset.specs.Codes.{fault_code}
 use Rattle.cs_hub.specs.Codes.{unfit_code}
 use Rattle.cs_hub.specs.Hub.{HubState}

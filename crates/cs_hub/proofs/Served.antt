@@ -1,9 +1,9 @@
 -- Answers to pushes.
 use Rattle.std.proofs.Common.{◌≡◌, List, Result, Ok, Err, IfOk, inr, subst}
 use Rattle.cs_value.specs.declared.catalog.TableDef.{TableDef}
-use Rattle.cs_change.specs.OneChange.{Group}
+use Rattle.cs_change.specs.declared.group.Group.{Group}
 use Rattle.cs_normal.specs.NormalFormOf.{IsNormalFormOf}
-use Rattle.cs_normal.specs.OneTable.{TableChanges}
+use Rattle.cs_normal.specs.declared.normal.TableChanges.{TableChanges}
 use Rattle.cs_hub.specs.Hub.{HubState}
 use Rattle.cs_hub.specs.Pushes.{Push}
 use Rattle.cs_hub.specs.Serves.{AnswersPush, AnswersGroups}

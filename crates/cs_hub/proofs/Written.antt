@@ -2,7 +2,7 @@
 use Rattle.std.proofs.Common.{◌≡◌, ℕ, Bool, true, false, cond, List, [], ◌∷◌, ◌++◌, Option, Some, None, refl, sym, subst, ap, ◌∙◌, append_assoc, length, arith}
 use Rattle.cs_value.specs.Key.{Place}
 use Rattle.cs_change.specs.Action.{action, action_any, after, after_any}
-use Rattle.cs_change.specs.OneChange.{Change}
+use Rattle.cs_change.specs.declared.change.Change.{Change}
 use Rattle.cs_normal.specs.Changes.{Changes, change_at, same_bytes, IsOrdered}
 use Rattle.cs_hub.specs.Rows.{Rows, row_at}
 use Rattle.std.proofs.lemmas.Cmp.{nat_list_cmp_total, eq_by_cmp_equiv}

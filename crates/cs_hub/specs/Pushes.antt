@@ -2,7 +2,7 @@
 use Rattle.std.specs.Prelude.{◌≡◌, ◌⊎◌, ◌+◌, ◌<◌, ◌≤◌, List, [], length, Some, Result, Ok, Err}
 use Rattle.std.specs.List.{slice_get}
 use Rattle.cs_normal.specs.State.{IsDefinedOn}
-use Rattle.cs_normal.specs.OneTable.{TableChanges}
+use Rattle.cs_normal.specs.declared.normal.TableChanges.{TableChanges}
 use Rattle.cs_hub.specs.declared.log.Body.TheVariants.{Changes}
 use Rattle.cs_hub.specs.declared.log.LogEntry.{LogEntry}
 use Rattle.cs_hub.specs.Hub.{HubState, with_entry}

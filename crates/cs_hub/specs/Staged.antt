@@ -4,7 +4,7 @@ use Rattle.cs_value.specs.Key.{Place}
 use Rattle.cs_change.specs.Action.{action, after}
 use Rattle.cs_normal.specs.Changes.{Changes, same_bytes}
 use Rattle.cs_normal.specs.Normal.{changes_in}
-use Rattle.cs_normal.specs.OneTable.{TableChanges}
+use Rattle.cs_normal.specs.declared.normal.TableChanges.{TableChanges}
 use Rattle.cs_hub.specs.Rows.{Rows, row_at}
 
 -- what is to stand at keys, behind their bytes

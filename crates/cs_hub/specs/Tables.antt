@@ -3,7 +3,7 @@ use Rattle.std.specs.Prelude.{List, None}
 use Rattle.std.specs.List.{fold}
 use Rattle.std.specs.Option.{unwrap_or}
 use Rattle.cs_normal.specs.State.{State, left_at}
-use Rattle.cs_normal.specs.OneTable.{TableChanges}
+use Rattle.cs_normal.specs.declared.normal.TableChanges.{TableChanges}
 use Rattle.cs_hub.specs.declared.log.Body.{Body}
 use Rattle.cs_hub.specs.declared.log.Body.TheVariants.{Changes}
 use Rattle.cs_hub.specs.declared.log.LogEntry.{LogEntry}

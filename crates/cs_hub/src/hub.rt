@@ -11,9 +11,9 @@ use crate::push::{PushHead, Pushed};
 use crate::request::Request;
 use crate::rows::KeyedRow;
 use crate::tables::Tables;
-use cs_change::ChangesetRef;
+use cs_change::Changeset;
 use cs_changeset::{CodecFault, read};
-use cs_normal::{NormalBuf, Unfit, normalise_buf};
+use cs_normal::{Normal, Unfit, normalise};
 use cs_value::{Catalog, Memory, TableDef};
 use std::alloc::{AllocError, Global};
 use std::marker::Model;
@@ -46,7 +46,7 @@ impl Model for Hub {
 }
 
 /// Whether the entry is this push.
-fn is_push(entry: &LogEntry, head: PushHead, changes: &NormalBuf) -> bool
+fn is_push(entry: &LogEntry, head: PushHead, changes: &Normal) -> bool
     ensures { IsTrue result ↔ (entry.now ≡ entry_of (record { head = head; changes = changes.now })) }
 {
     let Body::Changes(kept) = &entry.body;
@@ -134,7 +134,7 @@ impl Hub {
     }
 
     /// The answer to a push whose base is below the newest version.
-    fn recall(&self, head: PushHead, changes: &NormalBuf) -> Pushed
+    fn recall(&self, head: PushHead, changes: &Normal) -> Pushed
         requires below { head.base < length self.now.log }
         requires some { changes.now ≢ [] }
         ensures { Pushes self.now (record { head = head; changes = changes.now }) (Ok result) self.now }
@@ -153,7 +153,7 @@ impl Hub {
     /// # Errors
     ///
     /// `Empty`, `Ahead`, `Full` and `Conflict` in these cases; `Memory` where memory was refused. Nothing has changed then.
-    pub fn push(&mut self, head: PushHead, changes: NormalBuf) -> Result<Pushed, HubFault>
+    pub fn push(&mut self, head: PushHead, changes: Normal) -> Result<Pushed, HubFault>
         requires fits { FitsCatalog self.old.catalog changes }
         requires size { length (normal_spelling changes) ≤ MAX_CHANGESET }
         ensures { PushesIf self.old (record { head = head; changes = changes }) result self.new }
@@ -246,13 +246,13 @@ impl Hub {
     }
 
     /// Takes a push whose changeset is yet to be brought into normal form.
-    fn take_groups(&mut self, head: PushHead, groups: &ChangesetRef<'_>) -> Result<Answer, Memory>
+    fn take_groups(&mut self, head: PushHead, groups: &Changeset<'_>) -> Result<Answer, Memory>
         requires fits { FitsChangeset groups.now }
         requires size { length (changeset_spelling groups.now) < 2 ^ 32 }
         ensures ok { IfOk result (λ answer. AnswersGroups self.old head groups.now answer self.new) }
         ensures err { OnErr result (self.new ≡ self.old) }
     {
-        match normalise_buf(self.alloc, &self.catalog, groups) {
+        match normalise(self.alloc, &self.catalog, groups) {
             Ok(changes) => self.take(head, changes),
             Err(Unfit::Memory) => Err(AllocError),
             Err(unfit) => Ok(Answer::Refused(code::of_unfit(unfit))),
@@ -260,7 +260,7 @@ impl Hub {
     }
 
     /// Takes a push, and tells what became of it.
-    fn take(&mut self, head: PushHead, changes: NormalBuf) -> Result<Answer, Memory>
+    fn take(&mut self, head: PushHead, changes: Normal) -> Result<Answer, Memory>
         requires fits { FitsCatalog self.old.catalog changes }
         requires size { length (normal_spelling changes) < 2 ^ 32 }
         ensures ok { IfOk result (λ answer.

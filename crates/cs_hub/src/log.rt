@@ -1,11 +1,11 @@
 //! What a hub keeps of the pushes that it took.
 
-use cs_normal::NormalBuf;
+use cs_normal::Normal;
 
 /// What an entry of the log does.
 #[derive(Drop)]
 pub enum Body {
-    Changes(NormalBuf),
+    Changes(Normal),
 }
 
 /// An entry of the log: whose push it was, the number that its replica gave it, and what it does. (Profile of this

@@ -6,7 +6,7 @@ ghost use Rattle.cs_change.specs.Columns.{column_fits, fits, set_columns};
 ghost use Rattle.cs_hub.specs.Rows.{IsInOrder, row_at};
 
 use crate::rows::{KeyedRow, find};
-use cs_change::{Change, ChangeRef};
+use cs_change::Change;
 use cs_record::{Cell, Column, Record, Row, RowBuf};
 use cs_value::Memory;
 use std::alloc::Global;
@@ -16,7 +16,7 @@ pub(crate) fn outcome(
     alloc: Global,
     rows: &[KeyedRow],
     key: &[u8],
-    change: &ChangeRef<'_>,
+    change: &Change<'_>,
 ) -> Result<Option<Option<RowBuf>>, Memory>
     requires { IsInOrder rows.now }
     ensures { IfOk result (λ left. left ≡ after (action change.now) (row_at key.now rows.now)) }
@@ -29,7 +29,7 @@ pub(crate) fn outcome(
 
 /// What the change leaves where there is no row.
 #[tactic(auto, unfolding(cs_change::specs::Action::after))]
-fn on_none(alloc: Global, change: &ChangeRef<'_>) -> Result<Option<Option<RowBuf>>, Memory>
+fn on_none(alloc: Global, change: &Change<'_>) -> Result<Option<Option<RowBuf>>, Memory>
     ensures { IfOk result (λ left. left ≡ after (action change.now) None) }
 {
     match change {
@@ -42,7 +42,7 @@ fn on_none(alloc: Global, change: &ChangeRef<'_>) -> Result<Option<Option<RowBuf
 #[tactic(auto, unfolding(cs_change::specs::Action::after))]
 fn on_row(
     alloc: Global,
-    change: &ChangeRef<'_>,
+    change: &Change<'_>,
     row: &RowBuf,
 ) -> Result<Option<Option<RowBuf>>, Memory>
     ensures { IfOk result (λ left. left ≡ after (action change.now) (Some row.now)) }

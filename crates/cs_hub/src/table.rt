@@ -89,7 +89,7 @@ impl Table {
     pub(crate) fn stage(
         &mut self,
         alloc: Global,
-        changes: &[TableChanges<KeyedChanges>],
+        changes: &[TableChanges],
     ) -> Result<bool, Memory>
         ensures name { self.new.name ≡ self.old.name }
         ensures rows { self.new.rows ≡ self.old.rows }

@@ -57,7 +57,7 @@ impl Tables {
     pub(crate) fn stage(
         &mut self,
         alloc: Global,
-        changes: &[TableChanges<KeyedChanges>],
+        changes: &[TableChanges],
     ) -> Result<bool, Memory>
         ensures kept { KeepsRows self.old self.new }
         ensures staged { IfOk result (AnswersStages changes.now self.new) }

@@ -1,6 +1,6 @@
 use super::*;
 use cs_changeset::read;
-use cs_normal::normalise_buf;
+use cs_normal::normalise;
 use cs_value::{Catalog, Items, TableDef, Text};
 use std::alloc::Global;
 use std::process::Abort;
@@ -77,7 +77,7 @@ fn a_push(rt: HostRuntime) -> Result<(), Fail> {
     let alloc = rt.alloc();
     let catalog = catalog_of_t1(alloc)?;
     let mut hub = Hub::new(alloc, &catalog)?;
-    let changes = normalise_buf(alloc, &catalog, &read(alloc, &INSERT)?)?;
+    let changes = normalise(alloc, &catalog, &read(alloc, &INSERT)?)?;
     let head = PushHead {
         origin: 7,
         number: 1,

@@ -5,7 +5,7 @@ ghost use Rattle.std.specs.Fmt.{WritesOnOk};
 ghost use Rattle.cs_text.specs.Text.{values_text, fields_text, bit_text, marks_text, operation_text, change_text, header_text, changes_text, group_text, changeset_text};
 
 use crate::words::{FieldText, NameText, ValueText};
-use cs_change::{Change, ChangeRef, Group};
+use cs_change::{Change, Group};
 use cs_record::{Record, Row};
 use std::fmt;
 
@@ -58,7 +58,7 @@ fn write_operation<W: fmt::Write>(word: &str, flag: bool, f: &mut fmt::Formatter
     write_bit(flag, f)
 }
 
-fn write_change<W: fmt::Write>(change: &ChangeRef<'_>, f: &mut fmt::Formatter<W>) -> fmt::Result
+fn write_change<W: fmt::Write>(change: &Change<'_>, f: &mut fmt::Formatter<W>) -> fmt::Result
     ensures { WritesOnOk W.write_str_gives f.old result (change_text change.now) f.new }
 {
     match change {
@@ -83,7 +83,7 @@ fn write_change<W: fmt::Write>(change: &ChangeRef<'_>, f: &mut fmt::Formatter<W>
     }
 }
 
-fn write_changes<W: fmt::Write>(changes: &[ChangeRef<'_>], f: &mut fmt::Formatter<W>) -> fmt::Result
+fn write_changes<W: fmt::Write>(changes: &[Change<'_>], f: &mut fmt::Formatter<W>) -> fmt::Result
     ensures { WritesOnOk W.write_str_gives f.old result (changes_text changes.now) f.new }
 {
     for change in changes {
@@ -94,7 +94,7 @@ fn write_changes<W: fmt::Write>(changes: &[ChangeRef<'_>], f: &mut fmt::Formatte
 }
 
 fn write_header<W: fmt::Write>(
-    group: &Group<ChangeRef<'_>>,
+    group: &Group<'_>,
     f: &mut fmt::Formatter<W>,
 ) -> fmt::Result
     ensures { WritesOnOk W.write_str_gives f.old result (header_text group.now) f.new }
@@ -104,7 +104,7 @@ fn write_header<W: fmt::Write>(
 }
 
 fn write_group<W: fmt::Write>(
-    group: &Group<ChangeRef<'_>>,
+    group: &Group<'_>,
     f: &mut fmt::Formatter<W>,
 ) -> fmt::Result
     ensures { WritesOnOk W.write_str_gives f.old result (group_text group.now) f.new }
@@ -118,7 +118,7 @@ fn write_group<W: fmt::Write>(
 /// `insert FLAG VALUES`, `delete FLAG VALUES` or `update FLAG OLD > NEW`. Each line ends by a line feed. The changes stay
 /// in their bytes.
 #[derive(Clone, Copy)]
-pub struct ChangesetText<'a, 'b>(pub &'a [Group<ChangeRef<'b>>]);
+pub struct ChangesetText<'a, 'b>(pub &'a [Group<'b>]);
 
 impl fmt::Display for ChangesetText<'_, '_> {
     ghost output = { λ changeset. Some (changeset_text changeset.0.now) };

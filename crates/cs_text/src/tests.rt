@@ -1,5 +1,5 @@
 use super::*;
-use cs_change::{Change, ChangeRef, Group};
+use cs_change::{Change, Group};
 use cs_record::{RecordBuf, RowBuf};
 use cs_value::{Field, Items, Text, Value};
 use std::alloc::Global;
@@ -29,8 +29,8 @@ fn group<'a>(
     alloc: Global,
     name: &str,
     marks: &[u8],
-    changes: Vec<ChangeRef<'a>>,
-) -> Result<Group<ChangeRef<'a>>, Fail> {
+    changes: Vec<Change<'a>>,
+) -> Result<Group<'a>, Fail> {
     Ok(Group {
         marks: Items::from_vec(Vec::from_slice(alloc, marks)?),
         name: Text::from_string(String::from_str(alloc, name)?),
@@ -70,7 +70,7 @@ fn rows_and_records(alloc: Global) -> Result<Held, Fail> {
 }
 
 /// Two groups: an INSERT and a DELETE, and an UPDATE.
-fn groups<'a>(alloc: Global, held: &'a Held) -> Result<Vec<Group<ChangeRef<'a>>>, Fail> {
+fn groups<'a>(alloc: Global, held: &'a Held) -> Result<Vec<Group<'a>>, Fail> {
     let insert = Change::Insert {
         flag: false,
         new_row: held.new_row.as_row(),
@@ -89,7 +89,7 @@ fn groups<'a>(alloc: Global, held: &'a Held) -> Result<Vec<Group<ChangeRef<'a>>>
     Ok(vec![in alloc; first, second]?)
 }
 
-fn printed(alloc: Global, groups: &[Group<ChangeRef<'_>>]) -> Result<String, Fail> {
+fn printed(alloc: Global, groups: &[Group<'_>]) -> Result<String, Fail> {
     Ok(format!(in alloc; "{}", ChangesetText(groups))?)
 }
 

@@ -7,7 +7,7 @@ use Rattle.std.specs.Io.KnownBytes.{IsAtEnd}
 use Rattle.std.proofs.lemmas.List.{take_more}
 use Rattle.hex.specs.Hex.{decode_of}
 use Rattle.cs_change.specs.Spelling.{FitsChangeset, changeset_spelling}
-use Rattle.cs_change.specs.OneChange.{Group}
+use Rattle.cs_change.specs.declared.group.Group.{Group}
 use Rattle.cs_lines.specs.Laws.{AllTaken, NoneTaken, OneMoreTaken}
 use Rattle.cs_lines.specs.Served.{AreAllLines}
 use Rattle.cs_text.specs.Text.{changeset_text}

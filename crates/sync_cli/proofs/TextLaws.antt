@@ -4,7 +4,7 @@ use Rattle.std.specs.Prelude.{Option, Some, None, Ok}
 use Rattle.std.specs.Io.KnownBytes.{Keeps}
 use Rattle.std.proofs.lemmas.List.{append_cancel_left}
 use Rattle.cs_change.specs.Spelling.{changeset_spelling}
-use Rattle.cs_change.specs.OneChange.{Group}
+use Rattle.cs_change.specs.declared.group.Group.{Group}
 use Rattle.cs_changeset.specs.Laws.{OneChangeset}
 use Rattle.cs_group.specs.Combined.{IsCombined, OneCombined}
 use Rattle.cs_lines.specs.Lines.{hex_line, lines_of}

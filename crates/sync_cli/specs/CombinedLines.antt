@@ -6,9 +6,9 @@ use Rattle.hex.specs.Hex.{decode_of}
 use Rattle.cs_lines.specs.Lines.{hex_line}
 use Rattle.cs_lines.specs.Served.{AreAllLines}
 use Rattle.cs_change.specs.Spelling.{FitsChangeset, changeset_spelling}
-use Rattle.cs_change.specs.OneChange.{Group}
+use Rattle.cs_change.specs.declared.group.Group.{Group}
 use Rattle.cs_normal.specs.Normal.{normal_spelling}
-use Rattle.cs_normal.specs.OneTable.{TableChanges}
+use Rattle.cs_normal.specs.declared.normal.TableChanges.{TableChanges}
 use Rattle.cs_group.specs.Combined.{IsCombined}
 
 -- the line is hex, and its bytes are the changeset's

@@ -4,7 +4,7 @@ use Rattle.std.specs.Global.{Vec}
 use Rattle.std.specs.List.{AllZip}
 use Rattle.std.specs.Io.KnownBytes.{IsAtEnd, Keeps}
 use Rattle.cs_change.specs.Spelling.{FitsChangeset, changeset_spelling}
-use Rattle.cs_change.specs.OneChange.{Group}
+use Rattle.cs_change.specs.declared.group.Group.{Group}
 use Rattle.hex.specs.Hex.{decode_of}
 use Rattle.cs_lines.specs.Reading.{AreTaken, TakesLine}
 use Rattle.sync_cli.specs.CombinedLines.{SpellsChangeset}

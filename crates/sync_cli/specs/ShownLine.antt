@@ -1,6 +1,6 @@
 -- What `show changeset` writes: the changeset of the first line as text (format of this project).
 use Rattle.std.specs.Prelude.{◌≡◌, ◌⊎◌, ℕ, List, [], Option, Some, None}
-use Rattle.cs_change.specs.OneChange.{Group}
+use Rattle.cs_change.specs.declared.group.Group.{Group}
 use Rattle.cs_text.specs.Text.{changeset_text}
 use Rattle.sync_cli.specs.LinesRead.{Spell, TakesChangeset}
 

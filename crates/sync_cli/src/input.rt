@@ -8,7 +8,7 @@ ghost use Rattle.cs_lines.specs.Served.{AreAllLines};
 ghost use Rattle.sync_cli.specs.LinesRead.{AreHexOf, SpellAll, TakesBytes};
 
 use crate::status::REFUSED_INPUT;
-use cs_changeset::{ChangesetRef, CodecFault};
+use cs_changeset::{Changeset, CodecFault};
 use cs_group::CombineFault;
 use cs_lines::{ASKS, LineInput, LineRead, read_line};
 use hex::FromHexError;
@@ -86,7 +86,7 @@ pub fn all_bytes<R: LineInput>(alloc: Global, reader: &mut R) -> (Vec<Vec<u8>>, 
 }
 
 /// The changesets that these bytes spell, which stay in them.
-pub fn read_all<'a>(alloc: Global, inputs: &'a [Vec<u8>]) -> Result<Vec<ChangesetRef<'a>>, Refusal>
+pub fn read_all<'a>(alloc: Global, inputs: &'a [Vec<u8>]) -> Result<Vec<Changeset<'a>>, Refusal>
     ensures fit { IfOk result (λ changesets. AllByRecursion FitsChangeset changesets.items) }
     ensures spelled { IfOk result (λ changesets. SpellAll inputs.now changesets.items) }
 {

@@ -9,7 +9,7 @@ ghost use Rattle.sync_cli.specs.ShownLine.{ShowsBytes, ShowsFirst};
 use crate::input::{Refusal, next_bytes, tell_refusal};
 use crate::output::write_text;
 use crate::status::{DONE, REFUSED_INPUT, WRITE, tell};
-use cs_changeset::{ChangeRef, Group};
+use cs_changeset::{Change, Group};
 use cs_lines::{LineInput, LineOutput};
 use cs_text::ChangesetText;
 use std::alloc::{AllocError, Global};
@@ -27,7 +27,7 @@ fn first_bytes<R: LineInput>(alloc: Global, reader: &mut R) -> Result<Vec<u8>, R
 }
 
 /// The text of the changeset, which stays in its bytes.
-fn written(alloc: Global, groups: &[Group<ChangeRef<'_>>]) -> Result<String, AllocError>
+fn written(alloc: Global, groups: &[Group<'_>]) -> Result<String, AllocError>
     ensures { IfOk result (λ text. text.bytes.items ≡ changeset_text groups.now) }
 {
     format!(in alloc; "{}", ChangesetText(groups))

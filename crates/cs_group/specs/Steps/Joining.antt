@@ -1,11 +1,11 @@
 -- What the changes of one table in all changesets come to, key by key.
 use Rattle.std.specs.Prelude.{ℕ, Bool, List, [], ◌∷◌, ◌++◌, Option, Some, None, map, slice_get, slice_index, if◌then◌else◌}
 use Rattle.std.specs.Borrow.{Bor}
-use Rattle.cs_change.specs.OneChange.{Change}
+use Rattle.cs_change.specs.declared.change.Change.{Change}
 use Rattle.cs_order.specs.Order.{Keys, key_at}
 use Rattle.cs_normal.specs.Changes.{Changes, same_bytes}
 use Rattle.cs_normal.specs.Normal.{changes_in}
-use Rattle.cs_normal.specs.OneTable.{TableChanges}
+use Rattle.cs_normal.specs.declared.normal.TableChanges.{TableChanges}
 use Rattle.cs_group.specs.Combine.{then_change_any}
 
 -- the changesets that are lent

@@ -4,7 +4,7 @@ use Rattle.cs_value.specs.declared.catalog.TableDef.{TableDef}
 use Rattle.cs_normal.specs.Changes.{Changes, AreNormal}
 use Rattle.cs_normal.specs.Normal.{IsNormalChangeset, changes_in}
 use Rattle.cs_normal.specs.Steps.TableByTable.{table_changes}
-use Rattle.cs_normal.specs.OneTable.{TableChanges}
+use Rattle.cs_normal.specs.declared.normal.TableChanges.{TableChanges}
 use Rattle.cs_group.specs.Tables.{IsJoinOf}
 
 -- each table with its changes, where it has some

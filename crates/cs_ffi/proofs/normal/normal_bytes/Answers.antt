@@ -2,7 +2,7 @@ use Rattle.std.proofs.Common.{arith, ◌∙◌, inl, inr, ap, subst, sym, List}
 use Rattle.std.proofs.lemmas.Grind.{common_steps}
 use Rattle.cs_value.specs.Catalog.{AreTables}
 use Rattle.cs_value.specs.declared.catalog.TableDef.{TableDef}
-use Rattle.cs_change.specs.OneChange.{Group}
+use Rattle.cs_change.specs.declared.group.Group.{Group}
 use Rattle.cs_normal.specs.NormalFormOf.{AreFit}
 use Rattle.cs_ffi.specs.Answers.{IsRefusal}
 use Rattle.cs_ffi.specs.NormalAnswers.{unfit_answer}

@@ -2,9 +2,9 @@ use Rattle.std.proofs.Common.{◌∙◌}
 use Rattle.cs_ffi.proofs.Declared.{declares, declares_none, is_memory}
 use Rattle.cs_ffi.proofs.normal.read_catalog.Goals as goal
 
-pub returns-in-Ok-catalog_of_refs-clause-reads : goal.returns-in-Ok-catalog_of_refs-clause-reads
-returns-in-Ok-catalog_of_refs-clause-reads c =
-    declares c.args.declared.now c.in-Ok.changeset c.from_ref.result.now c.in-Ok-catalog_of_refs.catalog c.in-Ok.ensures.reads c.from_ref.ensures.value c.in-Ok-catalog_of_refs.ensures.catalog c.in-Ok-catalog_of_refs.ensures.shapes c.tables.ensures.tables
+pub returns-in-Ok-catalog_of-clause-reads : goal.returns-in-Ok-catalog_of-clause-reads
+returns-in-Ok-catalog_of-clause-reads c =
+    declares c.args.declared.now c.in-Ok.changeset c.from_ref.result.now c.in-Ok-catalog_of.catalog c.in-Ok.ensures.reads c.from_ref.ensures.value c.in-Ok-catalog_of.ensures.catalog c.in-Ok-catalog_of.ensures.shapes c.tables.ensures.tables
 
 pub returns-clause-reads : goal.returns-clause-reads
 returns-clause-reads c =

@@ -1,5 +1,5 @@
 use Rattle.std.proofs.Common.{List, ℕ, ◌+◌, drop, arith}
-use Rattle.cs_change.specs.OneChange.{Change}
+use Rattle.cs_change.specs.declared.change.Change.{Change}
 use Rattle.cs_normal.specs.Normal.{changes_in}
 use Rattle.cs_group.specs.Steps.Joining.{in_a_row, tables_behind}
 use Rattle.cs_group.proofs.Walks.{lent_at, walked}

@@ -3,7 +3,7 @@ use Rattle.std.proofs.lemmas.Result.{on_ok_weaker}
 use Rattle.cs_value.specs.Same.{same_row}
 use Rattle.cs_record.specs.Spelling.{record_of}
 use Rattle.cs_change.specs.Net.{old_record, new_record}
-use Rattle.cs_change.specs.OneChange.{Change}
+use Rattle.cs_change.specs.declared.change.Change.{Change}
 use Rattle.cs_group.proofs.InRange.{net_olds_fit, net_news_fit}
 use Rattle.cs_group.proofs.Made.{net_left, net_none}
 use Rattle.cs_group.proofs.two_changes.push_net.Goals as goal

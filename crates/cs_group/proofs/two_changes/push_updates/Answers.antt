@@ -2,7 +2,7 @@ use Rattle.std.proofs.Common.{◌≡◌, ◌∙◌, ◌++◌, false, List, refl,
 use Rattle.std.proofs.lemmas.Result.{on_ok_weaker}
 use Rattle.cs_record.specs.Spelling.{record_of}
 use Rattle.cs_change.specs.Columns.{is_blank}
-use Rattle.cs_change.specs.OneChange.{Change}
+use Rattle.cs_change.specs.declared.change.Change.{Change}
 use Rattle.cs_change.specs.Then.{then_old_fields, then_new_fields}
 use Rattle.cs_group.proofs.InRange.{olds_fit, news_fit}
 use Rattle.cs_group.proofs.Made.{then_left}
