@@ -1,23 +1,28 @@
 //! Changes of a table `t1` with a key column and another one, taken together, against what SQLite's rules give.
 
-ghost use Rattle.std.specs.Prelude.{◌≡◌, ◌++◌, true, false, ◌∷◌, [], IfOk, OnOk};
-ghost use Rattle.std.specs.List.{AllByRecursion};
+ghost use Rattle.std.specs.Prelude.{◌≡◌, true, false, ◌∷◌, [], IfOk};
 ghost use Rattle.std.specs.Option.{option_copied};
-ghost use Rattle.cs_value.specs.declared.value.Field.TheVariants.{Is, Undefined};
+ghost use Rattle.cs_value.specs.declared.value.Field.TheVariants.{Is};
 ghost use Rattle.cs_record.specs.Spelling.{Fits};
-ghost use Rattle.cs_change.specs.Spelling.{FitsChange, FitsChangeset, FitsGroup, FitsRow};
+ghost use Rattle.cs_change.specs.Spelling.{FitsRow};
 ghost use Rattle.cs_value.specs.Key.{FitsPlace, HasKey};
 ghost use Rattle.cs_value.specs.declared.value.Value.TheVariants.{Int};
 ghost use Rattle.cs_normal.specs.Normal.{FitsCatalog};
 
 use super::*;
-use crate::joining::lend_changes;
-use cs_change::{Change, ChangesBuf, Changeset, Group};
+use cs_change::{Change, ChangesBuf};
+use cs_changeset::read;
 use cs_normal::{Normal, Unfit, normalise};
-use cs_record::{RecordBuf, Row, RowBuf};
-use cs_value::{Catalog, Field, Items, Memory, TableDef, Text, Value};
-use std::alloc::{AllocError, Global};
+use cs_record::{Row, RowBuf};
+use cs_value::{Catalog, Items, Memory, TableDef, Text, Value};
+use std::alloc::Global;
 use std::test::Fail;
+
+/// The header of the table.
+const HEADER: [u8; 7] = [0x54, 2, 1, 0, 0x74, 0x31, 0];
+
+/// The integer 1.
+const ONE: [u8; 9] = [1, 0, 0, 0, 0, 0, 0, 0, 1];
 
 /// A change of the row with key 1, with its flag.
 #[derive(Clone, Copy)]
@@ -44,106 +49,58 @@ fn row(alloc: Global, key: i64, text: &str) -> Result<RowBuf, Memory>
     Ok(row)
 }
 
-/// The record of these fields.
-fn record(alloc: Global, key: Field, value: Value) -> Result<RecordBuf, Memory>
-    ensures { IfOk result (λ fields. fields ≡ key ∷ Is value ∷ []) }
-{
-    let mut record = RecordBuf::new(alloc);
-    record.push_field(&key)?;
-    record.push_field(&Field::Is(value))?;
-    Ok(record)
+fn put_text(text: &str, out: &mut Vec<u8>) -> Result<(), Memory> {
+    out.extend_from_slice(&[3, text.len() as u8])?;
+    out.extend_from_slice(text.as_bytes())?;
+    Ok(())
 }
 
-/// Appends the change.
-fn push_told(alloc: Global, told: Told, changes: &mut ChangesBuf) -> Result<(), Memory>
-    ensures { OnOk result (AllByRecursion (FitsChange (true ∷ false ∷ [])) changes.old
-        → AllByRecursion (FitsChange (true ∷ false ∷ [])) changes.new) }
-{
+/// Appends the bytes of the change.
+fn put_told(told: Told, out: &mut Vec<u8>) -> Result<(), Memory> {
     match told {
         Told::Insert(flag, text) => {
-            let row = row(alloc, 1, text)?;
-            let new_row = row.as_row();
-            changes.push(&Change::Insert { flag, new_row })
+            out.extend_from_slice(&[0x12, u8::from(flag)])?;
+            out.extend_from_slice(&ONE)?;
+            put_text(text, out)
         }
         Told::Delete(flag, text) => {
-            let row = row(alloc, 1, text)?;
-            let old_row = row.as_row();
-            changes.push(&Change::Delete { flag, old_row })
+            out.extend_from_slice(&[9, u8::from(flag)])?;
+            out.extend_from_slice(&ONE)?;
+            put_text(text, out)
         }
-        Told::Update(flag, before, after) => push_update(alloc, flag, before, after, changes),
+        Told::Update(flag, before, after) => {
+            out.extend_from_slice(&[0x17, u8::from(flag)])?;
+            out.extend_from_slice(&ONE)?;
+            put_text(before, out)?;
+            out.push(0)?;
+            put_text(after, out)
+        }
     }
 }
 
-fn push_update(
-    alloc: Global,
-    flag: bool,
-    before: &str,
-    after: &str,
-    changes: &mut ChangesBuf,
-) -> Result<(), Memory>
-    ensures { OnOk result (AllByRecursion (FitsChange (true ∷ false ∷ [])) changes.old
-        → AllByRecursion (FitsChange (true ∷ false ∷ [])) changes.new) }
-{
-    let old = text_value(alloc, before)?;
-    let new = text_value(alloc, after)?;
-    let old = record(alloc, Field::Is(Value::Int(1)), old)?;
-    let new = record(alloc, Field::Undefined, new)?;
-    let old_fields = old.as_record();
-    let new_fields = new.as_record();
-    changes.push(&Change::Update {
-        flag,
-        old_fields,
-        new_fields,
-    })
-}
-
-/// This change, or none.
-fn in_bytes(alloc: Global, told: Option<Told>) -> Result<ChangesBuf, Memory>
-    ensures { IfOk result (AllByRecursion (FitsChange (true ∷ false ∷ []))) }
-{
-    let mut changes = ChangesBuf::new(alloc);
-    if let Some(told) = told {
-        push_told(alloc, told, &mut changes)?;
+/// The bytes of a changeset of these changes.
+fn bytes_of(alloc: Global, changes: &[Told]) -> Result<Vec<u8>, Memory> {
+    let mut bytes = Vec::from_slice(alloc, &HEADER)?;
+    for told in changes {
+        put_told(*told, &mut bytes)?;
     }
-    Ok(changes)
+    Ok(bytes)
 }
 
-/// A group of a table of two columns, of which the first has this mark.
-fn group<'a>(
-    alloc: Global,
-    mark: u8,
-    name: &str,
-    changes: Vec<Change<'a>>,
-) -> Result<Group<'a>, Memory>
-    requires { AllByRecursion (FitsChange (true ∷ false ∷ [])) changes.items }
-    ensures { IfOk result FitsGroup }
+/// The normal form of these bytes.
+fn normal_of(alloc: Global, catalog: &Catalog, bytes: &[u8]) -> Result<Normal, Fail>
+    ensures { IfOk result (FitsCatalog catalog.now) }
 {
-    if mark == 0 || name.as_bytes().contains(&0) {
-        return Err(AllocError);
-    }
-    Ok(Group {
-        marks: Items::from_vec(vec![in alloc; mark, 0u8]?),
-        name: Text::from_string(String::from_str(alloc, name)?),
-        changes: Items::from_vec(changes),
-    })
-}
-
-/// The changeset of these changes of the table `t1`, as it is read.
-fn as_read(alloc: Global, changes: &ChangesBuf) -> Result<Changeset<'_>, Memory>
-    requires { AllByRecursion (FitsChange (true ∷ false ∷ [])) changes.now }
-    ensures { IfOk result FitsChangeset }
-{
-    let mut lent = Vec::new(alloc);
-    lend_changes(changes, &mut lent)?;
-    Ok(Items::from_vec(vec![in alloc; group(alloc, 1, "t1", lent)?]?))
+    let changeset = read(alloc, bytes)?;
+    Ok(normalise(alloc, catalog, &changeset)?)
 }
 
 /// The normal form of this change, or of none.
-fn one(alloc: Global, catalog: &Catalog, change: Option<Told>) -> Result<Normal, Unfit>
+fn one(alloc: Global, catalog: &Catalog, change: Option<Told>) -> Result<Normal, Fail>
     ensures { IfOk result (FitsCatalog catalog.now) }
 {
-    let changes = in_bytes(alloc, change)?;
-    normalise(alloc, catalog, &as_read(alloc, &changes)?)
+    let bytes = bytes_of(alloc, change.as_slice())?;
+    normal_of(alloc, catalog, bytes.as_slice())
 }
 
 fn table(alloc: Global, name: &str) -> Result<TableDef, Memory>
@@ -306,9 +263,7 @@ fn net_is(
     if let Some(change) = net.get() {
         changes.push(&change)?;
     }
-    let mut bytes = Vec::new(alloc);
-    changes.encode(&mut bytes)?;
-    Ok(bytes.as_slice() == want)
+    Ok(changes.spelling() == want)
 }
 
 #[test]
@@ -388,50 +343,38 @@ fn one_more(rt: HostRuntime) -> Result<(), Fail> {
     Ok(())
 }
 
-/// Three changesets as read, as one.
-fn combined(
-    alloc: Global,
-    first: &ChangesBuf,
-    second: &ChangesBuf,
-    third: &ChangesBuf,
-) -> Result<Normal, CombineFault>
-    requires first { AllByRecursion (FitsChange (true ∷ false ∷ [])) first.now }
-    requires second { AllByRecursion (FitsChange (true ∷ false ∷ [])) second.now }
-    requires third { AllByRecursion (FitsChange (true ∷ false ∷ [])) third.now }
-{
-    let first = as_read(alloc, first)?;
-    let second = as_read(alloc, second)?;
-    let third = as_read(alloc, third)?;
-    combine(alloc, &[first, second, third])
-}
-
 #[test]
 fn as_read_together(rt: HostRuntime) -> Result<(), Fail> {
     let alloc = rt.alloc();
     let catalog = Catalog::new(vec![in alloc; table(alloc, "t1")?]?)?;
-    let inserted = in_bytes(alloc, Some(Told::Insert(false, "v1")))?;
-    let nothing = in_bytes(alloc, None)?;
-    let updated = in_bytes(alloc, Some(Told::Update(false, "v1", "v2")))?;
-    let want = one(alloc, &catalog, Some(Told::Insert(false, "v2")))?;
-    let both = combined(alloc, &inserted, &nothing, &updated)?;
-    let same = are_same(alloc, &both, &want)?;
-    assert!(rt; same);
-    assert_eq!(rt; combine(alloc, &[])?.len(), 0);
-    let first = as_read(alloc, &inserted)?;
+    let inserted = bytes_of(alloc, &[Told::Insert(false, "v1")])?;
+    let nothing = bytes_of(alloc, &[])?;
+    let updated = bytes_of(alloc, &[Told::Update(false, "v1", "v2")])?;
+    let first = read(alloc, inserted.as_slice())?;
+    let second = read(alloc, nothing.as_slice())?;
+    let third = read(alloc, updated.as_slice())?;
+
     let want = one(alloc, &catalog, Some(Told::Insert(false, "v1")))?;
     let alone = normalise_alone(alloc, &first)?;
     let same = are_same(alloc, &alone, &want)?;
     assert!(rt; same);
+
+    let want = one(alloc, &catalog, Some(Told::Insert(false, "v2")))?;
+    let both = combine(alloc, &[first, second, third])?;
+    let same = are_same(alloc, &both, &want)?;
+    assert!(rt; same);
+    assert_eq!(rt; combine(alloc, &[])?.len(), 0);
     Ok(())
 }
 
 #[test]
 fn a_key_twice_is_told(rt: HostRuntime) -> Result<(), Fail> {
     let alloc = rt.alloc();
-    let nothing = in_bytes(alloc, None)?;
-    let mut twice = in_bytes(alloc, Some(Told::Insert(false, "v1")))?;
-    push_told(alloc, Told::Insert(false, "v2"), &mut twice)?;
-    let fault = combined(alloc, &nothing, &twice, &nothing);
+    let once = bytes_of(alloc, &[Told::Insert(false, "v1")])?;
+    let twice = bytes_of(alloc, &[Told::Insert(false, "v1"), Told::Insert(false, "v2")])?;
+    let first = read(alloc, once.as_slice())?;
+    let second = read(alloc, twice.as_slice())?;
+    let fault = combine(alloc, &[first, second]);
     assert!(rt; matches!(fault, Err(CombineFault::Unfit(Unfit::KeyTwice))));
     Ok(())
 }
