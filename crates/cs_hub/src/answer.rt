@@ -1,6 +1,6 @@
 //! Answers: what the hub tells a replica.
 
-ghost use Rattle.std.specs.Prelude.{◌≡◌, ◌+◌, ◌≤◌, ◌<◌, ◌^◌, [], ◌∷◌, ◌++◌, length, All, IfOk, OnOk, vec_len, vec_capacity};
+ghost use Rattle.std.specs.Prelude.{◌≡◌, ◌+◌, ◌≤◌, ◌<◌, ◌^◌, [], ◌∷◌, ◌++◌, length, take, drop, All, IfOk, OnOk, vec_len, vec_capacity};
 ghost use Rattle.std.specs.List.{flat_map};
 ghost use Rattle.cs_hub.specs.Messages.{four_bytes, eight_bytes, entry_spelling, entries_spelling};
 ghost use Rattle.cs_hub.specs.Sound.{FitsMessage};
@@ -113,20 +113,29 @@ impl Answer {
     }
 }
 
-/// Appends an entry.
-fn put_entry(alloc: Global, entry: &LogEntry, out: &mut Vec<u8>) -> Result<(), Memory>
+/// Writes a number over the four bytes there.
+fn set_u32(out: &mut Vec<u8>, at: usize, number: u32)
+    requires { at + 4 ≤ vec_len out.old }
+    ensures { out.new.items ≡ take at out.old.items ++ (four_bytes number ++ drop (at + 4) out.old.items) }
+{
+    out.as_mut_slice()[at..at + 4].copy_from_slice(&number.to_be_bytes());
+}
+
+/// Appends an entry. The length of its changeset is written once the changeset stands behind it.
+fn put_entry(entry: &LogEntry, out: &mut Vec<u8>) -> Result<(), Memory>
     requires { FitsMessage entry.now }
     ensures { OnOk result (out.new.items ≡ out.old.items ++ entry_spelling entry.now) }
 {
     let Body::Changes(changes) = &entry.body;
-    let mut changeset = Vec::new(alloc);
-    changes.encode(&mut changeset)?;
     out.reserve(17)?;
     put_u8(CHANGES, out);
     put_u32(entry.origin, out);
     put_u64(entry.number, out);
-    put_u32(changeset.len() as u32, out);
-    out.extend_from_slice(&changeset)?;
+    let at = out.len();
+    put_u32(0, out);
+    changes.encode(out)?;
+    let len = out.len() - at - 4;
+    set_u32(out, at, len as u32);
     Ok(())
 }
 
@@ -145,7 +154,7 @@ pub(crate) fn entries_answer(
     put_u64(first, &mut out);
     put_u32(entries.len() as u32, &mut out);
     for entry in entries {
-        put_entry(alloc, entry, &mut out)?;
+        put_entry(entry, &mut out)?;
     }
     Ok(out)
 }
