@@ -6,6 +6,7 @@
 #![tactic(auto)]
 
 mod adding;
+mod applying;
 mod change;
 mod changes_buf;
 mod comparing;
@@ -15,6 +16,7 @@ mod scratch;
 mod spelled;
 mod writing;
 
+pub use applying::{outcome, put_set_columns};
 pub use change::Change;
 pub use group::{Bytes, Changeset, Group};
 

@@ -18,7 +18,7 @@ use Rattle.cs_group.specs.declared.combining.CombineFault.{CombineFault}
 use Rattle.cs_group.specs.declared.combining.CombineFault.TheVariants.{Memory, Headers, Unfit as NoForm}
 use Rattle.cs_ffi.specs.declared.answer.Answer.{Answer}
 use Rattle.cs_ffi.specs.Answers.{no_memory, refused, Spell, IsRefusal, Hands}
-use Rattle.cs_ffi.specs.NormalAnswers.{unfit_number}
+use Rattle.cs_normal.specs.Codes.{unfit_code}
 
 -- the number of the reason why there is no catalog of the headers
 abbrev pub header_number : HeaderFault → ℕ
@@ -30,7 +30,7 @@ header_number in_headers.BadCatalog = 50
 abbrev pub combine_number : CombineFault → ℕ
 combine_number Memory = 1
 combine_number (Headers fault) = header_number fault
-combine_number (NoForm fault) = unfit_number fault
+combine_number (NoForm fault) = unfit_code fault
 
 abbrev pub combine_answer : CombineFault → Answer
 combine_answer fault = record { fault = combine_number fault; offset = 0; count = 0 }

@@ -13,21 +13,13 @@ use Rattle.cs_normal.specs.declared.headers.HeaderFault.{HeaderFault}
 use Rattle.cs_normal.specs.declared.headers.HeaderFault.TheVariants as in_headers
 use Rattle.cs_normal.specs.declared.normal.TableChanges.{TableChanges}
 use Rattle.cs_normal.specs.declared.unfit.Unfit.{Unfit}
-use Rattle.cs_normal.specs.declared.unfit.Unfit.TheVariants as unfit
+use Rattle.cs_normal.specs.Codes.{unfit_code}
 use Rattle.cs_group.specs.Combined.{tables_of}
 use Rattle.cs_ffi.specs.declared.answer.Answer.{Answer}
 use Rattle.cs_ffi.specs.Answers.{no_memory, Spell, IsRefusal, Hands}
 
--- the number of the reason why a changeset has no normal form
-abbrev pub unfit_number : Unfit → ℕ
-unfit_number unfit.Memory = 1
-unfit_number unfit.UnknownTable = 30
-unfit_number unfit.Shape = 31
-unfit_number unfit.NullKey = 32
-unfit_number unfit.KeyTwice = 33
-
 abbrev pub unfit_answer : Unfit → Answer
-unfit_answer fault = record { fault = unfit_number fault; offset = 0; count = 0 }
+unfit_answer fault = record { fault = unfit_code fault; offset = 0; count = 0 }
 
 -- the first bytes declare no tables
 abbrev pub no_tables : Answer

@@ -3,7 +3,7 @@
 ghost use Rattle.std.specs.Prelude.{◌≡◌};
 ghost use Rattle.cs_ffi.specs.Answers.{answer_of, no_memory, read};
 ghost use Rattle.cs_ffi.specs.CombinedAnswers.{combine_answer, combine_number, header_number, wrong_lengths};
-ghost use Rattle.cs_ffi.specs.NormalAnswers.{no_tables, undeclared, unfit_answer, unfit_number};
+ghost use Rattle.cs_ffi.specs.NormalAnswers.{no_tables, undeclared, unfit_answer};
 
 use cs_changeset::CodecFault;
 use cs_group::CombineFault;
@@ -32,26 +32,13 @@ pub struct Answer {
     pub count: usize,
 }
 
-/// The number of the reason why a changeset has no normal form.
-fn unfit_number(fault: Unfit) -> u32
-    ensures { result ≡ unfit_number fault }
-{
-    match fault {
-        Unfit::Memory => MEMORY,
-        Unfit::UnknownTable => 30,
-        Unfit::Shape => 31,
-        Unfit::NullKey => 32,
-        Unfit::KeyTwice => 33,
-    }
-}
-
 /// The number of the reason why there is no catalog of headers.
 fn header_number(fault: HeaderFault) -> u32
     ensures { result ≡ header_number fault }
 {
     match fault {
         HeaderFault::Memory => MEMORY,
-        HeaderFault::Shape => 31,
+        HeaderFault::Shape => u32::from(Unfit::Shape.code()),
         HeaderFault::BadCatalog => NO_TABLES,
     }
 }
@@ -63,7 +50,7 @@ fn combine_number(fault: CombineFault) -> u32
     match fault {
         CombineFault::Memory => MEMORY,
         CombineFault::Headers(fault) => header_number(fault),
-        CombineFault::Unfit(fault) => unfit_number(fault),
+        CombineFault::Unfit(fault) => u32::from(fault.code()),
     }
 }
 
@@ -127,7 +114,7 @@ impl Answer {
         ensures { result ≡ unfit_answer fault }
     {
         Answer {
-            fault: unfit_number(fault),
+            fault: u32::from(fault.code()),
             offset: 0,
             count: 0,
         }

@@ -1,16 +1,12 @@
-//! The columns of two records or rows taken together, appended in their bytes.
+//! The columns of two records or rows taken together, one pass over both.
 
-ghost use Rattle.std.specs.Prelude.{◌≡◌, ◌++◌, IfOk, OnOk, not};
-ghost use Rattle.cs_record.specs.Spelling.{field, record_of, row_bytes};
-ghost use Rattle.cs_change.specs.Columns.{is_blank, is_defined, overlay_field, set_columns};
+ghost use Rattle.std.specs.Prelude.{◌≡◌, ◌++◌, ◌∷◌, [], IfOk, OnOk, not};
+ghost use Rattle.cs_change.specs.Columns.{is_blank, is_defined, overlay_field};
 ghost use Rattle.cs_change.specs.Net.{old_record, new_record};
 ghost use Rattle.cs_change.specs.Then.{is_idle, inverse_old, inverse_new, inverse_old_fields, inverse_new_fields, then_old_fields, then_new_fields};
 
-use cs_record::{Cell, Column, Record, Row};
+use cs_record::{Cell, Column, Record, RecordBuf, Row};
 use cs_value::Memory;
-
-/// The byte of an undefined field.
-const UNDEFINED: u8 = 0;
 
 /// The second field where it is defined, else the first.
 #[inline(always)]
@@ -51,13 +47,13 @@ pub(crate) fn put_then_columns(
     new_earlier: &Record<'_>,
     old_later: &Record<'_>,
     new_later: &Record<'_>,
-    olds: &mut Vec<u8>,
-    news: &mut Vec<u8>,
+    olds: &mut RecordBuf,
+    news: &mut RecordBuf,
 ) -> Result<bool, Memory>
-    ensures olds { IfOk result (λ left. olds.new.items
-        ≡ olds.old.items ++ record_of (then_old_fields old_earlier.now new_earlier.now old_later.now new_later.now)) }
-    ensures news { IfOk result (λ left. news.new.items
-        ≡ news.old.items ++ record_of (then_new_fields old_earlier.now new_earlier.now old_later.now new_later.now)) }
+    ensures olds { IfOk result (λ left. olds.new
+        ≡ olds.old ++ then_old_fields old_earlier.now new_earlier.now old_later.now new_later.now) }
+    ensures news { IfOk result (λ left. news.new
+        ≡ news.old ++ then_new_fields old_earlier.now new_earlier.now old_later.now new_later.now) }
     ensures left { IfOk result (λ left. not left
         ≡ is_blank (then_new_fields old_earlier.now new_earlier.now old_later.now new_later.now)) }
 {
@@ -75,11 +71,11 @@ pub(crate) fn put_then_columns(
         let old = overlaid(&o2, &o1);
         let new = overlaid(&n1, &n2);
         if keeps_value(old, new) {
-            olds.push(UNDEFINED)?;
-            news.push(UNDEFINED)?;
+            olds.push_undefined()?;
+            news.push_undefined()?;
         } else {
-            old.append(olds)?;
-            new.append(news)?;
+            olds.push(old)?;
+            news.push(new)?;
             left = left || defined(new);
         }
         old_earlier = os1;
@@ -90,35 +86,10 @@ pub(crate) fn put_then_columns(
     Ok(left)
 }
 
-/// Appends the row with the new fields in it.
-#[tactic(auto, unfolding(cs_change::specs::Columns::set_columns))]
-pub(crate) fn put_set_columns(
-    new: &Record<'_>,
-    row: &Row<'_>,
-    out: &mut Vec<u8>,
-) -> Result<(), Memory>
-    ensures { OnOk result (out.new.items ≡ out.old.items ++ row_bytes (set_columns new.now row.now)) }
-{
-    let mut new = new.again();
-    let mut row = row.again();
-    while let (Some((field, more_new)), Some((value, more_row))) = (
-        new.split_first(),
-        row.split_first(),
-    ) {
-        match Cell::of_column(&field) {
-            Some(cell) => cell.append(out)?,
-            None => value.append(out)?,
-        }
-        new = more_new;
-        row = more_row;
-    }
-    row.append(out)
-}
-
 /// Appends the new record of the update from one row to another.
 #[tactic(auto, unfolding(cs_change::specs::Net::new_record))]
-fn put_new_columns(before: &Row<'_>, after: &Row<'_>, news: &mut Vec<u8>) -> Result<(), Memory>
-    ensures { OnOk result (news.new.items ≡ news.old.items ++ record_of (new_record before.now after.now)) }
+fn put_new_columns(before: &Row<'_>, after: &Row<'_>, news: &mut RecordBuf) -> Result<(), Memory>
+    ensures { OnOk result (news.new ≡ news.old ++ new_record before.now after.now) }
 {
     let mut before = before.again();
     let mut after = after.again();
@@ -127,9 +98,9 @@ fn put_new_columns(before: &Row<'_>, after: &Row<'_>, news: &mut Vec<u8>) -> Res
         after.split_first(),
     ) {
         if old.same(&new) {
-            news.push(UNDEFINED)?;
+            news.push_undefined()?;
         } else {
-            new.append(news)?;
+            news.push(&Column::of_cell(&new))?;
         }
         before = more_before;
         after = more_after;
@@ -143,13 +114,11 @@ pub(crate) fn put_net_columns(
     marks: &[bool],
     before: &Row<'_>,
     after: &Row<'_>,
-    olds: &mut Vec<u8>,
-    news: &mut Vec<u8>,
+    olds: &mut RecordBuf,
+    news: &mut RecordBuf,
 ) -> Result<(), Memory>
-    ensures olds { OnOk result (olds.new.items
-        ≡ olds.old.items ++ record_of (old_record marks.now before.now after.now)) }
-    ensures news { OnOk result (news.new.items
-        ≡ news.old.items ++ record_of (new_record before.now after.now)) }
+    ensures olds { OnOk result (olds.new ≡ olds.old ++ old_record marks.now before.now after.now) }
+    ensures news { OnOk result (news.new ≡ news.old ++ new_record before.now after.now) }
 {
     let mut marks = marks;
     let mut before = before.again();
@@ -161,14 +130,14 @@ pub(crate) fn put_net_columns(
     ) {
         let same = old.same(&new);
         if *in_key || !same {
-            old.append(olds)?;
+            olds.push(&Column::of_cell(&old))?;
         } else {
-            olds.push(UNDEFINED)?;
+            olds.push_undefined()?;
         }
         if same {
-            news.push(UNDEFINED)?;
+            news.push_undefined()?;
         } else {
-            new.append(news)?;
+            news.push(&Column::of_cell(&new))?;
         }
         marks = more_marks;
         before = more_before;
@@ -180,25 +149,24 @@ pub(crate) fn put_net_columns(
 
 /// Appends a column of the inverse's old record.
 #[inline(always)]
-fn put_inverse_old(old: &Column<'_>, new: &Column<'_>, olds: &mut Vec<u8>) -> Result<(), Memory>
-    ensures { OnOk result (olds.new.items ≡ olds.old.items ++ field (inverse_old old.now new.now)) }
+fn put_inverse_old(old: &Column<'_>, new: &Column<'_>, olds: &mut RecordBuf) -> Result<(), Memory>
+    ensures { OnOk result (olds.new ≡ olds.old ++ inverse_old old.now new.now ∷ []) }
 {
     match Cell::of_column(new) {
-        None => old.append(olds),
-        Some(_) => new.append(olds),
+        None => olds.push(old),
+        Some(_) => olds.push(new),
     }
 }
 
 /// Appends a column of the inverse's new record.
 #[inline(always)]
-fn put_inverse_new(old: &Column<'_>, new: &Column<'_>, news: &mut Vec<u8>) -> Result<(), Memory>
-    ensures { OnOk result (news.new.items ≡ news.old.items ++ field (inverse_new old.now new.now)) }
+fn put_inverse_new(old: &Column<'_>, new: &Column<'_>, news: &mut RecordBuf) -> Result<(), Memory>
+    ensures { OnOk result (news.new ≡ news.old ++ inverse_new old.now new.now ∷ []) }
 {
     match Cell::of_column(new) {
-        None => news.push(UNDEFINED)?,
-        Some(_) => old.append(news)?,
+        None => news.push_undefined(),
+        Some(_) => news.push(old),
     }
-    Ok(())
 }
 
 /// Appends the two records of the update that takes one back.
@@ -206,11 +174,11 @@ fn put_inverse_new(old: &Column<'_>, new: &Column<'_>, news: &mut Vec<u8>) -> Re
 pub(crate) fn put_inverse_columns(
     old: &Record<'_>,
     new: &Record<'_>,
-    olds: &mut Vec<u8>,
-    news: &mut Vec<u8>,
+    olds: &mut RecordBuf,
+    news: &mut RecordBuf,
 ) -> Result<(), Memory>
-    ensures olds { OnOk result (olds.new.items ≡ olds.old.items ++ record_of (inverse_old_fields old.now new.now)) }
-    ensures news { OnOk result (news.new.items ≡ news.old.items ++ record_of (inverse_new_fields old.now new.now)) }
+    ensures olds { OnOk result (olds.new ≡ olds.old ++ inverse_old_fields old.now new.now) }
+    ensures news { OnOk result (news.new ≡ news.old ++ inverse_new_fields old.now new.now) }
 {
     let mut old = old.again();
     let mut new = new.again();

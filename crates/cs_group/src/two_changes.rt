@@ -9,8 +9,8 @@ ghost use Rattle.cs_change.specs.Then.{then_old_fields, then_new_fields, update_
 ghost use Rattle.cs_change.specs.declared.change.Change.TheVariants.{Insert, Delete};
 ghost use Rattle.cs_group.specs.Combine.{then_change, with_flag, with_flag_any};
 
-use crate::record_columns::{put_net_columns, put_set_columns, put_then_columns};
-use cs_change::{Change, ChangesBuf, Scratch};
+use crate::record_columns::{put_net_columns, put_then_columns};
+use cs_change::{Change, ChangesBuf, Scratch, put_set_columns};
 use cs_record::{Record, Row};
 use cs_value::Memory;
 
@@ -94,11 +94,9 @@ fn push_set_insert(
 ) -> Result<(), Memory>
     ensures { OnOk result (out.new ≡ out.old ++ Insert flag (set_columns new.now row.now) ∷ []) }
 {
-    scratch.olds.clear();
-    put_set_columns(new, row, &mut scratch.olds)?;
-    let _ = new.bytes();
-    let _ = row.bytes();
-    let new_row = Row::new(scratch.olds.as_slice());
+    scratch.row.clear();
+    put_set_columns(new, row, &mut scratch.row)?;
+    let new_row = scratch.row.as_row();
     out.push(&Change::Insert { flag, new_row })
 }
 
@@ -112,11 +110,9 @@ fn push_set_delete(
 ) -> Result<(), Memory>
     ensures { OnOk result (out.new ≡ out.old ++ Delete flag (set_columns old.now row.now) ∷ []) }
 {
-    scratch.olds.clear();
-    put_set_columns(old, row, &mut scratch.olds)?;
-    let _ = old.bytes();
-    let _ = row.bytes();
-    let old_row = Row::new(scratch.olds.as_slice());
+    scratch.row.clear();
+    put_set_columns(old, row, &mut scratch.row)?;
+    let old_row = scratch.row.as_row();
     out.push(&Change::Delete { flag, old_row })
 }
 
@@ -134,28 +130,19 @@ fn push_updates(
         (update_if_any (then_old_fields old_earlier.now new_earlier.now old_later.now new_later.now)
         (then_new_fields old_earlier.now new_earlier.now old_later.now new_later.now)))) }
 {
-    scratch.olds.clear();
-    scratch.news.clear();
-    let olds = &mut scratch.olds;
-    let news = &mut scratch.news;
+    let olds = &mut scratch.old_fields;
+    let news = &mut scratch.new_fields;
+    olds.clear();
+    news.clear();
     let left = put_then_columns(old_earlier, new_earlier, old_later, new_later, olds, news)?;
     if !left {
         return Ok(());
     }
-    let _ = old_earlier.bytes();
-    let _ = new_earlier.bytes();
-    let _ = old_later.bytes();
-    let _ = new_later.bytes();
-    let old_fields = Record::new(scratch.olds.as_slice());
-    let new_fields = Record::new(scratch.news.as_slice());
-    out.push(&Change::Update {
-        flag,
-        old_fields,
-        new_fields,
-    })
+    scratch.push_update(flag, out)
 }
 
 /// Appends the update from one row to another, if they differ.
+#[tactic(auto, unfolding(cs_change::specs::Net::net))]
 pub(crate) fn push_net(
     flag: bool,
     marks: &[bool],
@@ -170,16 +157,10 @@ pub(crate) fn push_net(
     if before.same(after) {
         return Ok(());
     }
-    scratch.olds.clear();
-    scratch.news.clear();
-    put_net_columns(marks, before, after, &mut scratch.olds, &mut scratch.news)?;
-    let _ = before.bytes();
-    let _ = after.bytes();
-    let old_fields = Record::new(scratch.olds.as_slice());
-    let new_fields = Record::new(scratch.news.as_slice());
-    out.push(&Change::Update {
-        flag,
-        old_fields,
-        new_fields,
-    })
+    let olds = &mut scratch.old_fields;
+    let news = &mut scratch.new_fields;
+    olds.clear();
+    news.clear();
+    put_net_columns(marks, before, after, olds, news)?;
+    scratch.push_update(flag, out)
 }

@@ -8,7 +8,7 @@ use Rattle.cs_normal.specs.Laws.{NoFaultWhereFit, OneNormalForm, OneUnfit}
 use Rattle.cs_normal.specs.declared.unfit.Unfit.{Unfit}
 use Rattle.cs_normal.specs.declared.normal.TableChanges.{TableChanges}
 use Rattle.cs_changeset.specs.Codes.{fault_code}
-use Rattle.cs_hub.specs.Codes.{unfit_code}
+use Rattle.cs_normal.specs.Codes.{unfit_code}
 use Rattle.cs_hub.specs.Hub.{HubState}
 use Rattle.cs_hub.specs.Laws.{OneAnswer, OneRequest, OneService}
 use Rattle.cs_hub.specs.Messages.{Asked, AsksPush, AsksPull, AsksNothing, answer_spelling}

@@ -1,7 +1,6 @@
--- The code of each refusal but those of bytes that spell no changeset, which cs_changeset has. (Profile of this project.)
+-- The code of each refusal but those that the crates below have: of bytes that spell no changeset (cs_changeset), and of
+-- changesets without a normal form (cs_normal). (Profile of this project.)
 use Rattle.std.specs.Prelude.{ℕ}
-use Rattle.cs_normal.specs.declared.unfit.Unfit.{Unfit}
-use Rattle.cs_normal.specs.declared.unfit.Unfit.TheVariants as unfit
 use Rattle.cs_hub.specs.declared.fault.HubFault.{HubFault}
 use Rattle.cs_hub.specs.declared.fault.HubFault.TheVariants as hub
 use Rattle.cs_hub.specs.declared.request.RequestFault.{RequestFault}
@@ -16,14 +15,6 @@ abbrev pub request_code : RequestFault → ℕ
 request_code request.Truncated = 2
 request_code request.BadTag = 20
 request_code request.TooLong = 21
-
--- a changeset without a normal form
-abbrev pub unfit_code : Unfit → ℕ
-unfit_code unfit.Memory = memory_code
-unfit_code unfit.UnknownTable = 30
-unfit_code unfit.Shape = 31
-unfit_code unfit.NullKey = 32
-unfit_code unfit.KeyTwice = 33
 
 -- what the hub refuses
 abbrev pub hub_code : HubFault → ℕ

@@ -9,7 +9,8 @@ use Rattle.cs_change.specs.declared.group.Group.{Group}
 use Rattle.cs_changeset.specs.Codes.{fault_code}
 use Rattle.cs_changeset.specs.Reading.{IsChangesetFault}
 use Rattle.cs_changeset.specs.declared.fault.Fault.{Fault}
-use Rattle.cs_hub.specs.Codes.{hub_code, request_code, unfit_code}
+use Rattle.cs_hub.specs.Codes.{hub_code, request_code}
+use Rattle.cs_normal.specs.Codes.{unfit_code}
 use Rattle.cs_hub.specs.Hub.{HubState, entries_from}
 use Rattle.cs_hub.specs.Messages.{Asked, AsksPush, AsksPull, AsksNothing, Asks, answer_spelling, entries_spelling}
 use Rattle.cs_hub.specs.Pushes.{Push, Pushes}

@@ -1,11 +1,11 @@
-//! The code of each refusal but those of bytes that spell no changeset, which `cs_changeset` has.
+//! The code of each refusal but those that the crates below have: of bytes that spell no changeset (`cs_changeset`), and of
+//! changesets without a normal form (`cs_normal`).
 
 ghost use Rattle.std.specs.Prelude.{◌≡◌};
-ghost use Rattle.cs_hub.specs.Codes.{hub_code, request_code, unfit_code};
+ghost use Rattle.cs_hub.specs.Codes.{hub_code, request_code};
 
 use crate::fault::HubFault;
 use crate::request::RequestFault;
-use cs_normal::Unfit;
 
 /// The code of bytes that spell no request.
 pub(crate) fn of_request(fault: RequestFault) -> u8
@@ -15,19 +15,6 @@ pub(crate) fn of_request(fault: RequestFault) -> u8
         RequestFault::Truncated => 2,
         RequestFault::BadTag => 20,
         RequestFault::TooLong => 21,
-    }
-}
-
-/// The code of a changeset without a normal form.
-pub(crate) fn of_unfit(unfit: Unfit) -> u8
-    ensures { result ≡ unfit_code unfit }
-{
-    match unfit {
-        Unfit::Memory => 1,
-        Unfit::UnknownTable => 30,
-        Unfit::Shape => 31,
-        Unfit::NullKey => 32,
-        Unfit::KeyTwice => 33,
     }
 }
 

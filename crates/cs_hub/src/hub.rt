@@ -255,7 +255,7 @@ impl Hub {
         match normalise(self.alloc, &self.catalog, groups) {
             Ok(changes) => self.take(head, changes),
             Err(Unfit::Memory) => Err(AllocError),
-            Err(unfit) => Ok(Answer::Refused(code::of_unfit(unfit))),
+            Err(unfit) => Ok(Answer::Refused(unfit.code())),
         }
     }
 

@@ -2,7 +2,6 @@
 
 ghost use Rattle.std.specs.Prelude.{◌≡◌, ◌++◌, ◌∷◌, [], ◌&&◌, not, if◌then◌else◌, IfOk, IsTrue, OnOk, Some};
 ghost use Rattle.cs_value.specs.declared.value.Field.TheVariants.{Undefined};
-ghost use Rattle.cs_record.specs.Spelling.{field, record_of};
 ghost use Rattle.cs_change.specs.Columns.{is_blank};
 ghost use Rattle.cs_change.specs.Listed.{listed};
 ghost use Rattle.cs_change.specs.declared.change.Change.TheVariants.{Update};
@@ -10,11 +9,8 @@ ghost use Rattle.cs_normal.specs.NormalForm.{changes_value, normal_form, normal_
 ghost use Rattle.cs_normal.specs.Steps.Forms.{normal_columns, is_normal_column};
 
 use cs_change::{Change, ChangesBuf, Scratch};
-use cs_record::{Cell, Column, Record};
+use cs_record::{Cell, Column, Record, RecordBuf};
 use cs_value::Memory;
-
-/// The byte that spells an undefined field.
-const UNDEFINED: u8 = 0;
 
 #[inline(always)]
 #[tactic(auto, unfolding(cs_change::specs::Then::is_idle, cs_change::specs::Columns::holds))]
@@ -33,14 +29,13 @@ fn gets_value(in_key: bool, old: &Column<'_>, new: &Column<'_>) -> bool
 
 /// Appends the field, or an undefined one.
 #[inline(always)]
-fn put_if(wanted: bool, column: &Column<'_>, out: &mut Vec<u8>) -> Result<(), Memory>
-    ensures { OnOk result (out.new.items ≡ out.old.items ++ field (if wanted then column.now else Undefined)) }
+fn put_if(wanted: bool, column: &Column<'_>, out: &mut RecordBuf) -> Result<(), Memory>
+    ensures { OnOk result (out.new ≡ out.old ++ (if wanted then column.now else Undefined) ∷ []) }
 {
     if wanted {
-        column.append(out)
+        out.push(column)
     } else {
-        out.push(UNDEFINED)?;
-        Ok(())
+        out.push_undefined()
     }
 }
 
@@ -50,13 +45,11 @@ fn put_normal_columns(
     marks: &[bool],
     old: &Record<'_>,
     new: &Record<'_>,
-    olds: &mut Vec<u8>,
-    news: &mut Vec<u8>,
+    olds: &mut RecordBuf,
+    news: &mut RecordBuf,
 ) -> Result<bool, Memory>
-    ensures olds { IfOk result (λ left. olds.new.items
-        ≡ olds.old.items ++ record_of (normal_olds marks.now old.now new.now)) }
-    ensures news { IfOk result (λ left. news.new.items
-        ≡ news.old.items ++ record_of (normal_news marks.now old.now new.now)) }
+    ensures olds { IfOk result (λ left. olds.new ≡ olds.old ++ normal_olds marks.now old.now new.now) }
+    ensures news { IfOk result (λ left. news.new ≡ news.old ++ normal_news marks.now old.now new.now) }
     ensures left { IfOk result (λ left. not left ≡ is_blank (normal_news marks.now old.now new.now)) }
 {
     let mut left = false;
@@ -91,21 +84,15 @@ fn push_update(
 ) -> Result<(), Memory>
     ensures { OnOk result (out.new ≡ out.old ++ listed (normal_form marks.now (Update flag old.now new.now))) }
 {
-    scratch.olds.clear();
-    scratch.news.clear();
-    let left = put_normal_columns(marks, old, new, &mut scratch.olds, &mut scratch.news)?;
+    let olds = &mut scratch.old_fields;
+    let news = &mut scratch.new_fields;
+    olds.clear();
+    news.clear();
+    let left = put_normal_columns(marks, old, new, olds, news)?;
     if !left {
         return Ok(());
     }
-    let _ = old.bytes();
-    let _ = new.bytes();
-    let old_fields = Record::new(scratch.olds.as_slice());
-    let new_fields = Record::new(scratch.news.as_slice());
-    out.push(&Change::Update {
-        flag,
-        old_fields,
-        new_fields,
-    })
+    scratch.push_update(flag, out)
 }
 
 #[inline(always)]

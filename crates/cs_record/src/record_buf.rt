@@ -1,6 +1,7 @@
 //! A record that owns its bytes.
 
 ghost use Rattle.cs_record.specs.Spelled.{SpelledRecord, SpelledRecord-prop};
+ghost use Rattle.cs_value.specs.declared.value.Field.TheVariants.{Undefined};
 
 use crate::column::Column;
 use crate::record::Record;
@@ -8,6 +9,9 @@ use crate::writing::{encode_field, fits_field};
 use cs_value::{Field, Memory};
 use std::alloc::Global;
 use std::marker::Model;
+
+/// The byte that spells an undefined field.
+const UNDEFINED: u8 = 0;
 
 /// A record as the bytes that spell it, in memory of its own. Contracts see it as the list of its fields. (SQLite's
 /// "changeset format", record format.)
@@ -84,6 +88,23 @@ impl RecordBuf {
         ensures err { OnErr result (self.new ≡ self.old) }
     {
         self.bytes.extend_from_slice(column.bytes())
+    }
+
+    /// Appends an undefined field. An `Err` changes nothing.
+    #[inline(always)]
+    pub fn push_undefined(&mut self) -> Result<(), Memory>
+        ensures ok { OnOk result (self.new ≡ self.old ++ Undefined ∷ []) }
+        ensures err { OnErr result (self.new ≡ self.old) }
+    {
+        self.bytes.extend_from_slice(&[UNDEFINED])
+    }
+
+    /// Takes all fields out.
+    #[inline(always)]
+    pub fn clear(&mut self)
+        ensures { self.new ≡ [] }
+    {
+        self.bytes.clear();
     }
 
     /// Appends a field that is held by itself. An `Err` changes nothing.
