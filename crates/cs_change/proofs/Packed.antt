@@ -1,8 +1,8 @@
 -- Changes in their bytes.
-use Rattle.std.proofs.Common.{◌≡◌, ℕ, ◌+◌, ◌-◌, ◌<◌, ◌≤◌, Bool, true, false, nat_eq, List, [], ◌∷◌, ◌++◌, length, take, drop, get_or, refl, sym, ap, ◌∙◌, subst, append_assoc, arith, length-append, Some, None, zero, suc}
+use Rattle.std.proofs.Common.{◌≡◌, ℕ, ◌+◌, ◌-◌, ◌<◌, ◌≤◌, List, [], ◌∷◌, ◌++◌, length, take, drop, get_or, refl, sym, ap, ◌∙◌, subst, append_assoc, arith, length-append, Some, None, zero, suc}
 use Rattle.std.specs.Prelude.{slice_get, Result, Ok, Err, OnOk, OnErr}
 use Rattle.std.specs.List.{AllByRecursion}
-use Rattle.std.proofs.lemmas.List.{take_all, flat_map_more}
+use Rattle.std.proofs.lemmas.List.{flat_map_more}
 use Rattle.std.proofs.lemmas.Option.{slice_get_past, slice_get-get_or}
 use Rattle.std.proofs.Math.Seq.{take-append_seam, drop-append_seam}
 use Rattle.cs_record.specs.Spelling.{record_of}
@@ -10,14 +10,10 @@ use Rattle.cs_change.specs.declared.change.Change.{Change}
 use Rattle.cs_change.specs.declared.change.Change.TheVariants.{Insert, Delete, Update}
 use Rattle.cs_change.specs.Listed.{listed, listed_more}
 use Rattle.cs_change.specs.declared.place.Place.{Place}
-use Rattle.cs_change.specs.Spelling.{flag_byte, change_spelling, changes_spelling}
+use Rattle.cs_change.specs.Spelling.{change_spelling, changes_spelling}
 use Rattle.cs_change.specs.Held.{IsInRange, split_of, IsChangeIn, SpelledChange, IsPlace, ArePlaces, AreHeld, Held, one_list, one_change}
 
 -- ---- one change
-
-pub flag_back : (f : Bool) → nat_eq (flag_byte f) 1 ≡ f
-flag_back true = refl
-flag_back false = refl
 
 pub change_room : (bytes : List ℕ) (split : ℕ) → SpelledChange bytes split → (2 ≤ split) × (split ≤ length bytes)
 change_room bytes split (Insert f r, is) = (omega (arith, is.2), omega (arith, is.2, ap length is.1))
@@ -105,9 +101,6 @@ found_at bytes places changes index place held less is =
 pub held_now : (bytes : List ℕ) (places : List Place) (h : Held bytes places) (now : List Change) → h.0 ≡ now → AreHeld bytes places now
 held_now bytes places h now is = subst (AreHeld bytes places) is h.1
 
-pub held_is : (bytes : List ℕ) (places : List Place) (h : Held bytes places) (changes : List Change) → AreHeld bytes places changes → h.0 ≡ changes
-held_is bytes places h changes held = one_list h.0 changes places 0 h.1.0 held.0 (h.1.1 ∙ sym held.1) h.1.2 held.2
-
 places_more : (changes : List Change) (places : List Place) (change : Change) (place : Place) (at : ℕ) → ArePlaces at changes places → IsPlace (at + length (changes_spelling changes)) change place → ArePlaces at (changes ++ change ∷ []) (places ++ place ∷ [])
 places_more [] [] change place at stand next = ((omega (arith, next.0), next.1, next.2), tt)
 places_more [] (p ∷ ps) change place at stand next = absurd stand
@@ -160,9 +153,6 @@ same_more (x ∷ xs) (y ∷ ys) (suc at) less long same so_far =
     let rest = same_more xs ys at (omega (arith, less)) (omega (arith, long)) same tail in
     let next : suc at + 1 ≡ suc (at + 1) = omega arith in
     rw next (ap (λ (c : Change). c ∷ take (at + 1) xs) head ∙ ap (λ (cs : List Change). y ∷ cs) rest)
-
-pub same_all : (xs ys : List Change) (at : ℕ) → length xs ≤ at → length xs ≡ length ys → take at xs ≡ take at ys → xs ≡ ys
-same_all xs ys at past long so_far = sym (take_all at xs past) ∙ so_far ∙ take_all at ys (omega (arith, past, long))
 
 -- ---- lending
 

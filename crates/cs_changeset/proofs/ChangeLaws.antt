@@ -1,7 +1,6 @@
 -- Changes in their bytes.
-use Rattle.std.proofs.Common.{◌≡◌, ℕ, suc, ◌+◌, ◌-◌, ◌<◌, ◌≤◌, Bool, true, false, cond, List, [], ◌∷◌, ◌++◌, length, take, drop, map, Some, None, refl, sym, ap, ◌∙◌, arith, inl, inr, subst}
+use Rattle.std.proofs.Common.{◌≡◌, ℕ, suc, ◌+◌, ◌-◌, ◌≤◌, Bool, true, false, cond, List, [], ◌∷◌, ◌++◌, length, take, drop, map, Some, None, refl, sym, ap, ◌∙◌, arith, inl, inr, subst}
 use Rattle.std.specs.Prelude.{◌⊎◌, Err}
-use Rattle.std.proofs.lemmas.List.{length-drop}
 use Rattle.std.specs.List.{AllByRecursion}
 use Rattle.cs_value.specs.Facts.{same_value-Decides}
 use Rattle.cs_value.specs.Same.{same_value}
@@ -12,13 +11,12 @@ use Rattle.cs_record.specs.Spelling.{field, record_of, Fits, row_bytes}
 use Rattle.cs_record.specs.Reading.{StandsAt}
 use Rattle.cs_record.specs.OneSpelling.{one_spelled_row}
 use Rattle.cs_record.specs.Spelled.{SpellsRow, SpelledRow}
-use Rattle.cs_record.specs.Facts.{field_fault_within, reaches, tail, stands_both, behind_at, behind_within}
+use Rattle.cs_record.specs.Facts.{field_fault_within, stands_both, behind_at, behind_within}
 use Rattle.cs_change.specs.Columns.{holds}
 use Rattle.cs_change.specs.declared.change.Change.{Change}
-use Rattle.cs_change.specs.declared.change.Change.TheVariants.{Insert, Delete, Update}
-use Rattle.cs_change.specs.Spelling.{flag_byte, change_spelling, changes_spelling, FitsRow, FitsChange, IsUpdateColumn, AreUpdateColumns}
+use Rattle.cs_change.specs.Spelling.{flag_byte, changes_spelling, FitsRow, FitsChange, IsUpdateColumn, AreUpdateColumns}
 use Rattle.cs_changeset.specs.Records.{Rule, InOld, InNew, IsRight, AreRight, IsColumnFault, IsColumnsFault, row_rules, old_rules, new_rules}
-use Rattle.cs_changeset.specs.Reading.{IsUpdateFault, IsRecordsFault, IsFlaggedFault, IsChangeFault, IsChangesFault}
+use Rattle.cs_changeset.specs.Reading.{IsUpdateFault, IsFlaggedFault, IsChangeFault, IsChangesFault}
 use Rattle.cs_changeset.specs.Steps.{AreColumnsAt, ReadsFlag, ReadsFlaggedRow, ReadsOperation}
 use Rattle.cs_changeset.specs.declared.fault.FirstFault.{FirstFault}
 use Rattle.cs_changeset.specs.declared.fault.Fault.{Fault}
@@ -83,11 +81,6 @@ pub flag_small : (flag : Bool) → flag_byte flag ≤ 1
 flag_small true = omega arith
 flag_small false = omega arith
 
--- a fault behind a whole flag
-pub flagged_fault : (marks : List Bool) (operation : ℕ) (flag : Bool) (behind rest : List ℕ) (fault : Fault) (offset : ℕ) → behind ≡ flag_byte flag ∷ rest → IsRecordsFault marks operation fault offset rest
-    → IsFlaggedFault marks operation fault (offset + 2) behind
-flagged_fault marks operation flag behind rest fault offset is told = rw is (inr (flag_small flag, (offset, told, omega arith)))
-
 -- ---- updates
 
 key_kept : (u v : Value) (b : Bool) → same_value u v ≡ b → cond b None (Some KeyChanged) ≡ None → u ≡ v
@@ -119,11 +112,6 @@ update_records marks bytes old new at len (right, stands) (right', stands') =
     let columns = right_columns marks old new right right' in
     (columns.0, columns.1, columns.2, stands_both bytes (record_of old) (record_of new) at len stands stands')
 
-pub new_fault_behind : (marks : List Bool) (bytes : List ℕ) (old : List Field) (at : ℕ) (fault : Fault) (inner : ℕ) → AreColumnsAt (old_rules marks) bytes old at → IsColumnsFault (new_rules marks old) fault inner (take (length bytes - at) (drop at bytes))
-    → IsUpdateFault marks fault (at + inner) bytes
-new_fault_behind marks bytes old at fault inner (right, stands) told =
-    inr (behind_at record_of (AreRight (old_rules marks)) (λ old. IsColumnsFault (new_rules marks old)) fault old bytes at inner right stands told)
-
 -- ---- errors that are passed on
 
 pub flag_error_row : (marks : List Bool) (behind : List ℕ) (told : FirstFault) → ReadsFlag behind (Err told) → ReadsFlaggedRow marks behind (Err told)
@@ -136,18 +124,6 @@ pub row_error : (marks : List Bool) (operation : ℕ) (behind : List ℕ) (told 
 row_error marks operation behind told is reads = reads operation is
 
 -- ---- changes one after another
-
-some_bytes : (change : Change) → 0 < length (change_spelling change)
-some_bytes (Insert flag new) = omega arith
-some_bytes (Delete flag old) = omega arith
-some_bytes (Update flag old new) = omega arith
-
--- a change takes bytes, within those that are left
-pub takes_bytes : (bytes : List ℕ) (change : Change) (at len : ℕ) → at ≤ length bytes → StandsAt (take (length bytes - at) (drop at bytes)) (change_spelling change) len → (0 < len) × (at + len ≤ length bytes)
-takes_bytes bytes change at len within stands =
-    let rest = ap length (tail bytes at) ∙ length-drop at bytes in
-    let reach = reaches (take (length bytes - at) (drop at bytes)) (change_spelling change) len stands in
-    (omega (arith, some_bytes change, reach), omega (arith, within, rest, stands.within))
 
 pub changes_fault : (marks : List Bool) (bytes : List ℕ) (before : List Change) (at : ℕ) (fault : Fault) (inner : ℕ) → AllByRecursion (FitsChange marks) before → StandsAt bytes (changes_spelling before) at
     → IsChangeFault marks fault inner (take (length bytes - at) (drop at bytes)) → IsChangesFault marks fault (at + inner) bytes

@@ -3,9 +3,6 @@ use Rattle.std.proofs.Common.{◌≡◌, ℕ, zero, suc, List, [], ◌∷◌, le
 use Rattle.std.proofs.lemmas.List.{length-map}
 use Rattle.std.proofs.lemmas.Option.{get_or_from_slice_get, slice_get_within}
 use Rattle.std.specs.List.{All}
-use Rattle.cs_value.specs.Catalog.{AreTables, IsCatalogFault}
-use Rattle.cs_value.specs.declared.catalog.CatalogFault.{CatalogFault}
-use Rattle.cs_value.specs.declared.catalog.CatalogFault.TheVariants.{Width, NoKey, TwiceNamed, Name, TooMany}
 use Rattle.cs_value.specs.declared.catalog.TableDef.{TableDef}
 use Rattle.cs_hub.specs.declared.log.LogEntry.{LogEntry}
 use Rattle.cs_hub.specs.Rows.{Rows, row_at}
@@ -13,20 +10,6 @@ use Rattle.cs_hub.specs.Sound.{IsSound, HoldsRows}
 use Rattle.cs_hub.specs.Staged.{TableState, no_rows}
 use Rattle.cs_hub.specs.Tables.{state_of}
 use Rattle.cs_hub.proofs.LogGrown.{no_entry}
-
-no_table : TableDef
-no_table = record { name = []; key_marks = [] }
-
--- the tables of a catalog have no fault
-pub no_fault : (fault : CatalogFault) (tables : List TableDef) → AreTables tables → IsCatalogFault fault tables → ⊥
-no_fault TooMany tables are h = omega (arith, are.0)
-no_fault Width tables are h = (h.1.3 no_table) (are.1 h.1.0 h.1.1 no_table).0
-no_fault NoKey tables are h = let f = h.1.3 no_table in f.1 (are.1 h.1.0 h.1.1 no_table).1
-no_fault Name tables are h = let f = h.1.3 no_table in f.2 (are.1 h.1.0 h.1.1 no_table).2
-no_fault TwiceNamed tables are h = let f = h.1.3 no_table in f.3 (are.1 h.1.0 h.1.1 no_table).3
-
-abbrev unwritten : TableDef → TableState
-unwritten table = no_rows table.name
 
 names_of : (catalog : List TableDef) → map (λ (t : TableState). t.name) (map (λ (t : TableDef). no_rows t.name) catalog) ≡ map (λ (t : TableDef). t.name) catalog
 names_of [] = refl

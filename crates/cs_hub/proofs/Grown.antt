@@ -28,9 +28,6 @@ use Rattle.cs_hub.proofs.LogGrown.{one_more}
 use Rattle.cs_hub.proofs.Served.{push_of}
 use Rattle.cs_hub.proofs.Written.{left_by, outcomes_leave, outcomes_refuse}
 
-name_of : TableState → List ℕ
-name_of table = table.name
-
 -- lists of one length with the same names at each place
 names_same : (old new : List TableState) → length new ≡ length old → ((k : ℕ) (d : TableState) → k < length old → (get_or new k d).name ≡ (get_or old k d).name) → map (λ (t : TableState). t.name) new ≡ map (λ (t : TableState). t.name) old
 names_same [] [] e h = refl

@@ -10,5 +10,4 @@ pub mod Reading
 pub mod Planned
 pub mod Served
 pub mod Sorted
-pub mod Updated
 pub mod Written

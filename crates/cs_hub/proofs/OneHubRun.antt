@@ -1,10 +1,9 @@
 -- The lines that a new hub answers have one list of answers.
-use Rattle.std.proofs.Common.{◌≡◌, ℕ, inl, inr, List, [], ◌∷◌, ap, sym, ◌∙◌, subst}
+use Rattle.std.proofs.Common.{◌≡◌, ℕ, inl, inr, List, [], ◌∷◌, ap, sym, subst}
 use Rattle.std.specs.Prelude.{Result, Ok, Err}
 use Rattle.cs_value.specs.Catalog.{AreTables}
 use Rattle.cs_value.specs.declared.catalog.TableDef.{TableDef}
 use Rattle.cs_change.specs.declared.group.Group.{Group}
-use Rattle.cs_normal.specs.declared.normal.TableChanges.{TableChanges}
 use Rattle.cs_lines.specs.Laws.{HasOneAnswerAlong, OneRun}
 use Rattle.cs_lines.specs.Served.{Answers, AnswersDecoded}
 use Rattle.cs_hub.specs.Hub.{HubState, fresh}

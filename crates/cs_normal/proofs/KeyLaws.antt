@@ -3,7 +3,6 @@ use Rattle.std.proofs.Common.{◌≡◌, Bool, true, false, get_or, ℕ, zero, s
 use Rattle.std.specs.Prelude.{slice_index_or}
 use Rattle.std.specs.List.{All, slice_range}
 use Rattle.std.proofs.lemmas.List.{take_all, length-drop, drop-append-le, take-append-le, map-append, take_more}
-use Rattle.std.proofs.lemmas.List.Elements.{All-append}
 use Rattle.std.proofs.Math.Seq.{drop-append_seam}
 use Rattle.cs_change.specs.declared.change.Change.{Change}
 use Rattle.cs_normal.specs.Keyed.{IsSpotIn, keys_in}
@@ -43,12 +42,6 @@ wider a b spots le within = λ k d less. let h = within k d less in (h.0, omega 
 only : {X : Type 0} (P : X → Type 0) (x : X) → P x → All P (x ∷ [])
 only P x p zero d less = p
 only P x p (suc k) d less = absurd (omega (arith, less))
-
-pub spots_more : (bytes key new : List ℕ) (spots now : List (ℕ × ℕ)) (start end : ℕ) → All (IsSpotIn (length bytes)) spots → new ≡ bytes ++ key → start ≡ length bytes → end ≡ length new → now ≡ spots ++ (start, end) ∷ []
-    → All (IsSpotIn (length new)) now
-spots_more bytes key new spots now start end within grown begins ends is =
-    let long : length bytes ≤ length new = omega (arith, ap length grown, length-append bytes key) in
-    rw (is, begins, ends) (All-append (IsSpotIn (length new)) spots ((length bytes, length new) ∷ []) (wider (length bytes) (length new) spots long within) (only (IsSpotIn (length new)) (length bytes, length new) (long, omega arith)))
 
 -- the key of a change more, if it is set
 pub key_more : (marks : List Bool) (change : Change) (bytes new : List ℕ) (spots now : List (ℕ × ℕ)) (start end : ℕ) → has_key marks change ≡ true → All (IsSpotIn (length bytes)) spots → new ≡ bytes ++ change_bytes marks change → start ≡ length bytes → end ≡ length new → now ≡ spots ++ (start, end) ∷ []
