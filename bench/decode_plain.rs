@@ -1,31 +1,20 @@
 //! The plain baseline of the benchmarks: a decoder and encoder of changesets in Rust with the standard library alone,
-//! as one would write it by hand, into the same kind of structures as the proved library's. Exported to C, so that the
+//! as one would write it by hand, whose changes stay in the bytes as the proved library's do. Exported to C, so that the
 //! same program times both on the same bytes.
 
 use std::slice;
 
-enum Value {
-    Null,
-    Int(i64),
-    Text(String),
-    Blob(Vec<u8>),
+/// A change, whose row or records stay in the bytes that were read.
+enum Change<'a> {
+    Insert { flag: bool, new_row: &'a [u8] },
+    Delete { flag: bool, old_row: &'a [u8] },
+    Update { flag: bool, old_fields: &'a [u8], new_fields: &'a [u8] },
 }
 
-enum Field {
-    Undefined,
-    Is(Value),
-}
-
-enum Change {
-    Insert { flag: bool, new_row: Vec<Value> },
-    Delete { flag: bool, old_row: Vec<Value> },
-    Update { flag: bool, old_fields: Vec<Field>, new_fields: Vec<Field> },
-}
-
-struct Group {
+struct Group<'a> {
     marks: Vec<u8>,
     name: String,
-    changes: Vec<Change>,
+    changes: Vec<Change<'a>>,
 }
 
 /// Bytes that spell no changeset. (The baseline names no fault.)
@@ -74,62 +63,56 @@ impl<'a> Reader<'a> {
         self.take(length)
     }
 
-    fn field(&mut self) -> Read<Field> {
-        Ok(match self.byte()? {
-            0 => Field::Undefined,
+    /// A field's bytes.
+    fn field(&mut self) -> Read<&'a [u8]> {
+        let start = self.at;
+        match self.byte()? {
+            0 | 5 => {}
             1 => {
-                let bytes = self.take(8)?.try_into().map_err(|_| Refused)?;
-                Field::Is(Value::Int(i64::from_be_bytes(bytes)))
+                self.take(8)?;
             }
             3 => {
-                let text = std::str::from_utf8(self.counted()?).map_err(|_| Refused)?;
-                Field::Is(Value::Text(text.to_owned()))
+                std::str::from_utf8(self.counted()?).map_err(|_| Refused)?;
             }
-            4 => Field::Is(Value::Blob(self.counted()?.to_vec())),
-            5 => Field::Is(Value::Null),
+            4 => {
+                self.counted()?;
+            }
             _ => return Err(Refused),
-        })
-    }
-
-    fn row(&mut self, width: usize) -> Read<Vec<Value>> {
-        let mut row = Vec::with_capacity(width);
-        for _ in 0..width {
-            match self.field()? {
-                Field::Is(value) => row.push(value),
-                Field::Undefined => return Err(Refused),
-            }
         }
-        Ok(row)
+        Ok(&self.bytes[start..self.at])
     }
 
-    fn old_fields(&mut self, marks: &[u8]) -> Read<Vec<Field>> {
-        let mut fields = Vec::with_capacity(marks.len());
-        for &mark in marks {
-            let field = self.field()?;
-            if mark != 0 && matches!(field, Field::Undefined) {
+    fn row(&mut self, width: usize) -> Read<&'a [u8]> {
+        let start = self.at;
+        for _ in 0..width {
+            if self.field()? == [0] {
                 return Err(Refused);
             }
-            fields.push(field);
         }
-        Ok(fields)
+        Ok(&self.bytes[start..self.at])
     }
 
-    fn new_fields(&mut self, marks: &[u8], old: &[Field]) -> Read<Vec<Field>> {
-        let mut fields = Vec::with_capacity(marks.len());
-        for (&mark, before) in marks.iter().zip(old) {
-            let field = self.field()?;
-            if let Field::Is(value) = &field {
-                let right = match before {
-                    Field::Undefined => false,
-                    Field::Is(old_value) => mark == 0 || same(old_value, value),
-                };
-                if !right {
-                    return Err(Refused);
-                }
+    fn old_fields(&mut self, marks: &[u8]) -> Read<&'a [u8]> {
+        let start = self.at;
+        for &mark in marks {
+            if self.field()? == [0] && mark != 0 {
+                return Err(Refused);
             }
-            fields.push(field);
         }
-        Ok(fields)
+        Ok(&self.bytes[start..self.at])
+    }
+
+    fn new_fields(&mut self, marks: &[u8], old: &'a [u8]) -> Read<&'a [u8]> {
+        let start = self.at;
+        let mut old = Reader { bytes: old, at: 0 };
+        for &mark in marks {
+            let before = old.field()?;
+            let field = self.field()?;
+            if field != [0] && (before == [0] || mark != 0 && before != field) {
+                return Err(Refused);
+            }
+        }
+        Ok(&self.bytes[start..self.at])
     }
 
     fn flag(&mut self) -> Read<bool> {
@@ -140,7 +123,7 @@ impl<'a> Reader<'a> {
         }
     }
 
-    fn changes(&mut self, marks: &[u8]) -> Read<Vec<Change>> {
+    fn changes(&mut self, marks: &[u8]) -> Read<Vec<Change<'a>>> {
         let mut changes = Vec::new();
         while let Some(&operation) = self.bytes.get(self.at) {
             if operation == b'T' {
@@ -153,7 +136,7 @@ impl<'a> Reader<'a> {
                 9 => Change::Delete { flag, old_row: self.row(marks.len())? },
                 23 => {
                     let old_fields = self.old_fields(marks)?;
-                    let new_fields = self.new_fields(marks, &old_fields)?;
+                    let new_fields = self.new_fields(marks, old_fields)?;
                     Change::Update { flag, old_fields, new_fields }
                 }
                 _ => return Err(Refused),
@@ -162,7 +145,7 @@ impl<'a> Reader<'a> {
         Ok(changes)
     }
 
-    fn group(&mut self) -> Read<Group> {
+    fn group(&mut self) -> Read<Group<'a>> {
         if self.byte()? != b'T' {
             return Err(Refused);
         }
@@ -181,17 +164,7 @@ impl<'a> Reader<'a> {
     }
 }
 
-fn same(one: &Value, other: &Value) -> bool {
-    match (one, other) {
-        (Value::Null, Value::Null) => true,
-        (Value::Int(one), Value::Int(other)) => one == other,
-        (Value::Text(one), Value::Text(other)) => one == other,
-        (Value::Blob(one), Value::Blob(other)) => one == other,
-        _ => false,
-    }
-}
-
-fn decode(bytes: &[u8]) -> Read<Vec<Group>> {
+fn decode(bytes: &[u8]) -> Read<Vec<Group<'_>>> {
     let mut reader = Reader { bytes, at: 0 };
     let mut groups = Vec::new();
     while reader.at < bytes.len() {
@@ -215,49 +188,20 @@ fn put_varint(value: u64, out: &mut Vec<u8>) {
     out.push((value & 0x7f) as u8);
 }
 
-fn put_value(value: &Value, out: &mut Vec<u8>) {
-    match value {
-        Value::Null => out.push(5),
-        Value::Int(number) => {
-            out.push(1);
-            out.extend_from_slice(&number.to_be_bytes());
-        }
-        Value::Text(text) => {
-            out.push(3);
-            put_varint(text.len() as u64, out);
-            out.extend_from_slice(text.as_bytes());
-        }
-        Value::Blob(bytes) => {
-            out.push(4);
-            put_varint(bytes.len() as u64, out);
-            out.extend_from_slice(bytes);
-        }
-    }
-}
-
-fn put_fields(fields: &[Field], out: &mut Vec<u8>) {
-    for field in fields {
-        match field {
-            Field::Undefined => out.push(0),
-            Field::Is(value) => put_value(value, out),
-        }
-    }
-}
-
 fn put_change(change: &Change, out: &mut Vec<u8>) {
     match change {
         Change::Insert { flag, new_row: row } => {
             out.extend_from_slice(&[18, u8::from(*flag)]);
-            row.iter().for_each(|value| put_value(value, out));
+            out.extend_from_slice(row);
         }
         Change::Delete { flag, old_row: row } => {
             out.extend_from_slice(&[9, u8::from(*flag)]);
-            row.iter().for_each(|value| put_value(value, out));
+            out.extend_from_slice(row);
         }
         Change::Update { flag, old_fields, new_fields } => {
             out.extend_from_slice(&[23, u8::from(*flag)]);
-            put_fields(old_fields, out);
-            put_fields(new_fields, out);
+            out.extend_from_slice(old_fields);
+            out.extend_from_slice(new_fields);
         }
     }
 }

@@ -32,27 +32,20 @@ const CONFLICT: u8 = 41;
 const EMPTY: u8 = 42;
 const FULL: u8 = 43;
 
-#[derive(Clone, PartialEq)]
-enum Value {
-    Null,
-    Int(i64),
-    Text(String),
-    Blob(Vec<u8>),
-}
-
-struct Insert {
+/// An INSERT, whose row stays in the bytes of the request.
+struct Insert<'b> {
     flag: u8,
-    row: Vec<Value>,
+    row: &'b [u8],
 }
 
-struct Group {
+struct Group<'b> {
     marks: Vec<bool>,
-    name: Vec<u8>,
-    changes: Vec<Insert>,
+    name: &'b [u8],
+    changes: Vec<Insert<'b>>,
 }
 
-enum Request {
-    Push { origin: u32, number: u64, base: u64, changeset: Vec<u8> },
+enum Request<'b> {
+    Push { origin: u32, number: u64, base: u64, changeset: &'b [u8] },
     Pull { first: u64, limit: u32 },
 }
 
@@ -113,20 +106,25 @@ impl<'b> Cursor<'b> {
         self.take(usize::try_from(length).map_err(|_| TRUNCATED)?)
     }
 
-    fn value(&mut self) -> Read<Value> {
+    /// A value's bytes.
+    fn value(&mut self) -> Read<&'b [u8]> {
+        let whole = self.rest;
         match self.byte()? {
-            0 => Err(UNDEFINED_HERE),
-            1 => Ok(Value::Int(self.u64()? as i64)),
-            2 => Err(REAL),
-            3 => {
-                let bytes = self.counted()?;
-                let text = std::str::from_utf8(bytes).map_err(|_| NOT_UTF8)?;
-                Ok(Value::Text(text.to_owned()))
+            0 => return Err(UNDEFINED_HERE),
+            1 => {
+                self.u64()?;
             }
-            4 => Ok(Value::Blob(self.counted()?.to_vec())),
-            5 => Ok(Value::Null),
-            _ => Err(BAD_TYPE),
+            2 => return Err(REAL),
+            3 => {
+                std::str::from_utf8(self.counted()?).map_err(|_| NOT_UTF8)?;
+            }
+            4 => {
+                self.counted()?;
+            }
+            5 => {}
+            _ => return Err(BAD_TYPE),
         }
+        Ok(&whole[..whole.len() - self.rest.len()])
     }
 }
 
@@ -148,27 +146,7 @@ fn write_varint(out: &mut Vec<u8>, value: u64) {
     }
 }
 
-fn write_value(out: &mut Vec<u8>, value: &Value) {
-    match value {
-        Value::Null => out.push(5),
-        Value::Int(number) => {
-            out.push(1);
-            out.extend_from_slice(&number.to_be_bytes());
-        }
-        Value::Text(text) => {
-            out.push(3);
-            write_varint(out, text.len() as u64);
-            out.extend_from_slice(text.as_bytes());
-        }
-        Value::Blob(bytes) => {
-            out.push(4);
-            write_varint(out, bytes.len() as u64);
-            out.extend_from_slice(bytes);
-        }
-    }
-}
-
-fn read_request(bytes: &[u8]) -> Read<Request> {
+fn read_request(bytes: &[u8]) -> Read<Request<'_>> {
     let mut cursor = Cursor { rest: bytes };
     let request = match cursor.byte()? {
         1 => {
@@ -176,7 +154,7 @@ fn read_request(bytes: &[u8]) -> Read<Request> {
             let number = cursor.u64()?;
             let base = cursor.u64()?;
             let length = cursor.u32()?;
-            let changeset = cursor.take(length as usize)?.to_vec();
+            let changeset = cursor.take(length as usize)?;
             Request::Push { origin, number, base, changeset }
         }
         2 => Request::Pull { first: cursor.u64()?, limit: cursor.u32()? },
@@ -185,7 +163,7 @@ fn read_request(bytes: &[u8]) -> Read<Request> {
     if cursor.rest.is_empty() { Ok(request) } else { Err(TOO_LONG) }
 }
 
-fn read_header(cursor: &mut Cursor) -> Read<Group> {
+fn read_header<'b>(cursor: &mut Cursor<'b>) -> Read<Group<'b>> {
     let count = cursor.varint()?;
     if count == 0 || count > 2000 {
         return Err(COLUMNS);
@@ -195,13 +173,13 @@ fn read_header(cursor: &mut Cursor) -> Read<Group> {
         return Err(NO_KEY_COLUMN);
     }
     let length = cursor.rest.iter().position(|byte| *byte == 0).ok_or(TRUNCATED)?;
-    let name = cursor.take(length)?.to_vec();
-    std::str::from_utf8(&name).map_err(|_| NOT_UTF8)?;
+    let name = cursor.take(length)?;
+    std::str::from_utf8(name).map_err(|_| NOT_UTF8)?;
     cursor.byte()?;
     Ok(Group { marks, name, changes: Vec::new() })
 }
 
-fn read_changeset(bytes: &[u8]) -> Read<Vec<Group>> {
+fn read_changeset(bytes: &[u8]) -> Read<Vec<Group<'_>>> {
     let mut cursor = Cursor { rest: bytes };
     let mut groups: Vec<Group> = Vec::new();
     while !cursor.rest.is_empty() {
@@ -214,10 +192,11 @@ fn read_changeset(bytes: &[u8]) -> Read<Vec<Group>> {
                 if flag > 1 {
                     return Err(BAD_FLAG);
                 }
-                let mut row = Vec::with_capacity(group.marks.len());
+                let whole = cursor.rest;
                 for _ in 0..group.marks.len() {
-                    row.push(cursor.value()?);
+                    cursor.value()?;
                 }
+                let row = &whole[..whole.len() - cursor.rest.len()];
                 group.changes.push(Insert { flag, row });
             }
             (_, Some(_)) => return Err(BAD_OPERATION),
@@ -230,25 +209,27 @@ fn read_changeset(bytes: &[u8]) -> Read<Vec<Group>> {
 struct Hub {
     name: Vec<u8>,
     marks: Vec<bool>,
-    rows: BTreeMap<Vec<u8>, Vec<Value>>,
+    rows: BTreeMap<Vec<u8>, Vec<u8>>,
     log: Vec<Entry>,
 }
 
 impl Hub {
-    fn key_of(&self, row: &[Value]) -> Option<Vec<u8>> {
+    fn key_of(&self, row: &[u8]) -> Option<Vec<u8>> {
         let mut key = Vec::new();
-        for (value, is_key) in row.iter().zip(&self.marks) {
+        let mut values = Cursor { rest: row };
+        for is_key in &self.marks {
+            let value = values.value().ok()?;
             if *is_key {
-                if *value == Value::Null {
+                if value == [5] {
                     return None;
                 }
-                write_value(&mut key, value);
+                key.extend_from_slice(value);
             }
         }
         Some(key)
     }
 
-    fn normalise(&self, groups: Vec<Group>) -> Read<BTreeMap<Vec<u8>, Insert>> {
+    fn normalise<'b>(&self, groups: Vec<Group<'b>>) -> Read<BTreeMap<Vec<u8>, Insert<'b>>> {
         let mut changes = BTreeMap::new();
         for group in groups {
             if group.name != self.name {
@@ -258,7 +239,7 @@ impl Hub {
                 return Err(SHAPE);
             }
             for change in group.changes {
-                let key = self.key_of(&change.row).ok_or(NULL_KEY)?;
+                let key = self.key_of(change.row).ok_or(NULL_KEY)?;
                 if changes.insert(key, change).is_some() {
                     return Err(KEY_TWICE);
                 }
@@ -267,7 +248,7 @@ impl Hub {
         Ok(changes)
     }
 
-    fn encode(&self, changes: &BTreeMap<Vec<u8>, Insert>) -> Vec<u8> {
+    fn encode(&self, changes: &BTreeMap<Vec<u8>, Insert<'_>>) -> Vec<u8> {
         let mut body = vec![0x54];
         write_varint(&mut body, self.marks.len() as u64);
         body.extend(self.marks.iter().map(|mark| u8::from(*mark)));
@@ -275,9 +256,7 @@ impl Hub {
         body.push(0);
         for change in changes.values() {
             body.extend_from_slice(&[0x12, change.flag]);
-            for value in &change.row {
-                write_value(&mut body, value);
-            }
+            body.extend_from_slice(change.row);
         }
         body
     }
@@ -306,7 +285,7 @@ impl Hub {
         if changes.keys().any(|key| self.rows.contains_key(key)) {
             return Err(CONFLICT);
         }
-        self.rows.extend(changes.into_iter().map(|(key, change)| (key, change.row)));
+        self.rows.extend(changes.into_iter().map(|(key, change)| (key, change.row.to_vec())));
         self.log.push(entry);
         Ok(accepted(origin, number, base + 1))
     }
@@ -333,7 +312,7 @@ impl Hub {
     fn serve(&mut self, request: &[u8]) -> Vec<u8> {
         let answer = match read_request(request) {
             Ok(Request::Push { origin, number, base, changeset }) => {
-                self.push(origin, number, base, &changeset)
+                self.push(origin, number, base, changeset)
             }
             Ok(Request::Pull { first, limit }) => self.entries(first, limit),
             Err(code) => Err(code),

@@ -96,8 +96,9 @@ fn one_change(rt: HostRuntime) -> Result<(), Fail> {
         kept.push(&change)?;
         kept.push(&change.again())?;
         assert_eq!(rt; kept.len(), 2);
-        assert_eq!(rt; &kept.spelling()[..bytes.len()], *bytes);
-        assert_eq!(rt; &kept.spelling()[bytes.len()..], *bytes);
+        let mut twice = Vec::from_slice(alloc, bytes)?;
+        twice.extend_from_slice(bytes)?;
+        assert_eq!(rt; kept.spelling(), twice.as_slice());
     }
     Ok(())
 }
@@ -129,6 +130,41 @@ fn changes_that_own_their_bytes(rt: HostRuntime) -> Result<(), Fail> {
     assert_eq!(rt; again.spelling(), all.spelling());
     again.clear();
     assert_eq!(rt; again.len(), 0);
+    Ok(())
+}
+
+#[test]
+fn what_a_change_leaves(rt: HostRuntime) -> Result<(), Fail> {
+    let alloc = rt.alloc();
+    let Some(insert) = change_of(&INSERT, 2) else {
+        panic!(rt; "no change was read");
+    };
+    let Some(update) = change_of(&UPDATE, 2) else {
+        panic!(rt; "no change was read");
+    };
+    let Some(delete) = change_of(&INDIRECT_DELETE, 2) else {
+        panic!(rt; "no change was read");
+    };
+    let Some((row, _)) = read_row(&INSERT[2..], 2) else {
+        panic!(rt; "no row was read");
+    };
+    let Some(Some(updated)) = outcome(alloc, &update, Some(&row))? else {
+        panic!(rt; "the update is not defined");
+    };
+    let want = [1, 0, 0, 0, 0, 0, 0, 0, 1, 3, 2, 0x76, 0x32];
+    assert_eq!(rt; updated.as_row().bytes(), &want[..]);
+    assert!(rt; outcome(alloc, &update, Some(&updated.as_row()))?.is_none());
+    assert!(rt; outcome(alloc, &update, None)?.is_none());
+
+    let Some(Some(inserted)) = outcome(alloc, &insert, None)? else {
+        panic!(rt; "the insert is not defined");
+    };
+    assert_eq!(rt; inserted.as_row().bytes(), &INSERT[2..]);
+    assert!(rt; outcome(alloc, &insert, Some(&row))?.is_none());
+
+    assert!(rt; matches!(outcome(alloc, &delete, Some(&row))?, Some(None)));
+    assert!(rt; outcome(alloc, &delete, Some(&updated.as_row()))?.is_none());
+    assert!(rt; outcome(alloc, &delete, None)?.is_none());
     Ok(())
 }
 

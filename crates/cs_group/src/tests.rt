@@ -49,8 +49,9 @@ fn row(alloc: Global, key: i64, text: &str) -> Result<RowBuf, Memory>
     Ok(row)
 }
 
+/// A text of two bytes.
 fn put_text(text: &str, out: &mut Vec<u8>) -> Result<(), Memory> {
-    out.extend_from_slice(&[3, text.len() as u8])?;
+    out.extend_from_slice(&[3, 2])?;
     out.extend_from_slice(text.as_bytes())?;
     Ok(())
 }
@@ -343,13 +344,20 @@ fn one_more(rt: HostRuntime) -> Result<(), Fail> {
     Ok(())
 }
 
+const INSERTED: [Told; 1] = [Told::Insert(false, "v1")];
+
+const UPDATED: [Told; 1] = [Told::Update(false, "v1", "v2")];
+
+/// One key in two changes.
+const TWICE: [Told; 2] = [Told::Insert(false, "v1"), Told::Insert(false, "v2")];
+
 #[test]
 fn as_read_together(rt: HostRuntime) -> Result<(), Fail> {
     let alloc = rt.alloc();
     let catalog = Catalog::new(vec![in alloc; table(alloc, "t1")?]?)?;
-    let inserted = bytes_of(alloc, &[Told::Insert(false, "v1")])?;
+    let inserted = bytes_of(alloc, &INSERTED)?;
     let nothing = bytes_of(alloc, &[])?;
-    let updated = bytes_of(alloc, &[Told::Update(false, "v1", "v2")])?;
+    let updated = bytes_of(alloc, &UPDATED)?;
     let first = read(alloc, inserted.as_slice())?;
     let second = read(alloc, nothing.as_slice())?;
     let third = read(alloc, updated.as_slice())?;
@@ -370,8 +378,8 @@ fn as_read_together(rt: HostRuntime) -> Result<(), Fail> {
 #[test]
 fn a_key_twice_is_told(rt: HostRuntime) -> Result<(), Fail> {
     let alloc = rt.alloc();
-    let once = bytes_of(alloc, &[Told::Insert(false, "v1")])?;
-    let twice = bytes_of(alloc, &[Told::Insert(false, "v1"), Told::Insert(false, "v2")])?;
+    let once = bytes_of(alloc, &INSERTED)?;
+    let twice = bytes_of(alloc, &TWICE)?;
     let first = read(alloc, once.as_slice())?;
     let second = read(alloc, twice.as_slice())?;
     let fault = combine(alloc, &[first, second]);

@@ -21,9 +21,10 @@ fn put_key(key: u8, out: &mut Vec<u8>) -> Result<(), Memory> {
     Ok(())
 }
 
+/// A text of two bytes.
 fn put_text(text: &str, out: &mut Vec<u8>) -> Result<(), Memory> {
     out.push(3)?;
-    out.push(text.len() as u8)?;
+    out.push(2)?;
     out.extend_from_slice(text.as_bytes())?;
     Ok(())
 }
