@@ -371,7 +371,10 @@ fn as_read_together(rt: HostRuntime) -> Result<(), Fail> {
 fn a_key_twice_is_told(rt: HostRuntime) -> Result<(), Fail> {
     let alloc = rt.alloc();
     let once = bytes_of(alloc, &[Told::Insert(false, "v1")])?;
-    let twice = bytes_of(alloc, &[Told::Insert(false, "v1"), Told::Insert(false, "v2")])?;
+    let twice = bytes_of(
+        alloc,
+        &[Told::Insert(false, "v1"), Told::Insert(false, "v2")],
+    )?;
     let first = read(alloc, once.as_slice())?;
     let second = read(alloc, twice.as_slice())?;
     let fault = combine(alloc, &[first, second]);

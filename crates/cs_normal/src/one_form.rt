@@ -207,16 +207,16 @@ pub(crate) fn push_form(
 #[inline(always)]
 pub fn lend_form<'a>(
     marks: &[bool],
-    change: &Change<'a>,
+    change: Change<'a>,
     scratch: &mut Scratch,
     room: &'a mut ChangesBuf,
 ) -> Result<Option<Change<'a>>, Memory>
-    ensures { IfOk result (λ form. form ≡ normal_form marks.now change.now) }
+    ensures { IfOk result (λ form. form ≡ normal_form marks.now change.entry) }
 {
-    if is_normal(marks, change) {
-        return Ok(Some(change.again()));
+    if is_normal(marks, &change) {
+        return Ok(Some(change));
     }
     room.clear();
-    push_made(marks, change, scratch, room)?;
+    push_made(marks, &change, scratch, room)?;
     Ok(room.get(0))
 }
