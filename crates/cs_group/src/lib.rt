@@ -10,6 +10,7 @@
 mod adding;
 mod combining;
 mod folding;
+mod gathering;
 mod group;
 mod inverting;
 mod joining;

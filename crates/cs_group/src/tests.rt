@@ -346,6 +346,9 @@ fn one_more(rt: HostRuntime) -> Result<(), Fail> {
 
 const INSERTED: [Told; 1] = [Told::Insert(false, "v1")];
 
+/// An update that changes nothing.
+const IDLE: [Told; 1] = [Told::Update(false, "v1", "v1")];
+
 const UPDATED: [Told; 1] = [Told::Update(false, "v1", "v2")];
 
 /// One key in two changes.
@@ -357,10 +360,12 @@ fn as_read_together(rt: HostRuntime) -> Result<(), Fail> {
     let catalog = Catalog::new(vec![in alloc; table(alloc, "t1")?]?)?;
     let inserted = bytes_of(alloc, &INSERTED)?;
     let nothing = bytes_of(alloc, &[])?;
+    let idle = bytes_of(alloc, &IDLE)?;
     let updated = bytes_of(alloc, &UPDATED)?;
     let first = read(alloc, inserted.as_slice())?;
     let second = read(alloc, nothing.as_slice())?;
-    let third = read(alloc, updated.as_slice())?;
+    let third = read(alloc, idle.as_slice())?;
+    let fourth = read(alloc, updated.as_slice())?;
 
     let want = one(alloc, &catalog, Some(Told::Insert(false, "v1")))?;
     let alone = normalise_alone(alloc, &first)?;
@@ -368,7 +373,7 @@ fn as_read_together(rt: HostRuntime) -> Result<(), Fail> {
     assert!(rt; same);
 
     let want = one(alloc, &catalog, Some(Told::Insert(false, "v2")))?;
-    let both = combine(alloc, &[first, second, third])?;
+    let both = combine(alloc, &[first, second, third, fourth])?;
     let same = are_same(alloc, &both, &want)?;
     assert!(rt; same);
     assert_eq!(rt; combine(alloc, &[])?.len(), 0);

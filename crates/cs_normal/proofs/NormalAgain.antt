@@ -20,12 +20,12 @@ use Rattle.cs_change.specs.Then.{is_idle}
 use Rattle.cs_change.specs.declared.change.Change.{Change}
 use Rattle.cs_change.specs.declared.change.Change.TheVariants.{Insert, Delete, Update}
 use Rattle.cs_normal.specs.Changes.{Changes, by_bytes, same_bytes, change_at, key_bytes, IsEntry, AreNormal}
-use Rattle.cs_normal.specs.Laws.{NormalAgain}
+use Rattle.cs_normal.specs.Laws.{NormalAgain, NormalIsItsForm}
 use Rattle.cs_normal.specs.Normal.{AreApart, IsOfTable, FitsCatalog, IsNormalChangeset, changes_in, group_of, groups_of, normal_spelling}
-use Rattle.cs_normal.specs.NormalForm.{marked_fields, change_key, change_bytes, has_key, normal_olds, normal_news, normal_form, AreKeyed, IsNormalOf}
+use Rattle.cs_normal.specs.NormalForm.{marked_fields, change_key, change_bytes, has_key, normal_olds, normal_news, normal_form, AreKeyed, IsNormalOf, normal_form_any, keyed}
 use Rattle.cs_normal.specs.NormalFormOf.{changes_of, HasTable}
 use Rattle.cs_normal.specs.declared.normal.TableChanges.{TableChanges}
-use Rattle.cs_normal.proofs.Membership.{normal_form_any, keyed, by_membership}
+use Rattle.cs_normal.proofs.Membership.{by_membership}
 use Rattle.cs_normal.proofs.Names.{HasOtherName, are_apart, named, other_named}
 use Rattle.cs_normal.proofs.NormalLaws.{by_test}
 
@@ -65,6 +65,9 @@ change_stays marks key (Update flag old new) n =
     let w = s.news in
     let b = n.1 in
     (simp (o, w, b) refl, s.keyed)
+
+pub normal_is_its_form : NormalIsItsForm
+normal_is_its_form marks bytes change is = (change_stays marks is.key change is.normal).0
 
 -- ---- the changes of one table
 

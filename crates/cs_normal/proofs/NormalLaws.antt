@@ -47,7 +47,7 @@ above_more low key [] e h = tt
 above_more low key (k ∷ keys) e h =
     (nat_list_cmp_total.trans low key k e h.0, above_more low key keys e h.1)
 
-cons_sorted : (key : List ℕ) (keys : List (List ℕ)) → Above key keys → IsStrictlySortedBy by_bytes keys → IsStrictlySortedBy by_bytes (key ∷ keys)
+pub cons_sorted : (key : List ℕ) (keys : List (List ℕ)) → Above key keys → IsStrictlySortedBy by_bytes keys → IsStrictlySortedBy by_bytes (key ∷ keys)
 unfolding IsStrictlySortedBy
 cons_sorted key keys h o = (h, o)
 

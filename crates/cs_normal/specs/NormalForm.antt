@@ -60,6 +60,11 @@ normal_form marks (Delete flag old) = Some (Delete flag old)
 normal_form marks (Update flag old new) =
     update_unless_blank flag (normal_olds marks old new) (normal_news marks old new)
 
+-- the same where there may be no change
+abbrev pub normal_form_any : List Bool → Option Change → Option Change
+normal_form_any marks None = None
+normal_form_any marks (Some change) = normal_form marks change
+
 -- no value of its key is NULL
 abbrev pub has_key : List Bool → Change → Bool
 has_key marks change = list_all is_set (change_key marks change)
@@ -67,6 +72,10 @@ has_key marks change = list_all is_set (change_key marks change)
 -- the bytes of a change's key
 abbrev pub change_bytes : List Bool → Change → List ℕ
 change_bytes marks change = key_bytes (change_key marks change)
+
+-- the changes behind the bytes of their keys
+abbrev pub keyed : List Bool → List Change → Changes
+keyed marks changes = map (λ change. (change_bytes marks change, change)) changes
 
 -- each change has a key of its own without NULL
 abbrev pub AreKeyed : List Bool → List Change → Type 0

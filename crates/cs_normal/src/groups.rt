@@ -7,8 +7,7 @@ ghost use Rattle.cs_normal.specs.NormalFormOf.{HasTable, HaveTables, HaveKeys, I
 ghost use Rattle.cs_normal.specs.Steps.TableByTable.{AreTablesOf, AnyUnfit, HasTableFault, IsUnfitHeader, table_changes};
 
 use crate::keyed_changes::KeyedChanges;
-use crate::normal::TableChanges;
-use crate::normal::Normal;
+use crate::normal::{Normal, TableChanges};
 use crate::table_form::table_form;
 use crate::unfit::Unfit;
 use cs_change::{Change, Changeset, Group};

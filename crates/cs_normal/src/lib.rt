@@ -31,6 +31,8 @@ pub use keys::Keys;
 pub mod laws;
 
 pub use normal::{Normal, TableChanges};
+pub use one_form::lend_form;
+pub use table_form::{gather_all_keys, lend_changes};
 pub use tables::changes_of;
 pub use unfit::Unfit;
 

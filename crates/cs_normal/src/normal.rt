@@ -1,10 +1,8 @@
 //! Changesets in normal form that own their bytes.
 
-use crate::tables::{
-    change_with, copy_tables, count_changes, put_tables, same_tables, tables_fit,
-};
 use crate::key_bytes::encode_key;
 use crate::keyed_changes::KeyedChanges;
+use crate::tables::{change_with, copy_tables, count_changes, put_tables, same_tables, tables_fit};
 use cs_change::Change;
 use cs_value::{Catalog, Key, Marks, Memory, Text};
 use std::alloc::Global;
@@ -69,12 +67,7 @@ impl Normal {
 
     /// The change at this place: of the table with this name and the row with this key; `None` where there is none. The
     /// memory is for the bytes of the key, by which the change is found by halves.
-    pub fn change(
-        &self,
-        alloc: Global,
-        name: &str,
-        key: &Key,
-    ) -> Result<Option<Change<'_>>, Memory>
+    pub fn change(&self, alloc: Global, name: &str, key: &Key) -> Result<Option<Change<'_>>, Memory>
         ensures { IfOk result (λ found. found ≡ change_of name.now (key_bytes key.now) self.now) }
     {
         let bytes = encode_key(alloc, key.as_slice())?;

@@ -136,10 +136,26 @@ fn are_normal(marks: &[bool], old: &Record<'_>, new: &Record<'_>) -> bool
     }
 }
 
-/// Appends the change in normal form, if one is left. One that is in normal form already is copied as it stands.
+/// Whether the change is one that its normal form leaves as it is.
 #[inline(always)]
 #[tactic(auto, unfolding(crate::specs::NormalForm::normal_form))]
-pub(crate) fn push_form(
+fn is_normal(marks: &[bool], change: &Change<'_>) -> bool
+    ensures { IsTrue result → normal_form marks.now change.now ≡ Some change.now }
+{
+    match change {
+        Change::Update {
+            old_fields,
+            new_fields,
+            ..
+        } => are_normal(marks, old_fields, new_fields),
+        _ => true,
+    }
+}
+
+/// Appends the normal form of the change, made anew, if one is left.
+#[inline(always)]
+#[tactic(auto, unfolding(crate::specs::NormalForm::normal_form))]
+fn push_made(
     marks: &[bool],
     change: &Change<'_>,
     scratch: &mut Scratch,
@@ -152,12 +168,42 @@ pub(crate) fn push_form(
             flag,
             old_fields,
             new_fields,
-        } => {
-            if are_normal(marks, old_fields, new_fields) {
-                return out.push(change);
-            }
-            push_update(marks, *flag, old_fields, new_fields, scratch, out)
-        }
+        } => push_update(marks, *flag, old_fields, new_fields, scratch, out),
         other => out.push(other),
     }
+}
+
+/// Appends the change in normal form, if one is left. One that is in normal form already is copied as it stands.
+#[inline(always)]
+pub(crate) fn push_form(
+    marks: &[bool],
+    change: &Change<'_>,
+    scratch: &mut Scratch,
+    out: &mut ChangesBuf,
+) -> Result<(), Memory>
+    ensures { OnOk result (out.new ≡ out.old ++ listed (normal_form marks.now change.now)) }
+{
+    if is_normal(marks, change) {
+        return out.push(change);
+    }
+    push_made(marks, change, scratch, out)
+}
+
+/// The normal form of a change, if one is left: the change itself, in the same bytes, where it is in normal form already;
+/// else it is made in the room, in place of what is there.
+#[inline(always)]
+pub fn lend_form<'a>(
+    marks: &[bool],
+    change: Change<'a>,
+    scratch: &mut Scratch,
+    room: &'a mut ChangesBuf,
+) -> Result<Option<Change<'a>>, Memory>
+    ensures { IfOk result (λ form. form ≡ normal_form marks.now change.entry) }
+{
+    if is_normal(marks, &change) {
+        return Ok(Some(change));
+    }
+    room.clear();
+    push_made(marks, &change, scratch, room)?;
+    Ok(room.get(0))
 }

@@ -1,11 +1,12 @@
 //! Changes of one table as read, that stay in their bytes, brought into normal form. One order of their keys decides; each
 //! change is looked at where it stands and written once.
 
-ghost use Rattle.std.specs.Prelude.{◌≡◌, ◌++◌, ◌∷◌, [], IfOk, IfErr, OnOk, map};
+ghost use Rattle.std.specs.Prelude.{◌≡◌, ◌++◌, ◌∷◌, [], true, false, IfOk, IfErr, MatchOption, OnOk, map};
+ghost use Rattle.std.specs.List.{list_all};
 ghost use Rattle.std.specs.Map.{keys_of};
 ghost use Rattle.std.specs.Str.{bytes_eq};
 ghost use Rattle.cs_order.specs.Order.{key_at, keys_behind};
-ghost use Rattle.cs_normal.specs.NormalForm.{AreUnfit};
+ghost use Rattle.cs_normal.specs.NormalForm.{AreUnfit, change_bytes, has_key};
 ghost use Rattle.cs_normal.specs.NormalFormOf.{changes_of};
 ghost use Rattle.cs_normal.specs.Steps.Lent.{entries_of, IsKeptOf};
 ghost use Rattle.cs_normal.specs.Steps.Prepared.{Entries, all_keyed, entry_at, kept, prepared, rises};
@@ -38,6 +39,24 @@ fn gather_keys(
         at += 1;
     }
     Ok((keys, true))
+}
+
+/// The keys of all these changes; `None` where one of them has a key with NULL.
+#[tactic(auto, using(crate::proofs::NormalLaws::prepared_keys, crate::proofs::NormalLaws::all_keyed_is))]
+pub fn gather_all_keys(
+    alloc: Global,
+    marks: &[bool],
+    changes: &[Change<'_>],
+) -> Result<Option<Keys>, Memory>
+    ensures { IfOk result (λ found. MatchOption found (list_all (has_key marks.now) changes.now ≡ false)
+        (λ keys. (list_all (has_key marks.now) changes.now ≡ true)
+        × (keys ≡ map (change_bytes marks.now) changes.now))) }
+{
+    let (keys, whole) = gather_keys(alloc, marks, changes)?;
+    if !whole {
+        return Ok(None);
+    }
+    Ok(Some(keys))
 }
 
 /// The key at a place; none past the end.
@@ -143,21 +162,20 @@ fn lend<'a>(changes: &[Change<'a>], lent: &mut Vec<Change<'a>>) -> Result<(), Me
     Ok(())
 }
 
-/// The table's changes over all groups.
-fn lend_table<'a>(
-    alloc: Global,
+/// Appends the table's changes over all groups, which stay where they are.
+pub fn lend_changes<'a>(
     table: &TableDef,
     groups: &[Group<'a>],
-) -> Result<Vec<Change<'a>>, Memory>
-    ensures { IfOk result (λ lent. lent.items ≡ changes_of table.now.name groups.now) }
+    lent: &mut Vec<Change<'a>>,
+) -> Result<(), Memory>
+    ensures { OnOk result (lent.new.items ≡ lent.old.items ++ changes_of table.now.name groups.now) }
 {
-    let mut lent = Vec::new(alloc);
     for group in groups {
         if is_named(group, table) {
-            lend(group.changes.as_slice(), &mut lent)?;
+            lend(group.changes.as_slice(), lent)?;
         }
     }
-    Ok(lent)
+    Ok(())
 }
 
 /// The normal form of a table's changes over all its groups, or what is wrong with the first change that is wrong.
@@ -176,6 +194,7 @@ pub(crate) fn table_form(
             return form_of(alloc, marks, group.changes.as_slice());
         }
     }
-    let lent = lend_table(alloc, table, groups)?;
+    let mut lent = Vec::new(alloc);
+    lend_changes(table, groups, &mut lent)?;
     form_of(alloc, marks, lent.as_slice())
 }

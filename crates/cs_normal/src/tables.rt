@@ -15,10 +15,7 @@ use cs_value::{Memory, TableDef};
 use std::alloc::Global;
 
 /// The changes of the table with this name; `None` where no table has it.
-pub fn changes_of<'a>(
-    tables: &'a [TableChanges],
-    name: &str,
-) -> Option<&'a KeyedChanges>
+pub fn changes_of<'a>(tables: &'a [TableChanges], name: &str) -> Option<&'a KeyedChanges>
     ensures { MatchOption result (changes_in name.now tables.now ≡ [])
         (λ found. changes_in name.now tables.now ≡ found.now) }
 {
@@ -62,10 +59,7 @@ fn put_table(table: &TableChanges, out: &mut Vec<u8>) -> Result<(), Memory>
 }
 
 /// Appends the spelling of the tables; what stood there stays in front, also where memory is refused.
-pub(crate) fn put_tables(
-    tables: &[TableChanges],
-    out: &mut Vec<u8>,
-) -> Result<(), Memory>
+pub(crate) fn put_tables(tables: &[TableChanges], out: &mut Vec<u8>) -> Result<(), Memory>
     ensures ok { OnOk result (out.new.items ≡ out.old.items ++ normal_spelling tables.now) }
     ensures kept { Extends out.old.items out.new.items }
 {
@@ -90,10 +84,7 @@ fn same_table(left: &TableChanges, right: &TableChanges) -> bool
 }
 
 /// Whether two lists of tables are the same.
-pub(crate) fn same_tables(
-    left: &[TableChanges],
-    right: &[TableChanges],
-) -> bool
+pub(crate) fn same_tables(left: &[TableChanges], right: &[TableChanges]) -> bool
     ensures { IsTrue result ↔ (left.now ≡ right.now) }
 {
     let mut left = left;

@@ -241,10 +241,7 @@ fn header<'a>(alloc: Global, name: &str, marks: &[u8]) -> Result<Group<'a>, Memo
 }
 
 /// A changeset of groups without changes.
-fn header_list<'a>(
-    alloc: Global,
-    spelled: &[(&str, &[u8])],
-) -> Result<Changeset<'a>, Memory> {
+fn header_list<'a>(alloc: Global, spelled: &[(&str, &[u8])]) -> Result<Changeset<'a>, Memory> {
     let mut groups = Vec::new(alloc);
     for (name, marks) in spelled {
         groups.push(header(alloc, name, marks)?)?;
