@@ -79,11 +79,11 @@ fn put_told(told: Told, out: &mut Vec<u8>) -> Result<(), Memory> {
     }
 }
 
-/// The bytes of a changeset of these changes.
-fn bytes_of(alloc: Global, changes: &[Told]) -> Result<Vec<u8>, Memory> {
+/// The bytes of a changeset of this change, or of none.
+fn bytes_of(alloc: Global, change: Option<Told>) -> Result<Vec<u8>, Memory> {
     let mut bytes = Vec::from_slice(alloc, &HEADER)?;
-    for told in changes {
-        put_told(*told, &mut bytes)?;
+    if let Some(told) = change {
+        put_told(told, &mut bytes)?;
     }
     Ok(bytes)
 }
@@ -100,7 +100,7 @@ fn normal_of(alloc: Global, catalog: &Catalog, bytes: &[u8]) -> Result<Normal, F
 fn one(alloc: Global, catalog: &Catalog, change: Option<Told>) -> Result<Normal, Fail>
     ensures { IfOk result (FitsCatalog catalog.now) }
 {
-    let bytes = bytes_of(alloc, change.as_slice())?;
+    let bytes = bytes_of(alloc, change)?;
     normal_of(alloc, catalog, bytes.as_slice())
 }
 
@@ -344,36 +344,34 @@ fn one_more(rt: HostRuntime) -> Result<(), Fail> {
     Ok(())
 }
 
-const INSERTED: [Told; 1] = [Told::Insert(false, "v1")];
-
-/// An update that changes nothing.
-const IDLE: [Told; 1] = [Told::Update(false, "v1", "v1")];
-
-const UPDATED: [Told; 1] = [Told::Update(false, "v1", "v2")];
-
-/// One key in two changes.
-const TWICE: [Told; 2] = [Told::Insert(false, "v1"), Told::Insert(false, "v2")];
+/// Three changesets, read and taken together.
+fn combined<'a>(
+    alloc: Global,
+    first: &'a [u8],
+    second: &'a [u8],
+    third: &'a [u8],
+) -> Result<Result<Normal, CombineFault>, Fail> {
+    let first = read(alloc, first)?;
+    let second = read(alloc, second)?;
+    let third = read(alloc, third)?;
+    Ok(combine(alloc, &[first, second, third]))
+}
 
 #[test]
 fn as_read_together(rt: HostRuntime) -> Result<(), Fail> {
     let alloc = rt.alloc();
     let catalog = Catalog::new(vec![in alloc; table(alloc, "t1")?]?)?;
-    let inserted = bytes_of(alloc, &INSERTED)?;
-    let nothing = bytes_of(alloc, &[])?;
-    let idle = bytes_of(alloc, &IDLE)?;
-    let updated = bytes_of(alloc, &UPDATED)?;
-    let first = read(alloc, inserted.as_slice())?;
-    let second = read(alloc, nothing.as_slice())?;
-    let third = read(alloc, idle.as_slice())?;
-    let fourth = read(alloc, updated.as_slice())?;
-
-    let want = one(alloc, &catalog, Some(Told::Insert(false, "v1")))?;
-    let alone = normalise_alone(alloc, &first)?;
-    let same = are_same(alloc, &alone, &want)?;
-    assert!(rt; same);
-
+    let inserted = bytes_of(alloc, Some(Told::Insert(false, "v1")))?;
+    let nothing = bytes_of(alloc, None)?;
+    let idle = bytes_of(alloc, Some(Told::Update(false, "v1", "v1")))?;
+    let updated = bytes_of(alloc, Some(Told::Update(false, "v1", "v2")))?;
     let want = one(alloc, &catalog, Some(Told::Insert(false, "v2")))?;
-    let both = combine(alloc, &[first, second, third, fourth])?;
+    let first = inserted.as_slice();
+    let last = updated.as_slice();
+    let both = combined(alloc, first, nothing.as_slice(), last)??;
+    let same = are_same(alloc, &both, &want)?;
+    assert!(rt; same);
+    let both = combined(alloc, first, idle.as_slice(), last)??;
     let same = are_same(alloc, &both, &want)?;
     assert!(rt; same);
     assert_eq!(rt; combine(alloc, &[])?.len(), 0);
@@ -381,13 +379,30 @@ fn as_read_together(rt: HostRuntime) -> Result<(), Fail> {
 }
 
 #[test]
+fn one_as_read(rt: HostRuntime) -> Result<(), Fail> {
+    let alloc = rt.alloc();
+    let catalog = Catalog::new(vec![in alloc; table(alloc, "t1")?]?)?;
+    let inserted = bytes_of(alloc, Some(Told::Insert(false, "v1")))?;
+    let want = one(alloc, &catalog, Some(Told::Insert(false, "v1")))?;
+    let alone = normalise_alone(alloc, &read(alloc, inserted.as_slice())?)?;
+    let same = are_same(alloc, &alone, &want)?;
+    assert!(rt; same);
+    Ok(())
+}
+
+#[test]
 fn a_key_twice_is_told(rt: HostRuntime) -> Result<(), Fail> {
     let alloc = rt.alloc();
-    let once = bytes_of(alloc, &INSERTED)?;
-    let twice = bytes_of(alloc, &TWICE)?;
-    let first = read(alloc, once.as_slice())?;
-    let second = read(alloc, twice.as_slice())?;
-    let fault = combine(alloc, &[first, second]);
+    let once = bytes_of(alloc, Some(Told::Insert(false, "v1")))?;
+    let nothing = bytes_of(alloc, None)?;
+    let mut twice = bytes_of(alloc, Some(Told::Insert(false, "v1")))?;
+    put_told(Told::Insert(false, "v2"), &mut twice)?;
+    let fault = combined(
+        alloc,
+        once.as_slice(),
+        nothing.as_slice(),
+        twice.as_slice(),
+    )?;
     assert!(rt; matches!(fault, Err(CombineFault::Unfit(Unfit::KeyTwice))));
     Ok(())
 }
