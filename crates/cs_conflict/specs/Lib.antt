@@ -1,0 +1,2 @@
+pub mod Conflict
+pub mod Laws
