@@ -68,9 +68,10 @@ fn on_row(
     }
 }
 
-/// Whether each modified column of the row has its old value.
+/// Whether each modified column of the row has its old value, and the row has as many columns as the records. It takes no
+/// memory. (SQLite's "Session Extension", `sqlite3changeset_apply`: an UPDATE that doesn't conflict.)
 #[tactic(auto, unfolding(crate::specs::Columns::fits))]
-fn row_fits(old: &Record<'_>, new: &Record<'_>, row: &Row<'_>) -> bool
+pub fn row_fits(old: &Record<'_>, new: &Record<'_>, row: &Row<'_>) -> bool
     ensures { result ≡ fits old.now new.now row.now }
 {
     let mut old = old.again();

@@ -16,7 +16,7 @@ mod scratch;
 mod spelled;
 mod writing;
 
-pub use applying::{outcome, put_set_columns};
+pub use applying::{outcome, put_set_columns, row_fits};
 pub use change::Change;
 pub use group::{Bytes, Changeset, Group};
 
