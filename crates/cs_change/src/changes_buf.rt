@@ -15,11 +15,7 @@ use std::marker::Model;
 
 /// Lends the change at a place, if there is one.
 #[inline(always)]
-fn lend_at<'a>(
-    changes: &'a ChangesBuf,
-    at: usize,
-    lent: &mut Vec<Change<'a>>,
-) -> Result<(), Memory>
+fn lend_at<'a>(changes: &'a ChangesBuf, at: usize, lent: &mut Vec<Change<'a>>) -> Result<(), Memory>
     ensures { OnOk result (lent.new.items ≡ lent.old.items ++ listed (slice_get changes.now at)) }
 {
     if let Some(change) = changes.get(at) {

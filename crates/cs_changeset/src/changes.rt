@@ -108,10 +108,7 @@ fn read_update<'a>(marks: &[u8], behind: &'a [u8]) -> Result<(Change<'a>, usize)
 
 /// The change at the front, and how many bytes it takes; none at the end of the group.
 #[inline(always)]
-fn read_change<'a>(
-    marks: &[u8],
-    bytes: &'a [u8],
-) -> Result<Option<(Change<'a>, usize)>, FirstFault>
+fn read_change<'a>(marks: &[u8], bytes: &'a [u8]) -> Result<Option<(Change<'a>, usize)>, FirstFault>
     ensures { ReadsChange (marks_of marks.now) bytes.now result }
 {
     match bytes {

@@ -29,11 +29,7 @@ fn joined(alloc: Global, pieces: &[&[u8]]) -> Result<Vec<u8>, Fail> {
 }
 
 /// Reads the bytes and writes them again; the same bytes come out.
-fn comes_back<'a>(
-    rt: &impl Abort,
-    alloc: Global,
-    bytes: &'a [u8],
-) -> Result<Changeset<'a>, Fail> {
+fn comes_back<'a>(rt: &impl Abort, alloc: Global, bytes: &'a [u8]) -> Result<Changeset<'a>, Fail> {
     let changeset = read(alloc, bytes)?;
     let mut out = Vec::new(alloc);
     encode(&changeset, &mut out)?;

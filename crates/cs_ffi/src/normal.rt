@@ -36,7 +36,11 @@ fn read_catalog(alloc: Global, declared: &[u8]) -> Result<Catalog, Answer>
 }
 
 /// The spelling of the normal form of a changeset.
-fn spelled_form(alloc: Global, catalog: &Catalog, changeset: &Changeset<'_>) -> Result<Vec<u8>, Unfit>
+fn spelled_form(
+    alloc: Global,
+    catalog: &Catalog,
+    changeset: &Changeset<'_>,
+) -> Result<Vec<u8>, Unfit>
     requires { FitsChangeset changeset.now }
     ensures { SpellsForm catalog.now changeset.now result }
 {

@@ -397,12 +397,7 @@ fn a_key_twice_is_told(rt: HostRuntime) -> Result<(), Fail> {
     let nothing = bytes_of(alloc, None)?;
     let mut twice = bytes_of(alloc, Some(Told::Insert(false, "v1")))?;
     put_told(Told::Insert(false, "v2"), &mut twice)?;
-    let fault = combined(
-        alloc,
-        once.as_slice(),
-        nothing.as_slice(),
-        twice.as_slice(),
-    )?;
+    let fault = combined(alloc, once.as_slice(), nothing.as_slice(), twice.as_slice())?;
     assert!(rt; matches!(fault, Err(CombineFault::Unfit(Unfit::KeyTwice))));
     Ok(())
 }

@@ -86,11 +86,7 @@ impl Table {
 
     /// Stages what the changes of this table leave, with room for it, and answers whether each is defined. What an
     /// earlier push left staged is dropped.
-    pub(crate) fn stage(
-        &mut self,
-        alloc: Global,
-        changes: &[TableChanges],
-    ) -> Result<bool, Memory>
+    pub(crate) fn stage(&mut self, alloc: Global, changes: &[TableChanges]) -> Result<bool, Memory>
         ensures name { self.new.name ≡ self.old.name }
         ensures rows { self.new.rows ≡ self.old.rows }
         ensures staged { IfOk result (AnswersStage changes.now self.new) }

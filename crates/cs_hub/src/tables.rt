@@ -54,11 +54,7 @@ impl Tables {
     }
 
     /// Stages the changes of each table, and answers whether each change is defined at its place.
-    pub(crate) fn stage(
-        &mut self,
-        alloc: Global,
-        changes: &[TableChanges],
-    ) -> Result<bool, Memory>
+    pub(crate) fn stage(&mut self, alloc: Global, changes: &[TableChanges]) -> Result<bool, Memory>
         ensures kept { KeepsRows self.old self.new }
         ensures staged { IfOk result (AnswersStages changes.now self.new) }
     {

@@ -93,20 +93,14 @@ fn write_changes<W: fmt::Write>(changes: &[Change<'_>], f: &mut fmt::Formatter<W
     Ok(())
 }
 
-fn write_header<W: fmt::Write>(
-    group: &Group<'_>,
-    f: &mut fmt::Formatter<W>,
-) -> fmt::Result
+fn write_header<W: fmt::Write>(group: &Group<'_>, f: &mut fmt::Formatter<W>) -> fmt::Result
     ensures { WritesOnOk W.write_str_gives f.old result (header_text group.now) f.new }
 {
     write!(f, "table {} ", NameText(&group.name))?;
     write_marks(group.marks.as_slice(), f)
 }
 
-fn write_group<W: fmt::Write>(
-    group: &Group<'_>,
-    f: &mut fmt::Formatter<W>,
-) -> fmt::Result
+fn write_group<W: fmt::Write>(group: &Group<'_>, f: &mut fmt::Formatter<W>) -> fmt::Result
     ensures { WritesOnOk W.write_str_gives f.old result (group_text group.now) f.new }
 {
     write_header(group, f)?;
