@@ -29,6 +29,20 @@ static void check_file(const char *path, struct file *file) {
     if (normalise(file) > file->length) fail(path, "no normal form");
 }
 
+/* The changeset's normal form brought into normal form again, beside reading it. */
+static void time_again(struct file *file, size_t changes, int rounds, int repeats) {
+    struct file normal = copy_file(file->output, normalise(file));
+    struct contender contenders[] = {
+        {"normal form of a normal form", normalise, 1e18},
+        {"decode, of that", ours_decode, 1e18},
+    };
+    check_bytes("the normal form", &normal, "it isn't its own normal form", normalise);
+    time_contenders(contenders, 2, &normal, rounds, repeats);
+    print_contenders(contenders, 2, &normal, changes);
+    printf("  ratio of that normal form to decode %.2f\n", contenders[0].best / contenders[1].best);
+    free_file(&normal);
+}
+
 static void time_file(const char *path, int rounds) {
     struct file file = read_file(path);
     check_file(path, &file);
@@ -40,12 +54,14 @@ static void time_file(const char *path, int rounds) {
     };
     size_t kinds = sizeof contenders / sizeof contenders[0];
     size_t changes = sqlite_decode(&file);
-    time_contenders(contenders, kinds, &file, rounds, (int)(200000 / (changes + 1)) + 1);
+    int repeats = (int)(200000 / (changes + 1)) + 1;
+    time_contenders(contenders, kinds, &file, rounds, repeats);
     printf("%zu changes, %zu bytes\n", changes, file.length);
     print_contenders(contenders, kinds, &file, changes);
     printf("  ratio of decode to SQLite %.2f, to plain Rust %.2f; of decode and encode to plain Rust %.2f\n",
            contenders[0].best / contenders[1].best, contenders[0].best / contenders[2].best,
            contenders[3].best / contenders[4].best);
+    time_again(&file, changes, rounds, repeats);
     free_file(&file);
 }
 
