@@ -1,0 +1,128 @@
+-- Groups and the tables that they fit.
+use Rattle.std.proofs.lemmas.List.{take_more, append_assoc}
+use Rattle.std.specs.Prelude.{get_or, Result, Ok, Err, IfErr}
+use Rattle.std.proofs.Common.{append-nil, ◌<◌, take, ◌≡◌, ◌++◌, ◌+◌, ◌≤◌, ℕ, zero, suc, map, Bool, true, false, ◌&&◌, List, [], ◌∷◌, length, Option, Some, None, refl, sym, ap, ◌∙◌, arith}
+use Rattle.cs_value.specs.declared.catalog.TableDef.{TableDef}
+use Rattle.cs_change.specs.Spelling.{marks_of, is_nonzero}
+use Rattle.cs_change.specs.declared.group.Group.{Group}
+use Rattle.cs_apply.specs.Tasks.{Task, task, tasks, tasks_at, all_keyed, fits_column, fits_table, has_marks, table_of, skipped, one_if_none}
+use Rattle.cs_apply.specs.Found.{AreFound, IsNullKey}
+use Rattle.cs_apply.specs.declared.tasks.Tasks.{Tasks}
+use Rattle.cs_apply.specs.declared.fault.ApplyFault.{ApplyFault}
+use Rattle.cs_apply.specs.declared.fault.ApplyFault.TheVariants as why
+use Rattle.cs_change.specs.declared.change.Change.{Change}
+use Rattle.cs_normal.specs.NormalForm.{has_key}
+use Rattle.std.specs.List.{list_all}
+use Rattle.std.specs.Prelude.{slice_get}
+use Rattle.std.specs.Str.{bytes_eq}
+
+and_left : (a b : Bool) → (a && b) ≡ true → a ≡ true
+and_left true b e = refl
+and_left false b e = cc
+
+and_right : (a b : Bool) → (a && b) ≡ true → b ≡ true
+and_right true b e = e
+and_right false b e = cc
+
+and_assoc : (a b c : Bool) → (a && (b && c)) ≡ ((a && b) && c)
+and_assoc true b c = refl
+and_assoc false b c = refl
+
+and_false : (a : Bool) → (a && false) ≡ false
+and_false true = refl
+and_false false = refl
+
+some_same : {X : Type 0} {a b : X} → Some a ≡ Some b → a ≡ b
+some_same e = cc
+
+fits_mark : (byte : ℕ) (mark : Bool) → fits_column byte mark ≡ true → is_nonzero byte ≡ mark
+fits_mark byte true e = e
+fits_mark byte false e = simp e refl
+
+pub marks_same : (bytes : List ℕ) (marks : List Bool) → has_marks bytes marks ≡ true → marks_of bytes ≡ marks
+unfolding has_marks
+marks_same [] [] e = refl
+marks_same [] (mark ∷ marks) e = cc
+marks_same (byte ∷ bytes) [] e = cc
+marks_same (byte ∷ bytes) (mark ∷ marks) e =
+    let one = fits_mark byte mark (and_left (fits_column byte mark) (has_marks bytes marks) e) in
+    let more = marks_same bytes marks (and_right (fits_column byte mark) (has_marks bytes marks) e) in
+    cc
+
+-- a group more
+pub skipped_more : (tables : List TableDef) (groups : List Group) (group : Group) → skipped tables (groups ++ group ∷ []) ≡ skipped tables groups + one_if_none (table_of group tables)
+unfolding skipped
+skipped_more tables [] group = omega (arith)
+skipped_more tables (first ∷ groups) group =
+    let more = skipped_more tables groups group in
+    omega (arith, more)
+
+pub fits_same : (group : Group) (table : TableDef) → fits_table group table ≡ true → marks_of group.marks ≡ table.key_marks
+fits_same group table e =
+    marks_same group.marks table.key_marks (and_right (bytes_eq group.name table.name) (has_marks group.marks table.key_marks) e)
+
+-- the changes of a group that fits
+pub all_keyed_of : (table : ℕ) (group : Group) (changes : List Change) → all_keyed (map (task table group) changes) ≡ list_all (has_key (marks_of group.marks)) changes
+all_keyed_of table group [] = refl
+all_keyed_of table group (c ∷ changes) = ap (λ more. has_key (marks_of group.marks) c && more) (all_keyed_of table group changes)
+
+all_keyed_append : (some others : List Task) → all_keyed (some ++ others) ≡ (all_keyed some && all_keyed others)
+all_keyed_append [] others = refl
+all_keyed_append (t ∷ some) others =
+    ap (λ more. has_key t.marks t.change && more) (all_keyed_append some others) ∙ and_assoc (has_key t.marks t.change) (all_keyed some) (all_keyed others)
+
+-- a change without its key in one group
+pub null_in : (tables : List TableDef) (groups : List Group) (at : ℕ) (group : Group) → slice_get groups at ≡ Some group
+    → all_keyed (tasks_at (table_of group tables) group) ≡ false → all_keyed (tasks tables groups) ≡ false
+null_in tables [] at group found null = absurd (let f = found in cc)
+null_in tables (first ∷ groups) zero group found null =
+    let is : first ≡ group = some_same found in
+    let null' : all_keyed (tasks_at (table_of first tables) first) ≡ false = ap (λ g. all_keyed (tasks_at (table_of g tables) g)) is ∙ null in
+    all_keyed_append (tasks_at (table_of first tables) first) (tasks tables groups) ∙ ap (λ b. b && all_keyed (tasks tables groups)) null'
+null_in tables (first ∷ groups) (suc at) group found null =
+    let later = null_in tables groups at group found null in
+    all_keyed_append (tasks_at (table_of first tables) first) (tasks tables groups)
+    ∙ (ap (λ b. all_keyed (tasks_at (table_of first tables) first) && b) later ∙ and_false (all_keyed (tasks_at (table_of first tables) first)))
+
+pub null_fault : (fault : ApplyFault) (some all : Bool) → (some ≡ false → all ≡ false) → IsNullKey fault some → IsNullKey fault all
+null_fault why.Memory some all carries h = tt
+null_fault why.NullKey some all carries h = carries h
+null_fault why.Device some all carries h = h
+null_fault (why.Aborted stop) some all carries h = h
+null_fault (why.Misuse stop) some all carries h = h
+
+-- a group more
+pub tasks_more : (tables : List TableDef) (groups : List Group) (group : Group) → tasks tables (groups ++ group ∷ []) ≡ tasks tables groups ++ tasks_at (table_of group tables) group
+tasks_more tables [] group = append-nil (tasks_at (table_of group tables) group)
+tasks_more tables (first ∷ groups) group =
+    ap (λ more. tasks_at (table_of first tables) first ++ more) (tasks_more tables groups group)
+    ∙ sym (append_assoc (tasks_at (table_of first tables) first) (tasks tables groups) (tasks_at (table_of group tables) group))
+
+one_at_most : (place : Option ℕ) → one_if_none place ≤ 1
+one_at_most None = omega (arith)
+one_at_most (Some at) = omega (arith)
+
+-- one turn of the loop over the groups
+pub turn : (tables : List TableDef) (all : List Group) (at : ℕ) (group : Group) (old new : Tasks) → at < length all → group ≡ get_or all at group
+    → (AreFound old (tasks tables (take at all)) × (old.skipped ≡ skipped tables (take at all)) × (old.skipped ≤ at))
+    → ((before : List Task) → AreFound old before → AreFound new (before ++ tasks_at (table_of group tables) group))
+    → new.skipped ≡ old.skipped + one_if_none (table_of group tables)
+    → AreFound new (tasks tables (take (at + 1) all)) × (new.skipped ≡ skipped tables (take (at + 1) all)) × (new.skipped ≤ at + 1)
+turn tables all at group old new less is stands put counted =
+    let more : take (at + 1) all ≡ take at all ++ group ∷ [] = take_more all at group less ∙ ap (λ g. take at all ++ g ∷ []) (sym is) in
+    let found = put (tasks tables (take at all)) stands.0 in
+    let small = one_at_most (table_of group tables) in (
+      rw (more, tasks_more tables (take at all) group) found,
+      counted ∙ (ap (λ n. n + one_if_none (table_of group tables)) stands.1 ∙ (sym (skipped_more tables (take at all) group) ∙ ap (skipped tables) (sym more))),
+      omega (arith, counted, stands.2, small),
+    )
+
+pub if_err : {T : Type 0} {P Q : ApplyFault → Type 0} (r : Result T ApplyFault) → ((fault : ApplyFault) → P fault → Q fault) → IfErr r P → IfErr r Q
+if_err (Ok x) carries h = tt
+if_err (Err e) carries h = carries e h
+
+pub fitting_fault : {T : Type 0} (r : Result T ApplyFault) (place : Option ℕ) (at : ℕ) (group : Group) (marks : List Bool) → Some at ≡ place → marks_of group.marks ≡ marks
+    → IfErr r (λ fault. IsNullKey fault (list_all (has_key marks) group.changes))
+    → IfErr r (λ fault. IsNullKey fault (all_keyed (tasks_at place group)))
+fitting_fault r place at group marks is same h =
+    rw (sym is, all_keyed_of at group group.changes, same) h

@@ -1,0 +1,9 @@
+pub mod Applies
+pub mod Calls
+pub mod Edited
+pub mod Found
+pub mod Overlaid
+pub mod Slots
+pub mod Steps
+pub mod Stored
+pub mod Tasks
