@@ -3,9 +3,9 @@ use Rattle.std.proofs.lemmas.List.{take_more, append_assoc}
 use Rattle.std.specs.Prelude.{get_or, Result, Ok, Err, IfErr}
 use Rattle.std.proofs.Common.{append-nil, ◌<◌, take, ◌≡◌, ◌++◌, ◌+◌, ◌≤◌, ℕ, zero, suc, map, Bool, true, false, ◌&&◌, List, [], ◌∷◌, length, Option, Some, None, refl, sym, ap, ◌∙◌, arith}
 use Rattle.cs_value.specs.declared.catalog.TableDef.{TableDef}
-use Rattle.cs_change.specs.Spelling.{marks_of, is_nonzero}
+use Rattle.cs_change.specs.Spelling.{marks_of}
 use Rattle.cs_change.specs.declared.group.Group.{Group}
-use Rattle.cs_apply.specs.Tasks.{Task, task, tasks, tasks_at, all_keyed, fits_column, fits_table, has_marks, table_of, skipped, one_if_none}
+use Rattle.cs_apply.specs.Tasks.{Task, task, tasks, tasks_at, all_keyed, fits_table, table_of, skipped, one_if_none}
 use Rattle.cs_apply.specs.Found.{AreFound, IsNullKey}
 use Rattle.cs_apply.specs.declared.tasks.Tasks.{Tasks}
 use Rattle.cs_apply.specs.declared.fault.ApplyFault.{ApplyFault}
@@ -15,6 +15,11 @@ use Rattle.cs_normal.specs.NormalForm.{has_key}
 use Rattle.std.specs.List.{list_all}
 use Rattle.std.specs.Prelude.{slice_get}
 use Rattle.std.specs.Str.{bytes_eq}
+use Rattle.std.specs.Bool.{Decides}
+use Rattle.std.specs.Cmp.{booleans_Decides}
+use Rattle.std.specs.Cmp.Lexicographic.{pointwise}
+use Rattle.std.specs.Prelude.{beq}
+use Rattle.std.proofs.lemmas.Slice.Eq.{slice_eq-Decides}
 
 and_left : (a b : Bool) → (a && b) ≡ true → a ≡ true
 and_left true b e = refl
@@ -35,19 +40,18 @@ and_false false = refl
 some_same : {X : Type 0} {a b : X} → Some a ≡ Some b → a ≡ b
 some_same e = cc
 
-fits_mark : (byte : ℕ) (mark : Bool) → fits_column byte mark ≡ true → is_nonzero byte ≡ mark
-fits_mark byte true e = e
-fits_mark byte false e = simp e refl
+-- two tests of one fact
+same_test : {P : Type 0} (some other : Bool) → Decides some P → Decides other P → some ≡ other
+same_test true true d e = refl
+same_test false false d e = refl
+same_test true false d e = let t = e.1 (d.0 refl) in cc
+same_test false true d e = let t = d.1 (e.0 refl) in cc
 
-pub marks_same : (bytes : List ℕ) (marks : List Bool) → has_marks bytes marks ≡ true → marks_of bytes ≡ marks
-unfolding has_marks
-marks_same [] [] e = refl
-marks_same [] (mark ∷ marks) e = cc
-marks_same (byte ∷ bytes) [] e = cc
-marks_same (byte ∷ bytes) (mark ∷ marks) e =
-    let one = fits_mark byte mark (and_left (fits_column byte mark) (has_marks bytes marks) e) in
-    let more = marks_same bytes marks (and_right (fits_column byte mark) (has_marks bytes marks) e) in
-    cc
+-- a group fits by its name and its marks
+pub fits_by : (name shape : Bool) (group : Group) (table : TableDef) → name ≡ bytes_eq group.name table.name
+    → Decides shape (marks_of group.marks ≡ table.key_marks) → (name && shape) ≡ fits_table group table
+fits_by name shape group table is decides =
+    rw (is, same_test shape _ decides (slice_eq-Decides booleans_Decides (marks_of group.marks) table.key_marks _ refl)) refl
 
 -- a group more
 pub skipped_more : (tables : List TableDef) (groups : List Group) (group : Group) → skipped tables (groups ++ group ∷ []) ≡ skipped tables groups + one_if_none (table_of group tables)
@@ -59,7 +63,8 @@ skipped_more tables (first ∷ groups) group =
 
 pub fits_same : (group : Group) (table : TableDef) → fits_table group table ≡ true → marks_of group.marks ≡ table.key_marks
 fits_same group table e =
-    marks_same group.marks table.key_marks (and_right (bytes_eq group.name table.name) (has_marks group.marks table.key_marks) e)
+    (slice_eq-Decides booleans_Decides (marks_of group.marks) table.key_marks _ refl).0
+    (and_right (bytes_eq group.name table.name) (pointwise beq (marks_of group.marks) table.key_marks) e)
 
 -- the changes of a group that fits
 pub all_keyed_of : (table : ℕ) (group : Group) (changes : List Change) → all_keyed (map (task table group) changes) ≡ list_all (has_key (marks_of group.marks)) changes

@@ -2,13 +2,12 @@
 use Rattle.std.specs.Prelude.{ℕ, List, [], ◌∷◌, option_map, Option, Some, None, if◌then◌else◌}
 use Rattle.std.specs.List.{flat_map}
 use Rattle.cs_value.specs.Key.{Place}
-use Rattle.cs_value.specs.Same.{same_row}
+use Rattle.cs_value.specs.Same.{same_place}
 use Rattle.cs_record.specs.Spelling.{row_bytes}
 use Rattle.cs_store.specs.Written.{optional_bytes}
 use Rattle.cs_store.specs.declared.batch.RowEdit.{RowEdit}
 use Rattle.cs_apply.specs.Overlaid.{Numbered, numbered}
 use Rattle.cs_apply.specs.declared.slots.Slot.{Slot}
-use Rattle.std.specs.Prelude.{Bool, true, false}
 
 -- an edit without its memory
 abbrev pub Plain : Type 0
@@ -16,12 +15,6 @@ Plain = Numbered × Option (List ℕ)
 
 abbrev pub plain : RowEdit → Plain
 plain edit = ((edit.table, edit.key.items), optional_bytes edit.row)
-
--- one row, or none at both
-abbrev pub same_place : Place → Place → Bool
-same_place None None = true
-same_place (Some some) (Some other) = same_row some other
-same_place _ _ = false
 
 abbrev pub edit_to : Numbered → Place → Option Place → Option Plain
 edit_to at before None = None

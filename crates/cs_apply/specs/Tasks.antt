@@ -1,10 +1,11 @@
 -- Which changes of a changeset are applied, and where each stands (SQLite's "Session Extension",
 -- `sqlite3changeset_apply_v2`; that the columns must fit the table's exactly is a profile of this project).
-use Rattle.std.specs.Prelude.{◌≡◌, ℕ, ◌+◌, nat_eq, Bool, true, false, ◌&&◌, List, [], ◌∷◌, ◌++◌, map, option_map, Option, Some, None, if◌then◌else◌}
+use Rattle.std.specs.Prelude.{◌≡◌, ℕ, ◌+◌, beq, Bool, true, false, ◌&&◌, List, [], ◌∷◌, ◌++◌, map, option_map, Option, Some, None, if◌then◌else◌}
 use Rattle.std.specs.List.{flat_map, list_all}
 use Rattle.std.specs.Str.{bytes_eq}
+use Rattle.std.specs.Cmp.Lexicographic.{pointwise}
 use Rattle.cs_value.specs.declared.catalog.TableDef.{TableDef}
-use Rattle.cs_change.specs.Spelling.{is_nonzero, marks_of}
+use Rattle.cs_change.specs.Spelling.{marks_of}
 use Rattle.cs_change.specs.declared.change.Change.{Change}
 use Rattle.cs_change.specs.declared.group.Group.{Group}
 use Rattle.cs_normal.specs.NormalForm.{change_bytes, has_key}
@@ -17,19 +18,9 @@ pub record Task : Type 0 where
   pub key : List ℕ
   pub change : Change
 
--- any byte but 0 is for a key column, and 0 for another
-abbrev pub fits_column : ℕ → Bool → Bool
-fits_column byte mark = if mark then is_nonzero byte else nat_eq byte 0
-
--- a byte for each column
-unfoldable pub has_marks : List ℕ → List Bool → Bool
-has_marks [] [] = true
-has_marks (byte ∷ bytes) (mark ∷ marks) = fits_column byte mark && has_marks bytes marks
-has_marks _ _ = false
-
 -- the group has the table's name, column count and key columns
 abbrev pub fits_table : Group → TableDef → Bool
-fits_table group table = bytes_eq group.name table.name && has_marks group.marks table.key_marks
+fits_table group table = bytes_eq group.name table.name && pointwise beq (marks_of group.marks) table.key_marks
 
 -- the place in the catalog of the table that the group fits, if there is one
 unfoldable pub table_of : Group → List TableDef → Option ℕ

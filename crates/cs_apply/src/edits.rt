@@ -2,8 +2,9 @@
 
 ghost use Rattle.std.specs.Prelude.{◌≡◌, ◌++◌, ◌∷◌, [], map, option_map, IfOk, OnOk};
 ghost use Rattle.std.specs.List.{flat_map};
+ghost use Rattle.cs_value.specs.Same.{same_place};
 ghost use Rattle.cs_store.specs.Written.{optional_bytes};
-ghost use Rattle.cs_apply.specs.Edited.{plain, same_place, plain_list, edits_for, edit_for};
+ghost use Rattle.cs_apply.specs.Edited.{plain, plain_list, edits_for, edit_for};
 
 use crate::slots::Slot;
 use cs_record::RowBuf;
@@ -12,6 +13,7 @@ use cs_value::Memory;
 use std::alloc::Global;
 
 /// Whether the two are one row, or both none.
+#[tactic(auto, unfolding(cs_value::specs::Same::same_place))]
 fn same(some: &Option<RowBuf>, other: &Option<RowBuf>) -> bool
     ensures { result ≡ same_place some.now other.now }
 {

@@ -4,12 +4,12 @@ ghost use Rattle.std.specs.Prelude.{◌≡◌, ◌<◌, ◌+◌, ◌++◌, ◌�
 ghost use Rattle.std.specs.List.{list_all};
 ghost use Rattle.cs_change.specs.Spelling.{marks_of};
 ghost use Rattle.cs_normal.specs.NormalForm.{change_bytes, has_key};
-ghost use Rattle.cs_apply.specs.Tasks.{Task, all_keyed, fits_table, has_marks, table_of, task, tasks, tasks_at, one_if_none, skipped};
+ghost use Rattle.cs_apply.specs.Tasks.{Task, all_keyed, fits_table, table_of, task, tasks, tasks_at, one_if_none, skipped};
 ghost use Rattle.cs_apply.specs.Found.{AreFound, IsNullKey, place_bytes};
 
 use crate::fault::ApplyFault;
 use cs_change::{Change, Changeset, Group};
-use cs_normal::{Keys, put_key};
+use cs_normal::{Keys, put_key, same_shape};
 use cs_value::{Catalog, Memory, TableDef};
 use std::alloc::Global;
 
@@ -24,28 +24,6 @@ pub(crate) struct Tasks<'a> {
     pub places: Keys,
     /// How many groups fit no table.
     pub skipped: usize,
-}
-
-/// Whether the marks of a group are those of a table: any byte but 0 marks a key column.
-#[tactic(auto, unfolding(crate::specs::Tasks::has_marks))]
-fn same_shape(marks: &[u8], key_marks: &[bool]) -> bool
-    ensures { result ≡ has_marks marks.now key_marks.now }
-{
-    let mut marks = marks;
-    let mut key_marks = key_marks;
-    loop {
-        match (marks.split_first(), key_marks.split_first()) {
-            (None, None) => return true,
-            (Some((byte, more)), Some((mark, more_marks))) => {
-                if (*byte != 0) != *mark {
-                    return false;
-                }
-                marks = more;
-                key_marks = more_marks;
-            }
-            _ => return false,
-        }
-    }
 }
 
 /// Whether the group has the table's name, column count and key columns.
