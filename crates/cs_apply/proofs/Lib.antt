@@ -5,3 +5,6 @@ pub mod Groups
 pub mod WholeRow
 pub mod Giving
 pub mod Reading
+pub mod OneAnswer
+pub mod Quiet
+pub mod OneList

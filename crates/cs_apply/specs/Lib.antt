@@ -2,6 +2,7 @@ pub mod Applies
 pub mod Calls
 pub mod Edited
 pub mod Found
+pub mod Laws
 pub mod Overlaid
 pub mod Slots
 pub mod Steps

@@ -8,6 +8,7 @@
 mod applying;
 mod edits;
 mod fault;
+pub mod laws;
 mod outcomes;
 mod places;
 mod slots;
