@@ -5,3 +5,4 @@ pub mod Groups
 pub mod WholeRow
 pub mod Giving
 pub mod Reading
+pub mod Numbering
