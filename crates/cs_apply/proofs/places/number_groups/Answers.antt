@@ -1,4 +1,4 @@
-use Rattle.std.proofs.Common.{◌≡◌, ◌<◌, Bor, ℕ, List, ◌∙◌, sym, ap, length, map, take, arith}
+use Rattle.std.proofs.Common.{◌≡◌, ◌<◌, Bor, ℕ, List, [], ◌∙◌, sym, ap, length, map, take, arith}
 use Rattle.std.specs.Prelude.{slice_index_or, Contains}
 use Rattle.std.proofs.lemmas.List.{length-map, take_all, with_items_is}
 use Rattle.cs_order.specs.Order.{keys_behind}
