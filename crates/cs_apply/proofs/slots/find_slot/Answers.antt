@@ -1,4 +1,4 @@
-use Rattle.std.proofs.Common.{◌≡◌, ◌<◌, Err, ◌∙◌, sym, ap, length, refl, arith}
+use Rattle.std.proofs.Common.{◌<◌, Err, ◌∙◌, sym, ap, length, refl, arith}
 use Rattle.std.proofs.lemmas.Result.{err_from_is_err_and}
 use Rattle.std.proofs.lemmas.Grind.{get_or_default_zero}
 use Rattle.cs_value.specs.declared.catalog.TableDef.{TableDef}
