@@ -21,6 +21,7 @@ use crate::tasks::Tasks;
 use cs_record::{Row, RowBuf, read_row};
 use cs_store::RowStore;
 use cs_value::Catalog;
+use cs_value::laws::catalogs;
 use std::alloc::Global;
 
 /// A place, with what stood there, and what its changes leave.
@@ -116,6 +117,8 @@ fn find_slot<S: RowStore>(
     ensures fault { IfErr result (λ fault. IsStoreFault fault) }
     ensures device { CausesDevice S.honest S.contents S.failed S.may_leave catalog.now store.old store.new result }
 {
+    // A name is one table's.
+    catalogs();
     let table = tasks.tables[change];
     let (_, key) = tasks.places.get(change).split_at(4);
     let columns = catalog.tables()[table as usize].key_marks.as_slice().len();

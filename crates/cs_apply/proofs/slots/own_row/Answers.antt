@@ -1,4 +1,4 @@
-use Rattle.std.proofs.Common.{◌≡◌, Some, sym, ap, ◌∙◌}
+use Rattle.std.proofs.Common.{Some, sym, ap, ◌∙◌}
 use Rattle.cs_record.specs.OneSpelling.{one_spelled_row}
 use Rattle.cs_apply.proofs.WholeRow.{whole_row, lengths_same}
 use Rattle.cs_apply.proofs.slots.own_row.Goals as goal
