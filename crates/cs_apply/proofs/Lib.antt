@@ -5,3 +5,8 @@ pub mod Groups
 pub mod WholeRow
 pub mod Giving
 pub mod Reading
+pub mod Apart
+pub mod Placed
+pub mod Stood
+pub mod Beginning
+pub mod Outcome

@@ -18,11 +18,11 @@ same_spot_refl p =
     let two = (bytes_eq-Decides p.1 p.1).1 refl in
     simp (one, two) refl
 
-and_left : (a b : Bool) → (a && b) ≡ true → a ≡ true
+pub and_left : (a b : Bool) → (a && b) ≡ true → a ≡ true
 and_left true b e = refl
 and_left false b e = cc
 
-and_right : (a b : Bool) → (a && b) ≡ true → b ≡ true
+pub and_right : (a b : Bool) → (a && b) ≡ true → b ≡ true
 and_right true b e = e
 and_right false b e = cc
 
@@ -35,7 +35,7 @@ same_spot_is p q e = (
 abbrev spots_of : List Entry → List Spot
 spots_of es = map (λ e. e.0) es
 
-some_same : {X : Type 0} {a b : X} → Some a ≡ Some b → a ≡ b
+pub some_same : {X : Type 0} {a b : X} → Some a ≡ Some b → a ≡ b
 some_same e = cc
 
 pair_same : (p q : Spot) → (p.0 ≡ q.0) × (p.1 ≡ q.1) → p ≡ q
