@@ -2,6 +2,8 @@
 use Rattle.std.proofs.lemmas.List.{take_more, append_assoc}
 use Rattle.std.specs.Prelude.{get_or, Result, Ok, Err, IfErr}
 use Rattle.std.proofs.Common.{append-nil, ◌<◌, take, ◌≡◌, ◌++◌, ◌+◌, ◌≤◌, ℕ, zero, suc, map, Bool, true, false, ◌&&◌, List, [], ◌∷◌, length, Option, Some, None, refl, sym, ap, ◌∙◌, arith}
+use Rattle.std.proofs.lemmas.Bool.Decides.{same_from_decides}
+use Rattle.std.proofs.lemmas.Option.{same_Some}
 use Rattle.cs_value.specs.declared.catalog.TableDef.{TableDef}
 use Rattle.cs_change.specs.Spelling.{marks_of}
 use Rattle.cs_change.specs.declared.group.Group.{Group}
@@ -20,14 +22,7 @@ use Rattle.std.specs.Cmp.{booleans_Decides}
 use Rattle.std.specs.Cmp.Lexicographic.{pointwise}
 use Rattle.std.specs.Bool.{beq}
 use Rattle.std.proofs.lemmas.Slice.Eq.{slice_eq-Decides}
-
-and_left : (a b : Bool) → (a && b) ≡ true → a ≡ true
-and_left true b e = refl
-and_left false b e = cc
-
-and_right : (a b : Bool) → (a && b) ≡ true → b ≡ true
-and_right true b e = e
-and_right false b e = cc
+use Rattle.cs_apply.proofs.Overlay.{and_left, and_right}
 
 and_assoc : (a b c : Bool) → (a && (b && c)) ≡ ((a && b) && c)
 and_assoc true b c = refl
@@ -37,21 +32,11 @@ and_false : (a : Bool) → (a && false) ≡ false
 and_false true = refl
 and_false false = refl
 
-some_same : {X : Type 0} {a b : X} → Some a ≡ Some b → a ≡ b
-some_same e = cc
-
--- two tests of one fact
-same_test : {P : Type 0} (some other : Bool) → Decides some P → Decides other P → some ≡ other
-same_test true true d e = refl
-same_test false false d e = refl
-same_test true false d e = let t = e.1 (d.0 refl) in cc
-same_test false true d e = let t = d.1 (e.0 refl) in cc
-
 -- a group fits by its name and its marks
 pub fits_by : (name shape : Bool) (group : Group) (table : TableDef) → name ≡ bytes_eq group.name table.name
     → Decides shape (marks_of group.marks ≡ table.key_marks) → (name && shape) ≡ fits_table group table
 fits_by name shape group table is decides =
-    rw (is, same_test shape _ decides (slice_eq-Decides booleans_Decides (marks_of group.marks) table.key_marks _ refl)) refl
+    rw (is, same_from_decides shape _ decides (slice_eq-Decides booleans_Decides (marks_of group.marks) table.key_marks _ refl)) refl
 
 -- a group more
 pub skipped_more : (tables : List TableDef) (groups : List Group) (group : Group) → skipped tables (groups ++ group ∷ []) ≡ skipped tables groups + one_if_none (table_of group tables)
@@ -81,7 +66,7 @@ pub null_in : (tables : List TableDef) (groups : List Group) (at : ℕ) (group :
     → all_keyed (tasks_at (table_of group tables) group) ≡ false → all_keyed (tasks tables groups) ≡ false
 null_in tables [] at group found null = absurd (let f = found in cc)
 null_in tables (first ∷ groups) zero group found null =
-    let is : first ≡ group = some_same found in
+    let is : first ≡ group = same_Some _ _ found in
     let null' : all_keyed (tasks_at (table_of first tables) first) ≡ false = ap (λ g. all_keyed (tasks_at (table_of g tables) g)) is ∙ null in
     all_keyed_append (tasks_at (table_of first tables) first) (tasks tables groups) ∙ ap (λ b. b && all_keyed (tasks tables groups)) null'
 null_in tables (first ∷ groups) (suc at) group found null =

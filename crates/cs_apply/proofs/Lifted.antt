@@ -3,7 +3,7 @@ use Rattle.std.proofs.Common.{◌≡◌, ◌⊎◌, inl, inr, ◌++◌, ℕ, zer
 use Rattle.std.specs.Prelude.{slice_get, slice_set}
 use Rattle.std.specs.List.{IsDistinct}
 use Rattle.std.proofs.lemmas.List.{map-set}
-use Rattle.std.proofs.lemmas.Option.{slice_get-map}
+use Rattle.std.proofs.lemmas.Option.{slice_get-map, same_Some}
 use Rattle.cs_value.specs.Key.{Place}
 use Rattle.cs_value.specs.declared.catalog.TableDef.{TableDef}
 use Rattle.cs_change.specs.declared.change.Change.{Change}
@@ -22,14 +22,11 @@ use Rattle.cs_apply.proofs.Overlay.{overlay_at, overlay_set, same_spot_refl, sam
 abbrev entries : List TableDef → List Slot → List Entry
 entries tables slots = map (entry_of tables) slots
 
-some_same : {X : Type 0} {a b : X} → Some a ≡ Some b → a ≡ b
-some_same e = cc
-
 pair_left : {p q : Numbered} → Some p ≡ Some q → p.0 ≡ q.0
-pair_left e = ap (λ (p : Numbered). p.0) (some_same e)
+pair_left e = ap (λ (p : Numbered). p.0) (same_Some _ _ e)
 
 pair_right : {p q : Numbered} → Some p ≡ Some q → p.1 ≡ q.1
-pair_right e = ap (λ (p : Numbered). p.1) (some_same e)
+pair_right e = ap (λ (p : Numbered). p.1) (same_Some _ _ e)
 
 abbrev task_spot : Task → Spot
 task_spot task = (task.name, task.key)
@@ -48,7 +45,7 @@ pub same_places : (slots : List Slot) (n : ℕ) (slot next : Slot) (place : Plac
     → map numbered (slice_set slots n next) ≡ map numbered slots
 same_places [] n slot next place found after = refl
 same_places (x ∷ slots) zero slot next place found after =
-    let is : x ≡ slot = some_same found in
+    let is : x ≡ slot = same_Some _ _ found in
     let table = after.table in
     let key = after.key in
     rw (table, key, sym is) refl

@@ -5,7 +5,7 @@ use Rattle.std.specs.List.{AllByRecursion, All}
 use Rattle.std.specs.Str.{bytes_eq}
 use Rattle.std.specs.Cmp.Lexicographic.{pointwise}
 use Rattle.std.specs.Bool.{beq}
-use Rattle.std.proofs.lemmas.Option.{slice_get-map, slice_get_within}
+use Rattle.std.proofs.lemmas.Option.{slice_get-map, slice_get_within, same_Some}
 use Rattle.std.proofs.lemmas.Slice.Eq.{bytes_eq-Decides}
 use Rattle.cs_value.specs.declared.catalog.TableDef.{TableDef}
 use Rattle.cs_change.specs.Spelling.{marks_of}
@@ -19,14 +19,9 @@ use Rattle.cs_apply.specs.Stored.{place_bytes}
 use Rattle.cs_apply.specs.Tasks.{Task, task, tasks, tasks_at, table_of, fits_table}
 use Rattle.cs_apply.specs.declared.slots.Slot.{Slot}
 use Rattle.cs_apply.proofs.Apart.{place_same}
-use Rattle.cs_apply.proofs.Overlay.{by_test, and_left, some_same}
+use Rattle.cs_apply.proofs.Overlay.{by_test, and_left}
 
 -- ---- lists
-
-pub all_there : {X : Type 0} (P : X → Type 0) (xs : List X) (n : ℕ) (x : X) → AllByRecursion P xs → slice_get xs n ≡ Some x → P x
-all_there P [] n x all found = absurd (let f = found in cc)
-all_there {X} P (y ∷ xs) zero x all found = subst (λ (z : X). P z) (some_same found) all.0
-all_there P (y ∷ xs) (suc n) x all found = all_there P xs n x all.1 found
 
 all_both : {X : Type 0} (P : X → Type 0) (xs ys : List X) → AllByRecursion P xs → AllByRecursion P ys → AllByRecursion P (xs ++ ys)
 all_both P [] ys some others = others
@@ -47,7 +42,7 @@ table_more : (group : Group) (table : TableDef) (tables : List TableDef) (o : Op
     → option_map (λ place. place + 1) o ≡ Some at → (at < length (table ∷ tables)) × (name_at (table ∷ tables) at ≡ group.name)
 table_more group table tables None at later e = absurd (let f = e in cc)
 table_more group table tables (Some place) at later e =
-    let is : at ≡ suc place = (let f : place + 1 ≡ at = some_same e in omega (arith, f)) in
+    let is : at ≡ suc place = (let f : place + 1 ≡ at = same_Some _ _ e in omega (arith, f)) in
     let there = later place refl in
     rw is (omega (arith, there.0), there.1)
 
@@ -56,7 +51,7 @@ unfolding table_of
 table_there group [] at e = absurd (let f = e in cc)
 table_there group (table ∷ tables) at e =
     by_test (fits_table group table) _
-    (λ t. let is : 0 ≡ at = some_same (rw t at e) in
+    (λ t. let is : 0 ≡ at = same_Some _ _ (rw t at e) in
     rw (sym is) (omega (arith), sym ((bytes_eq-Decides group.name table.name).0 (and_left (bytes_eq group.name table.name) (pointwise beq (marks_of group.marks) table.key_marks) t))))
     (λ t. table_more group table tables (table_of group tables) at (λ place found. table_there group tables place found) (rw t at e))
 
@@ -144,7 +139,7 @@ module _ (tables : List TableDef) (few : length tables ≤ 1000) where
   slot_of [] (s ∷ slots) number t are less found = absurd are
   slot_of (p ∷ places) [] number t are less found = absurd are
   slot_of (p ∷ places) (s ∷ slots) zero t are less found =
-      let is = place_same s.table t.table s.key.items t.key are.0.2 (omega (arith, less, few)) (are.0.0 ∙ some_same found) in
+      let is = place_same s.table t.table s.key.items t.key are.0.2 (omega (arith, less, few)) (are.0.0 ∙ same_Some _ _ found) in
       ap (λ n. Some (n, s.key.items)) is.0 ∙ ap (λ k. Some (t.table, k)) is.1
   slot_of (p ∷ places) (s ∷ slots) (suc number) t are less found =
       slot_of places slots number t are.1 less found

@@ -32,8 +32,7 @@ use Rattle.cs_apply.specs.Steps.{Runs}
 use Rattle.cs_apply.specs.Stored.{Holds, AreEdits, edit_place, place_bytes}
 use Rattle.cs_apply.specs.declared.slots.Slot.{Slot}
 use Rattle.cs_apply.proofs.Apart.{here-Decides, tests_agree}
-use Rattle.cs_apply.proofs.Overlay.{by_test, same_spot_is, same_spot_refl}
-use Rattle.cs_apply.proofs.Placed.{all_there}
+use Rattle.cs_apply.proofs.Overlay.{all_there, by_test, same_spot_is, same_spot_refl}
 
 -- ---- before the first change
 
@@ -127,13 +126,13 @@ no_other : (tables : List TableDef) (some : Slot) (number : ℕ) (key : List ℕ
 no_other tables some number key table is [] apart = tt
 no_other tables some number key table is (s ∷ slots) apart = (
   by_test (nat_eq number s.table && same_bytes key s.key.items) _
-  (λ t. let same = (here-Decides number s.table key s.key.items).0 t in
-  let spot : named tables (numbered some) ≡ named tables (numbered s) =
-  ap (λ n. (name_at tables n, some.key.items)) (sym table ∙ same.0) ∙ ap (λ k. (name_at tables s.table, k)) (sym is ∙ same.1) in
-  let clash : same_spot (named tables (numbered some)) (named tables (numbered s)) ≡ true =
-  ap (λ p. same_spot p (named tables (numbered s))) spot ∙ same_spot_refl (named tables (numbered s)) in
-  let not = apart.0 in cc)
-  (λ t. t),
+      (λ t. let same = (here-Decides number s.table key s.key.items).0 t in
+      let spot : named tables (numbered some) ≡ named tables (numbered s) =
+      ap (λ n. (name_at tables n, some.key.items)) (sym table ∙ same.0) ∙ ap (λ k. (name_at tables s.table, k)) (sym is ∙ same.1) in
+      let clash : same_spot (named tables (numbered some)) (named tables (numbered s)) ≡ true =
+      ap (λ p. same_spot p (named tables (numbered s))) spot ∙ same_spot_refl (named tables (numbered s)) in
+      let not = apart.0 in cc)
+      (λ t. t),
   no_other tables some number key table is slots apart.1,
 )
 
@@ -150,7 +149,7 @@ module _ (tables : List TableDef) (are : AreTables tables) (one : OnePlaceOfName
         let agree = tests_agree tables are one s.table number table key s.key.items within.0 found in
         let first = after_first (edit_for s) (edits_for slots) number key row in
         let seen : (b : Bool) → (nat_eq number s.table && same_bytes key s.key.items) ≡ b
-            → option_map row_bytes (cond b (standing s) (stood tables before slots table.name key)) ≡ option_map row_bytes (stood tables before (s ∷ slots) table.name key) =
+        → option_map row_bytes (cond b (standing s) (stood tables before slots table.name key)) ≡ option_map row_bytes (stood tables before (s ∷ slots) table.name key) =
         (λ b t. ap (λ c. option_map row_bytes (cond c (standing s) (stood tables before slots table.name key))) (sym (agree ∙ t))) in
         by_test (nat_eq number s.table && same_bytes key s.key.items) _
         (λ t. let spot = same_spot_is (named tables (numbered s)) (table.name, key) (agree ∙ t) in

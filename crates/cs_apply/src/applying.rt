@@ -28,7 +28,8 @@ use std::alloc::Global;
 /// `sqlite3changeset_apply_v2`.)
 #[derive(Debug, Drop)]
 pub struct Applied {
-    /// The edits to commit, in one batch: each place once, and none that would leave what is there.
+    /// The edits to commit, in one batch, by their tables' places in the catalog and then by the bytes of their keys: each
+    /// place once, and none that would leave what is there.
     pub edits: Vec<RowEdit>,
     /// The answers, in the order of the conflicts.
     pub answers: Vec<Resolution>,
