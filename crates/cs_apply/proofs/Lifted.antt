@@ -1,17 +1,16 @@
 -- Changes at slots are changes of the places that the slots are of.
-use Rattle.std.proofs.Common.{◌≡◌, ◌⊎◌, inl, inr, ◌++◌, ℕ, zero, suc, Bool, true, false, List, [], ◌∷◌, Option, Some, None, option_map, refl, sym, subst, ap, ◌∙◌, cond, map}
+use Rattle.std.proofs.Common.{◌≡◌, inl, inr, ℕ, zero, suc, false, List, [], ◌∷◌, Option, Some, option_map, refl, sym, subst, ap, ◌∙◌, cond, map}
 use Rattle.std.specs.Prelude.{slice_get, slice_set}
 use Rattle.std.specs.List.{IsDistinct}
 use Rattle.std.proofs.lemmas.List.{map-set}
 use Rattle.std.proofs.lemmas.Option.{slice_get-map, same_Some}
 use Rattle.cs_value.specs.Key.{Place}
 use Rattle.cs_value.specs.declared.catalog.TableDef.{TableDef}
-use Rattle.cs_change.specs.declared.change.Change.{Change}
 use Rattle.cs_normal.specs.State.{State}
 use Rattle.cs_conflict.specs.declared.conflict.Conflict.{Conflict}
 use Rattle.cs_conflict.specs.declared.conflict.Resolution.{Resolution}
 use Rattle.cs_apply.specs.Tasks.{Task}
-use Rattle.cs_apply.specs.Applies.{AppliesOne, AppliesTask, Applies, Stops, StopsOne, KeepsOthers}
+use Rattle.cs_apply.specs.Applies.{AppliesTask, Applies, Stops, StopsOne}
 use Rattle.cs_apply.specs.Slots.{standing, IsSlotAfter}
 use Rattle.cs_apply.specs.Steps.{RunsOne, RunStops, Runs, RunsStop}
 use Rattle.cs_apply.specs.Overlaid.{Spot, same_spot, Entry, overlay, name_at, entry_of, stood, Numbered, numbered, task_place, named, AreApart, IsPlaced, ArePlaced}

@@ -1,6 +1,5 @@
 -- What comes of the changes at their slots is what `apply` answers.
-use Rattle.std.proofs.Common.{◌≡◌, ◌<◌, ℕ, Bool, true, false, List, [], ◌∷◌, length, map, refl, sym, subst, ap, ◌∙◌, inl, inr}
-use Rattle.std.specs.Prelude.{Result, Ok, Err}
+use Rattle.std.proofs.Common.{◌≡◌, ◌<◌, ℕ, List, [], ◌∷◌, length, map, refl, sym, subst, ap, ◌∙◌, inl, inr}
 use Rattle.std.specs.List.{AllByRecursion, All}
 use Rattle.std.specs.List.Sorted.{IsStrictlySortedBy}
 use Rattle.std.proofs.lemmas.List.{length-map}
@@ -18,11 +17,11 @@ use Rattle.cs_store.specs.declared.batch.RowEdit.{RowEdit}
 use Rattle.cs_conflict.specs.declared.conflict.Conflict.{Conflict}
 use Rattle.cs_conflict.specs.declared.conflict.Resolution.{Resolution}
 use Rattle.cs_apply.specs.Applies.{Applies}
-use Rattle.cs_apply.specs.Begun.{IsBegun, IsNotBegun, slot_place}
+use Rattle.cs_apply.specs.Begun.{IsBegun, slot_place}
 use Rattle.cs_apply.specs.Calls.{IsRefused}
 use Rattle.cs_apply.specs.Edited.{plain, edits_for}
-use Rattle.cs_apply.specs.Found.{IsNullKey, IsRead, AreRead}
-use Rattle.cs_apply.specs.Overlaid.{numbered, Numbered, name_at, stood, AreApart}
+use Rattle.cs_apply.specs.Found.{IsRead, AreRead}
+use Rattle.cs_apply.specs.Overlaid.{numbered, Numbered, stood, AreApart}
 use Rattle.cs_apply.specs.Slots.{IsSlotAfter}
 use Rattle.cs_apply.specs.Steps.{Runs, RunsStop, IsRunStopped}
 use Rattle.cs_apply.specs.Stored.{Holds, AreEdits, place_bytes}

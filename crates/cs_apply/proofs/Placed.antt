@@ -1,11 +1,11 @@
 -- The changes that are applied are at the slots of their numbers.
-use Rattle.std.proofs.Common.{◌≡◌, ◌<◌, ◌≤◌, ◌+◌, ◌^◌, ℕ, zero, suc, true, List, [], ◌∷◌, ◌++◌, length, map, get_or, Option, Some, None, option_map, cond, refl, sym, subst, ap, ◌∙◌, arith}
+use Rattle.std.proofs.Common.{◌≡◌, ◌<◌, ◌≤◌, ◌+◌, ℕ, zero, suc, List, [], ◌∷◌, ◌++◌, length, map, Option, Some, None, option_map, refl, sym, ap, ◌∙◌, arith}
 use Rattle.std.specs.Prelude.{slice_get}
-use Rattle.std.specs.List.{AllByRecursion, All}
+use Rattle.std.specs.List.{AllByRecursion}
 use Rattle.std.specs.Str.{bytes_eq}
 use Rattle.std.specs.Cmp.Lexicographic.{pointwise}
 use Rattle.std.specs.Bool.{beq}
-use Rattle.std.proofs.lemmas.Option.{slice_get-map, slice_get_within, same_Some}
+use Rattle.std.proofs.lemmas.Option.{slice_get_within, same_Some}
 use Rattle.std.proofs.lemmas.Slice.Eq.{bytes_eq-Decides}
 use Rattle.cs_value.specs.declared.catalog.TableDef.{TableDef}
 use Rattle.cs_change.specs.Spelling.{marks_of}
@@ -14,7 +14,7 @@ use Rattle.cs_change.specs.declared.group.Group.{Group}
 use Rattle.cs_order.specs.Order.{Keys, key_at}
 use Rattle.cs_apply.specs.Begun.{slot_place}
 use Rattle.cs_apply.specs.Found.{AreNumbers, AreBehindTables, AreSlots, heads}
-use Rattle.cs_apply.specs.Overlaid.{name_at, numbered, Numbered, task_place, IsPlaced, ArePlaced}
+use Rattle.cs_apply.specs.Overlaid.{name_at, numbered, Numbered, task_place, ArePlaced}
 use Rattle.cs_apply.specs.Stored.{place_bytes}
 use Rattle.cs_apply.specs.Tasks.{Task, task, tasks, tasks_at, table_of, fits_table}
 use Rattle.cs_apply.specs.declared.slots.Slot.{Slot}

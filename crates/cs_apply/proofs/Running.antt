@@ -1,8 +1,8 @@
 -- A change at its slot, and changes one after another.
-use Rattle.std.proofs.Common.{◌≡◌, ◌≤◌, ◌++◌, ◌⊎◌, inl, inr, append-nil, append_assoc, drop, ◌<◌, ◌+◌, ℕ, List, [], ◌∷◌, Option, Some, None, refl, sym, subst, ap, ◌∙◌, length, arith}
-use Rattle.std.specs.Prelude.{slice_get, slice_set, get_or}
+use Rattle.std.proofs.Common.{◌≡◌, ◌≤◌, ◌++◌, inl, inr, append-nil, append_assoc, drop, ◌<◌, ◌+◌, ℕ, List, [], ◌∷◌, Option, refl, sym, subst, ap, ◌∙◌, length}
+use Rattle.std.specs.Prelude.{slice_set, get_or}
 use Rattle.std.proofs.lemmas.List.{drop_more, drop_all}
-use Rattle.std.proofs.lemmas.Option.{slice_get_read, slice_get-get_or, same_Some}
+use Rattle.std.proofs.lemmas.Option.{slice_get-get_or, same_Some}
 use Rattle.cs_value.specs.Key.{Place}
 use Rattle.cs_change.specs.declared.change.Change.{Change}
 use Rattle.cs_conflict.specs.declared.conflict.Conflict.{Conflict}

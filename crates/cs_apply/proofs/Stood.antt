@@ -2,9 +2,8 @@
 use Rattle.std.proofs.Common.{◌≡◌, ◌≢◌, ◌<◌, ℕ, Bool, true, false, ◌&&◌, List, [], ◌∷◌, ◌++◌, length, map, get_or, Option, Some, None, option_map, cond, refl, sym, subst, ap, ◌∙◌}
 use Rattle.std.specs.Prelude.{slice_get, nat_eq}
 use Rattle.std.specs.Bool.{Decides}
-use Rattle.std.specs.List.{AllByRecursion, All, IsDistinct}
+use Rattle.std.specs.List.{AllByRecursion, IsDistinct}
 use Rattle.std.specs.List.Sorted.{IsStrictlySortedBy}
-use Rattle.std.specs.declared.cmp.Ordering.{Ordering}
 use Rattle.std.specs.declared.cmp.Ordering.TheVariants.{Less}
 use Rattle.std.proofs.lemmas.List.Elements.{All-from_recursion, recursion_from_All, All-set}
 use Rattle.std.proofs.lemmas.Option.{slice_get-get_or}
@@ -19,7 +18,6 @@ use Rattle.cs_order.specs.Order.{by_bytes, same_bytes}
 use Rattle.cs_normal.specs.State.{State}
 use Rattle.cs_store.specs.Contents.{Contents, stored_tables}
 use Rattle.cs_store.specs.Laws.{row_after}
-use Rattle.cs_store.specs.Written.{optional_bytes}
 use Rattle.cs_store.specs.declared.batch.RowEdit.{RowEdit}
 use Rattle.cs_conflict.specs.declared.conflict.Conflict.{Conflict}
 use Rattle.cs_conflict.specs.declared.conflict.Resolution.{Resolution}

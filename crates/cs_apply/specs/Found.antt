@@ -1,12 +1,12 @@
 -- What was found of the changes that are applied, and of their places.
-use Rattle.std.specs.Prelude.{◌≡◌, ℕ, ◌<◌, ◌^◌, Bool, true, false, List, [], ◌∷◌, ◌++◌, length, map, Option, Some, None, slice_get, slice_index_or}
+use Rattle.std.specs.Prelude.{◌≡◌, ℕ, ◌<◌, ◌^◌, Bool, true, false, List, [], ◌∷◌, length, map, Some, None, slice_get}
 use Rattle.std.specs.List.{All}
 use Rattle.std.specs.List.Sorted.{IsStrictlySortedBy}
 use Rattle.cs_value.specs.declared.catalog.TableDef.{TableDef}
 use Rattle.cs_order.specs.Order.{Keys, by_bytes, key_at}
 use Rattle.cs_normal.specs.State.{State}
 use Rattle.cs_apply.specs.Tasks.{Task, all_keyed}
-use Rattle.cs_apply.specs.Overlaid.{Numbered, numbered, name_at}
+use Rattle.cs_apply.specs.Overlaid.{numbered, name_at}
 pub use Rattle.cs_apply.specs.Stored.{place_bytes}
 use Rattle.cs_apply.specs.declared.fault.ApplyFault.{ApplyFault}
 use Rattle.cs_apply.specs.declared.fault.ApplyFault.TheVariants.{Memory, NullKey}
