@@ -16,7 +16,7 @@ use Rattle.cs_store.specs.Contents.{Contents}
 use Rattle.cs_store.specs.declared.batch.RowEdit.{RowEdit}
 use Rattle.cs_conflict.specs.declared.conflict.Conflict.{Conflict}
 use Rattle.cs_conflict.specs.declared.conflict.Resolution.{Resolution}
-use Rattle.cs_apply.specs.Applies.{Applies}
+use Rattle.cs_apply.specs.Applies.{Applies, StopsOne}
 use Rattle.cs_apply.specs.Begun.{IsBegun, slot_place}
 use Rattle.cs_apply.specs.Calls.{IsRefused}
 use Rattle.cs_apply.specs.Edited.{plain, edits_for}
@@ -36,32 +36,24 @@ use Rattle.cs_apply.proofs.Stood.{began, kept, are_edits}
 
 -- ---- faults
 
--- no change is stopped at by a fault of the store
-pub no_device_stop : {F : Type 0} (asks : F → Conflict → Resolution → F → Type 0) (slots : List Slot) (changes : List Change) (numbers : List ℕ) (f g : F)
-    → RunsStop asks slots changes numbers f why.Device g → ⊥
+-- no change is stopped at by a fault by which none is
+pub no_stop : {F : Type 0} (asks : F → Conflict → Resolution → F → Type 0) (fault : ApplyFault)
+    → ((table : ℕ) (key : List ℕ) (change : Change) (before : Place) (f g : F) → StopsOne asks table key change before f fault g → ⊥)
+    → (slots : List Slot) (changes : List Change) (numbers : List ℕ) (f g : F) → RunsStop asks slots changes numbers f fault g → ⊥
 unfolding RunsStop
-no_device_stop asks slots [] numbers f g stops = stops
-no_device_stop asks slots (c ∷ changes) [] f g stops = stops
-no_device_stop asks slots (c ∷ changes) (n ∷ numbers) f g (inl here) = here.2
-no_device_stop asks slots (c ∷ changes) (n ∷ numbers) f g (inr more) = no_device_stop asks more.1 changes numbers more.2 g more.4
-
--- nor for want of a key
-pub no_null_stop : {F : Type 0} (asks : F → Conflict → Resolution → F → Type 0) (slots : List Slot) (changes : List Change) (numbers : List ℕ) (f g : F)
-    → RunsStop asks slots changes numbers f why.NullKey g → ⊥
-unfolding RunsStop
-no_null_stop asks slots [] numbers f g stops = stops
-no_null_stop asks slots (c ∷ changes) [] f g stops = stops
-no_null_stop asks slots (c ∷ changes) (n ∷ numbers) f g (inl here) = here.2
-no_null_stop asks slots (c ∷ changes) (n ∷ numbers) f g (inr more) = no_null_stop asks more.1 changes numbers more.2 g more.4
+no_stop asks fault never slots [] numbers f g stops = stops
+no_stop asks fault never slots (c ∷ changes) [] f g stops = stops
+no_stop asks fault never slots (c ∷ changes) (n ∷ numbers) f g (inl here) = never _ _ _ _ _ _ here.2
+no_stop asks fault never slots (c ∷ changes) (n ∷ numbers) f g (inr more) = no_stop asks fault never more.1 changes numbers more.2 g more.4
 
 -- ---- the changes
 
 abbrev bytes_at : Numbered → List ℕ
 bytes_at at = place_bytes at.0 at.1
 
-slot_places : (slots : List Slot) → map slot_place slots ≡ map bytes_at (map numbered slots)
-slot_places [] = refl
-slot_places (s ∷ slots) = ap (λ more. slot_place s ∷ more) (slot_places slots)
+slot_bytes : (slots : List Slot) → map slot_place slots ≡ map bytes_at (map numbered slots)
+slot_bytes [] = refl
+slot_bytes (s ∷ slots) = ap (λ more. slot_place s ∷ more) (slot_bytes slots)
 
 module _ (tables : List TableDef) (groups : List Group) (begun : Begun) (is : IsBegun tables groups begun) where
   abbrev places : List Numbered
@@ -81,28 +73,11 @@ module _ (tables : List TableDef) (groups : List Group) (begun : Begun) (is : Is
     begins =
         began tables before begun.slots.items (recursion_from_All _ _ read) (recursion_from_All _ _ is.slots.blank)
 
-    -- a slot that was read, of a table of the catalog
-    abbrev IsHeld : Slot → Type 0
-    IsHeld slot = (slot.table < length tables) × IsRead tables before slot
+    still_within : (slot next : Slot) (place : Place) → IsSlotAfter slot next place → slot.table < length tables → next.table < length tables
+    still_within slot next place after less = rw after.table less
 
-    still : (slot next : Slot) (place : Place) → IsSlotAfter slot next place → IsHeld slot → IsHeld next
-    still slot next place after held =
-        let table = after.table in
-        let key = after.key in
-        let old = after.before in
-        rw (table, key, old) held
-
-    both : (slots : List Slot) → AllByRecursion (λ slot. slot.table < length tables) slots → AllByRecursion (IsRead tables before) slots → AllByRecursion IsHeld slots
-    both [] within reads = tt
-    both (s ∷ slots) within reads = ((within.0, reads.0), both slots within.1 reads.1)
-
-    all_within : (slots : List Slot) → AllByRecursion IsHeld slots → AllByRecursion (λ slot. slot.table < length tables) slots
-    all_within [] held = tt
-    all_within (s ∷ slots) held = (held.0.0, all_within slots held.1)
-
-    all_read : (slots : List Slot) → AllByRecursion IsHeld slots → AllByRecursion (IsRead tables before) slots
-    all_read [] held = tt
-    all_read (s ∷ slots) held = (held.0.1, all_read slots held.1)
+    still_read : (slot next : Slot) (place : Place) → IsSlotAfter slot next place → IsRead tables before slot → IsRead tables before next
+    still_read slot next place after held = rw (after.table, after.key, after.before) held
 
     -- changes at the slots are changes of the state, and edits of the slots write what is left
     pub applied : (f g : F) (answers : List Resolution) (end : List Slot) (contents : Contents) (edits : List RowEdit)
@@ -113,22 +88,24 @@ module _ (tables : List TableDef) (groups : List Group) (begun : Begun) (is : Is
         let lift =
         lifted tables asks before places is.slots.apart (tasks tables groups) begun.numbers.items begun.slots.items end before f g answers is.placed refl begins
         (rw is.changes at runs) in
-        let held : AllByRecursion IsHeld end =
-        kept asks IsHeld still begun.slots.items begun.changes.items begun.numbers.items f answers end g runs
-        (both begun.slots.items (recursion_from_All _ _ is.slots.within) (recursion_from_All _ _ read)) in
+        let stays_within =
+        kept asks (λ slot. slot.table < length tables) still_within begun.slots.items begun.changes.items begun.numbers.items f answers end g runs
+        (recursion_from_All _ _ is.slots.within) in
+        let stays_read =
+        kept asks (IsRead tables before) still_read begun.slots.items begun.changes.items begun.numbers.items f answers end g runs (recursion_from_All _ _ read) in
         let rises : IsStrictlySortedBy by_bytes (map slot_place end) =
-        subst (λ ps. IsStrictlySortedBy by_bytes ps) (slot_places begun.slots.items ∙ (ap (map bytes_at) lift.1 ∙ sym (slot_places end))) is.slots.rising in (
+        subst (λ ps. IsStrictlySortedBy by_bytes ps) (slot_bytes begun.slots.items ∙ (ap (map bytes_at) lift.1 ∙ sym (slot_bytes end))) is.slots.rising in (
           stood tables before end,
           lift.0,
-          are_edits tables before contents holds are one end (all_within end held) (all_read end held) (subst (AreApart tables) lift.1 is.slots.apart) rises edits written,
+          are_edits tables before contents holds are one end stays_within stays_read (subst (AreApart tables) lift.1 is.slots.apart) rises edits written,
         )
 
     -- a stop at a slot is one of the state
     pub refused : (f g : F) (fault : ApplyFault) → IsRunStopped asks begun.slots.items begun.changes.items begun.numbers.items f fault g
         → IsRefused asks tables groups before f fault g
     refused f g why.Memory stops = tt
-    refused f g why.Device stops = absurd (no_device_stop asks begun.slots.items begun.changes.items begun.numbers.items f g stops)
-    refused f g why.NullKey stops = absurd (no_null_stop asks begun.slots.items begun.changes.items begun.numbers.items f g stops)
+    refused f g why.Device stops = absurd (no_stop asks why.Device (λ _ _ _ _ _ _ h. h) begun.slots.items begun.changes.items begun.numbers.items f g stops)
+    refused f g why.NullKey stops = absurd (no_stop asks why.NullKey (λ _ _ _ _ _ _ h. h) begun.slots.items begun.changes.items begun.numbers.items f g stops)
     refused f g (why.Aborted stop) stops =
         stops_lifted tables asks before places is.slots.apart (tasks tables groups) begun.numbers.items begun.slots.items before f g (why.Aborted stop) is.placed refl begins (rw is.changes at stops)
     refused f g (why.Misuse stop) stops =

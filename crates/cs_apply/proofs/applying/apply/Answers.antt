@@ -3,7 +3,8 @@ use Rattle.std.specs.Fn.{CalledAt}
 use Rattle.std.proofs.lemmas.List.{take_at}
 use Rattle.std.proofs.lemmas.Result.{err_from_is_err_and}
 use Rattle.cs_apply.specs.Edited.{edits_for}
-use Rattle.cs_apply.proofs.Outcome.{has_numbers, has_slots, applied, refused, no_null_stop, no_device_stop}
+use Rattle.cs_apply.specs.declared.fault.ApplyFault.TheVariants.{Device, NullKey}
+use Rattle.cs_apply.proofs.Outcome.{has_numbers, has_slots, applied, refused, no_stop}
 use Rattle.cs_apply.proofs.Reading.{err_same}
 use Rattle.cs_apply.proofs.applying.apply.Goals as goal
 
@@ -32,13 +33,13 @@ pub returns-in_err-answers-clause-keyed : goal.returns-in_err-answers-clause-key
 returns-in_err-answers-clause-keyed g c = λ told.
     let p = err_from_is_err_and c.from_residual-in_err-answers.result c.from_residual-in_err-answers.ensures.1 in
     let is = sym p.2 ∙ err_same p.1 told in
-    absurd (no_null_stop (CalledAt g.H.FnMut) _ _ _ _ _ (rw is at c.in_err-answers.ensures.stopped))
+    absurd (no_stop (CalledAt g.H.FnMut) NullKey (λ _ _ _ _ _ _ h. h) _ _ _ _ _ (rw is at c.in_err-answers.ensures.stopped))
 
 pub returns-in_err-answers-clause-device : goal.returns-in_err-answers-clause-device
 returns-in_err-answers-clause-device g c = λ honest before holds told.
     let p = err_from_is_err_and c.from_residual-in_err-answers.result c.from_residual-in_err-answers.ensures.1 in
     let is = sym p.2 ∙ err_same p.1 told in
-    absurd (no_device_stop (CalledAt g.H.FnMut) _ _ _ _ _ (rw is at c.in_err-answers.ensures.stopped))
+    absurd (no_stop (CalledAt g.H.FnMut) Device (λ _ _ _ _ _ _ h. h) _ _ _ _ _ (rw is at c.in_err-answers.ensures.stopped))
 
 pub returns-clause-applied : goal.returns-clause-applied
 returns-clause-applied g c = λ honest before holds.
