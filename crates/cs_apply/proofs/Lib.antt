@@ -7,5 +7,8 @@ pub mod OneList
 pub mod Overlay
 pub mod Quiet
 pub mod Reading
-pub mod Running
-pub mod WholeRow
+pub mod Apart
+pub mod Placed
+pub mod Stood
+pub mod Beginning
+pub mod Outcome

@@ -1,8 +1,8 @@
 -- A change at its slot, and changes one after another.
-use Rattle.std.proofs.Common.{◌≡◌, ◌≤◌, ◌++◌, ◌⊎◌, inl, inr, append-nil, append_assoc, drop, ◌<◌, ◌+◌, ℕ, List, [], ◌∷◌, Option, Some, None, refl, sym, subst, ap, ◌∙◌, length, arith}
-use Rattle.std.specs.Prelude.{slice_get, slice_set, get_or}
+use Rattle.std.proofs.Common.{◌≡◌, ◌≤◌, ◌++◌, inl, inr, append-nil, append_assoc, drop, ◌<◌, ◌+◌, ℕ, List, [], ◌∷◌, Option, refl, sym, subst, ap, ◌∙◌, length}
+use Rattle.std.specs.Prelude.{slice_set, get_or}
 use Rattle.std.proofs.lemmas.List.{drop_more, drop_all}
-use Rattle.std.proofs.lemmas.Option.{slice_get_read, slice_get-get_or}
+use Rattle.std.proofs.lemmas.Option.{slice_get-get_or, same_Some}
 use Rattle.cs_value.specs.Key.{Place}
 use Rattle.cs_change.specs.declared.change.Change.{Change}
 use Rattle.cs_conflict.specs.declared.conflict.Conflict.{Conflict}
@@ -14,9 +14,6 @@ use Rattle.cs_apply.specs.declared.fault.ApplyFault.{ApplyFault}
 use Rattle.cs_apply.specs.declared.fault.ApplyFault.TheVariants as fault
 use Rattle.cs_apply.specs.declared.slots.Slot.{Slot}
 
-some_same : {X : Type 0} {a b : X} → Some a ≡ Some b → a ≡ b
-some_same e = cc
-
 module _ {F : Type 0} (asks : F → Conflict → Resolution → F → Type 0) where
   pub run_one : (slots : List Slot) (number : ℕ) (change : Change) (some other next : Slot) (f g : F) (given : Option Resolution) (left : Option Place)
       → number < length slots
@@ -25,7 +22,7 @@ module _ {F : Type 0} (asks : F → Conflict → Resolution → F → Type 0) wh
       → RunsOne asks slots number change f given (slice_set slots number next) g
   run_one slots number change some other next f g given left less after applied =
       let found = slice_get-get_or slots number some less in
-      let same = some_same (sym (slice_get-get_or slots number other less) ∙ found) in
+      let same = same_Some _ _ (sym (slice_get-get_or slots number other less) ∙ found) in
       (get_or slots number some, next, left_or (standing (get_or slots number some)) left, found, refl, subst (λ (s : Slot). IsSlotAfter s next (left_or (standing s) left)) same after, applied)
 
   pub run_stops : (slots : List Slot) (number : ℕ) (change : Change) (some : Slot) (f g : F) (fault : ApplyFault)

@@ -1,13 +1,13 @@
 -- What was found of the changes that are applied, and of their places.
-use Rattle.std.specs.Prelude.{◌≡◌, ℕ, ◌<◌, Bool, true, false, List, [], ◌∷◌, ◌++◌, length, map, Option, Some, None, slice_get, slice_index_or}
+use Rattle.std.specs.Prelude.{◌≡◌, ℕ, ◌<◌, ◌^◌, Bool, true, false, List, [], ◌∷◌, length, map, Some, None, slice_get}
 use Rattle.std.specs.List.{All}
 use Rattle.std.specs.List.Sorted.{IsStrictlySortedBy}
 use Rattle.cs_value.specs.declared.catalog.TableDef.{TableDef}
 use Rattle.cs_order.specs.Order.{Keys, by_bytes, key_at}
 use Rattle.cs_normal.specs.State.{State}
 use Rattle.cs_apply.specs.Tasks.{Task, all_keyed}
+use Rattle.cs_apply.specs.Overlaid.{numbered, name_at}
 pub use Rattle.cs_apply.specs.Stored.{place_bytes}
-use Rattle.cs_apply.specs.Overlaid.{Numbered, numbered, name_at}
 use Rattle.cs_apply.specs.declared.fault.ApplyFault.{ApplyFault}
 use Rattle.cs_apply.specs.declared.fault.ApplyFault.TheVariants.{Memory, NullKey}
 use Rattle.cs_apply.specs.declared.places.Places.{Places}
@@ -50,9 +50,9 @@ AreBehindTables (table ∷ tables) (place ∷ places) =
     ((key : List ℕ) × (place ≡ place_bytes table key)) × AreBehindTables tables places
 AreBehindTables _ _ = ⊥
 
--- the slot of this place; nothing is written there yet
+-- the slot of this place, whose table's number fits its four bytes; nothing is written there yet
 abbrev pub IsSlotAt : List ℕ → Slot → Type 0
-IsSlotAt place slot = (place_bytes slot.table slot.key.items ≡ place) × (slot.left ≡ None)
+IsSlotAt place slot = (place_bytes slot.table slot.key.items ≡ place) × (slot.left ≡ None) × (slot.table < 2 ^ 32)
 
 -- the slots of these places
 abbrev pub AreSlots : Keys → List Slot → Type 0

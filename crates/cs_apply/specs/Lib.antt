@@ -1,4 +1,5 @@
 pub mod Applies
+pub mod Begun
 pub mod Calls
 pub mod Edited
 pub mod Found

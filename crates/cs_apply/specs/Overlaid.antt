@@ -37,6 +37,10 @@ name_at tables number = name_or_none (slice_get tables number)
 abbrev pub entry_of : List TableDef → Slot → Entry
 entry_of tables slot = ((name_at tables slot.table, slot.key.items), standing slot)
 
+-- what the slots hold at their places, and elsewhere what the state holds
+abbrev pub stood : List TableDef → State → List Slot → State
+stood tables before slots = overlay (map (entry_of tables) slots) before
+
 -- a table's place in the catalog and the bytes of a key
 abbrev pub Numbered : Type 0
 Numbered = ℕ × List ℕ

@@ -1,5 +1,5 @@
 -- The rows of tables in a store (profile of this project).
-use Rattle.std.specs.Prelude.{◌≡◌, ◌≢◌, ◌<◌, ◌++◌, ℕ, List, length, map, option_map, Option, Some, None, slice_get, All}
+use Rattle.std.specs.Prelude.{◌≡◌, ◌≢◌, ℕ, List, ◌++◌, map, option_map, Option, Some, None, slice_get, All}
 use Rattle.std.specs.Int.{to_be_bytes, w32}
 use Rattle.std.specs.List.Sorted.{IsStrictlySortedBy}
 use Rattle.cs_value.specs.Key.{Place}
@@ -20,19 +20,18 @@ pub record Holds (tables : List TableDef) (contents : Contents) (state : State) 
   pub stored : (number : ℕ) (table : TableDef) (key : List ℕ) → slice_get tables number ≡ Some table
       → stored_tables contents number key ≡ option_map row_bytes (state table.name key)
 
--- the table's place in the catalog in four bytes, and then the bytes of the key
+-- the table's place in the catalog in four bytes, the highest first, and then the bytes of the key
 abbrev pub place_bytes : ℕ → List ℕ → List ℕ
 place_bytes table key = to_be_bytes w32 table ++ key
 
 abbrev pub edit_place : RowEdit → List ℕ
 edit_place edit = place_bytes edit.table edit.key.items
 
--- what a commit of these edits makes of what the store holds is this state; the edits are of the tables, and rise by their
--- tables' places and then by the bytes of their keys, so each place stands in one at most; none leaves what is there
+-- what a commit of these edits makes of what the store holds is this state; the edits rise by their tables' places and
+-- then by the bytes of their keys, so each place stands in one at most; and none of them leaves what is there
 pub record AreEdits (tables : List TableDef) (contents : Contents) (edits : List RowEdit) (end : State) : Type 0 where
   pub written : (number : ℕ) (table : TableDef) (key : List ℕ) → slice_get tables number ≡ Some table
       → row_after edits number key (stored_tables contents number key) ≡ option_map row_bytes (end table.name key)
-  pub within : All (λ edit. edit.table < length tables) edits
   pub rising : IsStrictlySortedBy by_bytes (map edit_place edits)
   pub changing : All (λ edit. optional_bytes edit.row ≢ stored_tables contents edit.table edit.key.items) edits
 

@@ -1,6 +1,7 @@
 -- Which changes of a changeset are applied, and where each stands (SQLite's "Session Extension",
 -- `sqlite3changeset_apply_v2`; that the columns must fit the table's exactly is a profile of this project).
 use Rattle.std.specs.Prelude.{◌≡◌, ℕ, ◌+◌, Bool, true, false, ◌&&◌, List, [], ◌∷◌, ◌++◌, map, option_map, Option, Some, None, if◌then◌else◌}
+use Rattle.std.specs.Bool.{beq}
 use Rattle.std.specs.List.{flat_map, list_all}
 use Rattle.std.specs.Bool.{beq}
 use Rattle.std.specs.Str.{bytes_eq}

@@ -1,30 +1,26 @@
 //! The edits that write what the changes leave.
 
-ghost use Rattle.std.specs.Prelude.{◌≡◌, ◌++◌, ◌∷◌, [], map, option_map, IfOk, OnOk};
-ghost use Rattle.std.specs.List.{flat_map};
-ghost use Rattle.cs_value.specs.Same.{same_place};
+ghost use Rattle.std.specs.Prelude.{◌≡◌, ◌++◌, map, option_map, IfOk, OnOk};
 ghost use Rattle.cs_store.specs.Written.{optional_bytes};
-ghost use Rattle.cs_apply.specs.Edited.{plain, plain_list, edits_for, edit_for};
+ghost use Rattle.cs_apply.specs.Edited.{plain, plain_list, edits_for, edit_for, same_bytes_or_none};
 
 use crate::slots::Slot;
-use cs_record::RowBuf;
 use cs_store::RowEdit;
 use cs_value::Memory;
 use std::alloc::Global;
 
-/// Whether the two are one row, or both none.
-#[tactic(auto, unfolding(cs_value::specs::Same::same_place))]
-fn same(some: &Option<RowBuf>, other: &Option<RowBuf>) -> bool
-    ensures { result ≡ same_place some.now other.now }
+/// Whether the two are the same bytes, or both none.
+fn same(some: &Option<Vec<u8>>, other: &Option<Vec<u8>>) -> bool
+    ensures { result ≡ same_bytes_or_none (optional_bytes some.now) (optional_bytes other.now) }
 {
     match (some, other) {
         (None, None) => true,
-        (Some(some), Some(other)) => some.as_row().same(&other.as_row()),
+        (Some(some), Some(other)) => some.as_slice() == other.as_slice(),
         _ => false,
     }
 }
 
-/// The edit of a place, if it doesn't end as it began.
+/// The edit of a place, if it doesn't end as it began. Rows are compared by their bytes, since that is what is stored.
 fn edit_of(slot: Slot) -> Option<RowEdit>
     ensures { option_map plain result ≡ edit_for slot }
 {
@@ -34,15 +30,12 @@ fn edit_of(slot: Slot) -> Option<RowEdit>
         before,
         left,
     } = slot;
-    let row = left?;
-    if same(&before, &row) {
+    let row = left?.map(|row| row.into_vec());
+    let stored = before.map(|row| row.into_vec());
+    if same(&stored, &row) {
         return None;
     }
-    Some(RowEdit {
-        table,
-        key,
-        row: row.map(|row| row.into_vec()),
-    })
+    Some(RowEdit { table, key, row })
 }
 
 /// Puts the edit of a place behind the others, if it doesn't end as it began.

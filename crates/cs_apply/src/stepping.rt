@@ -1,9 +1,8 @@
 //! The changes in order, each at its place, with an answer to each conflict.
 
-ghost use Rattle.std.specs.Prelude.{◌≡◌, ◌<◌, ◌++◌, length, map, option_map, Some, None, IfOk, IfErr, OnOk};
+ghost use Rattle.std.specs.Prelude.{◌≡◌, ◌<◌, ◌++◌, length, Some, None, IfOk, IfErr, OnOk};
 ghost use Rattle.std.specs.Fn.{CalledAt};
 ghost use Rattle.std.specs.List.{All};
-ghost use Rattle.cs_change.specs.Action.{action};
 ghost use Rattle.cs_apply.specs.Applies.{AppliesOne, StopsOne, given_list};
 ghost use Rattle.cs_apply.specs.Slots.{left_or, standing};
 ghost use Rattle.cs_apply.specs.Steps.{IsAnswered, IsStopped, RunsOne, RunStops, Runs, IsRunStopped};

@@ -1,6 +1,5 @@
-use Rattle.std.proofs.Common.{◌≡◌, ◌++◌, ◌+◌, ◌<◌, List, length, drop}
+use Rattle.std.proofs.Common.{◌≡◌, ◌++◌, List, length, drop}
 use Rattle.std.specs.Fn.{CalledAt}
-use Rattle.std.specs.List.{All}
 use Rattle.cs_conflict.specs.declared.conflict.Resolution.{Resolution}
 use Rattle.cs_apply.specs.Steps.{Runs, RunsStop}
 use Rattle.cs_apply.specs.declared.fault.ApplyFault.{ApplyFault}
