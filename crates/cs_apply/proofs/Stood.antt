@@ -191,6 +191,21 @@ rising (s ∷ slots) rise =
     first_rises (numbered s) s.before s.left (edits_for slots)
     (all_places (λ place. by_bytes (slot_place s) place ≡ Less) slots rise.0) (rising slots rise.1)
 
+-- ---- the tables of edits
+
+first_numbered : (P : Numbered → Type 0) (at : Numbered) (old : Place) (left : Option Place) (edits : List Plain) → P at
+    → AllByRecursion (λ edit. P edit.0) edits → AllByRecursion (λ edit. P edit.0) (plain_list (edit_to at old left) ++ edits)
+first_numbered P at old None edits here others = others
+first_numbered P at old (Some left) edits here others =
+    by_test (is_kept old left) _ (λ t. simp t others) (λ t. simp t (here, others))
+
+-- what is so of the slots' places is so of the edits'
+all_numbered : (P : Numbered → Type 0) (slots : List Slot) → AllByRecursion (λ slot. P (numbered slot)) slots
+    → AllByRecursion (λ edit. P edit.0) (edits_for slots)
+all_numbered P [] all = tt
+all_numbered P (s ∷ slots) all =
+    first_numbered P (numbered s) s.before s.left (edits_for slots) all.0 (all_numbered P slots all.1)
+
 -- ---- an edit leaves something else
 
 abbrev IsChanging : Contents → Plain → Type 0
@@ -240,6 +255,7 @@ module _ (tables : List TableDef) (before : State) (contents : Contents) (holds 
         ∙ (ap (λ es. plain_after es number key (stored_tables contents number key)) is
         ∙ (ap (plain_after (edits_for slots) number key) (holds.stored number table key found)
         ∙ written tables are one before number table key found slots within read apart));
+    within = All-from_recursion _ edits (all_plain (λ edit. edit.0.0 < length tables) edits (rw is (all_numbered (λ at. at.0 < length tables) slots within)));
     rising = subst (λ ps. IsStrictlySortedBy by_bytes ps) (sym (ap (map plain_place) is) ∙ plain_places edits) (rising slots rise);
     changing = All-from_recursion _ edits (all_plain (IsChanging contents) edits (rw is (changing slots within read)));
   }

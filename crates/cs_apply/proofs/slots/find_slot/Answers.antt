@@ -27,7 +27,13 @@ pub returns-clause-slot : goal.returns-clause-slot
 returns-clause-slot g c =
     let at = behind_at c.args.tasks.now.tables.items c.args.tasks.now.places c.args.change c.requires.places c.requires.within in
     let key = c.in_ok-from_slice.ensures.items ∙ c.split_at.ensures.back in
-    (rw (key, c.get.ensures) (rw (c.index-table.ensures ∙ get_or_default_zero c.args.tasks.now.tables.items c.args.change _ at.0) (key_behind _ at.1.0 _ at.1.1)), refl)
+    let below = c.requires.tables c.args.change 0 at.0 in
+    let few = c.tables.ensures.tables.0 in
+    let is = c.index-table.ensures in (
+      rw (key, c.get.ensures) (rw (c.index-table.ensures ∙ get_or_default_zero c.args.tasks.now.tables.items c.args.change _ at.0) (key_behind _ at.1.0 _ at.1.1)),
+      refl,
+      omega (arith, below, few, is),
+    )
 
 pub returns-in_err-before-clause-device : goal.returns-in_err-before-clause-device
 returns-in_err-before-clause-device g c = λ honest before holds told.
