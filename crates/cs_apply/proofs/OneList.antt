@@ -219,13 +219,13 @@ module _ (stored : ℕ → List ℕ → Option (List ℕ)) (some others : List R
   same_edited changing changes number key same =
       let split : (a b : Option (Option (List ℕ))) → edited number key some ≡ a → edited number key others ≡ b → or_row a (stored number key) ≡ or_row b (stored number key) → a ≡ b = elim [
         | None ↦ elim [
-            | None ↦ λ e h is. refl
-            | Some right ↦ λ e h is. absurd (changes_there stored others number key right changes h (sym is))
-          ]
+          | None ↦ λ e h is. refl
+          | Some right ↦ λ e h is. absurd (changes_there stored others number key right changes h (sym is))
+        ]
         | Some left ↦ elim [
-            | None ↦ λ e h is. absurd (changes_there stored some number key left changing e is)
-            | Some right ↦ λ e h is. ap (λ x. Some x) is
-          ]
+          | None ↦ λ e h is. absurd (changes_there stored some number key left changing e is)
+          | Some right ↦ λ e h is. ap (λ x. Some x) is
+        ]
       ] in
       split (edited number key some) (edited number key others) refl refl same
 
@@ -244,17 +244,17 @@ one_edits tables contents some others end last few alike p q =
     let stored = stored_tables contents in
     one_list some others p.rising q.rising (small_of (length tables) some few within) (small_of (length tables) others few inside)
     (λ number key.
-        let split : (found : Option TableDef) → slice_get tables number ≡ found → edited number key some ≡ edited number key others = elim [
-          | None ↦ λ e.
-              (let past = past_end tables number e in
-              none_past (length tables) some number key within past ∙ sym (none_past (length tables) others number key inside past))
-          | Some table ↦ λ e.
-              (let row = ap (option_map row_bytes) (alike table.name key) in
-              let left = sym (after_is some number key (stored number key) p.rising) ∙ p.written number table key e in
-              let right = sym (after_is others number key (stored number key) q.rising) ∙ q.written number table key e in
-              same_edited stored some others changing changes number key (left ∙ (row ∙ sym right)))
-        ] in
-        split (slice_get tables number) refl)
+    let split : (found : Option TableDef) → slice_get tables number ≡ found → edited number key some ≡ edited number key others = elim [
+      | None ↦ λ e.
+          (let past = past_end tables number e in
+          none_past (length tables) some number key within past ∙ sym (none_past (length tables) others number key inside past))
+      | Some table ↦ λ e.
+          (let row = ap (option_map row_bytes) (alike table.name key) in
+          let left = sym (after_is some number key (stored number key) p.rising) ∙ p.written number table key e in
+          let right = sym (after_is others number key (stored number key) q.rising) ∙ q.written number table key e in
+          same_edited stored some others changing changes number key (left ∙ (row ∙ sym right)))
+    ] in
+    split (slice_get tables number) refl)
 
 pub one_applied : {F : Type 0} (asks : F → Conflict → Resolution → F → Type 0) → OneApplied asks
 one_applied asks tables groups contents before f g h some other once are p q =

@@ -68,12 +68,11 @@ module _ (tells : KindTells) {F : Type 0} (asks : F → Conflict → Resolution 
   group_quiet number group (change ∷ changes) rest s t next end f g answers alike done p =
       let one = one_quiet number group change s t p.2 done.0 f p.3 p.0 alike done.1 p.5 in
       let more = group_quiet number group changes rest p.2 done.0 next end p.3 g p.1 one.1 done.2 p.6 in
-      let answered : answers ≡ p.1 = p.4 ∙ ap (λ given. given_list given ++ p.1) one.0 in
-      (
+      let answered : answers ≡ p.1 = p.4 ∙ ap (λ given. given_list given ++ p.1) one.0 in (
         more.0,
         more.1,
         subst (λ (x : F). Applies asks more.0 rest x answers end g) one.2
-        (subst (λ (r : List Resolution). Applies asks more.0 rest p.3 r end g) (sym answered) more.2),
+            (subst (λ (r : List Resolution). Applies asks more.0 rest p.3 r end g) (sym answered) more.2),
       )
 
   quiet : (tables : List TableDef) (groups : List Group) (s t next end : State) (f g : F) (answers : List Resolution) → Alike s t

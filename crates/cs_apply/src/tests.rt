@@ -279,7 +279,10 @@ fn a_look_up_that_the_device_refuses_leaves_everything(rt: HostRuntime) -> Resul
         assert!(rt; matches!(replaces(alloc, &mut trip, &bytes), Err(ApplyFault::Device)));
         assert_eq!(rt; trip.failures(), 1);
         let rows = image(alloc, &mut trip.inner).unwrap_or(Vec::new(alloc));
-        assert_eq!(rt; rows.as_slice(), b"\x01\0\0\0\0\0\0\0\x01\x01\0\0\0\0\0\0\0\x01\x03\x02v1".as_slice());
+        assert_eq!(rt;
+            rows.as_slice(),
+            b"\x01\0\0\0\0\0\0\0\x01\x01\0\0\0\0\0\0\0\x01\x03\x02v1".as_slice()
+        );
         let told = replaces(alloc, &mut trip, &bytes).unwrap_or(Vec::new(alloc));
         assert_eq!(rt; told.as_slice(), REPLACED);
     }
@@ -291,18 +294,17 @@ fn replaces_at_last(alloc: Global) -> Result<bool, ApplyFault> {
     let bytes = changes_of_three(alloc)?;
     let mut store = store(alloc)?;
     let before = image(alloc, &mut store)?;
-    let told = match replaces(alloc, &mut store, bytes.as_slice()) {
-        Ok(told) => told,
-        Err(ApplyFault::Memory) => {
-            let after = image(alloc, &mut store)?;
-            if before.as_slice() != after.as_slice() {
-                return Ok(false);
-            }
-            replaces(alloc, &mut store, bytes.as_slice())?
-        }
-        Err(_) => return Ok(false),
-    };
-    Ok(told.as_slice() == REPLACED)
+    let told = replaces(alloc, &mut store, bytes.as_slice());
+    if let Ok(told) = &told {
+        return Ok(told.as_slice() == REPLACED);
+    }
+    let after = image(alloc, &mut store)?;
+    let again = replaces(alloc, &mut store, bytes.as_slice())?;
+    Ok(
+        matches!(told, Err(ApplyFault::Memory))
+            && before.as_slice() == after.as_slice()
+            && again.as_slice() == REPLACED,
+    )
 }
 
 /// Everything is as it was where memory is refused, and the same call then succeeds. `bench/refuse_tests.sh` refuses each
