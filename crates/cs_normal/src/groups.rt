@@ -15,7 +15,7 @@ use cs_value::{Catalog, Memory, TableDef};
 use std::alloc::{AllocError, Global};
 
 /// Whether the marks of a group are those of a table: any byte but 0 marks a key column.
-fn same_shape(marks: &[u8], key_marks: &[bool]) -> bool
+pub fn same_shape(marks: &[u8], key_marks: &[bool]) -> bool
     ensures { IsTrue result ↔ (marks_of marks.now ≡ key_marks.now) }
 {
     let mut marks = marks;

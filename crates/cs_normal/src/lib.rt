@@ -21,7 +21,7 @@ mod tables;
 mod unfit;
 mod writing;
 
-pub use groups::normalise;
+pub use groups::{normalise, same_shape};
 pub use headers::{HeaderFault, catalog_of};
 pub use key_bytes::encode_key;
 pub use key_of_change::put_key;

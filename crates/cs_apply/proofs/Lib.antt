@@ -1,0 +1,16 @@
+pub mod Apart
+pub mod Beginning
+pub mod Giving
+pub mod Groups
+pub mod Lifted
+pub mod Numbering
+pub mod OneAnswer
+pub mod OneList
+pub mod Outcome
+pub mod Overlay
+pub mod Placed
+pub mod Quiet
+pub mod Reading
+pub mod Running
+pub mod Stood
+pub mod WholeRow

@@ -1,0 +1,11 @@
+pub mod Applies
+pub mod Begun
+pub mod Calls
+pub mod Edited
+pub mod Found
+pub mod Laws
+pub mod Overlaid
+pub mod Slots
+pub mod Steps
+pub mod Stored
+pub mod Tasks

@@ -1,0 +1,335 @@
+//! Changesets over a store in memory, beside rows and answers that were written by hand.
+
+use super::*;
+use cs_change::Changeset;
+use cs_changeset::read;
+use cs_conflict::{Conflict, Kind, Resolution};
+use cs_store::{Batch, MapStore, RowEdit, RowStore, Trip};
+use cs_value::{Catalog, Items, Memory, TableDef, Text};
+use std::alloc::Global;
+use std::test::Fail;
+
+/// The header of `t1(a key, b)`, and that of `t9`.
+const FIRST: &[u8] = &[0x54, 2, 1, 0, 0x74, 0x31, 0];
+
+const UNKNOWN: &[u8] = &[0x54, 2, 1, 0, 0x74, 0x39, 0];
+
+/// The operations, each with a direct flag.
+const INSERT: [u8; 2] = [0x12, 0];
+
+const DELETE: [u8; 2] = [9, 0];
+
+fn table(alloc: Global, name: &str, marks: &[bool]) -> Result<TableDef, Memory> {
+    Ok(TableDef {
+        name: Text::from_string(String::from_str(alloc, name)?),
+        key_marks: Items::from_vec(Vec::from_slice(alloc, marks)?),
+    })
+}
+
+/// The tables `t1(a key, b)` and `t2(a key, b, c, d)`.
+fn catalog(alloc: Global) -> Result<Option<Catalog>, Memory> {
+    let mut tables = Vec::new(alloc);
+    tables.push(table(alloc, "t1", &[true, false])?)?;
+    tables.push(table(alloc, "t2", &[true, false, false, false])?)?;
+    Ok(Catalog::new(tables).ok())
+}
+
+/// The key with this number, and the row of it with this text.
+fn put_row(number: u8, text: &[u8], out: &mut Vec<u8>) -> Result<(), Memory> {
+    let length = text.len().to_be_bytes()[7];
+    out.extend_from_slice(&[1, 0, 0, 0, 0, 0, 0, 0, number, 3, length])?;
+    out.extend_from_slice(text)?;
+    Ok(())
+}
+
+fn row(alloc: Global, number: u8, text: &[u8]) -> Result<Vec<u8>, Memory> {
+    let mut out = Vec::new(alloc);
+    put_row(number, text, &mut out)?;
+    Ok(out)
+}
+
+/// The changes of one group.
+fn group(
+    alloc: Global,
+    header: &[u8],
+    changes: &[([u8; 2], u8, &[u8])],
+) -> Result<Vec<u8>, Memory> {
+    let mut out = Vec::from_slice(alloc, header)?;
+    for (operation, number, text) in changes {
+        out.extend_from_slice(operation)?;
+        put_row(*number, text, &mut out)?;
+    }
+    Ok(out)
+}
+
+/// A store that holds (1, 'v1') in `t1`.
+fn store(alloc: Global) -> Result<MapStore, Memory> {
+    let mut store = MapStore::new(alloc);
+    let mut rows = Vec::new(alloc);
+    rows.push(RowEdit {
+        table: 0,
+        key: Vec::from_slice(alloc, &[1, 0, 0, 0, 0, 0, 0, 0, 1])?,
+        row: Some(row(alloc, 1, b"v1")?),
+    })?;
+    let batch = Batch {
+        rows,
+        meta: Vec::new(alloc),
+        log: None,
+    };
+    match store.commit(&batch) {
+        Ok(()) => Ok(store),
+        Err(_) => Err(std::alloc::AllocError),
+    }
+}
+
+/// A number below 16 as one byte of text.
+fn put_digit(number: u8, out: &mut Vec<u8>) -> Result<(), Memory> {
+    out.push(b'0' | number)?;
+    Ok(())
+}
+
+/// The number of a key, its last byte.
+fn put_key_number(key: &[u8], out: &mut Vec<u8>) -> Result<(), Memory> {
+    if let Some(number) = key.last() {
+        put_digit(*number, out)?;
+    }
+    Ok(())
+}
+
+/// An edit as its table, its key's number, and its text.
+fn put_edit(edit: &RowEdit, out: &mut Vec<u8>) -> Result<(), Memory> {
+    put_digit(edit.table.to_be_bytes()[3], out)?;
+    put_key_number(edit.key.as_slice(), out)?;
+    match &edit.row {
+        Some(row) => {
+            out.push(b'=')?;
+            if let Some((_, text)) = row.as_slice().split_at_checked(11) {
+                out.extend_from_slice(text)?;
+            }
+        }
+        None => out.push(b'-')?,
+    }
+    out.push(b' ')?;
+    Ok(())
+}
+
+/// What came of a changeset, in short: the edits, the answers, and how many groups were skipped.
+fn put_applied(applied: &Applied, out: &mut Vec<u8>) -> Result<(), Memory> {
+    for edit in &applied.edits {
+        put_edit(edit, out)?;
+    }
+    for answer in &applied.answers {
+        put_digit(*answer as u8, out)?;
+    }
+    out.push(b' ')?;
+    put_digit(applied.skipped.to_be_bytes()[7], out)
+}
+
+fn put_stop(name: &[u8], stop: &Stop, out: &mut Vec<u8>) -> Result<(), Memory> {
+    out.extend_from_slice(name)?;
+    put_digit(stop.kind as u8, out)?;
+    put_digit(stop.table.to_be_bytes()[3], out)?;
+    put_key_number(stop.key.as_slice(), out)
+}
+
+fn put_fault(fault: &ApplyFault, out: &mut Vec<u8>) -> Result<(), Memory> {
+    match fault {
+        ApplyFault::Memory => out.extend_from_slice(b"Memory"),
+        ApplyFault::Aborted(stop) => put_stop(b"Aborted", stop, out),
+        ApplyFault::Misuse(stop) => put_stop(b"Misuse", stop, out),
+        ApplyFault::Device => out.extend_from_slice(b"Device"),
+        ApplyFault::NullKey => out.extend_from_slice(b"NullKey"),
+    }
+}
+
+/// What `apply` makes of these bytes, where the conflicts are answered by these answers in turn and then by `Abort`.
+fn told(alloc: Global, bytes: &[u8], answers: &[Resolution]) -> Result<Vec<u8>, Memory> {
+    let mut out = Vec::new(alloc);
+    let Some(catalog) = catalog(alloc)? else {
+        return Ok(out);
+    };
+    let Ok(changeset) = read(alloc, bytes) else {
+        return Ok(out);
+    };
+    let mut store = store(alloc)?;
+    let mut rest = answers;
+    let mut kinds = [0u8; 4];
+    let mut asked = 0;
+    let applied = apply(
+        alloc,
+        &mut store,
+        &catalog,
+        &changeset,
+        &mut |conflict: &Conflict<'_>| {
+            if asked < 4 {
+                kinds[asked] = conflict.kind as u8;
+                asked += 1;
+            }
+            match rest.split_first() {
+                Some((answer, more)) => {
+                    rest = more;
+                    *answer
+                }
+                None => Resolution::Abort,
+            }
+        },
+    );
+    match &applied {
+        Ok(applied) => put_applied(applied, &mut out)?,
+        Err(fault) => put_fault(fault, &mut out)?,
+    }
+    out.push(b' ')?;
+    for kind in &kinds {
+        if *kind != 0 {
+            put_digit(*kind, &mut out)?;
+        }
+    }
+    Ok(out)
+}
+
+#[test]
+fn worked_rows(rt: HostRuntime) -> Result<(), Fail> {
+    let alloc = rt.alloc();
+    let delete = group(alloc, FIRST, &[(DELETE, 1, b"v2")])?;
+    assert_eq!(rt;
+        told(alloc, &delete, &[Resolution::Omit])?.as_slice(),
+        "0 0 1".as_bytes()
+    );
+    assert_eq!(rt;
+        told(alloc, &delete, &[Resolution::Replace])?.as_slice(),
+        "01- 1 0 1".as_bytes()
+    );
+    let missing = group(alloc, FIRST, &[(DELETE, 2, b"x")])?;
+    assert_eq!(rt;
+        told(alloc, &missing, &[Resolution::Replace])?.as_slice(),
+        "Misuse202 2".as_bytes()
+    );
+    let twice = group(alloc, FIRST, &[(INSERT, 5, b"a"), (INSERT, 5, b"b")])?;
+    assert_eq!(rt;
+        told(alloc, &twice, &[Resolution::Replace])?.as_slice(),
+        "05=b 1 0 3".as_bytes()
+    );
+    let both = group(alloc, FIRST, &[(DELETE, 1, b"v2"), (INSERT, 1, b"z")])?;
+    let answers = [Resolution::Omit, Resolution::Abort];
+    assert_eq!(rt;
+        told(alloc, &both, &answers)?.as_slice(),
+        "Aborted301 13".as_bytes()
+    );
+    let unknown = group(alloc, UNKNOWN, &[(INSERT, 1, b"a")])?;
+    assert_eq!(rt; told(alloc, &unknown, &[])?.as_slice(), " 1 ".as_bytes());
+    let mut null = Vec::from_slice(alloc, FIRST)?;
+    null.extend_from_slice(&[0x12, 0, 5, 3, 1, b'a'])?;
+    assert_eq!(rt; told(alloc, &null, &[])?.as_slice(), "NullKey ".as_bytes());
+    Ok(())
+}
+
+/// The bytes of all rows of `t1`, behind their keys.
+fn image<S: RowStore>(alloc: Global, store: &mut S) -> Result<Vec<u8>, ApplyFault> {
+    let mut out = Vec::new(alloc);
+    for row in &store.list(0)? {
+        out.extend_from_slice(row.key.as_slice())?;
+        out.extend_from_slice(row.row.as_slice())?;
+    }
+    Ok(out)
+}
+
+/// Three places: a DELETE and an INSERT that meet another row of the one, an INSERT, and a DELETE that finds no row.
+fn changes_of_three(alloc: Global) -> Result<Vec<u8>, Memory> {
+    let changes: [([u8; 2], u8, &[u8]); 4] = [
+        (DELETE, 1, b"v2"),
+        (INSERT, 1, b"z"),
+        (INSERT, 2, b"new"),
+        (DELETE, 3, b"x"),
+    ];
+    group(alloc, FIRST, &changes)
+}
+
+/// What applying these bytes gives where DataDiffers and KeyConflict are answered by REPLACE, and NotFound by OMIT.
+fn replaces<S: RowStore>(
+    alloc: Global,
+    store: &mut S,
+    bytes: &[u8],
+) -> Result<Vec<u8>, ApplyFault> {
+    let mut out = Vec::new(alloc);
+    let Some(catalog) = catalog(alloc)? else {
+        return Ok(out);
+    };
+    let changeset = match read(alloc, bytes) {
+        Ok(changeset) => changeset,
+        Err(_) => return Err(ApplyFault::Memory),
+    };
+    let mut answer = |conflict: &Conflict<'_>| match conflict.kind {
+        Kind::NotFound => Resolution::Omit,
+        Kind::DataDiffers | Kind::KeyConflict => Resolution::Replace,
+    };
+    let applied = apply(alloc, store, &catalog, &changeset, &mut answer)?;
+    put_applied(&applied, &mut out)?;
+    Ok(out)
+}
+
+/// What applying the three gives.
+const REPLACED: &[u8] = b"01=z 02=new 10 0";
+
+#[test]
+fn a_look_up_that_the_device_refuses_leaves_everything(rt: HostRuntime) -> Result<(), Fail> {
+    let alloc = rt.alloc();
+    let bytes = changes_of_three(alloc)?;
+    for refused in 0..3u64 {
+        let mut trip = Trip::new(store(alloc)?, refused);
+        assert!(rt; matches!(replaces(alloc, &mut trip, &bytes), Err(ApplyFault::Device)));
+        assert_eq!(rt; trip.failures(), 1);
+        let rows = image(alloc, &mut trip.inner).unwrap_or(Vec::new(alloc));
+        assert_eq!(rt;
+            rows.as_slice(),
+            b"\x01\0\0\0\0\0\0\0\x01\x01\0\0\0\0\0\0\0\x01\x03\x02v1".as_slice()
+        );
+        let told = replaces(alloc, &mut trip, &bytes).unwrap_or(Vec::new(alloc));
+        assert_eq!(rt; told.as_slice(), REPLACED);
+    }
+    Ok(())
+}
+
+/// Applies, and once more where that was refused: whether the refusal was for memory and left what was there.
+fn replaces_at_last(alloc: Global) -> Result<bool, ApplyFault> {
+    let bytes = changes_of_three(alloc)?;
+    let mut store = store(alloc)?;
+    let before = image(alloc, &mut store)?;
+    let told = replaces(alloc, &mut store, bytes.as_slice());
+    if let Ok(told) = &told {
+        return Ok(told.as_slice() == REPLACED);
+    }
+    let after = image(alloc, &mut store)?;
+    let again = replaces(alloc, &mut store, bytes.as_slice())?;
+    Ok(
+        matches!(told, Err(ApplyFault::Memory))
+            && before.as_slice() == after.as_slice()
+            && again.as_slice() == REPLACED,
+    )
+}
+
+/// Everything is as it was where memory is refused, and the same call then succeeds. `bench/refuse_tests.sh` refuses each
+/// allocation in turn here; what can't be made, or a read that is refused, is tried again with the rest.
+#[test]
+fn refused_memory_leaves_everything(rt: HostRuntime) -> Result<(), Fail> {
+    let alloc = rt.alloc();
+    let kept = match replaces_at_last(alloc) {
+        Ok(kept) => kept,
+        Err(ApplyFault::Memory) => replaces_at_last(alloc).unwrap_or(false),
+        Err(_) => false,
+    };
+    assert!(rt; kept);
+    Ok(())
+}
+
+#[test]
+fn faults_are_told_by_name(rt: HostRuntime) -> Result<(), Fail> {
+    let alloc = rt.alloc();
+    for (fault, name) in [
+        (ApplyFault::Memory, "Memory"),
+        (ApplyFault::Device, "Device"),
+        (ApplyFault::NullKey, "NullKey"),
+    ] {
+        assert_eq!(rt; fault.to_string(alloc)?.as_str(), name);
+    }
+    Ok(())
+}
