@@ -1,14 +1,14 @@
 //! Changesets as read, that stay in their bytes, brought into normal form.
 
-ghost use Rattle.std.specs.Prelude.{◌≡◌, ◌<◌, ◌≤◌, ◌++◌, ◌↔◌, length, take, map, HoldsAt, IsTrue, IfOk, IfErr, OnOk, MatchOption};
+ghost use Rattle.std.specs.Prelude.{◌≡◌, ◌<◌, ◌≤◌, ◌↔◌, length, take, HoldsAt, IsTrue, IfOk, IfErr, MatchOption};
 ghost use Rattle.cs_change.specs.Spelling.{FitsChangeset, changeset_spelling, marks_of};
 ghost use Rattle.cs_normal.specs.Normal.{normal_spelling};
 ghost use Rattle.cs_normal.specs.NormalFormOf.{HasTable, HaveTables, HaveKeys, IsNormalFormOf, IsUnfit};
-ghost use Rattle.cs_normal.specs.Steps.TableByTable.{AreTablesOf, AnyUnfit, HasTableFault, IsUnfitHeader, table_changes};
+ghost use Rattle.cs_normal.specs.Steps.TableByTable.{AreTablesOf, AnyUnfit, HasTableFault, IsUnfitHeader};
 
-use crate::keyed_changes::KeyedChanges;
 use crate::normal::{Normal, TableChanges};
 use crate::table_form::table_form;
+use crate::tables::push_table;
 use crate::unfit::Unfit;
 use cs_change::{Change, Changeset, Group};
 use cs_value::{Catalog, Memory, TableDef};
@@ -64,26 +64,6 @@ fn fitting_headers(catalog: &Catalog, groups: &[Group<'_>]) -> (usize, Option<Un
     (groups.len(), None)
 }
 
-/// Puts a table's changes behind the others, if there are some.
-fn put_changes(
-    alloc: Global,
-    table: &TableDef,
-    changes: KeyedChanges,
-    normal: &mut Vec<TableChanges>,
-) -> Result<(), Memory>
-    ensures { OnOk result (normal.new.items ≡ normal.old.items ++ table_changes table.now changes) }
-{
-    if changes.is_empty() {
-        return Ok(());
-    }
-    normal.push(TableChanges {
-        name: table.name.copy(alloc)?,
-        marks: table.key_marks.copied(alloc)?,
-        changes,
-    })?;
-    Ok(())
-}
-
 /// The normal form of groups whose headers fit, or what is wrong with one of the tables' changes.
 fn normalise_tables(
     alloc: Global,
@@ -97,7 +77,7 @@ fn normalise_tables(
     let mut rest = tables;
     while let Some((table, more)) = rest.split_first() {
         let changes = table_form(alloc, table, groups)?;
-        put_changes(alloc, table, changes, &mut normal)?;
+        push_table(alloc, table, changes, &mut normal)?;
         rest = more;
     }
     Ok(normal)
