@@ -1,15 +1,14 @@
 -- The marks up to the last key column: each change has the same key by them.
-use Rattle.std.proofs.Common.{◌≡◌, Bool, true, false, List, [], ◌∷◌, ◌++◌, refl, sym, ap, ◌∙◌, subst}
+use Rattle.std.proofs.Common.{◌≡◌, Bool, true, false, List, [], ◌∷◌, ◌++◌, refl, sym, ap, ◌∙◌}
 use Rattle.std.specs.Prelude.{if◌then◌else◌}
 use Rattle.std.specs.List.{list_all}
-use Rattle.cs_order.specs.Order.{Keys}
 use Rattle.cs_value.specs.Catalog.{is_set, marked}
 use Rattle.cs_value.specs.declared.value.Field.{Field}
 use Rattle.cs_value.specs.declared.value.Value.{Value}
 use Rattle.cs_change.specs.declared.change.Change.{Change}
 use Rattle.cs_change.specs.declared.change.Change.TheVariants.{Insert, Delete, Update}
 use Rattle.cs_normal.specs.Changes.{key_bytes}
-use Rattle.cs_normal.specs.NormalForm.{change_key, has_key, marked_fields, value_or_null}
+use Rattle.cs_normal.specs.NormalForm.{has_key, marked_fields, value_or_null}
 use Rattle.cs_normal.specs.Steps.Lent.{HaveSameKeys, key_if_set}
 
 marked_front : (front : List Bool) (row : List Value) → marked (front ++ false ∷ []) row ≡ marked front row

@@ -132,11 +132,7 @@ fn keep(
 }
 
 /// The changes as they stand, behind these keys.
-fn as_they_stand(
-    alloc: Global,
-    keys: Keys,
-    changes: &[Change<'_>],
-) -> Result<KeyedChanges, Memory>
+fn as_they_stand(alloc: Global, keys: Keys, changes: &[Change<'_>]) -> Result<KeyedChanges, Memory>
     requires { length keys ≡ length changes.now }
     ensures { IfOk result (λ made. made ≡ beside keys changes.now) }
 {
