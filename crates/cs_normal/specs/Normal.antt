@@ -31,6 +31,12 @@ FitsCatalog [] (first ∷ others) = ⊥
 FitsCatalog (table ∷ tables) (first ∷ others) =
     (IsOfTable table first × FitsCatalog tables others) ⊎ FitsCatalog tables (first ∷ others)
 
+-- the table with these changes, if there are some
+abbrev pub table_changes : TableDef → Changes → List TableChanges
+table_changes table [] = []
+table_changes table (first ∷ others) =
+    record { name = table.name; marks = table.key_marks; changes = first ∷ others } ∷ []
+
 -- a changeset in normal form: tables in normal form, no two of one name
 abbrev pub IsNormalChangeset : List TableChanges → Type 0
 IsNormalChangeset [] = Unit {0}

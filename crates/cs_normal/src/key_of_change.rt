@@ -4,6 +4,7 @@ ghost use Rattle.std.specs.Prelude.{◌≡◌, ◌++◌, IfOk};
 ghost use Rattle.std.specs.List.{list_all};
 ghost use Rattle.cs_value.specs.Catalog.{is_set, marked};
 ghost use Rattle.cs_normal.specs.Changes.{key_bytes};
+ghost use Rattle.cs_normal.specs.Steps.Lent.{HaveSameKeys};
 ghost use Rattle.cs_normal.specs.NormalForm.{change_bytes, has_key, marked_fields};
 
 use cs_change::Change;
@@ -12,6 +13,21 @@ use cs_value::Memory;
 
 /// The byte that spells NULL.
 const NULL: u8 = 5;
+
+/// The marks up to the last key column: the columns behind it are in no key, and needn't be looked at.
+#[tactic(auto, unfolding(crate::specs::NormalForm::marked_fields))]
+pub(crate) fn key_front(marks: &[bool]) -> &[bool]
+    ensures { HaveSameKeys result.now marks.now }
+{
+    let mut front = marks;
+    while let Some((last, before)) = front.split_last() {
+        if *last {
+            return front;
+        }
+        front = before;
+    }
+    front
+}
 
 /// Appends the bytes of a row's key, and tells whether none of its values is NULL.
 #[inline(always)]
@@ -22,10 +38,10 @@ fn put_row_key(marks: &[bool], row: &Row<'_>, out: &mut Vec<u8>) -> Result<bool,
     let mut whole = true;
     let mut marks = marks;
     let mut row = row.again();
-    while let (Some((mark, more_marks)), Some((cell, more_row))) = (
-        marks.split_first(),
-        row.split_first(),
-    ) {
+    while let Some((mark, more_marks)) = marks.split_first() {
+        let Some((cell, more_row)) = row.split_first() else {
+            break;
+        };
         if *mark {
             cell.append(out)?;
             whole = whole && cell.is_set();
@@ -46,10 +62,10 @@ fn put_record_key(marks: &[bool], fields: &Record<'_>, out: &mut Vec<u8>) -> Res
     let mut whole = true;
     let mut marks = marks;
     let mut fields = fields.again();
-    while let (Some((mark, more_marks)), Some((column, more_fields))) = (
-        marks.split_first(),
-        fields.split_first(),
-    ) {
+    while let Some((mark, more_marks)) = marks.split_first() {
+        let Some((column, more_fields)) = fields.split_first() else {
+            break;
+        };
         if *mark {
             match Cell::of_column(&column) {
                 Some(cell) => {

@@ -5,12 +5,14 @@ ghost use Rattle.std.specs.List.{All};
 ghost use Rattle.cs_normal.specs.Keyed.{IsSpotIn, keys_in};
 ghost use Rattle.cs_normal.specs.NormalForm.{has_key};
 ghost use Rattle.cs_normal.specs.Steps.Lent.{key_if_set};
+ghost use Rattle.cs_normal.specs.Steps.Rising.{ascend};
 
 use crate::comparing::same_bytes;
 use crate::key_of_change::put_key;
 use cs_change::Change;
 use cs_value::Memory;
 use std::alloc::{AllocError, Global};
+use std::cmp::Ordering;
 use std::marker::Model;
 
 /// Keys, as their bytes and where each stands.
@@ -82,11 +84,34 @@ fn put_of(
     Ok(whole)
 }
 
+/// Whether the key at each spot is below that at the next.
+#[tactic(auto, unfolding(crate::specs::Steps::Rising::ascend, crate::specs::Steps::Rising::ascend_from))]
+fn spots_rise(bytes: &[u8], spots: &[(usize, usize)]) -> bool
+    requires { All (IsSpotIn (length bytes.now)) spots.now }
+    ensures { result ≡ ascend (keys_in bytes.now spots.now) }
+{
+    let Some((first, rest)) = spots.split_first() else {
+        return true;
+    };
+    let mut last = &bytes[first.0..first.1];
+    let mut rest = rest;
+    while let Some((next, more)) = rest.split_first() {
+        let key = &bytes[next.0..next.1];
+        if last.cmp(key) != Ordering::Less {
+            return false;
+        }
+        last = key;
+        rest = more;
+    }
+    true
+}
+
 impl Keys {
     ghost use Rattle.std.specs.Prelude.{◌≡◌, ◌↔◌, IsTrue, ◌++◌, ◌∷◌, [], ◌<◌, length, IfOk, OnOk, OnErr, slice_index_or};
     ghost use Rattle.cs_order.specs.Order.{keys_behind};
     ghost use Rattle.cs_normal.specs.NormalForm.{has_key};
     ghost use Rattle.cs_normal.specs.Steps.Lent.{key_if_set};
+    ghost use Rattle.cs_normal.specs.Steps.Rising.{ascend};
 
     /// No key.
     pub fn new(alloc: Global) -> Keys
@@ -106,6 +131,13 @@ impl Keys {
             bytes: Vec::with_capacity(alloc, bytes)?,
             spots: Vec::with_capacity(alloc, keys)?,
         })
+    }
+
+    /// No key, with room for as many as these.
+    pub(crate) fn with_room_for(alloc: Global, keys: &Keys) -> Result<Keys, Memory>
+        ensures { IfOk result (λ made. made ≡ []) }
+    {
+        Keys::with_capacity(alloc, keys.spots.len(), keys.bytes.len())
     }
 
     /// The same keys, in memory of their own.
@@ -178,6 +210,13 @@ impl Keys {
             at += 1;
         }
         true
+    }
+
+    /// Whether each key is below the next.
+    pub(crate) fn rise(&self) -> bool
+        ensures { result ≡ ascend self.now }
+    {
+        spots_rise(self.bytes.as_slice(), self.spots.as_slice())
     }
 
     /// All keys, lent.

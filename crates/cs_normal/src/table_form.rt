@@ -1,21 +1,24 @@
 //! Changes of one table as read, that stay in their bytes, brought into normal form. One order of their keys decides; each
 //! change is looked at where it stands and written once.
 
-ghost use Rattle.std.specs.Prelude.{◌≡◌, ◌++◌, ◌∷◌, [], true, false, IfOk, IfErr, MatchOption, OnOk, map};
+ghost use Rattle.std.specs.Prelude.{◌≡◌, ◌++◌, ◌∷◌, [], true, false, IfOk, IfErr, MatchOption, OnOk, length, map};
 ghost use Rattle.std.specs.List.{list_all};
 ghost use Rattle.std.specs.Map.{keys_of};
 ghost use Rattle.std.specs.Str.{bytes_eq};
 ghost use Rattle.cs_order.specs.Order.{key_at, keys_behind};
+ghost use Rattle.cs_normal.specs.Keyed.{beside};
 ghost use Rattle.cs_normal.specs.NormalForm.{AreUnfit, change_bytes, has_key};
 ghost use Rattle.cs_normal.specs.NormalFormOf.{changes_of};
 ghost use Rattle.cs_normal.specs.Steps.Lent.{entries_of, IsKeptOf};
 ghost use Rattle.cs_normal.specs.Steps.Prepared.{Entries, all_keyed, entry_at, kept, prepared, rises};
 ghost use Rattle.cs_normal.specs.Steps.TableByTable.{IsTableOf};
 
+use crate::key_of_change::key_front;
 use crate::keyed_changes::KeyedChanges;
 use crate::keys::Keys;
+use crate::one_form::all_normal;
 use crate::unfit::Unfit;
-use cs_change::{Change, Group, Scratch};
+use cs_change::{Change, ChangesBuf, Group, Scratch};
 use cs_order::order;
 use cs_value::{Memory, TableDef};
 use std::alloc::Global;
@@ -30,10 +33,11 @@ fn gather_keys(
     ensures keys { IfOk result (λ found. found.0 ≡ keys_of (prepared marks.now changes.now)) }
     ensures whole { IfOk result (λ found. found.1 ≡ all_keyed marks.now changes.now) }
 {
-    let mut keys = Keys::new(alloc);
+    let front = key_front(marks);
+    let mut keys = Keys::with_capacity(alloc, changes.len(), 0)?;
     let mut at = 0;
     while at < changes.len() {
-        if !keys.push_of(marks, &changes[at])? {
+        if !keys.push_of(front, &changes[at])? {
             return Ok((keys, false));
         }
         at += 1;
@@ -108,41 +112,79 @@ fn keep_at(
     Ok(())
 }
 
-/// The normal forms that are left, in this order.
+/// Appends the normal forms that are left, in this order.
 fn keep(
     alloc: Global,
     marks: &[bool],
     keys: &[&[u8]],
     changes: &[Change<'_>],
     order: &[usize],
-) -> Result<KeyedChanges, Memory>
+    made: &mut KeyedChanges,
+) -> Result<(), Memory>
     requires { keys_behind keys.now ≡ keys_of (entries_of marks.now changes.now) }
-    ensures { IfOk result (λ made. made ≡ kept (map (entry_at (entries_of marks.now changes.now)) order.now)) }
+    ensures { OnOk result (made.new ≡ made.old ++ kept (map (entry_at (entries_of marks.now changes.now)) order.now)) }
 {
     let mut scratch = Scratch::new(alloc);
-    let mut made = KeyedChanges::new(alloc);
     for place in order {
-        keep_at(marks, keys, changes, *place, &mut scratch, &mut made)?;
+        keep_at(marks, keys, changes, *place, &mut scratch, made)?;
     }
-    Ok(made)
+    Ok(())
 }
 
-/// The normal form of these changes of one table, or what is wrong with the first that is wrong.
-fn form_of(alloc: Global, marks: &[bool], changes: &[Change<'_>]) -> Result<KeyedChanges, Unfit>
+/// The changes as they stand, behind these keys.
+fn as_they_stand(alloc: Global, keys: Keys, changes: &[Change<'_>]) -> Result<KeyedChanges, Memory>
+    requires { length keys ≡ length changes.now }
+    ensures { IfOk result (λ made. made ≡ beside keys changes.now) }
+{
+    let changes = ChangesBuf::of_changes(alloc, changes)?;
+    Ok(KeyedChanges::from_parts(keys, changes))
+}
+
+/// The normal form of changes that stand in any order, or what is wrong with the first that is wrong.
+fn form_in_order(
+    alloc: Global,
+    marks: &[bool],
+    keys: &Keys,
+    whole: bool,
+    changes: &[Change<'_>],
+) -> Result<KeyedChanges, Unfit>
+    requires keys { keys.now ≡ keys_of (prepared marks.now changes.now) }
+    requires whole { whole ≡ all_keyed marks.now changes.now }
     ensures kept { IfOk result (IsKeptOf marks.now changes.now) }
     ensures fault { IfErr result (λ fault. AreUnfit fault marks.now changes.now) }
 {
     cs_order::laws::orders();
-    let (keys, whole) = gather_keys(alloc, marks, changes)?;
-    let keys = keys.slices(alloc)?;
-    let order = order(alloc, keys.as_slice())?;
-    if !keys_rise(keys.as_slice(), order.as_slice()) {
+    let slices = keys.slices(alloc)?;
+    let order = order(alloc, slices.as_slice())?;
+    if !keys_rise(slices.as_slice(), order.as_slice()) {
         return Err(Unfit::KeyTwice);
     }
     if !whole {
         return Err(Unfit::NullKey);
     }
-    Ok(keep(alloc, marks, keys.as_slice(), changes, order.as_slice())?)
+    let mut made = KeyedChanges::with_room_for(alloc, keys, changes)?;
+    keep(
+        alloc,
+        marks,
+        slices.as_slice(),
+        changes,
+        order.as_slice(),
+        &mut made,
+    )?;
+    Ok(made)
+}
+
+/// The normal form of these changes of one table, or what is wrong with the first that is wrong. Those that are in normal
+/// form already are copied as they stand, and their keys are put in no order.
+fn form_of(alloc: Global, marks: &[bool], changes: &[Change<'_>]) -> Result<KeyedChanges, Unfit>
+    ensures kept { IfOk result (IsKeptOf marks.now changes.now) }
+    ensures fault { IfErr result (λ fault. AreUnfit fault marks.now changes.now) }
+{
+    let (keys, whole) = gather_keys(alloc, marks, changes)?;
+    if whole && keys.rise() && all_normal(marks, changes) {
+        return Ok(as_they_stand(alloc, keys, changes)?);
+    }
+    form_in_order(alloc, marks, &keys, whole, changes)
 }
 
 /// Whether the group has the table's name.

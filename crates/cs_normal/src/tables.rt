@@ -4,7 +4,7 @@ ghost use Rattle.std.specs.Prelude.{◌≡◌, ◌↔◌, ◌++◌, [], min, IsT
 ghost use Rattle.std.specs.List.{flat_map};
 ghost use Rattle.cs_record.specs.Spelling.{Extends};
 ghost use Rattle.cs_change.specs.Spelling.{change_spelling};
-ghost use Rattle.cs_normal.specs.Normal.{FitsCatalog, IsNormalChangeset, IsOfTable, change_of, changes_in, count_of, normal_spelling, table_spelling};
+ghost use Rattle.cs_normal.specs.Normal.{FitsCatalog, IsNormalChangeset, IsOfTable, change_of, changes_in, count_of, normal_spelling, table_changes, table_spelling};
 
 use crate::comparing::{same_marks, same_name};
 use crate::keyed_changes::KeyedChanges;
@@ -40,6 +40,26 @@ pub(crate) fn count_changes(tables: &[TableChanges]) -> usize
         rest = more;
     }
     count
+}
+
+/// Puts a table with its changes behind the others, if it has some.
+pub fn push_table(
+    alloc: Global,
+    table: &TableDef,
+    changes: KeyedChanges,
+    tables: &mut Vec<TableChanges>,
+) -> Result<(), Memory>
+    ensures { OnOk result (tables.new.items ≡ tables.old.items ++ table_changes table.now changes) }
+{
+    if changes.is_empty() {
+        return Ok(());
+    }
+    tables.push(TableChanges {
+        name: table.name.copy(alloc)?,
+        marks: table.key_marks.copied(alloc)?,
+        changes,
+    })?;
+    Ok(())
 }
 
 fn put_changes(changes: &KeyedChanges, out: &mut Vec<u8>) -> Result<(), Memory>
