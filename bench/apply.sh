@@ -4,7 +4,7 @@
 # Over many drawn cases (tables with one and several key columns, texts, blobs, NULLs; a table that isn't there; a key that
 # comes twice) it fails unless both meet the same conflicts in the same order, with the same rows behind them, end alike, and
 # leave the same rows. With ROUNDS it also times both, and prints the ratios. Where SQLite's library can't be had, it says so
-# and ends well. It proves and builds `apply_program.rattle` in a repository of its own in bench/out, over copies of the crates.
+# and ends well.
 set -eu
 bench="$(cd "$(dirname "$0")" && pwd)"
 rounds="${1:-}"
@@ -17,27 +17,11 @@ if ! need_sqlite; then
 fi
 cc -O2 -Wall -Wextra $sqlite_flags "$bench/apply.c" -o "$out/sqlite_apply" -lsqlite3
 
-# A crate is copied with what its proof left, so that it isn't proved again.
-work="$out/apply"
-mkdir -p "$work/crates/apply_program/src"
-crates="cs_apply cs_change cs_changeset cs_conflict cs_normal cs_order cs_record cs_store cs_value cs_varint"
-: > "$work/crates.txt"
-for name in $crates; do
-    rm -rf "$work/crates/$name"
-    cp -r "$bench/../crates/$name" "$work/crates/"
-    grep "^$name:" "$bench/../crates.txt" >> "$work/crates.txt"
-done
-echo "apply_program: cs_apply cs_change cs_changeset cs_conflict cs_normal cs_store cs_value hex" >> "$work/crates.txt"
-cp "$bench/apply_program.rattle" "$work/crates/apply_program/src/main.rt"
-: > "$work/crates/apply_program/stdin"
-(cd "$work/crates/apply_program" && rt run > "$out/apply_build.log" 2>&1) || {
-    echo "the program isn't built: see $out/apply_build.log" >&2
-    exit 1
-}
-program="$work/crates/apply_program/out/apply_program"
+build_rattle apply_program "cs_apply cs_change cs_changeset cs_conflict cs_normal cs_store cs_value hex" \
+    cs_apply cs_change cs_changeset cs_conflict cs_normal cs_order cs_record cs_store cs_value cs_varint
 
 "$out/sqlite_apply" cases "$cases" "$out/apply_cases" "$out/apply_expected"
-timeout 60 "$program" check < "$out/apply_cases" > "$out/apply_told"
+timeout 60 "$out/apply_program" check < "$out/apply_cases" > "$out/apply_told"
 cmp "$out/apply_expected" "$out/apply_told" || {
     echo "the library and SQLite apply a changeset in different ways: compare $out/apply_expected with $out/apply_told" >&2
     exit 1
@@ -50,7 +34,7 @@ echo "nanoseconds a change, best of $rounds: the library / SQLite = ratio"
 for every in 0 10; do
     for count in 1000 10000 100000 1000000; do
         "$out/sqlite_apply" time "$rounds" "$count" "$every" "$out/apply_case" > "$out/apply_theirs"
-        "$program" time "$rounds" < "$out/apply_case" > "$out/apply_ours"
+        "$out/apply_program" time "$rounds" < "$out/apply_case" > "$out/apply_ours"
         awk -v count="$count" -v every="$every" '
             FNR == NR { theirs = $1; asked = $2; next }
             {

@@ -52,6 +52,33 @@ build_program() {
         -o "$out/$name"
 }
 
+# Proves and builds the Rattle program NAME.rattle of this folder, which uses these crates and libraries of the kit, over copies
+# of all crates that are named behind them: build_rattle NAME "USED .." CRATE ... It is made in a repository of its own outside
+# this one, since the gate takes no source that is no crate's. A crate is copied with what its proof left, so that it isn't
+# proved again.
+build_rattle() {
+    local name="$1" used="$2" work
+    shift 2
+    mkdir -p "$out"
+    work="$(mktemp -d)"
+    mkdir -p "$work/crates/$name/src"
+    for crate_below in "$@"; do
+        cp -r "$bench/../crates/$crate_below" "$work/crates/"
+        grep "^$crate_below:" "$bench/../crates.txt" >> "$work/crates.txt"
+    done
+    echo "$name: $used" >> "$work/crates.txt"
+    cp "$bench/$name.rattle" "$work/crates/$name/src/main.rt"
+    : > "$work/crates/$name/stdin"
+    if (cd "$work/crates/$name" && rt run > "$out/${name}_build.log" 2>&1); then
+        cp "$work/crates/$name/out/$name" "$out/$name"
+        rm -rf "$work"
+    else
+        rm -rf "$work"
+        echo "the program isn't built: see $out/${name}_build.log" >&2
+        return 1
+    fi
+}
+
 # What the figures depend on beside the code: the machine, and the compilers of what is compared.
 print_machine() {
     echo "processor: $(sed -n 's/^model name[^:]*: *//p' /proc/cpuinfo | head -n 1), $(nproc) of them"

@@ -3,26 +3,13 @@
 # one run with plain single changes of std's `BTreeMap`, and fails where a commit's cost grows faster than the logarithm
 # allows: by more than 20 from 1,000 rows to 1,000,000, of which a factor of 2 is the logarithm's and the rest the caches'.
 # Usage: bench/store.sh
-# It proves and builds `store_bench.rattle` in a repository of its own in bench/out, over copies of the crates.
 set -eu
 bench="$(cd "$(dirname "$0")" && pwd)"
 . "$bench/common.sh"
-work="$out/store"
-mkdir -p "$work/crates/store_bench/src"
-for name in cs_order cs_store; do
-    rm -rf "$work/crates/$name"
-    cp -r "$bench/../crates/$name" "$work/crates/"
-done
-printf '%s\n' 'cs_order:' 'cs_store: cs_order thiserror' 'store_bench: cs_store' > "$work/crates.txt"
-cp "$bench/store_bench.rattle" "$work/crates/store_bench/src/main.rt"
-: > "$work/crates/store_bench/stdin"
-(cd "$work/crates/store_bench" && rt run > "$out/store_build.log" 2>&1) || {
-    echo "the program isn't built: see $out/store_build.log" >&2
-    exit 1
-}
+build_rattle store_bench cs_store cs_order cs_store
 rustc -O --edition 2021 -o "$out/store_plain" "$bench/store_plain.rs"
 print_machine
-"$work/crates/store_bench/out/store_bench" > "$out/store_times"
+"$out/store_bench" > "$out/store_times"
 "$out/store_plain" > "$out/store_plain_times"
 ! grep WRONG "$out/store_times" || exit 1
 awk '

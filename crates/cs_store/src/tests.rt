@@ -241,7 +241,7 @@ fn commits_twice(alloc: Global) -> Result<bool, StoreFault> {
     Ok(kept && listed == 64 && store.log_len()? == 2)
 }
 
-/// Everything is as it was where memory is refused, and the same call then succeeds. `bench/refuse_store.sh` refuses each
+/// Everything is as it was where memory is refused, and the same call then succeeds. `bench/refuse_tests.sh` refuses each
 /// allocation in turn here; a batch that can't be made, or a read that is refused, is tried again with the rest.
 #[test]
 fn refused_memory_leaves_everything(rt: HostRuntime) -> Result<(), Fail> {

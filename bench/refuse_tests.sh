@@ -1,0 +1,40 @@
+#!/bin/sh
+# Refuses a test each of its allocations in turn, one in a run of its own: `refused_memory_leaves_everything` of cs_store
+# commits twice to the store in memory, that of cs_apply applies a changeset. Where that is refused, the test looks whether
+# everything is as it was, and makes the same call again. Each run has to pass.
+# Usage: bench/refuse_tests.sh CRATE [TESTS]
+# TESTS is the program of the crate's tests, as `rt test` leaves it (crates/CRATE/out/CRATE_tests); where none is given, it is
+# proved and built.
+set -eu
+bench="$(cd "$(dirname "$0")" && pwd)"
+tested="$1"
+tests="${2:-}"
+. "$bench/common.sh"
+# So many allocations at least: cs_store's test makes batches of 120 rows and a commit copies each key, cs_apply's four changes.
+case "$tested" in
+    cs_store) least=400 ;;
+    cs_apply) least=30 ;;
+    *) echo "no such test in $tested" >&2; exit 1 ;;
+esac
+command -v cc > /dev/null || { echo "no allocation refused: there is no C compiler here"; exit 0; }
+mkdir -p "$out"
+if [ -z "$tests" ]; then
+    (cd "$bench/../crates/$tested" && rt test > "$out/refused_tests.log" 2>&1) || {
+        echo "the tests aren't built: see $out/refused_tests.log" >&2
+        exit 1
+    }
+    tests="$bench/../crates/$tested/out/${tested}_tests"
+fi
+cc -O2 -Wall -Wextra -shared -fPIC "$bench/refuse_memory.c" -o "$out/refuse_memory.so" -ldl
+number=1
+while true; do
+    status=0
+    # `env` stands behind `timeout`, whose own allocations would be counted and refused too.
+    timeout 20 env REFUSE=$number LD_PRELOAD="$out/refuse_memory.so" "$tests" \
+        tests::refused_memory_leaves_everything > "$out/answers" 2> "$out/errors" 9> "$out/reached" || status=$?
+    [ ! -s "$out/reached" ] || break
+    [ "$status" -eq 0 ] || { echo "allocation $number: status $status, $(cat "$out/answers" "$out/errors")" >&2; exit 1; }
+    number=$((number + 1))
+done
+[ "$number" -gt "$least" ] || { echo "the tests don't take their memory from the C library" >&2; exit 1; }
+echo "allocations refused in turn: $((number - 1)); each left everything as it was, and the same call then succeeded"
