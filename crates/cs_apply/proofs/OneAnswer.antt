@@ -1,18 +1,18 @@
 -- Changes are applied in one way where the closure does one thing when it is shown a conflict.
-use Rattle.std.proofs.Common.{◌≡◌, ◌≢◌, ◌⊎◌, inl, inr, ◌++◌, ℕ, Bool, true, false, List, [], ◌∷◌, Option, Some, None, refl, sym, subst, ap, ◌∙◌}
+use Rattle.std.proofs.Common.{◌≡◌, ◌≢◌, inl, inr, ◌++◌, ℕ, true, List, [], ◌∷◌, Option, Some, None, refl, sym, subst, ap, ◌∙◌}
 use Rattle.cs_value.specs.Key.{Place}
-use Rattle.cs_change.specs.Action.{action, after}
+use Rattle.cs_change.specs.Action.{action}
 use Rattle.cs_change.specs.declared.change.Change.{Change}
 use Rattle.cs_normal.specs.State.{State}
 use Rattle.cs_conflict.specs.Conflict.{kind, answered}
 use Rattle.cs_conflict.specs.declared.kind.Kind.{Kind}
 use Rattle.cs_conflict.specs.declared.conflict.Conflict.{Conflict}
 use Rattle.cs_conflict.specs.declared.conflict.Resolution.{Resolution}
-use Rattle.cs_conflict.specs.declared.conflict.Resolution.TheVariants.{Omit, Replace, Abort}
+use Rattle.cs_conflict.specs.declared.conflict.Resolution.TheVariants.{Replace, Abort}
 use Rattle.cs_apply.specs.Tasks.{Task}
 use Rattle.cs_apply.specs.Applies.{IsConflictOf, AppliesOne, AppliesTask, Applies, IsStop, Stops, StopsOne, KeepsOthers, given_list}
 use Rattle.cs_apply.specs.Laws.{AnswersOnce, OneStop, NoStopWhereApplied, IsOneFault, IsOneStop}
-use Rattle.cs_apply.specs.Overlaid.{Spot, same_spot}
+use Rattle.cs_apply.specs.Overlaid.{same_spot}
 use Rattle.cs_apply.specs.declared.fault.ApplyFault.{ApplyFault}
 use Rattle.cs_apply.specs.declared.fault.ApplyFault.TheVariants as why
 use Rattle.cs_apply.specs.declared.fault.Stop.{Stop}

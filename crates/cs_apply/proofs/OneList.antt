@@ -1,9 +1,9 @@
 -- One list of edits leads from the rows of a store to a state.
-use Rattle.std.proofs.Common.{◌≡◌, ◌≢◌, ◌<◌, ◌≤◌, ◌++◌, ◌^◌, ℕ, zero, suc, Bool, true, false, ◌&&◌, List, [], ◌∷◌, map, length, take, Option, Some, None, option_map, refl, sym, subst, ap, ◌∙◌, arith, cond}
+use Rattle.std.proofs.Common.{◌≡◌, ◌≢◌, ◌<◌, ◌≤◌, ◌^◌, ℕ, zero, suc, Bool, true, false, ◌&&◌, List, [], ◌∷◌, map, length, take, Option, Some, None, option_map, refl, sym, subst, ap, ◌∙◌, arith, cond}
 use Rattle.std.specs.Prelude.{nat_eq, slice_get}
 use Rattle.std.specs.Int.{to_be_bytes, from_be_bytes, w32}
 use Rattle.std.specs.Ordering.{is_eq}
-use Rattle.std.specs.List.{All, AllByRecursion}
+use Rattle.std.specs.List.{AllByRecursion}
 use Rattle.std.specs.List.Sorted.{IsStrictlySortedBy}
 use Rattle.std.specs.Cmp.{eq_by_cmp_equiv}
 use Rattle.std.specs.declared.cmp.Ordering.{Ordering}
@@ -26,7 +26,7 @@ use Rattle.cs_conflict.specs.declared.conflict.Conflict.{Conflict}
 use Rattle.cs_conflict.specs.declared.conflict.Resolution.{Resolution}
 use Rattle.cs_apply.specs.Tasks.{tasks}
 use Rattle.cs_apply.specs.Laws.{OneApplied}
-use Rattle.cs_apply.specs.Edited.{Plain, plain}
+use Rattle.cs_apply.specs.Edited.{plain}
 use Rattle.cs_apply.specs.Stored.{AreEdits, place_bytes, edit_place}
 use Rattle.cs_apply.proofs.OneAnswer.{one_run}
 use Rattle.cs_apply.proofs.Overlay.{by_test}

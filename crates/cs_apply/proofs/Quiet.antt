@@ -1,6 +1,5 @@
 -- Where each change is defined on what the earlier ones left, changes are applied without a question.
-use Rattle.std.proofs.Common.{◌≡◌, ◌≢◌, ◌⊎◌, inl, inr, ◌++◌, ℕ, Bool, true, false, List, [], ◌∷◌, map, Option, Some, None, refl, sym, subst, ap, ◌∙◌}
-use Rattle.std.specs.Prelude.{filter, is_some}
+use Rattle.std.proofs.Common.{◌≡◌, ◌≢◌, inl, inr, ◌++◌, ℕ, List, [], ◌∷◌, map, Option, Some, None, refl, sym, subst, ap, ◌∙◌}
 use Rattle.cs_value.specs.Key.{Place}
 use Rattle.cs_value.specs.declared.catalog.TableDef.{TableDef}
 use Rattle.cs_change.specs.Action.{action, after}
@@ -8,17 +7,14 @@ use Rattle.cs_change.specs.Spelling.{marks_of}
 use Rattle.cs_change.specs.declared.change.Change.{Change}
 use Rattle.cs_change.specs.declared.group.Group.{Group}
 use Rattle.cs_normal.specs.State.{State, AreSame, IsAfterChange, IsAfterChanges, IsAfterGroups}
-use Rattle.cs_conflict.specs.Conflict.{kind}
 use Rattle.cs_conflict.specs.Laws.{KindTells}
 use Rattle.cs_conflict.specs.declared.conflict.Conflict.{Conflict}
 use Rattle.cs_conflict.specs.declared.conflict.Resolution.{Resolution}
-use Rattle.cs_conflict.specs.declared.conflict.Resolution.TheVariants.{Replace, Abort}
-use Rattle.cs_apply.specs.Tasks.{Task, task, tasks, tasks_at, table_of}
-use Rattle.cs_apply.specs.Applies.{IsConflictOf, AppliesOne, AppliesTask, Applies, IsStop, Stops, StopsOne, given_list}
+use Rattle.cs_apply.specs.Tasks.{Task, task, tasks, table_of}
+use Rattle.cs_apply.specs.Applies.{IsConflictOf, AppliesOne, AppliesTask, Applies, Stops, StopsOne, given_list}
 use Rattle.cs_apply.specs.Laws.{fitting, WithoutConflicts, NoStopWithoutConflicts}
 use Rattle.cs_apply.specs.declared.fault.ApplyFault.{ApplyFault}
 use Rattle.cs_apply.specs.declared.fault.ApplyFault.TheVariants as why
-use Rattle.cs_apply.specs.declared.fault.Stop.{Stop}
 use Rattle.cs_apply.proofs.OneAnswer.{Alike, alike_after}
 
 some_same : {X : Type 0} {a b : X} → Some a ≡ Some b → a ≡ b

@@ -7,10 +7,9 @@ use Rattle.cs_change.specs.Action.{action, after}
 use Rattle.cs_change.specs.declared.change.Change.{Change}
 use Rattle.cs_normal.specs.State.{State, AreSame}
 use Rattle.cs_conflict.specs.Conflict.{kind, answered}
-use Rattle.cs_conflict.specs.declared.kind.Kind.{Kind}
 use Rattle.cs_conflict.specs.declared.conflict.Conflict.{Conflict}
 use Rattle.cs_conflict.specs.declared.conflict.Resolution.{Resolution}
-use Rattle.cs_conflict.specs.declared.conflict.Resolution.TheVariants.{Omit, Replace, Abort}
+use Rattle.cs_conflict.specs.declared.conflict.Resolution.TheVariants.{Replace, Abort}
 use Rattle.cs_apply.specs.Tasks.{Task}
 use Rattle.cs_apply.specs.declared.fault.ApplyFault.{ApplyFault}
 use Rattle.cs_apply.specs.declared.fault.ApplyFault.TheVariants as fault

@@ -6,7 +6,7 @@ use Rattle.cs_value.specs.declared.catalog.TableDef.{TableDef}
 use Rattle.cs_order.specs.Order.{Keys, by_bytes, key_at}
 use Rattle.cs_normal.specs.State.{State}
 use Rattle.cs_apply.specs.Tasks.{Task, all_keyed}
-use Rattle.cs_apply.specs.Overlaid.{numbered, name_at}
+use Rattle.cs_apply.specs.Overlaid.{name_at}
 pub use Rattle.cs_apply.specs.Stored.{place_bytes}
 use Rattle.cs_apply.specs.declared.fault.ApplyFault.{ApplyFault}
 use Rattle.cs_apply.specs.declared.fault.ApplyFault.TheVariants.{Memory, NullKey}

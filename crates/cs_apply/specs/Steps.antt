@@ -6,7 +6,7 @@ use Rattle.cs_change.specs.declared.change.Change.{Change}
 use Rattle.cs_conflict.specs.Conflict.{answered}
 use Rattle.cs_conflict.specs.declared.conflict.Conflict.{Conflict}
 use Rattle.cs_conflict.specs.declared.conflict.Resolution.{Resolution}
-use Rattle.cs_conflict.specs.declared.conflict.Resolution.TheVariants.{Omit, Replace, Abort}
+use Rattle.cs_conflict.specs.declared.conflict.Resolution.TheVariants.{Replace, Abort}
 use Rattle.cs_apply.specs.Applies.{AppliesOne, StopsOne, given_list}
 use Rattle.cs_apply.specs.Slots.{standing, IsSlotAfter}
 use Rattle.cs_apply.specs.declared.fault.ApplyFault.{ApplyFault}
