@@ -17,9 +17,10 @@ use Rattle.cs_change.specs.declared.change.Change.TheVariants.{Insert, Delete, U
 use Rattle.cs_change.specs.Spelling.{flag_byte, change_spelling, FitsRow, FitsChange, IsUpdateColumn, AreUpdateColumns}
 use Rattle.cs_changeset.specs.Records.{InOld, InNew, IsRight, AreRight, IsColumnsFault, row_rules, old_rules, new_rules}
 use Rattle.cs_changeset.specs.Reading.{IsUpdateFault, IsRecordsFault, IsOperation, IsFlaggedFault, IsChangeFault}
+use Rattle.cs_changeset.specs.Facts.{flags_same, flagged_end, flagged_stays, flagged_right, one_flagged}
 use Rattle.cs_changeset.specs.declared.fault.Fault.{Fault}
 use Rattle.cs_changeset.specs.declared.fault.Fault.TheVariants.{Truncated, KeyChanged}
-use Rattle.cs_changeset.proofs.ChangeLaws.{row_fields, flag_small}
+use Rattle.cs_changeset.proofs.ChangeLaws.{row_fields}
 use Rattle.cs_changeset.proofs.RecordApart.{records_apart, record_right, record_stays, one_record, record_end}
 
 -- ---- what fits is right, column by column
@@ -95,12 +96,6 @@ fields_same (v ∷ a) (w ∷ b) e =
 fields_same [] (w ∷ b) e = cc
 fields_same (v ∷ a) [] e = cc
 
-flags_same : (a b : Bool) → flag_byte a ≡ flag_byte b → a ≡ b
-flags_same true true e = refl
-flags_same false false e = refl
-flags_same true false e = absurd (omega (arith, e))
-flags_same false true e = absurd (omega (arith, e))
-
 -- ---- what ends early is told at the end
 
 records_end : (marks : List Bool) (operation : ℕ) (offset : ℕ) (bytes : List ℕ) → IsRecordsFault marks operation Truncated offset bytes → offset ≡ length bytes
@@ -109,14 +104,9 @@ records_end marks operation offset bytes (inr (is, inl told)) = record_end (old_
 records_end marks operation offset bytes (inr (is, inr told)) =
     behind_end record_of (AreRight (old_rules marks)) (λ old. IsColumnsFault (new_rules marks old)) Truncated (λ old o b early. record_end (new_rules marks old) o b early) offset bytes told
 
-flagged_end : (marks : List Bool) (operation : ℕ) (offset : ℕ) (bytes : List ℕ) → IsFlaggedFault marks operation Truncated offset bytes → offset ≡ suc (length bytes)
-flagged_end marks operation offset [] told = omega (arith, told.1)
-flagged_end marks operation offset (flag ∷ rest) (inl told) = let is = told.1 in cc
-flagged_end marks operation offset (flag ∷ rest) (inr (small, (inner, told, there))) = omega (arith, there, records_end marks operation inner rest told)
-
 pub change_end : (marks : List Bool) (offset : ℕ) (bytes : List ℕ) → IsChangeFault marks Truncated offset bytes → offset ≡ length bytes
 change_end marks offset [] told = absurd told
-change_end marks offset (operation ∷ rest) (inl (is, told)) = flagged_end marks operation offset rest told
+change_end marks offset (operation ∷ rest) (inl (is, told)) = flagged_end (IsRecordsFault marks operation) (λ o b early. records_end marks operation o b early) offset rest told
 change_end marks offset (operation ∷ rest) (inr (inl told)) = let is = told.1 in cc
 change_end marks offset (operation ∷ rest) (inr (inr told)) = let is = told.3 in cc
 
@@ -144,10 +134,9 @@ module _ (fields : FieldLaws) (records : RecordLaws) where
   records_right marks (Update flag old new) fault offset bytes x (are, fo, fn) e (inr (is, told)) =
       let right = columns_right marks old new are fo fn in update_right marks old new fault offset bytes x right.0 right.1 e told
 
-  flagged_right : (marks : List Bool) (c : Change) (fault : Fault) (offset : ℕ) (rest x : List ℕ) → FitsChange marks c → rest ≡ flag_byte (flag_of c) ∷ (records_of c ++ x) → IsFlaggedFault marks (operation_of c) fault offset rest → ⊥
-  flagged_right marks c fault offset [] x fits e told = cc
-  flagged_right marks c fault offset (flag ∷ rest) x fits e (inl (big, is, there)) = omega (arith, big, head_same e, flag_small (flag_of c))
-  flagged_right marks c fault offset (flag ∷ rest) x fits e (inr (small, (inner, told, there))) = records_right marks c fault inner rest x fits (tail_same e) told
+  behind_right : (marks : List Bool) (c : Change) (fault : Fault) (offset : ℕ) (rest x : List ℕ) → FitsChange marks c → rest ≡ flag_byte (flag_of c) ∷ (records_of c ++ x) → IsFlaggedFault (IsRecordsFault marks (operation_of c)) fault offset rest → ⊥
+  behind_right marks c fault offset rest x fits e told =
+      flagged_right (IsRecordsFault marks (operation_of c)) (flag_of c) fault offset rest (records_of c ++ x) e (λ o wrong. records_right marks c fault o (records_of c ++ x) x fits refl wrong) told
 
   pub change_right : (marks : List Bool) (c : Change) (fault : Fault) (offset : ℕ) (bytes x : List ℕ) → FitsChange marks c → bytes ≡ change_spelling c ++ x → IsChangeFault marks fault offset bytes → ⊥
   change_right marks c fault offset [] x fits e told = told
@@ -160,7 +149,7 @@ module _ (fields : FieldLaws) (records : RecordLaws) where
       is = head_same apart
 
       wrong : IsChangeFault marks fault offset (operation ∷ rest) → ⊥
-      wrong (inl (op, told)) = flagged_right marks c fault offset rest x fits (tail_same apart) (subst (λ (n : ℕ). IsFlaggedFault marks n fault offset rest) is told)
+      wrong (inl (op, told)) = behind_right marks c fault offset rest x fits (tail_same apart) (subst (λ (n : ℕ). IsFlaggedFault (IsRecordsFault marks n) fault offset rest) is told)
       wrong (inr (inl (patch, told, there))) = (operation_known operation (subst IsOperation (sym is) (is_operation c))).0 patch
       wrong (inr (inr (none, other, head, told, there))) = none (subst IsOperation (sym is) (is_operation c))
 
@@ -208,14 +197,10 @@ module _ (fields : FieldLaws) (records : RecordLaws) where
   records_stay marks operation fault offset bytes more whole (inl (is, told)) = inl (is, record_stays fields records (row_rules marks) fault offset bytes more whole told)
   records_stay marks operation fault offset bytes more whole (inr (is, told)) = inr (is, update_stays marks fault offset bytes more whole told)
 
-  flagged_stays : (marks : List Bool) (operation : ℕ) (fault : Fault) (offset : ℕ) (bytes more : List ℕ) → fault ≢ Truncated → IsFlaggedFault marks operation fault offset bytes → IsFlaggedFault marks operation fault offset (bytes ++ more)
-  flagged_stays marks operation fault offset [] more whole told = absurd (whole told.0)
-  flagged_stays marks operation fault offset (flag ∷ rest) more whole (inl told) = inl told
-  flagged_stays marks operation fault offset (flag ∷ rest) more whole (inr (small, (inner, told, there))) = inr (small, (inner, records_stay marks operation fault inner rest more whole told, there))
-
   pub change_stays : (marks : List Bool) (fault : Fault) (offset : ℕ) (bytes more : List ℕ) → fault ≢ Truncated → IsChangeFault marks fault offset bytes → IsChangeFault marks fault offset (bytes ++ more)
   change_stays marks fault offset [] more whole told = absurd told
-  change_stays marks fault offset (operation ∷ rest) more whole (inl (is, told)) = inl (is, flagged_stays marks operation fault offset rest more whole told)
+  change_stays marks fault offset (operation ∷ rest) more whole (inl (is, told)) =
+      inl (is, flagged_stays (IsRecordsFault marks operation) fault more (λ o b wrong. records_stay marks operation fault o b more whole wrong) whole offset rest told)
   change_stays marks fault offset (operation ∷ rest) more whole (inr told) = inr told
 
   -- ---- there is one fault
@@ -238,17 +223,9 @@ module _ (fields : FieldLaws) (records : RecordLaws) where
   one_records marks operation f g o p bytes (inr (is, told)) (inl (inl is', told')) = absurd (omega (arith, is, is'))
   one_records marks operation f g o p bytes (inr (is, told)) (inl (inr is', told')) = absurd (omega (arith, is, is'))
 
-  one_flagged : (marks : List Bool) (operation : ℕ) (f g : Fault) (o p : ℕ) (bytes : List ℕ) → IsFlaggedFault marks operation f o bytes → IsFlaggedFault marks operation g p bytes → (f ≡ g) × (o ≡ p)
-  one_flagged marks operation f g o p [] told told' = (told.0 ∙ sym told'.0, told.1 ∙ sym told'.1)
-  one_flagged marks operation f g o p (flag ∷ rest) (inl told) (inl told') = (told.1 ∙ sym told'.1, told.2 ∙ sym told'.2)
-  one_flagged marks operation f g o p (flag ∷ rest) (inl told) (inr (small, told')) = absurd (omega (arith, told.0, small))
-  one_flagged marks operation f g o p (flag ∷ rest) (inr (small, told)) (inl told') = absurd (omega (arith, told'.0, small))
-  one_flagged marks operation f g o p (flag ∷ rest) (inr (small, (inner, told, there))) (inr (small', (inner', told', there'))) =
-      let one = one_records marks operation f g inner inner' rest told told' in (one.0, omega (arith, there, there', one.1))
-
   pub one_change : (marks : List Bool) (f g : Fault) (o p : ℕ) (bytes : List ℕ) → IsChangeFault marks f o bytes → IsChangeFault marks g p bytes → (f ≡ g) × (o ≡ p)
   one_change marks f g o p [] told told' = absurd told
-  one_change marks f g o p (operation ∷ rest) (inl (is, told)) (inl (is', told')) = one_flagged marks operation f g o p rest told told'
+  one_change marks f g o p (operation ∷ rest) (inl (is, told)) (inl (is', told')) = one_flagged (IsRecordsFault marks operation) (λ f g o p b a a'. one_records marks operation f g o p b a a') f g o p rest told told'
   one_change marks f g o p (operation ∷ rest) (inr (inl told)) (inr (inl told')) = (told.1 ∙ sym told'.1, told.2 ∙ sym told'.2)
   one_change marks f g o p (operation ∷ rest) (inr (inr told)) (inr (inr told')) = (told.3 ∙ sym told'.3, told.4 ∙ sym told'.4)
   one_change marks f g o p (operation ∷ rest) (inl (is, told)) (inr (inl told')) = absurd ((operation_known operation is).0 told'.0)

@@ -14,8 +14,11 @@ mod reading;
 mod records;
 
 pub use cs_change::{Bytes, Change, Changeset, Group, encode};
-pub use fault::{CodecFault, Fault};
+pub use changes::read_flag;
+pub use fault::{CodecFault, Fault, FirstFault};
+pub use header::read_header;
 pub use reading::read;
+pub use records::{read_old_fields, read_row};
 
 #[cfg(test)]
 mod tests;

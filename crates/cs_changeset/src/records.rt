@@ -28,7 +28,7 @@ fn row_length(bytes: &[u8], marks: &[u8]) -> Result<usize, FirstFault>
 
 /// The row at the front, and how many bytes it takes.
 #[inline(always)]
-pub(crate) fn read_row<'a>(bytes: &'a [u8], marks: &[u8]) -> Result<(Row<'a>, usize), FirstFault>
+pub fn read_row<'a>(bytes: &'a [u8], marks: &[u8]) -> Result<(Row<'a>, usize), FirstFault>
     ensures { ReadsRow (marks_of marks.now) bytes.now result }
 {
     let len = row_length(bytes, marks)?;
@@ -55,7 +55,7 @@ fn old_length(bytes: &[u8], marks: &[u8]) -> Result<usize, FirstFault>
 
 /// The old record of an UPDATE, and how many bytes it takes.
 #[inline(always)]
-pub(crate) fn read_old_fields<'a>(
+pub fn read_old_fields<'a>(
     bytes: &'a [u8],
     marks: &[u8],
 ) -> Result<(Record<'a>, usize), FirstFault>
