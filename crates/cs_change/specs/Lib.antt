@@ -7,3 +7,4 @@ pub mod Net
 pub mod Normal
 pub mod Spelling
 pub mod Then
+pub mod Extends

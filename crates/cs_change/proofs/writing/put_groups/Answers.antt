@@ -1,4 +1,4 @@
-use Rattle.cs_change.proofs.Extends.{extends_through}
+use Rattle.cs_change.specs.Extends.{extends_through}
 use Rattle.cs_change.proofs.writing.put_groups.Goals as goal
 
 pub returns-in_err-put_group-clause-kept : goal.returns-in_err-put_group-clause-kept

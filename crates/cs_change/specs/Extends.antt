@@ -1,4 +1,4 @@
--- Bytes that begin with other bytes.
+-- Bytes that begin with other bytes, as a writer leaves them. Crates above cite it.
 use Rattle.std.proofs.Common.{◌≡◌, ℕ, ◌≤◌, List, ◌++◌, length, take, sym, ap, ◌∙◌, refl, arith, length-append}
 use Rattle.std.proofs.lemmas.List.{take-take, take_at}
 use Rattle.cs_record.specs.Spelling.{Extends}
