@@ -42,10 +42,12 @@ fn comes_back<'a>(rt: &impl Abort, alloc: Global, bytes: &'a [u8]) -> Result<Blo
 
 fn told(rt: &impl Abort, alloc: Global, bytes: &[u8], fault: Fault, offset: usize) {
     match read(alloc, bytes) {
-        Err(CodecFault::At {
-            fault: found,
-            offset: at,
-        }) => {
+        Err(
+            CodecFault::At {
+                fault: found,
+                offset: at,
+            },
+        ) => {
             assert_eq!(rt; found, fault);
             assert_eq!(rt; at, offset, "{fault}");
         }

@@ -7,4 +7,3 @@ pub mod Net
 pub mod Normal
 pub mod Spelling
 pub mod Then
-pub mod Extends

@@ -1,5 +1,5 @@
 -- Groups of changes in their bytes.
-use Rattle.std.proofs.Common.{◌≡◌, ℕ, ◌+◌, ◌-◌, ◌≤◌, List, length, take, drop}
+use Rattle.std.proofs.Common.{ℕ, ◌+◌, ◌-◌, ◌≤◌, List, length, take, drop}
 use Rattle.cs_record.specs.Reading.{StandsAt}
 use Rattle.cs_record.specs.Facts.{behind_at}
 use Rattle.cs_change.specs.declared.group.Group.{Group}

@@ -13,8 +13,8 @@ pub mod laws;
 mod reading;
 mod records;
 
-pub use cs_change::{Bytes, Change, Changeset, Group, encode};
 pub use changes::read_flag;
+pub use cs_change::{Bytes, Change, Changeset, Group, encode};
 pub use fault::{CodecFault, Fault, FirstFault};
 pub use header::read_header;
 pub use reading::read;
