@@ -1,5 +1,4 @@
 pub mod Column
-pub mod Extends
 pub mod Rows
 pub mod Net
 pub mod Packed

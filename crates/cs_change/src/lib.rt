@@ -24,7 +24,7 @@ pub mod laws;
 
 pub use changes_buf::ChangesBuf;
 pub use scratch::Scratch;
-pub use writing::encode;
+pub use writing::{encode, put_header};
 
 #[cfg(test)]
 mod tests;

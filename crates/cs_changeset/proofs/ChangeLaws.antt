@@ -11,28 +11,18 @@ use Rattle.cs_record.specs.Spelling.{field, record_of, Fits, row_bytes}
 use Rattle.cs_record.specs.Reading.{StandsAt}
 use Rattle.cs_record.specs.OneSpelling.{one_spelled_row}
 use Rattle.cs_record.specs.Spelled.{SpellsRow, SpelledRow}
-use Rattle.cs_record.specs.Facts.{field_fault_within, stands_both, behind_at, behind_within}
+use Rattle.cs_record.specs.Facts.{stands_both, behind_within}
 use Rattle.cs_change.specs.Columns.{holds}
-use Rattle.cs_change.specs.declared.change.Change.{Change}
-use Rattle.cs_change.specs.Spelling.{flag_byte, changes_spelling, FitsRow, FitsChange, IsUpdateColumn, AreUpdateColumns}
-use Rattle.cs_changeset.specs.Records.{Rule, InOld, InNew, IsRight, AreRight, IsColumnFault, IsColumnsFault, row_rules, old_rules, new_rules}
-use Rattle.cs_changeset.specs.Reading.{IsUpdateFault, IsFlaggedFault, IsChangeFault, IsChangesFault}
+use Rattle.cs_change.specs.Spelling.{flag_byte, FitsRow, IsUpdateColumn, AreUpdateColumns}
+use Rattle.cs_changeset.specs.Records.{InOld, InNew, IsRight, AreRight, IsColumnsFault, row_rules, old_rules, new_rules}
+use Rattle.cs_changeset.specs.Reading.{IsUpdateFault, IsRecordsFault, IsChangeFault}
+use Rattle.cs_changeset.specs.Facts.{record_within, stands_behind, flag_fault, flagged_within}
 use Rattle.cs_changeset.specs.Steps.{AreColumnsAt, ReadsFlag, ReadsFlaggedRow, ReadsOperation}
 use Rattle.cs_changeset.specs.declared.fault.FirstFault.{FirstFault}
 use Rattle.cs_changeset.specs.declared.fault.Fault.{Fault}
 use Rattle.cs_changeset.specs.declared.fault.Fault.TheVariants.{KeyChanged}
 
 -- ---- faults are told within the bytes
-
-column_within : (rule : Rule) (fault : Fault) (offset : ℕ) (bytes : List ℕ) → IsColumnFault rule fault offset bytes → offset ≤ length bytes
-column_within rule fault offset bytes (inl (inner, is, told)) = field_fault_within inner offset bytes told
-column_within rule fault offset bytes (inr (next, rest, is, fits, wrong, there)) = omega (arith, there)
-
-pub record_within : (rules : List Rule) (fault : Fault) (offset : ℕ) (bytes : List ℕ) → IsColumnsFault rules fault offset bytes → offset ≤ length bytes
-record_within [] fault offset bytes told = absurd told
-record_within (rule ∷ rules) fault offset bytes (inl told) = column_within rule fault offset bytes told
-record_within (rule ∷ rules) fault offset bytes (inr told) =
-    behind_within field (IsRight rule) (λ _. IsColumnsFault rules) fault (λ _ o b wrong. record_within rules fault o b wrong) offset bytes told
 
 pub update_within : (marks : List Bool) (fault : Fault) (offset : ℕ) (bytes : List ℕ) → IsUpdateFault marks fault offset bytes → offset ≤ length bytes
 update_within marks fault offset bytes (inl told) = record_within (old_rules marks) fault offset bytes told
@@ -63,23 +53,10 @@ row_back marks bytes row read len are spelled =
     let same : row ≡ read = one_spelled_row row read (fits_row marks row are.0).1 spelled.0 (sym (row_fields row) ∙ sym are.1.front ∙ sym spelled.1) in
     subst (λ (r : List Value). AreColumnsAt (row_rules marks) bytes (map (λ v. Is v) r) len) same are
 
--- a byte before what stands at the front
-pub stands_behind : (first : ℕ) (rest spelled : List ℕ) (len : ℕ) → StandsAt rest spelled len → StandsAt (first ∷ rest) (first ∷ spelled) (len + 1)
-stands_behind first rest spelled len stands =
-    let one : len + 1 ≡ suc len = omega arith in
-    record {
-      within = omega (arith, stands.within);
-      front = rw one (ap (λ (t : List ℕ). first ∷ t) stands.front);
-    }
-
 pub flagged_row : (marks : List Bool) (flag : Bool) (behind rest : List ℕ) (row : List Value) (len : ℕ) → behind ≡ flag_byte flag ∷ rest → AreColumnsAt (row_rules marks) rest (map (λ v. Is v) row) len
     → FitsRow (length marks) row × StandsAt behind (flag_byte flag ∷ row_bytes row) (len + 1)
 flagged_row marks flag behind rest row len is (right, stands) =
     (fits_row marks row right, rw (is, ← row_fields row) (stands_behind (flag_byte flag) rest (record_of (map (λ v. Is v) row)) len stands))
-
-pub flag_small : (flag : Bool) → flag_byte flag ≤ 1
-flag_small true = omega arith
-flag_small false = omega arith
 
 -- ---- updates
 
@@ -115,29 +92,22 @@ update_records marks bytes old new at len (right, stands) (right', stands') =
 -- ---- errors that are passed on
 
 pub flag_error_row : (marks : List Bool) (behind : List ℕ) (told : FirstFault) → ReadsFlag behind (Err told) → ReadsFlaggedRow marks behind (Err told)
-flag_error_row marks behind told reads = λ operation _. reads marks operation
+flag_error_row marks behind told reads = λ operation _. flag_fault (IsRecordsFault marks operation) told.fault told.offset behind reads
 
 pub flag_error : (marks : List Bool) (operation : ℕ) (behind : List ℕ) (told : FirstFault) → ReadsFlag behind (Err told) → ReadsOperation marks operation behind (Err told)
-flag_error marks operation behind told reads = reads marks operation
+flag_error marks operation behind told reads = flag_fault (IsRecordsFault marks operation) told.fault told.offset behind reads
 
 pub row_error : (marks : List Bool) (operation : ℕ) (behind : List ℕ) (told : FirstFault) → (operation ≡ 18) ⊎ (operation ≡ 9) → ReadsFlaggedRow marks behind (Err told) → ReadsOperation marks operation behind (Err told)
 row_error marks operation behind told is reads = reads operation is
 
--- ---- changes one after another
+-- ---- faults of changes are told within the bytes
 
-pub changes_fault : (marks : List Bool) (bytes : List ℕ) (before : List Change) (at : ℕ) (fault : Fault) (inner : ℕ) → AllByRecursion (FitsChange marks) before → StandsAt bytes (changes_spelling before) at
-    → IsChangeFault marks fault inner (take (length bytes - at) (drop at bytes)) → IsChangesFault marks fault (at + inner) bytes
-changes_fault marks bytes before at fault inner fits stands told =
-    behind_at changes_spelling (AllByRecursion (FitsChange marks)) (λ _. IsChangeFault marks) fault before bytes at inner fits stands told
-
-operation_within : (marks : List Bool) (operation : ℕ) (fault : Fault) (offset : ℕ) (behind : List ℕ) → IsFlaggedFault marks operation fault offset behind → offset ≤ suc (length behind)
-operation_within marks operation fault offset [] told = omega (arith, told.1)
-operation_within marks operation fault offset (flag ∷ rest) (inl told) = omega (arith, told.2)
-operation_within marks operation fault offset (flag ∷ rest) (inr (small, (inner, inl (is, told), there))) = omega (arith, there, record_within (row_rules marks) fault inner rest told)
-operation_within marks operation fault offset (flag ∷ rest) (inr (small, (inner, inr (is, told), there))) = omega (arith, there, update_within marks fault inner rest told)
+records_within : (marks : List Bool) (operation : ℕ) (fault : Fault) (offset : ℕ) (bytes : List ℕ) → IsRecordsFault marks operation fault offset bytes → offset ≤ length bytes
+records_within marks operation fault offset bytes (inl (is, told)) = record_within (row_rules marks) fault offset bytes told
+records_within marks operation fault offset bytes (inr (is, told)) = update_within marks fault offset bytes told
 
 pub change_within : (marks : List Bool) (fault : Fault) (offset : ℕ) (bytes : List ℕ) → IsChangeFault marks fault offset bytes → offset ≤ length bytes
 change_within marks fault offset [] told = absurd told
-change_within marks fault offset (operation ∷ rest) (inl (is, told)) = operation_within marks operation fault offset rest told
+change_within marks fault offset (operation ∷ rest) (inl (is, told)) = flagged_within (IsRecordsFault marks operation) (λ f o b wrong. records_within marks operation f o b wrong) fault offset rest told
 change_within marks fault offset (operation ∷ rest) (inr (inl told)) = omega (arith, told.2)
 change_within marks fault offset (operation ∷ rest) (inr (inr told)) = omega (arith, told.4)

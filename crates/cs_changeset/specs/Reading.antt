@@ -1,11 +1,11 @@
 -- What reading a changeset gives (SQLite's "changeset format"; the faults and their offsets are this project's).
 use Rattle.std.specs.Prelude.{◌≡◌, ◌≢◌, ℕ, ◌+◌, ◌<◌, ◌≤◌, ◌⊎◌, ◌^◌, Bool, true, false, List, [], ◌∷◌, ◌++◌, length, IsUtf8, Result, Ok, Err}
-use Rattle.std.specs.List.{list_any, AllByRecursion}
+use Rattle.std.specs.List.{flat_map, list_any, AllByRecursion}
 use Rattle.cs_varint.specs.Varint.{spelling, IsPartialVarint, IsTooLong}
 use Rattle.cs_record.specs.Spelling.{record_of}
 use Rattle.cs_record.specs.Reading.{FaultBehind}
 use Rattle.cs_change.specs.declared.group.Group.{Group}
-use Rattle.cs_change.specs.Spelling.{is_nonzero, marks_of, header_spelling, changes_spelling, changeset_spelling, FitsHeader, FitsChange, FitsChangeset}
+use Rattle.cs_change.specs.Spelling.{is_nonzero, marks_of, change_spelling, header_spelling, changeset_spelling, FitsHeader, FitsChange, FitsChangeset}
 use Rattle.cs_changeset.specs.Records.{AreRight, IsColumnsFault, row_rules, old_rules, new_rules}
 use Rattle.cs_changeset.specs.declared.fault.Fault.{Fault}
 use Rattle.cs_changeset.specs.declared.fault.Fault.TheVariants.{Truncated, NotShortest, NotUtf8, Patchset, BadMark, BadOperation, BadFlag, Columns, NoKeyColumn}
@@ -90,43 +90,62 @@ IsRecordsFault marks operation fault offset bytes =
 abbrev pub IsOperation : ℕ → Type 0
 IsOperation operation = (operation ≡ 18) ⊎ (operation ≡ 9) ⊎ (operation ≡ 23)
 
--- what is wrong behind the byte of an operation: its flag, or its records
-abbrev pub IsFlaggedFault : List Bool → ℕ → Fault → ℕ → List ℕ → Type 0
-IsFlaggedFault marks operation fault offset [] = (fault ≡ Truncated) × (offset ≡ 1)
-IsFlaggedFault marks operation fault offset (flag ∷ rest) =
-    ((1 < flag) × (fault ≡ BadFlag) × (offset ≡ 1))
-    ⊎ ((flag ≤ 1) × ((inner : ℕ) × IsRecordsFault marks operation fault inner rest × (offset ≡ 2 + inner)))
+-- what is wrong with the flag behind the first byte of a change
+abbrev pub IsFlagFault : Fault → ℕ → List ℕ → Type 0
+IsFlagFault fault offset [] = (fault ≡ Truncated) × (offset ≡ 1)
+IsFlagFault fault offset (flag ∷ rest) = (1 < flag) × (fault ≡ BadFlag) × (offset ≡ 1)
+
+-- what is wrong behind the first byte of a change: its flag, or its records behind the flag
+abbrev pub IsFlaggedFault : (Fault → ℕ → List ℕ → Type 0) → Fault → ℕ → List ℕ → Type 0
+IsFlaggedFault IsWrong fault offset [] = IsFlagFault fault offset []
+IsFlaggedFault IsWrong fault offset (flag ∷ rest) =
+    IsFlagFault fault offset (flag ∷ rest)
+    ⊎ ((flag ≤ 1) × ((inner : ℕ) × IsWrong fault inner rest × (offset ≡ 2 + inner)))
 
 -- what is wrong with the bytes in a change's place; the byte 84 begins the next group
 abbrev pub IsChangeFault : List Bool → Fault → ℕ → List ℕ → Type 0
 IsChangeFault marks fault offset [] = ⊥
 IsChangeFault marks fault offset (operation ∷ rest) =
-    (IsOperation operation × IsFlaggedFault marks operation fault offset rest)
+    (IsOperation operation × IsFlaggedFault (IsRecordsFault marks operation) fault offset rest)
     ⊎ ((operation ≡ 80) × (fault ≡ Patchset) × (offset ≡ 0))
     ⊎ ((IsOperation operation → ⊥) × (operation ≢ 80) × (operation ≢ 84) × (fault ≡ BadOperation) × (offset ≡ 0))
 
--- ---- groups
+-- ---- groups one after another, whatever the entries of a group are (in a changeset they are changes): how an entry is
+-- spelled, which may stand behind a header with these key columns, and what can be wrong in an entry's place
 
--- whole changes, and behind them something that is wrong in a change's place
-abbrev pub IsChangesFault : List Bool → Fault → ℕ → List ℕ → Type 0
-IsChangesFault marks =
-    FaultBehind changes_spelling (AllByRecursion (FitsChange marks)) (λ _. IsChangeFault marks)
+-- whole entries, and behind them something that is wrong in an entry's place
+abbrev pub IsEntriesFault : {E : Type 0}
+    → (E → List ℕ) → (List Bool → E → Type 0) → (List Bool → Fault → ℕ → List ℕ → Type 0)
+    → List Bool → Fault → ℕ → List ℕ → Type 0
+IsEntriesFault spelled FitsEntry IsWrong marks =
+    FaultBehind (flat_map spelled) (AllByRecursion (FitsEntry marks)) (λ _. IsWrong marks)
 
--- a whole header of these column bytes and this name, and behind it changes with a fault
-abbrev pub IsBodyFault : Fault → ℕ → List ℕ → Type 0
-IsBodyFault =
+-- a whole header of these column bytes and this name, and behind it entries with a fault
+abbrev pub IsBodyFault : (List Bool → Fault → ℕ → List ℕ → Type 0) → Fault → ℕ → List ℕ → Type 0
+IsBodyFault HasWrongEntries =
     FaultBehind (λ (header : List ℕ × List ℕ). header_spelling header.0 header.1)
-    (λ header. FitsHeader header.0 header.1) (λ header. IsChangesFault (marks_of header.0))
+    (λ header. FitsHeader header.0 header.1) (λ header. HasWrongEntries (marks_of header.0))
 
 -- a group begins, and is wrong
-abbrev pub IsGroupFault : Fault → ℕ → List ℕ → Type 0
-IsGroupFault fault offset bytes = IsHeaderFault fault offset bytes ⊎ IsBodyFault fault offset bytes
+abbrev pub IsGroupFaultOf : (List Bool → Fault → ℕ → List ℕ → Type 0) → Fault → ℕ → List ℕ → Type 0
+IsGroupFaultOf HasWrongEntries fault offset bytes =
+    IsHeaderFault fault offset bytes ⊎ IsBodyFault HasWrongEntries fault offset bytes
 
 -- the first byte begins no group
 abbrev pub IsMarkFault : Fault → ℕ → List ℕ → Type 0
 IsMarkFault fault offset [] = ⊥
 IsMarkFault fault offset (mark ∷ rest) =
     ((mark ≡ 80) × (fault ≡ Patchset) × (offset ≡ 0)) ⊎ ((mark ≢ 80) × (mark ≢ 84) × (fault ≡ BadMark) × (offset ≡ 0))
+
+-- ---- changesets
+
+-- whole changes, and behind them something that is wrong in a change's place
+abbrev pub IsChangesFault : List Bool → Fault → ℕ → List ℕ → Type 0
+IsChangesFault = IsEntriesFault change_spelling FitsChange IsChangeFault
+
+-- a group of changes begins, and is wrong
+abbrev pub IsGroupFault : Fault → ℕ → List ℕ → Type 0
+IsGroupFault = IsGroupFaultOf IsChangesFault
 
 -- whole groups, and behind them one that is wrong
 abbrev pub IsGroupsFault : Fault → ℕ → List ℕ → Type 0
@@ -136,21 +155,34 @@ IsGroupsFault = FaultBehind changeset_spelling FitsChangeset (λ _. IsGroupFault
 abbrev pub IsChangesetFault : Fault → ℕ → List ℕ → Type 0
 IsChangesetFault fault offset bytes = IsMarkFault fault offset bytes ⊎ IsGroupsFault fault offset bytes
 
--- ---- what the reader takes
+-- ---- what a reader takes
+
+-- what is spelled and in range is read, or a fault is told, or memory is wanting
+abbrev pub ReadsAll : {A : Type 0}
+    → (A → List ℕ) → (A → Type 0) → (Fault → ℕ → List ℕ → Type 0) → List ℕ → Result A CodecFault → Type 0
+ReadsAll spelled IsInRange IsFault bytes (Ok found) = IsInRange found × (bytes ≡ spelled found)
+ReadsAll spelled IsInRange IsFault bytes (Err Memory) = Unit {0}
+ReadsAll spelled IsInRange IsFault bytes (Err (At fault offset)) = IsFault fault offset bytes
+
+-- this is read, or memory is wanting
+abbrev pub Finds : {A : Type 0} → Result A CodecFault → A → Type 0
+Finds (Ok found) all = found ≡ all
+Finds (Err Memory) all = Unit {0}
+Finds (Err (At fault offset)) all = ⊥
+
+-- this fault is told, or memory is wanting
+abbrev pub Tells : {A : Type 0} → Result A CodecFault → Fault → ℕ → Type 0
+Tells (Ok found) fault offset = ⊥
+Tells (Err Memory) fault offset = Unit {0}
+Tells (Err (At told at)) fault offset = (told ≡ fault) × (at ≡ offset)
 
 abbrev pub ReadsChangeset : List ℕ → Result (List Group) CodecFault → Type 0
-ReadsChangeset bytes (Ok groups) = FitsChangeset groups × (bytes ≡ changeset_spelling groups)
-ReadsChangeset bytes (Err Memory) = Unit {0}
-ReadsChangeset bytes (Err (At fault offset)) = IsChangesetFault fault offset bytes
+ReadsChangeset = ReadsAll changeset_spelling FitsChangeset IsChangesetFault
 
 -- this changeset is read, or memory is wanting
 abbrev pub FindsChangeset : Result (List Group) CodecFault → List Group → Type 0
-FindsChangeset (Ok found) groups = found ≡ groups
-FindsChangeset (Err Memory) groups = Unit {0}
-FindsChangeset (Err (At fault offset)) groups = ⊥
+FindsChangeset = Finds
 
 -- this fault is told, or memory is wanting
 abbrev pub TellsChangesetFault : Result (List Group) CodecFault → Fault → ℕ → Type 0
-TellsChangesetFault (Ok found) fault offset = ⊥
-TellsChangesetFault (Err Memory) fault offset = Unit {0}
-TellsChangesetFault (Err (At told at)) fault offset = (told ≡ fault) × (at ≡ offset)
+TellsChangesetFault = Tells

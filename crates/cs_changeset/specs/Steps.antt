@@ -14,7 +14,7 @@ use Rattle.cs_change.specs.declared.change.Change.{Change}
 use Rattle.cs_change.specs.declared.group.Group.{Group}
 use Rattle.cs_change.specs.Spelling.{flag_byte, change_spelling, FitsRow, AreUpdateColumns, header_spelling, changes_spelling, group_spelling, FitsHeader, FitsChange, FitsGroup, FitsChangeset, changeset_spelling}
 use Rattle.cs_changeset.specs.Records.{Rule, InRow, of_field, IsRight, AreRight, IsColumnFault, IsColumnsFault, row_rules}
-use Rattle.cs_changeset.specs.Reading.{FitsMarks, IsHeaderFault, IsUpdateFault, IsFlaggedFault, IsChangeFault, IsChangesFault, IsGroupFault, IsGroupsFault}
+use Rattle.cs_changeset.specs.Reading.{FitsMarks, IsHeaderFault, IsUpdateFault, IsRecordsFault, IsFlagFault, IsFlaggedFault, IsChangeFault, IsChangesFault, IsGroupFault, IsGroupsFault}
 use Rattle.cs_changeset.specs.declared.fault.FirstFault.{FirstFault}
 use Rattle.cs_changeset.specs.declared.fault.CodecFault.{CodecFault}
 use Rattle.cs_changeset.specs.declared.fault.CodecFault.TheVariants.{Memory, At}
@@ -70,15 +70,14 @@ ReadsAllColumns rules bytes (Err told) = IsColumnsFault rules told.fault told.of
 -- the flag behind an operation's byte, and what follows it
 abbrev pub ReadsFlag : List ℕ → Result (Bool × Bor (List ℕ)) FirstFault → Type 0
 ReadsFlag behind (Ok found) = behind ≡ flag_byte found.0 ∷ found.1.now
-ReadsFlag behind (Err told) =
-    (marks : List Bool) (operation : ℕ) → IsFlaggedFault marks operation told.fault told.offset behind
+ReadsFlag behind (Err told) = IsFlagFault told.fault told.offset behind
 
 -- the flag and the row behind an operation's byte
 abbrev pub ReadsFlaggedRow : List Bool → List ℕ → Result (Bool × List Value × ℕ) FirstFault → Type 0
 ReadsFlaggedRow marks behind (Ok found) =
     FitsRow (length marks) found.1 × StandsAt behind (flag_byte found.0 ∷ row_bytes found.1) found.2
 ReadsFlaggedRow marks behind (Err told) =
-    (operation : ℕ) → (operation ≡ 18) ⊎ (operation ≡ 9) → IsFlaggedFault marks operation told.fault told.offset behind
+    (operation : ℕ) → (operation ≡ 18) ⊎ (operation ≡ 9) → IsFlaggedFault (IsRecordsFault marks operation) told.fault told.offset behind
 
 -- the two records of an UPDATE
 abbrev pub ReadsUpdate : List Bool → List ℕ → Result (List Field × List Field × ℕ) FirstFault → Type 0
@@ -92,7 +91,7 @@ abbrev pub ReadsOperation : List Bool → ℕ → List ℕ → Result (Change ×
 ReadsOperation marks operation behind (Ok found) =
     FitsChange marks found.0 × StandsAt (operation ∷ behind) (change_spelling found.0) found.1
 ReadsOperation marks operation behind (Err told) =
-    IsFlaggedFault marks operation told.fault told.offset behind
+    IsFlaggedFault (IsRecordsFault marks operation) told.fault told.offset behind
 
 -- a group ends with the bytes, or where the next begins
 abbrev pub EndsGroup : List ℕ → Type 0

@@ -27,7 +27,7 @@ const PATCHSET: u8 = b'P';
 
 /// The flag behind an operation's byte, and what follows it. The offsets count the operation's byte.
 #[inline(always)]
-fn read_flag(behind: &[u8]) -> Result<(bool, &[u8]), FirstFault>
+pub fn read_flag(behind: &[u8]) -> Result<(bool, &[u8]), FirstFault>
     ensures { ReadsFlag behind.now result }
 {
     match behind {
@@ -41,7 +41,7 @@ fn read_flag(behind: &[u8]) -> Result<(bool, &[u8]), FirstFault>
 /// The flag and the row of an INSERT or a DELETE, behind the operation's byte, and how many bytes they take. The
 /// offsets count the operation's byte.
 #[inline(always)]
-fn read_flagged_row<'a>(
+pub fn read_flagged_row<'a>(
     marks: &[u8],
     behind: &'a [u8],
 ) -> Result<(bool, Row<'a>, usize), FirstFault>

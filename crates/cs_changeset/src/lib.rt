@@ -13,9 +13,12 @@ pub mod laws;
 mod reading;
 mod records;
 
+pub use changes::read_flag;
 pub use cs_change::{Bytes, Change, Changeset, Group, encode};
-pub use fault::{CodecFault, Fault};
+pub use fault::{CodecFault, Fault, FirstFault};
+pub use header::read_header;
 pub use reading::read;
+pub use records::{read_old_fields, read_row};
 
 #[cfg(test)]
 mod tests;

@@ -10,7 +10,7 @@ ghost use Rattle.cs_changeset.specs.declared.fault.Fault.TheVariants.{Truncated}
 
 use crate::changes::read_changes;
 use crate::fault::{CodecFault, Fault};
-use crate::header::header;
+use crate::header::read_header;
 use crate::laws;
 use cs_change::{Change, Changeset, Group};
 use cs_value::{Items, Text};
@@ -27,7 +27,7 @@ fn read_group(alloc: Global, bytes: &[u8]) -> Result<(Group<'_>, usize), CodecFa
     requires { BeginsGroup bytes.now }
     ensures { ReadsGroup bytes.now result }
 {
-    let (marks, name, at) = header(&bytes[1..])?;
+    let (marks, name, at) = read_header(&bytes[1..])?;
     match read_changes(alloc, marks, &bytes[at..]) {
         Ok((changes, len)) => {
             let group = Group {

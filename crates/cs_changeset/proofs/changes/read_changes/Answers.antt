@@ -2,7 +2,9 @@ use Rattle.std.proofs.Common.{◌-◌, length, take, drop, ap, arith}
 use Rattle.std.proofs.lemmas.List.{length-drop}
 use Rattle.cs_change.specs.Spelling.{marks_of, change_spelling, FitsChange}
 use Rattle.cs_record.specs.Facts.{stands_more, all_more, tail}
-use Rattle.cs_changeset.proofs.ChangeLaws.{change_within, changes_fault}
+use Rattle.cs_changeset.specs.Facts.{entries_fault}
+use Rattle.cs_changeset.specs.Reading.{IsChangeFault}
+use Rattle.cs_changeset.proofs.ChangeLaws.{change_within}
 use Rattle.cs_changeset.proofs.changes.read_changes.Goals as goal
 
 pub loop-change-preserved : goal.loop-change-preserved
@@ -22,4 +24,4 @@ overflow_add-at-in-Err c =
 
 pub returns-in-Err : goal.returns-in-Err
 returns-in-Err c =
-    rw (c.from.ensures, c.at.ensures) (changes_fault (marks_of c.args.marks.now) c.args.bytes.now c.loop-change.changes.items c.loop-change.at c.in-Err.told.fault c.in-Err.told.offset c.loop-change.invariant.fits c.loop-change.invariant.stands c.in-Err.ensures)
+    rw (c.from.ensures, c.at.ensures) (entries_fault change_spelling FitsChange IsChangeFault (marks_of c.args.marks.now) c.args.bytes.now c.loop-change.changes.items c.loop-change.at c.in-Err.told.fault c.in-Err.told.offset c.loop-change.invariant.fits c.loop-change.invariant.stands c.in-Err.ensures)

@@ -2,7 +2,8 @@ use Rattle.std.proofs.Common.{◌-◌, length, take, drop, ap, arith}
 use Rattle.std.proofs.lemmas.List.{length-drop}
 use Rattle.cs_record.specs.Facts.{stands_more, all_more, tail}
 use Rattle.cs_change.specs.Spelling.{group_spelling, FitsGroup}
-use Rattle.cs_changeset.proofs.GroupLaws.{begins_there, ends_there, group_within, groups_fault}
+use Rattle.cs_changeset.specs.Facts.{begins_there, ends_there}
+use Rattle.cs_changeset.proofs.GroupLaws.{changes_group_within, groups_fault}
 use Rattle.cs_changeset.proofs.reading.read_groups.Goals as goal
 
 pub read_group-requires : goal.read_group-requires
@@ -22,7 +23,7 @@ pub overflow_add-at-in-Err-At : goal.overflow_add-at-in-Err-At
 overflow_add-at-in-Err-At c =
     let bytes = c.args.bytes.now in
     let at = c.loop-at.at in
-    let within = group_within c.in-Err-At.fault c.in-Err-At.offset (take (length bytes - at) (drop at bytes)) (rw c.in-Err-At.field-0-is at c.in-Err-At.ensures) in
+    let within = changes_group_within c.in-Err-At.fault c.in-Err-At.offset (take (length bytes - at) (drop at bytes)) (rw c.in-Err-At.field-0-is at c.in-Err-At.ensures) in
     rw c.in-Err-At.field-0-is (omega (arith, within, c.loop-at-test.true, ap length (tail bytes at), length-drop at bytes))
 
 pub returns-in-Err-At : goal.returns-in-Err-At
