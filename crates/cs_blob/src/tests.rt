@@ -133,13 +133,15 @@ fn what_is_read(rt: HostRuntime) -> Result<(), Fail> {
     };
     assert!(rt; deleted.deleted);
     assert!(rt; deleted.replaced);
-    assert!(rt; deleted.fields.bytes() == &bytes[9..22], "other fields");
+    let fields = joined(alloc, &[&ONE, &V1])?;
+    assert!(rt; deleted.fields.bytes() == fields.as_slice(), "other fields");
     let [changed] = second.entries.as_slice() else {
         panic!(rt; "not one entry");
     };
     assert!(rt; !changed.deleted);
     assert!(rt; !changed.replaced);
-    assert!(rt; changed.fields.bytes() == &bytes[33..48], "other fields");
+    let fields = joined(alloc, &[&ONE, &B2, &[0, 0]])?;
+    assert!(rt; changed.fields.bytes() == fields.as_slice(), "other fields");
     Ok(())
 }
 

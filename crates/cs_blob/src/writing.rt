@@ -3,7 +3,7 @@
 ghost use Rattle.std.specs.Prelude.{◌≡◌, ◌++◌, OnOk, OnErr};
 ghost use Rattle.std.specs.List.{flat_map};
 ghost use Rattle.cs_record.specs.Spelling.{Extends};
-ghost use Rattle.cs_blob.specs.Spelling.{blob_spelling, entry_spelling, first_byte, group_spelling};
+ghost use Rattle.cs_blob.specs.Spelling.{blob_spelling, blob_entry_spelling, first_byte, blob_group_spelling};
 
 use crate::blob::{Blob, BlobGroup, Entry};
 use crate::entries::{CHANGED, DELETED};
@@ -17,7 +17,7 @@ fn first_byte(deleted: bool) -> u8
 }
 
 fn put_entry(entry: &Entry<'_>, out: &mut Vec<u8>) -> Result<(), Memory>
-    ensures ok { OnOk result (out.new.items ≡ out.old.items ++ entry_spelling entry.now) }
+    ensures ok { OnOk result (out.new.items ≡ out.old.items ++ blob_entry_spelling entry.now) }
     ensures kept { Extends out.old.items out.new.items }
 {
     out.push(first_byte(entry.deleted))?;
@@ -27,7 +27,7 @@ fn put_entry(entry: &Entry<'_>, out: &mut Vec<u8>) -> Result<(), Memory>
 }
 
 fn put_entries(entries: &[Entry<'_>], out: &mut Vec<u8>) -> Result<(), Memory>
-    ensures ok { OnOk result (out.new.items ≡ out.old.items ++ flat_map entry_spelling entries.now) }
+    ensures ok { OnOk result (out.new.items ≡ out.old.items ++ flat_map blob_entry_spelling entries.now) }
     ensures kept { Extends out.old.items out.new.items }
 {
     for entry in entries {
@@ -37,7 +37,7 @@ fn put_entries(entries: &[Entry<'_>], out: &mut Vec<u8>) -> Result<(), Memory>
 }
 
 fn put_group(group: &BlobGroup<'_>, out: &mut Vec<u8>) -> Result<(), Memory>
-    ensures ok { OnOk result (out.new.items ≡ out.old.items ++ group_spelling group.now) }
+    ensures ok { OnOk result (out.new.items ≡ out.old.items ++ blob_group_spelling group.now) }
     ensures kept { Extends out.old.items out.new.items }
 {
     put_header(group.marks.as_slice(), group.name.as_str(), out)?;

@@ -1,7 +1,6 @@
 pub mod Headers
 pub mod ColumnLaws
 pub mod ChangeLaws
-pub mod GroupLaws
 pub mod RecordApart
 pub mod HeaderApart
 pub mod ChangeApart

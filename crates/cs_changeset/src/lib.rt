@@ -8,6 +8,7 @@
 mod changes;
 mod columns;
 mod fault;
+mod groups;
 mod header;
 pub mod laws;
 mod reading;
@@ -16,6 +17,7 @@ mod records;
 pub use changes::read_flag;
 pub use cs_change::{Bytes, Change, Changeset, Group, encode};
 pub use fault::{CodecFault, Fault, FirstFault};
+pub use groups::{HeadedGroup, read_file};
 pub use header::read_header;
 pub use reading::read;
 pub use records::{read_old_fields, read_row};
