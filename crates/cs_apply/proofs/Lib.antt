@@ -12,5 +12,6 @@ pub mod Placed
 pub mod Quiet
 pub mod Reading
 pub mod Running
+pub mod Standing
 pub mod Stood
 pub mod WholeRow

@@ -1,16 +1,17 @@
 -- The laws of `apply`. `asks` is what calls of a closure do.
-use Rattle.std.specs.Prelude.{◌≡◌, ◌≢◌, List, [], map, filter, is_some}
+use Rattle.std.specs.Prelude.{◌≡◌, ◌≢◌, true, List, [], map, filter, is_some}
 use Rattle.cs_value.specs.Catalog.{AreTables}
 use Rattle.cs_value.specs.declared.catalog.TableDef.{TableDef}
+use Rattle.cs_change.specs.Spelling.{FitsChangeset}
 use Rattle.cs_change.specs.declared.group.Group.{Group}
-use Rattle.cs_normal.specs.State.{State, AreSame, IsAfterGroups}
+use Rattle.cs_normal.specs.State.{State, AreSame, IsAfterGroups, IsStateOf}
 use Rattle.cs_store.specs.Contents.{Contents}
 use Rattle.cs_conflict.specs.declared.conflict.Conflict.{Conflict}
 use Rattle.cs_conflict.specs.declared.conflict.Resolution.{Resolution}
 use Rattle.cs_apply.specs.Applies.{Applies, Stops}
 use Rattle.cs_apply.specs.Calls.{IsApplied}
 use Rattle.cs_apply.specs.Edited.{plain}
-use Rattle.cs_apply.specs.Tasks.{Task, tasks, table_of}
+use Rattle.cs_apply.specs.Tasks.{Task, tasks, table_of, all_keyed}
 use Rattle.cs_apply.specs.declared.applying.Applied.{Applied}
 use Rattle.cs_apply.specs.declared.fault.ApplyFault.{ApplyFault}
 use Rattle.cs_apply.specs.declared.fault.ApplyFault.TheVariants.{Memory, Aborted, Misuse}
@@ -84,3 +85,14 @@ module _ {F : Type 0} (asks : F → Conflict → Resolution → F → Type 0) wh
       → IsAfterGroups (fitting tables groups) before after
       → Stops asks before (tasks tables groups) f fault g
       → ⊥
+
+  -- what is applied to a state of the tables leaves a state of them, where each change fits and has its key
+  abbrev pub LeavesState : Type 0
+  LeavesState =
+      (tables : List TableDef) (groups : List Group) (before end : State) (f g : F) (answers : List Resolution)
+      → AreTables tables
+      → FitsChangeset groups
+      → all_keyed (tasks tables groups) ≡ true
+      → IsStateOf tables before
+      → Applies asks before (tasks tables groups) f answers end g
+      → IsStateOf tables end

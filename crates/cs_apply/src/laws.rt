@@ -22,3 +22,13 @@ pub fn without_conflicts<H: FnMut(&Conflict<'_>) -> Resolution>()
 {
     cs_conflict::laws::kind_tells();
 }
+
+/// What is applied to a state of the tables leaves a state of them, where each change fits and has its key.
+pub fn leaves_state<H: FnMut(&Conflict<'_>) -> Resolution>()
+    ensures { law.LeavesState (CalledAt H.FnMut) }
+{
+    cs_normal::laws::bytes_tell_keys();
+    cs_normal::laws::set_columns_fit();
+    cs_value::laws::catalogs();
+    cs_conflict::laws::made_as_replaced();
+}
