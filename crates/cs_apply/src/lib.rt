@@ -2,7 +2,8 @@
 //! `sqlite3changeset_apply_v2`). It stands on changesets (`cs_change`), keys (`cs_normal`), conflicts (`cs_conflict`) and
 //! stores (`cs_store`). `apply` says which rows are to be written and writes nothing: it takes the changes in order, each
 //! against the rows as the earlier ones left them, asks the closure at each conflict, and answers the edits of rows, what
-//! the closure answered and how many groups fit no table; or why nothing is to be written.
+//! the closure answered and how many groups fit no table; or why nothing is to be written. `laws` says that there is one
+//! answer, that nothing is asked where no change conflicts, and that what is left is a state of the tables again.
 #![tactic(auto)]
 
 mod applying;
