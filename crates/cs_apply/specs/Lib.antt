@@ -1,5 +1,6 @@
 pub mod Applies
 pub mod Begun
+pub mod Blob
 pub mod Calls
 pub mod Edited
 pub mod Found

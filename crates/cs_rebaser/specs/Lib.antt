@@ -1,0 +1,4 @@
+pub mod Rebase
+pub mod Rebased
+pub mod Merge
+pub mod Diamond
