@@ -1,5 +1,7 @@
 pub mod Apart
 pub mod Beginning
+pub mod BlobFits
+pub mod Blobs
 pub mod Giving
 pub mod Groups
 pub mod Lifted

@@ -125,7 +125,7 @@ module _ (tables : List TableDef) where
           rw (here, sym (table_is task n placed slots same slot found), sym (key_is task n placed slots same slot found)) stops.2
 
     -- changes at slots are changes of their places
-    pub lifted : (tasks : List Task) (numbers : List ℕ) (slots end : List Slot) (s : State) (f g : F) (answers : List Resolution)
+    pub lifted : (tasks : List Task) (numbers : List ℕ) (slots end : List Slot) (s : State) (f g : F) (answers : List (Option Resolution))
         → ArePlaced tables places tasks numbers → places ≡ map numbered slots → ((name key : List ℕ) → s name key ≡ stood tables before slots name key)
         → Runs asks slots (map (λ t. t.change) tasks) numbers f answers end g
         → Applies asks s tasks f answers (stood tables before end) g × (places ≡ map numbered end)
@@ -134,10 +134,11 @@ module _ (tables : List TableDef) where
         ((λ name key. ap (λ es. stood tables before es name key) runs.0 ∙ sym (is name key), runs.1, runs.2), same ∙ ap (map numbered) (sym runs.0))
     lifted [] (n ∷ ns) slots end s f g answers placed same is runs = absurd placed
     lifted (t ∷ ts) [] slots end s f g answers placed same is runs = absurd placed
-    lifted (t ∷ ts) (n ∷ ns) slots end s f g answers placed same is runs =
-        let one = one_lifted t n placed.0 slots same s is f runs.3 runs.0 runs.2 runs.5 in
-        let later = lifted ts ns runs.2 end (stood tables before runs.2) runs.3 g runs.1 placed.1 one.1 (λ name key. refl) runs.6 in
-        ((runs.0, runs.1, stood tables before runs.2, runs.3, runs.4, one.0, later.0), later.1)
+    lifted (t ∷ ts) (n ∷ ns) slots end s f g [] placed same is runs = absurd runs
+    lifted (t ∷ ts) (n ∷ ns) slots end s f g (given ∷ others) placed same is runs =
+        let one = one_lifted t n placed.0 slots same s is f runs.1 given runs.0 runs.2 in
+        let later = lifted ts ns runs.0 end (stood tables before runs.0) runs.1 g others placed.1 one.1 (λ name key. refl) runs.3 in
+        ((stood tables before runs.0, runs.1, one.0, later.0), later.1)
 
     pub stops_lifted : (tasks : List Task) (numbers : List ℕ) (slots : List Slot) (s : State) (f g : F) (why : ApplyFault)
         → ArePlaced tables places tasks numbers → places ≡ map numbered slots → ((name key : List ℕ) → s name key ≡ stood tables before slots name key)

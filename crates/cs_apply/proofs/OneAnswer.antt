@@ -10,7 +10,7 @@ use Rattle.cs_conflict.specs.declared.conflict.Conflict.{Conflict}
 use Rattle.cs_conflict.specs.declared.conflict.Resolution.{Resolution}
 use Rattle.cs_conflict.specs.declared.conflict.Resolution.TheVariants.{Replace, Abort}
 use Rattle.cs_apply.specs.Tasks.{Task}
-use Rattle.cs_apply.specs.Applies.{IsConflictOf, AppliesOne, AppliesTask, Applies, IsStop, Stops, StopsOne, KeepsOthers, given_list}
+use Rattle.cs_apply.specs.Applies.{IsConflictOf, AppliesOne, AppliesTask, Applies, IsStop, Stops, StopsOne, KeepsOthers}
 use Rattle.cs_apply.specs.Laws.{AnswersOnce, OneStop, NoStopWhereApplied, IsOneFault, IsOneStop}
 use Rattle.cs_apply.specs.Overlaid.{same_spot}
 use Rattle.cs_apply.specs.declared.fault.ApplyFault.{ApplyFault}
@@ -119,15 +119,17 @@ module _ {F : Type 0} (asks : F → Conflict → Resolution → F → Type 0) (o
       let one = one_step task.table task.change (t task.name task.key) f g h given also (middle task.name task.key) (other task.name task.key) here q.0 in
       (one.0, alike_after task s t middle other alike p.1 q.1 one.1, one.2)
 
-  pub one_run : (tasks : List Task) (s t end last : State) (f g h : F) (answers others : List Resolution) → Alike s t
+  pub one_run : (tasks : List Task) (s t end last : State) (f g h : F) (answers others : List (Option Resolution)) → Alike s t
       → Applies asks s tasks f answers end g → Applies asks t tasks f others last h → (answers ≡ others) × Alike end last × (g ≡ h)
   unfolding Applies
   one_run [] s t end last f g h answers others alike p q =
       (p.1 ∙ sym q.1, λ name key. p.0 name key ∙ (alike name key ∙ sym (q.0 name key)), p.2 ∙ sym q.2)
-  one_run (task ∷ tasks) s t end last f g h answers others alike p q =
-      let one = one_task task s t p.2 q.2 f p.3 q.3 p.0 q.0 alike p.5 q.5 in
-      let more = one_run tasks p.2 q.2 end last q.3 g h p.1 q.1 one.1 (subst (λ (x : F). Applies asks p.2 tasks x p.1 end g) one.2 p.6) q.6 in
-      (p.4 ∙ (ap (λ x. given_list x ++ p.1) one.0 ∙ (ap (λ x. given_list q.0 ++ x) more.0 ∙ sym q.4)), more.1, more.2)
+  one_run (task ∷ tasks) s t end last f g h [] others alike p q = absurd p
+  one_run (task ∷ tasks) s t end last f g h (some ∷ answers) [] alike p q = absurd q
+  one_run (task ∷ tasks) s t end last f g h (some ∷ answers) (other ∷ others) alike p q =
+      let one = one_task task s t p.0 q.0 f p.1 q.1 some other alike p.2 q.2 in
+      let more = one_run tasks p.0 q.0 end last q.1 g h answers others one.1 (subst (λ (x : F). Applies asks p.0 tasks x answers end g) one.2 p.3) q.3 in
+      (ap (λ x. x ∷ answers) one.0 ∙ ap (λ x. other ∷ x) more.0, more.1, more.2)
 
   stops_once : (tasks : List Task) (s t : State) (f g h : F) (some other : ApplyFault) → some ≢ why.Memory → other ≢ why.Memory → Alike s t
       → Stops asks s tasks f some g → Stops asks t tasks f other h → IsOneFault some other × (g ≡ h)
@@ -146,16 +148,17 @@ module _ {F : Type 0} (asks : F → Conflict → Resolution → F → Type 0) (o
       let one = one_task task s t p.1 q.1 f p.2 q.2 p.0 q.0 alike p.3 q.3 in
       stops_once tasks p.1 q.1 q.2 g h some other not nor one.1 (subst (λ (x : F). Stops asks p.1 tasks x some g) one.2 p.4) q.4
 
-  runs_or_stops : (tasks : List Task) (s t end : State) (f g h : F) (answers : List Resolution) (fault : ApplyFault) → fault ≢ why.Memory → Alike s t
+  runs_or_stops : (tasks : List Task) (s t end : State) (f g h : F) (answers : List (Option Resolution)) (fault : ApplyFault) → fault ≢ why.Memory → Alike s t
       → Applies asks s tasks f answers end g → Stops asks t tasks f fault h → ⊥
   unfolding Applies Stops
   runs_or_stops [] s t end f g h answers fault not alike p q = q
-  runs_or_stops (task ∷ tasks) s t end f g h answers fault not alike p (inl q) =
-      let here = subst (λ (place : Place). AppliesOne asks task.table task.change place f p.0 (p.2 task.name task.key) p.3) (alike task.name task.key) p.5.0 in
-      stops_or_step task.table task.key task.change (t task.name task.key) f h p.3 fault p.0 _ not q here
-  runs_or_stops (task ∷ tasks) s t end f g h answers fault not alike p (inr q) =
-      let one = one_task task s t p.2 q.1 f p.3 q.2 p.0 q.0 alike p.5 q.3 in
-      runs_or_stops tasks p.2 q.1 end q.2 g h p.1 fault not one.1 (subst (λ (x : F). Applies asks p.2 tasks x p.1 end g) one.2 p.6) q.4
+  runs_or_stops (task ∷ tasks) s t end f g h [] fault not alike p q = p
+  runs_or_stops (task ∷ tasks) s t end f g h (given ∷ others) fault not alike p (inl q) =
+      let here = subst (λ (place : Place). AppliesOne asks task.table task.change place f given (p.0 task.name task.key) p.1) (alike task.name task.key) p.2.0 in
+      stops_or_step task.table task.key task.change (t task.name task.key) f h p.1 fault given _ not q here
+  runs_or_stops (task ∷ tasks) s t end f g h (given ∷ others) fault not alike p (inr q) =
+      let one = one_task task s t p.0 q.1 f p.1 q.2 given q.0 alike p.2 q.3 in
+      runs_or_stops tasks p.0 q.1 end q.2 g h others fault not one.1 (subst (λ (x : F). Applies asks p.0 tasks x others end g) one.2 p.3) q.4
 
 alike_self : (s : State) → Alike s s
 alike_self s name key = refl

@@ -7,7 +7,7 @@ use Rattle.cs_value.specs.Key.{Place}
 use Rattle.cs_change.specs.declared.change.Change.{Change}
 use Rattle.cs_conflict.specs.declared.conflict.Conflict.{Conflict}
 use Rattle.cs_conflict.specs.declared.conflict.Resolution.{Resolution}
-use Rattle.cs_apply.specs.Applies.{AppliesOne, StopsOne, given_list}
+use Rattle.cs_apply.specs.Applies.{AppliesOne, StopsOne}
 use Rattle.cs_apply.specs.Slots.{left_or, standing, IsSlotAfter}
 use Rattle.cs_apply.specs.Steps.{RunsOne, RunStops, Runs, RunsStop, IsRunStopped}
 use Rattle.cs_apply.specs.declared.fault.ApplyFault.{ApplyFault}
@@ -33,11 +33,11 @@ module _ {F : Type 0} (asks : F → Conflict → Resolution → F → Type 0) wh
       (get_or slots number some, slice_get-get_or slots number some less, stops)
 
   -- a change at a slot, and those behind it
-  run_more : (slots middle end : List Slot) (c : Change) (cs : List Change) (n : ℕ) (ns : List ℕ) (f g h : F) (given : Option Resolution) (more : List Resolution)
+  run_more : (slots middle end : List Slot) (c : Change) (cs : List Change) (n : ℕ) (ns : List ℕ) (f g h : F) (given : Option Resolution) (more : List (Option Resolution))
       → RunsOne asks slots n c f given middle g → Runs asks middle cs ns g more end h
-      → Runs asks slots (c ∷ cs) (n ∷ ns) f (given_list given ++ more) end h
+      → Runs asks slots (c ∷ cs) (n ∷ ns) f (given ∷ more) end h
   unfolding Runs
-  run_more slots middle end c cs n ns f g h given more one later = (given, more, middle, g, refl, one, later)
+  run_more slots middle end c cs n ns f g h given more one later = (middle, g, one, later)
 
   stop_more : (slots middle : List Slot) (c : Change) (cs : List Change) (n : ℕ) (ns : List ℕ) (f g h : F) (given : Option Resolution) (why : ApplyFault)
       → RunsOne asks slots n c f given middle g → RunsStop asks middle cs ns g why h
@@ -62,15 +62,15 @@ module _ {F : Type 0} (asks : F → Conflict → Resolution → F → Type 0) wh
     drop_numbers : drop at ns ≡ get_or ns at 0 ∷ drop (at + 1) ns
     drop_numbers = drop_more ns at 0 numbered
 
-    pub turn : (middle : List Slot) (g : F) (given : Option Resolution) (answers : List Resolution)
-        → ((more : List Resolution) (end : List Slot) (last : F) → Runs asks slots (drop at cs) (drop at ns) f more end last → Runs asks all cs ns f0 (answers ++ more) end last)
+    pub turn : (middle : List Slot) (g : F) (given : Option Resolution) (answers : List (Option Resolution))
+        → ((more : List (Option Resolution)) (end : List Slot) (last : F) → Runs asks slots (drop at cs) (drop at ns) f more end last → Runs asks all cs ns f0 (answers ++ more) end last)
         → RunsOne asks slots (get_or ns at 0) c f given middle g
-        → (more : List Resolution) (end : List Slot) (last : F) → Runs asks middle (drop (at + 1) cs) (drop (at + 1) ns) g more end last
-        → Runs asks all cs ns f0 ((answers ++ given_list given) ++ more) end last
+        → (more : List (Option Resolution)) (end : List Slot) (last : F) → Runs asks middle (drop (at + 1) cs) (drop (at + 1) ns) g more end last
+        → Runs asks all cs ns f0 ((answers ++ given ∷ []) ++ more) end last
     turn middle g given answers carries one more end last later =
         let h = run_more slots middle end c (drop (at + 1) cs) (get_or ns at 0) (drop (at + 1) ns) f g last given more one later in
-        subst (λ (r : List Resolution). Runs asks all cs ns f0 r end last) (sym (append_assoc answers (given_list given) more))
-        (carries (given_list given ++ more) end last (rw drop_changes (rw drop_numbers h)))
+        subst (λ (r : List (Option Resolution)). Runs asks all cs ns f0 r end last) (sym (append_assoc answers (given ∷ []) more))
+        (carries (given ∷ more) end last (rw drop_changes (rw drop_numbers h)))
 
     pub stop_turn : (middle : List Slot) (g : F) (given : Option Resolution)
         → ((why : ApplyFault) (last : F) → RunsStop asks slots (drop at cs) (drop at ns) f why last → RunsStop asks all cs ns f0 why last)
@@ -88,11 +88,11 @@ module _ {F : Type 0} (asks : F → Conflict → Resolution → F → Type 0) wh
         carries why last (rw drop_changes (rw drop_numbers (stop_here slots c (drop (at + 1) cs) (get_or ns at 0) (drop (at + 1) ns) f last why stops)))
 
   -- the loop has ended
-  pub ended : (all slots : List Slot) (cs : List Change) (ns : List ℕ) (f0 f : F) (at : ℕ) (answers : List Resolution) → length cs ≤ at
-      → ((more : List Resolution) (end : List Slot) (last : F) → Runs asks slots (drop at cs) (drop at ns) f more end last → Runs asks all cs ns f0 (answers ++ more) end last)
+  pub ended : (all slots : List Slot) (cs : List Change) (ns : List ℕ) (f0 f : F) (at : ℕ) (answers : List (Option Resolution)) → length cs ≤ at
+      → ((more : List (Option Resolution)) (end : List Slot) (last : F) → Runs asks slots (drop at cs) (drop at ns) f more end last → Runs asks all cs ns f0 (answers ++ more) end last)
       → Runs asks all cs ns f0 answers slots f
   ended all slots cs ns f0 f at answers past carries =
-      subst (λ (r : List Resolution). Runs asks all cs ns f0 r slots f) (append-nil answers)
+      subst (λ (r : List (Option Resolution)). Runs asks all cs ns f0 r slots f) (append-nil answers)
       (carries [] slots f (rw (drop_all at cs past) (none_left slots (drop at ns) f)))
 
   -- a stop, or want of memory

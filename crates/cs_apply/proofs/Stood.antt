@@ -50,17 +50,18 @@ began tables before (s ∷ slots) read blank name key =
 
 module _ {F : Type 0} (asks : F → Conflict → Resolution → F → Type 0) (P : Slot → Type 0) (stays : (slot next : Slot) (place : Place) → IsSlotAfter slot next place → P slot → P next) where
   -- what is so of each slot, and rests on its place and on what was read, stays so
-  pub kept : (slots : List Slot) (changes : List Change) (numbers : List ℕ) (f : F) (answers : List Resolution) (end : List Slot) (g : F)
+  pub kept : (slots : List Slot) (changes : List Change) (numbers : List ℕ) (f : F) (answers : List (Option Resolution)) (end : List Slot) (g : F)
       → Runs asks slots changes numbers f answers end g → AllByRecursion P slots → AllByRecursion P end
   unfolding Runs
   kept slots [] numbers f answers end g runs all = subst (λ (es : List Slot). AllByRecursion P es) (sym runs.0) all
   kept slots (c ∷ changes) [] f answers end g runs all = subst (λ (es : List Slot). AllByRecursion P es) (sym runs.0) all
-  kept slots (c ∷ changes) (n ∷ numbers) f answers end g runs all =
-      let one = runs.5 in
+  kept slots (c ∷ changes) (n ∷ numbers) f [] end g runs all = absurd runs
+  kept slots (c ∷ changes) (n ∷ numbers) f (given ∷ others) end g runs all =
+      let one = runs.2 in
       let next : P one.1 = stays one.0 one.1 one.2 one.5 (all_there P slots n one.0 all one.3) in
-      let middle : AllByRecursion P runs.2 =
+      let middle : AllByRecursion P runs.0 =
       rw one.4 (recursion_from_All P _ (All-set P slots n one.1 next (All-from_recursion P slots all))) in
-      kept runs.2 changes numbers runs.3 runs.1 end g runs.6 middle
+      kept runs.0 changes numbers runs.1 others end g runs.3 middle
 
 -- ---- the bytes of rows
 

@@ -1,5 +1,5 @@
 -- One change at its slot, and changes one after another, each at the slot of its number.
-use Rattle.std.specs.Prelude.{◌≡◌, ◌⊎◌, ℕ, List, [], ◌∷◌, ◌++◌, Option, Some, None, slice_get, set}
+use Rattle.std.specs.Prelude.{◌≡◌, ◌⊎◌, ℕ, List, [], ◌∷◌, Option, Some, None, slice_get, set}
 use Rattle.cs_value.specs.Key.{Place}
 use Rattle.cs_change.specs.Action.{action}
 use Rattle.cs_change.specs.declared.change.Change.{Change}
@@ -7,7 +7,7 @@ use Rattle.cs_conflict.specs.Conflict.{answered}
 use Rattle.cs_conflict.specs.declared.conflict.Conflict.{Conflict}
 use Rattle.cs_conflict.specs.declared.conflict.Resolution.{Resolution}
 use Rattle.cs_conflict.specs.declared.conflict.Resolution.TheVariants.{Replace, Abort}
-use Rattle.cs_apply.specs.Applies.{AppliesOne, StopsOne, given_list}
+use Rattle.cs_apply.specs.Applies.{AppliesOne, StopsOne}
 use Rattle.cs_apply.specs.Slots.{standing, IsSlotAfter}
 use Rattle.cs_apply.specs.declared.fault.ApplyFault.{ApplyFault}
 use Rattle.cs_apply.specs.declared.fault.ApplyFault.TheVariants as fault
@@ -45,13 +45,13 @@ RunStops asks slots number change f fault g =
     (slot : Slot) × (slice_get slots number ≡ Some slot)
     × StopsOne asks slot.table slot.key.items change (standing slot) f fault g
 
-unfoldable pub Runs : {F : Type 0} → (F → Conflict → Resolution → F → Type 0) → List Slot → List Change → List ℕ → F → List Resolution → List Slot → F → Type 0
-Runs {F} asks slots (change ∷ changes) (number ∷ numbers) f answers end g =
-    (given : Option Resolution) × (others : List Resolution) × (middle : List Slot) × (between : F)
-    × (answers ≡ given_list given ++ others)
+unfoldable pub Runs : {F : Type 0} → (F → Conflict → Resolution → F → Type 0) → List Slot → List Change → List ℕ → F → List (Option Resolution) → List Slot → F → Type 0
+Runs {F} asks slots (change ∷ changes) (number ∷ numbers) f [] end g = ⊥
+Runs {F} asks slots (change ∷ changes) (number ∷ numbers) f (given ∷ others) end g =
+    (middle : List Slot) × (between : F)
     × RunsOne asks slots number change f given middle between
     × Runs asks middle changes numbers between others end g
-Runs {F} asks slots _ _ f answers end g = (end ≡ slots) × (answers ≡ []) × (g ≡ f)
+Runs {F} asks slots _ _ f given end g = (end ≡ slots) × (given ≡ []) × (g ≡ f)
 
 unfoldable pub RunsStop : {F : Type 0} → (F → Conflict → Resolution → F → Type 0) → List Slot → List Change → List ℕ → F → ApplyFault → F → Type 0
 RunsStop {F} asks slots (change ∷ changes) (number ∷ numbers) f fault g =

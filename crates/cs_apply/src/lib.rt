@@ -7,6 +7,7 @@
 #![tactic(auto)]
 
 mod applying;
+mod blob;
 mod edits;
 mod fault;
 pub mod laws;

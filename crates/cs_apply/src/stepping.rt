@@ -1,9 +1,9 @@
 //! The changes in order, each at its place, with an answer to each conflict.
 
-ghost use Rattle.std.specs.Prelude.{◌≡◌, ◌<◌, ◌++◌, length, Some, None, IfOk, IfErr, OnOk};
+ghost use Rattle.std.specs.Prelude.{◌≡◌, ◌<◌, length, Some, None, IfOk, IfErr, OnOk};
 ghost use Rattle.std.specs.Fn.{CalledAt};
 ghost use Rattle.std.specs.List.{All};
-ghost use Rattle.cs_apply.specs.Applies.{AppliesOne, StopsOne, given_list};
+ghost use Rattle.cs_apply.specs.Applies.{AppliesOne, StopsOne};
 ghost use Rattle.cs_apply.specs.Slots.{left_or, standing};
 ghost use Rattle.cs_apply.specs.Steps.{IsAnswered, IsStopped, RunsOne, RunStops, Runs, IsRunStopped};
 
@@ -122,36 +122,25 @@ fn apply_at<H: FnMut(&Conflict<'_>) -> Resolution>(
     Ok(given)
 }
 
-/// Puts an answer, if there is one, behind the others.
-fn put_answer(answers: &mut Vec<Resolution>, given: Option<Resolution>) -> Result<(), Memory>
-    ensures { OnOk result (answers.new.items ≡ answers.old.items ++ given_list given) }
-{
-    if let Some(given) = given {
-        answers.push(given)?;
-    }
-    Ok(())
-}
-
-/// Applies the changes in order, each at the slot of its number, and gives the answers.
+/// Applies the changes in order, each at the slot of its number, and gives for each the answer, if there was a conflict.
 pub(crate) fn apply_all<H: FnMut(&Conflict<'_>) -> Resolution>(
     alloc: Global,
     changes: &[Change<'_>],
     numbers: &[usize],
     slots: &mut [Slot],
     answer: &mut H,
-) -> Result<Vec<Resolution>, ApplyFault>
+) -> Result<Vec<Option<Resolution>>, ApplyFault>
     requires callable { H.IsAlwaysCallable answer.old }
     requires numbered { length numbers.now ≡ length changes.now }
     requires within { All (λ number. number < length slots.old) numbers.now }
     ensures ready { H.IsAlwaysCallable answer.new }
-    ensures applied { IfOk result (λ answers.
-        Runs (CalledAt H.FnMut) slots.old changes.now numbers.now answer.old answers.items slots.new answer.new) }
+    ensures applied { IfOk result (λ given.
+        Runs (CalledAt H.FnMut) slots.old changes.now numbers.now answer.old given.items slots.new answer.new) }
     ensures stopped { IfErr result (λ fault. IsRunStopped (CalledAt H.FnMut) slots.old changes.now numbers.now answer.old fault answer.new) }
 {
-    let mut answers = Vec::new(alloc);
+    let mut given = Vec::with_capacity(alloc, changes.len())?;
     for (at, change) in changes.iter().enumerate() {
-        let given = apply_at(alloc, change, slots, numbers[at], answer)?;
-        put_answer(&mut answers, given)?;
+        given.push(apply_at(alloc, change, slots, numbers[at], answer)?)?;
     }
-    Ok(answers)
+    Ok(given)
 }

@@ -36,7 +36,7 @@ fn fits(group: &Group<'_>, table: &TableDef) -> bool
 
 /// The table that the group fits, if there is one, behind its place.
 #[tactic(auto, unfolding(crate::specs::Tasks::table_of))]
-fn find_table<'a>(group: &Group<'_>, catalog: &'a Catalog) -> Option<(u32, &'a TableDef)>
+pub(crate) fn find_table<'a>(group: &Group<'_>, catalog: &'a Catalog) -> Option<(u32, &'a TableDef)>
     ensures place { option_map (λ found. found.0) result ≡ table_of group.now catalog.now }
     ensures marks { IfSome result (λ found. marks_of group.now.marks ≡ found.1.now.key_marks) }
 {

@@ -14,7 +14,7 @@ mod writing;
 pub use blob::{Blob, BlobGroup, Entry};
 pub use cs_changeset::{CodecFault, Fault};
 pub use reading::read;
-pub use writing::encode;
+pub use writing::{encode, put_entry};
 
 #[cfg(test)]
 mod tests;
