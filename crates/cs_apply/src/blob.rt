@@ -55,9 +55,11 @@ fn put_keyed_new(
     let mut marks = marks;
     let mut old = old.again();
     let mut new = new.again();
-    while let (Some((mark, more_marks)), Some((before, more_old)), Some((after, more_new))) =
-        (marks.split_first(), old.split_first(), new.split_first())
-    {
+    while let (Some((mark, more_marks)), Some((before, more_old)), Some((after, more_new))) = (
+        marks.split_first(),
+        old.split_first(),
+        new.split_first(),
+    ) {
         if *mark != 0 {
             out.push(&before)?;
         } else {

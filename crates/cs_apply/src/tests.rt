@@ -223,6 +223,135 @@ fn worked_rows(rt: HostRuntime) -> Result<(), Fail> {
     Ok(())
 }
 
+/// The integer 1 as a field, and the header of `t2(a key, b, c, d)`.
+const ONE: &[u8] = &[1, 0, 0, 0, 0, 0, 0, 0, 1];
+
+const SECOND: &[u8] = &[0x54, 4, 1, 0, 0, 0, 0x74, 0x32, 0];
+
+/// A row that stands in a table, a changeset, the answer to each of its conflicts, and the blob that they leave.
+#[derive(Drop)]
+struct Answered<'a> {
+    table: u32,
+    row: &'a [&'a [u8]],
+    changeset: &'a [&'a [u8]],
+    answer: Resolution,
+    blob: &'a [&'a [u8]],
+}
+
+fn joined(alloc: Global, pieces: &[&[u8]]) -> Result<Vec<u8>, Memory> {
+    let mut bytes = Vec::new(alloc);
+    for piece in pieces {
+        bytes.extend_from_slice(piece)?;
+    }
+    Ok(bytes)
+}
+
+/// The blob that is left where the key 1 has the row, or none where it has no bytes.
+fn blob_left(alloc: Global, case: &Answered<'_>) -> Result<Vec<u8>, ApplyFault> {
+    let mut store = MapStore::new(alloc);
+    let row = joined(alloc, case.row)?;
+    let mut rows = Vec::new(alloc);
+    if !row.is_empty() {
+        rows.push(RowEdit {
+            table: case.table,
+            key: Vec::from_slice(alloc, ONE)?,
+            row: Some(row),
+        })?;
+    }
+    store.commit(&Batch {
+        rows,
+        meta: Vec::new(alloc),
+        log: None,
+    })?;
+    let bytes = joined(alloc, case.changeset)?;
+    let (Some(catalog), Ok(changeset)) = (catalog(alloc)?, read(alloc, &bytes)) else {
+        return Err(ApplyFault::Memory);
+    };
+    let applied = apply(
+        alloc,
+        &mut store,
+        &catalog,
+        &changeset,
+        &mut |_: &Conflict<'_>| case.answer,
+    )?;
+    Ok(applied.blob)
+}
+
+/// Each kind of change, answered by OMIT and by REPLACE; changes that don't conflict leave nothing.
+#[test]
+fn blobs_of_answered_conflicts(rt: HostRuntime) -> Result<(), Fail> {
+    let alloc = rt.alloc();
+    let (v1, v2, v9): (&[u8], &[u8], &[u8]) = (b"\x03\x02v1", b"\x03\x02v2", b"\x03\x02v9");
+    let (b0, b1, b2): (&[u8], &[u8], &[u8]) = (b"\x03\x02b0", b"\x03\x02b1", b"\x03\x02b2");
+    let (c0, c2): (&[u8], &[u8]) = (b"\x03\x02c0", b"\x03\x02c2");
+    let (d0, d1): (&[u8], &[u8]) = (b"\x03\x02d0", b"\x03\x02d1");
+    let cases = [
+        Answered {
+            table: 0,
+            row: &[ONE, v1],
+            changeset: &[FIRST, &[0x12, 0], ONE, v2],
+            answer: Resolution::Omit,
+            blob: &[FIRST, &[0x12, 0], ONE, v2],
+        },
+        Answered {
+            table: 1,
+            row: &[ONE, b1, c0, d0],
+            changeset: &[SECOND, &[0x17, 0], ONE, b0, c0, &[0, 0], b2, c2, &[0]],
+            answer: Resolution::Replace,
+            blob: &[SECOND, &[0x12, 1], ONE, b2, c2, &[0]],
+        },
+        Answered {
+            table: 1,
+            row: &[ONE, b1, c0, d1],
+            changeset: &[SECOND, &[0x17, 0], ONE, b0, &[0, 0, 0], b2, &[0, 0]],
+            answer: Resolution::Omit,
+            blob: &[SECOND, &[0x12, 0], ONE, b2, &[0, 0]],
+        },
+        Answered {
+            table: 1,
+            row: &[ONE, b0, c0, d1],
+            changeset: &[SECOND, &[0x17, 0], ONE, b0, &[0, 0, 0], b2, &[0, 0]],
+            answer: Resolution::Omit,
+            blob: &[],
+        },
+        Answered {
+            table: 0,
+            row: &[ONE, v9],
+            changeset: &[FIRST, &[0x17, 0], ONE, v1, &[0], v9],
+            answer: Resolution::Omit,
+            blob: &[FIRST, &[0x12, 0], ONE, v9],
+        },
+        Answered {
+            table: 0,
+            row: &[],
+            changeset: &[FIRST, &[0x17, 0], ONE, v1, &[0], v2],
+            answer: Resolution::Omit,
+            blob: &[FIRST, &[0x12, 0], ONE, v2],
+        },
+        Answered {
+            table: 0,
+            row: &[],
+            changeset: &[UNKNOWN, &[9, 0], ONE, v1, FIRST, &[9, 0], ONE, v1, SECOND],
+            answer: Resolution::Omit,
+            blob: &[FIRST, &[9, 0], ONE, v1],
+        },
+        Answered {
+            table: 0,
+            row: &[ONE, v9],
+            changeset: &[FIRST, &[9, 0], ONE, v1],
+            answer: Resolution::Replace,
+            blob: &[FIRST, &[9, 1], ONE, v1],
+        },
+    ];
+    for case in &cases {
+        match blob_left(alloc, case) {
+            Ok(blob) => assert_eq!(rt; blob.as_slice(), joined(alloc, case.blob)?.as_slice()),
+            Err(_) => assert!(rt; false, "not applied"),
+        }
+    }
+    Ok(())
+}
+
 /// The bytes of all rows of `t1`, behind their keys.
 fn image<S: RowStore>(alloc: Global, store: &mut S) -> Result<Vec<u8>, ApplyFault> {
     let mut out = Vec::new(alloc);

@@ -9,6 +9,6 @@ loop-group-preserved c =
     let long = ap length lent in
     let count = c.count_of.ensures in
     rw (c.split_at.ensures.back, count) (
-      group_put c.args.catalog.now c.args.changeset.now c.loop-group.group-index _ c.loop-group.rest.now c.loop-group.blob.items c.put_group.new.out.items _
-        (omega (arith, long, c.loop-group-test.true)) is (rw (c.split_at.ensures.front, count) at c.in_ok-put_group.ensures) c.loop-group.invariant.0 c.loop-group.invariant.1
+    group_put c.args.catalog.now c.args.changeset.now c.loop-group.group-index _ c.loop-group.rest.now c.loop-group.blob.items c.put_group.new.out.items _
+    (omega (arith, long, c.loop-group-test.true)) is (rw (c.split_at.ensures.front, count) at c.in_ok-put_group.ensures) c.loop-group.invariant.0 c.loop-group.invariant.1
     )

@@ -15,6 +15,8 @@ returns c =
     let group = c.args.group.now in
     let header : c.put_header.new.out.items ≡ c.args.out.now.items ++ header_spelling group.marks group.name =
     rw (c.as_slice.ensures, c.as_str.ensures) at c.in_ok-put_header.ensures.ok in
-    rw (group_there group group.changes c.args.given.now c.requires cc,
-    sym (append_assoc c.args.out.now.items (header_spelling group.marks group.name) (flat_map blob_entry_spelling (entries_of (marks_of group.marks) group.changes c.args.given.now))),
-    sym header) c.put_entries.ensures
+    rw (
+      group_there group group.changes c.args.given.now c.requires cc,
+      sym (append_assoc c.args.out.now.items (header_spelling group.marks group.name) (flat_map blob_entry_spelling (entries_of (marks_of group.marks) group.changes c.args.given.now))),
+      sym header,
+    ) c.put_entries.ensures
