@@ -1,0 +1,3 @@
+pub mod DiamondColumn
+pub mod DiamondRows
+pub mod Diamond
