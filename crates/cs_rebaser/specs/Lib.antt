@@ -2,3 +2,5 @@ pub mod Rebase
 pub mod Rebased
 pub mod Merge
 pub mod Diamond
+pub mod TemporaryApplies
+pub mod DiamondOfTables
