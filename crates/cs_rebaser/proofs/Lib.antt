@@ -7,3 +7,4 @@ pub mod DiamondTasks
 pub mod DiamondBlob
 pub mod DiamondRebased
 pub mod DiamondOfTables
+pub mod MergeAlike

@@ -58,3 +58,18 @@ Diamond =
     → FitsPlace marks key mine
     → FitsPlace marks key theirs
     → ClosesAt marks answer base mine theirs
+
+-- the conflict of the remote change, if there is one, with the local outcome
+abbrev pub kind_any : Option Action → Place → Option Kind
+kind_any None mine = None
+kind_any (Some remote) mine = kind remote mine
+
+-- where the remote change has no conflict, every answer merges alike
+abbrev pub MergesAlike : Type 0
+MergesAlike =
+    (marks : List Bool) (key : List Value) (some other : Resolution) (base mine theirs : Place)
+    → FitsPlace marks key base
+    → FitsPlace marks key mine
+    → FitsPlace marks key theirs
+    → kind_any (net marks base theirs) mine ≡ None
+    → merge some base mine theirs ≡ merge other base mine theirs

@@ -1,9 +1,38 @@
 //! The laws of rebasing, each the contract of a function that does nothing.
 
-ghost use Rattle.cs_rebaser.specs.Diamond.{Diamond};
+ghost use Rattle.std.specs.Fn.{CalledAt};
+ghost use Rattle.cs_rebaser.specs.Diamond.{Diamond, MergesAlike};
+ghost use Rattle.cs_rebaser.specs.DiamondOfTables.{DiamondOfTables};
+ghost use Rattle.cs_rebaser.specs.Merge.{MergesOneSide};
+
+use cs_conflict::{Conflict, Resolution};
 
 /// At one place a remote change applied to the local outcome leaves the three-way merge, and the local change rebased over
 /// the conflict leads from the remote outcome to it, where the answer is lawful.
 pub fn diamond()
     ensures { Diamond }
 {}
+
+/// The merge is what the one side left where the other changed nothing; and where the remote change has no conflict with the
+/// local outcome, every answer merges alike.
+pub fn merge_alike()
+    ensures one_side { MergesOneSide }
+    ensures unasked { MergesAlike }
+{
+    diamond();
+}
+
+/// A remote changeset is applied to what a local one left, and each conflict gets a lawful answer: at each place there is
+/// left the three-way merge of both outcomes, and the local changeset, rebased over the blob of those answers, leads from
+/// what the remote one leaves to the same.
+pub fn diamond_of_tables<H: FnMut(&Conflict<'_>) -> Resolution>()
+    ensures { DiamondOfTables (CalledAt H.FnMut) }
+{
+    cs_normal::laws::applied_is_net();
+    cs_normal::laws::net_is_applied();
+    cs_normal::laws::one_key_stands();
+    cs_normal::laws::normal_is_taken();
+    cs_value::laws::catalogs();
+    cs_apply::laws::leaves_state::<H>();
+    diamond();
+}
