@@ -23,7 +23,7 @@ differ r s n =
     elim [ true ↦ λ e. absurd (n ((same_row-Decides r s).0 e)) | false ↦ λ e. e ] in
     split (same_row r s) refl
 
-differ_place : (o p : Place) → ¬ (o ≡ p) → same_place o p ≡ false
+pub differ_place : (o p : Place) → ¬ (o ≡ p) → same_place o p ≡ false
 differ_place o p n =
     let split : (t : Bool) → same_place o p ≡ t → same_place o p ≡ false =
     elim [ true ↦ λ e. absurd (n ((same_place-Decides o p).0 e)) | false ↦ λ e. e ] in
@@ -126,10 +126,10 @@ updates_clash Replace marks b x y a e f clash =
     simp (e, f, clash) (λ h. (ap (λ r. Some (Some r)) (rows.take_sets a), simp (rows.take_old a, rows.take_new a, blank) refl))
 updates_clash Abort marks b x y a e f clash = simp (e, f, clash) (λ h. absurd (h.1 refl))
 
-two_alike : (marks : List Bool) (key b x : List Value) → HasKey marks key b → HasKey marks key x → Alike marks b x x
+pub two_alike : (marks : List Bool) (key b x : List Value) → HasKey marks key b → HasKey marks key x → Alike marks b x x
 two_alike marks key b x hb hx = alike_from_keys marks key b x x hb hx hx
 
-some_differ : (r s : List Value) → (Some r ≡ Some s → ⊥) → same_row r s ≡ false
+pub some_differ : (r s : List Value) → (Some r ≡ Some s → ⊥) → same_row r s ≡ false
 some_differ r s n = differ r s (λ e. n (ap (λ k. Some k) e))
 
 both_changed : (answer : Resolution) (marks : List Bool) (key : List Value) (b x y : Place) → FitsPlace marks key b → FitsPlace marks key x → FitsPlace marks key y → ¬ (x ≡ b) → ¬ (y ≡ b) → BothChanged marks answer b x y
@@ -149,7 +149,7 @@ both_changed answer marks key (Some b) (Some x) (Some y) hb hx hy n m =
     elim [ true ↦ λ fit. updates_clean answer marks b x y a e f fit | false ↦ λ clash. updates_clash answer marks b x y a e f clash ] in
     split (fits (old_record marks b y) (new_record b y) x) refl
 
-merge_is_changed : (answer : Resolution) (b x y : Place) → ¬ (x ≡ b) → ¬ (y ≡ b) → merge answer b x y ≡ merge_changed answer b x y
+pub merge_is_changed : (answer : Resolution) (b x y : Place) → ¬ (x ≡ b) → ¬ (y ≡ b) → merge answer b x y ≡ merge_changed answer b x y
 unfolding merge
 merge_is_changed answer b x y n m =
     let e = differ_place x b n in

@@ -84,3 +84,8 @@ module _ (answer : Resolution) (m : Bool) (b x y : Value) (key : m ≡ true → 
       let k = key e in
       let same : y ≡ merge_column answer b x y = grind (arith, same_value-tells x b) in
       (same, same)
+
+-- where the local side is the merge, it modifies the column if the remote side does
+pub covers_merged : (b x y : Value) → merge_column Omit b x y ≡ x → (is_defined (new_field b x) || not (is_defined (new_field b y))) ≡ true
+covers_merged b x y is =
+    grind (arith, is, same_value-tells b y, same_value-tells b x, same_value-tells x b, same_value-tells y b)

@@ -28,6 +28,12 @@ both false b h = (cc, cc)
 pub conjoin : {A : Type 0} {a a' : A} {r r' : List A} → a ≡ a' → r ≡ r' → a ∷ r ≡ a' ∷ r'
 conjoin e f = cc
 
+head_same : {A : Type 0} {a a' : A} {r r' : List A} → a ∷ r ≡ a' ∷ r' → a ≡ a'
+head_same e = cc
+
+tail_same : {A : Type 0} {a a' : A} {r r' : List A} → a ∷ r ≡ a' ∷ r' → r ≡ r'
+tail_same e = cc
+
 -- two rows of one key
 module _ where
   pub net_fits : {ms : List Bool} {b x y : List Value} → Alike ms b x y → fits (old_record ms b x) (new_record b x) b ≡ true
@@ -150,3 +156,12 @@ alike_merged answer (column m b x y key rest) = column m y (merge_column answer 
 pub turn : {ms : List Bool} {b x y : List Value} → Alike ms b x y → Alike ms y x b
 turn none = none
 turn (column m b x y key rest) = column m y x b (λ e. let k = key e in (cc, cc)) (turn rest)
+
+-- where the local row is the merge, it covers the remote one
+pub covers_merged : {ms : List Bool} {b x y : List Value} → Alike ms b x y → merge_row Omit b x y ≡ x → includes (new_record b x) (new_record b y) ≡ true
+unfolding includes new_record merge_row
+covers_merged none h = refl
+covers_merged (column m b x y key rest) h =
+    let here = one.covers_merged b x y (head_same h) in
+    let there = covers_merged rest (tail_same h) in
+    rw here there

@@ -8,3 +8,4 @@ pub mod DiamondBlob
 pub mod DiamondRebased
 pub mod DiamondOfTables
 pub mod MergeAlike
+pub mod OnlyLawful

@@ -59,6 +59,16 @@ Diamond =
     → FitsPlace marks key theirs
     → ClosesAt marks answer base mine theirs
 
+-- no other answer leaves the merge at the local outcome
+abbrev pub OnlyLawfulMerges : Type 0
+OnlyLawfulMerges =
+    (marks : List Bool) (key : List Value) (answer : Resolution) (base mine theirs : Place)
+    → FitsPlace marks key base
+    → FitsPlace marks key mine
+    → FitsPlace marks key theirs
+    → outcome answer (net marks base theirs) mine ≡ Some (merge answer base mine theirs)
+    → IsLawfulOver answer (net marks base mine) (net marks base theirs) mine
+
 -- the conflict of the remote change, if there is one, with the local outcome
 abbrev pub kind_any : Option Action → Place → Option Kind
 kind_any None mine = None

@@ -1,7 +1,7 @@
 //! The laws of rebasing, each the contract of a function that does nothing.
 
 ghost use Rattle.std.specs.Fn.{CalledAt};
-ghost use Rattle.cs_rebaser.specs.Diamond.{Diamond, MergesAlike};
+ghost use Rattle.cs_rebaser.specs.Diamond.{Diamond, MergesAlike, OnlyLawfulMerges};
 ghost use Rattle.cs_rebaser.specs.DiamondOfTables.{DiamondOfTables};
 ghost use Rattle.cs_rebaser.specs.Merge.{MergesOneSide};
 
@@ -11,6 +11,11 @@ use cs_conflict::{Conflict, Resolution};
 /// the conflict leads from the remote outcome to it, where the answer is lawful.
 pub fn diamond()
     ensures { Diamond }
+{}
+
+/// Where the two changes conflict, no answer but a lawful one leaves the three-way merge.
+pub fn only_lawful_merges()
+    ensures { OnlyLawfulMerges }
 {}
 
 /// The merge is what the one side left where the other changed nothing; and where the remote change has no conflict with the
