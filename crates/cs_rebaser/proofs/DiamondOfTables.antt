@@ -131,7 +131,7 @@ module _ (nets : AppliedIsNet) (applies : NetIsApplied) (one_key : OneKeyStands)
         ∙ (ap (λ (o : Option Entry). rebase_any marks (net marks b x) o) noted
         ∙ (closed.1 ∙ ap (λ (p : Place). net marks y p) (sym is))))))
 
-    is_merged : IsMerged tables (keyed_tasks tables remote) given base mine theirs merged
+    is_merged : IsMerged (keyed_tasks tables remote) given base mine theirs merged
     is_merged name key =
         elim (named_or_not tables name) [
           | inl (table, inside, is) ↦
@@ -147,9 +147,9 @@ module _ (nets : AppliedIsNet) (applies : NetIsApplied) (one_key : OneKeyStands)
         applies tables (rebased (blob_of tables (groups_of remote) given) local) theirs merged are remote_net.0 merged_state
         (rebased_fits (blob_of tables (groups_of remote) given) tables local local_applied.0, λ table key inside. (closes_at table key inside).1)
 
-    both : IsMerged tables (tasks tables (groups_of remote)) given base mine theirs merged
+    both : IsMerged (tasks tables (groups_of remote)) given base mine theirs merged
         × IsApplied tables (rebased (blob_of tables (groups_of remote) given) local) theirs merged
-    both = (subst (λ (ts : List Task). IsMerged tables ts given base mine theirs merged) (sym here) is_merged, leads)
+    both = (subst (λ (ts : List Task). IsMerged ts given base mine theirs merged) (sym here) is_merged, leads)
 
   pub diamond_of_tables : DiamondOfTables asks
   diamond_of_tables tables local remote base mine theirs merged given f g are local_normal remote_normal state local_applied remote_applied run lawful =

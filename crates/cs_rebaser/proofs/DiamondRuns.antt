@@ -2,6 +2,7 @@
 -- what stood there at first.
 use Rattle.std.proofs.Common.{◌≡◌, ℕ, Bool, true, false, if◌then◌else◌, List, [], ◌∷◌, Option, Some, None, refl, sym, subst, ap, ◌∙◌}
 use Rattle.std.specs.List.{AllByRecursion}
+use Rattle.std.specs.Option.{unwrap_or}
 use Rattle.cs_value.specs.Key.{Place}
 use Rattle.cs_change.specs.Action.{Action, action, action_any, after}
 use Rattle.cs_change.specs.declared.change.Change.{Change}
@@ -19,7 +20,7 @@ use Rattle.cs_apply.specs.Blob.{entry_of}
 use Rattle.cs_apply.specs.Tasks.{Task}
 use Rattle.cs_rebaser.specs.TemporaryApplies.{Applies}
 use Rattle.cs_rebaser.specs.Diamond.{outcome, entry_if_any, left_entry, IsLawfulOver}
-use Rattle.cs_rebaser.specs.DiamondOfTables.{or_omit, answer_at, AreLawful}
+use Rattle.cs_rebaser.specs.DiamondOfTables.{answer_at, AreLawful}
 use Rattle.cs_rebaser.specs.Rebased.{Spot, same_spot, Placed, entry_at}
 use Rattle.cs_rebaser.proofs.DiamondSpots.{by_test, spot_is, spot_not}
 
@@ -93,7 +94,7 @@ module _ {F : Type 0} (asks : F → Conflict → Resolution → F → Type 0) wh
 
   one_done : (marks : List Bool) (t : Task) (given : Option Resolution) (before end : Place) (f g : F) → t.marks ≡ marks → AppliesOne asks t.table t.change before f given end g
       → (left : Option Entry) → (given ≡ None → left ≡ None) → ((answer : Resolution) → given ≡ Some answer → left ≡ Some (entry_of t.marks answer (action t.change)))
-      → IsDone marks (Some (action t.change)) (or_omit given) left before end
+      → IsDone marks (Some (action t.change)) (unwrap_or given Omit) left before end
   one_done marks t None before end f g is (none, made, same) left unasked asked = record {
     leaves = effect_is (action t.change) Omit None before none ∙ made;
     notes = unasked refl ∙ sym (ap (λ (k : Option Kind). entry_if_any k marks Omit (action t.change)) none);
@@ -150,7 +151,7 @@ module _ {F : Type 0} (asks : F → Conflict → Resolution → F → Type 0) wh
       let kept = stays name key all given middle end between g away rest in
       let here = entry_here t spot o all given test away in
       let done = one_done marks t o (before t.name t.key) (middle t.name t.key) f between (have.0 (sym is.0)) one.0 (entry_at spot (left_by (t ∷ all) (o ∷ given))) here.0 here.1 in
-      simp test (same_done marks (Some (action t.change)) (or_omit o) (entry_at spot (left_by (t ∷ all) (o ∷ given))) (entry_at spot (left_by (t ∷ all) (o ∷ given))) (before t.name t.key) (before name key) (middle t.name t.key) (end name key) refl (same_place before name key t.name t.key is) (same_place middle name key t.name t.key is ∙ sym kept) done))
+      simp test (same_done marks (Some (action t.change)) (unwrap_or o Omit) (entry_at spot (left_by (t ∷ all) (o ∷ given))) (entry_at spot (left_by (t ∷ all) (o ∷ given))) (before t.name t.key) (before name key) (middle t.name t.key) (end name key) refl (same_place before name key t.name t.key is) (same_place middle name key t.name t.key is ∙ sym kept) done))
       (λ test. let later = runs_at name key marks all given middle end between g apart.1 have.1 rest in
       let kept = one.1 name key (spot_not spot (spot_of t) test) in
       simp test (same_done marks (done_at spot all) (answer_at name key all given) (entry_at spot (left_by all given)) (entry_at spot (left_by (t ∷ all) (o ∷ given))) (middle name key) (before name key) (end name key) (end name key) (sym (entry_past t spot o all given test)) kept refl later))
@@ -169,7 +170,7 @@ lawful_at name key local mine (t ∷ all) [] lawful = absurd lawful
 lawful_at name key local mine (t ∷ all) (o ∷ given) lawful =
     by_test (same_spot (name, key) (spot_of t)) _
     (λ test. let is = spot_is (name, key) (spot_of t) test in
-    let moved = subst (λ (n : List ℕ). IsLawfulOver (or_omit o) (action_any (change_of n key local)) (Some (action t.change)) (mine n key)) (sym is.0)
-        (subst (λ (k : List ℕ). IsLawfulOver (or_omit o) (action_any (change_of t.name k local)) (Some (action t.change)) (mine t.name k)) (sym is.1) lawful.0) in
+    let moved = subst (λ (n : List ℕ). IsLawfulOver (unwrap_or o Omit) (action_any (change_of n key local)) (Some (action t.change)) (mine n key)) (sym is.0)
+        (subst (λ (k : List ℕ). IsLawfulOver (unwrap_or o Omit) (action_any (change_of t.name k local)) (Some (action t.change)) (mine t.name k)) (sym is.1) lawful.0) in
     simp test moved)
     (λ test. simp test (lawful_at name key local mine all given lawful.1))

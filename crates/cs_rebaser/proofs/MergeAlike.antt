@@ -1,15 +1,17 @@
--- Where the answer doesn't count.
+-- Where the answer doesn't count, and where it does.
 use Rattle.std.proofs.Common.{◌≡◌, Bool, true, false, List, Option, Some, None, refl, sym, ap, ◌∙◌}
 use Rattle.cs_value.specs.Facts.{same_place-Decides}
 use Rattle.cs_value.specs.Key.{Place}
-use Rattle.cs_value.specs.Same.{same_place}
+use Rattle.cs_value.specs.Same.{same_value, same_row, same_place}
 use Rattle.cs_change.specs.Action.{Action}
-use Rattle.cs_change.specs.Net.{net}
-use Rattle.cs_conflict.specs.Conflict.{effect_at}
+use Rattle.cs_change.specs.Columns.{fits, column_fits, holds}
+use Rattle.cs_change.specs.Net.{net, old_record, new_record}
+use Rattle.cs_conflict.specs.Conflict.{kind, effect_at}
+use Rattle.cs_conflict.specs.Lawful.{covers, includes}
 use Rattle.cs_conflict.specs.declared.kind.Kind.{Kind}
 use Rattle.cs_conflict.specs.declared.conflict.Resolution.{Resolution}
-use Rattle.cs_rebaser.specs.Diamond.{outcome, IsLawfulOver, kind_any, Diamond, MergesAlike}
-use Rattle.cs_rebaser.specs.Merge.{merge, MergesOneSide}
+use Rattle.cs_rebaser.specs.Diamond.{outcome, IsLawfulOver, kind_any, Diamond, MergesAlike, TwoUpdates}
+use Rattle.cs_rebaser.specs.Merge.{merge, merge_row, merge_changed, MergesOneSide}
 use Rattle.cs_rebaser.proofs.Diamond.{same_place-refl}
 use Rattle.cs_rebaser.proofs.DiamondSpots.{by_test}
 
@@ -42,3 +44,7 @@ merges_alike closes marks key some other base mine theirs hb hm ht quiet =
     let one = closes marks key some base mine theirs hb hm ht (always_lawful some local remote mine quiet) in
     let two = closes marks key other base mine theirs hb hm ht (always_lawful other local remote mine quiet) in
     some_same (sym one.0 ∙ (one_outcome some other remote mine quiet ∙ two.0))
+
+pub two_updates : TwoUpdates
+unfolding net kind covers includes fits column_fits holds old_record new_record same_value same_row same_place merge merge_row merge_changed
+two_updates = (refl, (refl, λ e. cc), (λ e. cc, λ e. cc), refl, refl)

@@ -1,5 +1,6 @@
 -- The diamond over whole tables (profile of this project).
 use Rattle.std.specs.Prelude.{◌≡◌, ℕ, List, [], ◌∷◌, Option, Some, None, if◌then◌else◌}
+use Rattle.std.specs.Option.{unwrap_or}
 use Rattle.cs_value.specs.Catalog.{AreTables}
 use Rattle.cs_value.specs.declared.catalog.TableDef.{TableDef}
 use Rattle.cs_change.specs.Action.{action, action_any}
@@ -17,13 +18,9 @@ use Rattle.cs_rebaser.specs.Merge.{merge}
 use Rattle.cs_rebaser.specs.Rebased.{rebased, same_spot}
 
 -- the answer that was given at a place; OMIT where none was
-abbrev pub or_omit : Option Resolution → Resolution
-or_omit None = Omit
-or_omit (Some answer) = answer
-
 unfoldable pub answer_at : List ℕ → List ℕ → List Task → List (Option Resolution) → Resolution
 answer_at name key (task ∷ tasks) (given ∷ others) =
-    if same_spot (name, key) (task.name, task.key) then or_omit given else answer_at name key tasks others
+    if same_spot (name, key) (task.name, task.key) then unwrap_or given Omit else answer_at name key tasks others
 answer_at name key _ _ = Omit
 
 -- each answer is lawful over the local change of its place, and none stops
@@ -31,12 +28,12 @@ abbrev pub AreLawful : List TableChanges → State → List Task → List (Optio
 AreLawful local mine [] given = Unit {0}
 AreLawful local mine (task ∷ tasks) [] = ⊥
 AreLawful local mine (task ∷ tasks) (given ∷ others) =
-    IsLawfulOver (or_omit given) (action_any (change_of task.name task.key local)) (Some (action task.change)) (mine task.name task.key)
+    IsLawfulOver (unwrap_or given Omit) (action_any (change_of task.name task.key local)) (Some (action task.change)) (mine task.name task.key)
     × AreLawful local mine tasks others
 
 -- at each place the merge of both outcomes, by the answer that was given there
-abbrev pub IsMerged : List TableDef → List Task → List (Option Resolution) → State → State → State → State → Type 0
-IsMerged tables changes given base mine theirs merged =
+abbrev pub IsMerged : List Task → List (Option Resolution) → State → State → State → State → Type 0
+IsMerged changes given base mine theirs merged =
     (name key : List ℕ)
     → merged name key ≡ merge (answer_at name key changes given) (base name key) (mine name key) (theirs name key)
 
@@ -55,5 +52,5 @@ module _ {F : Type 0} (asks : F → Conflict → Resolution → F → Type 0) wh
       → IsApplied tables remote base theirs
       → Applies asks mine (tasks tables (groups_of remote)) f given merged g
       → AreLawful local mine (tasks tables (groups_of remote)) given
-      → IsMerged tables (tasks tables (groups_of remote)) given base mine theirs merged
+      → IsMerged (tasks tables (groups_of remote)) given base mine theirs merged
       × IsApplied tables (rebased (blob_of tables (groups_of remote) given) local) theirs merged

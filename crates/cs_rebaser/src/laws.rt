@@ -1,7 +1,7 @@
 //! The laws of rebasing, each the contract of a function that does nothing.
 
 ghost use Rattle.std.specs.Fn.{CalledAt};
-ghost use Rattle.cs_rebaser.specs.Diamond.{Diamond, MergesAlike, OnlyLawfulMerges};
+ghost use Rattle.cs_rebaser.specs.Diamond.{Diamond, MergesAlike, OnlyLawfulMerges, TwoUpdates};
 ghost use Rattle.cs_rebaser.specs.DiamondOfTables.{DiamondOfTables};
 ghost use Rattle.cs_rebaser.specs.Merge.{MergesOneSide};
 
@@ -26,6 +26,11 @@ pub fn merge_alike()
 {
     diamond();
 }
+
+/// Two updates of which both answers are lawful and merge apart: the premises of the laws can be met.
+pub fn two_updates()
+    ensures { TwoUpdates }
+{}
 
 /// A remote changeset is applied to what a local one left, and each conflict gets a lawful answer: at each place there is
 /// left the three-way merge of both outcomes, and the local changeset, rebased over the blob of those answers, leads from
