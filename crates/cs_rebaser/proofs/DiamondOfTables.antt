@@ -19,9 +19,10 @@ use Rattle.cs_normal.specs.declared.normal.TableChanges.{TableChanges}
 use Rattle.cs_conflict.specs.declared.conflict.Conflict.{Conflict}
 use Rattle.cs_conflict.specs.declared.conflict.Resolution.{Resolution}
 use Rattle.cs_blob.specs.declared.blob.Entry.{Entry}
+use Rattle.cs_apply.specs.Applies.{Applies}
 use Rattle.cs_apply.specs.Blob.{blob_of}
 use Rattle.cs_apply.specs.Tasks.{Task, tasks, all_keyed}
-use Rattle.cs_rebaser.specs.TemporaryApplies.{Applies, LeavesState}
+use Rattle.cs_apply.specs.Laws.{LeavesState}
 use Rattle.cs_rebaser.specs.Diamond.{outcome, left_entry, rebase_any, IsLawfulOver, Diamond}
 use Rattle.cs_rebaser.specs.DiamondOfTables.{answer_at, AreLawful, IsMerged, DiamondOfTables}
 use Rattle.cs_rebaser.specs.Merge.{merge}

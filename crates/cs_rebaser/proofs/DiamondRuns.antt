@@ -15,10 +15,9 @@ use Rattle.cs_conflict.specs.declared.conflict.Conflict.{Conflict}
 use Rattle.cs_conflict.specs.declared.conflict.Resolution.{Resolution}
 use Rattle.cs_conflict.specs.declared.conflict.Resolution.TheVariants.{Omit}
 use Rattle.cs_blob.specs.declared.blob.Entry.{Entry}
-use Rattle.cs_apply.specs.Applies.{AppliesOne, AppliesTask}
+use Rattle.cs_apply.specs.Applies.{AppliesOne, Applies}
 use Rattle.cs_apply.specs.Blob.{entry_of}
 use Rattle.cs_apply.specs.Tasks.{Task}
-use Rattle.cs_rebaser.specs.TemporaryApplies.{Applies}
 use Rattle.cs_rebaser.specs.Diamond.{outcome, entry_if_any, left_entry, IsLawfulOver}
 use Rattle.cs_rebaser.specs.DiamondOfTables.{answer_at, AreLawful}
 use Rattle.cs_rebaser.specs.Rebased.{Spot, same_spot, Placed, entry_at}
@@ -77,17 +76,16 @@ module _ {F : Type 0} (asks : F → Conflict → Resolution → F → Type 0) wh
   stays : (name key : List ℕ) (all : List Task) (given : List (Option Resolution)) (before end : State) (f g : F) → AreElsewhere (name, key) all
       → Applies asks before all f given end g → end name key ≡ before name key
   unfolding Applies
-  stays name key [] [] before end f g away run = run.0 name key
-  stays name key [] (o ∷ given) before end f g away run = absurd run
+  stays name key [] given before end f g away run = run.0 name key
   stays name key (t ∷ all) [] before end f g away run = absurd run
   stays name key (t ∷ all) (o ∷ given) before end f g away (middle, between, one, rest) =
       stays name key all given middle end between g away.1 rest ∙ one.1 name key (spot_not (name, key) (spot_of t) away.0)
 
   -- ---- at the place of a change
 
-  nothing_done : (spot : Spot) (marks : List Bool) (before end : Place) → end ≡ before → IsDone marks None Omit (entry_at spot (left_by [] [])) before end
+  nothing_done : (spot : Spot) (marks : List Bool) (given : List (Option Resolution)) (before end : Place) → end ≡ before → IsDone marks None Omit (entry_at spot (left_by [] given)) before end
   unfolding left_by entry_at
-  nothing_done spot marks before end same = record { leaves = ap (λ (p : Place). Some p) (sym same); notes = refl }
+  nothing_done spot marks given before end same = record { leaves = ap (λ (p : Place). Some p) (sym same); notes = refl }
 
   effect_is : (change : Action) (answer : Resolution) (o : Option Kind) (before : Place) → kind change before ≡ o → effect answer change before ≡ effect_at o answer change before
   effect_is change answer o before e = ap (λ (k : Option Kind). effect_at k answer change before) e
@@ -140,8 +138,7 @@ module _ {F : Type 0} (asks : F → Conflict → Resolution → F → Type 0) wh
       → Applies asks before all f given end g
       → IsDone marks (done_at (name, key) all) (answer_at name key all given) (entry_at (name, key) (left_by all given)) (before name key) (end name key)
   unfolding Applies done_at answer_at
-  runs_at name key marks [] [] before end f g apart have run = nothing_done (name, key) marks (before name key) (end name key) (run.0 name key)
-  runs_at name key marks [] (o ∷ given) before end f g apart have run = absurd run
+  runs_at name key marks [] given before end f g apart have run = nothing_done (name, key) marks given (before name key) (end name key) (run.0 name key)
   runs_at name key marks (t ∷ all) [] before end f g apart have run = absurd run
   runs_at name key marks (t ∷ all) (o ∷ given) before end f g apart have (middle, between, one, rest) =
       let spot : Spot = (name, key) in

@@ -10,7 +10,7 @@ use Rattle.cs_normal.specs.declared.normal.TableChanges.{TableChanges}
 use Rattle.cs_conflict.specs.declared.conflict.Conflict.{Conflict}
 use Rattle.cs_conflict.specs.declared.conflict.Resolution.{Resolution}
 use Rattle.cs_conflict.specs.declared.conflict.Resolution.TheVariants.{Omit}
-use Rattle.cs_rebaser.specs.TemporaryApplies.{Applies}
+use Rattle.cs_apply.specs.Applies.{Applies}
 use Rattle.cs_apply.specs.Blob.{blob_of}
 use Rattle.cs_apply.specs.Tasks.{Task, tasks}
 use Rattle.cs_rebaser.specs.Diamond.{IsLawfulOver}
