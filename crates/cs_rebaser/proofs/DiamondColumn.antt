@@ -17,11 +17,7 @@ abbrev pub entry_field : Bool → Value → Value → Field
 entry_field m b y = if m then old_field m b y else new_field b y
 
 module _ (m : Bool) (b x : Value) where
-  -- the net change of one column can be made, and gives the new value
-  pub net_fits : column_fits (old_field m b x) (new_field b x) b ≡ true
-  unfolding column_fits holds
-  net_fits = grind (arith, same_value-tells b x, same_value-tells b b)
-
+  -- the net change of one column gives the new value
   pub net_sets : field_or (new_field b x) b ≡ x
   net_sets = grind (arith, same_value-tells b x)
 

@@ -4,6 +4,7 @@ use Rattle.std.specs.List.{AllByRecursion, Contains}
 use Rattle.std.specs.Str.{bytes_eq}
 use Rattle.std.proofs.lemmas.List.{get_or_default}
 use Rattle.std.proofs.lemmas.List.Elements.{recursion_from_All, All-from_recursion, All-contains, All-contains_itself}
+use Rattle.std.proofs.lemmas.Option.{same_Some}
 use Rattle.cs_value.specs.Catalog.{AreTables}
 use Rattle.cs_value.specs.Key.{Place}
 use Rattle.cs_value.specs.Laws.{OnePlaceOfName}
@@ -68,9 +69,6 @@ shapes one_place tables table (first ∷ others) are inside of =
     (λ e. of.0.of.1 ∙ ap (λ (t : TableDef). t.key_marks) (one_table one_place tables of.0.table table are of.0.inside inside (sym of.0.of.0 ∙ e)),
     shapes one_place tables table others are inside of.1)
 
-some_same : {A : Type 0} {a b : A} → Some a ≡ Some b → a ≡ b
-some_same e = cc
-
 merge_nothing : (answer : Resolution) (base mine theirs merged : Place) → base ≡ None → mine ≡ None → theirs ≡ None → merged ≡ None → merged ≡ merge answer base mine theirs
 unfolding merge same_place
 merge_nothing answer base mine theirs merged b x y m = rw (b, x, y, m) refl
@@ -120,7 +118,7 @@ module _ (nets : AppliedIsNet) (applies : NetIsApplied) (one_key : OneKeyStands)
             (subst (λ (o : Option Action). IsLawfulOver answer (action_any (change_of name key local)) o x) remote_is (lawful_at name key local mine all given lawful')) in
         let closed = closes marks fits.0 answer b x y fits.1 fits.2 fits.3 law in
         let is : merged name key ≡ merge answer b x y =
-            some_same (sym done.leaves ∙ (ap (λ (o : Option Action). outcome answer o x) remote_is ∙ closed.0)) in
+            same_Some _ _ (sym done.leaves ∙ (ap (λ (o : Option Action). outcome answer o x) remote_is ∙ closed.0)) in
         let noted : entry_at spot (placed blob) ≡ left_entry marks answer (net marks b y) x =
             ap (λ (ps : List Placed). entry_at spot ps) (blob_is tables remote given of_remote remote_normal)
             ∙ (done.notes ∙ ap (λ (o : Option Action). left_entry marks answer o x) remote_is) in

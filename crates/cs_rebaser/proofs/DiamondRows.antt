@@ -28,22 +28,8 @@ both false b h = (cc, cc)
 pub conjoin : {A : Type 0} {a a' : A} {r r' : List A} → a ≡ a' → r ≡ r' → a ∷ r ≡ a' ∷ r'
 conjoin e f = cc
 
-head_same : {A : Type 0} {a a' : A} {r r' : List A} → a ∷ r ≡ a' ∷ r' → a ≡ a'
-head_same e = cc
-
-tail_same : {A : Type 0} {a a' : A} {r r' : List A} → a ∷ r ≡ a' ∷ r' → r ≡ r'
-tail_same e = cc
-
 -- two rows of one key
 module _ where
-  pub net_fits : {ms : List Bool} {b x y : List Value} → Alike ms b x y → fits (old_record ms b x) (new_record b x) b ≡ true
-  unfolding fits old_record new_record
-  net_fits none = refl
-  net_fits (column m b x y key rest) =
-      let here = one.net_fits m b x in
-      let there = net_fits rest in
-      rw here there
-
   pub net_sets : {ms : List Bool} {b x y : List Value} → Alike ms b x y → set_columns (new_record b x) b ≡ x
   unfolding set_columns new_record
   net_sets none = refl
@@ -162,6 +148,6 @@ pub covers_merged : {ms : List Bool} {b x y : List Value} → Alike ms b x y →
 unfolding includes new_record merge_row
 covers_merged none h = refl
 covers_merged (column m b x y key rest) h =
-    let here = one.covers_merged b x y (head_same h) in
-    let there = covers_merged rest (tail_same h) in
+    let here = one.covers_merged b x y cc in
+    let there = covers_merged rest cc in
     rw here there

@@ -1,5 +1,6 @@
 -- Where the answer doesn't count, and where it does.
 use Rattle.std.proofs.Common.{◌≡◌, Bool, true, false, List, Option, Some, None, refl, sym, ap, ◌∙◌}
+use Rattle.std.proofs.lemmas.Option.{same_Some}
 use Rattle.cs_value.specs.Facts.{same_place-Decides}
 use Rattle.cs_value.specs.Key.{Place}
 use Rattle.cs_value.specs.Same.{same_value, same_row, same_place}
@@ -34,16 +35,13 @@ one_outcome some other (Some remote) mine quiet =
     ap (λ (k : Option Kind). effect_at k some remote mine) quiet
     ∙ sym (ap (λ (k : Option Kind). effect_at k other remote mine) quiet)
 
-some_same : {A : Type 0} {a b : A} → Some a ≡ Some b → a ≡ b
-some_same e = cc
-
 pub merges_alike : Diamond → MergesAlike
 merges_alike closes marks key some other base mine theirs hb hm ht quiet =
     let local = net marks base mine in
     let remote = net marks base theirs in
     let one = closes marks key some base mine theirs hb hm ht (always_lawful some local remote mine quiet) in
     let two = closes marks key other base mine theirs hb hm ht (always_lawful other local remote mine quiet) in
-    some_same (sym one.0 ∙ (one_outcome some other remote mine quiet ∙ two.0))
+    same_Some _ _ (sym one.0 ∙ (one_outcome some other remote mine quiet ∙ two.0))
 
 pub two_updates : TwoUpdates
 unfolding net kind covers includes fits column_fits holds old_record new_record same_value same_row same_place merge merge_row merge_changed

@@ -11,7 +11,10 @@ use cs_conflict::{Conflict, Resolution};
 /// the conflict leads from the remote outcome to it, where the answer is lawful.
 pub fn diamond()
     ensures { Diamond }
-{}
+{
+    cs_change::laws::net_takes();
+    cs_conflict::laws::kind_tells();
+}
 
 /// Where the two changes conflict, no answer but a lawful one leaves the three-way merge.
 pub fn only_lawful_merges()
