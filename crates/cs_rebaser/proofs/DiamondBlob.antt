@@ -1,10 +1,10 @@
 -- The blob of a normal changeset's answers: at each place the entry of the one change of it, if it was answered.
-use Rattle.std.proofs.Common.{◌≡◌, ℕ, ◌+◌, suc, Bool, List, [], ◌∷◌, ◌++◌, map, length, take, drop, Option, Some, None, append-nil, refl, sym, ap, ◌∙◌, arith}
-use Rattle.std.specs.List.{AllByRecursion, flat_map}
+use Rattle.std.proofs.Common.{◌≡◌, ℕ, Bool, List, [], ◌∷◌, ◌++◌, map, length, take, drop, Option, Some, None, append-nil, refl, sym, ap, ◌∙◌}
+use Rattle.std.specs.List.{AllByRecursion}
 use Rattle.std.proofs.lemmas.Grind.{flat_map-append}
 use Rattle.cs_value.specs.declared.catalog.TableDef.{TableDef}
 use Rattle.cs_change.specs.Action.{action}
-use Rattle.cs_change.specs.Spelling.{flag_byte, marks_of}
+use Rattle.cs_change.specs.Spelling.{marks_of}
 use Rattle.cs_change.specs.declared.change.Change.{Change}
 use Rattle.cs_change.specs.declared.group.Group.{Group}
 use Rattle.cs_normal.specs.Changes.{Changes, key_bytes, IsEntry}
@@ -12,9 +12,8 @@ use Rattle.cs_normal.specs.Normal.{IsNormalChangeset, group_of, groups_of}
 use Rattle.cs_normal.specs.declared.normal.TableChanges.{TableChanges}
 use Rattle.cs_conflict.specs.declared.conflict.Resolution.{Resolution}
 use Rattle.cs_blob.specs.declared.blob.Entry.{Entry}
-use Rattle.cs_blob.specs.declared.blob.BlobGroup.{BlobGroup}
 use Rattle.cs_apply.specs.Blob.{entry_of, entries_of, group_if_any, blob_of}
-use Rattle.cs_apply.specs.Tasks.{Task, tasks_at, table_of}
+use Rattle.cs_apply.specs.Tasks.{Task}
 use Rattle.cs_rebaser.specs.Rebased.{Placed, placed_in, placed, entry_key}
 use Rattle.cs_rebaser.proofs.DiamondRuns.{left_by}
 use Rattle.cs_rebaser.proofs.DiamondTasks.{IsOfOne, normal_key, marks_stay, number_of, keyed_task, table_tasks, keyed_tasks, entries_in, tasks_in}

@@ -1,5 +1,5 @@
 -- The diamond over whole tables: one diamond a place.
-use Rattle.std.proofs.Common.{◌≡◌, ◌≢◌, ◌⊎◌, ◌<◌, ℕ, Bool, true, false, List, [], ◌∷◌, length, get_or, Option, Some, None, refl, sym, subst, ap, ◌∙◌, inl, inr}
+use Rattle.std.proofs.Common.{◌≡◌, ◌≢◌, ◌⊎◌, ℕ, true, List, [], ◌∷◌, get_or, Option, Some, None, refl, sym, subst, ap, ◌∙◌, inl, inr}
 use Rattle.std.specs.List.{AllByRecursion, Contains}
 use Rattle.std.specs.Str.{bytes_eq}
 use Rattle.std.proofs.lemmas.List.{get_or_default}
@@ -12,7 +12,6 @@ use Rattle.cs_value.specs.Same.{same_place}
 use Rattle.cs_value.specs.declared.catalog.TableDef.{TableDef}
 use Rattle.cs_change.specs.Action.{Action, action_any}
 use Rattle.cs_change.specs.Net.{net}
-use Rattle.cs_change.specs.declared.change.Change.{Change}
 use Rattle.cs_normal.specs.Laws.{NormalIsTaken}
 use Rattle.cs_normal.specs.Normal.{IsNormalChangeset, change_of, groups_of}
 use Rattle.cs_normal.specs.State.{State, IsStateOf, MayStandAt, IsApplied, IsNetChange, AppliedIsNet, NetIsApplied, OneKeyStands}
@@ -29,10 +28,10 @@ use Rattle.cs_rebaser.specs.DiamondOfTables.{answer_at, AreLawful, IsMerged, Dia
 use Rattle.cs_rebaser.specs.Merge.{merge}
 use Rattle.cs_rebaser.specs.Rebased.{Placed, Spot, placed, entry_at, rebased}
 use Rattle.cs_rebaser.proofs.DiamondSpots.{by_test, name_is, name_refl}
-use Rattle.cs_rebaser.proofs.DiamondRuns.{done_at, left_by, IsDone, runs_at, lawful_at}
+use Rattle.cs_rebaser.proofs.DiamondRuns.{done_at, runs_at, lawful_at}
 use Rattle.cs_rebaser.proofs.DiamondTasks.{IsOfOne, of_one, HaveShape, keyed_tasks, tasks_are, are_apart, are_keyed, are_marked, done_is}
 use Rattle.cs_rebaser.proofs.DiamondBlob.{blob_is}
-use Rattle.cs_rebaser.proofs.DiamondRebased.{rebased_any, rebased_action, rebased_at, rebased_fits}
+use Rattle.cs_rebaser.proofs.DiamondRebased.{rebased_action, rebased_at, rebased_fits}
 
 -- ---- the tables of a name
 
@@ -65,9 +64,10 @@ nothing_at tables name key (Some row) none at = absurd (none at.0 at.1 at.2)
 -- the changes of a table of the catalog have its marks
 shapes : OnePlaceOfName → (tables : List TableDef) (table : TableDef) (changes : List TableChanges) → AreTables tables → Contains tables table → AllByRecursion (IsOfOne tables) changes → HaveShape table.name table.key_marks changes
 shapes one_place tables table [] are inside of = tt
-shapes one_place tables table (first ∷ others) are inside of =
-    (λ e. of.0.of.1 ∙ ap (λ (t : TableDef). t.key_marks) (one_table one_place tables of.0.table table are of.0.inside inside (sym of.0.of.0 ∙ e)),
-    shapes one_place tables table others are inside of.1)
+shapes one_place tables table (first ∷ others) are inside of = (
+  λ e. of.0.of.1 ∙ ap (λ (t : TableDef). t.key_marks) (one_table one_place tables of.0.table table are of.0.inside inside (sym of.0.of.0 ∙ e)),
+  shapes one_place tables table others are inside of.1,
+)
 
 merge_nothing : (answer : Resolution) (base mine theirs merged : Place) → base ≡ None → mine ≡ None → theirs ≡ None → merged ≡ None → merged ≡ merge answer base mine theirs
 unfolding merge same_place
@@ -115,20 +115,21 @@ module _ (nets : AppliedIsNet) (applies : NetIsApplied) (one_key : OneKeyStands)
         let lawful' = subst (λ (ts : List Task). AreLawful local mine ts given) here lawful in
         let done = runs_at asks name key marks all given mine merged f g (are_apart tables remote remote_normal) (are_marked tables name marks remote (shapes one_place tables table remote are inside of_remote)) run' in
         let law = subst (λ (o : Option Action). IsLawfulOver answer o (net marks b y) x) local_is
-            (subst (λ (o : Option Action). IsLawfulOver answer (action_any (change_of name key local)) o x) remote_is (lawful_at name key local mine all given lawful')) in
+        (subst (λ (o : Option Action). IsLawfulOver answer (action_any (change_of name key local)) o x) remote_is (lawful_at name key local mine all given lawful')) in
         let closed = closes marks fits.0 answer b x y fits.1 fits.2 fits.3 law in
         let is : merged name key ≡ merge answer b x y =
-            same_Some _ _ (sym done.leaves ∙ (ap (λ (o : Option Action). outcome answer o x) remote_is ∙ closed.0)) in
+        same_Some _ _ (sym done.leaves ∙ (ap (λ (o : Option Action). outcome answer o x) remote_is ∙ closed.0)) in
         let noted : entry_at spot (placed blob) ≡ left_entry marks answer (net marks b y) x =
-            ap (λ (ps : List Placed). entry_at spot ps) (blob_is tables remote given of_remote remote_normal)
-            ∙ (done.notes ∙ ap (λ (o : Option Action). left_entry marks answer o x) remote_is) in
-        let change = rebased_at blob name marks key local (shapes one_place tables table local are inside of_local) local_normal in
-        (is,
-        ap action_any change
-        ∙ (rebased_action marks (change_of name key local) (entry_at spot (placed blob))
-        ∙ (ap (λ (o : Option Action). rebase_any marks o (entry_at spot (placed blob))) local_is
-        ∙ (ap (λ (o : Option Entry). rebase_any marks (net marks b x) o) noted
-        ∙ (closed.1 ∙ ap (λ (p : Place). net marks y p) (sym is))))))
+        ap (λ (ps : List Placed). entry_at spot ps) (blob_is tables remote given of_remote remote_normal)
+        ∙ (done.notes ∙ ap (λ (o : Option Action). left_entry marks answer o x) remote_is) in
+        let change = rebased_at blob name marks key local (shapes one_place tables table local are inside of_local) local_normal in (
+          is,
+          ap action_any change
+              ∙ (rebased_action marks (change_of name key local) (entry_at spot (placed blob))
+              ∙ (ap (λ (o : Option Action). rebase_any marks o (entry_at spot (placed blob))) local_is
+              ∙ (ap (λ (o : Option Entry). rebase_any marks (net marks b x) o) noted
+              ∙ (closed.1 ∙ ap (λ (p : Place). net marks y p) (sym is))))),
+        )
 
     is_merged : IsMerged (keyed_tasks tables remote) given base mine theirs merged
     is_merged name key =

@@ -1,6 +1,6 @@
 -- What stands in a rebased changeset at a place: the rebased change of it, if there is one.
-use Rattle.std.proofs.Common.{◌≡◌, ◌≢◌, ℕ, Bool, true, false, if◌then◌else◌, List, [], ◌∷◌, ◌++◌, Option, Some, None, refl, sym, subst, ap, ◌∙◌, inl, inr}
-use Rattle.std.specs.List.{AllByRecursion, flat_map}
+use Rattle.std.proofs.Common.{◌≡◌, ◌≢◌, ℕ, Bool, true, false, List, [], ◌∷◌, ◌++◌, Option, Some, None, refl, sym, subst, ap, ◌∙◌, inl, inr}
+use Rattle.std.specs.List.{AllByRecursion}
 use Rattle.std.specs.Str.{bytes_eq}
 use Rattle.cs_value.specs.declared.catalog.TableDef.{TableDef}
 use Rattle.cs_change.specs.Action.{Action, Inserts, Deletes, Updates, action, action_any, flag_of}
@@ -13,8 +13,8 @@ use Rattle.cs_blob.specs.declared.blob.Entry.{Entry}
 use Rattle.cs_blob.specs.declared.blob.BlobGroup.{BlobGroup}
 use Rattle.cs_rebaser.specs.Diamond.{rebase_any}
 use Rattle.cs_rebaser.specs.Rebase.{rebase_one, rebased_change}
-use Rattle.cs_rebaser.specs.Rebased.{placed, entry_at, beside, rebased_keyed, rebased_changes, with_changes, rebased_table, rebased}
-use Rattle.cs_rebaser.proofs.DiamondSpots.{by_test, name_is, name_not, name_other, key_is}
+use Rattle.cs_rebaser.specs.Rebased.{placed, entry_at, beside, rebased_changes, with_changes, rebased}
+use Rattle.cs_rebaser.proofs.DiamondSpots.{by_test, name_is, name_other, key_is}
 use Rattle.cs_rebaser.proofs.DiamondTasks.{HaveShape, HaveOtherKeys, first_differs, order_behind}
 
 -- the rebased change, where there is a change

@@ -1,10 +1,9 @@
 -- The changes of a normal changeset, as they are applied: each at its table and its key, and no two of one place.
-use Rattle.std.proofs.Common.{◌≡◌, ◌≢◌, ℕ, ◌+◌, suc, Bool, true, false, ◌&&◌, if◌then◌else◌, List, [], ◌∷◌, ◌++◌, map, Option, Some, None, option_map, refl, sym, subst, ap, ◌∙◌, arith, inl, inr, ◌⊎◌}
+use Rattle.std.proofs.Common.{◌≡◌, ◌≢◌, ℕ, ◌+◌, Bool, true, false, List, [], ◌∷◌, ◌++◌, map, Option, Some, None, option_map, refl, sym, subst, ap, ◌∙◌, inl, inr}
 use Rattle.std.specs.Bool.{beq}
 use Rattle.std.specs.Cmp.{booleans_Decides}
 use Rattle.std.specs.Cmp.Lexicographic.{pointwise}
 use Rattle.std.specs.List.{AllByRecursion, Contains, list_all}
-use Rattle.std.specs.List.Sorted.{IsStrictlySortedBy}
 use Rattle.std.specs.Map.{keys_of}
 use Rattle.std.specs.Ordering.{is_eq}
 use Rattle.std.specs.declared.cmp.Ordering.TheVariants.{Less}
@@ -16,23 +15,22 @@ use Rattle.cs_value.specs.Catalog.{is_set, marked}
 use Rattle.cs_value.specs.declared.catalog.TableDef.{TableDef}
 use Rattle.cs_value.specs.declared.value.Value.{Value}
 use Rattle.cs_value.specs.declared.value.Field.{Field}
-use Rattle.cs_value.specs.declared.value.Field.TheVariants.{Undefined, Is}
-use Rattle.cs_change.specs.Action.{Action, action, action_any}
+use Rattle.cs_value.specs.declared.value.Field.TheVariants.{Is}
+use Rattle.cs_change.specs.Action.{action, action_any}
 use Rattle.cs_change.specs.Normal.{IsNormal, NormalUpdate, no_column, key_column, unmodified, modified}
 use Rattle.cs_change.specs.Spelling.{flag_byte, marks_of}
 use Rattle.cs_change.specs.declared.change.Change.{Change}
 use Rattle.cs_change.specs.declared.change.Change.TheVariants.{Insert, Delete, Update}
 use Rattle.cs_change.specs.declared.group.Group.{Group}
 use Rattle.cs_normal.specs.Changes.{Changes, by_bytes, same_bytes, change_at, key_bytes, IsEntry, IsOrdered}
-use Rattle.cs_normal.specs.Normal.{FitsCatalog, IsNormalChangeset, IsOfTable, change_of, changes_in, group_of, groups_of}
+use Rattle.cs_normal.specs.Normal.{FitsCatalog, IsNormalChangeset, IsOfTable, change_of, group_of, groups_of}
 use Rattle.cs_normal.specs.NormalForm.{change_key, change_bytes, has_key, marked_fields}
 use Rattle.cs_normal.specs.declared.normal.TableChanges.{TableChanges}
-use Rattle.cs_conflict.specs.declared.conflict.Resolution.{Resolution}
-use Rattle.cs_apply.specs.Blob.{keyed_new, entry_fields, entry_of}
+use Rattle.cs_apply.specs.Blob.{keyed_new, entry_fields}
 use Rattle.cs_apply.specs.Tasks.{Task, task, tasks, tasks_at, table_of, fits_table, all_keyed}
-use Rattle.cs_rebaser.specs.Rebased.{Spot, same_spot, entry_key}
+use Rattle.cs_rebaser.specs.Rebased.{Spot, same_spot}
 use Rattle.cs_rebaser.proofs.DiamondRuns.{spot_of, AreElsewhere, AreApart, HaveMarks, done_at}
-use Rattle.cs_rebaser.proofs.DiamondSpots.{by_test, both_true, and_false, all_both, name_is, name_refl, name_other, name_not, key_is, key_refl, spot_is}
+use Rattle.cs_rebaser.proofs.DiamondSpots.{by_test, and_false, all_both, name_is, name_refl, name_other, name_not}
 
 -- ---- the key of a normal change
 
@@ -100,7 +98,7 @@ group_fits : (first : TableChanges) (table : TableDef) → IsOfTable table first
 group_fits first table of =
     let name : bytes_eq first.name table.name ≡ true = (let e = of.0 in rw e (name_refl table.name)) in
     let marks : pointwise beq (marks_of (map flag_byte first.marks)) table.key_marks ≡ true =
-        (slice_eq-Decides booleans_Decides (marks_of (map flag_byte first.marks)) table.key_marks _ refl).1 (marks_stay first.marks ∙ of.1) in
+    (slice_eq-Decides booleans_Decides (marks_of (map flag_byte first.marks)) table.key_marks _ refl).1 (marks_stay first.marks ∙ of.1) in
     simp (name, marks) refl
 
 -- the place of its table in the catalog
@@ -207,10 +205,11 @@ others_elsewhere tables name key (first ∷ others) apart =
 
 apart_in : (table : ℕ) (first : TableChanges) (changes : Changes) (others : List Task) → IsOrdered changes → ((key : List ℕ) → AreElsewhere (first.name, key) others) → AreApart others → AreApart (map (keyed_task table first) changes ++ others)
 apart_in table first [] others ordered away apart = apart
-apart_in table first (c ∷ changes) others ordered away apart =
-    (all_both (λ (t : Task). same_spot (first.name, c.0) (spot_of t) ≡ false) (map (keyed_task table first) changes) others
-    (other_keys first.name c.0 table first changes (first_differs c changes ordered)) (away c.0),
-    apart_in table first changes others (order_behind c changes ordered) away apart)
+apart_in table first (c ∷ changes) others ordered away apart = (
+  all_both (λ (t : Task). same_spot (first.name, c.0) (spot_of t) ≡ false) (map (keyed_task table first) changes) others
+      (other_keys first.name c.0 table first changes (first_differs c changes ordered)) (away c.0),
+  apart_in table first changes others (order_behind c changes ordered) away apart,
+)
 
 pub are_apart : (tables : List TableDef) (remote : List TableChanges) → IsNormalChangeset remote → AreApart (keyed_tasks tables remote)
 unfolding keyed_tasks

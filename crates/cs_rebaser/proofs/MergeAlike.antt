@@ -1,5 +1,5 @@
 -- Where the answer doesn't count, and where it does.
-use Rattle.std.proofs.Common.{◌≡◌, Bool, true, false, List, Option, Some, None, refl, sym, ap, ◌∙◌}
+use Rattle.std.proofs.Common.{◌≡◌, Option, Some, None, refl, sym, ap, ◌∙◌}
 use Rattle.std.proofs.lemmas.Option.{same_Some}
 use Rattle.cs_value.specs.Facts.{same_place-Decides}
 use Rattle.cs_value.specs.Key.{Place}
