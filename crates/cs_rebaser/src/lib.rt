@@ -1,3 +1,5 @@
 //! Rebasing: local changes put on top of a remote changeset that was applied first, by the rebase blob that applying left
 //! (SQLite's "Session Extension", rebasing changesets).
 #![tactic(auto)]
+
+pub mod laws;

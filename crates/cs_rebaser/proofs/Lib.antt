@@ -1,0 +1,11 @@
+pub mod DiamondColumn
+pub mod DiamondRows
+pub mod Diamond
+pub mod DiamondSpots
+pub mod DiamondRuns
+pub mod DiamondTasks
+pub mod DiamondBlob
+pub mod DiamondRebased
+pub mod DiamondOfTables
+pub mod MergeAlike
+pub mod OnlyLawful
