@@ -142,14 +142,18 @@ module _ (nets : AppliedIsNet) (applies : NetIsApplied) (one_key : OneKeyStands)
               (nothing_at tables name key (theirs name key) none (remote_net.0 name key)) (nothing_at tables name key (merged name key) none (merged_state name key))
         ]
 
-    leads : IsApplied tables (rebased (blob_of tables (groups_of remote) given) local) theirs merged
-    leads =
-        applies tables (rebased (blob_of tables (groups_of remote) given) local) theirs merged are remote_net.0 merged_state
+    net_change : IsNetChange tables (rebased (blob_of tables (groups_of remote) given) local) theirs merged
+    net_change =
         (rebased_fits (blob_of tables (groups_of remote) given) tables local local_applied.0, λ table key inside. (closes_at table key inside).1)
 
+    leads : IsApplied tables (rebased (blob_of tables (groups_of remote) given) local) theirs merged
+    leads =
+        applies tables (rebased (blob_of tables (groups_of remote) given) local) theirs merged are remote_net.0 merged_state net_change
+
     both : IsMerged (tasks tables (groups_of remote)) given base mine theirs merged
+        × IsNetChange tables (rebased (blob_of tables (groups_of remote) given) local) theirs merged
         × IsApplied tables (rebased (blob_of tables (groups_of remote) given) local) theirs merged
-    both = (subst (λ (ts : List Task). IsMerged ts given base mine theirs merged) (sym here) is_merged, leads)
+    both = (subst (λ (ts : List Task). IsMerged ts given base mine theirs merged) (sym here) is_merged, net_change, leads)
 
   pub diamond_of_tables : DiamondOfTables asks
   diamond_of_tables tables local remote base mine theirs merged given f g are local_normal remote_normal state local_applied remote_applied run lawful =

@@ -5,7 +5,7 @@ use Rattle.cs_value.specs.Catalog.{AreTables}
 use Rattle.cs_value.specs.declared.catalog.TableDef.{TableDef}
 use Rattle.cs_change.specs.Action.{action, action_any}
 use Rattle.cs_normal.specs.Normal.{IsNormalChangeset, change_of, groups_of}
-use Rattle.cs_normal.specs.State.{State, IsStateOf, IsApplied}
+use Rattle.cs_normal.specs.State.{State, IsStateOf, IsApplied, IsNetChange}
 use Rattle.cs_normal.specs.declared.normal.TableChanges.{TableChanges}
 use Rattle.cs_conflict.specs.declared.conflict.Conflict.{Conflict}
 use Rattle.cs_conflict.specs.declared.conflict.Resolution.{Resolution}
@@ -39,7 +39,8 @@ IsMerged changes given base mine theirs merged =
 
 module _ {F : Type 0} (asks : F → Conflict → Resolution → F → Type 0) where
   -- a remote changeset is applied to what a local one left, and lawful answers are given: what is left is the three-way
-  -- merge, and the local changeset, rebased over the blob of those answers, leads from what the remote one leaves to it
+  -- merge, and the local changeset, rebased over the blob of those answers, is the net change from what the remote one leaves
+  -- to it, and leads there
   abbrev pub DiamondOfTables : Type 0
   DiamondOfTables =
       (tables : List TableDef) (local remote : List TableChanges) (base mine theirs merged : State)
@@ -53,4 +54,5 @@ module _ {F : Type 0} (asks : F → Conflict → Resolution → F → Type 0) wh
       → Applies asks mine (tasks tables (groups_of remote)) f given merged g
       → AreLawful local mine (tasks tables (groups_of remote)) given
       → IsMerged (tasks tables (groups_of remote)) given base mine theirs merged
+      × IsNetChange tables (rebased (blob_of tables (groups_of remote) given) local) theirs merged
       × IsApplied tables (rebased (blob_of tables (groups_of remote) given) local) theirs merged

@@ -36,8 +36,8 @@ pub fn two_updates()
 {}
 
 /// A remote changeset is applied to what a local one left, and each conflict gets a lawful answer: at each place there is
-/// left the three-way merge of both outcomes, and the local changeset, rebased over the blob of those answers, leads from
-/// what the remote one leaves to the same.
+/// left the three-way merge of both outcomes, and the local changeset, rebased over the blob of those answers, is the net
+/// change from what the remote one leaves to it, and leads there.
 pub fn diamond_of_tables<H: FnMut(&Conflict<'_>) -> Resolution>()
     ensures { DiamondOfTables (CalledAt H.FnMut) }
 {
