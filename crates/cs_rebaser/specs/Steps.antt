@@ -1,0 +1,41 @@
+-- What the code holds on its way: no definition that a public clause cites.
+use Rattle.std.specs.Prelude.{◌≡◌, ◌≢◌, ℕ, List, [], ◌∷◌, ◌++◌, map, length, Option, Some, None}
+use Rattle.std.specs.List.{AllByRecursion}
+use Rattle.std.specs.List.Sorted.{IsStrictlySortedBy}
+use Rattle.std.specs.Map.{lookup}
+use Rattle.cs_order.specs.Order.{Keys, by_bytes, same_bytes}
+use Rattle.cs_blob.specs.declared.blob.Entry.{Entry}
+use Rattle.cs_blob.specs.declared.blob.BlobGroup.{BlobGroup}
+use Rattle.cs_rebaser.specs.Rebased.{Spot, placed, placed_in, entry_at}
+
+-- a place as bytes: no name holds a zero byte, so it ends the name
+abbrev pub spot_bytes : Spot → List ℕ
+spot_bytes spot = spot.0 ++ 0 ∷ spot.1
+
+-- the places of a group's entries as bytes, and of all entries
+abbrev pub spots_in : BlobGroup → Keys
+spots_in group = map (λ p. spot_bytes p.0) (placed_in group)
+
+abbrev pub spots : List BlobGroup → Keys
+spots blob = map (λ p. spot_bytes p.0) (placed blob)
+
+-- the entries of all groups, in order
+abbrev pub entries_in : List BlobGroup → List Entry
+entries_in blob = map (λ p. p.1) (placed blob)
+
+-- places and entries, side by side
+abbrev pub beside_entries : Keys → List Entry → List (List ℕ × Entry)
+beside_entries [] entries = []
+beside_entries (k ∷ keys) [] = []
+beside_entries (k ∷ keys) (e ∷ entries) = (k, e) ∷ beside_entries keys entries
+
+-- a name that a zero byte ends
+abbrev pub HasNoZero : List ℕ → Type 0
+HasNoZero name = AllByRecursion (λ byte. byte ≢ 0) name
+
+-- the places in the order of their bytes, and the entry of each: whatever is looked up is found there
+pub record IsIndexOf (blob : List BlobGroup) (places : Keys) (entries : List Entry) : Type 0 where
+  pub rising : IsStrictlySortedBy by_bytes places
+  pub as_many : length places ≡ length entries
+  pub each : (spot : Spot) → HasNoZero spot.0
+      → lookup (same_bytes (spot_bytes spot)) (beside_entries places entries) ≡ entry_at spot (placed blob)
