@@ -1,12 +1,16 @@
 -- What the code holds on its way: no definition that a public clause cites.
-use Rattle.std.specs.Prelude.{◌≡◌, ◌≢◌, ℕ, List, [], ◌∷◌, ◌++◌, map, length, Option, Some, None}
+use Rattle.std.specs.Prelude.{◌≡◌, ◌≢◌, ℕ, Bool, List, [], ◌∷◌, ◌++◌, map, length, Contains, Option, Some, None, slice_get}
 use Rattle.std.specs.List.{AllByRecursion}
 use Rattle.std.specs.List.Sorted.{IsStrictlySortedBy}
 use Rattle.std.specs.Map.{lookup}
-use Rattle.cs_order.specs.Order.{Keys, by_bytes, same_bytes}
+use Rattle.cs_order.specs.Order.{Keys, by_bytes, same_bytes, key_at}
+use Rattle.cs_change.specs.Spelling.{marks_of}
+use Rattle.cs_change.specs.declared.change.Change.{Change}
+use Rattle.cs_normal.specs.Changes.{Changes}
+use Rattle.cs_normal.specs.declared.normal.TableChanges.{TableChanges}
 use Rattle.cs_blob.specs.declared.blob.Entry.{Entry}
 use Rattle.cs_blob.specs.declared.blob.BlobGroup.{BlobGroup}
-use Rattle.cs_rebaser.specs.Rebased.{Spot, placed, placed_in, entry_at}
+use Rattle.cs_rebaser.specs.Rebased.{Spot, placed, placed_in, entry_at, rebased_keyed}
 
 -- a place as bytes: no name holds a zero byte, so it ends the name
 abbrev pub spot_bytes : Spot → List ℕ
@@ -39,3 +43,23 @@ pub record IsIndexOf (blob : List BlobGroup) (places : Keys) (entries : List Ent
   pub as_many : length places ≡ length entries
   pub each : (spot : Spot) → HasNoZero spot.0
       → lookup (same_bytes (spot_bytes spot)) (beside_entries places entries) ≡ entry_at spot (placed blob)
+
+-- what is left of the change there, behind its key
+abbrev pub rebased_if_any : List BlobGroup → List ℕ → List Bool → Option (List ℕ × Change) → Changes
+rebased_if_any blob name marks None = []
+rebased_if_any blob name marks (Some keyed) = rebased_keyed blob name marks keyed
+
+-- a value, if there is one, behind a key
+abbrev pub behind : {X : Type 0} → List ℕ → Option X → List (List ℕ × X)
+behind key None = []
+behind key (Some x) = (key, x) ∷ []
+
+-- the first of the places of a key, with its entry
+abbrev pub entry_of_group : Keys → List Entry → List ℕ → List (List ℕ × Entry)
+entry_of_group keys entries [] = []
+entry_of_group keys entries (place ∷ others) = behind (key_at keys place) (slice_get entries place)
+
+-- a table has the name of the group, and another shape
+abbrev pub HasTableOfOtherShape : BlobGroup → List TableChanges → Type 0
+HasTableOfOtherShape group local =
+    (table : TableChanges) × Contains local table × (group.name ≡ table.name) × (marks_of group.marks ≢ table.marks)

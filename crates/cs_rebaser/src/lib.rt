@@ -3,4 +3,15 @@
 #![tactic(auto)]
 
 mod columns;
+mod faults;
 mod one_change;
+mod places;
+mod rebaser;
+mod shapes;
+mod tables;
+
+pub use faults::{ConfigureFault, RebaseFault};
+pub use rebaser::Rebaser;
+
+#[cfg(test)]
+mod tests;
