@@ -10,22 +10,15 @@ use Rattle.cs_normal.specs.Changes.{Changes}
 use Rattle.cs_normal.specs.declared.normal.TableChanges.{TableChanges}
 use Rattle.cs_blob.specs.declared.blob.Entry.{Entry}
 use Rattle.cs_blob.specs.declared.blob.BlobGroup.{BlobGroup}
-use Rattle.cs_rebaser.specs.Rebased.{Spot, placed, placed_in, entry_at, rebased_keyed}
+use Rattle.cs_rebaser.specs.Rebased.{Spot, placed, entry_at, entry_key, rebased_keyed}
 
 -- a place as bytes: no name holds a zero byte, so it ends the name
 abbrev pub spot_bytes : Spot → List ℕ
 spot_bytes spot = spot.0 ++ 0 ∷ spot.1
 
--- the places of a group's entries as bytes, and of all entries
+-- the places of a group's entries as bytes
 abbrev pub spots_in : BlobGroup → Keys
-spots_in group = map (λ p. spot_bytes p.0) (placed_in group)
-
-abbrev pub spots : List BlobGroup → Keys
-spots blob = map (λ p. spot_bytes p.0) (placed blob)
-
--- the entries of all groups, in order
-abbrev pub entries_in : List BlobGroup → List Entry
-entries_in blob = map (λ p. p.1) (placed blob)
+spots_in group = map (λ entry. spot_bytes (group.name, entry_key (marks_of group.marks) entry)) group.entries
 
 -- places and entries, side by side
 abbrev pub beside_entries : Keys → List Entry → List (List ℕ × Entry)

@@ -7,6 +7,7 @@ mod faults;
 mod one_change;
 mod places;
 mod rebaser;
+mod rebasing_laws;
 mod shapes;
 mod tables;
 

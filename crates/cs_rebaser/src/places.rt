@@ -9,7 +9,7 @@ ghost use Rattle.cs_order.specs.Order.{by_bytes, same_bytes};
 ghost use Rattle.cs_blob.specs.Spelling.{FitsBlob};
 ghost use Rattle.cs_rebaser.specs.Faults.{IsConfigureFault};
 ghost use Rattle.cs_rebaser.specs.Rebased.{entry_key, HasEachOnce};
-ghost use Rattle.cs_rebaser.specs.Steps.{beside_entries, entries_in, entry_of_group, spot_bytes, spots, spots_in, IsIndexOf};
+ghost use Rattle.cs_rebaser.specs.Steps.{beside_entries, entry_of_group, spot_bytes, spots_in, IsIndexOf};
 
 use crate::faults::ConfigureFault;
 use cs_blob::{BlobGroup, Entry};

@@ -2,6 +2,7 @@
 
 use crate::faults::{ConfigureFault, RebaseFault};
 use crate::places::{Index, entry_in, index_of};
+use crate::rebasing_laws::rebased_is_normal;
 use crate::shapes::have_shapes;
 use crate::tables::rebase_tables;
 use cs_blob::{Blob, Entry};
@@ -48,12 +49,12 @@ impl<'a> Rebaser<'a> {
         // The blob is such as the reader takes.
         requires { FitsBlob blob }
 
-        ensures configured { IfOk result (λ rebaser. rebaser ≡ blob) }
-        ensures once { IfOk result (λ rebaser. HasEachOnce blob) }
-        ensures kept { IfErr result (λ refused. refused.0 ≡ blob) }
+        ensures configured { IfOk result (λ rebaser. rebaser ≡ blob.entry) }
+        ensures once { IfOk result (λ rebaser. HasEachOnce blob.entry) }
+        ensures kept { IfErr result (λ refused. refused.0 ≡ blob.entry) }
 
         // Where two entries are of one place, that is told.
-        ensures fault { IfErr result (λ refused. IsConfigureFault refused.1 blob) }
+        ensures fault { IfErr result (λ refused. IsConfigureFault refused.1 blob.entry) }
     {
         match index_of(alloc, blob.as_slice()) {
             Ok(index) => Ok(Rebaser { blob, index }),
@@ -79,6 +80,7 @@ impl<'a> Rebaser<'a> {
         // Where a group of the blob has the name of a table and another shape, that is told.
         ensures fault { IfErr result (λ fault. IsRebaseFault fault self.now local.now) }
     {
+        rebased_is_normal();
         if !have_shapes(self.blob.as_slice(), local.tables()) {
             return Err(RebaseFault::WrongShape);
         }
