@@ -145,16 +145,17 @@ rules_long : (deleted : Bool) (marks : List Bool) → length (entry_rules delete
 rules_long true marks = length-map marks _
 rules_long false marks = length-map marks _
 
+with_first : (v : Value) (fields : List Field) (o : Option (List Value)) (row : List Value) → ((rest : List Value) → whole_row fields ≡ Some rest → fields ≡ map Is rest) → whole_row fields ≡ o → value_and v o ≡ Some row → Is v ∷ fields ≡ map Is row
+with_first v fields None row others is e = cc
+with_first v fields (Some rest) row others is e =
+    let same : v ∷ rest ≡ row = cc in
+    ap (λ (t : List Field). Is v ∷ t) (others rest is) ∙ ap (λ (r : List Value). map Is r) same
+
 whole_is : (fields : List Field) (row : List Value) → whole_row fields ≡ Some row → fields ≡ map Is row
 unfolding whole_row
 whole_is [] row e = let same : [] ≡ row = cc in ap (λ (r : List Value). map Is r) same
 whole_is (Undefined ∷ fields) row e = cc
-whole_is (Is v ∷ fields) row e = step v fields (whole_row fields) row refl e where
-  step : (v : Value) (fields : List Field) (o : Option (List Value)) (row : List Value) → whole_row fields ≡ o → value_and v o ≡ Some row → Is v ∷ fields ≡ map Is row
-  step v fields None row is e = cc
-  step v fields (Some rest) row is e =
-      let same : v ∷ rest ≡ row = cc in
-      ap (λ (t : List Field). Is v ∷ t) (whole_is fields rest is) ∙ ap (λ (r : List Value). map Is r) same
+whole_is (Is v ∷ fields) row e = with_first v fields (whole_row fields) row (λ rest is. whole_is fields rest is) refl e
 
 row_marked : (marks : List Bool) (row : List Value) → marked_fields marks (map Is row) ≡ marked marks row
 unfolding marked_fields

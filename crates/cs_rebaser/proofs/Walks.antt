@@ -64,14 +64,14 @@ entries_more (k ∷ keys) [] key entry same = absurd (omega (arith, same))
 entries_more (k ∷ keys) (c ∷ entries) key entry same = ap (λ (es : List (List ℕ × Entry)). (k, c) ∷ es) (entries_more keys entries key entry (omega (arith, same)))
 
 -- the first of some places
-pub picked : (keys : Keys) (entries : List Entry) (group : List ℕ) (some now_keys : Keys) (others now : List Entry) (key : List ℕ) (entry : Entry) → 1 ≤ length group → get_or group 0 0 < length entries → length some ≡ length others
-    → key ≡ key_at keys (get_or group 0 0) → entry ≡ get_or entries (get_or group 0 0) entry → now_keys ≡ some ++ key ∷ [] → now ≡ others ++ entry ∷ []
+pub picked : (keys : Keys) (entries : List Entry) (group : List ℕ) (some now_keys : Keys) (others now : List Entry) (key : List ℕ) (entry made : Entry) → 1 ≤ length group → get_or group 0 0 < length entries → length some ≡ length others
+    → key ≡ key_at keys (get_or group 0 0) → entry ≡ get_or entries (get_or group 0 0) entry → made ≡ entry → now_keys ≡ some ++ key ∷ [] → now ≡ others ++ made ∷ []
     → beside_entries now_keys now ≡ beside_entries some others ++ entry_of_group keys entries group
-picked keys entries [] some now_keys others now key entry one within same is_key is_entry keyed added = absurd (omega (arith, one))
-picked keys entries (p ∷ group) some now_keys others now key entry one within same is_key is_entry keyed added =
+picked keys entries [] some now_keys others now key entry made one within same is_key is_entry is_made keyed added = absurd (omega (arith, one))
+picked keys entries (p ∷ group) some now_keys others now key entry made one within same is_key is_entry is_made keyed added =
     let found : slice_get entries p ≡ Some entry = slice_get-get_or entries p entry within ∙ ap (λ (e : Entry). Some e) (sym is_entry) in
     let there : entry_of_group keys entries (p ∷ group) ≡ (key, entry) ∷ [] = ap (λ (o : Option Entry). behind (key_at keys p) o) found ∙ ap (λ (k : List ℕ). (k, entry) ∷ []) (sym is_key) in
-    rw (keyed, added, there) (entries_more some others key entry same)
+    rw (keyed, added, is_made, there) (entries_more some others key entry same)
 
 -- none of them
 pub passed : (keys : Keys) (entries : List Entry) (group : List ℕ) (es : List (List ℕ × Entry)) → length entries ≤ get_or group 0 0 → es ≡ es ++ entry_of_group keys entries group
