@@ -4,6 +4,7 @@ ghost use Rattle.std.specs.Fn.{CalledAt};
 ghost use Rattle.cs_rebaser.specs.Diamond.{Diamond, MergesAlike, OnlyLawfulMerges, TwoUpdates};
 ghost use Rattle.cs_rebaser.specs.DiamondOfTables.{DiamondOfTables};
 ghost use Rattle.cs_rebaser.specs.Merge.{MergesOneSide};
+ghost use Rattle.cs_rebaser.specs.RebasedLaws.{NoWrongShape, RebasedFits, RebasedIsNormal};
 
 use cs_conflict::{Conflict, Resolution};
 
@@ -48,4 +49,23 @@ pub fn diamond_of_tables<H: FnMut(&Conflict<'_>) -> Resolution>()
     cs_value::laws::catalogs();
     cs_apply::laws::leaves_state::<H>();
     diamond();
+}
+
+/// Where each group of a blob has the shape of its table, none has a wrong one.
+pub fn no_wrong_shape()
+    ensures { NoWrongShape }
+{}
+
+/// A changeset of a catalog's tables is one rebased too.
+pub fn rebased_fits()
+    ensures { RebasedFits }
+{}
+
+/// A changeset in normal form is in normal form rebased.
+pub fn rebased_is_normal()
+    ensures { RebasedIsNormal }
+{
+    cs_change::laws::net_takes();
+    cs_normal::laws::bytes_tell_keys();
+    cs_normal::laws::set_columns_fit();
 }
