@@ -29,18 +29,11 @@ use Rattle.cs_rebaser.specs.Merge.{merge}
 use Rattle.cs_rebaser.specs.Rebased.{Placed, Spot, placed, entry_at, rebased}
 use Rattle.cs_rebaser.proofs.DiamondSpots.{by_test, name_is, name_refl}
 use Rattle.cs_rebaser.proofs.DiamondRuns.{done_at, runs_at, lawful_at}
-use Rattle.cs_rebaser.proofs.DiamondTasks.{IsOfOne, of_one, HaveShape, keyed_tasks, tasks_are, are_apart, are_keyed, are_marked, done_is}
+use Rattle.cs_rebaser.proofs.DiamondTasks.{IsOfOne, of_one, HaveShape, keyed_tasks, tasks_are, are_apart, are_keyed, are_marked, done_is, shapes}
 use Rattle.cs_rebaser.proofs.DiamondBlob.{blob_is}
 use Rattle.cs_rebaser.proofs.DiamondRebased.{rebased_action, rebased_at, rebased_fits}
 
 -- ---- the tables of a name
-
-one_table : OnePlaceOfName → (tables : List TableDef) (t u : TableDef) → AreTables tables → Contains tables t → Contains tables u → t.name ≡ u.name → t ≡ u
-one_table one_place tables t u are (i, i_within, i_is) (j, j_within, j_is) same =
-    let at : i ≡ j = one_place u.name tables i j are i_within j_within
-    (λ d. ap (λ (table : TableDef). table.name) (get_or_default tables i d t i_within ∙ i_is) ∙ same)
-    (λ d. ap (λ (table : TableDef). table.name) (get_or_default tables j d u j_within ∙ j_is)) in
-    sym i_is ∙ get_or_default tables i t u i_within ∙ ap (λ (k : ℕ). get_or tables k u) at ∙ j_is
 
 search_name : (all tables : List TableDef) (name : List ℕ) → AllByRecursion (Contains all) tables → ((table : TableDef) × Contains all table × (table.name ≡ name)) ⊎ AllByRecursion (λ (table : TableDef). table.name ≢ name) tables
 search_name all [] name inside = inr tt
@@ -60,14 +53,6 @@ named_or_not tables name =
 nothing_at : (tables : List TableDef) (name key : List ℕ) (place : Place) → ((table : TableDef) → Contains tables table → table.name ≢ name) → MayStandAt tables name key place → place ≡ None
 nothing_at tables name key None none at = refl
 nothing_at tables name key (Some row) none at = absurd (none at.0 at.1 at.2)
-
--- the changes of a table of the catalog have its marks
-shapes : OnePlaceOfName → (tables : List TableDef) (table : TableDef) (changes : List TableChanges) → AreTables tables → Contains tables table → AllByRecursion (IsOfOne tables) changes → HaveShape table.name table.key_marks changes
-shapes one_place tables table [] are inside of = tt
-shapes one_place tables table (first ∷ others) are inside of = (
-  λ e. of.0.of.1 ∙ ap (λ (t : TableDef). t.key_marks) (one_table one_place tables of.0.table table are of.0.inside inside (sym of.0.of.0 ∙ e)),
-  shapes one_place tables table others are inside of.1,
-)
 
 merge_nothing : (answer : Resolution) (base mine theirs merged : Place) → base ≡ None → mine ≡ None → theirs ≡ None → merged ≡ None → merged ≡ merge answer base mine theirs
 unfolding merge same_place
@@ -142,15 +127,19 @@ module _ (nets : AppliedIsNet) (applies : NetIsApplied) (one_key : OneKeyStands)
               (nothing_at tables name key (theirs name key) none (remote_net.0 name key)) (nothing_at tables name key (merged name key) none (merged_state name key))
         ]
 
-    leads : IsApplied tables (rebased (blob_of tables (groups_of remote) given) local) theirs merged
-    leads =
-        applies tables (rebased (blob_of tables (groups_of remote) given) local) theirs merged are remote_net.0 merged_state
+    is_net : IsNetChange tables (rebased (blob_of tables (groups_of remote) given) local) theirs merged
+    is_net =
         (rebased_fits (blob_of tables (groups_of remote) given) tables local local_applied.0, λ table key inside. (closes_at table key inside).1)
 
-    both : IsMerged (tasks tables (groups_of remote)) given base mine theirs merged
+    leads : IsApplied tables (rebased (blob_of tables (groups_of remote) given) local) theirs merged
+    leads =
+        applies tables (rebased (blob_of tables (groups_of remote) given) local) theirs merged are remote_net.0 merged_state is_net
+
+    all_three : IsMerged (tasks tables (groups_of remote)) given base mine theirs merged
+        × IsNetChange tables (rebased (blob_of tables (groups_of remote) given) local) theirs merged
         × IsApplied tables (rebased (blob_of tables (groups_of remote) given) local) theirs merged
-    both = (subst (λ (ts : List Task). IsMerged ts given base mine theirs merged) (sym here) is_merged, leads)
+    all_three = (subst (λ (ts : List Task). IsMerged ts given base mine theirs merged) (sym here) is_merged, is_net, leads)
 
   pub diamond_of_tables : DiamondOfTables asks
   diamond_of_tables tables local remote base mine theirs merged given f g are local_normal remote_normal state local_applied remote_applied run lawful =
-      both tables local remote base mine theirs merged given f g are local_normal remote_normal state local_applied remote_applied run lawful
+      all_three tables local remote base mine theirs merged given f g are local_normal remote_normal state local_applied remote_applied run lawful

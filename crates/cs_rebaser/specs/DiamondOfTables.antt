@@ -4,8 +4,8 @@ use Rattle.std.specs.Option.{unwrap_or}
 use Rattle.cs_value.specs.Catalog.{AreTables}
 use Rattle.cs_value.specs.declared.catalog.TableDef.{TableDef}
 use Rattle.cs_change.specs.Action.{action, action_any}
-use Rattle.cs_normal.specs.Normal.{IsNormalChangeset, change_of, groups_of}
-use Rattle.cs_normal.specs.State.{State, IsStateOf, IsApplied}
+use Rattle.cs_normal.specs.Normal.{FitsCatalog, IsNormalChangeset, change_of, groups_of}
+use Rattle.cs_normal.specs.State.{State, IsStateOf, IsApplied, IsNetChange}
 use Rattle.cs_normal.specs.declared.normal.TableChanges.{TableChanges}
 use Rattle.cs_conflict.specs.declared.conflict.Conflict.{Conflict}
 use Rattle.cs_conflict.specs.declared.conflict.Resolution.{Resolution}
@@ -15,7 +15,7 @@ use Rattle.cs_apply.specs.Blob.{blob_of}
 use Rattle.cs_apply.specs.Tasks.{Task, tasks}
 use Rattle.cs_rebaser.specs.Diamond.{IsLawfulOver}
 use Rattle.cs_rebaser.specs.Merge.{merge}
-use Rattle.cs_rebaser.specs.Rebased.{rebased, same_spot}
+use Rattle.cs_rebaser.specs.Rebased.{rebased, same_spot, HasEachOnce, HaveShapes}
 
 -- the answer that was given at a place; OMIT where none was
 unfoldable pub answer_at : List ℕ → List ℕ → List Task → List (Option Resolution) → Resolution
@@ -37,9 +37,21 @@ IsMerged changes given base mine theirs merged =
     (name key : List ℕ)
     → merged name key ≡ merge (answer_at name key changes given) (base name key) (mine name key) (theirs name key)
 
+-- the blob that a normal changeset leaves has one entry a place at most, and its groups have the shapes of any changeset of
+-- the same tables; so it can be rebased over
+abbrev pub BlobIsTaken : Type 0
+BlobIsTaken =
+    (tables : List TableDef) (local remote : List TableChanges) (given : List (Option Resolution))
+    → AreTables tables
+    → IsNormalChangeset remote
+    → FitsCatalog tables local
+    → FitsCatalog tables remote
+    → HasEachOnce (blob_of tables (groups_of remote) given) × HaveShapes (blob_of tables (groups_of remote) given) local
+
 module _ {F : Type 0} (asks : F → Conflict → Resolution → F → Type 0) where
   -- a remote changeset is applied to what a local one left, and lawful answers are given: what is left is the three-way
-  -- merge, and the local changeset, rebased over the blob of those answers, leads from what the remote one leaves to it
+  -- merge, and the local changeset, rebased over the blob of those answers, is the net change from what the remote one
+  -- leaves to it, and leads there
   abbrev pub DiamondOfTables : Type 0
   DiamondOfTables =
       (tables : List TableDef) (local remote : List TableChanges) (base mine theirs merged : State)
@@ -53,4 +65,5 @@ module _ {F : Type 0} (asks : F → Conflict → Resolution → F → Type 0) wh
       → Applies asks mine (tasks tables (groups_of remote)) f given merged g
       → AreLawful local mine (tasks tables (groups_of remote)) given
       → IsMerged (tasks tables (groups_of remote)) given base mine theirs merged
+      × IsNetChange tables (rebased (blob_of tables (groups_of remote) given) local) theirs merged
       × IsApplied tables (rebased (blob_of tables (groups_of remote) given) local) theirs merged

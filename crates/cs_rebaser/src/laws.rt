@@ -2,7 +2,7 @@
 
 ghost use Rattle.std.specs.Fn.{CalledAt};
 ghost use Rattle.cs_rebaser.specs.Diamond.{Diamond, MergesAlike, OnlyLawfulMerges, TwoUpdates};
-ghost use Rattle.cs_rebaser.specs.DiamondOfTables.{DiamondOfTables};
+ghost use Rattle.cs_rebaser.specs.DiamondOfTables.{BlobIsTaken, DiamondOfTables};
 ghost use Rattle.cs_rebaser.specs.Merge.{MergesOneSide};
 
 use cs_conflict::{Conflict, Resolution};
@@ -35,9 +35,17 @@ pub fn two_updates()
     ensures { TwoUpdates }
 {}
 
+/// The blob that applying a normal changeset leaves has one entry a place at most, and its groups have the shapes of any
+/// changeset of the same tables.
+pub fn blob_is_taken()
+    ensures { BlobIsTaken }
+{
+    cs_value::laws::catalogs();
+}
+
 /// A remote changeset is applied to what a local one left, and each conflict gets a lawful answer: at each place there is
-/// left the three-way merge of both outcomes, and the local changeset, rebased over the blob of those answers, leads from
-/// what the remote one leaves to the same.
+/// left the three-way merge of both outcomes, and the local changeset, rebased over the blob of those answers, is
+/// the net change from what the remote one leaves to the same, and leads there.
 pub fn diamond_of_tables<H: FnMut(&Conflict<'_>) -> Resolution>()
     ensures { DiamondOfTables (CalledAt H.FnMut) }
 {
