@@ -1,8 +1,7 @@
 -- The diamond over whole tables: one diamond a place.
-use Rattle.std.proofs.Common.{◌≡◌, ◌≢◌, ◌⊎◌, ℕ, true, List, [], ◌∷◌, get_or, Option, Some, None, refl, sym, subst, ap, ◌∙◌, inl, inr}
+use Rattle.std.proofs.Common.{◌≡◌, ◌≢◌, ◌⊎◌, ℕ, true, List, [], ◌∷◌, Option, Some, None, refl, sym, subst, ap, ◌∙◌, inl, inr}
 use Rattle.std.specs.List.{AllByRecursion, Contains}
 use Rattle.std.specs.Str.{bytes_eq}
-use Rattle.std.proofs.lemmas.List.{get_or_default}
 use Rattle.std.proofs.lemmas.List.Elements.{recursion_from_All, All-from_recursion, All-contains, All-contains_itself}
 use Rattle.std.proofs.lemmas.Option.{same_Some}
 use Rattle.cs_value.specs.Catalog.{AreTables}
@@ -29,7 +28,7 @@ use Rattle.cs_rebaser.specs.Merge.{merge}
 use Rattle.cs_rebaser.specs.Rebased.{Placed, Spot, placed, entry_at, rebased}
 use Rattle.cs_rebaser.proofs.DiamondSpots.{by_test, name_is, name_refl}
 use Rattle.cs_rebaser.proofs.DiamondRuns.{done_at, runs_at, lawful_at}
-use Rattle.cs_rebaser.proofs.DiamondTasks.{IsOfOne, of_one, HaveShape, keyed_tasks, tasks_are, are_apart, are_keyed, are_marked, done_is, shapes}
+use Rattle.cs_rebaser.proofs.DiamondTasks.{of_one, keyed_tasks, tasks_are, are_apart, are_keyed, are_marked, done_is, shapes}
 use Rattle.cs_rebaser.proofs.DiamondBlob.{blob_is}
 use Rattle.cs_rebaser.proofs.DiamondRebased.{rebased_action, rebased_at, rebased_fits}
 

@@ -111,7 +111,7 @@ or_first (Some at) = at
 abbrev pub number_of : List TableDef → TableChanges → ℕ
 number_of tables first = or_first (table_of (group_of first) tables)
 
-table_found : (tables : List TableDef) (first : TableChanges) → IsOfOne tables first → table_of (group_of first) tables ≡ Some (number_of tables first)
+pub table_found : (tables : List TableDef) (first : TableChanges) → IsOfOne tables first → table_of (group_of first) tables ≡ Some (number_of tables first)
 table_found tables first one =
     let split : (o : Option ℕ) → table_of (group_of first) tables ≡ o → o ≡ Some (or_first o) = elim [
       | None ↦ λ e. (let never = All-contains (λ (t : TableDef). fits_table (group_of first) t ≡ false) tables one.table (All-from_recursion (λ (t : TableDef). fits_table (group_of first) t ≡ false) tables (none_fits (group_of first) tables e)) one.inside in
@@ -131,7 +131,7 @@ abbrev pub keyed_task : ℕ → TableChanges → (List ℕ × Change) → Task
 keyed_task table first keyed =
     record { table = table; name = first.name; marks = first.marks; key = keyed.0; change = keyed.1 }
 
-bytes_stay : (marks : List Bool) (keyed : List ℕ × Change) → IsEntry marks keyed → change_bytes marks keyed.1 ≡ keyed.0
+pub bytes_stay : (marks : List Bool) (keyed : List ℕ × Change) → IsEntry marks keyed → change_bytes marks keyed.1 ≡ keyed.0
 bytes_stay marks keyed is = ap key_bytes (normal_key marks is.key keyed.1 is.normal).0 ∙ sym is.bytes
 
 same_task : (table : ℕ) (first : TableChanges) (keyed : List ℕ × Change) → IsEntry first.marks keyed → task table (group_of first) keyed.1 ≡ keyed_task table first keyed

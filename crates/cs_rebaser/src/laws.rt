@@ -2,7 +2,7 @@
 
 ghost use Rattle.std.specs.Fn.{CalledAt};
 ghost use Rattle.cs_rebaser.specs.Diamond.{Diamond, MergesAlike, OnlyLawfulMerges, TwoUpdates};
-ghost use Rattle.cs_rebaser.specs.DiamondOfTables.{BlobIsTaken, DiamondOfTables};
+ghost use Rattle.cs_rebaser.specs.DiamondOfTables.{BlobIsTaken, DiamondOfTables, LawfulAreGiven};
 ghost use Rattle.cs_rebaser.specs.Merge.{MergesOneSide};
 
 use cs_conflict::{Conflict, Resolution};
@@ -57,3 +57,9 @@ pub fn diamond_of_tables<H: FnMut(&Conflict<'_>) -> Resolution>()
     cs_apply::laws::leaves_state::<H>();
     diamond();
 }
+
+/// Where a closure answers each conflict lawfully, if it doesn't stop, the answers that it gives to a normal changeset are
+/// lawful, as the diamond asks.
+pub fn lawful_are_given<H: FnMut(&Conflict<'_>) -> Resolution>()
+    ensures { LawfulAreGiven (CalledAt H.FnMut) }
+{}
