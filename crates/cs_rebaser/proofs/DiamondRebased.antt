@@ -100,23 +100,3 @@ module _ (blob : List BlobGroup) where
       let past = ap (λ (cs : Changes). change_at key cs) (table_other name first changes (rebased blob others) t) in
       let whole : change_of name key (first ∷ others) ≡ change_of name key others = simp t refl in
       past ∙ (later ∙ ap (λ (o : Option Change). rebased_any marks o (entry_at (name, key) (placed blob))) (sym whole)))
-
-  -- ---- the rebased tables are the catalog's, in its order
-
-  fits_more : (table : TableDef) (tables : List TableDef) (changes : List TableChanges) → FitsCatalog tables changes → FitsCatalog (table ∷ tables) changes
-  fits_more table tables [] fits = tt
-  fits_more table tables (first ∷ others) fits = inr fits
-
-  with_fits : (table : TableDef) (tables : List TableDef) (first : TableChanges) (changes : Changes) (more : List TableChanges) → (first.name ≡ table.name) × (first.marks ≡ table.key_marks)
-      → FitsCatalog tables more → FitsCatalog (table ∷ tables) (with_changes first changes ++ more)
-  with_fits table tables first [] more is fits = fits_more table tables more fits
-  with_fits table tables first (c ∷ changes) more is fits = inl (is, fits)
-
-  pub rebased_fits : (tables : List TableDef) (local : List TableChanges) → FitsCatalog tables local → FitsCatalog tables (rebased blob local)
-  rebased_fits tables [] fits = tt
-  rebased_fits [] (first ∷ others) fits = absurd fits
-  rebased_fits (table ∷ tables) (first ∷ others) fits =
-      elim fits [
-        | inl here ↦ with_fits table tables first (rebased_changes blob first.name first.marks first.changes) (rebased blob others) here.0 (rebased_fits tables others here.1)
-        | inr behind ↦ fits_more table tables (rebased blob (first ∷ others)) (rebased_fits tables (first ∷ others) behind)
-      ]

@@ -1,5 +1,5 @@
 -- The changes of a normal changeset, as they are applied: each at its table and its key, and no two of one place.
-use Rattle.std.proofs.Common.{◌≡◌, ◌≢◌, ℕ, ◌+◌, Bool, true, false, List, [], ◌∷◌, ◌++◌, map, Option, Some, None, option_map, refl, sym, subst, ap, ◌∙◌, inl, inr}
+use Rattle.std.proofs.Common.{◌≡◌, ◌≢◌, ℕ, ◌+◌, Bool, true, false, List, [], ◌∷◌, ◌++◌, map, Option, Some, None, option_map, refl, sym, subst, ap, ◌∙◌, inl, inr, get_or}
 use Rattle.std.specs.Bool.{beq}
 use Rattle.std.specs.Cmp.{booleans_Decides}
 use Rattle.std.specs.Cmp.Lexicographic.{pointwise}
@@ -11,7 +11,9 @@ use Rattle.std.specs.Str.{bytes_eq}
 use Rattle.std.proofs.lemmas.List.Elements.{recursion_from_All, All-contains_itself, All-contains, All-from_recursion}
 use Rattle.std.proofs.lemmas.Map.Keys.{sorted_head, sorted_tail}
 use Rattle.std.proofs.lemmas.Slice.Eq.{slice_eq-Decides}
-use Rattle.cs_value.specs.Catalog.{is_set, marked}
+use Rattle.std.proofs.lemmas.List.{get_or_default}
+use Rattle.cs_value.specs.Laws.{OnePlaceOfName}
+use Rattle.cs_value.specs.Catalog.{is_set, marked, AreTables}
 use Rattle.cs_value.specs.declared.catalog.TableDef.{TableDef}
 use Rattle.cs_value.specs.declared.value.Value.{Value}
 use Rattle.cs_value.specs.declared.value.Field.{Field}
@@ -109,7 +111,7 @@ or_first (Some at) = at
 abbrev pub number_of : List TableDef → TableChanges → ℕ
 number_of tables first = or_first (table_of (group_of first) tables)
 
-table_found : (tables : List TableDef) (first : TableChanges) → IsOfOne tables first → table_of (group_of first) tables ≡ Some (number_of tables first)
+pub table_found : (tables : List TableDef) (first : TableChanges) → IsOfOne tables first → table_of (group_of first) tables ≡ Some (number_of tables first)
 table_found tables first one =
     let split : (o : Option ℕ) → table_of (group_of first) tables ≡ o → o ≡ Some (or_first o) = elim [
       | None ↦ λ e. (let never = All-contains (λ (t : TableDef). fits_table (group_of first) t ≡ false) tables one.table (All-from_recursion (λ (t : TableDef). fits_table (group_of first) t ≡ false) tables (none_fits (group_of first) tables e)) one.inside in
@@ -129,7 +131,7 @@ abbrev pub keyed_task : ℕ → TableChanges → (List ℕ × Change) → Task
 keyed_task table first keyed =
     record { table = table; name = first.name; marks = first.marks; key = keyed.0; change = keyed.1 }
 
-bytes_stay : (marks : List Bool) (keyed : List ℕ × Change) → IsEntry marks keyed → change_bytes marks keyed.1 ≡ keyed.0
+pub bytes_stay : (marks : List Bool) (keyed : List ℕ × Change) → IsEntry marks keyed → change_bytes marks keyed.1 ≡ keyed.0
 bytes_stay marks keyed is = ap key_bytes (normal_key marks is.key keyed.1 is.normal).0 ∙ sym is.bytes
 
 same_task : (table : ℕ) (first : TableChanges) (keyed : List ℕ × Change) → IsEntry first.marks keyed → task table (group_of first) keyed.1 ≡ keyed_task table first keyed
@@ -277,3 +279,18 @@ are_marked tables name marks [] have = tt
 are_marked tables name marks (first ∷ others) have =
     all_both (λ (t : Task). t.name ≡ name → t.marks ≡ marks) (table_tasks tables first) (keyed_tasks tables others)
     (entries_marked name marks (number_of tables first) first first.changes have.0) (are_marked tables name marks others have.1)
+
+one_table : OnePlaceOfName → (tables : List TableDef) (t u : TableDef) → AreTables tables → Contains tables t → Contains tables u → t.name ≡ u.name → t ≡ u
+one_table one_place tables t u are (i, i_within, i_is) (j, j_within, j_is) same =
+    let at : i ≡ j = one_place u.name tables i j are i_within j_within
+    (λ d. ap (λ (table : TableDef). table.name) (get_or_default tables i d t i_within ∙ i_is) ∙ same)
+    (λ d. ap (λ (table : TableDef). table.name) (get_or_default tables j d u j_within ∙ j_is)) in
+    sym i_is ∙ get_or_default tables i t u i_within ∙ ap (λ (k : ℕ). get_or tables k u) at ∙ j_is
+
+-- the changes of a table of the catalog have its marks
+pub shapes : OnePlaceOfName → (tables : List TableDef) (table : TableDef) (changes : List TableChanges) → AreTables tables → Contains tables table → AllByRecursion (IsOfOne tables) changes → HaveShape table.name table.key_marks changes
+shapes one_place tables table [] are inside of = tt
+shapes one_place tables table (first ∷ others) are inside of = (
+  λ e. of.0.of.1 ∙ ap (λ (t : TableDef). t.key_marks) (one_table one_place tables of.0.table table are of.0.inside inside (sym of.0.of.0 ∙ e)),
+  shapes one_place tables table others are inside of.1,
+)
