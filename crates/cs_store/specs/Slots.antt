@@ -11,6 +11,7 @@ use Rattle.cs_store.specs.declared.batch.RowEdit.{RowEdit}
 use Rattle.cs_store.specs.declared.batch.MetaEdit.{MetaEdit}
 use Rattle.cs_store.specs.Contents.{Contents, StorePlace, Rows, Meta, Log, name_text}
 use Rattle.cs_store.specs.Written.{optional_bytes, with_row}
+use Rattle.cs_store.specs.Leaves.{Entry, rows_in}
 
 abbrev pub SlotKey : Type 0
 SlotKey = ℕ × Vec ℕ Global
@@ -81,6 +82,6 @@ abbrev pub filled : List (SlotKey × Slot) → List (List ℕ × List ℕ)
 filled [] = []
 filled (e ∷ es) = filled_then e.1 e.0 (filled es)
 
--- what a map of slots and a list of entries hold
-abbrev pub held_in : List (SlotKey × Slot) → List (Vec ℕ Global) → Contents
-held_in es xs = record { rows = rows_of (shown es); meta = meta_of (shown es); log = log_of xs }
+-- what leaves, a map of slots and a list of entries hold
+abbrev pub held_in : List (List Entry) → List (SlotKey × Slot) → List (Vec ℕ Global) → Contents
+held_in leaves es xs = record { rows = rows_in leaves; meta = meta_of (shown es); log = log_of xs }
