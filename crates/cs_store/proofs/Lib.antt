@@ -6,3 +6,6 @@ pub mod Changing
 pub mod Holding
 pub mod StoreLaws
 pub mod Filled
+pub mod Editing
+pub mod Packing
+pub mod Leafing

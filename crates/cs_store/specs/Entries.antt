@@ -25,8 +25,12 @@ no_entry = ((pos 0, []), [])
 abbrev pub nth : List Entry → ℕ → Entry
 nth es at = slice_index_or es at no_entry
 
--- what the entries before a place would be: those before are below it, and the one there isn't
+-- the entry before `low` is below a place, and the one at `high` isn't
+abbrev pub IsPlaceBetween : List Entry → ℕ → ℕ → ℕ → StorePlace → Type 0
+IsPlaceBetween es from low high place =
+    ((low ≡ from) ⊎ (is_lt (place_cmp (nth es (low - 1)).0 place) ≡ true))
+    × ((high ≡ length es) ⊎ (is_lt (place_cmp (nth es high).0 place) ≡ false))
+
+-- where a place stands or would stand among entries in order, not before `from`
 abbrev pub IsPlaceFor : List Entry → ℕ → ℕ → StorePlace → Type 0
-IsPlaceFor es from at place =
-    ((at ≡ from) ⊎ (is_lt (place_cmp (nth es (at - 1)).0 place) ≡ true))
-    × ((at ≡ length es) ⊎ (is_lt (place_cmp (nth es at).0 place) ≡ false))
+IsPlaceFor es from at place = IsPlaceBetween es from at at place

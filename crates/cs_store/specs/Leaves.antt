@@ -1,9 +1,9 @@
 -- Rows as a `MapStore` keeps them: leaves of entries, whose places rise through all leaves together.
-use Rattle.std.specs.Prelude.{not, ℤ, filter, ◌≡◌, ◌⊎◌, ◌≤◌, ◌<◌, ◌+◌, ◌-◌, ℕ, Bool, true, false, pos, T, map, fold, length, slice_range, slice_index_or, slice_set, List, [], ◌∷◌, ◌++◌, Option, Some, None}
+use Rattle.std.specs.Prelude.{not, drop, ℤ, filter, ◌≡◌, ◌⊎◌, ◌≤◌, ◌<◌, ◌+◌, ◌-◌, ℕ, Bool, true, false, pos, T, map, fold, length, slice_range, slice_index_or, slice_set, List, [], ◌∷◌, ◌++◌, Option, Some, None}
 use Rattle.std.specs.Borrow.{Bor}
 use Rattle.std.specs.List.{All}
-use Rattle.std.specs.Ordering.{int_eq, eq_by_cmp, is_lt, is_gt}
-use Rattle.std.specs.declared.cmp.Ordering.TheVariants.{Less}
+use Rattle.std.specs.Ordering.{int_eq, is_eq, eq_by_cmp, is_lt, is_gt}
+use Rattle.std.specs.declared.cmp.Ordering.TheVariants.{Less, Equal}
 use Rattle.std.specs.FinMap.{from_sorted, is_sorted}
 use Rattle.std.specs.FinMap.Entries.{put, where_key}
 use Rattle.cs_store.specs.Contents.{StorePlace, Rows, place_cmp}
@@ -34,6 +34,11 @@ abbrev pub put_row : List Entry → StorePlace → Option (List ℕ) → List En
 put_row es place None = where_key place_cmp (λ q. not (eq_by_cmp place_cmp place q)) es
 put_row es place (Some row) = put place_cmp place row es
 
+-- all entries are below a place
+abbrev pub AreBelow : List Entry → StorePlace → Type 0
+AreBelow [] place = Unit {0}
+AreBelow (e ∷ es) place = (place_cmp e.0 place ≡ Less) × AreBelow es place
+
 abbrev pub edit_place : RowEdit → StorePlace
 edit_place edit = (pos edit.table, edit.key.items)
 
@@ -54,6 +59,24 @@ abbrev pub Rise : List RowEdit → Type 0
 Rise [] = Unit {0}
 Rise (edit ∷ edits) = Follow (edit_place edit) edits × Rise edits
 
+-- where entries go on behind a place that stands or would stand at `at`
+abbrev pub IsBehind : List Entry → ℕ → StorePlace → ℕ → Type 0
+IsBehind es at place next =
+    ((next ≡ at + 1) × (at < length es) × (place_cmp (nth es at).0 place ≡ Equal))
+    ⊎ ((next ≡ at) × ((at ≡ length es) ⊎ (is_eq (place_cmp (nth es at).0 place) ≡ false)))
+
+-- what is written at a place
+abbrev pub written : StorePlace → Option (List ℕ) → List Entry
+written place None = []
+written place (Some row) = (place, row) ∷ []
+
+-- an edit is merged into the entries from one on, up to the next: behind those that are below its place
+pub record IsMerged (es : List Entry) (from : ℕ) (edit : RowEdit) (next : ℕ) (before after : List Entry) : Type 0 where
+  pub more : List Entry
+  pub pushed : after ≡ before ++ more
+  pub same : edited (drop from es) edit ≡ more ++ drop next es
+  pub below : (place : StorePlace) → place_cmp (edit_place edit) place ≡ Less → AreBelow more place
+
 -- the leaf begins at a place that isn't above this one, or is the first
 abbrev pub BeginsBy : List (List Entry) → ℕ → StorePlace → Type 0
 BeginsBy leaves at place = (at ≡ 0) ⊎ (is_gt (place_cmp (first_place leaves at) place) ≡ false)
@@ -61,6 +84,16 @@ BeginsBy leaves at place = (at ≡ 0) ⊎ (is_gt (place_cmp (first_place leaves 
 -- the leaf begins above the place, or isn't there
 abbrev pub BeginsBehind : List (List Entry) → ℕ → StorePlace → Type 0
 BeginsBehind leaves at place = (at ≡ length leaves) ⊎ (is_gt (place_cmp (first_place leaves at) place) ≡ true)
+
+-- all edits are before the leaf there
+abbrev pub AreBefore : List (List Entry) → ℕ → List RowEdit → Type 0
+AreBefore leaves at [] = Unit {0}
+AreBefore leaves at (edit ∷ edits) = BeginsBehind leaves at (edit_place edit) × AreBefore leaves at edits
+
+-- the first edit, if there is one, isn't before the leaf there
+abbrev pub ReachLeaf : List (List Entry) → ℕ → List RowEdit → Type 0
+ReachLeaf leaves at [] = Unit {0}
+ReachLeaf leaves at (edit ∷ edits) = (at < length leaves) × (is_gt (place_cmp (first_place leaves at) (edit_place edit)) ≡ false)
 
 -- what a `MapStore` keeps of rows: no leaf is empty, and places rise
 pub record AreLeaves (leaves : List (List Entry)) : Type 0 where
@@ -85,7 +118,7 @@ after_staged (Anew made) leaves = made.items
 -- what is staged can be put in: each patch is for a leaf that is there, and no new leaf is empty
 abbrev pub CanBePut : Staged → List (List Entry) → Type 0
 CanBePut (Patches patches) leaves = ArePatches (length leaves) patches.items
-CanBePut (Anew made) leaves = Unit {0}
+CanBePut (Anew made) leaves = All (λ leaf. 0 < length leaf) made.items
 
 -- the keys and the rows of a table
 abbrev pub in_table : ℤ → List Entry → List (List ℕ × List ℕ)

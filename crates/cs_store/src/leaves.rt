@@ -1,13 +1,13 @@
 //! The rows of a `MapStore`: leaves whose places rise, none of them empty. A commit makes the leaves that it changes anew
 //! before it changes any, and then puts them in, which takes no memory.
 
-ghost use Rattle.std.specs.Prelude.{◌≡◌, ◌≤◌, ◌<◌, ◌+◌, List, ◌++◌, T, pos, length, drop, fold, map, filter, IfOk, OnOk, MatchBool};
+ghost use Rattle.std.specs.Prelude.{◌≡◌, false, ◌≤◌, ◌<◌, ◌+◌, List, ◌++◌, T, pos, length, take, drop, fold, map, filter, IfOk, OnOk, MatchBool};
 ghost use Rattle.std.specs.List.{All};
 ghost use Rattle.std.specs.Ordering.{int_eq, is_gt};
 ghost use Rattle.std.specs.FinMap.{get};
 ghost use Rattle.cs_store.specs.Contents.{IsListing, place_cmp};
 ghost use Rattle.cs_store.specs.Written.{optional_bytes, pairs_of};
-ghost use Rattle.cs_store.specs.Leaves.{AreLeaves, ArePatches, BeginsBy, BeginsBehind, CanBePut, Entry, Rise, after_staged, edit_place, edited, edits_behind, first_place, flat, in_table, patched, rows_in};
+ghost use Rattle.cs_store.specs.Leaves.{AreBefore, AreLeaves, ArePatches, BeginsBy, BeginsBehind, CanBePut, Entry, ReachLeaf, Rise, after_staged, edit_place, edited, edits_behind, first_place, flat, in_table, patched, rows_in};
 
 use crate::leaf::Leaf;
 use crate::merging::merged;
@@ -40,6 +40,15 @@ fn begins_above(leaves: &[Leaf], at: usize, table: u32, key: &[u8]) -> bool
     leaves[at].compare(0, table, key).is_gt()
 }
 
+/// Whether a leaf begins above the place of an edit.
+fn is_before(leaves: &[Leaf], at: usize, edit: &RowEdit) -> bool
+    requires in_bounds { at < length leaves.now }
+    requires full { All (λ leaf. 0 < length leaf) leaves.now }
+    ensures { result ≡ is_gt (place_cmp (first_place leaves.now at) (edit_place edit.now)) }
+{
+    begins_above(leaves, at, edit.table, edit.key.as_slice())
+}
+
 /// The leaf in which a place stands or would stand, not before `from`.
 fn leaf_for(leaves: &[Leaf], from: usize, table: u32, key: &[u8]) -> usize
     requires in_bounds { from < length leaves.now }
@@ -62,19 +71,37 @@ fn leaf_for(leaves: &[Leaf], from: usize, table: u32, key: &[u8]) -> usize
     low
 }
 
-/// Where the edits end that fall into a leaf, of which the one at `start` does.
-fn edits_end(leaves: &[Leaf], at: usize, edits: &[&RowEdit], start: usize) -> usize {
+/// The leaf in which the place of an edit stands or would stand, not before `from`.
+fn leaf_of(leaves: &[Leaf], from: usize, edit: &RowEdit) -> usize
+    requires in_bounds { from < length leaves.now }
+    requires full { All (λ leaf. 0 < length leaf) leaves.now }
+    requires begins { BeginsBy leaves.now from (edit_place edit.now) }
+    ensures bound { (from ≤ result) × (result < length leaves.now) }
+    ensures begins { BeginsBy leaves.now result (edit_place edit.now) }
+    ensures next { BeginsBehind leaves.now (result + 1) (edit_place edit.now) }
+{
+    leaf_for(leaves, from, edit.table, edit.key.as_slice())
+}
+
+/// How many edits fall into a leaf, of which the first does.
+fn edits_in(leaves: &[Leaf], at: usize, edits: &[&RowEdit]) -> usize
+    requires in_bounds { at < length leaves.now }
+    requires full { All (λ leaf. 0 < length leaf) leaves.now }
+    requires some { 0 < length edits.now }
+    requires first { AreBefore leaves.now (at + 1) (take 1 (edits_behind edits.now)) }
+    ensures bound { (0 < result) × (result ≤ length edits.now) }
+    ensures before { AreBefore leaves.now (at + 1) (take result (edits_behind edits.now)) }
+    ensures behind { ReachLeaf leaves.now (at + 1) (drop result (edits_behind edits.now)) }
+{
     let next = at + 1;
     if next >= leaves.len() {
         return edits.len();
     }
-    let mut end = start + 1;
-    while end < edits.len()
-        && begins_above(leaves, next, edits[end].table, edits[end].key.as_slice())
-    {
-        end += 1;
+    let mut count = 1;
+    while count < edits.len() && is_before(leaves, next, edits[count]) {
+        count += 1;
     }
-    end
+    count
 }
 
 /// The leaves that edits change, as they are after them.
@@ -93,9 +120,8 @@ fn patches_of(
     let mut start = 0;
     let mut from = 0;
     while start < edits.len() {
-        let first = edits[start];
-        let at = leaf_for(leaves, from, first.table, first.key.as_slice());
-        let end = edits_end(leaves, at, edits, start);
+        let at = leaf_of(leaves, from, edits[start]);
+        let end = start + edits_in(leaves, at, &edits[start..]);
         let leaf = merged(alloc, &leaves[at], &edits[start..end])?;
         patches.push(Patch { at, leaf })?;
         start = end;
@@ -139,10 +165,22 @@ pub fn stage(
     Ok(Staged::Patches(patches_of(alloc, leaves, edits)?))
 }
 
-/// Whether leaves are to be cut or go.
-fn is_uneven(patches: &[Patch]) -> bool {
-    for patch in patches.iter() {
-        if patch.leaf.len() == 0 || patch.leaf.len() >= 2 * LEAF {
+/// Whether a leaf is to go, since it has no row left.
+fn has_empty(patches: &[Patch]) -> bool
+    ensures { result ≡ false → All (λ patch. 0 < length patch.leaf) patches.now }
+{
+    for patch in patches {
+        if patch.leaf.len() == 0 {
+            return true;
+        }
+    }
+    false
+}
+
+/// Whether a leaf is to be cut.
+fn has_large(patches: &[Patch]) -> bool {
+    for patch in patches {
+        if patch.leaf.len() >= 2 * LEAF {
             return true;
         }
     }
@@ -195,17 +233,21 @@ fn drop_empty(leaves: &mut Vec<Leaf>)
 
 /// Puts in what is staged. Where there is no memory to cut a leaf, it stays as it is until a later commit.
 pub fn put_staged(alloc: Global, leaves: &mut Vec<Leaf>, staged: Staged)
-    requires { CanBePut staged leaves.old.items }
+    requires can { CanBePut staged leaves.old.items }
+    requires full { All (λ leaf. 0 < length leaf) leaves.old.items }
     ensures same { flat leaves.new.items ≡ flat (after_staged staged leaves.old.items) }
     ensures full { All (λ leaf. 0 < length leaf) leaves.new.items }
 {
     match staged {
         Staged::Anew(made) => *leaves = made,
         Staged::Patches(patches) => {
-            let uneven = is_uneven(patches.as_slice());
+            let empty = has_empty(patches.as_slice());
+            let large = has_large(patches.as_slice());
             write_patches(leaves, patches);
-            if uneven {
+            if empty {
                 drop_empty(leaves);
+            }
+            if large {
                 let _ = cut_leaves(alloc, leaves);
             }
         }
@@ -263,7 +305,7 @@ pub fn list_rows(
     ensures { IfOk result (λ rows. pairs_of rows.items ≡ in_table (pos table) (flat leaves.now)) }
 {
     let mut rows = Vec::new(alloc);
-    for leaf in leaves.iter() {
+    for leaf in leaves {
         list_leaf(alloc, &mut rows, leaf, table)?;
     }
     Ok(rows)

@@ -3,7 +3,7 @@
 ghost use Rattle.std.specs.Prelude.{◌≡◌, ◌≤◌, ◌<◌, ◌++◌, T, length, drop, fold, IfOk};
 ghost use Rattle.std.specs.FinMap.{is_sorted};
 ghost use Rattle.cs_store.specs.Contents.{place_cmp};
-ghost use Rattle.cs_store.specs.Leaves.{Rise, edit_place, edited, edits_behind};
+ghost use Rattle.cs_store.specs.Leaves.{IsBehind, IsMerged, Rise, edit_place, edited, edits_behind};
 
 use crate::RowEdit;
 use crate::leaf::Leaf;
@@ -11,7 +11,10 @@ use std::alloc::{AllocError, Global};
 use std::cmp::Ordering;
 
 /// Where a leaf goes on behind the place of an edit, which stands or would stand at `at`.
-fn behind(leaf: &Leaf, at: usize, edit: &RowEdit) -> usize {
+fn behind(leaf: &Leaf, at: usize, edit: &RowEdit) -> usize
+    requires { at ≤ length leaf.now }
+    ensures { IsBehind leaf.now at (edit_place edit.now) result }
+{
     if at < leaf.len() && leaf.compare(at, edit.table, edit.key.as_slice()) == Ordering::Equal {
         at + 1
     } else {
@@ -26,6 +29,10 @@ fn merge_edit(
     from: usize,
     edit: &RowEdit,
 ) -> Result<usize, AllocError>
+    requires from { from ≤ length leaf.now }
+    requires sorted { T (is_sorted place_cmp leaf.now) }
+    ensures bound { IfOk result (λ next. next ≤ length leaf.now) }
+    ensures merged { IfOk result (λ next. IsMerged leaf.now from edit.now next merged.old merged.new) }
 {
     let key = edit.key.as_slice();
     let at = leaf.search(from, edit.table, key);
