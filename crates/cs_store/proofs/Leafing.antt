@@ -11,9 +11,10 @@ use Rattle.std.specs.List.{All, slice_range, splice}
 use Rattle.std.specs.Ordering.{int_eq, is_eq, is_lt, eq_by_cmp, ordering_reverse}
 use Rattle.std.specs.FinMap.{get, find, is_sorted, get-from_sorted}
 use Rattle.std.specs.FinMap.Entries.{below_all}
-use Rattle.std.proofs.lemmas.List.{append-nil, append_assoc, take-append-drop, drop_more, take_more, map-append, length-drop, get_or-drop, drop_all}
-use Rattle.std.proofs.lemmas.List.Elements.{All-push}
+use Rattle.std.proofs.lemmas.List.{append-nil, append_assoc, take-append-drop, drop_more, take_more, map-append, length-drop, get_or-drop, drop_all, take_all}
+use Rattle.std.proofs.lemmas.List.Elements.{All-push, All-append, All-take, All-drop}
 use Rattle.std.proofs.lemmas.List.Edits.{length-between}
+use Rattle.std.specs.declared.vec.IntoIter.{IntoIter}
 use Rattle.std.specs.Iterator.{Drains}
 use Rattle.std.specs.Vec.Iter.{into_iter_items, into_iter_len, into_iter_steps}
 use Rattle.std.proofs.lemmas.Iterator.{items_from_drains}
@@ -226,15 +227,15 @@ patched_push [] leaves p = refl
 patched_push (q ∷ qs) leaves p = patched_push qs (slice_set leaves q.at q.leaf) p
 
 pub drop_drop : {X : Type 0} (n m : ℕ) (xs : List X) → drop (n + m) xs ≡ drop m (drop n xs)
-drop_drop zero m xs = let k : zero + m ≡ m = omega arith in ap (λ j. drop j xs) k
-drop_drop (suc n) m [] = let k : suc n + m ≡ suc (n + m) = omega arith in ap (λ j. drop {A = X} j []) k ∙ sym (nothing m)
+drop_drop {X = X} zero m xs = let k : zero + m ≡ m = omega arith in ap (λ j. drop j xs) k
+drop_drop {X = X} (suc n) m [] = let k : suc n + m ≡ suc (n + m) = omega arith in ap (λ j. drop {A = X} j []) k ∙ sym (nothing m)
   where
     nothing : (m : ℕ) → drop {A = X} m [] ≡ []
     nothing zero = refl
     nothing (suc m) = refl
-drop_drop (suc n) m (x ∷ xs) = let k : suc n + m ≡ suc (n + m) = omega arith in ap (λ j. drop j (x ∷ xs)) k ∙ drop_drop n m xs
+drop_drop {X = X} (suc n) m (x ∷ xs) = let k : suc n + m ≡ suc (n + m) = omega arith in ap (λ j. drop j (x ∷ xs)) k ∙ drop_drop n m xs
 
-later : (now leaves : List (List Entry)) (from at : ℕ) → from ≤ at → drop from now ≡ drop from leaves → drop at now ≡ drop at leaves
+pub later : (now leaves : List (List Entry)) (from at : ℕ) → from ≤ at → drop from now ≡ drop from leaves → drop at now ≡ drop at leaves
 later now leaves from at le same =
     let n : at ≡ from + (at - from) = omega (arith, le) in
     ap (λ k. drop k now) n ∙ drop_drop from (at - from) now ∙ ap (drop (at - from)) same ∙ sym (drop_drop from (at - from) leaves) ∙ ap (λ k. drop k leaves) (sym n)
@@ -338,11 +339,23 @@ map_same [] = refl
 map_same (x ∷ xs) = ap (λ ys. x ∷ ys) (map_same xs)
 
 -- what an iterator over a vector gives is what the vector has
-pub drained : {A Z : Type 0} {s : _} (xs items : List A) → Drains (into_iter_steps {X = A} {Z = Z}) s xs → into_iter_items s ≡ items → into_iter_len s ≡ length items → xs ≡ items
-drained xs items d is long = sym (map_same xs) ∙ items_from_drains xs (d.1, d.2, λ _. (d.0, d.3)) (YieldsList-from_vec items is long)
+pub drained : {A Z : Type 0} (s : IntoIter A Z) (xs items : List A) → Drains (into_iter_steps {X = A} {Z = Z}) s xs → into_iter_items s ≡ items → into_iter_len s ≡ length items → xs ≡ items
+drained s xs items d is long = sym (map_same xs) ∙ items_from_drains xs (d.1.0, d.1.1, λ _. (d.0, d.1.2)) (YieldsList-from_vec items is long)
 
 -- a leaf that is cut
 pub flat_spliced : (leaves pieces new : List (List Entry)) (at : ℕ) → at < length leaves → new ≡ splice leaves at (at + 1) pieces → flat pieces ≡ nth_leaf leaves at → flat new ≡ flat leaves
 flat_spliced leaves pieces new at less is same =
     ap flat is ∙ flat_append (take at leaves) (pieces ++ drop (at + 1) leaves) ∙ ap (λ (zs : List Entry). flat (take at leaves) ++ zs) (flat_append pieces (drop (at + 1) leaves) ∙ ap (λ (zs : List Entry). zs ++ flat (drop (at + 1) leaves)) same)
     ∙ sym (flat_split leaves at less)
+
+pub full_spliced : (leaves pieces new : List (List Entry)) (at : ℕ) → new ≡ splice leaves at (at + 1) pieces → All (λ leaf. 0 < length leaf) pieces → All (λ leaf. 0 < length leaf) leaves → All (λ leaf. 0 < length leaf) new
+full_spliced leaves pieces new at is some full =
+    subst (All (λ leaf. 0 < length leaf)) (sym is) (All-append (λ leaf. 0 < length leaf) (take at leaves) (pieces ++ drop (at + 1) leaves) (All-take (λ leaf. 0 < length leaf) at leaves full)
+    (All-append (λ leaf. 0 < length leaf) pieces (drop (at + 1) leaves) some (All-drop (λ leaf. 0 < length leaf) (at + 1) leaves full)))
+
+pub rest_of : {X : Type 0} (xs : List X) (start : ℕ) → take (length xs - start) (drop start xs) ≡ drop start xs
+rest_of xs start = take_all (length xs - start) (drop start xs) (omega (arith, length-drop start xs))
+
+pub none_in : (leaves : List (List Entry)) (p : StorePlace) → length leaves ≡ 0 → get (rows_in leaves) p ≡ None
+none_in [] p e = get-from_sorted place_cmp [] p tt
+none_in (l ∷ ls) p e = absurd (omega (arith, e))

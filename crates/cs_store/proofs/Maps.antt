@@ -176,7 +176,7 @@ meta_after_rows : (c : Rows) (es : List RowEdit) → meta_of (fold write_to c (m
 meta_after_rows c [] = refl
 meta_after_rows c (e ∷ es) = meta_after_rows (write_to c (row_write e)) es ∙ meta_of_row c (pos e.table, e.key.items) (optional_bytes e.row) refl
 
-meta_after_meta : (c : Rows) (es : List MetaEdit) → meta_of (fold write_to c (map meta_write es)) ≡ fold edit_meta (meta_of c) es
+pub meta_after_meta : (c : Rows) (es : List MetaEdit) → meta_of (fold write_to c (map meta_write es)) ≡ fold edit_meta (meta_of c) es
 meta_after_meta c [] = refl
 meta_after_meta c (e ∷ es) = meta_after_meta (write_to c (meta_write e)) es ∙ ap (λ m. fold edit_meta m es) (meta_of_meta c (name_text e.name) (optional_bytes e.value))
 

@@ -2,7 +2,7 @@
 use Rattle.std.specs.Prelude.{not, drop, ℤ, filter, ◌≡◌, ◌⊎◌, ◌≤◌, ◌<◌, ◌+◌, ◌-◌, ℕ, Bool, true, false, pos, T, map, fold, length, slice_range, slice_index_or, slice_set, List, [], ◌∷◌, ◌++◌, Option, Some, None}
 use Rattle.std.specs.Borrow.{Bor}
 use Rattle.std.specs.List.{All}
-use Rattle.std.specs.Ordering.{int_eq, is_eq, eq_by_cmp, is_lt, is_gt}
+use Rattle.std.specs.Ordering.{int_eq, is_eq, is_lt, eq_by_cmp, is_gt}
 use Rattle.std.specs.declared.cmp.Ordering.TheVariants.{Less, Equal}
 use Rattle.std.specs.FinMap.{from_sorted, is_sorted}
 use Rattle.std.specs.FinMap.Entries.{put, where_key}
@@ -58,6 +58,22 @@ Follow place (edit ∷ edits) = (place_cmp place (edit_place edit) ≡ Less) × 
 abbrev pub Rise : List RowEdit → Type 0
 Rise [] = Unit {0}
 Rise (edit ∷ edits) = Follow (edit_place edit) edits × Rise edits
+
+-- the first of these edits isn't below the place
+abbrev pub GoOnFrom : StorePlace → List RowEdit → Type 0
+GoOnFrom place [] = Unit {0}
+GoOnFrom place (edit ∷ edits) = is_lt (place_cmp (edit_place edit) place) ≡ false
+
+-- the places of edits don't fall
+abbrev pub DontFall : List RowEdit → Type 0
+DontFall [] = Unit {0}
+DontFall (edit ∷ edits) = GoOnFrom (edit_place edit) edits × DontFall edits
+
+-- whether the next edit, if there is one, is at another place than the first
+abbrev pub is_last_of : List RowEdit → Bool
+is_last_of [] = true
+is_last_of (edit ∷ []) = true
+is_last_of (edit ∷ next ∷ edits) = not (is_eq (place_cmp (edit_place edit) (edit_place next)))
 
 -- where entries go on behind a place that stands or would stand at `at`
 abbrev pub IsBehind : List Entry → ℕ → StorePlace → ℕ → Type 0

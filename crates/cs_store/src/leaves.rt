@@ -231,6 +231,20 @@ fn drop_empty(leaves: &mut Vec<Leaf>)
     leaves.retain(|leaf| leaf.len() > 0);
 }
 
+/// Puts leaves in the places of others, and takes out those that have no row left.
+fn put_patches(leaves: &mut Vec<Leaf>, patches: Vec<Patch>)
+    requires places { ArePatches (length leaves.old.items) patches.items }
+    requires full { All (λ leaf. 0 < length leaf) leaves.old.items }
+    ensures same { flat leaves.new.items ≡ flat (patched leaves.old.items patches.items) }
+    ensures full { All (λ leaf. 0 < length leaf) leaves.new.items }
+{
+    let empty = has_empty(patches.as_slice());
+    write_patches(leaves, patches);
+    if empty {
+        drop_empty(leaves);
+    }
+}
+
 /// Puts in what is staged. Where there is no memory to cut a leaf, it stays as it is until a later commit.
 pub fn put_staged(alloc: Global, leaves: &mut Vec<Leaf>, staged: Staged)
     requires can { CanBePut staged leaves.old.items }
@@ -241,12 +255,8 @@ pub fn put_staged(alloc: Global, leaves: &mut Vec<Leaf>, staged: Staged)
     match staged {
         Staged::Anew(made) => *leaves = made,
         Staged::Patches(patches) => {
-            let empty = has_empty(patches.as_slice());
             let large = has_large(patches.as_slice());
-            write_patches(leaves, patches);
-            if empty {
-                drop_empty(leaves);
-            }
+            put_patches(leaves, patches);
             if large {
                 let _ = cut_leaves(alloc, leaves);
             }

@@ -8,7 +8,7 @@ use Rattle.cs_store.specs.Leaves.{AreBefore, ArePatches, ReachLeaf, Rise, edited
 use Rattle.cs_store.specs.declared.batch.RowEdit.{RowEdit}
 use Rattle.cs_store.specs.declared.leaves.Patch.{Patch}
 use Rattle.cs_store.proofs.Editing.{sorted_edits}
-use Rattle.cs_store.proofs.Leafing.{behind_drop, behind_take, reach_begins, leaf_sorted, rise_drop, rise_take, patch_more, length_patched, patched_push, drop_set, drop_drop, later}
+use Rattle.cs_store.proofs.Leafing.{behind_drop, behind_take, reach_begins, leaf_sorted, rise_drop, rise_take, patch_more, length_patched, patched_push, drop_set, drop_drop, later, rest_of}
 use Rattle.cs_store.proofs.leaves.patches_of.Goals as goal
 
 pub leaf_of-at-requires-clause-in_bounds : goal.leaf_of-at-requires-clause-in_bounds
@@ -66,7 +66,7 @@ loop-start-preserved c =
         ap (λ k. edits_behind (take k (drop start edits))) n ∙ behind_take (drop start edits) count ∙ ap (take count) (behind_drop edits start) in
     let its : c.index-leaves-at.result ≡ nth_leaf leaves at = c.index-leaves-at.is ∙ get_or_default leaves at c.index-leaves-at.result [] less in
     let makes : c.in_ok-leaf.leaf ≡ fold edited (nth_leaf leaves at) (take count ws) = c.in_ok-leaf.ensures ∙ (λ i. fold edited (its i) (mine i)) in
-    let before : AreBefore leaves (at + 1) (take count ws) = subst (λ (vs : List RowEdit). AreBefore leaves (at + 1) (take count vs)) (behind_drop edits start) c.edits_in.ensures.before in
+    let before : AreBefore leaves (at + 1) (take count ws) = subst (λ (vs : List RowEdit). AreBefore leaves (at + 1) (take count vs)) (ap edits_behind (rest_of edits start) ∙ behind_drop edits start) c.edits_in.ensures.before in
     let rise : Rise ws = rise_drop (edits_behind edits) start c.requires.rise in
     let more = patch_more leaves now from at count c.index-edits-start.result.now ws (edits_behind (drop (start + 1) edits)) c.in_ok-leaf.leaf _ c.requires.leaves (length_patched old leaves) was.sorted was.rest
         bound.0 less c.leaf_of-at.ensures.begins is c.edits_in.ensures.bound.0 before rise makes was.made in
@@ -74,10 +74,10 @@ loop-start-preserved c =
     let put = ap (patched leaves) grown ∙ patched_push old leaves patch in
     let rest : drop (start + count) (edits_behind edits) ≡ drop count ws = drop_drop start count (edits_behind edits) in
     record {
-      within = omega (arith, c.edits_in.ensures.bound.1, length-drop start edits);
+      within = omega (arith, c.edits_in.ensures.bound.1, ap length (rest_of edits start), length-drop start edits, was.within);
       places = subst (ArePatches (length leaves)) (sym grown) (All-push (λ (p : Patch). p.at < length leaves) old patch was.places less);
       rest = ap (drop (at + 1)) put ∙ drop_set now at c.in_ok-leaf.leaf ∙ later now leaves from (at + 1) (omega (arith, bound.0)) was.rest;
       sorted = subst (λ (es : List Entry). T (is_sorted place_cmp es)) (sym (ap flat put ∙ more.0)) (sorted_edits (take count ws) (flat now) was.sorted);
-      reach = inr (subst (ReachLeaf leaves (at + 1)) (ap (drop count) (behind_drop edits start) ∙ sym rest) c.edits_in.ensures.behind);
+      reach = inr (subst (ReachLeaf leaves (at + 1)) (ap (drop count) (ap edits_behind (rest_of edits start) ∙ behind_drop edits start) ∙ sym rest) c.edits_in.ensures.behind);
       made = (λ i. fold edited (flat (put i)) (rest i)) ∙ more.1;
     }
