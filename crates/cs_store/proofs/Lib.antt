@@ -9,3 +9,4 @@ pub mod Filled
 pub mod Editing
 pub mod Packing
 pub mod Leafing
+pub mod Ordered

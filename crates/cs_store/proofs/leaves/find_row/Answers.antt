@@ -21,7 +21,7 @@ returns-in_ok-from_slice c =
     let p : StorePlace = (pos c.args.table, c.args.key.now) in
     let less = c.leaf_for.ensures.bound.1 in
     let its : c.index-leaves-leaf_for.result ≡ nth_leaf leaves at = c.index-leaves-leaf_for.is ∙ get_or_default leaves at c.index-leaves-leaf_for.result [] less in
-    let there = find_there c.index-leaves-leaf_for.result c.search-at.result p c.if-at-len.true (subst (λ (l : List Entry). T (is_sorted place_cmp l)) (sym its) (leaf_sorted leaves at c.requires.rise less)) c.search-at.ensures.found
+    let there = find_there c.index-leaves-leaf_for.result c.search-at.result p (omega (arith, c.if-at-len.true, c.len.ensures)) (subst (λ (l : List Entry). T (is_sorted place_cmp l)) (sym its) (leaf_sorted leaves at c.requires.rise less)) c.search-at.ensures.found
         (sym c.compare.ensures ∙ equal_from c.compare.result (sym c.if-is_eq.ensures)) in
     ap Some (c.in_ok-from_slice.ensures.items ∙ c.row.ensures) ∙ sym (find_in_leaf leaves at p c.requires less c.leaf_for.ensures.begins c.leaf_for.ensures.next ∙ ap (find place_cmp p) (sym its) ∙ there)
 
