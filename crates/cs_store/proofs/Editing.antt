@@ -1,5 +1,5 @@
 -- What an edit makes of entries whose places rise.
-use Rattle.std.proofs.Common.{◌≡◌, ℕ, zero, suc, ◌+◌, ◌-◌, ◌<◌, ◌≤◌, ◌⊎◌, inl, inr, Bool, true, false, cond, not, ◌&&◌, List, [], ◌∷◌, ◌++◌, Option, Some, None, refl, sym, ap, subst, ◌∙◌, T, length, get_or, take, drop, fold, arith, ⊎_elim}
+use Rattle.std.proofs.Common.{◌≡◌, ℕ, zero, suc, ◌+◌, ◌-◌, ◌<◌, ◌≤◌, ◌⊎◌, Bool, true, false, cond, not, ◌&&◌, List, [], ◌∷◌, ◌++◌, Option, Some, None, refl, sym, ap, subst, ◌∙◌, T, length, get_or, take, drop, fold, arith, ⊎_elim}
 use Rattle.std.proofs.Math.Dec.{ltb}
 use borrow.Author.Tests.{ltb-true, ltb-false}
 use Rattle.std.specs.declared.cmp.Ordering.{Ordering}
@@ -9,12 +9,12 @@ use Rattle.std.specs.Cmp.{eq_by_cmp_equiv, alike_right}
 use Rattle.std.specs.List.{slice_range}
 use Rattle.std.proofs.lemmas.List.{length-drop, drop_more, get_or-drop, take-append-drop, drop_all, append-nil, append_assoc}
 use Rattle.std.proofs.lemmas.List.Folds.{drop_split}
-use Rattle.std.specs.FinMap.{get, find, from_sorted, is_sorted, get-from_sorted, same_map}
-use Rattle.std.specs.FinMap.Entries.{put, where_key, below_all, by_order, is_sorted-put, is_sorted-where_key, find-put, find-where_key}
+use Rattle.std.specs.FinMap.{find, from_sorted, is_sorted, get-from_sorted, same_map}
+use Rattle.std.specs.FinMap.Entries.{put, below_all, by_order, is_sorted-put, is_sorted-where_key, find-put, find-where_key}
 use Rattle.cs_store.specs.Contents.{StorePlace, Rows, place_cmp}
 use Rattle.cs_store.specs.Written.{optional_bytes, with_row, edit_row}
 use Rattle.cs_store.specs.Entries.{Entry, no_entry, nth, IsPlaceFor}
-use Rattle.cs_store.specs.Leaves.{put_row, edit_place, edited, Follow, Rise, AreBelow, IsBehind, IsMerged, written}
+use Rattle.cs_store.specs.Leaves.{put_row, edit_place, edited, AreBelow, IsBehind, IsMerged, written}
 use Rattle.cs_store.specs.declared.batch.RowEdit.{RowEdit}
 use Rattle.cs_store.proofs.Maps.{place_total, place_exact, get-with_row}
 

@@ -1,8 +1,7 @@
 -- What a `MapStore` holds, as its calls find and change it.
-use Rattle.std.proofs.Common.{◌≡◌, ℕ, ◌+◌, Bool, true, false, cond, not, List, [], ◌∷◌, ◌++◌, map, fold, Option, Some, None, refl, sym, ap, subst, ◌∙◌, Vec, T, length, ◌<◌, arith}
-use Rattle.std.specs.Prelude.{ℤ, pos}
+use Rattle.std.proofs.Common.{◌≡◌, ℕ, Bool, true, cond, List, [], ◌∷◌, ◌++◌, map, fold, Some, refl, sym, ap, subst, ◌∙◌, Vec, T, length, ◌<◌, arith}
+use Rattle.std.specs.Prelude.{pos}
 use Rattle.std.specs.declared.alloc.Global.{Global}
-use Rattle.std.specs.Ordering.{int_eq}
 use Rattle.std.specs.List.{All}
 use Rattle.std.specs.FinMap.{get, empty, get-empty, same_map, is_sorted, from_sorted, get-from_sorted, entries-from_sorted}
 use Rattle.cs_store.specs.Entries.{Entry}
@@ -13,7 +12,7 @@ use Rattle.std.proofs.lemmas.Cmp.{nat_list_cmp_total}
 use Rattle.std.proofs.lemmas.Map.Lookups.{exact_bytes}
 use Rattle.cs_store.specs.Contents.{Rows, place_cmp, nothing, IsListing}
 use Rattle.cs_store.specs.Written.{optional_bytes, after_batch, appended, edit_row}
-use Rattle.cs_store.specs.Slots.{SlotKey, Slot, table_number, listed, shown, rows_of, meta_of, meta_table, log_of, held_in, write_to, meta_write}
+use Rattle.cs_store.specs.Slots.{SlotKey, Slot, listed, shown, meta_of, meta_table, log_of, held_in, write_to, meta_write}
 use Rattle.cs_store.specs.Steps.{step_write}
 use Rattle.cs_store.specs.declared.batch.Batch.{Batch}
 use Rattle.cs_store.specs.declared.slots.Step.{Step}

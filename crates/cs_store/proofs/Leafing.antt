@@ -1,5 +1,5 @@
 -- Leaves whose places rise through all of them.
-use Rattle.std.proofs.Common.{◌≡◌, ℕ, zero, suc, ◌+◌, ◌-◌, ◌<◌, ◌≤◌, ◌⊎◌, inl, inr, Bool, true, false, cond, not, List, [], ◌∷◌, ◌++◌, Option, Some, None, refl, sym, ap, subst, ◌∙◌, T, length, get_or, take, drop, map, fold, filter, arith, ⊎_elim, is_gt}
+use Rattle.std.proofs.Common.{◌≡◌, ℕ, zero, suc, ◌+◌, ◌-◌, ◌<◌, ◌≤◌, ◌⊎◌, inl, inr, true, false, cond, List, [], ◌∷◌, ◌++◌, Some, None, refl, sym, ap, subst, ◌∙◌, T, length, get_or, take, drop, map, fold, filter, arith, ⊎_elim, is_gt}
 use Rattle.std.specs.Prelude.{ℤ, slice_set, nat_lt}
 use Rattle.std.specs.Cmp.{eq_by_cmp_equiv}
 use Rattle.std.specs.Borrow.{Bor}
@@ -11,7 +11,7 @@ use Rattle.std.specs.List.{All, slice_range, splice}
 use Rattle.std.specs.Ordering.{int_eq, is_eq, is_lt, eq_by_cmp, ordering_reverse}
 use Rattle.std.specs.FinMap.{get, find, is_sorted, get-from_sorted}
 use Rattle.std.specs.FinMap.Entries.{below_all}
-use Rattle.std.proofs.lemmas.List.{append-nil, append_assoc, take-append-drop, drop_more, take_more, map-append, length-drop, get_or-drop, drop_all, take_all}
+use Rattle.std.proofs.lemmas.List.{append-nil, append_assoc, take-append-drop, drop_more, length-drop, get_or-drop, drop_all, take_all}
 use Rattle.std.proofs.lemmas.List.Elements.{All-push, All-append, All-take, All-drop}
 use Rattle.std.proofs.lemmas.List.Edits.{length-between}
 use Rattle.std.specs.declared.vec.IntoIter.{IntoIter}
@@ -19,14 +19,13 @@ use Rattle.std.specs.Iterator.{Drains}
 use Rattle.std.specs.Vec.Iter.{into_iter_items, into_iter_len, into_iter_steps}
 use Rattle.std.proofs.lemmas.Iterator.{items_from_drains}
 use Rattle.std.proofs.lemmas.Iterator.Adapters.{YieldsList-from_vec}
-use Rattle.cs_store.specs.Contents.{StorePlace, Rows, place_cmp}
-use Rattle.cs_store.specs.Written.{edit_row}
+use Rattle.cs_store.specs.Contents.{StorePlace, place_cmp}
 use Rattle.cs_store.specs.Entries.{Entry, no_entry, nth, IsPlaceFor}
-use Rattle.cs_store.specs.Leaves.{AreBefore, AreBelow, AreLeaves, BeginsBehind, BeginsBy, ReachLeaf, edit_place, edited, edits_behind, first_place, flat, in_table, nth_leaf, put_row, rows_in, Rise, Follow, IsMerged, patched, ArePatches}
+use Rattle.cs_store.specs.Leaves.{AreBefore, AreBelow, AreLeaves, BeginsBehind, BeginsBy, ReachLeaf, edit_place, edited, edits_behind, first_place, flat, in_table, nth_leaf, rows_in, Rise, Follow, IsMerged, patched, ArePatches}
 use Rattle.cs_store.specs.declared.leaves.Patch.{Patch}
 use Rattle.cs_store.specs.declared.batch.RowEdit.{RowEdit}
 use Rattle.cs_store.proofs.Maps.{place_total, place_exact}
-use Rattle.cs_store.proofs.Editing.{first, second, both, less, is_less, BelowEdits, EditsBelow, fold_behind, fold_before, below_split, sorted_back, sorted_front, below_most, below_less, above_less, below_append, run_below, above_head, not_both}
+use Rattle.cs_store.proofs.Editing.{first, second, both, less, is_less, BelowEdits, EditsBelow, fold_behind, fold_before, below_split, sorted_back, sorted_front, below_most, below_less, above_less, run_below, above_head, not_both}
 
 pub flat_append : (xs ys : List (List Entry)) → flat (xs ++ ys) ≡ flat xs ++ flat ys
 flat_append [] ys = refl

@@ -1,16 +1,15 @@
 -- Edits in the order of their places.
-use Rattle.std.proofs.Common.{◌≡◌, ℕ, zero, suc, ◌+◌, ◌<◌, ◌≤◌, ◌⊎◌, inl, inr, Bool, true, false, cond, not, ◌&&◌, List, [], ◌∷◌, ◌++◌, Option, refl, sym, ap, subst, ◌∙◌, length, get_or, take, drop, map, fold, filter, arith, ⊎_elim}
+use Rattle.std.proofs.Common.{◌≡◌, ℕ, zero, suc, ◌+◌, ◌<◌, ◌≤◌, ◌⊎◌, inl, inr, Bool, true, false, cond, not, ◌&&◌, List, [], ◌∷◌, ◌++◌, Option, refl, sym, ap, subst, ◌∙◌, length, get_or, take, drop, fold, filter, arith, ⊎_elim}
 use Rattle.std.specs.Borrow.{Bor}
 use Rattle.std.specs.declared.cmp.Ordering.{Ordering}
 use Rattle.std.specs.declared.cmp.Ordering.TheVariants.{Less, Equal, Greater}
 use Rattle.std.specs.Ordering.{is_eq, is_lt, eq_by_cmp, ordering_reverse}
-use Rattle.std.specs.Cmp.{eq_by_cmp_equiv}
 use Rattle.std.specs.List.Sorted.{IsSortedBy, IsStableBy, ties}
 use Rattle.std.specs.FinMap.{get, same_map}
 use Rattle.std.proofs.lemmas.List.{append_assoc, append-nil}
 use Rattle.cs_store.specs.Contents.{StorePlace, Rows, place_cmp}
 use Rattle.cs_store.specs.Written.{optional_bytes, edit_row}
-use Rattle.cs_store.specs.Leaves.{DontFall, Follow, GoOnFrom, Rise, edit_place, edits_behind, is_last_of}
+use Rattle.cs_store.specs.Leaves.{DontFall, Follow, Rise, edit_place, edits_behind, is_last_of}
 use Rattle.cs_store.specs.declared.batch.RowEdit.{RowEdit}
 use Rattle.cs_store.proofs.Maps.{place_total, place_exact, get-with_row}
 

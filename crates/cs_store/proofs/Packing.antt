@@ -1,6 +1,6 @@
 -- Entries that stand in bytes.
-use Rattle.std.proofs.Common.{◌≡◌, ℕ, zero, suc, ◌+◌, ◌-◌, ◌<◌, ◌≤◌, List, [], ◌∷◌, ◌++◌, refl, sym, ap, ◌∙◌, length, get_or, take, drop, map, arith, length-append}
-use Rattle.std.specs.Prelude.{ℤ, pos}
+use Rattle.std.proofs.Common.{◌≡◌, ℕ, suc, ◌+◌, ◌-◌, ◌<◌, ◌≤◌, List, [], ◌∷◌, ◌++◌, refl, sym, ap, ◌∙◌, length, get_or, take, drop, arith, length-append}
+use Rattle.std.specs.Prelude.{pos}
 use Rattle.std.specs.List.{All, slice_range}
 use Rattle.std.proofs.lemmas.List.{take_all, length-drop, drop-append-le, take-append-le, map-append, take_more, get_or-drop, append_assoc}
 use Rattle.std.proofs.Math.Seq.{drop-append_seam}

@@ -38,6 +38,7 @@ impl Model for Leaf {
 }
 
 /// Appends a row.
+#[inline(always)]
 fn put(
     bytes: &mut Vec<u8>,
     spots: &mut Vec<Spot>,
@@ -98,6 +99,7 @@ impl Leaf {
     }
 
     /// How many rows there are.
+    #[inline(always)]
     pub fn len(&self) -> usize
         ensures { result ≡ length self.now }
     {
@@ -105,6 +107,7 @@ impl Leaf {
     }
 
     /// The number of the table of the row there.
+    #[inline(always)]
     pub fn table(&self, at: usize) -> u32
         requires { at < length self.now }
         ensures { pos result ≡ (nth self.now at).0.0 }
@@ -113,6 +116,7 @@ impl Leaf {
     }
 
     /// The key there.
+    #[inline(always)]
     pub fn key(&self, at: usize) -> &[u8]
         requires { at < length self.now }
         ensures { result.now ≡ (nth self.now at).0.1 }
@@ -122,6 +126,7 @@ impl Leaf {
     }
 
     /// The row there.
+    #[inline(always)]
     pub fn row(&self, at: usize) -> &[u8]
         requires { at < length self.now }
         ensures { result.now ≡ (nth self.now at).1 }
@@ -131,6 +136,7 @@ impl Leaf {
     }
 
     /// Compares the place there with another.
+    #[inline(always)]
     pub fn compare(&self, at: usize, table: u32, key: &[u8]) -> Ordering
         requires { at < length self.now }
         ensures { result ≡ place_cmp (nth self.now at).0 (pos table, key.now) }
@@ -158,6 +164,7 @@ impl Leaf {
     }
 
     /// Appends a row.
+    #[inline(always)]
     pub fn push(&mut self, table: u32, key: &[u8], row: &[u8]) -> Result<(), AllocError>
         ensures { OnOk result (self.new ≡ self.old ++ ((pos table, key.now), row.now) ∷ []) }
     {

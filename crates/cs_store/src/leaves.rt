@@ -15,7 +15,7 @@ use crate::{RowEdit, StoredRow};
 use std::alloc::{AllocError, Global};
 
 /// A leaf that comes to have twice as many rows is cut into leaves of so many.
-const LEAF: usize = 64;
+const LEAF: usize = 32;
 
 /// A leaf that is to stand in the place of another.
 #[derive(Drop)]

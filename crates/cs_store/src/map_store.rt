@@ -18,9 +18,11 @@ use std::alloc::{AllocError, Global};
 use std::collections::BTreeMap;
 use std::marker::Model;
 
-/// A store in memory. Contracts see what it holds. It never answers `Device`, a stop leaves what it holds, and a commit of
-/// one row costs the logarithm of the rows that are there. Its log has at most 4,294,967,295 entries; a commit of one more
-/// answers `Memory`. (Profile of this project.)
+/// A store in memory. Contracts see what it holds. It never answers `Device`, and a stop leaves what it holds. Its rows lie in
+/// leaves, in order, each packed into one list of bytes: a look-up halves the leaves and then one leaf, and a commit makes each
+/// leaf anew that its edits fall into, so a commit of one row costs the logarithm of the rows that are there, but for a walk
+/// over the list of leaves where one is cut or goes. Its log has at most 4,294,967,295 entries; a commit of one more answers
+/// `Memory`. (Profile of this project.)
 #[derive(Drop)]
 pub struct MapStore {
     alloc: Global,

@@ -1,9 +1,10 @@
 //! Edits that are merged into rows.
 
-ghost use Rattle.std.specs.Prelude.{◌≡◌, ◌≤◌, ◌<◌, ◌++◌, T, length, drop, fold, IfOk};
+ghost use Rattle.std.specs.Prelude.{◌≡◌, ◌≤◌, ◌<◌, ◌++◌, T, length, drop, fold, IfOk, OnOk};
 ghost use Rattle.std.specs.FinMap.{is_sorted};
 ghost use Rattle.cs_store.specs.Contents.{place_cmp};
-ghost use Rattle.cs_store.specs.Leaves.{IsBehind, IsMerged, Rise, edit_place, edited, edits_behind};
+ghost use Rattle.cs_store.specs.Written.{optional_bytes};
+ghost use Rattle.cs_store.specs.Leaves.{IsBehind, IsMerged, Rise, edit_place, edited, edits_behind, written};
 
 use crate::RowEdit;
 use crate::leaf::Leaf;
@@ -22,6 +23,16 @@ fn behind(leaf: &Leaf, at: usize, edit: &RowEdit) -> usize
     }
 }
 
+/// Appends the row that an edit sets, if it sets one.
+fn push_edit(merged: &mut Leaf, edit: &RowEdit) -> Result<(), AllocError>
+    ensures { OnOk result (merged.new ≡ merged.old ++ written (edit_place edit.now) (optional_bytes edit.now.row)) }
+{
+    match &edit.row {
+        Some(row) => merged.push(edit.table, edit.key.as_slice(), row.as_slice()),
+        None => Ok(()),
+    }
+}
+
 /// Appends the rows of a leaf before an edit, from one place on, and then the edit's row, and answers where the leaf goes on.
 fn merge_edit(
     merged: &mut Leaf,
@@ -34,12 +45,9 @@ fn merge_edit(
     ensures bound { IfOk result (λ next. next ≤ length leaf.now) }
     ensures merged { IfOk result (λ next. IsMerged leaf.now from edit.now next merged.old merged.new) }
 {
-    let key = edit.key.as_slice();
-    let at = leaf.search(from, edit.table, key);
+    let at = leaf.search(from, edit.table, edit.key.as_slice());
     merged.push_rows(leaf, from, at)?;
-    if let Some(row) = &edit.row {
-        merged.push(edit.table, key, row.as_slice())?;
-    }
+    push_edit(merged, edit)?;
     Ok(behind(leaf, at, edit))
 }
 

@@ -1,5 +1,5 @@
-//! The map of a `MapStore`. A commit first makes a slot for each key that it sets, with nothing in it,
-//! which shows nothing new; what follows takes no memory.
+//! The values by name of a `MapStore`. A commit first makes a slot for each key that it sets, with nothing in it, which shows
+//! nothing new; what follows takes no memory.
 
 ghost use Rattle.std.specs.Prelude.{◌≡◌, ◌+◌, ◌++◌, ◌≤◌, ◌<◌, List, [], ◌∷◌, length, map, fold, IfOk, OnOk, IsSome};
 ghost use Rattle.std.specs.Vec.{vec_len, vec_capacity};

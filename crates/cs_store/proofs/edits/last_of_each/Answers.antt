@@ -1,6 +1,5 @@
-use Rattle.std.proofs.Common.{◌≡◌, ◌+◌, ◌∷◌, [], ◌++◌, ◌∙◌, List, true, false, take, drop, length, fold, map, ap, sym, subst, arith}
+use Rattle.std.proofs.Common.{◌≡◌, ◌+◌, ◌∷◌, [], ◌++◌, ◌∙◌, List, true, false, take, drop, fold, ap, sym, subst, arith}
 use Rattle.std.proofs.lemmas.List.{drop_more, length-map, map-append}
-use Rattle.cs_store.specs.Contents.{Rows}
 use Rattle.cs_store.specs.Written.{edit_row}
 use Rattle.cs_store.specs.Leaves.{Rise, edits_behind, is_last_of}
 use Rattle.cs_store.specs.declared.batch.RowEdit.{RowEdit}

@@ -1,4 +1,4 @@
-use Rattle.std.proofs.Common.{◌≡◌, ◌++◌, ◌∷◌, [], arith, ap, length, ◌∙◌}
+use Rattle.std.proofs.Common.{◌≡◌, ◌++◌, arith, ap, length, ◌∙◌}
 use Rattle.std.proofs.lemmas.Grind.{common_steps}
 use Rattle.cs_store.specs.declared.leaf.Spot.{Spot}
 use Rattle.cs_store.proofs.Packing.{entries_more}

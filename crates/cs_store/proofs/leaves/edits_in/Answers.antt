@@ -1,7 +1,6 @@
-use Rattle.std.proofs.Common.{◌≡◌, ◌+◌, ◌∷◌, [], ◌++◌, List, take, drop, length, ap, sym, subst, ◌∙◌, arith, inr}
+use Rattle.std.proofs.Common.{◌≡◌, ◌+◌, ◌∷◌, [], ◌++◌, take, drop, ap, sym, subst, ◌∙◌, arith, inr}
 use Rattle.std.proofs.lemmas.List.{drop_more, take_more, map-append}
 use Rattle.cs_store.specs.Leaves.{AreBefore, ReachLeaf, edits_behind}
-use Rattle.cs_store.specs.declared.batch.RowEdit.{RowEdit}
 use Rattle.cs_store.proofs.Leafing.{before_none, before_push, behind_drop, behind_take}
 use Rattle.cs_store.proofs.leaves.edits_in.Goals as goal
 

@@ -1,11 +1,11 @@
-use Rattle.std.proofs.Common.{◌≡◌, ◌<◌, false, ℕ, List, [], Some, None, ap, sym, subst, ◌∙◌, length, arith, eqb-true, T}
+use Rattle.std.proofs.Common.{◌≡◌, ◌<◌, false, List, [], Some, ap, sym, subst, ◌∙◌, length, arith, eqb-true, T}
 use Rattle.std.specs.Prelude.{pos}
 use Rattle.std.specs.Ordering.{is_eq}
-use Rattle.std.specs.FinMap.{find, get, is_sorted}
+use Rattle.std.specs.FinMap.{find, is_sorted}
 use Rattle.std.proofs.lemmas.List.{get_or_default}
 use Rattle.cs_store.specs.Contents.{StorePlace, place_cmp}
-use Rattle.cs_store.specs.Entries.{Entry, IsPlaceFor, nth}
-use Rattle.cs_store.specs.Leaves.{flat, rows_in, nth_leaf}
+use Rattle.cs_store.specs.Entries.{Entry, nth}
+use Rattle.cs_store.specs.Leaves.{nth_leaf}
 use Rattle.cs_store.proofs.Showing.{equal_from}
 use Rattle.cs_store.proofs.Leafing.{find_in_leaf, find_there, find_nothing, leaf_sorted, none_in}
 use Rattle.cs_store.proofs.leaves.find_row.Goals as goal

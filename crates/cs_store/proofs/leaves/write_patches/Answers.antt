@@ -1,7 +1,4 @@
-use Rattle.std.proofs.Common.{◌≡◌, length, ap, sym, subst, ◌∙◌, arith, ◌+◌, List, suc, ◌∷◌}
 use Rattle.std.specs.Vec.Iter.{into_iter_items}
-use Rattle.cs_store.specs.Leaves.{ArePatches, patched}
-use Rattle.cs_store.specs.declared.leaves.Patch.{Patch}
 use Rattle.cs_store.proofs.Leafing.{patches_left}
 use Rattle.cs_store.proofs.leaves.write_patches.Goals as goal
 

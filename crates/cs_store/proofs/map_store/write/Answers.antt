@@ -1,4 +1,4 @@
-use Rattle.std.proofs.Common.{◌≡◌, ◌∙◌, List, fold, length, ap, sym, subst, arith}
+use Rattle.std.proofs.Common.{◌≡◌, ◌∙◌, List, fold, length, ap, subst, arith}
 use Rattle.std.specs.Borrow.{Bor}
 use Rattle.cs_store.specs.Written.{edit_row}
 use Rattle.cs_store.specs.Entries.{Entry}

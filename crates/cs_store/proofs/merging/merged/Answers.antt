@@ -1,6 +1,5 @@
-use Rattle.std.proofs.Common.{◌≡◌, ◌+◌, ◌∷◌, List, fold, drop, length, ap, sym, subst, ◌∙◌, ◌++◌}
+use Rattle.std.proofs.Common.{◌≡◌, ◌+◌, ◌∷◌, List, fold, drop, ap, sym, subst, ◌∙◌, ◌++◌}
 use Rattle.std.proofs.lemmas.List.{drop_more}
-use Rattle.cs_store.specs.Entries.{Entry}
 use Rattle.cs_store.specs.Leaves.{Rise, edited, edits_behind}
 use Rattle.cs_store.specs.declared.batch.RowEdit.{RowEdit}
 use Rattle.cs_store.proofs.Leafing.{merge_more, behind_drop, rise_drop}

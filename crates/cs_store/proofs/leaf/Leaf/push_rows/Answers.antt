@@ -1,7 +1,6 @@
-use Rattle.std.proofs.Common.{◌≡◌, sym, ap, arith, List, ◌∙◌, ◌++◌, ◌∷◌, []}
+use Rattle.std.proofs.Common.{ap, arith, List, ◌∙◌, ◌++◌, ◌∷◌, []}
 use Rattle.std.specs.Prelude.{pos}
-use Rattle.std.specs.List.{slice_range}
-use Rattle.cs_store.specs.Entries.{Entry, nth}
+use Rattle.cs_store.specs.Entries.{Entry}
 use Rattle.cs_store.proofs.Packing.{one_more}
 use Rattle.cs_store.proofs.leaf.Leaf.push_rows.Goals as goal
 

@@ -1,6 +1,4 @@
-use Rattle.std.proofs.Common.{◌≡◌, ap, length, arith, subst, sym, List, [], T}
-use Rattle.std.specs.List.{All}
-use Rattle.cs_store.specs.Entries.{Entry}
+use Rattle.std.proofs.Common.{ap, length, arith, subst, sym}
 use Rattle.cs_store.specs.Leaves.{AreLeaves}
 use Rattle.cs_store.proofs.Holding.{new_holds, no_leaves}
 use Rattle.cs_store.proofs.Filled.{new_filled}
