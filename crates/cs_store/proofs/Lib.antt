@@ -1,8 +1,11 @@
 pub mod Maps
 pub mod Showing
 pub mod Numbered
-pub mod Listing
 pub mod Changing
 pub mod Holding
 pub mod StoreLaws
 pub mod Filled
+pub mod Editing
+pub mod Packing
+pub mod Leafing
+pub mod Ordered

@@ -1,21 +1,19 @@
 -- Finite maps at places and at names.
-use Rattle.std.proofs.Common.{◌≡◌, ℕ, Bool, true, false, cond, not, ◌&&◌, List, [], ◌∷◌, ◌++◌, map, Option, Some, None, refl, sym, ap, subst, ◌∙◌, T}
-use Rattle.std.specs.Prelude.{ℤ, pos, fold}
+use Rattle.std.proofs.Common.{◌≡◌, ℕ, Bool, true, false, cond, ◌&&◌, List, [], ◌∷◌, map, Option, Some, None, refl, sym, ap, subst, ◌∙◌, T}
+use Rattle.std.specs.Prelude.{ℤ, fold}
 use Rattle.std.specs.declared.cmp.Ordering.{Ordering}
 use Rattle.std.specs.declared.cmp.Ordering.TheVariants.{Less, Equal, Greater}
 use Rattle.std.specs.Ordering.{is_eq, is_lt, eq_by_cmp, int_cmp, int_eq, nat_cmp, ordering_then}
 use Rattle.std.specs.Cmp.{IsTotalOrder, eq_by_cmp_equiv}
 use Rattle.std.specs.Cmp.Lexicographic.{slice_cmp}
 use Rattle.std.specs.List.{filter}
-use Rattle.std.specs.FinMap.{IsAntisymmetric, get, find, get-insert, get-remove, same_map, entries, get-entries, entries_sorted, is_sorted, get-retain_keys, get-from_entries}
+use Rattle.std.specs.FinMap.{IsAntisymmetric, get, find, get-insert, get-remove, same_map, entries, get-entries, entries_sorted, is_sorted, get-from_entries}
 use Rattle.std.specs.FinMap.Entries.{below_all, same_entries}
 use Rattle.std.proofs.lemmas.Cmp.{int_cmp_total, nat_list_cmp_total, then_total, on_total}
 use Rattle.std.proofs.lemmas.Map.Lookups.{exact_pairs, exact_signed, exact_bytes}
 use Rattle.cs_store.specs.Contents.{StorePlace, Rows, Meta, place_cmp, name_text}
-use Rattle.cs_store.specs.Written.{with_row, with_meta, edit_row, edit_meta, optional_bytes}
-use Rattle.cs_store.specs.Slots.{listed, rows_of, meta_of, meta_table, Write, write_to, row_write, meta_write, writes_of}
-use Rattle.cs_store.specs.declared.batch.Batch.{Batch}
-use Rattle.cs_store.specs.declared.batch.RowEdit.{RowEdit}
+use Rattle.cs_store.specs.Written.{with_row, with_meta, edit_meta, optional_bytes}
+use Rattle.cs_store.specs.Slots.{listed, meta_of, meta_table, write_to, meta_write}
 use Rattle.cs_store.specs.declared.batch.MetaEdit.{MetaEdit}
 
 pub place_total : IsTotalOrder place_cmp
@@ -113,49 +111,9 @@ listed_is t m es s finds = same_entries (slice_cmp nat_cmp) nat_list_cmp_total e
 
 -- ---- rows and meta of one map
 
-pub get-rows_of : (c : Rows) (q : StorePlace) → get (rows_of c) q ≡ cond (not (int_eq q.0 meta_table)) (get c q) None
-unfolding rows_of
-get-rows_of c q = get-retain_keys c (λ p. not (int_eq p.0 meta_table)) q (λ x t. ap (λ (p : StorePlace). not (int_eq p.0 meta_table)) (sym (place_exact q x t)))
-
 pub get-meta_of : (c : Rows) (k : List ℕ) → get (meta_of c) k ≡ get c (meta_table, k)
 unfolding meta_of
 get-meta_of c k = get-from_entries nat_list_cmp_total (listed meta_table c) k ∙ find-listed meta_table k c
-
--- ties of places are equal places
-at_place : {A : Type 0} (q p : StorePlace) (x y z : A) → (q ≡ p → x ≡ z) → (eq_by_cmp place_cmp q p ≡ false → y ≡ z) → cond (eq_by_cmp place_cmp q p) x y ≡ z
-at_place q p x y z same other = elim (place_cmp q p) as (λ o. place_cmp q p ≡ o → cond (is_eq o) x y ≡ z) [
-  | Less ↦ λ t. other (ap is_eq t)
-  | Equal ↦ λ t. same (place_exact q p t)
-  | Greater ↦ λ t. other (ap is_eq t)
-] refl
-
-pub rows_of_row : (c : Rows) (p : StorePlace) (w : Option (List ℕ)) → int_eq p.0 meta_table ≡ false → rows_of (with_row c p w) ≡ with_row (rows_of c) p w
-rows_of_row c p w apart = same_map place_total place_exact _ _ (λ q.
-    get-rows_of (with_row c p w) q ∙ ap (λ v. cond (not (int_eq q.0 meta_table)) v None) (get-with_row c p w q)
-    ∙ sym (get-with_row (rows_of c) p w q ∙ ap (cond (eq_by_cmp place_cmp q p) w) (get-rows_of c q)
-    ∙ at_place q p w (cond (not (int_eq q.0 meta_table)) (get c q) None) (cond (not (int_eq q.0 meta_table)) (cond (eq_by_cmp place_cmp q p) w (get c q)) None)
-    (λ e. sym ((λ i. cond (not (int_eq (e i).0 meta_table)) (cond (eq_by_cmp place_cmp (e i) p) w (get c q)) None)
-    ∙ (λ i. cond (not (apart i)) (cond ((eq_by_cmp_equiv place_total).refl p i) w (get c q)) None)))
-    (λ n. sym (ap (λ b. cond (not (int_eq q.0 meta_table)) (cond b w (get c q)) None) n))))
-
-pub rows_of_meta : (c : Rows) (p : StorePlace) (w : Option (List ℕ)) → int_eq p.0 meta_table ≡ true → rows_of (with_row c p w) ≡ rows_of c
-rows_of_meta c p w is = same_map place_total place_exact _ _ (λ q.
-    get-rows_of (with_row c p w) q ∙ ap (λ v. cond (not (int_eq q.0 meta_table)) v None) (get-with_row c p w q)
-    ∙ sym (get-rows_of c q ∙ kept q))
-  where
-    kept : (q : StorePlace) → cond (not (int_eq q.0 meta_table)) (get c q) None ≡ cond (not (int_eq q.0 meta_table)) (cond (eq_by_cmp place_cmp q p) w (get c q)) None
-    kept q = elim (place_cmp q p) as (λ o. place_cmp q p ≡ o → cond (not (int_eq q.0 meta_table)) (get c q) None ≡ cond (not (int_eq q.0 meta_table)) (cond (is_eq o) w (get c q)) None) [
-      | Less ↦ λ t. refl
-      | Equal ↦ λ t. let is_meta : int_eq q.0 meta_table ≡ true = ap (λ (z : StorePlace). int_eq z.0 meta_table) (place_exact q p t) ∙ is in
-          ap (λ b. cond (not b) (get c q) None) is_meta ∙ sym (ap (λ b. cond (not b) w None) is_meta)
-      | Greater ↦ λ t. refl
-    ] refl
-
-pub meta_of_row : (c : Rows) (p : StorePlace) (w : Option (List ℕ)) → int_eq p.0 meta_table ≡ false → meta_of (with_row c p w) ≡ meta_of c
-meta_of_row c p w apart = same_map nat_list_cmp_total exact_bytes _ _ (λ k.
-    get-meta_of (with_row c p w) k ∙ get-with_row c p w (meta_table, k)
-    ∙ ap (λ b. cond b w (get c (meta_table, k))) (not_equal (int_cmp meta_table p.0) (slice_cmp nat_cmp k p.1) (int_eq_turn meta_table p.0 ∙ apart))
-    ∙ sym (get-meta_of c k))
 
 pub meta_of_meta : (c : Rows) (n : List ℕ) (w : Option (List ℕ)) → meta_of (with_row c (meta_table, n) w) ≡ with_meta (meta_of c) n w
 meta_of_meta c n w = same_map nat_list_cmp_total exact_bytes _ _ (λ k.
@@ -164,33 +122,6 @@ meta_of_meta c n w = same_map nat_list_cmp_total exact_bytes _ _ (λ k.
 
 -- ---- a batch
 
-rows_after_rows : (c : Rows) (es : List RowEdit) → rows_of (fold write_to c (map row_write es)) ≡ fold edit_row (rows_of c) es
-rows_after_rows c [] = refl
-rows_after_rows c (e ∷ es) = rows_after_rows (write_to c (row_write e)) es ∙ ap (λ m. fold edit_row m es) (rows_of_row c (pos e.table, e.key.items) (optional_bytes e.row) refl)
-
-rows_after_meta : (c : Rows) (es : List MetaEdit) → rows_of (fold write_to c (map meta_write es)) ≡ rows_of c
-rows_after_meta c [] = refl
-rows_after_meta c (e ∷ es) = rows_after_meta (write_to c (meta_write e)) es ∙ rows_of_meta c (meta_table, name_text e.name) (optional_bytes e.value) refl
-
-meta_after_rows : (c : Rows) (es : List RowEdit) → meta_of (fold write_to c (map row_write es)) ≡ meta_of c
-meta_after_rows c [] = refl
-meta_after_rows c (e ∷ es) = meta_after_rows (write_to c (row_write e)) es ∙ meta_of_row c (pos e.table, e.key.items) (optional_bytes e.row) refl
-
-meta_after_meta : (c : Rows) (es : List MetaEdit) → meta_of (fold write_to c (map meta_write es)) ≡ fold edit_meta (meta_of c) es
+pub meta_after_meta : (c : Rows) (es : List MetaEdit) → meta_of (fold write_to c (map meta_write es)) ≡ fold edit_meta (meta_of c) es
 meta_after_meta c [] = refl
 meta_after_meta c (e ∷ es) = meta_after_meta (write_to c (meta_write e)) es ∙ ap (λ m. fold edit_meta m es) (meta_of_meta c (name_text e.name) (optional_bytes e.value))
-
-fold_both : (c : Rows) (xs ys : List Write) → fold write_to c (xs ++ ys) ≡ fold write_to (fold write_to c xs) ys
-fold_both c [] ys = refl
-fold_both c (x ∷ xs) ys = fold_both (write_to c x) xs ys
-
-pub rows_after : (c : Rows) (batch : Batch) → rows_of (fold write_to c (writes_of batch)) ≡ fold edit_row (rows_of c) batch.rows.items
-rows_after c batch = ap rows_of (fold_both c (map row_write batch.rows.items) (map meta_write batch.meta.items)) ∙ rows_after_meta _ batch.meta.items ∙ rows_after_rows c batch.rows.items
-
-pub meta_after : (c : Rows) (batch : Batch) → meta_of (fold write_to c (writes_of batch)) ≡ fold edit_meta (meta_of c) batch.meta.items
-meta_after c batch = ap meta_of (fold_both c (map row_write batch.rows.items) (map meta_write batch.meta.items)) ∙ meta_after_meta _ batch.meta.items
-    ∙ ap (λ m. fold edit_meta m batch.meta.items) (meta_after_rows c batch.rows.items)
-
--- a table of rows is the same in both
-pub listed_rows_of : (c : Rows) (n : ℕ) → listed (pos n) (rows_of c) ≡ listed (pos n) c
-listed_rows_of c n = sym (listed_is (pos n) (rows_of c) (listed (pos n) c) (listed_sorted (pos n) c) (λ k. find-listed (pos n) k c ∙ sym (get-rows_of c (pos n, k))))

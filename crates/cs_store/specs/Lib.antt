@@ -5,3 +5,5 @@ pub mod Laws
 pub mod Slots
 pub mod Steps
 pub mod Trips
+pub mod Entries
+pub mod Leaves

@@ -1,16 +1,15 @@
--- What the map of a `MapStore` shows: rows under their table's number, and values of meta under `meta_table`.
+-- What a `MapStore` holds: rows in leaves, values of meta in a map of slots under `meta_table`, and the log as a list.
 -- A slot with no value shows as one that is not there, so that room can be made before anything changes.
 use Rattle.std.specs.declared.alloc.Global.{Global}
-use Rattle.std.specs.Prelude.{Vec, not, ℕ, zero, suc, ℤ, pos, negsuc, ◌+◌, ◌++◌, map, filter, List, [], ◌∷◌, Option, Some, None}
+use Rattle.std.specs.Prelude.{Vec, ℕ, zero, suc, ℤ, pos, negsuc, ◌+◌, map, filter, List, [], ◌∷◌, Option}
 use Rattle.std.specs.declared.cmp.Ordering.{Ordering}
 use Rattle.std.specs.Ordering.{int_eq, nat_cmp, ordering_then}
 use Rattle.cs_order.specs.Order.{by_bytes}
-use Rattle.std.specs.FinMap.{empty, entries, from_entries, retain_keys}
-use Rattle.cs_store.specs.declared.batch.Batch.{Batch}
-use Rattle.cs_store.specs.declared.batch.RowEdit.{RowEdit}
+use Rattle.std.specs.FinMap.{empty, entries, from_entries}
 use Rattle.cs_store.specs.declared.batch.MetaEdit.{MetaEdit}
 use Rattle.cs_store.specs.Contents.{Contents, StorePlace, Rows, Meta, Log, name_text}
 use Rattle.cs_store.specs.Written.{optional_bytes, with_row}
+use Rattle.cs_store.specs.Leaves.{Entry, rows_in}
 
 abbrev pub SlotKey : Type 0
 SlotKey = ℕ × Vec ℕ Global
@@ -42,9 +41,6 @@ listed table rows = map (λ e. (e.0.1, e.1)) (filter (λ e. int_eq e.0.0 table) 
 abbrev pub meta_table : ℤ
 meta_table = negsuc 0
 
-unfoldable pub rows_of : Rows → Rows
-rows_of c = retain_keys c (λ p. not (int_eq p.0 meta_table))
-
 unfoldable pub meta_of : Rows → Meta
 meta_of c = from_entries (listed meta_table c)
 
@@ -55,14 +51,8 @@ Write = StorePlace × Option (List ℕ)
 abbrev pub write_to : Rows → Write → Rows
 write_to c w = with_row c w.0 w.1
 
-abbrev pub row_write : RowEdit → Write
-row_write e = ((pos e.table, e.key.items), optional_bytes e.row)
-
 abbrev pub meta_write : MetaEdit → Write
 meta_write e = ((meta_table, name_text e.name), optional_bytes e.value)
-
-abbrev pub writes_of : Batch → List Write
-writes_of batch = map row_write batch.rows.items ++ map meta_write batch.meta.items
 
 -- entries of the log with their versions, from n on
 abbrev pub numbered : ℕ → List (Vec ℕ Global) → List (ℤ × List ℕ)
@@ -72,15 +62,6 @@ numbered n (x ∷ xs) = (pos n, x.items) ∷ numbered (n + 1) xs
 unfoldable pub log_of : List (Vec ℕ Global) → Log
 log_of xs = from_entries (numbered 0 xs)
 
--- the keys and the bytes of slots that have a value
-abbrev pub filled_then : Slot → SlotKey → List (List ℕ × List ℕ) → List (List ℕ × List ℕ)
-filled_then None k es = es
-filled_then (Some v) k es = (k.1.items, v.items) ∷ es
-
-abbrev pub filled : List (SlotKey × Slot) → List (List ℕ × List ℕ)
-filled [] = []
-filled (e ∷ es) = filled_then e.1 e.0 (filled es)
-
--- what a map of slots and a list of entries hold
-abbrev pub held_in : List (SlotKey × Slot) → List (Vec ℕ Global) → Contents
-held_in es xs = record { rows = rows_of (shown es); meta = meta_of (shown es); log = log_of xs }
+-- what leaves, a map of slots and a list of entries hold
+abbrev pub held_in : List (List Entry) → List (SlotKey × Slot) → List (Vec ℕ Global) → Contents
+held_in leaves es xs = record { rows = rows_in leaves; meta = meta_of (shown es); log = log_of xs }

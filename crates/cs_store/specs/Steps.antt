@@ -5,6 +5,7 @@ use Rattle.std.specs.List.{All, list_any}
 use Rattle.std.specs.BTreeMap.{BTreeMap, get, is_at}
 use Rattle.cs_store.specs.declared.slots.Step.{Step}
 use Rattle.cs_store.specs.Written.{optional_bytes}
+use Rattle.cs_store.specs.Leaves.{Entry, AreLeaves}
 use Rattle.cs_store.specs.Slots.{SlotKey, Slot, key_cmp, place_of, Write}
 
 abbrev pub step_write : Step → Write
@@ -34,8 +35,9 @@ abbrev pub left_empty : Slot → SlotKey → List SlotKey → List SlotKey
 left_empty None k ks = k ∷ ks
 left_empty (Some v) k ks = ks
 
--- what a `MapStore` keeps: versions are in reach of a `u32`, and each slot has a value
-pub record IsKept (slots : BTreeMap SlotKey Slot) (log : Vec (Vec ℕ Global) Global) : Type 0 where
+-- what a `MapStore` keeps: rows in order, versions in reach of a `u32`, and a value in each slot
+pub record IsKept (leaves : Vec (List Entry) Global) (slots : BTreeMap SlotKey Slot) (log : Vec (Vec ℕ Global) Global) : Type 0 where
+  pub rows : AreLeaves leaves.items
   pub bound : length log.items < 2 ^ 32
   pub filled : IsEmptyOnlyAt [] slots
 

@@ -7,9 +7,13 @@
 #![tactic(auto)]
 
 mod batch;
+mod edits;
 mod fault;
 pub mod laws;
+mod leaf;
+mod leaves;
 mod map_store;
+mod merging;
 mod names;
 mod slots;
 mod store;

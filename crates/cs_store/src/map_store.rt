@@ -7,20 +7,26 @@ ghost use Rattle.cs_store.specs.Written.{optional_bytes, appended, after_batch};
 ghost use Rattle.cs_store.specs.Slots.{log_of, held_in};
 ghost use Rattle.cs_store.specs.Steps.{IsKept};
 
+use crate::edits::in_order;
+use crate::leaf::Leaf;
+use crate::leaves::{find_row, list_rows, put_staged, stage};
 use crate::slots::{
-    SlotKey, Slots, copied, list_slots, make_slots, read_slot, steps_of, sweep_steps, write_steps,
+    SlotKey, Slots, copied, make_slots, read_slot, steps_of, sweep_steps, write_steps,
 };
 use crate::{Batch, MetaName, RowStore, StoreFault, StoredRow};
 use std::alloc::{AllocError, Global};
 use std::collections::BTreeMap;
 use std::marker::Model;
 
-/// A store in memory. Contracts see what it holds. It never answers `Device`, a stop leaves what it holds, and a commit of
-/// one row costs the logarithm of the rows that are there. Its log has at most 4,294,967,295 entries; a commit of one more
-/// answers `Memory`. (Profile of this project.)
+/// A store in memory. Contracts see what it holds. It never answers `Device`, and a stop leaves what it holds. Its rows lie in
+/// leaves, in order, each packed into one list of bytes: a look-up halves the leaves and then one leaf, and a commit makes each
+/// leaf anew that its edits fall into, so a commit of one row costs the logarithm of the rows that are there, but for a walk
+/// over the list of leaves where one is cut or goes. Its log has at most 4,294,967,295 entries; a commit of one more answers
+/// `Memory`. (Profile of this project.)
 #[derive(Drop)]
 pub struct MapStore {
     alloc: Global,
+    leaves: Vec<Leaf>,
     slots: Slots,
     log: Vec<Vec<u8>>,
 }
@@ -34,10 +40,10 @@ impl Model for MapStore {
 
     ghost coded = { contents_code };
 
-    ghost view = { λ store. held_in store.slots.entries store.log.items };
+    ghost view = { λ store. held_in store.leaves.items store.slots.entries store.log.items };
 
     // Each slot has a value, so what was taken for a refused commit is given back.
-    ghost invariant = { λ store. IsKept store.slots store.log };
+    ghost invariant = { λ store. IsKept store.leaves store.slots store.log };
 }
 
 impl MapStore {
@@ -50,6 +56,7 @@ impl MapStore {
     {
         MapStore {
             alloc,
+            leaves: Vec::new(alloc),
             slots: BTreeMap::new(alloc),
             log: Vec::new(alloc),
         }
@@ -96,15 +103,20 @@ fn append(log: &mut Vec<Vec<u8>>, entry: Option<Vec<u8>>)
 /// Takes all the memory that the batch needs, and then writes it. What was taken for a refused batch is given back.
 fn write(
     alloc: Global,
+    leaves: &mut Vec<Leaf>,
     slots: &mut Slots,
     log: &mut Vec<Vec<u8>>,
     batch: &Batch,
 ) -> Result<(), AllocError>
-    ensures ok { OnOk result (held_in slots.new.entries log.new.items
-        ≡ after_batch batch.now (held_in slots.old.entries log.old.items)) }
-    ensures err { OnErr result (held_in slots.new.entries log.new.items ≡ held_in slots.old.entries log.old.items) }
-    ensures kept { IsKept slots.old log.old → IsKept slots.new log.new }
+    requires { IsKept leaves.old slots.old log.old }
+    ensures ok { OnOk result (held_in leaves.new.items slots.new.entries log.new.items
+        ≡ after_batch batch.now (held_in leaves.old.items slots.old.entries log.old.items)) }
+    ensures err { OnErr result (held_in leaves.new.items slots.new.entries log.new.items
+        ≡ held_in leaves.old.items slots.old.entries log.old.items) }
+    ensures kept { IsKept leaves.new slots.new log.new }
 {
+    let edits = in_order(alloc, batch.rows.as_slice())?;
+    let staged = stage(alloc, leaves.as_slice(), edits.as_slice())?;
     let steps = steps_of(alloc, batch)?;
     let entry = copied(alloc, &batch.log)?;
     let cleared = Vec::with_capacity(alloc, steps.len())?;
@@ -113,6 +125,7 @@ fn write(
         sweep_steps(slots, steps.as_slice());
         return Err(e);
     }
+    put_staged(alloc, leaves, staged);
     write_steps(slots, steps, cleared);
     append(log, entry);
     Ok(())
@@ -132,13 +145,12 @@ impl RowStore for MapStore {
     ghost leaves = { λ held _. ∣ (held, refl) ∣₁ };
 
     fn get(&mut self, table: u32, key: &[u8]) -> Result<Option<Vec<u8>>, StoreFault> {
-        let own = (u64::from(table) + 1, Vec::from_slice(self.alloc, key)?);
-        let row = read_slot(self.alloc, &self.slots, &own)?;
+        let row = find_row(self.alloc, self.leaves.as_slice(), table, key)?;
         Ok(row)
     }
 
     fn list(&mut self, table: u32) -> Result<Vec<StoredRow>, StoreFault> {
-        let rows = list_slots(self.alloc, &self.slots, table)?;
+        let rows = list_rows(self.alloc, self.leaves.as_slice(), table)?;
         Ok(rows)
     }
 
@@ -158,7 +170,13 @@ impl RowStore for MapStore {
     }
 
     fn commit(&mut self, batch: &Batch) -> Result<(), StoreFault> {
-        write(self.alloc, &mut self.slots, &mut self.log, batch)?;
+        write(
+            self.alloc,
+            &mut self.leaves,
+            &mut self.slots,
+            &mut self.log,
+            batch,
+        )?;
         Ok(())
     }
 

@@ -1,16 +1,16 @@
-//! The map of a `MapStore`. A commit first makes a slot for each key that it sets, with nothing in it,
-//! which shows nothing new; what follows takes no memory.
+//! The values by name of a `MapStore`. A commit first makes a slot for each key that it sets, with nothing in it, which shows
+//! nothing new; what follows takes no memory.
 
 ghost use Rattle.std.specs.Prelude.{◌≡◌, ◌+◌, ◌++◌, ◌≤◌, ◌<◌, List, [], ◌∷◌, length, map, fold, IfOk, OnOk, IsSome};
 ghost use Rattle.std.specs.Vec.{vec_len, vec_capacity};
 ghost use Rattle.std.specs.List.{All};
 ghost use Rattle.std.specs.FinMap as finite;
 ghost use Rattle.std.specs.BTreeMap.{get, get_by};
-ghost use Rattle.cs_store.specs.Written.{optional_bytes, pairs_of, with_row};
-ghost use Rattle.cs_store.specs.Slots.{SlotKey, key_cmp, listed, table_number, place_of, shown, write_to, writes_of, row_write, meta_write};
+ghost use Rattle.cs_store.specs.Written.{optional_bytes, with_row};
+ghost use Rattle.cs_store.specs.Slots.{SlotKey, key_cmp, place_of, shown, write_to, meta_write};
 ghost use Rattle.cs_store.specs.Steps.{step_write, step_keys, left_empty, is_empty_slot, HasSlots, HasSlot, IsEmptyOnlyAt};
 
-use crate::{Batch, MetaEdit, RowEdit, StoredRow};
+use crate::{Batch, MetaEdit};
 use std::alloc::{AllocError, Global};
 use std::collections::BTreeMap;
 
@@ -35,19 +35,6 @@ pub fn copied(alloc: Global, value: &Option<Vec<u8>>) -> Result<Option<Vec<u8>>,
     }
 }
 
-/// Copies an edit of a row.
-fn row_step(alloc: Global, edit: &RowEdit) -> Result<Step, AllocError>
-    ensures { IfOk result (λ step. step_write step ≡ row_write edit.now) }
-{
-    Ok(Step {
-        key: (
-            u64::from(edit.table) + 1,
-            Vec::from_slice(alloc, edit.key.as_slice())?,
-        ),
-        value: copied(alloc, &edit.row)?,
-    })
-}
-
 /// Copies an edit of a value.
 fn meta_step(alloc: Global, edit: &MetaEdit) -> Result<Step, AllocError>
     ensures { IfOk result (λ step. step_write step ≡ meta_write edit.now) }
@@ -58,22 +45,11 @@ fn meta_step(alloc: Global, edit: &MetaEdit) -> Result<Step, AllocError>
     })
 }
 
-/// Copies of the edits of rows.
-fn row_steps(alloc: Global, edits: &[RowEdit]) -> Result<Vec<Step>, AllocError>
-    ensures { IfOk result (λ steps. map step_write steps.items ≡ map row_write edits.now) }
+/// Copies of the edits of values.
+pub fn steps_of(alloc: Global, batch: &Batch) -> Result<Vec<Step>, AllocError>
+    ensures { IfOk result (λ steps. map step_write steps.items ≡ map meta_write batch.now.meta.items) }
 {
     let mut steps = Vec::new(alloc);
-    for edit in edits {
-        steps.push(row_step(alloc, edit)?)?;
-    }
-    Ok(steps)
-}
-
-/// Copies of the edits of rows, and then of those of values.
-pub fn steps_of(alloc: Global, batch: &Batch) -> Result<Vec<Step>, AllocError>
-    ensures { IfOk result (λ steps. map step_write steps.items ≡ writes_of batch.now) }
-{
-    let mut steps = row_steps(alloc, batch.rows.as_slice())?;
     for edit in &batch.meta {
         steps.push(meta_step(alloc, edit)?)?;
     }
@@ -200,22 +176,4 @@ pub fn write_steps(slots: &mut Slots, steps: Vec<Step>, mut cleared: Vec<SlotKey
         }
     }
     sweep_keys(slots, cleared.as_slice());
-}
-
-/// The rows of a table, whose keys have this number.
-pub fn list_slots(alloc: Global, slots: &Slots, table: u32) -> Result<Vec<StoredRow>, AllocError>
-    ensures { IfOk result (λ rows. pairs_of rows.items ≡ listed (table_number (table + 1)) (shown slots.now.entries)) }
-{
-    let first = u64::from(table) + 1;
-    let low = (first, Vec::new(alloc));
-    let high = (first + 1, Vec::new(alloc));
-    let mut rows = Vec::new(alloc);
-    for (key, slot) in slots.range(low..high) {
-        if let Some(row) = slot {
-            let key = Vec::from_slice(alloc, key.1.as_slice())?;
-            let row = Vec::from_slice(alloc, row.as_slice())?;
-            rows.push(StoredRow { key, row })?;
-        }
-    }
-    Ok(rows)
 }

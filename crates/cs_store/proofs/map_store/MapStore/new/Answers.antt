@@ -1,10 +1,15 @@
-use Rattle.std.proofs.Common.{ap, length, arith}
-use Rattle.cs_store.proofs.Holding.{new_holds}
+use Rattle.std.proofs.Common.{ap, length, arith, subst, sym}
+use Rattle.cs_store.specs.Leaves.{AreLeaves}
+use Rattle.cs_store.proofs.Holding.{new_holds, no_leaves}
 use Rattle.cs_store.proofs.Filled.{new_filled}
 use Rattle.cs_store.proofs.map_store.MapStore.new.Goals as goal
 
 pub invariant_of-result : goal.invariant_of-result
-invariant_of-result c = record { bound = let none = ap length c.new-2.ensures.items in omega (arith, none); filled = new_filled c.new.result c.new.ensures.empty }
+invariant_of-result c = record {
+  rows = subst AreLeaves (sym c.new.ensures.items) no_leaves;
+  bound = let none = ap length c.new-3.ensures.items in omega (arith, none);
+  filled = new_filled c.new-2.result c.new-2.ensures.empty;
+}
 
 pub returns : goal.returns
-returns c = new_holds c.new.result.entries c.new-2.result.items c.new.ensures.empty c.new-2.ensures.items
+returns c = new_holds c.new.result.items c.new-2.result.entries c.new-3.result.items c.new.ensures.items c.new-2.ensures.empty c.new-3.ensures.items
