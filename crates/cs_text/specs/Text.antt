@@ -1,4 +1,4 @@
--- A changeset as text, for people (format of this project).
+-- Changesets and rebase blobs as text, for people (format of this project).
 use Rattle.std.specs.Prelude.{ℕ, ◌/◌, ◌%◌, ◌==◌, ◌&&◌, nat_le, not, Bool, true, false, if◌then◌else◌, List, [], ◌∷◌, ◌++◌, codes}
 use Rattle.std.specs.List.{flat_map}
 use Rattle.std.specs.Fmt.{digit_glyph, signed_decimal}
@@ -9,6 +9,8 @@ use Rattle.cs_value.specs.declared.value.Field.TheVariants.{Undefined, Is}
 use Rattle.cs_change.specs.declared.change.Change.{Change}
 use Rattle.cs_change.specs.declared.change.Change.TheVariants.{Insert, Delete, Update}
 use Rattle.cs_change.specs.declared.group.Group.{Group}
+use Rattle.cs_blob.specs.declared.blob.Entry.{Entry}
+use Rattle.cs_blob.specs.declared.blob.BlobGroup.{BlobGroup}
 use Rattle.cs_change.specs.Spelling.{is_nonzero}
 
 -- a byte that stands for itself in a text: from `!` to `~`, and not `%`
@@ -85,15 +87,39 @@ abbrev pub line : List ℕ → List ℕ
 line text = text ++ codes "\n"
 
 -- `table NAME MARKS`
-abbrev pub header_text : Group → List ℕ
-header_text group = codes "table " ++ name_text group.name ++ spaced (marks_text group.marks)
+abbrev pub header_text : List ℕ → List ℕ → List ℕ
+header_text marks name = codes "table " ++ name_text name ++ spaced (marks_text marks)
 
 abbrev pub changes_text : List Change → List ℕ
 changes_text changes = flat_map (λ change. line (change_text change)) changes
 
 -- a line for the table, and one for each of its changes
 abbrev pub group_text : Group → List ℕ
-group_text group = line (header_text group) ++ changes_text group.changes
+group_text group = line (header_text group.marks group.name) ++ changes_text group.changes
 
 abbrev pub changeset_text : List Group → List ℕ
 changeset_text groups = flat_map group_text groups
+
+-- ---- rebase blobs
+
+-- what the remote change was: `delete`, or `change` for an INSERT or an UPDATE
+abbrev pub remote_text : Bool → List ℕ
+remote_text deleted = if deleted then codes "delete" else codes "change"
+
+-- how the conflict was answered
+abbrev pub answer_text : Bool → List ℕ
+answer_text replaced = if replaced then codes "replace" else codes "omit"
+
+-- `change omit FIELDS`, `change replace FIELDS`, `delete omit FIELDS` or `delete replace FIELDS`
+abbrev pub entry_text : Entry → List ℕ
+entry_text entry = remote_text entry.deleted ++ spaced (answer_text entry.replaced) ++ fields_text entry.fields
+
+abbrev pub entries_text : List Entry → List ℕ
+entries_text entries = flat_map (λ entry. line (entry_text entry)) entries
+
+-- a line for the table, and one for each of its entries
+abbrev pub blob_group_text : BlobGroup → List ℕ
+blob_group_text group = line (header_text group.marks group.name) ++ entries_text group.entries
+
+abbrev pub blob_text : List BlobGroup → List ℕ
+blob_text groups = flat_map blob_group_text groups

@@ -2,11 +2,12 @@
 
 ghost use Rattle.std.specs.Prelude.{Some};
 ghost use Rattle.std.specs.Fmt.{WritesOnOk};
-ghost use Rattle.cs_text.specs.Text.{values_text, fields_text, bit_text, marks_text, operation_text, change_text, header_text, changes_text, group_text, changeset_text};
+ghost use Rattle.cs_text.specs.Text.{values_text, operation_text, change_text, changes_text, group_text, changeset_text};
 
-use crate::words::{FieldText, NameText, ValueText};
+use crate::common::{write_bit, write_fields, write_header};
+use crate::words::ValueText;
 use cs_change::{Change, Group};
-use cs_record::{Record, Row};
+use cs_record::Row;
 use std::fmt;
 
 fn write_values<W: fmt::Write>(values: &Row<'_>, f: &mut fmt::Formatter<W>) -> fmt::Result
@@ -16,36 +17,6 @@ fn write_values<W: fmt::Write>(values: &Row<'_>, f: &mut fmt::Formatter<W>) -> f
     while let Some((cell, rest)) = left.split_first() {
         write!(f, " {}", ValueText(&cell))?;
         left = rest;
-    }
-    Ok(())
-}
-
-fn write_fields<W: fmt::Write>(fields: &Record<'_>, f: &mut fmt::Formatter<W>) -> fmt::Result
-    ensures { WritesOnOk W.write_str_gives f.old result (fields_text fields.now) f.new }
-{
-    let mut left = fields.again();
-    while let Some((column, rest)) = left.split_first() {
-        write!(f, " {}", FieldText(&column))?;
-        left = rest;
-    }
-    Ok(())
-}
-
-fn write_bit<W: fmt::Write>(bit: bool, f: &mut fmt::Formatter<W>) -> fmt::Result
-    ensures { WritesOnOk W.write_str_gives f.old result (bit_text bit) f.new }
-{
-    if bit {
-        f.write_str("1")
-    } else {
-        f.write_str("0")
-    }
-}
-
-fn write_marks<W: fmt::Write>(marks: &[u8], f: &mut fmt::Formatter<W>) -> fmt::Result
-    ensures { WritesOnOk W.write_str_gives f.old result (marks_text marks.now) f.new }
-{
-    for mark in marks {
-        write_bit(*mark != 0, f)?;
     }
     Ok(())
 }
@@ -93,17 +64,10 @@ fn write_changes<W: fmt::Write>(changes: &[Change<'_>], f: &mut fmt::Formatter<W
     Ok(())
 }
 
-fn write_header<W: fmt::Write>(group: &Group<'_>, f: &mut fmt::Formatter<W>) -> fmt::Result
-    ensures { WritesOnOk W.write_str_gives f.old result (header_text group.now) f.new }
-{
-    write!(f, "table {} ", NameText(&group.name))?;
-    write_marks(group.marks.as_slice(), f)
-}
-
 fn write_group<W: fmt::Write>(group: &Group<'_>, f: &mut fmt::Formatter<W>) -> fmt::Result
     ensures { WritesOnOk W.write_str_gives f.old result (group_text group.now) f.new }
 {
-    write_header(group, f)?;
+    write_header(group.marks.as_slice(), &group.name, f)?;
     f.write_str("\n")?;
     write_changes(group.changes.as_slice(), f)
 }

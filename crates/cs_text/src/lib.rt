@@ -1,13 +1,16 @@
-//! Changesets as text, for people: one line a group and one a change. It stands on changes that stay in their bytes
-//! (`cs_change`) and on their records (`cs_record`), and makes no value of its own. The definitions of `Text` state each
-//! text exactly, and each type here promises its own: what `{}` writes of a `ChangesetText`, a `NameText`, a `ValueText`
-//! or a `FieldText` is that text and nothing else, so `format!` ensures it where it succeeds. The text is a format of
-//! this project, described in docs/FORMATS.md.
+//! Changesets and rebase blobs as text, for people: one line a group and one a change or entry. It stands on changes and
+//! entries that stay in their bytes (`cs_change`, `cs_blob`) and on their records (`cs_record`), and makes no value of
+//! its own. The definitions of `Text` state each text exactly, and each type here promises its own: what `{}` writes of a
+//! `ChangesetText`, a `BlobText`, a `NameText`, a `ValueText` or a `FieldText` is that text and nothing else, so `format!`
+//! ensures it where it succeeds. The text is a format of this project, described in docs/FORMATS.md.
 #![tactic(auto)]
 
+mod blobs;
 mod changesets;
+mod common;
 mod words;
 
+pub use blobs::BlobText;
 pub use changesets::ChangesetText;
 pub use words::{FieldText, NameText, ValueText, is_plain};
 

@@ -105,6 +105,29 @@ fn prints_each_kind_of_change(rt: HostRuntime) -> Result<(), Fail> {
     Ok(())
 }
 
+/// The bytes of a blob: of t2 a change answered REPLACE and one answered OMIT, of t1 a deletion answered OMIT and one
+/// answered REPLACE, and of `t%` nothing.
+const BLOB: [u8; 84] = [
+    0x54, 4, 1, 0, 0, 0, 0x74, 0x32, 0, // t2
+    0x12, 1, 1, 0, 0, 0, 0, 0, 0, 0, 1, 3, 2, 0x62, 0x32, 3, 2, 0x63, 0x32, 0, // (1, 'b2', 'c2', -)
+    0x12, 0, 1, 0, 0, 0, 0, 0, 0, 0, 2, 0, 5, 4, 1, 0xab, // (2, -, NULL, x'ab')
+    0x54, 2, 1, 0, 0x74, 0x31, 0, // t1
+    9, 0, 1, 0, 0, 0, 0, 0, 0, 0, 1, 3, 1, 0x76, // (1, 'v')
+    9, 1, 1, 0, 0, 0, 0, 0, 0, 0, 2, 5, // (2, NULL)
+    0x54, 1, 2, 0x74, 0x25, 0, // t%
+];
+
+#[test]
+fn prints_each_kind_of_entry(rt: HostRuntime) -> Result<(), Fail> {
+    let alloc = rt.alloc();
+    let blob = cs_blob::read(alloc, BLOB.as_slice())?;
+    let printed = format!(in alloc; "{}", BlobText(blob.as_slice()))?;
+    let expected =
+        "table t2 1000\nchange replace 1 t=b2 t=c2 -\nchange omit 2 - null x=ab\ntable t1 10\ndelete omit 1 t=v\ndelete replace 2 null\ntable t%25 1\n";
+    assert_eq!(rt; printed.as_str(), expected);
+    Ok(())
+}
+
 /// The word of a value.
 fn word(alloc: Global, value: Value) -> Result<String, Fail> {
     let row = row(alloc, &[value])?;

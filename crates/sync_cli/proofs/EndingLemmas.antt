@@ -1,6 +1,6 @@
 -- How commands end.
-use Rattle.std.proofs.Common.{◌≡◌, ◌≢◌, ℕ, zero, suc, List, inl, inr, refl, arith, subst}
-use Rattle.std.specs.Prelude.{◌⊎◌, Option}
+use Rattle.std.proofs.Common.{◌≡◌, ◌≢◌, ℕ, zero, suc, List, inl, inr, refl, arith, subst, sym}
+use Rattle.std.specs.Prelude.{◌⊎◌, IfOk, IsOkAnd, Option, Result, Ok, Err}
 use Rattle.std.specs.Io.KnownBytes.{Appends, Keeps}
 use Rattle.std.proofs.KnownBytes.{Keeps-refl}
 use Rattle.clap.specs.Kinds.{IsAmong, Kinds}
@@ -17,6 +17,27 @@ use Rattle.sync_cli.proofs.CatalogLemmas.{refused_words}
 pub broken_off : (status : ℕ) (IsOwed : List ℕ → Type 0) (failed : Type 0) (old new : Option (List ℕ)) (text : List ℕ) → status ≡ 1
     → IsOwed text → AppendsFront old new text → failed → EndsWriting status IsOwed failed old new
 broken_off status IsOwed failed old new text is owed front why = rw is (inr (text, owed, front, why))
+
+-- a text that is owed is one that is owed otherwise
+pub owed_otherwise : (status : ℕ) (IsOwed IsOther : List ℕ → Type 0) (failed : Type 0) (old new : Option (List ℕ))
+    → ((text : List ℕ) → IsOwed text → IsOther text) → EndsWriting status IsOwed failed old new
+    → EndsWriting status IsOther failed old new
+owed_otherwise zero IsOwed IsOther failed old new other ends = (ends.0, other ends.0 ends.1, ends.2)
+owed_otherwise (suc zero) IsOwed IsOther failed old new other (inl kept) = inl kept
+owed_otherwise (suc zero) IsOwed IsOther failed old new other (inr broken) =
+    inr (broken.0, other broken.0 broken.1, broken.2, broken.3)
+owed_otherwise (suc (suc n)) IsOwed IsOther failed old new other ends = ends
+
+-- what is owed is what came, where something did
+pub owed_ok : {A E : Type 0} (came : Result A E) (text_of : A → List ℕ) (IsOther : List ℕ → Type 0)
+    → IfOk came (λ held. IsOther (text_of held)) → (text : List ℕ) → IsOkAnd came (λ held. text ≡ text_of held) → IsOther text
+owed_ok (Ok held) text_of IsOther is text same = subst IsOther (sym same) is
+owed_ok (Err e) text_of IsOther is text same = absurd same
+
+-- where it came, it is owed
+pub ok_owes : {A E : Type 0} (came : Result A E) (held : A) (text_of : A → List ℕ) → came ≡ Ok held
+    → IsOkAnd came (λ h. text_of held ≡ text_of h)
+ok_owes came held text_of is = rw is refl
 
 -- words that are no catalog, before anything is read or written
 pub refused_hub : (refused : Refused) (words : List (List ℕ)) (status : ℕ) (input : Option (List ℕ)) (read_failed write_failed : Type 0)

@@ -3,17 +3,17 @@ use Rattle.std.proofs.Common.{◌≡◌, ℕ, ◌+◌, ◌<◌, List, [], ◌∷
 use Rattle.std.specs.Prelude.{Option, Some, Ok}
 use Rattle.std.specs.Global.{Vec}
 use Rattle.std.specs.List.{AllZip, AllByRecursion}
-use Rattle.std.specs.Io.KnownBytes.{IsAtEnd}
+use Rattle.std.specs.Io.KnownBytes.{IsAtEnd, Keeps}
 use Rattle.std.proofs.lemmas.List.{take_more}
-use Rattle.hex.specs.Hex.{decode_of}
+use Rattle.hex.specs.Hex.{decode_of, decode_pairs}
 use Rattle.cs_change.specs.Spelling.{FitsChangeset, changeset_spelling}
 use Rattle.cs_change.specs.declared.group.Group.{Group}
 use Rattle.cs_lines.specs.Laws.{AllTaken, NoneTaken, OneMoreTaken}
 use Rattle.cs_lines.specs.Served.{AreAllLines}
-use Rattle.cs_text.specs.Text.{changeset_text}
-use Rattle.sync_cli.specs.CombinedLines.{SpellsChangeset, SpellChangesets}
-use Rattle.sync_cli.specs.LinesRead.{AreHexOf, AreRead, IsHexOf, Spell, SpellAll, TakesBytes, TakesFirstBytes}
-use Rattle.sync_cli.specs.ShownLine.{ShowsBytes, ShowsFirst, TakesFirst}
+use Rattle.sync_cli.specs.CombinedLines.{SpellChangesets}
+use Rattle.sync_cli.specs.LinesRead.{AreHexOf, AreRead, IsHexOf, SpellAll, TakesBytes, TakesNextBytes}
+use Rattle.sync_cli.specs.ShownLine.{ShowsBytes, ShowsFirst}
+use Rattle.sync_cli.specs.SpelledLine.{Spells}
 
 zip_push : {A B : Type 0} (R : A → B → Type 0) (xs : List A) (ys : List B) (x : A) (y : B) → AllZip R xs ys → R x y → AllZip R (xs ++ x ∷ []) (ys ++ y ∷ [])
 zip_push R [] [] x y all now = (now, tt)
@@ -51,10 +51,10 @@ pub record AreFirst (inputs : List (Vec ℕ)) (at : ℕ) (changesets : List (Lis
 
 pub first_more : (inputs : List (Vec ℕ)) (at : ℕ) (bytes : Vec ℕ) (changesets now : List (List Group)) (groups : List Group)
     → at < length inputs → bytes ≡ get_or inputs at bytes → now ≡ changesets ++ groups ∷ []
-    → AreFirst inputs at changesets → Spell bytes.items groups → AreFirst inputs (at + 1) now
+    → AreFirst inputs at changesets → Spells FitsChangeset changeset_spelling bytes.items groups → AreFirst inputs (at + 1) now
 first_more inputs at bytes changesets now groups less here is so_far spells =
     let wider : take (at + 1) inputs ≡ take at inputs ++ bytes ∷ [] = take_more inputs at bytes less ∙ ap (λ (b : Vec ℕ). take at inputs ++ b ∷ []) (sym here) in
-    let zipped : SpellAll (take at inputs ++ bytes ∷ []) (changesets ++ groups ∷ []) = zip_push (λ (held : Vec ℕ) groups. Spell held.items groups) (take at inputs) changesets bytes groups so_far.spelled spells in
+    let zipped : SpellAll (take at inputs ++ bytes ∷ []) (changesets ++ groups ∷ []) = zip_push (λ (held : Vec ℕ) groups. Spells FitsChangeset changeset_spelling held.items groups) (take at inputs) changesets bytes groups so_far.spelled spells in
     record {
       fit = rw is (fit_push changesets groups so_far.fit spells.0);
       spelled = rw is (subst (λ (xs : List (Vec ℕ)). SpellAll xs (changesets ++ groups ∷ [])) (sym wider) zipped);
@@ -71,15 +71,17 @@ spelled_lines (line ∷ lines) (bytes ∷ inputs) [] hex spell = absurd spell
 spelled_lines (line ∷ lines) (bytes ∷ inputs) (groups ∷ changesets) hex spell =
     ((spell.0.0, hex.0 ∙ ap (λ held. Ok held) spell.0.1), spelled_lines lines inputs changesets hex.1 spell.1)
 
--- no bytes spell the empty changeset
-nothing_spelled : (groups : List Group) → [] ≡ changeset_spelling groups → groups ≡ []
-nothing_spelled [] is = refl
-nothing_spelled (group ∷ groups) is = absurd (cc)
+-- no line counts as the empty one
+pub taken_none : (old new : Option (List ℕ)) (bytes : List ℕ) → bytes ≡ [] → IsAtEnd old → Keeps old new
+    → TakesNextBytes bytes old new
+unfolding decode_pairs
+taken_none old new bytes is end kept = rw is ([], inr (end, kept, refl), refl)
 
--- the text of the bytes of the first line is that of its changeset
-pub shows_first : (old new : Option (List ℕ)) (bytes text : List ℕ) → TakesFirstBytes bytes old new → ShowsBytes bytes text
-    → ShowsFirst old new text
-shows_first old new bytes text (inl took) shown =
-    (shown.0, inl (took.0, took.1, (shown.1.0, took.2 ∙ ap (λ held. Ok held) shown.1.1)), shown.2)
-shows_first old new bytes text (inr none) shown =
-    (shown.0, inr ((none.0, none.1), nothing_spelled shown.0 (sym none.2 ∙ shown.1.1)), shown.2)
+pub taken_some : (old new : Option (List ℕ)) (bytes : Vec ℕ) → TakesBytes (Some bytes) old new → TakesNextBytes bytes.items old new
+taken_some old new bytes took = (took.0, inl took.1, took.2)
+
+-- the text of the bytes of the first line is that of what it spells
+pub shows_first : {A : Type 0} (Fits : A → Type 0) (spelling text_of : A → List ℕ) (old new : Option (List ℕ)) (bytes text : List ℕ)
+    → TakesNextBytes bytes old new → ShowsBytes Fits spelling text_of bytes text → ShowsFirst Fits spelling text_of old new text
+shows_first Fits spelling text_of old new bytes text took shown =
+    (took.0, shown.0, took.1, (shown.1.0, took.2 ∙ ap (λ held. Ok held) shown.1.1), shown.2)

@@ -3,24 +3,31 @@ use Rattle.std.proofs.Common.{◌≡◌, ℕ, inl, inr, List, [], ◌∷◌, ◌
 use Rattle.std.specs.Prelude.{Option, Some, None, Ok}
 use Rattle.std.specs.Io.KnownBytes.{Keeps}
 use Rattle.std.proofs.lemmas.List.{append_cancel_left}
-use Rattle.cs_change.specs.Spelling.{changeset_spelling}
+use Rattle.cs_blob.specs.Laws.{OneBlob}
+use Rattle.cs_blob.specs.Spelling.{FitsBlob, blob_spelling}
+use Rattle.cs_change.specs.Spelling.{FitsChangeset, changeset_spelling}
 use Rattle.cs_change.specs.declared.group.Group.{Group}
 use Rattle.cs_changeset.specs.Laws.{OneChangeset}
 use Rattle.cs_group.specs.Combined.{IsCombined, OneCombined}
 use Rattle.cs_lines.specs.Lines.{hex_line, lines_of}
 use Rattle.cs_lines.specs.Reading.{IsCut}
 use Rattle.cs_normal.specs.Normal.{normal_spelling}
-use Rattle.cs_text.specs.Text.{changeset_text}
-use Rattle.sync_cli.specs.CombinedLines.{SpellsChangeset, SpellChangesets, SpellsCombined}
-use Rattle.sync_cli.specs.Laws.{OneCombinedText, OneShownText}
-use Rattle.sync_cli.specs.ShownLine.{TakesFirst}
+use Rattle.cs_text.specs.Text.{blob_text, changeset_text}
+use Rattle.sync_cli.specs.CombinedLines.{SpellChangesets, SpellsCombined}
+use Rattle.sync_cli.specs.Laws.{OneCombinedText, OneShownBlob, OneShownChangeset}
+use Rattle.sync_cli.specs.ShownLine.{ShowsFirst}
+use Rattle.sync_cli.specs.SpelledLine.{SpellsInHex, TakesNext}
 
-one_changeset : OneChangeset → (line : List ℕ) (groups others : List Group) → SpellsChangeset line groups
-    → SpellsChangeset line others → groups ≡ others
-one_changeset once line groups others first second =
-    let bytes : Ok (changeset_spelling groups) ≡ Ok (changeset_spelling others) = sym first.1 ∙ second.1 in
-    let same : changeset_spelling groups ≡ changeset_spelling others = cc in
-    once groups others first.0 second.0 same
+-- bytes spell one thing
+abbrev OneSpelled : {A : Type 0} → (A → Type 0) → (A → List ℕ) → Type 0
+OneSpelled {A} Fits spelling = (a b : A) → Fits a → Fits b → spelling a ≡ spelling b → a ≡ b
+
+one_in_hex : {A : Type 0} (Fits : A → Type 0) (spelling : A → List ℕ) → OneSpelled Fits spelling → (line : List ℕ) (some other : A)
+    → SpellsInHex Fits spelling line some → SpellsInHex Fits spelling line other → some ≡ other
+one_in_hex Fits spelling once line some other first second =
+    let bytes : Ok (spelling some) ≡ Ok (spelling other) = sym first.1 ∙ second.1 in
+    let same : spelling some ≡ spelling other = cc in
+    once some other first.0 second.0 same
 
 one_list : OneChangeset → (lines : List (List ℕ)) (ones others : List (List Group)) → SpellChangesets lines ones
     → SpellChangesets lines others → ones ≡ others
@@ -30,7 +37,7 @@ one_list once [] (a ∷ ones) others first second = absurd first
 one_list once (line ∷ lines) [] others first second = absurd first
 one_list once (line ∷ lines) (a ∷ ones) [] first second = absurd second
 one_list once (line ∷ lines) (a ∷ ones) (b ∷ others) first second =
-    ap₂ (λ x xs. x ∷ xs) (one_changeset once line a b first.0 second.0) (one_list once lines ones others first.1 second.1)
+    ap₂ (λ x xs. x ∷ xs) (one_in_hex FitsChangeset changeset_spelling once line a b first.0 second.0) (one_list once lines ones others first.1 second.1)
 
 one_spelled : OneCombined → OneChangeset → (lines : List (List ℕ)) (bytes others : List ℕ) → SpellsCombined lines bytes
     → SpellsCombined lines others → bytes ≡ others
@@ -51,19 +58,6 @@ nothing_taken : (input : List ℕ) (line : List ℕ) (lines : List (List ℕ)) �
 nothing_taken [] line lines none some = cc
 nothing_taken (x ∷ input) line lines none some = cc
 
-one_first : OneChangeset → (input : List ℕ) (left next : Option (List ℕ)) (groups others : List Group)
-    → TakesFirst (Some input) left groups → TakesFirst (Some input) next others → groups ≡ others
-one_first once input left next groups others (inl first) (inl second) =
-    let both : first.0 ∷ lines_of first.1.0 ≡ second.0 ∷ lines_of second.1.0 = sym first.1.2 ∙ second.1.2 in
-    let line : first.0 ≡ second.0 = cc in
-    one_changeset once first.0 groups others first.2
-    (subst (λ (l : List ℕ). SpellsChangeset l others) (sym line) second.2)
-one_first once input left next groups others (inl first) (inr second) =
-    absurd (nothing_taken input first.0 (lines_of first.1.0) second.0.0 first.1.2)
-one_first once input left next groups others (inr first) (inl second) =
-    absurd (nothing_taken input second.0 (lines_of second.1.0) first.0.0 second.1.2)
-one_first once input left next groups others (inr first) (inr second) = first.1 ∙ sym second.1
-
 -- behind one line stands one rest
 same_rest : (bytes line rest other : List ℕ) → IsCut bytes line rest → IsCut bytes line other → rest ≡ other
 same_rest bytes line rest other (inl first) (inl second) =
@@ -80,23 +74,34 @@ kept_is : (input : List ℕ) (left : Option (List ℕ)) → Keeps (Some input) l
 kept_is input None kept = absurd kept
 kept_is input (Some bytes) kept = ap Some kept
 
-one_rest : (input : List ℕ) (left next : Option (List ℕ)) (groups others : List Group)
-    → TakesFirst (Some input) left groups → TakesFirst (Some input) next others → left ≡ next
-one_rest input left next groups others (inl first) (inl second) =
-    let both : first.0 ∷ lines_of first.1.0 ≡ second.0 ∷ lines_of second.1.0 = sym first.1.2 ∙ second.1.2 in
-    let line : first.0 ≡ second.0 = cc in
-    let rest = same_rest input first.0 first.1.0 second.1.0 first.1.3
-    (subst (λ (l : List ℕ). IsCut input l second.1.0) (sym line) second.1.3) in
-    first.1.1 ∙ ap Some rest ∙ sym second.1.1
-one_rest input left next groups others (inl first) (inr second) =
-    absurd (nothing_taken input first.0 (lines_of first.1.0) second.0.0 first.1.2)
-one_rest input left next groups others (inr first) (inl second) =
-    absurd (nothing_taken input second.0 (lines_of second.1.0) first.0.0 second.1.2)
-one_rest input left next groups others (inr first) (inr second) =
-    kept_is input left first.0.1 ∙ sym (kept_is input next second.0.1)
+-- there is one next line, and one rest
+pub one_next : (input line other : List ℕ) (left next : Option (List ℕ)) → TakesNext (Some input) left line
+    → TakesNext (Some input) next other → (line ≡ other) × (left ≡ next)
+one_next input line other left next (inl first) (inl second) =
+    let both : line ∷ lines_of first.0 ≡ other ∷ lines_of second.0 = sym first.2 ∙ second.2 in
+    let same : line ≡ other = cc in
+    let rest = same_rest input line first.0 second.0 first.3
+    (subst (λ (l : List ℕ). IsCut input l second.0) (sym same) second.3) in
+    (same, first.1 ∙ ap Some rest ∙ sym second.1)
+one_next input line other left next (inl first) (inr second) =
+    absurd (nothing_taken input line (lines_of first.0) second.0 first.2)
+one_next input line other left next (inr first) (inl second) =
+    absurd (nothing_taken input other (lines_of second.0) first.0 second.2)
+one_next input line other left next (inr first) (inr second) =
+    (first.2 ∙ sym second.2, kept_is input left first.1 ∙ sym (kept_is input next second.1))
 
-pub one_shown_text : OneChangeset → OneShownText
-one_shown_text once input text other left next first second = (
-  first.2 ∙ ap changeset_text (one_first once input left next first.0 second.0 first.1 second.1) ∙ sym second.2,
-  one_rest input left next first.0 second.0 first.1 second.1,
-)
+-- what the first line spells is one thing, of which there is one text
+one_shown : {A : Type 0} (Fits : A → Type 0) (spelling text_of : A → List ℕ) → OneSpelled Fits spelling
+    → (input text other : List ℕ) (left next : Option (List ℕ)) → ShowsFirst Fits spelling text_of (Some input) left text
+    → ShowsFirst Fits spelling text_of (Some input) next other → (text ≡ other) × (left ≡ next)
+one_shown Fits spelling text_of once input text other left next first second =
+    let taken = one_next input first.0 second.0 left next first.2 second.2 in
+    let same = one_in_hex Fits spelling once first.0 first.1 second.1 first.3
+    (subst (λ (l : List ℕ). SpellsInHex Fits spelling l second.1) (sym taken.0) second.3) in
+    (first.4 ∙ ap text_of same ∙ sym second.4, taken.1)
+
+pub one_shown_changeset : OneChangeset → OneShownChangeset
+one_shown_changeset once = one_shown FitsChangeset changeset_spelling changeset_text once
+
+pub one_shown_blob : OneBlob → OneShownBlob
+one_shown_blob once = one_shown FitsBlob blob_spelling blob_text once

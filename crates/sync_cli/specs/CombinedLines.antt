@@ -1,19 +1,14 @@
 -- What `combine` writes: the changesets that the lines of the input spell, as one (profile of this project over
 -- SQLite's changegroup).
-use Rattle.std.specs.Prelude.{◌≡◌, ℕ, List, Ok, Option}
+use Rattle.std.specs.Prelude.{◌≡◌, ℕ, List, Option}
 use Rattle.std.specs.List.{AllZip}
-use Rattle.hex.specs.Hex.{decode_of}
 use Rattle.cs_lines.specs.Lines.{hex_line}
 use Rattle.cs_lines.specs.Served.{AreAllLines}
-use Rattle.cs_change.specs.Spelling.{FitsChangeset, changeset_spelling}
 use Rattle.cs_change.specs.declared.group.Group.{Group}
 use Rattle.cs_normal.specs.Normal.{normal_spelling}
 use Rattle.cs_normal.specs.declared.normal.TableChanges.{TableChanges}
 use Rattle.cs_group.specs.Combined.{IsCombined}
-
--- the line is hex, and its bytes are the changeset's
-abbrev pub SpellsChangeset : List ℕ → List Group → Type 0
-SpellsChangeset line groups = FitsChangeset groups × (decode_of line ≡ Ok (changeset_spelling groups))
+use Rattle.sync_cli.specs.SpelledLine.{SpellsChangeset}
 
 -- each line spells a changeset, in order
 abbrev pub SpellChangesets : List (List ℕ) → List (List Group) → Type 0

@@ -1,12 +1,12 @@
 -- The command line of `sync`, as the parser sees it, and what it asks for.
-use Rattle.std.specs.Prelude.{List, [], Option, Some, None, Bool, true, false, unwrap_or, if◌then◌else◌, codes}
+use Rattle.std.specs.Prelude.{List, [], Option, Some, None, true, unwrap_or, if◌then◌else◌, codes}
 use Rattle.std.specs.Str.{bytes_eq}
 use Rattle.clap.specs.Faults.{fault_of}
 use Rattle.clap.specs.Kinds.{Kinds}
 use Rattle.clap.specs.Words.{App, Row, Rule, Text, all_of, first_of, new_app, new_rule, subcommand_of, with_rule, with_subcommand}
 use Rattle.clap.specs.declared.builder.action.ArgAction.TheVariants.{Append}
 use Rattle.sync_cli.specs.declared.command.Tool.{Tool}
-use Rattle.sync_cli.specs.declared.command.Tool.TheVariants.{Combine, ShowChangeset}
+use Rattle.sync_cli.specs.declared.command.Tool.TheVariants.{Combine, ShowBlob, ShowChangeset}
 
 -- `TABLE...`, which may be left out
 abbrev pub table_rule : Rule
@@ -43,19 +43,23 @@ tables_in (Some found) =
 abbrev pub table_words_of : List Text → Option (List Text)
 table_words_of words = tables_in (subcommand_of sync_app words)
 
-abbrev pub is_text : Text → Option Text → Bool
-is_text text None = false
-is_text text (Some found) = bytes_eq found text
+-- what `show` is to show
+abbrev pub tool_of_what : Option Text → Option Tool
+tool_of_what None = None
+tool_of_what (Some what) =
+    if bytes_eq what (codes "changeset") then Some ShowChangeset
+    else if bytes_eq what (codes "blob") then Some ShowBlob
+    else None
 
--- whether `show` is to show a changeset
-abbrev pub is_changeset : List Row → Bool
-is_changeset rows = is_text (codes "changeset") (first_of (codes "WHAT") rows)
+-- the tool that the words of `show` ask for
+abbrev pub shown_tool : List Row → Option Tool
+shown_tool rows = tool_of_what (first_of (codes "WHAT") rows)
 
 -- the tool that a subcommand and its words ask for
 abbrev pub tool_by : Text → List Row → Option Tool
 tool_by name rows =
     if bytes_eq name (codes "combine") then Some Combine
-    else if bytes_eq name (codes "show") then (if is_changeset rows then Some ShowChangeset else None)
+    else if bytes_eq name (codes "show") then shown_tool rows
     else None
 
 abbrev pub tool_in : Option (Text × List Row) → Option Tool

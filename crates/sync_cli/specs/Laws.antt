@@ -8,18 +8,23 @@ use Rattle.cs_value.specs.declared.catalog.TableDef.{TableDef}
 use Rattle.sync_cli.specs.CatalogWords.{IsCatalogOf, IsRefusedAt}
 use Rattle.sync_cli.specs.CombinedLines.{CombinesAll}
 use Rattle.sync_cli.specs.CommandLine.{faults_of, table_words_of, tool_of}
-use Rattle.sync_cli.specs.ShownLine.{ShowsFirst}
-use Rattle.sync_cli.specs.declared.command.Tool.TheVariants.{Combine, ShowChangeset}
+use Rattle.sync_cli.specs.ShownLine.{ShowsBlob, ShowsChangeset}
+use Rattle.sync_cli.specs.declared.command.Tool.TheVariants.{Combine, ShowBlob, ShowChangeset}
 
 -- the lines of an input have one text that `combine` owes
 abbrev pub OneCombinedText : Type 0
 OneCombinedText = (input text other : List ℕ) → CombinesAll (Some input) text → CombinesAll (Some input) other
     → text ≡ other
 
--- its first line has one that `show` owes, and one rest that it leaves
-abbrev pub OneShownText : Type 0
-OneShownText = (input text other : List ℕ) (left next : Option (List ℕ)) → ShowsFirst (Some input) left text
-    → ShowsFirst (Some input) next other → (text ≡ other) × (left ≡ next)
+-- its first line has one that `show changeset` owes, and one rest that it leaves
+abbrev pub OneShownChangeset : Type 0
+OneShownChangeset = (input text other : List ℕ) (left next : Option (List ℕ)) → ShowsChangeset (Some input) left text
+    → ShowsChangeset (Some input) next other → (text ≡ other) × (left ≡ next)
+
+-- and one that `show blob` owes
+abbrev pub OneShownBlob : Type 0
+OneShownBlob = (input text other : List ℕ) (left next : Option (List ℕ)) → ShowsBlob (Some input) left text
+    → ShowsBlob (Some input) next other → (text ≡ other) × (left ≡ next)
 
 -- table words are one catalog
 abbrev pub OneCatalog : Type 0
@@ -49,6 +54,9 @@ show_words = codes "sync" ∷ codes "show" ∷ codes "changeset" ∷ []
 abbrev pub blob_words : List Text
 blob_words = codes "sync" ∷ codes "show" ∷ codes "blob" ∷ []
 
+abbrev pub nothing_words : List Text
+nothing_words = codes "sync" ∷ codes "show" ∷ codes "nothing" ∷ []
+
 abbrev pub help_words : List Text
 help_words = codes "sync" ∷ codes "--help" ∷ []
 
@@ -64,8 +72,12 @@ AsksToCombine = (faults_of combine_words ≡ []) × (tool_of combine_words ≡ S
 abbrev pub AsksToShow : Type 0
 AsksToShow = (faults_of show_words ≡ []) × (tool_of show_words ≡ Some ShowChangeset)
 
+abbrev pub AsksToShowBlob : Type 0
+AsksToShowBlob = (faults_of blob_words ≡ []) × (tool_of blob_words ≡ Some ShowBlob)
+
 abbrev pub AsksForNothing : Type 0
-AsksForNothing = (faults_of blob_words ≡ []) × (table_words_of blob_words ≡ None) × (tool_of blob_words ≡ None)
+AsksForNothing =
+    (faults_of nothing_words ≡ []) × (table_words_of nothing_words ≡ None) × (tool_of nothing_words ≡ None)
 
 abbrev pub AsksForHelp : Type 0
 AsksForHelp = faults_of help_words ≡ kind.DisplayHelp ∷ []

@@ -5,4 +5,5 @@ pub mod Endings
 pub mod Laws
 pub mod LinesRead
 pub mod ShownLine
+pub mod SpelledLine
 pub mod TableWord

@@ -1,5 +1,5 @@
 -- What has been read of an input whose lines spell changesets.
-use Rattle.std.specs.Prelude.{◌≡◌, ◌⊎◌, ℕ, List, [], Option, Some, None, Ok}
+use Rattle.std.specs.Prelude.{◌≡◌, ℕ, List, [], Option, Some, None, Ok}
 use Rattle.std.specs.Global.{Vec}
 use Rattle.std.specs.List.{AllZip}
 use Rattle.std.specs.Io.KnownBytes.{IsAtEnd, Keeps}
@@ -7,13 +7,7 @@ use Rattle.cs_change.specs.Spelling.{FitsChangeset, changeset_spelling}
 use Rattle.cs_change.specs.declared.group.Group.{Group}
 use Rattle.hex.specs.Hex.{decode_of}
 use Rattle.cs_lines.specs.Reading.{AreTaken, TakesLine}
-use Rattle.sync_cli.specs.CombinedLines.{SpellsChangeset}
-
--- the next line was taken, and no byte behind it, and spells this changeset; or there was no line, and none was taken
-abbrev pub TakesChangeset : Option (List Group) → Option (List ℕ) → Option (List ℕ) → Type 0
-TakesChangeset None old new = IsAtEnd old × Keeps old new
-TakesChangeset (Some groups) old new =
-    (line : List ℕ) × TakesLine [] old new line × SpellsChangeset line groups
+use Rattle.sync_cli.specs.SpelledLine.{Spells, TakesNext}
 
 -- the line is these bytes in hex
 abbrev pub IsHexOf : List ℕ → List ℕ → Type 0
@@ -24,10 +18,9 @@ abbrev pub TakesBytes : Option (Vec ℕ) → Option (List ℕ) → Option (List 
 TakesBytes None old new = IsAtEnd old × Keeps old new
 TakesBytes (Some bytes) old new = (line : List ℕ) × TakesLine [] old new line × IsHexOf line bytes.items
 
--- the bytes of the first line; where there is no line, none
-abbrev pub TakesFirstBytes : List ℕ → Option (List ℕ) → Option (List ℕ) → Type 0
-TakesFirstBytes bytes old new =
-    ((line : List ℕ) × TakesLine [] old new line × IsHexOf line bytes) ⊎ (IsAtEnd old × Keeps old new × (bytes ≡ []))
+-- the same, where no line counts as the empty one
+abbrev pub TakesNextBytes : List ℕ → Option (List ℕ) → Option (List ℕ) → Type 0
+TakesNextBytes bytes old new = (line : List ℕ) × TakesNext old new line × IsHexOf line bytes
 
 -- the lines are these bytes in hex, in order
 abbrev pub AreHexOf : List (List ℕ) → List (Vec ℕ) → Type 0
@@ -37,10 +30,6 @@ AreHexOf lines inputs = AllZip (λ line bytes. IsHexOf line bytes.items) lines i
 abbrev pub AreRead : Option (List ℕ) → Option (List ℕ) → List (Vec ℕ) → Type 0
 AreRead input left inputs = (lines : List (List ℕ)) × AreTaken input left lines × AreHexOf lines inputs
 
--- the bytes spell this changeset
-abbrev pub Spell : List ℕ → List Group → Type 0
-Spell bytes groups = FitsChangeset groups × (bytes ≡ changeset_spelling groups)
-
 -- each of the bytes spell a changeset, in order
 abbrev pub SpellAll : List (Vec ℕ) → List (List Group) → Type 0
-SpellAll inputs changesets = AllZip (λ bytes groups. Spell bytes.items groups) inputs changesets
+SpellAll inputs changesets = AllZip (λ bytes groups. Spells FitsChangeset changeset_spelling bytes.items groups) inputs changesets

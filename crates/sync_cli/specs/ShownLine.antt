@@ -1,18 +1,22 @@
--- What `show changeset` writes: the changeset of the first line as text (format of this project).
-use Rattle.std.specs.Prelude.{◌≡◌, ◌⊎◌, ℕ, List, [], Option, Some, None}
-use Rattle.cs_change.specs.declared.group.Group.{Group}
-use Rattle.cs_text.specs.Text.{changeset_text}
-use Rattle.sync_cli.specs.LinesRead.{Spell, TakesChangeset}
+-- What `show` writes: what the first line spells, as text (format of this project).
+use Rattle.std.specs.Prelude.{◌≡◌, ℕ, List, Option}
+use Rattle.cs_change.specs.Spelling.{FitsChangeset, changeset_spelling}
+use Rattle.cs_blob.specs.Spelling.{FitsBlob, blob_spelling}
+use Rattle.cs_text.specs.Text.{blob_text, changeset_text}
+use Rattle.sync_cli.specs.SpelledLine.{Spells, SpellsInHex, TakesNext}
 
--- the changeset that the first line spells, and the rest of the lines is left; where there is no line, the empty one
-abbrev pub TakesFirst : Option (List ℕ) → Option (List ℕ) → List Group → Type 0
-TakesFirst old new groups =
-    TakesChangeset (Some groups) old new ⊎ (TakesChangeset None old new × (groups ≡ []))
+-- the text of what the first line spells, which is in range; the rest of the lines is left
+abbrev pub ShowsFirst : {A : Type 0} → (A → Type 0) → (A → List ℕ) → (A → List ℕ)
+    → Option (List ℕ) → Option (List ℕ) → List ℕ → Type 0
+ShowsFirst {A} Fits spelling text_of old new text = (line : List ℕ) × (thing : A)
+    × TakesNext old new line × SpellsInHex Fits spelling line thing × (text ≡ text_of thing)
 
--- its text
-abbrev pub ShowsFirst : Option (List ℕ) → Option (List ℕ) → List ℕ → Type 0
-ShowsFirst old new text = (groups : List Group) × TakesFirst old new groups × (text ≡ changeset_text groups)
+-- the same of bytes
+abbrev pub ShowsBytes : {A : Type 0} → (A → Type 0) → (A → List ℕ) → (A → List ℕ) → List ℕ → List ℕ → Type 0
+ShowsBytes {A} Fits spelling text_of bytes text = (thing : A) × Spells Fits spelling bytes thing × (text ≡ text_of thing)
 
--- the text of the changeset that these bytes spell
-abbrev pub ShowsBytes : List ℕ → List ℕ → Type 0
-ShowsBytes bytes text = (groups : List Group) × Spell bytes groups × (text ≡ changeset_text groups)
+abbrev pub ShowsChangeset : Option (List ℕ) → Option (List ℕ) → List ℕ → Type 0
+ShowsChangeset old new text = ShowsFirst FitsChangeset changeset_spelling changeset_text old new text
+
+abbrev pub ShowsBlob : Option (List ℕ) → Option (List ℕ) → List ℕ → Type 0
+ShowsBlob old new text = ShowsFirst FitsBlob blob_spelling blob_text old new text

@@ -5,10 +5,10 @@ ghost use Rattle.cs_lines.specs.Served.{AreAllLines};
 ghost use Rattle.sync_cli.specs.CombinedLines.{CombinesAll, SpellsCombined};
 ghost use Rattle.sync_cli.specs.Endings.{EndsWriting};
 
-use crate::input::{Refusal, all_bytes, read_all, tell_refusal};
-use crate::status::{DONE, REFUSED_INPUT, WRITE, tell};
+use crate::input::{Refusal, all_bytes, read_all};
+use crate::output::end_with_line;
 use cs_group::combine;
-use cs_lines::{LineInput, LineOutput, write_hex_line};
+use cs_lines::{LineInput, LineOutput};
 use std::alloc::Global;
 use std::io::Write;
 
@@ -43,12 +43,6 @@ pub fn combine_lines<R: LineInput, W: LineOutput, E: Write>(
         (W.contents writer.old) (W.contents writer.new) }
     ensures sent { result ≡ 0 → W.sent writer.new }
 {
-    let bytes = match combined_bytes(alloc, reader) {
-        Ok(bytes) => bytes,
-        Err(refusal) => return tell_refusal(&refusal, errors),
-    };
-    match write_hex_line(writer, &bytes) {
-        Ok(()) => DONE,
-        Err(_) => tell(errors, WRITE, REFUSED_INPUT),
-    }
+    let bytes = combined_bytes(alloc, reader);
+    end_with_line(bytes, writer, errors)
 }

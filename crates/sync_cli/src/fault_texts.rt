@@ -53,6 +53,27 @@ fn each_fault_has_its_text(rt: HostRuntime) -> Result<(), Fail> {
     Ok(())
 }
 
+// The faults of a rebase blob are told as those of a changeset: an UPDATE's byte begins no entry.
+#[test]
+fn faults_of_blobs_have_their_texts(rt: HostRuntime) -> Result<(), Fail> {
+    let alloc = rt.alloc();
+    let faults = [
+        (format!(in alloc; "zz")?, "BadHex"),
+        (format!(in alloc; "{H1}17")?, "BadOperation at 7"),
+        (format!(in alloc; "{H1}1202")?, "BadFlag at 8"),
+        (format!(in alloc; "50")?, "Patchset at 0"),
+        (format!(in alloc; "{H1}1200{K1}03")?, "Truncated at 19"),
+        (format!(in alloc; "{H1}0900{K1}00")?, "UndefinedHere at 18"),
+        (format!(in alloc; "{H1}120000")?, "UndefinedHere at 9"),
+    ];
+    let words = ["sync", "show", "blob"].as_slice();
+    for (line, name) in &faults {
+        let told = format!(in alloc; "sync: {name}\n")?;
+        expect(&rt, alloc, words, line.as_bytes(), 1, "", told.as_str())?;
+    }
+    Ok(())
+}
+
 #[test]
 fn each_refusal_to_combine_has_its_text(rt: HostRuntime) -> Result<(), Fail> {
     let alloc = rt.alloc();

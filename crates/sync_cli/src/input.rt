@@ -1,11 +1,11 @@
-//! Changesets in hex, line by line, and why an input is refused.
+//! Lines in hex, and why an input is refused.
 
 ghost use Rattle.std.specs.Prelude.{◌≡◌, ℕ, List, Ok, None, IfOk};
 ghost use Rattle.std.specs.List.{AllByRecursion};
 ghost use Rattle.cs_change.specs.Spelling.{FitsChangeset};
 ghost use Rattle.hex.specs.Hex.{decode_of};
 ghost use Rattle.cs_lines.specs.Served.{AreAllLines};
-ghost use Rattle.sync_cli.specs.LinesRead.{AreHexOf, SpellAll, TakesBytes};
+ghost use Rattle.sync_cli.specs.LinesRead.{AreHexOf, SpellAll, TakesBytes, TakesNextBytes};
 
 use crate::status::REFUSED_INPUT;
 use cs_changeset::{Changeset, CodecFault};
@@ -27,9 +27,9 @@ pub enum Refusal {
     /// A line is no hex.
     #[error("BadHex")]
     BadHex,
-    /// A line spells no changeset.
+    /// A line spells no changeset, or no rebase blob.
     #[error("{0}")]
-    Changeset(#[from] CodecFault),
+    Codec(#[from] CodecFault),
     /// The changesets can't be taken together.
     #[error("{0}")]
     Combine(#[from] CombineFault),
@@ -59,6 +59,17 @@ pub fn next_bytes<R: LineInput>(
         Ok(LineRead::End) => Ok(None),
         Ok(LineRead::Skipped) => Err(Refusal::Memory(AllocError)),
         Err(_) => Err(Refusal::Read),
+    }
+}
+
+/// The same, where no line is the empty line.
+pub fn next_or_empty<R: LineInput>(alloc: Global, reader: &mut R) -> Result<Vec<u8>, Refusal>
+    ensures { IfOk result (λ bytes. TakesNextBytes bytes.items (R.remaining reader.old) (R.remaining reader.new)) }
+{
+    let mut line = Vec::new(alloc);
+    match next_bytes(alloc, reader, &mut line)? {
+        Some(bytes) => Ok(bytes),
+        None => Ok(Vec::new(alloc)),
     }
 }
 

@@ -1,7 +1,7 @@
 //! The laws of the program, and what some command lines ask for, by computation: each is the contract of a function
 //! that does nothing.
 
-ghost use Rattle.sync_cli.specs.Laws.{AsksForAHub, AsksForHelp, AsksForNothing, AsksToCombine, AsksToShow, IsNotTaken, NoCatalogRefused, OneCatalog, OneCombinedText, OneRefusedWord, OneShownText};
+ghost use Rattle.sync_cli.specs.Laws.{AsksForAHub, AsksForHelp, AsksForNothing, AsksToCombine, AsksToShow, AsksToShowBlob, IsNotTaken, NoCatalogRefused, OneCatalog, OneCombinedText, OneRefusedWord, OneShownBlob, OneShownChangeset};
 
 /// An input has one text that `combine` owes.
 pub fn one_combined_text()
@@ -11,11 +11,18 @@ pub fn one_combined_text()
     cs_group::laws::one_combined();
 }
 
-/// An input has one text that `show` owes, and one rest that it leaves.
-pub fn one_shown_text()
-    ensures { OneShownText }
+/// An input has one text that `show changeset` owes, and one rest that it leaves.
+pub fn one_shown_changeset()
+    ensures { OneShownChangeset }
 {
     cs_changeset::laws::changesets();
+}
+
+/// It has one text that `show blob` owes, and one rest that it leaves.
+pub fn one_shown_blob()
+    ensures { OneShownBlob }
+{
+    cs_blob::laws::blobs();
 }
 
 /// Table words are one catalog.
@@ -48,7 +55,12 @@ pub fn asks_to_show()
     ensures { AsksToShow }
 {}
 
-/// `sync show blob` is taken and asks for nothing.
+/// `sync show blob` is taken and asks to show a rebase blob.
+pub fn asks_to_show_blob()
+    ensures { AsksToShowBlob }
+{}
+
+/// `sync show nothing` is taken and asks for nothing.
 pub fn asks_for_nothing()
     ensures { AsksForNothing }
 {}

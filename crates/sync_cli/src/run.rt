@@ -6,15 +6,15 @@ ghost use Rattle.clap.specs.Words.{kind_of};
 ghost use Rattle.sync_cli.specs.CombinedLines.{CombinesAll};
 ghost use Rattle.sync_cli.specs.CommandLine.{faults_of, table_words_of, tool_of};
 ghost use Rattle.sync_cli.specs.Endings.{EndsServing, EndsUnasked, EndsUntaken, EndsWriting};
-ghost use Rattle.sync_cli.specs.ShownLine.{ShowsFirst};
-ghost use Rattle.sync_cli.specs.declared.command.Tool.TheVariants.{Combine, ShowChangeset};
+ghost use Rattle.sync_cli.specs.ShownLine.{ShowsBlob, ShowsChangeset};
+ghost use Rattle.sync_cli.specs.declared.command.Tool.TheVariants.{Combine, ShowBlob, ShowChangeset};
 
 use crate::combine::combine_lines;
 use crate::command;
 use crate::command::Tool;
 use crate::hub::serve_hub;
 use crate::output::write_text;
-use crate::show::show_changeset;
+use crate::show::{show_blob, show_changeset};
 use crate::status::{COMMAND_LINE, DONE, MEMORY, REFUSED_COMMAND, REFUSED_INPUT, WRITE, tell};
 use clap::Error;
 use clap::error::ErrorKind;
@@ -57,7 +57,12 @@ pub fn run<S: AsStr, R: LineInput, W: LineOutput, E: Write>(
 
     // `show changeset`: the changeset of the first line as text, and the rest of the lines is left.
     ensures show { faults_of (map S.text words.now) ≡ [] → tool_of (map S.text words.now) ≡ Some ShowChangeset
-        → EndsWriting result (ShowsFirst (R.remaining reader.old) (R.remaining reader.new)) (W.failed writer.new)
+        → EndsWriting result (ShowsChangeset (R.remaining reader.old) (R.remaining reader.new)) (W.failed writer.new)
+        (W.contents writer.old) (W.contents writer.new) }
+
+    // `show blob`: the rebase blob of the first line as text, and the rest of the lines is left.
+    ensures show_blob { faults_of (map S.text words.now) ≡ [] → tool_of (map S.text words.now) ≡ Some ShowBlob
+        → EndsWriting result (ShowsBlob (R.remaining reader.old) (R.remaining reader.new)) (W.failed writer.new)
         (W.contents writer.old) (W.contents writer.new) }
 
     // Words that the command line takes and that ask for nothing.
@@ -75,6 +80,7 @@ pub fn run<S: AsStr, R: LineInput, W: LineOutput, E: Write>(
     match command::tool_of(&matches) {
         Some(Tool::Combine) => combine_lines(alloc, reader, writer, errors),
         Some(Tool::ShowChangeset) => show_changeset(alloc, reader, writer, errors),
+        Some(Tool::ShowBlob) => show_blob(alloc, reader, writer, errors),
         None => tell(errors, COMMAND_LINE, REFUSED_COMMAND),
     }
 }

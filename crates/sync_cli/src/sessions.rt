@@ -255,3 +255,25 @@ fn shows_changesets(rt: HostRuntime) -> Result<(), Fail> {
         told,
     )
 }
+
+#[test]
+fn shows_blobs(rt: HostRuntime) -> Result<(), Fail> {
+    let words = ["sync", "show", "blob"].as_slice();
+    let shown = [
+        ("", ""),
+        ("\nzz\n", ""),
+        ("54020100743100\n", "table t1 10\n"),
+        (
+            "5404010000007432001201010000000000000001030262320302633200\n",
+            "table t2 1000\nchange replace 1 t=b2 t=c2 -\n",
+        ),
+        (
+            "54020100743100090001000000000000000103027631\nzz\n",
+            "table t1 10\ndelete omit 1 t=v1\n",
+        ),
+    ];
+    for (input, output) in shown {
+        expect(&rt, rt.alloc(), words, input.as_bytes(), 0, output, "")?;
+    }
+    Ok(())
+}

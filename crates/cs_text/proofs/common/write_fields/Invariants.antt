@@ -1,7 +1,7 @@
 use Rattle.std.proofs.Common.{◌≡◌, ℕ, List, ◌++◌, length}
 use Rattle.std.specs.Fmt.{HasWritten, IsPlainFormatter}
 use Rattle.cs_text.specs.Text.{fields_text}
-use Rattle.cs_text.proofs.changesets.write_fields.Given as goal
+use Rattle.cs_text.proofs.common.write_fields.Given as goal
 
 abbrev pub invariant-loop-column : goal.invariant-loop-column
 invariant-loop-column g l =

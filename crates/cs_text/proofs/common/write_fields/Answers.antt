@@ -1,7 +1,7 @@
 use Rattle.std.proofs.Common.{◌++◌, ap, sym, refl, ◌∙◌, append_assoc}
 use Rattle.std.proofs.lemmas.Grind.{put_two}
 use Rattle.cs_text.specs.Text.{spaced, field_text, fields_text}
-use Rattle.cs_text.proofs.changesets.write_fields.Goals as goal
+use Rattle.cs_text.proofs.common.write_fields.Goals as goal
 
 pub loop-column-preserved : goal.loop-column-preserved
 loop-column-preserved g c =

@@ -1,7 +1,7 @@
 use Rattle.std.proofs.Common.{take}
 use Rattle.std.specs.Fmt.{HasWritten, IsPlainFormatter}
 use Rattle.cs_text.specs.Text.{marks_text}
-use Rattle.cs_text.proofs.changesets.write_marks.Given as goal
+use Rattle.cs_text.proofs.common.write_marks.Given as goal
 
 abbrev pub invariant-loop-mark : goal.invariant-loop-mark
 invariant-loop-mark g l =
