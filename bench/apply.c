@@ -189,18 +189,6 @@ static int answer_in_turn(void *context, int kind, sqlite3_changeset_iter *iter)
     return (*asked)++ % 2 ? SQLITE_CHANGESET_REPLACE : SQLITE_CHANGESET_OMIT;
 }
 
-/* Rows 0 to count - 1 of the first table, or other rows at some keys. */
-static void insert_rows(sqlite3 *db, long count) {
-    sqlite3_stmt *insert = prepare(db, "INSERT INTO t VALUES(?1, 'row ' || ?1, ?1 * 7)");
-    run(db, "BEGIN");
-    for (long i = 0; i < count; i++) {
-        sqlite3_bind_int64(insert, 1, i);
-        execute(db, insert);
-    }
-    run(db, "COMMIT");
-    sqlite3_finalize(insert);
-}
-
 /* A third each INSERT, UPDATE and DELETE. */
 static void change_thirds(sqlite3 *db, long count) {
     static const char *const changes[] = {"INSERT INTO t VALUES(?1 + 1000000000, 'new ' || ?1, ?1)",

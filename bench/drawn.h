@@ -92,6 +92,18 @@ static inline sqlite3 *open_tables(int count) {
     return db;
 }
 
+/* Rows 0 to count - 1 of the first table. */
+static inline void insert_rows(sqlite3 *db, long count) {
+    sqlite3_stmt *insert = prepare(db, "INSERT INTO t VALUES(?1, 'row ' || ?1, ?1 * 7)");
+    run(db, "BEGIN");
+    for (long i = 0; i < count; i++) {
+        sqlite3_bind_int64(insert, 1, i);
+        execute(db, insert);
+    }
+    run(db, "COMMIT");
+    sqlite3_finalize(insert);
+}
+
 /* Copies the rows of the first so many tables. */
 static inline void copy_rows(sqlite3 *from, sqlite3 *to, int count) {
     run(to, "BEGIN");
@@ -215,13 +227,15 @@ static inline void change_one(sqlite3 *db, int count) {
     unsigned what = draw(10);
     if (place == 0) {
         if (what < 4) sql = sqlite3_mprintf("INSERT OR IGNORE INTO t VALUES(%u, %s, %s)", key, draw_value(), draw_value());
-        else if (what < 6) sql = sqlite3_mprintf("UPDATE t SET v = %s WHERE id = %u", draw_value(), key);
+        else if (what < 5) sql = sqlite3_mprintf("UPDATE t SET v = %s WHERE id = %u", draw_value(), key);
+        else if (what < 6) sql = sqlite3_mprintf("UPDATE t SET w = %s WHERE id = %u", draw_value(), key);
         else if (what < 8) sql = sqlite3_mprintf("UPDATE t SET v = %s, w = %s WHERE id = %u", draw_value(), draw_value(), key);
         else sql = sqlite3_mprintf("DELETE FROM t WHERE id = %u", key);
     } else if (place == 1) {
         static const char *const keys[] = {"0", "'k'", "x'6b'"};
         if (what < 4) sql = sqlite3_mprintf("INSERT OR IGNORE INTO u VALUES(%u, %s, %s, %s)", key % 3, draw_value(), keys[other], draw_value());
-        else if (what < 8) sql = sqlite3_mprintf("UPDATE u SET b = %s WHERE a = %u AND c = %s", draw_value(), key % 3, keys[other]);
+        else if (what < 6) sql = sqlite3_mprintf("UPDATE u SET b = %s WHERE a = %u AND c = %s", draw_value(), key % 3, keys[other]);
+        else if (what < 8) sql = sqlite3_mprintf("UPDATE u SET b = %s, d = %s WHERE a = %u AND c = %s", draw_value(), draw_value(), key % 3, keys[other]);
         else sql = sqlite3_mprintf("DELETE FROM u WHERE a = %u AND c = %s", key % 3, keys[other]);
     } else {
         static const char *const keys[] = {"", "k", "kk", "l", "\xc3\xbc"};
