@@ -52,12 +52,12 @@ build_program() {
         -o "$out/$name"
 }
 
-# Proves and builds the Rattle program NAME.rattle of this folder, which uses these crates and libraries of the kit, over copies
-# of all crates that are named behind them: build_rattle NAME "USED .." CRATE ... It is made in a repository of its own outside
-# this one, since the gate takes no source that is no crate's. A crate is copied with what its proof left, so that it isn't
-# proved again.
+# Proves and builds the Rattle program NAME.rattle of this folder, with the modules of this folder that it names by `mod`. It uses
+# these crates and libraries of the kit, over copies of all crates that are named behind them: build_rattle NAME "USED .." CRATE ...
+# It is made in a repository of its own outside this one, since the gate takes no source that is no crate's. A crate is copied
+# with what its proof left, so that it isn't proved again.
 build_rattle() {
-    local name="$1" used="$2" work
+    local name="$1" used="$2" module work
     shift 2
     mkdir -p "$out"
     work="$(mktemp -d)"
@@ -68,6 +68,9 @@ build_rattle() {
     done
     echo "$name: $used" >> "$work/crates.txt"
     cp "$bench/$name.rattle" "$work/crates/$name/src/main.rt"
+    for module in $(sed -n 's/^mod \([a-z_]*\);$/\1/p' "$bench/$name.rattle"); do
+        cp "$bench/$module.rattle" "$work/crates/$name/src/$module.rt"
+    done
     : > "$work/crates/$name/stdin"
     if (cd "$work/crates/$name" && rt run > "$out/${name}_build.log" 2>&1); then
         cp "$work/crates/$name/out/$name" "$out/$name"
