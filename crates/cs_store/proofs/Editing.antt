@@ -192,6 +192,7 @@ run_below es from at p le within s found = ⊎_elim none some found.0
   where
     none : at ≡ from → AreBelow (slice_range es from at) p
     none e = let z : at - from ≡ 0 = omega (arith, e) in subst (λ n. AreBelow (take n (drop from es)) p) (sym z) tt
+
     some : is_lt (place_cmp (nth es (at - 1)).0 p) ≡ true → AreBelow (slice_range es from at) p
     some l = elim (at - from) as (λ n. at - from ≡ n → AreBelow (take n (drop from es)) p) [
       | zero ↦ λ e. tt
@@ -222,6 +223,7 @@ put_here z zs p (Some v) s e =
     equal Less h = absurd cc
     equal Equal h = refl
     equal Greater h = absurd cc
+
     tied : (q : StorePlace) → place_cmp q q ≡ Equal
     tied q = equal _ ((eq_by_cmp_equiv place_total).refl q)
 
@@ -243,22 +245,26 @@ put_at es at next p w within s notless behind = ⊎_elim there gone behind
   where
     cut : T (is_sorted place_cmp (drop at es))
     cut = sorted_back (take at es) (drop at es) (subst (λ zs. T (is_sorted place_cmp zs)) (sym (take-append-drop at es)) s)
+
     head : at < length es → drop at es ≡ nth es at ∷ drop (at + 1) es
     head l = drop_more es at no_entry l
+
     there : (next ≡ at + 1) × (at < length es) × (place_cmp (nth es at).0 p ≡ Equal) → put_row (drop at es) p w ≡ written p w ++ drop next es
     there h = ap (λ zs. put_row zs p w) (head h.1) ∙ put_here (nth es at) (drop (at + 1) es) p w (subst (λ zs. T (is_sorted place_cmp zs)) (head h.1) cut) h.2
         ∙ ap (λ k. written p w ++ drop k es) (sym h.0)
+
     end : next ≡ at → at ≡ length es → put_row (drop at es) p w ≡ written p w ++ drop next es
     end n e = put_new (drop at es) p w (subst (λ zs. T (below_all place_cmp p zs)) (sym (drop_all at es (omega (arith, e)))) tt) ∙ ap (λ k. written p w ++ drop k es) (sym n)
+
     gone : (next ≡ at) × ((at ≡ length es) ⊎ (is_eq (place_cmp (nth es at).0 p) ≡ false)) → put_row (drop at es) p w ≡ written p w ++ drop next es
     gone h = ⊎_elim (λ e. end h.0 e) (λ neq. ⊎_elim (λ e. end h.0 e) (λ nlt. elim (ltb at (length es)) as (λ b. ltb at (length es) ≡ b → put_row (drop at es) p w ≡ written p w ++ drop next es) [
-          | false ↦ λ e. end h.0 (omega (arith, within, ltb-false at (length es) e))
-          | true ↦ λ e.
-              let l : at < length es = ltb-true at (length es) e in
-              put_new (drop at es) p w (subst (λ zs. T (below_all place_cmp p zs)) (sym (head l))
-              (above_head (nth es at) (drop (at + 1) es) p (subst (λ zs. T (is_sorted place_cmp zs)) (head l) cut) (not_both _ nlt neq)))
-              ∙ ap (λ k. written p w ++ drop k es) (sym h.0)
-        ] refl) notless) h.1
+      | false ↦ λ e. end h.0 (omega (arith, within, ltb-false at (length es) e))
+      | true ↦ λ e.
+          let l : at < length es = ltb-true at (length es) e in
+          put_new (drop at es) p w (subst (λ zs. T (below_all place_cmp p zs)) (sym (head l))
+          (above_head (nth es at) (drop (at + 1) es) p (subst (λ zs. T (is_sorted place_cmp zs)) (head l) cut) (not_both _ nlt neq)))
+          ∙ ap (λ k. written p w ++ drop k es) (sym h.0)
+    ] refl) notless) h.1
 
 written_below : (p q : StorePlace) (w : Option (List ℕ)) → place_cmp p q ≡ Less → AreBelow (written p w) q
 written_below p q None l = tt

@@ -45,9 +45,10 @@ pub pieces_more : (pieces all : List (List Entry)) (leaf made piece : List Entry
     → made ≡ [] → piece ≡ made ++ slice_range leaf from to → all ≡ pieces ++ piece ∷ [] → (flat all ≡ take to leaf) × All (λ piece. 0 < length piece) all
 pieces_more pieces all leaf made piece from to less within so_far full none is grown =
     let n : from + (to - from) ≡ to = omega (arith, less) in
-    let its : piece ≡ slice_range leaf from to = is ∙ ap (λ (zs : List Entry). zs ++ slice_range leaf from to) none in
-    (ap flat grown ∙ flat_append pieces (piece ∷ []) ∙ (λ i. so_far i ++ (append-nil piece ∙ its) i) ∙ sym (take_slice leaf from (to - from)) ∙ ap (λ k. take k leaf) n,
-    subst (All (λ piece. 0 < length piece)) (sym grown) (All-push (λ piece. 0 < length piece) pieces piece full (let l = ap length its in let k = length-between leaf from to within in omega (arith, l, k, less))))
+    let its : piece ≡ slice_range leaf from to = is ∙ ap (λ (zs : List Entry). zs ++ slice_range leaf from to) none in (
+      ap flat grown ∙ flat_append pieces (piece ∷ []) ∙ (λ i. so_far i ++ (append-nil piece ∙ its) i) ∙ sym (take_slice leaf from (to - from)) ∙ ap (λ k. take k leaf) n,
+      subst (All (λ piece. 0 < length piece)) (sym grown) (All-push (λ piece. 0 < length piece) pieces piece full (let l = ap length its in let k = length-between leaf from to within in omega (arith, l, k, less))),
+    )
 
 -- ---- a merge, edit by edit
 
@@ -113,8 +114,10 @@ leaves_before leaves at p less some s by = ⊎_elim zeroth (λ g. below_most (fl
   where
     zeroth : at ≡ 0 → AreBelow (flat (take at leaves)) p
     zeroth e = subst (λ n. AreBelow (flat (take n leaves)) p) (sym e) tt
+
     whole : flat leaves ≡ flat (take at leaves) ++ (nth (nth_leaf leaves at) 0 ∷ (drop 1 (nth_leaf leaves at) ++ flat (drop (at + 1) leaves)))
     whole = flat_split leaves at less ∙ ap (λ (zs : List Entry). flat (take at leaves) ++ (zs ++ flat (drop (at + 1) leaves))) (some_first (nth_leaf leaves at) some)
+
     low : AreBelow (flat (take at leaves)) (first_place leaves at)
     low = below_split (flat (take at leaves)) (drop 1 (nth_leaf leaves at) ++ flat (drop (at + 1) leaves)) (nth (nth_leaf leaves at) 0) (subst (λ zs. T (is_sorted place_cmp zs)) whole s)
 
@@ -130,6 +133,7 @@ leaves_behind leaves at p within some s behind = ⊎_elim none above behind
         no_more [] (suc n) e = refl
         no_more (l ∷ ls) zero e = absurd (omega (arith, e))
         no_more (l ∷ ls) (suc n) e = no_more ls n (omega (arith, e))
+
     above : is_gt (place_cmp (first_place leaves at) p) ≡ true → T (below_all place_cmp p (flat (drop at leaves)))
     above g = elim (ltb at (length leaves)) as (λ b. ltb at (length leaves) ≡ b → T (below_all place_cmp p (flat (drop at leaves)))) [
       | false ↦ λ e. none (omega (arith, within, ltb-false at (length leaves) e))
@@ -140,6 +144,7 @@ leaves_behind leaves at p within some s behind = ⊎_elim none above behind
         greater_from Less h = absurd cc
         greater_from Equal h = absurd cc
         greater_from Greater h = refl
+
         there : at < length leaves → place_cmp (first_place leaves at) p ≡ Greater → T (below_all place_cmp p (flat (drop at leaves)))
         there less gt =
             let l : place_cmp p (first_place leaves at) ≡ Less = place_total.antisymm p (first_place leaves at) ∙ ap ordering_reverse gt in
@@ -187,9 +192,9 @@ find_there leaf at p less s found e =
 
 pub find_nothing : (leaf : List Entry) (at : ℕ) (p : StorePlace) → at ≤ length leaf → T (is_sorted place_cmp leaf) → IsPlaceFor leaf 0 at p → (at < length leaf → is_eq (place_cmp (nth leaf at).0 p) ≡ false) → find place_cmp p leaf ≡ None
 find_nothing leaf at p within s found apart = from_place leaf at p within s found ∙ elim (ltb at (length leaf)) as (λ b. ltb at (length leaf) ≡ b → find place_cmp p (drop at leaf) ≡ None) [
-      | false ↦ λ e. ap (find place_cmp p) (drop_all at leaf (ltb-false at (length leaf) e))
-      | true ↦ λ e. above (ltb-true at (length leaf) e)
-    ] refl
+  | false ↦ λ e. ap (find place_cmp p) (drop_all at leaf (ltb-false at (length leaf) e))
+  | true ↦ λ e. above (ltb-true at (length leaf) e)
+] refl
   where
     above : at < length leaf → find place_cmp p (drop at leaf) ≡ None
     above less =
@@ -263,25 +268,36 @@ patch_leaf leaves now from at w ws are long sorted same le less by before rise =
   where
     leaf : List Entry
     leaf = nth_leaf leaves at
+
     made : List Entry
     made = fold edited (nth_leaf leaves at) (w ∷ ws)
+
     front : List Entry
     front = flat (take at now)
+
     back : List Entry
     back = flat (drop (at + 1) now)
+
     there : at < length now
     there = omega (arith, less, long)
+
     is : nth_leaf now at ≡ nth_leaf leaves at
     is = nth_later now leaves from at le same
+
     low : AreBelow front (edit_place w)
     low = leaves_before now at (edit_place w) there (subst (λ (l : List Entry). 0 < length l) (sym is) (are.full at [] less)) sorted
         (subst (λ (l : List Entry). (at ≡ 0) ⊎ (is_gt (place_cmp (nth l 0).0 (edit_place w)) ≡ false)) (sym is) by)
+
     is_next : nth_leaf now (at + 1) ≡ nth_leaf leaves (at + 1)
     is_next = nth_later now leaves from (at + 1) (omega (arith, le)) same
+
     edits_below : (vs : List RowEdit) → AreBefore leaves (at + 1) vs → EditsBelow vs back
     edits_below [] h = tt
-    edits_below (v ∷ vs) h = (leaves_behind now (at + 1) (edit_place v) (omega (arith, there)) (λ more. subst (λ (l : List Entry). 0 < length l) (sym is_next) (are.full (at + 1) [] (omega (arith, more, long)))) sorted
-            (⊎_elim (λ e. inl (e ∙ sym long)) (λ g. inr (ap (λ (l : List Entry). is_gt (place_cmp (nth l 0).0 (edit_place v))) is_next ∙ g)) h.0), edits_below vs h.1)
+    edits_below (v ∷ vs) h = (
+      leaves_behind now (at + 1) (edit_place v) (omega (arith, there)) (λ more. subst (λ (l : List Entry). 0 < length l) (sym is_next) (are.full (at + 1) [] (omega (arith, more, long)))) sorted
+          (⊎_elim (λ e. inl (e ∙ sym long)) (λ g. inr (ap (λ (l : List Entry). is_gt (place_cmp (nth l 0).0 (edit_place v))) is_next ∙ g)) h.0),
+      edits_below vs h.1,
+    )
 
 pub patch_more : (leaves now : List (List Entry)) (from at count : ℕ) (w : RowEdit) (ws vs : List RowEdit) (made : List Entry) (end : List Entry) → AreLeaves leaves → length now ≡ length leaves → T (is_sorted place_cmp (flat now)) → drop from now ≡ drop from leaves
     → from ≤ at → at < length leaves → BeginsBy leaves at (edit_place w) → ws ≡ w ∷ vs → 0 < count → AreBefore leaves (at + 1) (take count ws) → Rise ws → made ≡ fold edited (nth_leaf leaves at) (take count ws) → fold edited (flat now) ws ≡ end
@@ -290,9 +306,9 @@ patch_more leaves now from at zero w ws vs made end are long sorted same le less
 patch_more leaves now from at (suc n) w ws vs made end are long sorted same le less by is some before rise makes was =
     let first : take (suc n) ws ≡ w ∷ take n vs = ap (take (suc n)) is in
     let one : flat (slice_set now at made) ≡ fold edited (flat now) (take (suc n) ws) =
-        ap (λ (m : List Entry). flat (slice_set now at m)) (makes ∙ ap (fold edited (nth_leaf leaves at)) first)
-        ∙ patch_leaf leaves now from at w (take n vs) are long sorted same le less by (subst (AreBefore leaves (at + 1)) first before) (subst Rise first (rise_take ws (suc n) rise))
-        ∙ ap (fold edited (flat now)) (sym first) in
+    ap (λ (m : List Entry). flat (slice_set now at m)) (makes ∙ ap (fold edited (nth_leaf leaves at)) first)
+    ∙ patch_leaf leaves now from at w (take n vs) are long sorted same le less by (subst (AreBefore leaves (at + 1)) first before) (subst Rise first (rise_take ws (suc n) rise))
+    ∙ ap (fold edited (flat now)) (sym first) in
     (one, ap (λ (es : List Entry). fold edited es (drop (suc n) ws)) one ∙ sym (fold_both (flat now) (take (suc n) ws) (drop (suc n) ws)) ∙ ap (fold edited (flat now)) (take-append-drop (suc n) ws) ∙ was)
 
 -- where the next edit's leaf may be looked for

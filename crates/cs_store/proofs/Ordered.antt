@@ -94,9 +94,12 @@ comes_before x y = is_lt (place_cmp (edit_place x.now) (edit_place y.now))
 pub sorted_edits_dont_fall : (xs : List (Bor RowEdit)) → IsSortedBy comes_before xs → DontFall (edits_behind xs)
 sorted_edits_dont_fall [] h = tt
 sorted_edits_dont_fall (x ∷ []) h = (tt, tt)
-sorted_edits_dont_fall (x ∷ y ∷ xs) h = (h 0 x (omega arith) (omega arith), sorted_edits_dont_fall (y ∷ xs) (λ k d a b.
-    let n : suc k + 1 ≡ suc (k + 1) = omega arith in
-    ap (λ j. comes_before (get_or (x ∷ y ∷ xs) j d) (get_or (y ∷ xs) k d)) (sym n) ∙ h (suc k) d (omega arith) (omega (arith, b))))
+sorted_edits_dont_fall (x ∷ y ∷ xs) h = (
+  h 0 x (omega arith) (omega arith),
+  sorted_edits_dont_fall (y ∷ xs) (λ k d a b.
+      let n : suc k + 1 ≡ suc (k + 1) = omega arith in
+      ap (λ j. comes_before (get_or (x ∷ y ∷ xs) j d) (get_or (y ∷ xs) k d)) (sym n) ∙ h (suc k) d (omega arith) (omega (arith, b))),
+)
 
 -- what edits leave at a place
 after : StorePlace → List RowEdit → Option (List ℕ) → Option (List ℕ)
@@ -149,6 +152,7 @@ sorted_same xs ys stable rows = same_map place_total place_exact _ _ (λ q. get-
   where
     by : (q : StorePlace) (row : Option (List ℕ)) → ((x : Bor RowEdit) × (edit_place x.now ≡ q)) → after q (edits_behind ys) row ≡ after q (edits_behind xs) row
     by q row h = after_filter h.0 q h.1 ys row ∙ ap (λ (zs : List (Bor RowEdit)). after q (edits_behind zs) row) (stable h.0) ∙ sym (after_filter h.0 q h.1 xs row)
+
     at : (q : StorePlace) (row : Option (List ℕ)) → after q (edits_behind ys) row ≡ after q (edits_behind xs) row
     at q row = ⊎_elim (by q row) (λ none. ⊎_elim (by q row) (λ nothing. none row ∙ sym (nothing row)) (there_or_none xs q)) (there_or_none ys q)
 

@@ -30,10 +30,7 @@ fn is_last(edits: &[&RowEdit], at: usize) -> bool
 }
 
 /// Of edits whose places don't fall the last of each place.
-fn last_of_each<'a>(
-    alloc: Global,
-    edits: &[&'a RowEdit],
-) -> Result<Vec<&'a RowEdit>, AllocError>
+fn last_of_each<'a>(alloc: Global, edits: &[&'a RowEdit]) -> Result<Vec<&'a RowEdit>, AllocError>
     requires { DontFall (edits_behind edits.now) }
     ensures rise { IfOk result (λ latest. Rise (edits_behind latest.items)) }
     ensures same { IfOk result (λ latest. (rows : Rows) → fold edit_row rows (edits_behind latest.items)

@@ -141,7 +141,9 @@ impl Leaf {
         requires { at < length self.now }
         ensures { result ≡ place_cmp (nth self.now at).0 (pos table, key.now) }
     {
-        self.table(at).cmp(&table).then_with(|| self.key(at).cmp(key))
+        self.table(at)
+            .cmp(&table)
+            .then_with(|| self.key(at).cmp(key))
     }
 
     /// Where a place stands or would stand, not before `from`.

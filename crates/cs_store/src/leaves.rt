@@ -105,11 +105,7 @@ fn edits_in(leaves: &[Leaf], at: usize, edits: &[&RowEdit]) -> usize
 }
 
 /// The leaves that edits change, as they are after them.
-fn patches_of(
-    alloc: Global,
-    leaves: &[Leaf],
-    edits: &[&RowEdit],
-) -> Result<Vec<Patch>, AllocError>
+fn patches_of(alloc: Global, leaves: &[Leaf], edits: &[&RowEdit]) -> Result<Vec<Patch>, AllocError>
     requires some { 0 < length leaves.now }
     requires leaves { AreLeaves leaves.now }
     requires rise { Rise (edits_behind edits.now) }
@@ -148,11 +144,7 @@ fn pieces_of(alloc: Global, leaf: &Leaf) -> Result<Vec<Leaf>, AllocError>
 }
 
 /// What edits make of the leaves. It changes none.
-pub fn stage(
-    alloc: Global,
-    leaves: &[Leaf],
-    edits: &[&RowEdit],
-) -> Result<Staged, AllocError>
+pub fn stage(alloc: Global, leaves: &[Leaf], edits: &[&RowEdit]) -> Result<Staged, AllocError>
     requires leaves { AreLeaves leaves.now }
     requires rise { Rise (edits_behind edits.now) }
     ensures can { IfOk result (λ staged. CanBePut staged leaves.now) }
@@ -307,11 +299,7 @@ fn list_leaf(
 }
 
 /// The rows of a table.
-pub fn list_rows(
-    alloc: Global,
-    leaves: &[Leaf],
-    table: u32,
-) -> Result<Vec<StoredRow>, AllocError>
+pub fn list_rows(alloc: Global, leaves: &[Leaf], table: u32) -> Result<Vec<StoredRow>, AllocError>
     ensures { IfOk result (λ rows. pairs_of rows.items ≡ in_table (pos table) (flat leaves.now)) }
 {
     let mut rows = Vec::new(alloc);

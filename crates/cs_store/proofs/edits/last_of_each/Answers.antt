@@ -20,9 +20,9 @@ loop-at-preserved c =
       | then-is_last+in_ok-push w ↦
           let v = w.index-edits-at.result in
           let is : drop at all ≡ v.now ∷ drop (at + 1) all =
-              sym (behind_drop edits at) ∙ ap edits_behind (drop_more edits at v c.loop-at-test.true) ∙ ap (λ e. e.now ∷ edits_behind (drop (at + 1) edits)) (sym w.index-edits-at.is) ∙ ap (λ (es : List RowEdit). v.now ∷ es) (behind_drop edits (at + 1)) in
+          sym (behind_drop edits at) ∙ ap edits_behind (drop_more edits at v c.loop-at-test.true) ∙ ap (λ e. e.now ∷ edits_behind (drop (at + 1) edits)) (sym w.index-edits-at.is) ∙ ap (λ (es : List RowEdit). v.now ∷ es) (behind_drop edits (at + 1)) in
           let grown : edits_behind c.if-is_last.latest.items ≡ out ++ v.now ∷ [] =
-              ap (λ l. edits_behind l.items) w.latest-is ∙ ap edits_behind w.in_ok-push.ensures.items ∙ map-append (λ edit. edit.now) c.loop-at.latest.items (v ∷ []) in
+          ap (λ l. edits_behind l.items) w.latest-is ∙ ap edits_behind w.in_ok-push.ensures.items ∙ map-append (λ edit. edit.now) c.loop-at.latest.items (v ∷ []) in
           let last : is_last_of (drop at all) ≡ true = sym c.is_last.ensures ∙ w.if-is_last.true in
           record {
             order = fall_tail (drop at all) (drop (at + 1) all) v.now is was.order;

@@ -12,5 +12,5 @@ loop-leaf-preserved c =
     let k = c.loop-leaf.leaf-index in
     let t = pos c.args.table in
     let more : flat (take (k + 1) leaves) ≡ flat (take k leaves) ++ c.leaf-item.result =
-        ap flat (take_more leaves k c.leaf-item.result c.loop-leaf-test.true) ∙ flat_append (take k leaves) _ ∙ ap (λ (l : List Entry). flat (take k leaves) ++ (l ++ [])) (sym c.leaf-item.is) ∙ ap (λ (l : List Entry). flat (take k leaves) ++ l) (append-nil c.leaf-item.result) in
+    ap flat (take_more leaves k c.leaf-item.result c.loop-leaf-test.true) ∙ flat_append (take k leaves) _ ∙ ap (λ (l : List Entry). flat (take k leaves) ++ (l ++ [])) (sym c.leaf-item.is) ∙ ap (λ (l : List Entry). flat (take k leaves) ++ l) (append-nil c.leaf-item.result) in
     c.in_ok-list_leaf.ensures ∙ ap (λ (ps : List (List ℕ × List ℕ)). ps ++ in_table t c.leaf-item.result) c.loop-leaf.invariant ∙ sym (in_table_append t (flat (take k leaves)) c.leaf-item.result) ∙ ap (in_table t) (sym more)

@@ -16,7 +16,7 @@ leaf_of-at-requires-clause-in_bounds c =
     let edits = c.args.edits.now in
     let start = c.loop-start.start in
     let is : drop start (edits_behind edits) ≡ c.index-edits-start.result.now ∷ edits_behind (drop (start + 1) edits) =
-        sym (behind_drop edits start) ∙ ap edits_behind (drop_more edits start c.index-edits-start.result c.loop-start-test.true) ∙ ap (λ e. e.now ∷ edits_behind (drop (start + 1) edits)) (sym c.index-edits-start.is) in
+    sym (behind_drop edits start) ∙ ap edits_behind (drop_more edits start c.index-edits-start.result c.loop-start-test.true) ∙ ap (λ e. e.now ∷ edits_behind (drop (start + 1) edits)) (sym c.index-edits-start.is) in
     (reach_begins c.args.leaves.now c.loop-start.from _ _ c.index-edits-start.result.now c.requires.some is c.loop-start.invariant.reach).0
 
 pub leaf_of-at-requires-clause-begins : goal.leaf_of-at-requires-clause-begins
@@ -24,7 +24,7 @@ leaf_of-at-requires-clause-begins c =
     let edits = c.args.edits.now in
     let start = c.loop-start.start in
     let is : drop start (edits_behind edits) ≡ c.index-edits-start.result.now ∷ edits_behind (drop (start + 1) edits) =
-        sym (behind_drop edits start) ∙ ap edits_behind (drop_more edits start c.index-edits-start.result c.loop-start-test.true) ∙ ap (λ e. e.now ∷ edits_behind (drop (start + 1) edits)) (sym c.index-edits-start.is) in
+    sym (behind_drop edits start) ∙ ap edits_behind (drop_more edits start c.index-edits-start.result c.loop-start-test.true) ∙ ap (λ e. e.now ∷ edits_behind (drop (start + 1) edits)) (sym c.index-edits-start.is) in
     (reach_begins c.args.leaves.now c.loop-start.from _ _ c.index-edits-start.result.now c.requires.some is c.loop-start.invariant.reach).1
 
 pub merged-requires-clause-sorted : goal.merged-requires-clause-sorted
@@ -60,16 +60,16 @@ loop-start-preserved c =
     let bound = c.leaf_of-at.ensures.bound in
     let less = bound.1 in
     let is : ws ≡ c.index-edits-start.result.now ∷ edits_behind (drop (start + 1) edits) =
-        sym (behind_drop edits start) ∙ ap edits_behind (drop_more edits start c.index-edits-start.result c.loop-start-test.true) ∙ ap (λ e. e.now ∷ edits_behind (drop (start + 1) edits)) (sym c.index-edits-start.is) in
+    sym (behind_drop edits start) ∙ ap edits_behind (drop_more edits start c.index-edits-start.result c.loop-start-test.true) ∙ ap (λ e. e.now ∷ edits_behind (drop (start + 1) edits)) (sym c.index-edits-start.is) in
     let n : start + count - start ≡ count = omega arith in
     let mine : edits_behind (take (start + count - start) (drop start edits)) ≡ take count ws =
-        ap (λ k. edits_behind (take k (drop start edits))) n ∙ behind_take (drop start edits) count ∙ ap (take count) (behind_drop edits start) in
+    ap (λ k. edits_behind (take k (drop start edits))) n ∙ behind_take (drop start edits) count ∙ ap (take count) (behind_drop edits start) in
     let its : c.index-leaves-at.result ≡ nth_leaf leaves at = c.index-leaves-at.is ∙ get_or_default leaves at c.index-leaves-at.result [] less in
     let makes : c.in_ok-leaf.leaf ≡ fold edited (nth_leaf leaves at) (take count ws) = c.in_ok-leaf.ensures ∙ (λ i. fold edited (its i) (mine i)) in
     let before : AreBefore leaves (at + 1) (take count ws) = subst (λ (vs : List RowEdit). AreBefore leaves (at + 1) (take count vs)) (ap edits_behind (rest_of edits start) ∙ behind_drop edits start) c.edits_in.ensures.before in
     let rise : Rise ws = rise_drop (edits_behind edits) start c.requires.rise in
     let more = patch_more leaves now from at count c.index-edits-start.result.now ws (edits_behind (drop (start + 1) edits)) c.in_ok-leaf.leaf _ c.requires.leaves (length_patched old leaves) was.sorted was.rest
-        bound.0 less c.leaf_of-at.ensures.begins is c.edits_in.ensures.bound.0 before rise makes was.made in
+    bound.0 less c.leaf_of-at.ensures.begins is c.edits_in.ensures.bound.0 before rise makes was.made in
     let grown : new ≡ old ++ patch ∷ [] = c.in_ok-push.ensures.items in
     let put = ap (patched leaves) grown ∙ patched_push old leaves patch in
     let rest : drop (start + count) (edits_behind edits) ≡ drop count ws = drop_drop start count (edits_behind edits) in

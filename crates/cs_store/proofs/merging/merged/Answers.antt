@@ -10,8 +10,9 @@ loop-edit-preserved c =
     let edits = c.args.edits.now in
     let k = c.loop-edit.edit-index in
     let here : edits_behind (drop k edits) ≡ c.edit-item.result.now ∷ edits_behind (drop (k + 1) edits) =
-        ap edits_behind (drop_more edits k c.edit-item.result c.loop-edit-test.true) ∙ ap (λ e. e.now ∷ edits_behind (drop (k + 1) edits)) (sym c.edit-item.is) in
-    let rise : Rise (c.edit-item.result.now ∷ edits_behind (drop (k + 1) edits)) = subst Rise (sym (behind_drop edits k) ∙ here) (rise_drop (edits_behind edits) k c.requires.rise) in
-    (c.in_ok-from.ensures.bound,
-    merge_more c.loop-edit.merged c.merge_edit.new.merged c.args.leaf.now c.loop-edit.from c.in_ok-from.from c.edit-item.result.now (edits_behind (drop (k + 1) edits)) (edits_behind edits) _ rise c.in_ok-from.ensures.merged
-        (ap (λ (ws : List RowEdit). c.loop-edit.merged ++ fold edited (drop c.loop-edit.from c.args.leaf.now) ws) (sym here) ∙ c.loop-edit.invariant.1))
+    ap edits_behind (drop_more edits k c.edit-item.result c.loop-edit-test.true) ∙ ap (λ e. e.now ∷ edits_behind (drop (k + 1) edits)) (sym c.edit-item.is) in
+    let rise : Rise (c.edit-item.result.now ∷ edits_behind (drop (k + 1) edits)) = subst Rise (sym (behind_drop edits k) ∙ here) (rise_drop (edits_behind edits) k c.requires.rise) in (
+      c.in_ok-from.ensures.bound,
+      merge_more c.loop-edit.merged c.merge_edit.new.merged c.args.leaf.now c.loop-edit.from c.in_ok-from.from c.edit-item.result.now (edits_behind (drop (k + 1) edits)) (edits_behind edits) _ rise c.in_ok-from.ensures.merged
+          (ap (λ (ws : List RowEdit). c.loop-edit.merged ++ fold edited (drop c.loop-edit.from c.args.leaf.now) ws) (sym here) ∙ c.loop-edit.invariant.1),
+    )
