@@ -1,5 +1,5 @@
 -- What the code holds: headers where they stand, as contracts see them, and what is found of them.
-use Rattle.std.specs.Prelude.{◌≡◌, ◌≢◌, ℕ, List, map, Option, Some, None, Contains, slice_get}
+use Rattle.std.specs.Prelude.{◌≡◌, ◌≢◌, ℕ, List, map, Option, Some, None, Contains}
 use Rattle.cs_sqlite.specs.declared.headers.Header.{Header}
 use Rattle.cs_sqlite.specs.KeyPlaces.{Head, columns_of}
 
@@ -10,18 +10,9 @@ abbrev pub heads_behind : List Header → List Head
 heads_behind headers = map head_of headers
 
 -- the column bytes of a header, or these
-abbrev pub columns_or : List ℕ → Option Head → List ℕ
+abbrev pub columns_or : List ℕ → Option Header → List ℕ
 columns_or other None = other
-columns_or other (Some head) = head.1
-
--- those of the header at this place, or these
-abbrev pub columns_at : List ℕ → List Head → Option ℕ → List ℕ
-columns_at other heads None = other
-columns_at other heads (Some at) = columns_or other (slice_get heads at)
-
--- the header there has this name
-abbrev pub IsNamedAt : List ℕ → List Head → ℕ → Type 0
-IsNamedAt name heads at = (head : Head) × (slice_get heads at ≡ Some head) × (head.0 ≡ name)
+columns_or other (Some header) = header.marks.now
 
 -- the first header of its name has its column bytes
 abbrev pub IsAsFirst : List Head → Head → Type 0

@@ -1,8 +1,8 @@
 //! Headers, and whether those of one table have the same column bytes.
 
-ghost use Rattle.std.specs.Prelude.{◌≡◌, ◌<◌, ◌++◌, ℕ, true, false, List, length, MatchBool, OnOk, IfSome};
+ghost use Rattle.std.specs.Prelude.{◌≡◌, ◌++◌, ℕ, true, false, List, MatchBool, OnOk, IfSome, Contains};
 ghost use Rattle.cs_sqlite.specs.KeyPlaces.{heads_of, blob_heads_of, columns_of, HaveOneOrder, HasTwoOrders};
-ghost use Rattle.cs_sqlite.specs.Steps.{head_of, heads_behind, columns_at, IsNamedAt, IsAsFirst, HasOther};
+ghost use Rattle.cs_sqlite.specs.Steps.{head_of, heads_behind, columns_or, IsAsFirst, HasOther};
 
 use cs_blob::BlobGroup;
 use cs_change::Group;
@@ -49,17 +49,14 @@ pub fn put_blob_headers<'a>(
     Ok(())
 }
 
-/// Where the first header of this name stands.
-#[tactic(auto, unfolding(crate::specs::KeyPlaces::columns_of))]
-pub(crate) fn find(name: &str, headers: &[Header<'_>]) -> Option<usize>
-    ensures within { IfSome result (λ at. at < length headers.now) }
-    ensures columns { (other : List ℕ)
-        → columns_of name.now other (heads_behind headers.now) ≡ columns_at other (heads_behind headers.now) result }
-    ensures named { IfSome result (λ at. IsNamedAt name.now (heads_behind headers.now) at) }
+/// The first header of this name.
+pub(crate) fn find<'a>(name: &str, headers: &[Header<'a>]) -> Option<Header<'a>>
+    ensures columns { (other : List ℕ) → columns_of name.now other (heads_behind headers.now) ≡ columns_or other result }
+    ensures named { IfSome result (λ found. (found.name.now ≡ name.now) × Contains (heads_behind headers.now) (head_of found)) }
 {
-    for at in 0..headers.len() {
-        if headers[at].name == name {
-            return Some(at);
+    for header in headers {
+        if header.name == name {
+            return Some(*header);
         }
     }
     None
@@ -71,7 +68,7 @@ fn is_as_first(header: &Header<'_>, headers: &[Header<'_>]) -> bool
     ensures other { result ≡ false → HasOther (heads_behind headers.now) (head_of header.now) }
 {
     match find(header.name, headers) {
-        Some(at) => headers[at].marks == header.marks,
+        Some(first) => first.marks == header.marks,
         None => true,
     }
 }

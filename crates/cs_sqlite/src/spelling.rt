@@ -1,9 +1,9 @@
 //! Changesets in normal form, spelled with the column bytes that came in.
 
 ghost use Rattle.std.specs.Prelude.{◌≡◌, ◌++◌, map, IfOk, OnOk, OnErr};
-ghost use Rattle.cs_change.specs.Spelling.{flag_byte, group_spelling};
+ghost use Rattle.cs_change.specs.Spelling.{flag_byte, header_spelling, group_spelling};
 ghost use Rattle.cs_record.specs.Spelling.{Extends};
-ghost use Rattle.cs_sqlite.specs.KeyPlaces.{group_for_sqlite, sqlite_spelling};
+ghost use Rattle.cs_sqlite.specs.KeyPlaces.{columns_of, group_for_sqlite, sqlite_spelling};
 ghost use Rattle.cs_sqlite.specs.Steps.{heads_behind};
 
 use crate::headers::{Header, find};
@@ -23,6 +23,27 @@ fn flags(alloc: Global, marks: &[bool]) -> Result<Vec<u8>, Memory>
     Ok(bytes)
 }
 
+/// Puts a table's header with the column bytes of its first header.
+fn put_first_header(
+    alloc: Global,
+    table: &TableChanges,
+    headers: &[Header<'_>],
+    out: &mut Vec<u8>,
+) -> Result<(), Memory>
+    ensures ok { OnOk result (out.new.items ≡ out.old.items ++ header_spelling
+        (columns_of table.now.name (map flag_byte table.now.marks) (heads_behind headers.now)) table.now.name) }
+    ensures kept { Extends out.old.items out.new.items }
+{
+    let name = table.name.as_str();
+    match find(name, headers) {
+        Some(header) => put_header(header.marks, name, out),
+        None => {
+            let marks = flags(alloc, table.marks.as_slice())?;
+            put_header(marks.as_slice(), name, out)
+        }
+    }
+}
+
 fn put_table(
     alloc: Global,
     table: &TableChanges,
@@ -33,11 +54,7 @@ fn put_table(
         ≡ out.old.items ++ group_spelling (group_for_sqlite (heads_behind headers.now) table.now)) }
     ensures kept { Extends out.old.items out.new.items }
 {
-    let name = table.name.as_str();
-    match find(name, headers) {
-        Some(at) => put_header(headers[at].marks, name, out)?,
-        None => put_header(flags(alloc, table.marks.as_slice())?.as_slice(), name, out)?,
-    }
+    put_first_header(alloc, table, headers, out)?;
     out.extend_from_slice(table.changes.spelling())?;
     Ok(())
 }
