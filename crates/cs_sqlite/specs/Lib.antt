@@ -1,0 +1,3 @@
+pub mod KeyPlaces
+pub mod Laws
+pub mod Steps

@@ -1,0 +1,15 @@
+//! Changesets for SQLite's own `apply`. SQLite writes each key column's place in the PRIMARY KEY as its column byte, and
+//! passes over a group whose bytes differ from the table's; the normal form writes 1. This crate spells a changeset in
+//! normal form (`cs_normal`) with the column bytes of the headers that came in, of changesets (`cs_change`) and of rebase
+//! blobs (`cs_blob`). `encode` is exact; `laws` says that nothing but the column bytes changes, and that the reader takes it.
+#![tactic(auto)]
+
+mod headers;
+pub mod laws;
+mod spelling;
+
+pub use headers::{Header, has_one_order, put_blob_headers, put_headers};
+pub use spelling::encode;
+
+#[cfg(test)]
+mod tests;
