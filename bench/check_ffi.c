@@ -48,10 +48,10 @@ void __wrap_free(void *memory) {
 #define INSERT H1 "1200" K1 V1
 #define UPDATE H1 "1700" K1 V1 "00" V2
 
-enum function { DECODE, REENCODE, NORMALISE, COMBINE, INVERT };
+enum function { DECODE, REENCODE, NORMALISE, COMBINE, INVERT, REBASE };
 
 static const char *const names[] = {"cs_ffi_decode", "cs_ffi_reencode", "cs_ffi_normalise", "cs_ffi_combine",
-                                    "cs_ffi_invert"};
+                                    "cs_ffi_invert", "cs_ffi_rebase"};
 
 #define ROOM 64
 
@@ -59,6 +59,7 @@ static const char *const names[] = {"cs_ffi_decode", "cs_ffi_reencode", "cs_ffi_
 struct row {
     enum function function;
     const char *declared; /* of cs_ffi_normalise */
+    const char *blob;     /* of cs_ffi_rebase */
     const char *input;
     size_t lengths[3]; /* of cs_ffi_combine */
     size_t parts;
@@ -85,6 +86,10 @@ struct row {
 #define COMBINES_NOT(bytes, a, b, c, many, what, at) \
     {.function = COMBINE, .input = bytes, .lengths = {a, b, c}, .parts = many, .room = ROOM, .fault = what, \
      .offset = at, .output = ""}
+#define REBASES(bytes, over, space, length, written) \
+    {.function = REBASE, .input = bytes, .blob = over, .room = space, .count = length, .output = written}
+#define REBASES_NOT(bytes, over, what, at) \
+    {.function = REBASE, .input = bytes, .blob = over, .room = ROOM, .fault = what, .offset = at, .output = ""}
 
 static const struct row rows[] = {
     /* what is read, and how many changes it has */
@@ -155,6 +160,35 @@ static const struct row rows[] = {
     WRITES_NOT(INVERT, INSERT "13", CS_FFI_BAD_OPERATION, 22),
     WRITES_NOT(INVERT, H1 "120005" V1, CS_FFI_NULL_KEY, 0),
     WRITES_NOT(INVERT, INSERT "1200" K1 V1, CS_FFI_KEY_TWICE, 0),
+
+    /* rebased: an entry is spelled like an INSERT, and its flag is the answer (OMIT 00, REPLACE 01); the local changeset is
+     * judged before the blob, whose offsets are counted from the front of the local one */
+    REBASES("", "", 0, 0, ""),
+    REBASES(INSERT, "", 22, 22, INSERT),
+    REBASES(INSERT, H1 "1200" K1 V2, 27, 27, H1 "1700" K1 V2 "00" V1),
+    REBASES(INSERT, H1 "1200" K1 V1, ROOM, 0, ""),
+    REBASES(INSERT, H1 "1201" K1 V2, ROOM, 0, ""),
+    REBASES(INSERT, H1 "1200" K2 V2 H2 "1201" K1, ROOM, 22, INSERT),
+    REBASES(INSERT, H1 "1200" K1 V2, 26, 27, ""),
+    REBASES_NOT(INSERT "13", "55", CS_FFI_BAD_OPERATION, 22),
+    REBASES_NOT(H1 "540101743100", "55", CS_FFI_SHAPE, 0),
+    REBASES_NOT("54010100", "55", CS_FFI_NO_TABLES, 0),
+    REBASES_NOT(H1 "120005" V1, "55", CS_FFI_NULL_KEY, 0),
+    REBASES_NOT(INSERT "1200" K1 V1, "55", CS_FFI_KEY_TWICE, 0),
+    REBASES_NOT(INSERT, "54", CS_FFI_TRUNCATED, 23),
+    REBASES_NOT(INSERT, H1 "1200" K1 "038002", CS_FFI_NOT_SHORTEST, 41),
+    REBASES_NOT(INSERT, H1 "1200" K1 "06", CS_FFI_BAD_TYPE, 40),
+    REBASES_NOT(INSERT, H1 "1200" K1 "02", CS_FFI_REAL, 40),
+    REBASES_NOT(INSERT, "54020100ff00", CS_FFI_NOT_UTF8, 26),
+    REBASES_NOT(INSERT, "50", CS_FFI_PATCHSET, 22),
+    REBASES_NOT(INSERT, "55", CS_FFI_BAD_MARK, 22),
+    REBASES_NOT(INSERT, H1 "17", CS_FFI_BAD_OPERATION, 29),
+    REBASES_NOT(INSERT, H1 "1202", CS_FFI_BAD_FLAG, 30),
+    REBASES_NOT(INSERT, "5400", CS_FFI_COLUMNS, 23),
+    REBASES_NOT(INSERT, "54020000", CS_FFI_NO_KEY_COLUMN, 24),
+    REBASES_NOT(INSERT, H1 "120000", CS_FFI_UNDEFINED_HERE, 31),
+    REBASES_NOT(INSERT, H1 "1200" K1 V1 "1200" K1 V1, CS_FFI_BLOB_KEY_TWICE, 0),
+    REBASES_NOT(INSERT, "5403010000743100" "1200" K1 "0000", CS_FFI_WRONG_SHAPE, 0),
 };
 
 /* ---- calls */
@@ -175,13 +209,15 @@ static struct bytes of_hex(const char *hex) {
 static struct cs_ffi_answer call(const struct row *row, uint8_t *output) {
     struct bytes declared = of_hex(row->declared);
     struct bytes input = of_hex(row->input);
+    struct bytes blob = of_hex(row->blob);
     switch (row->function) {
     case DECODE: return cs_ffi_decode(input.all, input.length);
     case REENCODE: return cs_ffi_reencode(input.all, input.length, output, row->room);
     case NORMALISE:
         return cs_ffi_normalise(declared.all, declared.length, input.all, input.length, output, row->room);
     case COMBINE: return cs_ffi_combine(input.all, input.length, row->lengths, row->parts, output, row->room);
-    default: return cs_ffi_invert(input.all, input.length, output, row->room);
+    case INVERT: return cs_ffi_invert(input.all, input.length, output, row->room);
+    default: return cs_ffi_rebase(input.all, input.length, blob.all, blob.length, output, row->room);
     }
 }
 

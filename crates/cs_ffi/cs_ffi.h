@@ -1,5 +1,5 @@
-/* Changesets in the format of SQLite's session extension: read, written again, brought into normal form, taken together
- * and taken back.
+/* Changesets in the format of SQLite's session extension: read, written again, brought into normal form, taken together,
+ * taken back and rebased.
  *
  * Link out/libcs_ffi.a, and behind it the toolchain's c/liblibc_c.a, which gives it memory by malloc, realloc and free.
  * The functions give back all memory before they return. They may be
@@ -39,7 +39,9 @@ enum cs_ffi_fault {
     CS_FFI_NULL_KEY = 32,       /* a change has NULL at a key column */
     CS_FFI_KEY_TWICE = 33,      /* two changes of one table have one key */
     CS_FFI_NO_TABLES = 50,      /* the declaring bytes are no changeset, or headers are no catalog's */
-    CS_FFI_LENGTHS = 51         /* the lengths of the inputs don't add up to the bytes */
+    CS_FFI_LENGTHS = 51,        /* the lengths of the inputs don't add up to the bytes */
+    CS_FFI_BLOB_KEY_TWICE = 52, /* two entries of the blob are of one table and key */
+    CS_FFI_WRONG_SHAPE = 53     /* a group of the blob has a table's name, and another column count or key columns */
 };
 
 /* What is told of bytes: the number of their first fault, its offset in bytes from the front (0 where there is none),
@@ -79,6 +81,21 @@ struct cs_ffi_answer cs_ffi_combine(const uint8_t *inputs, size_t inputs_length,
 /* Takes a changeset back, as sqlite3changeset_invert does, and writes that in normal form, by the tables that its own
  * headers tell of, to the front of the output. Counts and faults are as those of cs_ffi_combine over the one input. */
 struct cs_ffi_answer cs_ffi_invert(const uint8_t *input, size_t input_length, uint8_t *output, size_t output_length);
+
+/* Rebases a local changeset, as sqlite3rebaser_configure and sqlite3rebaser_rebase do, and writes that in normal form to
+ * the front of the output. The local changeset holds the changes that were made here while another wrote those of a remote
+ * changeset. The blob is what applying that one to the local tables left (sqlite3changeset_apply_v2): for each conflict
+ * that was answered by OMIT or REPLACE, the answer and the remote change; one of no bytes tells of no conflict. So first the
+ * remote changeset is applied, and then the local one is rebased over the blob. What comes out says of the tables as the
+ * remote changeset alone left them what the local one says of them as it found them, and is for those who have the remote
+ * changeset and not the local one.
+ * The local changeset is brought into normal form by the tables that its own headers tell of, before it is rebased; tables
+ * of which no change is left don't come out. The count is that of the bytes that it takes. Where the output has no room for
+ * them, and beside a fault, nothing is written. The local changeset is judged first, as by cs_ffi_invert, then the blob's
+ * bytes (faults 2 to 14; the offset is counted as if the blob stood right behind the local changeset), then the blob's
+ * entries (52) and then its groups beside the tables (53; a group of another table may have any shape). */
+struct cs_ffi_answer cs_ffi_rebase(const uint8_t *local, size_t local_length, const uint8_t *blob, size_t blob_length,
+                                   uint8_t *output, size_t output_length);
 
 #ifdef __cplusplus
 }

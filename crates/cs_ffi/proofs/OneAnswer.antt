@@ -20,9 +20,9 @@ use Rattle.cs_group.specs.Inverse.{inverse_changeset}
 use Rattle.cs_group.specs.declared.combining.CombineFault.{CombineFault}
 use Rattle.cs_group.specs.declared.combining.CombineFault.TheVariants as in_all
 use Rattle.cs_ffi.specs.Answers.{no_memory, read, refused, change_count, Spell, IsRefusal, Hands, IsHanded, UpToMemory}
-use Rattle.cs_ffi.specs.CombinedAnswers.{combine_answer, AnswersCombined, AnswersInverse, ArePartsOf, IsCombineRefusal, IsInverseRefusal, IsPartRefusal, NotCombined, SpellCombined, SpellInverse}
+use Rattle.cs_ffi.specs.CombinedAnswers.{combine_answer, AnswersCombined, AnswersInverse, ArePartsOf, IsCombineRefusal, IsAloneRefusal, IsPartRefusal, NotCombined, SpellCombined, SpellInverse}
 use Rattle.cs_ffi.specs.NormalAnswers.{unfit_answer, AnswersNormal, Declare, DeclareNone, HasNoForm, IsNormalRefusal, SpellForm, SpellNormal}
-use Rattle.cs_ffi.specs.Laws.{AnswerLaws, OneCount, OneCopy, OneNormalAnswer, OneCombinedAnswer, OneInverseAnswer}
+use Rattle.cs_ffi.specs.Laws.{AnswerLaws, OneCount, OneCopy, OneNormalAnswer, OneCombinedAnswer, OneInverseAnswer, OneRebasedAnswer}
 use Rattle.cs_ffi.specs.declared.answer.Answer.{Answer}
 use Rattle.cs_ffi.proofs.PartFaults.{one_cut, no_part_fault, one_part_fault}
 use Rattle.cs_ffi.proofs.Parts.{cut_adds_up}
@@ -39,13 +39,13 @@ pub record Below : Type 0 where
 
 -- ---- up to want of memory
 
-abbrev Same : Answer → Answer → Type 0
+abbrev pub Same : Answer → Answer → Type 0
 Same one other = UpToMemory one other (one ≡ other)
 
-same : {one other : Answer} → one ≡ other → Same one other
+pub same : {one other : Answer} → one ≡ other → Same one other
 same is = inr (inr is)
 
-by_each : {A : Type 0} {one other is told : A} → one ≡ is → other ≡ told → is ≡ told → one ≡ other
+pub by_each : {A : Type 0} {one other is told : A} → one ≡ is → other ≡ told → is ≡ told → one ≡ other
 by_each a b e = a ∙ e ∙ sym b
 
 -- two refusals, which change nothing
@@ -56,23 +56,23 @@ unchanged a l (inr (inr is)) = inr (inr (is, a ∙ sym l))
 
 -- ---- bytes
 
-one_spelled : ChangesetLaws → (bytes : List ℕ) (some others : List Group) → Spell bytes some → Spell bytes others → some ≡ others
+pub one_spelled : ChangesetLaws → (bytes : List ℕ) (some others : List Group) → Spell bytes some → Spell bytes others → some ≡ others
 one_spelled laws bytes some others s o = laws.one some others s.0 o.0 (sym s.1 ∙ o.1)
 
-no_fault : ChangesetLaws → (bytes : List ℕ) (groups : List Group) (fault : Fault) (offset : ℕ) → Spell bytes groups → IsChangesetFault fault offset bytes → ⊥
+pub no_fault : ChangesetLaws → (bytes : List ℕ) (groups : List Group) (fault : Fault) (offset : ℕ) → Spell bytes groups → IsChangesetFault fault offset bytes → ⊥
 no_fault laws bytes groups fault offset spells told =
     laws.right groups fault offset spells.0 (subst (λ (b : List ℕ). IsChangesetFault fault offset b) spells.1 told)
 
-refused_alike : (f g : Fault) (o p : ℕ) → (f ≡ g) × (o ≡ p) → refused f o ≡ refused g p
+pub refused_alike : (f g : Fault) (o p : ℕ) → (f ≡ g) × (o ≡ p) → refused f o ≡ refused g p
 refused_alike f g o p is = ap (λ (h : Fault). refused h o) is.0 ∙ ap (λ (n : ℕ). refused g n) is.1
 
-one_refusal : ChangesetLaws → (bytes : List ℕ) (one other : Answer) → IsRefusal bytes one → IsRefusal bytes other → Same one other
+pub one_refusal : ChangesetLaws → (bytes : List ℕ) (one other : Answer) → IsRefusal bytes one → IsRefusal bytes other → Same one other
 one_refusal laws bytes one other (inl m) r = inl m
 one_refusal laws bytes one other (inr s) (inl m) = inr (inl m)
 one_refusal laws bytes one other (inr (f, o, told, a)) (inr (g, p, told', b)) =
     same (by_each a b (refused_alike f g o p (laws.fault f g o p bytes told told')))
 
-no_refusal : ChangesetLaws → (bytes : List ℕ) (groups : List Group) (answer : Answer) → Spell bytes groups → IsRefusal bytes answer → answer ≡ no_memory
+pub no_refusal : ChangesetLaws → (bytes : List ℕ) (groups : List Group) (answer : Answer) → Spell bytes groups → IsRefusal bytes answer → answer ≡ no_memory
 no_refusal laws bytes groups answer spells (inl m) = m
 no_refusal laws bytes groups answer spells (inr (fault, offset, told, is)) =
     absurd (no_fault laws bytes groups fault offset spells told)
@@ -91,7 +91,7 @@ handed_alike bytes more before after last one other is a l told told' =
     inr (inr (by_each told told' (ap (λ (b : List ℕ). read (length b)) is), one_handed more before after last (subst (λ (b : List ℕ). IsHanded b before after) is a) l))
 
 -- bytes of which there is one, and which nothing refuses, are handed over in one way
-one_hand : (AreMade : List ℕ → Type 0) (IsRefused : Answer → Type 0) → ((bytes more : List ℕ) → AreMade bytes → AreMade more → bytes ≡ more)
+pub one_hand : (AreMade : List ℕ → Type 0) (IsRefused : Answer → Type 0) → ((bytes more : List ℕ) → AreMade bytes → AreMade more → bytes ≡ more)
     → ((bytes : List ℕ) (answer : Answer) → AreMade bytes → IsRefused answer → answer ≡ no_memory) → ((one other : Answer) → IsRefused one → IsRefused other → Same one other)
     → (before after last : List ℕ) (one other : Answer) → Hands AreMade IsRefused before after one → Hands AreMade IsRefused before last other → UpToMemory one other ((one ≡ other) × (after ≡ last))
 one_hand AreMade IsRefused alike none refuse before after last one other (inl (bytes, m, h, a)) (inl (more, n, h', b)) =
@@ -227,12 +227,12 @@ one_not_combined laws some others one other is s o =
       ]
     ]
 
-not_both : Below → (some others : List (List Group)) (both : List TableChanges) (answer : Answer) → some ≡ others → IsCombined some both → NotCombined others answer → answer ≡ no_memory
+pub not_both : Below → (some others : List (List Group)) (both : List TableChanges) (answer : Answer) → some ≡ others → IsCombined some both → NotCombined others answer → answer ≡ no_memory
 not_both laws some others both answer is combined not =
     not.number
     ∙ ap (λ (f : CombineFault). combine_answer f) (laws.no_fault others both not.fault (subst (λ (c : List (List Group)). IsCombined c both) is combined) not.told)
 
-one_together : Below → (some others : List (List Group)) (both all : List TableChanges) → some ≡ others → IsCombined some both → IsCombined others all → both ≡ all
+pub one_together : Below → (some others : List (List Group)) (both all : List TableChanges) → some ≡ others → IsCombined some both → IsCombined others all → both ≡ all
 one_together laws some others both all is s o =
     laws.combined others both all (subst (λ (c : List (List Group)). IsCombined c both) is s) o
 
@@ -286,21 +286,27 @@ one_combined_answer laws lengths inputs =
 
 -- ---- taking back
 
-one_alone : ChangesetLaws → (input : List ℕ) (some others : List Group) → Spell input some → Spell input others → some ∷ [] ≡ others ∷ []
+pub one_alone : ChangesetLaws → (input : List ℕ) (some others : List Group) → Spell input some → Spell input others → some ∷ [] ≡ others ∷ []
 one_alone laws input some others s o = ap (λ (g : List Group). g ∷ []) (one_spelled laws input some others s o)
 
-no_inverse_refusal : Below → (input bytes : List ℕ) (answer : Answer) → SpellInverse input bytes → IsInverseRefusal input answer → answer ≡ no_memory
-no_inverse_refusal laws input bytes answer s (inl r) = no_refusal laws.changesets input s.groups answer s.spells r
-no_inverse_refusal laws input bytes answer s (inr (groups, spells, not)) =
-    not_both laws (s.groups ∷ []) (groups ∷ []) s.alone answer (one_alone laws.changesets input s.groups groups s.spells spells) s.combined not
+-- a changeset with a normal form by its own tables is refused for want of memory alone
+pub no_alone_refusal : Below → (input : List ℕ) (groups : List Group) (alone : List TableChanges) (answer : Answer) → Spell input groups → IsCombined (groups ∷ []) alone → IsAloneRefusal input answer → answer ≡ no_memory
+no_alone_refusal laws input groups alone answer spells combined (inl r) =
+    no_refusal laws.changesets input groups answer spells r
+no_alone_refusal laws input groups alone answer spells combined (inr (others, spells', not)) =
+    not_both laws (groups ∷ []) (others ∷ []) alone answer (one_alone laws.changesets input groups others spells spells') combined not
 
-one_inverse_refusal : Below → (input : List ℕ) (one other : Answer) → IsInverseRefusal input one → IsInverseRefusal input other → Same one other
-one_inverse_refusal laws input one other (inl r) (inl s) = one_refusal laws.changesets input one other r s
-one_inverse_refusal laws input one other (inl r) (inr (groups, spells, not)) =
+no_inverse_refusal : Below → (input bytes : List ℕ) (answer : Answer) → SpellInverse input bytes → IsAloneRefusal input answer → answer ≡ no_memory
+no_inverse_refusal laws input bytes answer s r =
+    no_alone_refusal laws input s.groups s.alone answer s.spells s.combined r
+
+pub one_alone_refusal : Below → (input : List ℕ) (one other : Answer) → IsAloneRefusal input one → IsAloneRefusal input other → Same one other
+one_alone_refusal laws input one other (inl r) (inl s) = one_refusal laws.changesets input one other r s
+one_alone_refusal laws input one other (inl r) (inr (groups, spells, not)) =
     inl (no_refusal laws.changesets input groups one spells r)
-one_inverse_refusal laws input one other (inr (groups, spells, not)) (inl r) =
+one_alone_refusal laws input one other (inr (groups, spells, not)) (inl r) =
     inr (inl (no_refusal laws.changesets input groups other spells r))
-one_inverse_refusal laws input one other (inr (some, spells, not)) (inr (others, spells', not')) =
+one_alone_refusal laws input one other (inr (some, spells, not)) (inr (others, spells', not')) =
     one_not_combined laws (some ∷ []) (others ∷ []) one other (one_alone laws.changesets input some others spells spells') not not'
 
 one_inverse_spelled : Below → (input bytes more : List ℕ) → SpellInverse input bytes → SpellInverse input more → bytes ≡ more
@@ -310,20 +316,21 @@ one_inverse_spelled laws input bytes more s o =
 
 one_inverse_answer : Below → OneInverseAnswer
 one_inverse_answer laws input =
-    one_hand (SpellInverse input) (IsInverseRefusal input) (one_inverse_spelled laws input) (no_inverse_refusal laws input) (one_inverse_refusal laws input)
+    one_hand (SpellInverse input) (IsAloneRefusal input) (one_inverse_spelled laws input) (no_inverse_refusal laws input) (one_alone_refusal laws input)
 
-pub answer_laws : Below → AnswerLaws
-answer_laws laws = record {
+pub answer_laws : Below → OneRebasedAnswer → AnswerLaws
+answer_laws laws rebased = record {
   count = one_count laws;
   copy = one_copy laws;
   normal = one_normal_answer laws;
   combined = one_combined_answer laws;
   inverse = one_inverse_answer laws;
+  rebased = rebased;
 }
 
 -- ---- what is owed is told
 
-without_content : {one other : Answer} {after last : List ℕ} → UpToMemory one other ((one ≡ other) × (after ≡ last)) → Same one other
+pub without_content : {one other : Answer} {after last : List ℕ} → UpToMemory one other ((one ≡ other) × (after ≡ last)) → Same one other
 without_content (inl m) = inl m
 without_content (inr (inl m)) = inr (inl m)
 without_content (inr (inr is)) = inr (inr is.0)
@@ -336,6 +343,6 @@ pub combined_told : AnswerLaws → (lengths inputs before after : List ℕ) (res
 combined_told laws lengths inputs before after result answer answers owed =
     without_content (laws.combined lengths inputs before after before result answer answers (inr (owed, refl)))
 
-pub inverse_told : AnswerLaws → (input before after : List ℕ) (result answer : Answer) → AnswersInverse input before after result → IsInverseRefusal input answer → UpToMemory result answer (result ≡ answer)
+pub inverse_told : AnswerLaws → (input before after : List ℕ) (result answer : Answer) → AnswersInverse input before after result → IsAloneRefusal input answer → UpToMemory result answer (result ≡ answer)
 inverse_told laws input before after result answer answers owed =
     without_content (laws.inverse input before after before result answer answers (inr (owed, refl)))

@@ -149,17 +149,17 @@ pub record SpellInverse (input bytes : List ℕ) : Type 0 where
   pub combined : IsCombined (groups ∷ []) alone
   pub spelled : bytes ≡ normal_spelling (inverse_changeset alone)
 
--- why there is none: the bytes first, then the changeset
-abbrev pub IsInverseRefusal : List ℕ → Answer → Type 0
-IsInverseRefusal input answer =
+-- why a changeset has no normal form by its own tables: the bytes first, then the changeset
+abbrev pub IsAloneRefusal : List ℕ → Answer → Type 0
+IsAloneRefusal input answer =
     IsRefusal input answer ⊎ ((groups : List Group) × Spell input groups × NotCombined (groups ∷ []) answer)
 
 -- the bytes of the inverse, or why there are none
 abbrev pub GivesInverse : List ℕ → Result (Vec ℕ) Answer → Type 0
 GivesInverse input (Ok bytes) = SpellInverse input bytes.items
-GivesInverse input (Err answer) = IsInverseRefusal input answer
+GivesInverse input (Err answer) = IsAloneRefusal input answer
 
 -- the answer: the inverse is handed over, or it is told why there is none
 abbrev pub AnswersInverse : List ℕ → List ℕ → List ℕ → Answer → Type 0
 AnswersInverse input before after answer =
-    Hands (SpellInverse input) (IsInverseRefusal input) before after answer
+    Hands (SpellInverse input) (IsAloneRefusal input) before after answer

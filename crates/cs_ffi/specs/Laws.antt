@@ -3,6 +3,7 @@ use Rattle.std.specs.Prelude.{◌≡◌, ℕ, List}
 use Rattle.cs_ffi.specs.Answers.{AnswersAgain, AnswersCount, UpToMemory}
 use Rattle.cs_ffi.specs.CombinedAnswers.{AnswersCombined, AnswersInverse}
 use Rattle.cs_ffi.specs.NormalAnswers.{AnswersNormal}
+use Rattle.cs_ffi.specs.RebasedAnswers.{AnswersRebased}
 use Rattle.cs_ffi.specs.declared.answer.Answer.{Answer}
 
 -- reading
@@ -35,6 +36,12 @@ OneInverseAnswer =
     (input before after last : List ℕ) (one other : Answer) → AnswersInverse input before after one
     → AnswersInverse input before last other → UpToMemory one other ((one ≡ other) × (after ≡ last))
 
+-- rebasing
+abbrev pub OneRebasedAnswer : Type 0
+OneRebasedAnswer =
+    (local blob before after last : List ℕ) (one other : Answer) → AnswersRebased local blob before after one
+    → AnswersRebased local blob before last other → UpToMemory one other ((one ≡ other) × (after ≡ last))
+
 -- the laws together
 pub record AnswerLaws : Type 0 where
   pub count : OneCount
@@ -42,3 +49,4 @@ pub record AnswerLaws : Type 0 where
   pub normal : OneNormalAnswer
   pub combined : OneCombinedAnswer
   pub inverse : OneInverseAnswer
+  pub rebased : OneRebasedAnswer

@@ -2,3 +2,4 @@ pub mod Answers
 pub mod CombinedAnswers
 pub mod Laws
 pub mod NormalAnswers
+pub mod RebasedAnswers

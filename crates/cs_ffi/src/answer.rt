@@ -4,10 +4,12 @@ ghost use Rattle.std.specs.Prelude.{◌≡◌};
 ghost use Rattle.cs_ffi.specs.Answers.{answer_of, no_memory, read};
 ghost use Rattle.cs_ffi.specs.CombinedAnswers.{combine_answer, combine_number, header_number, wrong_lengths};
 ghost use Rattle.cs_ffi.specs.NormalAnswers.{no_tables, undeclared, unfit_answer};
+ghost use Rattle.cs_ffi.specs.RebasedAnswers.{configure_answer, rebase_answer};
 
 use cs_changeset::CodecFault;
 use cs_group::CombineFault;
 use cs_normal::{HeaderFault, Unfit};
+use cs_rebaser::{ConfigureFault, RebaseFault};
 use std::alloc::{AllocError, AllocFailed};
 
 /// The number that says that nothing is wrong.
@@ -21,6 +23,12 @@ const NO_TABLES: u32 = 50;
 
 /// The number of lengths that don't add up to the bytes.
 const LENGTHS: u32 = 51;
+
+/// The number of a blob of which two entries are of one table and key.
+const BLOB_KEY_TWICE: u32 = 52;
+
+/// The number of a blob of which a group has the name of a table and another shape.
+const WRONG_SHAPE: u32 = 53;
 
 /// What is told of bytes: the number of their fault, 0 where they were read; the offset of the fault in bytes from the
 /// front, or 0; and how much was read (changes) or is written (bytes), or 0 beside a fault. (Profile of this project.)
@@ -159,6 +167,36 @@ impl From<CombineFault> for Answer {
             fault: combine_number(fault),
             offset: 0,
             count: 0,
+        }
+    }
+}
+
+impl From<ConfigureFault> for Answer {
+    ghost from_gives = { λ fault answer. answer ≡ configure_answer fault };
+
+    fn from(fault: ConfigureFault) -> Answer {
+        match fault {
+            ConfigureFault::Memory => Answer::no_memory(),
+            ConfigureFault::KeyTwice => Answer {
+                fault: BLOB_KEY_TWICE,
+                offset: 0,
+                count: 0,
+            },
+        }
+    }
+}
+
+impl From<RebaseFault> for Answer {
+    ghost from_gives = { λ fault answer. answer ≡ rebase_answer fault };
+
+    fn from(fault: RebaseFault) -> Answer {
+        match fault {
+            RebaseFault::Memory => Answer::no_memory(),
+            RebaseFault::WrongShape => Answer {
+                fault: WRONG_SHAPE,
+                offset: 0,
+                count: 0,
+            },
         }
     }
 }

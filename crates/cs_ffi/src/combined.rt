@@ -31,7 +31,7 @@ fn add_up(lengths: &[usize], total: usize) -> bool
 }
 
 /// The changeset that a part spells which begins at this offset of the inputs.
-fn read_part(alloc: Global, part: &[u8], at: usize) -> Result<Changeset<'_>, Answer>
+pub(crate) fn read_part(alloc: Global, part: &[u8], at: usize) -> Result<Changeset<'_>, Answer>
     requires { at + length part.now < 2 ^ 64 }
     ensures reads { ReadsPart at part.now result }
     ensures only { (groups : List Group) → Spell part.now groups → FindsPart result groups }

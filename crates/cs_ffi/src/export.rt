@@ -6,8 +6,9 @@ ghost use Rattle.cs_change.specs.declared.group.Group.{Group};
 ghost use Rattle.cs_changeset.specs.Reading.{IsChangesetFault};
 ghost use Rattle.cs_changeset.specs.declared.fault.Fault.{Fault};
 ghost use Rattle.cs_ffi.specs.Answers.{AnswersAgain, AnswersCount, change_count, Spell, TellsCount, TellsFault, UpToMemory};
-ghost use Rattle.cs_ffi.specs.CombinedAnswers.{AnswersCombined, AnswersInverse, AreFitInputs, IsCombineRefusal, IsFitAlone, IsInverseRefusal, wrong_lengths};
+ghost use Rattle.cs_ffi.specs.CombinedAnswers.{AnswersCombined, AnswersInverse, AreFitInputs, IsCombineRefusal, IsFitAlone, IsAloneRefusal, wrong_lengths};
 ghost use Rattle.cs_ffi.specs.NormalAnswers.{AnswersNormal, IsFitInput, IsNormalRefusal, TellsNoFault};
+ghost use Rattle.cs_ffi.specs.RebasedAnswers.{AnswersRebased, CanRebase, IsRebaseRefusal, SpellRebased};
 ghost use Rattle.cs_ffi.specs.declared.answer.Answer.{Answer};
 
 use crate::answer::Answer;
@@ -15,6 +16,7 @@ use crate::combined::{write_combined, write_inverse};
 use crate::laws::answers;
 use crate::normal::write_normal;
 use crate::reading::{count, reencode};
+use crate::rebased::write_rebased;
 use std::alloc::Global;
 
 /// Reads a changeset and counts its changes. See `cs_ffi.h`. (SQLite's "changeset format"; the faults are of this
@@ -88,11 +90,33 @@ pub extern "C" fn cs_ffi_invert(alloc: Global, input: &[u8], output: &mut [u8]) 
     ensures answers { AnswersInverse input.now output.old output.new result }
     ensures told { (fault : Fault) (offset : ℕ) → IsChangesetFault fault offset input.now
         → TellsFault fault offset result }
-    ensures refused { (owed : Answer) → IsInverseRefusal input.now owed
+    ensures refused { (owed : Answer) → IsAloneRefusal input.now owed
         → UpToMemory result owed (result ≡ owed) }
     ensures fit { IsFitAlone input.now → TellsNoFault result }
 {
     // What is refused is refused in one way: a law, for the proof.
     answers();
     write_inverse(alloc, input, output)
+}
+
+/// Rebases a local changeset over a blob and writes that, in normal form, into the caller's memory. See `cs_ffi.h`.
+/// (SQLite's "Session Extension", rebasing changesets; the faults are of this project's profile.)
+#[unsafe(no_mangle)]
+pub extern "C" fn cs_ffi_rebase(
+    alloc: Global,
+    local: &[u8],
+    blob: &[u8],
+    output: &mut [u8],
+) -> Answer
+    ensures answers { AnswersRebased local.now blob.now output.old output.new result }
+    ensures only { (made : List ℕ) → SpellRebased local.now blob.now made → TellsCount (length made) result }
+    ensures told { (fault : Fault) (offset : ℕ) → IsChangesetFault fault offset local.now
+        → TellsFault fault offset result }
+    ensures refused { (owed : Answer) → IsRebaseRefusal local.now blob.now owed
+        → UpToMemory result owed (result ≡ owed) }
+    ensures fit { CanRebase local.now blob.now → TellsNoFault result }
+{
+    // What is made is made, and what is refused refused, in one way: a law, for the proof.
+    answers();
+    write_rebased(alloc, local, blob, output)
 }

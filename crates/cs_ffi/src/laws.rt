@@ -2,9 +2,11 @@
 
 ghost use Rattle.cs_ffi.specs.Laws.{AnswerLaws};
 
+use cs_blob::laws::blobs;
 use cs_changeset::laws::changesets;
 use cs_group::laws::{no_fault_where_combined, one_combine_fault, one_combined};
 use cs_normal::laws::{no_fault_where_fit, one_normal_form, one_unfit};
+use cs_rebaser::laws::no_wrong_shape;
 
 /// Two answers of a C function to one input are equal, and so is what stands in the caller's memory after them, unless
 /// one of them tells want of memory.
@@ -18,4 +20,6 @@ pub fn answers()
     one_combined();
     no_fault_where_combined();
     one_combine_fault();
+    blobs();
+    no_wrong_shape();
 }

@@ -2,6 +2,7 @@ use super::*;
 use crate::combined::{write_combined, write_inverse};
 use crate::normal::write_normal;
 use crate::reading::{count, reencode};
+use crate::rebased::write_rebased;
 use std::test::Fail;
 
 /// A table `t` of two columns with two changes: INSERT (1, 'a') and DELETE (2, NULL).
@@ -272,4 +273,71 @@ fn takes_a_changeset_back(rt: HostRuntime) {
         refused(32, 0)
     );
     assert!(rt; short == [0xee; 21], "some bytes were written");
+}
+
+/// The same table: INSERT (1, 'v2').
+const OTHER_INSERT: [u8; 22] = [
+    0x54, 2, 1, 0, 0x74, 0x31, 0, 0x12, 0, 1, 0, 0, 0, 0, 0, 0, 0, 1, 3, 2, 0x76, 0x32,
+];
+
+#[test]
+fn rebases_a_changeset(rt: HostRuntime) {
+    let alloc = rt.alloc();
+    // What is local is INSERT (1, 'v1'). An entry of OMIT holds the row that the remote INSERT left, so what is left is an
+    // UPDATE from its value, or nothing where it holds the same. Without an entry it stays.
+    let update: [u8; 27] = [
+        0x54, 2, 1, 0, 0x74, 0x31, 0, 0x17, 0, 1, 0, 0, 0, 0, 0, 0, 0, 1, 3, 2, 0x76, 0x32, 0, 3,
+        2, 0x76, 0x31,
+    ];
+    let cases: [(&[u8], &[u8], &[u8]); 4] = [
+        (&INSERT, &OTHER_INSERT, &update),
+        (&INSERT, &INSERT, &[]),
+        (&INSERT, &[], &INSERT),
+        (&[], &INSERT, &[]),
+    ];
+    for (local, blob, rebased) in &cases {
+        let mut output = [0xee; 28];
+        let told = write_rebased(alloc, local, blob, &mut output);
+        assert_eq!(rt; told, read(rebased.len()));
+        assert!(rt; output.starts_with(rebased), "other bytes were written");
+        assert!(rt; output[27] == 0xee, "more bytes were written");
+    }
+    let mut short = [0xee; 26];
+    assert_eq!(rt;
+        cs_ffi_rebase(alloc, &INSERT, &OTHER_INSERT, &mut short),
+        read(27)
+    );
+    assert!(rt; short == [0xee; 26], "some bytes were written");
+}
+
+#[test]
+fn tells_why_a_changeset_is_not_rebased(rt: HostRuntime) {
+    let alloc = rt.alloc();
+    // The entry of (1, 'v1') twice, one of a table `t1` of three columns, and a byte that begins no entry.
+    let twice: &[u8] = &[
+        0x54, 2, 1, 0, 0x74, 0x31, 0, 0x12, 0, 1, 0, 0, 0, 0, 0, 0, 0, 1, 3, 2, 0x76, 0x31, 0x12,
+        0, 1, 0, 0, 0, 0, 0, 0, 0, 1, 3, 2, 0x76, 0x31,
+    ];
+    let three_columns: &[u8] = &[
+        0x54, 3, 1, 0, 0, 0x74, 0x31, 0, 0x12, 0, 1, 0, 0, 0, 0, 0, 0, 0, 1, 0, 0,
+    ];
+    let no_entry: &[u8] = &[0x54, 2, 1, 0, 0x74, 0x31, 0, 0x13];
+    let null: &[u8] = &[0x54, 1, 1, 0x74, 0, 0x12, 0, 5];
+    let two_shapes: &[u8] = &[0x54, 1, 1, 0x74, 0, 0x54, 2, 1, 0, 0x74, 0];
+    let cases: [(&[u8], &[u8], u32, usize); 8] = [
+        (&[0x54, 1, 1, 0x74, 0, 0x13], no_entry, 9, 5),
+        (two_shapes, no_entry, 31, 0),
+        (&[0x54, 1, 1, 0], no_entry, 50, 0),
+        (null, no_entry, 32, 0),
+        (&INSERT, no_entry, 9, 29),
+        (&[], no_entry, 9, 7),
+        (&INSERT, twice, 52, 0),
+        (&INSERT, three_columns, 53, 0),
+    ];
+    let mut output = [0xee; 64];
+    for (local, blob, fault, offset) in &cases {
+        let told = write_rebased(alloc, local, blob, &mut output);
+        assert_eq!(rt; told, refused(*fault, *offset));
+    }
+    assert!(rt; output == [0xee; 64], "some bytes were written");
 }

@@ -1,9 +1,11 @@
-use Rattle.cs_ffi.proofs.OneAnswer.{answer_laws}
+use Rattle.cs_ffi.proofs.OneAnswer.{answer_laws, Below}
+use Rattle.cs_ffi.proofs.OneRebased.{one_rebased_answer}
 use Rattle.cs_ffi.proofs.laws.answers.Goals as goal
 
 pub returns : goal.returns
 returns c =
-    answer_laws (record {
+    let below : Below =
+    record {
       changesets = c.changesets.ensures;
       fit = c.no_fault_where_fit.ensures;
       unfit = c.one_unfit.ensures;
@@ -11,4 +13,9 @@ returns c =
       combined = c.one_combined.ensures;
       no_fault = c.no_fault_where_combined.ensures;
       fault = c.one_combine_fault.ensures;
-    })
+    } in
+    answer_laws below (one_rebased_answer (record {
+      below = below;
+      blobs = c.blobs.ensures;
+      shapes = c.no_wrong_shape.ensures;
+    }))

@@ -1,0 +1,35 @@
+use Rattle.std.proofs.Common.{inl, inr, List, refl, subst}
+use Rattle.std.proofs.lemmas.Result.{err_from_is_err_and}
+use Rattle.cs_blob.specs.declared.blob.BlobGroup.{BlobGroup}
+use Rattle.cs_rebaser.specs.Faults.{IsRebaseFault}
+use Rattle.cs_ffi.specs.RebasedAnswers.{NotConfigured, NotRebased, rebase_answer}
+use Rattle.cs_ffi.proofs.rebased.rebased_bytes.Goals as goal
+
+pub returns-in_err-entries : goal.returns-in_err-entries
+returns-in_err-entries c =
+    let out = err_from_is_err_and c.from_residual-in_err-entries.result c.from_residual-in_err-entries.ensures.1 in
+    rw (out.1, out.2) (inr (c.in_ok-alone.alone, c.in_ok-alone.ensures, inl c.in_err-entries.ensures))
+
+pub returns-in-Err : goal.returns-in-Err
+returns-in-Err c =
+    let not : NotConfigured c.in_ok-entries.entries c.from.result =
+    record {
+      fault = c.in-Err.fault;
+      told = c.in-Err.ensures.fault;
+      number = c.from.ensures;
+    } in
+    inr (c.in_ok-alone.alone, c.in_ok-alone.ensures, inr (c.in_ok-entries.entries, c.in_ok-entries.ensures, inl not))
+
+pub returns-in_err-rebased : goal.returns-in_err-rebased
+returns-in_err-rebased c =
+    let out = err_from_is_err_and c.from_residual-in_err-rebased.result c.from_residual-in_err-rebased.ensures.1 in
+    let fault = c.in_err-rebased.field-0.0 in
+    let told = subst (λ (b : List BlobGroup). IsRebaseFault fault b c.in_ok-alone.alone) c.in-Ok.ensures.configured c.in_err-rebased.ensures.fault in
+    let not : NotRebased c.in_ok-entries.entries c.in_ok-alone.alone (rebase_answer fault) =
+    record {
+      once = c.in-Ok.ensures.once;
+      fault = fault;
+      told = told;
+      number = refl;
+    } in
+    rw (out.1, out.2) (inr (c.in_ok-alone.alone, c.in_ok-alone.ensures, inr (c.in_ok-entries.entries, c.in_ok-entries.ensures, inr not)))
