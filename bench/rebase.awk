@@ -92,5 +92,6 @@ BEGIN {
     if (differ > 0) print "WRONG: the two rebase in different ways"
     if (library_cases[1] != cases[1]) print "WRONG: the library's two ways lead to different rows though each answer was lawful"
     if (library_met[1] > 0) print "WRONG: the library's rebased changesets met conflicts though each answer was lawful"
-    exit applied_apart > 0 || differ > 0 || library_cases[1] != cases[1] || library_met[1] > 0
+    if (cases[1] == 0 || cases[0] == 0) print "WRONG: there are no cases of a kind"
+    exit cases[1] == 0 || cases[0] == 0 || applied_apart > 0 || differ > 0 || library_cases[1] != cases[1] || library_met[1] > 0
 }
