@@ -1,6 +1,6 @@
 -- The first entry of each place, in the order of the places, is an index.
 use Rattle.std.proofs.Common.{◌≡◌, ℕ, ◌+◌, ◌<◌, Bool, true, false, cond, List, [], ◌∷◌, ◌++◌, length, map, refl, sym, ap, ◌∙◌, arith, append_assoc, length-append, Option, Some, None}
-use Rattle.std.specs.Prelude.{slice_get, if◌then◌else◌}
+use Rattle.std.specs.Prelude.{slice_get}
 use Rattle.std.specs.List.{All, Contains, filter, flat_map, list_any, range_with_len}
 use Rattle.std.specs.List.Sorted.{IsStrictlySortedBy}
 use Rattle.std.specs.Map.{keys_of, lookup, values_of}
@@ -19,7 +19,7 @@ use Rattle.cs_blob.specs.declared.blob.Entry.{Entry}
 use Rattle.cs_rebaser.specs.Rebased.{placed}
 use Rattle.cs_rebaser.specs.Steps.{IsIndexOf, behind, beside_entries, entry_of_group}
 use Rattle.cs_rebaser.proofs.Listings.{found_at, listing_sorted}
-use Rattle.cs_rebaser.proofs.Placed.{beside_pairs, bytes_of, entries_of, have_names, looked_up, pair_keys, pair_values, pairs}
+use Rattle.cs_rebaser.proofs.Placed.{bytes_of, entries_of, have_names, looked_up, pair_keys, pair_values, pairs}
 use Rattle.cs_rebaser.proofs.Telling.{by_bool, same_is}
 
 -- the entry at the first of the places

@@ -1,8 +1,6 @@
 -- A changeset in normal form is in normal form rebased.
-use Rattle.std.proofs.Common.{◌≡◌, ◌≢◌, ◌∙◌, ℕ, Bool, true, false, cond, not, ◌&&◌, List, [], ◌∷◌, ◌++◌, length, map, refl, sym, ap, subst, arith, inl, inr, Option, Some, None}
+use Rattle.std.proofs.Common.{◌≡◌, ◌≢◌, ◌∙◌, ℕ, Bool, true, false, cond, List, [], ◌∷◌, ◌++◌, length, map, refl, sym, ap, subst, arith, inl, inr, Option, Some, None}
 use Rattle.std.specs.List.{All, AllByRecursion, flat_map, list_all}
-use Rattle.std.specs.List.Sorted.{IsStrictlySortedBy}
-use Rattle.std.specs.Map.{keys_of}
 use Rattle.std.proofs.lemmas.List.{length-map}
 use Rattle.std.proofs.lemmas.List.Elements.{All-from_recursion, recursion_from_All}
 use Rattle.cs_value.specs.Catalog.{is_set, marked}
@@ -13,9 +11,8 @@ use Rattle.cs_value.specs.declared.value.Field.{Field}
 use Rattle.cs_value.specs.declared.value.Field.TheVariants.{Undefined, Is}
 use Rattle.cs_value.specs.declared.value.Value.{Value}
 use Rattle.cs_record.specs.Spelling.{Fits}
-use Rattle.cs_order.specs.Order.{by_bytes}
-use Rattle.cs_change.specs.Action.{Action, Inserts, Deletes, Updates, action, action_any, flag_of}
-use Rattle.cs_change.specs.Columns.{holds, is_blank, is_defined, overlay_field, set_columns}
+use Rattle.cs_change.specs.Action.{Action, Inserts, Deletes, Updates, action, flag_of}
+use Rattle.cs_change.specs.Columns.{holds, is_blank, overlay_field, set_columns}
 use Rattle.cs_change.specs.Laws.{NetTakes}
 use Rattle.cs_change.specs.Net.{net, new_field, new_record, old_field, old_record}
 use Rattle.cs_change.specs.Normal.{IsNormal, IsNormalIfAny, NormalUpdate, no_column, key_column, unmodified, modified}
@@ -33,8 +30,8 @@ use Rattle.cs_group.specs.Combine.{with_flag, with_flag_any}
 use Rattle.cs_blob.specs.Spelling.{FitsBlob, FitsBlobEntry, entry_rules}
 use Rattle.cs_blob.specs.declared.blob.BlobGroup.{BlobGroup}
 use Rattle.cs_blob.specs.declared.blob.Entry.{Entry}
-use Rattle.cs_rebaser.specs.Rebase.{insert_over, new_field_over, new_fields_over, old_field_over, old_fields_over, rebase_one, rebase_over, rebased_change, stays, update_over_delete, value_and, whole_row}
-use Rattle.cs_rebaser.specs.Rebased.{HasShapeOf, Placed, Spot, beside, entry_at, entry_key, placed, rebased, rebased_changes, rebased_keyed, same_spot, with_changes}
+use Rattle.cs_rebaser.specs.Rebase.{insert_over, new_field_over, new_fields_over, old_field_over, old_fields_over, rebase_over, rebased_change, stays, update_over_delete, value_and, whole_row}
+use Rattle.cs_rebaser.specs.Rebased.{HasShapeOf, Placed, Spot, beside, entry_at, entry_key, placed, rebased, rebased_changes, same_spot, with_changes}
 use Rattle.cs_rebaser.specs.RebasedLaws.{RebasedIsNormal}
 use Rattle.cs_rebaser.specs.Steps.{behind}
 use Rattle.cs_rebaser.proofs.Listings.{listing_sorted}

@@ -1,4 +1,4 @@
-use Rattle.std.proofs.Common.{◌≡◌, sym, ◌∙◌}
+use Rattle.std.proofs.Common.{sym, ◌∙◌}
 use Rattle.cs_rebaser.proofs.Rows.{not_whole, row_is, row_is_spelled}
 use Rattle.cs_rebaser.proofs.columns.whole_row.Goals as goal
 

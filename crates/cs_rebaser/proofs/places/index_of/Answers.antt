@@ -1,4 +1,4 @@
-use Rattle.std.proofs.Common.{◌≡◌, ℕ, List, sym, ap, length, ◌∙◌}
+use Rattle.std.proofs.Common.{◌≡◌, List, sym, ap, length, ◌∙◌}
 use Rattle.std.proofs.lemmas.List.{length-map}
 use Rattle.cs_order.specs.Groups.{HasNoTwins, HasTwins}
 use Rattle.cs_order.specs.Order.{Keys, keys_behind}
@@ -22,7 +22,7 @@ in_order-requires c =
     let blob = c.args.groups.now in
     let places = ap (λ (ks : Keys). length ks) (c.in_ok-gathered.ensures.places ∙ gathered_places blob) ∙ length-map (placed blob) (λ (p : Placed). spot_bytes p.0) in
     let entries = ap (λ (es : List Entry). length es) (c.in_ok-gathered.ensures.entries ∙ gathered_entries blob) ∙ length-map (placed blob) (λ (p : Placed). p.1) in
-    record { beside = places ∙ sym entries; }
+    record { beside = places ∙ sym entries }
 
 pub returns-clause-index : goal.returns-clause-index
 returns-clause-index c =

@@ -1,4 +1,4 @@
-use Rattle.std.proofs.Common.{◌≡◌, arith}
+use Rattle.std.proofs.Common.{arith}
 use Rattle.cs_rebaser.proofs.Walks.{passed, picked}
 use Rattle.cs_rebaser.proofs.places.pick.Goals as goal
 
