@@ -19,8 +19,8 @@ use Rattle.cs_rebaser.specs.declared.faults.ConfigureFault.{ConfigureFault}
 use Rattle.cs_rebaser.specs.declared.faults.ConfigureFault.TheVariants as configuring
 use Rattle.cs_rebaser.specs.declared.faults.RebaseFault.{RebaseFault}
 use Rattle.cs_rebaser.specs.declared.faults.RebaseFault.TheVariants as rebasing
-use Rattle.cs_ffi.specs.Answers.{no_memory, read, refused, Spell, IsHanded, TellsCount, TellsFault, UpToMemory}
-use Rattle.cs_ffi.specs.CombinedAnswers.{CanCombine, IsAloneRefusal, NotCombined}
+use Rattle.cs_ffi.specs.Answers.{no_memory, read, IsHanded, TellsCount, TellsFault, UpToMemory}
+use Rattle.cs_ffi.specs.CombinedAnswers.{IsAloneRefusal, NotCombined}
 use Rattle.cs_ffi.specs.RebasedAnswers.{key_twice, wrong_shape, configure_answer, rebase_answer, AnswersRebased, CanRebase, IsBesideRefusal, IsBlobRefusal, IsRebaseRefusal, NotConfigured, NotRebased, SpellAlone, SpellBlob, SpellRebased}
 use Rattle.cs_ffi.specs.Laws.{AnswerLaws, OneRebasedAnswer}
 use Rattle.cs_ffi.specs.declared.answer.Answer.{Answer}

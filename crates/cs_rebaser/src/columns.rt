@@ -2,44 +2,12 @@
 
 ghost use Rattle.std.specs.Prelude.{◌≡◌, ◌++◌, ◌∷◌, [], IfOk, MatchOption, None, Some, not};
 ghost use Rattle.std.specs.List.{list_all};
-ghost use Rattle.cs_change.specs.Columns.{is_blank, is_defined, overlay_field};
-ghost use Rattle.cs_change.specs.Then.{is_idle};
+ghost use Rattle.cs_change.specs.Columns.{is_blank, is_defined};
 ghost use Rattle.cs_rebaser.specs.Rebase.{new_field_over, new_fields_over, old_field_over, old_fields_over, stays, whole_row};
 
+use cs_group::{defined, keeps_value, overlaid};
 use cs_record::{Cell, Column, Record, RecordBuf, Row};
 use cs_value::Memory;
-
-/// The second field where it is defined, else the first.
-#[inline(always)]
-fn overlaid<'b, 'a>(under: &'b Column<'a>, over: &'b Column<'a>) -> &'b Column<'a>
-    ensures { result.now ≡ overlay_field under.now over.now }
-{
-    match Cell::of_column(over) {
-        None => under,
-        Some(_) => over,
-    }
-}
-
-/// Whether a column's new value is its old one.
-#[inline(always)]
-#[tactic(auto, unfolding(cs_change::specs::Then::is_idle, cs_change::specs::Columns::holds))]
-fn keeps_value(old: &Column<'_>, new: &Column<'_>) -> bool
-    ensures { result ≡ is_idle old.now new.now }
-{
-    match (Cell::of_column(new), Cell::of_column(old)) {
-        (None, _) => false,
-        (Some(_), None) => false,
-        (Some(value), Some(before)) => before.same(&value),
-    }
-}
-
-/// Whether the field is defined.
-#[inline(always)]
-fn defined(column: &Column<'_>) -> bool
-    ensures { result ≡ is_defined column.now }
-{
-    Cell::of_column(column).is_some()
-}
 
 /// Whether a column of a local UPDATE stays modified.
 #[inline(always)]

@@ -1,8 +1,8 @@
 //! The rebaser.
 
 use crate::faults::{ConfigureFault, RebaseFault};
-use crate::places::{Index, entry_in, index_of};
 use crate::laws::rebased_is_normal;
+use crate::places::{Index, entry_in, index_of};
 use crate::shapes::have_shapes;
 use crate::tables::rebase_tables;
 use cs_blob::{Blob, Entry};
