@@ -1,6 +1,8 @@
 //! The column bytes that are written, and whether headers agree.
 
 use super::*;
+use cs_blob::BlobGroup;
+use cs_change::Group;
 use cs_changeset::read;
 use cs_normal::{Normal, catalog_of, normalise};
 use cs_value::Memory;
@@ -75,30 +77,36 @@ fn columns_of_the_first_header(rt: HostRuntime) -> Result<(), Fail> {
     Ok(())
 }
 
+/// The headers of a changeset, and those of a rebase blob behind them.
+fn headers_of_both<'a>(
+    alloc: Global,
+    groups: &'a [Group<'_>],
+    blob: &'a [BlobGroup<'_>],
+) -> Result<Vec<Header<'a>>, Memory> {
+    let mut headers = Vec::new(alloc);
+    put_headers(groups, &mut headers)?;
+    put_blob_headers(blob, &mut headers)?;
+    Ok(headers)
+}
+
 #[test]
 fn headers_as_read(rt: HostRuntime) -> Result<(), Fail> {
     let alloc = rt.alloc();
     let came = inserts(alloc, &[("t1", &[2, 1]), ("t2", &[1, 0])])?;
+    let normal = normal_of(alloc, came.as_slice())?;
     let changeset = read(alloc, came.as_slice())?;
-    let mut of_blob = Vec::new(alloc);
-    put_header("t1", &[1, 2], &mut of_blob)?;
-    let blob = cs_blob::read(alloc, of_blob.as_slice())?;
-
-    let mut headers = Vec::new(alloc);
-    put_headers(changeset.as_slice(), &mut headers)?;
-    assert!(rt; has_one_order(headers.as_slice()));
-    let mut out = Vec::new(alloc);
-    encode(
-        alloc,
-        &normal_of(alloc, came.as_slice())?,
-        headers.as_slice(),
-        &mut out,
-    )?;
-    assert_eq!(rt; out, came);
-
-    put_blob_headers(blob.as_slice(), &mut headers)?;
-    assert_eq!(rt; headers.len(), 3);
-    assert!(rt; !has_one_order(headers.as_slice()));
+    let cases: [([u8; 2], bool); 2] = [([2, 1], true), ([1, 2], false)];
+    for (marks, one) in &cases {
+        let mut bytes = Vec::new(alloc);
+        put_header("t1", marks, &mut bytes)?;
+        let blob = cs_blob::read(alloc, bytes.as_slice())?;
+        let headers = headers_of_both(alloc, changeset.as_slice(), blob.as_slice())?;
+        assert_eq!(rt; headers.len(), 3);
+        assert_eq!(rt; has_one_order(headers.as_slice()), *one);
+        let mut out = Vec::new(alloc);
+        encode(alloc, &normal, headers.as_slice(), &mut out)?;
+        assert_eq!(rt; out, came);
+    }
     Ok(())
 }
 
