@@ -11,7 +11,7 @@ use Rattle.cs_normal.specs.Laws.{NormalIsTaken}
 use Rattle.cs_normal.specs.Normal.{groups_of}
 use Rattle.cs_normal.specs.declared.normal.TableChanges.{TableChanges}
 use Rattle.cs_sqlite.specs.KeyPlaces.{Head, columns_of, group_for_sqlite, for_sqlite}
-use Rattle.cs_sqlite.specs.Laws.{AreHeadsOf, IsHeadOf, IsSameGroup, StaysTheSame}
+use Rattle.cs_sqlite.specs.Laws.{IsHeadOf, IsSameGroup, StaysTheSame}
 
 -- a header, and the changes without their keys, are the group
 pub spelled : (heads : List Head) (table : TableChanges) (old headed new : List ℕ)
