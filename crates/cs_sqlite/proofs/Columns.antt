@@ -1,12 +1,12 @@
 -- Column bytes by the first header of a name.
-use Rattle.std.proofs.Common.{◌≡◌, ◌≢◌, ℕ, suc, zero, ◌+◌, ◌<◌, ◌≤◌, Bool, true, false, List, [], ◌∷◌, length, map, drop, take, get_or, refl, sym, subst, ap, ◌∙◌, add-one, arith}
+use Rattle.std.proofs.Common.{◌≡◌, ℕ, suc, zero, ◌+◌, ◌<◌, ◌≤◌, Bool, true, false, List, [], ◌∷◌, length, map, drop, take, get_or, refl, sym, subst, ap, ◌∙◌, add-one, arith}
 use Rattle.std.specs.List.{All, AllByRecursion, Contains}
 use Rattle.std.specs.Str.{bytes_eq}
 use Rattle.std.proofs.Math.Seq.{drop-cons}
 use Rattle.std.proofs.lemmas.List.Elements.{All-from_recursion}
 use Rattle.std.proofs.lemmas.Slice.Eq.{bytes_eq-Decides}
 use Rattle.std.proofs.lemmas.List.{get_or-map, length-map, drop_all, take_all}
-use Rattle.cs_sqlite.specs.KeyPlaces.{Head, columns_of, HaveOneOrder, HasTwoOrders}
+use Rattle.cs_sqlite.specs.KeyPlaces.{Head, columns_of, HaveOneOrder}
 use Rattle.cs_sqlite.specs.Laws.{OneOrderOrTwo}
 use Rattle.cs_sqlite.specs.Steps.{head_of, heads_behind, IsAsFirst}
 use Rattle.cs_sqlite.specs.declared.headers.Header.{Header}

@@ -11,7 +11,7 @@ use Rattle.cs_normal.specs.Laws.{NormalIsTaken}
 use Rattle.cs_normal.specs.Normal.{groups_of}
 use Rattle.cs_normal.specs.declared.normal.TableChanges.{TableChanges}
 use Rattle.cs_sqlite.specs.KeyPlaces.{Head, columns_of, group_for_sqlite, for_sqlite}
-use Rattle.cs_sqlite.specs.Laws.{AreHeadsOf, IsHeadOf, IsSameGroup, StaysTheSame}
+use Rattle.cs_sqlite.specs.Laws.{IsHeadOf, IsSameGroup, StaysTheSame}
 
 -- a header, and the changes without their keys, are the group
 pub spelled : (heads : List Head) (table : TableChanges) (old headed new : List ℕ)
@@ -22,8 +22,8 @@ spelled heads table old headed new header changes =
     let head : List ℕ = header_spelling (columns_of table.name (map flag_byte table.marks) heads) table.name in
     let alike = flat_map-map change_spelling (λ (keyed : List ℕ × Change). keyed.1) table.changes in
     changes ∙ ap (λ (bytes : List ℕ). bytes ++ flat_map (λ (keyed : List ℕ × Change). change_spelling keyed.1) table.changes) header
-      ∙ append_assoc old head (flat_map (λ (keyed : List ℕ × Change). change_spelling keyed.1) table.changes)
-      ∙ ap (λ (bytes : List ℕ). old ++ (head ++ bytes)) (sym alike)
+    ∙ append_assoc old head (flat_map (λ (keyed : List ℕ × Change). change_spelling keyed.1) table.changes)
+    ∙ ap (λ (bytes : List ℕ). old ++ (head ++ bytes)) (sym alike)
 
 -- marks written as 1 and 0 are the marks
 marks_stay : (marks : List Bool) → marks_of (map flag_byte marks) ≡ marks
@@ -70,4 +70,4 @@ stays heads (table ∷ tables) fits each =
 pub stays_the_same : NormalIsTaken → StaysTheSame
 stays_the_same taken heads tables normal are =
     stays heads tables (taken tables normal).0 (recursion_from_All (λ (table : TableChanges). AllByRecursion (λ (head : Head). IsHeadOf head table) heads) tables
-      (λ k d less. recursion_from_All (λ (head : Head). IsHeadOf head (get_or tables k d)) heads (are k d less)))
+    (λ k d less. recursion_from_All (λ (head : Head). IsHeadOf head (get_or tables k d)) heads (are k d less)))

@@ -18,10 +18,7 @@ pub struct Header<'a> {
 }
 
 /// Appends the headers of a changeset.
-pub fn put_headers<'a>(
-    groups: &'a [Group<'_>],
-    headers: &mut Vec<Header<'a>>,
-) -> Result<(), Memory>
+pub fn put_headers<'a>(groups: &'a [Group<'_>], headers: &mut Vec<Header<'a>>) -> Result<(), Memory>
     ensures { OnOk result (heads_behind headers.new.items ≡ heads_behind headers.old.items ++ heads_of groups.now) }
 {
     for group in groups {
