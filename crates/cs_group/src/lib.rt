@@ -25,6 +25,7 @@ pub use adding::add_one;
 pub use combining::{CombineFault, combine, normalise_alone};
 pub use group::{join, then};
 pub use inverting::invert;
+pub use two_changes::push_net;
 pub use two_rows::{NetChange, net};
 
 #[cfg(test)]

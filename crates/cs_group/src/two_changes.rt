@@ -143,7 +143,7 @@ fn push_updates(
 
 /// Appends the update from one row to another, if they differ.
 #[tactic(auto, unfolding(cs_change::specs::Net::net))]
-pub(crate) fn push_net(
+pub fn push_net(
     flag: bool,
     marks: &[bool],
     before: &Row<'_>,

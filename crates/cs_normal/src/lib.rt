@@ -22,8 +22,8 @@ mod unfit;
 mod writing;
 
 pub use groups::{normalise, same_shape};
-pub use headers::{HeaderFault, catalog_of};
-pub use key_of_change::put_key;
+pub use headers::{HeaderFault, catalog_of, read_marks};
+pub use key_of_change::{put_key, put_record_key};
 pub use keyed_changes::KeyedChanges;
 pub use keys::Keys;
 

@@ -1,0 +1,44 @@
+use Rattle.std.proofs.Common.{◌≡◌, List, sym, ap, length, ◌∙◌}
+use Rattle.std.proofs.lemmas.List.{length-map}
+use Rattle.cs_order.specs.Groups.{HasNoTwins, HasTwins}
+use Rattle.cs_order.specs.Order.{Keys, keys_behind}
+use Rattle.cs_blob.specs.declared.blob.Entry.{Entry}
+use Rattle.cs_rebaser.specs.Rebased.{Placed, placed}
+use Rattle.cs_rebaser.specs.Steps.{spot_bytes}
+use Rattle.cs_rebaser.proofs.Indexes.{is_index}
+use Rattle.cs_rebaser.proofs.Placed.{bytes_of, each_once, gathered_entries, gathered_places, not_once}
+use Rattle.cs_rebaser.proofs.places.index_of.Goals as goal
+
+pub returns-then-has_twins-clause-fault : goal.returns-then-has_twins-clause-fault
+returns-then-has_twins-clause-fault c =
+    let blob = c.args.groups.now in
+    let keys = keys_behind c.as_slice.result.now in
+    let is : keys ≡ bytes_of (placed blob) = ap keys_behind c.as_slice.ensures.value ∙ c.in_ok-slices.ensures ∙ c.in_ok-gathered.ensures.places ∙ gathered_places blob in
+    let twins : HasTwins keys = rw c.if-has_twins.true at (c.has_twins.ensures keys c.in_ok-grouped.ensures) in
+    not_once c.orders.ensures blob keys c.requires is twins
+
+pub in_order-requires : goal.in_order-requires
+in_order-requires c =
+    let blob = c.args.groups.now in
+    let places = ap (λ (ks : Keys). length ks) (c.in_ok-gathered.ensures.places ∙ gathered_places blob) ∙ length-map (placed blob) (λ (p : Placed). spot_bytes p.0) in
+    let entries = ap (λ (es : List Entry). length es) (c.in_ok-gathered.ensures.entries ∙ gathered_entries blob) ∙ length-map (placed blob) (λ (p : Placed). p.1) in
+    record { beside = places ∙ sym entries }
+
+pub returns-clause-index : goal.returns-clause-index
+returns-clause-index c =
+    let blob = c.args.groups.now in
+    let gathered = c.in_ok-gathered.gathered in
+    let keys = keys_behind c.as_slice.result.now in
+    let same : keys ≡ gathered.places = ap keys_behind c.as_slice.ensures.value ∙ c.in_ok-slices.ensures in
+    let places = c.in_ok-gathered.ensures.places ∙ gathered_places blob in
+    let entries = c.in_ok-gathered.ensures.entries ∙ gathered_entries blob in
+    let made = c.in_ok-in_order.field-0 in
+    is_index blob gathered.places gathered.entries.items c.in_ok-grouped.grouped made.places made.entries.items c.requires places entries (rw (← same) c.in_ok-grouped.ensures) c.in_ok-in_order.ensures.as_many c.in_ok-in_order.ensures.picked
+
+pub returns-clause-once : goal.returns-clause-once
+returns-clause-once c =
+    let blob = c.args.groups.now in
+    let keys = keys_behind c.as_slice.result.now in
+    let is : keys ≡ bytes_of (placed blob) = ap keys_behind c.as_slice.ensures.value ∙ c.in_ok-slices.ensures ∙ c.in_ok-gathered.ensures.places ∙ gathered_places blob in
+    let none : HasNoTwins keys = rw c.if-has_twins.false at (c.has_twins.ensures keys c.in_ok-grouped.ensures) in
+    each_once blob keys c.requires is none

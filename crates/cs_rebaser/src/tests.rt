@@ -1,0 +1,248 @@
+//! Local changes of a table `t1` with a key column and another, and of `t2` with a key column and three others, from bytes
+//! to bytes.
+
+use super::*;
+use cs_changeset::read;
+use cs_group::normalise_alone;
+use cs_normal::Normal;
+use cs_value::Memory;
+use std::alloc::Global;
+use std::process::Abort;
+use std::test::Fail;
+
+/// The header of the table t1.
+const H1: [u8; 7] = [0x54, 2, 1, 0, 0x74, 0x31, 0];
+
+/// The header of the table t2.
+const H2: [u8; 9] = [0x54, 4, 1, 0, 0, 0, 0x74, 0x32, 0];
+
+/// The header of a table t1 with a third column.
+const WIDE_H1: [u8; 8] = [0x54, 3, 1, 0, 0, 0x74, 0x31, 0];
+
+/// The integers 1 and 2.
+const K1: [u8; 9] = [1, 0, 0, 0, 0, 0, 0, 0, 1];
+
+const K2: [u8; 9] = [1, 0, 0, 0, 0, 0, 0, 0, 2];
+
+/// Texts.
+const V1: [u8; 4] = [3, 2, 0x76, 0x31];
+
+const V2: [u8; 4] = [3, 2, 0x76, 0x32];
+
+const V9: [u8; 4] = [3, 2, 0x76, 0x39];
+
+const B0: [u8; 4] = [3, 2, 0x62, 0x30];
+
+const B1: [u8; 4] = [3, 2, 0x62, 0x31];
+
+const B2: [u8; 4] = [3, 2, 0x62, 0x32];
+
+const C2: [u8; 4] = [3, 2, 0x63, 0x32];
+
+const D0: [u8; 4] = [3, 2, 0x64, 0x30];
+
+const D1: [u8; 4] = [3, 2, 0x64, 0x31];
+
+/// The first bytes of changes and entries, with the flag or the answer.
+const INSERT: [u8; 2] = [0x12, 0];
+
+const UPDATE: [u8; 2] = [0x17, 0];
+
+const DELETE: [u8; 2] = [9, 0];
+
+const INDIRECT_UPDATE: [u8; 2] = [0x17, 1];
+
+const OMIT: [u8; 2] = [0x12, 0];
+
+const REPLACE: [u8; 2] = [0x12, 1];
+
+const OMIT_DELETE: [u8; 2] = [9, 0];
+
+const REPLACE_DELETE: [u8; 2] = [9, 1];
+
+/// A field that is undefined.
+const NONE: [u8; 1] = [0];
+
+fn joined(alloc: Global, pieces: &[&[u8]]) -> Result<Vec<u8>, Memory> {
+    let mut bytes = Vec::new(alloc);
+    for piece in pieces {
+        bytes.extend_from_slice(piece)?;
+    }
+    Ok(bytes)
+}
+
+/// The normal form of the changeset in these bytes.
+fn normal_of(alloc: Global, bytes: &[u8]) -> Result<Normal, Fail> {
+    let changeset = read(alloc, bytes)?;
+    Ok(normalise_alone(alloc, &changeset)?)
+}
+
+/// A rebaser of the blob in these bytes.
+fn rebaser_of<'a>(rt: &impl Abort, alloc: Global, bytes: &'a [u8]) -> Result<Rebaser<'a>, Fail> {
+    let blob = cs_blob::read(alloc, bytes)?;
+    match Rebaser::configure(alloc, blob) {
+        Ok(rebaser) => Ok(rebaser),
+        Err((_, fault)) => panic!(rt; "{fault}"),
+    }
+}
+
+/// Rebases the local changes over the blob, and compares what is left.
+fn rebases(
+    rt: &impl Abort,
+    alloc: Global,
+    local: &[&[u8]],
+    blob: &[&[u8]],
+    left: &[&[u8]],
+) -> Result<(), Fail> {
+    let local = joined(alloc, local)?;
+    let blob = joined(alloc, blob)?;
+    let expected = joined(alloc, left)?;
+    let normal = normal_of(alloc, &local)?;
+    let rebaser = rebaser_of(rt, alloc, &blob)?;
+    let rebased = rebaser.rebase(alloc, &normal)?;
+    let mut bytes = Vec::new(alloc);
+    rebased.encode(&mut bytes)?;
+    assert!(rt; bytes == expected, "another changeset is left");
+    Ok(())
+}
+
+#[test]
+fn one_change_over_one_entry(rt: HostRuntime) -> Result<(), Fail> {
+    let alloc = rt.alloc();
+    let cases: [(&[&[u8]], &[&[u8]], &[&[u8]]); 12] = [
+        (
+            &[&H1, &INSERT, &K1, &V1],
+            &[&H1, &OMIT, &K1, &V2],
+            &[&H1, &UPDATE, &K1, &V2, &NONE, &V1],
+        ),
+        (&[&H1, &INSERT, &K1, &V1], &[&H1, &OMIT, &K1, &V1], &[]),
+        (
+            &[
+                &H2, &UPDATE, &K1, &B0, &NONE, &NONE, &NONE, &B1, &NONE, &NONE,
+            ],
+            &[&H2, &REPLACE, &K1, &B2, &C2, &NONE],
+            &[],
+        ),
+        (
+            &[&H2, &UPDATE, &K1, &B0, &NONE, &D0, &NONE, &B1, &NONE, &D1],
+            &[&H2, &OMIT, &K1, &B2, &NONE, &NONE],
+            &[&H2, &UPDATE, &K1, &B2, &NONE, &D0, &NONE, &B1, &NONE, &D1],
+        ),
+        (
+            &[
+                &H2, &UPDATE, &K1, &NONE, &NONE, &D0, &NONE, &NONE, &NONE, &D1,
+            ],
+            &[],
+            &[
+                &H2, &UPDATE, &K1, &NONE, &NONE, &D0, &NONE, &NONE, &NONE, &D1,
+            ],
+        ),
+        (
+            &[&H1, &UPDATE, &K1, &V1, &NONE, &V9],
+            &[&H1, &OMIT, &K1, &V9],
+            &[],
+        ),
+        (
+            &[&H1, &DELETE, &K1, &V1],
+            &[&H1, &OMIT, &K1, &V2],
+            &[&H1, &DELETE, &K1, &V2],
+        ),
+        (
+            &[&H1, &DELETE, &K1, &V1],
+            &[&H1, &OMIT_DELETE, &K1, &V1],
+            &[],
+        ),
+        (
+            &[&H1, &UPDATE, &K1, &V1, &NONE, &V9],
+            &[&H1, &OMIT_DELETE, &K1, &V1],
+            &[&H1, &INSERT, &K1, &V9],
+        ),
+        (
+            &[&H1, &UPDATE, &K1, &V1, &NONE, &V9],
+            &[&H1, &REPLACE_DELETE, &K1, &V1],
+            &[],
+        ),
+        (&[&H1, &INSERT, &K1, &V1], &[&H1, &REPLACE, &K1, &V2], &[]),
+        (
+            &[&H1, &INDIRECT_UPDATE, &K1, &V1, &NONE, &V9],
+            &[&H1, &OMIT, &K1, &V2],
+            &[&H1, &INDIRECT_UPDATE, &K1, &V2, &NONE, &V9],
+        ),
+    ];
+    for (local, blob, left) in &cases {
+        rebases(&rt, alloc, local, blob, left)?;
+    }
+    Ok(())
+}
+
+#[test]
+fn entries_of_other_places(rt: HostRuntime) -> Result<(), Fail> {
+    let alloc = rt.alloc();
+    let cases: [(&[&[u8]], &[&[u8]], &[&[u8]]); 3] = [
+        // An entry of another key, and one of another table of another shape.
+        (
+            &[&H1, &DELETE, &K1, &V1],
+            &[
+                &H1,
+                &OMIT_DELETE,
+                &K2,
+                &V1,
+                &H2,
+                &OMIT_DELETE,
+                &K1,
+                &V1,
+                &V1,
+                &V1,
+            ],
+            &[&H1, &DELETE, &K1, &V1],
+        ),
+        // A table in two groups, its entries in no order.
+        (
+            &[&H1, &DELETE, &K1, &V1, &DELETE, &K2, &V2],
+            &[&H1, &OMIT, &K2, &V9, &H2, &H1, &OMIT, &K1, &B2],
+            &[&H1, &DELETE, &K1, &B2, &DELETE, &K2, &V9],
+        ),
+        // Of two tables one is left.
+        (
+            &[&H1, &DELETE, &K1, &V1, &H2, &INSERT, &K1, &B0, &C2, &D0],
+            &[&H1, &OMIT_DELETE, &K1, &V1],
+            &[&H2, &INSERT, &K1, &B0, &C2, &D0],
+        ),
+    ];
+    for (local, blob, left) in &cases {
+        rebases(&rt, alloc, local, blob, left)?;
+    }
+    Ok(())
+}
+
+#[test]
+fn key_twice(rt: HostRuntime) -> Result<(), Fail> {
+    let alloc = rt.alloc();
+    let cases: [&[&[u8]]; 2] = [
+        &[&H1, &OMIT, &K1, &V2, &OMIT, &K1, &V2],
+        &[&H1, &OMIT, &K1, &V2, &H2, &H1, &REPLACE_DELETE, &K1, &V1],
+    ];
+    for pieces in &cases {
+        let bytes = joined(alloc, pieces)?;
+        let blob = cs_blob::read(alloc, &bytes)?;
+        match Rebaser::configure(alloc, blob) {
+            Ok(_) => panic!(&rt; "a key comes twice"),
+            Err((_, fault)) => assert_eq!(&rt; fault, ConfigureFault::KeyTwice),
+        }
+    }
+    Ok(())
+}
+
+#[test]
+fn wrong_shape(rt: HostRuntime) -> Result<(), Fail> {
+    let alloc = rt.alloc();
+    let local = joined(alloc, &[&H1, &INSERT, &K1, &V1])?;
+    let bytes = joined(alloc, &[&WIDE_H1, &OMIT, &K1, &NONE, &NONE])?;
+    let normal = normal_of(alloc, &local)?;
+    let rebaser = rebaser_of(&rt, alloc, &bytes)?;
+    match rebaser.rebase(alloc, &normal) {
+        Ok(_) => panic!(&rt; "a table has another shape"),
+        Err(fault) => assert_eq!(&rt; fault, RebaseFault::WrongShape),
+    }
+    Ok(())
+}
