@@ -1,7 +1,7 @@
 #!/bin/sh
 # Refuses a test each of its allocations in turn, one in a run of its own: `refused_memory_leaves_everything` of cs_store
-# commits twice to the store in memory, that of cs_apply applies a changeset. Where that is refused, the test looks whether
-# everything is as it was, and makes the same call again. Each run has to pass.
+# commits twice to the store in memory, that of cs_apply applies a changeset, and that of cs_rebaser rebases one. Where that
+# is refused, the test looks whether everything is as it was, and makes the same call again. Each run has to pass.
 # Usage: bench/refuse_tests.sh CRATE [TESTS]
 # TESTS is the program of the crate's tests, as `rt test` leaves it (crates/CRATE/out/CRATE_tests); where none is given, it is
 # proved and built.
@@ -10,10 +10,12 @@ bench="$(cd "$(dirname "$0")" && pwd)"
 tested="$1"
 tests="${2:-}"
 . "$bench/common.sh"
-# So many allocations at least: cs_store's test makes batches of 120 rows and a commit copies each key, cs_apply's four changes.
+# So many allocations at least: cs_store's test makes batches of 120 rows and a commit copies each key, cs_apply's four
+# changes, and cs_rebaser's reads and rebases three.
 case "$tested" in
     cs_store) least=400 ;;
     cs_apply) least=30 ;;
+    cs_rebaser) least=30 ;;
     *) echo "no such test in $tested" >&2; exit 1 ;;
 esac
 command -v cc > /dev/null || { echo "no allocation refused: there is no C compiler here"; exit 0; }

@@ -246,3 +246,79 @@ fn wrong_shape(rt: HostRuntime) -> Result<(), Fail> {
     }
     Ok(())
 }
+
+/// What is left of the local changes over the blob, as bytes. A call that is refused memory is made once more.
+fn left_at_last(alloc: Global, local: &[u8], blob: &[u8]) -> Result<Vec<u8>, Fail> {
+    let normal = normal_of(alloc, local)?;
+    let blob = cs_blob::read(alloc, blob)?;
+    let configured = match Rebaser::configure(alloc, blob) {
+        Err((blob, ConfigureFault::Memory)) => Rebaser::configure(alloc, blob),
+        other => other,
+    };
+    let rebaser = match configured {
+        Ok(rebaser) => rebaser,
+        Err((_, fault)) => return Err(fault.into()),
+    };
+    let rebased = match rebaser.rebase(alloc, &normal) {
+        Err(RebaseFault::Memory) => rebaser.rebase(alloc, &normal)?,
+        other => other?,
+    };
+    let mut bytes = Vec::new(alloc);
+    rebased.encode(&mut bytes)?;
+    Ok(bytes)
+}
+
+/// Whether what is left of two tables is what it has to be.
+fn leaves_two_tables(alloc: Global) -> Result<bool, Fail> {
+    let local = joined(
+        alloc,
+        &[
+            &H1, &INSERT, &K1, &V1, &DELETE, &K2, &V2, &H2, &UPDATE, &K1, &B0, &NONE, &D0, &NONE,
+            &B1, &NONE, &D1,
+        ],
+    )?;
+    let blob = joined(
+        alloc,
+        &[
+            &H2, &OMIT, &K1, &B2, &NONE, &NONE, &H1, &OMIT, &K2, &V9, &OMIT, &K1, &V2,
+        ],
+    )?;
+    let expected = joined(
+        alloc,
+        &[
+            &H1, &UPDATE, &K1, &V2, &NONE, &V1, &DELETE, &K2, &V9, &H2, &UPDATE, &K1, &B2, &NONE,
+            &D0, &NONE, &B1, &NONE, &D1,
+        ],
+    )?;
+    let left = left_at_last(alloc, &local, &blob)?;
+    Ok(left == expected)
+}
+
+/// Everything is as it was where memory is refused, and the same call then succeeds. `bench/refuse_tests.sh` refuses each
+/// allocation in turn here; what can't be made, or a read that is refused, is tried again with the rest.
+#[test]
+fn refused_memory_leaves_everything(rt: HostRuntime) -> Result<(), Fail> {
+    let alloc = rt.alloc();
+    let kept = match leaves_two_tables(alloc) {
+        Ok(kept) => kept,
+        Err(_) => leaves_two_tables(alloc).unwrap_or(false),
+    };
+    assert!(rt; kept);
+    Ok(())
+}
+
+#[test]
+fn faults_are_told_by_name(rt: HostRuntime) -> Result<(), Fail> {
+    let alloc = rt.alloc();
+    assert_eq!(rt; ConfigureFault::Memory.to_string(alloc)?.as_str(), "Memory");
+    assert_eq!(rt;
+        ConfigureFault::KeyTwice.to_string(alloc)?.as_str(),
+        "KeyTwice"
+    );
+    assert_eq!(rt; RebaseFault::Memory.to_string(alloc)?.as_str(), "Memory");
+    assert_eq!(rt;
+        RebaseFault::WrongShape.to_string(alloc)?.as_str(),
+        "WrongShape"
+    );
+    Ok(())
+}
