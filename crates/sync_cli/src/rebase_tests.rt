@@ -30,21 +30,57 @@ fn rows_of_two_columns(rt: HostRuntime) -> Result<(), Fail> {
     let alloc = rt.alloc();
     let rows = [
         // An INSERT over an INSERT that was answered OMIT, of another row and of the same.
-        (format!(in alloc; "1200{K1}{V1}")?, format!(in alloc; "1200{K1}{V2}")?, format!(in alloc; "{H1}1700{K1}{V2}00{V1}")?),
-        (format!(in alloc; "1200{K1}{V1}")?, format!(in alloc; "1200{K1}{V1}")?, format!(in alloc; "")?),
+        (
+            format!(in alloc; "1200{K1}{V1}")?,
+            format!(in alloc; "1200{K1}{V2}")?,
+            format!(in alloc; "{H1}1700{K1}{V2}00{V1}")?,
+        ),
+        (
+            format!(in alloc; "1200{K1}{V1}")?,
+            format!(in alloc; "1200{K1}{V1}")?,
+            format!(in alloc; "")?,
+        ),
         // An UPDATE over an UPDATE to the same value.
-        (format!(in alloc; "1700{K1}{V1}00{V9}")?, format!(in alloc; "1200{K1}{V9}")?, format!(in alloc; "")?),
+        (
+            format!(in alloc; "1700{K1}{V1}00{V9}")?,
+            format!(in alloc; "1200{K1}{V9}")?,
+            format!(in alloc; "")?,
+        ),
         // A DELETE over an UPDATE and over a DELETE.
-        (format!(in alloc; "0900{K1}{V1}")?, format!(in alloc; "1200{K1}{V2}")?, format!(in alloc; "{H1}0900{K1}{V2}")?),
-        (format!(in alloc; "0900{K1}{V1}")?, format!(in alloc; "0900{K1}{V1}")?, format!(in alloc; "")?),
+        (
+            format!(in alloc; "0900{K1}{V1}")?,
+            format!(in alloc; "1200{K1}{V2}")?,
+            format!(in alloc; "{H1}0900{K1}{V2}")?,
+        ),
+        (
+            format!(in alloc; "0900{K1}{V1}")?,
+            format!(in alloc; "0900{K1}{V1}")?,
+            format!(in alloc; "")?,
+        ),
         // An UPDATE over a DELETE that was answered OMIT, and REPLACE.
-        (format!(in alloc; "1700{K1}{V1}00{V9}")?, format!(in alloc; "0900{K1}{V1}")?, format!(in alloc; "{H1}1200{K1}{V9}")?),
-        (format!(in alloc; "1700{K1}{V1}00{V9}")?, format!(in alloc; "0901{K1}{V1}")?, format!(in alloc; "")?),
+        (
+            format!(in alloc; "1700{K1}{V1}00{V9}")?,
+            format!(in alloc; "0900{K1}{V1}")?,
+            format!(in alloc; "{H1}1200{K1}{V9}")?,
+        ),
+        (
+            format!(in alloc; "1700{K1}{V1}00{V9}")?,
+            format!(in alloc; "0901{K1}{V1}")?,
+            format!(in alloc; "")?,
+        ),
     ];
     for (local, entry, left) in &rows {
         let input = format!(in alloc; "{H1}{local}\n{H1}{entry}\n")?;
         let output = format!(in alloc; "{left}\n")?;
-        expect(&rt, alloc, REBASE.as_slice(), input.as_bytes(), 0, output.as_str(), "")?;
+        expect(
+            &rt,
+            alloc,
+            REBASE.as_slice(),
+            input.as_bytes(),
+            0,
+            output.as_str(),
+            "",
+        )?;
     }
     Ok(())
 }
