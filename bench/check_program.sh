@@ -1,6 +1,6 @@
 #!/bin/sh
 # Runs the built program `sync` as a person would, and compares each run's status, output and errors with what they
-# have to be: help, a hub, `combine`, `show`, refused inputs, refused command lines, a refused table word, a failed write,
+# have to be: help, a hub, `combine`, `rebase`, `show`, refused inputs, refused command lines, a refused table word, a failed write,
 # and a hub on pipes that has to answer each line before the next one comes.
 # Usage: bench/check_program.sh PROGRAM
 set -u
@@ -35,6 +35,8 @@ tell() {
 insert=54020100743100120001000000000000000103027631
 update=540201007431001700010000000000000001030276310003027632
 combined=54020100743100120001000000000000000103027632
+deleted=54020100743100090001000000000000000103027631
+rebased=540201007431001700010000000000000001030276320003027631
 pushed=0100000007000000000000000100000000000000000000001654020100743100120001000000000000000103027631
 accepted=110000000700000000000000010000000000000001
 
@@ -45,6 +47,9 @@ expect 0 "$insert\n$update\n" "$combined\n" '' combine
 expect 0 '' '\n' '' combine
 expect 0 "$insert\nzz\n" 'table t1 10\ninsert 0 1 t=v1\n' '' show changeset
 expect 0 '' '' '' show changeset
+expect 0 "$deleted\nzz\n" 'table t1 10\ndelete omit 1 t=v1\n' '' show blob
+expect 0 "$insert\n$combined\nzz\n" "$rebased\n" '' rebase
+expect 0 "$insert\n" "$insert\n" '' rebase
 
 # 0, with help: the usage line, and a line for each command.
 for words in --help help; do
@@ -53,7 +58,7 @@ for words in --help help; do
     runs=$((runs + 1))
     [ "$ended" -eq 0 ] || tell "ended with $ended in place of 0" $words
     [ -s "$dir/errors" ] && tell 'told something' $words
-    for line in '^Usage: sync' '^  hub  *[A-Z]' '^  show  *[A-Z]' '^  combine  *[A-Z]'; do
+    for line in '^Usage: sync' '^  hub  *[A-Z]' '^  show  *[A-Z]' '^  combine  *[A-Z]' '^  rebase  *[A-Z]'; do
         grep -q "$line" "$dir/output" || tell "has no line $line" $words
     done
 done
@@ -63,6 +68,8 @@ expect 1 'zz\n' '' 'sync: BadHex\n' combine
 expect 1 "$insert\n54\n" '' 'sync: Truncated at 1\n' combine
 expect 1 '5402010074310012000503027631\n' '' 'sync: NullKey\n' combine
 expect 1 '50\n' '' 'sync: Patchset at 0\n' show changeset
+expect 1 "$update\n" '' 'sync: BadOperation at 7\n' show blob
+expect 1 "$insert\n5403010000743100\n" '' 'sync: WrongShape\n' rebase
 
 # 2: the command line was refused, and nothing was read or written.
 expect 2 "$pushed\n" '' 'sync: command line\n'
@@ -70,7 +77,7 @@ expect 2 "$pushed\n" '' 'sync: command line\n' frob
 expect 2 "$pushed\n" '' 'sync: command line\n' hub --frob
 expect 2 "$insert\n" '' 'sync: command line\n' combine t1:10
 expect 2 "$insert\n" '' 'sync: command line\n' show
-expect 2 "$insert\n" '' 'sync: command line\n' show blob
+expect 2 "$insert\n" '' 'sync: command line\n' show nothing
 expect 2 "$pushed\n" '' 'sync: table t2:00\n' hub t1:10 t2:00 t3:00
 
 # A failed write is status 1.

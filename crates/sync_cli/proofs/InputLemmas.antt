@@ -1,17 +1,23 @@
 -- What has been read of an input, line by line.
 use Rattle.std.proofs.Common.{◌≡◌, ℕ, ◌+◌, ◌<◌, List, [], ◌∷◌, ◌++◌, length, take, drop, get_or, sym, refl, ap, subst, arith, ◌∙◌, inl, inr}
-use Rattle.std.specs.Prelude.{Option, Some, Ok}
+use Rattle.std.specs.Prelude.{Option, Some, Ok, Err, Result, IfOk}
 use Rattle.std.specs.Global.{Vec}
 use Rattle.std.specs.List.{AllZip, AllByRecursion}
 use Rattle.std.specs.Io.KnownBytes.{IsAtEnd, Keeps}
 use Rattle.std.proofs.lemmas.List.{take_more}
 use Rattle.hex.specs.Hex.{decode_of, decode_pairs}
+use Rattle.cs_blob.specs.Spelling.{FitsBlob, blob_spelling}
+use Rattle.cs_blob.specs.declared.blob.BlobGroup.{BlobGroup}
 use Rattle.cs_change.specs.Spelling.{FitsChangeset, changeset_spelling}
 use Rattle.cs_change.specs.declared.group.Group.{Group}
+use Rattle.cs_group.specs.Combined.{IsCombined}
+use Rattle.cs_normal.specs.declared.normal.TableChanges.{TableChanges}
+use Rattle.cs_lines.specs.Lines.{hex_line}
 use Rattle.cs_lines.specs.Laws.{AllTaken, NoneTaken, OneMoreTaken}
 use Rattle.cs_lines.specs.Served.{AreAllLines}
 use Rattle.sync_cli.specs.CombinedLines.{SpellChangesets}
 use Rattle.sync_cli.specs.LinesRead.{AreHexOf, AreRead, IsHexOf, SpellAll, TakesBytes, TakesNextBytes}
+use Rattle.sync_cli.specs.RebasedLine.{Rebases, RebasesLines, SpellsRebased}
 use Rattle.sync_cli.specs.ShownLine.{ShowsBytes, ShowsFirst}
 use Rattle.sync_cli.specs.SpelledLine.{Spells}
 
@@ -85,3 +91,31 @@ pub shows_first : {A : Type 0} (Fits : A → Type 0) (spelling text_of : A → L
     → TakesNextBytes bytes old new → ShowsBytes Fits spelling text_of bytes text → ShowsFirst Fits spelling text_of old new text
 shows_first Fits spelling text_of old new bytes text took shown =
     (took.0, shown.0, took.1, (shown.1.0, took.2 ∙ ap (λ held. Ok held) shown.1.1), shown.2)
+
+-- the two lines of a rebase, from their bytes
+pub rebases_two : (old between new : Option (List ℕ)) (changeset conflicts : List ℕ) (local : List TableChanges) (spelled : List ℕ)
+    → TakesNextBytes changeset old between
+    → (groups : List Group) × Spells FitsChangeset changeset_spelling changeset groups × IsCombined (groups ∷ []) local
+    → TakesNextBytes conflicts between new
+    → (blob : List BlobGroup) × Spells FitsBlob blob_spelling conflicts blob × SpellsRebased blob local spelled
+    → Rebases old new spelled
+rebases_two old between new changeset conflicts local spelled took formed then_took over = record {
+  first = took.0;
+  second = then_took.0;
+  between = between;
+  groups = formed.0;
+  local = local;
+  blob = over.0;
+  takes_first = took.1;
+  changeset = (formed.1.0, took.2 ∙ ap (λ held. Ok held) formed.1.1);
+  normal = formed.2;
+  takes_second = then_took.1;
+  conflicts = (over.1.0, then_took.2 ∙ ap (λ held. Ok held) over.1.1);
+  spelled = over.2;
+}
+
+-- what is rebased is a line of it
+pub rebases_lines : {E : Type 0} (old new : Option (List ℕ)) (came : Result (Vec ℕ) E)
+    → IfOk came (λ bytes. Rebases old new bytes.items) → IfOk came (λ bytes. RebasesLines old new (hex_line bytes.items))
+rebases_lines old new (Ok bytes) is = (bytes.items, is, refl)
+rebases_lines old new (Err e) is = is

@@ -3,6 +3,7 @@ use Rattle.std.proofs.Common.{◌≡◌, ℕ, inl, inr, List, [], ◌∷◌, ◌
 use Rattle.std.specs.Prelude.{Option, Some, None, Ok}
 use Rattle.std.specs.Io.KnownBytes.{Keeps}
 use Rattle.std.proofs.lemmas.List.{append_cancel_left}
+use Rattle.cs_blob.specs.declared.blob.BlobGroup.{BlobGroup}
 use Rattle.cs_blob.specs.Laws.{OneBlob}
 use Rattle.cs_blob.specs.Spelling.{FitsBlob, blob_spelling}
 use Rattle.cs_change.specs.Spelling.{FitsChangeset, changeset_spelling}
@@ -12,11 +13,14 @@ use Rattle.cs_group.specs.Combined.{IsCombined, OneCombined}
 use Rattle.cs_lines.specs.Lines.{hex_line, lines_of}
 use Rattle.cs_lines.specs.Reading.{IsCut}
 use Rattle.cs_normal.specs.Normal.{normal_spelling}
+use Rattle.cs_normal.specs.declared.normal.TableChanges.{TableChanges}
+use Rattle.cs_rebaser.specs.Rebased.{rebased}
 use Rattle.cs_text.specs.Text.{blob_text, changeset_text}
 use Rattle.sync_cli.specs.CombinedLines.{SpellChangesets, SpellsCombined}
-use Rattle.sync_cli.specs.Laws.{OneCombinedText, OneShownBlob, OneShownChangeset}
+use Rattle.sync_cli.specs.Laws.{OneCombinedText, OneRebasedText, OneShownBlob, OneShownChangeset}
 use Rattle.sync_cli.specs.ShownLine.{ShowsFirst}
-use Rattle.sync_cli.specs.SpelledLine.{SpellsInHex, TakesNext}
+use Rattle.sync_cli.specs.RebasedLine.{Rebases, RebasesLines, SpellsRebased}
+use Rattle.sync_cli.specs.SpelledLine.{SpellsBlob, SpellsChangeset, SpellsInHex, TakesNext}
 
 -- bytes spell one thing
 abbrev OneSpelled : {A : Type 0} → (A → Type 0) → (A → List ℕ) → Type 0
@@ -105,3 +109,35 @@ one_shown_changeset once = one_shown FitsChangeset changeset_spelling changeset_
 
 pub one_shown_blob : OneBlob → OneShownBlob
 one_shown_blob once = one_shown FitsBlob blob_spelling blob_text once
+
+-- what is left behind a line is known
+known_rest : (input line : List ℕ) (left : Option (List ℕ)) → TakesNext (Some input) left line → (rest : List ℕ) × (left ≡ Some rest)
+known_rest input line left (inl took) = (took.0, took.1)
+known_rest input line left (inr none) = (input, kept_is input left none.1)
+
+one_rebased : (some other : List BlobGroup) (local same : List TableChanges) (bytes others : List ℕ) → some ≡ other → local ≡ same
+    → SpellsRebased some local bytes → SpellsRebased other same others → bytes ≡ others
+one_rebased some other local same bytes others blobs locals first second =
+    first.2 ∙ ap₂ (λ b l. normal_spelling (rebased b l)) blobs locals ∙ sym second.2
+
+one_rebasing : OneCombined → OneChangeset → OneBlob → (input bytes others : List ℕ) (left next : Option (List ℕ))
+    → Rebases (Some input) left bytes → Rebases (Some input) next others → (bytes ≡ others) × (left ≡ next)
+one_rebasing combined changesets blobs input bytes others left next first second =
+    let taken = one_next input first.first second.first first.between second.between first.takes_first second.takes_first in
+    let groups = one_in_hex FitsChangeset changeset_spelling changesets first.first first.groups second.groups first.changeset
+    (subst (λ (l : List ℕ). SpellsChangeset l second.groups) (sym taken.0) second.changeset) in
+    let local = combined (first.groups ∷ []) first.local second.local first.normal
+    (subst (λ (g : List Group). IsCombined (g ∷ []) second.local) (sym groups) second.normal) in
+    let rest = known_rest input first.first first.between first.takes_first in
+    let here : TakesNext (Some rest.0) left first.second = subst (λ (b : Option (List ℕ)). TakesNext b left first.second) rest.1 first.takes_second in
+    let there : TakesNext (Some rest.0) next second.second =
+    subst (λ (b : Option (List ℕ)). TakesNext b next second.second) (sym taken.1 ∙ rest.1) second.takes_second in
+    let behind = one_next rest.0 first.second second.second left next here there in
+    let blob = one_in_hex FitsBlob blob_spelling blobs first.second first.blob second.blob first.conflicts
+    (subst (λ (l : List ℕ). SpellsBlob l second.blob) (sym behind.0) second.conflicts) in
+    (one_rebased first.blob second.blob first.local second.local bytes others blob local first.spelled second.spelled, behind.1)
+
+pub one_rebased_text : OneCombined → OneChangeset → OneBlob → OneRebasedText
+one_rebased_text combined changesets blobs input text other left next first second =
+    let once = one_rebasing combined changesets blobs input first.0 second.0 left next first.1 second.1 in
+    (first.2 ∙ ap hex_line once.0 ∙ sym second.2, once.1)

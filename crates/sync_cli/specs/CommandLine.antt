@@ -6,7 +6,7 @@ use Rattle.clap.specs.Kinds.{Kinds}
 use Rattle.clap.specs.Words.{App, Row, Rule, Text, all_of, first_of, new_app, new_rule, subcommand_of, with_rule, with_subcommand}
 use Rattle.clap.specs.declared.builder.action.ArgAction.TheVariants.{Append}
 use Rattle.sync_cli.specs.declared.command.Tool.{Tool}
-use Rattle.sync_cli.specs.declared.command.Tool.TheVariants.{Combine, ShowBlob, ShowChangeset}
+use Rattle.sync_cli.specs.declared.command.Tool.TheVariants.{Combine, Rebase, ShowBlob, ShowChangeset}
 
 -- `TABLE...`, which may be left out
 abbrev pub table_rule : Rule
@@ -25,9 +25,14 @@ show_app = with_rule (new_app (codes "show")) what_rule
 abbrev pub combine_app : App
 combine_app = new_app (codes "combine")
 
+abbrev pub rebase_app : App
+rebase_app = new_app (codes "rebase")
+
 abbrev pub sync_app : App
 sync_app =
-    with_subcommand (with_subcommand (with_subcommand (new_app (codes "sync")) hub_app.top) show_app.top) combine_app.top
+    with_subcommand
+    (with_subcommand (with_subcommand (with_subcommand (new_app (codes "sync")) hub_app.top) show_app.top) combine_app.top)
+    rebase_app.top
 
 -- the kinds of which the parser's refusal of a command line may be; none where it takes it
 abbrev pub faults_of : List Text → Kinds
@@ -59,6 +64,7 @@ shown_tool rows = tool_of_what (first_of (codes "WHAT") rows)
 abbrev pub tool_by : Text → List Row → Option Tool
 tool_by name rows =
     if bytes_eq name (codes "combine") then Some Combine
+    else if bytes_eq name (codes "rebase") then Some Rebase
     else if bytes_eq name (codes "show") then shown_tool rows
     else None
 

@@ -8,13 +8,19 @@ use Rattle.cs_value.specs.declared.catalog.TableDef.{TableDef}
 use Rattle.sync_cli.specs.CatalogWords.{IsCatalogOf, IsRefusedAt}
 use Rattle.sync_cli.specs.CombinedLines.{CombinesAll}
 use Rattle.sync_cli.specs.CommandLine.{faults_of, table_words_of, tool_of}
+use Rattle.sync_cli.specs.RebasedLine.{RebasesLines}
 use Rattle.sync_cli.specs.ShownLine.{ShowsBlob, ShowsChangeset}
-use Rattle.sync_cli.specs.declared.command.Tool.TheVariants.{Combine, ShowBlob, ShowChangeset}
+use Rattle.sync_cli.specs.declared.command.Tool.TheVariants.{Combine, Rebase, ShowBlob, ShowChangeset}
 
 -- the lines of an input have one text that `combine` owes
 abbrev pub OneCombinedText : Type 0
 OneCombinedText = (input text other : List ℕ) → CombinesAll (Some input) text → CombinesAll (Some input) other
     → text ≡ other
+
+-- its first two lines have one that `rebase` owes, and one rest that it leaves
+abbrev pub OneRebasedText : Type 0
+OneRebasedText = (input text other : List ℕ) (left next : Option (List ℕ)) → RebasesLines (Some input) left text
+    → RebasesLines (Some input) next other → (text ≡ other) × (left ≡ next)
 
 -- its first line has one that `show changeset` owes, and one rest that it leaves
 abbrev pub OneShownChangeset : Type 0
@@ -48,6 +54,9 @@ hub_words = codes "sync" ∷ codes "hub" ∷ codes "t1:10" ∷ []
 abbrev pub combine_words : List Text
 combine_words = codes "sync" ∷ codes "combine" ∷ []
 
+abbrev pub rebase_words : List Text
+rebase_words = codes "sync" ∷ codes "rebase" ∷ []
+
 abbrev pub show_words : List Text
 show_words = codes "sync" ∷ codes "show" ∷ codes "changeset" ∷ []
 
@@ -68,6 +77,9 @@ AsksForAHub = (faults_of hub_words ≡ []) × (table_words_of hub_words ≡ Some
 
 abbrev pub AsksToCombine : Type 0
 AsksToCombine = (faults_of combine_words ≡ []) × (tool_of combine_words ≡ Some Combine)
+
+abbrev pub AsksToRebase : Type 0
+AsksToRebase = (faults_of rebase_words ≡ []) × (tool_of rebase_words ≡ Some Rebase)
 
 abbrev pub AsksToShow : Type 0
 AsksToShow = (faults_of show_words ≡ []) × (tool_of show_words ≡ Some ShowChangeset)

@@ -4,6 +4,7 @@ pub mod CommandLine
 pub mod Endings
 pub mod Laws
 pub mod LinesRead
+pub mod RebasedLine
 pub mod ShownLine
 pub mod SpelledLine
 pub mod TableWord

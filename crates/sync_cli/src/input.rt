@@ -11,6 +11,7 @@ use crate::status::REFUSED_INPUT;
 use cs_changeset::{Changeset, CodecFault};
 use cs_group::CombineFault;
 use cs_lines::{ASKS, LineInput, LineRead, read_line};
+use cs_rebaser::{ConfigureFault, RebaseFault};
 use hex::FromHexError;
 use std::alloc::{AllocError, Global};
 use std::io::Write;
@@ -33,6 +34,12 @@ pub enum Refusal {
     /// The changesets can't be taken together.
     #[error("{0}")]
     Combine(#[from] CombineFault),
+    /// A rebaser can't be configured with the blob.
+    #[error("{0}")]
+    Configure(ConfigureFault),
+    /// The changeset can't be rebased over it.
+    #[error("{0}")]
+    Rebase(#[from] RebaseFault),
 }
 
 /// The bytes that a line spells in hex, by digits of either case.

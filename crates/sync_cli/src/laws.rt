@@ -1,12 +1,21 @@
 //! The laws of the program, and what some command lines ask for, by computation: each is the contract of a function
 //! that does nothing.
 
-ghost use Rattle.sync_cli.specs.Laws.{AsksForAHub, AsksForHelp, AsksForNothing, AsksToCombine, AsksToShow, AsksToShowBlob, IsNotTaken, NoCatalogRefused, OneCatalog, OneCombinedText, OneRefusedWord, OneShownBlob, OneShownChangeset};
+ghost use Rattle.sync_cli.specs.Laws.{AsksForAHub, AsksForHelp, AsksForNothing, AsksToCombine, AsksToRebase, AsksToShow, AsksToShowBlob, IsNotTaken, NoCatalogRefused, OneCatalog, OneCombinedText, OneRebasedText, OneRefusedWord, OneShownBlob, OneShownChangeset};
 
 /// An input has one text that `combine` owes.
 pub fn one_combined_text()
     ensures { OneCombinedText }
 {
+    cs_changeset::laws::changesets();
+    cs_group::laws::one_combined();
+}
+
+/// It has one text that `rebase` owes, and one rest that it leaves.
+pub fn one_rebased_text()
+    ensures { OneRebasedText }
+{
+    cs_blob::laws::blobs();
     cs_changeset::laws::changesets();
     cs_group::laws::one_combined();
 }
@@ -48,6 +57,11 @@ pub fn asks_for_a_hub()
 /// `sync combine` is taken and asks to combine.
 pub fn asks_to_combine()
     ensures { AsksToCombine }
+{}
+
+/// `sync rebase` is taken and asks to rebase.
+pub fn asks_to_rebase()
+    ensures { AsksToRebase }
 {}
 
 /// `sync show changeset` is taken and asks to show a changeset.

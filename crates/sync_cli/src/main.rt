@@ -1,9 +1,10 @@
 //! The program `sync`: a hub that answers requests line by line, and tools for changesets, all in hex.
 //!
 //! It stands on `clap` for the command line, on `cs_lines` for the lines, on `cs_hub` for the answers, on `cs_group` for
-//! changesets as one and on `cs_text` for what `show` prints, and only wires them. `run` carries the promise, status by
-//! status (`specs/Endings.antt`): `hub` gives each line of the input the answer of a hub of the tables that the command
-//! line names, `combine` writes the changesets of all lines as one, and `show` the text of the first.
+//! changesets as one, on `cs_rebaser` for rebased ones and on `cs_text` for what `show` prints, and only wires them. `run`
+//! carries the promise, status by status (`specs/Endings.antt`): `hub` gives each line of the input the answer of a hub of
+//! the tables that the command line names, `combine` writes the changesets of all lines as one, `rebase` that of the first
+//! line over the blob of the second, and `show` the text of the first.
 //!
 //! `run`'s clauses stand over a reader and a writer whose bytes are known, as those of slices and vectors are. Standard
 //! input and output are none such in the toolchain: of `main`, which hands `run` the words, the standard streams and the
@@ -18,6 +19,7 @@ mod hub;
 mod input;
 mod laws;
 mod output;
+mod rebase;
 mod run;
 mod show;
 mod status;
@@ -65,6 +67,8 @@ fn tell_refused_start<E: Write>(error: &io::Error, errors: &mut E) -> u8 {
 mod combine_tests;
 #[cfg(test)]
 mod fault_texts;
+#[cfg(test)]
+mod rebase_tests;
 #[cfg(test)]
 mod sessions;
 #[cfg(test)]

@@ -6,14 +6,16 @@ ghost use Rattle.clap.specs.Words.{kind_of};
 ghost use Rattle.sync_cli.specs.CombinedLines.{CombinesAll};
 ghost use Rattle.sync_cli.specs.CommandLine.{faults_of, table_words_of, tool_of};
 ghost use Rattle.sync_cli.specs.Endings.{EndsServing, EndsUnasked, EndsUntaken, EndsWriting};
+ghost use Rattle.sync_cli.specs.RebasedLine.{RebasesLines};
 ghost use Rattle.sync_cli.specs.ShownLine.{ShowsBlob, ShowsChangeset};
-ghost use Rattle.sync_cli.specs.declared.command.Tool.TheVariants.{Combine, ShowBlob, ShowChangeset};
+ghost use Rattle.sync_cli.specs.declared.command.Tool.TheVariants.{Combine, Rebase, ShowBlob, ShowChangeset};
 
 use crate::combine::combine_lines;
 use crate::command;
 use crate::command::Tool;
 use crate::hub::serve_hub;
 use crate::output::write_text;
+use crate::rebase::rebase_lines;
 use crate::show::{show_blob, show_changeset};
 use crate::status::{COMMAND_LINE, DONE, MEMORY, REFUSED_COMMAND, REFUSED_INPUT, WRITE, tell};
 use clap::Error;
@@ -55,6 +57,11 @@ pub fn run<S: AsStr, R: LineInput, W: LineOutput, E: Write>(
         → EndsWriting result (CombinesAll (R.remaining reader.old)) (W.failed writer.new)
         (W.contents writer.old) (W.contents writer.new) }
 
+    // `rebase`: the changeset of the first line over the rebase blob of the second, as a line of lower case hex.
+    ensures rebase { faults_of (map S.text words.now) ≡ [] → tool_of (map S.text words.now) ≡ Some Rebase
+        → EndsWriting result (RebasesLines (R.remaining reader.old) (R.remaining reader.new)) (W.failed writer.new)
+        (W.contents writer.old) (W.contents writer.new) }
+
     // `show changeset`: the changeset of the first line as text, and the rest of the lines is left.
     ensures show { faults_of (map S.text words.now) ≡ [] → tool_of (map S.text words.now) ≡ Some ShowChangeset
         → EndsWriting result (ShowsChangeset (R.remaining reader.old) (R.remaining reader.new)) (W.failed writer.new)
@@ -79,6 +86,7 @@ pub fn run<S: AsStr, R: LineInput, W: LineOutput, E: Write>(
     }
     match command::tool_of(&matches) {
         Some(Tool::Combine) => combine_lines(alloc, reader, writer, errors),
+        Some(Tool::Rebase) => rebase_lines(alloc, reader, writer, errors),
         Some(Tool::ShowChangeset) => show_changeset(alloc, reader, writer, errors),
         Some(Tool::ShowBlob) => show_blob(alloc, reader, writer, errors),
         None => tell(errors, COMMAND_LINE, REFUSED_COMMAND),

@@ -150,7 +150,7 @@ fn reads_table_words(rt: HostRuntime) -> Result<(), Fail> {
 #[test]
 fn tells_help(rt: HostRuntime) -> Result<(), Fail> {
     let whole =
-        "Offline-first table sync: a hub, and tools for changesets\n\nUsage: sync [COMMAND]\n\nCommands:\n  hub      Answer requests, one a line in hex, as a hub of these tables\n  show     Show the changeset or rebase blob that the first line spells in hex\n  combine  Take the changesets that the lines spell in hex together as one\n  help     Print this message or the help of the given subcommand(s)\n\nOptions:\n  -h, --help  Print help\n";
+        "Offline-first table sync: a hub, and tools for changesets\n\nUsage: sync [COMMAND]\n\nCommands:\n  hub      Answer requests, one a line in hex, as a hub of these tables\n  show     Show the changeset or rebase blob that the first line spells in hex\n  combine  Take the changesets that the lines spell in hex together as one\n  rebase   Rebase the changeset of the first line over the rebase blob of the second, in hex\n  help     Print this message or the help of the given subcommand(s)\n\nOptions:\n  -h, --help  Print help\n";
     let combine =
         "Take the changesets that the lines spell in hex together as one\n\nUsage: sync combine\n\nOptions:\n  -h, --help  Print help\n";
     expect(&rt, rt.alloc(), &["sync", "--help"], b"07\n", 0, whole, "")?;

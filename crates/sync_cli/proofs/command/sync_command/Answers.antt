@@ -1,6 +1,6 @@
 use Rattle.std.proofs.Common.{rules, ◌≡◌, ap, ap₂, ◌∙◌, codes}
 use Rattle.clap.specs.Words.{App, app_of, new_app, with_subcommand}
-use Rattle.sync_cli.specs.CommandLine.{hub_app, show_app, combine_app}
+use Rattle.sync_cli.specs.CommandLine.{hub_app, show_app, combine_app, rebase_app}
 use Rattle.sync_cli.proofs.CommandLemmas.{no_globals}
 use Rattle.sync_cli.proofs.command.sync_command.Goals as goal
 
@@ -14,5 +14,10 @@ returns c =
     c.in_ok-one.ensures.shape (no_globals _ _ _ _ (ap (λ (a : App). a.top.is_plain) hub_is)) ∙ ap₂ with_subcommand sync_is (ap (λ (a : App). a.top) hub_is) in
     let two_is : app_of c.in_ok-two.two ≡ with_subcommand (with_subcommand (new_app (codes "sync")) hub_app.top) show_app.top =
     c.in_ok-two.ensures.shape (no_globals _ _ _ _ (ap (λ (a : App). a.top.is_plain) show_is)) ∙ ap₂ with_subcommand one_is (ap (λ (a : App). a.top) show_is) in
-    c.in_ok-whole.ensures.shape (no_globals _ _ _ _ (ap (λ (a : App). a.top.is_plain) combine_is))
-    ∙ ap₂ with_subcommand two_is (ap (λ (a : App). a.top) combine_is)
+    let rebase_is : app_of c.rebase_command-rebase.result ≡ rebase_app = c.rebase_command-rebase.ensures in
+    let three_is : app_of c.in_ok-three.three
+    ≡ with_subcommand (with_subcommand (with_subcommand (new_app (codes "sync")) hub_app.top) show_app.top) combine_app.top =
+    c.in_ok-three.ensures.shape (no_globals _ _ _ _ (ap (λ (a : App). a.top.is_plain) combine_is))
+    ∙ ap₂ with_subcommand two_is (ap (λ (a : App). a.top) combine_is) in
+    c.in_ok-whole.ensures.shape (no_globals _ _ _ _ (ap (λ (a : App). a.top.is_plain) rebase_is))
+    ∙ ap₂ with_subcommand three_is (ap (λ (a : App). a.top) rebase_is)
