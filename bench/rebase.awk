@@ -12,7 +12,8 @@ function read_case(file, rows, kinds,    line, words) {
         if (words[1] == "place") {
             kinds[words[2] " " words[3]] = substr(line, length(words[1] words[2] words[3]) + 4)
         } else if (words[1] == "local" || words[1] == "remote") {
-            rows[words[1] " " words[2] " " words[3]] = words[4]
+            # Behind a letter, so that no bytes are compared as numbers.
+            rows[words[1] " " words[2] " " words[3]] = "x" words[4]
         } else if (words[1] != "case") {
             rows[words[1]] = words[2]
         }
