@@ -56,7 +56,11 @@ fn put_row_key(marks: &[bool], row: &Row<'_>, out: &mut Vec<u8>) -> Result<bool,
 /// counts as NULL.
 #[inline(always)]
 #[tactic(auto, unfolding(crate::specs::NormalForm::marked_fields))]
-pub fn put_record_key(marks: &[bool], fields: &Record<'_>, out: &mut Vec<u8>) -> Result<bool, Memory>
+pub fn put_record_key(
+    marks: &[bool],
+    fields: &Record<'_>,
+    out: &mut Vec<u8>,
+) -> Result<bool, Memory>
     ensures { IfOk result (λ whole. (out.new.items ≡ out.old.items ++ key_bytes (marked_fields marks.now fields.now))
         × (whole ≡ list_all is_set (marked_fields marks.now fields.now))) }
 {
