@@ -33,8 +33,7 @@ echo "rebased local changesets leave the same rows by the library and by SQLite"
 
 [ -n "$rounds" ] || exit 0
 print_machine_and_sqlite
-echo "nanoseconds a local change and entry, best of $rounds: the library / SQLite = ratio; of the library's time the shares of the local"
-echo "changeset's normal form, of reading the blob and configuring, and of rebasing"
+echo "nanoseconds a local change and entry, best of $rounds: the library / SQLite = ratio (share of the local changeset's normal form)"
 
 # Times so many local changes, each at a key so far from the last one's, over so many entries from a key on.
 time_case() {
@@ -43,10 +42,10 @@ time_case() {
     awk -v local="$1" -v entries="$4" -v words="$5" '
         FNR == NR { theirs = $1; left = $2; next }
         {
-            if ($4 != left) { print "WRONG: " $4 " changes are left, not " left; exit 1 }
+            if ($3 != left) { print "WRONG: " $3 " changes are left, not " left; exit 1 }
             both = local + entries
-            printf "%d local changes over %d entries, %s: %.0f / %.0f = %.2f; %.0f%%, %.0f%%, %.0f%%\n", local, entries, words, $3 / both,
-                theirs / both, $3 / theirs, 100 * $1 / $3, 100 * ($2 - $1) / $3, 100 * ($3 - $2) / $3
+            printf "%d local changes over %d entries, %s: %.0f / %.0f = %.2f (%.0f%%)\n", local, entries, words, $1 / both,
+                theirs / both, $1 / theirs, 100 * $2 / $1
         }' "$out/rebase_theirs" "$out/rebase_ours"
 }
 time_case 10000 1 0 10000 "all on the same keys"
