@@ -1,11 +1,12 @@
 -- The laws of changesets with SQLite's column bytes.
-use Rattle.std.specs.Prelude.{◌≡◌, List, All}
-use Rattle.std.specs.List.{AllZip}
-use Rattle.cs_change.specs.Spelling.{marks_of, FitsChangeset, FitsHeader}
+use Rattle.std.specs.Prelude.{◌≡◌, List, All, length}
+use Rattle.std.specs.List.{AllByRecursion, AllZip, flat_map}
+use Rattle.cs_change.specs.Spelling.{changeset_spelling, marks_of, FitsChangeset, FitsHeader}
 use Rattle.cs_change.specs.declared.group.Group.{Group}
-use Rattle.cs_normal.specs.Normal.{IsNormalChangeset, groups_of}
+use Rattle.cs_normal.specs.Headers.{headers, tables_of_headers, HaveCatalog}
+use Rattle.cs_normal.specs.Normal.{FitsCatalog, IsNormalChangeset, groups_of}
 use Rattle.cs_normal.specs.declared.normal.TableChanges.{TableChanges}
-use Rattle.cs_sqlite.specs.KeyPlaces.{Head, for_sqlite, HaveOneOrder, HasTwoOrders}
+use Rattle.cs_sqlite.specs.KeyPlaces.{Head, for_sqlite, heads_of, HaveOneOrder, HasTwoOrders}
 
 -- no headers have one order and two
 abbrev pub OneOrderOrTwo : Type 0
@@ -30,3 +31,19 @@ StaysTheSame =
     → IsNormalChangeset tables
     → AreHeadsOf heads tables
     → AllZip IsSameGroup (for_sqlite heads tables) (groups_of tables) × FitsChangeset (for_sqlite heads tables)
+
+-- groups that are the same but for the column bytes take as many bytes
+abbrev pub SameLength : Type 0
+SameLength =
+    (groups others : List Group)
+    → AllZip IsSameGroup groups others
+    → length (changeset_spelling groups) ≡ length (changeset_spelling others)
+
+-- headers that a catalog was made of are headers of the tables of each changeset of that catalog
+abbrev pub HeadsOfCatalog : Type 0
+HeadsOfCatalog =
+    (changesets : List (List Group)) (tables : List TableChanges)
+    → AllByRecursion FitsChangeset changesets
+    → HaveCatalog (headers changesets)
+    → FitsCatalog (tables_of_headers (headers changesets)) tables
+    → AreHeadsOf (flat_map heads_of changesets) tables

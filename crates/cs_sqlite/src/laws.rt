@@ -1,6 +1,6 @@
 //! The laws of changesets with SQLite's column bytes, each the contract of a function that does nothing.
 
-ghost use Rattle.cs_sqlite.specs.Laws.{OneOrderOrTwo, StaysTheSame};
+ghost use Rattle.cs_sqlite.specs.Laws.{HeadsOfCatalog, OneOrderOrTwo, SameLength, StaysTheSame};
 
 /// No headers have one order of a key's columns and two.
 pub fn one_order_or_two()
@@ -13,3 +13,14 @@ pub fn stays_the_same()
 {
     cs_normal::laws::normal_is_taken();
 }
+
+/// Groups that are the same but for the column bytes take as many bytes.
+pub fn same_length()
+    ensures { SameLength }
+{}
+
+/// The headers that a catalog was made of are headers of the tables of each changeset of that catalog, as those are that
+/// were taken together by it.
+pub fn heads_of_catalog()
+    ensures { HeadsOfCatalog }
+{}
