@@ -1,5 +1,9 @@
 /* Changesets in the format of SQLite's session extension: read, written again, brought into normal form, taken together,
- * taken back and rebased.
+ * taken back, rebased, and written for SQLite.
+ *
+ * A changeset in normal form, which most of the functions write, is for this library, its program and its hubs: it has the
+ * byte 1 for each key column. For SQLite's own sqlite3changeset_apply put it through cs_ffi_for_sqlite: SQLite has there
+ * each key column's place in the PRIMARY KEY, and passes over a group with other bytes without a word.
  *
  * Link out/libcs_ffi.a, and behind it the toolchain's c/liblibc_c.a, which gives it memory by malloc, realloc and free.
  * The functions give back all memory before they return. They may be
@@ -41,7 +45,8 @@ enum cs_ffi_fault {
     CS_FFI_NO_TABLES = 50,      /* the declaring bytes are no changeset, or headers are no catalog's */
     CS_FFI_LENGTHS = 51,        /* the lengths of the inputs don't add up to the bytes */
     CS_FFI_BLOB_KEY_TWICE = 52, /* two entries of the blob are of one table and key */
-    CS_FFI_WRONG_SHAPE = 53     /* a group of the blob has a table's name, and another column count or key columns */
+    CS_FFI_WRONG_SHAPE = 53,    /* a group of the blob has a table's name, and another column count or key columns */
+    CS_FFI_KEY_ORDER = 54       /* two headers of one table have its key columns in different orders */
 };
 
 /* What is told of bytes: the number of their first fault, its offset in bytes from the front (0 where there is none),
@@ -67,6 +72,15 @@ struct cs_ffi_answer cs_ffi_reencode(const uint8_t *input, size_t input_length, 
  * input (faults 2 to 14 and their offset are the input's), then the changeset (faults 30 to 33, without an offset). */
 struct cs_ffi_answer cs_ffi_normalise(const uint8_t *declared, size_t declared_length, const uint8_t *input,
                                       size_t input_length, uint8_t *output, size_t output_length);
+
+/* Writes a changeset for SQLite's own sqlite3changeset_apply to the front of the output: in normal form, as
+ * cs_ffi_normalise does, but with the column bytes of the headers that declare its tables, in place of 1 for each key
+ * column. What SQLite captured declares its tables as SQLite has them: for what cs_ffi_combine wrote hand over the same
+ * inputs (changesets that stand one after another are one), for what cs_ffi_rebase or cs_ffi_invert wrote the changeset
+ * that it was made of. The tables are judged first (fault 50), then the order of their key columns (54, where two headers
+ * of one table have other column bytes), then the input as by cs_ffi_normalise; counts are as there. */
+struct cs_ffi_answer cs_ffi_for_sqlite(const uint8_t *declared, size_t declared_length, const uint8_t *input,
+                                       size_t input_length, uint8_t *output, size_t output_length);
 
 /* Takes changesets together as one, as sqlite3changegroup_add and sqlite3changegroup_output do, and writes that in normal
  * form to the front of the output. The changesets stand one after another in the inputs, each as long as its place in the

@@ -1,7 +1,9 @@
 pub mod Counts
 pub mod Declared
 pub mod Fit
+pub mod ForSqlite
 pub mod OneAnswer
 pub mod OneRebased
+pub mod OneSqlite
 pub mod PartFaults
 pub mod Parts

@@ -11,7 +11,7 @@ use Rattle.cs_changeset.specs.declared.fault.Fault.{Fault}
 use Rattle.cs_normal.specs.Headers.{headers, HaveCatalog}
 use Rattle.cs_normal.specs.Laws.{NoFaultWhereFit, OneNormalForm, OneUnfit}
 use Rattle.cs_normal.specs.Normal.{normal_spelling}
-use Rattle.cs_normal.specs.NormalFormOf.{IsUnfit}
+use Rattle.cs_normal.specs.NormalFormOf.{AreFit, IsUnfit}
 use Rattle.cs_normal.specs.declared.normal.TableChanges.{TableChanges}
 use Rattle.cs_normal.specs.declared.unfit.Unfit.{Unfit}
 use Rattle.cs_normal.specs.declared.unfit.Unfit.TheVariants as in_changes
@@ -21,8 +21,8 @@ use Rattle.cs_group.specs.declared.combining.CombineFault.{CombineFault}
 use Rattle.cs_group.specs.declared.combining.CombineFault.TheVariants as in_all
 use Rattle.cs_ffi.specs.Answers.{no_memory, read, refused, change_count, Spell, IsRefusal, Hands, IsHanded, UpToMemory}
 use Rattle.cs_ffi.specs.CombinedAnswers.{combine_answer, AnswersCombined, AnswersInverse, ArePartsOf, IsCombineRefusal, IsAloneRefusal, IsPartRefusal, NotCombined, SpellCombined, SpellInverse}
-use Rattle.cs_ffi.specs.NormalAnswers.{unfit_answer, AnswersNormal, Declare, DeclareNone, HasNoForm, IsNormalRefusal, SpellForm, SpellNormal}
-use Rattle.cs_ffi.specs.Laws.{AnswerLaws, OneCount, OneCopy, OneNormalAnswer, OneCombinedAnswer, OneInverseAnswer, OneRebasedAnswer}
+use Rattle.cs_ffi.specs.NormalAnswers.{unfit_answer, AnswersNormal, Declare, DeclareNone, HasNoForm, IsFitInput, IsFormRefusal, IsNormalRefusal, SpellForm, SpellNormal}
+use Rattle.cs_ffi.specs.Laws.{AnswerLaws, OneCount, OneCopy, OneNormalAnswer, OneSqliteAnswer, OneCombinedAnswer, OneInverseAnswer, OneRebasedAnswer}
 use Rattle.cs_ffi.specs.declared.answer.Answer.{Answer}
 use Rattle.cs_ffi.proofs.PartFaults.{one_cut, no_part_fault, one_part_fault}
 use Rattle.cs_ffi.proofs.Parts.{cut_adds_up}
@@ -124,18 +124,18 @@ one_copy laws input before after last one other (inr (r, kept)) (inr (s, kept'))
 
 -- ---- the normal form
 
-one_declared : ChangesetLaws → (bytes : List ℕ) (some others : List TableDef) → Declare bytes some → Declare bytes others → some ≡ others
+pub one_declared : ChangesetLaws → (bytes : List ℕ) (some others : List TableDef) → Declare bytes some → Declare bytes others → some ≡ others
 one_declared laws bytes some others s o =
     by_each s.are o.are (ap (λ (g : List Group). tables_of (g ∷ [])) (one_spelled laws bytes s.groups o.groups s.spells o.spells))
 
-some_declared : ChangesetLaws → (bytes : List ℕ) (tables : List TableDef) → Declare bytes tables → DeclareNone bytes → ⊥
+pub some_declared : ChangesetLaws → (bytes : List ℕ) (tables : List TableDef) → Declare bytes tables → DeclareNone bytes → ⊥
 some_declared laws bytes tables declares (inl (fault, offset, told)) =
     no_fault laws bytes declares.groups fault offset declares.spells told
 some_declared laws bytes tables declares (inr (groups, spells, none)) =
     none (subst (λ (g : List Group). HaveCatalog (headers (g ∷ []))) (one_spelled laws bytes declares.groups groups declares.spells spells) declares.catalog)
 
 -- what is declared is a catalog
-are_tables : (bytes : List ℕ) (tables : List TableDef) → Declare bytes tables → AreTables tables
+pub are_tables : (bytes : List ℕ) (tables : List TableDef) → Declare bytes tables → AreTables tables
 are_tables bytes tables declares = subst AreTables (sym declares.are) declares.catalog.1
 
 one_form : Below → (declared input bytes more : List ℕ) → SpellNormal declared input bytes → SpellNormal declared input more → bytes ≡ more
@@ -146,21 +146,31 @@ one_form laws declared input bytes more s o =
     by_each form.spelled o.form.spelled
     (ap (λ (n : List TableChanges). normal_spelling n) (laws.form o.tables o.groups form.normal o.form.normal (are_tables declared o.tables o.declares) form.form o.form.form))
 
-no_unfit : Below → (declared input bytes : List ℕ) (answer : Answer) → SpellNormal declared input bytes → HasNoForm declared input answer → answer ≡ no_memory
-no_unfit laws declared input bytes answer s o =
-    let tables = one_declared laws.changesets declared o.tables s.tables o.declares s.declares in
-    let groups = one_spelled laws.changesets input o.groups s.groups o.spells s.spells in
-    let told = subst (λ (g : List Group). IsUnfit o.fault s.tables g) groups (subst (λ (t : List TableDef). IsUnfit o.fault t o.groups) tables o.told) in
-    o.number ∙ ap (λ (f : Unfit). unfit_answer f) (laws.fit o.fault s.tables s.groups (are_tables declared s.tables s.declares) s.form.form.fit told)
+-- what has a normal form fits
+fits : (declared input bytes : List ℕ) → SpellNormal declared input bytes → IsFitInput declared input
+fits declared input bytes s = record {
+  tables = s.tables;
+  groups = s.groups;
+  declares = s.declares;
+  spells = s.spells;
+  fit = s.form.form.fit;
+}
 
-no_normal_refusal : Below → (declared input bytes : List ℕ) (answer : Answer) → SpellNormal declared input bytes → IsNormalRefusal declared input answer → answer ≡ no_memory
-no_normal_refusal laws declared input bytes answer s (inl m) = m
-no_normal_refusal laws declared input bytes answer s (inr (inl (is, none))) =
-    absurd (some_declared laws.changesets declared s.tables s.declares none)
-no_normal_refusal laws declared input bytes answer s (inr (inr (inl (some, r)))) =
-    no_refusal laws.changesets input s.groups answer s.spells r
-no_normal_refusal laws declared input bytes answer s (inr (inr (inr o))) =
-    no_unfit laws declared input bytes answer s o
+-- an input that fits its tables is refused for want of memory alone
+pub no_form_refusal : ChangesetLaws → NoFaultWhereFit → (tables : List TableDef) (input : List ℕ) (groups : List Group) (answer : Answer) → AreTables tables → Spell input groups → AreFit tables groups → IsFormRefusal tables input answer → answer ≡ no_memory
+no_form_refusal laws law tables input groups answer are spells fit (inl r) =
+    no_refusal laws input groups answer spells r
+no_form_refusal laws law tables input groups answer are spells fit (inr o) =
+    let told = subst (λ (g : List Group). IsUnfit o.fault tables g) (one_spelled laws input o.groups groups o.spells spells) o.told in
+    o.number ∙ ap (λ (f : Unfit). unfit_answer f) (law o.fault tables groups are fit told)
+
+pub no_normal_refusal : ChangesetLaws → NoFaultWhereFit → (declared input : List ℕ) (answer : Answer) → IsFitInput declared input → IsNormalRefusal declared input answer → answer ≡ no_memory
+no_normal_refusal laws law declared input answer s (inl m) = m
+no_normal_refusal laws law declared input answer s (inr (inl (is, none))) =
+    absurd (some_declared laws declared s.tables s.declares none)
+no_normal_refusal laws law declared input answer s (inr (inr (tables, declares, r))) =
+    no_form_refusal laws law s.tables input s.groups answer (are_tables declared s.tables s.declares) s.spells s.fit
+    (subst (λ (t : List TableDef). IsFormRefusal t input answer) (one_declared laws declared tables s.tables declares s.declares) r)
 
 -- a fault of a changeset is want of memory or isn't
 is_memory : (fault : Unfit) → (fault ≡ in_changes.Memory) ⊎ (fault ≡ in_changes.Memory → ⊥)
@@ -170,43 +180,40 @@ is_memory in_changes.Shape = inr (λ e. cc)
 is_memory in_changes.NullKey = inr (λ e. cc)
 is_memory in_changes.KeyTwice = inr (λ e. cc)
 
-one_unfit : Below → (declared input : List ℕ) (one other : Answer) → HasNoForm declared input one → HasNoForm declared input other → Same one other
-one_unfit laws declared input one other s o =
-    let tables = one_declared laws.changesets declared s.tables o.tables s.declares o.declares in
-    let groups = one_spelled laws.changesets input s.groups o.groups s.spells o.spells in
-    let told = subst (λ (g : List Group). IsUnfit s.fault o.tables g) groups (subst (λ (t : List TableDef). IsUnfit s.fault t s.groups) tables s.told) in
+one_unfit : Below → (tables : List TableDef) (input : List ℕ) (one other : Answer) → AreTables tables → HasNoForm tables input one → HasNoForm tables input other → Same one other
+one_unfit laws tables input one other are s o =
+    let told = subst (λ (g : List Group). IsUnfit s.fault tables g) (one_spelled laws.changesets input s.groups o.groups s.spells o.spells) s.told in
     elim (is_memory s.fault) [
       | inl m ↦ inl (s.number ∙ ap (λ (f : Unfit). unfit_answer f) m)
       | inr n ↦ elim (is_memory o.fault) [
         | inl m ↦ inr (inl (o.number ∙ ap (λ (f : Unfit). unfit_answer f) m))
-        | inr k ↦ same (by_each s.number o.number (ap (λ (f : Unfit). unfit_answer f) (laws.unfit s.fault o.fault o.tables o.groups (are_tables declared o.tables o.declares) told o.told n k)))
+        | inr k ↦ same (by_each s.number o.number (ap (λ (f : Unfit). unfit_answer f) (laws.unfit s.fault o.fault tables o.groups are told o.told n k)))
       ]
     ]
+
+pub one_form_refusal : Below → (tables : List TableDef) (input : List ℕ) (one other : Answer) → AreTables tables → IsFormRefusal tables input one → IsFormRefusal tables input other → Same one other
+one_form_refusal laws tables input one other are (inl r) (inl s) = one_refusal laws.changesets input one other r s
+one_form_refusal laws tables input one other are (inl r) (inr o) =
+    inl (no_refusal laws.changesets input o.groups one o.spells r)
+one_form_refusal laws tables input one other are (inr o) (inl r) =
+    inr (inl (no_refusal laws.changesets input o.groups other o.spells r))
+one_form_refusal laws tables input one other are (inr s) (inr o) = one_unfit laws tables input one other are s o
 
 one_normal_refusal : Below → (declared input : List ℕ) (one other : Answer) → IsNormalRefusal declared input one → IsNormalRefusal declared input other → Same one other
 one_normal_refusal laws declared input one other (inl m) r = inl m
 one_normal_refusal laws declared input one other (inr s) (inl m) = inr (inl m)
 one_normal_refusal laws declared input one other (inr (inl (a, none))) (inr (inl (b, none'))) = same (a ∙ sym b)
-one_normal_refusal laws declared input one other (inr (inl (a, none))) (inr (inr (inl ((tables, declares), r)))) =
+one_normal_refusal laws declared input one other (inr (inl (a, none))) (inr (inr (tables, declares, r))) =
     absurd (some_declared laws.changesets declared tables declares none)
-one_normal_refusal laws declared input one other (inr (inl (a, none))) (inr (inr (inr o))) =
-    absurd (some_declared laws.changesets declared o.tables o.declares none)
-one_normal_refusal laws declared input one other (inr (inr (inl ((tables, declares), r)))) (inr (inl (b, none))) =
+one_normal_refusal laws declared input one other (inr (inr (tables, declares, r))) (inr (inl (b, none))) =
     absurd (some_declared laws.changesets declared tables declares none)
-one_normal_refusal laws declared input one other (inr (inr (inl (some, r)))) (inr (inr (inl (some', s)))) =
-    one_refusal laws.changesets input one other r s
-one_normal_refusal laws declared input one other (inr (inr (inl (some, r)))) (inr (inr (inr o))) =
-    inl (no_refusal laws.changesets input o.groups one o.spells r)
-one_normal_refusal laws declared input one other (inr (inr (inr o))) (inr (inl (b, none))) =
-    absurd (some_declared laws.changesets declared o.tables o.declares none)
-one_normal_refusal laws declared input one other (inr (inr (inr o))) (inr (inr (inl (some, r)))) =
-    inr (inl (no_refusal laws.changesets input o.groups other o.spells r))
-one_normal_refusal laws declared input one other (inr (inr (inr s))) (inr (inr (inr o))) =
-    one_unfit laws declared input one other s o
+one_normal_refusal laws declared input one other (inr (inr (some, s, r))) (inr (inr (others, o, r'))) =
+    one_form_refusal laws others input one other (are_tables declared others o)
+    (subst (λ (t : List TableDef). IsFormRefusal t input one) (one_declared laws.changesets declared some others s o) r) r'
 
 one_normal_answer : Below → OneNormalAnswer
 one_normal_answer laws declared input =
-    one_hand (SpellNormal declared input) (IsNormalRefusal declared input) (one_form laws declared input) (no_normal_refusal laws declared input) (one_normal_refusal laws declared input)
+    one_hand (SpellNormal declared input) (IsNormalRefusal declared input) (one_form laws declared input) (λ bytes answer s r. no_normal_refusal laws.changesets laws.fit declared input answer (fits declared input bytes s) r) (one_normal_refusal laws declared input)
 
 -- ---- taking together
 
@@ -318,11 +325,12 @@ one_inverse_answer : Below → OneInverseAnswer
 one_inverse_answer laws input =
     one_hand (SpellInverse input) (IsAloneRefusal input) (one_inverse_spelled laws input) (no_inverse_refusal laws input) (one_alone_refusal laws input)
 
-pub answer_laws : Below → OneRebasedAnswer → AnswerLaws
-answer_laws laws rebased = record {
+pub answer_laws : Below → OneSqliteAnswer → OneRebasedAnswer → AnswerLaws
+answer_laws laws for_sqlite rebased = record {
   count = one_count laws;
   copy = one_copy laws;
   normal = one_normal_answer laws;
+  for_sqlite = for_sqlite;
   combined = one_combined_answer laws;
   inverse = one_inverse_answer laws;
   rebased = rebased;

@@ -3,6 +3,7 @@ use Rattle.std.specs.Prelude.{◌≡◌, ℕ, List}
 use Rattle.cs_ffi.specs.Answers.{AnswersAgain, AnswersCount, UpToMemory}
 use Rattle.cs_ffi.specs.CombinedAnswers.{AnswersCombined, AnswersInverse}
 use Rattle.cs_ffi.specs.NormalAnswers.{AnswersNormal}
+use Rattle.cs_ffi.specs.SqliteAnswers.{AnswersForSqlite}
 use Rattle.cs_ffi.specs.RebasedAnswers.{AnswersRebased}
 use Rattle.cs_ffi.specs.declared.answer.Answer.{Answer}
 
@@ -23,6 +24,12 @@ abbrev pub OneNormalAnswer : Type 0
 OneNormalAnswer =
     (declared input before after last : List ℕ) (one other : Answer) → AnswersNormal declared input before after one
     → AnswersNormal declared input before last other → UpToMemory one other ((one ≡ other) × (after ≡ last))
+
+-- writing for SQLite
+abbrev pub OneSqliteAnswer : Type 0
+OneSqliteAnswer =
+    (declared input before after last : List ℕ) (one other : Answer) → AnswersForSqlite declared input before after one
+    → AnswersForSqlite declared input before last other → UpToMemory one other ((one ≡ other) × (after ≡ last))
 
 -- taking together
 abbrev pub OneCombinedAnswer : Type 0
@@ -47,6 +54,7 @@ pub record AnswerLaws : Type 0 where
   pub count : OneCount
   pub copy : OneCopy
   pub normal : OneNormalAnswer
+  pub for_sqlite : OneSqliteAnswer
   pub combined : OneCombinedAnswer
   pub inverse : OneInverseAnswer
   pub rebased : OneRebasedAnswer

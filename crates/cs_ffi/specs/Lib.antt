@@ -3,3 +3,4 @@ pub mod CombinedAnswers
 pub mod Laws
 pub mod NormalAnswers
 pub mod RebasedAnswers
+pub mod SqliteAnswers

@@ -44,15 +44,18 @@ DeclareNone bytes =
     ((fault : Fault) × (offset : ℕ) × IsChangesetFault fault offset bytes)
     ⊎ ((groups : List Group) × Spell bytes groups × (HaveCatalog (headers (groups ∷ [])) → ⊥))
 
--- what reading the tables gives
-abbrev pub ReadsTables : List ℕ → Result (List TableDef) Answer → Type 0
-ReadsTables bytes (Ok tables) = Declare bytes tables
-ReadsTables bytes (Err answer) = (answer ≡ no_memory) ⊎ ((answer ≡ no_tables) × DeclareNone bytes)
+-- what reading the changeset gives whose headers declare tables
+abbrev pub ReadsDeclaring : List ℕ → Result (List Group) Answer → Type 0
+ReadsDeclaring bytes (Ok groups) = Spell bytes groups
+ReadsDeclaring bytes (Err answer) =
+    (answer ≡ no_memory)
+    ⊎ ((answer ≡ no_tables) × ((fault : Fault) × (offset : ℕ) × IsChangesetFault fault offset bytes))
 
--- these tables are read, or memory is wanting
-abbrev pub FindsTables : Result (List TableDef) Answer → List TableDef → Type 0
-FindsTables (Ok found) tables = found ≡ tables
-FindsTables (Err answer) tables = answer ≡ no_memory
+-- what making the catalog of its headers gives
+abbrev pub GivesTables : List Group → Result (List TableDef) Answer → Type 0
+GivesTables groups (Ok tables) = HaveCatalog (headers (groups ∷ [])) × (tables ≡ tables_of (groups ∷ []))
+GivesTables groups (Err answer) =
+    (answer ≡ no_memory) ⊎ ((answer ≡ no_tables) × (HaveCatalog (headers (groups ∷ [])) → ⊥))
 
 -- the input spells a changeset that fits the declared tables
 pub record IsFitInput (declared input : List ℕ) : Type 0 where
@@ -83,33 +86,35 @@ pub record SpellNormal (declared input bytes : List ℕ) : Type 0 where
   pub spells : Spell input groups
   pub form : SpellForm tables groups bytes
 
--- the input has no normal form by the declared tables
-pub record HasNoForm (declared input : List ℕ) (answer : Answer) : Type 0 where
-  pub tables : List TableDef
+-- the input spells a changeset that has no normal form by these tables
+pub record HasNoForm (tables : List TableDef) (input : List ℕ) (answer : Answer) : Type 0 where
   pub groups : List Group
   pub fault : Unfit
-  pub declares : Declare declared tables
   pub spells : Spell input groups
   pub told : IsUnfit fault tables groups
   pub number : answer ≡ unfit_answer fault
 
--- why there is no normal form: the tables first, then the bytes, then the changeset
+-- what is wrong with the input beside these tables: its bytes, then its changeset
+abbrev pub IsFormRefusal : List TableDef → List ℕ → Answer → Type 0
+IsFormRefusal tables input answer = IsRefusal input answer ⊎ HasNoForm tables input answer
+
+-- why there is no normal form: the tables first, then the input
 abbrev pub IsNormalRefusal : List ℕ → List ℕ → Answer → Type 0
 IsNormalRefusal declared input answer =
     (answer ≡ no_memory)
     ⊎ ((answer ≡ no_tables) × DeclareNone declared)
-    ⊎ (((tables : List TableDef) × Declare declared tables) × IsRefusal input answer)
-    ⊎ HasNoForm declared input answer
+    ⊎ ((tables : List TableDef) × Declare declared tables × IsFormRefusal tables input answer)
+
+-- the normal form of what the input spells, by these tables, or why there is none
+abbrev pub GivesForm : List TableDef → List ℕ → Result (List TableChanges) Answer → Type 0
+GivesForm tables input (Ok normal) = (groups : List Group) × Spell input groups × IsNormalFormOf tables groups normal
+    × (length (normal_spelling normal) ≤ length (changeset_spelling groups))
+GivesForm tables input (Err answer) = IsFormRefusal tables input answer
 
 -- the bytes of the normal form, or why there is none
 abbrev pub GivesNormal : List ℕ → List ℕ → Result (Vec ℕ) Answer → Type 0
 GivesNormal declared input (Ok bytes) = SpellNormal declared input bytes.items
 GivesNormal declared input (Err answer) = IsNormalRefusal declared input answer
-
--- the bytes of the normal form of one changeset by a catalog, or why there is none
-abbrev pub SpellsForm : List TableDef → List Group → Result (Vec ℕ) Unfit → Type 0
-SpellsForm tables groups (Ok bytes) = SpellForm tables groups bytes.items
-SpellsForm tables groups (Err fault) = IsUnfit fault tables groups
 
 -- the answer: the normal form is handed over, or it is told why there is none
 abbrev pub AnswersNormal : List ℕ → List ℕ → List ℕ → List ℕ → Answer → Type 0

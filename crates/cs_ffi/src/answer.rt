@@ -5,6 +5,7 @@ ghost use Rattle.cs_ffi.specs.Answers.{answer_of, no_memory, read};
 ghost use Rattle.cs_ffi.specs.CombinedAnswers.{combine_answer, combine_number, header_number, wrong_lengths};
 ghost use Rattle.cs_ffi.specs.NormalAnswers.{no_tables, undeclared, unfit_answer};
 ghost use Rattle.cs_ffi.specs.RebasedAnswers.{configure_answer, rebase_answer};
+ghost use Rattle.cs_ffi.specs.SqliteAnswers.{key_order};
 
 use cs_changeset::CodecFault;
 use cs_group::CombineFault;
@@ -29,6 +30,9 @@ const BLOB_KEY_TWICE: u32 = 52;
 
 /// The number of a blob of which a group has the name of a table and another shape.
 const WRONG_SHAPE: u32 = 53;
+
+/// The number of two headers of one table that have its key columns in different orders.
+const KEY_ORDER: u32 = 54;
 
 /// What is told of bytes: the number of their fault, 0 where they were read; the offset of the fault in bytes from the
 /// front, or 0; and how much was read (changes) or is written (bytes), or 0 beside a fault. (Profile of this project.)
@@ -112,6 +116,17 @@ impl Answer {
     {
         Answer {
             fault: LENGTHS,
+            offset: 0,
+            count: 0,
+        }
+    }
+
+    /// Two headers of one table have its key columns in different orders.
+    pub(crate) fn key_order() -> Answer
+        ensures { result ≡ key_order }
+    {
+        Answer {
+            fault: KEY_ORDER,
             offset: 0,
             count: 0,
         }

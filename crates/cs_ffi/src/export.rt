@@ -9,6 +9,7 @@ ghost use Rattle.cs_ffi.specs.Answers.{AnswersAgain, AnswersCount, change_count,
 ghost use Rattle.cs_ffi.specs.CombinedAnswers.{AnswersCombined, AnswersInverse, AreFitInputs, IsCombineRefusal, IsFitAlone, IsAloneRefusal, wrong_lengths};
 ghost use Rattle.cs_ffi.specs.NormalAnswers.{AnswersNormal, IsFitInput, IsNormalRefusal, TellsNoFault};
 ghost use Rattle.cs_ffi.specs.RebasedAnswers.{AnswersRebased, CanRebase, IsRebaseRefusal, SpellRebased};
+ghost use Rattle.cs_ffi.specs.SqliteAnswers.{AnswersForSqlite, CanSpellForSqlite, IsSqliteRefusal};
 ghost use Rattle.cs_ffi.specs.declared.answer.Answer.{Answer};
 
 use crate::answer::Answer;
@@ -17,6 +18,7 @@ use crate::laws::answers;
 use crate::normal::write_normal;
 use crate::reading::{count, reencode};
 use crate::rebased::write_rebased;
+use crate::sqlite::write_for_sqlite;
 use std::alloc::Global;
 
 /// Reads a changeset and counts its changes. See `cs_ffi.h`. (SQLite's "changeset format"; the faults are of this
@@ -61,6 +63,26 @@ pub extern "C" fn cs_ffi_normalise(
     // What is refused is refused in one way: a law, for the proof.
     answers();
     write_normal(alloc, declared, input, output)
+}
+
+/// Brings a changeset into normal form by the tables that the headers of another declare, and writes it with the column
+/// bytes of those headers, for SQLite's own `apply`, into the caller's memory. See `cs_ffi.h`. (Profile of this project
+/// over SQLite's "changeset format".)
+#[unsafe(no_mangle)]
+pub extern "C" fn cs_ffi_for_sqlite(
+    alloc: Global,
+    declared: &[u8],
+    input: &[u8],
+    output: &mut [u8],
+) -> Answer
+    ensures answers { AnswersForSqlite declared.now input.now output.old output.new result }
+    ensures refused { (owed : Answer) → IsSqliteRefusal declared.now input.now owed
+        → UpToMemory result owed (result ≡ owed) }
+    ensures fit { CanSpellForSqlite declared.now input.now → TellsNoFault result }
+{
+    // What is refused is refused in one way: a law, for the proof.
+    answers();
+    write_for_sqlite(alloc, declared, input, output)
 }
 
 /// Takes changesets together as one and writes that, in normal form, into the caller's memory. See `cs_ffi.h`.

@@ -1,31 +1,33 @@
 //! Bringing a changeset into normal form.
 
-ghost use Rattle.std.specs.Prelude.{◌≡◌, List, IfErr};
-ghost use Rattle.cs_value.specs.declared.catalog.TableDef.{TableDef};
-ghost use Rattle.cs_ffi.specs.Answers.{no_memory};
-ghost use Rattle.cs_change.specs.Spelling.{FitsChangeset};
-ghost use Rattle.cs_ffi.specs.NormalAnswers.{AnswersNormal, Declare, FindsTables, GivesNormal, IsFitInput, ReadsTables, SpellsForm, TellsNoFault};
+ghost use Rattle.cs_ffi.specs.NormalAnswers.{AnswersNormal, GivesForm, GivesNormal, GivesTables, IsFitInput, ReadsDeclaring, TellsNoFault};
 
 use crate::answer::Answer;
 use crate::reading::hand_over;
+use cs_changeset::laws::changesets;
 use cs_changeset::{Changeset, CodecFault, read};
 use cs_normal::laws::no_fault_where_fit;
-use cs_normal::{Unfit, catalog_of, normalise};
+use cs_normal::{Normal, catalog_of, normalise};
 use cs_value::Catalog;
 use std::alloc::Global;
 use std::slice;
 
-/// The catalog of the tables that the headers of a changeset tell of.
-fn read_catalog(alloc: Global, declared: &[u8]) -> Result<Catalog, Answer>
-    ensures reads { ReadsTables declared.now result }
-    ensures only { (tables : List TableDef) → Declare declared.now tables → FindsTables result tables }
+/// The changeset whose headers declare tables.
+pub(crate) fn read_declaring(alloc: Global, declared: &[u8]) -> Result<Changeset<'_>, Answer>
+    ensures { ReadsDeclaring declared.now result }
 {
-    let changeset = match read(alloc, declared) {
-        Ok(changeset) => changeset,
-        Err(CodecFault::Memory) => return Err(Answer::no_memory()),
-        Err(CodecFault::At { .. }) => return Err(Answer::no_tables()),
-    };
-    match catalog_of(alloc, slice::from_ref(&changeset)) {
+    match read(alloc, declared) {
+        Ok(changeset) => Ok(changeset),
+        Err(CodecFault::Memory) => Err(Answer::no_memory()),
+        Err(CodecFault::At { .. }) => Err(Answer::no_tables()),
+    }
+}
+
+/// The catalog of the tables that the headers of a changeset tell of.
+pub(crate) fn catalog_alone(alloc: Global, declaring: &Changeset<'_>) -> Result<Catalog, Answer>
+    ensures { GivesTables declaring.now result }
+{
+    match catalog_of(alloc, slice::from_ref(declaring)) {
         Ok(catalog) => {
             // That they are a catalog's tables, for the proof.
             let _ = catalog.tables();
@@ -35,36 +37,29 @@ fn read_catalog(alloc: Global, declared: &[u8]) -> Result<Catalog, Answer>
     }
 }
 
-/// The spelling of the normal form of a changeset.
-fn spelled_form(
-    alloc: Global,
-    catalog: &Catalog,
-    changeset: &Changeset<'_>,
-) -> Result<Vec<u8>, Unfit>
-    requires { FitsChangeset changeset.now }
-    ensures { SpellsForm catalog.now changeset.now result }
+/// The normal form of the changeset that the input spells, by the catalog.
+pub(crate) fn read_form(alloc: Global, catalog: &Catalog, input: &[u8]) -> Result<Normal, Answer>
+    ensures { GivesForm catalog.now input.now result }
 {
-    let normal = normalise(alloc, catalog, changeset)?;
-    let mut bytes = Vec::new(alloc);
-    normal.encode(&mut bytes)?;
-    Ok(bytes)
-}
-
-/// The spelling of the normal form of the changeset that the input spells.
-fn normal_bytes(alloc: Global, declared: &[u8], input: &[u8]) -> Result<Vec<u8>, Answer>
-    ensures gives { GivesNormal declared.now input.now result }
-    ensures fit { IsFitInput declared.now input.now → IfErr result (λ answer. answer ≡ no_memory) }
-{
-    // What fits has no fault: a law, for the proof.
-    no_fault_where_fit();
-    let catalog = read_catalog(alloc, declared)?;
     match read(alloc, input) {
-        Ok(changeset) => match spelled_form(alloc, &catalog, &changeset) {
-            Ok(bytes) => Ok(bytes),
+        Ok(changeset) => match normalise(alloc, catalog, &changeset) {
+            Ok(normal) => Ok(normal),
             Err(fault) => Err(Answer::unfit(fault)),
         },
         Err(fault) => Err(Answer::refused(fault)),
     }
+}
+
+/// The spelling of the normal form of the changeset that the input spells.
+fn normal_bytes(alloc: Global, declared: &[u8], input: &[u8]) -> Result<Vec<u8>, Answer>
+    ensures { GivesNormal declared.now input.now result }
+{
+    let declaring = read_declaring(alloc, declared)?;
+    let catalog = catalog_alone(alloc, &declaring)?;
+    let normal = read_form(alloc, &catalog, input)?;
+    let mut bytes = Vec::new(alloc);
+    normal.encode(&mut bytes)?;
+    Ok(bytes)
 }
 
 /// Brings a changeset into normal form by the tables that the headers of another declare, and writes it into the
@@ -76,6 +71,9 @@ pub fn write_normal(alloc: Global, declared: &[u8], input: &[u8], output: &mut [
     // What fits is brought into normal form, or memory is wanting.
     ensures fit { IsFitInput declared.now input.now → TellsNoFault result }
 {
+    // What fits has no fault: laws, for the proof.
+    changesets();
+    no_fault_where_fit();
     match normal_bytes(alloc, declared, input) {
         Ok(bytes) => {
             hand_over(&bytes, output);

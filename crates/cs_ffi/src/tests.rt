@@ -3,6 +3,7 @@ use crate::combined::{write_combined, write_inverse};
 use crate::normal::write_normal;
 use crate::reading::{count, reencode};
 use crate::rebased::write_rebased;
+use crate::sqlite::write_for_sqlite;
 use std::test::Fail;
 
 /// A table `t` of two columns with two changes: INSERT (1, 'a') and DELETE (2, NULL).
@@ -139,6 +140,80 @@ fn tells_why_there_is_no_normal_form(rt: HostRuntime) {
     let mut output = [0xee; 64];
     for (tables, bytes, fault, offset) in &cases {
         let told = write_normal(alloc, tables, bytes, &mut output);
+        assert_eq!(rt; told, refused(*fault, *offset));
+    }
+    assert!(rt; output == [0xee; 64], "some bytes were written");
+}
+
+/// Headers of a table `t` with the key (second column, first column), as SQLite writes them, then of a table `u`, then of
+/// `t` again.
+const ORDERED: [u8; 17] = [
+    0x54, 2, 2, 1, 0x74, 0, 0x54, 1, 1, 0x75, 0, 0x54, 2, 2, 1, 0x74, 0,
+];
+
+/// The table `t`, both of its columns key columns: INSERT ('a', 'b').
+const KEY_INSERT: [u8; 14] = [0x54, 2, 1, 1, 0x74, 0, 0x12, 0, 3, 1, 0x61, 3, 1, 0x62];
+
+#[test]
+fn writes_for_sqlite(rt: HostRuntime) {
+    let alloc = rt.alloc();
+    let ordered: [u8; 14] = [0x54, 2, 2, 1, 0x74, 0, 0x12, 0, 3, 1, 0x61, 3, 1, 0x62];
+    let of_u: [u8; 9] = [0x54, 1, 1, 0x75, 0, 0x12, 0, 4, 0];
+    let of_both: [u8; 23] = [
+        0x54, 2, 2, 1, 0x74, 0, 0x12, 0, 3, 1, 0x61, 3, 1, 0x62, 0x54, 1, 1, 0x75, 0, 0x12, 0, 4, 0,
+    ];
+    // The header of `u` first, and the column bytes of another program.
+    let turned: [u8; 23] = [
+        0x54, 1, 7, 0x75, 0, 0x12, 0, 4, 0, 0x54, 2, 1, 2, 0x74, 0, 0x12, 0, 3, 1, 0x61, 3, 1, 0x62,
+    ];
+    let cases: [(&[u8], &[u8], &[u8]); 6] = [
+        (&ORDERED, &KEY_INSERT, &ordered),
+        (&ORDERED, &ordered, &ordered),
+        (&KEY_INSERT, &ordered, &KEY_INSERT),
+        (&ORDERED, &of_u, &of_u),
+        (&ORDERED, &turned, &of_both),
+        (&[], &[], &[]),
+    ];
+    for (declared, input, wanted) in &cases {
+        let mut output = [0xee; 24];
+        let told = write_for_sqlite(alloc, declared, input, &mut output);
+        assert_eq!(rt; told, read(wanted.len()));
+        assert!(rt; output.starts_with(wanted), "other bytes were written");
+        assert!(rt; output[23] == 0xee, "more bytes were written");
+    }
+    let mut short = [0xee; 13];
+    assert_eq!(rt;
+        cs_ffi_for_sqlite(alloc, &ORDERED, &KEY_INSERT, &mut short),
+        read(14)
+    );
+    assert!(rt; short == [0xee; 13], "some bytes were written");
+}
+
+#[test]
+fn tells_why_nothing_is_written_for_sqlite(rt: HostRuntime) {
+    let alloc = rt.alloc();
+    let other_order: &[u8] = &[0x54, 2, 2, 1, 0x74, 0, 0x54, 2, 1, 2, 0x74, 0];
+    let two_shapes: &[u8] = &[0x54, 2, 2, 1, 0x74, 0, 0x54, 2, 1, 0, 0x74, 0];
+    let bad: &[u8] = &[0x54, 2, 1, 1, 0x74, 0, 0x13];
+    let cases: [(&[u8], &[u8], u32, usize); 9] = [
+        (&[0x54, 2, 2], bad, 50, 0),
+        (two_shapes, bad, 50, 0),
+        (&[0x54, 1, 1, 0], bad, 50, 0),
+        (other_order, bad, 54, 0),
+        (&ORDERED, bad, 9, 6),
+        (&ORDERED, &INSERT, 30, 0),
+        (&ORDERED, &[0x54, 2, 1, 0, 0x74, 0], 31, 0),
+        (&ORDERED, &[0x54, 1, 1, 0x75, 0, 0x12, 0, 5], 32, 0),
+        (
+            &ORDERED,
+            &[0x54, 1, 1, 0x75, 0, 0x12, 0, 3, 0, 9, 0, 3, 0],
+            33,
+            0,
+        ),
+    ];
+    let mut output = [0xee; 64];
+    for (declared, input, fault, offset) in &cases {
+        let told = write_for_sqlite(alloc, declared, input, &mut output);
         assert_eq!(rt; told, refused(*fault, *offset));
     }
     assert!(rt; output == [0xee; 64], "some bytes were written");
