@@ -1,11 +1,13 @@
 /* Checks that to take changesets together, and to take one back, means here what it means to SQLite.
  *
  * check_combine DIRECTORY   for each sequence of changesets below, and for many drawn ones: what the library makes of them
- *                           and what SQLite's changegroup makes of them, applied by SQLite to the rows before, each lead to
- *                           the rows behind, without a conflict; their inverses lead back; and SQLite's bytes, brought into
- *                           normal form, are the library's. The bytes alone are compared where drawn changesets don't
- *                           follow on one another. Writes DIRECTORY/NAME.lines, each changeset of a sequence in hex on a
- *                           line, and DIRECTORY/NAME.combined, what the library makes of them */
+ *                           (written for SQLite, with the column bytes that it captured) and what SQLite's changegroup makes
+ *                           of them, applied by SQLite to the rows before, each lead to the rows behind, without a conflict;
+ *                           their inverses lead back; and SQLite's bytes, brought into normal form, are the library's. The
+ *                           bytes alone are compared where drawn changesets don't follow on one another. Writes
+ *                           DIRECTORY/NAME.lines, each changeset of a sequence in hex on a line, DIRECTORY/NAME.combined, what
+ *                           the library makes of them in normal form, and DIRECTORY/NAME.for_sqlite, what it writes for
+ *                           SQLite */
 #include "combining.h"
 #include "session.h"
 
@@ -109,114 +111,6 @@ static const struct sequence sequences[] = {
      .steps = {"DELETE FROM t WHERE id = 1; INSERT INTO t VALUES(5, 'a', 7)", "UPDATE t SET v = 'x'", "INSERT INTO t VALUES(1, 'new', 1); UPDATE t SET w = 'y'"}},
 };
 
-/* A place in a changeset's bytes. */
-struct cursor {
-    const uint8_t *at;
-    const uint8_t *end;
-};
-
-static void pass(struct cursor *cursor, size_t count) {
-    if ((size_t)(cursor->end - cursor->at) < count) fail("a changeset", "ends early");
-    cursor->at += count;
-}
-
-static uint8_t take_byte(struct cursor *cursor) {
-    pass(cursor, 1);
-    return cursor->at[-1];
-}
-
-static size_t take_varint(struct cursor *cursor) {
-    size_t number = 0;
-    uint8_t byte;
-    do {
-        byte = take_byte(cursor);
-        number = number << 7 | (byte & 0x7f);
-    } while (byte & 0x80);
-    return number;
-}
-
-static void pass_field(struct cursor *cursor) {
-    switch (take_byte(cursor)) {
-    case 0: case SQLITE_NULL: break;
-    case SQLITE_INTEGER: pass(cursor, 8); break;
-    case SQLITE_TEXT: case SQLITE_BLOB: pass(cursor, take_varint(cursor)); break;
-    default: fail("a changeset", "has another field");
-    }
-}
-
-static void pass_change(struct cursor *cursor, size_t columns) {
-    size_t fields = take_byte(cursor) == SQLITE_UPDATE ? 2 * columns : columns;
-    take_byte(cursor); /* the flag */
-    for (size_t field = 0; field < fields; field++) pass_field(cursor);
-}
-
-/* A table's part of a changeset. */
-struct group {
-    const char *name;
-    const uint8_t *columns; /* a byte a column: 0, or where it stands in the key */
-    size_t count;
-};
-
-static struct group take_group(struct cursor *cursor) {
-    if (take_byte(cursor) != 'T') fail("a changeset", "has no group where one begins");
-    struct group group = {.count = take_varint(cursor)};
-    group.columns = cursor->at;
-    pass(cursor, group.count);
-    group.name = (const char *)cursor->at;
-    while (take_byte(cursor) != 0) {}
-    while (cursor->at < cursor->end && *cursor->at != 'T') pass_change(cursor, group.count);
-    return group;
-}
-
-static struct cursor front_of(const struct file *file) { return (struct cursor){file->bytes, file->bytes + file->length}; }
-
-static struct group find_group(const struct file *file, const char *name) {
-    for (struct cursor cursor = front_of(file); cursor.at < cursor.end;) {
-        struct group group = take_group(&cursor);
-        if (strcmp(group.name, name) == 0) return group;
-    }
-    fail(name, "isn't in what was captured");
-}
-
-/* A normal form with the column bytes as they were captured, since SQLite numbers the key columns in the order of the key, and
- * passes over a group that doesn't. */
-static struct file with_columns(const uint8_t *normal, size_t length, const struct file *captured) {
-    struct file file = copy_file(normal, length);
-    for (struct cursor cursor = front_of(&file); cursor.at < cursor.end;) {
-        struct group group = take_group(&cursor);
-        struct group own = find_group(captured, group.name);
-        if (group.count != own.count) fail(group.name, "has another column count");
-        memcpy(file.bytes + (group.columns - file.bytes), own.columns, own.count);
-    }
-    return file;
-}
-
-/* All rows of a table, one a line, in the order of their keys. */
-static void dump_table(sqlite3 *db, const char *name, const char *values, const char *keys, sqlite3_str *dump) {
-    char *sql = sqlite3_mprintf("SELECT %s FROM \"%w\" ORDER BY %s", values, name, keys);
-    sqlite3_stmt *rows = prepare(db, sql);
-    sqlite3_str_appendf(dump, "%s\n", name);
-    while (sqlite3_step(rows) == SQLITE_ROW) sqlite3_str_appendf(dump, "  %s\n", sqlite3_column_text(rows, 0));
-    sqlite3_finalize(rows);
-    sqlite3_free(sql);
-}
-
-/* All rows of all tables. */
-static char *dump_rows(sqlite3 *db) {
-    sqlite3_str *dump = sqlite3_str_new(db);
-    sqlite3_stmt *tables = prepare(
-        db, "SELECT name,"
-            " (SELECT group_concat('quote(\"' || name || '\")', ' || '', '' || ') FROM pragma_table_info(tables.name)),"
-            " (SELECT group_concat('\"' || name || '\"') FROM pragma_table_info(tables.name) WHERE pk > 0)"
-            " FROM sqlite_schema AS tables WHERE type = 'table' ORDER BY name");
-    while (sqlite3_step(tables) == SQLITE_ROW) {
-        dump_table(db, (const char *)sqlite3_column_text(tables, 0), (const char *)sqlite3_column_text(tables, 1),
-                   (const char *)sqlite3_column_text(tables, 2), dump);
-    }
-    sqlite3_finalize(tables);
-    return sqlite3_str_finish(dump);
-}
-
 static sqlite3 *open_before(const struct sequence *sequence) {
     sqlite3 *db = open_memory();
     run(db, sequence->before);
@@ -261,28 +155,6 @@ static struct file capture_sequence(const struct sequence *sequence) {
     return file;
 }
 
-static int count_conflict(void *conflicts, int kind, sqlite3_changeset_iter *iter) {
-    (void)kind;
-    (void)iter;
-    ++*(int *)conflicts;
-    return SQLITE_CHANGESET_ABORT;
-}
-
-/* SQLite applies the changeset without a conflict, and these rows are there then. The database is closed. */
-static void check_leads(const char *what, sqlite3 *db, const struct file *changeset, const char *rows) {
-    int conflicts = 0;
-    int result = sqlite3changeset_apply(db, (int)changeset->length, changeset->bytes, NULL, count_conflict, &conflicts);
-    if (conflicts > 0) fail(what, "conflicts with the rows");
-    if (result != SQLITE_OK) fail(what, sqlite3_errmsg(db));
-    char *found = dump_rows(db);
-    if (strcmp(found, rows) != 0) {
-        fprintf(stderr, "expected\n%sfound\n%s", rows, found);
-        fail(what, "leads to other rows");
-    }
-    sqlite3_free(found);
-    sqlite3_close(db);
-}
-
 /* The inverse of each changeset of a sequence on its own is SQLite's. */
 static void check_inverses(const char *name, const struct file *captured) {
     const uint8_t *next = captured->bytes;
@@ -321,11 +193,11 @@ static struct outcome combine_both(const char *name, struct file *captured) {
     struct outcome both = {.theirs = file_of(sqlite_combined(captured))};
     size_t length = ours_combine(captured);
     check_agrees(name, captured->output, length, &both.theirs);
-    both.ours = with_columns(captured->output, length, captured);
+    both.ours = for_sqlite(name, captured, captured->output, length);
     both.theirs_back = file_of(sqlite_inverted(&both.theirs));
     length = ours_invert(&both.ours);
     check_agrees(name, both.ours.output, length, &both.theirs_back);
-    both.ours_back = with_columns(both.ours.output, length, captured);
+    both.ours_back = for_sqlite(name, captured, both.ours.output, length);
     return both;
 }
 
@@ -354,28 +226,22 @@ static struct counts check_sequence(const struct sequence *sequence) {
     return counts;
 }
 
-static void write_line(FILE *stream, const uint8_t *bytes, size_t length) {
-    for (size_t i = 0; i < length; i++) fprintf(stream, "%02x", bytes[i]);
-    fputc('\n', stream);
-}
-
-static FILE *create_in(const char *directory, const char *name, const char *ending) {
-    char path[4096];
-    snprintf(path, sizeof path, "%s/%s.%s", directory, name, ending);
-    return create(path);
-}
-
-/* The changesets of a sequence and what the library makes of them, in hex. */
+/* The changesets of a sequence and what the library makes of them, in normal form and for SQLite, in hex. */
 static void write_lines(const char *directory, const struct sequence *sequence) {
     FILE *lines = create_in(directory, sequence->name, "lines"), *combined = create_in(directory, sequence->name, "combined");
+    FILE *with_columns = create_in(directory, sequence->name, "for_sqlite");
     struct file captured = capture_sequence(sequence);
     const uint8_t *next = captured.bytes;
     for (size_t part = 0; part < captured.parts; part++) {
         write_line(lines, next, captured.lengths[part]);
         next += captured.lengths[part];
     }
-    write_line(combined, captured.output, ours_combine(&captured));
-    if (fclose(lines) != 0 || fclose(combined) != 0) fail(directory, "can't be written");
+    size_t length = ours_combine(&captured);
+    struct file sqlite = for_sqlite(sequence->name, &captured, captured.output, length);
+    write_line(combined, captured.output, length);
+    write_line(with_columns, sqlite.bytes, length);
+    if (fclose(lines) != 0 || fclose(combined) != 0 || fclose(with_columns) != 0) fail(directory, "can't be written");
+    free_file(&sqlite);
     free_file(&captured);
 }
 

@@ -48,17 +48,24 @@ void __wrap_free(void *memory) {
 #define INSERT H1 "1200" K1 V1
 #define UPDATE H1 "1700" K1 V1 "00" V2
 
-enum function { DECODE, REENCODE, NORMALISE, COMBINE, INVERT, REBASE };
+/* The headers of a table k of two key columns in normal form, as SQLite writes it where the second column is the first of
+ * the key, and as it does where it isn't; and an INSERT of a row there. */
+#define H3 "540201016b00"
+#define TURNED "540202016b00"
+#define STRAIGHT "540201026b00"
+#define ROW "1200" V1 K1
 
-static const char *const names[] = {"cs_ffi_decode", "cs_ffi_reencode", "cs_ffi_normalise", "cs_ffi_combine",
-                                    "cs_ffi_invert", "cs_ffi_rebase"};
+enum function { DECODE, REENCODE, NORMALISE, FOR_SQLITE, COMBINE, INVERT, REBASE };
+
+static const char *const names[] = {"cs_ffi_decode", "cs_ffi_reencode", "cs_ffi_normalise", "cs_ffi_for_sqlite",
+                                    "cs_ffi_combine", "cs_ffi_invert", "cs_ffi_rebase"};
 
 #define ROOM 64
 
 /* A call, and what it owes: the answer, and the bytes at the front of the output. */
 struct row {
     enum function function;
-    const char *declared; /* of cs_ffi_normalise */
+    const char *declared; /* of cs_ffi_normalise and cs_ffi_for_sqlite */
     const char *blob;     /* of cs_ffi_rebase */
     const char *input;
     size_t lengths[3]; /* of cs_ffi_combine */
@@ -80,6 +87,10 @@ struct row {
     {.function = NORMALISE, .declared = tables, .input = bytes, .room = space, .count = length, .output = written}
 #define HAS_NO_FORM(tables, bytes, what, at) \
     {.function = NORMALISE, .declared = tables, .input = bytes, .room = ROOM, .fault = what, .offset = at, .output = ""}
+#define FOR(tables, bytes, space, length, written) \
+    {.function = FOR_SQLITE, .declared = tables, .input = bytes, .room = space, .count = length, .output = written}
+#define NOT_FOR(tables, bytes, what, at) \
+    {.function = FOR_SQLITE, .declared = tables, .input = bytes, .room = ROOM, .fault = what, .offset = at, .output = ""}
 #define COMBINES(bytes, a, b, c, many, space, length, written) \
     {.function = COMBINE, .input = bytes, .lengths = {a, b, c}, .parts = many, .room = space, .count = length, \
      .output = written}
@@ -135,6 +146,22 @@ static const struct row rows[] = {
     HAS_NO_FORM("540101743100", INSERT, CS_FFI_SHAPE, 0),
     HAS_NO_FORM(H1, H1 "120005" V1, CS_FFI_NULL_KEY, 0),
     HAS_NO_FORM(H1, INSERT "0900" K1 V1, CS_FFI_KEY_TWICE, 0),
+
+    /* for SQLite: the normal form, but with the column bytes of the headers that declare the tables */
+    FOR(TURNED, H3 ROW, 21, 21, TURNED ROW),
+    FOR(STRAIGHT H1 STRAIGHT, TURNED ROW, ROOM, 21, STRAIGHT ROW),
+    FOR(H1 TURNED, H3 ROW UPDATE, ROOM, 48, UPDATE TURNED ROW),
+    FOR(H1, H1 "1700" K1 V1 K1 V2, ROOM, 27, UPDATE),
+    FOR(TURNED, "", 0, 0, ""),
+    FOR(TURNED, H3 ROW, 20, 21, ""),
+    NOT_FOR("5402", H3 ROW "13", CS_FFI_NO_TABLES, 0),
+    NOT_FOR(TURNED "540201006b00", H3 ROW "13", CS_FFI_NO_TABLES, 0),
+    NOT_FOR(TURNED STRAIGHT, H3 ROW "13", CS_FFI_KEY_ORDER, 0),
+    NOT_FOR(TURNED, H3 ROW "13", CS_FFI_BAD_OPERATION, 21),
+    NOT_FOR(TURNED, INSERT, CS_FFI_UNKNOWN_TABLE, 0),
+    NOT_FOR(TURNED, "540201006b00" ROW, CS_FFI_SHAPE, 0),
+    NOT_FOR(TURNED, H3 "120005" K1, CS_FFI_NULL_KEY, 0),
+    NOT_FOR(TURNED, H3 ROW ROW, CS_FFI_KEY_TWICE, 0),
 
     /* taken together: the lengths say where each begins, and an offset is from the front of all */
     COMBINES("", 0, 0, 0, 0, ROOM, 0, ""),
@@ -215,6 +242,8 @@ static struct cs_ffi_answer call(const struct row *row, uint8_t *output) {
     case REENCODE: return cs_ffi_reencode(input.all, input.length, output, row->room);
     case NORMALISE:
         return cs_ffi_normalise(declared.all, declared.length, input.all, input.length, output, row->room);
+    case FOR_SQLITE:
+        return cs_ffi_for_sqlite(declared.all, declared.length, input.all, input.length, output, row->room);
     case COMBINE: return cs_ffi_combine(input.all, input.length, row->lengths, row->parts, output, row->room);
     case INVERT: return cs_ffi_invert(input.all, input.length, output, row->room);
     default: return cs_ffi_rebase(input.all, input.length, blob.all, blob.length, output, row->room);

@@ -1,4 +1,5 @@
-/* What the programs share that take changesets together and back: by this library, and by SQLite. */
+/* What the programs share that take changesets together and back and write them for SQLite: by this library, and by
+ * SQLite. */
 #ifndef COMBINING_H
 #define COMBINING_H
 
@@ -17,6 +18,15 @@ static inline size_t ours_combine(struct file *file) {
 
 static inline size_t ours_invert(struct file *file) {
     return written(file, cs_ffi_invert(file->bytes, file->length, file->output, file->length));
+}
+
+/* What the library wrote in normal form, written for SQLite, with the column bytes that SQLite captured. */
+static inline struct file for_sqlite(const char *what, const struct file *captured, const uint8_t *normal, size_t length) {
+    struct file file = new_file(what, length);
+    struct cs_ffi_answer answer =
+        cs_ffi_for_sqlite(captured->bytes, captured->length, normal, length, file.bytes, length);
+    if (answer.fault != 0 || answer.count != length) fail(what, "isn't written for SQLite");
+    return file;
 }
 
 /* What SQLite gives, to be freed by sqlite3_free. */

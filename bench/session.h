@@ -51,4 +51,63 @@ static inline uint64_t next_number(uint64_t *state) {
     return *state;
 }
 
+/* All rows of a table, one a line, in the order of their keys. */
+static inline void dump_table(sqlite3 *db, const char *name, const char *values, const char *keys, sqlite3_str *dump) {
+    char *sql = sqlite3_mprintf("SELECT %s FROM \"%w\" ORDER BY %s", values, name, keys);
+    sqlite3_stmt *rows = prepare(db, sql);
+    sqlite3_str_appendf(dump, "%s\n", name);
+    while (sqlite3_step(rows) == SQLITE_ROW) sqlite3_str_appendf(dump, "  %s\n", sqlite3_column_text(rows, 0));
+    sqlite3_finalize(rows);
+    sqlite3_free(sql);
+}
+
+/* All rows of all tables. */
+static inline char *dump_rows(sqlite3 *db) {
+    sqlite3_str *dump = sqlite3_str_new(db);
+    sqlite3_stmt *tables = prepare(
+        db, "SELECT name,"
+            " (SELECT group_concat('quote(\"' || name || '\")', ' || '', '' || ') FROM pragma_table_info(tables.name)),"
+            " (SELECT group_concat('\"' || name || '\"') FROM pragma_table_info(tables.name) WHERE pk > 0)"
+            " FROM sqlite_schema AS tables WHERE type = 'table' ORDER BY name");
+    while (sqlite3_step(tables) == SQLITE_ROW) {
+        dump_table(db, (const char *)sqlite3_column_text(tables, 0), (const char *)sqlite3_column_text(tables, 1),
+                   (const char *)sqlite3_column_text(tables, 2), dump);
+    }
+    sqlite3_finalize(tables);
+    return sqlite3_str_finish(dump);
+}
+
+static inline int count_conflict(void *conflicts, int kind, sqlite3_changeset_iter *iter) {
+    (void)kind;
+    (void)iter;
+    ++*(int *)conflicts;
+    return SQLITE_CHANGESET_ABORT;
+}
+
+/* SQLite applies the changeset without a conflict, and these rows are there then. The database is closed. */
+static inline void check_leads(const char *what, sqlite3 *db, const struct file *changeset, const char *rows) {
+    int conflicts = 0;
+    int result = sqlite3changeset_apply(db, (int)changeset->length, changeset->bytes, NULL, count_conflict, &conflicts);
+    if (conflicts > 0) fail(what, "conflicts with the rows");
+    if (result != SQLITE_OK) fail(what, sqlite3_errmsg(db));
+    char *found = dump_rows(db);
+    if (strcmp(found, rows) != 0) {
+        fprintf(stderr, "expected\n%sfound\n%s", rows, found);
+        fail(what, "leads to other rows");
+    }
+    sqlite3_free(found);
+    sqlite3_close(db);
+}
+
+static inline void write_line(FILE *stream, const uint8_t *bytes, size_t length) {
+    for (size_t i = 0; i < length; i++) fprintf(stream, "%02x", bytes[i]);
+    fputc('\n', stream);
+}
+
+static inline FILE *create_in(const char *directory, const char *name, const char *ending) {
+    char path[4096];
+    snprintf(path, sizeof path, "%s/%s.%s", directory, name, ending);
+    return create(path);
+}
+
 #endif
