@@ -10,17 +10,20 @@ use Rattle.sync_cli.specs.CombinedLines.{CombinesAll}
 use Rattle.sync_cli.specs.CommandLine.{faults_of, table_words_of, tool_of}
 use Rattle.sync_cli.specs.RebasedLine.{RebasesLines}
 use Rattle.sync_cli.specs.ShownLine.{ShowsBlob, ShowsChangeset}
+use Rattle.sync_cli.specs.declared.command.Form.{Form}
+use Rattle.sync_cli.specs.declared.command.Form.TheVariants.{Normal, Sqlite}
 use Rattle.sync_cli.specs.declared.command.Tool.TheVariants.{Combine, Rebase, ShowBlob, ShowChangeset}
 
--- the lines of an input have one text that `combine` owes
+-- the lines of an input have one text that `combine` owes in a form
 abbrev pub OneCombinedText : Type 0
-OneCombinedText = (input text other : List ℕ) → CombinesAll (Some input) text → CombinesAll (Some input) other
-    → text ≡ other
+OneCombinedText = (form : Form) (input text other : List ℕ) → CombinesAll form (Some input) text
+    → CombinesAll form (Some input) other → text ≡ other
 
--- its first two lines have one that `rebase` owes, and one rest that it leaves
+-- its first two lines have one that `rebase` owes in a form, and one rest that it leaves
 abbrev pub OneRebasedText : Type 0
-OneRebasedText = (input text other : List ℕ) (left next : Option (List ℕ)) → RebasesLines (Some input) left text
-    → RebasesLines (Some input) next other → (text ≡ other) × (left ≡ next)
+OneRebasedText = (form : Form) (input text other : List ℕ) (left next : Option (List ℕ))
+    → RebasesLines form (Some input) left text → RebasesLines form (Some input) next other
+    → (text ≡ other) × (left ≡ next)
 
 -- its first line has one that `show changeset` owes, and one rest that it leaves
 abbrev pub OneShownChangeset : Type 0
@@ -54,8 +57,14 @@ hub_words = codes "sync" ∷ codes "hub" ∷ codes "t1:10" ∷ []
 abbrev pub combine_words : List Text
 combine_words = codes "sync" ∷ codes "combine" ∷ []
 
+abbrev pub combine_sqlite_words : List Text
+combine_sqlite_words = codes "sync" ∷ codes "combine" ∷ codes "--sqlite" ∷ []
+
 abbrev pub rebase_words : List Text
 rebase_words = codes "sync" ∷ codes "rebase" ∷ []
+
+abbrev pub rebase_sqlite_words : List Text
+rebase_sqlite_words = codes "sync" ∷ codes "rebase" ∷ codes "--sqlite" ∷ []
 
 abbrev pub show_words : List Text
 show_words = codes "sync" ∷ codes "show" ∷ codes "changeset" ∷ []
@@ -76,10 +85,18 @@ abbrev pub AsksForAHub : Type 0
 AsksForAHub = (faults_of hub_words ≡ []) × (table_words_of hub_words ≡ Some (codes "t1:10" ∷ []))
 
 abbrev pub AsksToCombine : Type 0
-AsksToCombine = (faults_of combine_words ≡ []) × (tool_of combine_words ≡ Some Combine)
+AsksToCombine = (faults_of combine_words ≡ []) × (tool_of combine_words ≡ Some (Combine Normal))
+
+abbrev pub AsksToCombineForSqlite : Type 0
+AsksToCombineForSqlite =
+    (faults_of combine_sqlite_words ≡ []) × (tool_of combine_sqlite_words ≡ Some (Combine Sqlite))
 
 abbrev pub AsksToRebase : Type 0
-AsksToRebase = (faults_of rebase_words ≡ []) × (tool_of rebase_words ≡ Some Rebase)
+AsksToRebase = (faults_of rebase_words ≡ []) × (tool_of rebase_words ≡ Some (Rebase Normal))
+
+abbrev pub AsksToRebaseForSqlite : Type 0
+AsksToRebaseForSqlite =
+    (faults_of rebase_sqlite_words ≡ []) × (tool_of rebase_sqlite_words ≡ Some (Rebase Sqlite))
 
 abbrev pub AsksToShow : Type 0
 AsksToShow = (faults_of show_words ≡ []) × (tool_of show_words ≡ Some ShowChangeset)
