@@ -20,7 +20,7 @@ use Rattle.cs_text.specs.Text.{blob_text, changeset_text}
 use Rattle.sync_cli.specs.CombinedLines.{SpellChangesets, SpellsCombined}
 use Rattle.sync_cli.specs.Laws.{OneCombinedText, OneRebasedText, OneShownBlob, OneShownChangeset}
 use Rattle.sync_cli.specs.ShownLine.{ShowsFirst}
-use Rattle.sync_cli.specs.RebasedLine.{IsRebased, Rebases, RebasesLines}
+use Rattle.sync_cli.specs.RebasedLine.{IsRebased, Rebases}
 use Rattle.sync_cli.specs.SpelledLine.{SpellsBlob, SpellsChangeset, SpellsInHex, TakesNext}
 use Rattle.sync_cli.specs.WrittenForm.{SpellsIn}
 use Rattle.sync_cli.specs.declared.command.Form.{Form}

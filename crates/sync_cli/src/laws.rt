@@ -1,7 +1,7 @@
 //! The laws of the program, and what some command lines ask for, by computation: each is the contract of a function
 //! that does nothing.
 
-ghost use Rattle.sync_cli.specs.Laws.{AsksForAHub, AsksForHelp, AsksForNothing, AsksToCombine, AsksToCombineForSqlite, AsksToRebase, AsksToRebaseForSqlite, AsksToShow, AsksToShowBlob, IsNotTaken, NoCatalogRefused, OneCatalog, OneCombinedText, OneRebasedText, OneRefusedWord, OneShownBlob, OneShownChangeset};
+ghost use Rattle.sync_cli.specs.Laws.{AsksForAHub, AsksForHelp, AsksForNothing, AsksToCombine, AsksToCombineForSqlite, AsksToRebase, AsksToRebaseForSqlite, AsksToShow, AsksToShowBlob, CombinedStaysTheSame, IsNotTaken, NoCatalogRefused, OneCatalog, OneCombinedText, OneRebasedText, OneRefusedWord, OneShownBlob, OneShownChangeset, RebasedStaysTheSame};
 
 /// An input has one text that `combine` owes in each form.
 pub fn one_combined_text()
@@ -18,6 +18,25 @@ pub fn one_rebased_text()
     cs_blob::laws::blobs();
     cs_changeset::laws::changesets();
     cs_group::laws::one_combined();
+}
+
+/// Changesets taken together are the same in either form but for the column bytes, and the reader takes them.
+pub fn combined_stays_the_same()
+    ensures { CombinedStaysTheSame }
+{
+    cs_normal::laws::headers_have_tables();
+    cs_normal::laws::catalog_is_apart();
+    cs_sqlite::laws::stays_the_same();
+}
+
+/// So is a changeset rebased over a blob.
+pub fn rebased_stays_the_same()
+    ensures { RebasedStaysTheSame }
+{
+    cs_normal::laws::headers_have_tables();
+    cs_normal::laws::catalog_is_apart();
+    cs_rebaser::laws::rebased_is_normal();
+    cs_sqlite::laws::stays_the_same();
 }
 
 /// An input has one text that `show changeset` owes, and one rest that it leaves.

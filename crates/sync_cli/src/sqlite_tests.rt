@@ -6,15 +6,6 @@ use std::alloc::Global;
 use std::process::Abort;
 use std::test::Fail;
 
-/// The command lines.
-const COMBINE: [&str; 2] = ["sync", "combine"];
-
-const COMBINE_FOR_SQLITE: [&str; 3] = ["sync", "combine", "--sqlite"];
-
-const REBASE: [&str; 2] = ["sync", "rebase"];
-
-const REBASE_FOR_SQLITE: [&str; 3] = ["sync", "rebase", "--sqlite"];
-
 /// The name of the table `t1`, behind its column bytes.
 const NAME: &str = "743100";
 
@@ -26,6 +17,55 @@ const B: &str = "030162";
 const X: &str = "030178";
 
 const Y: &str = "030179";
+
+// Expects this output of a tool with `--sqlite`, and the other one without it.
+fn expect_both(
+    rt: &impl Abort,
+    alloc: Global,
+    tool: &str,
+    input: &str,
+    kept: &str,
+    plain: &str,
+) -> Result<(), Fail> {
+    let words = ["sync", tool, "--sqlite"];
+    let input = input.as_bytes();
+    expect(rt, alloc, words.as_slice(), input, 0, kept, "")?;
+    expect(rt, alloc, &words[..2], input, 0, plain, "")
+}
+
+// Expects a tool to refuse the input by this name with `--sqlite`.
+fn expect_refused(
+    rt: &impl Abort,
+    alloc: Global,
+    tool: &str,
+    input: &str,
+    name: &str,
+) -> Result<(), Fail> {
+    let told = format!(in alloc; "sync: {name}\n")?;
+    let words = ["sync", tool, "--sqlite"];
+    expect(
+        rt,
+        alloc,
+        words.as_slice(),
+        input.as_bytes(),
+        1,
+        "",
+        told.as_str(),
+    )
+}
+
+// Expects a tool to refuse the input as of two orders with `--sqlite`, and this output without it.
+fn expect_two_orders(
+    rt: &impl Abort,
+    alloc: Global,
+    tool: &str,
+    input: &str,
+    plain: &str,
+) -> Result<(), Fail> {
+    expect_refused(rt, alloc, tool, input, "KeyOrder")?;
+    let words = ["sync", tool];
+    expect(rt, alloc, words.as_slice(), input.as_bytes(), 0, plain, "")
+}
 
 // Tables whose PRIMARY KEY is (first), (second, first), (third, first) and (second, third, first): the column count and the
 // column bytes, those of the normal form, and the columns behind the first.
@@ -45,10 +85,14 @@ fn places_in_the_key_are_kept(rt: HostRuntime) -> Result<(), Fail> {
         let changes = format!(in alloc; "{NAME}1200{A}{rest}1200{B}{rest}\n")?;
         let kept = format!(in alloc; "54{came}{changes}")?;
         let plain = format!(in alloc; "54{normal}{changes}")?;
-        let words = COMBINE_FOR_SQLITE.as_slice();
-        expect(&rt, alloc, words, input.as_bytes(), 0, kept.as_str(), "")?;
-        let words = COMBINE.as_slice();
-        expect(&rt, alloc, words, input.as_bytes(), 0, plain.as_str(), "")?;
+        expect_both(
+            &rt,
+            alloc,
+            "combine",
+            input.as_str(),
+            kept.as_str(),
+            plain.as_str(),
+        )?;
     }
     Ok(())
 }
@@ -62,38 +106,8 @@ fn each_table_by_its_own_header(rt: HostRuntime) -> Result<(), Fail> {
         "{t2}{t3}1200{A}\n{t1}1200{A}{X}{t2}1200{A}{X}\n{t3}0900{A}{t1}1200{B}{X}\n"
     )?;
     let output = format!(in alloc; "{t2}1200{A}{X}{t1}1200{A}{X}1200{B}{X}\n")?;
-    expect(
-        &rt,
-        alloc,
-        COMBINE_FOR_SQLITE.as_slice(),
-        input.as_bytes(),
-        0,
-        output.as_str(),
-        "",
-    )
-}
-
-// Expects the refusal by this name with `--sqlite`, and without it this output.
-fn expect_refused_for_sqlite(
-    rt: &impl Abort,
-    alloc: Global,
-    tool: &str,
-    input: &str,
-    name: &str,
-    plain: &str,
-) -> Result<(), Fail> {
-    let told = format!(in alloc; "sync: {name}\n")?;
-    let words = ["sync", tool, "--sqlite"];
-    expect(
-        rt,
-        alloc,
-        words.as_slice(),
-        input.as_bytes(),
-        1,
-        "",
-        told.as_str(),
-    )?;
-    expect(rt, alloc, &words[..2], input.as_bytes(), 0, plain, "")
+    let words = ["sync", "combine", "--sqlite"].as_slice();
+    expect(&rt, alloc, words, input.as_bytes(), 0, output.as_str(), "")
 }
 
 // Two changesets of one table, and headers without changes: the key's columns in two orders.
@@ -128,14 +142,7 @@ fn two_orders_of_a_key(rt: HostRuntime) -> Result<(), Fail> {
         ),
     ];
     for (input, plain) in &cases {
-        expect_refused_for_sqlite(
-            &rt,
-            alloc,
-            "combine",
-            input.as_str(),
-            "KeyOrder",
-            plain.as_str(),
-        )?;
+        expect_two_orders(&rt, alloc, "combine", input.as_str(), plain.as_str())?;
     }
     Ok(())
 }
@@ -157,10 +164,14 @@ fn rebased_by_the_headers_of_both(rt: HostRuntime) -> Result<(), Fail> {
     for input in &same {
         let kept = format!(in alloc; "{some}{left}")?;
         let plain = format!(in alloc; "5403010100743100{left}")?;
-        let words = REBASE_FOR_SQLITE.as_slice();
-        expect(&rt, alloc, words, input.as_bytes(), 0, kept.as_str(), "")?;
-        let words = REBASE.as_slice();
-        expect(&rt, alloc, words, input.as_bytes(), 0, plain.as_str(), "")?;
+        expect_both(
+            &rt,
+            alloc,
+            "rebase",
+            input.as_str(),
+            kept.as_str(),
+            plain.as_str(),
+        )?;
     }
     let two = [
         (
@@ -177,14 +188,7 @@ fn rebased_by_the_headers_of_both(rt: HostRuntime) -> Result<(), Fail> {
         ),
     ];
     for (input, plain) in &two {
-        expect_refused_for_sqlite(
-            &rt,
-            alloc,
-            "rebase",
-            input.as_str(),
-            "KeyOrder",
-            plain.as_str(),
-        )?;
+        expect_two_orders(&rt, alloc, "rebase", input.as_str(), plain.as_str())?;
     }
     Ok(())
 }
@@ -238,17 +242,7 @@ fn key_order_is_told_last(rt: HostRuntime) -> Result<(), Fail> {
         ),
     ];
     for (tool, input, name) in &cases {
-        let told = format!(in alloc; "sync: {name}\n")?;
-        let words = ["sync", *tool, "--sqlite"];
-        expect(
-            &rt,
-            alloc,
-            words.as_slice(),
-            input.as_bytes(),
-            1,
-            "",
-            told.as_str(),
-        )?;
+        expect_refused(&rt, alloc, tool, input.as_str(), name)?;
     }
     Ok(())
 }
