@@ -1,9 +1,14 @@
 -- What a subcommand's matches say, from its parts.
-use Rattle.std.proofs.Common.{◌≡◌, List, [], sym, ap, ap₂, ◌∙◌, cond, codes, true, false}
+use Rattle.std.proofs.Common.{◌≡◌, Bool, List, [], sym, ap, ap₂, ◌∙◌, cond, codes, true, false, refl}
 use Rattle.std.specs.Prelude.{Option, Some, None, option_map, unwrap_or}
+use Rattle.std.specs.Bool.{Decides}
+use Rattle.std.specs.Str.Parse.{ParsesBool}
+use Rattle.std.proofs.lemmas.Bool.Decides.{same_from_decides}
+use Rattle.std.proofs.lemmas.Slice.Eq.{bytes_eq-Decides}
 use Rattle.std.specs.Str.{bytes_eq}
-use Rattle.clap.specs.Words.{Row, Text, all_of}
-use Rattle.sync_cli.specs.CommandLine.{tables_in, tool_of_what}
+use Rattle.clap.specs.Words.{ReadsOne, Row, Text, all_of, one_of}
+use Rattle.sync_cli.specs.CommandLine.{form_of, tables_in, tool_of_what}
+use Rattle.sync_cli.specs.declared.command.Form.TheVariants.{Normal, Sqlite}
 use Rattle.sync_cli.specs.declared.command.Tool.TheVariants.{ShowBlob, ShowChangeset}
 
 pub both_parts : {B X Y : Type 0} (o : Option B) (f : B → X) (g : B → Y) (x : X) (y : Y)
@@ -23,6 +28,29 @@ tables_in-hub found name rows texts tables is hub all e =
     sym (ap tables_in is
     ∙ ap (λ b. cond b (Some (unwrap_or (all_of (codes "TABLE") rows) [])) None) (sym hub)
     ∙ ap (λ t. Some (unwrap_or t [])) (sym all) ∙ ap Some e)
+
+decided : (b : Bool) (some other : Text) → Decides b (some ≡ other) → b ≡ bytes_eq some other
+decided b some other decides = same_from_decides b (bytes_eq some other) decides (bytes_eq-Decides some other)
+
+-- a flag is true where its text is "true"
+pub flag_given : (E : Type 0) (text : Option Text) (value : Option Bool) → (text ≡ None → value ≡ None)
+    → ((t : Text) → text ≡ Some t → ReadsOne {T = Bool} {E = E} ParsesBool t value)
+    → unwrap_or value false ≡ bytes_eq (unwrap_or text []) (codes "true")
+flag_given E None value none reads = rw (none refl) refl
+flag_given E (Some t) None none reads =
+    let refused = reads t refl in decided false t (codes "true") ((λ e. absurd (cc)), (λ is. absurd (refused.1.0 is)))
+flag_given E (Some t) (Some true) none reads = decided true t (codes "true") ((λ e. reads t refl), (λ is. refl))
+flag_given E (Some t) (Some false) none reads =
+    let is : t ≡ codes "false" = reads t refl in rw is refl
+
+-- the form that the value of `--sqlite` asks for
+pub form_asked : (E : Type 0) (given : Bool) (text : Option Text) (value : Option Bool) (rows : List Row)
+    → given ≡ unwrap_or value false → text ≡ one_of (codes "sqlite") rows → (text ≡ None → value ≡ None)
+    → ((t : Text) → text ≡ Some t → ReadsOne {T = Bool} {E = E} ParsesBool t value)
+    → cond given Sqlite Normal ≡ form_of rows
+form_asked E given text value rows is found none reads =
+    ap (λ b. cond b Sqlite Normal) (is ∙ flag_given E text value none reads)
+    ∙ ap (λ (t : Option Text). cond (bytes_eq (unwrap_or t []) (codes "true")) Sqlite Normal) found
 
 -- what the word behind `show` asks for
 pub changeset_asked : (what : Text) → true ≡ bytes_eq what (codes "changeset") → Some ShowChangeset ≡ tool_of_what (Some what)

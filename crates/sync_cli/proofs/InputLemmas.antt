@@ -1,11 +1,11 @@
 -- What has been read of an input, line by line.
-use Rattle.std.proofs.Common.{◌≡◌, ℕ, ◌+◌, ◌<◌, List, [], ◌∷◌, ◌++◌, length, take, drop, get_or, sym, refl, ap, subst, arith, ◌∙◌, inl, inr}
+use Rattle.std.proofs.Common.{◌≡◌, ℕ, ◌+◌, ◌<◌, List, [], ◌∷◌, ◌++◌, length, take, get_or, sym, refl, ap, subst, ◌∙◌, inl, inr}
 use Rattle.std.specs.Prelude.{Option, Some, Ok, Err, Result, IfOk}
 use Rattle.std.specs.Global.{Vec}
 use Rattle.std.specs.List.{AllZip, AllByRecursion}
 use Rattle.std.specs.Io.KnownBytes.{IsAtEnd, Keeps}
 use Rattle.std.proofs.lemmas.List.{take_more}
-use Rattle.hex.specs.Hex.{decode_of, decode_pairs}
+use Rattle.hex.specs.Hex.{decode_pairs}
 use Rattle.cs_blob.specs.Spelling.{FitsBlob, blob_spelling}
 use Rattle.cs_blob.specs.declared.blob.BlobGroup.{BlobGroup}
 use Rattle.cs_change.specs.Spelling.{FitsChangeset, changeset_spelling}
@@ -17,9 +17,12 @@ use Rattle.cs_lines.specs.Laws.{AllTaken, NoneTaken, OneMoreTaken}
 use Rattle.cs_lines.specs.Served.{AreAllLines}
 use Rattle.sync_cli.specs.CombinedLines.{SpellChangesets}
 use Rattle.sync_cli.specs.LinesRead.{AreHexOf, AreRead, IsHexOf, SpellAll, TakesBytes, TakesNextBytes}
-use Rattle.sync_cli.specs.RebasedLine.{Rebases, RebasesLines, SpellsRebased}
+use Rattle.sync_cli.specs.RebasedLine.{IsRebased, Rebases, RebasesLines}
 use Rattle.sync_cli.specs.ShownLine.{ShowsBytes, ShowsFirst}
+use Rattle.cs_sqlite.specs.KeyPlaces.{heads_of, blob_heads_of}
 use Rattle.sync_cli.specs.SpelledLine.{Spells}
+use Rattle.sync_cli.specs.WrittenForm.{SpellsIn}
+use Rattle.sync_cli.specs.declared.command.Form.{Form}
 
 zip_push : {A B : Type 0} (R : A → B → Type 0) (xs : List A) (ys : List B) (x : A) (y : B) → AllZip R xs ys → R x y → AllZip R (xs ++ x ∷ []) (ys ++ y ∷ [])
 zip_push R [] [] x y all now = (now, tt)
@@ -93,29 +96,36 @@ shows_first Fits spelling text_of old new bytes text took shown =
     (took.0, shown.0, took.1, (shown.1.0, took.2 ∙ ap (λ held. Ok held) shown.1.1), shown.2)
 
 -- the two lines of a rebase, from their bytes
-pub rebases_two : (old between new : Option (List ℕ)) (changeset conflicts : List ℕ) (local : List TableChanges) (spelled : List ℕ)
+pub rebases_two : {E : Type 0} (form : Form) (old between new : Option (List ℕ)) (changeset conflicts : List ℕ) (local made : List TableChanges)
+    (came : Result (Vec ℕ) E)
     → TakesNextBytes changeset old between
     → (groups : List Group) × Spells FitsChangeset changeset_spelling changeset groups × IsCombined (groups ∷ []) local
     → TakesNextBytes conflicts between new
-    → (blob : List BlobGroup) × Spells FitsBlob blob_spelling conflicts blob × SpellsRebased blob local spelled
-    → Rebases old new spelled
-rebases_two old between new changeset conflicts local spelled took formed then_took over = record {
+    → (blob : List BlobGroup) × Spells FitsBlob blob_spelling conflicts blob × IsRebased blob local made
+    → ((groups : List Group) (blob : List BlobGroup) → Spells FitsChangeset changeset_spelling changeset groups
+    → Spells FitsBlob blob_spelling conflicts blob
+    → IfOk came (λ spelled. SpellsIn form (heads_of groups ++ blob_heads_of blob) made spelled.items))
+    → IfOk came (λ spelled. Rebases form old new spelled.items)
+rebases_two form old between new changeset conflicts local made (Err e) took formed then_took over spells = tt
+rebases_two form old between new changeset conflicts local made (Ok spelled) took formed then_took over spells = record {
   first = took.0;
   second = then_took.0;
   between = between;
   groups = formed.0;
   local = local;
   blob = over.0;
+  made = made;
   takes_first = took.1;
   changeset = (formed.1.0, took.2 ∙ ap (λ held. Ok held) formed.1.1);
   normal = formed.2;
   takes_second = then_took.1;
   conflicts = (over.1.0, then_took.2 ∙ ap (λ held. Ok held) over.1.1);
-  spelled = over.2;
+  rebased = over.2;
+  spelled = spells formed.0 over.0 formed.1 over.1;
 }
 
 -- what is rebased is a line of it
-pub rebases_lines : {E : Type 0} (old new : Option (List ℕ)) (came : Result (Vec ℕ) E)
-    → IfOk came (λ bytes. Rebases old new bytes.items) → IfOk came (λ bytes. RebasesLines old new (hex_line bytes.items))
-rebases_lines old new (Ok bytes) is = (bytes.items, is, refl)
-rebases_lines old new (Err e) is = is
+pub rebases_lines : {E : Type 0} (form : Form) (old new : Option (List ℕ)) (came : Result (Vec ℕ) E)
+    → IfOk came (λ bytes. Rebases form old new bytes.items) → IfOk came (λ bytes. RebasesLines form old new (hex_line bytes.items))
+rebases_lines form old new (Ok bytes) is = (bytes.items, is, refl)
+rebases_lines form old new (Err e) is = is

@@ -1,6 +1,6 @@
 -- An input has one text that `combine` owes, and one that `show` does.
 use Rattle.std.proofs.Common.{◌≡◌, ℕ, inl, inr, List, [], ◌∷◌, ◌++◌, length, arith, length-append, sym, ap, ap₂, ◌∙◌, refl, subst}
-use Rattle.std.specs.Prelude.{Option, Some, None, Ok}
+use Rattle.std.specs.Prelude.{Option, Some, None, Ok, flat_map}
 use Rattle.std.specs.Io.KnownBytes.{Keeps}
 use Rattle.std.proofs.lemmas.List.{append_cancel_left}
 use Rattle.cs_blob.specs.declared.blob.BlobGroup.{BlobGroup}
@@ -15,12 +15,16 @@ use Rattle.cs_lines.specs.Reading.{IsCut}
 use Rattle.cs_normal.specs.Normal.{normal_spelling}
 use Rattle.cs_normal.specs.declared.normal.TableChanges.{TableChanges}
 use Rattle.cs_rebaser.specs.Rebased.{rebased}
+use Rattle.cs_sqlite.specs.KeyPlaces.{Head, heads_of, blob_heads_of, sqlite_spelling}
 use Rattle.cs_text.specs.Text.{blob_text, changeset_text}
 use Rattle.sync_cli.specs.CombinedLines.{SpellChangesets, SpellsCombined}
 use Rattle.sync_cli.specs.Laws.{OneCombinedText, OneRebasedText, OneShownBlob, OneShownChangeset}
 use Rattle.sync_cli.specs.ShownLine.{ShowsFirst}
-use Rattle.sync_cli.specs.RebasedLine.{Rebases, RebasesLines, SpellsRebased}
+use Rattle.sync_cli.specs.RebasedLine.{IsRebased, Rebases}
 use Rattle.sync_cli.specs.SpelledLine.{SpellsBlob, SpellsChangeset, SpellsInHex, TakesNext}
+use Rattle.sync_cli.specs.WrittenForm.{SpellsIn}
+use Rattle.sync_cli.specs.declared.command.Form.{Form}
+use Rattle.sync_cli.specs.declared.command.Form.TheVariants.{Normal, Sqlite}
 
 -- bytes spell one thing
 abbrev OneSpelled : {A : Type 0} → (A → Type 0) → (A → List ℕ) → Type 0
@@ -43,19 +47,26 @@ one_list once (line ∷ lines) (a ∷ ones) [] first second = absurd second
 one_list once (line ∷ lines) (a ∷ ones) (b ∷ others) first second =
     ap₂ (λ x xs. x ∷ xs) (one_in_hex FitsChangeset changeset_spelling once line a b first.0 second.0) (one_list once lines ones others first.1 second.1)
 
-one_spelled : OneCombined → OneChangeset → (lines : List (List ℕ)) (bytes others : List ℕ) → SpellsCombined lines bytes
-    → SpellsCombined lines others → bytes ≡ others
-one_spelled combined once lines bytes others first second =
+-- in a form, by the same headers, a changeset has one spelling
+one_in_form : (form : Form) (heads same : List Head) (tables others : List TableChanges) (bytes other : List ℕ) → heads ≡ same
+    → tables ≡ others → SpellsIn form heads tables bytes → SpellsIn form same others other → bytes ≡ other
+one_in_form Normal heads same tables others bytes other headed is first second = first ∙ ap normal_spelling is ∙ sym second
+one_in_form Sqlite heads same tables others bytes other headed is first second =
+    first.1 ∙ ap₂ sqlite_spelling headed is ∙ sym second.1
+
+one_spelled : OneCombined → OneChangeset → (form : Form) (lines : List (List ℕ)) (bytes others : List ℕ)
+    → SpellsCombined form lines bytes → SpellsCombined form lines others → bytes ≡ others
+one_spelled combined once form lines bytes others first second =
     let same = one_list once lines first.changesets second.changesets first.read second.read in
     let both = combined first.changesets first.both second.both first.combined
     (subst (λ (l : List (List Group)). IsCombined l second.both) (sym same) second.combined) in
-    first.spelled ∙ ap normal_spelling both ∙ sym second.spelled
+    one_in_form form _ _ first.both second.both bytes others (ap (flat_map heads_of) same) both first.spelled second.spelled
 
 pub one_combined_text : OneCombined → OneChangeset → OneCombinedText
-one_combined_text combined once input text other first second =
+one_combined_text combined once form input text other first second =
     let lines : first.0 ≡ second.0 = first.2 ∙ sym second.2 in
-    let bytes = one_spelled combined once first.0 first.1 second.1 first.3
-    (subst (λ (l : List (List ℕ)). SpellsCombined l second.1) (sym lines) second.3) in
+    let bytes = one_spelled combined once form first.0 first.1 second.1 first.3
+    (subst (λ (l : List (List ℕ)). SpellsCombined form l second.1) (sym lines) second.3) in
     first.4 ∙ ap hex_line bytes ∙ sym second.4
 
 nothing_taken : (input : List ℕ) (line : List ℕ) (lines : List (List ℕ)) → input ≡ [] → lines_of input ≡ line ∷ lines → ⊥
@@ -115,14 +126,17 @@ known_rest : (input line : List ℕ) (left : Option (List ℕ)) → TakesNext (S
 known_rest input line left (inl took) = (took.0, took.1)
 known_rest input line left (inr none) = (input, kept_is input left none.1)
 
-one_rebased : (some other : List BlobGroup) (local same : List TableChanges) (bytes others : List ℕ) → some ≡ other → local ≡ same
-    → SpellsRebased some local bytes → SpellsRebased other same others → bytes ≡ others
-one_rebased some other local same bytes others blobs locals first second =
-    first.2 ∙ ap₂ (λ b l. normal_spelling (rebased b l)) blobs locals ∙ sym second.2
+one_rebased : (some other : List BlobGroup) (local same made too : List TableChanges) → some ≡ other → local ≡ same
+    → IsRebased some local made → IsRebased other same too → made ≡ too
+one_rebased some other local same made too blobs locals first second = first.2 ∙ ap₂ rebased blobs locals ∙ sym second.2
 
-one_rebasing : OneCombined → OneChangeset → OneBlob → (input bytes others : List ℕ) (left next : Option (List ℕ))
-    → Rebases (Some input) left bytes → Rebases (Some input) next others → (bytes ≡ others) × (left ≡ next)
-one_rebasing combined changesets blobs input bytes others left next first second =
+-- the headers of both lines
+abbrev both_heads : List Group → List BlobGroup → List Head
+both_heads groups blob = heads_of groups ++ blob_heads_of blob
+
+one_rebasing : OneCombined → OneChangeset → OneBlob → (form : Form) (input bytes others : List ℕ) (left next : Option (List ℕ))
+    → Rebases form (Some input) left bytes → Rebases form (Some input) next others → (bytes ≡ others) × (left ≡ next)
+one_rebasing combined changesets blobs form input bytes others left next first second =
     let taken = one_next input first.first second.first first.between second.between first.takes_first second.takes_first in
     let groups = one_in_hex FitsChangeset changeset_spelling changesets first.first first.groups second.groups first.changeset
     (subst (λ (l : List ℕ). SpellsChangeset l second.groups) (sym taken.0) second.changeset) in
@@ -135,9 +149,11 @@ one_rebasing combined changesets blobs input bytes others left next first second
     let behind = one_next rest.0 first.second second.second left next here there in
     let blob = one_in_hex FitsBlob blob_spelling blobs first.second first.blob second.blob first.conflicts
     (subst (λ (l : List ℕ). SpellsBlob l second.blob) (sym behind.0) second.conflicts) in
-    (one_rebased first.blob second.blob first.local second.local bytes others blob local first.spelled second.spelled, behind.1)
+    let made = one_rebased first.blob second.blob first.local second.local first.made second.made blob local first.rebased second.rebased in
+    let heads = ap₂ both_heads groups blob in
+    (one_in_form form _ _ first.made second.made bytes others heads made first.spelled second.spelled, behind.1)
 
 pub one_rebased_text : OneCombined → OneChangeset → OneBlob → OneRebasedText
-one_rebased_text combined changesets blobs input text other left next first second =
-    let once = one_rebasing combined changesets blobs input first.0 second.0 left next first.1 second.1 in
+one_rebased_text combined changesets blobs form input text other left next first second =
+    let once = one_rebasing combined changesets blobs form input first.0 second.0 left next first.1 second.1 in
     (first.2 ∙ ap hex_line once.0 ∙ sym second.2, once.1)

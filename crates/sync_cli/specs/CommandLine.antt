@@ -3,8 +3,10 @@ use Rattle.std.specs.Prelude.{List, [], Option, Some, None, true, unwrap_or, if�
 use Rattle.std.specs.Str.{bytes_eq}
 use Rattle.clap.specs.Faults.{fault_of}
 use Rattle.clap.specs.Kinds.{Kinds}
-use Rattle.clap.specs.Words.{App, Row, Rule, Text, all_of, first_of, new_app, new_rule, subcommand_of, with_rule, with_subcommand}
-use Rattle.clap.specs.declared.builder.action.ArgAction.TheVariants.{Append}
+use Rattle.clap.specs.Words.{App, Row, Rule, Text, all_of, first_of, new_app, new_rule, one_of, subcommand_of, with_rule, with_subcommand}
+use Rattle.clap.specs.declared.builder.action.ArgAction.TheVariants.{Append, SetTrue}
+use Rattle.sync_cli.specs.declared.command.Form.{Form}
+use Rattle.sync_cli.specs.declared.command.Form.TheVariants.{Normal, Sqlite}
 use Rattle.sync_cli.specs.declared.command.Tool.{Tool}
 use Rattle.sync_cli.specs.declared.command.Tool.TheVariants.{Combine, Rebase, ShowBlob, ShowChangeset}
 
@@ -22,11 +24,18 @@ what_rule = record (new_rule (codes "WHAT")) { required = true }
 abbrev pub show_app : App
 show_app = with_rule (new_app (codes "show")) what_rule
 
+-- `--sqlite`, a flag
+abbrev pub sqlite_rule : Rule
+sqlite_rule = record (new_rule (codes "sqlite")) {
+  long = Some (codes "sqlite");
+  action = Some SetTrue;
+}
+
 abbrev pub combine_app : App
-combine_app = new_app (codes "combine")
+combine_app = with_rule (new_app (codes "combine")) sqlite_rule
 
 abbrev pub rebase_app : App
-rebase_app = new_app (codes "rebase")
+rebase_app = with_rule (new_app (codes "rebase")) sqlite_rule
 
 abbrev pub sync_app : App
 sync_app =
@@ -60,11 +69,15 @@ tool_of_what (Some what) =
 abbrev pub shown_tool : List Row → Option Tool
 shown_tool rows = tool_of_what (first_of (codes "WHAT") rows)
 
+-- the form that the words of `combine` or `rebase` ask for: the flag's value is "true" where it was given, else "false"
+abbrev pub form_of : List Row → Form
+form_of rows = if bytes_eq (unwrap_or (one_of (codes "sqlite") rows) []) (codes "true") then Sqlite else Normal
+
 -- the tool that a subcommand and its words ask for
 abbrev pub tool_by : Text → List Row → Option Tool
 tool_by name rows =
-    if bytes_eq name (codes "combine") then Some Combine
-    else if bytes_eq name (codes "rebase") then Some Rebase
+    if bytes_eq name (codes "combine") then Some (Combine (form_of rows))
+    else if bytes_eq name (codes "rebase") then Some (Rebase (form_of rows))
     else if bytes_eq name (codes "show") then shown_tool rows
     else None
 

@@ -8,3 +8,4 @@ pub mod RebasedLine
 pub mod ShownLine
 pub mod SpelledLine
 pub mod TableWord
+pub mod WrittenForm

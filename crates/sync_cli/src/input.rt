@@ -40,6 +40,9 @@ pub enum Refusal {
     /// The changeset can't be rebased over it.
     #[error("{0}")]
     Rebase(#[from] RebaseFault),
+    /// Headers of one table have its key columns in different orders, and the column bytes that came in were asked for.
+    #[error("KeyOrder")]
+    KeyOrder,
 }
 
 /// The bytes that a line spells in hex, by digits of either case.

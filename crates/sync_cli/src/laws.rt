@@ -1,9 +1,9 @@
 //! The laws of the program, and what some command lines ask for, by computation: each is the contract of a function
 //! that does nothing.
 
-ghost use Rattle.sync_cli.specs.Laws.{AsksForAHub, AsksForHelp, AsksForNothing, AsksToCombine, AsksToRebase, AsksToShow, AsksToShowBlob, IsNotTaken, NoCatalogRefused, OneCatalog, OneCombinedText, OneRebasedText, OneRefusedWord, OneShownBlob, OneShownChangeset};
+ghost use Rattle.sync_cli.specs.Laws.{AsksForAHub, AsksForHelp, AsksForNothing, AsksToCombine, AsksToCombineForSqlite, AsksToRebase, AsksToRebaseForSqlite, AsksToShow, AsksToShowBlob, CombinedStaysTheSame, IsNotTaken, NoCatalogRefused, OneCatalog, OneCombinedText, OneRebasedText, OneRefusedWord, OneShownBlob, OneShownChangeset, RebasedStaysTheSame};
 
-/// An input has one text that `combine` owes.
+/// An input has one text that `combine` owes in each form.
 pub fn one_combined_text()
     ensures { OneCombinedText }
 {
@@ -11,13 +11,30 @@ pub fn one_combined_text()
     cs_group::laws::one_combined();
 }
 
-/// It has one text that `rebase` owes, and one rest that it leaves.
+/// It has one text that `rebase` owes in each form, and one rest that it leaves.
 pub fn one_rebased_text()
     ensures { OneRebasedText }
 {
     cs_blob::laws::blobs();
     cs_changeset::laws::changesets();
     cs_group::laws::one_combined();
+}
+
+/// Changesets taken together are the same in either form but for the column bytes, and the reader takes them.
+pub fn combined_stays_the_same()
+    ensures { CombinedStaysTheSame }
+{
+    cs_sqlite::laws::heads_of_catalog();
+    cs_sqlite::laws::stays_the_same();
+}
+
+/// So is a changeset rebased over a blob.
+pub fn rebased_stays_the_same()
+    ensures { RebasedStaysTheSame }
+{
+    cs_sqlite::laws::heads_of_catalog();
+    cs_rebaser::laws::rebased_is_normal();
+    cs_sqlite::laws::stays_the_same();
 }
 
 /// An input has one text that `show changeset` owes, and one rest that it leaves.
@@ -59,9 +76,19 @@ pub fn asks_to_combine()
     ensures { AsksToCombine }
 {}
 
+/// `sync combine --sqlite` is taken and asks to combine with the column bytes that came in.
+pub fn asks_to_combine_for_sqlite()
+    ensures { AsksToCombineForSqlite }
+{}
+
 /// `sync rebase` is taken and asks to rebase.
 pub fn asks_to_rebase()
     ensures { AsksToRebase }
+{}
+
+/// `sync rebase --sqlite` is taken and asks to rebase with the column bytes that came in.
+pub fn asks_to_rebase_for_sqlite()
+    ensures { AsksToRebaseForSqlite }
 {}
 
 /// `sync show changeset` is taken and asks to show a changeset.

@@ -4,7 +4,8 @@
 //! changesets as one, on `cs_rebaser` for rebased ones and on `cs_text` for what `show` prints, and only wires them. `run`
 //! carries the promise, status by status (`specs/Endings.antt`): `hub` gives each line of the input the answer of a hub of
 //! the tables that the command line names, `combine` writes the changesets of all lines as one, `rebase` that of the first
-//! line over the blob of the second, and `show` the text of the first.
+//! line over the blob of the second, both in normal form or, by `cs_sqlite`, with the column bytes that came in, and `show`
+//! the text of the first.
 //!
 //! `run`'s clauses stand over a reader and a writer whose bytes are known, as those of slices and vectors are. Standard
 //! input and output are none such in the toolchain: of `main`, which hands `run` the words, the standard streams and the
@@ -24,6 +25,7 @@ mod run;
 mod show;
 mod status;
 mod table;
+mod written;
 
 use crate::status::{COMMAND_LINE, MEMORY, REFUSED_COMMAND, REFUSED_INPUT, tell};
 use std::io::{BufReader, BufWriter, ErrorKind, Write};
@@ -71,5 +73,7 @@ mod fault_texts;
 mod rebase_tests;
 #[cfg(test)]
 mod sessions;
+#[cfg(test)]
+mod sqlite_tests;
 #[cfg(test)]
 mod tests;

@@ -8,6 +8,7 @@ ghost use Rattle.sync_cli.specs.CommandLine.{faults_of, table_words_of, tool_of}
 ghost use Rattle.sync_cli.specs.Endings.{EndsServing, EndsUnasked, EndsUntaken, EndsWriting};
 ghost use Rattle.sync_cli.specs.RebasedLine.{RebasesLines};
 ghost use Rattle.sync_cli.specs.ShownLine.{ShowsBlob, ShowsChangeset};
+ghost use Rattle.sync_cli.specs.declared.command.Form.{Form};
 ghost use Rattle.sync_cli.specs.declared.command.Tool.TheVariants.{Combine, Rebase, ShowBlob, ShowChangeset};
 
 use crate::combine::combine_lines;
@@ -52,14 +53,17 @@ pub fn run<S: AsStr, R: LineInput, W: LineOutput, E: Write>(
         → EndsServing result table_words (R.remaining reader.old) (R.failed reader.new) (W.failed writer.new)
         (W.contents writer.old) (W.contents writer.new) }
 
-    // `combine`: the changesets of all lines as one, as a line of lower case hex.
-    ensures combine { faults_of (map S.text words.now) ≡ [] → tool_of (map S.text words.now) ≡ Some Combine
-        → EndsWriting result (CombinesAll (R.remaining reader.old)) (W.failed writer.new)
+    // `combine`: the changesets of all lines as one, in the form that is asked for, as a line of lower case hex.
+    ensures combine { (form : Form) → faults_of (map S.text words.now) ≡ []
+        → tool_of (map S.text words.now) ≡ Some (Combine form)
+        → EndsWriting result (CombinesAll form (R.remaining reader.old)) (W.failed writer.new)
         (W.contents writer.old) (W.contents writer.new) }
 
-    // `rebase`: the changeset of the first line over the rebase blob of the second, as a line of lower case hex.
-    ensures rebase { faults_of (map S.text words.now) ≡ [] → tool_of (map S.text words.now) ≡ Some Rebase
-        → EndsWriting result (RebasesLines (R.remaining reader.old) (R.remaining reader.new)) (W.failed writer.new)
+    // `rebase`: the changeset of the first line over the rebase blob of the second, in the form that is asked for, as a line
+    // of lower case hex.
+    ensures rebase { (form : Form) → faults_of (map S.text words.now) ≡ []
+        → tool_of (map S.text words.now) ≡ Some (Rebase form)
+        → EndsWriting result (RebasesLines form (R.remaining reader.old) (R.remaining reader.new)) (W.failed writer.new)
         (W.contents writer.old) (W.contents writer.new) }
 
     // `show changeset`: the changeset of the first line as text, and the rest of the lines is left.
@@ -85,8 +89,8 @@ pub fn run<S: AsStr, R: LineInput, W: LineOutput, E: Write>(
         return serve_hub(alloc, table_words, reader, writer, errors);
     }
     match command::tool_of(&matches) {
-        Some(Tool::Combine) => combine_lines(alloc, reader, writer, errors),
-        Some(Tool::Rebase) => rebase_lines(alloc, reader, writer, errors),
+        Some(Tool::Combine(form)) => combine_lines(alloc, form, reader, writer, errors),
+        Some(Tool::Rebase(form)) => rebase_lines(alloc, form, reader, writer, errors),
         Some(Tool::ShowChangeset) => show_changeset(alloc, reader, writer, errors),
         Some(Tool::ShowBlob) => show_blob(alloc, reader, writer, errors),
         None => tell(errors, COMMAND_LINE, REFUSED_COMMAND),

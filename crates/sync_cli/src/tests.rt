@@ -152,7 +152,7 @@ fn tells_help(rt: HostRuntime) -> Result<(), Fail> {
     let whole =
         "Offline-first table sync: a hub, and tools for changesets\n\nUsage: sync [COMMAND]\n\nCommands:\n  hub      Answer requests, one a line in hex, as a hub of these tables\n  show     Show the changeset or rebase blob that the first line spells in hex\n  combine  Take the changesets that the lines spell in hex together as one\n  rebase   Rebase the changeset of the first line over the rebase blob of the second, in hex\n  help     Print this message or the help of the given subcommand(s)\n\nOptions:\n  -h, --help  Print help\n";
     let combine =
-        "Take the changesets that the lines spell in hex together as one\n\nUsage: sync combine\n\nOptions:\n  -h, --help  Print help\n";
+        "Take the changesets that the lines spell in hex together as one\n\nUsage: sync combine [--sqlite]\n\nOptions:\n      --sqlite  Write the column bytes that came in, as SQLite applies them\n  -h, --help    Print help\n";
     expect(&rt, rt.alloc(), &["sync", "--help"], b"07\n", 0, whole, "")?;
     expect(&rt, rt.alloc(), &["any", "help"], b"07\n", 0, whole, "")?;
     let words = ["sync", "help", "combine"].as_slice();

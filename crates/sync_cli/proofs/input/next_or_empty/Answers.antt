@@ -1,7 +1,3 @@
-use Rattle.std.proofs.Common.{◌≡◌, None}
-use Rattle.std.specs.Prelude.{Option}
-use Rattle.std.specs.Io.KnownBytes.{IsAtEnd, Keeps}
-use Rattle.sync_cli.specs.LinesRead.{TakesBytes}
 use Rattle.sync_cli.proofs.InputLemmas.{taken_none}
 use Rattle.sync_cli.proofs.input.next_or_empty.Goals as goal
 
