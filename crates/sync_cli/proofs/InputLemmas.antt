@@ -17,9 +17,8 @@ use Rattle.cs_lines.specs.Laws.{AllTaken, NoneTaken, OneMoreTaken}
 use Rattle.cs_lines.specs.Served.{AreAllLines}
 use Rattle.sync_cli.specs.CombinedLines.{SpellChangesets}
 use Rattle.sync_cli.specs.LinesRead.{AreHexOf, AreRead, IsHexOf, SpellAll, TakesBytes, TakesNextBytes}
-use Rattle.sync_cli.specs.RebasedLine.{IsRebased, Rebases, RebasesLines}
+use Rattle.sync_cli.specs.RebasedLine.{heads_of_both, IsRebased, Rebases, RebasesLines}
 use Rattle.sync_cli.specs.ShownLine.{ShowsBytes, ShowsFirst}
-use Rattle.cs_sqlite.specs.KeyPlaces.{heads_of, blob_heads_of}
 use Rattle.sync_cli.specs.SpelledLine.{Spells}
 use Rattle.sync_cli.specs.WrittenForm.{SpellsIn}
 use Rattle.sync_cli.specs.declared.command.Form.{Form}
@@ -104,22 +103,24 @@ pub rebases_two : {E : Type 0} (form : Form) (old between new : Option (List ℕ
     → (blob : List BlobGroup) × Spells FitsBlob blob_spelling conflicts blob × IsRebased blob local made
     → ((groups : List Group) (blob : List BlobGroup) → Spells FitsChangeset changeset_spelling changeset groups
     → Spells FitsBlob blob_spelling conflicts blob
-    → IfOk came (λ spelled. SpellsIn form (heads_of groups ++ blob_heads_of blob) made spelled.items))
+    → IfOk came (λ spelled. SpellsIn form (heads_of_both groups blob) made spelled.items))
     → IfOk came (λ spelled. Rebases form old new spelled.items)
 rebases_two form old between new changeset conflicts local made (Err e) took formed then_took over spells = tt
 rebases_two form old between new changeset conflicts local made (Ok spelled) took formed then_took over spells = record {
-  first = took.0;
-  second = then_took.0;
-  between = between;
   groups = formed.0;
   local = local;
   blob = over.0;
   made = made;
-  takes_first = took.1;
-  changeset = (formed.1.0, took.2 ∙ ap (λ held. Ok held) formed.1.1);
+  lines = record {
+    first = took.0;
+    second = then_took.0;
+    between = between;
+    takes_first = took.1;
+    changeset = (formed.1.0, took.2 ∙ ap (λ held. Ok held) formed.1.1);
+    takes_second = then_took.1;
+    conflicts = (over.1.0, then_took.2 ∙ ap (λ held. Ok held) over.1.1);
+  };
   normal = formed.2;
-  takes_second = then_took.1;
-  conflicts = (over.1.0, then_took.2 ∙ ap (λ held. Ok held) over.1.1);
   rebased = over.2;
   spelled = spells formed.0 over.0 formed.1 over.1;
 }

@@ -15,12 +15,13 @@ use Rattle.cs_lines.specs.Reading.{IsCut}
 use Rattle.cs_normal.specs.Normal.{normal_spelling}
 use Rattle.cs_normal.specs.declared.normal.TableChanges.{TableChanges}
 use Rattle.cs_rebaser.specs.Rebased.{rebased}
-use Rattle.cs_sqlite.specs.KeyPlaces.{Head, heads_of, blob_heads_of, sqlite_spelling}
+use Rattle.cs_sqlite.specs.KeyPlaces.{Head, HasTwoOrders, heads_of, sqlite_spelling}
+use Rattle.cs_sqlite.specs.Laws.{OneOrderOrTwo}
 use Rattle.cs_text.specs.Text.{blob_text, changeset_text}
 use Rattle.sync_cli.specs.CombinedLines.{SpellChangesets, SpellsCombined}
-use Rattle.sync_cli.specs.Laws.{OneCombinedText, OneRebasedText, OneShownBlob, OneShownChangeset}
+use Rattle.sync_cli.specs.Laws.{NothingCombinedOfTwoOrders, NothingRebasedOfTwoOrders, OneCombinedText, OneRebasedText, OneShownBlob, OneShownChangeset}
 use Rattle.sync_cli.specs.ShownLine.{ShowsFirst}
-use Rattle.sync_cli.specs.RebasedLine.{IsRebased, Rebases}
+use Rattle.sync_cli.specs.RebasedLine.{heads_of_both, IsRebased, Rebases, TakesBoth}
 use Rattle.sync_cli.specs.SpelledLine.{SpellsBlob, SpellsChangeset, SpellsInHex, TakesNext}
 use Rattle.sync_cli.specs.WrittenForm.{SpellsIn}
 use Rattle.sync_cli.specs.declared.command.Form.{Form}
@@ -130,30 +131,51 @@ one_rebased : (some other : List BlobGroup) (local same made too : List TableCha
     → IsRebased some local made → IsRebased other same too → made ≡ too
 one_rebased some other local same made too blobs locals first second = first.2 ∙ ap₂ rebased blobs locals ∙ sym second.2
 
--- the headers of both lines
-abbrev both_heads : List Group → List BlobGroup → List Head
-both_heads groups blob = heads_of groups ++ blob_heads_of blob
-
-one_rebasing : OneCombined → OneChangeset → OneBlob → (form : Form) (input bytes others : List ℕ) (left next : Option (List ℕ))
-    → Rebases form (Some input) left bytes → Rebases form (Some input) next others → (bytes ≡ others) × (left ≡ next)
-one_rebasing combined changesets blobs form input bytes others left next first second =
+-- two lines spell one changeset and one blob, and leave one rest
+one_pair : OneChangeset → OneBlob → (input : List ℕ) (left next : Option (List ℕ)) (groups same : List Group) (blob other : List BlobGroup)
+    → TakesBoth (Some input) left groups blob → TakesBoth (Some input) next same other
+    → (groups ≡ same) × (blob ≡ other) × (left ≡ next)
+one_pair changesets blobs input left next groups same blob other first second =
     let taken = one_next input first.first second.first first.between second.between first.takes_first second.takes_first in
-    let groups = one_in_hex FitsChangeset changeset_spelling changesets first.first first.groups second.groups first.changeset
-    (subst (λ (l : List ℕ). SpellsChangeset l second.groups) (sym taken.0) second.changeset) in
-    let local = combined (first.groups ∷ []) first.local second.local first.normal
-    (subst (λ (g : List Group). IsCombined (g ∷ []) second.local) (sym groups) second.normal) in
+    let read = one_in_hex FitsChangeset changeset_spelling changesets first.first groups same first.changeset
+    (subst (λ (l : List ℕ). SpellsChangeset l same) (sym taken.0) second.changeset) in
     let rest = known_rest input first.first first.between first.takes_first in
     let here : TakesNext (Some rest.0) left first.second = subst (λ (b : Option (List ℕ)). TakesNext b left first.second) rest.1 first.takes_second in
     let there : TakesNext (Some rest.0) next second.second =
     subst (λ (b : Option (List ℕ)). TakesNext b next second.second) (sym taken.1 ∙ rest.1) second.takes_second in
     let behind = one_next rest.0 first.second second.second left next here there in
-    let blob = one_in_hex FitsBlob blob_spelling blobs first.second first.blob second.blob first.conflicts
-    (subst (λ (l : List ℕ). SpellsBlob l second.blob) (sym behind.0) second.conflicts) in
-    let made = one_rebased first.blob second.blob first.local second.local first.made second.made blob local first.rebased second.rebased in
-    let heads = ap₂ both_heads groups blob in
-    (one_in_form form _ _ first.made second.made bytes others heads made first.spelled second.spelled, behind.1)
+    let conflicts = one_in_hex FitsBlob blob_spelling blobs first.second blob other first.conflicts
+    (subst (λ (l : List ℕ). SpellsBlob l other) (sym behind.0) second.conflicts) in
+    (read, conflicts, behind.1)
+
+one_rebasing : OneCombined → OneChangeset → OneBlob → (form : Form) (input bytes others : List ℕ) (left next : Option (List ℕ))
+    → Rebases form (Some input) left bytes → Rebases form (Some input) next others → (bytes ≡ others) × (left ≡ next)
+one_rebasing combined changesets blobs form input bytes others left next first second =
+    let pair = one_pair changesets blobs input left next first.groups second.groups first.blob second.blob first.lines second.lines in
+    let local = combined (first.groups ∷ []) first.local second.local first.normal
+    (subst (λ (g : List Group). IsCombined (g ∷ []) second.local) (sym pair.0) second.normal) in
+    let made = one_rebased first.blob second.blob first.local second.local first.made second.made pair.1 local first.rebased second.rebased in
+    (one_in_form form _ _ first.made second.made bytes others (ap₂ heads_of_both pair.0 pair.1) made first.spelled second.spelled, pair.2)
 
 pub one_rebased_text : OneCombined → OneChangeset → OneBlob → OneRebasedText
 one_rebased_text combined changesets blobs form input text other left next first second =
     let once = one_rebasing combined changesets blobs form input first.0 second.0 left next first.1 second.1 in
     (first.2 ∙ ap hex_line once.0 ∙ sym second.2, once.1)
+
+-- ---- two orders of a key's columns
+
+pub nothing_combined : OneOrderOrTwo → OneChangeset → NothingCombinedOfTwoOrders
+nothing_combined one_or_two once input text lines changesets all read two owed =
+    let same : owed.0 ≡ lines = owed.2 ∙ sym all in
+    let came = owed.3 in
+    let is = one_list once lines came.changesets changesets
+    (subst (λ (l : List (List ℕ)). SpellChangesets l came.changesets) same came.read) read in
+    one_or_two (flat_map heads_of came.changesets) came.spelled.0
+    (subst (λ (c : List (List Group)). HasTwoOrders (flat_map heads_of c)) (sym is) two)
+
+pub nothing_rebased : OneOrderOrTwo → OneChangeset → OneBlob → NothingRebasedOfTwoOrders
+nothing_rebased one_or_two changesets blobs input text left next groups blob lines two owed =
+    let came = owed.1 in
+    let pair = one_pair changesets blobs input left next groups came.groups blob came.blob lines came.lines in
+    one_or_two (heads_of_both came.groups came.blob) came.spelled.0
+    (subst HasTwoOrders (ap₂ heads_of_both pair.0 pair.1) two)

@@ -1,7 +1,7 @@
 -- The laws of the program: an input has one text that `combine` owes, and one that `show` does; the form in which a
 -- changeset is written changes nothing but its column bytes; table words are one catalog, or have one first word that is
 -- refused; and what some command lines ask for, so that no clause on a run is empty.
-use Rattle.std.specs.Prelude.{◌≡◌, ℕ, List, [], ◌∷◌, ◌++◌, Option, Some, None, codes}
+use Rattle.std.specs.Prelude.{◌≡◌, ℕ, List, [], ◌∷◌, Option, Some, None, codes}
 use Rattle.std.specs.List.{AllByRecursion, AllZip, flat_map}
 use Rattle.clap.specs.Words.{Text}
 use Rattle.clap.specs.declared.error.kind.ErrorKind.TheVariants as kind
@@ -10,19 +10,38 @@ use Rattle.cs_blob.specs.declared.blob.BlobGroup.{BlobGroup}
 use Rattle.cs_change.specs.Spelling.{FitsChangeset}
 use Rattle.cs_change.specs.declared.group.Group.{Group}
 use Rattle.cs_group.specs.Combined.{IsCombined}
+use Rattle.cs_lines.specs.Served.{AreAllLines}
 use Rattle.cs_normal.specs.Normal.{groups_of}
 use Rattle.cs_normal.specs.declared.normal.TableChanges.{TableChanges}
-use Rattle.cs_sqlite.specs.KeyPlaces.{Head, blob_heads_of, for_sqlite, heads_of}
+use Rattle.cs_sqlite.specs.KeyPlaces.{Head, for_sqlite, HasTwoOrders, heads_of}
 use Rattle.cs_sqlite.specs.Laws.{IsSameGroup}
 use Rattle.cs_value.specs.declared.catalog.TableDef.{TableDef}
 use Rattle.sync_cli.specs.CatalogWords.{IsCatalogOf, IsRefusedAt}
-use Rattle.sync_cli.specs.CombinedLines.{CombinesAll}
+use Rattle.sync_cli.specs.CombinedLines.{CombinesAll, SpellChangesets}
 use Rattle.sync_cli.specs.CommandLine.{faults_of, table_words_of, tool_of}
-use Rattle.sync_cli.specs.RebasedLine.{IsRebased, RebasesLines}
+use Rattle.sync_cli.specs.RebasedLine.{heads_of_both, IsRebased, RebasesLines, TakesBoth}
 use Rattle.sync_cli.specs.ShownLine.{ShowsBlob, ShowsChangeset}
 use Rattle.sync_cli.specs.declared.command.Form.{Form}
 use Rattle.sync_cli.specs.declared.command.Form.TheVariants.{Normal, Sqlite}
 use Rattle.sync_cli.specs.declared.command.Tool.TheVariants.{Combine, Rebase, ShowBlob, ShowChangeset}
+
+-- no text is owed for SQLite where headers of one table in the lines have its key's columns in two orders
+abbrev pub NothingCombinedOfTwoOrders : Type 0
+NothingCombinedOfTwoOrders =
+    (input text : List ℕ) (lines : List (List ℕ)) (changesets : List (List Group))
+    → AreAllLines (Some input) lines
+    → SpellChangesets lines changesets
+    → HasTwoOrders (flat_map heads_of changesets)
+    → CombinesAll Sqlite (Some input) text
+    → ⊥
+
+abbrev pub NothingRebasedOfTwoOrders : Type 0
+NothingRebasedOfTwoOrders =
+    (input text : List ℕ) (left next : Option (List ℕ)) (groups : List Group) (blob : List BlobGroup)
+    → TakesBoth (Some input) left groups blob
+    → HasTwoOrders (heads_of_both groups blob)
+    → RebasesLines Sqlite (Some input) next text
+    → ⊥
 
 -- with these column bytes the changeset has the same tables, key columns and changes, and the reader takes it
 abbrev pub IsTheSameForSqlite : List Head → List TableChanges → Type 0
@@ -56,7 +75,7 @@ RebasedStaysTheSame =
     → FitsBlob blob
     → IsCombined (groups ∷ []) local
     → IsRebased blob local made
-    → IsTheSameForSqlite (heads_of groups ++ blob_heads_of blob) made
+    → IsTheSameForSqlite (heads_of_both groups blob) made
 
 -- its first line has one that `show changeset` owes, and one rest that it leaves
 abbrev pub OneShownChangeset : Type 0

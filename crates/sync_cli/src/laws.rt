@@ -1,7 +1,7 @@
 //! The laws of the program, and what some command lines ask for, by computation: each is the contract of a function
 //! that does nothing.
 
-ghost use Rattle.sync_cli.specs.Laws.{AsksForAHub, AsksForHelp, AsksForNothing, AsksToCombine, AsksToCombineForSqlite, AsksToRebase, AsksToRebaseForSqlite, AsksToShow, AsksToShowBlob, CombinedStaysTheSame, IsNotTaken, NoCatalogRefused, OneCatalog, OneCombinedText, OneRebasedText, OneRefusedWord, OneShownBlob, OneShownChangeset, RebasedStaysTheSame};
+ghost use Rattle.sync_cli.specs.Laws.{AsksForAHub, AsksForHelp, AsksForNothing, AsksToCombine, AsksToCombineForSqlite, AsksToRebase, AsksToRebaseForSqlite, AsksToShow, AsksToShowBlob, CombinedStaysTheSame, IsNotTaken, NoCatalogRefused, NothingCombinedOfTwoOrders, NothingRebasedOfTwoOrders, OneCatalog, OneCombinedText, OneRebasedText, OneRefusedWord, OneShownBlob, OneShownChangeset, RebasedStaysTheSame};
 
 /// An input has one text that `combine` owes in each form.
 pub fn one_combined_text()
@@ -18,6 +18,23 @@ pub fn one_rebased_text()
     cs_blob::laws::blobs();
     cs_changeset::laws::changesets();
     cs_group::laws::one_combined();
+}
+
+/// `combine --sqlite` owes no text where headers of one table have its key's columns in two orders.
+pub fn nothing_combined_of_two_orders()
+    ensures { NothingCombinedOfTwoOrders }
+{
+    cs_changeset::laws::changesets();
+    cs_sqlite::laws::one_order_or_two();
+}
+
+/// Nor does `rebase --sqlite`.
+pub fn nothing_rebased_of_two_orders()
+    ensures { NothingRebasedOfTwoOrders }
+{
+    cs_blob::laws::blobs();
+    cs_changeset::laws::changesets();
+    cs_sqlite::laws::one_order_or_two();
 }
 
 /// Changesets taken together are the same in either form but for the column bytes, and the reader takes them.

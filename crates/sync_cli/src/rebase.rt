@@ -1,15 +1,14 @@
 //! `rebase`: a changeset in hex, rebased over the rebase blob of the next line.
 
-ghost use Rattle.std.specs.Prelude.{◌≡◌, [], ◌∷◌, ◌++◌, List, IfOk};
+ghost use Rattle.std.specs.Prelude.{◌≡◌, [], ◌∷◌, List, IfOk};
 ghost use Rattle.cs_blob.specs.Spelling.{FitsBlob, blob_spelling};
 ghost use Rattle.cs_blob.specs.declared.blob.BlobGroup.{BlobGroup as Conflicts};
 ghost use Rattle.cs_change.specs.Spelling.{FitsChangeset, changeset_spelling};
 ghost use Rattle.cs_change.specs.declared.group.Group.{Group as Changes};
 ghost use Rattle.cs_group.specs.Combined.{IsCombined};
-ghost use Rattle.cs_sqlite.specs.KeyPlaces.{blob_heads_of, heads_of};
 ghost use Rattle.cs_sqlite.specs.Steps.{heads_behind};
 ghost use Rattle.sync_cli.specs.Endings.{EndsWriting};
-ghost use Rattle.sync_cli.specs.RebasedLine.{IsRebased, Rebases, RebasesLines};
+ghost use Rattle.sync_cli.specs.RebasedLine.{heads_of_both, IsRebased, Rebases, RebasesLines};
 ghost use Rattle.sync_cli.specs.SpelledLine.{Spells};
 ghost use Rattle.sync_cli.specs.WrittenForm.{SpellsIn};
 
@@ -56,7 +55,7 @@ fn headers_of_both<'a>(
     groups: &'a [Group<'_>],
     blob: &'a [BlobGroup<'_>],
 ) -> Result<Vec<Header<'a>>, Memory>
-    ensures { IfOk result (λ headers. heads_behind headers.items ≡ heads_of groups.now ++ blob_heads_of blob.now) }
+    ensures { IfOk result (λ headers. heads_behind headers.items ≡ heads_of_both groups.now blob.now) }
 {
     let mut headers = Vec::new(alloc);
     put_headers(groups, &mut headers)?;
@@ -76,7 +75,7 @@ fn spelled_in(
     ensures { (groups : List Changes) (conflicts : List Conflicts)
         → Spells FitsChangeset changeset_spelling changeset.now groups
         → Spells FitsBlob blob_spelling blob.now conflicts
-        → IfOk result (λ bytes. SpellsIn form (heads_of groups ++ blob_heads_of conflicts) rebased.now bytes.items) }
+        → IfOk result (λ bytes. SpellsIn form (heads_of_both groups conflicts) rebased.now bytes.items) }
 {
     match form {
         Form::Normal => spelled_normal(alloc, rebased),
