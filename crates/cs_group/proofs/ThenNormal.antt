@@ -7,33 +7,14 @@ use Rattle.cs_value.specs.declared.value.Value.{Value}
 use Rattle.cs_value.specs.declared.value.Field.{Field}
 use Rattle.cs_change.specs.Action.{Action, Inserts, Deletes, Updates}
 use Rattle.cs_change.specs.Columns.{holds, set_columns, is_blank}
+use Rattle.cs_change.specs.Facts.{conjoin, new_keeps_key}
 use Rattle.cs_change.specs.Laws.{NetTakes}
 use Rattle.cs_change.specs.Normal.{IsNormal, IsNormalIfAny, NormalUpdate, no_column, key_column, unmodified, modified}
 use Rattle.cs_change.specs.Then.{then_one, then_old_fields, then_new_fields, is_idle}
 use Rattle.cs_group.specs.ThenNormal.{ThenIsNormal}
 use Rattle.cs_group.proofs.Lookups.{by_test}
 
-conjoin : {A : Type 0} {a a' : A} {r r' : List A} → a ≡ a' → r ≡ r' → a ∷ r ≡ a' ∷ r'
-conjoin e f = cc
-
--- neither record of a normal update changes a key
-new_keeps_key : {marks : List Bool} {key other : List Value} {old new : List Field} (row : List Value) → NormalUpdate marks other old new → length row ≡ length marks → marked marks row ≡ key → HasKey marks key (set_columns new row)
-unfolding set_columns
-new_keeps_key [] no_column w k = record { wide = refl; keyed = k }
-new_keeps_key (v ∷ row) no_column w k = absurd (omega (arith, w))
-new_keeps_key [] (key_column j l) w k = cc
-new_keeps_key (v ∷ row) (key_column j {marks} l) w k =
-    let r = new_keeps_key row l (omega (arith, w)) refl in
-    record { wide = omega (arith, r.wide); keyed = ap (λ (t : List Value). v ∷ t) r.keyed ∙ k }
-new_keeps_key [] (unmodified l) w k = absurd (omega (arith, w))
-new_keeps_key (v ∷ row) (unmodified l) w k =
-    let r = new_keeps_key row l (omega (arith, w)) k in
-    record { wide = omega (arith, r.wide); keyed = r.keyed }
-new_keeps_key [] (modified s t differ l) w k = absurd (omega (arith, w))
-new_keeps_key (v ∷ row) (modified s t differ l) w k =
-    let r = new_keeps_key row l (omega (arith, w)) k in
-    record { wide = omega (arith, r.wide); keyed = r.keyed }
-
+-- the old record of a normal update changes no key
 old_keeps_key : {marks : List Bool} {key : List Value} {old new : List Field} (row : List Value) → NormalUpdate marks key old new → length row ≡ length marks → HasKey marks key (set_columns old row)
 unfolding set_columns
 old_keeps_key [] no_column w = record { wide = refl; keyed = refl }

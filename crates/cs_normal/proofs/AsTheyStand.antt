@@ -1,8 +1,7 @@
 -- Changes that are in normal form already.
 use Rattle.std.proofs.Common.{◌≡◌, ℕ, Bool, true, List, [], ◌∷◌, length, map, refl, sym, ap, ◌∙◌}
-use Rattle.std.specs.Prelude.{◌&&◌}
-use Rattle.std.specs.Ordering.{is_lt}
 use Rattle.std.specs.List.{AllByRecursion}
+use Rattle.std.specs.List.Sorted.{IsStrictlySortedBy}
 use Rattle.std.specs.Map.{keys_of}
 use Rattle.std.proofs.lemmas.List.{length-map}
 use Rattle.std.proofs.lemmas.List.Elements.{recursion_from_All}
@@ -13,20 +12,11 @@ use Rattle.cs_normal.specs.Changes.{Changes, by_bytes}
 use Rattle.cs_normal.specs.Keyed.{beside}
 use Rattle.cs_normal.specs.NormalForm.{change_bytes}
 use Rattle.cs_normal.specs.Steps.Lent.{entries_of, AreForms, IsForm, IsKeptOf}
-use Rattle.cs_normal.specs.Steps.Prepared.{Entries, all_keyed, kept, prepared, rises, rises_from}
-use Rattle.cs_normal.specs.Steps.Rising.{ascend, ascend_from}
+use Rattle.cs_normal.specs.Steps.Prepared.{all_keyed, kept, prepared}
+use Rattle.cs_normal.specs.Steps.Rising.{ascend}
+use Rattle.cs_normal.proofs.Rising.{ascend_tells, ascending}
 use Rattle.cs_normal.proofs.NormalLaws.{prepared_keys}
 use Rattle.cs_normal.proofs.TableForms.{prepared_all}
-
-ascending_from : (last : List ℕ) (es : Entries) → rises_from last es ≡ ascend_from last (keys_of es)
-unfolding rises_from ascend_from
-ascending_from last [] = refl
-ascending_from last (e ∷ es) = ap (λ (b : Bool). is_lt (by_bytes last e.0) && b) (ascending_from e.0 es)
-
-ascending : (es : Entries) → rises es ≡ ascend (keys_of es)
-unfolding rises ascend
-ascending [] = refl
-ascending (e ∷ es) = ascending_from e.0 es
 
 forms_kept : (marks : List Bool) (changes : List Change) → AllByRecursion (IsForm marks) changes → kept (entries_of marks changes) ≡ beside (map (change_bytes marks) changes) changes
 unfolding kept
@@ -41,12 +31,12 @@ module _ (marks : List Bool) (changes : List Change) (keys : Keys) (is : keys �
       ap (λ (ks : Keys). length ks) (is ∙ prepared_keys marks changes whole) ∙ length-map changes (change_bytes marks)
 
   -- changes in normal form, in the order of their keys, are what is left of them
-  pub stand_kept : ascend keys ≡ true → AreForms marks changes → IsKeptOf marks changes (beside keys changes)
+  pub stand_kept : IsStrictlySortedBy by_bytes keys → AreForms marks changes → IsKeptOf marks changes (beside keys changes)
   stand_kept up forms = record {
     whole = whole;
     entries = prepared marks changes;
     moved = IsPermutation-refl (prepared marks changes);
-    rising = ascending (prepared marks changes) ∙ ap ascend (sym is) ∙ up;
+    rising = ascending (prepared marks changes) ∙ ap ascend (sym is) ∙ (ascend_tells keys).1 up;
     left = ap (λ (ks : Keys). beside ks changes) (is ∙ prepared_keys marks changes whole) ∙ sym (forms_kept marks changes (recursion_from_All (IsForm marks) changes forms))
         ∙ ap kept (sym (prepared_all marks changes whole));
   }

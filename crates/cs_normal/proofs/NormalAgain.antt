@@ -12,6 +12,7 @@ use Rattle.cs_value.specs.Facts.{same_value-tells}
 use Rattle.cs_value.specs.declared.catalog.TableDef.{TableDef}
 use Rattle.cs_value.specs.declared.value.Value.{Value}
 use Rattle.cs_value.specs.declared.value.Field.{Field}
+use Rattle.cs_change.specs.Facts.{marks_stay}
 use Rattle.cs_change.specs.Action.{action}
 use Rattle.cs_change.specs.Columns.{holds}
 use Rattle.cs_change.specs.Normal.{NormalUpdate, no_column, key_column, unmodified, modified, IsNormal}
@@ -163,12 +164,6 @@ forms_each : (normal : List TableChanges) (tables : List TableDef) → AllByRecu
 forms_each normal [] h = tt
 forms_each normal (table ∷ tables) h =
     (subst (λ (changes : List Change). IsNormalOf table.key_marks changes (changes_in table.name normal)) (sym h.0.same) (changes_stay table.key_marks (changes_in table.name normal) h.0.form), forms_each normal tables h.1)
-
--- marks written as 1 and 0 are the marks
-pub marks_stay : (marks : List Bool) → marks_of (map flag_byte marks) ≡ marks
-marks_stay [] = refl
-marks_stay (true ∷ marks) = conjoin refl (marks_stay marks)
-marks_stay (false ∷ marks) = conjoin refl (marks_stay marks)
 
 abbrev IsOfOne : List TableDef → TableChanges → Type 0
 IsOfOne tables first = (table : TableDef) × Contains tables table × IsOfTable table first

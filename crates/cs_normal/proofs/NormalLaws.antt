@@ -1,6 +1,6 @@
 -- From prepared changes to the normal form.
 use Rattle.std.proofs.Common.{◌≡◌, ℕ, Bool, true, false, ◌&&◌, List, [], ◌∷◌, ◌++◌, map, Option, Some, None, refl, sym, subst, ap, ◌∙◌}
-use Rattle.std.specs.Ordering.{is_eq, is_lt}
+use Rattle.std.specs.Ordering.{is_eq}
 use Rattle.std.specs.declared.cmp.Ordering.{Ordering}
 use Rattle.std.specs.declared.cmp.Ordering.TheVariants.{Less, Equal, Greater}
 use Rattle.std.specs.Cmp.{Equal-is, eq_by_cmp_equiv}
@@ -15,20 +15,12 @@ use Rattle.std.proofs.lemmas.Cmp.{nat_list_cmp_total}
 use Rattle.cs_change.specs.declared.change.Change.{Change}
 use Rattle.cs_normal.specs.Changes.{Changes, by_bytes, same_bytes, change_at, IsOrdered}
 use Rattle.cs_normal.specs.NormalForm.{has_key, change_bytes, AreKeyed}
-use Rattle.cs_normal.specs.Steps.Prepared.{Entries, prepared, all_keyed, kept, rises, rises_from}
+use Rattle.cs_normal.specs.Steps.Prepared.{Entries, prepared, all_keyed, kept, rises}
+pub use Rattle.cs_normal.proofs.Rising.{Above, above_more, both_true, cons_sorted, rises_sorted}
 
 pub by_test : (t : Bool) (P : Type 0) → (t ≡ true → P) → (t ≡ false → P) → P
 by_test true P one other = one refl
 by_test false P one other = other refl
-
-pub both_true : (a b : Bool) → (a && b) ≡ true → (a ≡ true) × (b ≡ true)
-both_true true b h = (refl, h)
-both_true false b h = (cc, cc)
-
-lt_is : (o : Ordering) → is_lt o ≡ true → o ≡ Less
-lt_is Less e = refl
-lt_is Equal e = cc
-lt_is Greater e = cc
 
 pub same_is : (x y : List ℕ) → same_bytes x y ≡ true → x ≡ y
 same_is x y e = exact_bytes x y ((Equal-is (by_bytes x y)).0 e)
@@ -38,38 +30,6 @@ unfolding kept
 kept_append [] fs = refl
 kept_append ((key, None) ∷ es) fs = kept_append es fs
 kept_append ((key, Some change) ∷ es) fs = ap (λ (t : Changes). (key, change) ∷ t) (kept_append es fs)
-
-abbrev pub Above : List ℕ → List (List ℕ) → Type 0
-Above key keys = AllByRecursion (λ other. by_bytes key other ≡ Less) keys
-
-pub above_more : (low key : List ℕ) (keys : List (List ℕ)) → by_bytes low key ≡ Less → Above key keys → Above low keys
-above_more low key [] e h = tt
-above_more low key (k ∷ keys) e h =
-    (nat_list_cmp_total.trans low key k e h.0, above_more low key keys e h.1)
-
-pub cons_sorted : (key : List ℕ) (keys : List (List ℕ)) → Above key keys → IsStrictlySortedBy by_bytes keys → IsStrictlySortedBy by_bytes (key ∷ keys)
-unfolding IsStrictlySortedBy
-cons_sorted key keys h o = (h, o)
-
-no_keys_sorted : IsStrictlySortedBy by_bytes []
-unfolding IsStrictlySortedBy
-no_keys_sorted = tt
-
--- keys that rise are in order
-rises_above : (key : List ℕ) (es : Entries) → rises_from key es ≡ true → Above key (keys_of es) × IsStrictlySortedBy by_bytes (keys_of es)
-unfolding rises_from
-rises_above key [] h = (tt, no_keys_sorted)
-rises_above key (e ∷ es) h =
-    let parts = both_true (is_lt (by_bytes key e.0)) (rises_from e.0 es) h in
-    let less = lt_is (by_bytes key e.0) parts.0 in
-    let rest = rises_above e.0 es parts.1 in
-    ((less, above_more key e.0 (keys_of es) less rest.0), cons_sorted e.0 (keys_of es) rest.0 rest.1)
-
-pub rises_sorted : (es : Entries) → rises es ≡ true → IsStrictlySortedBy by_bytes (keys_of es)
-unfolding rises
-rises_sorted [] h = no_keys_sorted
-rises_sorted (e ∷ es) h =
-    let rest = rises_above e.0 es h in cons_sorted e.0 (keys_of es) rest.0 rest.1
 
 -- what is kept is in order
 kept_above : (key : List ℕ) (es : Entries) → Above key (keys_of es) → Above key (keys_of (kept es))

@@ -17,13 +17,6 @@ abbrev pub entry_field : Bool → Value → Value → Field
 entry_field m b y = if m then old_field m b y else new_field b y
 
 module _ (m : Bool) (b x : Value) where
-  -- the net change of one column gives the new value
-  pub net_sets : field_or (new_field b x) b ≡ x
-  net_sets = grind (arith, same_value-tells b x)
-
-  pub new_blank : not (is_defined (new_field b x)) ≡ same_value b x
-  new_blank = grind (arith, same_value-tells b x)
-
   -- a remote update's entry, put into the base
   pub entry_sets : (m ≡ true → b ≡ x) → field_or (entry_field m b x) b ≡ x
   entry_sets key = grind (arith, same_value-tells b x, key)

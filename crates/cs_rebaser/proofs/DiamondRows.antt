@@ -7,6 +7,7 @@ use Rattle.cs_value.specs.declared.value.Value.{Value}
 use Rattle.cs_value.specs.declared.value.Field.TheVariants.{Is}
 use Rattle.cs_change.specs.Columns.{fits, set_columns, is_blank}
 use Rattle.cs_change.specs.Net.{old_record, new_record}
+pub use Rattle.cs_change.specs.Facts.{Alike, none, column, alike_from_keys, both, conjoin, net_sets, new_blank}
 use Rattle.cs_conflict.specs.Lawful.{includes}
 use Rattle.cs_conflict.specs.declared.conflict.Resolution.{Resolution}
 use Rattle.cs_conflict.specs.declared.conflict.Resolution.TheVariants.{Omit, Replace}
@@ -15,34 +16,8 @@ use Rattle.cs_rebaser.specs.Merge.{merge_column, merge_row}
 use Rattle.cs_rebaser.specs.Rebase.{old_fields_over, new_fields_over, whole_row, value_and}
 use Rattle.cs_rebaser.proofs.DiamondColumn as one
 
--- three rows of one width and one key
-pub data Alike : List Bool → List Value → List Value → List Value → Type 0 where
-  none : Alike [] [] [] []
-  column : (m : Bool) (b x y : Value) {ms : List Bool} {bs xs ys : List Value} → (m ≡ true → (b ≡ x) × (b ≡ y)) → Alike ms bs xs ys → Alike (m ∷ ms) (b ∷ bs) (x ∷ xs) (y ∷ ys)
-
--- the parts of a conjunction of tests
-pub both : (a b : Bool) → (a && b) ≡ true → (a ≡ true) × (b ≡ true)
-both true b h = (refl, h)
-both false b h = (cc, cc)
-
-pub conjoin : {A : Type 0} {a a' : A} {r r' : List A} → a ≡ a' → r ≡ r' → a ∷ r ≡ a' ∷ r'
-conjoin e f = cc
-
 -- two rows of one key
 module _ where
-  pub net_sets : {ms : List Bool} {b x y : List Value} → Alike ms b x y → set_columns (new_record b x) b ≡ x
-  unfolding set_columns new_record
-  net_sets none = refl
-  net_sets (column m b x y key rest) = conjoin (one.net_sets m b x) (net_sets rest)
-
-  pub new_blank : {ms : List Bool} {b x y : List Value} → Alike ms b x y → is_blank (new_record b x) ≡ same_row b x
-  unfolding is_blank new_record same_row
-  new_blank none = refl
-  new_blank (column m b x y key rest) =
-      let here = one.new_blank m b x in
-      let there = new_blank rest in
-      cc
-
   pub entry_sets : {ms : List Bool} {b x y : List Value} → Alike ms b x y → set_columns (keyed_new ms (old_record ms b x) (new_record b x)) b ≡ x
   unfolding set_columns keyed_new new_record old_record
   entry_sets none = refl
@@ -106,31 +81,6 @@ pub whole_of_row : (row : List Value) → whole_row (map Is row) ≡ Some row
 unfolding whole_row
 whole_of_row [] = refl
 whole_of_row (v ∷ row) = ap (value_and v) (whole_of_row row)
-
--- rows of one key are alike
-pub alike_from_keys : (ms : List Bool) (key b x y : List Value) → HasKey ms key b → HasKey ms key x → HasKey ms key y → Alike ms b x y
-alike_from_keys [] key [] [] [] hb hx hy = none
-alike_from_keys (true ∷ ms) key (b ∷ bs) (x ∷ xs) (y ∷ ys) hb hx hy =
-    let ex : b ∷ marked ms bs ≡ x ∷ marked ms xs = cc in
-    let ey : b ∷ marked ms bs ≡ y ∷ marked ms ys = cc in
-    let lb : length bs ≡ length ms = omega (arith, hb.wide) in
-    let lx : length xs ≡ length ms = omega (arith, hx.wide) in
-    let ly : length ys ≡ length ms = omega (arith, hy.wide) in
-    let kx : marked ms xs ≡ marked ms bs = cc in
-    let ky : marked ms ys ≡ marked ms bs = cc in
-    column true b x y (λ _. (cc, cc)) (alike_from_keys ms (marked ms bs) bs xs ys (record { wide = lb; keyed = refl }) (record { wide = lx; keyed = kx }) (record { wide = ly; keyed = ky }))
-alike_from_keys (false ∷ ms) key (b ∷ bs) (x ∷ xs) (y ∷ ys) hb hx hy =
-    let lb : length bs ≡ length ms = omega (arith, hb.wide) in
-    let lx : length xs ≡ length ms = omega (arith, hx.wide) in
-    let ly : length ys ≡ length ms = omega (arith, hy.wide) in
-    let no : false ≡ true → (b ≡ x) × (b ≡ y) = λ e. cc in
-    column false b x y no (alike_from_keys ms key bs xs ys (record { wide = lb; keyed = hb.keyed }) (record { wide = lx; keyed = hx.keyed }) (record { wide = ly; keyed = hy.keyed }))
-alike_from_keys (m ∷ ms) key [] x y hb hx hy = absurd (omega (arith, hb.wide))
-alike_from_keys (m ∷ ms) key (b ∷ bs) [] y hb hx hy = absurd (omega (arith, hx.wide))
-alike_from_keys (m ∷ ms) key (b ∷ bs) (x ∷ xs) [] hb hx hy = absurd (omega (arith, hy.wide))
-alike_from_keys [] key (b ∷ bs) x y hb hx hy = absurd (omega (arith, hb.wide))
-alike_from_keys [] key [] (x ∷ xs) y hb hx hy = absurd (omega (arith, hx.wide))
-alike_from_keys [] key [] [] (y ∷ ys) hb hx hy = absurd (omega (arith, hy.wide))
 
 -- the merged row has the key too
 pub alike_merged : (answer : Resolution) {ms : List Bool} {b x y : List Value} → Alike ms b x y → Alike ms y (merge_row answer b x y) (merge_row answer b x y)

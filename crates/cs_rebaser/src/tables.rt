@@ -5,14 +5,14 @@ ghost use Rattle.std.specs.List.{AllByRecursion};
 ghost use Rattle.cs_change.specs.Listed.{listed};
 ghost use Rattle.cs_normal.specs.Keyed.{beside};
 ghost use Rattle.cs_rebaser.specs.Rebase.{rebased_change};
-ghost use Rattle.cs_rebaser.specs.Rebased.{entry_at, placed, rebased, rebased_changes, with_changes};
+ghost use Rattle.cs_rebaser.specs.Rebased.{entry_at, placed, rebased, rebased_changes};
 ghost use Rattle.cs_rebaser.specs.Steps.{rebased_if_any, HasNoZero};
 
 use crate::one_change::push_over;
 use crate::places::put_place;
 use crate::rebaser::Rebaser;
 use cs_change::{Change, ChangesBuf, Scratch};
-use cs_normal::{KeyedChanges, Keys, TableChanges};
+use cs_normal::{KeyedChanges, Keys, TableChanges, push_named};
 use cs_value::Memory;
 use std::alloc::Global;
 
@@ -98,26 +98,6 @@ fn rebase_changes(
     Ok(KeyedChanges::from_parts(keys, left))
 }
 
-/// Puts the table with what is left of its changes behind the others, if something is.
-fn push_table(
-    alloc: Global,
-    table: &TableChanges,
-    changes: KeyedChanges,
-    tables: &mut Vec<TableChanges>,
-) -> Result<(), Memory>
-    ensures { OnOk result (tables.new.items ≡ tables.old.items ++ with_changes table.now changes) }
-{
-    if changes.is_empty() {
-        return Ok(());
-    }
-    tables.push(TableChanges {
-        name: table.name.copy(alloc)?,
-        marks: table.marks.copied(alloc)?,
-        changes,
-    })?;
-    Ok(())
-}
-
 /// What is left of each table.
 pub(crate) fn rebase_tables(
     alloc: Global,
@@ -130,7 +110,7 @@ pub(crate) fn rebase_tables(
     let mut made = Vec::with_capacity(alloc, tables.len())?;
     for table in tables {
         let changes = rebase_changes(alloc, rebaser, table)?;
-        push_table(alloc, table, changes, &mut made)?;
+        push_named(alloc, &table.name, &table.marks, changes, &mut made)?;
     }
     Ok(made)
 }

@@ -39,9 +39,10 @@ const B2: [u8; 4] = [3, 2, 0x62, 0x32];
 
 const C2: [u8; 4] = [3, 2, 0x63, 0x32];
 
-const D0: [u8; 4] = [3, 2, 0x64, 0x30];
+/// The text of the last column of t2, before and after the local change.
+const LAST_BEFORE: [u8; 4] = [3, 2, 0x64, 0x30];
 
-const D1: [u8; 4] = [3, 2, 0x64, 0x31];
+const LAST_AFTER: [u8; 4] = [3, 2, 0x64, 0x31];
 
 /// The first bytes of changes and entries, with the flag or the answer.
 const INSERT: [u8; 2] = [0x12, 0];
@@ -124,17 +125,17 @@ fn one_change_over_one_entry(rt: HostRuntime) -> Result<(), Fail> {
             &[],
         ),
         (
-            &[&H2, &UPDATE, &K1, &B0, &NONE, &D0, &NONE, &B1, &NONE, &D1],
+            &[&H2, &UPDATE, &K1, &B0, &NONE, &LAST_BEFORE, &NONE, &B1, &NONE, &LAST_AFTER],
             &[&H2, &OMIT, &K1, &B2, &NONE, &NONE],
-            &[&H2, &UPDATE, &K1, &B2, &NONE, &D0, &NONE, &B1, &NONE, &D1],
+            &[&H2, &UPDATE, &K1, &B2, &NONE, &LAST_BEFORE, &NONE, &B1, &NONE, &LAST_AFTER],
         ),
         (
             &[
-                &H2, &UPDATE, &K1, &NONE, &NONE, &D0, &NONE, &NONE, &NONE, &D1,
+                &H2, &UPDATE, &K1, &NONE, &NONE, &LAST_BEFORE, &NONE, &NONE, &NONE, &LAST_AFTER,
             ],
             &[],
             &[
-                &H2, &UPDATE, &K1, &NONE, &NONE, &D0, &NONE, &NONE, &NONE, &D1,
+                &H2, &UPDATE, &K1, &NONE, &NONE, &LAST_BEFORE, &NONE, &NONE, &NONE, &LAST_AFTER,
             ],
         ),
         (
@@ -204,9 +205,9 @@ fn entries_of_other_places(rt: HostRuntime) -> Result<(), Fail> {
         ),
         // Of two tables one is left.
         (
-            &[&H1, &DELETE, &K1, &V1, &H2, &INSERT, &K1, &B0, &C2, &D0],
+            &[&H1, &DELETE, &K1, &V1, &H2, &INSERT, &K1, &B0, &C2, &LAST_BEFORE],
             &[&H1, &OMIT_DELETE, &K1, &V1],
-            &[&H2, &INSERT, &K1, &B0, &C2, &D0],
+            &[&H2, &INSERT, &K1, &B0, &C2, &LAST_BEFORE],
         ),
     ];
     for (local, blob, left) in &cases {
@@ -271,8 +272,8 @@ fn leaves_two_tables(alloc: Global) -> Option<bool> {
     let local = joined(
         alloc,
         &[
-            &H1, &INSERT, &K1, &V1, &DELETE, &K2, &V2, &H2, &UPDATE, &K1, &B0, &NONE, &D0, &NONE,
-            &B1, &NONE, &D1,
+            &H1, &INSERT, &K1, &V1, &DELETE, &K2, &V2, &H2, &UPDATE, &K1, &B0, &NONE, &LAST_BEFORE, &NONE,
+            &B1, &NONE, &LAST_AFTER,
         ],
     )
     .ok()?;
@@ -287,7 +288,7 @@ fn leaves_two_tables(alloc: Global) -> Option<bool> {
         alloc,
         &[
             &H1, &UPDATE, &K1, &V2, &NONE, &V1, &DELETE, &K2, &V9, &H2, &UPDATE, &K1, &B2, &NONE,
-            &D0, &NONE, &B1, &NONE, &D1,
+            &LAST_BEFORE, &NONE, &B1, &NONE, &LAST_AFTER,
         ],
     )
     .ok()?;
