@@ -16,10 +16,10 @@ use Rattle.cs_order.specs.Order.{Keys, by_bytes, key_at, places, same_bytes}
 use Rattle.cs_blob.specs.Spelling.{FitsBlob}
 use Rattle.cs_blob.specs.declared.blob.BlobGroup.{BlobGroup}
 use Rattle.cs_blob.specs.declared.blob.Entry.{Entry}
-use Rattle.cs_rebaser.specs.Rebased.{placed}
-use Rattle.cs_rebaser.specs.Steps.{IsIndexOf, behind, beside_entries, entry_of_group}
+use Rattle.cs_rebaser.specs.Rebased.{Placed, placed}
+use Rattle.cs_rebaser.specs.Steps.{IsIndexOf, behind, beside_entries, entry_of_group, spot_bytes}
 use Rattle.cs_rebaser.proofs.Listings.{found_at, listing_sorted}
-use Rattle.cs_rebaser.proofs.Placed.{bytes_of, entries_of, have_names, looked_up, pair_keys, pair_values, pairs}
+use Rattle.cs_rebaser.proofs.Placed.{beside_pairs, bytes_of, entries_of, have_names, looked_up, pair_keys, pair_values, pairs}
 use Rattle.cs_rebaser.proofs.Telling.{by_bool, same_is}
 
 -- the entry at the first of the places
@@ -142,3 +142,21 @@ pub beside_length : (keys : Keys) (entries : List Entry) → length keys ≡ len
 beside_length [] entries same = refl
 beside_length (k ∷ keys) [] same = absurd (omega (arith, same))
 beside_length (k ∷ keys) (e ∷ entries) same = omega (arith, beside_length keys entries (omega (arith, same)))
+
+-- ---- places that rise as they stand
+
+pub gathered_length : (blob : List BlobGroup) (keys : Keys) (entries : List Entry) → keys ≡ bytes_of (placed blob) → entries ≡ entries_of (placed blob) → length keys ≡ length entries
+gathered_length blob keys entries keys_are entries_are =
+    ap (λ (ks : Keys). length ks) keys_are
+    ∙ length-map (placed blob) (λ (p : Placed). spot_bytes p.0)
+    ∙ sym (length-map (placed blob) (λ (p : Placed). p.1))
+    ∙ ap (λ (es : List Entry). length es) (sym entries_are)
+
+pub rising_index : (blob : List BlobGroup) (keys : Keys) (entries : List Entry) → FitsBlob blob → keys ≡ bytes_of (placed blob) → entries ≡ entries_of (placed blob) → IsStrictlySortedBy by_bytes keys → IsIndexOf blob keys entries
+rising_index blob keys entries fits keys_are entries_are rising =
+    let paired : beside_entries keys entries ≡ pairs (placed blob) = rw (keys_are, entries_are) (beside_pairs (placed blob)) in
+    record {
+      rising = rising;
+      as_many = gathered_length blob keys entries keys_are entries_are;
+      each = λ spot named. ap (λ (es : List (List ℕ × Entry)). lookup (same_bytes (spot_bytes spot)) es) paired ∙ looked_up spot (placed blob) named (have_names blob fits);
+    }

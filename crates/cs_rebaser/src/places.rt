@@ -1,6 +1,6 @@
 //! The places of a blob's entries, and the entry of a place.
 
-ghost use Rattle.std.specs.Prelude.{◌≡◌, ◌++◌, ◌∷◌, [], length, map, None, Some, IfOk, IfErr, MatchOption, OnOk};
+ghost use Rattle.std.specs.Prelude.{◌≡◌, ◌<◌, ◌≤◌, ◌++◌, ◌∷◌, [], length, map, None, Some, IfOk, IfErr, MatchOption, OnOk};
 ghost use Rattle.std.specs.List.{flat_map};
 ghost use Rattle.std.specs.List.Sorted.{IsStrictlySortedBy};
 ghost use Rattle.std.specs.Map.{lookup};
@@ -13,7 +13,7 @@ ghost use Rattle.cs_rebaser.specs.Steps.{beside_entries, entry_of_group, spot_by
 
 use crate::faults::ConfigureFault;
 use cs_blob::{BlobGroup, Entry};
-use cs_normal::{Keys, put_record_key, read_marks};
+use cs_normal::{Keys, key_front, read_marks};
 use cs_order::{Groups, group_keys};
 use cs_value::Memory;
 use std::alloc::Global;
@@ -55,40 +55,47 @@ pub(crate) fn put_place(name: &str, key: &[u8], place: &mut Vec<u8>) -> Result<(
     place.extend_from_slice(key)
 }
 
-/// Puts an entry of a table behind the others, with its place.
-fn gather_entry<'a>(
-    name: &str,
-    marks: &[bool],
-    entry: &Entry<'a>,
-    place: &mut Vec<u8>,
-    index: &mut Index<'a>,
-) -> Result<(), Memory>
-    ensures places { OnOk result (index.new.places
-        ≡ index.old.places ++ spot_bytes (name.now, entry_key marks.now entry.now) ∷ []) }
-    ensures entries { OnOk result (index.new.entries.items ≡ index.old.entries.items ++ entry.now ∷ []) }
-{
-    put_name(name, place)?;
-    put_record_key(marks, &entry.fields, place)?;
-    index.places.push(place.as_slice())?;
-    index.entries.push(again(entry))?;
-    Ok(())
-}
-
 /// Puts the entries of a group behind the others, with their places.
 fn gather_group<'a>(
     alloc: Global,
     group: &BlobGroup<'a>,
-    place: &mut Vec<u8>,
+    name: &mut Vec<u8>,
     index: &mut Index<'a>,
 ) -> Result<(), Memory>
     ensures places { OnOk result (index.new.places ≡ index.old.places ++ spots_in group.now) }
     ensures entries { OnOk result (index.new.entries.items ≡ index.old.entries.items ++ group.now.entries) }
 {
+    put_name(group.name.as_str(), name)?;
     let marks = read_marks(alloc, group.marks.as_slice())?;
+    let key_marks = key_front(marks.as_slice());
     for entry in group.entries.as_slice() {
-        gather_entry(group.name.as_str(), marks.as_slice(), entry, place, index)?;
+        index.places.push_behind(name.as_slice(), key_marks, &entry.fields)?;
+        index.entries.push(again(entry))?;
     }
     Ok(())
+}
+
+/// How many bytes the places of a group's entries take at most: a key takes no more than the record that holds it. It says
+/// how much room to take, and is no part of a result.
+fn group_room(group: &BlobGroup<'_>) -> usize {
+    let front = group.name.as_str().len().saturating_add(1);
+    let mut room = 0usize;
+    for entry in group.entries.as_slice() {
+        room = room.saturating_add(entry.fields.bytes().len()).saturating_add(front);
+    }
+    room
+}
+
+/// How many entries there are, and how many bytes their places take at most. It says how much room to take, and is no
+/// part of a result.
+fn room_of(groups: &[BlobGroup<'_>]) -> (usize, usize) {
+    let mut entries = 0usize;
+    let mut bytes = 0usize;
+    for group in groups {
+        entries = entries.saturating_add(group.entries.as_slice().len());
+        bytes = bytes.saturating_add(group_room(group));
+    }
+    (entries, bytes)
 }
 
 /// The entries of all groups in their order, and their places.
@@ -96,13 +103,14 @@ fn gather<'a>(alloc: Global, groups: &[BlobGroup<'a>]) -> Result<Index<'a>, Memo
     ensures places { IfOk result (λ index. index.places ≡ flat_map spots_in groups.now) }
     ensures entries { IfOk result (λ index. index.entries.items ≡ flat_map (λ group. group.entries) groups.now) }
 {
-    let mut place = Vec::new(alloc);
+    let (entries, bytes) = room_of(groups);
+    let mut name = Vec::new(alloc);
     let mut index = Index {
-        places: Keys::new(alloc),
-        entries: Vec::new(alloc),
+        places: Keys::with_capacity(alloc, entries, bytes)?,
+        entries: Vec::with_capacity(alloc, entries)?,
     };
     for group in groups {
-        gather_group(alloc, group, &mut place, &mut index)?;
+        gather_group(alloc, group, &mut name, &mut index)?;
     }
     Ok(index)
 }
@@ -143,7 +151,8 @@ fn in_order<'a>(alloc: Global, from: &Index<'a>, groups: &Groups) -> Result<Inde
     Ok(index)
 }
 
-/// The entry of each place of a blob, in the order of the places.
+/// The entry of each place of a blob, in the order of the places. Where they stand in that order already, as in a blob that
+/// applying a changeset in normal form leaves, they are put in no order.
 pub(crate) fn index_of<'a>(
     alloc: Global,
     groups: &[BlobGroup<'a>],
@@ -155,6 +164,9 @@ pub(crate) fn index_of<'a>(
 {
     cs_order::laws::orders();
     let gathered = gather(alloc, groups)?;
+    if gathered.places.rise() {
+        return Ok(gathered);
+    }
     let slices = gathered.places.slices(alloc)?;
     let grouped = group_keys(alloc, slices.as_slice())?;
     if grouped.has_twins() {
@@ -163,8 +175,30 @@ pub(crate) fn index_of<'a>(
     Ok(in_order(alloc, &gathered, &grouped)?)
 }
 
-/// The entry of the place with these bytes, found by halves.
-pub(crate) fn entry_in<'b, 'a>(index: &'b Index<'a>, place: &[u8]) -> Option<&'b Entry<'a>>
+/// The place so many steps behind the lowest, or the middle where that is nearer.
+fn at_from_low(low: usize, high: usize, step: usize) -> usize
+    requires { low ≤ high }
+    ensures { low < high → (low ≤ result) × (result < high) }
+{
+    low + step.min((high - low) / 2)
+}
+
+/// The place so many steps before the highest, or the middle where that is nearer.
+fn at_from_high(low: usize, high: usize, step: usize) -> usize
+    requires { low ≤ high }
+    ensures { low < high → (low ≤ result) × (result < high) }
+{
+    let middle = low + (high - low) / 2;
+    middle.max(high.saturating_sub(step).saturating_sub(1))
+}
+
+/// The entry of the place with these bytes. The search begins where the last one ended, since places that are sought rise;
+/// it goes on from there in growing steps, and then by halves.
+pub(crate) fn entry_in<'b, 'a>(
+    index: &'b Index<'a>,
+    place: &[u8],
+    near: &mut usize,
+) -> Option<&'b Entry<'a>>
     requires rising { IsStrictlySortedBy by_bytes index.now.places }
     requires as_many { length index.now.places ≡ length index.now.entries.items }
     ensures { MatchOption result
@@ -174,13 +208,26 @@ pub(crate) fn entry_in<'b, 'a>(index: &'b Index<'a>, place: &[u8]) -> Option<&'b
 {
     let mut low = 0;
     let mut high = index.places.len();
+    let mut at = (*near).min(high.saturating_sub(1));
+    let mut next_step = 0usize;
     while low < high {
-        let middle = low + (high - low) / 2;
-        match index.places.get(middle).cmp(place) {
-            Ordering::Less => low = middle + 1,
-            Ordering::Greater => high = middle,
-            Ordering::Equal => return Some(&index.entries[middle]),
+        let step = next_step;
+        next_step = step.saturating_mul(2).saturating_add(1);
+        match index.places.get(at).cmp(place) {
+            Ordering::Less => {
+                low = at + 1;
+                at = at_from_low(low, high, step);
+            }
+            Ordering::Greater => {
+                high = at;
+                at = at_from_high(low, high, step);
+            }
+            Ordering::Equal => {
+                *near = at + 1;
+                return Some(&index.entries[at]);
+            }
         }
     }
+    *near = low;
     None
 }

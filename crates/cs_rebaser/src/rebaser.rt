@@ -62,13 +62,13 @@ impl<'a> Rebaser<'a> {
         }
     }
 
-    /// The entry of the place with these bytes.
-    pub(crate) fn entry(&self, place: &[u8]) -> Option<&Entry<'a>>
+    /// The entry of the place with these bytes, sought from where the last search ended.
+    pub(crate) fn entry(&self, place: &[u8], near: &mut usize) -> Option<&Entry<'a>>
         ensures { (spot : Spot) → HasNoZero spot.0 → place.now ≡ spot_bytes spot
             → MatchOption result (entry_at spot (placed self.now) ≡ None)
             (λ entry. entry_at spot (placed self.now) ≡ Some entry.now) }
     {
-        entry_in(&self.index, place)
+        entry_in(&self.index, place, near)
     }
 
     /// The local changeset over the blob, change by change: it says of the tables as the remote changeset left them what

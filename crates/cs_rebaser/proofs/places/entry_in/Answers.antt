@@ -16,6 +16,7 @@ loop-low-init c =
     record {
       within = omega arith;
       high = omega (arith, c.len-high.ensures);
+      at = λ some. (omega arith, omega (arith, some, c.min-at.ensures, c.saturating_sub.ensures));
       below = λ j e before got. absurd (omega (arith, before));
       above = past_end (beside_entries places entries) c.args.place.now _ (omega (arith, c.len-high.ensures, beside_length places entries c.requires.as_many));
     }
@@ -27,9 +28,10 @@ loop-low-preserved-in-Less c =
     let entries = c.args.index.now.entries.items in
     let same = beside_keys places entries c.requires.as_many in
     record {
-      within = omega (arith, c.loop-low-test.true);
+      within = omega (arith, i.at c.loop-low-test.true);
       high = i.high;
-      below = below_more (beside_entries places entries) c.args.place.now c.get.result.now _ (rw same c.requires.rising) (omega (arith, c.loop-low-test.true, i.high, beside_length places entries c.requires.as_many)) (rw same c.get.ensures) (sym c.cmp.ensures ∙ c.in-Less.is);
+      at = c.at_from_low-at.ensures;
+      below = below_more (beside_entries places entries) c.args.place.now c.get.result.now _ (rw same c.requires.rising) (omega (arith, (i.at c.loop-low-test.true).1, i.high, beside_length places entries c.requires.as_many)) (rw same c.get.ensures) (sym c.cmp.ensures ∙ c.in-Less.is);
       above = i.above;
     }
 
@@ -40,8 +42,9 @@ loop-low-preserved c =
     let entries = c.args.index.now.entries.items in
     let same = beside_keys places entries c.requires.as_many in
     record {
-      within = omega (arith, c.loop-low-test.true);
-      high = omega (arith, c.loop-low-test.true, i.high);
+      within = omega (arith, i.at c.loop-low-test.true);
+      high = omega (arith, (i.at c.loop-low-test.true).1, i.high);
+      at = c.at_from_high-at.ensures;
       below = i.below;
       above = above_there (beside_entries places entries) c.args.place.now c.get.result.now _ (rw same c.get.ensures) (sym c.cmp.ensures ∙ c.in-Greater.is);
     }
@@ -52,9 +55,9 @@ returns-in-Equal c =
     let places = c.args.index.now.places in
     let entries = c.args.index.now.entries.items in
     let same = beside_keys places entries c.requires.as_many in
-    let middle : ℕ = c.loop-low.low + (c.loop-low.high - c.loop-low.low) / 2 in
-    let is : slice_get (values_of (beside_entries places entries)) middle ≡ lookup (same_bytes c.args.place.now) (beside_entries places entries) = found (beside_entries places entries) c.args.place.now c.get.result.now middle (rw same c.requires.rising) (omega (arith, c.loop-low-test.true, i.high, beside_length places entries c.requires.as_many)) (rw same c.get.ensures) (sym c.cmp.ensures ∙ c.in-Equal.is) in
-    let there : slice_get entries middle ≡ Some c.index.result.now = slice_get-get_or entries middle c.index.result.now (omega (arith, c.loop-low-test.true, i.high, c.requires.as_many)) ∙ ap (λ (e : Entry). Some e) (sym c.index.ensures) in
+    let middle : ℕ = c.loop-low.at in
+    let is : slice_get (values_of (beside_entries places entries)) middle ≡ lookup (same_bytes c.args.place.now) (beside_entries places entries) = found (beside_entries places entries) c.args.place.now c.get.result.now middle (rw same c.requires.rising) (omega (arith, (i.at c.loop-low-test.true).1, i.high, beside_length places entries c.requires.as_many)) (rw same c.get.ensures) (sym c.cmp.ensures ∙ c.in-Equal.is) in
+    let there : slice_get entries middle ≡ Some c.index.result.now = slice_get-get_or entries middle c.index.result.now (omega (arith, (i.at c.loop-low-test.true).1, i.high, c.requires.as_many)) ∙ ap (λ (e : Entry). Some e) (sym c.index.ensures) in
     sym is ∙ ap (λ (es : List Entry). slice_get es middle) (beside_values places entries c.requires.as_many) ∙ there
 
 pub returns : goal.returns

@@ -1,4 +1,4 @@
-use Rattle.std.proofs.Common.{◌-◌, ◌≤◌, length}
+use Rattle.std.proofs.Common.{◌-◌, ◌<◌, ◌≤◌, length}
 use Rattle.cs_rebaser.specs.Steps.{beside_entries}
 use Rattle.cs_rebaser.proofs.Halves.{AreBelow, IsAbove}
 use Rattle.cs_rebaser.proofs.places.entry_in.Given as goal
@@ -9,6 +9,7 @@ invariant-loop-low l =
     record {
       within : l.low ≤ l.high;
       high : l.high ≤ length l.index.places;
+      at : l.low < l.high → (l.low ≤ l.at) × (l.at < l.high);
       below : AreBelow entries l.place l.low;
       above : IsAbove entries l.place l.high;
     }

@@ -1,13 +1,23 @@
-use Rattle.std.proofs.Common.{◌≡◌, List, sym, ap, length, ◌∙◌}
-use Rattle.std.proofs.lemmas.List.{length-map}
+use Rattle.std.proofs.Common.{◌≡◌, refl, ap, ◌∙◌}
+use Rattle.std.proofs.lemmas.Map.Keys.{IsDistinct-from_sorted}
 use Rattle.cs_order.specs.Groups.{HasNoTwins, HasTwins}
-use Rattle.cs_order.specs.Order.{Keys, keys_behind}
-use Rattle.cs_blob.specs.declared.blob.Entry.{Entry}
-use Rattle.cs_rebaser.specs.Rebased.{Placed, placed}
-use Rattle.cs_rebaser.specs.Steps.{spot_bytes}
-use Rattle.cs_rebaser.proofs.Indexes.{is_index}
+use Rattle.cs_order.specs.Order.{by_bytes, keys_behind}
+use Rattle.cs_rebaser.specs.Rebased.{placed}
+use Rattle.cs_rebaser.proofs.Indexes.{gathered_length, is_index, rising_index}
 use Rattle.cs_rebaser.proofs.Placed.{bytes_of, each_once, gathered_entries, gathered_places, not_once}
 use Rattle.cs_rebaser.proofs.places.index_of.Goals as goal
+
+pub returns-then-rise-clause-index : goal.returns-then-rise-clause-index
+returns-then-rise-clause-index c =
+    let blob = c.args.groups.now in
+    let gathered = c.in_ok-gathered.gathered in
+    rising_index blob gathered.places gathered.entries.items c.requires (c.in_ok-gathered.ensures.places ∙ gathered_places blob) (c.in_ok-gathered.ensures.entries ∙ gathered_entries blob) (c.if-rise.ensures.0 refl)
+
+pub returns-then-rise-clause-once : goal.returns-then-rise-clause-once
+returns-then-rise-clause-once c =
+    let blob = c.args.groups.now in
+    let keys = c.in_ok-gathered.gathered.places in
+    each_once blob keys c.requires (c.in_ok-gathered.ensures.places ∙ gathered_places blob) (IsDistinct-from_sorted by_bytes keys (c.if-rise.ensures.0 refl))
 
 pub returns-then-has_twins-clause-fault : goal.returns-then-has_twins-clause-fault
 returns-then-has_twins-clause-fault c =
@@ -20,9 +30,8 @@ returns-then-has_twins-clause-fault c =
 pub in_order-requires : goal.in_order-requires
 in_order-requires c =
     let blob = c.args.groups.now in
-    let places = ap (λ (ks : Keys). length ks) (c.in_ok-gathered.ensures.places ∙ gathered_places blob) ∙ length-map (placed blob) (λ (p : Placed). spot_bytes p.0) in
-    let entries = ap (λ (es : List Entry). length es) (c.in_ok-gathered.ensures.entries ∙ gathered_entries blob) ∙ length-map (placed blob) (λ (p : Placed). p.1) in
-    record { beside = places ∙ sym entries }
+    let gathered = c.in_ok-gathered.gathered in
+    record { beside = gathered_length blob gathered.places gathered.entries.items (c.in_ok-gathered.ensures.places ∙ gathered_places blob) (c.in_ok-gathered.ensures.entries ∙ gathered_entries blob) }
 
 pub returns-clause-index : goal.returns-clause-index
 returns-clause-index c =
