@@ -30,7 +30,7 @@ impl<'a> Model for Rebaser<'a> {
     ghost view = { λ rebaser. rebaser.blob };
 
     ghost invariant = { λ rebaser. FitsBlob rebaser.blob × HasEachOnce rebaser.blob
-        × IsIndexOf rebaser.blob rebaser.index.places rebaser.index.entries.items };
+        × IsIndexOf rebaser.blob rebaser.index.places rebaser.index.entries.items rebaser.index.order.items };
 }
 
 impl<'a> Rebaser<'a> {
