@@ -73,9 +73,7 @@ pub(crate) fn push_over(
             new_fields,
         } => {
             if !entry.deleted {
-                return push_update_over(
-                    *flag, marks, old_fields, new_fields, entry, scratch, out,
-                );
+                return push_update_over(*flag, marks, old_fields, new_fields, entry, scratch, out);
             }
             match whole_row(&entry.fields) {
                 None => out.push(change),

@@ -70,7 +70,9 @@ fn gather_group<'a>(
     let marks = read_marks(alloc, group.marks.as_slice())?;
     let key_marks = key_front(marks.as_slice());
     for entry in group.entries.as_slice() {
-        index.places.push_behind(name.as_slice(), key_marks, &entry.fields)?;
+        index
+            .places
+            .push_behind(name.as_slice(), key_marks, &entry.fields)?;
         index.entries.push(again(entry))?;
     }
     Ok(())
@@ -82,7 +84,9 @@ fn group_room(group: &BlobGroup<'_>) -> usize {
     let front = group.name.as_str().len().saturating_add(1);
     let mut room = 0usize;
     for entry in group.entries.as_slice() {
-        room = room.saturating_add(entry.fields.bytes().len()).saturating_add(front);
+        room = room
+            .saturating_add(entry.fields.bytes().len())
+            .saturating_add(front);
     }
     room
 }

@@ -1,10 +1,9 @@
-use Rattle.std.proofs.Common.{◌≡◌, refl, ap, ◌∙◌}
+use Rattle.std.proofs.Common.{refl, ◌∙◌}
 use Rattle.std.proofs.lemmas.Map.Keys.{IsDistinct-from_sorted}
 use Rattle.cs_order.specs.Groups.{HasNoTwins, HasTwins}
 use Rattle.cs_order.specs.Order.{by_bytes}
-use Rattle.cs_rebaser.specs.Rebased.{placed}
 use Rattle.cs_rebaser.proofs.Indexes.{is_index, rising_index}
-use Rattle.cs_rebaser.proofs.Placed.{bytes_of, each_once, gathered_entries, gathered_places, not_once}
+use Rattle.cs_rebaser.proofs.Placed.{each_once, gathered_entries, gathered_places, not_once}
 use Rattle.cs_rebaser.proofs.places.index_of.Goals as goal
 
 pub returns-then-rise-clause-index : goal.returns-then-rise-clause-index
