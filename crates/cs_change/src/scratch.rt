@@ -1,11 +1,13 @@
 //! Room for a change that is made.
 
 ghost use Rattle.std.specs.Prelude.{◌≡◌, ◌++◌, ◌∷◌, [], OnOk, OnErr};
-ghost use Rattle.cs_change.specs.declared.change.Change.TheVariants.{Update};
+ghost use Rattle.cs_change.specs.Columns.{set_columns};
+ghost use Rattle.cs_change.specs.declared.change.Change.TheVariants.{Insert, Delete, Update};
 
+use crate::applying::put_set_columns;
 use crate::change::Change;
 use crate::changes_buf::ChangesBuf;
-use cs_record::{RecordBuf, RowBuf};
+use cs_record::{Record, RecordBuf, Row, RowBuf};
 use cs_value::Memory;
 use std::alloc::Global;
 
@@ -43,5 +45,36 @@ impl Scratch {
             old_fields,
             new_fields,
         })
+    }
+    /// Appends the INSERT of the row with the fields in it, which is made here.
+    pub fn push_set_insert(
+        &mut self,
+        flag: bool,
+        fields: &Record<'_>,
+        row: &Row<'_>,
+        out: &mut ChangesBuf,
+    ) -> Result<(), Memory>
+        ensures { OnOk result (out.new ≡ out.old ++ Insert flag (set_columns fields.now row.now) ∷ []) }
+    {
+        self.row.clear();
+        put_set_columns(fields, row, &mut self.row)?;
+        let new_row = self.row.as_row();
+        out.push(&Change::Insert { flag, new_row })
+    }
+
+    /// Appends the DELETE of the row with the fields in it, which is made here.
+    pub fn push_set_delete(
+        &mut self,
+        flag: bool,
+        fields: &Record<'_>,
+        row: &Row<'_>,
+        out: &mut ChangesBuf,
+    ) -> Result<(), Memory>
+        ensures { OnOk result (out.new ≡ out.old ++ Delete flag (set_columns fields.now row.now) ∷ []) }
+    {
+        self.row.clear();
+        put_set_columns(fields, row, &mut self.row)?;
+        let old_row = self.row.as_row();
+        out.push(&Change::Delete { flag, old_row })
     }
 }

@@ -103,6 +103,28 @@ fn one_change(rt: HostRuntime) -> Result<(), Fail> {
     Ok(())
 }
 
+/// The row (1, 'v1') with 'v2' in its second column.
+#[test]
+fn changes_made_of_a_row(rt: HostRuntime) -> Result<(), Fail> {
+    let alloc = rt.alloc();
+    let made: [u8; 30] = [
+        0x12, 1, 1, 0, 0, 0, 0, 0, 0, 0, 1, 3, 2, 0x76, 0x32, 9, 0, 1, 0, 0, 0, 0, 0, 0, 0, 1, 3,
+        2, 0x76, 0x32,
+    ];
+    let (Some(Change::Insert { new_row, .. }), Some(Change::Update { new_fields, .. })) = (
+        change_of(&INSERT, 2),
+        change_of(&UPDATE, 2),
+    ) else {
+        panic!(rt; "no change was read");
+    };
+    let mut scratch = Scratch::new(alloc);
+    let mut changes = ChangesBuf::new(alloc);
+    scratch.push_set_insert(true, &new_fields, &new_row, &mut changes)?;
+    scratch.push_set_delete(false, &new_fields, &new_row, &mut changes)?;
+    assert_eq!(rt; changes.spelling(), &made[..]);
+    Ok(())
+}
+
 #[test]
 fn changes_that_own_their_bytes(rt: HostRuntime) -> Result<(), Fail> {
     let alloc = rt.alloc();

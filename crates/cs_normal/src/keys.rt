@@ -3,13 +3,15 @@
 ghost use Rattle.std.specs.Prelude.{◌≡◌, ◌++◌, ◌∷◌, [], length, IfOk, OnOk, OnErr};
 ghost use Rattle.std.specs.List.{All};
 ghost use Rattle.cs_normal.specs.Keyed.{IsSpotIn, keys_in};
-ghost use Rattle.cs_normal.specs.NormalForm.{has_key};
+ghost use Rattle.cs_normal.specs.Changes.{key_bytes};
+ghost use Rattle.cs_normal.specs.NormalForm.{has_key, marked_fields};
 ghost use Rattle.cs_normal.specs.Steps.Lent.{key_if_set};
 ghost use Rattle.cs_normal.specs.Steps.Rising.{ascend};
 
 use crate::comparing::same_bytes;
-use crate::key_of_change::put_key;
+use crate::key_of_change::{put_key, put_record_key};
 use cs_change::Change;
+use cs_record::Record;
 use cs_value::Memory;
 use std::alloc::{AllocError, Global};
 use std::cmp::Ordering;
@@ -84,6 +86,38 @@ fn put_of(
     Ok(whole)
 }
 
+/// Appends these bytes and behind them the key that a record holds, as one key. An `Err` leaves no key.
+#[inline(always)]
+fn put_behind(
+    bytes: &mut Vec<u8>,
+    spots: &mut Vec<(usize, usize)>,
+    front: &[u8],
+    marks: &[bool],
+    fields: &Record<'_>,
+) -> Result<(), Memory>
+    requires { All (IsSpotIn (length bytes.old.items)) spots.old.items }
+    ensures within { All (IsSpotIn (length bytes.new.items)) spots.new.items }
+    ensures ok { OnOk result (keys_in bytes.new.items spots.new.items
+        ≡ keys_in bytes.old.items spots.old.items
+        ++ (front.now ++ key_bytes (marked_fields marks.now fields.now)) ∷ []) }
+    ensures err { OnErr result (keys_in bytes.new.items spots.new.items ≡ []) }
+{
+    let start = bytes.len();
+    let Ok(_) = bytes.extend_from_slice(front) else {
+        spots.clear();
+        return Err(AllocError);
+    };
+    let Ok(_) = put_record_key(marks, fields, bytes) else {
+        spots.clear();
+        return Err(AllocError);
+    };
+    let Ok(_) = spots.push((start, bytes.len())) else {
+        spots.clear();
+        return Err(AllocError);
+    };
+    Ok(())
+}
+
 /// Whether the key at each spot is below that at the next.
 #[tactic(auto, unfolding(crate::specs::Steps::Rising::ascend, crate::specs::Steps::Rising::ascend_from))]
 fn spots_rise(bytes: &[u8], spots: &[(usize, usize)]) -> bool
@@ -109,9 +143,10 @@ fn spots_rise(bytes: &[u8], spots: &[(usize, usize)]) -> bool
 impl Keys {
     ghost use Rattle.std.specs.Prelude.{◌≡◌, ◌↔◌, IsTrue, ◌++◌, ◌∷◌, [], ◌<◌, length, IfOk, OnOk, OnErr, slice_index_or};
     ghost use Rattle.cs_order.specs.Order.{keys_behind};
-    ghost use Rattle.cs_normal.specs.NormalForm.{has_key};
+    ghost use Rattle.std.specs.List.Sorted.{IsStrictlySortedBy};
+    ghost use Rattle.cs_normal.specs.Changes.{by_bytes, key_bytes};
+    ghost use Rattle.cs_normal.specs.NormalForm.{has_key, marked_fields};
     ghost use Rattle.cs_normal.specs.Steps.Lent.{key_if_set};
-    ghost use Rattle.cs_normal.specs.Steps.Rising.{ascend};
 
     /// No key.
     pub fn new(alloc: Global) -> Keys
@@ -134,7 +169,7 @@ impl Keys {
     }
 
     /// No key, with room for as many as these.
-    pub(crate) fn with_room_for(alloc: Global, keys: &Keys) -> Result<Keys, Memory>
+    pub fn with_room_for(alloc: Global, keys: &Keys) -> Result<Keys, Memory>
         ensures { IfOk result (λ made. made ≡ []) }
     {
         Keys::with_capacity(alloc, keys.spots.len(), keys.bytes.len())
@@ -195,6 +230,21 @@ impl Keys {
         put_of(&mut self.bytes, &mut self.spots, marks, change)
     }
 
+    /// Appends these bytes and behind them the bytes of the key that a record holds, as one key. An `Err` leaves no key.
+    #[inline(always)]
+    pub fn push_behind(
+        &mut self,
+        front: &[u8],
+        marks: &[bool],
+        fields: &Record<'_>,
+    ) -> Result<(), Memory>
+        ensures ok { OnOk result (self.new
+            ≡ self.old ++ (front.now ++ key_bytes (marked_fields marks.now fields.now)) ∷ []) }
+        ensures err { OnErr result (self.new ≡ []) }
+    {
+        put_behind(&mut self.bytes, &mut self.spots, front, marks, fields)
+    }
+
     /// Whether two lists hold the same keys in the same order.
     pub fn same(&self, other: &Keys) -> bool
         ensures { IsTrue result ↔ (self.now ≡ other.now) }
@@ -212,9 +262,10 @@ impl Keys {
         true
     }
 
-    /// Whether each key is below the next.
-    pub(crate) fn rise(&self) -> bool
-        ensures { result ≡ ascend self.now }
+    /// Whether each key is below the next, in the order of their bytes.
+    #[tactic(auto, using(crate::proofs::Rising::ascend_tells))]
+    pub fn rise(&self) -> bool
+        ensures { IsTrue result ↔ IsStrictlySortedBy by_bytes self.now }
     {
         spots_rise(self.bytes.as_slice(), self.spots.as_slice())
     }

@@ -23,7 +23,7 @@ mod writing;
 
 pub use groups::{normalise, same_shape};
 pub use headers::{HeaderFault, catalog_of, read_marks};
-pub use key_of_change::{put_key, put_record_key};
+pub use key_of_change::{key_front, put_key, put_record_key};
 pub use keyed_changes::KeyedChanges;
 pub use keys::Keys;
 
@@ -32,7 +32,7 @@ pub mod laws;
 pub use normal::{Normal, TableChanges};
 pub use one_form::lend_form;
 pub use table_form::{gather_all_keys, lend_changes};
-pub use tables::{changes_of, push_table};
+pub use tables::{changes_of, push_named, push_table};
 pub use unfit::Unfit;
 
 #[cfg(test)]

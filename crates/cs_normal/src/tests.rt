@@ -3,6 +3,7 @@
 use super::*;
 use cs_change::{Change, Changeset, Group};
 use cs_changeset::read;
+use cs_record::read_record;
 use cs_value::{Catalog, Items, Memory, TableDef, Text, Value};
 use std::alloc::{AllocError, Global};
 use std::test::Fail;
@@ -331,5 +332,24 @@ fn changes_are_counted_and_found(rt: HostRuntime) -> Result<(), Fail> {
         let found = normal.change(alloc, name, &key)?;
         assert_eq!(rt; matches!(found, Some(Change::Insert { .. })), there);
     }
+    Ok(())
+}
+
+#[test]
+fn keys_of_a_record(rt: HostRuntime) -> Result<(), Fail> {
+    let alloc = rt.alloc();
+    let bytes = [0, 3, 1, 0x61, 3, 1, 0x62];
+    let (fields, _) = read_record(&bytes, 3)?;
+    assert_eq!(rt; key_front(&[false, true, false]), &[false, true][..]);
+    let mut expected = Keys::new(alloc);
+    expected.push(&[7, 3, 1, 0x61])?;
+    expected.push(&[7, 5, 3, 1, 0x62])?;
+    let mut keys = Keys::with_room_for(alloc, &expected)?;
+    keys.push_behind(&[7], &[false, true], &fields)?;
+    keys.push_behind(&[7], &[true, false, true], &fields)?;
+    assert!(rt; keys.same(&expected));
+    assert!(rt; keys.rise());
+    keys.push(&[7, 5])?;
+    assert!(rt; !keys.rise());
     Ok(())
 }

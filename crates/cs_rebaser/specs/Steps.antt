@@ -1,8 +1,8 @@
 -- What the code holds on its way: no definition that a public clause cites.
-use Rattle.std.specs.Prelude.{◌≡◌, ◌≢◌, ℕ, Bool, List, [], ◌∷◌, ◌++◌, map, length, Contains, Option, Some, None, slice_get}
-use Rattle.std.specs.List.{AllByRecursion}
+use Rattle.std.specs.Prelude.{◌≡◌, ◌≢◌, ◌<◌, ℕ, Bool, List, [], ◌∷◌, ◌++◌, map, length, Contains, Option, Some, None, slice_get}
+use Rattle.std.specs.List.{All, AllByRecursion, flat_map}
 use Rattle.std.specs.List.Sorted.{IsStrictlySortedBy}
-use Rattle.std.specs.Map.{lookup}
+use Rattle.std.specs.Map.{keys_of, lookup}
 use Rattle.cs_order.specs.Order.{Keys, by_bytes, same_bytes, key_at}
 use Rattle.cs_change.specs.Spelling.{marks_of}
 use Rattle.cs_change.specs.declared.change.Change.{Change}
@@ -20,37 +20,40 @@ spot_bytes spot = spot.0 ++ 0 ∷ spot.1
 abbrev pub spots_in : BlobGroup → Keys
 spots_in group = map (λ entry. spot_bytes (group.name, entry_key (marks_of group.marks) entry)) group.entries
 
--- places and entries, side by side
-abbrev pub beside_entries : Keys → List Entry → List (List ℕ × Entry)
-beside_entries [] entries = []
-beside_entries (k ∷ keys) [] = []
-beside_entries (k ∷ keys) (e ∷ entries) = (k, e) ∷ beside_entries keys entries
-
 -- a name that a zero byte ends
 abbrev pub HasNoZero : List ℕ → Type 0
 HasNoZero name = AllByRecursion (λ byte. byte ≢ 0) name
-
--- the places in the order of their bytes, and the entry of each: whatever is looked up is found there
-pub record IsIndexOf (blob : List BlobGroup) (places : Keys) (entries : List Entry) : Type 0 where
-  pub rising : IsStrictlySortedBy by_bytes places
-  pub as_many : length places ≡ length entries
-  pub each : (spot : Spot) → HasNoZero spot.0
-      → lookup (same_bytes (spot_bytes spot)) (beside_entries places entries) ≡ entry_at spot (placed blob)
-
--- what is left of the change there, behind its key
-abbrev pub rebased_if_any : List BlobGroup → List ℕ → List Bool → Option (List ℕ × Change) → Changes
-rebased_if_any blob name marks None = []
-rebased_if_any blob name marks (Some keyed) = rebased_keyed blob name marks keyed
 
 -- a value, if there is one, behind a key
 abbrev pub behind : {X : Type 0} → List ℕ → Option X → List (List ℕ × X)
 behind key None = []
 behind key (Some x) = (key, x) ∷ []
 
--- the first of the places of a key, with its entry
-abbrev pub entry_of_group : Keys → List Entry → List ℕ → List (List ℕ × Entry)
-entry_of_group keys entries [] = []
-entry_of_group keys entries (place ∷ others) = behind (key_at keys place) (slice_get entries place)
+-- the entry there behind its place, if there is one
+abbrev pub placed_entry : Keys → List Entry → ℕ → List (List ℕ × Entry)
+placed_entry places entries at = behind (key_at places at) (slice_get entries at)
+
+-- the entries in this order, each behind its place
+abbrev pub ordered_entries : Keys → List Entry → List ℕ → List (List ℕ × Entry)
+ordered_entries places entries order = flat_map (placed_entry places entries) order
+
+-- the first of some numbers, if there is one
+abbrev pub first_of : List ℕ → List ℕ
+first_of [] = []
+first_of (at ∷ others) = at ∷ []
+
+-- places and entries side by side, and the order of the places: whatever is looked up in it is found there
+pub record IsIndexOf (blob : List BlobGroup) (places : Keys) (entries : List Entry) (order : List ℕ) : Type 0 where
+  pub within : All (λ at. at < length entries) order
+  pub as_many : length places ≡ length entries
+  pub rising : IsStrictlySortedBy by_bytes (keys_of (ordered_entries places entries order))
+  pub each : (spot : Spot) → HasNoZero spot.0
+      → lookup (same_bytes (spot_bytes spot)) (ordered_entries places entries order) ≡ entry_at spot (placed blob)
+
+-- what is left of the change there, behind its key
+abbrev pub rebased_if_any : List BlobGroup → List ℕ → List Bool → Option (List ℕ × Change) → Changes
+rebased_if_any blob name marks None = []
+rebased_if_any blob name marks (Some keyed) = rebased_keyed blob name marks keyed
 
 -- a table has the name of the group, and another shape
 abbrev pub HasTableOfOtherShape : BlobGroup → List TableChanges → Type 0

@@ -30,7 +30,7 @@ impl<'a> Model for Rebaser<'a> {
     ghost view = { λ rebaser. rebaser.blob };
 
     ghost invariant = { λ rebaser. FitsBlob rebaser.blob × HasEachOnce rebaser.blob
-        × IsIndexOf rebaser.blob rebaser.index.places rebaser.index.entries.items };
+        × IsIndexOf rebaser.blob rebaser.index.places rebaser.index.entries.items rebaser.index.order.items };
 }
 
 impl<'a> Rebaser<'a> {
@@ -62,13 +62,13 @@ impl<'a> Rebaser<'a> {
         }
     }
 
-    /// The entry of the place with these bytes.
-    pub(crate) fn entry(&self, place: &[u8]) -> Option<&Entry<'a>>
+    /// The entry of the place with these bytes, sought from where the last search ended.
+    pub(crate) fn entry(&self, place: &[u8], near: &mut usize) -> Option<&Entry<'a>>
         ensures { (spot : Spot) → HasNoZero spot.0 → place.now ≡ spot_bytes spot
             → MatchOption result (entry_at spot (placed self.now) ≡ None)
             (λ entry. entry_at spot (placed self.now) ≡ Some entry.now) }
     {
-        entry_in(&self.index, place)
+        entry_in(&self.index, place, near)
     }
 
     /// The local changeset over the blob, change by change: it says of the tables as the remote changeset left them what

@@ -39,9 +39,10 @@ const B2: [u8; 4] = [3, 2, 0x62, 0x32];
 
 const C2: [u8; 4] = [3, 2, 0x63, 0x32];
 
-const D0: [u8; 4] = [3, 2, 0x64, 0x30];
+/// The text of the last column of t2, before and after the local change.
+const LAST_BEFORE: [u8; 4] = [3, 2, 0x64, 0x30];
 
-const D1: [u8; 4] = [3, 2, 0x64, 0x31];
+const LAST_AFTER: [u8; 4] = [3, 2, 0x64, 0x31];
 
 /// The first bytes of changes and entries, with the flag or the answer.
 const INSERT: [u8; 2] = [0x12, 0];
@@ -124,17 +125,57 @@ fn one_change_over_one_entry(rt: HostRuntime) -> Result<(), Fail> {
             &[],
         ),
         (
-            &[&H2, &UPDATE, &K1, &B0, &NONE, &D0, &NONE, &B1, &NONE, &D1],
+            &[
+                &H2,
+                &UPDATE,
+                &K1,
+                &B0,
+                &NONE,
+                &LAST_BEFORE,
+                &NONE,
+                &B1,
+                &NONE,
+                &LAST_AFTER,
+            ],
             &[&H2, &OMIT, &K1, &B2, &NONE, &NONE],
-            &[&H2, &UPDATE, &K1, &B2, &NONE, &D0, &NONE, &B1, &NONE, &D1],
+            &[
+                &H2,
+                &UPDATE,
+                &K1,
+                &B2,
+                &NONE,
+                &LAST_BEFORE,
+                &NONE,
+                &B1,
+                &NONE,
+                &LAST_AFTER,
+            ],
         ),
         (
             &[
-                &H2, &UPDATE, &K1, &NONE, &NONE, &D0, &NONE, &NONE, &NONE, &D1,
+                &H2,
+                &UPDATE,
+                &K1,
+                &NONE,
+                &NONE,
+                &LAST_BEFORE,
+                &NONE,
+                &NONE,
+                &NONE,
+                &LAST_AFTER,
             ],
             &[],
             &[
-                &H2, &UPDATE, &K1, &NONE, &NONE, &D0, &NONE, &NONE, &NONE, &D1,
+                &H2,
+                &UPDATE,
+                &K1,
+                &NONE,
+                &NONE,
+                &LAST_BEFORE,
+                &NONE,
+                &NONE,
+                &NONE,
+                &LAST_AFTER,
             ],
         ),
         (
@@ -204,13 +245,64 @@ fn entries_of_other_places(rt: HostRuntime) -> Result<(), Fail> {
         ),
         // Of two tables one is left.
         (
-            &[&H1, &DELETE, &K1, &V1, &H2, &INSERT, &K1, &B0, &C2, &D0],
+            &[
+                &H1,
+                &DELETE,
+                &K1,
+                &V1,
+                &H2,
+                &INSERT,
+                &K1,
+                &B0,
+                &C2,
+                &LAST_BEFORE,
+            ],
             &[&H1, &OMIT_DELETE, &K1, &V1],
-            &[&H2, &INSERT, &K1, &B0, &C2, &D0],
+            &[&H2, &INSERT, &K1, &B0, &C2, &LAST_BEFORE],
         ),
     ];
     for (local, blob, left) in &cases {
         rebases(&rt, alloc, local, blob, left)?;
+    }
+    Ok(())
+}
+
+/// One that begins like this at each of the keys of t1, with the text v1.
+fn at_each(alloc: Global, first: [u8; 2], keys: &[u8]) -> Result<Vec<u8>, Memory> {
+    let mut bytes = Vec::from_slice(alloc, &H1)?;
+    for key in keys {
+        bytes.extend_from_slice(&first)?;
+        bytes.extend_from_slice(&[1, 0, 0, 0, 0, 0, 0, 0, *key])?;
+        bytes.extend_from_slice(&V1)?;
+    }
+    Ok(bytes)
+}
+
+/// Nothing is left of a local DELETE over that of an entry, and the others stay, wherever the entries stand.
+#[test]
+fn entries_among_others(rt: HostRuntime) -> Result<(), Fail> {
+    let alloc = rt.alloc();
+    let cases: [(&[u8], &[u8], &[u8]); 6] = [
+        (
+            &[1, 2, 3, 4, 5, 6, 7, 8, 9],
+            &[1, 3, 5, 7, 9],
+            &[2, 4, 6, 8],
+        ),
+        (
+            &[1, 2, 3, 4, 5, 6, 7, 8, 9],
+            &[8, 2, 6, 4],
+            &[1, 3, 5, 7, 9],
+        ),
+        (&[1, 9], &[2, 3, 4, 5, 6, 7, 8], &[1, 9]),
+        (&[1, 8, 9], &[1, 2, 3, 4, 5, 6, 7, 8], &[9]),
+        (&[4, 20, 30], &[9, 8, 7, 6, 5, 4, 3, 2, 1, 30], &[20]),
+        (&[5, 6, 7, 8], &[1, 2, 3, 4, 9], &[5, 6, 7, 8]),
+    ];
+    for (local, entries, left) in cases {
+        let local = at_each(alloc, DELETE, local)?;
+        let blob = at_each(alloc, OMIT_DELETE, entries)?;
+        let left = at_each(alloc, DELETE, left)?;
+        rebases(&rt, alloc, &[&local], &[&blob], &[&left])?;
     }
     Ok(())
 }
@@ -271,8 +363,23 @@ fn leaves_two_tables(alloc: Global) -> Option<bool> {
     let local = joined(
         alloc,
         &[
-            &H1, &INSERT, &K1, &V1, &DELETE, &K2, &V2, &H2, &UPDATE, &K1, &B0, &NONE, &D0, &NONE,
-            &B1, &NONE, &D1,
+            &H1,
+            &INSERT,
+            &K1,
+            &V1,
+            &DELETE,
+            &K2,
+            &V2,
+            &H2,
+            &UPDATE,
+            &K1,
+            &B0,
+            &NONE,
+            &LAST_BEFORE,
+            &NONE,
+            &B1,
+            &NONE,
+            &LAST_AFTER,
         ],
     )
     .ok()?;
@@ -286,8 +393,25 @@ fn leaves_two_tables(alloc: Global) -> Option<bool> {
     let expected = joined(
         alloc,
         &[
-            &H1, &UPDATE, &K1, &V2, &NONE, &V1, &DELETE, &K2, &V9, &H2, &UPDATE, &K1, &B2, &NONE,
-            &D0, &NONE, &B1, &NONE, &D1,
+            &H1,
+            &UPDATE,
+            &K1,
+            &V2,
+            &NONE,
+            &V1,
+            &DELETE,
+            &K2,
+            &V9,
+            &H2,
+            &UPDATE,
+            &K1,
+            &B2,
+            &NONE,
+            &LAST_BEFORE,
+            &NONE,
+            &B1,
+            &NONE,
+            &LAST_AFTER,
         ],
     )
     .ok()?;

@@ -1,67 +1,62 @@
-use Rattle.std.proofs.Common.{◌≡◌, ◌+◌, ◌-◌, ◌/◌, ℕ, List, Some, ap, sym, ◌∙◌, arith}
-use Rattle.std.specs.Prelude.{slice_get}
-use Rattle.std.specs.Map.{lookup, values_of}
-use Rattle.cs_order.specs.Order.{same_bytes}
-use Rattle.std.proofs.lemmas.Option.{slice_get-get_or}
-use Rattle.cs_blob.specs.declared.blob.Entry.{Entry}
-use Rattle.cs_rebaser.specs.Steps.{beside_entries}
+use Rattle.std.proofs.Common.{◌≡◌, length, sym, ◌∙◌, arith}
+use Rattle.std.proofs.lemmas.List.Elements.{recursion_from_All}
+use Rattle.cs_rebaser.specs.Steps.{ordered_entries}
 use Rattle.cs_rebaser.proofs.Halves.{above_there, below_more, found, not_found, past_end}
-use Rattle.cs_rebaser.proofs.Indexes.{beside_keys, beside_length, beside_values}
+use Rattle.cs_rebaser.proofs.Indexes.{ordered_length}
 use Rattle.cs_rebaser.proofs.places.entry_in.Goals as goal
 
 pub loop-low-init : goal.loop-low-init
 loop-low-init c =
-    let places = c.args.index.now.places in
-    let entries = c.args.index.now.entries.items in
+    let index = c.args.index.now in
+    let entries = ordered_entries index.places index.entries.items index.order.items in
+    let long : length entries ≡ length index.order.items = ordered_length index.places index.entries.items index.order.items (recursion_from_All _ _ c.requires.within) in
     record {
       within = omega arith;
       high = omega (arith, c.len-high.ensures);
+      at = λ some. (omega arith, omega (arith, some, c.min-at.ensures, c.saturating_sub.ensures));
       below = λ j e before got. absurd (omega (arith, before));
-      above = past_end (beside_entries places entries) c.args.place.now _ (omega (arith, c.len-high.ensures, beside_length places entries c.requires.as_many));
+      above = past_end entries c.args.place.now _ (omega (arith, c.len-high.ensures, long));
     }
 
 pub loop-low-preserved-in-Less : goal.loop-low-preserved-in-Less
 loop-low-preserved-in-Less c =
     let i = c.loop-low.invariant in
-    let places = c.args.index.now.places in
-    let entries = c.args.index.now.entries.items in
-    let same = beside_keys places entries c.requires.as_many in
+    let index = c.args.index.now in
+    let entries = ordered_entries index.places index.entries.items index.order.items in
+    let long : length entries ≡ length index.order.items = ordered_length index.places index.entries.items index.order.items (recursion_from_All _ _ c.requires.within) in
     record {
-      within = omega (arith, c.loop-low-test.true);
+      within = omega (arith, i.at c.loop-low-test.true);
       high = i.high;
-      below = below_more (beside_entries places entries) c.args.place.now c.get.result.now _ (rw same c.requires.rising) (omega (arith, c.loop-low-test.true, i.high, beside_length places entries c.requires.as_many)) (rw same c.get.ensures) (sym c.cmp.ensures ∙ c.in-Less.is);
+      at = c.at_from_low-at.ensures;
+      below = below_more entries c.args.place.now c.place_at.result.now _ c.requires.rising (omega (arith, (i.at c.loop-low-test.true).1, i.high, long)) c.place_at.ensures (sym c.cmp.ensures ∙ c.in-Less.is);
       above = i.above;
     }
 
 pub loop-low-preserved : goal.loop-low-preserved
 loop-low-preserved c =
     let i = c.loop-low.invariant in
-    let places = c.args.index.now.places in
-    let entries = c.args.index.now.entries.items in
-    let same = beside_keys places entries c.requires.as_many in
+    let index = c.args.index.now in
+    let entries = ordered_entries index.places index.entries.items index.order.items in
     record {
-      within = omega (arith, c.loop-low-test.true);
-      high = omega (arith, c.loop-low-test.true, i.high);
+      within = omega (arith, i.at c.loop-low-test.true);
+      high = omega (arith, (i.at c.loop-low-test.true).1, i.high);
+      at = c.at_from_high-at.ensures;
       below = i.below;
-      above = above_there (beside_entries places entries) c.args.place.now c.get.result.now _ (rw same c.get.ensures) (sym c.cmp.ensures ∙ c.in-Greater.is);
+      above = above_there entries c.args.place.now c.place_at.result.now _ c.place_at.ensures (sym c.cmp.ensures ∙ c.in-Greater.is);
     }
 
 pub returns-in-Equal : goal.returns-in-Equal
 returns-in-Equal c =
     let i = c.loop-low.invariant in
-    let places = c.args.index.now.places in
-    let entries = c.args.index.now.entries.items in
-    let same = beside_keys places entries c.requires.as_many in
-    let middle : ℕ = c.loop-low.low + (c.loop-low.high - c.loop-low.low) / 2 in
-    let is : slice_get (values_of (beside_entries places entries)) middle ≡ lookup (same_bytes c.args.place.now) (beside_entries places entries) = found (beside_entries places entries) c.args.place.now c.get.result.now middle (rw same c.requires.rising) (omega (arith, c.loop-low-test.true, i.high, beside_length places entries c.requires.as_many)) (rw same c.get.ensures) (sym c.cmp.ensures ∙ c.in-Equal.is) in
-    let there : slice_get entries middle ≡ Some c.index.result.now = slice_get-get_or entries middle c.index.result.now (omega (arith, c.loop-low-test.true, i.high, c.requires.as_many)) ∙ ap (λ (e : Entry). Some e) (sym c.index.ensures) in
-    sym is ∙ ap (λ (es : List Entry). slice_get es middle) (beside_values places entries c.requires.as_many) ∙ there
+    let index = c.args.index.now in
+    let entries = ordered_entries index.places index.entries.items index.order.items in
+    let long : length entries ≡ length index.order.items = ordered_length index.places index.entries.items index.order.items (recursion_from_All _ _ c.requires.within) in
+    sym (found entries c.args.place.now c.place_at.result.now c.loop-low.at c.requires.rising (omega (arith, (i.at c.loop-low-test.true).1, i.high, long)) c.place_at.ensures (sym c.cmp.ensures ∙ c.in-Equal.is)) ∙ c.entry_at.ensures
 
 pub returns : goal.returns
 returns c =
     let i = c.loop-low.invariant in
-    let places = c.args.index.now.places in
-    let entries = c.args.index.now.entries.items in
-    let same = beside_keys places entries c.requires.as_many in
+    let index = c.args.index.now in
+    let entries = ordered_entries index.places index.entries.items index.order.items in
     let met : c.loop-low.low ≡ c.loop-low.high = omega (arith, c.loop-low-test.false, i.within) in
-    sym (not_found (beside_entries places entries) c.args.place.now c.loop-low.high (rw same c.requires.rising) (rw met at i.below) i.above)
+    sym (not_found entries c.args.place.now c.loop-low.high c.requires.rising (rw met at i.below) i.above)
