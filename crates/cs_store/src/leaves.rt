@@ -49,7 +49,23 @@ fn is_before(leaves: &[Leaf], at: usize, edit: &RowEdit) -> bool
     begins_above(leaves, at, edit.table, edit.key.as_slice())
 }
 
-/// The leaf in which a place stands or would stand, not before `from`.
+/// A leaf that begins above a place, which the leaf at `from` doesn't: the next, or where that doesn't either, the end.
+#[inline(always)]
+fn limit(leaves: &[Leaf], from: usize, table: u32, key: &[u8]) -> usize
+    requires in_bounds { from < length leaves.now }
+    requires full { All (λ leaf. 0 < length leaf) leaves.now }
+    ensures bound { (from < result) × (result ≤ length leaves.now) }
+    ensures next { BeginsBehind leaves.now result (pos table, key.now) }
+{
+    let next = from + 1;
+    if next < leaves.len() && begins_above(leaves, next, table, key) {
+        next
+    } else {
+        leaves.len()
+    }
+}
+
+/// The leaf in which a place stands or would stand, not before `from`, which is looked at first.
 fn leaf_for(leaves: &[Leaf], from: usize, table: u32, key: &[u8]) -> usize
     requires in_bounds { from < length leaves.now }
     requires full { All (λ leaf. 0 < length leaf) leaves.now }
@@ -59,7 +75,7 @@ fn leaf_for(leaves: &[Leaf], from: usize, table: u32, key: &[u8]) -> usize
     ensures next { BeginsBehind leaves.now (result + 1) (pos table, key.now) }
 {
     let mut low = from;
-    let mut high = leaves.len();
+    let mut high = limit(leaves, from, table, key);
     while high - low > 1 {
         let middle = low + (high - low) / 2;
         if begins_above(leaves, middle, table, key) {
@@ -69,6 +85,21 @@ fn leaf_for(leaves: &[Leaf], from: usize, table: u32, key: &[u8]) -> usize
         }
     }
     low
+}
+
+/// The leaf in which a place stands or would stand. The one at `near` is looked at first.
+fn leaf_near(leaves: &[Leaf], near: usize, table: u32, key: &[u8]) -> usize
+    requires some { 0 < length leaves.now }
+    requires full { All (λ leaf. 0 < length leaf) leaves.now }
+    ensures bound { result < length leaves.now }
+    ensures begins { BeginsBy leaves.now result (pos table, key.now) }
+    ensures next { BeginsBehind leaves.now (result + 1) (pos table, key.now) }
+{
+    if near < leaves.len() && !begins_above(leaves, near, table, key) {
+        leaf_for(leaves, near, table, key)
+    } else {
+        leaf_for(leaves, 0, table, key)
+    }
 }
 
 /// The leaf in which the place of an edit stands or would stand, not before `from`.
@@ -256,10 +287,25 @@ pub fn put_staged(alloc: Global, leaves: &mut Vec<Leaf>, staged: Staged)
     }
 }
 
-/// The row at a place, if there is one.
+/// Where a look-up ended. The next one begins there, so that those of places that rise are short.
+#[derive(Clone, Copy)]
+pub struct Near {
+    leaf: usize,
+    row: usize,
+}
+
+impl Near {
+    /// The first row.
+    pub fn start() -> Near {
+        Near { leaf: 0, row: 0 }
+    }
+}
+
+/// The row at a place, if there is one. It is looked for near where the last one was.
 pub fn find_row(
     alloc: Global,
     leaves: &[Leaf],
+    near: &mut Near,
     table: u32,
     key: &[u8],
 ) -> Result<Option<Vec<u8>>, AllocError>
@@ -269,9 +315,16 @@ pub fn find_row(
     if leaves.is_empty() {
         return Ok(None);
     }
-    let leaf = &leaves[leaf_for(leaves, 0, table, key)];
-    let at = leaf.search(0, table, key);
+    let place = leaf_near(leaves, near.leaf, table, key);
+    let leaf = &leaves[place];
+    let from = if place == near.leaf { near.row } else { 0 };
+    let at = leaf.search_near(from, table, key);
+    *near = Near {
+        leaf: place,
+        row: at,
+    };
     if at < leaf.len() && leaf.compare(at, table, key).is_eq() {
+        near.row = at + 1;
         Ok(Some(Vec::from_slice(alloc, leaf.row(at))?))
     } else {
         Ok(None)
