@@ -147,13 +147,8 @@ impl RowStore for MapStore {
     ghost leaves = { λ held _. ∣ (held, refl) ∣₁ };
 
     fn get(&mut self, table: u32, key: &[u8]) -> Result<Option<Vec<u8>>, StoreFault> {
-        let row = find_row(
-            self.alloc,
-            self.leaves.as_slice(),
-            &mut self.near,
-            table,
-            key,
-        )?;
+        let leaves = self.leaves.as_slice();
+        let row = find_row(self.alloc, leaves, &mut self.near, table, key)?;
         Ok(row)
     }
 
