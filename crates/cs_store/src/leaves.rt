@@ -1,7 +1,7 @@
 //! The rows of a `MapStore`: leaves whose places rise, none of them empty. A commit makes the leaves that it changes anew
 //! before it changes any, and then puts them in, which takes no memory.
 
-ghost use Rattle.std.specs.Prelude.{◌≡◌, false, ◌≤◌, ◌<◌, ◌+◌, List, ◌++◌, T, pos, length, take, drop, fold, map, filter, IfOk, OnOk, MatchBool};
+ghost use Rattle.std.specs.Prelude.{◌≡◌, false, ◌≤◌, ◌<◌, ◌+◌, List, ◌++◌, T, pos, length, take, drop, fold, map, filter, option_map, Some, IfOk, IfSome, OnOk, MatchBool};
 ghost use Rattle.std.specs.List.{All};
 ghost use Rattle.std.specs.Ordering.{int_eq, is_gt};
 ghost use Rattle.std.specs.FinMap.{get};
@@ -287,7 +287,8 @@ pub fn put_staged(alloc: Global, leaves: &mut Vec<Leaf>, staged: Staged)
     }
 }
 
-/// Where a look-up ended. The next one begins there, so that those of places that rise are short.
+/// Where a look-up ended: behind the row that it found, or where that would stand. The next one begins there, so that
+/// look-ups of places that rise are short.
 #[derive(Clone, Copy)]
 pub struct Near {
     leaf: usize,
@@ -298,6 +299,69 @@ impl Near {
     /// The first row.
     pub fn start() -> Near {
         Near { leaf: 0, row: 0 }
+    }
+
+    /// One row further in the leaf.
+    #[inline(always)]
+    fn next(self) -> Near {
+        Near {
+            leaf: self.leaf,
+            row: self.row.saturating_add(1),
+        }
+    }
+}
+
+/// The row there, if it is that of a place.
+#[inline(always)]
+fn row_if_at<'a>(leaves: &'a [Leaf], at: Near, table: u32, key: &[u8]) -> Option<&'a [u8]>
+    requires { AreLeaves leaves.now }
+    ensures { IfSome result (λ row. get (rows_in leaves.now) (pos table, key.now) ≡ Some row.now) }
+{
+    if at.leaf >= leaves.len() {
+        return None;
+    }
+    let leaf = &leaves[at.leaf];
+    if at.row < leaf.len() && leaf.compare(at.row, table, key).is_eq() {
+        Some(leaf.row(at.row))
+    } else {
+        None
+    }
+}
+
+/// The row at a place, if it is the one there or the one behind it.
+fn row_beside<'a>(leaves: &'a [Leaf], near: &mut Near, table: u32, key: &[u8]) -> Option<&'a [u8]>
+    requires { AreLeaves leaves.now }
+    ensures { IfSome result (λ row. get (rows_in leaves.now) (pos table, key.now) ≡ Some row.now) }
+{
+    let next = near.next();
+    if let Some(row) = row_if_at(leaves, *near, table, key) {
+        *near = next;
+        return Some(row);
+    }
+    let row = row_if_at(leaves, next, table, key)?;
+    *near = next.next();
+    Some(row)
+}
+
+/// The row at a place, if there is one.
+fn row_at<'a>(leaves: &'a [Leaf], near: &mut Near, table: u32, key: &[u8]) -> Option<&'a [u8]>
+    requires leaves { AreLeaves leaves.now }
+    requires some { 0 < length leaves.now }
+    ensures { option_map (λ row. row.now) result ≡ get (rows_in leaves.now) (pos table, key.now) }
+{
+    let place = leaf_near(leaves, near.leaf, table, key);
+    let leaf = &leaves[place];
+    let from = if place == near.leaf { near.row } else { 0 };
+    let at = leaf.search_near(from, table, key);
+    *near = Near {
+        leaf: place,
+        row: at,
+    };
+    if at < leaf.len() && leaf.compare(at, table, key).is_eq() {
+        near.row = at + 1;
+        Some(leaf.row(at))
+    } else {
+        None
     }
 }
 
@@ -312,22 +376,15 @@ pub fn find_row(
     requires { AreLeaves leaves.now }
     ensures { IfOk result (λ row. optional_bytes row ≡ get (rows_in leaves.now) (pos table, key.now)) }
 {
+    if let Some(row) = row_beside(leaves, near, table, key) {
+        return Ok(Some(Vec::from_slice(alloc, row)?));
+    }
     if leaves.is_empty() {
         return Ok(None);
     }
-    let place = leaf_near(leaves, near.leaf, table, key);
-    let leaf = &leaves[place];
-    let from = if place == near.leaf { near.row } else { 0 };
-    let at = leaf.search_near(from, table, key);
-    *near = Near {
-        leaf: place,
-        row: at,
-    };
-    if at < leaf.len() && leaf.compare(at, table, key).is_eq() {
-        near.row = at + 1;
-        Ok(Some(Vec::from_slice(alloc, leaf.row(at))?))
-    } else {
-        Ok(None)
+    match row_at(leaves, near, table, key) {
+        Some(row) => Ok(Some(Vec::from_slice(alloc, row)?)),
+        None => Ok(None),
     }
 }
 
