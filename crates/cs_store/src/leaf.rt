@@ -3,7 +3,7 @@
 ghost use Rattle.std.specs.Prelude.{◌≡◌, ◌<◌, ◌≤◌, ◌++◌, ◌∷◌, [], pos, length, slice_range, IfOk, OnOk};
 ghost use Rattle.std.specs.List.{All};
 ghost use Rattle.cs_store.specs.Contents.{place_cmp};
-ghost use Rattle.cs_store.specs.Entries.{IsSpotIn, IsPlaceFor, entries_at, nth};
+ghost use Rattle.cs_store.specs.Entries.{IsSpotIn, IsPlaceFor, entries_at, entry_at, nth};
 
 use std::alloc::{AllocError, Global};
 use std::cmp::Ordering;
@@ -59,6 +59,31 @@ fn put(
         table,
         key: start,
         row: middle,
+        end: bytes.len(),
+    })?;
+    Ok(())
+}
+
+/// Appends a row that stands in other bytes.
+#[inline(always)]
+fn put_copy(
+    bytes: &mut Vec<u8>,
+    spots: &mut Vec<Spot>,
+    source: &[u8],
+    spot: Spot,
+) -> Result<(), AllocError>
+    requires within { All (IsSpotIn (length bytes.old.items)) spots.old.items }
+    requires spot { IsSpotIn (length source.now) spot }
+    ensures within { All (IsSpotIn (length bytes.new.items)) spots.new.items }
+    ensures ok { OnOk result (entries_at bytes.new.items spots.new.items
+        ≡ entries_at bytes.old.items spots.old.items ++ entry_at source.now spot ∷ []) }
+{
+    let start = bytes.len();
+    bytes.extend_from_slice(&source[spot.key..spot.end])?;
+    spots.push(Spot {
+        table: spot.table,
+        key: start,
+        row: start + (spot.row - spot.key),
         end: bytes.len(),
     })?;
     Ok(())
@@ -212,13 +237,28 @@ impl Leaf {
         put(&mut self.bytes, &mut self.spots, table, key, row)
     }
 
+    /// Appends the row there of a leaf.
+    #[inline(always)]
+    fn push_from(&mut self, leaf: &Leaf, at: usize) -> Result<(), AllocError>
+        requires { at < length leaf.now }
+        ensures { OnOk result (self.new ≡ self.old ++ nth leaf.now at ∷ []) }
+    {
+        let spot = leaf.spots[at];
+        put_copy(
+            &mut self.bytes,
+            &mut self.spots,
+            leaf.bytes.as_slice(),
+            spot,
+        )
+    }
+
     /// Appends the rows of a leaf from one place up to another.
     pub fn push_rows(&mut self, leaf: &Leaf, from: usize, to: usize) -> Result<(), AllocError>
         requires { (from ≤ to) × (to ≤ length leaf.now) }
         ensures { OnOk result (self.new ≡ self.old ++ slice_range leaf.now from to) }
     {
         for at in from..to {
-            self.push(leaf.table(at), leaf.key(at), leaf.row(at))?;
+            self.push_from(leaf, at)?;
         }
         Ok(())
     }
