@@ -9,11 +9,11 @@ left_or before None = before
 left_or before (Some place) = place
 
 abbrev pub standing : Slot → Place
-standing slot = left_or slot.before slot.left
+standing slot = left_or slot.keyed.1 slot.left
 
 -- one place, what stood there in the store, and what it holds now
 pub record IsSlotAfter (slot next : Slot) (place : Place) : Type 0 where
   pub table : next.table ≡ slot.table
-  pub key : next.key ≡ slot.key
-  pub before : next.before ≡ slot.before
+  pub key : next.keyed.0 ≡ slot.keyed.0
+  pub before : next.keyed.1 ≡ slot.keyed.1
   pub stands : standing next ≡ place

@@ -8,9 +8,9 @@ ghost use Rattle.cs_change.specs.Spelling.{marks_of};
 ghost use Rattle.cs_blob.specs.Spelling.{blob_spelling, blob_entry_spelling};
 ghost use Rattle.cs_apply.specs.Applies.{answers_of, given_list};
 ghost use Rattle.cs_apply.specs.Blob.{blob_of, entries_of, entry_of, group_if_any, is_replace, keyed_new};
-ghost use Rattle.cs_apply.specs.Tasks.{table_of, tasks, tasks_at};
+ghost use Rattle.cs_apply.specs.Tasks.{tasks};
 
-use crate::tasks::find_table;
+use crate::tasks::count_of;
 use cs_blob::{Entry, put_entry};
 use cs_change::{Change, Changeset, Group, put_header};
 use cs_conflict::Resolution;
@@ -197,16 +197,6 @@ fn put_group(
     }
     put_header(group.marks.as_slice(), group.name.as_str(), out)?;
     put_entries(group, given, made, out)
-}
-
-/// How many changes of the group are applied: all of them where it fits a table, else none.
-fn count_of(catalog: &Catalog, group: &Group<'_>) -> usize
-    ensures { result ≡ length (tasks_at (table_of group.now catalog.now) group.now) }
-{
-    match find_table(group, catalog) {
-        None => 0,
-        Some(_) => group.changes.as_slice().len(),
-    }
 }
 
 /// The rebase blob of the answered conflicts, as it is spelled.

@@ -10,6 +10,7 @@ mod applying;
 mod blob;
 mod edits;
 mod fault;
+mod keyed_row;
 pub mod laws;
 mod outcomes;
 mod places;

@@ -16,6 +16,7 @@ ghost use Rattle.cs_apply.specs.Found.{IsSlotAt, AreSlots, IsRead, AreRead, AreB
 ghost use Rattle.cs_apply.specs.declared.fault.ApplyFault.TheVariants.{Device};
 
 use crate::fault::ApplyFault;
+use crate::keyed_row::KeyedRow;
 use crate::places::Places;
 use crate::tasks::Tasks;
 use cs_record::{Row, RowBuf, read_row};
@@ -29,10 +30,8 @@ use std::alloc::Global;
 pub(crate) struct Slot {
     /// The table's place in the catalog.
     pub table: u32,
-    /// The bytes of the key.
-    pub key: Vec<u8>,
-    /// The row or none of the store.
-    pub before: Option<RowBuf>,
+    /// The bytes of the key, and the row or none of the store.
+    pub keyed: KeyedRow,
     /// The row or none that the changes leave; outer none where they leave what was there.
     pub left: Option<Option<RowBuf>>,
 }
@@ -54,49 +53,45 @@ impl Slot {
     pub(crate) fn row(&self) -> Option<Row<'_>>
         ensures { result ≡ standing self.now }
     {
-        match (&self.left, &self.before) {
-            (Some(Some(row)), _) => Some(row.as_row()),
-            (Some(None), _) => None,
-            (None, Some(row)) => Some(row.as_row()),
-            (None, None) => None,
+        match &self.left {
+            Some(Some(row)) => Some(row.as_row()),
+            Some(None) => None,
+            None => self.keyed.row(),
         }
     }
 }
 
 /// The row of so many values that these bytes spell, if they spell one.
-fn own_row(bytes: Vec<u8>, columns: usize) -> Option<RowBuf>
-    ensures { (row : List Value) → FitsRow columns row → bytes.items ≡ row_bytes row → result ≡ Some row }
+fn whole_row(bytes: &[u8], columns: usize) -> Option<Row<'_>>
+    ensures { (row : List Value) → FitsRow columns row → bytes.now ≡ row_bytes row → result ≡ Some row }
 {
-    let Some((_, len)) = read_row(bytes.as_slice(), columns) else {
-        return None;
-    };
-    if len != bytes.len() {
-        return None;
-    }
-    Some(RowBuf::from_vec(bytes))
+    let (row, len) = read_row(bytes, columns)?;
+    if len == bytes.len() { Some(row) } else { None }
 }
 
-/// The row or none that the store has at a place.
-fn stored_row<S: RowStore>(
+/// The key, and the row or none that the store has at its place.
+fn keyed_row<S: RowStore>(
+    alloc: Global,
     store: &mut S,
     table: u32,
     key: &[u8],
     columns: usize,
-) -> Result<Option<RowBuf>, ApplyFault>
+) -> Result<KeyedRow, ApplyFault>
+    ensures key { IfOk result (λ found. found.0 ≡ key.now) }
     ensures reads { LeavesStore S.honest S.contents S.failed S.may_leave store.old store.new result }
     ensures found { S.honest store.new → (row : Place) → IsStored columns (stored_tables (S.contents store.old) table key.now) row
-        → IfOk result (λ found. found ≡ row) }
+        → IfOk result (λ found. found.1 ≡ row) }
     ensures fault { IfErr result (λ fault. IsStoreFault fault) }
     ensures device { S.honest store.new → (row : Place) → IsStored columns (stored_tables (S.contents store.old) table key.now) row
         → result ≡ Err Device → MoreFailures (S.failed store.old) (S.failed store.new) }
 {
     let Some(bytes) = store.get(table, key)? else {
-        return Ok(None);
+        return Ok(KeyedRow::of_key(alloc, key)?);
     };
-    match own_row(bytes, columns) {
-        Some(row) => Ok(Some(row)),
-        None => Err(ApplyFault::Device),
-    }
+    let Some(row) = whole_row(bytes.as_slice(), columns) else {
+        return Err(ApplyFault::Device);
+    };
+    Ok(KeyedRow::of_row(alloc, key, &row)?)
 }
 
 /// The place of a change, with what the store has there.
@@ -122,11 +117,9 @@ fn find_slot<S: RowStore>(
     let table = tasks.tables[change];
     let (_, key) = tasks.places.get(change).split_at(4);
     let columns = catalog.tables()[table as usize].key_marks.as_slice().len();
-    let before = stored_row(store, table, key, columns)?;
     Ok(Slot {
         table,
-        key: Vec::from_slice(alloc, key)?,
-        before,
+        keyed: keyed_row(alloc, store, table, key, columns)?,
         left: None,
     })
 }

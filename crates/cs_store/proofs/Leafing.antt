@@ -204,6 +204,35 @@ find_nothing leaf at p within s found apart = from_place leaf at p within s foun
         ap (find place_cmp p) here ∙ find_above (nth leaf at ∷ drop (at + 1) leaf) p
         (above_head (nth leaf at) (drop (at + 1) leaf) p (subst (λ zs. T (is_sorted place_cmp zs)) here cut) (not_both _ notless (apart less)))
 
+-- an entry of the place of a row is its row
+pub find_met : (leaves : List (List Entry)) (at row : ℕ) (p : StorePlace) → T (is_sorted place_cmp (flat leaves)) → at < length leaves → row < length (nth_leaf leaves at) → place_cmp (nth (nth_leaf leaves at) row).0 p ≡ Equal → get (rows_in leaves) p ≡ Some (nth (nth_leaf leaves at) row).1
+find_met leaves at row p s less within e =
+    get-from_sorted place_cmp (flat leaves) p s ∙ ap (find place_cmp p) whole ∙ find_behind front (here ∷ back) p low
+    ∙ ap (λ b. cond b (Some here.1) (find place_cmp p back)) (ap (eq_by_cmp place_cmp p) (place_exact here.0 p e) ∙ (eq_by_cmp_equiv place_total).refl p)
+  where
+    leaf : List Entry
+    leaf = nth_leaf leaves at
+
+    here : Entry
+    here = nth leaf row
+
+    front : List Entry
+    front = flat (take at leaves) ++ take row leaf
+
+    back : List Entry
+    back = drop (row + 1) leaf ++ flat (drop (at + 1) leaves)
+
+    split : leaf ≡ take row leaf ++ (here ∷ drop (row + 1) leaf)
+    split = sym (take-append-drop row leaf) ∙ ap (λ (zs : List Entry). take row leaf ++ zs) (drop_more leaf row no_entry within)
+
+    whole : flat leaves ≡ front ++ (here ∷ back)
+    whole = flat_split leaves at less ∙ ap (λ (zs : List Entry). flat (take at leaves) ++ (zs ++ flat (drop (at + 1) leaves))) split
+        ∙ ap (λ (zs : List Entry). flat (take at leaves) ++ zs) (append_assoc (take row leaf) (here ∷ drop (row + 1) leaf) (flat (drop (at + 1) leaves)))
+        ∙ sym (append_assoc (flat (take at leaves)) (take row leaf) (here ∷ back))
+
+    low : AreBelow front p
+    low = subst (AreBelow front) (place_exact here.0 p e) (below_split front back here (subst (λ zs. T (is_sorted place_cmp zs)) whole s))
+
 -- ---- leaves that are put in
 
 pub flat_set : (leaves : List (List Entry)) (at : ℕ) (leaf : List Entry) → at < length leaves → flat (slice_set leaves at leaf) ≡ flat (take at leaves) ++ (leaf ++ flat (drop (at + 1) leaves))

@@ -6,12 +6,13 @@ use Rattle.std.specs.declared.cmp.Ordering.TheVariants.{Less, Equal, Greater}
 use Rattle.std.specs.Ordering.{is_eq, is_lt, eq_by_cmp, ordering_reverse}
 use Rattle.std.specs.List.Sorted.{IsSortedBy, IsStableBy, ties}
 use Rattle.std.specs.FinMap.{get, same_map}
-use Rattle.std.proofs.lemmas.List.{append_assoc, append-nil}
+use Rattle.std.proofs.lemmas.List.{append_assoc, append-nil, take_more, map-append}
 use Rattle.cs_store.specs.Contents.{StorePlace, Rows, place_cmp}
 use Rattle.cs_store.specs.Written.{optional_bytes, edit_row}
 use Rattle.cs_store.specs.Leaves.{DontFall, Follow, Rise, edit_place, edits_behind, is_last_of}
 use Rattle.cs_store.specs.declared.batch.RowEdit.{RowEdit}
 use Rattle.cs_store.proofs.Maps.{place_total, place_exact, get-with_row}
+use Rattle.cs_store.proofs.Leafing.{behind_take}
 
 -- ---- the last edit of each place
 
@@ -34,6 +35,24 @@ follow_push p (e ∷ es) v w l h = (h.0, follow_push p es v w l h.1)
 rise_push : (es : List RowEdit) (v w : RowEdit) → place_cmp (edit_place v) (edit_place w) ≡ Less → Rise (es ++ v ∷ []) → Rise (es ++ v ∷ w ∷ [])
 rise_push [] v w l h = ((l, tt), (tt, tt))
 rise_push (e ∷ es) v w l h = (follow_push (edit_place e) es v w l h.0, rise_push es v w l h.1)
+
+pub less_if : (o : Ordering) → is_lt o ≡ true → o ≡ Less
+less_if Less h = refl
+less_if Equal h = absurd cc
+less_if Greater h = absurd cc
+
+pub first_rises : (edits : List RowEdit) → Rise (take 1 edits)
+first_rises [] = tt
+first_rises (e ∷ es) = (tt, tt)
+
+-- edits of which each is below the next, and one more
+pub rise_more : (edits : List (Bor RowEdit)) (k at : ℕ) (v w : Bor RowEdit) → at ≡ k + 1 → at < length edits → v ≡ get_or edits k v → w ≡ get_or edits at w → place_cmp (edit_place v.now) (edit_place w.now) ≡ Less → Rise (take at (edits_behind edits)) → Rise (take (at + 1) (edits_behind edits))
+rise_more edits k at v w next less is last below was =
+    let front = take k edits in
+    let one : take at edits ≡ front ++ v ∷ [] = ap (λ n. take n edits) next ∙ take_more edits k v (omega (arith, next, less)) ∙ ap (λ e. front ++ e ∷ []) (sym is) in
+    let two : take (at + 1) edits ≡ front ++ v ∷ w ∷ [] = take_more edits at w less ∙ (λ i. one i ++ sym last i ∷ []) ∙ append_assoc front (v ∷ []) (w ∷ []) in
+    subst Rise (sym (sym (behind_take edits (at + 1)) ∙ ap edits_behind two ∙ map-append (λ edit. edit.now) front (v ∷ w ∷ [])))
+    (rise_push (edits_behind front) v.now w.now below (subst Rise (sym (behind_take edits at) ∙ ap edits_behind one ∙ map-append (λ edit. edit.now) front (v ∷ [])) was))
 
 follow_same : (p : StorePlace) (es : List RowEdit) (v w : RowEdit) → edit_place v ≡ edit_place w → Follow p (es ++ v ∷ []) → Follow p (es ++ w ∷ [])
 follow_same p [] v w e h = (subst (λ q. place_cmp p q ≡ Less) e h.0, tt)

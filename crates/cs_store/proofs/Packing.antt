@@ -3,9 +3,11 @@ use Rattle.std.proofs.Common.{◌≡◌, ℕ, suc, ◌+◌, ◌-◌, ◌<◌, �
 use Rattle.std.specs.Prelude.{pos}
 use Rattle.std.specs.List.{All, slice_range}
 use Rattle.std.proofs.lemmas.List.{take_all, length-drop, drop-append-le, take-append-le, map-append, take_more, get_or-drop, append_assoc}
-use Rattle.std.proofs.Math.Seq.{drop-append_seam}
+use Rattle.std.proofs.Math.Seq.{drop-append_seam, take-add}
+use Rattle.std.proofs.lemmas.List.Edits.{length-between}
 use Rattle.cs_store.specs.Entries.{Entry, IsSpotIn, entry_at, entries_at, nth, no_entry}
 use Rattle.cs_store.specs.declared.leaf.Spot.{Spot}
+use Rattle.cs_store.proofs.Leafing.{drop_drop}
 
 slice_kept : (a b : List ℕ) (s e : ℕ) → s ≤ e → e ≤ length a → slice_range (a ++ b) s e ≡ slice_range a s e
 slice_kept a b s e within bound =
@@ -39,6 +41,26 @@ entries_more bytes key row new spots now spot within grown begins middle ends is
     ap (entries_at new) is ∙ map-append (entry_at new) spots (spot ∷ [])
     ∙ (λ i. entries_at (grown i) spots ++ ((pos spot.table, its_key i), its_row i) ∷ [])
     ∙ ap (λ (es : List Entry). es ++ ((pos spot.table, key), row) ∷ []) (entries_kept (bytes ++ key) row spots wide ∙ entries_kept bytes key spots within)
+
+-- bytes from one place to a third, in two parts
+slice_parts : (xs : List ℕ) (a b c : ℕ) → a ≤ b → b ≤ c → slice_range xs a c ≡ slice_range xs a b ++ slice_range xs b c
+slice_parts xs a b c less more =
+    let n : c - a ≡ (b - a) + (c - b) = omega (arith, less, more) in
+    let m : b ≡ a + (b - a) = omega (arith, less) in
+    ap (λ k. take k (drop a xs)) n ∙ take-add (b - a) (c - b) (drop a xs)
+    ∙ ap (λ (zs : List ℕ). slice_range xs a b ++ take (c - b) zs) (sym (drop_drop a (b - a) xs) ∙ ap (λ k. drop k xs) (sym m))
+
+-- a row more, copied from other bytes
+pub entries_copied : (bytes source new : List ℕ) (spots now : List Spot) (old spot : Spot) → All (IsSpotIn (length bytes)) spots → IsSpotIn (length source) old → new ≡ bytes ++ slice_range source old.key old.end
+    → spot.table ≡ old.table → spot.key ≡ length bytes → spot.row ≡ length bytes + (old.row - old.key) → spot.end ≡ length new → now ≡ spots ++ spot ∷ []
+    → entries_at new now ≡ entries_at bytes spots ++ entry_at source old ∷ []
+entries_copied bytes source new spots now old spot within its grown table begins middle ends is =
+    let key : List ℕ = slice_range source old.key old.row in
+    let row : List ℕ = slice_range source old.row old.end in
+    let both : new ≡ (bytes ++ key) ++ row = grown ∙ ap (λ (zs : List ℕ). bytes ++ zs) (slice_parts source old.key old.row old.end its.0 its.1) ∙ sym (append_assoc bytes key row) in
+    let long : length (bytes ++ key) ≡ length bytes + (old.row - old.key) = length-append bytes key ∙ ap (λ k. length bytes + k) (length-between source old.key old.row (omega (arith, its.1, its.2))) in
+    entries_more bytes key row new spots now spot within both begins (middle ∙ sym long) ends is
+    ∙ ap (λ t. entries_at bytes spots ++ ((pos t, key), row) ∷ []) table
 
 -- an entry more of a list
 pub slice_more : (es : List Entry) (from at : ℕ) → from ≤ at → at < length es → slice_range es from (at + 1) ≡ slice_range es from at ++ nth es at ∷ []

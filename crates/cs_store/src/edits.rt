@@ -1,6 +1,6 @@
 //! The edits of a batch in the order of their places, each place once.
 
-ghost use Rattle.std.specs.Prelude.{◌≡◌, ◌<◌, length, drop, fold, IfOk};
+ghost use Rattle.std.specs.Prelude.{◌≡◌, ◌<◌, true, length, drop, fold, IfOk, OnOk};
 ghost use Rattle.cs_store.specs.Contents.{Rows, place_cmp};
 ghost use Rattle.cs_store.specs.Written.{edit_row};
 ghost use Rattle.cs_store.specs.Leaves.{DontFall, Rise, edit_place, edits_behind, is_last_of};
@@ -45,17 +45,37 @@ fn last_of_each<'a>(alloc: Global, edits: &[&'a RowEdit]) -> Result<Vec<&'a RowE
     Ok(latest)
 }
 
-/// The edits as they stand, sorted by their places; those of one place stay in order.
-fn by_place<'a>(alloc: Global, edits: &'a [RowEdit]) -> Result<Vec<&'a RowEdit>, AllocError>
-    ensures order { IfOk result (λ sorted. DontFall (edits_behind sorted.items)) }
-    ensures same { IfOk result (λ sorted. (rows : Rows) → fold edit_row rows (edits_behind sorted.items) ≡ fold edit_row rows edits.now) }
+/// The edits, lent.
+fn lent<'a>(alloc: Global, edits: &'a [RowEdit]) -> Result<Vec<&'a RowEdit>, AllocError>
+    ensures { IfOk result (λ lent. edits_behind lent.items ≡ edits.now) }
 {
-    let mut sorted = Vec::with_capacity(alloc, edits.len())?;
+    let mut lent = Vec::with_capacity(alloc, edits.len())?;
     for edit in edits {
-        sorted.push(edit)?;
+        lent.push(edit)?;
     }
-    sorted.sort_by(|some, other| compare(*some, *other))?;
-    Ok(sorted)
+    Ok(lent)
+}
+
+/// Whether each edit's place is below that of the next.
+fn rise(edits: &[&RowEdit]) -> bool
+    ensures { result ≡ true → Rise (edits_behind edits.now) }
+{
+    for at in 1..edits.len() {
+        if !compare(edits[at - 1], edits[at]).is_lt() {
+            return false;
+        }
+    }
+    true
+}
+
+/// Sorts the edits by their places; those of one place stay in order.
+fn sort(edits: &mut Vec<&RowEdit>) -> Result<(), AllocError>
+    ensures order { OnOk result (DontFall (edits_behind edits.new.items)) }
+    ensures same { OnOk result ((rows : Rows) → fold edit_row rows (edits_behind edits.new.items)
+        ≡ fold edit_row rows (edits_behind edits.old.items)) }
+{
+    edits.sort_by(|some, other| compare(*some, *other))?;
+    Ok(())
 }
 
 /// The edits in the order of their places; of each place the last.
@@ -63,6 +83,11 @@ pub fn in_order<'a>(alloc: Global, edits: &'a [RowEdit]) -> Result<Vec<&'a RowEd
     ensures rise { IfOk result (λ sorted. Rise (edits_behind sorted.items)) }
     ensures same { IfOk result (λ sorted. (rows : Rows) → fold edit_row rows (edits_behind sorted.items) ≡ fold edit_row rows edits.now) }
 {
-    let all = by_place(alloc, edits)?;
+    let mut all = lent(alloc, edits)?;
+    // As `apply` answers them.
+    if rise(all.as_slice()) {
+        return Ok(all);
+    }
+    sort(&mut all)?;
     last_of_each(alloc, all.as_slice())
 }

@@ -3,7 +3,7 @@
 ghost use Rattle.std.specs.Prelude.{◌≡◌, ◌<◌, ◌≤◌, ◌++◌, ◌∷◌, [], pos, length, slice_range, IfOk, OnOk};
 ghost use Rattle.std.specs.List.{All};
 ghost use Rattle.cs_store.specs.Contents.{place_cmp};
-ghost use Rattle.cs_store.specs.Entries.{IsSpotIn, IsPlaceFor, entries_at, nth};
+ghost use Rattle.cs_store.specs.Entries.{IsSpotIn, IsPlaceFor, entries_at, entry_at, nth};
 
 use std::alloc::{AllocError, Global};
 use std::cmp::Ordering;
@@ -64,10 +64,35 @@ fn put(
     Ok(())
 }
 
+/// Appends a row that stands in other bytes.
+#[inline(always)]
+fn put_copy(
+    bytes: &mut Vec<u8>,
+    spots: &mut Vec<Spot>,
+    source: &[u8],
+    spot: Spot,
+) -> Result<(), AllocError>
+    requires within { All (IsSpotIn (length bytes.old.items)) spots.old.items }
+    requires spot { IsSpotIn (length source.now) spot }
+    ensures within { All (IsSpotIn (length bytes.new.items)) spots.new.items }
+    ensures ok { OnOk result (entries_at bytes.new.items spots.new.items
+        ≡ entries_at bytes.old.items spots.old.items ++ entry_at source.now spot ∷ []) }
+{
+    let start = bytes.len();
+    bytes.extend_from_slice(&source[spot.key..spot.end])?;
+    spots.push(Spot {
+        table: spot.table,
+        key: start,
+        row: start + (spot.row - spot.key),
+        end: bytes.len(),
+    })?;
+    Ok(())
+}
+
 impl Leaf {
     ghost use Rattle.std.specs.Prelude.{◌≡◌, ◌<◌, ◌≤◌, ◌++◌, ◌∷◌, [], pos, length, slice_range, IfOk, OnOk};
     ghost use Rattle.cs_store.specs.Contents.{place_cmp};
-    ghost use Rattle.cs_store.specs.Entries.{IsPlaceFor, nth};
+    ghost use Rattle.cs_store.specs.Entries.{IsPlaceFor, IsPlaceBetween, nth};
 
     /// No row.
     pub fn new(alloc: Global) -> Leaf
@@ -146,14 +171,31 @@ impl Leaf {
             .then_with(|| self.key(at).cmp(key))
     }
 
-    /// Where a place stands or would stand, not before `from`.
-    pub fn search(&self, from: usize, table: u32, key: &[u8]) -> usize
+    /// Between which two positions a place stands or would stand, not before `from`, in steps that double.
+    #[inline(always)]
+    fn reach(&self, from: usize, table: u32, key: &[u8]) -> (usize, usize)
         requires { from ≤ length self.now }
+        ensures order { (from ≤ result.0) × (result.0 ≤ result.1) × (result.1 ≤ length self.now) }
+        ensures between { IsPlaceBetween self.now from result.0 result.1 (pos table, key.now) }
+    {
+        let mut low = from;
+        let mut high = from;
+        while high < self.len() && self.compare(high, table, key).is_lt() {
+            low = high + 1;
+            high = low.saturating_add(high - from).min(self.len());
+        }
+        (low, high)
+    }
+
+    /// Where a place stands or would stand of which this is known, in halves.
+    #[inline(always)]
+    fn settle(&self, from: usize, reached: (usize, usize), table: u32, key: &[u8]) -> usize
+        requires order { (from ≤ reached.0) × (reached.0 ≤ reached.1) × (reached.1 ≤ length self.now) }
+        requires between { IsPlaceBetween self.now from reached.0 reached.1 (pos table, key.now) }
         ensures bound { (from ≤ result) × (result ≤ length self.now) }
         ensures found { IsPlaceFor self.now from result (pos table, key.now) }
     {
-        let mut low = from;
-        let mut high = self.len();
+        let (mut low, mut high) = reached;
         while low < high {
             let middle = low + (high - low) / 2;
             if self.compare(middle, table, key).is_lt() {
@@ -165,6 +207,28 @@ impl Leaf {
         low
     }
 
+    /// Where a place stands or would stand, not before `from`. It takes the logarithm of the way from there.
+    pub fn search(&self, from: usize, table: u32, key: &[u8]) -> usize
+        requires { from ≤ length self.now }
+        ensures bound { (from ≤ result) × (result ≤ length self.now) }
+        ensures found { IsPlaceFor self.now from result (pos table, key.now) }
+    {
+        let reached = self.reach(from, table, key);
+        self.settle(from, reached, table, key)
+    }
+
+    /// Where a place stands or would stand. It is looked for from `near` on first.
+    pub fn search_near(&self, near: usize, table: u32, key: &[u8]) -> usize
+        ensures bound { result ≤ length self.now }
+        ensures found { IsPlaceFor self.now 0 result (pos table, key.now) }
+    {
+        if 0 < near && near <= self.len() && self.compare(near - 1, table, key).is_lt() {
+            self.search(near, table, key)
+        } else {
+            self.settle(0, (0, self.len()), table, key)
+        }
+    }
+
     /// Appends a row.
     #[inline(always)]
     pub fn push(&mut self, table: u32, key: &[u8], row: &[u8]) -> Result<(), AllocError>
@@ -173,13 +237,28 @@ impl Leaf {
         put(&mut self.bytes, &mut self.spots, table, key, row)
     }
 
+    /// Appends the row there of a leaf.
+    #[inline(always)]
+    fn push_from(&mut self, leaf: &Leaf, at: usize) -> Result<(), AllocError>
+        requires { at < length leaf.now }
+        ensures { OnOk result (self.new ≡ self.old ++ nth leaf.now at ∷ []) }
+    {
+        let spot = leaf.spots[at];
+        put_copy(
+            &mut self.bytes,
+            &mut self.spots,
+            leaf.bytes.as_slice(),
+            spot,
+        )
+    }
+
     /// Appends the rows of a leaf from one place up to another.
     pub fn push_rows(&mut self, leaf: &Leaf, from: usize, to: usize) -> Result<(), AllocError>
         requires { (from ≤ to) × (to ≤ length leaf.now) }
         ensures { OnOk result (self.new ≡ self.old ++ slice_range leaf.now from to) }
     {
         for at in from..to {
-            self.push(leaf.table(at), leaf.key(at), leaf.row(at))?;
+            self.push_from(leaf, at)?;
         }
         Ok(())
     }

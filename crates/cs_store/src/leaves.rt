@@ -1,7 +1,7 @@
 //! The rows of a `MapStore`: leaves whose places rise, none of them empty. A commit makes the leaves that it changes anew
 //! before it changes any, and then puts them in, which takes no memory.
 
-ghost use Rattle.std.specs.Prelude.{◌≡◌, false, ◌≤◌, ◌<◌, ◌+◌, List, ◌++◌, T, pos, length, take, drop, fold, map, filter, IfOk, OnOk, MatchBool};
+ghost use Rattle.std.specs.Prelude.{◌≡◌, false, ◌≤◌, ◌<◌, ◌+◌, List, ◌++◌, T, pos, length, take, drop, fold, map, filter, option_map, Some, IfOk, IfSome, OnOk, MatchBool};
 ghost use Rattle.std.specs.List.{All};
 ghost use Rattle.std.specs.Ordering.{int_eq, is_gt};
 ghost use Rattle.std.specs.FinMap.{get};
@@ -49,7 +49,23 @@ fn is_before(leaves: &[Leaf], at: usize, edit: &RowEdit) -> bool
     begins_above(leaves, at, edit.table, edit.key.as_slice())
 }
 
-/// The leaf in which a place stands or would stand, not before `from`.
+/// A leaf that begins above a place, which the leaf at `from` doesn't: the next, or where that doesn't either, the end.
+#[inline(always)]
+fn limit(leaves: &[Leaf], from: usize, table: u32, key: &[u8]) -> usize
+    requires in_bounds { from < length leaves.now }
+    requires full { All (λ leaf. 0 < length leaf) leaves.now }
+    ensures bound { (from < result) × (result ≤ length leaves.now) }
+    ensures next { BeginsBehind leaves.now result (pos table, key.now) }
+{
+    let next = from + 1;
+    if next < leaves.len() && begins_above(leaves, next, table, key) {
+        next
+    } else {
+        leaves.len()
+    }
+}
+
+/// The leaf in which a place stands or would stand, not before `from`, which is looked at first.
 fn leaf_for(leaves: &[Leaf], from: usize, table: u32, key: &[u8]) -> usize
     requires in_bounds { from < length leaves.now }
     requires full { All (λ leaf. 0 < length leaf) leaves.now }
@@ -59,7 +75,7 @@ fn leaf_for(leaves: &[Leaf], from: usize, table: u32, key: &[u8]) -> usize
     ensures next { BeginsBehind leaves.now (result + 1) (pos table, key.now) }
 {
     let mut low = from;
-    let mut high = leaves.len();
+    let mut high = limit(leaves, from, table, key);
     while high - low > 1 {
         let middle = low + (high - low) / 2;
         if begins_above(leaves, middle, table, key) {
@@ -69,6 +85,21 @@ fn leaf_for(leaves: &[Leaf], from: usize, table: u32, key: &[u8]) -> usize
         }
     }
     low
+}
+
+/// The leaf in which a place stands or would stand. The one at `near` is looked at first.
+fn leaf_near(leaves: &[Leaf], near: usize, table: u32, key: &[u8]) -> usize
+    requires some { 0 < length leaves.now }
+    requires full { All (λ leaf. 0 < length leaf) leaves.now }
+    ensures bound { result < length leaves.now }
+    ensures begins { BeginsBy leaves.now result (pos table, key.now) }
+    ensures next { BeginsBehind leaves.now (result + 1) (pos table, key.now) }
+{
+    if near < leaves.len() && !begins_above(leaves, near, table, key) {
+        leaf_for(leaves, near, table, key)
+    } else {
+        leaf_for(leaves, 0, table, key)
+    }
 }
 
 /// The leaf in which the place of an edit stands or would stand, not before `from`.
@@ -256,25 +287,104 @@ pub fn put_staged(alloc: Global, leaves: &mut Vec<Leaf>, staged: Staged)
     }
 }
 
+/// Where a look-up ended: behind the row that it found, or where that would stand. The next one begins there, so that
+/// look-ups of places that rise are short.
+#[derive(Clone, Copy)]
+pub struct Near {
+    leaf: usize,
+    row: usize,
+}
+
+impl Near {
+    /// The first row.
+    pub fn start() -> Near {
+        Near { leaf: 0, row: 0 }
+    }
+
+    /// One row further in the leaf.
+    #[inline(always)]
+    fn next(self) -> Near {
+        Near {
+            leaf: self.leaf,
+            row: self.row.saturating_add(1),
+        }
+    }
+}
+
+/// The row there, if it is that of a place.
+#[inline(always)]
+fn row_if_at<'a>(leaves: &'a [Leaf], at: Near, table: u32, key: &[u8]) -> Option<&'a [u8]>
+    requires { AreLeaves leaves.now }
+    ensures { IfSome result (λ row. get (rows_in leaves.now) (pos table, key.now) ≡ Some row.now) }
+{
+    if at.leaf >= leaves.len() {
+        return None;
+    }
+    let leaf = &leaves[at.leaf];
+    if at.row < leaf.len() && leaf.compare(at.row, table, key).is_eq() {
+        Some(leaf.row(at.row))
+    } else {
+        None
+    }
+}
+
+/// The row at a place, if it is the one there or the one behind it.
+fn row_beside<'a>(leaves: &'a [Leaf], near: &mut Near, table: u32, key: &[u8]) -> Option<&'a [u8]>
+    requires { AreLeaves leaves.now }
+    ensures { IfSome result (λ row. get (rows_in leaves.now) (pos table, key.now) ≡ Some row.now) }
+{
+    let next = near.next();
+    if let Some(row) = row_if_at(leaves, *near, table, key) {
+        *near = next;
+        return Some(row);
+    }
+    let row = row_if_at(leaves, next, table, key)?;
+    *near = next.next();
+    Some(row)
+}
+
 /// The row at a place, if there is one.
+fn row_at<'a>(leaves: &'a [Leaf], near: &mut Near, table: u32, key: &[u8]) -> Option<&'a [u8]>
+    requires leaves { AreLeaves leaves.now }
+    requires some { 0 < length leaves.now }
+    ensures { option_map (λ row. row.now) result ≡ get (rows_in leaves.now) (pos table, key.now) }
+{
+    let place = leaf_near(leaves, near.leaf, table, key);
+    let leaf = &leaves[place];
+    let from = if place == near.leaf { near.row } else { 0 };
+    let at = leaf.search_near(from, table, key);
+    *near = Near {
+        leaf: place,
+        row: at,
+    };
+    if at < leaf.len() && leaf.compare(at, table, key).is_eq() {
+        near.row = at + 1;
+        Some(leaf.row(at))
+    } else {
+        None
+    }
+}
+
+/// The row at a place, if there is one. It is looked for near where the last one was.
 pub fn find_row(
     alloc: Global,
     leaves: &[Leaf],
+    near: &mut Near,
     table: u32,
     key: &[u8],
 ) -> Result<Option<Vec<u8>>, AllocError>
     requires { AreLeaves leaves.now }
     ensures { IfOk result (λ row. optional_bytes row ≡ get (rows_in leaves.now) (pos table, key.now)) }
 {
+    if let Some(row) = row_beside(leaves, near, table, key) {
+        return Ok(Some(Vec::from_slice(alloc, row)?));
+    }
     if leaves.is_empty() {
         return Ok(None);
     }
-    let leaf = &leaves[leaf_for(leaves, 0, table, key)];
-    let at = leaf.search(0, table, key);
-    if at < leaf.len() && leaf.compare(at, table, key).is_eq() {
-        Ok(Some(Vec::from_slice(alloc, leaf.row(at))?))
-    } else {
-        Ok(None)
+    match row_at(leaves, near, table, key) {
+        Some(row) => Ok(Some(Vec::from_slice(alloc, row)?)),
+        None => Ok(None),
     }
 }
 

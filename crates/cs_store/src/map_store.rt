@@ -9,7 +9,7 @@ ghost use Rattle.cs_store.specs.Steps.{IsKept};
 
 use crate::edits::in_order;
 use crate::leaf::Leaf;
-use crate::leaves::{find_row, list_rows, put_staged, stage};
+use crate::leaves::{Near, find_row, list_rows, put_staged, stage};
 use crate::slots::{
     SlotKey, Slots, copied, make_slots, read_slot, steps_of, sweep_steps, write_steps,
 };
@@ -19,8 +19,8 @@ use std::collections::BTreeMap;
 use std::marker::Model;
 
 /// A store in memory. Contracts see what it holds. It never answers `Device`, and a stop leaves what it holds. Its rows lie in
-/// leaves, in order, each packed into one list of bytes: a look-up halves the leaves and then one leaf, and a commit makes each
-/// leaf anew that its edits fall into, so a commit of one row costs the logarithm of the rows that are there, but for a walk
+/// leaves, in order, each packed into one list of bytes: a look-up begins where the last one ended, and halves the leaves and then
+/// one leaf where its place isn't near, and a commit makes each leaf anew that its edits fall into, so a commit of one row costs the logarithm of the rows that are there, but for a walk
 /// over the list of leaves where one is cut or goes. Its log has at most 4,294,967,295 entries; a commit of one more answers
 /// `Memory`. (Profile of this project.)
 #[derive(Drop)]
@@ -29,6 +29,7 @@ pub struct MapStore {
     leaves: Vec<Leaf>,
     slots: Slots,
     log: Vec<Vec<u8>>,
+    near: Near,
 }
 
 impl Model for MapStore {
@@ -59,6 +60,7 @@ impl MapStore {
             leaves: Vec::new(alloc),
             slots: BTreeMap::new(alloc),
             log: Vec::new(alloc),
+            near: Near::start(),
         }
     }
 }
@@ -145,7 +147,8 @@ impl RowStore for MapStore {
     ghost leaves = { λ held _. ∣ (held, refl) ∣₁ };
 
     fn get(&mut self, table: u32, key: &[u8]) -> Result<Option<Vec<u8>>, StoreFault> {
-        let row = find_row(self.alloc, self.leaves.as_slice(), table, key)?;
+        let leaves = self.leaves.as_slice();
+        let row = find_row(self.alloc, leaves, &mut self.near, table, key)?;
         Ok(row)
     }
 

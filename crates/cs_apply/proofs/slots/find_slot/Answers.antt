@@ -26,7 +26,7 @@ bounds-tables-table g c =
 pub returns-clause-slot : goal.returns-clause-slot
 returns-clause-slot g c =
     let at = behind_at c.args.tasks.now.tables.items c.args.tasks.now.places c.args.change c.requires.places c.requires.within in
-    let key = c.in_ok-from_slice.ensures.items ∙ c.split_at.ensures.back in
+    let key = c.in_ok-keyed_row.ensures.key ∙ c.split_at.ensures.back in
     let below = c.requires.tables c.args.change 0 at.0 in
     let few = c.tables.ensures.tables.0 in
     let is = c.index-table.ensures in (
@@ -35,8 +35,8 @@ returns-clause-slot g c =
       omega (arith, below, few, is),
     )
 
-pub returns-in_err-before-clause-device : goal.returns-in_err-before-clause-device
-returns-in_err-before-clause-device g c = λ honest before holds told.
+pub returns-in_err-keyed_row-clause-device : goal.returns-in_err-keyed_row-clause-device
+returns-in_err-keyed_row-clause-device g c = λ honest before holds told.
     let behind = behind_at c.args.tasks.now.tables.items c.args.tasks.now.places c.args.change c.requires.places c.requires.within in
     let table = c.index-table.result.now in
     let within : table < length c.args.catalog.now = omega (arith, c.requires.tables c.args.change 0 behind.0, c.index-table.ensures) in
@@ -44,7 +44,7 @@ returns-in_err-before-clause-device g c = λ honest before holds told.
     table _ c.index-tables-table.result c.split_at.result.1.now within (rw c.tables.ensures.same at c.index-tables-table.is) (ap length c.as_slice-columns.ensures ∙ ap (λ (t : TableDef). length t.key_marks) (sym c.index-tables-table.is)) in
     let p = err_from_is_err_and c.from_residual.result c.from_residual.ensures.1 in
     let is = ap (λ e. Err e) (sym p.2 ∙ err_same p.1 told) in
-    c.stored_row.ensures.device honest _ stored (c.in_err-before.was ∙ is)
+    c.keyed_row.ensures.device honest _ stored (c.in_err-keyed_row.was ∙ is)
 
 pub returns-clause-found : goal.returns-clause-found
 returns-clause-found g c = λ honest before holds.
@@ -53,4 +53,4 @@ returns-clause-found g c = λ honest before holds.
     let within : table < length c.args.catalog.now = omega (arith, c.requires.tables c.args.change 0 behind.0, c.index-table.ensures) in
     let stored = stored_there c.catalogs.ensures.place c.args.catalog.now (g.S.RowStore.contents c.args.store.now) before c.tables.ensures.tables holds
     table _ c.index-tables-table.result c.split_at.result.1.now within (rw c.tables.ensures.same at c.index-tables-table.is) (ap length c.as_slice-columns.ensures ∙ ap (λ (t : TableDef). length t.key_marks) (sym c.index-tables-table.is)) in
-    rw c.in_ok-from_slice.ensures.items (c.in_ok-before.ensures.found honest _ stored)
+    rw c.in_ok-keyed_row.ensures.key (c.in_ok-keyed_row.ensures.found honest _ stored)

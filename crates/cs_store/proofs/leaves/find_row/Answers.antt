@@ -1,40 +1,7 @@
-use Rattle.std.proofs.Common.{◌≡◌, ◌<◌, false, List, [], Some, ap, sym, subst, ◌∙◌, length, arith, eqb-true, T}
+use Rattle.std.proofs.Common.{sym, length, eqb-true}
 use Rattle.std.specs.Prelude.{pos}
-use Rattle.std.specs.Ordering.{is_eq}
-use Rattle.std.specs.FinMap.{find, is_sorted}
-use Rattle.std.proofs.lemmas.List.{get_or_default}
-use Rattle.cs_store.specs.Contents.{StorePlace, place_cmp}
-use Rattle.cs_store.specs.Entries.{Entry, nth}
-use Rattle.cs_store.specs.Leaves.{nth_leaf}
-use Rattle.cs_store.proofs.Showing.{equal_from}
-use Rattle.cs_store.proofs.Leafing.{find_in_leaf, find_there, find_nothing, leaf_sorted, none_in}
+use Rattle.cs_store.proofs.Leafing.{none_in}
 use Rattle.cs_store.proofs.leaves.find_row.Goals as goal
-use Rattle.cs_store.proofs.leaves.find_row.Goals.{else-at-len-via-then-at-len+else-is_eq, else-at-len-via-else-at-len}
 
 pub returns-then-is_empty : goal.returns-then-is_empty
 returns-then-is_empty c = sym (none_in c.args.leaves.now (pos c.args.table, c.args.key.now) (eqb-true (length c.args.leaves.now) 0 (sym c.if-is_empty.ensures)))
-
-pub returns-in_ok-from_slice : goal.returns-in_ok-from_slice
-returns-in_ok-from_slice c =
-    let leaves = c.args.leaves.now in
-    let at = c.leaf_for.result in
-    let p : StorePlace = (pos c.args.table, c.args.key.now) in
-    let less = c.leaf_for.ensures.bound.1 in
-    let its : c.index-leaves-leaf_for.result ≡ nth_leaf leaves at = c.index-leaves-leaf_for.is ∙ get_or_default leaves at c.index-leaves-leaf_for.result [] less in
-    let there = find_there c.index-leaves-leaf_for.result c.search-at.result p (omega (arith, c.if-at-len.true, c.len.ensures)) (subst (λ (l : List Entry). T (is_sorted place_cmp l)) (sym its) (leaf_sorted leaves at c.requires.rise less)) c.search-at.ensures.found
-    (sym c.compare.ensures ∙ equal_from c.compare.result (sym c.if-is_eq.ensures)) in
-    ap Some (c.in_ok-from_slice.ensures.items ∙ c.row.ensures) ∙ sym (find_in_leaf leaves at p c.requires less c.leaf_for.ensures.begins c.leaf_for.ensures.next ∙ ap (find place_cmp p) (sym its) ∙ there)
-
-pub returns-else-at-len : goal.returns-else-at-len
-returns-else-at-len c =
-    let leaves = c.args.leaves.now in
-    let at = c.leaf_for.result in
-    let p : StorePlace = (pos c.args.table, c.args.key.now) in
-    let less = c.leaf_for.ensures.bound.1 in
-    let its : c.index-leaves-leaf_for.result ≡ nth_leaf leaves at = c.index-leaves-leaf_for.is ∙ get_or_default leaves at c.index-leaves-leaf_for.result [] less in
-    let apart : c.search-at.result < length c.index-leaves-leaf_for.result → is_eq (place_cmp (nth c.index-leaves-leaf_for.result c.search-at.result).0 p) ≡ false = elim c.else-at-len.branch [
-      | else-at-len-via-then-at-len+else-is_eq w ↦ λ h. ap is_eq (sym w.compare.ensures) ∙ sym w.if-is_eq.ensures
-      | else-at-len-via-else-at-len w ↦ λ h. absurd (omega (arith, h, w.if-at-len.false, c.len.ensures))
-    ] in
-    let nothing = find_nothing c.index-leaves-leaf_for.result c.search-at.result p c.search-at.ensures.bound.1 (subst (λ (l : List Entry). T (is_sorted place_cmp l)) (sym its) (leaf_sorted leaves at c.requires.rise less)) c.search-at.ensures.found apart in
-    sym (find_in_leaf leaves at p c.requires less c.leaf_for.ensures.begins c.leaf_for.ensures.next ∙ ap (find place_cmp p) (sym its) ∙ nothing)
