@@ -1,31 +1,31 @@
 #!/bin/sh
-# Refuses a test each of its allocations in turn, one in a run of its own: `refused_memory_leaves_everything` of cs_store
-# commits twice to the store in memory, that of cs_apply applies a changeset, and that of cs_rebaser rebases one. Where that
-# is refused, the test looks whether everything is as it was, and makes the same call again. Each run has to pass.
-# Usage: bench/refuse_tests.sh CRATE [TESTS]
-# TESTS is the program of the crate's tests, as `rt test` leaves it (crates/CRATE/out/CRATE_tests); where none is given, it is
-# proved and built.
+# Refuses a test each of its allocations in turn, one in a run of its own: `refused_memory_leaves_everything` of the store
+# commits twice to the one in memory, that of `apply` applies a changeset, and that of the rebaser rebases one. Where that is
+# refused, the test looks whether everything is as it was, and makes the same call again. Each run has to pass.
+# Usage: bench/refuse_tests.sh store|apply|rebaser [TESTS]
+# TESTS is the program of their tests, as `rt test` leaves it (crates/cs_state_tests/out/cs_state_tests_tests); where none is
+# given, it is proved and built.
 set -eu
 bench="$(cd "$(dirname "$0")" && pwd)"
 tested="$1"
 tests="${2:-}"
 . "$bench/common.sh"
-# So many allocations at least: cs_store's test makes batches of 120 rows and a commit copies each key, cs_apply's four
-# changes, and cs_rebaser's reads and rebases three.
+# So many allocations at least: the store's test makes batches of 120 rows and a commit copies each key, that of `apply` four
+# changes, and the rebaser's reads and rebases three.
 case "$tested" in
-    cs_store) least=400 ;;
-    cs_apply) least=30 ;;
-    cs_rebaser) least=30 ;;
-    *) echo "no such test in $tested" >&2; exit 1 ;;
+    store) least=400 ;;
+    apply) least=30 ;;
+    rebaser) least=30 ;;
+    *) echo "no such test of $tested" >&2; exit 1 ;;
 esac
 command -v cc > /dev/null || { echo "no allocation refused: there is no C compiler here"; exit 0; }
 mkdir -p "$out"
 if [ -z "$tests" ]; then
-    (cd "$bench/../crates/$tested" && rt test > "$out/refused_tests.log" 2>&1) || {
+    (cd "$bench/../crates/cs_state_tests" && rt test > "$out/refused_tests.log" 2>&1) || {
         echo "the tests aren't built: see $out/refused_tests.log" >&2
         exit 1
     }
-    tests="$bench/../crates/$tested/out/${tested}_tests"
+    tests="$bench/../crates/cs_state_tests/out/cs_state_tests_tests"
 fi
 cc -O2 -Wall -Wextra -shared -fPIC "$bench/refuse_memory.c" -o "$out/refuse_memory.so" -ldl
 number=1
@@ -33,7 +33,7 @@ while true; do
     status=0
     # `env` stands behind `timeout`, whose own allocations would be counted and refused too.
     timeout 20 env REFUSE=$number LD_PRELOAD="$out/refuse_memory.so" "$tests" \
-        tests::refused_memory_leaves_everything > "$out/answers" 2> "$out/errors" 9> "$out/reached" || status=$?
+        "$tested::refused_memory_leaves_everything" > "$out/answers" 2> "$out/errors" 9> "$out/reached" || status=$?
     [ ! -s "$out/reached" ] || break
     [ "$status" -eq 0 ] || { echo "allocation $number: status $status, $(cat "$out/answers" "$out/errors")" >&2; exit 1; }
     number=$((number + 1))

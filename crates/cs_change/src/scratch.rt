@@ -46,6 +46,7 @@ impl Scratch {
             new_fields,
         })
     }
+
     /// Appends the INSERT of the row with the fields in it, which is made here.
     pub fn push_set_insert(
         &mut self,

@@ -21,6 +21,3 @@ pub use groups::{HeadedGroup, read_file};
 pub use header::read_header;
 pub use reading::read;
 pub use records::{read_old_fields, read_row};
-
-#[cfg(test)]
-mod tests;

@@ -27,6 +27,3 @@ pub use push::{PushHead, Pushed};
 pub mod laws;
 
 pub use rows::KeyedRow;
-
-#[cfg(test)]
-mod tests;

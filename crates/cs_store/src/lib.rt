@@ -25,6 +25,3 @@ pub use map_store::MapStore;
 pub use names::MetaName;
 pub use store::{RowStore, StoredRow};
 pub use trip::Trip;
-
-#[cfg(test)]
-mod tests;

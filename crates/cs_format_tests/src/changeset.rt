@@ -1,4 +1,4 @@
-use super::*;
+use cs_changeset::*;
 use std::alloc::Global;
 use std::process::Abort;
 use std::test::Fail;

@@ -1,6 +1,6 @@
 //! Changes, groups and changesets beside bytes that were written by hand.
 
-use super::*;
+use cs_change::*;
 use cs_record::{read_record, read_row};
 use cs_value::{Items, Memory, Text};
 use std::alloc::Global;

@@ -3,7 +3,7 @@
 
 ghost use Rattle.std.specs.Prelude.{◌≡◌, IfErr};
 
-use super::*;
+use cs_store::*;
 use std::alloc::{AllocError, Global};
 use std::test::Fail;
 

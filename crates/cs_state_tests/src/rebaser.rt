@@ -1,10 +1,10 @@
 //! Local changes of a table `t1` with a key column and another, and of `t2` with a key column and three others, from bytes
 //! to bytes.
 
-use super::*;
 use cs_changeset::read;
 use cs_group::normalise_alone;
 use cs_normal::Normal;
+use cs_rebaser::*;
 use cs_value::Memory;
 use std::alloc::Global;
 use std::process::Abort;

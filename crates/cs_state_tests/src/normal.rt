@@ -1,8 +1,8 @@
 //! Changesets as read and their normal forms, byte for byte.
 
-use super::*;
 use cs_change::{Change, Changeset, Group};
 use cs_changeset::read;
+use cs_normal::*;
 use cs_record::read_record;
 use cs_value::{Catalog, Items, Memory, TableDef, Text, Value};
 use std::alloc::{AllocError, Global};

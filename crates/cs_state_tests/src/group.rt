@@ -9,9 +9,9 @@ ghost use Rattle.cs_value.specs.Key.{FitsPlace, HasKey};
 ghost use Rattle.cs_value.specs.declared.value.Value.TheVariants.{Int};
 ghost use Rattle.cs_normal.specs.Normal.{FitsCatalog};
 
-use super::*;
 use cs_change::{Change, ChangesBuf};
 use cs_changeset::read;
+use cs_group::*;
 use cs_normal::{Normal, Unfit, normalise};
 use cs_record::{Row, RowBuf};
 use cs_value::{Catalog, Items, Memory, TableDef, Text, Value};

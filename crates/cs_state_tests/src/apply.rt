@@ -1,6 +1,6 @@
 //! Changesets over a store in memory, beside rows and answers that were written by hand.
 
-use super::*;
+use cs_apply::*;
 use cs_change::Changeset;
 use cs_changeset::read;
 use cs_conflict::{Conflict, Kind, Resolution};

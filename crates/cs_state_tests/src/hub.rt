@@ -1,5 +1,5 @@
-use super::*;
 use cs_changeset::read;
+use cs_hub::*;
 use cs_normal::normalise;
 use cs_value::{Catalog, Items, TableDef, Text};
 use std::alloc::Global;
