@@ -6,6 +6,7 @@ use Rattle.std.proofs.lemmas.Slice.Eq.{bytes_eq-Decides}
 use Rattle.std.proofs.lemmas.List.{get_or_default}
 use Rattle.std.proofs.lemmas.List.Elements.{recursion_from_All, All-from_recursion}
 use Rattle.cs_value.specs.declared.catalog.TableDef.{TableDef}
+use Rattle.cs_change.specs.Facts.{marks_stay}
 use Rattle.cs_change.specs.Spelling.{flag_byte, marks_of, FitsChangeset, FitsHeader}
 use Rattle.cs_change.specs.declared.group.Group.{Group}
 use Rattle.cs_normal.specs.Headers.{header, headers, has_other_name, tables_of_headers, HasTwoShapes, HaveCatalog}
@@ -13,7 +14,6 @@ use Rattle.cs_normal.specs.Normal.{FitsCatalog, IsOfTable}
 use Rattle.cs_normal.specs.declared.normal.TableChanges.{TableChanges}
 use Rattle.cs_sqlite.specs.KeyPlaces.{Head, heads_of}
 use Rattle.cs_sqlite.specs.Laws.{HeadsOfCatalog, IsHeadOf}
-use Rattle.cs_sqlite.proofs.Groups.{marks_stay}
 
 -- what a filter keeps is as all were
 kept : (P : TableDef → Type 0) (keep : TableDef → Bool) (tables : List TableDef) → AllByRecursion P tables → AllByRecursion P (filter keep tables)

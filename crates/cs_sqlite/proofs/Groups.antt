@@ -7,6 +7,7 @@ use Rattle.std.proofs.lemmas.List.{length-append, length-map}
 use Rattle.std.proofs.lemmas.List.Folds.{flat_map-map}
 use Rattle.std.proofs.lemmas.Slice.Eq.{bytes_eq-Decides}
 use Rattle.cs_varint.specs.Varint.{spelling}
+use Rattle.cs_change.specs.Facts.{marks_stay}
 use Rattle.cs_change.specs.Spelling.{flag_byte, is_nonzero, marks_of, change_spelling, changes_spelling, header_spelling, group_spelling, changeset_spelling, FitsChange, FitsChangeset, FitsHeader}
 use Rattle.cs_change.specs.declared.change.Change.{Change}
 use Rattle.cs_change.specs.declared.group.Group.{Group}
@@ -27,12 +28,6 @@ spelled heads table old headed new header changes =
     changes ∙ ap (λ (bytes : List ℕ). bytes ++ flat_map (λ (keyed : List ℕ × Change). change_spelling keyed.1) table.changes) header
     ∙ append_assoc old head (flat_map (λ (keyed : List ℕ × Change). change_spelling keyed.1) table.changes)
     ∙ ap (λ (bytes : List ℕ). old ++ (head ++ bytes)) (sym alike)
-
--- marks written as 1 and 0 are the marks
-pub marks_stay : (marks : List Bool) → marks_of (map flag_byte marks) ≡ marks
-marks_stay [] = refl
-marks_stay (true ∷ marks) = ap (λ (rest : List Bool). true ∷ rest) (marks_stay marks)
-marks_stay (false ∷ marks) = ap (λ (rest : List Bool). false ∷ rest) (marks_stay marks)
 
 -- column bytes of this table that a header can have
 record Suits (table : TableChanges) (columns : List ℕ) : Type 0 where
