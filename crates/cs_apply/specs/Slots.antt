@@ -1,4 +1,4 @@
--- What stands at the places of changes.
+-- What stands at the places of changes. Of a slot, `keyed.0` is the bytes of its key, and `keyed.1` the row or none of the store.
 use Rattle.std.specs.Prelude.{◌≡◌, Option, Some, None}
 use Rattle.cs_value.specs.Key.{Place}
 use Rattle.cs_apply.specs.declared.slots.Slot.{Slot}
