@@ -37,6 +37,10 @@ update=540201007431001700010000000000000001030276310003027632
 combined=54020100743100120001000000000000000103027632
 deleted=54020100743100090001000000000000000103027631
 rebased=540201007431001700010000000000000001030276320003027631
+# A row of a table whose second column comes first in its key, as SQLite writes it, in normal form, and of a key in the other order.
+turned=540202017431001200010000000000000001010000000000000002
+straight=540201017431001200010000000000000001010000000000000002
+other_order=54020102743100
 pushed=0100000007000000000000000100000000000000000000001654020100743100120001000000000000000103027631
 accepted=110000000700000000000000010000000000000001
 
@@ -50,6 +54,9 @@ expect 0 '' '' '' show changeset
 expect 0 "$deleted\nzz\n" 'table t1 10\ndelete omit 1 t=v1\n' '' show blob
 expect 0 "$insert\n$combined\nzz\n" "$rebased\n" '' rebase
 expect 0 "$insert\n" "$insert\n" '' rebase
+expect 0 "$turned\n" "$straight\n" '' combine
+expect 0 "$turned\n" "$turned\n" '' combine --sqlite
+expect 0 "$turned\n" "$turned\n" '' rebase --sqlite
 
 # 0, with help: the usage line, and a line for each command.
 for words in --help help; do
@@ -70,6 +77,8 @@ expect 1 '5402010074310012000503027631\n' '' 'sync: NullKey\n' combine
 expect 1 '50\n' '' 'sync: Patchset at 0\n' show changeset
 expect 1 "$update\n" '' 'sync: BadOperation at 7\n' show blob
 expect 1 "$insert\n5403010000743100\n" '' 'sync: WrongShape\n' rebase
+expect 1 "$turned\n$other_order\n" '' 'sync: KeyOrder\n' combine --sqlite
+expect 1 "$turned\n$other_order\n" '' 'sync: KeyOrder\n' rebase --sqlite
 
 # 2: the command line was refused, and nothing was read or written.
 expect 2 "$pushed\n" '' 'sync: command line\n'
@@ -77,6 +86,7 @@ expect 2 "$pushed\n" '' 'sync: command line\n' frob
 expect 2 "$pushed\n" '' 'sync: command line\n' hub --frob
 expect 2 "$insert\n" '' 'sync: command line\n' combine t1:10
 expect 2 "$insert\n" '' 'sync: command line\n' show
+expect 2 "$insert\n" '' 'sync: command line\n' show --sqlite changeset
 expect 2 "$insert\n" '' 'sync: command line\n' show nothing
 expect 2 "$pushed\n" '' 'sync: table t2:00\n' hub t1:10 t2:00 t3:00
 

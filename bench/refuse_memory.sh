@@ -95,4 +95,10 @@ printf '%s\n' 54020100743100120001000000000000000103027631 \
     540201007431001700010000000000000001030276310003027632 \
     54020100743100090001000000000000000203027631540101743200120001000000000000000a > "$out/changesets"
 refuse_tool "$out/changesets" combine
+refuse_tool "$out/changesets" combine --sqlite
 refuse_tool "$out/changesets" show changeset
+
+# An INSERT, and the rebase blob of another INSERT of that row.
+printf '%s\n' 54020100743100120001000000000000000103027631 54020100743100120001000000000000000103027632 > "$out/rebased_lines"
+refuse_tool "$out/rebased_lines" rebase
+refuse_tool "$out/rebased_lines" rebase --sqlite
