@@ -1,14 +1,17 @@
 -- Column bytes by the first header of a name.
-use Rattle.std.proofs.Common.{◌≡◌, ℕ, suc, zero, ◌+◌, ◌<◌, ◌≤◌, Bool, true, false, List, [], ◌∷◌, length, map, drop, take, get_or, refl, sym, subst, ap, ◌∙◌, add-one, arith}
+use Rattle.std.proofs.Common.{◌≡◌, ℕ, suc, zero, ◌+◌, ◌<◌, ◌≤◌, Bool, true, false, ◌&&◌, List, [], ◌∷◌, length, map, drop, take, get_or, refl, sym, subst, ap, ◌∙◌, add-one, arith}
 use Rattle.std.specs.List.{All, AllByRecursion, Contains}
+use Rattle.std.specs.Bool.{Decides}
 use Rattle.std.specs.Str.{bytes_eq}
 use Rattle.std.proofs.Math.Seq.{drop-cons}
 use Rattle.std.proofs.lemmas.List.Elements.{All-from_recursion}
 use Rattle.std.proofs.lemmas.Slice.Eq.{bytes_eq-Decides}
 use Rattle.std.proofs.lemmas.List.{get_or-map, length-map, drop_all, take_all}
-use Rattle.cs_sqlite.specs.KeyPlaces.{Head, columns_of, HaveOneOrder}
+use Rattle.cs_change.specs.Facts.{both, marks_stay}
+use Rattle.cs_change.specs.Spelling.{flag_byte, marks_of}
+use Rattle.cs_sqlite.specs.KeyPlaces.{AreAlike, Head, columns_of, HaveOneOrder}
 use Rattle.cs_sqlite.specs.Laws.{OneOrderOrTwo}
-use Rattle.cs_sqlite.specs.Steps.{head_of, heads_behind, IsAsFirst}
+use Rattle.cs_sqlite.specs.Steps.{first_columns, flags_of, head_of, heads_behind, is_alike, IsAsFirst}
 use Rattle.cs_sqlite.specs.declared.headers.Header.{Header}
 
 -- what holds of each element holds of this one
@@ -17,31 +20,79 @@ element P xs x all is = subst P is.2 (all is.0 x is.1)
 
 pub one_order_or_two : OneOrderOrTwo
 one_order_or_two heads one two =
-    let here : All (λ (other : Head). two.0.0 ≡ other.0 → two.0.1 ≡ other.1) heads =
-    element (λ (head : Head). All (λ (other : Head). head.0 ≡ other.0 → head.1 ≡ other.1) heads) heads two.0 one two.2 in
-    two.5 (element (λ (other : Head). two.0.0 ≡ other.0 → two.0.1 ≡ other.1) heads two.1 here two.3 two.4)
+    let here : All (λ (other : Head). AreAlike two.0 other → two.0.1 ≡ other.1) heads =
+    element (λ (head : Head). All (λ (other : Head). AreAlike head other → head.1 ≡ other.1) heads) heads two.0 one two.2 in
+    two.5 (element (λ (other : Head). AreAlike two.0 other → two.0.1 ≡ other.1) heads two.1 here two.3 two.4)
 
--- where a header has the name, its columns are found
-found : (name some other : List ℕ) (heads : List Head) (at : ℕ) (d : Head) → at < length heads → (get_or heads at d).0 ≡ name
-    → columns_of name some heads ≡ columns_of name other heads
-unfolding columns_of
-found name some other [] at d less is = absurd (omega (arith, less))
-found name some other (head ∷ heads) zero d less is =
-    let same : bytes_eq head.0 name ≡ true = (bytes_eq-Decides head.0 name).1 is in rw (same) refl
-found name some other (head ∷ heads) (suc at) d less is =
-    let split : (test : Bool) → bytes_eq head.0 name ≡ test → columns_of name some (head ∷ heads) ≡ columns_of name other (head ∷ heads) =
+-- ---- headers of one table with the same key columns
+
+-- column bytes have the same key columns where they are the same with 1 for each
+same_marks : (some other : List ℕ) → flags_of some ≡ flags_of other → marks_of some ≡ marks_of other
+same_marks some other same = sym (marks_stay (marks_of some)) ∙ ap marks_of same ∙ marks_stay (marks_of other)
+
+pub alike_decides : (head other : Head) → Decides (is_alike head other) (AreAlike head other)
+alike_decides head other =
+    let tells : is_alike head other ≡ true → AreAlike head other =
+    λ e. let parts = both (bytes_eq head.0 other.0) (bytes_eq (flags_of head.1) (flags_of other.1)) e in
+    ((bytes_eq-Decides head.0 other.0).0 parts.0, same_marks head.1 other.1 ((bytes_eq-Decides (flags_of head.1) (flags_of other.1)).0 parts.1)) in
+    let told : AreAlike head other → is_alike head other ≡ true =
+    λ is. let names = (bytes_eq-Decides head.0 other.0).1 is.0 in
+    let marks = (bytes_eq-Decides (flags_of head.1) (flags_of other.1)).1 (ap (λ (marks : List Bool). map flag_byte marks) is.1) in
+    rw (names, marks) refl in
+    (tells, told)
+
+-- alike headers are like the same ones
+like_both : (some other head : Head) → AreAlike some other → is_alike some head ≡ is_alike other head
+like_both some other head is =
+    ap (λ (name : List ℕ). bytes_eq name head.0 && bytes_eq (flags_of some.1) (flags_of head.1)) is.0
+    ∙ ap (λ (marks : List Bool). bytes_eq other.0 head.0 && bytes_eq (map flag_byte marks) (flags_of head.1)) is.1
+
+-- where one of them is there, alike headers have one first header
+same_first : (some other : Head) (heads : List Head) (at : ℕ) (d : Head) → at < length heads → AreAlike some other → AreAlike some (get_or heads at d)
+    → first_columns some heads ≡ first_columns other heads
+unfolding first_columns
+same_first some other [] at d less alike is = absurd (omega (arith, less))
+same_first some other (head ∷ heads) zero d less alike is =
+    let here : is_alike some head ≡ true = (alike_decides some head).1 is in
+    let there : is_alike other head ≡ true = sym (like_both some other head alike) ∙ here in
+    rw (here, there) refl
+same_first some other (head ∷ heads) (suc at) d less alike is =
+    let split : (test : Bool) → is_alike some head ≡ test → first_columns some (head ∷ heads) ≡ first_columns other (head ∷ heads) =
     elim [
-      | true ↦ λ e. rw e refl
-      | false ↦ λ e. rw e (found name some other heads at d (omega (arith, less)) is)
+      | true ↦ λ e. let there : is_alike other head ≡ true = sym (like_both some other head alike) ∙ e in rw (e, there) refl
+      | false ↦ λ e.
+          let there : is_alike other head ≡ false = sym (like_both some other head alike) ∙ e in
+          rw (e, there) (same_first some other heads at d (omega (arith, less)) alike is)
     ] in
-    split (bytes_eq head.0 name) refl
+    split (is_alike some head) refl
 
--- headers that are each as the first of their name have one order
+-- headers that are each as the first like them have one order
 pub one_order : (heads : List Head) → All (IsAsFirst heads) heads → HaveOneOrder heads
-one_order heads first k d less j e within same =
+one_order heads first k d less j e within alike =
     let head : Head = get_or heads k d in
     let other : Head = get_or heads j e in
-    sym (first k d less) ∙ ap (λ (name : List ℕ). columns_of name head.1 heads) same ∙ found other.0 head.1 other.1 heads j e within refl ∙ first j e within
+    sym (first k d less) ∙ same_first head other heads k d less alike (refl, refl) ∙ first j e within
+
+-- a header that is unlike is passed over
+pub passed_alike : (head : Head) (headers : List Header) (at : ℕ) (d : Header) → at < length headers
+    → is_alike head (head_of (get_or headers at d)) ≡ false
+    → first_columns head (heads_behind (drop at headers)) ≡ first_columns head (heads_behind (drop (at + 1) headers))
+unfolding first_columns
+passed_alike head headers at d less differ = rw (add-one, drop-cons headers at d less, differ) refl
+
+-- the first one that is alike is taken
+pub taken_alike : (head : Head) (headers : List Header) (at : ℕ) (d : Header) → at < length headers
+    → is_alike head (head_of (get_or headers at d)) ≡ true
+    → first_columns head (heads_behind (drop at headers)) ≡ (get_or headers at d).marks.now
+unfolding first_columns
+taken_alike head headers at d less same = rw (drop-cons headers at d less, same) refl
+
+-- where none is alike, the header's own column bytes are left
+pub none_alike : (head : Head) (headers : List Header) (at : ℕ) → length headers ≤ at → first_columns head (heads_behind (drop at headers)) ≡ head.1
+unfolding first_columns
+none_alike head headers at all = rw (drop_all at headers all) refl
+
+-- ---- headers of one name
 
 -- a header of another name is passed over
 pub passed : (name other : List ℕ) (headers : List Header) (at : ℕ) (d : Header) → at < length headers

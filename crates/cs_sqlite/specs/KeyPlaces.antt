@@ -2,7 +2,7 @@
 -- format"). SQLite applies a group only to a table with these bytes.
 use Rattle.std.specs.Prelude.{◌≡◌, ◌≢◌, ℕ, List, [], ◌∷◌, map, All, Contains, if◌then◌else◌}
 use Rattle.std.specs.Str.{bytes_eq}
-use Rattle.cs_change.specs.Spelling.{changeset_spelling, flag_byte}
+use Rattle.cs_change.specs.Spelling.{changeset_spelling, flag_byte, marks_of}
 use Rattle.cs_change.specs.declared.group.Group.{Group}
 use Rattle.cs_normal.specs.declared.normal.TableChanges.{TableChanges}
 use Rattle.cs_blob.specs.declared.blob.BlobGroup.{BlobGroup}
@@ -38,11 +38,15 @@ for_sqlite heads tables = map (group_for_sqlite heads) tables
 abbrev pub sqlite_spelling : List Head → List TableChanges → List ℕ
 sqlite_spelling heads tables = changeset_spelling (for_sqlite heads tables)
 
--- headers of one table have the same column bytes
-abbrev pub HaveOneOrder : List Head → Type 0
-HaveOneOrder heads = All (λ head. All (λ other. head.0 ≡ other.0 → head.1 ≡ other.1) heads) heads
+-- the same table and key columns
+abbrev pub AreAlike : Head → Head → Type 0
+AreAlike head other = (head.0 ≡ other.0) × (marks_of head.1 ≡ marks_of other.1)
 
--- two headers of one table have not
+-- headers of one table with the same key columns have the same column bytes
+abbrev pub HaveOneOrder : List Head → Type 0
+HaveOneOrder heads = All (λ head. All (λ other. AreAlike head other → head.1 ≡ other.1) heads) heads
+
+-- two of them have not: the key columns have two orders
 abbrev pub HasTwoOrders : List Head → Type 0
 HasTwoOrders heads =
-    (head : Head) × (other : Head) × Contains heads head × Contains heads other × (head.0 ≡ other.0) × (head.1 ≢ other.1)
+    (head : Head) × (other : Head) × Contains heads head × Contains heads other × AreAlike head other × (head.1 ≢ other.1)

@@ -1,7 +1,9 @@
 -- What the code holds: headers where they stand, as contracts see them, and what is found of them.
-use Rattle.std.specs.Prelude.{◌≡◌, ◌≢◌, ℕ, List, map, Option, Some, None, Contains}
+use Rattle.std.specs.Prelude.{◌≢◌, ◌≡◌, ◌&&◌, ℕ, Bool, List, [], ◌∷◌, map, Option, Some, None, Contains, if◌then◌else◌}
+use Rattle.std.specs.Str.{bytes_eq}
+use Rattle.cs_change.specs.Spelling.{flag_byte, marks_of}
 use Rattle.cs_sqlite.specs.declared.headers.Header.{Header}
-use Rattle.cs_sqlite.specs.KeyPlaces.{Head, columns_of}
+use Rattle.cs_sqlite.specs.KeyPlaces.{AreAlike, Head}
 
 abbrev pub head_of : Header → Head
 head_of header = (header.name.now, header.marks.now)
@@ -14,10 +16,23 @@ abbrev pub columns_or : List ℕ → Option Header → List ℕ
 columns_or other None = other
 columns_or other (Some header) = header.marks.now
 
--- the first header of its name has its column bytes
-abbrev pub IsAsFirst : List Head → Head → Type 0
-IsAsFirst heads head = columns_of head.0 head.1 heads ≡ head.1
+-- column bytes with 1 for each key column
+abbrev pub flags_of : List ℕ → List ℕ
+flags_of columns = map flag_byte (marks_of columns)
 
--- a header of its name has other bytes
+-- whether two headers are of one table with the same key columns
+abbrev pub is_alike : Head → Head → Bool
+is_alike head other = bytes_eq head.0 other.0 && bytes_eq (flags_of head.1) (flags_of other.1)
+
+-- the column bytes of the first header like this one; without one, its own
+unfoldable pub first_columns : Head → List Head → List ℕ
+first_columns head [] = head.1
+first_columns head (first ∷ heads) = if is_alike head first then first.1 else first_columns head heads
+
+-- the first header like this one has its column bytes
+abbrev pub IsAsFirst : List Head → Head → Type 0
+IsAsFirst heads head = first_columns head heads ≡ head.1
+
+-- a header like this one has other bytes
 abbrev pub HasOther : List Head → Head → Type 0
-HasOther heads head = (other : Head) × Contains heads other × (other.0 ≡ head.0) × (other.1 ≢ head.1)
+HasOther heads head = (other : Head) × Contains heads other × AreAlike head other × (head.1 ≢ other.1)

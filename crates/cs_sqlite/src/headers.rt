@@ -1,8 +1,9 @@
 //! Headers, and whether those of one table have the same column bytes.
 
-ghost use Rattle.std.specs.Prelude.{◌≡◌, ◌++◌, ℕ, true, false, List, MatchBool, OnOk, IfSome, Contains};
-ghost use Rattle.cs_sqlite.specs.KeyPlaces.{heads_of, blob_heads_of, columns_of, HaveOneOrder, HasTwoOrders};
-ghost use Rattle.cs_sqlite.specs.Steps.{head_of, heads_behind, columns_or, IsAsFirst, HasOther};
+ghost use Rattle.std.specs.Prelude.{◌≡◌, ◌↔◌, ◌++◌, ℕ, true, false, List, MatchBool, OnOk, IfSome, IsTrue, Contains};
+ghost use Rattle.cs_change.specs.Spelling.{marks_of};
+ghost use Rattle.cs_sqlite.specs.KeyPlaces.{heads_of, blob_heads_of, columns_of, AreAlike, HaveOneOrder, HasTwoOrders};
+ghost use Rattle.cs_sqlite.specs.Steps.{head_of, heads_behind, columns_or, first_columns, IsAsFirst, HasOther};
 
 use cs_blob::BlobGroup;
 use cs_change::Group;
@@ -48,8 +49,7 @@ pub fn put_blob_headers<'a>(
 
 /// The first header of this name.
 pub(crate) fn find<'a>(name: &str, headers: &[Header<'a>]) -> Option<Header<'a>>
-    ensures columns { (other : List ℕ) → columns_of name.now other (heads_behind headers.now) ≡ columns_or other result }
-    ensures named { IfSome result (λ found. (found.name.now ≡ name.now) × Contains (heads_behind headers.now) (head_of found)) }
+    ensures { (other : List ℕ) → columns_of name.now other (heads_behind headers.now) ≡ columns_or other result }
 {
     for header in headers {
         if header.name == name {
@@ -59,18 +59,60 @@ pub(crate) fn find<'a>(name: &str, headers: &[Header<'a>]) -> Option<Header<'a>>
     None
 }
 
-/// Whether the first header of the name of this one has its column bytes.
+/// Whether the same columns are key columns.
+fn same_keys(some: &[u8], other: &[u8]) -> bool
+    ensures { IsTrue result ↔ (marks_of some.now ≡ marks_of other.now) }
+{
+    let mut some = some;
+    let mut other = other;
+    loop {
+        match (some.split_first(), other.split_first()) {
+            (None, None) => return true,
+            (Some((one, more)), Some((another, others))) => {
+                if (*one != 0) != (*another != 0) {
+                    return false;
+                }
+                some = more;
+                other = others;
+            }
+            _ => return false,
+        }
+    }
+}
+
+/// Whether two headers are of one table with the same key columns.
+fn are_alike(header: &Header<'_>, other: &Header<'_>) -> bool
+    ensures { IsTrue result ↔ AreAlike (head_of header.now) (head_of other.now) }
+{
+    header.name == other.name && same_keys(header.marks, other.marks)
+}
+
+/// The first header like this one.
+fn find_alike<'a>(header: &Header<'_>, headers: &[Header<'a>]) -> Option<Header<'a>>
+    ensures columns { first_columns (head_of header.now) (heads_behind headers.now) ≡ columns_or header.now.marks.now result }
+    ensures alike { IfSome result (λ found.
+        AreAlike (head_of header.now) (head_of found) × Contains (heads_behind headers.now) (head_of found)) }
+{
+    for other in headers {
+        if are_alike(header, other) {
+            return Some(*other);
+        }
+    }
+    None
+}
+
+/// Whether the first header like this one has its column bytes.
 fn is_as_first(header: &Header<'_>, headers: &[Header<'_>]) -> bool
     ensures same { result ≡ true → IsAsFirst (heads_behind headers.now) (head_of header.now) }
     ensures other { result ≡ false → HasOther (heads_behind headers.now) (head_of header.now) }
 {
-    match find(header.name, headers) {
-        Some(first) => first.marks == header.marks,
+    match find_alike(header, headers) {
+        Some(first) => header.marks == first.marks,
         None => true,
     }
 }
 
-/// Whether the headers of each table have the same column bytes.
+/// Whether the headers of each table with the same key columns have the same column bytes.
 pub fn has_one_order(headers: &[Header<'_>]) -> bool
     ensures { MatchBool result (HaveOneOrder (heads_behind headers.now)) (HasTwoOrders (heads_behind headers.now)) }
 {

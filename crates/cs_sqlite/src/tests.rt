@@ -113,13 +113,15 @@ fn headers_as_read(rt: HostRuntime) -> Result<(), Fail> {
 #[test]
 fn one_order(rt: HostRuntime) -> Result<(), Fail> {
     let alloc = rt.alloc();
-    let cases: [(Spelled<'_>, bool); 6] = [
+    let cases: [(Spelled<'_>, bool); 8] = [
         (&[], true),
         (&[("t1", &[1, 2]), ("t2", &[2, 1])], true),
         (&[("t1", &[2, 1]), ("t2", &[1, 2]), ("t1", &[2, 1])], true),
         (&[("t1", &[1, 2]), ("t1", &[2, 1])], false),
         (&[("t2", &[1, 2]), ("t1", &[1, 2]), ("t1", &[2, 1])], false),
-        (&[("t1", &[1]), ("t1", &[1, 0])], false),
+        (&[("t1", &[1]), ("t1", &[1, 0])], true),
+        (&[("t1", &[1, 0]), ("t1", &[0, 1])], true),
+        (&[("t1", &[1, 2]), ("t1", &[1, 0]), ("t1", &[2, 1])], false),
     ];
     for (tables, one) in &cases {
         let headers = headers_of(alloc, tables)?;
