@@ -160,6 +160,8 @@ fn rebased_by_the_headers_of_both(rt: HostRuntime) -> Result<(), Fail> {
     let same = [
         format!(in alloc; "{some}{local}\n{some}{entry}\n")?,
         format!(in alloc; "{some}{local}\n{second}1200{A}{some}{entry}\n")?,
+        // Two shapes of a table that isn't rebased.
+        format!(in alloc; "{some}{local}\n{second}54020201743200{some}{entry}\n")?,
     ];
     for input in &same {
         let kept = format!(in alloc; "{some}{left}")?;
