@@ -1,6 +1,6 @@
 -- The headers of changesets are headers of each changeset of the catalog that they tell of.
-use Rattle.std.proofs.Common.{◌≡◌, ◌≢◌, ℕ, Bool, true, false, not, List, [], ◌∷◌, ◌++◌, map, get_or, refl, sym, subst, ap, ◌∙◌, inl, inr, ◌⊎◌}
-use Rattle.std.specs.List.{All, AllByRecursion, Contains, filter, flat_map}
+use Rattle.std.proofs.Common.{◌≡◌, ◌≢◌, ℕ, Bool, true, false, List, [], ◌∷◌, ◌++◌, map, get_or, refl, sym, ap, ◌∙◌, inl, inr, ◌⊎◌}
+use Rattle.std.specs.List.{AllByRecursion, Contains, filter, flat_map}
 use Rattle.std.specs.Str.{bytes_eq}
 use Rattle.std.proofs.lemmas.Slice.Eq.{bytes_eq-Decides}
 use Rattle.std.proofs.lemmas.List.{get_or_default}
@@ -9,7 +9,7 @@ use Rattle.cs_value.specs.declared.catalog.TableDef.{TableDef}
 use Rattle.cs_change.specs.Facts.{marks_stay}
 use Rattle.cs_change.specs.Spelling.{flag_byte, marks_of, FitsChangeset, FitsHeader}
 use Rattle.cs_change.specs.declared.group.Group.{Group}
-use Rattle.cs_normal.specs.Headers.{header, headers, has_other_name, tables_of_headers, HasTwoShapes, HaveCatalog}
+use Rattle.cs_normal.specs.Headers.{header, headers, has_other_name, tables_of_headers, HasTwoShapes}
 use Rattle.cs_normal.specs.Normal.{FitsCatalog, IsOfTable}
 use Rattle.cs_normal.specs.declared.normal.TableChanges.{TableChanges}
 use Rattle.cs_sqlite.specs.KeyPlaces.{Head, heads_of}
