@@ -1,15 +1,14 @@
 -- Writing for SQLite has one answer, up to want of memory.
-use Rattle.std.proofs.Common.{◌≡◌, inl, inr, ℕ, List, [], ◌∷◌, refl, sym, ap, subst, ◌∙◌}
+use Rattle.std.proofs.Common.{◌≡◌, inl, inr, ℕ, List, refl, sym, ap, subst, ◌∙◌}
 use Rattle.cs_value.specs.declared.catalog.TableDef.{TableDef}
 use Rattle.cs_change.specs.declared.group.Group.{Group}
 use Rattle.cs_changeset.specs.Laws.{ChangesetLaws}
-use Rattle.cs_normal.specs.Headers.{headers, HaveCatalog}
 use Rattle.cs_normal.specs.Laws.{NoFaultWhereFit}
 use Rattle.cs_normal.specs.NormalFormOf.{IsNormalFormOf}
 use Rattle.cs_normal.specs.declared.normal.TableChanges.{TableChanges}
-use Rattle.cs_sqlite.specs.KeyPlaces.{heads_of, sqlite_spelling, HaveOneOrder, HasTwoOrders}
+use Rattle.cs_sqlite.specs.KeyPlaces.{heads_of, sqlite_spelling, HaveOneOrder}
 use Rattle.cs_sqlite.specs.Laws.{OneOrderOrTwo}
-use Rattle.cs_ffi.specs.Answers.{no_memory, Spell, UpToMemory}
+use Rattle.cs_ffi.specs.Answers.{no_memory, UpToMemory}
 use Rattle.cs_ffi.specs.NormalAnswers.{Declare, DeclareNone, IsFitInput, IsFormRefusal}
 use Rattle.cs_ffi.specs.SqliteAnswers.{AnswersForSqlite, CanSpellForSqlite, DeclareInOrder, DeclareTwoOrders, IsSqliteRefusal, SpellForSqlite}
 use Rattle.cs_ffi.specs.Laws.{AnswerLaws, OneSqliteAnswer}

@@ -1,4 +1,4 @@
-use Rattle.std.proofs.Common.{inr, refl}
+use Rattle.std.proofs.Common.{inr}
 use Rattle.std.proofs.lemmas.Result.{err_from_is_err_and}
 use Rattle.cs_ffi.specs.NormalAnswers.{Declare}
 use Rattle.cs_ffi.proofs.normal.normal_bytes.Goals as goal
