@@ -1,20 +1,12 @@
 -- The headers that come in are headers of the tables that are written.
-use Rattle.std.proofs.Common.{◌≡◌, ◌≢◌, ℕ, zero, suc, ◌<◌, List, [], ◌∷◌, ◌++◌, length, get_or, refl, sym, ap, subst, ◌∙◌, arith, inl, inr}
-use Rattle.std.specs.Prelude.{Contains}
+use Rattle.std.proofs.Common.{List, [], ◌∷◌, ◌++◌, get_or, subst}
 use Rattle.std.specs.List.{AllByRecursion, flat_map}
 use Rattle.std.proofs.lemmas.List.{append-nil}
 use Rattle.std.proofs.lemmas.List.Elements.{All-from_recursion, recursion_from_All}
-use Rattle.cs_value.specs.declared.catalog.TableDef.{TableDef}
-use Rattle.cs_change.specs.Spelling.{FitsChangeset, FitsGroup}
-use Rattle.cs_change.specs.declared.group.Group.{Group}
 use Rattle.cs_blob.specs.Spelling.{FitsBlob}
 use Rattle.cs_blob.specs.declared.blob.BlobGroup.{BlobGroup}
 use Rattle.cs_normal.specs.Changes.{Changes}
-use Rattle.cs_normal.specs.Laws.{CatalogIsApart, HeadersHaveTables}
-use Rattle.cs_normal.specs.Normal.{AreApart, FitsCatalog, IsOfTable}
-use Rattle.cs_normal.specs.NormalFormOf.{HasTable, HaveTables}
 use Rattle.cs_normal.specs.declared.normal.TableChanges.{TableChanges}
-use Rattle.cs_group.specs.Combined.{IsCombined, tables_of}
 use Rattle.cs_rebaser.specs.Rebased.{HasShapeOf, HaveShapes, rebased, rebased_changes, with_changes}
 use Rattle.cs_rebaser.specs.RebasedLaws.{RebasedIsNormal}
 use Rattle.cs_sqlite.specs.KeyPlaces.{Head, heads_of, blob_heads_of}
