@@ -19,9 +19,9 @@ use std::collections::BTreeMap;
 use std::marker::Model;
 
 /// A store in memory. Contracts see what it holds. It never answers `Device`, and a stop leaves what it holds. Its rows lie in
-/// leaves, in order, each packed into one list of bytes: a look-up begins where the last one ended, and halves the leaves and then
-/// one leaf where its place isn't near, and a commit makes each leaf anew that its edits fall into, so a commit of one row costs the logarithm of the rows that are there, but for a walk
-/// over the list of leaves where one is cut or goes. Its log has at most 4,294,967,295 entries; a commit of one more answers
+/// leaves, in order, each packed into one list of bytes. A look-up begins where the last one ended; where its place isn't near,
+/// it halves the leaves and then one leaf. A commit makes each leaf anew that its edits fall into, so a commit of one row costs
+/// the logarithm of the rows that are there, but for a walk over the list of leaves where one is cut or goes. Its log has at most 4,294,967,295 entries; a commit of one more answers
 /// `Memory`. (Profile of this project.)
 #[derive(Drop)]
 pub struct MapStore {

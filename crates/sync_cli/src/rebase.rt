@@ -107,7 +107,8 @@ fn rebased_bytes<R: LineInput>(
 /// Writes the changeset that the first line of the input spells in hex, rebased over the rebase blob that the second one
 /// spells, in this form, and answers the status: 0 where it was written; 1 where a line, its changeset or its blob was
 /// refused, or the form can't be written (`KeyOrder`, told last), memory was wanting, or a read or write failed. A line that
-/// isn't there is the empty one; the lines behind the second are left unread. (Profile of this project over SQLite's "Session Extension", `sqlite3rebaser_rebase`.)
+/// isn't there is the empty one; the lines behind the second are left unread. (Profile of this project over SQLite's
+/// "Session Extension", `sqlite3rebaser_rebase`.)
 pub fn rebase_lines<R: LineInput, W: LineOutput, E: Write>(
     alloc: Global,
     form: Form,
