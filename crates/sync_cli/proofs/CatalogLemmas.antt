@@ -9,9 +9,8 @@ use Rattle.cs_value.specs.declared.catalog.CatalogFault.TheVariants.{Width, NoKe
 use Rattle.cs_value.specs.Catalog.{AreTables, IsCatalogFault, IsTable, IsTableFault, HasFirstTableFault}
 use Rattle.sync_cli.specs.TableWord.{SpellsTable}
 use Rattle.sync_cli.specs.Laws.{NoCatalogRefused, OneCatalog, OneRefusedWord}
-use Rattle.sync_cli.specs.CatalogWords.{IsCatalogOf, IsFirstRefused, IsRefusedAt, status_of}
-use Rattle.sync_cli.specs.declared.table.Refused.{Refused}
-use Rattle.sync_cli.specs.declared.table.Refused.TheVariants.{Memory, Word}
+use Rattle.sync_cli.specs.CatalogWords.{IsCatalogOf, IsFirstRefused, IsRefusedAt}
+use Rattle.sync_cli.specs.declared.fault.RunFault.TheVariants.{Table}
 use Rattle.sync_cli.proofs.WordLemmas.{spelled_once}
 
 pub zip_more : (words : List (List ℕ)) (tables : List TableDef) (word : List ℕ) (table : TableDef)
@@ -118,12 +117,6 @@ one_refused_word words place other first second =
       | inr (inl before) ↦ absurd (refused_before words place other before first second)
       | inr (inr behind) ↦ absurd (refused_before words other place behind second first)
     ]
-
--- words that are refused somewhere are no catalog
-pub refused_words : (refused : Refused) (words : List (List ℕ)) → IsFirstRefused refused words → status_of refused ≡ 2
-    → (tables : List TableDef) → IsCatalogOf words tables → ⊥
-refused_words Memory words first two = absurd (omega arith)
-refused_words (Word word) words first two = λ tables catalog. no_catalog_refused words tables first.0 catalog first.2
 
 -- the same over things that hold a word each
 module _ {A : Type 0} (word_of : A → List ℕ) (xs : List A) where

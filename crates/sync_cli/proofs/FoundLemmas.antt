@@ -8,8 +8,8 @@ use Rattle.std.proofs.lemmas.Slice.Eq.{bytes_eq-Decides}
 use Rattle.std.specs.Str.{bytes_eq}
 use Rattle.clap.specs.Words.{ReadsOne, Row, Text, all_of, one_of}
 use Rattle.sync_cli.specs.CommandLine.{form_of, tables_in, tool_of_what}
-use Rattle.sync_cli.specs.declared.command.Form.TheVariants.{Normal, Sqlite}
-use Rattle.sync_cli.specs.declared.command.Tool.TheVariants.{ShowBlob, ShowChangeset}
+use Rattle.cs_tools.specs.declared.tool.Form.TheVariants.{Normal, Sqlite}
+use Rattle.cs_tools.specs.declared.tool.Tool.TheVariants.{ShowBlob, ShowChangeset}
 
 pub both_parts : {B X Y : Type 0} (o : Option B) (f : B → X) (g : B → Y) (x : X) (y : Y)
     → Some x ≡ option_map f o → Some y ≡ option_map {U = Y} (λ (p : X × Y). p.1) (option_map {U = X × Y} (λ b. (f b, g b)) o)

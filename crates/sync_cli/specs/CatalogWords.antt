@@ -4,8 +4,8 @@ use Rattle.std.specs.List.{AllZip, HoldsAt}
 use Rattle.cs_value.specs.Catalog.{AreTables}
 use Rattle.cs_value.specs.declared.catalog.TableDef.{TableDef}
 use Rattle.sync_cli.specs.TableWord.{SpellsTable}
-use Rattle.sync_cli.specs.declared.table.Refused.{Refused}
-use Rattle.sync_cli.specs.declared.table.Refused.TheVariants.{Memory, Word}
+use Rattle.sync_cli.specs.declared.fault.RunFault.{RunFault}
+use Rattle.sync_cli.specs.declared.fault.RunFault.TheVariants.{Memory, Table}
 
 -- each word spells its table, in order, and the tables are a catalog
 abbrev pub IsCatalogOf : List (List ℕ) → List TableDef → Type 0
@@ -22,12 +22,8 @@ IsRefusedAt words place =
     × AreNoCatalog (take (place + 1) words)
 
 -- memory was refused, or the word stands at the first place at which the words are refused
-abbrev pub IsFirstRefused : Refused → List (List ℕ) → Type 0
+abbrev pub IsFirstRefused : RunFault → List (List ℕ) → Type 0
 IsFirstRefused Memory words = Unit {0}
-IsFirstRefused (Word word) words =
+IsFirstRefused (Table word) words =
     (place : ℕ) × HoldsAt (λ w. w ≡ word.now) words place × IsRefusedAt words place
-
--- the status with which a run ends for this
-abbrev pub status_of : Refused → ℕ
-status_of Memory = 1
-status_of (Word word) = 2
+IsFirstRefused _ words = ⊥

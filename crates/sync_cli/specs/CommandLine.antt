@@ -5,10 +5,10 @@ use Rattle.clap.specs.Faults.{fault_of}
 use Rattle.clap.specs.Kinds.{Kinds}
 use Rattle.clap.specs.Words.{App, Row, Rule, Text, all_of, first_of, new_app, new_rule, one_of, subcommand_of, with_rule, with_subcommand}
 use Rattle.clap.specs.declared.builder.action.ArgAction.TheVariants.{Append, SetTrue}
-use Rattle.sync_cli.specs.declared.command.Form.{Form}
-use Rattle.sync_cli.specs.declared.command.Form.TheVariants.{Normal, Sqlite}
-use Rattle.sync_cli.specs.declared.command.Tool.{Tool}
-use Rattle.sync_cli.specs.declared.command.Tool.TheVariants.{Combine, Rebase, ShowBlob, ShowChangeset}
+use Rattle.cs_tools.specs.declared.tool.Form.{Form}
+use Rattle.cs_tools.specs.declared.tool.Form.TheVariants.{Normal, Sqlite}
+use Rattle.cs_tools.specs.declared.tool.Tool.{Tool}
+use Rattle.cs_tools.specs.declared.tool.Tool.TheVariants.{Combine, Rebase, ShowBlob, ShowChangeset}
 
 -- `TABLE...`, which may be left out
 abbrev pub table_rule : Rule

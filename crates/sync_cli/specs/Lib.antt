@@ -1,11 +1,5 @@
 pub mod CatalogWords
-pub mod CombinedLines
 pub mod CommandLine
 pub mod Endings
 pub mod Laws
-pub mod LinesRead
-pub mod RebasedLine
-pub mod ShownLine
-pub mod SpelledLine
 pub mod TableWord
-pub mod WrittenForm

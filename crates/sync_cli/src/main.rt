@@ -14,21 +14,17 @@
 //! `bench/check_program.sh`.
 #![tactic(auto)]
 
-mod combine;
 mod command;
+mod fault;
 mod hub;
-mod input;
 mod laws;
-mod output;
-mod rebase;
 mod run;
-mod show;
 mod status;
 mod table;
-mod written;
 
-use crate::status::{COMMAND_LINE, MEMORY, REFUSED_COMMAND, REFUSED_INPUT, tell};
-use std::io::{BufReader, BufWriter, ErrorKind, Write};
+use crate::fault::RunFault;
+use crate::status::tell_end;
+use std::io::{BufReader, BufWriter, ErrorKind};
 use std::process::ExitCode;
 use std::{env, io};
 
@@ -36,10 +32,11 @@ use std::{env, io};
 const OUTPUT_BUFFER: usize = 65_536;
 
 fn main(rt: HostRuntime) -> ExitCode {
-    match start(&rt) {
-        Ok(status) => ExitCode::from(status),
-        Err(error) => ExitCode::from(tell_refused_start(&error, &mut rt.stderr())),
-    }
+    let status = match start(&rt) {
+        Ok(status) => status,
+        Err(error) => tell_end(&Err(refused_start(&error)), &mut rt.stderr()),
+    };
+    ExitCode::from(status)
 }
 
 fn start(rt: &HostRuntime) -> io::Result<u8> {
@@ -47,21 +44,15 @@ fn start(rt: &HostRuntime) -> io::Result<u8> {
     let words: Vec<String> = env::args(rt)?.collect(alloc)?;
     let mut reader = BufReader::new(alloc, rt.reader())?;
     let mut writer = BufWriter::with_capacity(alloc, OUTPUT_BUFFER, io::writer(rt))?;
-    let mut errors = rt.stderr();
-    Ok(run::run(
-        alloc,
-        words.as_slice(),
-        &mut reader,
-        &mut writer,
-        &mut errors,
-    ))
+    let ended = run::run(alloc, words.as_slice(), &mut reader, &mut writer);
+    Ok(tell_end(&ended, &mut rt.stderr()))
 }
 
 // A word that is no text is refused; else there was no memory to begin with.
-fn tell_refused_start<E: Write>(error: &io::Error, errors: &mut E) -> u8 {
+fn refused_start<'w>(error: &io::Error) -> RunFault<'w> {
     match error.kind() {
-        ErrorKind::InvalidData => tell(errors, COMMAND_LINE, REFUSED_COMMAND),
-        _ => tell(errors, MEMORY, REFUSED_INPUT),
+        ErrorKind::InvalidData => RunFault::CommandLine,
+        _ => RunFault::Memory,
     }
 }
 

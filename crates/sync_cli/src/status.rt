@@ -1,34 +1,33 @@
-//! How a run ends, and the line that tells of it.
+//! The statuses with which the program ends, and the line that tells of it.
 
 ghost use Rattle.std.specs.Prelude.{◌≡◌};
+ghost use Rattle.sync_cli.specs.Endings.{status_of};
 
+use crate::fault::RunFault;
 use std::io::Write;
 
 /// All was done.
-pub const DONE: u8 = 0;
+const DONE: u8 = 0;
 
 /// The input was refused, or a read or write failed, or memory was refused.
-pub const REFUSED_INPUT: u8 = 1;
+const REFUSED_INPUT: u8 = 1;
 
 /// The command line was refused.
-pub const REFUSED_COMMAND: u8 = 2;
+const REFUSED_COMMAND: u8 = 2;
 
-/// The line that tells a refused command line.
-pub const COMMAND_LINE: &str = "sync: command line";
-
-/// The line that tells that memory was refused.
-pub const MEMORY: &str = "sync: Memory";
-
-/// The line that tells a failed read.
-pub const READ: &str = "sync: Read";
-
-/// The line that tells a failed write.
-pub const WRITE: &str = "sync: Write";
-
-/// Writes the line, whether or not that succeeds, and answers the status.
-pub fn tell<E: Write>(errors: &mut E, line: &str, status: u8) -> u8
-    ensures { result ≡ status }
+/// Tells why a run ended early by one line, whether or not that can be written, and answers the status with which the program
+/// ends. Where all was done, nothing is told.
+pub fn tell_end<E: Write>(ended: &Result<(), RunFault<'_>>, errors: &mut E) -> u8
+    ensures { result ≡ status_of ended.now }
 {
-    let _ = writeln!(errors, "{line}");
-    status
+    match ended {
+        Ok(()) => DONE,
+        Err(fault) => {
+            let _ = writeln!(errors, "sync: {fault}");
+            match fault {
+                RunFault::CommandLine | RunFault::Table(_) => REFUSED_COMMAND,
+                _ => REFUSED_INPUT,
+            }
+        }
+    }
 }

@@ -5,27 +5,19 @@ ghost use Rattle.cs_value.specs.declared.catalog.TableDef.{TableDef as Table};
 ghost use Rattle.sync_cli.specs.TableWord.{digit_value, mark_digit, spelled_name, SpellsTable};
 ghost use Rattle.sync_cli.specs.CatalogWords.{IsCatalogOf, IsFirstRefused};
 
+use crate::fault::RunFault;
 use cs_text::is_plain;
 use cs_value::{Catalog, Items, Memory, TableDef, Text};
 use std::alloc::Global;
 use std::str;
 
-/// Why words are no catalog.
-#[derive(Drop)]
-pub enum Refused<'w> {
-    /// Memory was refused.
-    Memory,
-    /// The first word with which the words up to it are no catalog.
-    Word(&'w str),
-}
-
 /// The catalog of these words, in their order, or the first of them that is refused.
-pub fn catalog<'w>(alloc: Global, words: &[&'w str]) -> Result<Catalog, Refused<'w>>
+pub fn catalog<'w>(alloc: Global, words: &[&'w str]) -> Result<Catalog, RunFault<'w>>
     ensures ok { IfOk result (λ catalog. IsCatalogOf (map (λ word. word.now) words.now) catalog) }
     ensures refused { IfErr result (λ refused. IsFirstRefused refused (map (λ word. word.now) words.now)) }
 {
     let Ok(whole) = try_catalog(alloc, words) else {
-        return Err(Refused::Memory);
+        return Err(RunFault::Memory);
     };
     if let Some(catalog) = whole {
         return Ok(catalog);
@@ -33,8 +25,8 @@ pub fn catalog<'w>(alloc: Global, words: &[&'w str]) -> Result<Catalog, Refused<
     for (place, word) in words.iter().enumerate() {
         match try_catalog(alloc, &words[..place + 1]) {
             Ok(Some(_)) => {}
-            Ok(None) => return Err(Refused::Word(*word)),
-            Err(_) => return Err(Refused::Memory),
+            Ok(None) => return Err(RunFault::Table(*word)),
+            Err(_) => return Err(RunFault::Memory),
         }
     }
     unreachable!()

@@ -1,0 +1,6 @@
+pub mod EndingLemmas
+pub mod FaultLaws
+pub mod FormLemmas
+pub mod InputLemmas
+pub mod RefusalLemmas
+pub mod TextLaws

@@ -1,0 +1,14 @@
+use Rattle.cs_tools.proofs.FaultLaws.{one_fault}
+use Rattle.cs_tools.proofs.laws.one_fault.Goals as goal
+
+pub returns : goal.returns
+returns c =
+    one_fault record {
+      changesets = c.changesets.ensures;
+      blobs = c.blobs.ensures;
+      combined = c.one_combined.ensures;
+      none = c.no_fault_where_combined.ensures;
+      one = c.one_combine_fault.ensures;
+      shapes = c.no_wrong_shape.ensures;
+      orders = c.one_order_or_two.ensures;
+    }

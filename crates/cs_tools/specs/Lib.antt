@@ -1,0 +1,9 @@
+pub mod Faults
+pub mod LinesRead
+pub mod SpelledLine
+pub mod WrittenForm
+pub mod CombinedLines
+pub mod RebasedLine
+pub mod ShownLine
+pub mod Endings
+pub mod Laws

@@ -1,0 +1,22 @@
+//! The tools of the program `sync`: changesets and rebase blobs as lines of hex, taken together, rebased or shown.
+//!
+//! It stands on `cs_lines` for the lines and `hex` for their bytes, on `cs_group` for changesets as one, on `cs_rebaser` for
+//! rebased ones, on `cs_sqlite` for the column bytes that came in and on `cs_text` for what is shown, and only wires them.
+//! `run_tool` promises for each tool which text is written (`specs/Endings.antt`, `Owes`), and where none is, which fault of the
+//! lines is the reason (`Refuses`): the first one, in the order in which they are judged. `laws` say that an input has one
+//! text or one such fault.
+#![tactic(auto)]
+
+mod combine;
+mod fault;
+mod input;
+pub mod laws;
+mod output;
+mod rebase;
+mod show;
+mod tool;
+mod written;
+
+pub use fault::ToolFault;
+pub use output::write_text;
+pub use tool::{Form, Tool, run_tool};

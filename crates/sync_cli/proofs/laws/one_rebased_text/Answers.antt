@@ -1,5 +1,0 @@
-use Rattle.sync_cli.proofs.TextLaws.{one_rebased_text}
-use Rattle.sync_cli.proofs.laws.one_rebased_text.Goals as goal
-
-pub returns : goal.returns
-returns c = one_rebased_text c.one_combined.ensures c.changesets.ensures.one c.blobs.ensures.one

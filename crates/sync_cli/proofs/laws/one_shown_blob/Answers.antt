@@ -1,5 +1,0 @@
-use Rattle.sync_cli.proofs.TextLaws.{one_shown_blob}
-use Rattle.sync_cli.proofs.laws.one_shown_blob.Goals as goal
-
-pub returns : goal.returns
-returns c = one_shown_blob c.blobs.ensures.one

@@ -1,5 +1,0 @@
-use Rattle.sync_cli.proofs.TextLaws.{one_shown_changeset}
-use Rattle.sync_cli.proofs.laws.one_shown_changeset.Goals as goal
-
-pub returns : goal.returns
-returns c = one_shown_changeset c.changesets.ensures.one

@@ -1,5 +1,0 @@
-use Rattle.sync_cli.proofs.FormLemmas.{rebased_stays}
-use Rattle.sync_cli.proofs.laws.rebased_stays_the_same.Goals as goal
-
-pub returns : goal.returns
-returns c = rebased_stays c.heads_of_catalog.ensures c.rebased_is_normal.ensures c.stays_the_same.ensures
