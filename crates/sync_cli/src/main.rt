@@ -57,14 +57,6 @@ fn refused_start<'w>(error: &io::Error) -> RunFault<'w> {
 }
 
 #[cfg(test)]
-mod combine_tests;
-#[cfg(test)]
-mod fault_texts;
-#[cfg(test)]
-mod rebase_tests;
-#[cfg(test)]
 mod sessions;
-#[cfg(test)]
-mod sqlite_tests;
 #[cfg(test)]
 mod tests;

@@ -1,6 +1,5 @@
 //! Whole runs: what a person types, and what comes back.
 
-use crate::run::run;
 use crate::tests::expect;
 use std::alloc::Global;
 use std::test::Fail;
@@ -208,72 +207,4 @@ fn a_full_log(rt: HostRuntime) -> Result<(), Fail> {
         output.as_str(),
         "",
     )
-}
-
-// The line behind the first is left to whoever reads on.
-#[test]
-fn shows_one_line(rt: HostRuntime) -> Result<(), Fail> {
-    let alloc = rt.alloc();
-    let mut input = b"54020100743100\nnext\n".as_slice();
-    let mut output = Vec::new(alloc);
-    let mut errors = Vec::new(alloc);
-    let words = ["sync", "show", "changeset"].as_slice();
-    let status = run(alloc, words, &mut input, &mut output, &mut errors);
-    assert_eq!(rt; status, 0);
-    assert!(rt; input == b"next\n".as_slice());
-    Ok(())
-}
-
-#[test]
-fn shows_changesets(rt: HostRuntime) -> Result<(), Fail> {
-    let words = ["sync", "show", "changeset"].as_slice();
-    let shown = [
-        ("", ""),
-        ("\n", ""),
-        ("54020100743100\n", "table t1 10\n"),
-        (
-            "54020200743100120001000000000000000103027631\nzz\n",
-            "table t1 10\ninsert 0 1 t=v1\n",
-        ),
-        (
-            "540401000000743200170001000000000000000103000500000400030000",
-            "table t2 1000\nupdate 0 1 t= null - > - x= t= -\n",
-        ),
-    ];
-    for (input, output) in shown {
-        expect(&rt, rt.alloc(), words, input.as_bytes(), 0, output, "")?;
-    }
-    let told = "sync: command line\n";
-    expect(&rt, rt.alloc(), &["sync", "show"], b"50\n", 2, "", told)?;
-    expect(
-        &rt,
-        rt.alloc(),
-        &["sync", "show", "frob"],
-        b"50\n",
-        2,
-        "",
-        told,
-    )
-}
-
-#[test]
-fn shows_blobs(rt: HostRuntime) -> Result<(), Fail> {
-    let words = ["sync", "show", "blob"].as_slice();
-    let shown = [
-        ("", ""),
-        ("\nzz\n", ""),
-        ("54020100743100\n", "table t1 10\n"),
-        (
-            "5404010000007432001201010000000000000001030262320302633200\n",
-            "table t2 1000\nchange replace 1 t=b2 t=c2 -\n",
-        ),
-        (
-            "54020100743100090001000000000000000103027631\nzz\n",
-            "table t1 10\ndelete omit 1 t=v1\n",
-        ),
-    ];
-    for (input, output) in shown {
-        expect(&rt, rt.alloc(), words, input.as_bytes(), 0, output, "")?;
-    }
-    Ok(())
 }

@@ -1,6 +1,6 @@
 use crate::run::run;
+use crate::status::tell_end;
 use crate::table;
-use crate::table::Refused;
 use cs_lines::{LineOutput, write_whole};
 use std::alloc::Global;
 use std::io;
@@ -21,8 +21,8 @@ pub fn expect(
     let mut reader = input;
     let mut writer = Vec::new(alloc);
     let mut errors = Vec::new(alloc);
-    let ended = run(alloc, words, &mut reader, &mut writer, &mut errors);
-    assert_eq!(rt; ended, status, "status of {told}");
+    let ended = run(alloc, words, &mut reader, &mut writer);
+    assert_eq!(rt; tell_end(&ended, &mut errors), status, "status of {told}");
     assert!(rt; writer.as_slice() == output.as_bytes(), "output of {told}");
     assert!(rt;
         errors.as_slice() == told.as_bytes(),
@@ -68,6 +68,11 @@ fn refuses_command_lines(rt: HostRuntime) -> Result<(), Fail> {
     let told = "sync: command line\n";
     expect(&rt, rt.alloc(), &["sync"], b"07\n", 2, "", told)?;
     expect(&rt, rt.alloc(), &["sync", "frob"], b"07\n", 2, "", told)?;
+    expect(&rt, rt.alloc(), &["sync", "show"], b"50\n", 2, "", told)?;
+    let words = ["sync", "show", "frob"].as_slice();
+    expect(&rt, rt.alloc(), words, b"50\n", 2, "", told)?;
+    let words = ["sync", "combine", "t1:10"].as_slice();
+    expect(&rt, rt.alloc(), words, b"", 2, "", told)?;
     expect(
         &rt,
         rt.alloc(),
@@ -110,13 +115,8 @@ fn refuses_a_table_too_many(rt: HostRuntime) -> Result<(), Fail> {
     let mut input = b"".as_slice();
     let mut output = Vec::new(alloc);
     let mut errors = Vec::new(alloc);
-    let status = run(
-        alloc,
-        words.as_slice(),
-        &mut input,
-        &mut output,
-        &mut errors,
-    );
+    let ended = run(alloc, words.as_slice(), &mut input, &mut output);
+    let status = tell_end(&ended, &mut errors);
     assert_eq!(rt; status, 2);
     assert!(rt; errors.as_slice() == b"sync: table t1000:1\n".as_slice());
     Ok(())
@@ -140,8 +140,80 @@ fn reads_table_words(rt: HostRuntime) -> Result<(), Fail> {
                 assert!(rt; table.key_marks.as_slice() == marks[place], "marks {place}");
             }
         }
-        Err(Refused::Word(word)) => assert!(rt; false, "refused {word}"),
-        Err(Refused::Memory) => assert!(rt; false, "no memory"),
+        Err(fault) => assert!(rt; false, "{fault}"),
+    }
+    Ok(())
+}
+
+// Each tool is asked for by its words, and what it tells is told as the run's.
+#[test]
+fn runs_each_tool(rt: HostRuntime) -> Result<(), Fail> {
+    let alloc = rt.alloc();
+    let insert = "54020100743100120001000000000000000103027631\n";
+    let two_orders = "54020201743100\n54020102743100\n";
+    let cases = [
+        (["sync", "combine"].as_slice(), insert, 0, insert, ""),
+        (["sync", "combine"].as_slice(), two_orders, 0, "\n", ""),
+        (
+            ["sync", "combine", "--sqlite"].as_slice(),
+            two_orders,
+            1,
+            "",
+            "sync: KeyOrder\n",
+        ),
+        (["sync", "rebase"].as_slice(), insert, 0, insert, ""),
+        (["sync", "rebase"].as_slice(), two_orders, 0, "\n", ""),
+        (
+            ["sync", "rebase", "--sqlite"].as_slice(),
+            two_orders,
+            1,
+            "",
+            "sync: KeyOrder\n",
+        ),
+        (
+            ["sync", "show", "changeset"].as_slice(),
+            insert,
+            0,
+            "table t1 10\ninsert 0 1 t=v1\n",
+            "",
+        ),
+        (
+            ["sync", "show", "blob"].as_slice(),
+            insert,
+            0,
+            "table t1 10\nchange omit 1 t=v1\n",
+            "",
+        ),
+        (
+            ["sync", "show", "blob"].as_slice(),
+            "54\n",
+            1,
+            "",
+            "sync: Truncated at 1\n",
+        ),
+    ];
+    for (words, input, status, output, told) in cases {
+        expect(&rt, alloc, words, input.as_bytes(), status, output, told)?;
+    }
+    Ok(())
+}
+
+// The other commands don't take the option, nor is it taken twice or with a value.
+#[test]
+fn where_the_option_stands(rt: HostRuntime) -> Result<(), Fail> {
+    let cases = [
+        ["sync", "show", "changeset", "--sqlite"].as_slice(),
+        ["sync", "show", "blob", "--sqlite"].as_slice(),
+        ["sync", "hub", "t1:10", "--sqlite"].as_slice(),
+        ["sync", "hub", "--sqlite"].as_slice(),
+        ["sync", "--sqlite", "combine"].as_slice(),
+        ["sync", "combine", "--sqlite", "--sqlite"].as_slice(),
+        ["sync", "combine", "--sqlite=true"].as_slice(),
+        ["sync", "rebase", "--sqlit"].as_slice(),
+        ["sync", "rebase", "sqlite"].as_slice(),
+    ];
+    for words in cases {
+        expect(&rt, rt.alloc(), words, b"", 2, "", "sync: command line\n")?;
     }
     Ok(())
 }
@@ -229,13 +301,8 @@ fn tells_a_failed_write(rt: HostRuntime) -> Result<(), Fail> {
     let mut input = b"07\n08\n".as_slice();
     let mut output = Narrow { room: 7 };
     let mut errors = Vec::new(alloc);
-    let status = run(
-        alloc,
-        words.as_slice(),
-        &mut input,
-        &mut output,
-        &mut errors,
-    );
+    let ended = run(alloc, words.as_slice(), &mut input, &mut output);
+    let status = tell_end(&ended, &mut errors);
     assert_eq!(rt; status, 1);
     assert!(rt; errors.as_slice() == b"sync: Write\n".as_slice());
     Ok(())
@@ -248,13 +315,8 @@ fn tells_a_failed_read(rt: HostRuntime) -> Result<(), Fail> {
     let mut input = BufReader::new(alloc, Breaking { left: 2 })?;
     let mut output = Vec::new(alloc);
     let mut errors = Vec::new(alloc);
-    let status = run(
-        alloc,
-        words.as_slice(),
-        &mut input,
-        &mut output,
-        &mut errors,
-    );
+    let ended = run(alloc, words.as_slice(), &mut input, &mut output);
+    let status = tell_end(&ended, &mut errors);
     assert_eq!(rt; status, 1);
     assert!(rt; output.as_slice() == b"1302\n1302\n".as_slice());
     assert!(rt; errors.as_slice() == b"sync: Read\n".as_slice());

@@ -1,12 +1,13 @@
-//! `sync combine`: changesets of a table `t1` with a key column and another, taken together by SQLite's rules for a
+//! `combine`: changesets of a table `t1` with a key column and another, taken together by SQLite's rules for a
 //! changegroup.
 
-use crate::tests::expect;
+use crate::expect::{expect, expect_refused};
+use cs_tools::{Form, Tool};
 use std::alloc::Global;
 use std::test::Fail;
 
-/// The command line.
-const COMBINE: [&str; 2] = ["sync", "combine"];
+/// The tool.
+const COMBINE: Tool = Tool::Combine(Form::Normal);
 
 /// The header of the table.
 const HEADER: &str = "54020100743100";
@@ -100,15 +101,7 @@ fn the_table_of_consolidation(rt: HostRuntime) -> Result<(), Fail> {
             Some(told) => format!(in alloc; "{}\n", hex(alloc, *told)?)?,
             None => format!(in alloc; "\n")?,
         };
-        expect(
-            &rt,
-            alloc,
-            COMBINE.as_slice(),
-            input.as_bytes(),
-            0,
-            output.as_str(),
-            "",
-        )?;
+        expect(&rt, alloc, COMBINE, &[input.as_str()], &[output.as_str()])?;
     }
     Ok(())
 }
@@ -120,15 +113,7 @@ fn three_changes_of_one_key(rt: HostRuntime) -> Result<(), Fail> {
     let update = hex(alloc, Told::Update(0, 1, 2))?;
     let delete = hex(alloc, Told::Delete(0, 2))?;
     let input = format!(in alloc; "{insert}\n{update}\n{delete}\n")?;
-    expect(
-        &rt,
-        alloc,
-        COMBINE.as_slice(),
-        input.as_bytes(),
-        0,
-        "\n",
-        "",
-    )
+    expect(&rt, alloc, COMBINE, &[input.as_str()], &["\n"])
 }
 
 // Lines in both cases, empty lines, a last line without an end, and headers without changes.
@@ -153,15 +138,7 @@ fn lines_of_changesets(rt: HostRuntime) -> Result<(), Fail> {
         ),
     ];
     for (input, output) in cases {
-        expect(
-            &rt,
-            rt.alloc(),
-            COMBINE.as_slice(),
-            input.as_bytes(),
-            0,
-            output,
-            "",
-        )?;
+        expect(&rt, rt.alloc(), COMBINE, &[input], &[output])?;
     }
     Ok(())
 }
@@ -169,21 +146,18 @@ fn lines_of_changesets(rt: HostRuntime) -> Result<(), Fail> {
 // Two tables in the order in which their headers first come, each with its changes in the order of their keys' bytes.
 #[test]
 fn tables_and_keys_in_order(rt: HostRuntime) -> Result<(), Fail> {
-    let alloc = rt.alloc();
     let (a, b) = ("5401016100", "5401016200");
     let (insert, delete) = ("12000100000000000000", "09000100000000000000");
-    let input = format!(in alloc;
-        "{b}{insert}02{a}{insert}ff\n{a}{insert}03{b}{insert}01{delete}02\n"
-    )?;
-    let output = format!(in alloc; "{b}{insert}01{a}{insert}03{insert}ff\n")?;
+    let input = [
+        b, insert, "02", a, insert, "ff\n", a, insert, "03", b, insert, "01", delete, "02\n",
+    ];
+    let output = [b, insert, "01", a, insert, "03", insert, "ff\n"];
     expect(
         &rt,
-        alloc,
-        COMBINE.as_slice(),
-        input.as_bytes(),
-        0,
-        output.as_str(),
-        "",
+        rt.alloc(),
+        COMBINE,
+        input.as_slice(),
+        output.as_slice(),
     )
 }
 
@@ -193,30 +167,13 @@ fn refused_inputs(rt: HostRuntime) -> Result<(), Fail> {
     let cases = [
         (
             "\n54020100743100120001000000000000000102\nzz\n",
-            "sync: Real at 18\n",
+            "Real at 18",
         ),
-        ("54020100743100\n540201007431\n", "sync: Truncated at 6\n"),
-        ("540101743100\n54020100743100\n", "sync: Shape\n"),
+        ("54020100743100\n540201007431\n", "Truncated at 6"),
+        ("540101743100\n54020100743100\n", "Shape"),
     ];
-    for (input, told) in cases {
-        expect(
-            &rt,
-            rt.alloc(),
-            COMBINE.as_slice(),
-            input.as_bytes(),
-            1,
-            "",
-            told,
-        )?;
+    for (input, name) in cases {
+        expect_refused(&rt, rt.alloc(), COMBINE, &[input], name)?;
     }
-    let words = ["sync", "combine", "t1:10"];
-    expect(
-        &rt,
-        rt.alloc(),
-        words.as_slice(),
-        b"",
-        2,
-        "",
-        "sync: command line\n",
-    )
+    Ok(())
 }
