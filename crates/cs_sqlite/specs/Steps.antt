@@ -21,7 +21,8 @@ heads_behind headers = map head_of headers
 abbrev pub FirstColumns : List Head → BTreeMap (Bor (List ℕ)) (Bor (List ℕ)) → Type 0
 FirstColumns heads columns =
     (name other : List ℕ)
-    → columns_of name other heads ≡ option_map_or (λ found. found.now) (get_by (λ key. slice_cmp nat_cmp name key.now) columns) other
+    → columns_of name other heads
+    ≡ option_map_or (λ found. found.now) (get_by (λ key. slice_cmp nat_cmp name key.now) columns) other
 
 -- column bytes with 1 for each key column
 abbrev pub flags_of : List ℕ → List ℕ
@@ -38,4 +39,5 @@ DifferInOrder head other = AreAlike head other × (head.1 ≢ other.1)
 -- neighbours of the same table and key columns have the same column bytes
 abbrev pub NeighboursAgree : List Header → Type 0
 NeighboursAgree headers =
-    AllAdjacentBelow (λ header next. AreAlike (head_of header) (head_of next) → header.marks.now ≡ next.marks.now) headers (length headers)
+    AllAdjacentBelow (λ header next. AreAlike (head_of header) (head_of next) → header.marks.now ≡ next.marks.now)
+    headers (length headers)
