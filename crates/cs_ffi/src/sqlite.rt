@@ -22,7 +22,7 @@ fn headers_in_order<'a>(
 {
     let mut headers = Vec::new(alloc);
     put_headers(declaring.as_slice(), &mut headers)?;
-    if has_one_order(headers.as_slice()) {
+    if has_one_order(alloc, headers.as_slice())? {
         Ok(headers)
     } else {
         Err(Answer::key_order())

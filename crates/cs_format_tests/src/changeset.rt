@@ -1,70 +1,20 @@
+//! Changesets beside bytes that were written by hand, their faults, and the names and codes of those.
+
+use crate::formats::{Format, HEADER, ONE, V1, V2, WIDE_HEADER, joined};
 use cs_changeset::*;
-use std::alloc::Global;
-use std::process::Abort;
 use std::test::Fail;
-
-/// The header of a table t1 with a key column and another.
-const HEADER: [u8; 7] = [0x54, 2, 1, 0, 0x74, 0x31, 0];
-
-/// The header of a table t2 with a key column and three others.
-const WIDE_HEADER: [u8; 9] = [0x54, 4, 1, 0, 0, 0, 0x74, 0x32, 0];
-
-/// The integer 1.
-const ONE: [u8; 9] = [1, 0, 0, 0, 0, 0, 0, 0, 1];
 
 /// The integer 2.
 const TWO: [u8; 9] = [1, 0, 0, 0, 0, 0, 0, 0, 2];
-
-/// The texts `v1` and `v2`.
-const V1: [u8; 4] = [3, 2, 0x76, 0x31];
-
-const V2: [u8; 4] = [3, 2, 0x76, 0x32];
-
-fn joined(alloc: Global, pieces: &[&[u8]]) -> Result<Vec<u8>, Fail> {
-    let mut bytes = Vec::new(alloc);
-    for piece in pieces {
-        bytes.extend_from_slice(piece)?;
-    }
-    Ok(bytes)
-}
-
-/// Reads the bytes and writes them again; the same bytes come out.
-fn comes_back<'a>(rt: &impl Abort, alloc: Global, bytes: &'a [u8]) -> Result<Changeset<'a>, Fail> {
-    let changeset = read(alloc, bytes)?;
-    let mut out = Vec::new(alloc);
-    encode(&changeset, &mut out)?;
-    assert!(rt; out.as_slice() == bytes, "other bytes came back");
-    Ok(changeset)
-}
-
-fn is_told(rt: &impl Abort, answer: CodecFault, fault: Fault, offset: usize) {
-    match answer {
-        CodecFault::At {
-            fault: found,
-            offset: at,
-        } => {
-            assert_eq!(rt; found, fault);
-            assert_eq!(rt; at, offset, "{fault}");
-        }
-        CodecFault::Memory => panic!(rt; "out of memory"),
-    }
-}
-
-fn told(rt: &impl Abort, alloc: Global, bytes: &[u8], fault: Fault, offset: usize) {
-    match read(alloc, bytes) {
-        Err(answer) => is_told(rt, answer, fault, offset),
-        Ok(_) => panic!(rt; "no fault was told"),
-    }
-}
 
 #[test]
 fn reads_what_it_writes(rt: HostRuntime) -> Result<(), Fail> {
     let alloc = rt.alloc();
     let insert = joined(alloc, &[&HEADER, &[0x12, 0], &ONE, &V1])?;
     assert_eq!(rt; insert.len(), 22);
-    let read = comes_back(&rt, alloc, &insert)?;
-    assert_eq!(rt; read.as_slice().len(), 1);
+    assert_eq!(rt; read(alloc, &insert)?.as_slice().len(), 1);
     let cases = [
+        insert,
         Vec::new(alloc),
         joined(alloc, &[&HEADER])?,
         joined(
@@ -102,20 +52,7 @@ fn reads_what_it_writes(rt: HostRuntime) -> Result<(), Fail> {
         )?,
     ];
     for bytes in &cases {
-        comes_back(&rt, alloc, bytes)?;
-    }
-    Ok(())
-}
-
-/// Reads each proper front: one of these lengths is a changeset itself, any other is cut.
-fn each_front(rt: &impl Abort, alloc: Global, bytes: &[u8], whole: &[usize]) -> Result<(), Fail> {
-    for len in 0..bytes.len() {
-        let front = &bytes[..len];
-        if whole.contains(&len) {
-            comes_back(rt, alloc, front)?;
-        } else {
-            told(rt, alloc, front, Fault::Truncated, len);
-        }
+        Format::Changeset.comes_back(&rt, alloc, bytes)?;
     }
     Ok(())
 }
@@ -148,36 +85,32 @@ fn fronts(rt: HostRuntime) -> Result<(), Fail> {
     ];
     for (pieces, whole) in &cases {
         let bytes = joined(alloc, pieces)?;
-        each_front(&rt, alloc, &bytes, whole)?;
+        Format::Changeset.each_front(&rt, alloc, &bytes, whole)?;
     }
     Ok(())
 }
 
 #[test]
-fn faults_of_headers(rt: HostRuntime) {
-    told(&rt, rt.alloc(), &[0x50], Fault::Patchset, 0);
-    told(&rt, rt.alloc(), &[0x55], Fault::BadMark, 0);
-    told(&rt, rt.alloc(), &[0xff; 64], Fault::BadMark, 0);
-    told(&rt, rt.alloc(), &[0x54], Fault::Truncated, 1);
-    told(&rt, rt.alloc(), &[0x54, 0], Fault::Columns, 1);
-    told(&rt, rt.alloc(), &[0x54, 0xff, 0x7f], Fault::Columns, 1);
-    told(&rt, rt.alloc(), &[0x54, 0x8f, 0x51], Fault::Columns, 1);
-    told(&rt, rt.alloc(), &[0x54, 0x8f, 0x50], Fault::Truncated, 3);
-    told(&rt, rt.alloc(), &[0x54, 0x80, 1], Fault::NotShortest, 1);
-    told(&rt, rt.alloc(), &[0x54, 2, 0, 0], Fault::NoKeyColumn, 2);
-    told(
-        &rt,
-        rt.alloc(),
-        &[0x54, 2, 1, 0, 0xff, 0],
-        Fault::NotUtf8,
-        4,
-    );
-    told(&rt, rt.alloc(), &[0x54, 2, 1, 0, 0xff], Fault::Truncated, 5);
+fn faults_of_headers(rt: HostRuntime) -> Result<(), Fail> {
+    let cases: [(&[&[u8]], Fault, usize); 12] = [
+        (&[&[0x50]], Fault::Patchset, 0),
+        (&[&[0x55]], Fault::BadMark, 0),
+        (&[&[0xff; 64]], Fault::BadMark, 0),
+        (&[&[0x54]], Fault::Truncated, 1),
+        (&[&[0x54, 0]], Fault::Columns, 1),
+        (&[&[0x54, 0xff, 0x7f]], Fault::Columns, 1),
+        (&[&[0x54, 0x8f, 0x51]], Fault::Columns, 1),
+        (&[&[0x54, 0x8f, 0x50]], Fault::Truncated, 3),
+        (&[&[0x54, 0x80, 1]], Fault::NotShortest, 1),
+        (&[&[0x54, 2, 0, 0]], Fault::NoKeyColumn, 2),
+        (&[&[0x54, 2, 1, 0, 0xff, 0]], Fault::NotUtf8, 4),
+        (&[&[0x54, 2, 1, 0, 0xff]], Fault::Truncated, 5),
+    ];
+    Format::Changeset.each_told(&rt, rt.alloc(), &cases)
 }
 
 #[test]
 fn faults_of_changes(rt: HostRuntime) -> Result<(), Fail> {
-    let alloc = rt.alloc();
     let cases: [(&[&[u8]], Fault, usize); 16] = [
         (&[&HEADER, &[0x13]], Fault::BadOperation, 7),
         (&[&HEADER, &[0x50]], Fault::Patchset, 7),
@@ -237,11 +170,7 @@ fn faults_of_changes(rt: HostRuntime) -> Result<(), Fail> {
             22,
         ),
     ];
-    for (pieces, fault, offset) in &cases {
-        let bytes = joined(alloc, pieces)?;
-        told(&rt, alloc, &bytes, *fault, *offset);
-    }
-    Ok(())
+    Format::Changeset.each_told(&rt, rt.alloc(), &cases)
 }
 
 #[test]

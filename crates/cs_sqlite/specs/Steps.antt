@@ -1,9 +1,15 @@
 -- What the code holds: headers where they stand, as contracts see them, and what is found of them.
-use Rattle.std.specs.Prelude.{◌≢◌, ◌≡◌, ◌&&◌, ℕ, Bool, List, [], ◌∷◌, map, Option, Some, None, Contains, if◌then◌else◌}
-use Rattle.std.specs.Str.{bytes_eq}
+use Rattle.std.specs.Prelude.{◌≢◌, ◌≡◌, ℕ, List, length, map}
+use Rattle.std.specs.Borrow.{Bor}
+use Rattle.std.specs.BTreeMap.{BTreeMap, get_by}
+use Rattle.std.specs.Cmp.Lexicographic.{slice_cmp}
+use Rattle.std.specs.List.{AllAdjacentBelow}
+use Rattle.std.specs.Option.{option_map_or}
+use Rattle.std.specs.Ordering.{nat_cmp, on, then_cmp}
+use Rattle.std.specs.declared.cmp.Ordering.{Ordering}
 use Rattle.cs_change.specs.Spelling.{flag_byte, marks_of}
 use Rattle.cs_sqlite.specs.declared.headers.Header.{Header}
-use Rattle.cs_sqlite.specs.KeyPlaces.{AreAlike, Head}
+use Rattle.cs_sqlite.specs.KeyPlaces.{AreAlike, Head, columns_of}
 
 abbrev pub head_of : Header → Head
 head_of header = (header.name.now, header.marks.now)
@@ -11,28 +17,27 @@ head_of header = (header.name.now, header.marks.now)
 abbrev pub heads_behind : List Header → List Head
 heads_behind headers = map head_of headers
 
--- the column bytes of a header, or these
-abbrev pub columns_or : List ℕ → Option Header → List ℕ
-columns_or other None = other
-columns_or other (Some header) = header.marks.now
+-- a map from each name to the column bytes of its first header
+abbrev pub FirstColumns : List Head → BTreeMap (Bor (List ℕ)) (Bor (List ℕ)) → Type 0
+FirstColumns heads columns =
+    (name other : List ℕ)
+    → columns_of name other heads
+    ≡ option_map_or (λ found. found.now) (get_by (λ key. slice_cmp nat_cmp name key.now) columns) other
 
 -- column bytes with 1 for each key column
 abbrev pub flags_of : List ℕ → List ℕ
 flags_of columns = map flag_byte (marks_of columns)
 
--- whether two headers are of one table with the same key columns
-abbrev pub is_alike : Head → Head → Bool
-is_alike head other = bytes_eq head.0 other.0 && bytes_eq (flags_of head.1) (flags_of other.1)
+-- by the table's name, and then by which columns are key columns
+abbrev pub kind_cmp : Head → Head → Ordering
+kind_cmp = then_cmp (on (λ head. head.0) (slice_cmp nat_cmp)) (on (λ head. flags_of head.1) (slice_cmp nat_cmp))
 
--- the column bytes of the first header like this one; without one, its own
-unfoldable pub first_columns : Head → List Head → List ℕ
-first_columns head [] = head.1
-first_columns head (first ∷ heads) = if is_alike head first then first.1 else first_columns head heads
+-- the same table and key columns, and other column bytes
+abbrev pub DifferInOrder : Head → Head → Type 0
+DifferInOrder head other = AreAlike head other × (head.1 ≢ other.1)
 
--- the first header like this one has its column bytes
-abbrev pub IsAsFirst : List Head → Head → Type 0
-IsAsFirst heads head = first_columns head heads ≡ head.1
-
--- a header like this one has other bytes
-abbrev pub HasOther : List Head → Head → Type 0
-HasOther heads head = (other : Head) × Contains heads other × AreAlike head other × (head.1 ≢ other.1)
+-- neighbours of the same table and key columns have the same column bytes
+abbrev pub NeighboursAgree : List Header → Type 0
+NeighboursAgree headers =
+    AllAdjacentBelow (λ header next. AreAlike (head_of header) (head_of next) → header.marks.now ≡ next.marks.now)
+    headers (length headers)

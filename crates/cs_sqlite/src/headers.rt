@@ -1,13 +1,18 @@
 //! Headers, and whether those of one table have the same column bytes.
 
-ghost use Rattle.std.specs.Prelude.{◌≡◌, ◌↔◌, ◌++◌, ℕ, true, false, List, MatchBool, OnOk, IfSome, IsTrue, Contains};
-ghost use Rattle.cs_change.specs.Spelling.{marks_of};
-ghost use Rattle.cs_sqlite.specs.KeyPlaces.{heads_of, blob_heads_of, columns_of, AreAlike, HaveOneOrder, HasTwoOrders};
-ghost use Rattle.cs_sqlite.specs.Steps.{head_of, heads_behind, columns_or, first_columns, IsAsFirst, HasOther};
+ghost use Rattle.std.specs.Prelude.{◌≡◌, ◌↔◌, ◌++◌, ℕ, List, IfOk, IsTrue, MatchBool, OnOk};
+ghost use Rattle.std.specs.Cmp.Lexicographic.{slice_cmp};
+ghost use Rattle.std.specs.Ordering.{nat_cmp};
+ghost use Rattle.cs_change.specs.Spelling.{flag_byte, is_nonzero};
+ghost use Rattle.cs_sqlite.specs.KeyPlaces.{heads_of, blob_heads_of, HaveOneOrder, HasTwoOrders};
+ghost use Rattle.cs_sqlite.specs.Steps.{flags_of, head_of, heads_behind, kind_cmp, DifferInOrder, FirstColumns, NeighboursAgree};
 
 use cs_blob::BlobGroup;
 use cs_change::Group;
 use cs_value::Memory;
+use std::alloc::Global;
+use std::cmp::Ordering;
+use std::collections::BTreeMap;
 
 /// A header where it stands: a table's name and its column bytes.
 #[derive(Clone, Copy)]
@@ -47,79 +52,71 @@ pub fn put_blob_headers<'a>(
     Ok(())
 }
 
-/// The first header of this name.
-pub(crate) fn find<'a>(name: &str, headers: &[Header<'a>]) -> Option<Header<'a>>
-    ensures { (other : List ℕ) → columns_of name.now other (heads_behind headers.now) ≡ columns_or other result }
+/// The column bytes of the first header of each name.
+pub(crate) fn first_columns<'a>(
+    alloc: Global,
+    headers: &[Header<'a>],
+) -> Result<BTreeMap<&'a str, &'a [u8]>, Memory>
+    ensures { IfOk result (λ columns. FirstColumns (heads_behind headers.now) columns) }
 {
+    let mut columns = BTreeMap::new(alloc);
     for header in headers {
-        if header.name == name {
-            return Some(*header);
+        if !columns.contains_key(header.name) {
+            columns.insert(header.name, header.marks)?;
         }
     }
-    None
+    Ok(columns)
 }
 
-/// Whether the same columns are key columns.
-fn same_keys(some: &[u8], other: &[u8]) -> bool
-    ensures { IsTrue result ↔ (marks_of some.now ≡ marks_of other.now) }
+/// 1 for the byte of a key column, and 0 for that of another.
+fn flag(mark: &u8) -> u8
+    ensures { result ≡ flag_byte (is_nonzero mark.now) }
 {
-    let mut some = some;
-    let mut other = other;
-    loop {
-        match (some.split_first(), other.split_first()) {
-            (None, None) => return true,
-            (Some((one, more)), Some((another, others))) => {
-                if (*one != 0) != (*another != 0) {
-                    return false;
-                }
-                some = more;
-                other = others;
-            }
-            _ => return false,
-        }
-    }
+    u8::from(*mark != 0)
 }
 
-/// Whether two headers are of one table with the same key columns.
-fn are_alike(header: &Header<'_>, other: &Header<'_>) -> bool
-    ensures { IsTrue result ↔ AreAlike (head_of header.now) (head_of other.now) }
+/// Compares which columns are key columns.
+fn compare_keys(left: &[u8], right: &[u8]) -> Ordering
+    ensures { result ≡ slice_cmp nat_cmp (flags_of left.now) (flags_of right.now) }
 {
-    header.name == other.name && same_keys(header.marks, other.marks)
+    left.iter().map(flag).cmp(right.iter().map(flag))
 }
 
-/// The first header like this one.
-fn find_alike<'a>(header: &Header<'_>, headers: &[Header<'a>]) -> Option<Header<'a>>
-    ensures columns { first_columns (head_of header.now) (heads_behind headers.now) ≡ columns_or header.now.marks.now result }
-    ensures alike { IfSome result (λ found.
-        AreAlike (head_of header.now) (head_of found) × Contains (heads_behind headers.now) (head_of found)) }
+/// Compares two headers: by the table's name, and then by which columns are key columns.
+fn compare(left: &Header<'_>, right: &Header<'_>) -> Ordering
+    ensures { result ≡ kind_cmp (head_of left.now) (head_of right.now) }
 {
-    for other in headers {
-        if are_alike(header, other) {
-            return Some(*other);
-        }
-    }
-    None
+    left.name
+        .cmp(right.name)
+        .then_with(|| compare_keys(left.marks, right.marks))
 }
 
-/// Whether the first header like this one has its column bytes.
-fn is_as_first(header: &Header<'_>, headers: &[Header<'_>]) -> bool
-    ensures same { result ≡ true → IsAsFirst (heads_behind headers.now) (head_of header.now) }
-    ensures other { result ≡ false → HasOther (heads_behind headers.now) (head_of header.now) }
+/// Whether two headers are of one table with the same key columns, and have other column bytes.
+fn differ_in_order(left: &Header<'_>, right: &Header<'_>) -> bool
+    ensures { IsTrue result ↔ DifferInOrder (head_of left.now) (head_of right.now) }
 {
-    match find_alike(header, headers) {
-        Some(first) => header.marks == first.marks,
-        None => true,
-    }
+    compare(left, right).is_eq() && left.marks != right.marks
 }
 
-/// Whether the headers of each table with the same key columns have the same column bytes.
-pub fn has_one_order(headers: &[Header<'_>]) -> bool
-    ensures { MatchBool result (HaveOneOrder (heads_behind headers.now)) (HasTwoOrders (heads_behind headers.now)) }
+/// Whether no two neighbours differ in the order of their key columns.
+fn neighbours_agree(headers: &[Header<'_>]) -> bool
+    ensures { MatchBool result (NeighboursAgree headers.now) (HasTwoOrders (heads_behind headers.now)) }
 {
-    for header in headers {
-        if !is_as_first(header, headers) {
+    for at in 1..headers.len() {
+        if differ_in_order(&headers[at - 1], &headers[at]) {
             return false;
         }
     }
     true
+}
+
+/// Whether the headers of each table with the same key columns have the same column bytes. It looks at neighbours in the
+/// order of names and key columns.
+pub fn has_one_order(alloc: Global, headers: &[Header<'_>]) -> Result<bool, Memory>
+    ensures { IfOk result (λ one.
+        MatchBool one (HaveOneOrder (heads_behind headers.now)) (HasTwoOrders (heads_behind headers.now))) }
+{
+    let mut sorted = Vec::from_slice(alloc, headers)?;
+    sorted.sort_unstable_by(|left, right| compare(left, right));
+    Ok(neighbours_agree(&sorted))
 }

@@ -1,16 +1,17 @@
 //! Changesets in normal form, spelled with the column bytes that came in.
 
-ghost use Rattle.std.specs.Prelude.{◌≡◌, ◌++◌, map, IfOk, OnOk, OnErr};
+ghost use Rattle.std.specs.Prelude.{◌≡◌, ◌++◌, List, map, IfOk, OnOk, OnErr};
 ghost use Rattle.cs_change.specs.Spelling.{flag_byte, header_spelling, group_spelling};
 ghost use Rattle.cs_record.specs.Spelling.{Extends};
-ghost use Rattle.cs_sqlite.specs.KeyPlaces.{columns_of, group_for_sqlite, sqlite_spelling};
-ghost use Rattle.cs_sqlite.specs.Steps.{heads_behind};
+ghost use Rattle.cs_sqlite.specs.KeyPlaces.{Head, columns_of, group_for_sqlite, sqlite_spelling};
+ghost use Rattle.cs_sqlite.specs.Steps.{heads_behind, FirstColumns};
 
-use crate::headers::{Header, find};
+use crate::headers::{Header, first_columns};
 use cs_change::put_header;
 use cs_normal::{Normal, TableChanges};
 use cs_value::Memory;
 use std::alloc::Global;
+use std::collections::BTreeMap;
 
 /// The column bytes of the normal form: 1 for a key column, and 0 for another.
 fn flags(alloc: Global, marks: &[bool]) -> Result<Vec<u8>, Memory>
@@ -27,16 +28,16 @@ fn flags(alloc: Global, marks: &[bool]) -> Result<Vec<u8>, Memory>
 fn put_first_header(
     alloc: Global,
     table: &TableChanges,
-    headers: &[Header<'_>],
+    columns: &BTreeMap<&str, &[u8]>,
     out: &mut Vec<u8>,
 ) -> Result<(), Memory>
-    ensures ok { OnOk result (out.new.items ≡ out.old.items ++ header_spelling
-        (columns_of table.now.name (map flag_byte table.now.marks) (heads_behind headers.now)) table.now.name) }
+    ensures ok { OnOk result ((heads : List Head) → FirstColumns heads columns.now → out.new.items ≡ out.old.items
+        ++ header_spelling (columns_of table.now.name (map flag_byte table.now.marks) heads) table.now.name) }
     ensures kept { Extends out.old.items out.new.items }
 {
     let name = table.name.as_str();
-    match find(name, headers) {
-        Some(header) => put_header(header.marks, name, out),
+    match columns.get(name) {
+        Some(marks) => put_header(*marks, name, out),
         None => {
             let marks = flags(alloc, table.marks.as_slice())?;
             put_header(marks.as_slice(), name, out)
@@ -47,14 +48,14 @@ fn put_first_header(
 fn put_table(
     alloc: Global,
     table: &TableChanges,
-    headers: &[Header<'_>],
+    columns: &BTreeMap<&str, &[u8]>,
     out: &mut Vec<u8>,
 ) -> Result<(), Memory>
-    ensures ok { OnOk result (out.new.items
-        ≡ out.old.items ++ group_spelling (group_for_sqlite (heads_behind headers.now) table.now)) }
+    ensures ok { OnOk result ((heads : List Head) → FirstColumns heads columns.now
+        → out.new.items ≡ out.old.items ++ group_spelling (group_for_sqlite heads table.now)) }
     ensures kept { Extends out.old.items out.new.items }
 {
-    put_first_header(alloc, table, headers, out)?;
+    put_first_header(alloc, table, columns, out)?;
     out.extend_from_slice(table.changes.spelling())?;
     Ok(())
 }
@@ -69,8 +70,9 @@ fn put_tables(
         ≡ out.old.items ++ sqlite_spelling (heads_behind headers.now) tables.now) }
     ensures kept { Extends out.old.items out.new.items }
 {
+    let columns = first_columns(alloc, headers)?;
     for table in tables {
-        put_table(alloc, table, headers, out)?;
+        put_table(alloc, table, &columns, out)?;
     }
     Ok(())
 }

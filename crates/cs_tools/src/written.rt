@@ -32,7 +32,7 @@ pub fn spelled_for_sqlite(
     ensures ok { IfOk result (λ bytes. SpellsIn Sqlite (heads_behind headers.now) changeset.now bytes.items) }
     ensures err { IfErr result (λ told. (told ≡ Memory) ⊎ IsNotWritten Sqlite (heads_behind headers.now) told) }
 {
-    if !has_one_order(headers) {
+    if !has_one_order(alloc, headers)? {
         return Err(ToolFault::KeyOrder);
     }
     let mut bytes = Vec::new(alloc);

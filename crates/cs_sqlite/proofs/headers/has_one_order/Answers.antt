@@ -1,10 +1,12 @@
-use Rattle.cs_sqlite.proofs.Columns.{compared, stands}
+use Rattle.std.proofs.Common.{rules}
+use Rattle.std.proofs.lemmas.Fn.{always_returns_same}
+use Rattle.std.proofs.lemmas.List.MinMax.{ranks_by}
+use Rattle.cs_sqlite.specs.Steps.{head_of}
+use Rattle.cs_sqlite.proofs.Columns.{kind_below, kind_total, told}
 use Rattle.cs_sqlite.proofs.headers.has_one_order.Goals as goal
 
-pub returns-then-not-is_as_first : goal.returns-then-not-is_as_first
-returns-then-not-is_as_first c =
-    let other = c.is_as_first.ensures.other c.if-not-is_as_first.true in
-    (_, other.0, stands c.args.headers.now c.loop-header.header-index _ c.loop-header-test.true, other.1, other.2, other.3)
-
 pub returns : goal.returns
-returns c = compared c.args.headers.now c.loop-header.header-index c.loop-header-test.false c.loop-header.invariant
+returns c =
+    let up = c.sort_unstable_by.ensures.sorted kind_below (ranks_by kind_total head_of) (always_returns_same _ _ _ (λ a r next called. search rules)) in
+    let agree = rw c.deref.ensures.value at c.neighbours_agree.ensures in
+    told c.args.headers.now c.sort_unstable_by.new.self.items c.neighbours_agree.result (rw c.in_ok-sorted.ensures.items at c.sort_unstable_by.ensures.permutation) up agree

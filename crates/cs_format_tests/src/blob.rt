@@ -1,73 +1,13 @@
-use super::*;
-use std::alloc::Global;
-use std::process::Abort;
+//! Rebase blobs beside bytes that were written by hand, and their faults.
+
+use crate::formats::{Format, HEADER, ONE, V1, V2, WIDE_HEADER, joined};
+use cs_blob::*;
 use std::test::Fail;
 
-/// The header of a table t1 with a key column and another.
-const HEADER: [u8; 7] = [0x54, 2, 1, 0, 0x74, 0x31, 0];
-
-/// The header of a table t2 with a key column and three others.
-const WIDE_HEADER: [u8; 9] = [0x54, 4, 1, 0, 0, 0, 0x74, 0x32, 0];
-
-/// The integer 1.
-const ONE: [u8; 9] = [1, 0, 0, 0, 0, 0, 0, 0, 1];
-
-/// The texts `v1`, `v2`, `b2` and `c2`.
-const V1: [u8; 4] = [3, 2, 0x76, 0x31];
-
-const V2: [u8; 4] = [3, 2, 0x76, 0x32];
-
+/// The texts `b2` and `c2`.
 const B2: [u8; 4] = [3, 2, 0x62, 0x32];
 
 const C2: [u8; 4] = [3, 2, 0x63, 0x32];
-
-fn joined(alloc: Global, pieces: &[&[u8]]) -> Result<Vec<u8>, Fail> {
-    let mut bytes = Vec::new(alloc);
-    for piece in pieces {
-        bytes.extend_from_slice(piece)?;
-    }
-    Ok(bytes)
-}
-
-/// Reads the bytes and writes them again behind a byte that stays; the same bytes come out.
-fn comes_back<'a>(rt: &impl Abort, alloc: Global, bytes: &'a [u8]) -> Result<Blob<'a>, Fail> {
-    let blob = read(alloc, bytes)?;
-    let mut out = Vec::new(alloc);
-    out.push(7)?;
-    encode(&blob, &mut out)?;
-    assert!(rt; out[0] == 7, "what was there is gone");
-    assert!(rt; &out[1..] == bytes, "other bytes came back");
-    Ok(blob)
-}
-
-fn told(rt: &impl Abort, alloc: Global, bytes: &[u8], fault: Fault, offset: usize) {
-    match read(alloc, bytes) {
-        Err(
-            CodecFault::At {
-                fault: found,
-                offset: at,
-            },
-        ) => {
-            assert_eq!(rt; found, fault);
-            assert_eq!(rt; at, offset, "{fault}");
-        }
-        Err(CodecFault::Memory) => panic!(rt; "out of memory"),
-        Ok(_) => panic!(rt; "no fault was told"),
-    }
-}
-
-/// Reads each proper front: one of these lengths is a blob itself, any other is cut.
-fn each_front(rt: &impl Abort, alloc: Global, bytes: &[u8], whole: &[usize]) -> Result<(), Fail> {
-    for len in 0..bytes.len() {
-        let front = &bytes[..len];
-        if whole.contains(&len) {
-            comes_back(rt, alloc, front)?;
-        } else {
-            told(rt, alloc, front, Fault::Truncated, len);
-        }
-    }
-    Ok(())
-}
 
 #[test]
 fn reads_what_it_writes_and_each_front(rt: HostRuntime) -> Result<(), Fail> {
@@ -99,8 +39,8 @@ fn reads_what_it_writes_and_each_front(rt: HostRuntime) -> Result<(), Fail> {
     ];
     for (pieces, whole) in &cases {
         let bytes = joined(alloc, pieces)?;
-        comes_back(&rt, alloc, &bytes)?;
-        each_front(&rt, alloc, &bytes, whole)?;
+        Format::Blob.comes_back(&rt, alloc, &bytes)?;
+        Format::Blob.each_front(&rt, alloc, &bytes, whole)?;
     }
     Ok(())
 }
@@ -122,7 +62,7 @@ fn what_is_read(rt: HostRuntime) -> Result<(), Fail> {
             &[0, 0],
         ],
     )?;
-    let blob = comes_back(&rt, alloc, &bytes)?;
+    let blob = read(alloc, &bytes)?;
     let [first, second] = blob.as_slice() else {
         panic!(rt; "not two groups");
     };
@@ -147,7 +87,6 @@ fn what_is_read(rt: HostRuntime) -> Result<(), Fail> {
 
 #[test]
 fn faults(rt: HostRuntime) -> Result<(), Fail> {
-    let alloc = rt.alloc();
     let cases: [(&[&[u8]], Fault, usize); 17] = [
         (&[&[0x50]], Fault::Patchset, 0),
         (&[&[0x55]], Fault::BadMark, 0),
@@ -183,9 +122,5 @@ fn faults(rt: HostRuntime) -> Result<(), Fail> {
             30,
         ),
     ];
-    for (pieces, fault, offset) in &cases {
-        let bytes = joined(alloc, pieces)?;
-        told(&rt, alloc, &bytes, *fault, *offset);
-    }
-    Ok(())
+    Format::Blob.each_told(&rt, rt.alloc(), &cases)
 }
