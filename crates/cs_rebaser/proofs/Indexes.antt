@@ -1,5 +1,5 @@
 -- The first entry of each place, in the order of the places, is an index.
-use Rattle.std.proofs.Common.{◌≡◌, ℕ, zero, suc, ◌+◌, ◌<◌, Bool, true, false, cond, List, [], ◌∷◌, ◌++◌, length, map, refl, sym, ap, ◌∙◌, arith, append_assoc, length-append, Option, Some, None}
+use Rattle.std.proofs.Common.{◌≡◌, ℕ, zero, suc, ◌+◌, ◌<◌, Bool, true, false, cond, List, [], ◌∷◌, ◌++◌, length, map, refl, sym, ap, subst, ◌∙◌, arith, append_assoc, length-append, Option, Some, None}
 use Rattle.std.specs.Prelude.{slice_get, slice_index_or}
 use Rattle.std.specs.List.{All, AllByRecursion, Contains, filter, flat_map, list_any, range_with_len}
 use Rattle.std.specs.List.Sorted.{IsStrictlySortedBy}
@@ -11,17 +11,22 @@ use Rattle.std.proofs.lemmas.List.Folds.{flat_map-map}
 use Rattle.std.proofs.lemmas.List.FromFn.{get_or-range_with_len, length-range_with_len}
 use Rattle.std.proofs.lemmas.Map.Keys.{IsDistinct-from_sorted}
 use Rattle.std.proofs.lemmas.Map.Views.{list_any-from_Contains}
-use Rattle.cs_order.specs.Groups.{IsGrouping, has_bytes, places_of}
+use Rattle.cs_order.specs.Groups.{IsDistinctOrder, IsGrouping, has_bytes, places_of}
 use Rattle.cs_order.specs.Order.{Keys, by_bytes, key_at, places, same_bytes}
 use Rattle.cs_blob.specs.Spelling.{FitsBlob}
 use Rattle.cs_blob.specs.declared.blob.BlobGroup.{BlobGroup}
 use Rattle.cs_blob.specs.declared.blob.Entry.{Entry}
 use Rattle.cs_rebaser.specs.Rebased.{Placed, placed}
-use Rattle.cs_rebaser.specs.Steps.{IsIndexOf, behind, first_of, ordered_entries, placed_entry, spot_bytes}
+use Rattle.cs_rebaser.specs.Steps.{IsIndexOf, behind, ordered_entries, placed_entry, spot_bytes}
 use Rattle.cs_rebaser.proofs.Halves.{one_there}
 use Rattle.cs_rebaser.proofs.Listings.{found_at, listing_sorted}
 use Rattle.cs_rebaser.proofs.Placed.{bytes_of, entries_of, have_names, looked_up, pair_keys, pair_values, pairs}
 use Rattle.cs_rebaser.proofs.Telling.{by_bool, same_is}
+
+-- the first of some numbers, if there is one
+abbrev first_of : List ℕ → List ℕ
+first_of [] = []
+first_of (at ∷ others) = at ∷ []
 
 -- the first of the places of a key, with its entry
 abbrev pub entry_of_group : Keys → List Entry → List ℕ → List (List ℕ × Entry)
@@ -125,7 +130,7 @@ gathered_length blob keys entries keys_are entries_are =
     ∙ sym (length-map (placed blob) (λ (p : Placed). p.1))
     ∙ ap (λ (es : List Entry). length es) (sym entries_are)
 
-pub is_index : (blob : List BlobGroup) (keys : Keys) (entries : List Entry) (groups : List (List ℕ))
+is_index : (blob : List BlobGroup) (keys : Keys) (entries : List Entry) (groups : List (List ℕ))
     → FitsBlob blob → keys ≡ bytes_of (placed blob) → entries ≡ entries_of (placed blob) → IsGrouping keys groups
     → IsIndexOf blob keys entries (flat_map first_of groups)
 is_index blob keys entries groups fits keys_are entries_are g =
@@ -184,6 +189,16 @@ rising_index blob keys entries fits keys_are entries_are rising =
       rising = rw (listed, ← of_keys) rising;
       each = λ spot named. ap (λ (fs : List (List ℕ × Entry)). lookup (same_bytes (spot_bytes spot)) fs) listed ∙ looked_up spot (placed blob) named (have_names blob fits);
     }
+
+firsts_alone : (order : List ℕ) → flat_map first_of (map (λ place. place ∷ []) order) ≡ order
+firsts_alone [] = refl
+firsts_alone (place ∷ order) = ap (λ (ps : List ℕ). place ∷ ps) (firsts_alone order)
+
+-- where no place comes twice
+pub ordered_index : (blob : List BlobGroup) (keys : Keys) (entries : List Entry) (order : List ℕ)
+    → FitsBlob blob → keys ≡ bytes_of (placed blob) → entries ≡ entries_of (placed blob) → IsDistinctOrder keys order → IsIndexOf blob keys entries order
+ordered_index blob keys entries order fits keys_are entries_are is =
+    subst (IsIndexOf blob keys entries) (firsts_alone order) (is_index blob keys entries (map (λ place. place ∷ []) order) fits keys_are entries_are is.alone)
 
 -- ---- what stands at a place of the order
 

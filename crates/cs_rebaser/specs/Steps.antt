@@ -37,11 +37,6 @@ placed_entry places entries at = behind (key_at places at) (slice_get entries at
 abbrev pub ordered_entries : Keys → List Entry → List ℕ → List (List ℕ × Entry)
 ordered_entries places entries order = flat_map (placed_entry places entries) order
 
--- the first of some numbers, if there is one
-abbrev pub first_of : List ℕ → List ℕ
-first_of [] = []
-first_of (at ∷ others) = at ∷ []
-
 -- places and entries side by side, and the order of the places: whatever is looked up in it is found there
 pub record IsIndexOf (blob : List BlobGroup) (places : Keys) (entries : List Entry) (order : List ℕ) : Type 0 where
   pub within : All (λ at. at < length entries) order

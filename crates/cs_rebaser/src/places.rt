@@ -4,17 +4,17 @@ ghost use Rattle.std.specs.Prelude.{◌≡◌, ◌<◌, ◌≤◌, ◌++◌, ◌
 ghost use Rattle.std.specs.List.{All, flat_map, range_with_len};
 ghost use Rattle.std.specs.List.Sorted.{IsStrictlySortedBy};
 ghost use Rattle.std.specs.Map.{keys_of, lookup, values_of};
-ghost use Rattle.cs_order.specs.Groups.{HasTwins, HasNoTwins, IsGrouping};
+ghost use Rattle.cs_order.specs.Groups.{HasTwins, IsDistinctOrder};
 ghost use Rattle.cs_order.specs.Order.{by_bytes, same_bytes};
 ghost use Rattle.cs_blob.specs.Spelling.{FitsBlob};
 ghost use Rattle.cs_rebaser.specs.Faults.{IsConfigureFault};
 ghost use Rattle.cs_rebaser.specs.Rebased.{entry_key, HasEachOnce};
-ghost use Rattle.cs_rebaser.specs.Steps.{first_of, ordered_entries, spot_bytes, spots_in, IsIndexOf};
+ghost use Rattle.cs_rebaser.specs.Steps.{ordered_entries, spot_bytes, spots_in, IsIndexOf};
 
 use crate::faults::ConfigureFault;
 use cs_blob::{BlobGroup, Entry};
 use cs_normal::{Keys, key_front, read_marks};
-use cs_order::{Groups, group_keys};
+use cs_order::distinct_order;
 use cs_value::Memory;
 use std::alloc::Global;
 use std::cmp::Ordering;
@@ -132,34 +132,12 @@ fn as_they_stand(alloc: Global, count: usize) -> Result<Vec<usize>, Memory>
     Ok(order)
 }
 
-/// Puts the first of these numbers behind the others.
-fn push_first(group: &[usize], order: &mut Vec<usize>) -> Result<(), Memory>
-    ensures { OnOk result (order.new.items ≡ order.old.items ++ first_of group.now) }
-{
-    let [first, ..] = group else {
-        return Ok(());
-    };
-    order.push(*first)?;
-    Ok(())
-}
-
-/// The first number of each group.
-fn first_of_each(alloc: Global, groups: &Groups) -> Result<Vec<usize>, Memory>
-    ensures { IfOk result (λ order. order.items ≡ flat_map first_of groups.now) }
-{
-    let mut order = Vec::with_capacity(alloc, groups.len())?;
-    for at in 0..groups.len() {
-        push_first(groups.group(at), &mut order)?;
-    }
-    Ok(order)
-}
-
-/// The entries that are of one place, the places in the order of their bytes.
-fn group_places(alloc: Global, places: &Keys) -> Result<Groups, Memory>
-    ensures { IfOk result (λ groups. IsGrouping places.now groups) }
+/// The order of the places; `None` where two entries are of one place.
+fn place_order(alloc: Global, places: &Keys) -> Result<Option<Vec<usize>>, Memory>
+    ensures { IfOk result (λ found. MatchOption found (HasTwins places.now) (λ order. IsDistinctOrder places.now order.items)) }
 {
     let slices = places.slices(alloc)?;
-    group_keys(alloc, slices.as_slice())
+    distinct_order(alloc, slices.as_slice())
 }
 
 /// The entry of each place of a blob, and the order of the places. Where they stand in that order already, as in a blob that
@@ -179,12 +157,14 @@ pub(crate) fn index_of<'a>(
         index.order = as_they_stand(alloc, index.places.len())?;
         return Ok(index);
     }
-    let grouped = group_places(alloc, &index.places)?;
-    if grouped.has_twins() {
-        return Err(ConfigureFault::KeyTwice);
+    let found = place_order(alloc, &index.places)?;
+    match found {
+        None => Err(ConfigureFault::KeyTwice),
+        Some(order) => {
+            index.order = order;
+            Ok(index)
+        }
     }
-    index.order = first_of_each(alloc, &grouped)?;
-    Ok(index)
 }
 
 /// The place there, in their order.
