@@ -69,20 +69,6 @@ EndsServing words input read_failed write_failed old new (Err Write) =
     × AppendsBroken old new answers × write_failed
 EndsServing words input read_failed write_failed old new (Err _) = ⊥
 
--- help was written; or a front of it, where the writer failed; or memory was wanting
-abbrev pub EndsHelping : Type 0 → Option (List ℕ) → Option (List ℕ) → Result ⊤ RunFault → Type 0
-EndsHelping failed old new (Ok done) = (help : List ℕ) × Appends old new help
-EndsHelping failed old new (Err Write) = failed × ((front : List ℕ) × Appends old new front)
-EndsHelping failed old new (Err Memory) = Keeps old new
-EndsHelping failed old new (Err _) = ⊥
-
--- a refusal by the parser for this reason: help where it was asked for; else it is told, want of memory as such
-abbrev pub EndsRefused : ErrorKind → Type 0 → Option (List ℕ) → Option (List ℕ) → Result ⊤ RunFault → Type 0
-EndsRefused why failed old new (Err CommandLine) =
-    (why ≢ kind.DisplayHelp) × (why ≢ kind.OutOfMemory) × Keeps old new
-EndsRefused why failed old new (Err Memory) = ((why ≡ kind.DisplayHelp) ⊎ (why ≡ kind.OutOfMemory)) × Keeps old new
-EndsRefused why failed old new result = (why ≡ kind.DisplayHelp) × EndsHelping failed old new result
-
 -- words that the command line doesn't take: help was asked for and written, or a front of it, where the writer failed; or the
 -- words were refused, for one of the parser's reasons; or memory was
 abbrev pub EndsUntaken : Kinds → Type 0 → Option (List ℕ) → Option (List ℕ) → Result ⊤ RunFault → Type 0
@@ -97,3 +83,19 @@ EndsUntaken kinds failed old new (Err _) = ⊥
 -- words that ask for nothing: refused, or memory was wanting
 abbrev pub EndsUnasked : Option (List ℕ) → Option (List ℕ) → Result ⊤ RunFault → Type 0
 EndsUnasked old new result = ((result ≡ Err CommandLine) ⊎ (result ≡ Err Memory)) × Keeps old new
+
+-- ---- on the way to the end of words that aren't taken; no public clause cites these
+
+-- help was written; or a front of it, where the writer failed; or memory was wanting
+abbrev pub EndsHelping : Type 0 → Option (List ℕ) → Option (List ℕ) → Result ⊤ RunFault → Type 0
+EndsHelping failed old new (Ok done) = (help : List ℕ) × Appends old new help
+EndsHelping failed old new (Err Write) = failed × ((front : List ℕ) × Appends old new front)
+EndsHelping failed old new (Err Memory) = Keeps old new
+EndsHelping failed old new (Err _) = ⊥
+
+-- a refusal by the parser for this reason: help where it was asked for; else it is told, want of memory as such
+abbrev pub EndsRefused : ErrorKind → Type 0 → Option (List ℕ) → Option (List ℕ) → Result ⊤ RunFault → Type 0
+EndsRefused why failed old new (Err CommandLine) =
+    (why ≢ kind.DisplayHelp) × (why ≢ kind.OutOfMemory) × Keeps old new
+EndsRefused why failed old new (Err Memory) = ((why ≡ kind.DisplayHelp) ⊎ (why ≡ kind.OutOfMemory)) × Keeps old new
+EndsRefused why failed old new result = (why ≡ kind.DisplayHelp) × EndsHelping failed old new result

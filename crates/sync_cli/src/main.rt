@@ -1,15 +1,14 @@
 //! The program `sync`: a hub that answers requests line by line, and tools for changesets, all in hex.
 //!
-//! It stands on `clap` for the command line, on `cs_lines` for the lines, on `cs_hub` for the answers, on `cs_group` for
-//! changesets as one, on `cs_rebaser` for rebased ones and on `cs_text` for what `show` prints, and only wires them. `run`
-//! carries the promise, status by status (`specs/Endings.antt`): `hub` gives each line of the input the answer of a hub of
-//! the tables that the command line names, `combine` writes the changesets of all lines as one, `rebase` that of the first
-//! line over the blob of the second, both in normal form or, by `cs_sqlite`, with the column bytes that came in, and `show`
-//! the text of the first.
+//! It stands on `clap` for the command line, on `cs_hub` for the answers, on `cs_lines` for their lines and on `cs_tools` for the
+//! tools, and only wires them. `run` carries the promise, end by end (`specs/Endings.antt`): `hub` gives each line of the input
+//! the answer of a hub of the tables that the command line names, a tool writes what it owes for the lines of the input or
+//! tells their first fault, and the words that are refused are those that name no catalog or that the command line doesn't
+//! take. `tell_end` turns each end into its status.
 //!
 //! `run`'s clauses stand over a reader and a writer whose bytes are known, as those of slices and vectors are. Standard
 //! input and output are none such in the toolchain: of `main`, which hands `run` the words, the standard streams and the
-//! allocator, the clauses say which status may come for which words, and nothing of the bytes. What the built program
+//! allocator, the clauses say which end may come for which words, and nothing of the bytes. What the built program
 //! reads and writes on files and pipes is shown by tests instead: the stored run (`stdin`, `stdout`) and
 //! `bench/check_program.sh`.
 #![tactic(auto)]
