@@ -1,5 +1,5 @@
 -- An input has one fault for a tool, and none where a text is owed.
-use Rattle.std.proofs.Common.{◌≡◌, ℕ, List, [], ◌∷◌, inl, inr, refl, sym, ap, ap₂, ◌∙◌, subst}
+use Rattle.std.proofs.Common.{◌≡◌, ℕ, List, [], ◌∷◌, inl, inr, sym, ap, ap₂, ◌∙◌, subst}
 use Rattle.std.specs.Prelude.{◌⊎◌, ⊤, Option, Some, Ok, Err, flat_map}
 use Rattle.cs_blob.specs.Laws.{BlobLaws}
 use Rattle.cs_blob.specs.Reading.{IsBlobFault}
@@ -17,7 +17,7 @@ use Rattle.cs_rebaser.specs.RebasedLaws.{NoWrongShape}
 use Rattle.cs_sqlite.specs.KeyPlaces.{Head, heads_of}
 use Rattle.cs_sqlite.specs.Laws.{OneOrderOrTwo}
 use Rattle.cs_tools.specs.CombinedLines.{AreNotCombined, HasBadLine, HasFaultToCombine, RefusesToCombine, SpellChangesets, SpellsCombined}
-use Rattle.cs_tools.specs.Endings.{Owes, Refuses}
+use Rattle.cs_tools.specs.Endings.{Owes}
 use Rattle.cs_tools.specs.Faults.{AreBadBytes, IsBadLine, IsBadNext, IsFailure, IsNoHex}
 use Rattle.cs_tools.specs.Laws.{IsOfNoLine, NoFaultWhereOwed, OneFault}
 use Rattle.cs_tools.specs.RebasedLine.{heads_of_both, HasFaultToRebase, IsRebased, Rebases, RefusesToRebase, TakesChangeset}
@@ -28,7 +28,6 @@ use Rattle.cs_tools.specs.declared.fault.ToolFault.{ToolFault}
 use Rattle.cs_tools.specs.declared.fault.ToolFault.TheVariants as told
 use Rattle.cs_tools.specs.declared.tool.Form.{Form}
 use Rattle.cs_tools.specs.declared.tool.Form.TheVariants.{Normal, Sqlite}
-use Rattle.cs_tools.specs.declared.tool.Tool.{Tool}
 use Rattle.cs_tools.specs.declared.tool.Tool.TheVariants.{Combine, Rebase, ShowBlob, ShowChangeset}
 use Rattle.cs_tools.proofs.TextLaws.{known_rest, one_in_hex, one_list, one_next}
 

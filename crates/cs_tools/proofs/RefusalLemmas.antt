@@ -1,5 +1,5 @@
 -- Why a tool writes nothing, from what was read.
-use Rattle.std.proofs.Common.{◌≡◌, ℕ, List, [], ◌∷◌, ◌++◌, inl, inr, refl, ap, ◌∙◌, subst}
+use Rattle.std.proofs.Common.{◌≡◌, ℕ, List, [], ◌∷◌, ◌++◌, inl, inr, refl, ap, ◌∙◌}
 use Rattle.std.specs.Prelude.{◌⊎◌, Option, Some, None, Ok, flat_map}
 use Rattle.std.specs.Global.{Vec}
 use Rattle.cs_blob.specs.Reading.{IsBlobFault}

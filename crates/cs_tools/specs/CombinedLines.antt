@@ -1,5 +1,5 @@
--- What `combine` writes: the changesets that the lines of the input spell, as one; or why there is no such thing (profile of this
--- project over SQLite's changegroup).
+-- What `combine` writes: the changesets that the lines of the input spell, as one; or why there is no such thing (profile of
+-- this project over SQLite's changegroup).
 use Rattle.std.specs.Prelude.{◌≡◌, ◌≢◌, ◌⊎◌, ℕ, List, [], ◌∷◌, length, Option}
 use Rattle.std.specs.List.{AllZip, flat_map}
 use Rattle.cs_lines.specs.Lines.{hex_line}
@@ -55,8 +55,8 @@ abbrev pub HasFaultToCombine : Form → List (List ℕ) → ToolFault → Type 0
 HasFaultToCombine form lines told =
     HasBadLine told lines
     ⊎ ((changesets : List (List Group)) × SpellChangesets lines changesets × AreNotCombined changesets told)
-    ⊎ ((changesets : List (List Group)) × (both : List TableChanges) × SpellChangesets lines changesets × IsCombined changesets both
-    × IsNotWritten form (flat_map heads_of changesets) told)
+    ⊎ ((changesets : List (List Group)) × (both : List TableChanges) × SpellChangesets lines changesets
+    × IsCombined changesets both × IsNotWritten form (flat_map heads_of changesets) told)
 
 -- each of the first lines spells a changeset, and behind them a read failed, or there are lines without end
 abbrev pub FailsToRead : Type 0 → Option (List ℕ) → Type 0

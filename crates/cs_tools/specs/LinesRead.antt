@@ -37,7 +37,8 @@ AreRead input left inputs = (lines : List (List ℕ)) × AreTaken input left lin
 
 -- each of the bytes spell a changeset, in order
 abbrev pub SpellAll : List (Vec ℕ) → List (List Group) → Type 0
-SpellAll inputs changesets = AllZip (λ bytes groups. Spells FitsChangeset changeset_spelling bytes.items groups) inputs changesets
+SpellAll inputs changesets =
+    AllZip (λ bytes groups. Spells FitsChangeset changeset_spelling bytes.items groups) inputs changesets
 
 -- these are the first lines of the input, and why no more are read: there are none; or want of memory, a failed read, or lines
 -- without end; or the next line is no hex
@@ -50,7 +51,8 @@ EndsReading read_failed input lines (Some told) =
 
 -- the lines that were read are these bytes in hex
 abbrev pub AreReadUpTo : Type 0 → Option (List ℕ) → List (Vec ℕ) → Option ToolFault → Type 0
-AreReadUpTo read_failed input inputs ended = (lines : List (List ℕ)) × AreHexOf lines inputs × EndsReading read_failed input lines ended
+AreReadUpTo read_failed input inputs ended =
+    (lines : List (List ℕ)) × AreHexOf lines inputs × EndsReading read_failed input lines ended
 
 -- the first of the bytes that spell no changeset have this fault
 abbrev pub HasBadInput : ToolFault → List (Vec ℕ) → Type 0

@@ -37,7 +37,8 @@ fn normal_of(alloc: Global, bytes: &[u8]) -> Result<Normal, ToolFault>
     ensures ok { IfOk result (λ local. (groups : List Changes)
         × Spells FitsChangeset changeset_spelling bytes.now groups × IsCombined (groups ∷ []) local) }
     ensures err { IfErr result (λ told. (told ≡ NoMemory) ⊎ AreBadBytes IsChangesetFault bytes.now told
-        ⊎ ((groups : List Changes) × Spells FitsChangeset changeset_spelling bytes.now groups × AreNotCombined (groups ∷ []) told)) }
+        ⊎ ((groups : List Changes) × Spells FitsChangeset changeset_spelling bytes.now groups
+        × AreNotCombined (groups ∷ []) told)) }
 {
     let changeset = cs_changeset::read(alloc, bytes)?;
     Ok(normalise_alone(alloc, &changeset)?)

@@ -56,7 +56,8 @@ fn text_of_blob(alloc: Global, bytes: &[u8]) -> Result<String, ToolFault>
 /// The text of the changeset that the first line spells in hex.
 fn shown_changeset<R: LineInput>(alloc: Global, reader: &mut R) -> Result<String, ToolFault>
     ensures ok { IfOk result (λ text. ShowsChangeset (R.remaining reader.old) (R.remaining reader.new) text.bytes.items) }
-    ensures err { IfErr result (RefusesToShow IsChangesetFault (R.failed reader.new) (R.remaining reader.old) (R.remaining reader.new)) }
+    ensures err { IfErr result
+        (RefusesToShow IsChangesetFault (R.failed reader.new) (R.remaining reader.old) (R.remaining reader.new)) }
 {
     let bytes = next_or_empty(alloc, reader)?;
     text_of_changeset(alloc, bytes.as_slice())
@@ -65,7 +66,8 @@ fn shown_changeset<R: LineInput>(alloc: Global, reader: &mut R) -> Result<String
 /// The text of the rebase blob that the first line spells in hex.
 fn shown_blob<R: LineInput>(alloc: Global, reader: &mut R) -> Result<String, ToolFault>
     ensures ok { IfOk result (λ text. ShowsBlob (R.remaining reader.old) (R.remaining reader.new) text.bytes.items) }
-    ensures err { IfErr result (RefusesToShow IsBlobFault (R.failed reader.new) (R.remaining reader.old) (R.remaining reader.new)) }
+    ensures err { IfErr result
+        (RefusesToShow IsBlobFault (R.failed reader.new) (R.remaining reader.old) (R.remaining reader.new)) }
 {
     let bytes = next_or_empty(alloc, reader)?;
     text_of_blob(alloc, bytes.as_slice())

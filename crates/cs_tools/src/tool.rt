@@ -15,8 +15,8 @@ use std::alloc::Global;
 pub enum Form {
     /// The normal form of this project: 1 for a key column, and 0 for another.
     Normal,
-    /// Those of the table's first header in the input. SQLite writes a key column's place in the PRIMARY KEY, and applies changes
-    /// only to a table with the same bytes.
+    /// Those of the table's first header in the input. SQLite writes a key column's place in the PRIMARY KEY, and applies
+    /// changes only to a table with the same bytes.
     Sqlite,
 }
 
@@ -32,7 +32,8 @@ pub enum Tool {
     Rebase(Form),
     /// The changeset that the first line spells in hex, as text. The lines behind it are left unread. (Profile of this project.)
     ShowChangeset,
-    /// The rebase blob that the first line spells in hex, as text. The lines behind it are left unread. (Profile of this project.)
+    /// The rebase blob that the first line spells in hex, as text. The lines behind it are left unread. (Profile of this
+    /// project.)
     ShowBlob,
 }
 

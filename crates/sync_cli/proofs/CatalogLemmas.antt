@@ -9,8 +9,7 @@ use Rattle.cs_value.specs.declared.catalog.CatalogFault.TheVariants.{Width, NoKe
 use Rattle.cs_value.specs.Catalog.{AreTables, IsCatalogFault, IsTable, IsTableFault, HasFirstTableFault}
 use Rattle.sync_cli.specs.TableWord.{SpellsTable}
 use Rattle.sync_cli.specs.Laws.{NoCatalogRefused, OneCatalog, OneRefusedWord}
-use Rattle.sync_cli.specs.CatalogWords.{IsCatalogOf, IsFirstRefused, IsRefusedAt}
-use Rattle.sync_cli.specs.declared.fault.RunFault.TheVariants.{Table}
+use Rattle.sync_cli.specs.CatalogWords.{IsCatalogOf, IsRefusedAt}
 use Rattle.sync_cli.proofs.WordLemmas.{spelled_once}
 
 pub zip_more : (words : List (List ℕ)) (tables : List TableDef) (word : List ℕ) (table : TableDef)

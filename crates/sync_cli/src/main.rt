@@ -1,7 +1,7 @@
 //! The program `sync`: a hub that answers requests line by line, and tools for changesets, all in hex.
 //!
-//! It stands on `clap` for the command line, on `cs_hub` for the answers, on `cs_lines` for their lines and on `cs_tools` for the
-//! tools, and only wires them. `run` carries the promise, end by end (`specs/Endings.antt`): `hub` gives each line of the input
+//! It stands on `clap` for the command line, on `cs_hub` for the answers, on `cs_lines` for their lines and on `cs_tools` for
+//! the tools, and only wires them. `run` carries the promise, end by end (`specs/Endings.antt`): `hub` gives each line of the input
 //! the answer of a hub of the tables that the command line names, a tool writes what it owes for the lines of the input or
 //! tells their first fault, and the words that are refused are those that name no catalog or that the command line doesn't
 //! take. `tell_end` turns each end into its status.

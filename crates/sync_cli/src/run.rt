@@ -16,8 +16,8 @@ use cs_tools::{run_tool, write_text};
 use std::alloc::Global;
 use std::convert::AsStr;
 
-/// Runs `sync` on its words, of which the first is the program's name. Where all was done, also where help was asked for, what was
-/// written is sent. (Profile of this project.)
+/// Runs `sync` on its words, of which the first is the program's name. Where all was done, also where help was asked for, what
+/// was written is sent. (Profile of this project.)
 pub fn run<'w, S: AsStr, R: LineInput, W: LineOutput>(
     alloc: Global,
     words: &'w [S],

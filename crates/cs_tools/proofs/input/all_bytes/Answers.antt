@@ -1,7 +1,7 @@
 use Rattle.std.proofs.Common.{◌≡◌, ◌++◌, ◌∷◌, [], ◌+◌, ◌∙◌, length, arith}
 use Rattle.std.proofs.lemmas.Grind.{common_steps}
 use Rattle.cs_lines.specs.declared.serve.TheConstants.{ASKS}
-use Rattle.cs_tools.proofs.InputLemmas.{read_in_memory, read_more, read_none, read_stopped, read_to_end, read_without_end}
+use Rattle.cs_tools.proofs.InputLemmas.{read_in_memory, read_more, read_none, read_stopped, read_without_end}
 use Rattle.cs_tools.proofs.input.all_bytes.Goals as goal
 
 pub loop-asked-init : goal.loop-asked-init
