@@ -58,10 +58,6 @@ read_more more input left after inputs now bytes is so_far took =
       zip_push (λ line (held : Vec ℕ). IsHexOf line held.items) lines inputs line bytes so_far.2 took.2,
     )
 
-pub read_to_end : AllTaken → (failed : Type 0) (input left : Option (List ℕ)) (inputs : List (Vec ℕ)) → AreRead input left inputs
-    → IsAtEnd left → AreReadUpTo failed input inputs None
-read_to_end all failed input left inputs so_far end = (so_far.0, so_far.2, all input left so_far.0 so_far.1 end)
-
 first_taken : (input left : Option (List ℕ)) (lines : List (List ℕ)) → AreTaken input left lines → AreFirstLines input lines
 first_taken None left lines taken = tt
 first_taken (Some input) left lines taken = (lines_of taken.0, taken.2)
@@ -176,9 +172,6 @@ pub taken_none : (old new : Option (List ℕ)) (bytes : List ℕ) → bytes ≡ 
 unfolding decode_pairs
 taken_none old new bytes is end kept = rw is ([], inr (end, kept, refl), refl)
 
-pub taken_some : (old new : Option (List ℕ)) (bytes : Vec ℕ) → TakesBytes (Some bytes) old new → TakesNextBytes bytes.items old new
-taken_some old new bytes took = (took.0, inl took.1, took.2)
-
 -- the text of the bytes of the first line is that of what it spells
 pub shows_first : {A : Type 0} (Fits : A → Type 0) (spelling text_of : A → List ℕ) (old new : Option (List ℕ)) (bytes text : List ℕ)
     → TakesNextBytes bytes old new → ShowsBytes Fits spelling text_of bytes text → ShowsFirst Fits spelling text_of old new text
@@ -190,12 +183,6 @@ pub refuses_first : (IsFault : Fault → ℕ → List ℕ → Type 0) (failed : 
     → TakesNextBytes bytes old new → (told ≡ Memory) ⊎ AreBadBytes IsFault bytes told → RefusesToShow IsFault failed old new told
 refuses_first IsFault failed old new bytes told took (inl memory) = inl (inl memory)
 refuses_first IsFault failed old new bytes told took (inr bad) = inr (took.0, took.1, inr (bytes, took.2, bad))
-
--- and that of a line that isn't taken
-pub refuses_taking : (IsFault : Fault → ℕ → List ℕ → Type 0) (failed : Type 0) (old new : Option (List ℕ)) (told : ToolFault)
-    → IsNotTaken (TakesNext old new) failed told → RefusesToShow IsFault failed old new told
-refuses_taking IsFault failed old new told (inl failure) = inl failure
-refuses_taking IsFault failed old new told (inr bad) = inr (bad.0, bad.1, inl (bad.2, bad.3))
 
 -- the two lines of a rebase, from their bytes
 pub rebases_two : {E : Type 0} (form : Form) (old between new : Option (List ℕ)) (changeset conflicts : List ℕ) (local made : List TableChanges)
