@@ -24,17 +24,17 @@ const V2: &str = "03027632";
 const V9: &str = "03027639";
 
 /// The fields of texts of t2, by their column.
-const B0: &str = "03026230";
+const B_OLD: &str = "03026230";
 
-const B1: &str = "03026231";
+const B_NEW: &str = "03026231";
 
-const B2: &str = "03026232";
+const B_THEIRS: &str = "03026232";
 
-const C2: &str = "03026332";
+const C_THEIRS: &str = "03026332";
 
-const D0: &str = "03026430";
+const D_OLD: &str = "03026430";
 
-const D1: &str = "03026431";
+const D_NEW: &str = "03026431";
 
 /// A header of t1 with a column more.
 const WIDE: &str = "5403010000743100";
@@ -88,22 +88,26 @@ fn columns_of_an_update(rt: HostRuntime) -> Result<(), Fail> {
     let rows = [
         (
             [
-                H2, "1700", K1, B0, "000000", B1, "0000\n", H2, "1201", K1, B2, C2, "00\n",
+                H2, "1700", K1, B_OLD, "000000", B_NEW, "0000\n", H2, "1201", K1, B_THEIRS,
+                C_THEIRS, "00\n",
             ]
             .as_slice(),
             ["\n"].as_slice(),
         ),
         (
             [
-                H2, "1700", K1, B0, "00", D0, "00", B1, "00", D1, "\n", H2, "1200", K1, B2,
-                "0000\n",
+                H2, "1700", K1, B_OLD, "00", D_OLD, "00", B_NEW, "00", D_NEW, "\n", H2, "1200", K1,
+                B_THEIRS, "0000\n",
             ]
             .as_slice(),
-            [H2, "1700", K1, B2, "00", D0, "00", B1, "00", D1, "\n"].as_slice(),
+            [
+                H2, "1700", K1, B_THEIRS, "00", D_OLD, "00", B_NEW, "00", D_NEW, "\n",
+            ]
+            .as_slice(),
         ),
         (
-            [H2, "1700", K1, "0000", D0, "000000", D1, "\n"].as_slice(),
-            [H2, "1700", K1, "0000", D0, "000000", D1, "\n"].as_slice(),
+            [H2, "1700", K1, "0000", D_OLD, "000000", D_NEW, "\n"].as_slice(),
+            [H2, "1700", K1, "0000", D_OLD, "000000", D_NEW, "\n"].as_slice(),
         ),
     ];
     for (input, output) in rows {
