@@ -3,8 +3,8 @@
 # commits twice to the one in memory, that of `apply` applies a changeset, and that of the rebaser rebases one. Where that is
 # refused, the test looks whether everything is as it was, and makes the same call again. Each run has to pass.
 # Usage: bench/refuse_tests.sh store|apply|rebaser [TESTS]
-# TESTS is the program of their tests, as `rt test` leaves it (crates/cs_state_tests/out/cs_state_tests_tests); where none is
-# given, it is proved and built.
+# TESTS is the program of its tests, as `rt test` leaves it (crates/cs_store_tests/out/cs_store_tests_tests and so on); where none
+# is given, it is proved and built.
 set -eu
 bench="$(cd "$(dirname "$0")" && pwd)"
 tested="$1"
@@ -21,11 +21,11 @@ esac
 command -v cc > /dev/null || { echo "no allocation refused: there is no C compiler here"; exit 0; }
 mkdir -p "$out"
 if [ -z "$tests" ]; then
-    (cd "$bench/../crates/cs_state_tests" && rt test > "$out/refused_tests.log" 2>&1) || {
+    (cd "$bench/../crates/cs_${tested}_tests" && rt test > "$out/refused_tests.log" 2>&1) || {
         echo "the tests aren't built: see $out/refused_tests.log" >&2
         exit 1
     }
-    tests="$bench/../crates/cs_state_tests/out/cs_state_tests_tests"
+    tests="$bench/../crates/cs_${tested}_tests/out/cs_${tested}_tests_tests"
 fi
 cc -O2 -Wall -Wextra -shared -fPIC "$bench/refuse_memory.c" -o "$out/refuse_memory.so" -ldl
 number=1
@@ -33,7 +33,7 @@ while true; do
     status=0
     # `env` stands behind `timeout`, whose own allocations would be counted and refused too.
     timeout 20 env REFUSE=$number LD_PRELOAD="$out/refuse_memory.so" "$tests" \
-        "$tested::refused_memory_leaves_everything" > "$out/answers" 2> "$out/errors" 9> "$out/reached" || status=$?
+        "tests::refused_memory_leaves_everything" > "$out/answers" 2> "$out/errors" 9> "$out/reached" || status=$?
     [ ! -s "$out/reached" ] || break
     [ "$status" -eq 0 ] || { echo "allocation $number: status $status, $(cat "$out/answers" "$out/errors")" >&2; exit 1; }
     number=$((number + 1))

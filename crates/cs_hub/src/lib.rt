@@ -4,6 +4,7 @@
 //! changes nothing. `laws::one_request` says that bytes ask one thing. The crate stands on changesets (`cs_changeset`), their
 //! normal forms (`cs_normal`), rows (`cs_record`) and what a change does at its place (`cs_change`).
 //! Requests and answers are private modules.
+//! Its tests stand in `cs_hub_tests`.
 #![tactic(auto)]
 
 mod answer;

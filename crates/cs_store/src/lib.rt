@@ -4,6 +4,7 @@
 //! in memory, whose commit of one row costs the logarithm of its rows; `Trip` is a store for tests that refuses one call.
 //! The crate stands on the order of keys (`cs_order`). `laws` says that a listing and a commit have one answer, and what a
 //! commit leaves at each place.
+//! Its tests stand in `cs_store_tests`.
 #![tactic(auto)]
 
 mod batch;
