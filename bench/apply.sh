@@ -17,11 +17,10 @@ if ! need_sqlite; then
 fi
 cc -O2 -Wall -Wextra $sqlite_flags "$bench/apply.c" -o "$out/sqlite_apply" -lsqlite3
 
-build_rattle apply_program "cs_apply cs_blob cs_change cs_changeset cs_conflict cs_normal cs_store cs_value hex" \
-    cs_apply cs_blob cs_change cs_changeset cs_conflict cs_normal cs_order cs_record cs_store cs_value cs_varint
+need_runner
 
 "$out/sqlite_apply" cases "$cases" "$out/apply_cases" "$out/apply_expected"
-timeout 60 "$out/apply_program" check < "$out/apply_cases" > "$out/apply_told"
+timeout 60 "$runner" apply < "$out/apply_cases" > "$out/apply_told"
 cmp "$out/apply_expected" "$out/apply_told" || {
     echo "the library and SQLite apply a changeset in different ways: compare $out/apply_expected with $out/apply_told" >&2
     exit 1
@@ -34,7 +33,7 @@ echo "nanoseconds a change, best of $rounds: the library / SQLite = ratio"
 for every in 0 10; do
     for count in 1000 10000 100000 1000000; do
         "$out/sqlite_apply" time "$rounds" "$count" "$every" "$out/apply_case" > "$out/apply_theirs"
-        "$out/apply_program" time "$rounds" < "$out/apply_case" > "$out/apply_ours"
+        "$runner" apply "$rounds" < "$out/apply_case" > "$out/apply_ours"
         awk -v count="$count" -v every="$every" '
             FNR == NR { theirs = $1; asked = $2; next }
             {

@@ -40,6 +40,17 @@ build_library() {
     library="$crate/out/libcs_ffi.a"
 }
 
+# The program that runs the drawn cases by the library: where the gate or an earlier run left it, else it is proved and built.
+need_runner() {
+    runner="$bench/../crates/beside_sqlite/out/beside_sqlite"
+    [ -x "$runner" ] && return 0
+    mkdir -p "$out"
+    (cd "$bench/../crates/beside_sqlite" && rt run < /dev/null > "$out/runner.log" 2>&1) || {
+        echo "the program that runs the cases isn't built: see $out/runner.log" >&2
+        return 1
+    }
+}
+
 build_capture() {
     cc -O2 -Wall -Wextra $sqlite_flags "$bench/sqlite_capture.c" -o "$out/sqlite_capture" -lsqlite3
 }
@@ -52,12 +63,11 @@ build_program() {
         -o "$out/$name"
 }
 
-# Proves and builds the Rattle program NAME.rattle of this folder, with the modules of this folder that it names by `mod`. It uses
-# these crates and libraries of the kit, over copies of all crates that are named behind them: build_rattle NAME "USED .." CRATE ...
-# It is made in a repository of its own outside this one, since the gate takes no source that is no crate's. A crate is copied
+# Proves and builds the Rattle program NAME.rattle of this folder. It uses these crates and libraries of the kit, over copies of
+# all crates that are named behind them: build_rattle NAME "USED .." CRATE ... It is made in a repository of its own outside this one, since the gate takes no source that is no crate's. A crate is copied
 # with what its proof left, so that it isn't proved again.
 build_rattle() {
-    local name="$1" used="$2" module work
+    local name="$1" used="$2" work
     shift 2
     mkdir -p "$out"
     work="$(mktemp -d)"
@@ -68,9 +78,6 @@ build_rattle() {
     done
     echo "$name: $used" >> "$work/crates.txt"
     cp "$bench/$name.rattle" "$work/crates/$name/src/main.rt"
-    for module in $(sed -n 's/^mod \([a-z_]*\);$/\1/p' "$bench/$name.rattle"); do
-        cp "$bench/$module.rattle" "$work/crates/$name/src/$module.rt"
-    done
     : > "$work/crates/$name/stdin"
     if (cd "$work/crates/$name" && rt run > "$out/${name}_build.log" 2>&1); then
         cp "$work/crates/$name/out/$name" "$out/$name"

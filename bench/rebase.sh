@@ -20,11 +20,10 @@ if ! need_sqlite; then
 fi
 cc -O2 -Wall -Wextra $sqlite_flags "$bench/rebase.c" -o "$out/sqlite_rebase" -lsqlite3
 
-build_rattle rebase_program "cs_apply cs_blob cs_change cs_changeset cs_conflict cs_group cs_normal cs_rebaser cs_store cs_value hex" \
-    cs_apply cs_blob cs_change cs_changeset cs_conflict cs_group cs_normal cs_order cs_rebaser cs_record cs_store cs_value cs_varint
+need_runner
 
 "$out/sqlite_rebase" cases "$cases" "$out/rebase_cases" "$out/rebase_expected"
-timeout 60 "$out/rebase_program" check < "$out/rebase_cases" > "$out/rebase_told"
+timeout 60 "$runner" rebase < "$out/rebase_cases" > "$out/rebase_told"
 awk -f "$bench/rebase.awk" "$out/rebase_expected" "$out/rebase_told" || {
     echo "rebasing is wrong: compare $out/rebase_expected with $out/rebase_told" >&2
     exit 1
@@ -38,7 +37,7 @@ echo "nanoseconds a local change and entry, best of $rounds: the library / SQLit
 # Times so many local changes, each at a key so far from the last one's, over so many entries from a key on.
 time_case() {
     "$out/sqlite_rebase" time "$rounds" "$1" "$2" "$3" "$4" "$out/rebase_case" > "$out/rebase_theirs"
-    "$out/rebase_program" time "$rounds" < "$out/rebase_case" > "$out/rebase_ours"
+    "$runner" rebase "$rounds" < "$out/rebase_case" > "$out/rebase_ours"
     awk -v local="$1" -v entries="$4" -v words="$5" '
         FNR == NR { theirs = $1; left = $2; next }
         {

@@ -1,18 +1,16 @@
-// Rebases local changesets over the blobs that applying remote ones leaves, for `bench/rebase.sh`, which builds it and runs it
-// beside SQLite.
-//
-// Standard input holds parts, each behind its length in eight bytes.
-//
-// check          six parts a case: headers of all tables, the local rows and the remote rows as changesets of INSERTs, the local
-//                changeset and the remote one, each of which has been made to its rows, and the answers to the conflicts of the
-//                remote one with the local rows. Prints how many conflicts there were, the local rows with the remote changeset
-//                applied, the remote rows with the rebased local changeset applied, and how many conflicts that met
-// time ROUNDS    two parts a case: a local changeset and a rebase blob. Prints the nanoseconds of the fastest round, those of
-//                reading the local changeset and bringing it into normal form, and how many changes are left
-#![tactic(auto)]
+//! Rebases local changesets over the blobs that applying remote ones leaves, for `bench/rebase.sh`.
+//!
+//! Standard input holds parts, each behind its length in eight bytes. A case that is checked has six: headers of all tables, the
+//! local rows and the remote rows as changesets of INSERTs, the local changeset and the remote one, each of which has been made to
+//! its rows, and the answers to the conflicts of the remote one with the local rows. Its lines tell how many conflicts there were,
+//! the local rows with the remote changeset applied, the remote rows with the rebased local changeset applied, and how many
+//! conflicts that met. A case that is timed has two: a local changeset and a rebase blob. Its line has the nanoseconds of the
+//! fastest round, those of reading the local changeset and bringing it into normal form, and how many changes are left.
 
-mod drawn;
-
+use crate::drawn::{
+    Wrong, answer_at, catalog_in, changeset_of, commit_edits, put_number, put_rows, store_of,
+    take_part,
+};
 use cs_apply::apply;
 use cs_changeset::read;
 use cs_conflict::{Conflict, Kind, Resolution};
@@ -21,15 +19,9 @@ use cs_normal::Normal;
 use cs_rebaser::Rebaser;
 use cs_store::MapStore;
 use cs_value::Catalog;
-use drawn::{
-    Wrong, answer_at, catalog_in, changeset_of, commit_edits, put_number, put_rows, store_of,
-    take_part,
-};
 use std::alloc::{AllocError, Global};
-use std::io::{BufRead, BufReader, BufWriter, Read, Write};
 use std::rt::Clock;
 use std::time::Instant;
-use std::{env, io};
 
 /// The parts of a case that is checked, but for the headers.
 #[derive(Clone, Copy)]
@@ -246,25 +238,16 @@ fn time_case<R: Clock>(
     Ok(())
 }
 
-fn main(rt: HostRuntime) -> io::Result<()> {
-    let alloc = rt.alloc();
-    let words: Vec<String> = env::args(&rt)?.collect(alloc)?;
-    let rounds = match words.as_slice() {
-        [_, _, rounds] => rounds.as_str().parse::<u64>().ok(),
-        _ => None,
-    };
-    let mut bytes = Vec::new(alloc);
-    BufReader::new(alloc, rt.reader())?.read_to_end(&mut bytes)?;
-    let mut out = Vec::new(alloc);
-    let ended = match rounds {
-        Some(rounds) => time_case(&rt, alloc, bytes.as_slice(), rounds, &mut out),
-        None => check_cases(alloc, bytes.as_slice(), &mut out),
-    };
-    let mut writer = io::writer(&rt);
-    writer.write_all(out.as_slice())?;
-    match ended {
-        Ok(()) => Ok(()),
-        Err(Wrong::Case) => writer.write_all(b"WRONG case\n"),
-        Err(Wrong::Memory) => writer.write_all(b"WRONG memory\n"),
+/// Runs all cases, or times the first where `rounds` is some.
+pub fn run_cases<R: Clock>(
+    rt: &R,
+    alloc: Global,
+    bytes: &[u8],
+    rounds: Option<u64>,
+    out: &mut Vec<u8>,
+) -> Result<(), Wrong> {
+    match rounds {
+        Some(rounds) => time_case(rt, alloc, bytes, rounds, out),
+        None => check_cases(alloc, bytes, out),
     }
 }

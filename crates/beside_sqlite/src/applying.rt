@@ -1,30 +1,23 @@
-// Applies changesets to rows in a `MapStore`, for `bench/apply.sh`, which builds it and runs it beside SQLite.
-//
-// Standard input holds parts, each behind its length in eight bytes, four parts a case: headers of all tables, the rows as a
-// changeset of INSERTs, the changeset, and the answers to its conflicts in order, a digit each, where OMIT is 0, REPLACE 1 and
-// ABORT 2; behind the last one it answers OMIT.
-//
-// check          prints each conflict, how applying ended, and all rows behind it
-// time ROUNDS    prints for each case the nanoseconds of the fastest round, and the conflicts and edits
-#![tactic(auto)]
+//! Applies changesets to rows in a `MapStore`, for `bench/apply.sh`.
+//!
+//! Standard input holds parts, each behind its length in eight bytes, four parts a case: headers of all tables, the rows as a
+//! changeset of INSERTs, the changeset, and the answers to its conflicts in order, a digit each, where OMIT is 0, REPLACE 1 and
+//! ABORT 2; behind the last one it answers OMIT. A case that is checked has a line for each conflict, one of how applying ended,
+//! and one for each row behind it; one that is timed has the nanoseconds of the fastest round, and the conflicts and edits.
 
-mod drawn;
-
+use crate::drawn::{
+    Wrong, answer_at, catalog_in, changeset_of, commit_edits, put_hex, put_number, put_rows,
+    store_of, take_part,
+};
 use cs_apply::{Applied, ApplyFault, apply};
 use cs_blob::{BlobGroup, put_entry};
 use cs_change::{ChangesBuf, Changeset, put_header};
 use cs_conflict::{Conflict, Resolution};
 use cs_store::MapStore;
 use cs_value::Catalog;
-use drawn::{
-    Wrong, answer_at, catalog_in, changeset_of, commit_edits, put_hex, put_number, put_rows,
-    store_of, take_part,
-};
 use std::alloc::{AllocError, Global};
-use std::io::{BufRead, BufReader, BufWriter, Read, Write};
 use std::rt::Clock;
 use std::time::Instant;
-use std::{env, io};
 
 /// What a case is made of.
 #[derive(Drop)]
@@ -209,7 +202,7 @@ fn put_times<R: Clock>(
 }
 
 /// Runs all cases; `rounds` is none where each is checked.
-fn run_cases<R: Clock>(
+pub fn run_cases<R: Clock>(
     rt: &R,
     alloc: Global,
     bytes: &[u8],
@@ -242,24 +235,4 @@ fn run_cases<R: Clock>(
         rest = more;
     }
     Ok(())
-}
-
-fn main(rt: HostRuntime) -> io::Result<()> {
-    let alloc = rt.alloc();
-    let words: Vec<String> = env::args(&rt)?.collect(alloc)?;
-    let rounds = match words.as_slice() {
-        [_, _, rounds] => rounds.as_str().parse::<u64>().ok(),
-        _ => None,
-    };
-    let mut bytes = Vec::new(alloc);
-    BufReader::new(alloc, rt.reader())?.read_to_end(&mut bytes)?;
-    let mut out = Vec::new(alloc);
-    let ended = run_cases(&rt, alloc, bytes.as_slice(), rounds, &mut out);
-    let mut writer = io::writer(&rt);
-    writer.write_all(out.as_slice())?;
-    match ended {
-        Ok(()) => Ok(()),
-        Err(Wrong::Case) => writer.write_all(b"WRONG case\n"),
-        Err(Wrong::Memory) => writer.write_all(b"WRONG memory\n"),
-    }
 }
