@@ -1,18 +1,18 @@
 -- What a read up to a line feed, and a skip up to one, take off the input's lines.
-use Rattle.std.proofs.Common.{◌≡◌, ◌≢◌, ℕ, ◌-◌, ◌<◌, true, false, List, [], ◌∷◌, ◌++◌, All, length, get_or, refl, sym, ap, ◌∙◌, arith, subst, IfSome, length-append}
-use Rattle.std.specs.Prelude.{Option, Some, None, Result, Ok, Err, IfOk}
+use Rattle.std.proofs.Common.{Bool, ◌≡◌, ◌≢◌, ℕ, ◌-◌, ◌<◌, true, false, List, [], ◌∷◌, ◌++◌, All, length, get_or, refl, sym, ap, ◌∙◌, arith, subst, IfSome, length-append}
+use Rattle.std.specs.Prelude.{OnErr, Option, Some, None, Result, Ok, Err, IfOk}
 use Rattle.std.specs.Io.{StopsAt}
-use Rattle.std.specs.Io.Iter.{u64_saturate}
 use Rattle.std.specs.Io.KnownBytes.{Consumes, IsAtEnd, Keeps}
 use Rattle.std.specs.Io.BufRead.{take_through, drop_through, strip_last, ends_with_byte, DropsThrough}
 use Rattle.std.proofs.BufReadLemmas.{take_through_nonempty, through_part, drop_through-append}
-use Rattle.std.proofs.Transfers.{All-of_StopsAt}
-use Rattle.std.proofs.lemmas.List.Elements.{All-nil}
+use Rattle.std.proofs.Transfers.{All-of_StopsAt, StopsAt-append}
+use Rattle.std.proofs.lemmas.List.Elements.{All-append, All-cons, All-nil}
 use Rattle.std.proofs.lemmas.Grind.{common_steps}
 use Rattle.cs_lines.specs.declared.line.LineRead.{LineRead}
 use Rattle.cs_lines.specs.declared.line.LineRead.TheVariants.{Whole, Skipped, End}
 use Rattle.cs_lines.specs.Lines.{lines_of}
-use Rattle.cs_lines.specs.Reading.{IsCut, TakesLine, HasRead, HasSkipped}
+use Rattle.std.proofs.KnownBytes.{Consumes-nil, Consumes-trans}
+use Rattle.cs_lines.specs.Reading.{IsCut, StaysInLine, TakesLine, HasRead, HasSkipped}
 use Rattle.cs_lines.proofs.LineLemmas.{first_cut, lines_of-first}
 
 -- some bytes up to a line feed were read
@@ -76,7 +76,7 @@ skipped_ended (Some rest) front stops ended =
       ),
     )
 
-no_line_feed : (front : List ℕ) → StopsAt front 10 → ends_with_byte 10 front ≡ false → All (λ x. x ≢ 10) front
+pub no_line_feed : (front : List ℕ) → StopsAt front 10 → ends_with_byte 10 front ≡ false → All (λ x. x ≢ 10) front
 no_line_feed [] stops unended = All-nil (λ x. x ≢ 10)
 no_line_feed (x ∷ xs) stops unended =
     let front = x ∷ xs in
@@ -107,13 +107,75 @@ pub some_of_front : (mid : Option (List ℕ)) (front : List ℕ) → 0 < length 
 some_of_front None front some = tt
 some_of_front (Some xs) front some = omega (arith, length-append front xs)
 
-pub some_of_skipped : (mid : Option (List ℕ)) (front : List ℕ) (count : ℕ) → count ≢ 0
-    → IfSome mid (λ xs. count ≡ u64_saturate (length (take_through 10 xs))) → IfSome mid (λ xs. 0 < length (front ++ xs))
-some_of_skipped None front count some counted = tt
-some_of_skipped (Some xs) front count some counted =
-    let through : 0 < length (take_through 10 xs) = omega arith in
-    let here : 0 < length xs = take_through_nonempty 10 xs through in omega (arith, length-append front xs)
+pub some_of_skipped : (mid : Option (List ℕ)) (front : List ℕ) (some : Bool) → some ≡ true
+    → IfSome mid (λ xs. some ≡ true → 0 < length xs) → IfSome mid (λ xs. 0 < length (front ++ xs))
+some_of_skipped None front some is counted = tt
+some_of_skipped (Some xs) front some is counted =
+    let here : 0 < length xs = counted is in omega (arith, length-append front xs)
 
 pub nil_of_empty : (xs : List ℕ) → length xs ≡ 0 → xs ≡ []
 nil_of_empty [] none = refl
 nil_of_empty (x ∷ xs) none = absurd (omega arith)
+
+-- nothing is gone
+pub stays : (left : Option (List ℕ)) → StaysInLine left left
+stays left = ([], Consumes-nil left, All-nil (λ x. x ≢ 10))
+
+-- what is gone behind a front without a line feed is of the front's line
+pub stays_behind : (old mid new : Option (List ℕ)) (front : List ℕ) → Consumes old mid front → All (λ x. x ≢ 10) front
+    → StaysInLine mid new → StaysInLine old new
+stays_behind old mid new front took none stays =
+    (front ++ stays.0, Consumes-trans old mid new front stays.0 took stays.1, StopsAt-append front stays.0 10 none stays.2)
+
+-- bytes that are no line feed are gone, and there was one where it says so
+pub record HasPassed (old new : Option (List ℕ)) (some : Bool) : Type 0 where
+  pub gone : List ℕ
+  pub took : Consumes old new gone
+  pub none : All (λ x. x ≢ 10) gone
+  pub there : some ≡ true → 0 < length gone
+  pub absent : some ≡ false → gone ≡ []
+
+-- what is said of any refusal
+pub at_err : {T E : Type 0} {P : Type 0} (r : Result T E) → P → OnErr r P
+at_err (Ok x) p = tt
+at_err (Err e) p = p
+
+-- at the end all is gone
+pub passed_end : (old mid new : Option (List ℕ)) (some : Bool) → HasPassed old mid some → IsAtEnd mid → Keeps mid new → DropsThrough old new 10
+passed_end None mid new some has end kept = tt
+passed_end (Some x) None new some has end kept = absurd has.took
+passed_end (Some x) (Some y) None some has end kept = absurd kept
+passed_end (Some x) (Some y) (Some z) some has end kept =
+    let all : drop_through 10 x ≡ drop_through 10 y = ap (λ l. drop_through 10 l) has.took ∙ drop_through-append 10 has.gone y has.none in
+    let none : drop_through 10 x ≡ [] = all ∙ ap (λ l. drop_through 10 l) end in
+    ap (λ l. Some l) (kept ∙ end ∙ sym none)
+
+-- a line feed is the last that is gone
+pub passed_feed : (old mid new : Option (List ℕ)) (some : Bool) → HasPassed old mid some → Consumes mid new (10 ∷ []) → DropsThrough old new 10
+passed_feed None mid new some has took = tt
+passed_feed (Some x) None new some has took = absurd has.took
+passed_feed (Some x) (Some y) None some has took = absurd took
+passed_feed (Some x) (Some y) (Some z) some has took =
+    let all : drop_through 10 x ≡ drop_through 10 y = ap (λ l. drop_through 10 l) has.took ∙ drop_through-append 10 has.gone y has.none in
+    let rest : drop_through 10 y ≡ z = ap (λ l. drop_through 10 l) took in
+    ap (λ l. Some l) (sym (all ∙ rest))
+
+pub passed_line : (old mid new : Option (List ℕ)) (some : Bool) → HasPassed old mid some → Consumes mid new (10 ∷ []) → StaysInLine old new
+passed_line old mid new some has took =
+    stays_behind old mid new has.gone has.took has.none (10 ∷ [], took, All-nil (λ x. x ≢ 10))
+
+pub passed_more : (old mid new : Option (List ℕ)) (some : Bool) (byte : ℕ) → HasPassed old mid some → Consumes mid new (byte ∷ []) → byte ≢ 10
+    → HasPassed old new true
+passed_more old mid new some byte has took other = record {
+  gone = has.gone ++ byte ∷ [];
+  took = Consumes-trans old mid new has.gone (byte ∷ []) has.took took;
+  none = All-append (λ x. x ≢ 10) has.gone (byte ∷ []) has.none (All-cons (λ x. x ≢ 10) byte [] other (All-nil (λ x. x ≢ 10)));
+  there = λ _. omega (arith, length-append has.gone (byte ∷ []));
+  absent = λ e. absurd (cc);
+}
+
+-- a read that ran out of memory, and then failed
+pub failed_behind : {T E : Type 0} (r : Result T E) (old mid new : Option (List ℕ)) (front : List ℕ) → Consumes old mid front → StopsAt front 10
+    → OnErr r (StopsAt front 10 → All (λ byte. byte ≢ 10) front × StaysInLine mid new) → OnErr r (StaysInLine old new)
+failed_behind (Ok x) old mid new front took stops h = tt
+failed_behind (Err e) old mid new front took stops h = let both = h stops in stays_behind old mid new front took both.0 both.1

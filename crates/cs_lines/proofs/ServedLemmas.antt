@@ -4,8 +4,9 @@ use Rattle.std.specs.Prelude.{Option, Some, None, Err, flat_map}
 use Rattle.std.specs.Io.KnownBytes.{Appends, IsAtEnd}
 use Rattle.std.proofs.lemmas.Grind.{flat_map-append}
 use Rattle.std.proofs.KnownBytes.{Appends-trans, Appends-nil}
+use Rattle.cs_lines.proofs.ReadLemmas.{stays}
 use Rattle.cs_lines.specs.Lines.{lines_of, hex_line}
-use Rattle.cs_lines.specs.Reading.{AreTaken, TakesLine}
+use Rattle.cs_lines.specs.Reading.{AreAllBefore, AreTaken, StaysInLine, TakesLine}
 use Rattle.cs_lines.specs.Served.{Answers, AnswersAll, AreAllLines, AreFirstLines, StaysSent}
 use Rattle.cs_lines.specs.Turns.{HasFailed, TakesTurn}
 use Rattle.cs_lines.specs.declared.serve.Stop.{Stop}
@@ -98,15 +99,15 @@ module _ {State : Type 0} (serves : State → List ℕ → List ℕ → State �
     subst (λ (o : Option (List ℕ)). Appends w o (flat_map hex_line has.answers)) (sym turn.2) has.written,
   )
 
-  -- where the reader stops, the lines that it gave were answered
-  served_front : (Failed : Type 0) (asks : ℕ) (input left : Option (List ℕ)) (old mid new : State) (w v u : Option (List ℕ)) (count : ℕ)
-      → HasServed input left old mid w v count → (new ≡ mid) × (u ≡ v) → Failed ⊎ (count ≡ asks)
-      → (lines : List (List ℕ)) × (answers : List (List ℕ)) × AreFirstLines input lines
+  -- where the reader stops, the lines before were answered
+  served_front : (Failed : Type 0) (asks : ℕ) (input left after : Option (List ℕ)) (old mid new : State) (w v u : Option (List ℕ)) (count : ℕ)
+      → HasServed input left old mid w v count → (new ≡ mid) × (u ≡ v) → StaysInLine left after → Failed ⊎ (count ≡ asks)
+      → (lines : List (List ℕ)) × (answers : List (List ℕ)) × AreAllBefore input after lines
       × AnswersAll serves old lines answers new × Appends w u (flat_map hex_line answers) × (Failed ⊎ (length lines ≡ asks))
-  served_front Failed asks input left old mid new w v u count has turn why = (
+  served_front Failed asks input left after old mid new w v u count has turn stays why = (
     has.lines,
     has.answers,
-    taken_first input left has.lines has.taken,
+    (left, has.taken, stays),
     subst (λ (s : State). AnswersAll serves old has.lines has.answers s) (sym turn.0) has.answered,
     subst (λ (o : Option (List ℕ)). Appends w o (flat_map hex_line has.answers)) (sym turn.1) has.written,
     elim why [ inl failed ↦ inl failed | inr all ↦ inr (has.counted ∙ all) ],
@@ -114,18 +115,18 @@ module _ {State : Type 0} (serves : State → List ℕ → List ℕ → State �
 
   pub served_all_asked : (Failed : Type 0) (asks : ℕ) (input left : Option (List ℕ)) (old mid : State) (w v : Option (List ℕ)) (count : ℕ)
       → HasServed input left old mid w v count → count ≡ asks
-      → (lines : List (List ℕ)) × (answers : List (List ℕ)) × AreFirstLines input lines
+      → (lines : List (List ℕ)) × (answers : List (List ℕ)) × AreAllBefore input left lines
       × AnswersAll serves old lines answers mid × Appends w v (flat_map hex_line answers) × (Failed ⊎ (length lines ≡ asks))
   served_all_asked Failed asks input left old mid w v count has all =
-      served_front Failed asks input left old mid mid w v v count has (refl, refl) (inr all)
+      served_front Failed asks input left left old mid mid w v v count has (refl, refl) (stays left) (inr all)
 
   pub stopped_reading : (Reader Writer : Type 0) (asks : ℕ) (stop : Stop) (input left after : Option (List ℕ)) (old mid new : State)
       (w v u : Option (List ℕ)) (count : ℕ) → HasServed input left old mid w v count
       → TakesTurn (Err stop) serves mid new left after v u → HasFailed stop Reader Writer → stop ≡ Read
-      → (lines : List (List ℕ)) × (answers : List (List ℕ)) × AreFirstLines input lines
+      → (lines : List (List ℕ)) × (answers : List (List ℕ)) × AreAllBefore input after lines
       × AnswersAll serves old lines answers new × Appends w u (flat_map hex_line answers) × (Reader ⊎ (length lines ≡ asks))
   stopped_reading Reader Writer asks Read input left after old mid new w v u count has turn failed is =
-      served_front Reader asks input left old mid new w v u count has turn (inl failed)
+      served_front Reader asks input left after old mid new w v u count has (turn.0, turn.1) turn.2 (inl failed)
   stopped_reading Reader Writer asks Write input left after old mid new w v u count has turn failed is = absurd (cc)
 
   -- where the writer fails, a front of the last answer's line is written

@@ -1,6 +1,7 @@
 -- What reading a line takes off an input, where the input's bytes are known.
 use Rattle.std.specs.Prelude.{◌≡◌, ◌⊎◌, ℕ, Option, Some, None, List, [], ◌∷◌, ◌++◌}
-use Rattle.std.specs.Io.KnownBytes.{IsAtEnd, Keeps}
+use Rattle.std.specs.Io.{StopsAt}
+use Rattle.std.specs.Io.KnownBytes.{Consumes, IsAtEnd, Keeps}
 use Rattle.cs_lines.specs.declared.line.LineRead.{LineRead}
 use Rattle.cs_lines.specs.declared.line.LineRead.TheVariants.{Whole, Skipped, End}
 use Rattle.cs_lines.specs.Lines.{lines_of}
@@ -33,3 +34,11 @@ abbrev pub AreTaken : Option (List ℕ) → Option (List ℕ) → List (List ℕ
 AreTaken None new lines = Unit {0}
 AreTaken (Some input) new lines =
     (rest : List ℕ) × (new ≡ Some rest) × (lines_of input ≡ lines ++ lines_of rest)
+
+-- what is gone is of the first line: there is no line feed in it, but as its last byte
+abbrev pub StaysInLine : Option (List ℕ) → Option (List ℕ) → Type 0
+StaysInLine old new = (gone : List ℕ) × Consumes old new gone × StopsAt gone 10
+
+-- these are all lines before the one within which the reader stopped
+abbrev pub AreAllBefore : Option (List ℕ) → Option (List ℕ) → List (List ℕ) → Type 0
+AreAllBefore input new lines = (left : Option (List ℕ)) × AreTaken input left lines × StaysInLine left new

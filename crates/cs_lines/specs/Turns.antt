@@ -6,12 +6,12 @@ use Rattle.cs_lines.specs.declared.serve.Stop.TheVariants.{Read, Write}
 use Rattle.cs_lines.specs.declared.serve.Turn.{Turn}
 use Rattle.cs_lines.specs.declared.serve.Turn.TheVariants.{Answered, Ended}
 use Rattle.cs_lines.specs.Lines.{hex_line}
-use Rattle.cs_lines.specs.Reading.{TakesLine}
+use Rattle.cs_lines.specs.Reading.{StaysInLine, TakesLine}
 use Rattle.cs_lines.specs.Served.{Answers}
 use Rattle.cs_lines.specs.Writing.{AppendsFront}
 
 -- a line was taken and answered, and its answer written, or a front of it where the writer failed; at the input's end
--- and where the reader failed nothing happened
+-- and where the reader failed nothing happened but that a part of the line is gone
 abbrev pub TakesTurn : {State : Type 0} → Result Turn Stop → (State → List ℕ → List ℕ → State → Type 0) → State
     → State → Option (List ℕ) → Option (List ℕ) → Option (List ℕ) → Option (List ℕ) → Type 0
 TakesTurn (Ok Answered) serves old new input rest before after =
@@ -19,7 +19,7 @@ TakesTurn (Ok Answered) serves old new input rest before after =
     × Answers serves old line answer new × Appends before after (hex_line answer)
 TakesTurn (Ok Ended) serves old new input rest before after =
     (new ≡ old) × IsAtEnd input × (after ≡ before)
-TakesTurn (Err Read) serves old new input rest before after = (new ≡ old) × (after ≡ before)
+TakesTurn (Err Read) serves old new input rest before after = (new ≡ old) × (after ≡ before) × StaysInLine input rest
 TakesTurn (Err Write) serves old new input rest before after =
     (line : List ℕ) × (answer : List ℕ) × TakesLine [] input rest line
     × Answers serves old line answer new × AppendsFront before after (hex_line answer)

@@ -1,9 +1,9 @@
 //! One line at a time.
 
-ghost use Rattle.std.specs.Prelude.{◌≡◌, IfOk, OnErr};
+ghost use Rattle.std.specs.Prelude.{◌≡◌, ◌≢◌, All, IfOk, OnErr};
 ghost use Rattle.std.specs.Io.{StopsAt};
 ghost use Rattle.std.specs.Io.BufRead.{ends_with_byte, strip_last};
-ghost use Rattle.cs_lines.specs.Reading.{HasRead, HasSkipped};
+ghost use Rattle.cs_lines.specs.Reading.{HasRead, HasSkipped, StaysInLine};
 
 use crate::streams::LineInput;
 use std::io;
@@ -24,10 +24,12 @@ pub enum LineRead {
 ///
 /// A line ends by a line feed; a last line without one counts where it has bytes. Where memory
 /// runs out, the rest of the line is skipped without asking for more, so that the next read begins
-/// at the next line. Any other failure of the reader is handed on. (Profile of this project.)
+/// at the next line. Any other failure of the reader is handed on; what was read by then is of this
+/// line. (Profile of this project.)
 pub fn read_line<R: LineInput>(reader: &mut R, line: &mut Vec<u8>) -> io::Result<LineRead>
     ensures read { IfOk result (λ read.
         HasRead read (R.remaining reader.old) (R.remaining reader.new) line.new.items) }
+    ensures part { OnErr result (StaysInLine (R.remaining reader.old) (R.remaining reader.new)) }
     ensures failed { OnErr result (R.failed reader.new) }
 {
     line.clear();
@@ -65,13 +67,17 @@ fn is_ended(line: &[u8]) -> bool
 fn skip_line<R: LineInput>(reader: &mut R, front: &[u8]) -> io::Result<LineRead>
     ensures skipped { StopsAt front.now 10 → IfOk result (λ read.
         HasSkipped read front.now (R.remaining reader.old) (R.remaining reader.new)) }
+    ensures part { OnErr result (StopsAt front.now 10 → All (λ byte. byte ≢ 10) front.now
+        × StaysInLine (R.remaining reader.old) (R.remaining reader.new)) }
     ensures failed { OnErr result (R.failed reader.new) }
 {
     if is_ended(front) {
         return Ok(LineRead::Skipped);
     }
-    let skipped = reader.skip_through()?;
-    if skipped == 0 && front.is_empty() {
+    if reader.skip_through()? {
+        return Ok(LineRead::Skipped);
+    }
+    if front.is_empty() {
         Ok(LineRead::End)
     } else {
         Ok(LineRead::Skipped)

@@ -3,6 +3,7 @@
 ghost use Rattle.std.specs.Prelude.{◌≡◌, ◌⊎◌, List, ℕ, length, IfOk, IfErr, OnOk, OnErr, flat_map};
 ghost use Rattle.std.specs.Io.KnownBytes.{Appends};
 ghost use Rattle.cs_lines.specs.Lines.{hex_line};
+ghost use Rattle.cs_lines.specs.Reading.{AreAllBefore};
 ghost use Rattle.cs_lines.specs.Served.{Answers, AnswersAll, AreAllLines, AreFirstLines, StaysSent};
 ghost use Rattle.cs_lines.specs.Shown.{bytes_of};
 ghost use Rattle.cs_lines.specs.Turns.{HasFailed, TakesTurn};
@@ -63,9 +64,9 @@ pub fn serve_lines<S: Serve, R: LineInput, W: LineOutput>(
         × AnswersAll S.serves server.old lines answers server.new
         × Appends (W.contents writer.old) (W.contents writer.new) (flat_map hex_line answers)) }
 
-    // The reader failed, or gave a whole run's lines: each line that it gave was answered.
+    // The reader failed within a line, or gave a whole run's lines: each line before was answered.
     ensures read { IfErr result (λ stop. stop ≡ Stop.Read → (lines : List (List ℕ)) × (answers : List (List ℕ))
-        × AreFirstLines (R.remaining reader.old) lines
+        × AreAllBefore (R.remaining reader.old) (R.remaining reader.new) lines
         × AnswersAll S.serves server.old lines answers server.new
         × Appends (W.contents writer.old) (W.contents writer.new) (flat_map hex_line answers)
         × (R.failed reader.new ⊎ (length lines ≡ ASKS))) }

@@ -1,12 +1,12 @@
 //! What lines are read from and written to.
 
-ghost use Rattle.std.specs.Prelude.{◌≡◌, ◌⊎◌, ℕ, ◌++◌, List, length, [], vec_len, ◌+◌, IfOk, IfErr, IfSome, OnOk, OnErr};
+ghost use Rattle.std.specs.Prelude.{◌≡◌, ◌⊎◌, ◌<◌, ℕ, true, false, ◌++◌, ◌∷◌, List, length, [], vec_len, ◌+◌, IfOk, IfErr, IfSome, MatchOption, OnOk, OnErr};
 ghost use Rattle.std.specs.Io.{StopsAt, appended_bytes};
 ghost use Rattle.std.specs.Io.BufRead.{DropsThrough, take_through};
 ghost use Rattle.std.specs.Io.Buffered.{writer_buffer, writer_contents};
-ghost use Rattle.std.specs.Io.Iter.{u64_saturate};
 ghost use Rattle.std.specs.Io.KnownBytes.{Appends, Consumes, IsAtEnd, Keeps};
 ghost use Rattle.std.specs.IoError.{error_kind};
+ghost use Rattle.cs_lines.specs.Reading.{StaysInLine};
 ghost use Rattle.cs_lines.specs.Writing.{AppendsFront};
 
 use std::io;
@@ -14,6 +14,9 @@ use std::io::{BufRead, BufReader, BufWriter, ErrorKind, Read, Write};
 
 /// How often a writer is asked to go on before it counts as failed.
 const WRITES: u64 = 1 << 40;
+
+/// How often a reader is asked for a byte before it counts as failed.
+const READS: u64 = 1 << 40;
 
 /// What lines are read from. It tells its own failures from want of memory for a line.
 pub trait LineInput: BufRead {
@@ -32,12 +35,13 @@ pub trait LineInput: BufRead {
             (appended_bytes line.old.items line.new.items) }
         ensures failed { IfErr result (λ error. (error_kind error ≡ ErrorKind.OutOfMemory) ⊎ failed self.new) };
 
-    /// Skips up to a line feed and it too, or up to the end. It asks for no memory.
-    fn skip_through(&mut self) -> io::Result<usize>
-        ensures count { IfOk result (λ count. IfSome (Self.remaining self.old)
-            (λ input. count ≡ u64_saturate (length (take_through 10 input)))) }
+    /// Skips up to a line feed and it too, or up to the end, and tells whether there was a byte. It asks for no memory. Where
+    /// a read fails, what was skipped is of this line.
+    fn skip_through(&mut self) -> io::Result<bool>
+        ensures some { IfOk result (λ some. IfSome (Self.remaining self.old) (λ input. some ≡ true → 0 < length input)) }
         ensures rest { OnOk result (DropsThrough (Self.remaining self.old) (Self.remaining self.new) 10) }
-        ensures end { IfOk result (λ count. count ≡ 0 → IsAtEnd (Self.remaining self.old)) }
+        ensures end { IfOk result (λ some. some ≡ false → IsAtEnd (Self.remaining self.old)) }
+        ensures part { StaysInLine (Self.remaining self.old) (Self.remaining self.new) }
         ensures failed { OnErr result (failed self.new) };
 }
 
@@ -69,8 +73,8 @@ impl LineInput for &[u8] {
         self.read_until(b'\n', line)
     }
 
-    fn skip_through(&mut self) -> io::Result<usize> {
-        self.skip_until(b'\n')
+    fn skip_through(&mut self) -> io::Result<bool> {
+        skip_bytes(self)
     }
 }
 
@@ -81,8 +85,8 @@ impl<R: Read> LineInput for BufReader<R> {
         self.read_until(b'\n', line)
     }
 
-    fn skip_through(&mut self) -> io::Result<usize> {
-        self.skip_until(b'\n')
+    fn skip_through(&mut self) -> io::Result<bool> {
+        skip_bytes(self)
     }
 }
 
@@ -112,6 +116,46 @@ impl<W: Write + Drop> LineOutput for BufWriter<W> {
     fn send(&mut self) -> io::Result<()> {
         self.flush()
     }
+}
+
+/// The next byte, or none at the end. Where a read fails, nothing is lost.
+fn next_byte<R: Read>(reader: &mut R) -> io::Result<Option<u8>>
+    ensures byte { IfOk result (λ byte. MatchOption byte
+        (IsAtEnd (R.remaining reader.old) × Keeps (R.remaining reader.old) (R.remaining reader.new))
+        (λ byte. Consumes (R.remaining reader.old) (R.remaining reader.new) (byte ∷ []))) }
+    ensures kept { OnErr result (Keeps (R.remaining reader.old) (R.remaining reader.new)) }
+{
+    let mut byte = [0u8];
+    for _ in 0..READS {
+        match reader.read(&mut byte) {
+            Ok(0) => return Ok(None),
+            Ok(_) => return Ok(Some(byte[0])),
+            Err(error) => match error.kind() {
+                ErrorKind::Interrupted => {}
+                _ => return Err(error),
+            },
+        }
+    }
+    Err(io::Error::from(ErrorKind::Interrupted))
+}
+
+/// Skips bytes up to a line feed and it too, or up to the end, and tells whether there was one. std's `skip_until` doesn't say
+/// what a failed read leaves.
+fn skip_bytes<R: Read>(reader: &mut R) -> io::Result<bool>
+    ensures some { IfOk result (λ some. IfSome (R.remaining reader.old) (λ input. some ≡ true → 0 < length input)) }
+    ensures rest { OnOk result (DropsThrough (R.remaining reader.old) (R.remaining reader.new) 10) }
+    ensures end { IfOk result (λ some. some ≡ false → IsAtEnd (R.remaining reader.old)) }
+    ensures part { StaysInLine (R.remaining reader.old) (R.remaining reader.new) }
+{
+    let mut some = false;
+    for _ in 0..u64::MAX {
+        match next_byte(reader)? {
+            None => return Ok(some),
+            Some(b'\n') => return Ok(true),
+            Some(_) => some = true,
+        }
+    }
+    Err(io::Error::from(ErrorKind::Interrupted))
 }
 
 /// Writes all bytes, as std's `write_all` does, and tells what a failed write leaves: a front of them.

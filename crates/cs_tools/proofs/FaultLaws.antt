@@ -213,9 +213,13 @@ FaultOfFirst form old new why =
     IsBadNext IsChangesetFault old new why
     ⊎ ((between : Option (List ℕ)) × (groups : List Group) × TakesChangeset old between groups × FaultBehind form between new groups why)
 
+of_no_line : (failed : Type 0) (why : ToolFault) → IsFailure failed why → IsOfNoLine why
+of_no_line failed why (inl memory) = inl memory
+of_no_line failed why (inr read) = inr read.0
+
 in_order : (form : Form) (failed : Type 0) (old new : Option (List ℕ)) (why : ToolFault) → RefusesToRebase form failed old new why
-    → IsFailure failed why ⊎ FaultOfFirst form old new why
-in_order form failed old new why (inl failure) = inl failure
+    → IsOfNoLine why ⊎ FaultOfFirst form old new why
+in_order form failed old new why (inl failure) = inl (of_no_line _ why failure)
 in_order form failed old new why (inr (inl bad)) = inr (inl bad)
 in_order form failed old new why (inr (inr (inl (groups, takes, not)))) = inr (inr (new, groups, takes, inl not))
 in_order form failed old new why (inr (inr (inr (inl (between, groups, local, takes, combined, bad))))) =
@@ -307,15 +311,11 @@ none_of_first laws form input bytes left next why owed (inr (between, groups, (l
 
 -- ---- each tool
 
-of_no_line : (failed : Type 0) (why : ToolFault) → IsFailure failed why → IsOfNoLine why
-of_no_line failed why (inl memory) = inl memory
-of_no_line failed why (inr read) = inr read.0
-
 one_shown : (IsFault : Fault → ℕ → List ℕ → Type 0) → HasOneFault IsFault → (input : List ℕ) (left next : Option (List ℕ))
     (some other : ToolFault) → RefusesToShow IsFault ⊤ (Some input) left some → RefusesToShow IsFault ⊤ (Some input) next other
     → IsOfNoLine some ⊎ IsOfNoLine other ⊎ (some ≡ other)
-one_shown IsFault once input left next some other (inl failure) second = inl (of_no_line ⊤ some failure)
-one_shown IsFault once input left next some other (inr first) (inl failure) = inr (inl (of_no_line ⊤ other failure))
+one_shown IsFault once input left next some other (inl failure) second = inl (of_no_line _ some failure)
+one_shown IsFault once input left next some other (inr first) (inl failure) = inr (inl (of_no_line _ other failure))
 one_shown IsFault once input left next some other (inr first) (inr second) =
     inr (inr (one_bad_next IsFault once input left next some other first second))
 
@@ -328,10 +328,10 @@ one_combining laws form input some other (inr first) (inr second) =
     inr (inr (one_to_combine laws form first.0 some other first.2 (subst (λ (l : List (List ℕ)). HasFaultToCombine form l other) same second.2)))
 
 one_rebasing : Below → (form : Form) (input : List ℕ) (left next : Option (List ℕ)) (some other : ToolFault)
-    → IsFailure ⊤ some ⊎ FaultOfFirst form (Some input) left some → IsFailure ⊤ other ⊎ FaultOfFirst form (Some input) next other
+    → IsOfNoLine some ⊎ FaultOfFirst form (Some input) left some → IsOfNoLine other ⊎ FaultOfFirst form (Some input) next other
     → IsOfNoLine some ⊎ IsOfNoLine other ⊎ (some ≡ other)
-one_rebasing laws form input left next some other (inl failure) second = inl (of_no_line ⊤ some failure)
-one_rebasing laws form input left next some other (inr first) (inl failure) = inr (inl (of_no_line ⊤ other failure))
+one_rebasing laws form input left next some other (inl failure) second = inl failure
+one_rebasing laws form input left next some other (inr first) (inl failure) = inr (inl failure)
 one_rebasing laws form input left next some other (inr first) (inr second) =
     inr (inr (one_of_first laws form input left next some other first second))
 
@@ -352,15 +352,15 @@ none_combining laws form input text left why owed (inr has) =
     absurd (none_to_combine laws form owed.0 owed.1 why owed.3 (subst (λ (l : List (List ℕ)). HasFaultToCombine form l why) same has.2))
 
 none_rebasing : Below → (form : Form) (input text : List ℕ) (left next : Option (List ℕ)) (why : ToolFault)
-    → Owes (Rebase form) (Some input) left text → IsFailure ⊤ why ⊎ FaultOfFirst form (Some input) next why → IsOfNoLine why
-none_rebasing laws form input text left next why owed (inl failure) = of_no_line ⊤ why failure
+    → Owes (Rebase form) (Some input) left text → IsOfNoLine why ⊎ FaultOfFirst form (Some input) next why → IsOfNoLine why
+none_rebasing laws form input text left next why owed (inl failure) = failure
 none_rebasing laws form input text left next why owed (inr has) =
     absurd (none_of_first laws form input owed.0 left next why owed.1 has)
 
 none_showing : {A : Type 0} (Fits : A → Type 0) (spelling : A → List ℕ) (IsFault : Fault → ℕ → List ℕ → Type 0)
     → HasNoFault Fits spelling IsFault → (input line : List ℕ) (left next : Option (List ℕ)) (thing : A) (why : ToolFault)
     → TakesNext (Some input) left line → SpellsInHex Fits spelling line thing → RefusesToShow IsFault ⊤ (Some input) next why → IsOfNoLine why
-none_showing Fits spelling IsFault right input line left next thing why takes spells (inl failure) = of_no_line ⊤ why failure
+none_showing Fits spelling IsFault right input line left next thing why takes spells (inl failure) = of_no_line _ why failure
 none_showing Fits spelling IsFault right input line left next thing why takes spells (inr bad) =
     absurd (not_bad_next Fits spelling IsFault right input line left next thing why takes spells bad)
 

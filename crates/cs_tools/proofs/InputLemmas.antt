@@ -15,7 +15,7 @@ use Rattle.cs_normal.specs.declared.normal.TableChanges.{TableChanges}
 use Rattle.cs_lines.specs.Lines.{hex_line, lines_of}
 use Rattle.cs_lines.specs.Laws.{AllTaken, NoneTaken, OneMoreTaken}
 use Rattle.cs_lines.specs.Served.{AreAllLines, AreFirstLines}
-use Rattle.cs_lines.specs.Reading.{AreTaken, TakesLine}
+use Rattle.cs_lines.specs.Reading.{AreTaken, TakesLine, StaysInLine}
 use Rattle.cs_lines.specs.declared.serve.TheConstants.{ASKS}
 use Rattle.cs_changeset.specs.Reading.{IsChangesetFault, ReadsWhole}
 use Rattle.cs_changeset.specs.declared.fault.CodecFault.{CodecFault}
@@ -68,11 +68,12 @@ read_in_memory failed input left inputs now is so_far =
     rw is (so_far.0, so_far.2, (first_taken input left so_far.0 so_far.1, inl (inl refl)))
 
 pub read_stopped : OneMoreTaken → (failed : Type 0) (input left after : Option (List ℕ)) (inputs : List (Vec ℕ)) (told : ToolFault)
-    → AreRead input left inputs → IsNotTaken (TakesLine [] left after) failed told → AreReadUpTo failed input inputs (Some told)
+    → AreRead input left inputs → IsNotTaken (TakesLine [] left after) (failed × StaysInLine left after) told
+    → AreReadUpTo failed input inputs (Some told)
 read_stopped more failed input left after inputs told so_far (inl (inl memory)) =
     (so_far.0, so_far.2, (first_taken input left so_far.0 so_far.1, inl (inl memory)))
 read_stopped more failed input left after inputs told so_far (inl (inr read)) =
-    (so_far.0, so_far.2, (first_taken input left so_far.0 so_far.1, inl (inr (read.0, inl read.1))))
+    (so_far.0, so_far.2, (first_taken input left so_far.0 so_far.1, inl (inr (read.0, inl read.1.0))))
 read_stopped more failed input left after inputs told so_far (inr bad) =
     let further = first_taken input after (so_far.0 ++ bad.0 ∷ []) (more input left after so_far.0 bad.0 so_far.1 bad.1) in
     (so_far.0, so_far.2, (first_taken input left so_far.0 so_far.1, inr (bad.0, further, bad.2, bad.3)))
@@ -185,34 +186,32 @@ refuses_first IsFault failed old new bytes told took (inl memory) = inl (inl mem
 refuses_first IsFault failed old new bytes told took (inr bad) = inr (took.0, took.1, inr (bytes, took.2, bad))
 
 -- the two lines of a rebase, from their bytes
-pub rebases_two : {E : Type 0} (form : Form) (old between new : Option (List ℕ)) (changeset conflicts : List ℕ) (local made : List TableChanges)
-    (came : Result (Vec ℕ) E)
+pub rebases_two : {E : Type 0} (form : Form) (old between new : Option (List ℕ)) (changeset conflicts : List ℕ) (groups : List Group)
+    (blob : List BlobGroup) (local made : List TableChanges) (came : Result (Vec ℕ) E)
     → TakesNextBytes changeset old between
-    → (groups : List Group) × Spells FitsChangeset changeset_spelling changeset groups × IsCombined (groups ∷ []) local
+    → Spells FitsChangeset changeset_spelling changeset groups × IsCombined (groups ∷ []) local
     → TakesNextBytes conflicts between new
-    → (blob : List BlobGroup) × Spells FitsBlob blob_spelling conflicts blob × IsRebased blob local made
-    → ((groups : List Group) (blob : List BlobGroup) → Spells FitsChangeset changeset_spelling changeset groups
-    → Spells FitsBlob blob_spelling conflicts blob
-    → IfOk came (λ spelled. SpellsIn form (heads_of_both groups blob) made spelled.items))
+    → Spells FitsBlob blob_spelling conflicts blob × IsRebased blob local made
+    → IfOk came (λ spelled. SpellsIn form (heads_of_both groups blob) made spelled.items)
     → IfOk came (λ spelled. Rebases form old new spelled.items)
-rebases_two form old between new changeset conflicts local made (Err e) took formed then_took over spells = tt
-rebases_two form old between new changeset conflicts local made (Ok spelled) took formed then_took over spells = record {
-  groups = formed.0;
+rebases_two form old between new changeset conflicts groups blob local made (Err e) took formed then_took over spells = tt
+rebases_two form old between new changeset conflicts groups blob local made (Ok spelled) took formed then_took over spells = record {
+  groups = groups;
   local = local;
-  blob = over.0;
+  blob = blob;
   made = made;
   lines = record {
     first = took.0;
     second = then_took.0;
     between = between;
     takes_first = took.1;
-    changeset = (formed.1.0, took.2 ∙ ap (λ held. Ok held) formed.1.1);
+    changeset = (formed.0.0, took.2 ∙ ap (λ held. Ok held) formed.0.1);
     takes_second = then_took.1;
-    conflicts = (over.1.0, then_took.2 ∙ ap (λ held. Ok held) over.1.1);
+    conflicts = (over.0.0, then_took.2 ∙ ap (λ held. Ok held) over.0.1);
   };
-  normal = formed.2;
-  rebased = over.2;
-  spelled = spells formed.0 over.0 formed.1 over.1;
+  normal = formed.1;
+  rebased = over.1;
+  spelled = spells;
 }
 
 -- what is rebased is a line of it

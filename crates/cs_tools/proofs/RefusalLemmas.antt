@@ -11,6 +11,7 @@ use Rattle.cs_changeset.specs.Reading.{IsChangesetFault}
 use Rattle.cs_group.specs.Combined.{HasCombineFault, IsCombined}
 use Rattle.cs_group.specs.declared.combining.CombineFault.{CombineFault}
 use Rattle.cs_group.specs.declared.combining.CombineFault.TheVariants as combining
+use Rattle.cs_lines.specs.Reading.{StaysInLine}
 use Rattle.cs_normal.specs.declared.normal.TableChanges.{TableChanges}
 use Rattle.cs_sqlite.specs.KeyPlaces.{heads_of}
 use Rattle.cs_tools.specs.CombinedLines.{AreNotCombined, RefusesToCombine}
@@ -79,8 +80,9 @@ refuses_form form failed input inputs changesets both told read spell combined (
 
 -- the first isn't read
 pub refuses_taking_first : (form : Form) (failed : Type 0) (old new : Option (List ℕ)) (told : ToolFault)
-    → IsNotTaken (TakesNext old new) failed told → RefusesToRebase form failed old new told
-refuses_taking_first form failed old new told (inl failure) = inl failure
+    → IsNotTaken (TakesNext old new) (failed × StaysInLine old new) told → RefusesToRebase form failed old new told
+refuses_taking_first form failed old new told (inl (inl memory)) = inl (inl memory)
+refuses_taking_first form failed old new told (inl (inr read)) = inl (inr (read.0, (read.1.0, inl read.1.1)))
 refuses_taking_first form failed old new told (inr bad) = inr (inl (bad.0, bad.1, inl (bad.2, bad.3)))
 
 takes_changeset : (old new : Option (List ℕ)) (bytes : List ℕ) (groups : List Group) → TakesNextBytes bytes old new
@@ -105,8 +107,11 @@ refuses_local form failed old new bytes told took (inr (inr not)) =
 -- the second isn't read
 pub refuses_taking_second : (form : Form) (failed : Type 0) (old between new : Option (List ℕ)) (bytes : List ℕ) (local : List TableChanges)
     (told : ToolFault) → TakesNextBytes bytes old between → HasForm bytes local
-    → IsNotTaken (TakesNext between new) failed told → RefusesToRebase form failed old new told
-refuses_taking_second form failed old between new bytes local told took formed (inl failure) = inl failure
+    → IsNotTaken (TakesNext between new) (failed × StaysInLine between new) told → RefusesToRebase form failed old new told
+refuses_taking_second form failed old between new bytes local told took formed (inl (inl memory)) = inl (inl memory)
+refuses_taking_second form failed old between new bytes local told took formed (inl (inr read)) =
+    let first = takes_changeset old between bytes formed.0 took formed.1 in
+    inl (inr (read.0, (read.1.0, inr (between, formed.0, local, first, formed.2, read.1.1))))
 refuses_taking_second form failed old between new bytes local told took formed (inr bad) =
     let first = takes_changeset old between bytes formed.0 took formed.1 in
     inr (inr (inr (inl (between, formed.0, local, first, formed.2, (bad.0, bad.1, inl (bad.2, bad.3))))))

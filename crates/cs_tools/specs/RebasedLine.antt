@@ -2,6 +2,7 @@
 -- this project over SQLite's "Session Extension", rebasing changesets).
 use Rattle.std.specs.Prelude.{◌≡◌, ◌⊎◌, ℕ, List, [], ◌∷◌, ◌++◌, Option}
 use Rattle.cs_lines.specs.Lines.{hex_line}
+use Rattle.cs_lines.specs.Reading.{StaysInLine}
 use Rattle.cs_blob.specs.declared.blob.BlobGroup.{BlobGroup}
 use Rattle.cs_change.specs.declared.group.Group.{Group}
 use Rattle.cs_group.specs.Combined.{IsCombined}
@@ -73,10 +74,17 @@ HasFaultToRebase form groups local blob told =
     IsNotRebased blob local told
     ⊎ ((made : List TableChanges) × IsRebased blob local made × IsNotWritten form (heads_of_both groups blob) told)
 
+-- a read may fail within the next line; or, where that spells a changeset with a normal form, within the line behind it
+abbrev pub StopsWithin : Option (List ℕ) → Option (List ℕ) → Type 0
+StopsWithin old new =
+    StaysInLine old new
+    ⊎ ((between : Option (List ℕ)) × (groups : List Group) × (local : List TableChanges) × TakesChangeset old between groups
+    × IsCombined (groups ∷ []) local × StaysInLine between new)
+
 -- why `rebase` writes nothing: the first line is judged whole before the second is read, and both before they are taken together
 abbrev pub RefusesToRebase : Form → Type 0 → Option (List ℕ) → Option (List ℕ) → ToolFault → Type 0
 RefusesToRebase form read_failed old new told =
-    IsFailure read_failed told
+    IsFailure (read_failed × StopsWithin old new) told
     ⊎ IsBadNext IsChangesetFault old new told
     ⊎ ((groups : List Group) × TakesChangeset old new groups × AreNotCombined (groups ∷ []) told)
     ⊎ ((between : Option (List ℕ)) × (groups : List Group) × (local : List TableChanges) × TakesChangeset old between groups

@@ -4,6 +4,7 @@ use Rattle.cs_change.specs.Spelling.{FitsChangeset, changeset_spelling}
 use Rattle.cs_blob.specs.Spelling.{FitsBlob, blob_spelling}
 use Rattle.cs_text.specs.Text.{blob_text, changeset_text}
 use Rattle.cs_changeset.specs.declared.fault.Fault.{Fault}
+use Rattle.cs_lines.specs.Reading.{StaysInLine}
 use Rattle.cs_tools.specs.Faults.{IsBadNext, IsFailure}
 use Rattle.cs_tools.specs.SpelledLine.{Spells, SpellsInHex, TakesNext}
 use Rattle.cs_tools.specs.declared.fault.ToolFault.{ToolFault}
@@ -24,6 +25,7 @@ ShowsChangeset old new text = ShowsFirst FitsChangeset changeset_spelling change
 abbrev pub ShowsBlob : Option (List ℕ) → Option (List ℕ) → List ℕ → Type 0
 ShowsBlob old new text = ShowsFirst FitsBlob blob_spelling blob_text old new text
 
--- why `show` writes nothing, by what is a fault of the format
+-- why `show` writes nothing, by what is a fault of the format; a read may fail within the first line
 abbrev pub RefusesToShow : (Fault → ℕ → List ℕ → Type 0) → Type 0 → Option (List ℕ) → Option (List ℕ) → ToolFault → Type 0
-RefusesToShow IsFault read_failed old new told = IsFailure read_failed told ⊎ IsBadNext IsFault old new told
+RefusesToShow IsFault read_failed old new told =
+    IsFailure (read_failed × StaysInLine old new) told ⊎ IsBadNext IsFault old new told

@@ -3,7 +3,7 @@
 ghost use Rattle.std.specs.Prelude.{◌≡◌, ◌⊎◌, [], IfErr, IfOk};
 ghost use Rattle.std.specs.List.{AllByRecursion};
 ghost use Rattle.cs_change.specs.Spelling.{FitsChangeset};
-ghost use Rattle.cs_lines.specs.Reading.{TakesLine};
+ghost use Rattle.cs_lines.specs.Reading.{StaysInLine, TakesLine};
 ghost use Rattle.cs_tools.specs.Faults.{IsNoHex};
 ghost use Rattle.cs_tools.specs.LinesRead.{AreReadUpTo, HasBadInput, IsNotTaken, SpellAll, TakesBytes, TakesNextBytes};
 ghost use Rattle.cs_tools.specs.SpelledLine.{IsHexOf, TakesNext};
@@ -35,7 +35,7 @@ pub fn next_bytes<R: LineInput>(
 ) -> Result<Option<Vec<u8>>, ToolFault>
     ensures ok { IfOk result (λ found. TakesBytes found (R.remaining reader.old) (R.remaining reader.new)) }
     ensures err { IfErr result (IsNotTaken (TakesLine [] (R.remaining reader.old) (R.remaining reader.new))
-        (R.failed reader.new)) }
+        (R.failed reader.new × StaysInLine (R.remaining reader.old) (R.remaining reader.new))) }
 {
     match read_line(reader, line) {
         Ok(LineRead::Whole) => Ok(Some(read_hex(alloc, line)?)),
@@ -48,7 +48,8 @@ pub fn next_bytes<R: LineInput>(
 /// The same, where no line is the empty line.
 pub fn next_or_empty<R: LineInput>(alloc: Global, reader: &mut R) -> Result<Vec<u8>, ToolFault>
     ensures ok { IfOk result (λ bytes. TakesNextBytes bytes.items (R.remaining reader.old) (R.remaining reader.new)) }
-    ensures err { IfErr result (IsNotTaken (TakesNext (R.remaining reader.old) (R.remaining reader.new)) (R.failed reader.new)) }
+    ensures err { IfErr result (IsNotTaken (TakesNext (R.remaining reader.old) (R.remaining reader.new))
+        (R.failed reader.new × StaysInLine (R.remaining reader.old) (R.remaining reader.new))) }
 {
     let mut line = Vec::new(alloc);
     match next_bytes(alloc, reader, &mut line)? {

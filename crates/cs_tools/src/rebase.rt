@@ -23,7 +23,7 @@ use crate::output::end_with_line;
 use crate::tool::Form;
 use crate::written::{spelled_for_sqlite, spelled_normal};
 use cs_blob::BlobGroup;
-use cs_changeset::Group;
+use cs_changeset::{Changeset, Group};
 use cs_group::normalise_alone;
 use cs_lines::{LineInput, LineOutput};
 use cs_normal::Normal;
@@ -32,22 +32,26 @@ use cs_sqlite::{Header, put_blob_headers, put_headers};
 use cs_value::Memory;
 use std::alloc::Global;
 
-/// The normal form of the changeset that these bytes spell, by the catalog of its own headers.
-fn normal_of(alloc: Global, bytes: &[u8]) -> Result<Normal, ToolFault>
-    ensures ok { IfOk result (λ local. (groups : List Changes)
-        × Spells FitsChangeset changeset_spelling bytes.now groups × IsCombined (groups ∷ []) local) }
+/// The changeset that these bytes spell, and its normal form by the catalog of its own headers.
+fn read_local(alloc: Global, bytes: &[u8]) -> Result<(Changeset<'_>, Normal), ToolFault>
+    ensures ok { IfOk result (λ local. Spells FitsChangeset changeset_spelling bytes.now local.0
+        × IsCombined (local.0 ∷ []) local.1) }
     ensures err { IfErr result (λ told. (told ≡ NoMemory) ⊎ AreBadBytes IsChangesetFault bytes.now told
         ⊎ ((groups : List Changes) × Spells FitsChangeset changeset_spelling bytes.now groups
         × AreNotCombined (groups ∷ []) told)) }
 {
     let changeset = cs_changeset::read(alloc, bytes)?;
-    Ok(normalise_alone(alloc, &changeset)?)
+    let local = normalise_alone(alloc, &changeset)?;
+    Ok((changeset, local))
 }
 
-/// The local changeset, rebased over the blob that these bytes spell.
-fn rebased_over(alloc: Global, local: &Normal, bytes: &[u8]) -> Result<Normal, ToolFault>
-    ensures ok { IfOk result (λ made. (blob : List Conflicts)
-        × Spells FitsBlob blob_spelling bytes.now blob × IsRebased blob local.now made) }
+/// The rebaser of the blob that these bytes spell, and the local changeset rebased over it.
+fn rebased_over<'a>(
+    alloc: Global,
+    local: &Normal,
+    bytes: &'a [u8],
+) -> Result<(Rebaser<'a>, Normal), ToolFault>
+    ensures ok { IfOk result (λ made. Spells FitsBlob blob_spelling bytes.now made.0 × IsRebased made.0 local.now made.1) }
     ensures err { IfErr result (λ told. (told ≡ NoMemory) ⊎ AreBadBytes IsBlobFault bytes.now told
         ⊎ ((blob : List Conflicts) × Spells FitsBlob blob_spelling bytes.now blob × IsNotRebased blob local.now told)) }
 {
@@ -56,7 +60,8 @@ fn rebased_over(alloc: Global, local: &Normal, bytes: &[u8]) -> Result<Normal, T
         Ok(rebaser) => rebaser,
         Err((_blob, fault)) => return Err(ToolFault::from(fault)),
     };
-    Ok(rebaser.rebase(alloc, local)?)
+    let made = rebaser.rebase(alloc, local)?;
+    Ok((rebaser, made))
 }
 
 /// The headers of a changeset, and those of a rebase blob behind them.
@@ -73,30 +78,21 @@ fn headers_of_both<'a>(
     Ok(headers)
 }
 
-/// The spelling, in this form, of the rebased changeset, whose two lines are these bytes. They are read again where the form
-/// needs their headers: the rebaser has taken the blob, and the local changeset stands in normal form.
+/// The spelling, in this form, of a changeset that was rebased, by the headers of what came in.
 fn spelled_in(
     alloc: Global,
     form: Form,
     rebased: &Normal,
-    changeset: &[u8],
-    blob: &[u8],
+    groups: &[Group<'_>],
+    blob: &[BlobGroup<'_>],
 ) -> Result<Vec<u8>, ToolFault>
-    ensures ok { (groups : List Changes) (conflicts : List Conflicts)
-        → Spells FitsChangeset changeset_spelling changeset.now groups
-        → Spells FitsBlob blob_spelling blob.now conflicts
-        → IfOk result (λ bytes. SpellsIn form (heads_of_both groups conflicts) rebased.now bytes.items) }
-    ensures err { (groups : List Changes) (conflicts : List Conflicts)
-        → Spells FitsChangeset changeset_spelling changeset.now groups
-        → Spells FitsBlob blob_spelling blob.now conflicts
-        → IfErr result (λ told. (told ≡ NoMemory) ⊎ IsNotWritten form (heads_of_both groups conflicts) told) }
+    ensures ok { IfOk result (λ bytes. SpellsIn form (heads_of_both groups.now blob.now) rebased.now bytes.items) }
+    ensures err { IfErr result (λ told. (told ≡ NoMemory) ⊎ IsNotWritten form (heads_of_both groups.now blob.now) told) }
 {
     match form {
         Form::Normal => spelled_normal(alloc, rebased),
         Form::Sqlite => {
-            let groups = cs_changeset::read(alloc, changeset)?;
-            let conflicts = cs_blob::read(alloc, blob)?;
-            let headers = headers_of_both(alloc, groups.as_slice(), conflicts.as_slice())?;
+            let headers = headers_of_both(alloc, groups, blob)?;
             spelled_for_sqlite(alloc, rebased, headers.as_slice())
         }
     }
@@ -113,10 +109,10 @@ fn rebased_bytes<R: LineInput>(
     ensures err { IfErr result (RefusesToRebase form (R.failed reader.new) (R.remaining reader.old) (R.remaining reader.new)) }
 {
     let changeset = next_or_empty(alloc, reader)?;
-    let local = normal_of(alloc, changeset.as_slice())?;
+    let (groups, local) = read_local(alloc, changeset.as_slice())?;
     let blob = next_or_empty(alloc, reader)?;
-    let rebased = rebased_over(alloc, &local, blob.as_slice())?;
-    spelled_in(alloc, form, &rebased, changeset.as_slice(), blob.as_slice())
+    let (rebaser, rebased) = rebased_over(alloc, &local, blob.as_slice())?;
+    spelled_in(alloc, form, &rebased, groups.as_slice(), rebaser.blob())
 }
 
 /// Runs `Tool::Rebase`.

@@ -16,15 +16,15 @@ use Rattle.sync_cli.specs.declared.fault.RunFault.{RunFault}
 use Rattle.sync_cli.specs.declared.fault.RunFault.TheVariants.{CommandLine, Table, Memory, Read, Write, Lines}
 
 -- words that are no catalog, before anything is read or written
-pub refused_hub : (told : RunFault) (words : List (List ℕ)) (input : Option (List ℕ)) (read_failed write_failed : Type 0)
+pub refused_hub : (told : RunFault) (words : List (List ℕ)) (input left : Option (List ℕ)) (read_failed write_failed : Type 0)
     (writer : Option (List ℕ)) → IsFirstRefused told words
-    → EndsServing words input read_failed write_failed writer writer (Err told)
-refused_hub Memory words input read_failed write_failed writer first = Keeps-refl writer
-refused_hub (Table word) words input read_failed write_failed writer first = (first, Keeps-refl writer)
-refused_hub CommandLine words input read_failed write_failed writer first = absurd first
-refused_hub Read words input read_failed write_failed writer first = absurd first
-refused_hub Write words input read_failed write_failed writer first = absurd first
-refused_hub (Lines fault) words input read_failed write_failed writer first = absurd first
+    → EndsServing words input left read_failed write_failed writer writer (Err told)
+refused_hub Memory words input left read_failed write_failed writer first = Keeps-refl writer
+refused_hub (Table word) words input left read_failed write_failed writer first = (first, Keeps-refl writer)
+refused_hub CommandLine words input left read_failed write_failed writer first = absurd first
+refused_hub Read words input left read_failed write_failed writer first = absurd first
+refused_hub Write words input left read_failed write_failed writer first = absurd first
+refused_hub (Lines fault) words input left read_failed write_failed writer first = absurd first
 
 -- want of memory is a reason for each tool
 refuses_memory : (tool : Tool) (read_failed : Type 0) (input left : Option (List ℕ)) → Refuses tool read_failed input left of_tool.Memory

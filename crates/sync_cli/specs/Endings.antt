@@ -7,6 +7,7 @@ use Rattle.clap.specs.declared.error.kind.ErrorKind.TheVariants as kind
 use Rattle.cs_hub.specs.Hub.{HubState, fresh}
 use Rattle.cs_hub.specs.Serves.{Serves}
 use Rattle.cs_lines.specs.Lines.{hex_line}
+use Rattle.cs_lines.specs.Reading.{AreAllBefore}
 use Rattle.cs_lines.specs.Served.{AnswersAll, AreAllLines, AreFirstLines}
 use Rattle.cs_lines.specs.Writing.{AppendsBroken}
 use Rattle.cs_lines.specs.declared.serve.TheConstants.{ASKS}
@@ -47,27 +48,27 @@ EndsTool tool input left read_failed write_failed old new result =
     × Ends (Owes tool input left) (Refuses tool read_failed input left) write_failed old new ended
 
 -- `hub` of these table words: a new hub of their tables answered all lines; or there is no such hub, and nothing was read; or it
--- answered the lines up to a failed read, or to lines without end, or to a failed write within the last answer
-abbrev pub EndsServing : List (List ℕ) → Option (List ℕ) → Type 0 → Type 0 → Option (List ℕ) → Option (List ℕ)
+-- answered all lines before the one at which a read failed, or lines without end, or to a failed write within the last answer
+abbrev pub EndsServing : List (List ℕ) → Option (List ℕ) → Option (List ℕ) → Type 0 → Type 0 → Option (List ℕ) → Option (List ℕ)
     → Result ⊤ RunFault → Type 0
-EndsServing words input read_failed write_failed old new (Ok done) =
+EndsServing words input left read_failed write_failed old new (Ok done) =
     (tables : List TableDef) × (lines : List (List ℕ)) × (answers : List (List ℕ)) × (end : HubState)
     × IsCatalogOf words tables × AreAllLines input lines
     × AnswersAll Serves (fresh tables) lines answers end
     × Appends old new (flat_map hex_line answers)
-EndsServing words input read_failed write_failed old new (Err Memory) = Keeps old new
-EndsServing words input read_failed write_failed old new (Err (Table word)) = IsFirstRefused (Table word) words × Keeps old new
-EndsServing words input read_failed write_failed old new (Err Read) =
+EndsServing words input left read_failed write_failed old new (Err Memory) = Keeps old new
+EndsServing words input left read_failed write_failed old new (Err (Table word)) = IsFirstRefused (Table word) words × Keeps old new
+EndsServing words input left read_failed write_failed old new (Err Read) =
     (tables : List TableDef) × (lines : List (List ℕ)) × (answers : List (List ℕ)) × (end : HubState)
-    × IsCatalogOf words tables × AreFirstLines input lines
+    × IsCatalogOf words tables × AreAllBefore input left lines
     × AnswersAll Serves (fresh tables) lines answers end
     × Appends old new (flat_map hex_line answers) × (read_failed ⊎ (length lines ≡ ASKS))
-EndsServing words input read_failed write_failed old new (Err Write) =
+EndsServing words input left read_failed write_failed old new (Err Write) =
     (tables : List TableDef) × (lines : List (List ℕ)) × (answers : List (List ℕ)) × (end : HubState)
     × IsCatalogOf words tables × AreFirstLines input lines
     × AnswersAll Serves (fresh tables) lines answers end
     × AppendsBroken old new answers × write_failed
-EndsServing words input read_failed write_failed old new (Err _) = ⊥
+EndsServing words input left read_failed write_failed old new (Err _) = ⊥
 
 -- words that the command line doesn't take: help was asked for and written, or a front of it, where the writer failed; or the
 -- words were refused, for one of the parser's reasons; or memory was

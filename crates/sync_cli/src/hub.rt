@@ -17,7 +17,7 @@ pub fn serve_hub<'w, R: LineInput, W: LineOutput>(
     writer: &mut W,
 ) -> Result<(), RunFault<'w>>
     ensures ends { EndsServing (map (λ word. word.now) table_words.now) (R.remaining reader.old)
-        (R.failed reader.new) (W.failed writer.new) (W.contents writer.old) (W.contents writer.new) result }
+        (R.remaining reader.new) (R.failed reader.new) (W.failed writer.new) (W.contents writer.old) (W.contents writer.new) result }
     ensures sent { OnOk result (W.sent writer.old → W.sent writer.new) }
 {
     let catalog = table::catalog(alloc, table_words)?;

@@ -35,7 +35,7 @@ pub fn run<'w, S: AsStr, R: LineInput, W: LineOutput>(
     // `hub TABLE...`: a hub of these tables answers each line by a line of lower case hex.
     ensures hub { faults_of (map S.text words.entry.now) ≡ []
         → (table_words : List (List ℕ)) → table_words_of (map S.text words.entry.now) ≡ Some table_words
-        → EndsServing table_words (R.remaining reader.old) (R.failed reader.new) (W.failed writer.new)
+        → EndsServing table_words (R.remaining reader.old) (R.remaining reader.new) (R.failed reader.new) (W.failed writer.new)
         (W.contents writer.old) (W.contents writer.new) result }
 
     // `combine`, `rebase` and `show`: the text that the tool owes for the lines of the input, or the first fault of these.

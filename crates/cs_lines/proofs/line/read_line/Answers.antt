@@ -1,7 +1,7 @@
 use Rattle.std.proofs.Common.{◌<◌, length, rules}
 use Rattle.std.specs.Io.{StopsAt}
 use Rattle.std.specs.Io.KnownBytes.{Consumes}
-use Rattle.cs_lines.proofs.ReadLemmas.{TakesLine-read, HasRead-skipped, Keeps-end}
+use Rattle.cs_lines.proofs.ReadLemmas.{TakesLine-read, HasRead-skipped, Keeps-end, failed_behind}
 use Rattle.cs_lines.proofs.line.read_line.Goals as goal
 
 pub returns-in-Ok-eq0-clause-read : goal.returns-in-Ok-eq0-clause-read
@@ -22,3 +22,12 @@ returns-in-OutOfMemory-clause-read g c =
     let ends = rw c.clear.ensures.items at c.in-Err.ensures.stops in
     let stops : StopsAt c.deref.result.now 10 = rw c.deref.ensures.value ends in
     HasRead-skipped _ _ _ _ _ _ took (c.skip_line.ensures.skipped stops)
+
+pub returns-in-OutOfMemory-clause-part : goal.returns-in-OutOfMemory-clause-part
+returns-in-OutOfMemory-clause-part g c =
+    let lost = rw c.clear.ensures.items at c.in-Err.ensures.none_lost in
+    let took : Consumes (g.R.Read.remaining c.args.reader.now) (g.R.Read.remaining c.read_through.new.self) c.deref.result.now =
+    rw c.deref.ensures.value lost in
+    let ends = rw c.clear.ensures.items at c.in-Err.ensures.stops in
+    let stops : StopsAt c.deref.result.now 10 = rw c.deref.ensures.value ends in
+    failed_behind _ _ _ _ _ took stops c.skip_line.ensures.part

@@ -1,22 +1,20 @@
 use Rattle.std.proofs.Common.{◌<◌, length, rules}
-use Rattle.cs_lines.proofs.ReadLemmas.{skipped_ended, skipped_rest, some_of_front, some_of_skipped, Keeps-end, nil_of_empty}
+use Rattle.cs_lines.proofs.ReadLemmas.{no_line_feed, skipped_ended, skipped_rest, some_of_front, some_of_skipped, at_err}
 use Rattle.cs_lines.proofs.line.skip_line.Goals as goal
-use Rattle.cs_lines.proofs.line.skip_line.Goals.{else-skipped-eq0-via-then-skipped-eq0+else-is_empty, else-skipped-eq0-via-else-skipped-eq0}
 
 pub returns-then-is_ended-clause-skipped : goal.returns-then-is_ended-clause-skipped
 returns-then-is_ended-clause-skipped g c = λ stops. skipped_ended _ _ stops (search rules)
 
-pub returns-then-is_empty-clause-skipped : goal.returns-then-is_empty-clause-skipped
-returns-then-is_empty-clause-skipped g c = λ stops.
-    let end = c.in_ok-skipped.ensures.end (search rules) in (nil_of_empty _ (search rules), end, Keeps-end _ _ end c.in_ok-skipped.ensures.rest)
+pub returns-in_err-skip_through-clause-part : goal.returns-in_err-skip_through-clause-part
+returns-in_err-skip_through-clause-part g c =
+    at_err c.from_residual.result (λ stops. (no_line_feed _ stops (search rules), c.in_err-skip_through.ensures.part))
 
-pub returns-else-skipped-eq0-clause-skipped : goal.returns-else-skipped-eq0-clause-skipped
-returns-else-skipped-eq0-clause-skipped g c = λ stops.
-    elim c.else-skipped-eq0.branch [
-      | else-skipped-eq0-via-then-skipped-eq0+else-is_empty w ↦
-          let some : 0 < length c.args.front.now = search rules in
-          skipped_rest _ _ _ stops (search rules) c.in_ok-skipped.ensures.rest (some_of_front _ _ some)
-      | else-skipped-eq0-via-else-skipped-eq0 w ↦
-          skipped_rest _ _ _ stops (search rules) c.in_ok-skipped.ensures.rest
-          (some_of_skipped _ _ _ w.if-skipped-eq0.false c.in_ok-skipped.ensures.count)
-    ]
+pub returns-then-branch-clause-skipped : goal.returns-then-branch-clause-skipped
+returns-then-branch-clause-skipped g c = λ stops.
+    skipped_rest _ _ _ stops (search rules) c.in_ok-skip_through.ensures.rest
+    (some_of_skipped _ _ _ c.if-branch.true c.in_ok-skip_through.ensures.some)
+
+pub returns-else-is_empty-clause-skipped : goal.returns-else-is_empty-clause-skipped
+returns-else-is_empty-clause-skipped g c = λ stops.
+    let some : 0 < length c.args.front.now = search rules in
+    skipped_rest _ _ _ stops (search rules) c.in_ok-skip_through.ensures.rest (some_of_front _ _ some)
