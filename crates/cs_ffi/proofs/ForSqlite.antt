@@ -9,8 +9,8 @@ use Rattle.cs_normal.specs.Normal.{groups_of, normal_spelling, FitsCatalog}
 use Rattle.cs_normal.specs.NormalFormOf.{IsNormalFormOf}
 use Rattle.cs_normal.specs.declared.normal.TableChanges.{TableChanges}
 use Rattle.cs_group.specs.Combined.{tables_of}
-use Rattle.cs_sqlite.specs.KeyPlaces.{Head, heads_of, for_sqlite, sqlite_spelling, HaveOneOrder}
-use Rattle.cs_sqlite.specs.Laws.{AreHeadsOf, HeadsOfCatalog, SameLength, StaysTheSame}
+use Rattle.cs_column_bytes.specs.KeyPlaces.{Head, heads_of, for_sqlite, sqlite_spelling, HaveOneOrder}
+use Rattle.cs_column_bytes.specs.Laws.{AreHeadsOf, HeadsOfCatalog, SameLength, StaysTheSame}
 use Rattle.cs_ffi.specs.Answers.{Spell}
 use Rattle.cs_ffi.specs.NormalAnswers.{Declare}
 use Rattle.cs_ffi.specs.SqliteAnswers.{DeclareInOrder, SpellForSqlite}

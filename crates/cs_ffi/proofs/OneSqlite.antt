@@ -6,8 +6,8 @@ use Rattle.cs_changeset.specs.Laws.{ChangesetLaws}
 use Rattle.cs_normal.specs.Laws.{NoFaultWhereFit}
 use Rattle.cs_normal.specs.NormalFormOf.{IsNormalFormOf}
 use Rattle.cs_normal.specs.declared.normal.TableChanges.{TableChanges}
-use Rattle.cs_sqlite.specs.KeyPlaces.{heads_of, sqlite_spelling, HaveOneOrder}
-use Rattle.cs_sqlite.specs.Laws.{OneOrderOrTwo}
+use Rattle.cs_column_bytes.specs.KeyPlaces.{heads_of, sqlite_spelling, HaveOneOrder}
+use Rattle.cs_column_bytes.specs.Laws.{OneOrderOrTwo}
 use Rattle.cs_ffi.specs.Answers.{no_memory, UpToMemory}
 use Rattle.cs_ffi.specs.NormalAnswers.{Declare, DeclareNone, IsFitInput, IsFormRefusal}
 use Rattle.cs_ffi.specs.SqliteAnswers.{AnswersForSqlite, CanSpellForSqlite, DeclareInOrder, DeclareTwoOrders, IsSqliteRefusal, SpellForSqlite}

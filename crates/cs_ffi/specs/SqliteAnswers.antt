@@ -8,9 +8,9 @@ use Rattle.cs_change.specs.Spelling.{changeset_spelling, FitsChangeset}
 use Rattle.cs_normal.specs.Headers.{headers, HaveCatalog}
 use Rattle.cs_normal.specs.NormalFormOf.{IsNormalFormOf}
 use Rattle.cs_normal.specs.declared.normal.TableChanges.{TableChanges}
-use Rattle.cs_sqlite.specs.KeyPlaces.{heads_of, for_sqlite, sqlite_spelling, HaveOneOrder, HasTwoOrders}
-use Rattle.cs_sqlite.specs.Steps.{heads_behind}
-use Rattle.cs_sqlite.specs.declared.headers.Header.{Header}
+use Rattle.cs_column_bytes.specs.KeyPlaces.{heads_of, for_sqlite, sqlite_spelling, HaveOneOrder, HasTwoOrders}
+use Rattle.cs_column_bytes.specs.Steps.{heads_behind}
+use Rattle.cs_column_bytes.specs.declared.headers.Header.{Header}
 use Rattle.cs_ffi.specs.declared.answer.Answer.{Answer}
 use Rattle.cs_ffi.specs.Answers.{no_memory, Spell, Hands}
 use Rattle.cs_ffi.specs.NormalAnswers.{no_tables, Declare, DeclareNone, IsFitInput, IsFormRefusal}

@@ -1,6 +1,6 @@
 //! Changesets for other languages: a static library of C functions over bytes, declared in `cs_ffi.h`. It stands on
 //! the codec (`cs_changeset`), on consolidation (`cs_group`), on rebasing (`cs_rebaser`) and on SQLite's column bytes
-//! (`cs_sqlite`), whose faults it tells by number. `cs_ffi_decode` reads a changeset and counts its changes; the others
+//! (`cs_column_bytes`), whose faults it tells by number. `cs_ffi_decode` reads a changeset and counts its changes; the others
 //! write into the caller's memory: `cs_ffi_reencode` the spelling of what was read, `cs_ffi_normalise` its normal form by
 //! the tables that other headers declare, `cs_ffi_for_sqlite` that with the column bytes of those headers, for SQLite's
 //! own `apply`, `cs_ffi_combine` several changesets as one, `cs_ffi_invert` the inverse of one, and `cs_ffi_rebase` a

@@ -8,9 +8,9 @@ use crate::normal::{catalog_alone, read_declaring, read_form};
 use crate::reading::hand_over;
 use cs_changeset::Changeset;
 use cs_changeset::laws::changesets;
+use cs_column_bytes::laws::{heads_of_catalog, one_order_or_two, same_length, stays_the_same};
+use cs_column_bytes::{Header, encode, has_one_order, put_headers};
 use cs_normal::laws::{no_fault_where_fit, normal_is_taken};
-use cs_sqlite::laws::{heads_of_catalog, one_order_or_two, same_length, stays_the_same};
-use cs_sqlite::{Header, encode, has_one_order, put_headers};
 use std::alloc::Global;
 
 /// The headers of a changeset, where those of each table have the same column bytes.

@@ -14,8 +14,8 @@ use Rattle.cs_changeset.specs.declared.fault.CodecFault.TheVariants.{At}
 use Rattle.cs_group.specs.Combined.{IsCombined, NoFaultWhereCombined, OneCombined, OneCombineFault}
 use Rattle.cs_normal.specs.declared.normal.TableChanges.{TableChanges}
 use Rattle.cs_rebaser.specs.RebasedLaws.{NoWrongShape}
-use Rattle.cs_sqlite.specs.KeyPlaces.{Head, heads_of}
-use Rattle.cs_sqlite.specs.Laws.{OneOrderOrTwo}
+use Rattle.cs_column_bytes.specs.KeyPlaces.{Head, heads_of}
+use Rattle.cs_column_bytes.specs.Laws.{OneOrderOrTwo}
 use Rattle.cs_tools.specs.CombinedLines.{AreNotCombined, HasBadLine, HasFaultToCombine, RefusesToCombine, SpellChangesets, SpellsCombined}
 use Rattle.cs_tools.specs.Endings.{Owes}
 use Rattle.cs_tools.specs.Faults.{AreBadBytes, IsBadLine, IsBadNext, IsFailure, IsNoHex}

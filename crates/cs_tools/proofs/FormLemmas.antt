@@ -9,8 +9,8 @@ use Rattle.cs_normal.specs.Changes.{Changes}
 use Rattle.cs_normal.specs.declared.normal.TableChanges.{TableChanges}
 use Rattle.cs_rebaser.specs.Rebased.{HasShapeOf, HaveShapes, rebased, rebased_changes, with_changes}
 use Rattle.cs_rebaser.specs.RebasedLaws.{RebasedIsNormal}
-use Rattle.cs_sqlite.specs.KeyPlaces.{Head, heads_of, blob_heads_of}
-use Rattle.cs_sqlite.specs.Laws.{AreHeadsOf, HeadsOfCatalog, IsHeadOf, StaysTheSame}
+use Rattle.cs_column_bytes.specs.KeyPlaces.{Head, heads_of, blob_heads_of}
+use Rattle.cs_column_bytes.specs.Laws.{AreHeadsOf, HeadsOfCatalog, IsHeadOf, StaysTheSame}
 use Rattle.cs_tools.specs.Laws.{CombinedStaysTheSame, RebasedStaysTheSame}
 
 -- all headers are of this table

@@ -13,7 +13,7 @@ use Rattle.cs_group.specs.declared.combining.CombineFault.{CombineFault}
 use Rattle.cs_group.specs.declared.combining.CombineFault.TheVariants as combining
 use Rattle.cs_lines.specs.Reading.{StaysInLine}
 use Rattle.cs_normal.specs.declared.normal.TableChanges.{TableChanges}
-use Rattle.cs_sqlite.specs.KeyPlaces.{heads_of}
+use Rattle.cs_column_bytes.specs.KeyPlaces.{heads_of}
 use Rattle.cs_tools.specs.CombinedLines.{AreNotCombined, RefusesToCombine}
 use Rattle.cs_tools.specs.Faults.{AreBadBytes, of_combine}
 use Rattle.cs_tools.specs.LinesRead.{AreReadUpTo, HasBadInput, IsNotTaken, SpellAll, TakesNextBytes}

@@ -15,8 +15,8 @@ use Rattle.cs_lines.specs.Reading.{IsCut}
 use Rattle.cs_normal.specs.Normal.{normal_spelling}
 use Rattle.cs_normal.specs.declared.normal.TableChanges.{TableChanges}
 use Rattle.cs_rebaser.specs.Rebased.{rebased}
-use Rattle.cs_sqlite.specs.KeyPlaces.{Head, HasTwoOrders, heads_of, sqlite_spelling}
-use Rattle.cs_sqlite.specs.Laws.{OneOrderOrTwo}
+use Rattle.cs_column_bytes.specs.KeyPlaces.{Head, HasTwoOrders, heads_of, sqlite_spelling}
+use Rattle.cs_column_bytes.specs.Laws.{OneOrderOrTwo}
 use Rattle.cs_text.specs.Text.{blob_text, changeset_text}
 use Rattle.cs_tools.specs.CombinedLines.{SpellChangesets, SpellsCombined}
 use Rattle.cs_tools.specs.Laws.{NothingCombinedOfTwoOrders, NothingRebasedOfTwoOrders, OneCombinedText, OneRebasedText, OneShownBlob, OneShownChangeset}

@@ -11,7 +11,7 @@ use Rattle.cs_normal.specs.declared.normal.TableChanges.{TableChanges}
 use Rattle.cs_group.specs.Combined.{HasCombineFault, IsCombined}
 use Rattle.cs_group.specs.declared.combining.CombineFault.{CombineFault}
 use Rattle.cs_group.specs.declared.combining.CombineFault.TheVariants.{Memory}
-use Rattle.cs_sqlite.specs.KeyPlaces.{heads_of}
+use Rattle.cs_column_bytes.specs.KeyPlaces.{heads_of}
 use Rattle.cs_tools.specs.Faults.{IsBadLine, IsFailure}
 use Rattle.cs_tools.specs.SpelledLine.{SpellsChangeset}
 use Rattle.cs_tools.specs.WrittenForm.{IsNotWritten, SpellsIn}

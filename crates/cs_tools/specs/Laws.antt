@@ -10,8 +10,8 @@ use Rattle.cs_group.specs.Combined.{IsCombined}
 use Rattle.cs_lines.specs.Served.{AreAllLines}
 use Rattle.cs_normal.specs.Normal.{groups_of}
 use Rattle.cs_normal.specs.declared.normal.TableChanges.{TableChanges}
-use Rattle.cs_sqlite.specs.KeyPlaces.{Head, for_sqlite, HasTwoOrders, heads_of}
-use Rattle.cs_sqlite.specs.Laws.{IsSameGroup}
+use Rattle.cs_column_bytes.specs.KeyPlaces.{Head, for_sqlite, HasTwoOrders, heads_of}
+use Rattle.cs_column_bytes.specs.Laws.{IsSameGroup}
 use Rattle.cs_tools.specs.CombinedLines.{CombinesAll, SpellChangesets}
 use Rattle.cs_tools.specs.Endings.{Owes, Refuses}
 use Rattle.cs_tools.specs.RebasedLine.{heads_of_both, IsRebased, RebasesLines, TakesBoth}

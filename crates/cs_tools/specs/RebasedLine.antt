@@ -12,7 +12,7 @@ use Rattle.cs_rebaser.specs.declared.faults.ConfigureFault.TheVariants.{KeyTwice
 use Rattle.cs_rebaser.specs.declared.faults.RebaseFault.TheVariants.{WrongShape}
 use Rattle.cs_blob.specs.Reading.{IsBlobFault}
 use Rattle.cs_changeset.specs.Reading.{IsChangesetFault}
-use Rattle.cs_sqlite.specs.KeyPlaces.{Head, heads_of, blob_heads_of}
+use Rattle.cs_column_bytes.specs.KeyPlaces.{Head, heads_of, blob_heads_of}
 use Rattle.cs_tools.specs.SpelledLine.{SpellsBlob, SpellsChangeset, TakesNext}
 use Rattle.cs_tools.specs.CombinedLines.{AreNotCombined}
 use Rattle.cs_tools.specs.Faults.{IsBadNext, IsFailure}

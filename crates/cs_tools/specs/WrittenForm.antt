@@ -2,7 +2,7 @@
 use Rattle.std.specs.Prelude.{◌≡◌, ℕ, List}
 use Rattle.cs_normal.specs.Normal.{normal_spelling}
 use Rattle.cs_normal.specs.declared.normal.TableChanges.{TableChanges}
-use Rattle.cs_sqlite.specs.KeyPlaces.{Head, HaveOneOrder, HasTwoOrders, sqlite_spelling}
+use Rattle.cs_column_bytes.specs.KeyPlaces.{Head, HaveOneOrder, HasTwoOrders, sqlite_spelling}
 use Rattle.cs_tools.specs.declared.fault.ToolFault.{ToolFault}
 use Rattle.cs_tools.specs.declared.fault.ToolFault.TheVariants.{KeyOrder}
 use Rattle.cs_tools.specs.declared.tool.Form.{Form}

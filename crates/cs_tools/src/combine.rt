@@ -2,8 +2,8 @@
 
 ghost use Rattle.std.specs.Prelude.{◌≡◌, ◌⊎◌, List, ℕ, IfErr, IfOk, OnOk, flat_map};
 ghost use Rattle.cs_lines.specs.Served.{AreAllLines};
-ghost use Rattle.cs_sqlite.specs.KeyPlaces.{heads_of};
-ghost use Rattle.cs_sqlite.specs.Steps.{heads_behind};
+ghost use Rattle.cs_column_bytes.specs.KeyPlaces.{heads_of};
+ghost use Rattle.cs_column_bytes.specs.Steps.{heads_behind};
 ghost use Rattle.cs_tools.specs.CombinedLines.{CombinesAll, RefusesToCombine, SpellsCombined};
 ghost use Rattle.cs_tools.specs.Endings.{Ends};
 ghost use Rattle.cs_tools.specs.WrittenForm.{IsNotWritten, SpellsIn};
@@ -15,10 +15,10 @@ use crate::output::end_with_line;
 use crate::tool::Form;
 use crate::written::{spelled_for_sqlite, spelled_normal};
 use cs_changeset::Changeset;
+use cs_column_bytes::{Header, put_headers};
 use cs_group::combine;
 use cs_lines::{LineInput, LineOutput};
 use cs_normal::Normal;
-use cs_sqlite::{Header, put_headers};
 use cs_value::Memory;
 use std::alloc::Global;
 

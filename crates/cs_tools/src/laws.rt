@@ -24,7 +24,7 @@ pub fn nothing_combined_of_two_orders()
     ensures { NothingCombinedOfTwoOrders }
 {
     cs_changeset::laws::changesets();
-    cs_sqlite::laws::one_order_or_two();
+    cs_column_bytes::laws::one_order_or_two();
 }
 
 /// Nor does `rebase --sqlite`.
@@ -33,24 +33,24 @@ pub fn nothing_rebased_of_two_orders()
 {
     cs_blob::laws::blobs();
     cs_changeset::laws::changesets();
-    cs_sqlite::laws::one_order_or_two();
+    cs_column_bytes::laws::one_order_or_two();
 }
 
 /// Changesets taken together are the same in either form but for the column bytes, and the reader takes them.
 pub fn combined_stays_the_same()
     ensures { CombinedStaysTheSame }
 {
-    cs_sqlite::laws::heads_of_catalog();
-    cs_sqlite::laws::stays_the_same();
+    cs_column_bytes::laws::heads_of_catalog();
+    cs_column_bytes::laws::stays_the_same();
 }
 
 /// So is a changeset rebased over a blob.
 pub fn rebased_stays_the_same()
     ensures { RebasedStaysTheSame }
 {
-    cs_sqlite::laws::heads_of_catalog();
+    cs_column_bytes::laws::heads_of_catalog();
     cs_rebaser::laws::rebased_is_normal();
-    cs_sqlite::laws::stays_the_same();
+    cs_column_bytes::laws::stays_the_same();
 }
 
 /// An input has one text that `show changeset` owes, and one rest that it leaves.
@@ -77,7 +77,7 @@ pub fn one_fault()
     cs_group::laws::one_combine_fault();
     cs_group::laws::one_combined();
     cs_rebaser::laws::no_wrong_shape();
-    cs_sqlite::laws::one_order_or_two();
+    cs_column_bytes::laws::one_order_or_two();
 }
 
 /// Where a tool owes a text, the input has no fault.
@@ -90,5 +90,5 @@ pub fn no_fault_where_owed()
     cs_group::laws::one_combine_fault();
     cs_group::laws::one_combined();
     cs_rebaser::laws::no_wrong_shape();
-    cs_sqlite::laws::one_order_or_two();
+    cs_column_bytes::laws::one_order_or_two();
 }

@@ -1,7 +1,7 @@
 //! The tools of the program `sync`: changesets and rebase blobs as lines of hex, taken together, rebased or shown.
 //!
 //! It stands on `cs_lines` for the lines and `hex` for their bytes, on `cs_group` for changesets as one, on `cs_rebaser` for
-//! rebased ones, on `cs_sqlite` for the column bytes that came in and on `cs_text` for what is shown, and only wires them.
+//! rebased ones, on `cs_column_bytes` for the column bytes that came in and on `cs_text` for what is shown, and only wires them.
 //! `run_tool` promises for each tool which text is written (`specs/Endings.antt`, `Owes`), and where none is, which fault of the
 //! lines is the reason (`Refuses`): the first one, in the order in which they are judged. `laws` say that an input has one
 //! text or one such fault.

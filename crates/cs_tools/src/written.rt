@@ -2,14 +2,14 @@
 
 ghost use Rattle.std.specs.Prelude.{◌≡◌, ◌⊎◌, IfErr, IfOk};
 ghost use Rattle.cs_normal.specs.Normal.{normal_spelling};
-ghost use Rattle.cs_sqlite.specs.Steps.{heads_behind};
+ghost use Rattle.cs_column_bytes.specs.Steps.{heads_behind};
 ghost use Rattle.cs_tools.specs.WrittenForm.{IsNotWritten, SpellsIn};
 ghost use Rattle.cs_tools.specs.declared.fault.ToolFault.TheVariants.{Memory};
 ghost use Rattle.cs_tools.specs.declared.tool.Form.TheVariants.{Sqlite};
 
 use crate::fault::ToolFault;
+use cs_column_bytes::{Header, encode, has_one_order};
 use cs_normal::Normal;
-use cs_sqlite::{Header, encode, has_one_order};
 use std::alloc::Global;
 
 /// The spelling in normal form.

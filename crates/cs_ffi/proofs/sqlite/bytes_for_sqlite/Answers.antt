@@ -1,8 +1,8 @@
 use Rattle.std.proofs.Common.{◌∙◌, ◌++◌, ℕ, inr, List, ap}
 use Rattle.std.proofs.lemmas.Result.{err_from_is_err_and}
-use Rattle.cs_sqlite.specs.KeyPlaces.{Head, sqlite_spelling}
-use Rattle.cs_sqlite.specs.Steps.{heads_behind}
-use Rattle.cs_sqlite.specs.declared.headers.Header.{Header}
+use Rattle.cs_column_bytes.specs.KeyPlaces.{Head, sqlite_spelling}
+use Rattle.cs_column_bytes.specs.Steps.{heads_behind}
+use Rattle.cs_column_bytes.specs.declared.headers.Header.{Header}
 use Rattle.cs_ffi.proofs.ForSqlite.{in_one_order, spelled}
 use Rattle.cs_ffi.proofs.sqlite.bytes_for_sqlite.Goals as goal
 

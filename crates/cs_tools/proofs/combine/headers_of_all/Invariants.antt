@@ -1,6 +1,6 @@
 use Rattle.std.proofs.Common.{◌≡◌, flat_map, take}
-use Rattle.cs_sqlite.specs.KeyPlaces.{heads_of}
-use Rattle.cs_sqlite.specs.Steps.{heads_behind}
+use Rattle.cs_column_bytes.specs.KeyPlaces.{heads_of}
+use Rattle.cs_column_bytes.specs.Steps.{heads_behind}
 use Rattle.cs_tools.proofs.combine.headers_of_all.Given as goal
 
 abbrev pub invariant-loop-changeset : goal.invariant-loop-changeset

@@ -1,0 +1,7 @@
+use Rattle.std.proofs.Common.{◌≡◌, ◌++◌, take}
+use Rattle.cs_column_bytes.specs.KeyPlaces.{heads_of}
+use Rattle.cs_column_bytes.specs.Steps.{heads_behind}
+use Rattle.cs_column_bytes.proofs.headers.put_headers.Given as goal
+
+abbrev pub invariant-loop-group : goal.invariant-loop-group
+invariant-loop-group l = heads_behind l.headers.items ≡ heads_behind l.fn.headers.items ++ heads_of (take l.group-index l.fn.groups)

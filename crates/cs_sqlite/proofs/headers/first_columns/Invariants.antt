@@ -1,6 +1,0 @@
-use Rattle.std.proofs.Common.{take}
-use Rattle.cs_sqlite.specs.Steps.{heads_behind, FirstColumns}
-use Rattle.cs_sqlite.proofs.headers.first_columns.Given as goal
-
-abbrev pub invariant-loop-header : goal.invariant-loop-header
-invariant-loop-header l = FirstColumns (heads_behind (take l.header-index l.headers)) l.columns

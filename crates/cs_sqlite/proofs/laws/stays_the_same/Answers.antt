@@ -1,5 +1,0 @@
-use Rattle.cs_sqlite.proofs.Groups as law
-use Rattle.cs_sqlite.proofs.laws.stays_the_same.Goals as goal
-
-pub returns : goal.returns
-returns c = law.stays_the_same c.normal_is_taken.ensures

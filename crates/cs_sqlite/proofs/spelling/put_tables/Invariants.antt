@@ -1,7 +1,0 @@
-use Rattle.std.proofs.Common.{◌≡◌, ◌++◌, take}
-use Rattle.cs_sqlite.specs.KeyPlaces.{sqlite_spelling}
-use Rattle.cs_sqlite.specs.Steps.{heads_behind}
-use Rattle.cs_sqlite.proofs.spelling.put_tables.Given as goal
-
-abbrev pub invariant-loop-table : goal.invariant-loop-table
-invariant-loop-table l = l.out.items ≡ l.fn.out.items ++ sqlite_spelling (heads_behind l.headers) (take l.table-index l.tables)
