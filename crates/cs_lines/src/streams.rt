@@ -1,6 +1,6 @@
 //! What lines are read from and written to.
 
-ghost use Rattle.std.specs.Prelude.{◌≡◌, ◌⊎◌, ◌<◌, ℕ, true, false, ◌++◌, ◌∷◌, List, length, [], vec_len, ◌+◌, IfOk, IfErr, IfSome, MatchOption, OnOk, OnErr};
+ghost use Rattle.std.specs.Prelude.{◌≡◌, ◌≢◌, ◌⊎◌, ◌<◌, ℕ, true, false, ◌++◌, ◌∷◌, List, length, [], vec_len, ◌+◌, IfOk, IfErr, IfSome, MatchOption, OnOk, OnErr};
 ghost use Rattle.std.specs.Io.{StopsAt, appended_bytes};
 ghost use Rattle.std.specs.Io.BufRead.{DropsThrough, take_through};
 ghost use Rattle.std.specs.Io.Buffered.{writer_buffer, writer_contents};
@@ -53,10 +53,11 @@ pub trait LineOutput: Write {
     // A write or a flush failed.
     ghost failed: { Self → Type 0 };
 
-    /// Writes all bytes, or a front of them where a write fails.
+    /// Writes all bytes, or a front of them where a write fails. A write that is interrupted is tried again.
     fn put(&mut self, bytes: &[u8]) -> io::Result<()>
         ensures written { OnOk result (Appends (Self.contents self.old) (Self.contents self.new) bytes.now) }
         ensures front { OnErr result (AppendsFront (Self.contents self.old) (Self.contents self.new) bytes.now) }
+        ensures retried { IfErr result (λ error. error_kind error ≢ ErrorKind.Interrupted) }
         ensures failed { OnErr result (failed self.new) };
 
     /// Hands on what is held back.
@@ -162,6 +163,7 @@ fn skip_bytes<R: Read>(reader: &mut R) -> io::Result<bool>
 pub fn write_whole<W: Write>(writer: &mut W, bytes: &[u8]) -> io::Result<()>
     ensures written { OnOk result (Appends (W.contents writer.old) (W.contents writer.new) bytes.now) }
     ensures front { OnErr result (AppendsFront (W.contents writer.old) (W.contents writer.new) bytes.now) }
+    ensures retried { IfErr result (λ error. error_kind error ≢ ErrorKind.Interrupted) }
 {
     let mut rest = bytes;
     for _ in 0..WRITES {
@@ -177,5 +179,5 @@ pub fn write_whole<W: Write>(writer: &mut W, bytes: &[u8]) -> io::Result<()>
             },
         }
     }
-    Err(io::Error::from(ErrorKind::Interrupted))
+    Err(io::Error::from(ErrorKind::TimedOut))
 }

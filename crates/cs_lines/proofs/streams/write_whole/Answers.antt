@@ -14,11 +14,9 @@ pub returns-in-Ok-eq0-clause-front : goal.returns-in-Ok-eq0-clause-front
 returns-in-Ok-eq0-clause-front g c =
     written_front _ _ _ _ (written_more _ _ _ _ _ _ c.loop.invariant c.in-Ok-eq0.ensures.bytes)
 
-pub returns-in_default : goal.returns-in_default
-returns-in_default g c = record {
-  written = tt;
-  front = written_front _ _ _ _ (written_kept _ _ _ _ _ c.loop.invariant c.in-Err.ensures.bytes);
-}
+pub returns-in_default-clause-front : goal.returns-in_default-clause-front
+returns-in_default-clause-front g c =
+    written_front _ _ _ _ (written_kept _ _ _ _ _ c.loop.invariant c.in-Err.ensures.bytes)
 
 pub loop-preserved : goal.loop-preserved
 loop-preserved g c =
