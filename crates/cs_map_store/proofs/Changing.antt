@@ -6,12 +6,12 @@ use Rattle.std.specs.Cmp.Lexicographic.{slice_cmp}
 use Rattle.std.specs.Map.{lookup}
 use Rattle.std.specs.BTreeMap.{BTreeMap, is_at, get_by, UpdatesBy}
 use Rattle.std.specs.FinMap as finite
-use Rattle.cs_store.specs.Contents.{Rows}
-use Rattle.cs_store.specs.Written.{optional_bytes, with_row}
-use Rattle.cs_store.specs.Slots.{SlotKey, Slot, key_cmp, place_of, shown, write_to}
-use Rattle.cs_store.specs.declared.slots.Step.{Step}
-use Rattle.cs_store.specs.Steps.{step_write, HasSlot, HasSlots}
-use Rattle.cs_store.proofs.Showing.{joined, shown_kept, shown_written, get_at_key, remove_nothing}
+use Rattle.cs_store.specs.Contents.{Bodies}
+use Rattle.cs_store.specs.Written.{optional_bytes, with_body}
+use Rattle.cs_map_store.specs.Slots.{SlotKey, Slot, key_cmp, place_of, shown, write_to}
+use Rattle.cs_map_store.specs.declared.slots.Step.{Step}
+use Rattle.cs_map_store.specs.Steps.{step_write, HasSlot, HasSlots}
+use Rattle.cs_map_store.proofs.Showing.{joined, shown_kept, shown_written, get_at_key, remove_nothing}
 
 none_from : {X : Type 0} (o : Option X) → is_some o ≡ false → o ≡ None
 none_from None h = refl
@@ -38,11 +38,11 @@ made_has old new k v e u = subst IsSome (sym u.1 ∙ same_bytes k v e new.entrie
 pub swept_shown : (old new : BTreeMap SlotKey Slot) (k : SlotKey) → Some None ≡ get_by (key_cmp k) old → UpdatesBy key_cmp (key_cmp k) old new None → shown new.entries ≡ shown old.entries
 swept_shown old new k was u = shown_kept old.entries new.entries k None refl (ap joined (sym was)) u.1 u.3
 
-pub written_shown : (old new : BTreeMap SlotKey Slot) (k : SlotKey) (s : Slot) → UpdatesBy key_cmp (key_cmp k) old new (Some s) → shown new.entries ≡ with_row (shown old.entries) (place_of k) (optional_bytes s)
+pub written_shown : (old new : BTreeMap SlotKey Slot) (k : SlotKey) (s : Slot) → UpdatesBy key_cmp (key_cmp k) old new (Some s) → shown new.entries ≡ with_body (shown old.entries) (place_of k) (optional_bytes s)
 written_shown old new k s u = shown_written old.entries new.entries k s u.1 u.3
 
 -- no slot, and nothing to write
-pub unwritten_shown : (old : BTreeMap SlotKey Slot) (k : SlotKey) (s : Slot) → None ≡ get_by (key_cmp k) old → (IsSome s → HasSlot old k) → shown old.entries ≡ with_row (shown old.entries) (place_of k) (optional_bytes s)
+pub unwritten_shown : (old : BTreeMap SlotKey Slot) (k : SlotKey) (s : Slot) → None ≡ get_by (key_cmp k) old → (IsSome s → HasSlot old k) → shown old.entries ≡ with_body (shown old.entries) (place_of k) (optional_bytes s)
 unwritten_shown old k None none has = sym (remove_nothing (shown old.entries) (place_of k) (get_at_key k old.entries ∙ ap joined (sym none)))
 unwritten_shown old k (Some v) none has = absurd (let h : IsSome {T = Slot} None = subst IsSome (sym none) (has refl) in cc)
 
@@ -54,7 +54,7 @@ if_ok (Ok v) x y e h = h ∙ e
 if_ok (Err f) x y e h = tt
 
 -- one step of a list of steps
-pub after_step : (m n : BTreeMap SlotKey Slot) (steps rest : List Step) (s : Step) (end : Rows) → steps ≡ s ∷ rest → shown n.entries ≡ with_row (shown m.entries) (place_of s.key) (optional_bytes s.value)
+pub after_step : (m n : BTreeMap SlotKey Slot) (steps rest : List Step) (s : Step) (end : Bodies) → steps ≡ s ∷ rest → shown n.entries ≡ with_body (shown m.entries) (place_of s.key) (optional_bytes s.value)
     → fold write_to (shown m.entries) (map step_write steps) ≡ end → fold write_to (shown n.entries) (map step_write rest) ≡ end
 after_step m n steps rest s end e w was = ap (λ c. fold write_to c (map step_write rest)) w ∙ sym (ap (λ ss. fold write_to (shown m.entries) (map step_write ss)) e) ∙ was
 

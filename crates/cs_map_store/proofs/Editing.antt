@@ -11,22 +11,22 @@ use Rattle.std.proofs.lemmas.List.{length-drop, drop_more, get_or-drop, take-app
 use Rattle.std.proofs.lemmas.List.Folds.{drop_split}
 use Rattle.std.specs.FinMap.{find, from_sorted, is_sorted, get-from_sorted, same_map}
 use Rattle.std.specs.FinMap.Entries.{put, below_all, by_order, is_sorted-put, is_sorted-where_key, find-put, find-where_key}
-use Rattle.cs_store.specs.Contents.{StorePlace, Rows, place_cmp}
-use Rattle.cs_store.specs.Written.{optional_bytes, with_row, edit_row}
-use Rattle.cs_store.specs.Entries.{Entry, no_entry, nth, IsPlaceFor}
-use Rattle.cs_store.specs.Leaves.{put_row, edit_place, edited, AreBelow, IsBehind, IsMerged, written}
-use Rattle.cs_store.specs.declared.batch.RowEdit.{RowEdit}
-use Rattle.cs_store.proofs.Maps.{place_total, place_exact, get-with_row}
+use Rattle.cs_store.specs.Contents.{StorePlace, Bodies, place_cmp}
+use Rattle.cs_store.specs.Written.{optional_bytes, with_body, edit_body}
+use Rattle.cs_map_store.specs.Entries.{Entry, no_entry, nth, IsPlaceFor}
+use Rattle.cs_map_store.specs.Leaves.{put_row, store_place, edited, AreBelow, IsBehind, IsMerged, written}
+use Rattle.cs_store.specs.declared.batch.PlaceEdit.{PlaceEdit}
+use Rattle.cs_map_store.proofs.Maps.{place_total, place_exact, get-with_body}
 
 -- all these entries are below each edit's place
-abbrev pub BelowEdits : List Entry → List RowEdit → Type 0
+abbrev pub BelowEdits : List Entry → List PlaceEdit → Type 0
 BelowEdits es [] = Unit {0}
-BelowEdits es (w ∷ ws) = AreBelow es (edit_place w) × BelowEdits es ws
+BelowEdits es (w ∷ ws) = AreBelow es (store_place w) × BelowEdits es ws
 
 -- each edit's place is below all these entries
-abbrev pub EditsBelow : List RowEdit → List Entry → Type 0
+abbrev pub EditsBelow : List PlaceEdit → List Entry → Type 0
 EditsBelow [] es = Unit {0}
-EditsBelow (w ∷ ws) es = T (below_all place_cmp (edit_place w) es) × EditsBelow ws es
+EditsBelow (w ∷ ws) es = T (below_all place_cmp (store_place w) es) × EditsBelow ws es
 
 pub first : (a b : Bool) → T (a && b) → T a
 first true b h = tt
@@ -89,13 +89,13 @@ put_before (x ∷ xs) ys p (Some v) h =
 
 -- ---- edits
 
-pub fold_behind : (ws : List RowEdit) (xs ys : List Entry) → BelowEdits xs ws → fold edited (xs ++ ys) ws ≡ xs ++ fold edited ys ws
+pub fold_behind : (ws : List PlaceEdit) (xs ys : List Entry) → BelowEdits xs ws → fold edited (xs ++ ys) ws ≡ xs ++ fold edited ys ws
 fold_behind [] xs ys h = refl
-fold_behind (w ∷ ws) xs ys h = ap (λ es. fold edited es ws) (put_behind xs ys (edit_place w) (optional_bytes w.row) h.0) ∙ fold_behind ws xs (edited ys w) h.1
+fold_behind (w ∷ ws) xs ys h = ap (λ es. fold edited es ws) (put_behind xs ys (store_place w) (optional_bytes w.body) h.0) ∙ fold_behind ws xs (edited ys w) h.1
 
-pub fold_before : (ws : List RowEdit) (xs ys : List Entry) → EditsBelow ws ys → fold edited (xs ++ ys) ws ≡ fold edited xs ws ++ ys
+pub fold_before : (ws : List PlaceEdit) (xs ys : List Entry) → EditsBelow ws ys → fold edited (xs ++ ys) ws ≡ fold edited xs ws ++ ys
 fold_before [] xs ys h = refl
-fold_before (w ∷ ws) xs ys h = ap (λ es. fold edited es ws) (put_before xs ys (edit_place w) (optional_bytes w.row) h.0) ∙ fold_before ws (edited xs w) ys h.1
+fold_before (w ∷ ws) xs ys h = ap (λ es. fold edited es ws) (put_before xs ys (store_place w) (optional_bytes w.body) h.0) ∙ fold_before ws (edited xs w) ys h.1
 
 -- ---- places that rise
 
@@ -161,9 +161,9 @@ sorted_put : (es : List Entry) (p : StorePlace) (w : Option (List ℕ)) → T (i
 sorted_put es p None h = is_sorted-where_key place_cmp (λ q. not (eq_by_cmp place_cmp p q)) es h
 sorted_put es p (Some v) h = is_sorted-put place_cmp place_total p v es h
 
-pub sorted_edits : (ws : List RowEdit) (es : List Entry) → T (is_sorted place_cmp es) → T (is_sorted place_cmp (fold edited es ws))
+pub sorted_edits : (ws : List PlaceEdit) (es : List Entry) → T (is_sorted place_cmp es) → T (is_sorted place_cmp (fold edited es ws))
 sorted_edits [] es h = h
-sorted_edits (w ∷ ws) es h = sorted_edits ws (edited es w) (sorted_put es (edit_place w) (optional_bytes w.row) h)
+sorted_edits (w ∷ ws) es h = sorted_edits ws (edited es w) (sorted_put es (store_place w) (optional_bytes w.body) h)
 
 turned : {A : Type 0} (b : Bool) (x y : A) → cond (not b) x y ≡ cond b y x
 turned true x y = refl
@@ -175,14 +175,14 @@ find_put_row es p None q =
     ∙ turned (eq_by_cmp place_cmp p q) _ _ ∙ ap (λ b. cond b None (find place_cmp q es)) ((eq_by_cmp_equiv place_total).symm p q)
 find_put_row es p (Some v) q = find-put place_cmp place_total q p v es
 
-rows_put : (es : List Entry) (p : StorePlace) (w : Option (List ℕ)) → T (is_sorted place_cmp es) → ◌≡◌ {A = Rows} (from_sorted (put_row es p w)) (with_row (from_sorted es) p w)
+rows_put : (es : List Entry) (p : StorePlace) (w : Option (List ℕ)) → T (is_sorted place_cmp es) → ◌≡◌ {A = Bodies} (from_sorted (put_row es p w)) (with_body (from_sorted es) p w)
 rows_put es p w h = same_map place_total place_exact _ _ (λ q.
     get-from_sorted place_cmp (put_row es p w) q (sorted_put es p w h) ∙ find_put_row es p w q
-    ∙ sym (get-with_row (from_sorted es) p w q ∙ ap (cond (eq_by_cmp place_cmp q p) w) (get-from_sorted place_cmp es q h)))
+    ∙ sym (get-with_body (from_sorted es) p w q ∙ ap (cond (eq_by_cmp place_cmp q p) w) (get-from_sorted place_cmp es q h)))
 
-pub rows_edited : (ws : List RowEdit) (es : List Entry) → T (is_sorted place_cmp es) → ◌≡◌ {A = Rows} (from_sorted (fold edited es ws)) (fold edit_row (from_sorted es) ws)
+pub rows_edited : (ws : List PlaceEdit) (es : List Entry) → T (is_sorted place_cmp es) → ◌≡◌ {A = Bodies} (from_sorted (fold edited es ws)) (fold edit_body (from_sorted es) ws)
 rows_edited [] es h = refl
-rows_edited (w ∷ ws) es h = rows_edited ws (edited es w) (sorted_put es (edit_place w) (optional_bytes w.row) h) ∙ ap (λ m. fold edit_row m ws) (rows_put es (edit_place w) (optional_bytes w.row) h)
+rows_edited (w ∷ ws) es h = rows_edited ws (edited es w) (sorted_put es (store_place w) (optional_bytes w.body) h) ∙ ap (λ m. fold edit_body m ws) (rows_put es (store_place w) (optional_bytes w.body) h)
 
 -- ---- an edit that is merged
 
@@ -270,12 +270,12 @@ written_below : (p q : StorePlace) (w : Option (List ℕ)) → place_cmp p q ≡
 written_below p q None l = tt
 written_below p q (Some v) l = (l, tt)
 
-pub merged_edit : (es before between after : List Entry) (from at next : ℕ) (edit : RowEdit) → from ≤ at → at ≤ length es → T (is_sorted place_cmp es)
-    → IsPlaceFor es from at (edit_place edit) → IsBehind es at (edit_place edit) next
-    → between ≡ before ++ slice_range es from at → after ≡ between ++ written (edit_place edit) (optional_bytes edit.row) → IsMerged es from edit next before after
+pub merged_edit : (es before between after : List Entry) (from at next : ℕ) (edit : PlaceEdit) → from ≤ at → at ≤ length es → T (is_sorted place_cmp es)
+    → IsPlaceFor es from at (store_place edit) → IsBehind es at (store_place edit) next
+    → between ≡ before ++ slice_range es from at → after ≡ between ++ written (store_place edit) (optional_bytes edit.body) → IsMerged es from edit next before after
 merged_edit es before between after from at next edit le within s found behind ran wrote =
-    let p = edit_place edit in
-    let w = optional_bytes edit.row in
+    let p = store_place edit in
+    let w = optional_bytes edit.body in
     let run = slice_range es from at in
     let low = run_below es from at p le within s found in
     record {

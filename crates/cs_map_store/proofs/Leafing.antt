@@ -20,12 +20,12 @@ use Rattle.std.specs.Vec.Iter.{into_iter_items, into_iter_len, into_iter_steps}
 use Rattle.std.proofs.lemmas.Iterator.{items_from_drains}
 use Rattle.std.proofs.lemmas.Iterator.Adapters.{YieldsList-from_vec}
 use Rattle.cs_store.specs.Contents.{StorePlace, place_cmp}
-use Rattle.cs_store.specs.Entries.{Entry, no_entry, nth, IsPlaceFor}
-use Rattle.cs_store.specs.Leaves.{AreBefore, AreBelow, AreLeaves, BeginsBehind, BeginsBy, ReachLeaf, edit_place, edited, edits_behind, first_place, flat, in_table, nth_leaf, rows_in, Rise, Follow, IsMerged, patched, ArePatches}
-use Rattle.cs_store.specs.declared.leaves.Patch.{Patch}
-use Rattle.cs_store.specs.declared.batch.RowEdit.{RowEdit}
-use Rattle.cs_store.proofs.Maps.{place_total, place_exact}
-use Rattle.cs_store.proofs.Editing.{first, second, both, less, is_less, BelowEdits, EditsBelow, fold_behind, fold_before, below_split, sorted_back, sorted_front, below_most, below_less, above_less, run_below, above_head, not_both}
+use Rattle.cs_map_store.specs.Entries.{Entry, no_entry, nth, IsPlaceFor}
+use Rattle.cs_map_store.specs.Leaves.{AreBefore, AreBelow, AreLeaves, BeginsBehind, BeginsBy, ReachLeaf, store_place, edited, edits_behind, first_place, flat, in_table, nth_leaf, bodies_in, Rise, Follow, IsMerged, patched, ArePatches}
+use Rattle.cs_map_store.specs.declared.leaves.Patch.{Patch}
+use Rattle.cs_store.specs.declared.batch.PlaceEdit.{PlaceEdit}
+use Rattle.cs_map_store.proofs.Maps.{place_total, place_exact}
+use Rattle.cs_map_store.proofs.Editing.{first, second, both, less, is_less, BelowEdits, EditsBelow, fold_behind, fold_before, below_split, sorted_back, sorted_front, below_most, below_less, above_less, run_below, above_head, not_both}
 
 pub flat_append : (xs ys : List (List Entry)) → flat (xs ++ ys) ≡ flat xs ++ flat ys
 flat_append [] ys = refl
@@ -52,52 +52,52 @@ pieces_more pieces all leaf made piece from to less within so_far full none is g
 
 -- ---- a merge, edit by edit
 
-follow_below : (more : List Entry) (p : StorePlace) (ws : List RowEdit) → ((q : StorePlace) → place_cmp p q ≡ Less → AreBelow more q) → Follow p ws → BelowEdits more ws
+follow_below : (more : List Entry) (p : StorePlace) (ws : List PlaceEdit) → ((q : StorePlace) → place_cmp p q ≡ Less → AreBelow more q) → Follow p ws → BelowEdits more ws
 follow_below more p [] low h = tt
-follow_below more p (w ∷ ws) low h = (low (edit_place w) h.0, follow_below more p ws low h.1)
+follow_below more p (w ∷ ws) low h = (low (store_place w) h.0, follow_below more p ws low h.1)
 
-pub merge_more : (before after leaf : List Entry) (from next : ℕ) (w : RowEdit) (ws all : List RowEdit) (end : List Entry) → Rise (w ∷ ws) → IsMerged leaf from w next before after
+pub merge_more : (before after leaf : List Entry) (from next : ℕ) (w : PlaceEdit) (ws all : List PlaceEdit) (end : List Entry) → Rise (w ∷ ws) → IsMerged leaf from w next before after
     → before ++ fold edited (drop from leaf) (w ∷ ws) ≡ end → after ++ fold edited (drop next leaf) ws ≡ end
 merge_more before after leaf from next w ws all end rise m was =
     ap (λ (zs : List Entry). zs ++ fold edited (drop next leaf) ws) m.pushed ∙ append_assoc before m.more (fold edited (drop next leaf) ws)
-    ∙ ap (λ (zs : List Entry). before ++ zs) (sym (fold_behind ws m.more (drop next leaf) (follow_below m.more (edit_place w) ws m.below rise.0)))
+    ∙ ap (λ (zs : List Entry). before ++ zs) (sym (fold_behind ws m.more (drop next leaf) (follow_below m.more (store_place w) ws m.below rise.0)))
     ∙ ap (λ (zs : List Entry). before ++ fold edited zs ws) (sym m.same) ∙ was
 
-pub rise_back : (us ws : List RowEdit) → Rise (us ++ ws) → Rise ws
+pub rise_back : (us ws : List PlaceEdit) → Rise (us ++ ws) → Rise ws
 rise_back [] ws h = h
 rise_back (u ∷ us) ws h = rise_back us ws h.1
 
-pub rise_front : (us ws : List RowEdit) → Rise (us ++ ws) → Rise us
+pub rise_front : (us ws : List PlaceEdit) → Rise (us ++ ws) → Rise us
 rise_front [] ws h = tt
-rise_front (u ∷ us) ws h = (follows (edit_place u) us ws h.0, rise_front us ws h.1)
+rise_front (u ∷ us) ws h = (follows (store_place u) us ws h.0, rise_front us ws h.1)
   where
-    follows : (p : StorePlace) (us ws : List RowEdit) → Follow p (us ++ ws) → Follow p us
+    follows : (p : StorePlace) (us ws : List PlaceEdit) → Follow p (us ++ ws) → Follow p us
     follows p [] ws h = tt
     follows p (u ∷ us) ws h = (h.0, follows p us ws h.1)
 
-pub behind_drop : (edits : List (Bor RowEdit)) (k : ℕ) → edits_behind (drop k edits) ≡ drop k (edits_behind edits)
+pub behind_drop : (edits : List (Bor PlaceEdit)) (k : ℕ) → edits_behind (drop k edits) ≡ drop k (edits_behind edits)
 behind_drop edits zero = refl
 behind_drop [] (suc k) = refl
 behind_drop (w ∷ ws) (suc k) = behind_drop ws k
 
-pub behind_take : (edits : List (Bor RowEdit)) (k : ℕ) → edits_behind (take k edits) ≡ take k (edits_behind edits)
+pub behind_take : (edits : List (Bor PlaceEdit)) (k : ℕ) → edits_behind (take k edits) ≡ take k (edits_behind edits)
 behind_take edits zero = refl
 behind_take [] (suc k) = refl
-behind_take (w ∷ ws) (suc k) = ap (λ (zs : List RowEdit). w.now ∷ zs) (behind_take ws k)
+behind_take (w ∷ ws) (suc k) = ap (λ (zs : List PlaceEdit). w.now ∷ zs) (behind_take ws k)
 
-pub rise_drop : (edits : List RowEdit) (k : ℕ) → Rise edits → Rise (drop k edits)
+pub rise_drop : (edits : List PlaceEdit) (k : ℕ) → Rise edits → Rise (drop k edits)
 rise_drop edits k h = rise_back (take k edits) (drop k edits) (subst Rise (sym (take-append-drop k edits)) h)
 
-pub rise_take : (edits : List RowEdit) (k : ℕ) → Rise edits → Rise (take k edits)
+pub rise_take : (edits : List PlaceEdit) (k : ℕ) → Rise edits → Rise (take k edits)
 rise_take edits k h = rise_front (take k edits) (drop k edits) (subst Rise (sym (take-append-drop k edits)) h)
 
 -- ---- which leaf
 
-pub before_none : (leaves : List (List Entry)) (at : ℕ) (ws : List RowEdit) → at ≡ length leaves → AreBefore leaves at ws
+pub before_none : (leaves : List (List Entry)) (at : ℕ) (ws : List PlaceEdit) → at ≡ length leaves → AreBefore leaves at ws
 before_none leaves at [] e = tt
 before_none leaves at (w ∷ ws) e = (inl e, before_none leaves at ws e)
 
-pub before_push : (leaves : List (List Entry)) (at : ℕ) (ws : List RowEdit) (w : RowEdit) → AreBefore leaves at ws → BeginsBehind leaves at (edit_place w) → AreBefore leaves at (ws ++ w ∷ [])
+pub before_push : (leaves : List (List Entry)) (at : ℕ) (ws : List PlaceEdit) (w : PlaceEdit) → AreBefore leaves at ws → BeginsBehind leaves at (store_place w) → AreBefore leaves at (ws ++ w ∷ [])
 before_push leaves at [] w h b = (b, tt)
 before_push leaves at (v ∷ ws) w h b = (h.0, before_push leaves at ws w h.1 b)
 
@@ -169,7 +169,7 @@ find_before [] ys p h = find_above ys p h
 find_before (x ∷ xs) ys p h = ap (cond (eq_by_cmp place_cmp p x.0) (Some x.1)) (find_before xs ys p h)
 
 -- the row at a place is the one that its leaf has
-pub find_in_leaf : (leaves : List (List Entry)) (at : ℕ) (p : StorePlace) → AreLeaves leaves → at < length leaves → BeginsBy leaves at p → BeginsBehind leaves (at + 1) p → get (rows_in leaves) p ≡ find place_cmp p (nth_leaf leaves at)
+pub find_in_leaf : (leaves : List (List Entry)) (at : ℕ) (p : StorePlace) → AreLeaves leaves → at < length leaves → BeginsBy leaves at p → BeginsBehind leaves (at + 1) p → get (bodies_in leaves) p ≡ find place_cmp p (nth_leaf leaves at)
 find_in_leaf leaves at p are less by behind =
     get-from_sorted place_cmp (flat leaves) p are.rise ∙ ap (find place_cmp p) (flat_split leaves at less)
     ∙ find_behind (flat (take at leaves)) (nth_leaf leaves at ++ flat (drop (at + 1) leaves)) p (leaves_before leaves at p less (are.full at [] less) are.rise by)
@@ -205,7 +205,7 @@ find_nothing leaf at p within s found apart = from_place leaf at p within s foun
         (above_head (nth leaf at) (drop (at + 1) leaf) p (subst (λ zs. T (is_sorted place_cmp zs)) here cut) (not_both _ notless (apart less)))
 
 -- an entry of the place of a row is its row
-pub find_met : (leaves : List (List Entry)) (at row : ℕ) (p : StorePlace) → T (is_sorted place_cmp (flat leaves)) → at < length leaves → row < length (nth_leaf leaves at) → place_cmp (nth (nth_leaf leaves at) row).0 p ≡ Equal → get (rows_in leaves) p ≡ Some (nth (nth_leaf leaves at) row).1
+pub find_met : (leaves : List (List Entry)) (at row : ℕ) (p : StorePlace) → T (is_sorted place_cmp (flat leaves)) → at < length leaves → row < length (nth_leaf leaves at) → place_cmp (nth (nth_leaf leaves at) row).0 p ≡ Equal → get (bodies_in leaves) p ≡ Some (nth (nth_leaf leaves at) row).1
 find_met leaves at row p s less within e =
     get-from_sorted place_cmp (flat leaves) p s ∙ ap (find place_cmp p) whole ∙ find_behind front (here ∷ back) p low
     ∙ ap (λ b. cond b (Some here.1) (find place_cmp p back)) (ap (eq_by_cmp place_cmp p) (place_exact here.0 p e) ∙ (eq_by_cmp_equiv place_total).refl p)
@@ -278,21 +278,21 @@ nth_later now leaves from at le same =
     let n : at + 0 ≡ at = omega arith in
     ap (λ k. nth_leaf now k) (sym n) ∙ sym (get_or-drop at now 0 []) ∙ ap (λ (ls : List (List Entry)). get_or ls 0 []) (later now leaves from at le same) ∙ get_or-drop at leaves 0 [] ∙ ap (λ k. nth_leaf leaves k) n
 
-below_edits : (es : List Entry) (p : StorePlace) (ws : List RowEdit) → AreBelow es p → Follow p ws → BelowEdits es ws
+below_edits : (es : List Entry) (p : StorePlace) (ws : List PlaceEdit) → AreBelow es p → Follow p ws → BelowEdits es ws
 below_edits es p [] low h = tt
-below_edits es p (w ∷ ws) low h = (below_less es p (edit_place w) h.0 low, below_edits es p ws low h.1)
+below_edits es p (w ∷ ws) low h = (below_less es p (store_place w) h.0 low, below_edits es p ws low h.1)
 
-fold_both : (es : List Entry) (us ws : List RowEdit) → fold edited es (us ++ ws) ≡ fold edited (fold edited es us) ws
+fold_both : (es : List Entry) (us ws : List PlaceEdit) → fold edited es (us ++ ws) ≡ fold edited (fold edited es us) ws
 fold_both es [] ws = refl
 fold_both es (u ∷ us) ws = fold_both (edited es u) us ws
 
 -- the edits that fall into one leaf change it alone
-pub patch_leaf : (leaves now : List (List Entry)) (from at : ℕ) (w : RowEdit) (ws : List RowEdit) → AreLeaves leaves → length now ≡ length leaves → T (is_sorted place_cmp (flat now)) → drop from now ≡ drop from leaves → from ≤ at → at < length leaves
-    → BeginsBy leaves at (edit_place w) → AreBefore leaves (at + 1) (w ∷ ws) → Rise (w ∷ ws) → flat (slice_set now at (fold edited (nth_leaf leaves at) (w ∷ ws))) ≡ fold edited (flat now) (w ∷ ws)
+pub patch_leaf : (leaves now : List (List Entry)) (from at : ℕ) (w : PlaceEdit) (ws : List PlaceEdit) → AreLeaves leaves → length now ≡ length leaves → T (is_sorted place_cmp (flat now)) → drop from now ≡ drop from leaves → from ≤ at → at < length leaves
+    → BeginsBy leaves at (store_place w) → AreBefore leaves (at + 1) (w ∷ ws) → Rise (w ∷ ws) → flat (slice_set now at (fold edited (nth_leaf leaves at) (w ∷ ws))) ≡ fold edited (flat now) (w ∷ ws)
 patch_leaf leaves now from at w ws are long sorted same le less by before rise =
     flat_set now at made there
     ∙ ap (λ (zs : List Entry). front ++ zs) (sym (fold_before (w ∷ ws) leaf back (edits_below (w ∷ ws) before)))
-    ∙ sym (fold_behind (w ∷ ws) front (leaf ++ back) (low, below_edits front (edit_place w) ws low rise.0))
+    ∙ sym (fold_behind (w ∷ ws) front (leaf ++ back) (low, below_edits front (store_place w) ws low rise.0))
     ∙ ap (λ (es : List Entry). fold edited es (w ∷ ws)) (ap (λ (l : List Entry). front ++ (l ++ back)) (sym is) ∙ sym (flat_split now at there))
   where
     leaf : List Entry
@@ -313,23 +313,23 @@ patch_leaf leaves now from at w ws are long sorted same le less by before rise =
     is : nth_leaf now at ≡ nth_leaf leaves at
     is = nth_later now leaves from at le same
 
-    low : AreBelow front (edit_place w)
-    low = leaves_before now at (edit_place w) there (subst (λ (l : List Entry). 0 < length l) (sym is) (are.full at [] less)) sorted
-        (subst (λ (l : List Entry). (at ≡ 0) ⊎ (is_gt (place_cmp (nth l 0).0 (edit_place w)) ≡ false)) (sym is) by)
+    low : AreBelow front (store_place w)
+    low = leaves_before now at (store_place w) there (subst (λ (l : List Entry). 0 < length l) (sym is) (are.full at [] less)) sorted
+        (subst (λ (l : List Entry). (at ≡ 0) ⊎ (is_gt (place_cmp (nth l 0).0 (store_place w)) ≡ false)) (sym is) by)
 
     is_next : nth_leaf now (at + 1) ≡ nth_leaf leaves (at + 1)
     is_next = nth_later now leaves from (at + 1) (omega (arith, le)) same
 
-    edits_below : (vs : List RowEdit) → AreBefore leaves (at + 1) vs → EditsBelow vs back
+    edits_below : (vs : List PlaceEdit) → AreBefore leaves (at + 1) vs → EditsBelow vs back
     edits_below [] h = tt
     edits_below (v ∷ vs) h = (
-      leaves_behind now (at + 1) (edit_place v) (omega (arith, there)) (λ more. subst (λ (l : List Entry). 0 < length l) (sym is_next) (are.full (at + 1) [] (omega (arith, more, long)))) sorted
-          (⊎_elim (λ e. inl (e ∙ sym long)) (λ g. inr (ap (λ (l : List Entry). is_gt (place_cmp (nth l 0).0 (edit_place v))) is_next ∙ g)) h.0),
+      leaves_behind now (at + 1) (store_place v) (omega (arith, there)) (λ more. subst (λ (l : List Entry). 0 < length l) (sym is_next) (are.full (at + 1) [] (omega (arith, more, long)))) sorted
+          (⊎_elim (λ e. inl (e ∙ sym long)) (λ g. inr (ap (λ (l : List Entry). is_gt (place_cmp (nth l 0).0 (store_place v))) is_next ∙ g)) h.0),
       edits_below vs h.1,
     )
 
-pub patch_more : (leaves now : List (List Entry)) (from at count : ℕ) (w : RowEdit) (ws vs : List RowEdit) (made : List Entry) (end : List Entry) → AreLeaves leaves → length now ≡ length leaves → T (is_sorted place_cmp (flat now)) → drop from now ≡ drop from leaves
-    → from ≤ at → at < length leaves → BeginsBy leaves at (edit_place w) → ws ≡ w ∷ vs → 0 < count → AreBefore leaves (at + 1) (take count ws) → Rise ws → made ≡ fold edited (nth_leaf leaves at) (take count ws) → fold edited (flat now) ws ≡ end
+pub patch_more : (leaves now : List (List Entry)) (from at count : ℕ) (w : PlaceEdit) (ws vs : List PlaceEdit) (made : List Entry) (end : List Entry) → AreLeaves leaves → length now ≡ length leaves → T (is_sorted place_cmp (flat now)) → drop from now ≡ drop from leaves
+    → from ≤ at → at < length leaves → BeginsBy leaves at (store_place w) → ws ≡ w ∷ vs → 0 < count → AreBefore leaves (at + 1) (take count ws) → Rise ws → made ≡ fold edited (nth_leaf leaves at) (take count ws) → fold edited (flat now) ws ≡ end
     → (flat (slice_set now at made) ≡ fold edited (flat now) (take count ws)) × (fold edited (flat (slice_set now at made)) (drop count ws) ≡ end)
 patch_more leaves now from at zero w ws vs made end are long sorted same le less by is some before rise makes was = absurd (omega (arith, some))
 patch_more leaves now from at (suc n) w ws vs made end are long sorted same le less by is some before rise makes was =
@@ -341,7 +341,7 @@ patch_more leaves now from at (suc n) w ws vs made end are long sorted same le l
     (one, ap (λ (es : List Entry). fold edited es (drop (suc n) ws)) one ∙ sym (fold_both (flat now) (take (suc n) ws) (drop (suc n) ws)) ∙ ap (fold edited (flat now)) (take-append-drop (suc n) ws) ∙ was)
 
 -- where the next edit's leaf may be looked for
-pub reach_begins : (leaves : List (List Entry)) (from : ℕ) (ws vs : List RowEdit) (w : RowEdit) → 0 < length leaves → ws ≡ w ∷ vs → (from ≡ 0) ⊎ ReachLeaf leaves from ws → (from < length leaves) × BeginsBy leaves from (edit_place w)
+pub reach_begins : (leaves : List (List Entry)) (from : ℕ) (ws vs : List PlaceEdit) (w : PlaceEdit) → 0 < length leaves → ws ≡ w ∷ vs → (from ≡ 0) ⊎ ReachLeaf leaves from ws → (from < length leaves) × BeginsBy leaves from (store_place w)
 reach_begins leaves from ws vs w some is = λ h. ⊎_elim (λ e. (omega (arith, e, some), inl e)) (λ r. let reach : ReachLeaf leaves from (w ∷ vs) = subst (ReachLeaf leaves from) is r in (reach.0, inr reach.1)) h
 
 -- ---- leaves that go, and leaves that are cut
@@ -400,6 +400,6 @@ full_spliced leaves pieces new at is some full =
 pub rest_of : {X : Type 0} (xs : List X) (start : ℕ) → take (length xs - start) (drop start xs) ≡ drop start xs
 rest_of xs start = take_all (length xs - start) (drop start xs) (omega (arith, length-drop start xs))
 
-pub none_in : (leaves : List (List Entry)) (p : StorePlace) → length leaves ≡ 0 → get (rows_in leaves) p ≡ None
+pub none_in : (leaves : List (List Entry)) (p : StorePlace) → length leaves ≡ 0 → get (bodies_in leaves) p ≡ None
 none_in [] p e = get-from_sorted place_cmp [] p tt
 none_in (l ∷ ls) p e = absurd (omega (arith, e))

@@ -11,9 +11,9 @@ use Rattle.std.specs.FinMap.{IsAntisymmetric, get, find, get-insert, get-remove,
 use Rattle.std.specs.FinMap.Entries.{below_all, same_entries}
 use Rattle.std.proofs.lemmas.Cmp.{int_cmp_total, nat_list_cmp_total, then_total, on_total}
 use Rattle.std.proofs.lemmas.Map.Lookups.{exact_pairs, exact_signed, exact_bytes}
-use Rattle.cs_store.specs.Contents.{StorePlace, Rows, Meta, place_cmp, name_text}
-use Rattle.cs_store.specs.Written.{with_row, with_meta, edit_meta, optional_bytes}
-use Rattle.cs_store.specs.Slots.{listed, meta_of, meta_table, write_to, meta_write}
+use Rattle.cs_store.specs.Contents.{StorePlace, Bodies, Meta, place_cmp, name_text}
+use Rattle.cs_store.specs.Written.{with_body, with_meta, edit_meta, optional_bytes}
+use Rattle.cs_map_store.specs.Slots.{listed, meta_of, meta_table, write_to, meta_write}
 use Rattle.cs_store.specs.declared.batch.MetaEdit.{MetaEdit}
 
 pub place_total : IsTotalOrder place_cmp
@@ -22,9 +22,9 @@ place_total = then_total (on_total (λ (p : StorePlace). p.0) int_cmp_total) (on
 pub place_exact : IsAntisymmetric place_cmp
 place_exact = exact_pairs int_cmp (slice_cmp nat_cmp) exact_signed exact_bytes
 
-pub get-with_row : (m : Rows) (p : StorePlace) (w : Option (List ℕ)) (q : StorePlace) → get (with_row m p w) q ≡ cond (eq_by_cmp place_cmp q p) w (get m q)
-get-with_row m p None q = get-remove place_total m p q
-get-with_row m p (Some v) q = get-insert place_total m p v q
+pub get-with_body : (m : Bodies) (p : StorePlace) (w : Option (List ℕ)) (q : StorePlace) → get (with_body m p w) q ≡ cond (eq_by_cmp place_cmp q p) w (get m q)
+get-with_body m p None q = get-remove place_total m p q
+get-with_body m p (Some v) q = get-insert place_total m p v q
 
 pub get-with_meta : (m : Meta) (p : List ℕ) (w : Option (List ℕ)) (q : List ℕ) → get (with_meta m p w) q ≡ cond (eq_by_cmp (slice_cmp nat_cmp) q p) w (get m q)
 get-with_meta m p None q = get-remove nat_list_cmp_total m p q
@@ -62,7 +62,7 @@ find_listed t k (e ∷ es) =
       | false ↦ λ p. (λ i. cond (sym (not_equal (int_cmp t e.0.0) (slice_cmp nat_cmp k e.0.1) (int_eq_turn t e.0.0 ∙ p)) i) (Some e.1) (find_listed t k es i))
     ] refl
 
-pub find-listed : (t : ℤ) (k : List ℕ) (m : Rows) → find (slice_cmp nat_cmp) k (listed t m) ≡ get m (t, k)
+pub find-listed : (t : ℤ) (k : List ℕ) (m : Bodies) → find (slice_cmp nat_cmp) k (listed t m) ≡ get m (t, k)
 find-listed t k m = find_listed t k (entries m) ∙ sym (get-entries m (t, k))
 
 -- ---- the entries of one table are in order
@@ -102,26 +102,26 @@ sorted_listed t (e ∷ es) s =
       | false ↦ λ q. sorted_listed t es (second _ _ s)
     ] refl
 
-pub listed_sorted : (t : ℤ) (m : Rows) → T (is_sorted (slice_cmp nat_cmp) (listed t m))
+pub listed_sorted : (t : ℤ) (m : Bodies) → T (is_sorted (slice_cmp nat_cmp) (listed t m))
 listed_sorted t m = sorted_listed t (entries m) (entries_sorted m)
 
 -- a list in order that finds what a table has is the table's
-pub listed_is : (t : ℤ) (m : Rows) (es : List (List ℕ × List ℕ)) → T (is_sorted (slice_cmp nat_cmp) es) → ((k : List ℕ) → find (slice_cmp nat_cmp) k es ≡ get m (t, k)) → es ≡ listed t m
+pub listed_is : (t : ℤ) (m : Bodies) (es : List (List ℕ × List ℕ)) → T (is_sorted (slice_cmp nat_cmp) es) → ((k : List ℕ) → find (slice_cmp nat_cmp) k es ≡ get m (t, k)) → es ≡ listed t m
 listed_is t m es s finds = same_entries (slice_cmp nat_cmp) nat_list_cmp_total exact_bytes es (listed t m) s (listed_sorted t m) (λ k. finds k ∙ sym (find-listed t k m))
 
 -- ---- rows and meta of one map
 
-pub get-meta_of : (c : Rows) (k : List ℕ) → get (meta_of c) k ≡ get c (meta_table, k)
+pub get-meta_of : (c : Bodies) (k : List ℕ) → get (meta_of c) k ≡ get c (meta_table, k)
 unfolding meta_of
 get-meta_of c k = get-from_entries nat_list_cmp_total (listed meta_table c) k ∙ find-listed meta_table k c
 
-pub meta_of_meta : (c : Rows) (n : List ℕ) (w : Option (List ℕ)) → meta_of (with_row c (meta_table, n) w) ≡ with_meta (meta_of c) n w
+pub meta_of_meta : (c : Bodies) (n : List ℕ) (w : Option (List ℕ)) → meta_of (with_body c (meta_table, n) w) ≡ with_meta (meta_of c) n w
 meta_of_meta c n w = same_map nat_list_cmp_total exact_bytes _ _ (λ k.
-    get-meta_of (with_row c (meta_table, n) w) k ∙ get-with_row c (meta_table, n) w (meta_table, k)
+    get-meta_of (with_body c (meta_table, n) w) k ∙ get-with_body c (meta_table, n) w (meta_table, k)
     ∙ sym (get-with_meta (meta_of c) n w k ∙ ap (cond (eq_by_cmp (slice_cmp nat_cmp) k n) w) (get-meta_of c k)))
 
 -- ---- a batch
 
-pub meta_after_meta : (c : Rows) (es : List MetaEdit) → meta_of (fold write_to c (map meta_write es)) ≡ fold edit_meta (meta_of c) es
+pub meta_after_meta : (c : Bodies) (es : List MetaEdit) → meta_of (fold write_to c (map meta_write es)) ≡ fold edit_meta (meta_of c) es
 meta_after_meta c [] = refl
 meta_after_meta c (e ∷ es) = meta_after_meta (write_to c (meta_write e)) es ∙ ap (λ m. fold edit_meta m es) (meta_of_meta c (name_text e.name) (optional_bytes e.value))

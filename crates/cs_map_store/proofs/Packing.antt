@@ -5,9 +5,9 @@ use Rattle.std.specs.List.{All, slice_range}
 use Rattle.std.proofs.lemmas.List.{take_all, length-drop, drop-append-le, take-append-le, map-append, take_more, get_or-drop, append_assoc}
 use Rattle.std.proofs.Math.Seq.{drop-append_seam, take-add}
 use Rattle.std.proofs.lemmas.List.Edits.{length-between}
-use Rattle.cs_store.specs.Entries.{Entry, IsSpotIn, entry_at, entries_at, nth, no_entry}
-use Rattle.cs_store.specs.declared.leaf.Spot.{Spot}
-use Rattle.cs_store.proofs.Leafing.{drop_drop}
+use Rattle.cs_map_store.specs.Entries.{Entry, IsSpotIn, entry_at, entries_at, nth, no_entry}
+use Rattle.cs_map_store.specs.declared.leaf.Spot.{Spot}
+use Rattle.cs_map_store.proofs.Leafing.{drop_drop}
 
 slice_kept : (a b : List ℕ) (s e : ℕ) → s ≤ e → e ≤ length a → slice_range (a ++ b) s e ≡ slice_range a s e
 slice_kept a b s e within bound =

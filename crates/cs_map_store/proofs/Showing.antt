@@ -11,10 +11,10 @@ use Rattle.std.specs.Cmp.Lexicographic.{slice_cmp}
 use Rattle.std.specs.Map.{lookup, KeepsOthers}
 use Rattle.std.specs.BTreeMap.{is_at}
 use Rattle.std.specs.FinMap.{get, get-empty, same_map}
-use Rattle.cs_store.specs.Contents.{StorePlace, Rows, place_cmp}
-use Rattle.cs_store.specs.Written.{with_row, optional_bytes}
-use Rattle.cs_store.specs.Slots.{SlotKey, Slot, key_cmp, table_number, place_of, shown}
-use Rattle.cs_store.proofs.Maps.{place_total, place_exact, get-with_row}
+use Rattle.cs_store.specs.Contents.{StorePlace, Bodies, place_cmp}
+use Rattle.cs_store.specs.Written.{with_body, optional_bytes}
+use Rattle.cs_map_store.specs.Slots.{SlotKey, Slot, key_cmp, table_number, place_of, shown}
+use Rattle.cs_map_store.proofs.Maps.{place_total, place_exact, get-with_body}
 
 -- two numbers compare as the integers that they are
 pub int_cmp-pos : (a b : ℕ) → int_cmp (pos a) (pos b) ≡ nat_cmp a b
@@ -53,7 +53,7 @@ look q es = lookup (λ k. eq_by_cmp place_cmp q (place_of k)) es
 pub get-shown : (es : List (SlotKey × Slot)) (q : StorePlace) → get (shown es) q ≡ joined (look q es)
 unfolding shown
 get-shown [] q = get-empty place_cmp q
-get-shown (e ∷ es) q = get-with_row (shown es) (place_of e.0) (optional_bytes e.1) q
+get-shown (e ∷ es) q = get-with_body (shown es) (place_of e.0) (optional_bytes e.1) q
     ∙ ap (cond (eq_by_cmp place_cmp q (place_of e.0)) (optional_bytes e.1)) (get-shown es q)
     ∙ elim (eq_by_cmp place_cmp q (place_of e.0)) as (λ b. cond b (optional_bytes e.1) (joined (look q es)) ≡ joined (cond b (Some e.1) (look q es))) [ true ↦ refl | false ↦ refl ]
 
@@ -83,11 +83,11 @@ look_updated old new k w at others q =
 
 -- a slot that is written
 pub shown_written : (old new : List (SlotKey × Slot)) (k : SlotKey) (w : Slot) → lookup (is_at (key_cmp k)) new ≡ Some w → KeepsOthers (eq_by_cmp key_cmp) (is_at (key_cmp k)) old new
-    → shown new ≡ with_row (shown old) (place_of k) (optional_bytes w)
+    → shown new ≡ with_body (shown old) (place_of k) (optional_bytes w)
 shown_written old new k w at others = same_map place_total place_exact _ _ (λ q.
     get-shown new q ∙ ap joined (look_updated old new k (Some w) at others q)
     ∙ elim (eq_by_cmp place_cmp q (place_of k)) as (λ b. joined (cond b (Some w) (look q old)) ≡ cond b (optional_bytes w) (joined (look q old))) [ true ↦ refl | false ↦ refl ]
-    ∙ sym (get-with_row (shown old) (place_of k) (optional_bytes w) q ∙ ap (cond (eq_by_cmp place_cmp q (place_of k)) (optional_bytes w)) (get-shown old q)))
+    ∙ sym (get-with_body (shown old) (place_of k) (optional_bytes w) q ∙ ap (cond (eq_by_cmp place_cmp q (place_of k)) (optional_bytes w)) (get-shown old q)))
 
 -- a slot with no value comes or goes
 pub shown_kept : (old new : List (SlotKey × Slot)) (k : SlotKey) (w : Option Slot) → joined w ≡ None → joined (lookup (is_at (key_cmp k)) old) ≡ None
@@ -106,8 +106,8 @@ pub get_at_key : (k : SlotKey) (es : List (SlotKey × Slot)) → get (shown es) 
 get_at_key k es = get-shown es (place_of k) ∙ ap joined (look_at_key k (place_of k) es (equal_from _ ((eq_by_cmp_equiv place_total).refl (place_of k))))
 
 -- to remove what is not there changes nothing
-pub remove_nothing : (m : Rows) (p : StorePlace) → get m p ≡ None → with_row m p None ≡ m
-remove_nothing m p none = same_map place_total place_exact _ _ (λ q. get-with_row m p None q
+pub remove_nothing : (m : Bodies) (p : StorePlace) → get m p ≡ None → with_body m p None ≡ m
+remove_nothing m p none = same_map place_total place_exact _ _ (λ q. get-with_body m p None q
     ∙ elim (place_cmp q p) as (λ o. place_cmp q p ≡ o → cond (is_eq o) None (get m q) ≡ get m q) [
       | Less ↦ λ t. refl
       | Equal ↦ λ t. sym (ap (get m) (place_exact q p t) ∙ none)

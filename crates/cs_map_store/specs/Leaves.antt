@@ -1,4 +1,4 @@
--- Rows as a `MapStore` keeps them: leaves of entries, whose places rise through all leaves together.
+-- Bodies as a `MapStore` keeps them: leaves of entries, whose places rise through all leaves together.
 use Rattle.std.specs.Prelude.{not, drop, ℤ, filter, ◌≡◌, ◌⊎◌, ◌<◌, ◌+◌, ℕ, Bool, true, false, pos, T, map, length, slice_index_or, slice_set, List, [], ◌∷◌, ◌++◌, Option, Some, None}
 use Rattle.std.specs.Borrow.{Bor}
 use Rattle.std.specs.List.{All}
@@ -6,13 +6,14 @@ use Rattle.std.specs.Ordering.{int_eq, is_eq, is_lt, eq_by_cmp, is_gt}
 use Rattle.std.specs.declared.cmp.Ordering.TheVariants.{Less, Equal}
 use Rattle.std.specs.FinMap.{from_sorted, is_sorted}
 use Rattle.std.specs.FinMap.Entries.{put, where_key}
-use Rattle.cs_store.specs.Contents.{StorePlace, Rows, place_cmp}
-pub use Rattle.cs_store.specs.Entries.{Entry, nth}
+use Rattle.cs_store.specs.Contents.{StorePlace, Bodies, place_cmp}
+pub use Rattle.cs_map_store.specs.Entries.{Entry, nth}
 use Rattle.cs_store.specs.Written.{optional_bytes}
-use Rattle.cs_store.specs.declared.batch.RowEdit.{RowEdit}
-use Rattle.cs_store.specs.declared.leaves.Patch.{Patch}
-use Rattle.cs_store.specs.declared.leaves.Staged.{Staged}
-use Rattle.cs_store.specs.declared.leaves.Staged.TheVariants.{Patches, Anew}
+pub use Rattle.cs_store.specs.Written.{store_place}
+use Rattle.cs_store.specs.declared.batch.PlaceEdit.{PlaceEdit}
+use Rattle.cs_map_store.specs.declared.leaves.Patch.{Patch}
+use Rattle.cs_map_store.specs.declared.leaves.Staged.{Staged}
+use Rattle.cs_map_store.specs.declared.leaves.Staged.TheVariants.{Patches, Anew}
 
 -- the entries of all leaves
 abbrev pub flat : List (List Entry) → List Entry
@@ -26,8 +27,8 @@ nth_leaf leaves at = slice_index_or leaves at []
 abbrev pub first_place : List (List Entry) → ℕ → StorePlace
 first_place leaves at = (nth (nth_leaf leaves at) 0).0
 
-abbrev pub rows_in : List (List Entry) → Rows
-rows_in leaves = from_sorted (flat leaves)
+abbrev pub bodies_in : List (List Entry) → Bodies
+bodies_in leaves = from_sorted (flat leaves)
 
 -- entries in which a row is set, or with none removed
 abbrev pub put_row : List Entry → StorePlace → Option (List ℕ) → List Entry
@@ -39,41 +40,38 @@ abbrev pub AreBelow : List Entry → StorePlace → Type 0
 AreBelow [] place = Unit {0}
 AreBelow (e ∷ es) place = (place_cmp e.0 place ≡ Less) × AreBelow es place
 
-abbrev pub edit_place : RowEdit → StorePlace
-edit_place edit = (pos edit.table, edit.key.items)
-
-abbrev pub edited : List Entry → RowEdit → List Entry
-edited es edit = put_row es (edit_place edit) (optional_bytes edit.row)
+abbrev pub edited : List Entry → PlaceEdit → List Entry
+edited es edit = put_row es (store_place edit) (optional_bytes edit.body)
 
 -- the edits that are lent
-abbrev pub edits_behind : List (Bor RowEdit) → List RowEdit
+abbrev pub edits_behind : List (Bor PlaceEdit) → List PlaceEdit
 edits_behind edits = map (λ edit. edit.now) edits
 
 -- all places are behind this one
-abbrev pub Follow : StorePlace → List RowEdit → Type 0
+abbrev pub Follow : StorePlace → List PlaceEdit → Type 0
 Follow place [] = Unit {0}
-Follow place (edit ∷ edits) = (place_cmp place (edit_place edit) ≡ Less) × Follow place edits
+Follow place (edit ∷ edits) = (place_cmp place (store_place edit) ≡ Less) × Follow place edits
 
 -- the places of edits rise
-abbrev pub Rise : List RowEdit → Type 0
+abbrev pub Rise : List PlaceEdit → Type 0
 Rise [] = Unit {0}
-Rise (edit ∷ edits) = Follow (edit_place edit) edits × Rise edits
+Rise (edit ∷ edits) = Follow (store_place edit) edits × Rise edits
 
 -- the first of these edits isn't below the place
-abbrev pub GoOnFrom : StorePlace → List RowEdit → Type 0
+abbrev pub GoOnFrom : StorePlace → List PlaceEdit → Type 0
 GoOnFrom place [] = Unit {0}
-GoOnFrom place (edit ∷ edits) = is_lt (place_cmp (edit_place edit) place) ≡ false
+GoOnFrom place (edit ∷ edits) = is_lt (place_cmp (store_place edit) place) ≡ false
 
 -- the places of edits don't fall
-abbrev pub DontFall : List RowEdit → Type 0
+abbrev pub DontFall : List PlaceEdit → Type 0
 DontFall [] = Unit {0}
-DontFall (edit ∷ edits) = GoOnFrom (edit_place edit) edits × DontFall edits
+DontFall (edit ∷ edits) = GoOnFrom (store_place edit) edits × DontFall edits
 
 -- whether the next edit, if there is one, is at another place than the first
-abbrev pub is_last_of : List RowEdit → Bool
+abbrev pub is_last_of : List PlaceEdit → Bool
 is_last_of [] = true
 is_last_of (edit ∷ []) = true
-is_last_of (edit ∷ next ∷ edits) = not (is_eq (place_cmp (edit_place edit) (edit_place next)))
+is_last_of (edit ∷ next ∷ edits) = not (is_eq (place_cmp (store_place edit) (store_place next)))
 
 -- where entries go on behind a place that stands or would stand at `at`
 abbrev pub IsBehind : List Entry → ℕ → StorePlace → ℕ → Type 0
@@ -87,11 +85,11 @@ written place None = []
 written place (Some row) = (place, row) ∷ []
 
 -- an edit is merged into the entries from one on, up to the next: behind those that are below its place
-pub record IsMerged (es : List Entry) (from : ℕ) (edit : RowEdit) (next : ℕ) (before after : List Entry) : Type 0 where
+pub record IsMerged (es : List Entry) (from : ℕ) (edit : PlaceEdit) (next : ℕ) (before after : List Entry) : Type 0 where
   pub more : List Entry
   pub pushed : after ≡ before ++ more
   pub same : edited (drop from es) edit ≡ more ++ drop next es
-  pub below : (place : StorePlace) → place_cmp (edit_place edit) place ≡ Less → AreBelow more place
+  pub below : (place : StorePlace) → place_cmp (store_place edit) place ≡ Less → AreBelow more place
 
 -- the leaf begins at a place that isn't above this one, or is the first
 abbrev pub BeginsBy : List (List Entry) → ℕ → StorePlace → Type 0
@@ -102,14 +100,14 @@ abbrev pub BeginsBehind : List (List Entry) → ℕ → StorePlace → Type 0
 BeginsBehind leaves at place = (at ≡ length leaves) ⊎ (is_gt (place_cmp (first_place leaves at) place) ≡ true)
 
 -- all edits are before the leaf there
-abbrev pub AreBefore : List (List Entry) → ℕ → List RowEdit → Type 0
+abbrev pub AreBefore : List (List Entry) → ℕ → List PlaceEdit → Type 0
 AreBefore leaves at [] = Unit {0}
-AreBefore leaves at (edit ∷ edits) = BeginsBehind leaves at (edit_place edit) × AreBefore leaves at edits
+AreBefore leaves at (edit ∷ edits) = BeginsBehind leaves at (store_place edit) × AreBefore leaves at edits
 
 -- the first edit, if there is one, isn't before the leaf there
-abbrev pub ReachLeaf : List (List Entry) → ℕ → List RowEdit → Type 0
+abbrev pub ReachLeaf : List (List Entry) → ℕ → List PlaceEdit → Type 0
 ReachLeaf leaves at [] = Unit {0}
-ReachLeaf leaves at (edit ∷ edits) = (at < length leaves) × (is_gt (place_cmp (first_place leaves at) (edit_place edit)) ≡ false)
+ReachLeaf leaves at (edit ∷ edits) = (at < length leaves) × (is_gt (place_cmp (first_place leaves at) (store_place edit)) ≡ false)
 
 -- what a `MapStore` keeps of rows: no leaf is empty, and places rise
 pub record AreLeaves (leaves : List (List Entry)) : Type 0 where

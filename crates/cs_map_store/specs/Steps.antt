@@ -3,10 +3,12 @@ use Rattle.std.specs.declared.alloc.Global.{Global}
 use Rattle.std.specs.Prelude.{Vec, ◌≡◌, ◌<◌, ◌^◌, ℕ, Bool, true, false, Option, List, [], ◌∷◌, length, map, Some, None, IsSome}
 use Rattle.std.specs.List.{All, list_any}
 use Rattle.std.specs.BTreeMap.{BTreeMap, get, is_at}
-use Rattle.cs_store.specs.declared.slots.Step.{Step}
+use Rattle.cs_map_store.specs.declared.slots.Step.{Step}
+use Rattle.cs_map_store.specs.declared.leaves.Shelves.{Shelves}
+use Rattle.cs_store.specs.declared.batch.StoredEntry.{StoredEntry}
 use Rattle.cs_store.specs.Written.{optional_bytes}
-use Rattle.cs_store.specs.Leaves.{Entry, AreLeaves}
-use Rattle.cs_store.specs.Slots.{SlotKey, Slot, key_cmp, place_of, Write}
+use Rattle.cs_map_store.specs.Leaves.{Entry, AreLeaves}
+use Rattle.cs_map_store.specs.Slots.{SlotKey, Slot, key_cmp, place_of, Write}
 
 abbrev pub step_write : Step → Write
 step_write s = (place_of s.key, optional_bytes s.value)
@@ -35,9 +37,10 @@ abbrev pub left_empty : Slot → SlotKey → List SlotKey → List SlotKey
 left_empty None k ks = k ∷ ks
 left_empty (Some v) k ks = ks
 
--- what a `MapStore` keeps: rows in order, versions in reach of a `u32`, and a value in each slot
-pub record IsKept (leaves : Vec (List Entry) Global) (slots : BTreeMap SlotKey Slot) (log : Vec (Vec ℕ Global) Global) : Type 0 where
-  pub rows : AreLeaves leaves.items
+-- what a `MapStore` keeps: rows and pending changes in order, versions in reach of a `u32`, and a value in each slot
+pub record IsKept (shelves : Shelves) (slots : BTreeMap SlotKey Slot) (log : Vec StoredEntry Global) : Type 0 where
+  pub rows : AreLeaves shelves.rows.items
+  pub pending : AreLeaves shelves.pending.items
   pub bound : length log.items < 2 ^ 32
   pub filled : IsEmptyOnlyAt [] slots
 

@@ -1,9 +1,9 @@
-//! Rows of a `MapStore` that stand side by side, packed into one list of bytes.
+//! Bodies of a `MapStore` that stand side by side, packed into one list of bytes.
 
 ghost use Rattle.std.specs.Prelude.{◌≡◌, ◌<◌, ◌≤◌, ◌++◌, ◌∷◌, [], pos, length, slice_range, IfOk, OnOk};
 ghost use Rattle.std.specs.List.{All};
 ghost use Rattle.cs_store.specs.Contents.{place_cmp};
-ghost use Rattle.cs_store.specs.Entries.{IsSpotIn, IsPlaceFor, entries_at, entry_at, nth};
+ghost use Rattle.cs_map_store.specs.Entries.{IsSpotIn, IsPlaceFor, entries_at, entry_at, nth};
 
 use std::alloc::{AllocError, Global};
 use std::cmp::Ordering;
@@ -18,7 +18,7 @@ struct Spot {
     end: usize,
 }
 
-/// Rows behind their places. Contracts see them as a list.
+/// Bodies behind their places. Contracts see them as a list.
 #[derive(Drop)]
 pub struct Leaf {
     bytes: Vec<u8>,
@@ -28,7 +28,7 @@ pub struct Leaf {
 impl Model for Leaf {
     ghost use Rattle.std.specs.Prelude.{List, length};
     ghost use Rattle.std.specs.List.{All};
-    ghost use Rattle.cs_store.specs.Entries.{Entry, IsSpotIn, entries_at};
+    ghost use Rattle.cs_map_store.specs.Entries.{Entry, IsSpotIn, entries_at};
 
     ghost Value = { List Entry };
 
@@ -92,7 +92,7 @@ fn put_copy(
 impl Leaf {
     ghost use Rattle.std.specs.Prelude.{◌≡◌, ◌<◌, ◌≤◌, ◌++◌, ◌∷◌, [], pos, length, slice_range, IfOk, OnOk};
     ghost use Rattle.cs_store.specs.Contents.{place_cmp};
-    ghost use Rattle.cs_store.specs.Entries.{IsPlaceFor, IsPlaceBetween, nth};
+    ghost use Rattle.cs_map_store.specs.Entries.{IsPlaceFor, IsPlaceBetween, nth};
 
     /// No row.
     pub fn new(alloc: Global) -> Leaf

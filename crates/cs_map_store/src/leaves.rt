@@ -1,21 +1,29 @@
-//! The rows of a `MapStore`: leaves whose places rise, none of them empty. A commit makes the leaves that it changes anew
-//! before it changes any, and then puts them in, which takes no memory.
+//! The rows of a `MapStore`, and its pending changes: leaves whose places rise, none of them empty. A commit makes the leaves
+//! that it changes anew before it changes any, and then puts them in, which takes no memory.
 
 ghost use Rattle.std.specs.Prelude.{◌≡◌, false, ◌≤◌, ◌<◌, ◌+◌, List, ◌++◌, T, pos, length, take, drop, fold, map, filter, option_map, Some, IfOk, IfSome, OnOk, MatchBool};
 ghost use Rattle.std.specs.List.{All};
 ghost use Rattle.std.specs.Ordering.{int_eq, is_gt};
-ghost use Rattle.std.specs.FinMap.{get};
+ghost use Rattle.std.specs.FinMap.{get, is_sorted};
 ghost use Rattle.cs_store.specs.Contents.{IsListing, place_cmp};
-ghost use Rattle.cs_store.specs.Written.{optional_bytes, pairs_of};
-ghost use Rattle.cs_store.specs.Leaves.{AreBefore, AreLeaves, ArePatches, BeginsBy, BeginsBehind, CanBePut, Entry, ReachLeaf, Rise, after_staged, edit_place, edited, edits_behind, first_place, flat, in_table, patched, rows_in};
+ghost use Rattle.cs_store.specs.Written.{edit_body, optional_bytes, pairs_of};
+ghost use Rattle.cs_map_store.specs.Leaves.{AreBefore, AreLeaves, ArePatches, BeginsBy, BeginsBehind, CanBePut, Entry, ReachLeaf, Rise, after_staged, store_place, edited, edits_behind, first_place, flat, in_table, patched, bodies_in};
 
+use crate::edits::in_order;
 use crate::leaf::Leaf;
 use crate::merging::merged;
-use crate::{RowEdit, StoredRow};
+use cs_store::{PlaceEdit, StoredBody};
 use std::alloc::{AllocError, Global};
 
 /// A leaf that comes to have twice as many rows is cut into leaves of so many.
 const LEAF: usize = 32;
+
+/// Rows and pending changes, in leaves of their own.
+#[derive(Drop)]
+pub struct Shelves {
+    pub rows: Vec<Leaf>,
+    pub pending: Vec<Leaf>,
+}
 
 /// A leaf that is to stand in the place of another.
 #[derive(Drop)]
@@ -41,10 +49,10 @@ fn begins_above(leaves: &[Leaf], at: usize, table: u32, key: &[u8]) -> bool
 }
 
 /// Whether a leaf begins above the place of an edit.
-fn is_before(leaves: &[Leaf], at: usize, edit: &RowEdit) -> bool
+fn is_before(leaves: &[Leaf], at: usize, edit: &PlaceEdit) -> bool
     requires in_bounds { at < length leaves.now }
     requires full { All (λ leaf. 0 < length leaf) leaves.now }
-    ensures { result ≡ is_gt (place_cmp (first_place leaves.now at) (edit_place edit.now)) }
+    ensures { result ≡ is_gt (place_cmp (first_place leaves.now at) (store_place edit.now)) }
 {
     begins_above(leaves, at, edit.table, edit.key.as_slice())
 }
@@ -103,19 +111,19 @@ fn leaf_near(leaves: &[Leaf], near: usize, table: u32, key: &[u8]) -> usize
 }
 
 /// The leaf in which the place of an edit stands or would stand, not before `from`.
-fn leaf_of(leaves: &[Leaf], from: usize, edit: &RowEdit) -> usize
+fn leaf_of(leaves: &[Leaf], from: usize, edit: &PlaceEdit) -> usize
     requires in_bounds { from < length leaves.now }
     requires full { All (λ leaf. 0 < length leaf) leaves.now }
-    requires begins { BeginsBy leaves.now from (edit_place edit.now) }
+    requires begins { BeginsBy leaves.now from (store_place edit.now) }
     ensures bound { (from ≤ result) × (result < length leaves.now) }
-    ensures begins { BeginsBy leaves.now result (edit_place edit.now) }
-    ensures next { BeginsBehind leaves.now (result + 1) (edit_place edit.now) }
+    ensures begins { BeginsBy leaves.now result (store_place edit.now) }
+    ensures next { BeginsBehind leaves.now (result + 1) (store_place edit.now) }
 {
     leaf_for(leaves, from, edit.table, edit.key.as_slice())
 }
 
 /// How many edits fall into a leaf, of which the first does.
-fn edits_in(leaves: &[Leaf], at: usize, edits: &[&RowEdit]) -> usize
+fn edits_in(leaves: &[Leaf], at: usize, edits: &[&PlaceEdit]) -> usize
     requires in_bounds { at < length leaves.now }
     requires full { All (λ leaf. 0 < length leaf) leaves.now }
     requires some { 0 < length edits.now }
@@ -136,7 +144,7 @@ fn edits_in(leaves: &[Leaf], at: usize, edits: &[&RowEdit]) -> usize
 }
 
 /// The leaves that edits change, as they are after them.
-fn patches_of(alloc: Global, leaves: &[Leaf], edits: &[&RowEdit]) -> Result<Vec<Patch>, AllocError>
+fn patches_of(alloc: Global, leaves: &[Leaf], edits: &[&PlaceEdit]) -> Result<Vec<Patch>, AllocError>
     requires some { 0 < length leaves.now }
     requires leaves { AreLeaves leaves.now }
     requires rise { Rise (edits_behind edits.now) }
@@ -174,8 +182,8 @@ fn pieces_of(alloc: Global, leaf: &Leaf) -> Result<Vec<Leaf>, AllocError>
     Ok(pieces)
 }
 
-/// What edits make of the leaves. It changes none.
-pub fn stage(alloc: Global, leaves: &[Leaf], edits: &[&RowEdit]) -> Result<Staged, AllocError>
+/// What edits whose places rise make of the leaves. It changes none.
+fn stage(alloc: Global, leaves: &[Leaf], edits: &[&PlaceEdit]) -> Result<Staged, AllocError>
     requires leaves { AreLeaves leaves.now }
     requires rise { Rise (edits_behind edits.now) }
     ensures can { IfOk result (λ staged. CanBePut staged leaves.now) }
@@ -186,6 +194,21 @@ pub fn stage(alloc: Global, leaves: &[Leaf], edits: &[&RowEdit]) -> Result<Stage
         return Ok(Staged::Anew(pieces_of(alloc, &all)?));
     }
     Ok(Staged::Patches(patches_of(alloc, leaves, edits)?))
+}
+
+/// What edits in any order make of the leaves. It changes none.
+pub fn stage_edits(alloc: Global, leaves: &[Leaf], edits: &[PlaceEdit]) -> Result<Staged, AllocError>
+    requires { AreLeaves leaves.now }
+    ensures can { IfOk result (λ staged. CanBePut staged leaves.now) }
+    ensures rise { IfOk result (λ staged. T (is_sorted place_cmp (flat (after_staged staged leaves.now)))) }
+    ensures made { IfOk result (λ staged. bodies_in (after_staged staged leaves.now) ≡ fold edit_body (bodies_in leaves.now) edits.now) }
+{
+    if edits.is_empty() {
+        return Ok(Staged::Patches(Vec::new(alloc)));
+    }
+    let sorted = in_order(alloc, edits)?;
+    let staged = stage(alloc, leaves, sorted.as_slice())?;
+    Ok(staged)
 }
 
 /// Whether a leaf is to go, since it has no row left.
@@ -315,7 +338,7 @@ impl Near {
 #[inline(always)]
 fn row_if_at<'a>(leaves: &'a [Leaf], at: Near, table: u32, key: &[u8]) -> Option<&'a [u8]>
     requires { AreLeaves leaves.now }
-    ensures { IfSome result (λ row. get (rows_in leaves.now) (pos table, key.now) ≡ Some row.now) }
+    ensures { IfSome result (λ row. get (bodies_in leaves.now) (pos table, key.now) ≡ Some row.now) }
 {
     if at.leaf >= leaves.len() {
         return None;
@@ -331,7 +354,7 @@ fn row_if_at<'a>(leaves: &'a [Leaf], at: Near, table: u32, key: &[u8]) -> Option
 /// The row at a place, if it is the one there or the one behind it.
 fn row_beside<'a>(leaves: &'a [Leaf], near: &mut Near, table: u32, key: &[u8]) -> Option<&'a [u8]>
     requires { AreLeaves leaves.now }
-    ensures { IfSome result (λ row. get (rows_in leaves.now) (pos table, key.now) ≡ Some row.now) }
+    ensures { IfSome result (λ row. get (bodies_in leaves.now) (pos table, key.now) ≡ Some row.now) }
 {
     let next = near.next();
     if let Some(row) = row_if_at(leaves, *near, table, key) {
@@ -347,7 +370,7 @@ fn row_beside<'a>(leaves: &'a [Leaf], near: &mut Near, table: u32, key: &[u8]) -
 fn row_at<'a>(leaves: &'a [Leaf], near: &mut Near, table: u32, key: &[u8]) -> Option<&'a [u8]>
     requires leaves { AreLeaves leaves.now }
     requires some { 0 < length leaves.now }
-    ensures { option_map (λ row. row.now) result ≡ get (rows_in leaves.now) (pos table, key.now) }
+    ensures { option_map (λ row. row.now) result ≡ get (bodies_in leaves.now) (pos table, key.now) }
 {
     let place = leaf_near(leaves, near.leaf, table, key);
     let leaf = &leaves[place];
@@ -374,7 +397,7 @@ pub fn find_row(
     key: &[u8],
 ) -> Result<Option<Vec<u8>>, AllocError>
     requires { AreLeaves leaves.now }
-    ensures { IfOk result (λ row. optional_bytes row ≡ get (rows_in leaves.now) (pos table, key.now)) }
+    ensures { IfOk result (λ row. optional_bytes row ≡ get (bodies_in leaves.now) (pos table, key.now)) }
 {
     if let Some(row) = row_beside(leaves, near, table, key) {
         return Ok(Some(Vec::from_slice(alloc, row)?));
@@ -391,7 +414,7 @@ pub fn find_row(
 /// Appends the rows of a table in a leaf.
 fn list_leaf(
     alloc: Global,
-    rows: &mut Vec<StoredRow>,
+    rows: &mut Vec<StoredBody>,
     leaf: &Leaf,
     table: u32,
 ) -> Result<(), AllocError>
@@ -399,9 +422,9 @@ fn list_leaf(
 {
     for at in 0..leaf.len() {
         if leaf.table(at) == table {
-            rows.push(StoredRow {
+            rows.push(StoredBody {
                 key: Vec::from_slice(alloc, leaf.key(at))?,
-                row: Vec::from_slice(alloc, leaf.row(at))?,
+                body: Vec::from_slice(alloc, leaf.row(at))?,
             })?;
         }
     }
@@ -409,7 +432,7 @@ fn list_leaf(
 }
 
 /// The rows of a table.
-pub fn list_rows(alloc: Global, leaves: &[Leaf], table: u32) -> Result<Vec<StoredRow>, AllocError>
+pub fn list_rows(alloc: Global, leaves: &[Leaf], table: u32) -> Result<Vec<StoredBody>, AllocError>
     ensures { IfOk result (λ rows. pairs_of rows.items ≡ in_table (pos table) (flat leaves.now)) }
 {
     let mut rows = Vec::new(alloc);

@@ -4,17 +4,17 @@ ghost use Rattle.std.specs.Prelude.{◌≡◌, ◌≤◌, ◌<◌, ◌++◌, T, 
 ghost use Rattle.std.specs.FinMap.{is_sorted};
 ghost use Rattle.cs_store.specs.Contents.{place_cmp};
 ghost use Rattle.cs_store.specs.Written.{optional_bytes};
-ghost use Rattle.cs_store.specs.Leaves.{IsBehind, IsMerged, Rise, edit_place, edited, edits_behind, written};
+ghost use Rattle.cs_map_store.specs.Leaves.{IsBehind, IsMerged, Rise, store_place, edited, edits_behind, written};
 
-use crate::RowEdit;
+use cs_store::PlaceEdit;
 use crate::leaf::Leaf;
 use std::alloc::{AllocError, Global};
 use std::cmp::Ordering;
 
 /// Where a leaf goes on behind the place of an edit, which stands or would stand at `at`.
-fn behind(leaf: &Leaf, at: usize, edit: &RowEdit) -> usize
+fn behind(leaf: &Leaf, at: usize, edit: &PlaceEdit) -> usize
     requires { at ≤ length leaf.now }
-    ensures { IsBehind leaf.now at (edit_place edit.now) result }
+    ensures { IsBehind leaf.now at (store_place edit.now) result }
 {
     if at < leaf.len() && leaf.compare(at, edit.table, edit.key.as_slice()) == Ordering::Equal {
         at + 1
@@ -24,10 +24,10 @@ fn behind(leaf: &Leaf, at: usize, edit: &RowEdit) -> usize
 }
 
 /// Appends the row that an edit sets, if it sets one.
-fn push_edit(merged: &mut Leaf, edit: &RowEdit) -> Result<(), AllocError>
-    ensures { OnOk result (merged.new ≡ merged.old ++ written (edit_place edit.now) (optional_bytes edit.now.row)) }
+fn push_edit(merged: &mut Leaf, edit: &PlaceEdit) -> Result<(), AllocError>
+    ensures { OnOk result (merged.new ≡ merged.old ++ written (store_place edit.now) (optional_bytes edit.now.body)) }
 {
-    match &edit.row {
+    match &edit.body {
         Some(row) => merged.push(edit.table, edit.key.as_slice(), row.as_slice()),
         None => Ok(()),
     }
@@ -38,7 +38,7 @@ fn merge_edit(
     merged: &mut Leaf,
     leaf: &Leaf,
     from: usize,
-    edit: &RowEdit,
+    edit: &PlaceEdit,
 ) -> Result<usize, AllocError>
     requires from { from ≤ length leaf.now }
     requires sorted { T (is_sorted place_cmp leaf.now) }
@@ -52,7 +52,7 @@ fn merge_edit(
 }
 
 /// The rows of a leaf after edits, in memory of their own.
-pub fn merged(alloc: Global, leaf: &Leaf, edits: &[&RowEdit]) -> Result<Leaf, AllocError>
+pub fn merged(alloc: Global, leaf: &Leaf, edits: &[&PlaceEdit]) -> Result<Leaf, AllocError>
     requires sorted { T (is_sorted place_cmp leaf.now) }
     requires rise { Rise (edits_behind edits.now) }
     ensures { IfOk result (λ merged. merged ≡ fold edited leaf.now (edits_behind edits.now)) }

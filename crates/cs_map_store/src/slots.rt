@@ -6,11 +6,11 @@ ghost use Rattle.std.specs.Vec.{vec_len, vec_capacity};
 ghost use Rattle.std.specs.List.{All};
 ghost use Rattle.std.specs.FinMap as finite;
 ghost use Rattle.std.specs.BTreeMap.{get, get_by};
-ghost use Rattle.cs_store.specs.Written.{optional_bytes, with_row};
-ghost use Rattle.cs_store.specs.Slots.{SlotKey, key_cmp, place_of, shown, write_to, meta_write};
-ghost use Rattle.cs_store.specs.Steps.{step_write, step_keys, left_empty, is_empty_slot, HasSlots, HasSlot, IsEmptyOnlyAt};
+ghost use Rattle.cs_store.specs.Written.{optional_bytes, with_body};
+ghost use Rattle.cs_map_store.specs.Slots.{SlotKey, key_cmp, place_of, shown, write_to, meta_write};
+ghost use Rattle.cs_map_store.specs.Steps.{step_write, step_keys, left_empty, is_empty_slot, HasSlots, HasSlot, IsEmptyOnlyAt};
 
-use crate::{Batch, MetaEdit};
+use cs_store::{Batch, MetaEdit};
 use std::alloc::{AllocError, Global};
 use std::collections::BTreeMap;
 
@@ -26,7 +26,8 @@ pub struct Step {
     value: Option<Vec<u8>>,
 }
 
-pub fn copied(alloc: Global, value: &Option<Vec<u8>>) -> Result<Option<Vec<u8>>, AllocError>
+/// A copy of the bytes, if there are any.
+fn copied(alloc: Global, value: &Option<Vec<u8>>) -> Result<Option<Vec<u8>>, AllocError>
     ensures { IfOk result (λ v. optional_bytes v ≡ optional_bytes value.now) }
 {
     match value {
@@ -139,7 +140,7 @@ fn sweep_keys(slots: &mut Slots, keys: &[SlotKey])
 /// Writes a slot that is there, or clears it.
 fn write_slot(slots: &mut Slots, key: &SlotKey, value: Option<Vec<u8>>)
     requires { IsSome value → HasSlot slots.old key.now }
-    ensures shown { shown slots.new.entries ≡ with_row (shown slots.old.entries) (place_of key.now) (optional_bytes value) }
+    ensures shown { shown slots.new.entries ≡ with_body (shown slots.old.entries) (place_of key.now) (optional_bytes value) }
     ensures kept { (k : SlotKey) → HasSlot slots.old k → HasSlot slots.new k }
     ensures empty { (ks : List SlotKey) → IsEmptyOnlyAt (key.now ∷ ks) slots.old
         → IsEmptyOnlyAt (left_empty value key.now ks) slots.new }

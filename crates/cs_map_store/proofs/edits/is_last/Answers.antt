@@ -1,10 +1,10 @@
 use Rattle.std.proofs.Common.{◌≡◌, ◌+◌, ◌∷◌, ◌∙◌, not, drop, ap, sym, arith}
 use Rattle.std.specs.Ordering.{is_eq}
 use Rattle.std.proofs.lemmas.List.{drop_more, length-map}
-use Rattle.cs_store.specs.Leaves.{edits_behind, is_last_of}
-use Rattle.cs_store.proofs.Leafing.{behind_drop}
-use Rattle.cs_store.proofs.Ordered.{last_none}
-use Rattle.cs_store.proofs.edits.is_last.Goals as goal
+use Rattle.cs_map_store.specs.Leaves.{edits_behind, is_last_of}
+use Rattle.cs_map_store.proofs.Leafing.{behind_drop}
+use Rattle.cs_map_store.proofs.Ordered.{last_none}
+use Rattle.cs_map_store.proofs.edits.is_last.Goals as goal
 
 pub returns-then-at-edits : goal.returns-then-at-edits
 returns-then-at-edits c = last_none (edits_behind c.args.edits.now) c.args.at (omega (arith, length-map c.args.edits.now (λ edit. edit.now), c.if-at-edits.true))

@@ -1,7 +1,7 @@
 use Rattle.std.proofs.Common.{◌-◌, ◌∙◌, arith, sym}
-use Rattle.cs_store.specs.Leaves.{edits_behind}
-use Rattle.cs_store.proofs.Ordered.{first_rises, less_if, rise_more}
-use Rattle.cs_store.proofs.edits.rise.Goals as goal
+use Rattle.cs_map_store.specs.Leaves.{edits_behind}
+use Rattle.cs_map_store.proofs.Ordered.{first_rises, less_if, rise_more}
+use Rattle.cs_map_store.proofs.edits.rise.Goals as goal
 
 pub loop-at-init : goal.loop-at-init
 loop-at-init c = first_rises (edits_behind c.args.edits.now)

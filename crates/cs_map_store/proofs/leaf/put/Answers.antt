@@ -1,8 +1,8 @@
 use Rattle.std.proofs.Common.{◌≡◌, ◌++◌, arith, ap, length, ◌∙◌}
 use Rattle.std.proofs.lemmas.Grind.{common_steps}
-use Rattle.cs_store.specs.declared.leaf.Spot.{Spot}
-use Rattle.cs_store.proofs.Packing.{entries_more}
-use Rattle.cs_store.proofs.leaf.put.Goals as goal
+use Rattle.cs_map_store.specs.declared.leaf.Spot.{Spot}
+use Rattle.cs_map_store.proofs.Packing.{entries_more}
+use Rattle.cs_map_store.proofs.leaf.put.Goals as goal
 
 pub returns-clause-ok : goal.returns-clause-ok
 returns-clause-ok c =

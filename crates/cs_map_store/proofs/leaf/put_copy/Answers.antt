@@ -1,7 +1,7 @@
 use Rattle.std.proofs.Common.{◌+◌, ◌-◌, arith, refl}
-use Rattle.cs_store.specs.declared.leaf.Spot.{Spot}
-use Rattle.cs_store.proofs.Packing.{entries_copied}
-use Rattle.cs_store.proofs.leaf.put_copy.Goals as goal
+use Rattle.cs_map_store.specs.declared.leaf.Spot.{Spot}
+use Rattle.cs_map_store.proofs.Packing.{entries_copied}
+use Rattle.cs_map_store.proofs.leaf.put_copy.Goals as goal
 
 pub returns-clause-ok : goal.returns-clause-ok
 returns-clause-ok c =

@@ -1,9 +1,9 @@
 use Rattle.std.proofs.Common.{◌≡◌, ◌+◌, ◌∙◌, ap, arith, []}
 use Rattle.std.proofs.lemmas.List.{get_or_default}
 use Rattle.std.specs.List.{splice}
-use Rattle.cs_store.specs.Leaves.{nth_leaf}
-use Rattle.cs_store.proofs.Leafing.{drained, flat_spliced, full_spliced}
-use Rattle.cs_store.proofs.leaves.cut_leaf.Goals as goal
+use Rattle.cs_map_store.specs.Leaves.{nth_leaf}
+use Rattle.cs_map_store.proofs.Leafing.{drained, flat_spliced, full_spliced}
+use Rattle.cs_map_store.proofs.leaves.cut_leaf.Goals as goal
 
 pub returns-clause-same : goal.returns-clause-same
 returns-clause-same c =

@@ -1,7 +1,7 @@
 use Rattle.std.proofs.Common.{◌≡◌, ◌<◌, length}
 use Rattle.std.specs.List.{All}
-use Rattle.cs_store.specs.Leaves.{flat}
-use Rattle.cs_store.proofs.leaves.cut_leaves.Given as goal
+use Rattle.cs_map_store.specs.Leaves.{flat}
+use Rattle.cs_map_store.proofs.leaves.cut_leaves.Given as goal
 
 abbrev pub invariant-loop-done : goal.invariant-loop-done
 invariant-loop-done l =

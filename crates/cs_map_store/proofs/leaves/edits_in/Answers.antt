@@ -1,8 +1,8 @@
 use Rattle.std.proofs.Common.{◌≡◌, ◌+◌, ◌∷◌, [], ◌++◌, take, drop, ap, sym, subst, ◌∙◌, arith, inr}
 use Rattle.std.proofs.lemmas.List.{drop_more, take_more, map-append}
-use Rattle.cs_store.specs.Leaves.{AreBefore, ReachLeaf, edits_behind}
-use Rattle.cs_store.proofs.Leafing.{before_none, before_push, behind_drop, behind_take}
-use Rattle.cs_store.proofs.leaves.edits_in.Goals as goal
+use Rattle.cs_map_store.specs.Leaves.{AreBefore, ReachLeaf, edits_behind}
+use Rattle.cs_map_store.proofs.Leafing.{before_none, before_push, behind_drop, behind_take}
+use Rattle.cs_map_store.proofs.leaves.edits_in.Goals as goal
 
 pub returns-then-next-leaves-clause-before : goal.returns-then-next-leaves-clause-before
 returns-then-next-leaves-clause-before c = before_none c.args.leaves.now (c.args.at + 1) _ (omega (arith, c.if-next-leaves.true, c.requires.in_bounds))

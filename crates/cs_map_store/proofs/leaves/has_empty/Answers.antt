@@ -2,8 +2,8 @@ use Rattle.std.proofs.Common.{◌<◌, ◌≡◌, take, length, sym, subst, ◌�
 use Rattle.std.specs.List.{All}
 use Rattle.std.proofs.lemmas.List.{take_more, take_all}
 use Rattle.std.proofs.lemmas.List.Elements.{All-push}
-use Rattle.cs_store.specs.declared.leaves.Patch.{Patch}
-use Rattle.cs_store.proofs.leaves.has_empty.Goals as goal
+use Rattle.cs_map_store.specs.declared.leaves.Patch.{Patch}
+use Rattle.cs_map_store.proofs.leaves.has_empty.Goals as goal
 
 pub loop-patch-preserved : goal.loop-patch-preserved
 loop-patch-preserved c =

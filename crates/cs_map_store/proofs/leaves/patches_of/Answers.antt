@@ -3,13 +3,13 @@ use Rattle.std.specs.FinMap.{is_sorted}
 use Rattle.std.proofs.lemmas.List.{drop_more, get_or_default, length-drop}
 use Rattle.std.proofs.lemmas.List.Elements.{All-push}
 use Rattle.cs_store.specs.Contents.{place_cmp}
-use Rattle.cs_store.specs.Entries.{Entry}
-use Rattle.cs_store.specs.Leaves.{AreBefore, ArePatches, ReachLeaf, Rise, edited, edits_behind, flat, nth_leaf, patched}
-use Rattle.cs_store.specs.declared.batch.RowEdit.{RowEdit}
-use Rattle.cs_store.specs.declared.leaves.Patch.{Patch}
-use Rattle.cs_store.proofs.Editing.{sorted_edits}
-use Rattle.cs_store.proofs.Leafing.{behind_drop, behind_take, reach_begins, leaf_sorted, rise_drop, rise_take, patch_more, length_patched, patched_push, drop_set, drop_drop, later, rest_of}
-use Rattle.cs_store.proofs.leaves.patches_of.Goals as goal
+use Rattle.cs_map_store.specs.Entries.{Entry}
+use Rattle.cs_map_store.specs.Leaves.{AreBefore, ArePatches, ReachLeaf, Rise, edited, edits_behind, flat, nth_leaf, patched}
+use Rattle.cs_store.specs.declared.batch.PlaceEdit.{PlaceEdit}
+use Rattle.cs_map_store.specs.declared.leaves.Patch.{Patch}
+use Rattle.cs_map_store.proofs.Editing.{sorted_edits}
+use Rattle.cs_map_store.proofs.Leafing.{behind_drop, behind_take, reach_begins, leaf_sorted, rise_drop, rise_take, patch_more, length_patched, patched_push, drop_set, drop_drop, later, rest_of}
+use Rattle.cs_map_store.proofs.leaves.patches_of.Goals as goal
 
 pub leaf_of-at-requires-clause-in_bounds : goal.leaf_of-at-requires-clause-in_bounds
 leaf_of-at-requires-clause-in_bounds c =
@@ -66,7 +66,7 @@ loop-start-preserved c =
     ap (λ k. edits_behind (take k (drop start edits))) n ∙ behind_take (drop start edits) count ∙ ap (take count) (behind_drop edits start) in
     let its : c.index-leaves-at.result ≡ nth_leaf leaves at = c.index-leaves-at.is ∙ get_or_default leaves at c.index-leaves-at.result [] less in
     let makes : c.in_ok-leaf.leaf ≡ fold edited (nth_leaf leaves at) (take count ws) = c.in_ok-leaf.ensures ∙ (λ i. fold edited (its i) (mine i)) in
-    let before : AreBefore leaves (at + 1) (take count ws) = subst (λ (vs : List RowEdit). AreBefore leaves (at + 1) (take count vs)) (ap edits_behind (rest_of edits start) ∙ behind_drop edits start) c.edits_in.ensures.before in
+    let before : AreBefore leaves (at + 1) (take count ws) = subst (λ (vs : List PlaceEdit). AreBefore leaves (at + 1) (take count vs)) (ap edits_behind (rest_of edits start) ∙ behind_drop edits start) c.edits_in.ensures.before in
     let rise : Rise ws = rise_drop (edits_behind edits) start c.requires.rise in
     let more = patch_more leaves now from at count c.index-edits-start.result.now ws (edits_behind (drop (start + 1) edits)) c.in_ok-leaf.leaf _ c.requires.leaves (length_patched old leaves) was.sorted was.rest
     bound.0 less c.leaf_of-at.ensures.begins is c.edits_in.ensures.bound.0 before rise makes was.made in

@@ -1,8 +1,8 @@
 use Rattle.std.proofs.Common.{◌≡◌, ◌-◌, ◌≤◌, ◌⊎◌, T, length, drop, fold}
 use Rattle.std.specs.FinMap.{is_sorted}
 use Rattle.cs_store.specs.Contents.{place_cmp}
-use Rattle.cs_store.specs.Leaves.{ArePatches, ReachLeaf, edited, edits_behind, flat, patched}
-use Rattle.cs_store.proofs.leaves.patches_of.Given as goal
+use Rattle.cs_map_store.specs.Leaves.{ArePatches, ReachLeaf, edited, edits_behind, flat, patched}
+use Rattle.cs_map_store.proofs.leaves.patches_of.Given as goal
 
 abbrev pub invariant-loop-start : goal.invariant-loop-start
 invariant-loop-start l = record {

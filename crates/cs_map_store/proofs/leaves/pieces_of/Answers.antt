@@ -1,6 +1,6 @@
 use Rattle.std.proofs.Common.{arith}
-use Rattle.cs_store.proofs.Leafing.{pieces_more}
-use Rattle.cs_store.proofs.leaves.pieces_of.Goals as goal
+use Rattle.cs_map_store.proofs.Leafing.{pieces_more}
+use Rattle.cs_map_store.proofs.leaves.pieces_of.Goals as goal
 
 pub loop-from-preserved : goal.loop-from-preserved
 loop-from-preserved c =

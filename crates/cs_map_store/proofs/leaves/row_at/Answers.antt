@@ -4,12 +4,12 @@ use Rattle.std.specs.Ordering.{is_eq}
 use Rattle.std.specs.FinMap.{find, is_sorted}
 use Rattle.std.proofs.lemmas.List.{get_or_default}
 use Rattle.cs_store.specs.Contents.{StorePlace, place_cmp}
-use Rattle.cs_store.specs.Entries.{Entry, nth}
-use Rattle.cs_store.specs.Leaves.{nth_leaf}
-use Rattle.cs_store.proofs.Showing.{equal_from}
-use Rattle.cs_store.proofs.Leafing.{find_in_leaf, find_there, find_nothing, leaf_sorted}
-use Rattle.cs_store.proofs.leaves.row_at.Goals as goal
-use Rattle.cs_store.proofs.leaves.row_at.Goals.{else-at-len-via-then-at-len+else-is_eq, else-at-len-via-else-at-len}
+use Rattle.cs_map_store.specs.Entries.{Entry, nth}
+use Rattle.cs_map_store.specs.Leaves.{nth_leaf}
+use Rattle.cs_map_store.proofs.Showing.{equal_from}
+use Rattle.cs_map_store.proofs.Leafing.{find_in_leaf, find_there, find_nothing, leaf_sorted}
+use Rattle.cs_map_store.proofs.leaves.row_at.Goals as goal
+use Rattle.cs_map_store.proofs.leaves.row_at.Goals.{else-at-len-via-then-at-len+else-is_eq, else-at-len-via-else-at-len}
 
 pub returns-then-is_eq : goal.returns-then-is_eq
 returns-then-is_eq c =

@@ -3,11 +3,11 @@ use Rattle.std.specs.Prelude.{pos}
 use Rattle.std.specs.declared.cmp.Ordering.TheVariants.{Equal}
 use Rattle.std.proofs.lemmas.List.{get_or_default}
 use Rattle.cs_store.specs.Contents.{StorePlace, place_cmp}
-use Rattle.cs_store.specs.Entries.{Entry, nth}
-use Rattle.cs_store.specs.Leaves.{nth_leaf}
-use Rattle.cs_store.proofs.Showing.{equal_from}
-use Rattle.cs_store.proofs.Leafing.{find_met}
-use Rattle.cs_store.proofs.leaves.row_if_at.Goals as goal
+use Rattle.cs_map_store.specs.Entries.{Entry, nth}
+use Rattle.cs_map_store.specs.Leaves.{nth_leaf}
+use Rattle.cs_map_store.proofs.Showing.{equal_from}
+use Rattle.cs_map_store.proofs.Leafing.{find_met}
+use Rattle.cs_map_store.proofs.leaves.row_if_at.Goals as goal
 
 pub returns-then-is_eq : goal.returns-then-is_eq
 returns-then-is_eq c =

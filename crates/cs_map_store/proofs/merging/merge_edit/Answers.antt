@@ -1,8 +1,8 @@
 use Rattle.std.proofs.Common.{ℕ, List, subst}
 use Rattle.std.specs.Prelude.{pos}
-use Rattle.cs_store.specs.Entries.{IsPlaceFor}
-use Rattle.cs_store.proofs.Editing.{merged_edit}
-use Rattle.cs_store.proofs.merging.merge_edit.Goals as goal
+use Rattle.cs_map_store.specs.Entries.{IsPlaceFor}
+use Rattle.cs_map_store.proofs.Editing.{merged_edit}
+use Rattle.cs_map_store.proofs.merging.merge_edit.Goals as goal
 
 pub returns-clause-merged : goal.returns-clause-merged
 returns-clause-merged c =

@@ -1,6 +1,6 @@
 use Rattle.std.proofs.Common.{◌≡◌, ◌≤◌, ◌++◌, length, drop, fold}
-use Rattle.cs_store.specs.Leaves.{edited, edits_behind}
-use Rattle.cs_store.proofs.merging.merged.Given as goal
+use Rattle.cs_map_store.specs.Leaves.{edited, edits_behind}
+use Rattle.cs_map_store.proofs.merging.merged.Given as goal
 
 abbrev pub invariant-loop-edit : goal.invariant-loop-edit
 invariant-loop-edit l =

@@ -1,7 +1,7 @@
 use Rattle.std.proofs.Common.{None, sym, ◌∙◌}
-use Rattle.cs_store.proofs.Changing.{made_shown, kept_by}
-use Rattle.cs_store.proofs.Filled.{one_more, same_slots, made_empty}
-use Rattle.cs_store.proofs.slots.make_slot.Goals as goal
+use Rattle.cs_map_store.proofs.Changing.{made_shown, kept_by}
+use Rattle.cs_map_store.proofs.Filled.{one_more, same_slots, made_empty}
+use Rattle.cs_map_store.proofs.slots.make_slot.Goals as goal
 
 pub returns-then-contains_key-clause-empty : goal.returns-then-contains_key-clause-empty
 returns-then-contains_key-clause-empty c = λ ks. one_more ks c.args.key.now c.args.slots.now

@@ -1,9 +1,9 @@
 use Rattle.std.proofs.Common.{◌≡◌, ◌+◌, [], take, take_all, refl, sym, subst, ◌∙◌, arith}
-use Rattle.cs_store.specs.Slots.{shown}
-use Rattle.cs_store.specs.Steps.{step_keys, HasSlots, IsEmptyOnlyAt}
-use Rattle.cs_store.proofs.Filled.{from_none, among_steps, has_more}
-use Rattle.cs_store.proofs.slots.make_slots.Goals as goal
-use Rattle.cs_store.proofs.slots.make_slots.Goals.{then-is_some+in_ok-make_slot, else-is_some}
+use Rattle.cs_map_store.specs.Slots.{shown}
+use Rattle.cs_map_store.specs.Steps.{step_keys, HasSlots, IsEmptyOnlyAt}
+use Rattle.cs_map_store.proofs.Filled.{from_none, among_steps, has_more}
+use Rattle.cs_map_store.proofs.slots.make_slots.Goals as goal
+use Rattle.cs_map_store.proofs.slots.make_slots.Goals.{then-is_some+in_ok-make_slot, else-is_some}
 
 pub loop-step-init : goal.loop-step-init
 loop-step-init c = record { same = refl; has = λ k d h is. absurd (omega (arith, h)); empty = from_none (step_keys c.args.steps.now) c.args.slots.now }

@@ -1,7 +1,7 @@
 use Rattle.std.proofs.Common.{◌≡◌, [], take}
-use Rattle.cs_store.specs.Slots.{shown}
-use Rattle.cs_store.specs.Steps.{step_keys, HasSlots, IsEmptyOnlyAt}
-use Rattle.cs_store.proofs.slots.make_slots.Given as goal
+use Rattle.cs_map_store.specs.Slots.{shown}
+use Rattle.cs_map_store.specs.Steps.{step_keys, HasSlots, IsEmptyOnlyAt}
+use Rattle.cs_map_store.proofs.slots.make_slots.Given as goal
 
 abbrev pub invariant-loop-step : goal.invariant-loop-step
 invariant-loop-step l = record {

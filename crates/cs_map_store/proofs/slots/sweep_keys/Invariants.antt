@@ -1,7 +1,7 @@
 use Rattle.std.proofs.Common.{◌≡◌, drop}
-use Rattle.cs_store.specs.Slots.{shown}
-use Rattle.cs_store.specs.Steps.{IsEmptyOnlyAt}
-use Rattle.cs_store.proofs.slots.sweep_keys.Given as goal
+use Rattle.cs_map_store.specs.Slots.{shown}
+use Rattle.cs_map_store.specs.Steps.{IsEmptyOnlyAt}
+use Rattle.cs_map_store.proofs.slots.sweep_keys.Given as goal
 
 abbrev pub invariant-loop-key : goal.invariant-loop-key
 invariant-loop-key l = record {

@@ -1,7 +1,7 @@
 use Rattle.std.proofs.Common.{None, sym, ◌∙◌}
-use Rattle.cs_store.proofs.Changing.{swept_shown}
-use Rattle.cs_store.proofs.Filled.{filled_at, filled_there, empty_there, not_empty_there}
-use Rattle.cs_store.proofs.slots.sweep_slot.Goals as goal
+use Rattle.cs_map_store.proofs.Changing.{swept_shown}
+use Rattle.cs_map_store.proofs.Filled.{filled_at, filled_there, empty_there, not_empty_there}
+use Rattle.cs_map_store.proofs.slots.sweep_slot.Goals as goal
 
 pub returns-then-is_empty : goal.returns-then-is_empty
 returns-then-is_empty c = record {

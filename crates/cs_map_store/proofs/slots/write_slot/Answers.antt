@@ -1,10 +1,10 @@
 use Rattle.std.proofs.Common.{refl, sym, subst, IsSome, ap, ◌∙◌, ◌∷◌}
 use Rattle.std.specs.BTreeMap.{BTreeMap}
-use Rattle.cs_store.specs.Slots.{SlotKey, Slot, shown}
-use Rattle.cs_store.specs.Steps.{left_empty, IsEmptyOnlyAt}
-use Rattle.cs_store.proofs.Filled.{left_written, left_unwritten}
-use Rattle.cs_store.proofs.Changing.{written_shown, kept_by, unwritten_shown}
-use Rattle.cs_store.proofs.slots.write_slot.Goals as goal
+use Rattle.cs_map_store.specs.Slots.{SlotKey, Slot, shown}
+use Rattle.cs_map_store.specs.Steps.{left_empty, IsEmptyOnlyAt}
+use Rattle.cs_map_store.proofs.Filled.{left_written, left_unwritten}
+use Rattle.cs_map_store.proofs.Changing.{written_shown, kept_by, unwritten_shown}
+use Rattle.cs_map_store.proofs.slots.write_slot.Goals as goal
 
 pub returns-in-Some-clause-shown : goal.returns-in-Some-clause-shown
 returns-in-Some-clause-shown c = written_shown c.args.slots.now (c.get_mut.follows.lender c.args.value) c.args.key.now c.args.value ((c.get_mut.follows.holds c.args.value).3 (subst IsSome c.in-Some.ensures.value refl))

@@ -1,8 +1,8 @@
 use Rattle.std.proofs.Common.{length, ap, arith}
 use Rattle.std.specs.Vec.Iter.{into_iter_items}
-use Rattle.cs_store.proofs.Changing.{after_step, has_rest}
-use Rattle.cs_store.proofs.Filled.{noted_step, set_step}
-use Rattle.cs_store.proofs.slots.write_steps.Goals as goal
+use Rattle.cs_map_store.proofs.Changing.{after_step, has_rest}
+use Rattle.cs_map_store.proofs.Filled.{noted_step, set_step}
+use Rattle.cs_map_store.proofs.slots.write_steps.Goals as goal
 
 pub loop-step-preserved-then-clears : goal.loop-step-preserved-then-clears
 loop-step-preserved-then-clears c =

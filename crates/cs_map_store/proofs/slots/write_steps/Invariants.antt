@@ -1,9 +1,9 @@
 use Rattle.std.proofs.Common.{◌≡◌, ◌≤◌, ◌+◌, ◌++◌, length, map, fold}
 use Rattle.std.specs.Vec.{vec_len, vec_capacity}
 use Rattle.std.specs.Vec.Iter.{into_iter_items}
-use Rattle.cs_store.specs.Slots.{shown, write_to}
-use Rattle.cs_store.specs.Steps.{step_write, step_keys, HasSlots, IsEmptyOnlyAt}
-use Rattle.cs_store.proofs.slots.write_steps.Given as goal
+use Rattle.cs_map_store.specs.Slots.{shown, write_to}
+use Rattle.cs_map_store.specs.Steps.{step_write, step_keys, HasSlots, IsEmptyOnlyAt}
+use Rattle.cs_map_store.proofs.slots.write_steps.Given as goal
 
 abbrev pub invariant-loop-step : goal.invariant-loop-step
 invariant-loop-step l = record {

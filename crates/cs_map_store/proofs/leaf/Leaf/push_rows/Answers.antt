@@ -1,7 +1,7 @@
 use Rattle.std.proofs.Common.{ap, arith, List, ◌∙◌, ◌++◌, ◌∷◌, [], refl}
-use Rattle.cs_store.specs.Entries.{Entry, nth}
-use Rattle.cs_store.proofs.Packing.{one_more}
-use Rattle.cs_store.proofs.leaf.Leaf.push_rows.Goals as goal
+use Rattle.cs_map_store.specs.Entries.{Entry, nth}
+use Rattle.cs_map_store.proofs.Packing.{one_more}
+use Rattle.cs_map_store.proofs.leaf.Leaf.push_rows.Goals as goal
 
 pub loop-at-preserved : goal.loop-at-preserved
 loop-at-preserved c =

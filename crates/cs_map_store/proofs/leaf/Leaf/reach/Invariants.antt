@@ -1,8 +1,8 @@
 use Rattle.std.proofs.Common.{◌≡◌, ◌-◌, ◌≤◌, ◌⊎◌, true, pos, length}
 use Rattle.std.specs.Ordering.{is_lt}
 use Rattle.cs_store.specs.Contents.{place_cmp}
-use Rattle.cs_store.specs.Entries.{nth}
-use Rattle.cs_store.proofs.leaf.Leaf.reach.Given as goal
+use Rattle.cs_map_store.specs.Entries.{nth}
+use Rattle.cs_map_store.proofs.leaf.Leaf.reach.Given as goal
 
 abbrev pub invariant-loop-high : goal.invariant-loop-high
 invariant-loop-high l = record {

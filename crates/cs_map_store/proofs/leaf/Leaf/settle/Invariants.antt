@@ -1,6 +1,6 @@
 use Rattle.std.proofs.Common.{◌-◌, ◌≤◌, pos, length}
-use Rattle.cs_store.specs.Entries.{IsPlaceBetween}
-use Rattle.cs_store.proofs.leaf.Leaf.settle.Given as goal
+use Rattle.cs_map_store.specs.Entries.{IsPlaceBetween}
+use Rattle.cs_map_store.proofs.leaf.Leaf.settle.Given as goal
 
 abbrev pub invariant-loop-low : goal.invariant-loop-low
 invariant-loop-low l = record {
