@@ -2,7 +2,7 @@
 //! alone: each of its calls says so, but for `misread`, by which a caller counts that what it gave can't have been written.
 //! What it took for a refused commit it gives back. A commit of one row or of one pending change costs the logarithm of those
 //! that are there. The crate stands on `cs_store` and on the order of keys (`cs_order`).
-//! Its tests stand in `cs_map_store_tests`.
+//! Its tests stand in `cs_store_tests`.
 #![tactic(auto)]
 
 mod edits;
