@@ -41,9 +41,9 @@ one_spelling laws taken again one tables some others is_catalog are also is =
     (its_form laws taken again tables others (groups_of some) is_catalog also it.0 (it.1 ∙ is))
 
 pub one_body : ChangesetLaws → NormalIsTaken → NormalAgain → OneNormalForm → OneBody
-one_body laws taken again one tables (Changes some) (Changes others) is_catalog fits also is =
+one_body laws taken again one tables (Changes some) (Changes others) is_catalog are also is =
     let spelled : normal_spelling some ≡ normal_spelling others = cc in
-    ap (λ (c : List TableChanges). Changes c) (one_spelling laws taken again one tables some others is_catalog fits.changes also.changes spelled)
+    ap (λ (c : List TableChanges). Changes c) (one_spelling laws taken again one tables some others is_catalog are also spelled)
 
 -- bytes with a fault spell none
 pub none_at_fault : ChangesetLaws → NormalIsTaken → (tables : List TableDef) (bytes : List ℕ) (fault : Fault) (offset : ℕ) → IsChangesetFault fault offset bytes → ReadsChanges tables bytes (Err NoBody)
@@ -82,11 +82,13 @@ pub refused_body : (tables : List TableDef) (kind : ℕ) (bytes : List ℕ) (fau
 refused_body tables kind bytes Memory none = tt
 refused_body tables kind bytes NoBody none = none_stored tables kind bytes none
 
--- what is read by one is all that there is
-pub only_body : OneBody → (tables : List TableDef) (bytes : List ℕ) (result : Result Body BodyFault) → AreTables tables → ReadsBody tables bytes result → (body : Body) → FitsBody tables body → bytes ≡ stored_body body → (result ≡ Ok body) ⊎ (result ≡ Err Memory)
-only_body one tables bytes (Ok read) is_catalog (fits, is) body also stored = inl (ap (λ (b : Body). Ok b) (one tables read body is_catalog fits also (sym is ∙ stored)))
-only_body one tables bytes (Err Memory) is_catalog none body also stored = inr refl
-only_body one tables bytes (Err NoBody) is_catalog none body also stored = absurd (none body also stored)
+-- this body is read, or memory is wanting
+abbrev ReadIs : Result Body BodyFault → Body → Type 0
+ReadIs result body = (result ≡ Ok body) ⊎ (result ≡ Err Memory)
+
+-- what was read is all that there is
+pub only_body : OneBody → (tables : List TableDef) (bytes : List ℕ) (read : Body) → AreTables tables → AreChangesOf tables (changes_of_body read) → bytes ≡ stored_body read → (body : Body) → FitsBody tables body → bytes ≡ stored_body body → ReadIs (Ok read) body
+only_body one tables bytes read is_catalog are is body also stored = inl (ap (λ (b : Body). Ok b) (one tables read body is_catalog are also.changes (sym is ∙ stored)))
 
 -- what a fault on the way is told as
 pub told_as : (tables : List TableDef) (bytes : List ℕ) (result : Result (List TableChanges) BodyFault) (told : BodyFault) → IsErr result → IsErrAnd result (λ e. e ≡ told) → ReadsChanges tables bytes (Err told) → ReadsChanges tables bytes result

@@ -5,9 +5,9 @@ use Rattle.cs_value.specs.declared.catalog.TableDef.{TableDef}
 use Rattle.cs_normal.specs.Normal.{IsNormalChangeset}
 use Rattle.cs_normal.specs.State.{State, AreApplied, AreSame, IsDefinedOn, IsStateOf}
 use Rattle.cs_normal.specs.declared.normal.TableChanges.{TableChanges}
-use Rattle.cs_log.specs.Entry.{entry_changes}
+use Rattle.cs_log.specs.Entry.{changes_of_body, entry_changes}
 use Rattle.cs_log.specs.Log.{IsLog, IsNextEntry, catalog_at, empty_state, entries_between, state_of, tables_at}
-use Rattle.cs_log.specs.Stored.{FitsBody, stored_body}
+use Rattle.cs_log.specs.Stored.{AreChangesOf, stored_body}
 use Rattle.cs_log.specs.declared.body.Body.{Body}
 use Rattle.cs_log.specs.declared.entry.LogEntry.{LogEntry}
 
@@ -79,12 +79,12 @@ NextOrNot =
     → IsNormalChangeset (entry_changes entry)
     → IsNextEntry opening log entry ⊎ (IsNextEntry opening log entry → ⊥)
 
--- no two bodies that fit are stored as the same bytes
+-- no two bodies of a catalog's tables are stored as the same bytes
 abbrev pub OneBody : Type 0
 OneBody =
     (tables : List TableDef) (some other : Body)
     → AreTables tables
-    → FitsBody tables some
-    → FitsBody tables other
+    → AreChangesOf tables (changes_of_body some)
+    → AreChangesOf tables (changes_of_body other)
     → stored_body some ≡ stored_body other
     → some ≡ other
