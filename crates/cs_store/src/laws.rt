@@ -1,6 +1,7 @@
 //! The laws of stores, each the contract of a function that does nothing.
 
 ghost use Rattle.cs_store.specs.Laws.{CommitCanBe, CommitsThenReads, CountsLog, FailsToCommit, KeepsNoGaps, ListsTwoRows, NamesApart, OneCommit, OneListing, OneRefusal, OnlyMemory, ReadsAlike, ReadsThenCommits, ReadsThenReads, StartsWithNoGaps, WritesLog, WritesMeta, WritesPending, WritesRows};
+ghost use Rattle.cs_store.specs.StateLaws.{EditsLeadToState, HoldsOneState};
 
 use crate::RowStore;
 
@@ -37,6 +38,13 @@ pub fn commits()
     ensures log { WritesLog }
     ensures count { CountsLog }
     ensures can_be { CommitCanBe }
+{}
+
+/// A store holds one state of the tables at most, and a commit of the edits of one state to another leaves a store that holds
+/// the other.
+pub fn states()
+    ensures one { HoldsOneState }
+    ensures edited { EditsLeadToState }
 {}
 
 /// A new store's log has no gaps, and a commit keeps it so.
