@@ -13,7 +13,7 @@ use cs_apply::{Applied, ApplyFault, apply};
 use cs_blob::{BlobGroup, put_entry};
 use cs_change::{ChangesBuf, Changeset, put_header};
 use cs_conflict::{Conflict, Resolution};
-use cs_store::MapStore;
+use cs_map_store::MapStore;
 use cs_value::Catalog;
 use std::alloc::{AllocError, Global};
 use std::rt::Clock;

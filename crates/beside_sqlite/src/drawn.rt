@@ -4,8 +4,9 @@ use cs_apply::apply;
 use cs_change::Changeset;
 use cs_changeset::read;
 use cs_conflict::{Conflict, Resolution};
+use cs_map_store::MapStore;
 use cs_normal::catalog_of;
-use cs_store::{Batch, MapStore, RowEdit, RowStore};
+use cs_store::{Batch, PlaceEdit, RowStore};
 use cs_value::Catalog;
 use std::alloc::{AllocError, AllocFailed, Global};
 use std::slice;
@@ -69,15 +70,16 @@ pub fn answer_at(answers: &[u8], number: usize) -> Resolution {
     }
 }
 
-fn batch_of(alloc: Global, rows: Vec<RowEdit>) -> Batch {
+fn batch_of(alloc: Global, rows: Vec<PlaceEdit>) -> Batch {
     Batch {
         rows,
+        pending: Vec::new(alloc),
         meta: Vec::new(alloc),
         log: None,
     }
 }
 
-pub fn commit_edits(alloc: Global, store: &mut MapStore, edits: Vec<RowEdit>) -> Result<(), Wrong> {
+pub fn commit_edits(alloc: Global, store: &mut MapStore, edits: Vec<PlaceEdit>) -> Result<(), Wrong> {
     match store.commit(&batch_of(alloc, edits)) {
         Ok(()) => Ok(()),
         Err(_) => Err(Wrong::Memory),
@@ -123,7 +125,7 @@ fn put_table(
         out.push(b' ')?;
         put_hex(alloc, row.key.as_slice(), out)?;
         out.push(b' ')?;
-        put_hex(alloc, row.row.as_slice(), out)?;
+        put_hex(alloc, row.body.as_slice(), out)?;
         out.push(b'\n')?;
     }
     Ok(())

@@ -4,7 +4,8 @@ use cs_apply::*;
 use cs_change::Changeset;
 use cs_changeset::read;
 use cs_conflict::{Conflict, Kind, Resolution};
-use cs_store::{Batch, MapStore, RowEdit, RowStore, Trip};
+use cs_map_store::MapStore;
+use cs_store::{Batch, PlaceEdit, RowStore, Trip};
 use cs_value::{Catalog, Items, Memory, TableDef, Text};
 use std::alloc::Global;
 use std::test::Fail;
@@ -66,13 +67,14 @@ fn group(
 fn store(alloc: Global) -> Result<MapStore, Memory> {
     let mut store = MapStore::new(alloc);
     let mut rows = Vec::new(alloc);
-    rows.push(RowEdit {
+    rows.push(PlaceEdit {
         table: 0,
         key: Vec::from_slice(alloc, &[1, 0, 0, 0, 0, 0, 0, 0, 1])?,
-        row: Some(row(alloc, 1, b"v1")?),
+        body: Some(row(alloc, 1, b"v1")?),
     })?;
     let batch = Batch {
         rows,
+        pending: Vec::new(alloc),
         meta: Vec::new(alloc),
         log: None,
     };
@@ -97,10 +99,10 @@ fn put_key_number(key: &[u8], out: &mut Vec<u8>) -> Result<(), Memory> {
 }
 
 /// An edit as its table, its key's number, and its text.
-fn put_edit(edit: &RowEdit, out: &mut Vec<u8>) -> Result<(), Memory> {
+fn put_edit(edit: &PlaceEdit, out: &mut Vec<u8>) -> Result<(), Memory> {
     put_digit(edit.table.to_be_bytes()[3], out)?;
     put_key_number(edit.key.as_slice(), out)?;
-    match &edit.row {
+    match &edit.body {
         Some(row) => {
             out.push(b'=')?;
             if let Some((_, text)) = row.as_slice().split_at_checked(11) {
@@ -252,14 +254,15 @@ fn blob_left(alloc: Global, case: &Answered<'_>) -> Result<Vec<u8>, ApplyFault> 
     let row = joined(alloc, case.row)?;
     let mut rows = Vec::new(alloc);
     if !row.is_empty() {
-        rows.push(RowEdit {
+        rows.push(PlaceEdit {
             table: case.table,
             key: Vec::from_slice(alloc, ONE)?,
-            row: Some(row),
+            body: Some(row),
         })?;
     }
     store.commit(&Batch {
         rows,
+        pending: Vec::new(alloc),
         meta: Vec::new(alloc),
         log: None,
     })?;
@@ -357,7 +360,7 @@ fn image<S: RowStore>(alloc: Global, store: &mut S) -> Result<Vec<u8>, ApplyFaul
     let mut out = Vec::new(alloc);
     for row in &store.list(0)? {
         out.extend_from_slice(row.key.as_slice())?;
-        out.extend_from_slice(row.row.as_slice())?;
+        out.extend_from_slice(row.body.as_slice())?;
     }
     Ok(out)
 }

@@ -1,24 +1,29 @@
 -- The laws of stores: one answer for each input, and what a commit leaves at each place.
-use Rattle.std.proofs.Common.{◌≡◌, ℕ, ◌&&◌, cond, List, [], ◌∷◌, Option, Some, None, is_some, refl, sym, ap, ◌∙◌, fold, arith, Ok, Err, inr, ◌+◌}
-use Rattle.std.specs.Prelude.{pos, nat_eq}
+use Rattle.std.proofs.Common.{◌≡◌, ℕ, ◌&&◌, cond, List, [], ◌∷◌, Option, Some, None, is_some, refl, sym, ap, ◌∙◌, fold, arith, Result, Ok, Err, IsOk, OnOk, OnErr, IsSome, true, inl, inr, ⊎_elim, subst, ◌+◌, ◌<◌}
+use Rattle.std.specs.Prelude.{pos, nat_eq, false, ◌↔◌}
+use Rattle.std.proofs.Math.Dec.{eqb}
+use borrow.Author.Tests.{eqb-true, eqb-false}
 use Rattle.std.specs.declared.cmp.Ordering.{Ordering}
 use Rattle.std.specs.declared.cmp.Ordering.TheVariants.{Less, Equal, Greater}
 use Rattle.std.specs.Ordering.{is_eq, eq_by_cmp, int_cmp, ordering_then}
-use Rattle.std.specs.FinMap.{empty, get, len, insert, get-empty, get-insert, len-insert}
+use Rattle.std.specs.FinMap.{empty, get, len, insert, get-empty, get-insert, len-insert, len-empty}
 use Rattle.std.specs.FinMap.Entries.{same_entries}
 use Rattle.std.proofs.lemmas.Cmp.{int_cmp_total, nat_list_cmp_total}
 use Rattle.std.proofs.lemmas.Map.Lookups.{exact_bytes}
 use Rattle.cs_order.specs.Order.{by_bytes, same_bytes}
-use Rattle.cs_store.specs.Contents.{Contents, Rows, Meta, place_cmp, name_text}
-use Rattle.cs_store.specs.Written.{edit_row, edit_meta, appended, optional_bytes}
+use Rattle.cs_store.specs.Contents.{Contents, Log, LogItem, Bodies, Meta, place_cmp, name_text}
+use Rattle.cs_store.specs.Written.{edit_body, edit_meta, appended, optional_bytes, optional_entry, item_of}
 use Rattle.cs_store.specs.Laws as law
-use Rattle.cs_store.specs.declared.batch.RowEdit.{RowEdit}
+use Rattle.cs_store.specs.Calls as call
+use Rattle.cs_store.specs.Calls.{CountsFailures}
+use Rattle.cs_store.specs.declared.fault.StoreFault.{StoreFault}
+use Rattle.cs_store.specs.declared.batch.PlaceEdit.{PlaceEdit}
 use Rattle.cs_store.specs.declared.batch.MetaEdit.{MetaEdit}
 use Rattle.cs_store.specs.declared.names.MetaName.{MetaName}
 use Rattle.cs_store.specs.declared.names.MetaName.TheVariants.{Id, Version, Number, Flight, Pending, Catalog}
 use Rattle.cs_store.specs.declared.fault.StoreFault.TheVariants.{Memory, Device}
-use Rattle.cs_store.proofs.Maps.{place_total, get-with_row, get-with_meta}
-use Rattle.cs_store.proofs.Numbered.{tie_pos}
+use Rattle.cs_store.proofs.Maps.{place_total, get-with_body, get-with_meta}
+use Rattle.cs_store.proofs.Numbers.{tie_pos}
 
 -- ---- one answer
 
@@ -45,6 +50,66 @@ module _ {S : Type 0} (honest : S → Type 0) (contents : S → Contents) (faile
   one_refusal after old new next (Err e) (Ok y) a b h k = tt
   one_refusal after old new next (Ok x) other a b h k = tt
 
+-- ---- calls after calls
+
+-- the counts of a fault, whatever the call would have answered
+fault_counts : {T U : Type 0} (fault : StoreFault) (old new : ℕ) → CountsFailures (call.refusal T fault) old new → CountsFailures (call.refusal U fault) old new
+fault_counts Memory old new a = record { kept = tt; later = a.later; cause = λ e. absurd cc }
+fault_counts Device old new a = record { kept = tt; later = a.later; cause = λ e. a.cause refl }
+
+-- the counts of a call that succeeded and of the next
+pub counts_on : {T U : Type 0} (first : Result T StoreFault) (second : Result U StoreFault) (old middle new : ℕ)
+    → CountsFailures first old middle → IsOk first → CountsFailures second middle new → CountsFailures second old new
+counts_on (Err e) second old middle new a is b = absurd cc
+counts_on (Ok x) second old middle new a is b = subst (λ n. CountsFailures second n new) a.kept b
+
+module _ {S : Type 0} (honest : S → Type 0) (contents : S → Contents) (failed : S → ℕ) (may_leave : S → Contents → Type 0) where
+  pub reads_then_reads : (T U : Type 0) → law.ReadsThenReads honest contents failed may_leave T U
+  reads_then_reads T U old middle new first second a is b = record {
+    was_honest = λ h. a.was_honest (b.was_honest h);
+    same = λ h. b.same h ∙ a.same (b.was_honest h);
+    crash = λ h left may. a.crash (b.was_honest h) left (b.crash h left may);
+    failures = counts_on first second (failed old) (failed middle) (failed new) a.failures is b.failures;
+  }
+
+  pub reads_then_commits : (T U : Type 0) → law.ReadsThenCommits honest contents failed may_leave T U
+  reads_then_commits T U after old middle new first second a is b = record {
+    was_honest = λ h. a.was_honest (b.was_honest h);
+    ok = λ h. subst (λ was. OnOk second (contents new ≡ after was)) (a.same (b.was_honest h)) (b.ok h);
+    err = λ h. subst (λ was. OnErr second (contents new ≡ was)) (a.same (b.was_honest h)) (b.err h);
+    durable = λ h. subst (λ was. OnOk second ((left : Contents) → may_leave new left → left ≡ after was)) (a.same (b.was_honest h)) (b.durable h);
+    crash = λ h left may. ⊎_elim (λ before. inl (a.crash (b.was_honest h) left before)) (λ is_after. inr (is_after ∙ ap after (a.same (b.was_honest h)))) (b.crash h left may);
+    failures = counts_on first second (failed old) (failed middle) (failed new) a.failures is b.failures;
+  }
+
+  pub commits_then_reads : (T U : Type 0) → law.CommitsThenReads honest contents failed may_leave T U
+  commits_then_reads T U after old middle new (Err e) second a is b done = absurd cc
+  commits_then_reads T U after old middle new (Ok x) (Err e) a is b done = absurd cc
+  commits_then_reads T U after old middle new (Ok x) (Ok y) a is b done = record {
+    was_honest = λ h. a.was_honest (b.was_honest h);
+    ok = λ h. b.same h ∙ a.ok (b.was_honest h);
+    err = λ h. tt;
+    durable = λ h left may. a.durable (b.was_honest h) left (b.crash h left may);
+    crash = λ h left may. a.crash (b.was_honest h) left (b.crash h left may);
+    failures = counts_on (Ok x) (Ok y) (failed old) (failed middle) (failed new) a.failures is b.failures;
+  }
+
+  pub fails_to_commit : (T U : Type 0) → law.FailsToCommit honest contents failed may_leave T U
+  fails_to_commit T U after old new fault a = record {
+    was_honest = a.was_honest;
+    ok = λ h. tt;
+    err = a.same;
+    durable = λ h. tt;
+    crash = λ h left may. inl (a.crash h left may);
+    failures = fault_counts fault (failed old) (failed new) a.failures;
+  }
+
+  pub reads_alike : (T U : Type 0) → law.ReadsAlike honest contents failed may_leave T U
+  reads_alike T U old new =
+      (
+      λ answer other a. record { was_honest = a.was_honest; same = a.same; crash = a.crash; failures = record { kept = a.failures.kept; later = a.failures.later; cause = λ e. absurd cc } },
+      λ fault a. record { was_honest = a.was_honest; same = a.same; crash = a.crash; failures = fault_counts fault (failed old) (failed new) a.failures })
+
 -- ---- what is written
 
 both_tie : (o r : Ordering) → is_eq (ordering_then o r) ≡ (is_eq o && is_eq r)
@@ -55,14 +120,17 @@ both_tie Greater r = refl
 same_place : (a b : ℕ) (x y : List ℕ) → eq_by_cmp place_cmp (pos a, x) (pos b, y) ≡ (nat_eq a b && same_bytes x y)
 same_place a b x y = both_tie (int_cmp (pos a) (pos b)) (by_bytes x y) ∙ ap (λ t. t && same_bytes x y) (tie_pos a b)
 
-rows_at : (rows : Rows) (edits : List RowEdit) (table : ℕ) (key : List ℕ) → get (fold edit_row rows edits) (pos table, key) ≡ law.row_after edits table key (get rows (pos table, key))
+rows_at : (rows : Bodies) (edits : List PlaceEdit) (table : ℕ) (key : List ℕ) → get (fold edit_body rows edits) (pos table, key) ≡ law.row_after edits table key (get rows (pos table, key))
 rows_at rows [] table key = refl
-rows_at rows (e ∷ es) table key = rows_at (edit_row rows e) es table key
-    ∙ ap (law.row_after es table key) (get-with_row rows (pos e.table, e.key.items) (optional_bytes e.row) (pos table, key)
-    ∙ ap (λ b. cond b (optional_bytes e.row) (get rows (pos table, key))) (same_place table e.table key e.key.items))
+rows_at rows (e ∷ es) table key = rows_at (edit_body rows e) es table key
+    ∙ ap (law.row_after es table key) (get-with_body rows (pos e.table, e.key.items) (optional_bytes e.body) (pos table, key)
+    ∙ ap (λ b. cond b (optional_bytes e.body) (get rows (pos table, key))) (same_place table e.table key e.key.items))
 
 pub writes_rows : law.WritesRows
 writes_rows batch before table key = rows_at before.rows batch.rows.items table key
+
+pub writes_pending : law.WritesPending
+writes_pending batch before table key = rows_at before.pending batch.pending.items table key
 
 meta_at : (meta : Meta) (edits : List MetaEdit) (name : MetaName) → get (fold edit_meta meta edits) (name_text name) ≡ law.value_after edits name (get meta (name_text name))
 meta_at meta [] name = refl
@@ -74,18 +142,18 @@ writes_meta batch before name = meta_at before.meta batch.meta.items name
 
 pub writes_log : law.WritesLog
 writes_log batch before version =
-    elim batch.log as (λ o. get (appended before.log (optional_bytes o)) (pos version) ≡ law.entry_after o before version) [
+    elim batch.log as (λ o. get (appended before.log (optional_entry o)) (pos version) ≡ law.entry_after o before version) [
       | None ↦ refl
-      | Some entry ↦ get-insert int_cmp_total before.log (pos (len before.log)) entry.items (pos version)
-          ∙ ap (λ b. cond b (Some entry.items) (get before.log (pos version))) (tie_pos version (len before.log))
+      | Some entry ↦ get-insert int_cmp_total before.log (pos (len before.log)) (item_of entry) (pos version)
+          ∙ ap (λ b. cond b (Some (item_of entry)) (get before.log (pos version))) (tie_pos version (len before.log))
     ]
 
 pub counts_log : law.CountsLog
 counts_log batch before free =
-    elim batch.log as (λ o. len (appended before.log (optional_bytes o)) ≡ cond (is_some o) (len before.log + 1) (len before.log)) [
+    elim batch.log as (λ o. len (appended before.log (optional_entry o)) ≡ cond (is_some o) (len before.log + 1) (len before.log)) [
       | None ↦ refl
-      | Some entry ↦ len-insert int_cmp_total before.log (pos (len before.log)) entry.items
-          ∙ ap (λ (o : Option (List ℕ)). cond (is_some o) (len before.log) (len before.log + 1)) free
+      | Some entry ↦ len-insert int_cmp_total before.log (pos (len before.log)) (item_of entry)
+          ∙ ap (λ (o : Option LogItem). cond (is_some o) (len before.log) (len before.log + 1)) free
     ]
 
 -- ---- names
@@ -125,3 +193,40 @@ commit_can_be before after = record {
   crash = λ h left is. inr is;
   failures = record { kept = refl; later = omega arith; cause = λ e. absurd cc };
 }
+
+-- ---- a log without gaps
+
+pub starts_with_no_gaps : law.StartsWithNoGaps
+starts_with_no_gaps version =
+    (λ some. absurd (let none : is_some {T = LogItem} None ≡ true = ap is_some (sym (get-empty int_cmp (pos version))) ∙ some in cc),
+    λ less. absurd (let none = len-empty int_cmp LogItem in omega (arith, less, none)))
+
+none_from : (o : Option LogItem) → (IsSome o → ⊥) → o ≡ None
+none_from None h = refl
+none_from (Some item) h = absurd (h refl)
+
+-- entries at the versions below n, and one at n
+below_next : (n version : ℕ) (o : Option LogItem) (item : LogItem) → (IsSome o ↔ (version < n)) → IsSome (cond (eqb version n) (Some item) o) ↔ (version < n + 1)
+below_next n version o item gapless =
+    elim (eqb version n) as (λ b. eqb version n ≡ b → IsSome (cond b (Some item) o) ↔ (version < n + 1)) [
+      | true ↦ λ p. (λ some. let is = eqb-true version n p in omega (arith, is), λ less. refl)
+      | false ↦ λ p. (λ some. let less = gapless.0 some in omega (arith, less), λ less. let apart = eqb-false version n p in gapless.1 (omega (arith, less, apart)))
+    ] refl
+
+one_more : (log : Log) (item : LogItem) → ((version : ℕ) → IsSome (get log (pos version)) ↔ (version < len log))
+    → (version : ℕ) → IsSome (get (insert log (pos (len log)) item) (pos version)) ↔ (version < len (insert log (pos (len log)) item))
+one_more log item gapless version =
+    let free : get log (pos (len log)) ≡ None = none_from _ (λ some. absurd (let less = (gapless (len log)).0 some in omega (arith, less))) in
+    let count : len (insert log (pos (len log)) item) ≡ len log + 1 =
+        len-insert int_cmp_total log (pos (len log)) item ∙ ap (λ (o : Option LogItem). cond (is_some o) (len log) (len log + 1)) free in
+    let at : get (insert log (pos (len log)) item) (pos version) ≡ cond (eqb version (len log)) (Some item) (get log (pos version)) =
+        get-insert int_cmp_total log (pos (len log)) item (pos version) ∙ ap (λ b. cond b (Some item) (get log (pos version))) (tie_pos version (len log)) in
+    let below = below_next (len log) version (get log (pos version)) item (gapless version) in
+    (λ some. subst (λ n. version < n) (sym count) (below.0 (subst IsSome at some)), λ less. subst IsSome (sym at) (below.1 (subst (λ n. version < n) count less)))
+
+pub keeps_no_gaps : law.KeepsNoGaps
+keeps_no_gaps batch before gapless version =
+    elim batch.log as (λ o. IsSome (get (appended before.log (optional_entry o)) (pos version)) ↔ (version < len (appended before.log (optional_entry o)))) [
+      | None ↦ gapless version
+      | Some entry ↦ one_more before.log (item_of entry) gapless version
+    ]

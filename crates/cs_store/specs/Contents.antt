@@ -1,5 +1,5 @@
 -- What a store holds, whatever it is kept in (profile of this project).
-use Rattle.std.specs.Prelude.{◌≡◌, refl, ℕ, ℤ, pos, T, List, Option, codes}
+use Rattle.std.specs.Prelude.{◌≡◌, ◌<◌, ◌↔◌, refl, ℕ, ℤ, pos, T, List, Option, IsSome, codes}
 use Rattle.std.specs.Coded.{Coded, code_by, coded×, coded_list, coded_ℕ, coded_ℤ}
 use Rattle.std.specs.declared.cmp.Ordering.{Ordering}
 use Rattle.std.specs.Ordering.{int_cmp, on, then_cmp}
@@ -17,36 +17,50 @@ StorePlace = ℤ × List ℕ
 abbrev pub place_cmp : StorePlace → StorePlace → Ordering
 place_cmp = then_cmp (on (λ p. p.0) int_cmp) (on (λ p. p.1) by_bytes)
 
--- the bytes of a row at each place that has one
-abbrev pub Rows : Type 0
-Rows = FinMap place_cmp (List ℕ)
+-- the bytes of a body at each place that has one: a row, or a pending change
+abbrev pub Bodies : Type 0
+Bodies = FinMap place_cmp (List ℕ)
 
 -- the bytes of a value at each name that has one, by the bytes of the name
 abbrev pub Meta : Type 0
 Meta = FinMap by_bytes (List ℕ)
 
--- the bytes of an entry at each version that has one. A file that others wrote may lack some.
+-- an entry of the log: whose push it is, the number of that push, and the bytes of the entry's body. A file that others wrote
+-- may have an origin that is no replica's id.
+pub record LogItem : Type 0 where
+  pub origin : ℤ
+  pub number : ℕ
+  pub body : List ℕ
+
+-- an entry at each version that has one. A file that others wrote may lack some.
 abbrev pub Log : Type 0
-Log = FinMap int_cmp (List ℕ)
+Log = FinMap int_cmp LogItem
 
 pub record Contents : Type 0 where
-  pub rows : Rows
+  pub rows : Bodies
+  -- a pending change stands at the place of its row
+  pub pending : Bodies
   pub meta : Meta
   pub log : Log
 
--- contents are stored as the three maps: the form in which a proof tells them apart
+abbrev pub item_code : Coded LogItem
+item_code =
+    code_by (ℤ × (ℕ × List ℕ)) (coded× coded_ℤ (coded× coded_ℕ (coded_list coded_ℕ)))
+    (λ item. (item.origin, (item.number, item.body))) (λ parts. record { origin = parts.0; number = parts.1.0; body = parts.1.1 }) (λ _. refl)
+
+-- contents are stored as the four maps: the form in which a proof tells them apart
 abbrev pub contents_code : Coded Contents
 contents_code =
     let bytes : Coded (List ℕ) = coded_list coded_ℕ in
-    code_by (Rows × (Meta × Log))
-    (coded× (finite.code {R = place_cmp} (coded× coded_ℤ bytes) bytes)
-    (coded× (finite.code {R = by_bytes} bytes bytes) (finite.code {R = int_cmp} coded_ℤ bytes)))
-    (λ held. (held.rows, (held.meta, held.log)))
-    (λ maps. record { rows = maps.0; meta = maps.1.0; log = maps.1.1 }) (λ _. refl)
+    let bodies : Coded Bodies = finite.code {R = place_cmp} (coded× coded_ℤ bytes) bytes in
+    code_by (Bodies × (Bodies × (Meta × Log)))
+    (coded× bodies (coded× bodies (coded× (finite.code {R = by_bytes} bytes bytes) (finite.code {R = int_cmp} coded_ℤ item_code))))
+    (λ held. (held.rows, (held.pending, (held.meta, held.log))))
+    (λ maps. record { rows = maps.0; pending = maps.1.0; meta = maps.1.1.0; log = maps.1.1.1 }) (λ _. refl)
 
 -- what a new store holds
 abbrev pub nothing : Contents
-nothing = record { rows = empty; meta = empty; log = empty }
+nothing = record { rows = empty; pending = empty; meta = empty; log = empty }
 
 -- the bytes of a name
 abbrev pub name_text : MetaName → List ℕ
@@ -61,12 +75,16 @@ name_text Catalog = codes "catalog"
 abbrev pub stored_tables : Contents → ℕ → List ℕ → Option (List ℕ)
 stored_tables contents table key = get contents.rows (pos table, key)
 
+-- the pending changes in the same form
+abbrev pub stored_pending : Contents → ℕ → List ℕ → Option (List ℕ)
+stored_pending contents table key = get contents.pending (pos table, key)
+
 -- the value of a name, or none
 abbrev pub meta_value : Contents → MetaName → Option (List ℕ)
 meta_value contents name = get contents.meta (name_text name)
 
 -- the entry of the log at a version, or none
-abbrev pub log_entry : Contents → ℕ → Option (List ℕ)
+abbrev pub log_entry : Contents → ℕ → Option LogItem
 log_entry contents version = get contents.log (pos version)
 
 -- how many entries the log has
@@ -77,3 +95,7 @@ log_count contents = len contents.log
 pub record IsListing (table : List ℕ → Option (List ℕ)) (rows : List (List ℕ × List ℕ)) : Type 0 where
   pub rises : T (is_sorted by_bytes rows)
   pub found : (key : List ℕ) → find by_bytes key rows ≡ table key
+
+-- entries stand at exactly the versions below their count
+abbrev pub HasNoGaps : Contents → Type 0
+HasNoGaps contents = (version : ℕ) → IsSome (log_entry contents version) ↔ (version < log_count contents)

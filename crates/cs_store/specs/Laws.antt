@@ -1,17 +1,17 @@
--- The laws of stores: one answer for each input, and what a commit leaves at each place.
-use Rattle.std.specs.declared.alloc.Global.{Global}
-use Rattle.std.specs.Prelude.{Vec, ◌≡◌, ◌<◌, ◌+◌, ◌-◌, ◌^◌, ℕ, pos, if◌then◌else◌, nat_eq, ◌&&◌, List, [], ◌∷◌, Option, None, Result, Ok, OnOk, OnErr, IfErr, is_some}
+-- The laws of stores: one answer for each input, how calls follow one another, and what a commit leaves at each place.
+use Rattle.std.specs.Prelude.{◌≡◌, ◌<◌, ◌+◌, ◌-◌, ◌^◌, ℕ, pos, if◌then◌else◌, nat_eq, ◌&&◌, List, [], ◌∷◌, Option, None, Result, Ok, IsOk, OnOk, OnErr, IfErr, is_some}
 use Rattle.std.specs.FinMap.{empty, insert}
 use Rattle.cs_order.specs.Order.{same_bytes}
-use Rattle.cs_store.specs.declared.batch.RowEdit.{RowEdit}
+use Rattle.cs_store.specs.declared.batch.PlaceEdit.{PlaceEdit}
 use Rattle.cs_store.specs.declared.batch.MetaEdit.{MetaEdit}
+use Rattle.cs_store.specs.declared.batch.StoredEntry.{StoredEntry}
 use Rattle.cs_store.specs.declared.batch.Batch.{Batch}
 use Rattle.cs_store.specs.declared.names.MetaName.{MetaName}
 use Rattle.cs_store.specs.declared.fault.StoreFault.{StoreFault}
 use Rattle.cs_store.specs.declared.fault.StoreFault.TheVariants.{Memory}
-use Rattle.cs_store.specs.Contents.{Contents, IsListing, name_text, nothing, stored_tables, meta_value, log_entry, log_count}
-use Rattle.cs_store.specs.Written.{after_batch, optional_bytes}
-use Rattle.cs_store.specs.Calls.{Commits, CountsFailures}
+use Rattle.cs_store.specs.Contents.{Contents, HasNoGaps, IsListing, LogItem, name_text, nothing, stored_tables, stored_pending, meta_value, log_entry, log_count}
+use Rattle.cs_store.specs.Written.{after_batch, optional_bytes, optional_entry}
+use Rattle.cs_store.specs.Calls.{Commits, CountsFailures, OnlyReads, refusal}
 
 -- ---- one answer
 
@@ -47,6 +47,46 @@ module _ {S : Type 0} (honest : S → Type 0) (contents : S → Contents) (faile
       → Commits honest contents failed may_leave after old next other
       → honest new → honest next → OnErr result (OnErr other (contents new ≡ contents next))
 
+  -- ---- calls after calls
+
+  -- reads after a read that succeeded are reads
+  abbrev pub ReadsThenReads : Type 0 → Type 0 → Type 0
+  ReadsThenReads T U =
+      (old middle new : S) (first : Result T StoreFault) (second : Result U StoreFault)
+      → OnlyReads honest contents failed may_leave old middle first → IsOk first
+      → OnlyReads honest contents failed may_leave middle new second
+      → OnlyReads honest contents failed may_leave old new second
+
+  -- a read and then a commit of what is made of the contents are that commit, also in what a stop may leave
+  abbrev pub ReadsThenCommits : Type 0 → Type 0 → Type 0
+  ReadsThenCommits T U =
+      (after : Contents → Contents) (old middle new : S) (first : Result T StoreFault) (second : Result U StoreFault)
+      → OnlyReads honest contents failed may_leave old middle first → IsOk first
+      → Commits honest contents failed may_leave (after (contents middle)) middle new second
+      → Commits honest contents failed may_leave (after (contents old)) old new second
+
+  -- reads after a commit that succeeded, where they succeed, are that commit
+  abbrev pub CommitsThenReads : Type 0 → Type 0 → Type 0
+  CommitsThenReads T U =
+      (after : Contents) (old middle new : S) (first : Result T StoreFault) (second : Result U StoreFault)
+      → Commits honest contents failed may_leave after old middle first → IsOk first
+      → OnlyReads honest contents failed may_leave middle new second → IsOk second
+      → Commits honest contents failed may_leave after old new second
+
+  -- a read that fails, told as the failure of a commit, is that commit
+  abbrev pub FailsToCommit : Type 0 → Type 0 → Type 0
+  FailsToCommit T U =
+      (after : Contents) (old new : S) (fault : StoreFault)
+      → OnlyReads honest contents failed may_leave old new (refusal T fault)
+      → Commits honest contents failed may_leave after old new (refusal U fault)
+
+  -- a read that answers something else, or whose fault is told of another answer, is that read
+  abbrev pub ReadsAlike : Type 0 → Type 0 → Type 0
+  ReadsAlike T U =
+      (old new : S)
+      → ((answer : T) (other : U) → OnlyReads honest contents failed may_leave old new (Ok answer) → OnlyReads honest contents failed may_leave old new (Ok other))
+      × ((fault : StoreFault) → OnlyReads honest contents failed may_leave old new (refusal T fault) → OnlyReads honest contents failed may_leave old new (refusal U fault))
+
 abbrev pub success : Result (Unit {0}) StoreFault
 success = Ok tt
 
@@ -66,12 +106,12 @@ OnlyMemory T =
 
 -- ---- what is written
 
--- what edits leave at a place where a row or none stood: what the last edit there says
-abbrev pub row_after : List RowEdit → ℕ → List ℕ → Option (List ℕ) → Option (List ℕ)
-row_after [] table key row = row
-row_after (edit ∷ edits) table key row =
+-- what edits leave at a place where a row or a pending change or none stood: what the last edit there says
+abbrev pub row_after : List PlaceEdit → ℕ → List ℕ → Option (List ℕ) → Option (List ℕ)
+row_after [] table key body = body
+row_after (edit ∷ edits) table key body =
     row_after edits table key
-    (if nat_eq table edit.table && same_bytes key edit.key.items then optional_bytes edit.row else row)
+    (if nat_eq table edit.table && same_bytes key edit.key.items then optional_bytes edit.body else body)
 
 -- the same of a value
 abbrev pub value_after : List MetaEdit → MetaName → Option (List ℕ) → Option (List ℕ)
@@ -87,6 +127,13 @@ WritesRows =
     → stored_tables (after_batch batch before) table key
     ≡ row_after batch.rows.items table key (stored_tables before table key)
 
+-- the same of its pending changes
+abbrev pub WritesPending : Type 0
+WritesPending =
+    (batch : Batch) (before : Contents) (table : ℕ) (key : List ℕ)
+    → stored_pending (after_batch batch before) table key
+    ≡ row_after batch.pending.items table key (stored_pending before table key)
+
 -- what it leaves at each name
 abbrev pub WritesMeta : Type 0
 WritesMeta =
@@ -94,9 +141,9 @@ WritesMeta =
     → meta_value (after_batch batch before) name ≡ value_after batch.meta.items name (meta_value before name)
 
 -- what an entry, if there is one, leaves at a version: its own is how many there were, and no other changes
-abbrev pub entry_after : Option (Vec ℕ Global) → Contents → ℕ → Option (List ℕ)
+abbrev pub entry_after : Option StoredEntry → Contents → ℕ → Option LogItem
 entry_after entry before version =
-    if is_some entry && nat_eq version (log_count before) then optional_bytes entry else log_entry before version
+    if is_some entry && nat_eq version (log_count before) then optional_entry entry else log_entry before version
 
 -- what it leaves at each version
 abbrev pub WritesLog : Type 0
@@ -114,3 +161,12 @@ CountsLog =
 -- no two names have one text
 abbrev pub NamesApart : Type 0
 NamesApart = (some other : MetaName) → name_text some ≡ name_text other → some ≡ other
+
+-- ---- a log without gaps
+
+-- a new store has one, and a commit keeps it
+abbrev pub StartsWithNoGaps : Type 0
+StartsWithNoGaps = HasNoGaps nothing
+
+abbrev pub KeepsNoGaps : Type 0
+KeepsNoGaps = (batch : Batch) (before : Contents) → HasNoGaps before → HasNoGaps (after_batch batch before)

@@ -2,49 +2,63 @@
 use Rattle.std.specs.declared.alloc.Global.{Global}
 use Rattle.std.specs.Prelude.{Vec, option_map, map, ℕ, ℤ, pos, List, Option, Some, None, fold}
 use Rattle.std.specs.FinMap.{insert, remove, len}
-use Rattle.cs_store.specs.declared.batch.RowEdit.{RowEdit}
+use Rattle.cs_store.specs.declared.batch.PlaceEdit.{PlaceEdit}
 use Rattle.cs_store.specs.declared.batch.MetaEdit.{MetaEdit}
+use Rattle.cs_store.specs.declared.batch.StoredEntry.{StoredEntry}
 use Rattle.cs_store.specs.declared.batch.Batch.{Batch}
-use Rattle.cs_store.specs.declared.store.StoredRow.{StoredRow}
-use Rattle.cs_store.specs.Contents.{StorePlace, Rows, Meta, Log, Contents, name_text}
+use Rattle.cs_store.specs.declared.store.StoredBody.{StoredBody}
+use Rattle.cs_store.specs.Contents.{StorePlace, Bodies, Meta, Log, LogItem, Contents, name_text}
 
 -- the bytes that are there, or none
 abbrev pub optional_bytes : Option (Vec ℕ Global) → Option (List ℕ)
 optional_bytes = option_map (λ bytes. bytes.items)
 
--- the keys and the rows of a list
-abbrev pub pairs_of : List StoredRow → List (List ℕ × List ℕ)
-pairs_of = map (λ stored. (stored.key.items, stored.row.items))
+-- an entry that is handed in or out, as the log has it
+abbrev pub item_of : StoredEntry → LogItem
+item_of entry = record { origin = pos entry.origin; number = entry.number; body = entry.body.items }
 
--- a row is set, or with none removed
-abbrev pub with_row : Rows → StorePlace → Option (List ℕ) → Rows
-with_row rows place None = remove rows place
-with_row rows place (Some row) = insert rows place row
+-- the entry that is there, or none
+abbrev pub optional_entry : Option StoredEntry → Option LogItem
+optional_entry = option_map item_of
+
+-- the keys and the bodies of a list
+abbrev pub pairs_of : List StoredBody → List (List ℕ × List ℕ)
+pairs_of = map (λ stored. (stored.key.items, stored.body.items))
+
+-- a body is set, or with none removed
+abbrev pub with_body : Bodies → StorePlace → Option (List ℕ) → Bodies
+with_body bodies place None = remove bodies place
+with_body bodies place (Some body) = insert bodies place body
 
 -- a value is set, or with none removed
 abbrev pub with_meta : Meta → List ℕ → Option (List ℕ) → Meta
 with_meta meta name None = remove meta name
 with_meta meta name (Some value) = insert meta name value
 
-abbrev pub edit_row : Rows → RowEdit → Rows
-edit_row rows edit = with_row rows (pos edit.table, edit.key.items) (optional_bytes edit.row)
+-- where an edit is
+abbrev pub store_place : PlaceEdit → StorePlace
+store_place edit = (pos edit.table, edit.key.items)
+
+abbrev pub edit_body : Bodies → PlaceEdit → Bodies
+edit_body bodies edit = with_body bodies (store_place edit) (optional_bytes edit.body)
 
 abbrev pub edit_meta : Meta → MetaEdit → Meta
 edit_meta meta edit = with_meta meta (name_text edit.name) (optional_bytes edit.value)
 
 -- an entry, if there is one, is set at a version
-abbrev pub with_entry : ℤ → Log → Option (List ℕ) → Log
+abbrev pub with_entry : ℤ → Log → Option LogItem → Log
 with_entry version log None = log
 with_entry version log (Some entry) = insert log version entry
 
 -- a new entry's version is how many entries there are
-abbrev pub appended : Log → Option (List ℕ) → Log
+abbrev pub appended : Log → Option LogItem → Log
 appended log entry = with_entry (pos (len log)) log entry
 
 -- the edits in order, and the new entry of the log
 abbrev pub after_batch : Batch → Contents → Contents
 after_batch batch contents = record {
-  rows = fold edit_row contents.rows batch.rows.items;
+  rows = fold edit_body contents.rows batch.rows.items;
+  pending = fold edit_body contents.pending batch.pending.items;
   meta = fold edit_meta contents.meta batch.meta.items;
-  log = appended contents.log (optional_bytes batch.log);
+  log = appended contents.log (optional_entry batch.log);
 }

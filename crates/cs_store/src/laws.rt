@@ -1,6 +1,7 @@
 //! The laws of stores, each the contract of a function that does nothing.
 
-ghost use Rattle.cs_store.specs.Laws.{CommitCanBe, CountsLog, ListsTwoRows, NamesApart, OneCommit, OneListing, OneRefusal, OnlyMemory, WritesLog, WritesMeta, WritesRows};
+ghost use Rattle.cs_store.specs.Laws.{CommitCanBe, CommitsThenReads, CountsLog, FailsToCommit, KeepsNoGaps, ListsTwoRows, NamesApart, OneCommit, OneListing, OneRefusal, OnlyMemory, ReadsAlike, ReadsThenCommits, ReadsThenReads, StartsWithNoGaps, WritesLog, WritesMeta, WritesPending, WritesRows};
+ghost use Rattle.cs_store.specs.StateLaws.{EditsLeadToState, HoldsOneState};
 
 use crate::RowStore;
 
@@ -17,18 +18,42 @@ pub fn one_commit<S: RowStore>(_store: &S)
     ensures refused { OneRefusal S.honest S.contents S.failed S.may_leave }
 {}
 
-/// What a commit leaves at each place of the tables, at each name and at each version. A store that does just that shows
-/// that there are such commits.
+/// Calls that follow one another, the first answering a `T` and the second a `U`: where the first succeeds, reads are reads
+/// together, a read and a commit are that commit, and so are a commit and reads that succeed; all of this also of what a stop
+/// may leave. A read that fails changes as little as a commit that fails.
+pub fn calls<S: RowStore, T, U>(_store: &S)
+    ensures reads { ReadsThenReads S.honest S.contents S.failed S.may_leave T U }
+    ensures commits { ReadsThenCommits S.honest S.contents S.failed S.may_leave T U }
+    ensures read_again { CommitsThenReads S.honest S.contents S.failed S.may_leave T U }
+    ensures fails { FailsToCommit S.honest S.contents S.failed S.may_leave T U }
+    ensures alike { ReadsAlike S.honest S.contents S.failed S.may_leave T U }
+{}
+
+/// What a commit leaves at each place of the tables and of the pending changes, at each name and at each version. A store that
+/// does just that shows that there are such commits.
 pub fn commits()
     ensures rows { WritesRows }
+    ensures pending { WritesPending }
     ensures meta { WritesMeta }
     ensures log { WritesLog }
     ensures count { CountsLog }
     ensures can_be { CommitCanBe }
 {}
 
-/// Where the count of failures stood still below its last value, a fault is `Memory`. So a `MapStore`, whose count is 0,
-/// never answers `Device`.
+/// A store holds one state of the tables at most, and a commit of the edits of one state to another leaves a store that holds
+/// the other.
+pub fn states()
+    ensures one { HoldsOneState }
+    ensures edited { EditsLeadToState }
+{}
+
+/// A new store's log has no gaps, and a commit keeps it so.
+pub fn no_gaps()
+    ensures new { StartsWithNoGaps }
+    ensures kept { KeepsNoGaps }
+{}
+
+/// Where the count of failures stood still below its last value, a fault is `Memory`.
 pub fn only_memory<T>(_answer: &T)
     ensures { OnlyMemory T }
 {}

@@ -1,29 +1,30 @@
 //! What a store owes its callers.
 
 ghost use Rattle.std.specs.Prelude.{◌≡◌, ℕ, IfOk};
-ghost use Rattle.cs_store.specs.Calls.{OnlyReads, Commits};
-ghost use Rattle.cs_store.specs.Contents.{Contents, IsListing, stored_tables, meta_value, log_entry, log_count};
-ghost use Rattle.cs_store.specs.Written.{after_batch, optional_bytes, pairs_of};
+ghost use Rattle.cs_store.specs.Calls.{OnlyReads, Commits, refusal};
+ghost use Rattle.cs_store.specs.Contents.{Contents, IsListing, stored_tables, stored_pending, meta_value, log_entry, log_count};
+ghost use Rattle.cs_store.specs.Written.{after_batch, optional_bytes, optional_entry, pairs_of};
+ghost use Rattle.cs_store.specs.declared.fault.StoreFault.TheVariants.{Device};
 
-use crate::{Batch, MetaName, StoreFault};
+use crate::{Batch, MetaName, StoreFault, StoredEntry};
 
-/// A row behind the bytes of its key. (Profile of this project.)
+/// A body behind the bytes of its key: a row, or a pending change. (Profile of this project.)
 #[derive(Debug, Drop)]
-pub struct StoredRow {
+pub struct StoredBody {
     /// The bytes of the key.
     pub key: Vec<u8>,
-    /// The bytes of the row.
-    pub row: Vec<u8>,
+    /// The bytes of the body.
+    pub body: Vec<u8>,
 }
 
-/// A store of rows, of values by name and of a log, in bytes. (Profile of this project.) Reads take `&mut self`, since a
-/// device's failure raises `failures`. What a call says of contents it says where the store is honest as the call ends, and
-/// a store that is honest then was so before.
+/// A store of rows, of pending changes at the places of their rows, of values by name and of a log, in bytes. (Profile of
+/// this project.) Reads take `&mut self`, since a device's failure raises `failures`. What a call says of contents it says
+/// where the store is honest as the call ends, and a store that is honest then was so before.
 ///
 /// # Errors
 ///
-/// Each call but `failures` may answer `Memory`, where memory was refused, and `Device`, where the count of failures rose
-/// or stands at its last value. What the store holds has not changed then.
+/// Each call but `misread` and `failures` may answer `Memory`, where memory was refused, and `Device`, where the count of
+/// failures rose or stands at its last value. What the store holds has not changed then.
 pub trait RowStore {
     /// What it holds, as far as its calls have told.
     ghost contents: { Self → Contents };
@@ -44,9 +45,21 @@ pub trait RowStore {
         ensures reads { OnlyReads honest contents failed may_leave self.old self.new result };
 
     /// The rows of a table, by ascending bytes of the key.
-    fn list(&mut self, table: u32) -> Result<Vec<StoredRow>, StoreFault>
+    fn list(&mut self, table: u32) -> Result<Vec<StoredBody>, StoreFault>
         ensures listed { honest self.new → IfOk result (λ rows.
             IsListing (stored_tables (contents self.old) table) (pairs_of rows.items)) }
+        ensures reads { OnlyReads honest contents failed may_leave self.old self.new result };
+
+    /// The pending change at a table's number and the bytes of a key, if there is one.
+    fn pend_get(&mut self, table: u32, key: &[u8]) -> Result<Option<Vec<u8>>, StoreFault>
+        ensures found { honest self.new → IfOk result (λ change.
+            optional_bytes change ≡ stored_pending (contents self.old) table key.now) }
+        ensures reads { OnlyReads honest contents failed may_leave self.old self.new result };
+
+    /// The pending changes of a table, by ascending bytes of the key.
+    fn pend_list(&mut self, table: u32) -> Result<Vec<StoredBody>, StoreFault>
+        ensures listed { honest self.new → IfOk result (λ changes.
+            IsListing (stored_pending (contents self.old) table) (pairs_of changes.items)) }
         ensures reads { OnlyReads honest contents failed may_leave self.old self.new result };
 
     /// The value of a name, if there is one.
@@ -61,14 +74,20 @@ pub trait RowStore {
         ensures reads { OnlyReads honest contents failed may_leave self.old self.new result };
 
     /// The entry of the log at a version, the first being 0, if there is one.
-    fn log_get(&mut self, version: u32) -> Result<Option<Vec<u8>>, StoreFault>
+    fn log_get(&mut self, version: u32) -> Result<Option<StoredEntry>, StoreFault>
         ensures found { honest self.new → IfOk result (λ entry.
-            optional_bytes entry ≡ log_entry (contents self.old) version) }
+            optional_entry entry ≡ log_entry (contents self.old) version) }
         ensures reads { OnlyReads honest contents failed may_leave self.old self.new result };
 
     /// Writes the batch, whole.
     fn commit(&mut self, batch: &Batch) -> Result<(), StoreFault>
         ensures { Commits honest contents failed may_leave (after_batch batch.now (contents self.old)) self.old self.new result };
+
+    /// Counts a failed call, since what a call of this store gave can't have been written to it: a body that is no row of its
+    /// table, an entry that doesn't decode. It answers the fault to tell, which is `Device`, and changes nothing else.
+    fn misread(&mut self) -> StoreFault
+        ensures told { result ≡ Device }
+        ensures reads { OnlyReads honest contents failed may_leave self.old self.new (refusal (Unit {0}) result) };
 
     /// How often the device has failed; at 18,446,744,073,709,551,615 the count stays.
     fn failures(&self) -> u64

@@ -3,15 +3,19 @@
 
 ghost use Rattle.std.specs.Prelude.{◌≡◌, IfErr};
 
+use cs_map_store::MapStore;
 use cs_store::*;
 use std::alloc::{AllocError, Global};
 use std::test::Fail;
 
-/// A table's number, a key, and the row that is set there, or none.
+/// A table's number, a key, and the body that is set there, or none.
 type Edit<'a> = (u32, &'a [u8], Option<&'a [u8]>);
 
 /// A name, and the value that is set there, or none.
 type Named<'a> = (MetaName, Option<&'a [u8]>);
+
+/// An entry's origin, its number, and its body.
+type Entry<'a> = (u32, u64, &'a [u8]);
 
 /// The last table, and the one before it.
 const LAST: u32 = u32::MAX;
@@ -30,6 +34,14 @@ const FIRST_ROWS: [Edit<'static>; 8] = [
     (1, b"1", Some(b"gone")),
 ];
 
+/// Pending changes at a place with a row, at one without, and twice at one place.
+const FIRST_PENDING: [Edit<'static>; 4] = [
+    (7, b"1", Some(b"p")),
+    (0, b"1", Some(b"q")),
+    (LAST, b"2", Some(b"s")),
+    (0, b"1", Some(b"r")),
+];
+
 const FIRST_META: [Named<'static>; 3] = [
     (MetaName::Flight, Some(b"f")),
     (MetaName::Id, Some(b"i")),
@@ -45,12 +57,26 @@ const NEXT_ROWS: [Edit<'static>; 5] = [
     (7, b"1", None),
 ];
 
+const NEXT_PENDING: [Edit<'static>; 3] = [
+    (LAST, b"2", None),
+    (0, b"", Some(b"")),
+    (1, b"1", Some(b"t")),
+];
+
 const NEXT_META: [Named<'static>; 2] = [(MetaName::Flight, None), (MetaName::Number, Some(b"n"))];
 
-/// What a store shows after the first commit, and after both.
-const FIRST_SHOWN: &[u8] = b"1=x;10=y;|1=gone;||9=z;|1=a;2=c;|...f..|one;|0";
+const FIRST_ENTRY: Entry<'static> = (7, 1, b"one");
 
-const NEXT_SHOWN: &[u8] = b"=;1=other;10=y;|||9=z;|1=a;2=c;|..n...|one;two;|0";
+/// The last origin and the last number.
+const NEXT_ENTRY: Entry<'static> = (u32::MAX, u64::MAX, b"two");
+
+/// What a store shows after the first commit, and after both: the rows of five tables, their pending changes, the values, and
+/// the entries.
+const FIRST_SHOWN: &[u8] =
+    b"1=x;10=y;|1=gone;||9=z;|1=a;2=c;|1=r;||1=p;||2=s;|...f..|7.1=one;|";
+
+const NEXT_SHOWN: &[u8] =
+    b"=;1=other;10=y;|||9=z;|1=a;2=c;|=;1=r;|1=t;|1=p;|||..n...|7.1=one;4294967295.18446744073709551615=two;|";
 
 fn optional(alloc: Global, bytes: Option<&[u8]>) -> Result<Option<Vec<u8>>, AllocError> {
     match bytes {
@@ -59,20 +85,25 @@ fn optional(alloc: Global, bytes: Option<&[u8]>) -> Result<Option<Vec<u8>>, Allo
     }
 }
 
-fn batch(
-    alloc: Global,
-    edits: &[Edit<'_>],
-    named: &[Named<'_>],
-    log: Option<&[u8]>,
-) -> Result<Batch, AllocError> {
-    let mut rows = Vec::new(alloc);
+fn edits_of(alloc: Global, edits: &[Edit<'_>]) -> Result<Vec<PlaceEdit>, AllocError> {
+    let mut made = Vec::new(alloc);
     for edit in edits {
-        rows.push(RowEdit {
+        made.push(PlaceEdit {
             table: edit.0,
             key: Vec::from_slice(alloc, edit.1)?,
-            row: optional(alloc, edit.2)?,
+            body: optional(alloc, edit.2)?,
         })?;
     }
+    Ok(made)
+}
+
+fn batch(
+    alloc: Global,
+    rows: &[Edit<'_>],
+    pending: &[Edit<'_>],
+    named: &[Named<'_>],
+    log: Option<Entry<'_>>,
+) -> Result<Batch, AllocError> {
     let mut meta = Vec::new(alloc);
     for edit in named {
         meta.push(MetaEdit {
@@ -80,38 +111,79 @@ fn batch(
             value: optional(alloc, edit.1)?,
         })?;
     }
+    let log = match log {
+        Some((origin, number, body)) => Some(StoredEntry {
+            origin,
+            number,
+            body: Vec::from_slice(alloc, body)?,
+        }),
+        None => None,
+    };
     Ok(Batch {
-        rows,
+        rows: edits_of(alloc, rows)?,
+        pending: edits_of(alloc, pending)?,
         meta,
-        log: optional(alloc, log)?,
+        log,
     })
 }
 
-/// The rows of a table, each also got by its key.
-fn put_table<S: RowStore>(
-    image: &mut Vec<u8>,
-    store: &mut S,
-    table: u32,
-) -> Result<(), StoreFault> {
-    for stored in &store.list(table)? {
-        image.extend_from_slice(stored.key.as_slice())?;
-        image.push(b'=')?;
-        if let Some(row) = store.get(table, stored.key.as_slice())? {
-            if row.as_slice() == stored.row.as_slice() {
-                image.extend_from_slice(row.as_slice())?;
-            }
+fn first_batch(alloc: Global) -> Result<Batch, AllocError> {
+    batch(alloc, &FIRST_ROWS, &FIRST_PENDING, &FIRST_META, Some(FIRST_ENTRY))
+}
+
+fn next_batch(alloc: Global) -> Result<Batch, AllocError> {
+    batch(alloc, &NEXT_ROWS, &NEXT_PENDING, &NEXT_META, Some(NEXT_ENTRY))
+}
+
+/// Writes a body that is listed, if a call for its key found the same.
+fn put_body(image: &mut Vec<u8>, listed: &StoredBody, found: Option<Vec<u8>>) -> Result<(), AllocError> {
+    image.extend_from_slice(listed.key.as_slice())?;
+    image.push(b'=')?;
+    if let Some(body) = found {
+        if body.as_slice() == listed.body.as_slice() {
+            image.extend_from_slice(body.as_slice())?;
         }
-        image.push(b';')?;
+    }
+    image.push(b';')?;
+    Ok(())
+}
+
+/// The rows of a table, each also got by its key.
+fn put_table<S: RowStore>(image: &mut Vec<u8>, store: &mut S, table: u32) -> Result<(), StoreFault> {
+    for listed in &store.list(table)? {
+        let found = store.get(table, listed.key.as_slice())?;
+        put_body(image, listed, found)?;
     }
     image.push(b'|')?;
     Ok(())
 }
 
-/// All that a store shows, as bytes.
+/// The pending changes of a table, each also got by its key.
+fn put_pending<S: RowStore>(image: &mut Vec<u8>, store: &mut S, table: u32) -> Result<(), StoreFault> {
+    for listed in &store.pend_list(table)? {
+        let found = store.pend_get(table, listed.key.as_slice())?;
+        put_body(image, listed, found)?;
+    }
+    image.push(b'|')?;
+    Ok(())
+}
+
+fn put_entry(image: &mut Vec<u8>, alloc: Global, entry: &StoredEntry) -> Result<(), AllocError> {
+    let StoredEntry { origin, number, .. } = entry;
+    image.extend_from_slice(format!(in alloc; "{origin}.{number}=")?.as_bytes())?;
+    image.extend_from_slice(entry.body.as_slice())?;
+    image.push(b';')?;
+    Ok(())
+}
+
+/// All that a store shows, as text.
 fn image<S: RowStore>(alloc: Global, store: &mut S) -> Result<Vec<u8>, StoreFault> {
     let mut image = Vec::new(alloc);
     for table in [0, 1, 7, BUT_LAST, LAST] {
         put_table(&mut image, store, table)?;
+    }
+    for table in [0, 1, 7, BUT_LAST, LAST] {
+        put_pending(&mut image, store, table)?;
     }
     for name in [
         MetaName::Id,
@@ -129,27 +201,26 @@ fn image<S: RowStore>(alloc: Global, store: &mut S) -> Result<Vec<u8>, StoreFaul
     image.push(b'|')?;
     for version in 0..store.log_len()?.saturating_add(1) {
         if let Some(entry) = store.log_get(version)? {
-            image.extend_from_slice(entry.as_slice())?;
-            image.push(b';')?;
+            put_entry(&mut image, alloc, &entry)?;
         }
     }
     image.push(b'|')?;
-    image.push(b'0' + (store.failures() % 10) as u8)?;
     Ok(image)
 }
 
 /// Three commits, through a caller that knows no store: whether it shows what was written by hand after each.
 fn shows_commits<S: RowStore>(alloc: Global, store: &mut S) -> Result<bool, StoreFault> {
-    store.commit(&batch(alloc, &FIRST_ROWS, &FIRST_META, Some(b"one"))?)?;
+    store.commit(&first_batch(alloc)?)?;
     let first = image(alloc, store)?;
-    store.commit(&batch(alloc, &NEXT_ROWS, &NEXT_META, Some(b"two"))?)?;
+    store.commit(&next_batch(alloc)?)?;
     let next = image(alloc, store)?;
-    store.commit(&batch(alloc, &[], &[], None)?)?;
+    store.commit(&batch(alloc, &[], &[], &[], None)?)?;
     let last = image(alloc, store)?;
     Ok(
         first.as_slice() == FIRST_SHOWN
             && next.as_slice() == NEXT_SHOWN
-            && last.as_slice() == NEXT_SHOWN,
+            && last.as_slice() == NEXT_SHOWN
+            && store.failures() == 0,
     )
 }
 
@@ -171,6 +242,8 @@ fn call<S: RowStore>(store: &mut S, next: &Batch, number: u64) -> Result<(), Sto
         2 => store.meta(MetaName::Flight).map(|_value| ()),
         3 => store.log_len().map(|_count| ()),
         4 => store.log_get(0).map(|_entry| ()),
+        5 => store.pend_get(0, b"1").map(|_change| ()),
+        6 => store.pend_list(0).map(|_changes| ()),
         _ => store.commit(next),
     }
 }
@@ -178,9 +251,9 @@ fn call<S: RowStore>(store: &mut S, next: &Batch, number: u64) -> Result<(), Sto
 #[test]
 fn a_call_that_the_device_refuses_leaves_everything(rt: HostRuntime) -> Result<(), Fail> {
     let alloc = rt.alloc();
-    let first = batch(alloc, &FIRST_ROWS, &FIRST_META, Some(b"one"))?;
-    let next = batch(alloc, &NEXT_ROWS, &NEXT_META, Some(b"two"))?;
-    for refused in 0..6u64 {
+    let first = first_batch(alloc)?;
+    let next = next_batch(alloc)?;
+    for refused in 0..8u64 {
         let mut store = MapStore::new(alloc);
         store.commit(&first)?;
         let mut trip = Trip::new(store, refused);
@@ -198,15 +271,56 @@ fn a_call_that_the_device_refuses_leaves_everything(rt: HostRuntime) -> Result<(
     Ok(())
 }
 
-/// A batch of so many rows in three tables, of which each fifth is removed, with a value and an entry of the log.
-fn many(alloc: Global, count: u8, row: &[u8]) -> Result<Batch, AllocError> {
-    let mut made = batch(alloc, &[], &[(MetaName::Number, Some(row))], Some(row))?;
+#[test]
+fn a_misread_counts_and_changes_nothing_else(rt: HostRuntime) -> Result<(), Fail> {
+    let alloc = rt.alloc();
+    let mut store = MapStore::new(alloc);
+    store.commit(&first_batch(alloc)?)?;
+    let mut trip = Trip::new(store, 1);
+    assert!(rt; trip.misread() == StoreFault::Device);
+    assert_eq!(rt; trip.failures(), 1);
+    assert!(rt; trip.log_len() == Ok(1));
+    assert!(rt; trip.log_len() == Err(StoreFault::Device));
+    assert_eq!(rt; trip.failures(), 2);
+    assert_eq!(rt; trip.inner.failures(), 1);
+    assert!(rt; image(alloc, &mut trip)?.as_slice() == FIRST_SHOWN);
+    Ok(())
+}
+
+#[test]
+fn what_is_written_is_counted_where_a_commit_succeeds(rt: HostRuntime) -> Result<(), Fail> {
+    let alloc = rt.alloc();
+    let mut trip = Trip::new(MapStore::new(alloc), 1);
+    let nothing = trip.written();
+    assert!(rt; (nothing.rows, nothing.pending, nothing.meta, nothing.log) == (0, 0, 0, 0));
+    trip.commit(&first_batch(alloc)?)?;
+    assert!(rt; trip.commit(&next_batch(alloc)?).is_err());
+    let first = trip.written();
+    assert!(rt; (first.rows, first.pending, first.meta, first.log) == (8, 4, 3, 1));
+    trip.commit(&next_batch(alloc)?)?;
+    trip.commit(&batch(alloc, &[], &FIRST_PENDING, &[], None)?)?;
+    let last = trip.written();
+    assert!(rt; (last.rows, last.pending, last.meta, last.log) == (13, 11, 5, 2));
+    Ok(())
+}
+
+/// A batch of so many rows and as many pending changes in two tables, of which each fifth is removed, with a value and an
+/// entry of the log.
+fn many(alloc: Global, count: u8, body: &[u8]) -> Result<Batch, AllocError> {
+    let mut made = batch(alloc, &[], &[], &[(MetaName::Number, Some(body))], Some((1, 1, body)))?;
     for number in 0..count {
-        let row = if number % 5 == 4 { None } else { Some(row) };
-        made.rows.push(RowEdit {
-            table: if number % 2 == 0 { 0 } else { LAST },
-            key: Vec::from_slice(alloc, &[number.wrapping_mul(37)])?,
-            row: optional(alloc, row)?,
+        let table = if number % 2 == 0 { 0 } else { LAST };
+        let key = [number.wrapping_mul(37)];
+        let set = if number % 5 == 4 { None } else { Some(body) };
+        made.rows.push(PlaceEdit {
+            table,
+            key: Vec::from_slice(alloc, &key)?,
+            body: optional(alloc, set)?,
+        })?;
+        made.pending.push(PlaceEdit {
+            table,
+            key: Vec::from_slice(alloc, &key)?,
+            body: optional(alloc, set)?,
         })?;
     }
     Ok(made)
@@ -237,8 +351,9 @@ fn commits_twice(alloc: Global) -> Result<bool, StoreFault> {
     let mut store = MapStore::new(alloc);
     let kept = commits_at_last(alloc, &mut store, &first)?
         && commits_at_last(alloc, &mut store, &next)?;
-    let listed = store.list(0)?.len() + store.list(LAST)?.len();
-    Ok(kept && listed == 64 && store.log_len()? == 2)
+    let rows = store.list(0)?.len() + store.list(LAST)?.len();
+    let changes = store.pend_list(0)?.len() + store.pend_list(LAST)?.len();
+    Ok(kept && rows == 64 && changes == 64 && store.log_len()? == 2)
 }
 
 /// Everything is as it was where memory is refused, and the same call then succeeds. `bench/refuse_tests.sh` refuses each

@@ -1,0 +1,4 @@
+pub mod Bodies
+pub mod Decided
+pub mod Logs
+pub mod States

@@ -1,0 +1,4 @@
+pub mod Entry
+pub mod Laws
+pub mod Log
+pub mod Stored

@@ -1,0 +1,81 @@
+-- What a `MapStore` holds, as its calls find and change it.
+use Rattle.std.proofs.Common.{◌≡◌, ℕ, Bool, true, cond, List, [], ◌∷◌, ◌++◌, map, fold, Option, Some, refl, sym, ap, subst, ◌∙◌, Vec, T, length, ◌<◌, arith}
+use Rattle.std.specs.Prelude.{pos}
+use Rattle.std.specs.declared.alloc.Global.{Global}
+use Rattle.std.specs.List.{All}
+use Rattle.std.specs.FinMap.{get, empty, get-empty, same_map, is_sorted, from_sorted, get-from_sorted, entries-from_sorted}
+use Rattle.cs_map_store.specs.Entries.{Entry}
+use Rattle.cs_map_store.specs.Leaves.{AreLeaves, edited, flat, in_table, bodies_in}
+use Rattle.cs_store.specs.declared.batch.PlaceEdit.{PlaceEdit}
+use Rattle.cs_store.specs.declared.batch.MetaEdit.{MetaEdit}
+use Rattle.cs_store.specs.declared.batch.StoredEntry.{StoredEntry}
+use Rattle.cs_map_store.proofs.Editing.{rows_edited, sorted_edits}
+use Rattle.std.proofs.lemmas.Cmp.{nat_list_cmp_total}
+use Rattle.std.proofs.lemmas.Map.Lookups.{exact_bytes}
+use Rattle.cs_store.specs.Contents.{Bodies, place_cmp, nothing, IsListing}
+use Rattle.cs_store.specs.Written.{optional_entry, after_batch, appended, edit_body, edit_meta}
+use Rattle.cs_map_store.specs.Slots.{SlotKey, Slot, listed, shown, meta_of, meta_table, log_of, held_in, write_to, meta_write}
+use Rattle.cs_map_store.specs.Steps.{step_write}
+use Rattle.cs_store.specs.declared.batch.Batch.{Batch}
+use Rattle.cs_map_store.specs.declared.slots.Step.{Step}
+use Rattle.cs_map_store.proofs.Maps.{place_total, place_exact, get-meta_of, meta_after_meta, listed_sorted, find-listed}
+use Rattle.cs_map_store.proofs.Showing.{get-shown}
+use Rattle.cs_map_store.proofs.Numbered.{log_push}
+
+-- ---- a new store
+
+no_bodies : bodies_in [] ≡ empty
+no_bodies = same_map place_total place_exact _ _ (λ q. get-from_sorted place_cmp [] q tt ∙ sym (get-empty place_cmp q))
+
+no_meta : meta_of (shown []) ≡ empty
+no_meta = same_map nat_list_cmp_total exact_bytes _ _ (λ k. get-meta_of (shown []) k ∙ get-shown [] (meta_table, k) ∙ sym (get-empty _ k))
+
+no_log : log_of [] ≡ empty
+unfolding log_of
+no_log = refl
+
+pub new_holds : (rows pending : List (List Entry)) (es : List (SlotKey × Slot)) (xs : List StoredEntry) → rows ≡ [] → pending ≡ [] → es ≡ [] → xs ≡ [] → held_in rows pending es xs ≡ nothing
+new_holds rows pending es xs r p e x = (λ i. held_in (r i) (p i) (e i) (x i)) ∙ (λ i. record { rows = no_bodies i; pending = no_bodies i; meta = no_meta i; log = no_log i })
+
+-- ---- reads
+
+pub meta_found : (c : Bodies) (k j : List ℕ) → k ≡ j → get c (meta_table, k) ≡ get (meta_of c) j
+meta_found c k j same = ap (λ (n : List ℕ). get c (meta_table, n)) same ∙ sym (get-meta_of c j)
+
+-- the entries of one table are its listing
+pub table_listed : (leaves : List (List Entry)) (n : ℕ) (pairs : List (List ℕ × List ℕ)) → T (is_sorted place_cmp (flat leaves)) → pairs ≡ in_table (pos n) (flat leaves) → IsListing (λ k. get (bodies_in leaves) (pos n, k)) pairs
+table_listed leaves n pairs sorted is =
+    let same : pairs ≡ listed (pos n) (bodies_in leaves) = is ∙ ap (in_table (pos n)) (sym (entries-from_sorted place_cmp (flat leaves) sorted)) in
+    subst (IsListing (λ k. get (bodies_in leaves) (pos n, k))) (sym same) (record { rises = listed_sorted (pos n) (bodies_in leaves); found = λ k. find-listed (pos n) k (bodies_in leaves) })
+
+-- ---- a commit
+
+pub entry_added : (old new : List StoredEntry) (entry : Option StoredEntry) (it : StoredEntry) (b : Bool) → entry ≡ Some it → new ≡ cond b (old ++ it ∷ []) old → b ≡ true → log_of new ≡ appended (log_of old) (optional_entry entry)
+entry_added old new entry it b is new_is done = ap log_of (new_is ∙ ap (λ (t : Bool). cond t (old ++ it ∷ []) old) done) ∙ log_push old it ∙ sym (ap (λ (e : Option StoredEntry). appended (log_of old) (optional_entry e)) is)
+
+-- the bodies of leaves after edits that were put in order
+pub bodies_after : (leaves made : List (List Entry)) (edits all : List PlaceEdit) → T (is_sorted place_cmp (flat leaves)) → ((bodies : Bodies) → fold edit_body bodies edits ≡ fold edit_body bodies all)
+    → flat made ≡ fold edited (flat leaves) edits → bodies_in made ≡ fold edit_body (bodies_in leaves) all
+bodies_after leaves made edits all sorted order merged = ap from_sorted merged ∙ rows_edited edits (flat leaves) sorted ∙ order (bodies_in leaves)
+
+pub still_rises : (leaves made : List (List Entry)) (edits : List PlaceEdit) → T (is_sorted place_cmp (flat leaves)) → flat made ≡ fold edited (flat leaves) edits → T (is_sorted place_cmp (flat made))
+still_rises leaves made edits sorted merged = subst (λ (es : List Entry). T (is_sorted place_cmp es)) (sym merged) (sorted_edits edits (flat leaves) sorted)
+
+-- leaves that are put in
+pub put_in : (made ends : List (List Entry)) → T (is_sorted place_cmp (flat made)) → flat ends ≡ flat made → All (λ leaf. 0 < length leaf) ends → AreLeaves ends
+put_in made ends rise put full = record { full = full; rise = subst (λ (es : List Entry). T (is_sorted place_cmp es)) (sym put) rise }
+
+pub meta_after : (es ms ns : List (SlotKey × Slot)) (steps : List Step) (edits : List MetaEdit) → shown ms ≡ shown es → map step_write steps ≡ map meta_write edits → shown ns ≡ fold write_to (shown ms) (map step_write steps)
+    → meta_of (shown ns) ≡ fold edit_meta (meta_of (shown es)) edits
+meta_after es ms ns steps edits slots copies wrote = ap meta_of (wrote ∙ (λ i. fold write_to (slots i) (copies i))) ∙ meta_after_meta (shown es) edits
+
+pub held_after : (rows made_rows end_rows pending made_pending end_pending : List (List Entry)) (es ns : List (SlotKey × Slot)) (xs zs : List StoredEntry) (batch : Batch)
+    → bodies_in made_rows ≡ fold edit_body (bodies_in rows) batch.rows.items → flat end_rows ≡ flat made_rows
+    → bodies_in made_pending ≡ fold edit_body (bodies_in pending) batch.pending.items → flat end_pending ≡ flat made_pending
+    → meta_of (shown ns) ≡ fold edit_meta (meta_of (shown es)) batch.meta.items → log_of zs ≡ appended (log_of xs) (optional_entry batch.log)
+    → held_in end_rows end_pending ns zs ≡ after_batch batch (held_in rows pending es xs)
+held_after rows made_rows end_rows pending made_pending end_pending es ns xs zs batch r put_rows p put_pending m l =
+    λ i. record { rows = (ap from_sorted put_rows ∙ r) i; pending = (ap from_sorted put_pending ∙ p) i; meta = m i; log = l i }
+
+pub no_leaves : AreLeaves []
+no_leaves = record { full = λ k d h. absurd (omega (arith, h)); rise = tt }

@@ -1,0 +1,10 @@
+pub mod Maps
+pub mod Showing
+pub mod Numbered
+pub mod Changing
+pub mod Holding
+pub mod Filled
+pub mod Editing
+pub mod Packing
+pub mod Leafing
+pub mod Ordered

@@ -1,0 +1,14 @@
+use Rattle.std.proofs.Common.{◌-◌, ◌≤◌, pos, length}
+use Rattle.cs_map_store.specs.Entries.{IsPlaceBetween}
+use Rattle.cs_map_store.proofs.leaf.Leaf.settle.Given as goal
+
+abbrev pub invariant-loop-low : goal.invariant-loop-low
+invariant-loop-low l = record {
+  from : l.from ≤ l.low;
+  within : l.high ≤ length l.self;
+  order : l.low ≤ l.high;
+  between : IsPlaceBetween l.self l.from l.low l.high (pos l.table, l.key);
+}
+
+abbrev pub decreases-loop-low : goal.decreases-loop-low
+decreases-loop-low l = l.high - l.low

@@ -1,0 +1,15 @@
+use Rattle.std.proofs.Common.{◌-◌, ◌≤◌, ◌<◌, pos, length}
+use Rattle.cs_map_store.specs.Leaves.{BeginsBy, BeginsBehind}
+use Rattle.cs_map_store.proofs.leaves.leaf_for.Given as goal
+
+abbrev pub invariant-loop-high : goal.invariant-loop-high
+invariant-loop-high l = record {
+  from : l.from ≤ l.low;
+  order : l.low < l.high;
+  within : l.high ≤ length l.leaves;
+  begins : BeginsBy l.leaves l.low (pos l.table, l.key);
+  next : BeginsBehind l.leaves l.high (pos l.table, l.key);
+}
+
+abbrev pub decreases-loop-high : goal.decreases-loop-high
+decreases-loop-high l = l.high - l.low

@@ -1,0 +1,17 @@
+use Rattle.std.proofs.Common.{ap, length, arith, subst, sym}
+use Rattle.cs_map_store.specs.Leaves.{AreLeaves}
+use Rattle.cs_map_store.proofs.Holding.{new_holds, no_leaves}
+use Rattle.cs_map_store.proofs.Filled.{new_filled}
+use Rattle.cs_map_store.proofs.map_store.MapStore.new.Goals as goal
+
+pub invariant_of-result : goal.invariant_of-result
+invariant_of-result c = record {
+  rows = subst AreLeaves (sym c.new.ensures.items) no_leaves;
+  pending = subst AreLeaves (sym c.new-2.ensures.items) no_leaves;
+  bound = let none = ap length c.new-4.ensures.items in omega (arith, none);
+  filled = new_filled c.new-3.result c.new-3.ensures.empty;
+}
+
+pub returns : goal.returns
+returns c = let held = new_holds c.new.result.items c.new-2.result.items c.new-3.result.entries c.new-4.result.items c.new.ensures.items c.new-2.ensures.items c.new-3.ensures.empty c.new-4.ensures.items in
+    λ i. record { held = held i; misreads = 0 }

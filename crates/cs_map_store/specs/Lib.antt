@@ -1,0 +1,4 @@
+pub mod Slots
+pub mod Steps
+pub mod Entries
+pub mod Leaves

@@ -1,0 +1,265 @@
+//! Bodies of a `MapStore` that stand side by side, packed into one list of bytes.
+
+ghost use Rattle.std.specs.Prelude.{◌≡◌, ◌<◌, ◌≤◌, ◌++◌, ◌∷◌, [], pos, length, slice_range, IfOk, OnOk};
+ghost use Rattle.std.specs.List.{All};
+ghost use Rattle.cs_store.specs.Contents.{place_cmp};
+ghost use Rattle.cs_map_store.specs.Entries.{IsSpotIn, IsPlaceFor, entries_at, entry_at, nth};
+
+use std::alloc::{AllocError, Global};
+use std::cmp::Ordering;
+use std::marker::Model;
+
+/// Where a row stands in its leaf's bytes: its key up to `row`, and behind it the row up to `end`.
+#[derive(Clone, Copy)]
+struct Spot {
+    table: u32,
+    key: usize,
+    row: usize,
+    end: usize,
+}
+
+/// Bodies behind their places. Contracts see them as a list.
+#[derive(Drop)]
+pub struct Leaf {
+    bytes: Vec<u8>,
+    spots: Vec<Spot>,
+}
+
+impl Model for Leaf {
+    ghost use Rattle.std.specs.Prelude.{List, length};
+    ghost use Rattle.std.specs.List.{All};
+    ghost use Rattle.cs_map_store.specs.Entries.{Entry, IsSpotIn, entries_at};
+
+    ghost Value = { List Entry };
+
+    ghost view = { λ leaf. entries_at leaf.bytes.items leaf.spots.items };
+
+    ghost invariant = { λ leaf. All (IsSpotIn (length leaf.bytes.items)) leaf.spots.items };
+}
+
+/// Appends a row.
+#[inline(always)]
+fn put(
+    bytes: &mut Vec<u8>,
+    spots: &mut Vec<Spot>,
+    table: u32,
+    key: &[u8],
+    row: &[u8],
+) -> Result<(), AllocError>
+    requires { All (IsSpotIn (length bytes.old.items)) spots.old.items }
+    ensures within { All (IsSpotIn (length bytes.new.items)) spots.new.items }
+    ensures ok { OnOk result (entries_at bytes.new.items spots.new.items
+        ≡ entries_at bytes.old.items spots.old.items ++ ((pos table, key.now), row.now) ∷ []) }
+{
+    let start = bytes.len();
+    bytes.extend_from_slice(key)?;
+    let middle = bytes.len();
+    bytes.extend_from_slice(row)?;
+    spots.push(Spot {
+        table,
+        key: start,
+        row: middle,
+        end: bytes.len(),
+    })?;
+    Ok(())
+}
+
+/// Appends a row that stands in other bytes.
+#[inline(always)]
+fn put_copy(
+    bytes: &mut Vec<u8>,
+    spots: &mut Vec<Spot>,
+    source: &[u8],
+    spot: Spot,
+) -> Result<(), AllocError>
+    requires within { All (IsSpotIn (length bytes.old.items)) spots.old.items }
+    requires spot { IsSpotIn (length source.now) spot }
+    ensures within { All (IsSpotIn (length bytes.new.items)) spots.new.items }
+    ensures ok { OnOk result (entries_at bytes.new.items spots.new.items
+        ≡ entries_at bytes.old.items spots.old.items ++ entry_at source.now spot ∷ []) }
+{
+    let start = bytes.len();
+    bytes.extend_from_slice(&source[spot.key..spot.end])?;
+    spots.push(Spot {
+        table: spot.table,
+        key: start,
+        row: start + (spot.row - spot.key),
+        end: bytes.len(),
+    })?;
+    Ok(())
+}
+
+impl Leaf {
+    ghost use Rattle.std.specs.Prelude.{◌≡◌, ◌<◌, ◌≤◌, ◌++◌, ◌∷◌, [], pos, length, slice_range, IfOk, OnOk};
+    ghost use Rattle.cs_store.specs.Contents.{place_cmp};
+    ghost use Rattle.cs_map_store.specs.Entries.{IsPlaceFor, IsPlaceBetween, nth};
+
+    /// No row.
+    pub fn new(alloc: Global) -> Leaf
+        ensures { result ≡ [] }
+    {
+        Leaf {
+            bytes: Vec::new(alloc),
+            spots: Vec::new(alloc),
+        }
+    }
+
+    /// No row, with room for so many in so many bytes.
+    pub fn with_capacity(alloc: Global, rows: usize, bytes: usize) -> Result<Leaf, AllocError>
+        ensures { IfOk result (λ leaf. leaf ≡ []) }
+    {
+        Ok(Leaf {
+            bytes: Vec::with_capacity(alloc, bytes)?,
+            spots: Vec::with_capacity(alloc, rows)?,
+        })
+    }
+
+    /// No row, with room for those of another leaf and some more.
+    pub fn with_room_for(alloc: Global, leaf: &Leaf, more: usize) -> Result<Leaf, AllocError>
+        ensures { IfOk result (λ leaf. leaf ≡ []) }
+    {
+        let rows = leaf.spots.len().saturating_add(more);
+        let each = leaf.bytes.len() / leaf.spots.len().max(1) + 1;
+        Leaf::with_capacity(alloc, rows, rows.saturating_mul(each))
+    }
+
+    /// How many rows there are.
+    #[inline(always)]
+    pub fn len(&self) -> usize
+        ensures { result ≡ length self.now }
+    {
+        self.spots.len()
+    }
+
+    /// The number of the table of the row there.
+    #[inline(always)]
+    pub fn table(&self, at: usize) -> u32
+        requires { at < length self.now }
+        ensures { pos result ≡ (nth self.now at).0.0 }
+    {
+        self.spots[at].table
+    }
+
+    /// The key there.
+    #[inline(always)]
+    pub fn key(&self, at: usize) -> &[u8]
+        requires { at < length self.now }
+        ensures { result.now ≡ (nth self.now at).0.1 }
+    {
+        let spot = self.spots[at];
+        &self.bytes.as_slice()[spot.key..spot.row]
+    }
+
+    /// The row there.
+    #[inline(always)]
+    pub fn row(&self, at: usize) -> &[u8]
+        requires { at < length self.now }
+        ensures { result.now ≡ (nth self.now at).1 }
+    {
+        let spot = self.spots[at];
+        &self.bytes.as_slice()[spot.row..spot.end]
+    }
+
+    /// Compares the place there with another.
+    #[inline(always)]
+    pub fn compare(&self, at: usize, table: u32, key: &[u8]) -> Ordering
+        requires { at < length self.now }
+        ensures { result ≡ place_cmp (nth self.now at).0 (pos table, key.now) }
+    {
+        self.table(at)
+            .cmp(&table)
+            .then_with(|| self.key(at).cmp(key))
+    }
+
+    /// Between which two positions a place stands or would stand, not before `from`, in steps that double.
+    #[inline(always)]
+    fn reach(&self, from: usize, table: u32, key: &[u8]) -> (usize, usize)
+        requires { from ≤ length self.now }
+        ensures order { (from ≤ result.0) × (result.0 ≤ result.1) × (result.1 ≤ length self.now) }
+        ensures between { IsPlaceBetween self.now from result.0 result.1 (pos table, key.now) }
+    {
+        let mut low = from;
+        let mut high = from;
+        while high < self.len() && self.compare(high, table, key).is_lt() {
+            low = high + 1;
+            high = low.saturating_add(high - from).min(self.len());
+        }
+        (low, high)
+    }
+
+    /// Where a place stands or would stand of which this is known, in halves.
+    #[inline(always)]
+    fn settle(&self, from: usize, reached: (usize, usize), table: u32, key: &[u8]) -> usize
+        requires order { (from ≤ reached.0) × (reached.0 ≤ reached.1) × (reached.1 ≤ length self.now) }
+        requires between { IsPlaceBetween self.now from reached.0 reached.1 (pos table, key.now) }
+        ensures bound { (from ≤ result) × (result ≤ length self.now) }
+        ensures found { IsPlaceFor self.now from result (pos table, key.now) }
+    {
+        let (mut low, mut high) = reached;
+        while low < high {
+            let middle = low + (high - low) / 2;
+            if self.compare(middle, table, key).is_lt() {
+                low = middle + 1;
+            } else {
+                high = middle;
+            }
+        }
+        low
+    }
+
+    /// Where a place stands or would stand, not before `from`. It takes the logarithm of the way from there.
+    pub fn search(&self, from: usize, table: u32, key: &[u8]) -> usize
+        requires { from ≤ length self.now }
+        ensures bound { (from ≤ result) × (result ≤ length self.now) }
+        ensures found { IsPlaceFor self.now from result (pos table, key.now) }
+    {
+        let reached = self.reach(from, table, key);
+        self.settle(from, reached, table, key)
+    }
+
+    /// Where a place stands or would stand. It is looked for from `near` on first.
+    pub fn search_near(&self, near: usize, table: u32, key: &[u8]) -> usize
+        ensures bound { result ≤ length self.now }
+        ensures found { IsPlaceFor self.now 0 result (pos table, key.now) }
+    {
+        if 0 < near && near <= self.len() && self.compare(near - 1, table, key).is_lt() {
+            self.search(near, table, key)
+        } else {
+            self.settle(0, (0, self.len()), table, key)
+        }
+    }
+
+    /// Appends a row.
+    #[inline(always)]
+    pub fn push(&mut self, table: u32, key: &[u8], row: &[u8]) -> Result<(), AllocError>
+        ensures { OnOk result (self.new ≡ self.old ++ ((pos table, key.now), row.now) ∷ []) }
+    {
+        put(&mut self.bytes, &mut self.spots, table, key, row)
+    }
+
+    /// Appends the row there of a leaf.
+    #[inline(always)]
+    fn push_from(&mut self, leaf: &Leaf, at: usize) -> Result<(), AllocError>
+        requires { at < length leaf.now }
+        ensures { OnOk result (self.new ≡ self.old ++ nth leaf.now at ∷ []) }
+    {
+        let spot = leaf.spots[at];
+        put_copy(
+            &mut self.bytes,
+            &mut self.spots,
+            leaf.bytes.as_slice(),
+            spot,
+        )
+    }
+
+    /// Appends the rows of a leaf from one place up to another.
+    pub fn push_rows(&mut self, leaf: &Leaf, from: usize, to: usize) -> Result<(), AllocError>
+        requires { (from ≤ to) × (to ≤ length leaf.now) }
+        ensures { OnOk result (self.new ≡ self.old ++ slice_range leaf.now from to) }
+    {
+        for at in from..to {
+            self.push_from(leaf, at)?;
+        }
+        Ok(())
+    }
+}

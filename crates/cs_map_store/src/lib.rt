@@ -1,0 +1,16 @@
+//! A store in memory, `MapStore`. It meets what any store owes (`cs_store`'s `RowStore`), and refuses for want of memory
+//! alone: each of its calls says so, but for `misread`, by which a caller counts that what it gave can't have been written.
+//! What it took for a refused commit it gives back. A commit of one row or of one pending change costs the logarithm of those
+//! that are there. The crate stands on `cs_store` and on the order of keys (`cs_order`).
+//! Its tests stand in `cs_store_tests`.
+#![tactic(auto)]
+
+mod edits;
+mod leaf;
+mod leaves;
+mod log;
+mod map_store;
+mod merging;
+mod slots;
+
+pub use map_store::MapStore;

@@ -1,0 +1,267 @@
+//! A store in memory.
+
+ghost use Rattle.std.specs.Prelude.{◌≡◌, ◌<◌, ◌^◌, ◌+◌, [], length, fold, IsSome, OnOk, OnErr};
+ghost use Rattle.std.specs.Vec.{vec_len, vec_capacity};
+ghost use Rattle.cs_store.specs.Written.{after_batch, appended, edit_meta, optional_entry};
+ghost use Rattle.cs_map_store.specs.Slots.{held_in, log_of, meta_of, shown};
+ghost use Rattle.cs_map_store.specs.Steps.{HasSlots, IsEmptyOnlyAt, IsKept, step_keys};
+
+use crate::leaf::Leaf;
+use crate::leaves::{Near, Shelves, find_row, list_rows, put_staged, stage_edits};
+use crate::log::{append, copied_entry, make_room, read_log};
+use crate::slots::{
+    SlotKey, Slots, Step, make_slots, read_slot, steps_of, sweep_steps, write_steps,
+};
+use cs_store::{Batch, MetaName, RowStore, StoreFault, StoredBody, StoredEntry};
+use std::alloc::{AllocError, Global};
+use std::collections::BTreeMap;
+use std::marker::Model;
+
+/// A store in memory. Contracts see what it holds, and the count of its misreads. Of its calls `misread` alone raises the
+/// count and tells `Device`, and a stop leaves what it holds. Its rows lie in leaves, in order, each packed into one list of
+/// bytes, and so do its pending changes. A look-up begins where the last one ended; where its place isn't near, it halves the
+/// leaves and then one leaf. A commit makes each leaf anew that its edits fall into, so a commit of one row or of one pending
+/// change costs the logarithm of those that are there, but for a walk over the list of leaves where one is cut or goes. Its
+/// log has at most 4,294,967,295 entries; a commit of one more answers `Memory`. (Profile of this project.)
+#[derive(Drop)]
+pub struct MapStore {
+    alloc: Global,
+    shelves: Shelves,
+    slots: Slots,
+    log: Vec<StoredEntry>,
+    near: Near,
+    near_pending: Near,
+    misreads: u64,
+}
+
+impl Model for MapStore {
+    ghost use Rattle.cs_map_store.specs.Slots.{InMemory, held_in, in_memory_code};
+    ghost use Rattle.cs_map_store.specs.Steps.{IsKept};
+
+    ghost Value = { InMemory };
+
+    ghost coded = { in_memory_code };
+
+    ghost view = { λ store. record {
+        held = held_in store.shelves.rows.items store.shelves.pending.items store.slots.entries store.log.items;
+        misreads = store.misreads;
+    } };
+
+    // Each slot has a value, so what was taken for a refused commit is given back.
+    ghost invariant = { λ store. IsKept store.shelves store.slots store.log };
+}
+
+impl MapStore {
+    ghost use Rattle.std.specs.Prelude.{◌≡◌};
+    ghost use Rattle.cs_map_store.specs.Slots.{new_store};
+
+    /// A store that holds nothing. It takes no memory, and keeps `alloc` for later calls.
+    pub fn new(alloc: Global) -> MapStore
+        ensures { result ≡ new_store }
+    {
+        MapStore {
+            alloc,
+            shelves: Shelves {
+                rows: Vec::new(alloc),
+                pending: Vec::new(alloc),
+            },
+            slots: BTreeMap::new(alloc),
+            log: Vec::new(alloc),
+            near: Near::start(),
+            near_pending: Near::start(),
+            misreads: 0,
+        }
+    }
+}
+
+/// Takes the room in which values and an entry will be written. At `Err` it may leave slots with nothing in them.
+fn take_room(
+    alloc: Global,
+    slots: &mut Slots,
+    log: &mut Vec<StoredEntry>,
+    steps: &[Step],
+    entry: &Option<StoredEntry>,
+) -> Result<(), AllocError>
+    ensures shown { shown slots.new.entries ≡ shown slots.old.entries }
+    ensures has { OnOk result (HasSlots slots.new steps.now) }
+    ensures empty { IsEmptyOnlyAt [] slots.old → IsEmptyOnlyAt (step_keys steps.now) slots.new }
+    ensures items { log.new.items ≡ log.old.items }
+    ensures room { OnOk result (IsSome entry.now → vec_len log.new < vec_capacity log.new) }
+    ensures bound { OnOk result (IsSome entry.now → length log.new.items + 1 < 2 ^ 32) }
+    ensures err { OnErr result (vec_capacity log.new ≡ vec_capacity log.old) }
+{
+    make_slots(alloc, slots, steps)?;
+    make_room(log, entry)
+}
+
+/// Writes the values and the entry of a batch. What was taken for a refused one is given back.
+fn write_rest(
+    alloc: Global,
+    slots: &mut Slots,
+    log: &mut Vec<StoredEntry>,
+    batch: &Batch,
+) -> Result<(), AllocError>
+    requires bound { length log.old.items < 2 ^ 32 }
+    requires filled { IsEmptyOnlyAt [] slots.old }
+    ensures meta { OnOk result (meta_of (shown slots.new.entries) ≡ fold edit_meta (meta_of (shown slots.old.entries)) batch.now.meta.items) }
+    ensures log { OnOk result (log_of log.new.items ≡ appended (log_of log.old.items) (optional_entry batch.now.log)) }
+    ensures same_meta { OnErr result (shown slots.new.entries ≡ shown slots.old.entries) }
+    ensures same_log { OnErr result (log.new.items ≡ log.old.items) }
+    ensures given_back { OnErr result (vec_capacity log.new ≡ vec_capacity log.old) }
+    ensures bound { length log.new.items < 2 ^ 32 }
+    ensures filled { IsEmptyOnlyAt [] slots.new }
+{
+    let steps = steps_of(alloc, batch)?;
+    let entry = copied_entry(alloc, &batch.log)?;
+    let cleared = Vec::with_capacity(alloc, steps.len())?;
+    if let Err(e) = take_room(alloc, slots, log, steps.as_slice(), &entry) {
+        sweep_steps(slots, steps.as_slice());
+        return Err(e);
+    }
+    write_steps(slots, steps, cleared);
+    append(log, entry);
+    Ok(())
+}
+
+/// Takes all the memory that the batch needs, and then writes it.
+fn write(
+    alloc: Global,
+    shelves: &mut Shelves,
+    slots: &mut Slots,
+    log: &mut Vec<StoredEntry>,
+    batch: &Batch,
+) -> Result<(), AllocError>
+    requires { IsKept shelves.old slots.old log.old }
+    ensures ok { OnOk result (held_in shelves.new.rows.items shelves.new.pending.items slots.new.entries log.new.items
+        ≡ after_batch batch.now (held_in shelves.old.rows.items shelves.old.pending.items slots.old.entries log.old.items)) }
+    ensures err { OnErr result (held_in shelves.new.rows.items shelves.new.pending.items slots.new.entries log.new.items
+        ≡ held_in shelves.old.rows.items shelves.old.pending.items slots.old.entries log.old.items) }
+    ensures given_back { OnErr result (vec_capacity log.new ≡ vec_capacity log.old) }
+    ensures kept { IsKept shelves.new slots.new log.new }
+{
+    let rows = stage_edits(alloc, shelves.rows.as_slice(), batch.rows.as_slice())?;
+    let pending = stage_edits(alloc, shelves.pending.as_slice(), batch.pending.as_slice())?;
+    write_rest(alloc, slots, log, batch)?;
+    put_staged(alloc, &mut shelves.rows, rows);
+    put_staged(alloc, &mut shelves.pending, pending);
+    Ok(())
+}
+
+impl RowStore for MapStore {
+    ghost use Rattle.std.specs.Prelude.{◌≡◌, ◌+◌, ◌-◌, ◌^◌, ℕ, refl, min, IfOk, IfErr};
+    ghost use Rattle.cs_store.specs.Calls.{OnlyReads, Commits, refusal};
+    ghost use Rattle.cs_store.specs.Contents.{Contents, IsListing, stored_tables, stored_pending, meta_value, log_entry, log_count};
+    ghost use Rattle.cs_store.specs.Written.{after_batch, optional_bytes, optional_entry, pairs_of};
+    ghost use Rattle.cs_store.specs.declared.fault.StoreFault.TheVariants.{Memory, Device};
+    ghost use Rattle.cs_map_store.specs.Slots.{held_by, is_honest, leaves_held, misreads_of};
+
+    ghost contents = { held_by };
+
+    ghost honest = { is_honest };
+
+    ghost failed = { misreads_of };
+
+    ghost may_leave = { leaves_held };
+
+    ghost leaves = { λ store _. ∣ (store.held, refl) ∣₁ };
+
+    fn get(&mut self, table: u32, key: &[u8]) -> Result<Option<Vec<u8>>, StoreFault>
+        ensures found { is_honest self.new → IfOk result (λ row. optional_bytes row ≡ stored_tables self.old.held table key.now) }
+        ensures reads { OnlyReads is_honest held_by misreads_of leaves_held self.old self.new result }
+        ensures memory { IfErr result (λ fault. fault ≡ Memory) }
+        ensures count { self.new.misreads ≡ self.old.misreads }
+    {
+        let leaves = self.shelves.rows.as_slice();
+        let row = find_row(self.alloc, leaves, &mut self.near, table, key)?;
+        Ok(row)
+    }
+
+    fn list(&mut self, table: u32) -> Result<Vec<StoredBody>, StoreFault>
+        ensures listed { is_honest self.new → IfOk result (λ rows. IsListing (stored_tables self.old.held table) (pairs_of rows.items)) }
+        ensures reads { OnlyReads is_honest held_by misreads_of leaves_held self.old self.new result }
+        ensures memory { IfErr result (λ fault. fault ≡ Memory) }
+        ensures count { self.new.misreads ≡ self.old.misreads }
+    {
+        let rows = list_rows(self.alloc, self.shelves.rows.as_slice(), table)?;
+        Ok(rows)
+    }
+
+    fn pend_get(&mut self, table: u32, key: &[u8]) -> Result<Option<Vec<u8>>, StoreFault>
+        ensures found { is_honest self.new → IfOk result (λ change. optional_bytes change ≡ stored_pending self.old.held table key.now) }
+        ensures reads { OnlyReads is_honest held_by misreads_of leaves_held self.old self.new result }
+        ensures memory { IfErr result (λ fault. fault ≡ Memory) }
+        ensures count { self.new.misreads ≡ self.old.misreads }
+    {
+        let leaves = self.shelves.pending.as_slice();
+        let change = find_row(self.alloc, leaves, &mut self.near_pending, table, key)?;
+        Ok(change)
+    }
+
+    fn pend_list(&mut self, table: u32) -> Result<Vec<StoredBody>, StoreFault>
+        ensures listed { is_honest self.new → IfOk result (λ changes. IsListing (stored_pending self.old.held table) (pairs_of changes.items)) }
+        ensures reads { OnlyReads is_honest held_by misreads_of leaves_held self.old self.new result }
+        ensures memory { IfErr result (λ fault. fault ≡ Memory) }
+        ensures count { self.new.misreads ≡ self.old.misreads }
+    {
+        let changes = list_rows(self.alloc, self.shelves.pending.as_slice(), table)?;
+        Ok(changes)
+    }
+
+    fn meta(&mut self, name: MetaName) -> Result<Option<Vec<u8>>, StoreFault>
+        ensures found { is_honest self.new → IfOk result (λ value. optional_bytes value ≡ meta_value self.old.held name) }
+        ensures reads { OnlyReads is_honest held_by misreads_of leaves_held self.old self.new result }
+        ensures memory { IfErr result (λ fault. fault ≡ Memory) }
+        ensures count { self.new.misreads ≡ self.old.misreads }
+    {
+        let own: SlotKey = (0, Vec::from_slice(self.alloc, name.text().as_bytes())?);
+        let value = read_slot(self.alloc, &self.slots, &own)?;
+        Ok(value)
+    }
+
+    fn log_len(&mut self) -> Result<u32, StoreFault>
+        ensures counted { is_honest self.new → IfOk result (λ count. count ≡ log_count self.old.held) }
+        ensures reads { OnlyReads is_honest held_by misreads_of leaves_held self.old self.new result }
+        ensures memory { IfErr result (λ fault. fault ≡ Memory) }
+        ensures count { self.new.misreads ≡ self.old.misreads }
+    {
+        Ok(self.log.len() as u32)
+    }
+
+    fn log_get(&mut self, version: u32) -> Result<Option<StoredEntry>, StoreFault>
+        ensures found { is_honest self.new → IfOk result (λ entry. optional_entry entry ≡ log_entry self.old.held version) }
+        ensures reads { OnlyReads is_honest held_by misreads_of leaves_held self.old self.new result }
+        ensures memory { IfErr result (λ fault. fault ≡ Memory) }
+        ensures count { self.new.misreads ≡ self.old.misreads }
+    {
+        let entry = read_log(self.alloc, self.log.as_slice(), version)?;
+        Ok(entry)
+    }
+
+    fn commit(&mut self, batch: &Batch) -> Result<(), StoreFault>
+        ensures commits { Commits is_honest held_by misreads_of leaves_held (after_batch batch.now self.old.held) self.old self.new result }
+        ensures memory { IfErr result (λ fault. fault ≡ Memory) }
+        ensures count { self.new.misreads ≡ self.old.misreads }
+    {
+        write(
+            self.alloc,
+            &mut self.shelves,
+            &mut self.slots,
+            &mut self.log,
+            batch,
+        )?;
+        Ok(())
+    }
+
+    fn misread(&mut self) -> StoreFault
+        ensures told { result ≡ Device }
+        ensures reads { OnlyReads is_honest held_by misreads_of leaves_held self.old self.new (refusal (Unit {0}) result) }
+        ensures count { self.new.misreads ≡ min (self.old.misreads + 1) (2 ^ 64 - 1) }
+    {
+        self.misreads = self.misreads.saturating_add(1);
+        StoreFault::Device
+    }
+
+    fn failures(&self) -> u64 {
+        self.misreads
+    }
+}

@@ -1,0 +1,67 @@
+//! Edits that are merged into rows.
+
+ghost use Rattle.std.specs.Prelude.{◌≡◌, ◌≤◌, ◌<◌, ◌++◌, T, length, drop, fold, IfOk, OnOk};
+ghost use Rattle.std.specs.FinMap.{is_sorted};
+ghost use Rattle.cs_store.specs.Contents.{place_cmp};
+ghost use Rattle.cs_store.specs.Written.{optional_bytes};
+ghost use Rattle.cs_map_store.specs.Leaves.{IsBehind, IsMerged, Rise, store_place, edited, edits_behind, written};
+
+use cs_store::PlaceEdit;
+use crate::leaf::Leaf;
+use std::alloc::{AllocError, Global};
+use std::cmp::Ordering;
+
+/// Where a leaf goes on behind the place of an edit, which stands or would stand at `at`.
+fn behind(leaf: &Leaf, at: usize, edit: &PlaceEdit) -> usize
+    requires { at ≤ length leaf.now }
+    ensures { IsBehind leaf.now at (store_place edit.now) result }
+{
+    if at < leaf.len() && leaf.compare(at, edit.table, edit.key.as_slice()) == Ordering::Equal {
+        at + 1
+    } else {
+        at
+    }
+}
+
+/// Appends the row that an edit sets, if it sets one.
+fn push_edit(merged: &mut Leaf, edit: &PlaceEdit) -> Result<(), AllocError>
+    ensures { OnOk result (merged.new ≡ merged.old ++ written (store_place edit.now) (optional_bytes edit.now.body)) }
+{
+    match &edit.body {
+        Some(row) => merged.push(edit.table, edit.key.as_slice(), row.as_slice()),
+        None => Ok(()),
+    }
+}
+
+/// Appends the rows of a leaf before an edit, from one place on, and then the edit's row, and answers where the leaf goes on.
+fn merge_edit(
+    merged: &mut Leaf,
+    leaf: &Leaf,
+    from: usize,
+    edit: &PlaceEdit,
+) -> Result<usize, AllocError>
+    requires from { from ≤ length leaf.now }
+    requires sorted { T (is_sorted place_cmp leaf.now) }
+    ensures bound { IfOk result (λ next. next ≤ length leaf.now) }
+    ensures merged { IfOk result (λ next. IsMerged leaf.now from edit.now next merged.old merged.new) }
+{
+    let at = leaf.search(from, edit.table, edit.key.as_slice());
+    merged.push_rows(leaf, from, at)?;
+    push_edit(merged, edit)?;
+    Ok(behind(leaf, at, edit))
+}
+
+/// The rows of a leaf after edits, in memory of their own.
+pub fn merged(alloc: Global, leaf: &Leaf, edits: &[&PlaceEdit]) -> Result<Leaf, AllocError>
+    requires sorted { T (is_sorted place_cmp leaf.now) }
+    requires rise { Rise (edits_behind edits.now) }
+    ensures { IfOk result (λ merged. merged ≡ fold edited leaf.now (edits_behind edits.now)) }
+{
+    let mut merged = Leaf::with_room_for(alloc, leaf, edits.len())?;
+    let mut from = 0;
+    for edit in edits {
+        from = merge_edit(&mut merged, leaf, from, *edit)?;
+    }
+    merged.push_rows(leaf, from, leaf.len())?;
+    Ok(merged)
+}

@@ -1,6 +1,0 @@
-use Rattle.std.proofs.Common.{take}
-use Rattle.cs_store.specs.Leaves.{Rise, edits_behind}
-use Rattle.cs_store.proofs.edits.rise.Given as goal
-
-abbrev pub invariant-loop-at : goal.invariant-loop-at
-invariant-loop-at l = Rise (take l.at (edits_behind l.edits))

@@ -1,7 +1,0 @@
-use Rattle.std.proofs.Common.{ap, sym, ◌∙◌}
-use Rattle.cs_store.specs.Contents.{log_count}
-use Rattle.cs_store.proofs.Numbered.{log_len}
-use Rattle.cs_store.proofs.map_store.MapStoreRowStore.log_len.Goals as goal
-
-pub returns-clause-counted : goal.returns-clause-counted
-returns-clause-counted c = λ _. c.len.ensures ∙ c.self.inside.log.ok.0 ∙ sym (log_len c.self.inside.log.items) ∙ ap log_count c.self.view_is
