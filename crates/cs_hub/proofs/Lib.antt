@@ -2,7 +2,6 @@ pub mod Bytes
 pub mod Decided
 pub mod Fresh
 pub mod Grown
-pub mod LogGrown
 pub mod OneAnswer
 pub mod OneHubRun
 pub mod OneService

@@ -1,5 +1,5 @@
 -- Answers to pushes.
-use Rattle.std.proofs.Common.{◌≡◌, List, Result, Ok, Err, IfOk, inr, subst}
+use Rattle.std.proofs.Common.{◌≡◌, ℕ, List, Result, Ok, Err, IfOk, inr, subst}
 use Rattle.cs_value.specs.declared.catalog.TableDef.{TableDef}
 use Rattle.cs_change.specs.declared.group.Group.{Group}
 use Rattle.cs_normal.specs.NormalFormOf.{IsNormalFormOf}
@@ -14,9 +14,9 @@ abbrev pub push_of : PushHead → List TableChanges → Push
 push_of head changes = record { head = head; changes = changes }
 
 -- the answer to a push whose normal form was found
-pub normal_answer : {E : Type 0} (answer : Result Answer E) (old new : HubState) (head : PushHead) (groups : List Group) (changes : List TableChanges) (catalog : List TableDef) → catalog ≡ old.catalog → IsNormalFormOf catalog groups changes
-    → IfOk answer (λ a. AnswersPush old (push_of head changes) a new)
-    → IfOk answer (λ a. AnswersGroups old head groups a new)
-normal_answer (Err e) old new head groups changes catalog is normal h = tt
-normal_answer (Ok answer) old new head groups changes catalog is normal h =
+pub normal_answer : {E : Type 0} (limit : ℕ) (answer : Result Answer E) (old new : HubState) (head : PushHead) (groups : List Group) (changes : List TableChanges) (catalog : List TableDef) → catalog ≡ old.opening → IsNormalFormOf catalog groups changes
+    → IfOk answer (λ a. AnswersPush limit old (push_of head changes) a new)
+    → IfOk answer (λ a. AnswersGroups limit old head groups a new)
+normal_answer limit (Err e) old new head groups changes catalog is normal h = tt
+normal_answer limit (Ok answer) old new head groups changes catalog is normal h =
     inr (changes, subst (λ (tables : List TableDef). IsNormalFormOf tables groups changes) is normal, h)

@@ -3,9 +3,8 @@
 use Rattle.std.specs.Prelude.{◌≡◌, ◌≢◌, ◌⊎◌, ℕ, ◌<◌, ◌^◌, List, [], ◌∷◌, ◌++◌, length, Result, Ok, Err}
 use Rattle.std.specs.Int.{w32, w64, to_be_bytes}
 use Rattle.std.specs.List.{flat_map}
-use Rattle.cs_normal.specs.Normal.{normal_spelling}
-use Rattle.cs_hub.specs.declared.log.LogEntry.{LogEntry}
-use Rattle.cs_hub.specs.Tables.{entry_changes}
+use Rattle.cs_log.specs.declared.entry.LogEntry.{LogEntry}
+use Rattle.cs_log.specs.Entry.{body_spelling, kind_of}
 use Rattle.cs_hub.specs.declared.answer.Answer.{Answer}
 use Rattle.cs_hub.specs.declared.answer.Answer.TheVariants.{Accepted, Stale, Refused}
 use Rattle.cs_hub.specs.declared.push.PushHead.{PushHead}
@@ -106,11 +105,11 @@ stale_spelling newest = 18 ∷ eight_bytes newest
 abbrev pub refused_spelling : ℕ → List ℕ
 refused_spelling code = 19 ∷ code ∷ []
 
--- an entry: its kind, its origin, its number, and the changeset behind its length
+-- an entry: its kind, its origin, its number, and what it does behind its length
 abbrev pub entry_spelling : LogEntry → List ℕ
 entry_spelling entry =
-    let changeset = normal_spelling (entry_changes entry) in
-    0 ∷ (four_bytes entry.origin ++ (eight_bytes entry.number ++ (four_bytes (length changeset) ++ changeset)))
+    let body = body_spelling entry.body in
+    kind_of entry.body ∷ (four_bytes entry.origin ++ (eight_bytes entry.number ++ (four_bytes (length body) ++ body)))
 
 -- entries: the first one's place, how many there are, and each
 abbrev pub entries_spelling : ℕ → List LogEntry → List ℕ

@@ -5,7 +5,7 @@ ghost use Rattle.std.specs.List.{flat_map};
 ghost use Rattle.cs_hub.specs.Messages.{four_bytes, eight_bytes, entry_spelling, entries_spelling};
 ghost use Rattle.cs_hub.specs.Sound.{FitsMessage};
 
-use crate::log::{Body, LogEntry};
+use cs_log::LogEntry;
 use cs_value::Memory;
 use std::alloc::Global;
 
@@ -34,9 +34,6 @@ const STALE: u8 = 18;
 const REFUSED: u8 = 19;
 
 const ENTRIES: u8 = 20;
-
-/// The kind of an entry that has a changeset, which each entry has so far. (Profile of this project.)
-const CHANGES: u8 = 0;
 
 /// The most bytes of an answer but entries.
 pub(crate) const SHORT: usize = 21;
@@ -121,19 +118,18 @@ fn set_u32(out: &mut Vec<u8>, at: usize, number: u32)
     out.as_mut_slice()[at..at + 4].copy_from_slice(&number.to_be_bytes());
 }
 
-/// Appends an entry. The length of its changeset is written once the changeset stands behind it.
+/// Appends an entry. The length of what it does is written once that stands behind it.
 fn put_entry(entry: &LogEntry, out: &mut Vec<u8>) -> Result<(), Memory>
     requires { FitsMessage entry.now }
     ensures { OnOk result (out.new.items ≡ out.old.items ++ entry_spelling entry.now) }
 {
-    let Body::Changes(changes) = &entry.body;
     out.reserve(17)?;
-    put_u8(CHANGES, out);
+    put_u8(entry.body.kind(), out);
     put_u32(entry.origin, out);
     put_u64(entry.number, out);
     let at = out.len();
     put_u32(0, out);
-    changes.encode(out)?;
+    entry.body.encode(out)?;
     let len = out.len() - at - 4;
     set_u32(out, at, len as u32);
     Ok(())

@@ -1,10 +1,17 @@
 //! The laws of requests, pushes and what a hub answers, each the contract of a function that does nothing.
 
-ghost use Rattle.cs_hub.specs.Laws.{LogIsApplied, OneAnswer, OneHubRun, OneRequest, OneService};
+ghost use Rattle.std.specs.Prelude.{◌≡◌};
+ghost use Rattle.cs_hub.specs.Laws.{OneAnswer, OneHubRun, OneRequest, OneService};
+ghost use Rattle.cs_hub.specs.declared.hub.TheConstants.{MAX_ENTRIES};
 
 use crate::Hub;
 use cs_changeset::laws::changesets;
 use cs_normal::laws::{no_fault_where_fit, one_normal_form, one_unfit};
+
+/// How many entries a hub's log may have.
+pub fn most_entries()
+    ensures { MAX_ENTRIES ≡ 4096 }
+{}
 
 /// Bytes spell one request, or have one fault and spell none.
 pub fn one_request()
@@ -32,13 +39,8 @@ pub fn one_service()
 /// The lines that a new hub answers have one list of answers, up to want of memory. The hub at hand changes nothing: it
 /// names whose lines these are.
 pub fn one_run(hub: &Hub)
-    ensures { OneHubRun }
+    ensures { OneHubRun MAX_ENTRIES }
 {
     one_service();
     cs_lines::laws::one_run(hub);
 }
-
-/// The state that a log makes is that of its entries, each applied to what the earlier ones left: each is defined there.
-pub fn log_is_applied()
-    ensures { LogIsApplied }
-{}
