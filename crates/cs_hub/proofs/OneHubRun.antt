@@ -10,8 +10,7 @@ use Rattle.cs_hub.specs.Hub.{HubState, fresh}
 use Rattle.cs_hub.specs.Laws.{OneHubRun, OneService}
 use Rattle.cs_hub.specs.Messages.{Asked, AsksPush, AsksPull, AsksNothing}
 use Rattle.cs_hub.specs.Pushes.{Push, Pushes}
-use Rattle.cs_hub.specs.Serves.{AnswersAsked, AnswersChangeset, AnswersGroups, Serves}
-use Rattle.cs_hub.specs.declared.answer.Answer.{Answer}
+use Rattle.cs_hub.specs.Serves.{AnswersAsked, Outcome, Serves, TakesBytes, TakesGroups}
 use Rattle.cs_hub.specs.declared.fault.HubFault.{HubFault}
 use Rattle.cs_hub.specs.declared.push.PushHead.{PushHead}
 use Rattle.cs_hub.specs.declared.push.Pushed.{Pushed}
@@ -28,19 +27,19 @@ pushes_keep limit old new push answer (inr (g, inr (h, inr (i, inr (j, inl (k, (
 pushes_keep limit old new push answer (inr (g, inr (h, inr (i, inr (j, inr (k, inl (l, (a, s)))))))) = ap (λ (hub : HubState). hub.opening) s
 pushes_keep limit old new push answer (inr (g, inr (h, inr (i, inr (j, inr (k, inr (l, (a, s)))))))) = same_catalog old new s
 
-groups_keep : (limit : ℕ) (old new : HubState) (head : PushHead) (groups : List Group) (answer : Answer) → AnswersGroups limit old head groups answer new → new.opening ≡ old.opening
-groups_keep limit old new head groups answer (inl (f, m, u, a, s)) = same_catalog old new s
-groups_keep limit old new head groups answer (inr (changes, form, (outcome, p, a))) =
-    pushes_keep limit old new (record { head = head; changes = changes }) outcome p
+groups_keep : (limit : ℕ) (old new : HubState) (head : PushHead) (groups : List Group) (outcome : Outcome) → TakesGroups limit old head groups outcome new → new.opening ≡ old.opening
+groups_keep limit old new head groups outcome (inl (f, m, u, a, s)) = same_catalog old new s
+groups_keep limit old new head groups outcome (inr (changes, form, (told, p, a))) =
+    pushes_keep limit old new (record { head = head; changes = changes }) told p
 
-changeset_keeps : (limit : ℕ) (old new : HubState) (head : PushHead) (changeset : List ℕ) (answer : Answer) → AnswersChangeset limit old head changeset answer new → new.opening ≡ old.opening
-changeset_keeps limit old new head changeset answer (inl (f, at, w, a, s)) = same_catalog old new s
-changeset_keeps limit old new head changeset answer (inr (groups, fits, is, p)) = groups_keep limit old new head groups answer p
+changeset_keeps : (limit : ℕ) (old new : HubState) (head : PushHead) (changeset : List ℕ) (outcome : Outcome) → TakesBytes limit old head changeset outcome new → new.opening ≡ old.opening
+changeset_keeps limit old new head changeset outcome (inl (f, at, w, a, s)) = same_catalog old new s
+changeset_keeps limit old new head changeset outcome (inr (groups, fits, is, p)) = groups_keep limit old new head groups outcome p
 
 asked_keeps : (limit : ℕ) (old new : HubState) (asked : Asked) (answer : List ℕ) → AnswersAsked limit old asked answer new → new.opening ≡ old.opening
 asked_keeps limit old new (AsksNothing fault) answer (a, s) = same_catalog old new s
 asked_keeps limit old new (AsksPull first count) answer (a, s) = same_catalog old new s
-asked_keeps limit old new (AsksPush head changeset) answer (some, a, p) = changeset_keeps limit old new head changeset some p
+asked_keeps limit old new (AsksPush head changeset) answer (some, p, a) = changeset_keeps limit old new head changeset some p
 
 decoded_keeps : (limit : ℕ) (old new : HubState) (decoded : Result (List ℕ) _) (answer : List ℕ) → AnswersDecoded (Serves limit) old decoded answer new → new.opening ≡ old.opening
 decoded_keeps limit old new (Ok request) answer (asked, asks, p) = asked_keeps limit old new asked answer p

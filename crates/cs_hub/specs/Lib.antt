@@ -1,8 +1,8 @@
-pub mod Codes
 pub mod Hub
 pub mod Laws
 pub mod Messages
 pub mod Pushes
+pub mod Refusals
 pub mod Rows
 pub mod Serves
 pub mod Sound

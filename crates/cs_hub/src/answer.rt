@@ -5,13 +5,14 @@ ghost use Rattle.std.specs.List.{flat_map};
 ghost use Rattle.cs_hub.specs.Messages.{four_bytes, eight_bytes, entry_spelling, entries_spelling};
 ghost use Rattle.cs_hub.specs.Sound.{FitsMessage};
 
+use crate::push::PushHead;
 use cs_log::LogEntry;
 use cs_value::Memory;
 use std::alloc::Global;
 
 /// The answers but entries. (Profile of this project.)
 #[derive(Clone, Copy)]
-pub(crate) enum Answer {
+pub(crate) enum ShortAnswer {
     /// The push is entry `version - 1`.
     Accepted {
         origin: u32,
@@ -78,9 +79,21 @@ fn put_u64(number: u64, out: &mut Vec<u8>)
     put(&number.to_be_bytes(), out);
 }
 
-impl Answer {
+impl ShortAnswer {
     ghost use Rattle.std.specs.Prelude.{◌≡◌, ◌+◌, ◌≤◌, ◌++◌, vec_len, vec_capacity};
     ghost use Rattle.cs_hub.specs.Messages.{answer_spelling};
+    ghost use Rattle.cs_hub.specs.declared.answer.ShortAnswer.TheVariants.{Accepted};
+
+    /// The push is the log's entry before this version.
+    pub(crate) fn accepted(head: PushHead, version: u64) -> ShortAnswer
+        ensures { result ≡ Accepted head.origin head.number version }
+    {
+        ShortAnswer::Accepted {
+            origin: head.origin,
+            number: head.number,
+            version,
+        }
+    }
 
     /// Appends the answer. There is room for it.
     pub(crate) fn put(&self, out: &mut Vec<u8>)
@@ -88,7 +101,7 @@ impl Answer {
         ensures { out.new.items ≡ out.old.items ++ answer_spelling self.now }
     {
         match self {
-            Answer::Accepted {
+            ShortAnswer::Accepted {
                 origin,
                 number,
                 version,
@@ -98,11 +111,11 @@ impl Answer {
                 put_u64(*number, out);
                 put_u64(*version, out);
             }
-            Answer::Stale { newest } => {
+            ShortAnswer::Stale { newest } => {
                 put_u8(STALE, out);
                 put_u64(*newest, out);
             }
-            Answer::Refused(code) => {
+            ShortAnswer::Refused(code) => {
                 put_u8(REFUSED, out);
                 put_u8(*code, out);
             }

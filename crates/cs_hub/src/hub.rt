@@ -3,18 +3,17 @@
 ghost use Rattle.std.specs.Prelude.{◌≡◌, ◌↔◌, IsTrue};
 ghost use Rattle.cs_hub.specs.Pushes.{entry_of};
 
-use crate::answer::{Answer, SHORT, entries_answer};
-use crate::code;
+use crate::answer::{SHORT, ShortAnswer, entries_answer};
 use crate::fault::HubFault;
 use crate::push::{PushHead, Pushed};
+use crate::refusal::Refusal;
 use crate::request::Request;
 use crate::rows::KeyedRow;
 use crate::tables::Tables;
-use cs_change::Changeset;
-use cs_changeset::{CodecFault, read};
+use cs_changeset::read;
 use cs_log::laws::{appended_is_log, empty_is_log};
 use cs_log::{Body, LogEntry, MAX_CHANGESET};
-use cs_normal::{Normal, Unfit, normalise};
+use cs_normal::{Normal, normalise};
 use cs_value::{Catalog, Memory, TableDef};
 use std::alloc::{AllocError, Global};
 use std::marker::Model;
@@ -53,9 +52,8 @@ fn is_push(entry: &LogEntry, head: PushHead, changes: &Normal) -> bool
 
 impl Hub {
     ghost use Rattle.std.specs.Prelude.{◌≡◌, ◌↔◌, ◌≤◌, ◌<◌, ◌^◌, ◌+◌, ◌≢◌, ℕ, List, [], Some, Ok, IsTrue, IfOk, OnErr, MatchResult, length};
-    ghost use Rattle.cs_change.specs.Spelling.{FitsChangeset, changeset_spelling};
-    ghost use Rattle.cs_hub.specs.Messages.{AsksPush, AsksPull, answer_spelling};
-    ghost use Rattle.cs_hub.specs.Serves.{AnswersAsked, AnswersChangeset, AnswersGroups, AnswersPush, Serves};
+    ghost use Rattle.cs_hub.specs.Messages.{AsksPush, AsksPull};
+    ghost use Rattle.cs_hub.specs.Serves.{AnswersAsked, TakesBytesIf, Serves, refused};
     ghost use Rattle.std.specs.List.{slice_get};
     ghost use Rattle.cs_value.specs.Catalog.{AreTables};
     ghost use Rattle.cs_value.specs.declared.catalog.TableDef.{TableDef};
@@ -195,87 +193,57 @@ impl Hub {
         ensures refused { OnErr result (self.new ≡ self.old) }
     {
         match Request::decode(request) {
-            Err(fault) => self.spell(Answer::Refused(code::of_request(fault))),
+            Err(fault) => self.refuse(Refusal::NoRequest(fault)),
             Ok(Request::Pull { first, limit }) => self.serve_pull(first, limit),
             Ok(Request::Push { head, changeset }) => self.serve_push(head, changeset),
         }
     }
 
-    /// The bytes of an answer but entries.
-    fn spell(&self, answer: Answer) -> Result<Vec<u8>, Memory>
-        ensures { IfOk result (λ bytes. bytes.items ≡ answer_spelling answer) }
+    /// The answer that tells of a refusal.
+    fn refuse(&self, refusal: Refusal) -> Result<Vec<u8>, Memory>
+        ensures { IfOk result (λ bytes. bytes.items ≡ refused refusal) }
     {
         let mut bytes = Vec::with_capacity(self.alloc, SHORT)?;
-        answer.put(&mut bytes);
+        ShortAnswer::Refused(refusal.code()).put(&mut bytes);
         Ok(bytes)
     }
 
     /// The answer to a Pull.
     fn serve_pull(&self, first: u64, limit: u32) -> Result<Vec<u8>, Memory>
-        ensures { IfOk result (λ bytes. AnswersAsked MAX_ENTRIES self.now (AsksPull first limit) bytes.items self.now) }
+        ensures { IfOk result (λ bytes.
+            AnswersAsked MAX_ENTRIES self.now (AsksPull first limit) bytes.items self.now) }
     {
         match self.entries(first, limit) {
             Ok(entries) => entries_answer(self.alloc, first, entries),
-            Err(fault) => self.spell(Answer::Refused(code::of_hub(fault))),
+            Err(fault) => self.refuse(Refusal::ByHub(fault)),
         }
     }
 
     /// The answer to a Push. Its room is taken before anything changes.
     fn serve_push(&mut self, head: PushHead, changeset: &[u8]) -> Result<Vec<u8>, Memory>
         requires { length changeset.now ≤ MAX_CHANGESET }
-        ensures ok { IfOk result (λ bytes. AnswersAsked MAX_ENTRIES self.old (AsksPush head changeset.now) bytes.items self.new) }
+        ensures ok { IfOk result (λ bytes.
+            AnswersAsked MAX_ENTRIES self.old (AsksPush head changeset.now) bytes.items self.new) }
         ensures err { OnErr result (self.new ≡ self.old) }
     {
         let mut told = Vec::with_capacity(self.alloc, SHORT)?;
-        let answer = self.take_changeset(head, changeset)?;
+        let answer = match self.take(head, changeset) {
+            Ok(Pushed::Accepted(version)) => ShortAnswer::accepted(head, version),
+            Ok(Pushed::Stale(newest)) => ShortAnswer::Stale { newest },
+            Err(Refusal::Memory) => return Err(AllocError),
+            Err(refusal) => ShortAnswer::Refused(refusal.code()),
+        };
         answer.put(&mut told);
         Ok(told)
     }
 
-    /// Takes a push whose changeset is yet to be read.
-    fn take_changeset(&mut self, head: PushHead, changeset: &[u8]) -> Result<Answer, Memory>
+    /// Takes a push: reads its changeset, brings it into normal form, and pushes that.
+    fn take(&mut self, head: PushHead, changeset: &[u8]) -> Result<Pushed, Refusal>
         requires { length changeset.now ≤ MAX_CHANGESET }
-        ensures ok { IfOk result (λ answer. AnswersChangeset MAX_ENTRIES self.old head changeset.now answer self.new) }
-        ensures err { OnErr result (self.new ≡ self.old) }
+        ensures { TakesBytesIf MAX_ENTRIES self.old head changeset.now result self.new }
     {
-        match read(self.alloc, changeset) {
-            Ok(groups) => self.take_groups(head, &groups),
-            Err(CodecFault::Memory) => Err(AllocError),
-            Err(CodecFault::At { fault, .. }) => Ok(Answer::Refused(fault.code())),
-        }
-    }
-
-    /// Takes a push whose changeset is yet to be brought into normal form.
-    fn take_groups(&mut self, head: PushHead, groups: &Changeset<'_>) -> Result<Answer, Memory>
-        requires fits { FitsChangeset groups.now }
-        requires size { length (changeset_spelling groups.now) ≤ MAX_CHANGESET }
-        ensures ok { IfOk result (λ answer. AnswersGroups MAX_ENTRIES self.old head groups.now answer self.new) }
-        ensures err { OnErr result (self.new ≡ self.old) }
-    {
-        match normalise(self.alloc, &self.catalog, groups) {
-            Ok(changes) => self.take(head, changes),
-            Err(Unfit::Memory) => Err(AllocError),
-            Err(unfit) => Ok(Answer::Refused(unfit.code())),
-        }
-    }
-
-    /// Takes a push, and tells what became of it.
-    fn take(&mut self, head: PushHead, changes: Normal) -> Result<Answer, Memory>
-        requires fits { FitsCatalog (judging self.old head.base) changes }
-        requires size { length (normal_spelling changes) ≤ MAX_CHANGESET }
-        ensures ok { IfOk result (λ answer.
-            AnswersPush MAX_ENTRIES self.old (record { head = head; changes = changes }) answer self.new) }
-        ensures err { OnErr result (self.new ≡ self.old) }
-    {
-        match self.push(head, changes) {
-            Ok(Pushed::Accepted(version)) => Ok(Answer::Accepted {
-                origin: head.origin,
-                number: head.number,
-                version,
-            }),
-            Ok(Pushed::Stale(newest)) => Ok(Answer::Stale { newest }),
-            Err(HubFault::Memory) => Err(AllocError),
-            Err(fault) => Ok(Answer::Refused(code::of_hub(fault))),
-        }
+        let groups = read(self.alloc, changeset)?;
+        let changes = normalise(self.alloc, &self.catalog, &groups)?;
+        Ok(self.push(head, changes)?)
     }
 }

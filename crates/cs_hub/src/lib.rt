@@ -8,11 +8,11 @@
 #![tactic(auto)]
 
 mod answer;
-mod code;
 mod fault;
 mod hub;
 mod outcome;
 mod push;
+mod refusal;
 mod request;
 mod rows;
 mod serve;
