@@ -1,5 +1,7 @@
+pub mod Asking
 pub mod Bytes
 pub mod Decided
+pub mod Existence
 pub mod Fresh
 pub mod Grown
 pub mod OneAnswer

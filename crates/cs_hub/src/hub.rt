@@ -51,7 +51,7 @@ fn is_push(entry: &LogEntry, head: PushHead, changes: &Normal) -> bool
 }
 
 impl Hub {
-    ghost use Rattle.std.specs.Prelude.{◌≡◌, ◌↔◌, ◌≤◌, ◌<◌, ◌^◌, ◌+◌, ◌≢◌, ℕ, List, [], Some, Ok, IsTrue, IfOk, OnErr, MatchResult, length};
+    ghost use Rattle.std.specs.Prelude.{◌≡◌, ◌↔◌, ◌≤◌, ◌<◌, ◌^◌, ◌+◌, ◌≢◌, All, ℕ, List, [], Some, Ok, IsTrue, IfOk, OnErr, MatchResult, length};
     ghost use Rattle.cs_hub.specs.Messages.{AsksPush, AsksPull};
     ghost use Rattle.cs_hub.specs.Serves.{AnswersAsked, TakesBytesIf, Serves, refused};
     ghost use Rattle.std.specs.List.{slice_get};
@@ -62,6 +62,7 @@ impl Hub {
     ghost use Rattle.cs_log.specs.Log.{IsLog, state_of};
     ghost use Rattle.cs_log.specs.declared.entry.TheConstants.{MAX_CHANGESET};
     ghost use Rattle.cs_hub.specs.Rows.{IsInOrder, row_at};
+    ghost use Rattle.cs_hub.specs.Sound.{FitsMessage};
     ghost use Rattle.cs_hub.specs.Pushes.{Push, Pushes, PushesIf};
 
     /// A hub of these tables that has taken nothing yet. It keeps `alloc` for later calls.
@@ -96,6 +97,9 @@ impl Hub {
 
         // Each entry is a changeset of the catalog's tables in normal form, defined on the tables before it.
         ensures log { IsLog self.now.opening self.now.log }
+
+        // What each entry does is within the bound on its bytes.
+        ensures sizes { All FitsMessage self.now.log }
     {
         self.log.len() as u64
     }
