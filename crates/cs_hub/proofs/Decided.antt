@@ -1,38 +1,37 @@
 -- Which row of the table of pushes decides.
-use Rattle.std.proofs.Common.{◌≡◌, ◌≢◌, ◌+◌, ◌<◌, List, [], length, inl, inr, Result, Ok, Err, refl, arith}
+use Rattle.std.proofs.Common.{◌≡◌, ◌≢◌, ℕ, ◌+◌, ◌<◌, List, [], length, inl, inr, Result, Ok, Err, refl, arith}
 use Rattle.std.proofs.lemmas.Option.{slice_get_within}
-use Rattle.cs_hub.specs.declared.log.LogEntry.{LogEntry}
+use Rattle.cs_log.specs.declared.entry.LogEntry.{LogEntry}
 use Rattle.cs_hub.specs.Hub.{HubState, with_entry}
-use Rattle.cs_hub.specs.Pushes.{Push, Pushes, IsRepeat, CanFollow, Row, entry_of}
-use Rattle.cs_hub.specs.declared.hub.TheConstants.{MAX_ENTRIES}
+use Rattle.cs_hub.specs.Pushes.{Push, Pushes, Case, IsRepeat, CanFollow, entry_of}
 use Rattle.cs_hub.specs.declared.fault.HubFault.{HubFault}
 use Rattle.cs_hub.specs.declared.fault.HubFault.TheVariants.{Conflict}
 use Rattle.cs_hub.specs.declared.push.Pushed.{Pushed}
 use Rattle.cs_hub.specs.declared.push.Pushed.TheVariants.{Accepted}
 
--- two rows over the same guard decide alike, where what they decide and what stands below them does
-pub one_row : {guard some below other beneath R : Type 0} → (some → other → R) → (below → beneath → R) → Row guard some below → Row guard other beneath → R
-one_row decided left (inl (g, s)) (inl (h, o)) = decided s o
-one_row decided left (inl (g, s)) (inr (n, b)) = absurd (n g)
-one_row decided left (inr (n, b)) (inl (g, s)) = absurd (n g)
-one_row decided left (inr (n, b)) (inr (m, c)) = left b c
+-- two cases over the same guard decide alike, where what they decide and what stands below them does
+pub one_case : {guard some below other beneath R : Type 0} → (some → other → R) → (below → beneath → R) → Case guard some below → Case guard other beneath → R
+one_case decided left (inl (g, s)) (inl (h, o)) = decided s o
+one_case decided left (inl (g, s)) (inr (n, b)) = absurd (n g)
+one_case decided left (inr (n, b)) (inl (g, s)) = absurd (n g)
+one_case decided left (inr (n, b)) (inr (m, c)) = left b c
 
 repeat_below : (log : List LogEntry) (push : Push) → IsRepeat log push → push.head.base < length log
 repeat_below log push is = slice_get_within log push.head.base (entry_of push) is
 
-abbrev LastRow : HubState → Push → Result Pushed HubFault → HubState → Type 0
-LastRow old push answer new =
-    Row (CanFollow old push) ((answer ≡ Ok (Accepted (push.head.base + 1))) × (new ≡ with_entry old (entry_of push))) ((answer ≡ Err Conflict) × (new ≡ old))
+abbrev LastCase : HubState → Push → Result Pushed HubFault → HubState → Type 0
+LastCase old push answer new =
+    Case (CanFollow old push) ((answer ≡ Ok (Accepted (push.head.base + 1))) × (new ≡ with_entry old (entry_of push))) ((answer ≡ Err Conflict) × (new ≡ old))
 
 -- of the newest version, where there is room
-of_newest : (old new : HubState) (push : Push) (answer : Result Pushed HubFault) → push.changes ≢ [] → push.head.base ≡ length old.log → length old.log < MAX_ENTRIES → LastRow old push answer new → Pushes old push answer new
-of_newest old new push answer some newest room below =
+of_newest : (limit : ℕ) (old new : HubState) (push : Push) (answer : Result Pushed HubFault) → push.changes ≢ [] → push.head.base ≡ length old.log → length old.log < limit → LastCase old push answer new → Pushes limit old push answer new
+of_newest limit old new push answer some newest room below =
     inr (some, inr (λ above. omega (arith, above, newest), inr (λ is. omega (arith, repeat_below old.log push is, newest), inr (λ late. omega (arith, late, newest), inr (λ many. omega (arith, many, room), below)))))
 
-pub conflict : (old : HubState) (push : Push) → push.changes ≢ [] → push.head.base ≡ length old.log → length old.log < MAX_ENTRIES → (CanFollow old push → ⊥) → Pushes old push (Err Conflict) old
-conflict old push some newest room apart =
-    of_newest old old push (Err Conflict) some newest room (inr (apart, (refl, refl)))
+pub conflict : (limit : ℕ) (old : HubState) (push : Push) → push.changes ≢ [] → push.head.base ≡ length old.log → length old.log < limit → (CanFollow old push → ⊥) → Pushes limit old push (Err Conflict) old
+conflict limit old push some newest room apart =
+    of_newest limit old old push (Err Conflict) some newest room (inr (apart, (refl, refl)))
 
-pub next : (old : HubState) (push : Push) → push.changes ≢ [] → push.head.base ≡ length old.log → length old.log < MAX_ENTRIES → CanFollow old push → Pushes old push (Ok (Accepted (push.head.base + 1))) (with_entry old (entry_of push))
-next old push some newest room follows =
-    of_newest old (with_entry old (entry_of push)) push (Ok (Accepted (push.head.base + 1))) some newest room (inl (follows, (refl, refl)))
+pub next : (limit : ℕ) (old : HubState) (push : Push) → push.changes ≢ [] → push.head.base ≡ length old.log → length old.log < limit → CanFollow old push → Pushes limit old push (Ok (Accepted (push.head.base + 1))) (with_entry old (entry_of push))
+next limit old push some newest room follows =
+    of_newest limit old (with_entry old (entry_of push)) push (Ok (Accepted (push.head.base + 1))) some newest room (inl (follows, (refl, refl)))

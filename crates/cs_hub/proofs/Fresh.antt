@@ -4,12 +4,12 @@ use Rattle.std.proofs.lemmas.List.{length-map}
 use Rattle.std.proofs.lemmas.Option.{get_or_from_slice_get, slice_get_within}
 use Rattle.std.specs.List.{All}
 use Rattle.cs_value.specs.declared.catalog.TableDef.{TableDef}
-use Rattle.cs_hub.specs.declared.log.LogEntry.{LogEntry}
+use Rattle.cs_log.specs.declared.entry.LogEntry.{LogEntry}
 use Rattle.cs_hub.specs.Rows.{Rows, row_at}
 use Rattle.cs_hub.specs.Sound.{IsSound, HoldsRows}
 use Rattle.cs_hub.specs.Staged.{TableState, no_rows}
-use Rattle.cs_hub.specs.Tables.{state_of}
-use Rattle.cs_hub.proofs.LogGrown.{no_entry}
+use Rattle.cs_log.specs.Laws.{EmptyIsLog}
+use Rattle.cs_log.specs.Log.{state_of}
 
 names_of : (catalog : List TableDef) → map (λ (t : TableState). t.name) (map (λ (t : TableDef). no_rows t.name) catalog) ≡ map (λ (t : TableDef). t.name) catalog
 names_of [] = refl
@@ -20,12 +20,12 @@ holds_none [] k d lt key = absurd (omega (arith, lt))
 holds_none (t ∷ catalog) zero d lt key = refl
 holds_none (t ∷ catalog) (suc k) d lt key = holds_none catalog k d (omega (arith, lt)) key
 
-pub fresh_sound : (catalog : List TableDef) (log : List LogEntry) (tables : List TableState) → log ≡ [] → tables ≡ map (λ (t : TableDef). no_rows t.name) catalog → IsSound catalog log tables
-fresh_sound catalog log tables empty is =
+pub fresh_sound : EmptyIsLog → (catalog : List TableDef) (log : List LogEntry) (tables : List TableState) → log ≡ [] → tables ≡ map (λ (t : TableDef). no_rows t.name) catalog → IsSound catalog log tables
+fresh_sound none catalog log tables empty is =
     rw (empty, is) (record {
       names = names_of catalog;
       rows = holds_none catalog;
-      entries = no_entry catalog [] refl;
+      entries = none catalog;
       few = lit≤ tt;
       sizes = λ k d lt. absurd (omega (arith, lt));
     })

@@ -1,5 +1,5 @@
 -- What a push makes of the hub's tables and log.
-use Rattle.std.proofs.Common.{◌≡◌, ◌≢◌, ◌⊎◌, inl, inr, ℕ, zero, suc, ◌<◌, ◌^◌, Bool, true, false, cond, List, [], ◌∷◌, ◌++◌, length, map, get_or, Option, Some, None, refl, sym, subst, ap, ◌∙◌, arith, length-append}
+use Rattle.std.proofs.Common.{◌≡◌, ◌≢◌, ◌⊎◌, inl, inr, ℕ, zero, suc, ◌<◌, ◌≤◌, Bool, true, false, cond, List, [], ◌∷◌, ◌++◌, length, map, get_or, Option, Some, None, refl, sym, subst, ap, ◌∙◌, arith, length-append}
 use Rattle.std.specs.List.{All, AllByRecursion}
 use Rattle.std.specs.List.Sorted.{IsStrictlySortedBy}
 use Rattle.std.specs.Option.{IsSome, unwrap_or}
@@ -15,16 +15,16 @@ use Rattle.cs_normal.specs.Changes.{change_at, IsOrdered}
 use Rattle.cs_normal.specs.Normal.{FitsCatalog, IsNormalChangeset, changes_in, normal_spelling}
 use Rattle.cs_normal.specs.State.{State, IsDefinedOn, left_at}
 use Rattle.cs_normal.specs.declared.normal.TableChanges.{TableChanges}
-use Rattle.cs_hub.specs.declared.log.LogEntry.{LogEntry}
-use Rattle.cs_hub.specs.Log.{IsNextEntry}
+use Rattle.cs_log.specs.declared.entry.LogEntry.{LogEntry}
+use Rattle.cs_log.specs.Laws.{AppendedIsLog}
+use Rattle.cs_log.specs.Log.{IsNextEntry, after_entry, empty_state, state_of}
 use Rattle.cs_hub.specs.Pushes.{entry_of}
 use Rattle.cs_hub.specs.Rows.{Rows, row_at}
 use Rattle.cs_hub.specs.Sound.{IsSound, HoldsRows, FitsMessage}
 use Rattle.cs_hub.specs.Staged.{TableState, name_and_rows, KeepsRows, AnswersStage, AnswersStages, CommitsOne, Commits, written}
-use Rattle.cs_hub.specs.Tables.{after_entry, empty_state, state_of}
 use Rattle.cs_hub.specs.declared.hub.TheConstants.{MAX_ENTRIES}
+use Rattle.cs_log.specs.declared.entry.TheConstants.{MAX_CHANGESET}
 use Rattle.cs_hub.specs.declared.push.PushHead.{PushHead}
-use Rattle.cs_hub.proofs.LogGrown.{one_more}
 use Rattle.cs_hub.proofs.Served.{push_of}
 use Rattle.cs_hub.proofs.Written.{left_by, outcomes_leave, outcomes_refuse}
 
@@ -72,20 +72,20 @@ holds_grown log changes head old new holds staged commits key =
     ap (λ (o : Option Place). unwrap_or o (state_of log old.name key)) there in
     rw commits.0 (commits.1 key ∙ sym (grown ∙ is))
 
-pub sound_grown : (catalog : List TableDef) (log : List LogEntry) (changes : List TableChanges) (head : PushHead) (old staged new : List TableState) → IsSound catalog log old → KeepsRows old staged → AnswersStages changes staged true → Commits staged new → IsNextEntry catalog log (entry_of (push_of head changes)) → length log < MAX_ENTRIES → length (normal_spelling changes) < 2 ^ 32 → IsSound catalog (log ++ entry_of (push_of head changes) ∷ []) new
-sound_grown catalog log changes head old staged new sound kept answers commits entry room size =
+pub sound_grown : AppendedIsLog → (catalog : List TableDef) (log : List LogEntry) (changes : List TableChanges) (head : PushHead) (old staged new : List TableState) → IsSound catalog log old → KeepsRows old staged → AnswersStages changes staged true → Commits staged new → IsNextEntry catalog log (entry_of (push_of head changes)) → length log < MAX_ENTRIES → length (normal_spelling changes) ≤ MAX_CHANGESET → IsSound catalog (log ++ entry_of (push_of head changes) ∷ []) new
+sound_grown appended catalog log changes head old staged new sound kept answers commits entry room size =
     let between = sound_kept catalog log old staged sound kept in
     record {
       names = names_same staged new commits.as_many (λ k d lt. let e = commits.each k d lt in e.0) ∙ between.names;
       rows = λ k d lt.
           let within : k < length staged = omega (arith, commits.as_many) in
           holds_grown log changes head (get_or staged k d) (get_or new k d) (between.rows k d within) (answers k d within) (commits.each k d within);
-      entries = one_more catalog log (entry_of (push_of head changes)) sound.entries entry;
+      entries = appended catalog log (entry_of (push_of head changes)) sound.entries entry;
       few = simp length-append (omega arith);
       sizes = All-append FitsMessage log (entry_of (push_of head changes) ∷ []) between.sizes (one_size head changes size);
     }
   where
-    one_size : (head : PushHead) (changes : List TableChanges) → length (normal_spelling changes) < 2 ^ 32 → All FitsMessage (entry_of (push_of head changes) ∷ [])
+    one_size : (head : PushHead) (changes : List TableChanges) → length (normal_spelling changes) ≤ MAX_CHANGESET → All FitsMessage (entry_of (push_of head changes) ∷ [])
     one_size head changes size zero d lt = size
     one_size head changes size (suc k) d lt = absurd (omega (arith, lt))
 

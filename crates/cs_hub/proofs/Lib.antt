@@ -1,8 +1,9 @@
+pub mod Asking
 pub mod Bytes
 pub mod Decided
+pub mod Existence
 pub mod Fresh
 pub mod Grown
-pub mod LogGrown
 pub mod OneAnswer
 pub mod OneHubRun
 pub mod OneService

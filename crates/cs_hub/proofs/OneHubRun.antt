@@ -10,53 +10,52 @@ use Rattle.cs_hub.specs.Hub.{HubState, fresh}
 use Rattle.cs_hub.specs.Laws.{OneHubRun, OneService}
 use Rattle.cs_hub.specs.Messages.{Asked, AsksPush, AsksPull, AsksNothing}
 use Rattle.cs_hub.specs.Pushes.{Push, Pushes}
-use Rattle.cs_hub.specs.Serves.{AnswersAsked, AnswersChangeset, AnswersGroups, Serves}
-use Rattle.cs_hub.specs.declared.answer.Answer.{Answer}
+use Rattle.cs_hub.specs.Serves.{AnswersAsked, Outcome, Serves, TakesBytes, TakesGroups}
 use Rattle.cs_hub.specs.declared.fault.HubFault.{HubFault}
 use Rattle.cs_hub.specs.declared.push.PushHead.{PushHead}
 use Rattle.cs_hub.specs.declared.push.Pushed.{Pushed}
 
-same_catalog : (old new : HubState) → new ≡ old → new.catalog ≡ old.catalog
-same_catalog old new same = ap (λ (hub : HubState). hub.catalog) same
+same_catalog : (old new : HubState) → new ≡ old → new.opening ≡ old.opening
+same_catalog old new same = ap (λ (hub : HubState). hub.opening) same
 
-pushes_keep : (old new : HubState) (push : Push) (answer : Result Pushed HubFault) → Pushes old push answer new → new.catalog ≡ old.catalog
-pushes_keep old new push answer (inl (g, (a, s))) = same_catalog old new s
-pushes_keep old new push answer (inr (g, inl (h, (a, s)))) = same_catalog old new s
-pushes_keep old new push answer (inr (g, inr (h, inl (i, (a, s))))) = same_catalog old new s
-pushes_keep old new push answer (inr (g, inr (h, inr (i, inl (j, (a, s)))))) = same_catalog old new s
-pushes_keep old new push answer (inr (g, inr (h, inr (i, inr (j, inl (k, (a, s))))))) = same_catalog old new s
-pushes_keep old new push answer (inr (g, inr (h, inr (i, inr (j, inr (k, inl (l, (a, s)))))))) = ap (λ (hub : HubState). hub.catalog) s
-pushes_keep old new push answer (inr (g, inr (h, inr (i, inr (j, inr (k, inr (l, (a, s)))))))) = same_catalog old new s
+pushes_keep : (limit : ℕ) (old new : HubState) (push : Push) (answer : Result Pushed HubFault) → Pushes limit old push answer new → new.opening ≡ old.opening
+pushes_keep limit old new push answer (inl (g, (a, s))) = same_catalog old new s
+pushes_keep limit old new push answer (inr (g, inl (h, (a, s)))) = same_catalog old new s
+pushes_keep limit old new push answer (inr (g, inr (h, inl (i, (a, s))))) = same_catalog old new s
+pushes_keep limit old new push answer (inr (g, inr (h, inr (i, inl (j, (a, s)))))) = same_catalog old new s
+pushes_keep limit old new push answer (inr (g, inr (h, inr (i, inr (j, inl (k, (a, s))))))) = same_catalog old new s
+pushes_keep limit old new push answer (inr (g, inr (h, inr (i, inr (j, inr (k, inl (l, (a, s)))))))) = ap (λ (hub : HubState). hub.opening) s
+pushes_keep limit old new push answer (inr (g, inr (h, inr (i, inr (j, inr (k, inr (l, (a, s)))))))) = same_catalog old new s
 
-groups_keep : (old new : HubState) (head : PushHead) (groups : List Group) (answer : Answer) → AnswersGroups old head groups answer new → new.catalog ≡ old.catalog
-groups_keep old new head groups answer (inl (f, m, u, a, s)) = same_catalog old new s
-groups_keep old new head groups answer (inr (changes, form, (outcome, p, a))) =
-    pushes_keep old new (record { head = head; changes = changes }) outcome p
+groups_keep : (limit : ℕ) (old new : HubState) (head : PushHead) (groups : List Group) (outcome : Outcome) → TakesGroups limit old head groups outcome new → new.opening ≡ old.opening
+groups_keep limit old new head groups outcome (inl (f, m, u, a, s)) = same_catalog old new s
+groups_keep limit old new head groups outcome (inr (changes, form, (told, p, a))) =
+    pushes_keep limit old new (record { head = head; changes = changes }) told p
 
-changeset_keeps : (old new : HubState) (head : PushHead) (changeset : List ℕ) (answer : Answer) → AnswersChangeset old head changeset answer new → new.catalog ≡ old.catalog
-changeset_keeps old new head changeset answer (inl (f, at, w, a, s)) = same_catalog old new s
-changeset_keeps old new head changeset answer (inr (groups, fits, is, p)) = groups_keep old new head groups answer p
+changeset_keeps : (limit : ℕ) (old new : HubState) (head : PushHead) (changeset : List ℕ) (outcome : Outcome) → TakesBytes limit old head changeset outcome new → new.opening ≡ old.opening
+changeset_keeps limit old new head changeset outcome (inl (f, at, w, a, s)) = same_catalog old new s
+changeset_keeps limit old new head changeset outcome (inr (groups, fits, is, p)) = groups_keep limit old new head groups outcome p
 
-asked_keeps : (old new : HubState) (asked : Asked) (answer : List ℕ) → AnswersAsked old asked answer new → new.catalog ≡ old.catalog
-asked_keeps old new (AsksNothing fault) answer (a, s) = same_catalog old new s
-asked_keeps old new (AsksPull first limit) answer (a, s) = same_catalog old new s
-asked_keeps old new (AsksPush head changeset) answer (some, a, p) = changeset_keeps old new head changeset some p
+asked_keeps : (limit : ℕ) (old new : HubState) (asked : Asked) (answer : List ℕ) → AnswersAsked limit old asked answer new → new.opening ≡ old.opening
+asked_keeps limit old new (AsksNothing fault) answer (a, s) = same_catalog old new s
+asked_keeps limit old new (AsksPull first count) answer (a, s) = same_catalog old new s
+asked_keeps limit old new (AsksPush head changeset) answer (some, p, a) = changeset_keeps limit old new head changeset some p
 
-decoded_keeps : (old new : HubState) (decoded : Result (List ℕ) _) (answer : List ℕ) → AnswersDecoded Serves old decoded answer new → new.catalog ≡ old.catalog
-decoded_keeps old new (Ok request) answer (asked, asks, p) = asked_keeps old new asked answer p
-decoded_keeps old new (Err fault) answer (a, s) = same_catalog old new s
+decoded_keeps : (limit : ℕ) (old new : HubState) (decoded : Result (List ℕ) _) (answer : List ℕ) → AnswersDecoded (Serves limit) old decoded answer new → new.opening ≡ old.opening
+decoded_keeps limit old new (Ok request) answer (asked, asks, p) = asked_keeps limit old new asked answer p
+decoded_keeps limit old new (Err fault) answer (a, s) = same_catalog old new s
 
-answer_keeps : (old new : HubState) (line answer : List ℕ) → Answers Serves old line answer new → new.catalog ≡ old.catalog
-answer_keeps old new line answer (inl served) = decoded_keeps old new _ answer served
-answer_keeps old new line answer (inr (a, s)) = same_catalog old new s
+answer_keeps : (limit : ℕ) (old new : HubState) (line answer : List ℕ) → Answers (Serves limit) old line answer new → new.opening ≡ old.opening
+answer_keeps limit old new line answer (inl served) = decoded_keeps limit old new _ answer served
+answer_keeps limit old new line answer (inr (a, s)) = same_catalog old new s
 
-along : OneService → (old : HubState) (lines : List (List ℕ)) → AreTables old.catalog → HasOneAnswerAlong Serves old lines
-along once old [] are = tt
-along once old (line ∷ lines) are = (
-  λ request one other new next first second. once old new next request one other are first second,
-  λ answer mid served. along once mid lines (subst (λ (c : List TableDef). AreTables c) (sym (answer_keeps old mid line answer served)) are),
+along : OneService → (limit : ℕ) (old : HubState) (lines : List (List ℕ)) → AreTables old.opening → HasOneAnswerAlong (Serves limit) old lines
+along once limit old [] are = tt
+along once limit old (line ∷ lines) are = (
+  λ request one other new next first second. once limit old new next request one other are first second,
+  λ answer mid served. along once limit mid lines (subst (λ (c : List TableDef). AreTables c) (sym (answer_keeps limit old mid line answer served)) are),
 )
 
-pub one_hub_run : OneService → OneRun Serves → OneHubRun
-one_hub_run once run tables new last lines ones others are here there first second =
-    run (fresh tables) new last lines ones others (along once (fresh tables) lines are) here there first second
+pub one_hub_run : OneService → (limit : ℕ) → OneRun (Serves limit) → OneHubRun limit
+one_hub_run once limit run tables new last lines ones others are here there first second =
+    run (fresh tables) new last lines ones others (along once limit (fresh tables) lines are) here there first second

@@ -1,5 +1,5 @@
 -- A request has one answer, and leaves one hub.
-use Rattle.std.proofs.Common.{◌≡◌, ℕ, List, inl, inr, sym, ap, subst, ◌∙◌, arith}
+use Rattle.std.proofs.Common.{◌≡◌, ℕ, List, Err, inl, inr, sym, ap, subst, ◌∙◌, arith}
 use Rattle.cs_value.specs.Catalog.{AreTables}
 use Rattle.cs_change.specs.declared.group.Group.{Group}
 use Rattle.cs_changeset.specs.declared.fault.Fault.{Fault}
@@ -7,16 +7,14 @@ use Rattle.cs_changeset.specs.Laws.{ChangesetLaws}
 use Rattle.cs_normal.specs.Laws.{NoFaultWhereFit, OneNormalForm, OneUnfit}
 use Rattle.cs_normal.specs.declared.unfit.Unfit.{Unfit}
 use Rattle.cs_normal.specs.declared.normal.TableChanges.{TableChanges}
-use Rattle.cs_changeset.specs.Codes.{fault_code}
-use Rattle.cs_normal.specs.Codes.{unfit_code}
 use Rattle.cs_hub.specs.Hub.{HubState}
 use Rattle.cs_hub.specs.Laws.{OneAnswer, OneRequest, OneService}
 use Rattle.cs_hub.specs.Messages.{Asked, AsksPush, AsksPull, AsksNothing, answer_spelling}
 use Rattle.cs_hub.specs.Pushes.{Push}
-use Rattle.cs_hub.specs.Serves.{AnswersPush, AnswersGroups, AnswersChangeset, AnswersAsked, push_answer}
-use Rattle.cs_hub.specs.declared.answer.Answer.{Answer}
-use Rattle.cs_hub.specs.declared.answer.Answer.TheVariants.{Refused}
+use Rattle.cs_hub.specs.Serves.{AnswersAsked, Outcome, TakesBytes, TakesGroups, TakesNormal, or_refusal, push_answer}
 use Rattle.cs_hub.specs.declared.push.PushHead.{PushHead}
+use Rattle.cs_hub.specs.declared.refusal.Refusal.{Refusal}
+use Rattle.cs_hub.specs.declared.refusal.Refusal.TheVariants.{NoChangeset, NoForm}
 
 -- the laws below
 pub record Below : Type 0 where
@@ -27,56 +25,56 @@ pub record Below : Type 0 where
   pub request : OneRequest
   pub answer : OneAnswer
 
-abbrev Agree : Answer → Answer → HubState → HubState → Type 0
+abbrev Agree : Outcome → Outcome → HubState → HubState → Type 0
 Agree one other new last = (one ≡ other) × (new ≡ last)
 
-refuse : (old new last : HubState) (one other : Answer) (code number : ℕ) → code ≡ number → one ≡ Refused code → other ≡ Refused number → new ≡ old → last ≡ old → Agree one other new last
-refuse old new last one other code number same a b n m = (a ∙ ap (λ (k : ℕ). Refused k) same ∙ sym b, n ∙ sym m)
+refuse : (old new last : HubState) (one other : Outcome) (some told : Refusal) → some ≡ told → one ≡ Err some → other ≡ Err told → new ≡ old → last ≡ old → Agree one other new last
+refuse old new last one other some told same a b n m = (a ∙ ap (λ (r : Refusal). Err r) same ∙ sym b, n ∙ sym m)
 
-pushes_agree : (laws : Below) (old new last : HubState) (push : Push) (one other : Answer) → AnswersPush old push one new → AnswersPush old push other last → Agree one other new last
-pushes_agree laws old new last push one other (some, p, a) (others, q, b) =
-    let both = laws.answer old new last push some others p q in
-    (a ∙ ap (push_answer push) both.0 ∙ sym b, both.1)
+pushes_agree : (laws : Below) (limit : ℕ) (old new last : HubState) (push : Push) (one other : Outcome) → TakesNormal limit old push one new → TakesNormal limit old push other last → Agree one other new last
+pushes_agree laws limit old new last push one other (some, p, a) (others, q, b) =
+    let both = laws.answer limit old new last push some others p q in
+    (a ∙ ap or_refusal both.0 ∙ sym b, both.1)
 
-forms_agree : (laws : Below) (old new last : HubState) (head : PushHead) (some others : List TableChanges) (one other : Answer) → some ≡ others
-    → AnswersPush old (record { head = head; changes = some }) one new
-    → AnswersPush old (record { head = head; changes = others }) other last
+forms_agree : (laws : Below) (limit : ℕ) (old new last : HubState) (head : PushHead) (some others : List TableChanges) (one other : Outcome) → some ≡ others
+    → TakesNormal limit old (record { head = head; changes = some }) one new
+    → TakesNormal limit old (record { head = head; changes = others }) other last
     → Agree one other new last
-forms_agree laws old new last head some others one other same p q =
-    pushes_agree laws old new last (record { head = head; changes = others }) one other (subst (λ (c : List TableChanges). AnswersPush old (record { head = head; changes = c }) one new) same p) q
+forms_agree laws limit old new last head some others one other same p q =
+    pushes_agree laws limit old new last (record { head = head; changes = others }) one other (subst (λ (c : List TableChanges). TakesNormal limit old (record { head = head; changes = c }) one new) same p) q
 
-groups_agree : (laws : Below) (old new last : HubState) (head : PushHead) (groups : List Group) (one other : Answer) → AreTables old.catalog → AnswersGroups old head groups one new → AnswersGroups old head groups other last → Agree one other new last
-groups_agree laws old new last head groups one other are (inl (f, m, u, a, n)) (inl (g, k, v, b, l)) =
-    refuse old new last one other (unfit_code f) (unfit_code g) (ap (λ (h : Unfit). unfit_code h) (laws.unfit f g old.catalog groups are u v m k)) a b n l
-groups_agree laws old new last head groups one other are (inl (f, m, u, a, n)) (inr (changes, form, p)) =
-    absurd (m (laws.fit f old.catalog groups are form.fit u))
-groups_agree laws old new last head groups one other are (inr (changes, form, p)) (inl (f, m, u, a, n)) =
-    absurd (m (laws.fit f old.catalog groups are form.fit u))
-groups_agree laws old new last head groups one other are (inr (some, form, p)) (inr (others, form', q)) =
-    forms_agree laws old new last head some others one other (laws.form old.catalog groups some others are form form') p q
+groups_agree : (laws : Below) (limit : ℕ) (old new last : HubState) (head : PushHead) (groups : List Group) (one other : Outcome) → AreTables old.opening → TakesGroups limit old head groups one new → TakesGroups limit old head groups other last → Agree one other new last
+groups_agree laws limit old new last head groups one other are (inl (f, m, u, a, n)) (inl (g, k, v, b, l)) =
+    refuse old new last one other (NoForm f) (NoForm g) (ap (λ (h : Unfit). NoForm h) (laws.unfit f g old.opening groups are u v m k)) a b n l
+groups_agree laws limit old new last head groups one other are (inl (f, m, u, a, n)) (inr (changes, form, p)) =
+    absurd (m (laws.fit f old.opening groups are form.fit u))
+groups_agree laws limit old new last head groups one other are (inr (changes, form, p)) (inl (f, m, u, a, n)) =
+    absurd (m (laws.fit f old.opening groups are form.fit u))
+groups_agree laws limit old new last head groups one other are (inr (some, form, p)) (inr (others, form', q)) =
+    forms_agree laws limit old new last head some others one other (laws.form old.opening groups some others are form form') p q
 
-changesets_agree : (laws : Below) (old new last : HubState) (head : PushHead) (changeset : List ℕ) (one other : Answer) → AreTables old.catalog → AnswersChangeset old head changeset one new → AnswersChangeset old head changeset other last → Agree one other new last
-changesets_agree laws old new last head changeset one other are (inl (f, at, w, a, n)) (inl (g, there, v, b, m)) =
-    refuse old new last one other (fault_code f) (fault_code g) (ap (λ (h : Fault). fault_code h) (laws.changesets.fault f g at there changeset w v).0) a b n m
-changesets_agree laws old new last head changeset one other are (inl (f, at, w, a, n)) (inr (groups, fits, is, p)) =
+changesets_agree : (laws : Below) (limit : ℕ) (old new last : HubState) (head : PushHead) (changeset : List ℕ) (one other : Outcome) → AreTables old.opening → TakesBytes limit old head changeset one new → TakesBytes limit old head changeset other last → Agree one other new last
+changesets_agree laws limit old new last head changeset one other are (inl (f, at, w, a, n)) (inl (g, there, v, b, m)) =
+    refuse old new last one other (NoChangeset f) (NoChangeset g) (ap (λ (h : Fault). NoChangeset h) (laws.changesets.fault f g at there changeset w v).0) a b n m
+changesets_agree laws limit old new last head changeset one other are (inl (f, at, w, a, n)) (inr (groups, fits, is, p)) =
     absurd (laws.changesets.right groups f at fits (rw is at w))
-changesets_agree laws old new last head changeset one other are (inr (groups, fits, is, p)) (inl (f, at, w, a, n)) =
+changesets_agree laws limit old new last head changeset one other are (inr (groups, fits, is, p)) (inl (f, at, w, a, n)) =
     absurd (laws.changesets.right groups f at fits (rw is at w))
-changesets_agree laws old new last head changeset one other are (inr (groups, fits, is, p)) (inr (others, fits', is', q)) =
+changesets_agree laws limit old new last head changeset one other are (inr (groups, fits, is, p)) (inr (others, fits', is', q)) =
     let same : groups ≡ others = laws.changesets.one groups others fits fits' (sym is ∙ is') in
-    groups_agree laws old new last head others one other are (subst (λ (g : List Group). AnswersGroups old head g one new) same p) q
+    groups_agree laws limit old new last head others one other are (subst (λ (g : List Group). TakesGroups limit old head g one new) same p) q
 
-asked_agree : (laws : Below) (old new last : HubState) (asked : Asked) (answer other : List ℕ) → AreTables old.catalog → AnswersAsked old asked answer new → AnswersAsked old asked other last → (answer ≡ other) × (new ≡ last)
-asked_agree laws old new last (AsksNothing fault) answer other are (a, n) (b, m) = (a ∙ sym b, n ∙ sym m)
-asked_agree laws old new last (AsksPull first limit) answer other are (inl (lt, a), n) (inl (lt', b), m) = (a ∙ sym b, n ∙ sym m)
-asked_agree laws old new last (AsksPull first limit) answer other are (inl (lt, a), n) (inr (le, b), m) = absurd (omega arith)
-asked_agree laws old new last (AsksPull first limit) answer other are (inr (le, a), n) (inl (lt, b), m) = absurd (omega arith)
-asked_agree laws old new last (AsksPull first limit) answer other are (inr (le, a), n) (inr (le', b), m) = (a ∙ sym b, n ∙ sym m)
-asked_agree laws old new last (AsksPush head changeset) answer other are (some, a, p) (others, b, q) =
-    let both = changesets_agree laws old new last head changeset some others are p q in
-    (a ∙ ap answer_spelling both.0 ∙ sym b, both.1)
+asked_agree : (laws : Below) (limit : ℕ) (old new last : HubState) (asked : Asked) (answer other : List ℕ) → AreTables old.opening → AnswersAsked limit old asked answer new → AnswersAsked limit old asked other last → (answer ≡ other) × (new ≡ last)
+asked_agree laws limit old new last (AsksNothing fault) answer other are (a, n) (b, m) = (a ∙ sym b, n ∙ sym m)
+asked_agree laws limit old new last (AsksPull first count) answer other are (inl (lt, a), n) (inl (lt', b), m) = (a ∙ sym b, n ∙ sym m)
+asked_agree laws limit old new last (AsksPull first count) answer other are (inl (lt, a), n) (inr (le, b), m) = absurd (omega arith)
+asked_agree laws limit old new last (AsksPull first count) answer other are (inr (le, a), n) (inl (lt, b), m) = absurd (omega arith)
+asked_agree laws limit old new last (AsksPull first count) answer other are (inr (le, a), n) (inr (le', b), m) = (a ∙ sym b, n ∙ sym m)
+asked_agree laws limit old new last (AsksPush head changeset) answer other are (some, p, a) (others, q, b) =
+    let both = changesets_agree laws limit old new last head changeset some others are p q in
+    (a ∙ ap (λ (o : Outcome). answer_spelling (push_answer head o)) both.0 ∙ sym b, both.1)
 
 pub one_service : Below → OneService
-one_service laws old new last request answer other are (one, asks, answers) (two, asks', answers') =
+one_service laws limit old new last request answer other are (one, asks, answers) (two, asks', answers') =
     let same : one ≡ two = laws.request request one two asks asks' in
-    asked_agree laws old new last two answer other are (subst (λ (a : Asked). AnswersAsked old a answer new) same answers) answers'
+    asked_agree laws limit old new last two answer other are (subst (λ (a : Asked). AnswersAsked limit old a answer new) same answers) answers'

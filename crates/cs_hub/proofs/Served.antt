@@ -1,22 +1,81 @@
--- Answers to pushes.
-use Rattle.std.proofs.Common.{◌≡◌, List, Result, Ok, Err, IfOk, inr, subst}
+-- What becomes of pushes, from the bytes of their changesets on.
+use Rattle.std.proofs.Common.{◌≡◌, ◌≢◌, ℕ, List, Result, Ok, Err, inl, inr, refl, sym, subst}
+use Rattle.std.specs.Result.{IsErr, IsErrAnd}
 use Rattle.cs_value.specs.declared.catalog.TableDef.{TableDef}
+use Rattle.cs_change.specs.Spelling.{FitsChangeset, changeset_spelling}
 use Rattle.cs_change.specs.declared.group.Group.{Group}
-use Rattle.cs_normal.specs.NormalFormOf.{IsNormalFormOf}
+use Rattle.cs_changeset.specs.Reading.{ReadsChangeset}
+use Rattle.cs_changeset.specs.declared.fault.CodecFault.{CodecFault}
+use Rattle.cs_changeset.specs.declared.fault.CodecFault.TheVariants as codec
+use Rattle.cs_normal.specs.NormalFormOf.{IsNormalFormOf, IsUnfit}
 use Rattle.cs_normal.specs.declared.normal.TableChanges.{TableChanges}
-use Rattle.cs_hub.specs.Hub.{HubState}
-use Rattle.cs_hub.specs.Pushes.{Push}
-use Rattle.cs_hub.specs.Serves.{AnswersPush, AnswersGroups}
-use Rattle.cs_hub.specs.declared.answer.Answer.{Answer}
+use Rattle.cs_normal.specs.declared.unfit.Unfit.{Unfit}
+use Rattle.cs_normal.specs.declared.unfit.Unfit.TheVariants as unfit
+use Rattle.cs_hub.specs.Hub.{HubState, judging}
+use Rattle.cs_hub.specs.Pushes.{Push, PushesIf}
+use Rattle.cs_hub.specs.Refusals.{refusal_of_codec, refusal_of_hub, refusal_of_unfit}
+use Rattle.cs_hub.specs.Serves.{Outcome, TakesBytes, TakesBytesIf}
+use Rattle.cs_hub.specs.declared.fault.HubFault.{HubFault}
+use Rattle.cs_hub.specs.declared.fault.HubFault.TheVariants as hub
 use Rattle.cs_hub.specs.declared.push.PushHead.{PushHead}
+use Rattle.cs_hub.specs.declared.push.Pushed.{Pushed}
+use Rattle.cs_hub.specs.declared.refusal.Refusal.{Refusal}
 
 abbrev pub push_of : PushHead → List TableChanges → Push
 push_of head changes = record { head = head; changes = changes }
 
--- the answer to a push whose normal form was found
-pub normal_answer : {E : Type 0} (answer : Result Answer E) (old new : HubState) (head : PushHead) (groups : List Group) (changes : List TableChanges) (catalog : List TableDef) → catalog ≡ old.catalog → IsNormalFormOf catalog groups changes
-    → IfOk answer (λ a. AnswersPush old (push_of head changes) a new)
-    → IfOk answer (λ a. AnswersGroups old head groups a new)
-normal_answer (Err e) old new head groups changes catalog is normal h = tt
-normal_answer (Ok answer) old new head groups changes catalog is normal h =
-    inr (changes, subst (λ (tables : List TableDef). IsNormalFormOf tables groups changes) is normal, h)
+-- a refusal on the way is the outcome
+pub told_as : (limit : ℕ) (old new : HubState) (head : PushHead) (bytes : List ℕ) (outcome : Outcome) (told : Refusal) → IsErr outcome → IsErrAnd outcome (λ e. e ≡ told) → TakesBytesIf limit old head bytes (Err told) new → TakesBytesIf limit old head bytes outcome new
+told_as limit old new head bytes (Ok pushed) told is and taken = cc
+told_as limit old new head bytes (Err refusal) told is and taken =
+    subst (λ (r : Refusal). TakesBytesIf limit old head bytes (Err r) new) (sym and) taken
+
+-- the bytes spell no changeset
+pub unread : (limit : ℕ) (old : HubState) (head : PushHead) (bytes : List ℕ) (fault : CodecFault) → ReadsChangeset bytes (Err fault) → TakesBytesIf limit old head bytes (Err (refusal_of_codec fault)) old
+unread limit old head bytes codec.Memory wrong = refl
+unread limit old head bytes (codec.At fault offset) wrong = inl (fault, offset, wrong, refl, refl)
+
+-- a changeset that the bytes spell
+pub record Spells (bytes : List ℕ) (groups : List Group) : Type 0 where
+  pub fits : FitsChangeset groups
+  pub spelled : bytes ≡ changeset_spelling groups
+
+no_form : (limit : ℕ) (old : HubState) (head : PushHead) (bytes : List ℕ) (groups : List Group) (fault : Unfit) → Spells bytes groups → fault ≢ unfit.Memory → IsUnfit fault (judging old head.base) groups → TakesBytes limit old head bytes (Err (refusal_of_unfit fault)) old
+no_form limit old head bytes groups unfit.Memory spells some wrong = absurd (some refl)
+no_form limit old head bytes groups unfit.UnknownTable spells some wrong = inr (groups, spells.fits, spells.spelled, inl (unfit.UnknownTable, some, wrong, refl, refl))
+no_form limit old head bytes groups unfit.Shape spells some wrong = inr (groups, spells.fits, spells.spelled, inl (unfit.Shape, some, wrong, refl, refl))
+no_form limit old head bytes groups unfit.NullKey spells some wrong = inr (groups, spells.fits, spells.spelled, inl (unfit.NullKey, some, wrong, refl, refl))
+no_form limit old head bytes groups unfit.KeyTwice spells some wrong = inr (groups, spells.fits, spells.spelled, inl (unfit.KeyTwice, some, wrong, refl, refl))
+
+-- the changeset has no normal form
+pub unformed : (limit : ℕ) (old : HubState) (head : PushHead) (bytes : List ℕ) (groups : List Group) (fault : Unfit) → Spells bytes groups → IsUnfit fault (judging old head.base) groups → TakesBytesIf limit old head bytes (Err (refusal_of_unfit fault)) old
+unformed limit old head bytes groups unfit.Memory spells wrong = refl
+unformed limit old head bytes groups unfit.UnknownTable spells wrong = no_form limit old head bytes groups unfit.UnknownTable spells (λ is. cc) wrong
+unformed limit old head bytes groups unfit.Shape spells wrong = no_form limit old head bytes groups unfit.Shape spells (λ is. cc) wrong
+unformed limit old head bytes groups unfit.NullKey spells wrong = no_form limit old head bytes groups unfit.NullKey spells (λ is. cc) wrong
+unformed limit old head bytes groups unfit.KeyTwice spells wrong = no_form limit old head bytes groups unfit.KeyTwice spells (λ is. cc) wrong
+
+-- a changeset and its normal form
+pub record HasForm (tables : List TableDef) (bytes : List ℕ) (changes : List TableChanges) : Type 0 where
+  pub groups : List Group
+  pub spells : Spells bytes groups
+  pub form : IsNormalFormOf tables groups changes
+
+pub has_form : (catalog tables : List TableDef) (bytes : List ℕ) (groups : List Group) (changes : List TableChanges) → catalog ≡ tables → FitsChangeset groups × (bytes ≡ changeset_spelling groups) → IsNormalFormOf catalog groups changes → HasForm tables bytes changes
+has_form catalog tables bytes groups changes same (fits, spelled) normal = record {
+  groups = groups;
+  spells = record { fits = fits; spelled = spelled };
+  form = subst (λ (t : List TableDef). IsNormalFormOf t groups changes) same normal;
+}
+
+-- the hub refuses the push
+pub refused_by : (limit : ℕ) (old new : HubState) (head : PushHead) (bytes : List ℕ) (changes : List TableChanges) (fault : HubFault) → HasForm (judging old head.base) bytes changes → PushesIf limit old (push_of head changes) (Err fault) new → TakesBytesIf limit old head bytes (Err (refusal_of_hub fault)) new
+refused_by limit old new head bytes changes hub.Memory has pushes = pushes
+refused_by limit old new head bytes changes hub.Ahead has pushes = inr (has.groups, has.spells.fits, has.spells.spelled, inr (changes, has.form, (Err hub.Ahead, pushes, refl)))
+refused_by limit old new head bytes changes hub.Conflict has pushes = inr (has.groups, has.spells.fits, has.spells.spelled, inr (changes, has.form, (Err hub.Conflict, pushes, refl)))
+refused_by limit old new head bytes changes hub.Empty has pushes = inr (has.groups, has.spells.fits, has.spells.spelled, inr (changes, has.form, (Err hub.Empty, pushes, refl)))
+refused_by limit old new head bytes changes hub.Full has pushes = inr (has.groups, has.spells.fits, has.spells.spelled, inr (changes, has.form, (Err hub.Full, pushes, refl)))
+
+-- the hub took it
+pub taken : (limit : ℕ) (old new : HubState) (head : PushHead) (bytes : List ℕ) (changes : List TableChanges) (pushed : Pushed) → HasForm (judging old head.base) bytes changes → PushesIf limit old (push_of head changes) (Ok pushed) new → TakesBytesIf limit old head bytes (Ok pushed) new
+taken limit old new head bytes changes pushed has pushes = inr (has.groups, has.spells.fits, has.spells.spelled, inr (changes, has.form, (Ok pushed, pushes, refl)))

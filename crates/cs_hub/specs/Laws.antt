@@ -1,17 +1,23 @@
 -- The laws of requests, pushes and what a hub answers.
-use Rattle.std.specs.Prelude.{◌≡◌, ℕ, List, map, Result}
-use Rattle.cs_hub.specs.declared.log.LogEntry.{LogEntry}
+use Rattle.std.specs.Prelude.{◌≡◌, ◌≢◌, ◌⊎◌, ℕ, ◌<◌, List, Result}
+use Rattle.std.specs.List.{AllByRecursion}
 use Rattle.cs_value.specs.Catalog.{AreTables}
 use Rattle.cs_value.specs.declared.catalog.TableDef.{TableDef}
-use Rattle.cs_normal.specs.State.{AreApplied}
+use Rattle.cs_change.specs.Spelling.{FitsChangeset, changeset_spelling}
+use Rattle.cs_change.specs.declared.group.Group.{Group}
+use Rattle.cs_changeset.specs.Reading.{IsChangesetFault}
+use Rattle.cs_changeset.specs.declared.fault.Fault.{Fault}
+use Rattle.cs_normal.specs.NormalFormOf.{AreFit, IsUnfit}
+use Rattle.cs_normal.specs.declared.unfit.Unfit.{Unfit}
+use Rattle.cs_normal.specs.declared.unfit.Unfit.TheVariants as unfit
 use Rattle.cs_lines.specs.Laws.{AreInMemory}
 use Rattle.cs_lines.specs.Served.{AnswersAll}
-use Rattle.cs_hub.specs.Hub.{HubState, fresh}
-use Rattle.cs_hub.specs.Log.{IsLog}
+use Rattle.cs_log.specs.Log.{IsLog}
+use Rattle.cs_log.specs.Stored.{AreChangesOf}
+use Rattle.cs_hub.specs.Hub.{HubState, fresh, judging}
 use Rattle.cs_hub.specs.Messages.{Asked, Asks}
 use Rattle.cs_hub.specs.Pushes.{Push, Pushes}
 use Rattle.cs_hub.specs.Serves.{Serves}
-use Rattle.cs_hub.specs.Tables.{empty_state, entry_changes, state_of}
 use Rattle.cs_hub.specs.declared.fault.HubFault.{HubFault}
 use Rattle.cs_hub.specs.declared.push.Pushed.{Pushed}
 
@@ -22,33 +28,74 @@ OneRequest = (bytes : List ℕ) (one other : Asked) → Asks bytes one → Asks 
 -- a push has one answer, and leaves one hub
 abbrev pub OneAnswer : Type 0
 OneAnswer =
-    (old new last : HubState) (push : Push) (one other : Result Pushed HubFault)
-    → Pushes old push one new
-    → Pushes old push other last
+    (limit : ℕ) (old new last : HubState) (push : Push) (one other : Result Pushed HubFault)
+    → Pushes limit old push one new
+    → Pushes limit old push other last
     → (one ≡ other) × (new ≡ last)
 
 -- a request has one answer, and leaves one hub
 abbrev pub OneService : Type 0
 OneService =
-    (old new last : HubState) (request answer other : List ℕ)
-    → AreTables old.catalog
-    → Serves old request answer new
-    → Serves old request other last
+    (limit : ℕ) (old new last : HubState) (request answer other : List ℕ)
+    → AreTables old.opening
+    → Serves limit old request answer new
+    → Serves limit old request other last
     → (answer ≡ other) × (new ≡ last)
 
 -- lines that a new hub answers, none refused for want of memory, have one list of answers, and leave one hub
-abbrev pub OneHubRun : Type 0
-OneHubRun =
+abbrev pub OneHubRun : ℕ → Type 0
+OneHubRun limit =
     (tables : List TableDef) (new last : HubState) (lines ones others : List (List ℕ))
     → AreTables tables
     → AreInMemory ones
     → AreInMemory others
-    → AnswersAll Serves (fresh tables) lines ones new
-    → AnswersAll Serves (fresh tables) lines others last
+    → AnswersAll (Serves limit) (fresh tables) lines ones new
+    → AnswersAll (Serves limit) (fresh tables) lines others last
     → (ones ≡ others) × (new ≡ last)
 
--- the state that a log makes is that of its changesets, each applied to what the earlier ones left
-abbrev pub LogIsApplied : Type 0
-LogIsApplied =
-    (catalog : List TableDef) (log : List LogEntry) → IsLog catalog log
-    → AreApplied catalog (map entry_changes log) empty_state (state_of log)
+-- ---- there is an answer
+
+abbrev pub AreBytes : List ℕ → Type 0
+AreBytes bytes = AllByRecursion (λ byte. byte < 256) bytes
+
+-- bytes ask something: a push, a pull, or nothing, where they have a fault
+abbrev pub AsksSomething : Type 0
+AsksSomething = (bytes : List ℕ) → AreBytes bytes → (asked : Asked) × Asks bytes asked
+
+-- a state that a hub can be in
+pub record IsOfHub (hub : HubState) : Type 0 where
+  pub tables : AreTables hub.opening
+  pub log : IsLog hub.opening hub.log
+
+-- a push has an answer
+abbrev pub PushHasAnswer : Type 0
+PushHasAnswer =
+    (limit : ℕ) (old : HubState) (push : Push)
+    → IsOfHub old
+    → AreChangesOf (judging old push.head.base) push.changes
+    → (answer : Result Pushed HubFault) × (new : HubState) × Pushes limit old push answer new
+
+-- bytes spell a changeset, or have a fault
+abbrev pub BytesDecided : Type 0
+BytesDecided =
+    (bytes : List ℕ) → AreBytes bytes
+    → ((groups : List Group) × FitsChangeset groups × (bytes ≡ changeset_spelling groups))
+    ⊎ ((fault : Fault) × (offset : ℕ) × IsChangesetFault fault offset bytes)
+
+-- a changeset fits tables, or has a refusal
+abbrev pub FormDecided : Type 0
+FormDecided =
+    (tables : List TableDef) (groups : List Group)
+    → AreTables tables
+    → FitsChangeset groups
+    → AreFit tables groups ⊎ ((fault : Unfit) × (fault ≢ unfit.Memory) × IsUnfit fault tables groups)
+
+-- where it is decided of bytes whether they spell a changeset, and of a changeset whether it fits, a request has an answer
+abbrev pub RequestHasAnswer : Type 0
+RequestHasAnswer =
+    BytesDecided
+    → FormDecided
+    → (limit : ℕ) (old : HubState) (request : List ℕ)
+    → IsOfHub old
+    → AreBytes request
+    → (answer : List ℕ) × (new : HubState) × Serves limit old request answer new

@@ -1,11 +1,9 @@
-pub mod Codes
 pub mod Hub
 pub mod Laws
-pub mod Log
 pub mod Messages
 pub mod Pushes
+pub mod Refusals
 pub mod Rows
 pub mod Serves
 pub mod Sound
 pub mod Staged
-pub mod Tables

@@ -6,60 +6,78 @@ use Rattle.cs_normal.specs.declared.unfit.Unfit.{Unfit}
 use Rattle.cs_normal.specs.declared.unfit.Unfit.TheVariants as unfit
 use Rattle.cs_change.specs.Spelling.{FitsChangeset, changeset_spelling}
 use Rattle.cs_change.specs.declared.group.Group.{Group}
-use Rattle.cs_changeset.specs.Codes.{fault_code}
 use Rattle.cs_changeset.specs.Reading.{IsChangesetFault}
 use Rattle.cs_changeset.specs.declared.fault.Fault.{Fault}
-use Rattle.cs_hub.specs.Codes.{hub_code, request_code}
-use Rattle.cs_normal.specs.Codes.{unfit_code}
-use Rattle.cs_hub.specs.Hub.{HubState, entries_from}
+use Rattle.cs_hub.specs.Hub.{HubState, entries_from, judging}
 use Rattle.cs_hub.specs.Messages.{Asked, AsksPush, AsksPull, AsksNothing, Asks, answer_spelling, entries_spelling}
 use Rattle.cs_hub.specs.Pushes.{Push, Pushes}
-use Rattle.cs_hub.specs.declared.answer.Answer.{Answer}
-use Rattle.cs_hub.specs.declared.answer.Answer.TheVariants.{Accepted, Stale, Refused}
+use Rattle.cs_hub.specs.Refusals.{refusal_of_hub, refusal_code}
+use Rattle.cs_hub.specs.declared.answer.ShortAnswer.{ShortAnswer}
+use Rattle.cs_hub.specs.declared.answer.ShortAnswer.TheVariants.{Accepted, Stale, Refused}
 use Rattle.cs_hub.specs.declared.fault.HubFault.{HubFault}
 use Rattle.cs_hub.specs.declared.fault.HubFault.TheVariants.{Ahead}
 use Rattle.cs_hub.specs.declared.push.PushHead.{PushHead}
 use Rattle.cs_hub.specs.declared.push.Pushed.{Pushed}
 use Rattle.cs_hub.specs.declared.push.Pushed.TheVariants as pushed
+use Rattle.cs_hub.specs.declared.refusal.Refusal.{Refusal}
+use Rattle.cs_hub.specs.declared.refusal.Refusal.TheVariants.{Memory, NoRequest, NoChangeset, NoForm, ByHub}
+
+-- what became of a push whose changeset was yet to be read: it was taken, or the request is refused
+abbrev pub Outcome : Type 0
+Outcome = Result Pushed Refusal
+
+abbrev pub or_refusal : Result Pushed HubFault → Outcome
+or_refusal (Ok pushed) = Ok pushed
+or_refusal (Err fault) = Err (refusal_of_hub fault)
+
+-- a push whose changeset is in normal form
+abbrev pub TakesNormal : ℕ → HubState → Push → Outcome → HubState → Type 0
+TakesNormal limit old push outcome new =
+    (told : Result Pushed HubFault) × Pushes limit old push told new × (outcome ≡ or_refusal told)
+
+-- a push whose changeset was read: what is wrong by the catalog, or what becomes of its normal form
+abbrev pub TakesGroups : ℕ → HubState → PushHead → List Group → Outcome → HubState → Type 0
+TakesGroups limit old head groups outcome new =
+    ((fault : Unfit) × (fault ≢ unfit.Memory) × IsUnfit fault (judging old head.base) groups
+    × (outcome ≡ Err (NoForm fault)) × (new ≡ old))
+    ⊎ ((changes : List TableChanges) × IsNormalFormOf (judging old head.base) groups changes
+    × TakesNormal limit old (record { head = head; changes = changes }) outcome new)
+
+-- a push with the bytes of a changeset: what is wrong with these, or what becomes of the changeset
+abbrev pub TakesBytes : ℕ → HubState → PushHead → List ℕ → Outcome → HubState → Type 0
+TakesBytes limit old head changeset outcome new =
+    ((fault : Fault) × (offset : ℕ) × IsChangesetFault fault offset changeset
+    × (outcome ≡ Err (NoChangeset fault)) × (new ≡ old))
+    ⊎ ((groups : List Group) × FitsChangeset groups × (changeset ≡ changeset_spelling groups)
+    × TakesGroups limit old head groups outcome new)
+
+-- the same, or want of memory, which changes nothing
+abbrev pub TakesBytesIf : ℕ → HubState → PushHead → List ℕ → Outcome → HubState → Type 0
+TakesBytesIf limit old head changeset (Err Memory) new = new ≡ old
+TakesBytesIf limit old head changeset outcome new = TakesBytes limit old head changeset outcome new
 
 -- the answer that tells what became of a push
-abbrev pub push_answer : Push → Result Pushed HubFault → Answer
-push_answer push (Ok (pushed.Accepted version)) = Accepted push.head.origin push.head.number version
-push_answer push (Ok (pushed.Stale newest)) = Stale newest
-push_answer push (Err fault) = Refused (hub_code fault)
+abbrev pub push_answer : PushHead → Outcome → ShortAnswer
+push_answer head (Ok (pushed.Accepted version)) = Accepted head.origin head.number version
+push_answer head (Ok (pushed.Stale newest)) = Stale newest
+push_answer head (Err refusal) = Refused (refusal_code refusal)
 
--- the answer to a push whose changeset was read and brought into normal form
-abbrev pub AnswersPush : HubState → Push → Answer → HubState → Type 0
-AnswersPush old push answer new =
-    (outcome : Result Pushed HubFault) × Pushes old push outcome new × (answer ≡ push_answer push outcome)
-
--- the answer to a push whose changeset was read: what is wrong by the catalog, or that of its normal form
-abbrev pub AnswersGroups : HubState → PushHead → List Group → Answer → HubState → Type 0
-AnswersGroups old head groups answer new =
-    ((fault : Unfit) × (fault ≢ unfit.Memory) × IsUnfit fault old.catalog groups
-    × (answer ≡ Refused (unfit_code fault)) × (new ≡ old))
-    ⊎ ((changes : List TableChanges) × IsNormalFormOf old.catalog groups changes
-    × AnswersPush old (record { head = head; changes = changes }) answer new)
-
--- the answer to a push: what is wrong with the bytes of its changeset, or that of the changeset
-abbrev pub AnswersChangeset : HubState → PushHead → List ℕ → Answer → HubState → Type 0
-AnswersChangeset old head changeset answer new =
-    ((fault : Fault) × (offset : ℕ) × IsChangesetFault fault offset changeset
-    × (answer ≡ Refused (fault_code fault)) × (new ≡ old))
-    ⊎ ((groups : List Group) × FitsChangeset groups × (changeset ≡ changeset_spelling groups)
-    × AnswersGroups old head groups answer new)
+-- the answer that tells of a refusal
+abbrev pub refused : Refusal → List ℕ
+refused refusal = answer_spelling (Refused (refusal_code refusal))
 
 -- the answer to what is asked
-abbrev pub AnswersAsked : HubState → Asked → List ℕ → HubState → Type 0
-AnswersAsked old (AsksNothing fault) bytes new =
-    (bytes ≡ answer_spelling (Refused (request_code fault))) × (new ≡ old)
-AnswersAsked old (AsksPull first limit) bytes new =
-    (((length old.log < first) × (bytes ≡ answer_spelling (Refused (hub_code Ahead))))
-    ⊎ ((first ≤ length old.log) × (bytes ≡ entries_spelling first (entries_from first limit old.log))))
+abbrev pub AnswersAsked : ℕ → HubState → Asked → List ℕ → HubState → Type 0
+AnswersAsked limit old (AsksNothing fault) bytes new = (bytes ≡ refused (NoRequest fault)) × (new ≡ old)
+AnswersAsked limit old (AsksPull first count) bytes new =
+    (((length old.log < first) × (bytes ≡ refused (ByHub Ahead)))
+    ⊎ ((first ≤ length old.log) × (bytes ≡ entries_spelling first (entries_from first count old.log))))
     × (new ≡ old)
-AnswersAsked old (AsksPush head changeset) bytes new =
-    (answer : Answer) × (bytes ≡ answer_spelling answer) × AnswersChangeset old head changeset answer new
+AnswersAsked limit old (AsksPush head changeset) bytes new =
+    (outcome : Outcome) × TakesBytes limit old head changeset outcome new
+    × (bytes ≡ answer_spelling (push_answer head outcome))
 
--- the hub answers the bytes of a request with these bytes, and is then another
-abbrev pub Serves : HubState → List ℕ → List ℕ → HubState → Type 0
-Serves old request answer new = (asked : Asked) × Asks request asked × AnswersAsked old asked answer new
+-- the hub, whose log has at most so many entries, answers the bytes of a request with these bytes, and is then another
+abbrev pub Serves : ℕ → HubState → List ℕ → List ℕ → HubState → Type 0
+Serves limit old request answer new =
+    (asked : Asked) × Asks request asked × AnswersAsked limit old asked answer new

@@ -5,13 +5,14 @@ ghost use Rattle.std.specs.List.{flat_map};
 ghost use Rattle.cs_hub.specs.Messages.{four_bytes, eight_bytes, entry_spelling, entries_spelling};
 ghost use Rattle.cs_hub.specs.Sound.{FitsMessage};
 
-use crate::log::{Body, LogEntry};
+use crate::push::PushHead;
+use cs_log::LogEntry;
 use cs_value::Memory;
 use std::alloc::Global;
 
 /// The answers but entries. (Profile of this project.)
 #[derive(Clone, Copy)]
-pub(crate) enum Answer {
+pub(crate) enum ShortAnswer {
     /// The push is entry `version - 1`.
     Accepted {
         origin: u32,
@@ -34,9 +35,6 @@ const STALE: u8 = 18;
 const REFUSED: u8 = 19;
 
 const ENTRIES: u8 = 20;
-
-/// The kind of an entry that has a changeset, which each entry has so far. (Profile of this project.)
-const CHANGES: u8 = 0;
 
 /// The most bytes of an answer but entries.
 pub(crate) const SHORT: usize = 21;
@@ -81,9 +79,21 @@ fn put_u64(number: u64, out: &mut Vec<u8>)
     put(&number.to_be_bytes(), out);
 }
 
-impl Answer {
+impl ShortAnswer {
     ghost use Rattle.std.specs.Prelude.{◌≡◌, ◌+◌, ◌≤◌, ◌++◌, vec_len, vec_capacity};
     ghost use Rattle.cs_hub.specs.Messages.{answer_spelling};
+    ghost use Rattle.cs_hub.specs.declared.answer.ShortAnswer.TheVariants.{Accepted};
+
+    /// The push is the log's entry before this version.
+    pub(crate) fn accepted(head: PushHead, version: u64) -> ShortAnswer
+        ensures { result ≡ Accepted head.origin head.number version }
+    {
+        ShortAnswer::Accepted {
+            origin: head.origin,
+            number: head.number,
+            version,
+        }
+    }
 
     /// Appends the answer. There is room for it.
     pub(crate) fn put(&self, out: &mut Vec<u8>)
@@ -91,7 +101,7 @@ impl Answer {
         ensures { out.new.items ≡ out.old.items ++ answer_spelling self.now }
     {
         match self {
-            Answer::Accepted {
+            ShortAnswer::Accepted {
                 origin,
                 number,
                 version,
@@ -101,11 +111,11 @@ impl Answer {
                 put_u64(*number, out);
                 put_u64(*version, out);
             }
-            Answer::Stale { newest } => {
+            ShortAnswer::Stale { newest } => {
                 put_u8(STALE, out);
                 put_u64(*newest, out);
             }
-            Answer::Refused(code) => {
+            ShortAnswer::Refused(code) => {
                 put_u8(REFUSED, out);
                 put_u8(*code, out);
             }
@@ -121,19 +131,18 @@ fn set_u32(out: &mut Vec<u8>, at: usize, number: u32)
     out.as_mut_slice()[at..at + 4].copy_from_slice(&number.to_be_bytes());
 }
 
-/// Appends an entry. The length of its changeset is written once the changeset stands behind it.
+/// Appends an entry. The length of what it does is written once that stands behind it.
 fn put_entry(entry: &LogEntry, out: &mut Vec<u8>) -> Result<(), Memory>
     requires { FitsMessage entry.now }
     ensures { OnOk result (out.new.items ≡ out.old.items ++ entry_spelling entry.now) }
 {
-    let Body::Changes(changes) = &entry.body;
     out.reserve(17)?;
-    put_u8(CHANGES, out);
+    put_u8(entry.body.kind(), out);
     put_u32(entry.origin, out);
     put_u64(entry.number, out);
     let at = out.len();
     put_u32(0, out);
-    changes.encode(out)?;
+    entry.body.encode(out)?;
     let len = out.len() - at - 4;
     set_u32(out, at, len as u32);
     Ok(())

@@ -3,17 +3,17 @@
 ghost use Rattle.std.specs.Prelude.{◌≡◌, ◌↔◌, IsTrue};
 ghost use Rattle.cs_hub.specs.Pushes.{entry_of};
 
-use crate::answer::{Answer, SHORT, entries_answer};
-use crate::code;
+use crate::answer::{SHORT, ShortAnswer, entries_answer};
 use crate::fault::HubFault;
-use crate::log::{Body, LogEntry};
 use crate::push::{PushHead, Pushed};
+use crate::refusal::Refusal;
 use crate::request::Request;
 use crate::rows::KeyedRow;
 use crate::tables::Tables;
-use cs_change::Changeset;
-use cs_changeset::{CodecFault, read};
-use cs_normal::{Normal, Unfit, normalise};
+use cs_changeset::read;
+use cs_log::laws::{appended_is_log, empty_is_log};
+use cs_log::{Body, LogEntry, MAX_CHANGESET};
+use cs_normal::{Normal, normalise};
 use cs_value::{Catalog, Memory, TableDef};
 use std::alloc::{AllocError, Global};
 use std::marker::Model;
@@ -21,10 +21,7 @@ use std::marker::Model;
 /// The most entries of the log. (Profile of this project.)
 pub const MAX_ENTRIES: usize = 4096;
 
-/// The most bytes of a changeset in a message. (Profile of this project.)
-pub const MAX_CHANGESET: u64 = 4_294_967_295;
-
-/// An append-only log of accepted pushes, and the tables that it makes. Contracts see the catalog and the log. (Profile
+/// An append-only log of accepted pushes, and the tables that it makes. Contracts see the tables that it opened with and the log. (Profile
 /// of this project.)
 #[derive(Drop)]
 pub struct Hub {
@@ -40,7 +37,7 @@ impl Model for Hub {
 
     ghost Value = { HubState };
 
-    ghost view = { λ hub. record { catalog = hub.catalog; log = hub.log.items } };
+    ghost view = { λ hub. record { opening = hub.catalog; log = hub.log.items } };
 
     ghost invariant = { λ hub. IsSound hub.catalog hub.log.items hub.tables };
 }
@@ -54,18 +51,18 @@ fn is_push(entry: &LogEntry, head: PushHead, changes: &Normal) -> bool
 }
 
 impl Hub {
-    ghost use Rattle.std.specs.Prelude.{◌≡◌, ◌↔◌, ◌≤◌, ◌<◌, ◌^◌, ◌+◌, ◌≢◌, ℕ, List, [], Some, Ok, IsTrue, IfOk, OnErr, MatchResult, length};
-    ghost use Rattle.cs_change.specs.Spelling.{FitsChangeset, changeset_spelling};
-    ghost use Rattle.cs_hub.specs.Messages.{AsksPush, AsksPull, answer_spelling};
-    ghost use Rattle.cs_hub.specs.Serves.{AnswersAsked, AnswersChangeset, AnswersGroups, AnswersPush, Serves};
+    ghost use Rattle.std.specs.Prelude.{◌≡◌, ◌↔◌, ◌≤◌, ◌<◌, ◌^◌, ◌+◌, ◌≢◌, All, ℕ, List, [], Some, Ok, IsTrue, IfOk, OnErr, MatchResult, length};
+    ghost use Rattle.cs_hub.specs.Messages.{AsksPush, AsksPull};
+    ghost use Rattle.cs_hub.specs.Serves.{AnswersAsked, TakesBytesIf, Serves, refused};
     ghost use Rattle.std.specs.List.{slice_get};
     ghost use Rattle.cs_value.specs.Catalog.{AreTables};
     ghost use Rattle.cs_value.specs.declared.catalog.TableDef.{TableDef};
     ghost use Rattle.cs_normal.specs.Normal.{FitsCatalog, normal_spelling};
-    ghost use Rattle.cs_hub.specs.Hub.{HubState, fresh, entries_from};
-    ghost use Rattle.cs_hub.specs.Log.{IsLog};
+    ghost use Rattle.cs_hub.specs.Hub.{HubState, fresh, entries_from, judging, synced};
+    ghost use Rattle.cs_log.specs.Log.{IsLog, state_of};
+    ghost use Rattle.cs_log.specs.declared.entry.TheConstants.{MAX_CHANGESET};
     ghost use Rattle.cs_hub.specs.Rows.{IsInOrder, row_at};
-    ghost use Rattle.cs_hub.specs.Tables.{state_of};
+    ghost use Rattle.cs_hub.specs.Sound.{FitsMessage};
     ghost use Rattle.cs_hub.specs.Pushes.{Push, Pushes, PushesIf};
 
     /// A hub of these tables that has taken nothing yet. It keeps `alloc` for later calls.
@@ -76,6 +73,7 @@ impl Hub {
     pub fn new(alloc: Global, catalog: &Catalog) -> Result<Hub, Memory>
         ensures { IfOk result (λ hub. hub ≡ fresh catalog.now) }
     {
+        empty_is_log();
         Ok(Hub {
             alloc,
             catalog: catalog.copy(alloc)?,
@@ -86,8 +84,8 @@ impl Hub {
 
     /// The tables that are synced, in the catalog's order.
     pub fn tables(&self) -> &[TableDef]
-        ensures same { result.now ≡ self.now.catalog }
-        ensures tables { AreTables self.now.catalog }
+        ensures same { result.now ≡ synced self.now }
+        ensures tables { AreTables (synced self.now) }
     {
         self.catalog.tables()
     }
@@ -98,7 +96,10 @@ impl Hub {
         ensures limit { result ≤ MAX_ENTRIES }
 
         // Each entry is a changeset of the catalog's tables in normal form, defined on the tables before it.
-        ensures log { IsLog self.now.catalog self.now.log }
+        ensures log { IsLog self.now.opening self.now.log }
+
+        // What each entry does is within the bound on its bytes.
+        ensures sizes { All FitsMessage self.now.log }
     {
         self.log.len() as u64
     }
@@ -125,10 +126,10 @@ impl Hub {
     /// The rows of the catalog's table at this place at the newest version, behind the bytes of their keys and in the
     /// order of these; none past the last table.
     pub fn rows(&self, table: usize) -> &[KeyedRow]
-        ensures rows { (place : TableDef) → slice_get self.now.catalog table ≡ Some place
+        ensures rows { (place : TableDef) → slice_get (synced self.now) table ≡ Some place
             → (key : List ℕ) → row_at key result.now ≡ state_of self.now.log place.name key }
         ensures ordered { IsInOrder result.now }
-        ensures none { length self.now.catalog ≤ table → result.now ≡ [] }
+        ensures none { length (synced self.now) ≤ table → result.now ≡ [] }
     {
         self.tables.rows(table)
     }
@@ -137,7 +138,7 @@ impl Hub {
     fn recall(&self, head: PushHead, changes: &Normal) -> Pushed
         requires below { head.base < length self.now.log }
         requires some { changes.now ≢ [] }
-        ensures { Pushes self.now (record { head = head; changes = changes.now }) (Ok result) self.now }
+        ensures { Pushes MAX_ENTRIES self.now (record { head = head; changes = changes.now }) (Ok result) self.now }
     {
         if is_push(&self.log[head.base as usize], head, changes) {
             return Pushed::Accepted(head.base + 1);
@@ -154,10 +155,11 @@ impl Hub {
     ///
     /// `Empty`, `Ahead`, `Full` and `Conflict` in these cases; `Memory` where memory was refused. Nothing has changed then.
     pub fn push(&mut self, head: PushHead, changes: Normal) -> Result<Pushed, HubFault>
-        requires fits { FitsCatalog self.old.catalog changes }
+        requires fits { FitsCatalog (judging self.old head.base) changes }
         requires size { length (normal_spelling changes) ≤ MAX_CHANGESET }
-        ensures { PushesIf self.old (record { head = head; changes = changes }) result self.new }
+        ensures { PushesIf MAX_ENTRIES self.old (record { head = head; changes = changes }) result self.new }
     {
+        appended_is_log();
         if changes.tables().is_empty() {
             return Err(HubFault::Empty);
         }
@@ -191,91 +193,61 @@ impl Hub {
     ///
     /// `Memory` where memory was refused; nothing has changed then.
     pub fn serve(&mut self, request: &[u8]) -> Result<Vec<u8>, Memory>
-        ensures served { IfOk result (λ answer. Serves self.old request.now answer.items self.new) }
+        ensures served { IfOk result (λ answer. Serves MAX_ENTRIES self.old request.now answer.items self.new) }
         ensures refused { OnErr result (self.new ≡ self.old) }
     {
         match Request::decode(request) {
-            Err(fault) => self.spell(Answer::Refused(code::of_request(fault))),
+            Err(fault) => self.refuse(Refusal::NoRequest(fault)),
             Ok(Request::Pull { first, limit }) => self.serve_pull(first, limit),
             Ok(Request::Push { head, changeset }) => self.serve_push(head, changeset),
         }
     }
 
-    /// The bytes of an answer but entries.
-    fn spell(&self, answer: Answer) -> Result<Vec<u8>, Memory>
-        ensures { IfOk result (λ bytes. bytes.items ≡ answer_spelling answer) }
+    /// The answer that tells of a refusal.
+    fn refuse(&self, refusal: Refusal) -> Result<Vec<u8>, Memory>
+        ensures { IfOk result (λ bytes. bytes.items ≡ refused refusal) }
     {
         let mut bytes = Vec::with_capacity(self.alloc, SHORT)?;
-        answer.put(&mut bytes);
+        ShortAnswer::Refused(refusal.code()).put(&mut bytes);
         Ok(bytes)
     }
 
     /// The answer to a Pull.
     fn serve_pull(&self, first: u64, limit: u32) -> Result<Vec<u8>, Memory>
-        ensures { IfOk result (λ bytes. AnswersAsked self.now (AsksPull first limit) bytes.items self.now) }
+        ensures { IfOk result (λ bytes.
+            AnswersAsked MAX_ENTRIES self.now (AsksPull first limit) bytes.items self.now) }
     {
         match self.entries(first, limit) {
             Ok(entries) => entries_answer(self.alloc, first, entries),
-            Err(fault) => self.spell(Answer::Refused(code::of_hub(fault))),
+            Err(fault) => self.refuse(Refusal::ByHub(fault)),
         }
     }
 
     /// The answer to a Push. Its room is taken before anything changes.
     fn serve_push(&mut self, head: PushHead, changeset: &[u8]) -> Result<Vec<u8>, Memory>
-        requires { length changeset.now < 2 ^ 32 }
-        ensures ok { IfOk result (λ bytes. AnswersAsked self.old (AsksPush head changeset.now) bytes.items self.new) }
+        requires { length changeset.now ≤ MAX_CHANGESET }
+        ensures ok { IfOk result (λ bytes.
+            AnswersAsked MAX_ENTRIES self.old (AsksPush head changeset.now) bytes.items self.new) }
         ensures err { OnErr result (self.new ≡ self.old) }
     {
         let mut told = Vec::with_capacity(self.alloc, SHORT)?;
-        let answer = self.take_changeset(head, changeset)?;
+        let answer = match self.take(head, changeset) {
+            Ok(Pushed::Accepted(version)) => ShortAnswer::accepted(head, version),
+            Ok(Pushed::Stale(newest)) => ShortAnswer::Stale { newest },
+            Err(Refusal::Memory) => return Err(AllocError),
+            Err(refusal) => ShortAnswer::Refused(refusal.code()),
+        };
         answer.put(&mut told);
         Ok(told)
     }
 
-    /// Takes a push whose changeset is yet to be read.
-    fn take_changeset(&mut self, head: PushHead, changeset: &[u8]) -> Result<Answer, Memory>
-        requires { length changeset.now < 2 ^ 32 }
-        ensures ok { IfOk result (λ answer. AnswersChangeset self.old head changeset.now answer self.new) }
-        ensures err { OnErr result (self.new ≡ self.old) }
+    /// Takes a push: reads its changeset, brings it into normal form, and pushes that.
+    fn take(&mut self, head: PushHead, changeset: &[u8]) -> Result<Pushed, Refusal>
+        requires { length changeset.now ≤ MAX_CHANGESET }
+        ensures { TakesBytesIf MAX_ENTRIES self.old head changeset.now result self.new }
     {
-        match read(self.alloc, changeset) {
-            Ok(groups) => self.take_groups(head, &groups),
-            Err(CodecFault::Memory) => Err(AllocError),
-            Err(CodecFault::At { fault, .. }) => Ok(Answer::Refused(fault.code())),
-        }
-    }
-
-    /// Takes a push whose changeset is yet to be brought into normal form.
-    fn take_groups(&mut self, head: PushHead, groups: &Changeset<'_>) -> Result<Answer, Memory>
-        requires fits { FitsChangeset groups.now }
-        requires size { length (changeset_spelling groups.now) < 2 ^ 32 }
-        ensures ok { IfOk result (λ answer. AnswersGroups self.old head groups.now answer self.new) }
-        ensures err { OnErr result (self.new ≡ self.old) }
-    {
-        match normalise(self.alloc, &self.catalog, groups) {
-            Ok(changes) => self.take(head, changes),
-            Err(Unfit::Memory) => Err(AllocError),
-            Err(unfit) => Ok(Answer::Refused(unfit.code())),
-        }
-    }
-
-    /// Takes a push, and tells what became of it.
-    fn take(&mut self, head: PushHead, changes: Normal) -> Result<Answer, Memory>
-        requires fits { FitsCatalog self.old.catalog changes }
-        requires size { length (normal_spelling changes) < 2 ^ 32 }
-        ensures ok { IfOk result (λ answer.
-            AnswersPush self.old (record { head = head; changes = changes }) answer self.new) }
-        ensures err { OnErr result (self.new ≡ self.old) }
-    {
-        match self.push(head, changes) {
-            Ok(Pushed::Accepted(version)) => Ok(Answer::Accepted {
-                origin: head.origin,
-                number: head.number,
-                version,
-            }),
-            Ok(Pushed::Stale(newest)) => Ok(Answer::Stale { newest }),
-            Err(HubFault::Memory) => Err(AllocError),
-            Err(fault) => Ok(Answer::Refused(code::of_hub(fault))),
-        }
+        let groups = read(self.alloc, changeset)?;
+        let changes = normalise(self.alloc, &self.catalog, &groups)?;
+        Ok(self.push(head, changes)?)
     }
 }

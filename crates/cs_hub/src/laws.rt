@@ -1,15 +1,46 @@
 //! The laws of requests, pushes and what a hub answers, each the contract of a function that does nothing.
 
-ghost use Rattle.cs_hub.specs.Laws.{LogIsApplied, OneAnswer, OneHubRun, OneRequest, OneService};
+ghost use Rattle.std.specs.Prelude.{◌≡◌};
+ghost use Rattle.cs_hub.specs.Laws.{AsksSomething, OneAnswer, OneHubRun, OneRequest, OneService, PushHasAnswer, RequestHasAnswer};
+ghost use Rattle.cs_hub.specs.declared.hub.TheConstants.{MAX_ENTRIES};
 
 use crate::Hub;
 use cs_changeset::laws::changesets;
-use cs_normal::laws::{no_fault_where_fit, one_normal_form, one_unfit};
+use cs_log::laws::{defined_or_not, one_body};
+use cs_normal::laws::{fit_has_form, no_fault_where_fit, one_normal_form, one_unfit};
+
+/// How many entries a hub's log may have.
+pub fn most_entries()
+    ensures { MAX_ENTRIES ≡ 4096 }
+{}
 
 /// Bytes spell one request, or have one fault and spell none.
 pub fn one_request()
     ensures { OneRequest }
 {}
+
+/// Bytes ask a push or a pull, or have a fault.
+pub fn asks_something()
+    ensures { AsksSomething }
+{}
+
+/// There is an answer to each push that fits the catalog, and a hub after it: each guard is decided.
+pub fn push_has_answer()
+    ensures { PushHasAnswer }
+{
+    defined_or_not();
+    one_body();
+}
+
+/// There is an answer to each request, where it is decided of bytes whether they spell a changeset, and of a changeset whether
+/// it fits.
+pub fn request_has_answer()
+    ensures { RequestHasAnswer }
+{
+    asks_something();
+    push_has_answer();
+    fit_has_form();
+}
 
 /// The answer to a push, and the hub after it, are determined by the hub and the push.
 pub fn one_answer()
@@ -32,13 +63,8 @@ pub fn one_service()
 /// The lines that a new hub answers have one list of answers, up to want of memory. The hub at hand changes nothing: it
 /// names whose lines these are.
 pub fn one_run(hub: &Hub)
-    ensures { OneHubRun }
+    ensures { OneHubRun MAX_ENTRIES }
 {
     one_service();
     cs_lines::laws::one_run(hub);
 }
-
-/// The state that a log makes is that of its entries, each applied to what the earlier ones left: each is defined there.
-pub fn log_is_applied()
-    ensures { LogIsApplied }
-{}

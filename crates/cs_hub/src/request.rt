@@ -72,7 +72,7 @@ fn split_pull(bytes: &[u8]) -> Option<(u64, u32, &[u8])>
 
 impl<'a> Request<'a> {
     ghost use Rattle.std.specs.Prelude.{◌∷◌};
-    ghost use Rattle.cs_hub.specs.Messages.{Asks, asked_by};
+    ghost use Rattle.cs_hub.specs.Messages.{Asks, asked_by, pull_tag, push_tag};
 
     /// Reads a request: the whole of the bytes.
     pub(crate) fn decode(bytes: &'a [u8]) -> Result<Request<'a>, RequestFault>
@@ -87,7 +87,7 @@ impl<'a> Request<'a> {
     }
 
     fn decode_push(rest: &'a [u8]) -> Result<Request<'a>, RequestFault>
-        ensures { Asks (1 ∷ rest.now) (asked_by result) }
+        ensures { Asks (push_tag ∷ rest.now) (asked_by result) }
     {
         let Some((head, size, changeset)) = split_push(rest) else {
             return Err(RequestFault::Truncated);
@@ -102,7 +102,7 @@ impl<'a> Request<'a> {
     }
 
     fn decode_pull(rest: &'a [u8]) -> Result<Request<'a>, RequestFault>
-        ensures { Asks (2 ∷ rest.now) (asked_by result) }
+        ensures { Asks (pull_tag ∷ rest.now) (asked_by result) }
     {
         let Some((first, limit, more)) = split_pull(rest) else {
             return Err(RequestFault::Truncated);

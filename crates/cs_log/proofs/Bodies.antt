@@ -16,7 +16,7 @@ use Rattle.cs_normal.specs.declared.unfit.Unfit.{Unfit}
 use Rattle.cs_normal.specs.declared.unfit.Unfit.TheVariants as unfit
 use Rattle.cs_log.specs.Entry.{changes_of_body}
 use Rattle.cs_log.specs.Laws.{OneBody}
-use Rattle.cs_log.specs.Stored.{AreChangesOf, FitsBody, ReadsBody, ReadsChanges, of_unfit, stored_body}
+use Rattle.cs_log.specs.Stored.{AreChangesOf, FitsBody, ReadsBody, ReadsChanges, body_fault_of_unfit, stored_body}
 use Rattle.cs_log.specs.declared.body.Body.{Body}
 use Rattle.cs_log.specs.declared.body.Body.TheVariants.{Changes}
 use Rattle.cs_log.specs.declared.fault.BodyFault.{BodyFault}
@@ -56,11 +56,11 @@ pub none_unfit : ChangesetLaws → NormalIsTaken → NormalAgain → NoFaultWher
 none_unfit laws taken again fit tables bytes groups fault some is_catalog fits spelled wrong changes are is =
     some (fit fault tables groups is_catalog (its_form laws taken again tables changes groups is_catalog are fits (sym spelled ∙ is)).fit wrong)
 
-pub none_by_unfit : ChangesetLaws → NormalIsTaken → NormalAgain → NoFaultWhereFit → (tables : List TableDef) (bytes : List ℕ) (groups : List Group) (fault : Unfit) (told : BodyFault) → told ≡ of_unfit fault → AreTables tables → FitsChangeset groups → bytes ≡ changeset_spelling groups → IsUnfit fault tables groups → ReadsChanges tables bytes (Err told)
+pub none_by_unfit : ChangesetLaws → NormalIsTaken → NormalAgain → NoFaultWhereFit → (tables : List TableDef) (bytes : List ℕ) (groups : List Group) (fault : Unfit) (told : BodyFault) → told ≡ body_fault_of_unfit fault → AreTables tables → FitsChangeset groups → bytes ≡ changeset_spelling groups → IsUnfit fault tables groups → ReadsChanges tables bytes (Err told)
 none_by_unfit laws taken again fit tables bytes groups fault told is is_catalog fits spelled wrong =
     subst (λ (f : BodyFault). ReadsChanges tables bytes (Err f)) (sym is) (by_fault fault wrong)
   where
-    by_fault : (f : Unfit) → IsUnfit f tables groups → ReadsChanges tables bytes (Err (of_unfit f))
+    by_fault : (f : Unfit) → IsUnfit f tables groups → ReadsChanges tables bytes (Err (body_fault_of_unfit f))
     by_fault unfit.Memory w = tt
     by_fault unfit.UnknownTable w = none_unfit laws taken again fit tables bytes groups unfit.UnknownTable (λ m. cc) is_catalog fits spelled w
     by_fault unfit.Shape w = none_unfit laws taken again fit tables bytes groups unfit.Shape (λ m. cc) is_catalog fits spelled w

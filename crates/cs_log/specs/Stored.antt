@@ -49,13 +49,13 @@ ReadsChanges tables bytes (Err NoBody) =
     (changes : List TableChanges) → AreChangesOf tables changes → bytes ≡ normal_spelling changes → ⊥
 
 -- bytes that spell no changeset, and changesets without a normal form, are stored for no body
-abbrev pub of_codec : CodecFault → BodyFault
-of_codec codec.Memory = Memory
-of_codec (codec.At fault offset) = NoBody
+abbrev pub body_fault_of_codec : CodecFault → BodyFault
+body_fault_of_codec codec.Memory = Memory
+body_fault_of_codec (codec.At fault offset) = NoBody
 
-abbrev pub of_unfit : Unfit → BodyFault
-of_unfit unfit.Memory = Memory
-of_unfit unfit.UnknownTable = NoBody
-of_unfit unfit.Shape = NoBody
-of_unfit unfit.NullKey = NoBody
-of_unfit unfit.KeyTwice = NoBody
+abbrev pub body_fault_of_unfit : Unfit → BodyFault
+body_fault_of_unfit unfit.Memory = Memory
+body_fault_of_unfit unfit.UnknownTable = NoBody
+body_fault_of_unfit unfit.Shape = NoBody
+body_fault_of_unfit unfit.NullKey = NoBody
+body_fault_of_unfit unfit.KeyTwice = NoBody

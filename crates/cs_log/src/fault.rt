@@ -1,7 +1,7 @@
 //! Why bytes are no body of an entry.
 
 ghost use Rattle.std.specs.Prelude.{◌≡◌};
-ghost use Rattle.cs_log.specs.Stored.{of_codec, of_unfit};
+ghost use Rattle.cs_log.specs.Stored.{body_fault_of_codec, body_fault_of_unfit};
 ghost use Rattle.cs_log.specs.declared.fault.BodyFault.TheVariants.{Memory as OutOfMemory};
 
 use cs_changeset::CodecFault;
@@ -20,7 +20,7 @@ pub enum BodyFault {
 }
 
 impl From<CodecFault> for BodyFault {
-    ghost from_gives = { λ fault e. e ≡ of_codec fault };
+    ghost from_gives = { λ fault e. e ≡ body_fault_of_codec fault };
 
     fn from(fault: CodecFault) -> BodyFault {
         match fault {
@@ -31,7 +31,7 @@ impl From<CodecFault> for BodyFault {
 }
 
 impl From<Unfit> for BodyFault {
-    ghost from_gives = { λ unfit e. e ≡ of_unfit unfit };
+    ghost from_gives = { λ unfit e. e ≡ body_fault_of_unfit unfit };
 
     fn from(unfit: Unfit) -> BodyFault {
         match unfit {

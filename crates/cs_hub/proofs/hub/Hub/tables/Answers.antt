@@ -5,4 +5,4 @@ use Rattle.cs_hub.proofs.hub.Hub.tables.Goals as goal
 
 pub returns-clause-tables : goal.returns-clause-tables
 returns-clause-tables c =
-    subst AreTables (ap (λ (h : HubState). h.catalog) c.self.view_is) c.tables.ensures.tables
+    subst AreTables (ap (λ (h : HubState). h.opening) c.self.view_is) c.tables.ensures.tables

@@ -1,0 +1,188 @@
+-- Each push has an answer, and each request, as far as changesets are decided.
+use Rattle.std.proofs.Common.{◌≡◌, ◌≢◌, ◌⊎◌, inl, inr, ℕ, ◌+◌, ◌<◌, ◌≤◌, Bool, true, false, List, [], ◌∷◌, ◌++◌, length, Option, Some, None, Result, Ok, Err, slice_get, refl, sym, ap, subst, ◌∙◌, arith}
+use Rattle.std.specs.Str.{bytes_eq}
+use Rattle.std.proofs.lemmas.Bool.{cases_lt}
+use Rattle.std.proofs.lemmas.Bool.Decides.{eqb_tells}
+use Rattle.std.proofs.lemmas.Slice.Eq.{bytes_eq-Decides}
+use Rattle.cs_value.specs.Catalog.{AreTables}
+use Rattle.cs_value.specs.declared.catalog.TableDef.{TableDef}
+use Rattle.cs_normal.specs.declared.normal.TableChanges.{TableChanges}
+use Rattle.cs_log.specs.Laws.{DefinedOrNot, OneBody}
+use Rattle.cs_log.specs.Log.{IsLog, state_of}
+use Rattle.cs_log.specs.Stored.{AreChangesOf, stored_body}
+use Rattle.cs_log.specs.Entry.{changes_of_body, entry_changes}
+use Rattle.cs_log.specs.declared.body.Body.{Body}
+use Rattle.cs_log.specs.declared.body.Body.TheVariants.{Changes}
+use Rattle.cs_log.specs.declared.entry.LogEntry.{LogEntry}
+use Rattle.cs_change.specs.Spelling.{FitsChangeset}
+use Rattle.cs_change.specs.declared.group.Group.{Group}
+use Rattle.cs_normal.specs.Laws.{FitHasForm}
+use Rattle.cs_hub.specs.Hub.{HubState, entries_from, with_entry}
+use Rattle.cs_hub.specs.Laws.{AreBytes, AsksSomething, BytesDecided, FormDecided, IsOfHub, PushHasAnswer, RequestHasAnswer}
+use Rattle.cs_hub.specs.Messages.{Asked, AsksPush, AsksPull, AsksNothing, Asks, answer_spelling, eight_bytes, entries_spelling, four_bytes, push_numbers, push_tag}
+use Rattle.cs_hub.specs.Serves.{AnswersAsked, Outcome, TakesBytes, TakesGroups, or_refusal, push_answer, refused}
+use Rattle.cs_hub.specs.declared.push.PushHead.{PushHead}
+use Rattle.cs_hub.specs.declared.refusal.Refusal.TheVariants.{NoRequest, NoChangeset, NoForm, ByHub}
+use Rattle.cs_hub.specs.Pushes.{Case, CanFollow, IsRepeat, Push, Pushes, entry_of}
+use Rattle.cs_hub.specs.declared.fault.HubFault.{HubFault}
+use Rattle.cs_hub.specs.declared.fault.HubFault.TheVariants.{Ahead, Conflict, Empty, Full}
+use Rattle.cs_hub.specs.declared.push.Pushed.{Pushed}
+use Rattle.cs_hub.specs.declared.push.Pushed.TheVariants.{Accepted, Stale}
+
+abbrev Either : Type 0 → Type 0
+Either P = P ⊎ (P → ⊥)
+
+-- ---- the guards are decided
+
+no_change : (changes : List TableChanges) → Either (changes ≡ [])
+no_change [] = inl refl
+no_change (first ∷ others) = inr (λ is. cc)
+
+is_below : (a b : ℕ) → Either (a < b)
+is_below a b = elim (cases_lt a b) [ inl lt ↦ inl lt | inr ge ↦ inr (λ lt. omega arith) ]
+
+is_within : (a b : ℕ) → Either (a ≤ b)
+is_within a b = elim (cases_lt b a) [ inl lt ↦ inr (λ le. omega arith) | inr le ↦ inl le ]
+
+same_number : (a b : ℕ) → Either (a ≡ b)
+same_number a b = elim (eqb_tells a b) [ inl (e, is) ↦ inl is | inr (e, ne) ↦ inr ne ]
+
+same_bytes : (a b : List ℕ) → Either (a ≡ b)
+same_bytes a b =
+    let split : (t : Bool) → bytes_eq a b ≡ t → Either (a ≡ b) =
+    elim [
+      | true ↦ λ e. inl ((bytes_eq-Decides a b).0 e)
+      | false ↦ λ e. inr (λ is. let yes : bytes_eq a b ≡ true = (bytes_eq-Decides a b).1 is in cc)
+    ] in
+    split (bytes_eq a b) refl
+
+same_body : OneBody → (tables : List TableDef) (a b : Body) → AreTables tables → AreChangesOf tables (changes_of_body a) → AreChangesOf tables (changes_of_body b) → Either (a ≡ b)
+same_body one tables a b are first second =
+    elim (same_bytes (stored_body a) (stored_body b)) [
+      | inl is ↦ inl (one tables a b are first second is)
+      | inr not ↦ inr (λ is. not (ap stored_body is))
+    ]
+
+same_parts : (a b : LogEntry) → a.origin ≡ b.origin → a.number ≡ b.number → a.body ≡ b.body → a ≡ b
+same_parts a b origin number body =
+    ap (λ (o : ℕ). record { origin = o; number = a.number; body = a.body }) origin
+    ∙ (ap (λ (n : ℕ). record { origin = b.origin; number = n; body = a.body }) number
+    ∙ ap (λ (c : Body). record { origin = b.origin; number = b.number; body = c }) body)
+
+same_entry : OneBody → (tables : List TableDef) (a b : LogEntry) → AreTables tables → AreChangesOf tables (entry_changes a) → AreChangesOf tables (entry_changes b) → Either (a ≡ b)
+same_entry one tables a b are first second =
+    elim (same_number a.origin b.origin) [
+      | inr not ↦ inr (λ is. not (ap (λ (e : LogEntry). e.origin) is))
+      | inl origin ↦ elim (same_number a.number b.number) [
+        | inr not ↦ inr (λ is. not (ap (λ (e : LogEntry). e.number) is))
+        | inl number ↦ elim (same_body one tables a.body b.body are first second) [
+          | inr not ↦ inr (λ is. not (ap (λ (e : LogEntry). e.body) is))
+          | inl body ↦ inl (same_parts a b origin number body)
+        ]
+      ]
+    ]
+
+found_entry : OneBody → (tables : List TableDef) (log : List LogEntry) (version : ℕ) (entry : LogEntry) (found : Option LogEntry) → AreTables tables → IsLog tables log → AreChangesOf tables (entry_changes entry) → slice_get log version ≡ found → Either (slice_get log version ≡ Some entry)
+found_entry one tables log version entry None are each fits is = inr (λ there. cc)
+found_entry one tables log version entry (Some kept) are each fits is =
+    let next = each version kept is in
+    elim (same_entry one tables kept entry are (next.normal, next.defined.0) fits) [
+      | inl same ↦ inl (is ∙ ap (λ (e : LogEntry). Some e) same)
+      | inr not ↦ inr (λ there. not (cc))
+    ]
+
+-- ---- so one case decides
+
+abbrev Told : Type 0
+Told = Result Pushed HubFault
+
+abbrev Some2 : (Told → HubState → Type 0) → Type 0
+Some2 holds = (answer : Told) × (new : HubState) × holds answer new
+
+in_case : {guard : Type 0} (below : Told → HubState → Type 0) (told : Told) (after : HubState) → Either guard → Some2 below → Some2 (λ answer new. Case guard ((answer ≡ told) × (new ≡ after)) (below answer new))
+in_case below told after (inl holds) other = (told, after, inl (holds, (refl, refl)))
+in_case below told after (inr not) (answer, new, is) = (answer, new, inr (not, is))
+
+abbrev Conflicts : HubState → Push → Told → HubState → Type 0
+Conflicts old push answer new = (answer ≡ Err Conflict) × (new ≡ old)
+
+abbrev OfNewest : HubState → Push → Told → HubState → Type 0
+OfNewest old push answer new =
+    Case (CanFollow old push) ((answer ≡ Ok (Accepted (push.head.base + 1))) × (new ≡ with_entry old (entry_of push))) (Conflicts old push answer new)
+
+abbrev OfRoom : ℕ → HubState → Push → Told → HubState → Type 0
+OfRoom limit old push answer new =
+    Case (limit ≤ length old.log) ((answer ≡ Err Full) × (new ≡ old)) (OfNewest old push answer new)
+
+abbrev OfOther : ℕ → HubState → Push → Told → HubState → Type 0
+OfOther limit old push answer new =
+    Case (push.head.base < length old.log) ((answer ≡ Ok (Stale (length old.log))) × (new ≡ old)) (OfRoom limit old push answer new)
+
+abbrev OfBase : ℕ → HubState → Push → Told → HubState → Type 0
+OfBase limit old push answer new =
+    Case (IsRepeat old.log push) ((answer ≡ Ok (Accepted (push.head.base + 1))) × (new ≡ old)) (OfOther limit old push answer new)
+
+abbrev OfSome : ℕ → HubState → Push → Told → HubState → Type 0
+OfSome limit old push answer new =
+    Case (length old.log < push.head.base) ((answer ≡ Err Ahead) × (new ≡ old)) (OfBase limit old push answer new)
+
+pub push_has_answer : DefinedOrNot → OneBody → PushHasAnswer
+push_has_answer decided one limit old push hub fits =
+    in_case (OfSome limit old push) (Err Empty) old (no_change push.changes)
+    (in_case (OfBase limit old push) (Err Ahead) old (is_below (length old.log) push.head.base)
+    (in_case (OfOther limit old push) (Ok (Accepted (push.head.base + 1))) old (found_entry one old.opening old.log push.head.base (entry_of push) (slice_get old.log push.head.base) hub.tables hub.log fits refl)
+    (in_case (OfRoom limit old push) (Ok (Stale (length old.log))) old (is_below push.head.base (length old.log))
+    (in_case (OfNewest old push) (Err Full) old (is_within limit (length old.log))
+    (in_case (Conflicts old push) (Ok (Accepted (push.head.base + 1))) (with_entry old (entry_of push)) (decided old.opening push.changes (state_of old.log))
+    (Err Conflict, old, (refl, refl)))))))
+
+-- ---- a request
+
+abbrev Takes : ℕ → HubState → PushHead → (Outcome → HubState → Type 0) → Type 0
+Takes limit old head holds = (outcome : Outcome) × (new : HubState) × holds outcome new
+
+of_groups : PushHasAnswer → FitHasForm → FormDecided → (limit : ℕ) (old : HubState) (head : PushHead) (groups : List Group) → IsOfHub old → FitsChangeset groups → Takes limit old head (TakesGroups limit old head groups)
+of_groups pushes has decided limit old head groups hub fits =
+    elim (decided old.opening groups hub.tables fits) [
+      | inr (fault, some, wrong) ↦ (Err (NoForm fault), old, inl (fault, some, wrong, refl, refl))
+      | inl fit ↦
+          let form = has old.opening groups hub.tables fits fit in
+          let told = pushes limit old (record { head = head; changes = form.0 }) hub (form.1.normal, form.1.of_catalog) in
+          (or_refusal told.0, told.1, inr (form.0, form.1, (told.0, told.2, refl)))
+    ]
+
+of_bytes : PushHasAnswer → FitHasForm → BytesDecided → FormDecided → (limit : ℕ) (old : HubState) (head : PushHead) (bytes : List ℕ) → IsOfHub old → AreBytes bytes → Takes limit old head (TakesBytes limit old head bytes)
+of_bytes pushes has read decided limit old head bytes hub small =
+    elim (read bytes small) [
+      | inr (fault, offset, wrong) ↦ (Err (NoChangeset fault), old, inl (fault, offset, wrong, refl, refl))
+      | inl (groups, fits, is) ↦
+          let taken = of_groups pushes has decided limit old head groups hub fits in
+          (taken.0, taken.1, inr (groups, fits, is, taken.2))
+    ]
+
+small_behind : (front bytes : List ℕ) → AreBytes (front ++ bytes) → AreBytes bytes
+small_behind [] bytes all = all
+small_behind (b ∷ front) bytes all = small_behind front bytes all.1
+
+-- the bytes of a changeset stand in those of its push
+small_changeset : (head : PushHead) (size : ℕ) (bytes : List ℕ) → AreBytes (push_tag ∷ push_numbers head size bytes) → AreBytes bytes
+small_changeset head size bytes all =
+    small_behind (four_bytes size) bytes (small_behind (eight_bytes head.base) _ (small_behind (eight_bytes head.number) _ (small_behind (four_bytes head.origin) _ all.1)))
+
+of_asked : PushHasAnswer → FitHasForm → BytesDecided → FormDecided → (limit : ℕ) (old : HubState) (request : List ℕ) (asked : Asked) → IsOfHub old → AreBytes request → Asks request asked → (answer : List ℕ) × (new : HubState) × AnswersAsked limit old asked answer new
+of_asked pushes has read decided limit old request (AsksNothing fault) hub small asks = (refused (NoRequest fault), old, (refl, refl))
+of_asked pushes has read decided limit old request (AsksPull first count) hub small asks =
+    elim (cases_lt (length old.log) first) [
+      | inl above ↦ (refused (ByHub Ahead), old, (inl (above, refl), refl))
+      | inr within ↦ (entries_spelling first (entries_from first count old.log), old, (inr (within, refl), refl))
+    ]
+of_asked pushes has read decided limit old request (AsksPush head changeset) hub small asks =
+    let bytes : AreBytes changeset = small_changeset head (length changeset) changeset (subst AreBytes asks.1 small) in
+    let taken = of_bytes pushes has read decided limit old head changeset hub bytes in
+    (answer_spelling (push_answer head taken.0), taken.1, (taken.0, taken.2, refl))
+
+pub request_has_answer : AsksSomething → PushHasAnswer → FitHasForm → RequestHasAnswer
+request_has_answer asks pushes has read decided limit old request hub small =
+    let asked = asks request small in
+    let told = of_asked pushes has read decided limit old request asked.0 hub small asked.1 in
+    (told.0, told.1, (asked.0, asked.1, told.2))
