@@ -1,6 +1,6 @@
 //! Headers, and whether those of one table have the same column bytes.
 
-ghost use Rattle.std.specs.Prelude.{◌≡◌, ◌↔◌, ◌++◌, ℕ, List, IfOk, IsTrue, MatchBool, OnOk};
+ghost use Rattle.std.specs.Prelude.{◌≡◌, ◌↔◌, ◌++◌, ℕ, List, IfOk, IsTrue, MatchBool, OnOk, length, take};
 ghost use Rattle.std.specs.Cmp.Lexicographic.{slice_cmp};
 ghost use Rattle.std.specs.Ordering.{nat_cmp};
 ghost use Rattle.cs_change.specs.Spelling.{flag_byte, is_nonzero};
@@ -23,9 +23,10 @@ pub struct Header<'a> {
     pub marks: &'a [u8],
 }
 
-/// Appends the headers of a changeset.
+/// Appends the headers of a changeset. At an `Err` what stood there stands in front of what was appended.
 pub fn put_headers<'a>(groups: &'a [Group<'_>], headers: &mut Vec<Header<'a>>) -> Result<(), Memory>
-    ensures { OnOk result (heads_behind headers.new.items ≡ heads_behind headers.old.items ++ heads_of groups.now) }
+    ensures ok { OnOk result (heads_behind headers.new.items ≡ heads_behind headers.old.items ++ heads_of groups.now) }
+    ensures kept { take (length headers.old.items) headers.new.items ≡ headers.old.items }
 {
     for group in groups {
         headers.push(Header {
@@ -36,12 +37,13 @@ pub fn put_headers<'a>(groups: &'a [Group<'_>], headers: &mut Vec<Header<'a>>) -
     Ok(())
 }
 
-/// Appends the headers of a rebase blob.
+/// Appends the headers of a rebase blob. At an `Err` what stood there stands in front of what was appended.
 pub fn put_blob_headers<'a>(
     groups: &'a [BlobGroup<'_>],
     headers: &mut Vec<Header<'a>>,
 ) -> Result<(), Memory>
-    ensures { OnOk result (heads_behind headers.new.items ≡ heads_behind headers.old.items ++ blob_heads_of groups.now) }
+    ensures ok { OnOk result (heads_behind headers.new.items ≡ heads_behind headers.old.items ++ blob_heads_of groups.now) }
+    ensures kept { take (length headers.old.items) headers.new.items ≡ headers.old.items }
 {
     for group in groups {
         headers.push(Header {
