@@ -1,9 +1,10 @@
 //! Changesets over a store in memory, beside rows and answers that were written by hand.
 
 use cs_apply::*;
-use cs_change::Changeset;
+use cs_change::{Change, Changeset};
 use cs_changeset::read;
-use cs_conflict::{Conflict, Kind, Resolution};
+use cs_conflict::{Conflict, ConflictBuf, Kind, Resolution};
+use cs_record::Row;
 use cs_store::{Batch, MapStore, RowEdit, RowStore, Trip};
 use cs_value::{Catalog, Items, Memory, TableDef, Text};
 use std::alloc::Global;
@@ -125,11 +126,46 @@ fn put_applied(applied: &Applied, out: &mut Vec<u8>) -> Result<(), Memory> {
     put_digit(applied.skipped.to_be_bytes()[7], out)
 }
 
-fn put_stop(name: &[u8], stop: &Stop, out: &mut Vec<u8>) -> Result<(), Memory> {
+/// The key and the text of a row, in short, or `-`.
+fn put_row_text(row: Option<&Row<'_>>, out: &mut Vec<u8>) -> Result<(), Memory> {
+    let Some(row) = row else {
+        out.push(b'-')?;
+        return Ok(());
+    };
+    if let Some((key, text)) = row.bytes().split_at_checked(11) {
+        put_key_number(&key[..9], out)?;
+        out.extend_from_slice(text)?;
+    }
+    Ok(())
+}
+
+/// The row that an INSERT or a DELETE holds, and whether the change is an INSERT.
+fn put_change(change: &Change<'_>, out: &mut Vec<u8>) -> Result<(), Memory> {
+    match change {
+        Change::Insert { new_row, .. } => {
+            out.push(b'+')?;
+            put_row_text(Some(new_row), out)
+        }
+        Change::Delete { old_row, .. } => {
+            out.push(b'-')?;
+            put_row_text(Some(old_row), out)
+        }
+        Change::Update { .. } => {
+            out.push(b'*')?;
+            Ok(())
+        }
+    }
+}
+
+/// The conflict at which applying stopped: its kind, its table, the change, and the row.
+fn put_stop(name: &[u8], stop: &ConflictBuf, out: &mut Vec<u8>) -> Result<(), Memory> {
+    let conflict = stop.as_conflict();
     out.extend_from_slice(name)?;
-    put_digit(stop.kind as u8, out)?;
-    put_digit(stop.table.to_be_bytes()[3], out)?;
-    put_key_number(stop.key.as_slice(), out)
+    put_digit(conflict.kind as u8, out)?;
+    put_digit(conflict.table.to_be_bytes()[3], out)?;
+    put_change(&conflict.change, out)?;
+    out.push(b' ')?;
+    put_row_text(conflict.row.as_ref(), out)
 }
 
 fn put_fault(fault: &ApplyFault, out: &mut Vec<u8>) -> Result<(), Memory> {
@@ -202,7 +238,7 @@ fn worked_rows(rt: HostRuntime) -> Result<(), Fail> {
     let missing = group(alloc, FIRST, &[(DELETE, 2, b"x")])?;
     assert_eq!(rt;
         told(alloc, &missing, &[Resolution::Replace])?.as_slice(),
-        "Misuse202 2".as_bytes()
+        "Misuse20-2x - 2".as_bytes()
     );
     let twice = group(alloc, FIRST, &[(INSERT, 5, b"a"), (INSERT, 5, b"b")])?;
     assert_eq!(rt;
@@ -213,7 +249,7 @@ fn worked_rows(rt: HostRuntime) -> Result<(), Fail> {
     let answers = [Resolution::Omit, Resolution::Abort];
     assert_eq!(rt;
         told(alloc, &both, &answers)?.as_slice(),
-        "Aborted301 13".as_bytes()
+        "Aborted30+1z 1v1 13".as_bytes()
     );
     let unknown = group(alloc, UNKNOWN, &[(INSERT, 1, b"a")])?;
     assert_eq!(rt; told(alloc, &unknown, &[])?.as_slice(), " 1 ".as_bytes());

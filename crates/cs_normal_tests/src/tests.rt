@@ -170,6 +170,25 @@ fn tables_in_the_catalogs_order(rt: HostRuntime) -> Result<(), Fail> {
 }
 
 #[test]
+fn lent_as_it_is_written(rt: HostRuntime) -> Result<(), Fail> {
+    let alloc = rt.alloc();
+    let catalog = Catalog::new(tables(alloc)?)?;
+    let spelled: [(&str, &[u8]); 3] = [("t2", &[1]), ("t1", &[2]), ("t1", &[1])];
+    let normal = normal_of(alloc, &catalog, inserts(alloc, &spelled)?.as_slice())?;
+    let lent = normal.lend(alloc)?;
+    let mut names = Vec::new(alloc);
+    for group in lent.as_slice() {
+        assert_eq!(rt; group.marks.as_slice(), &[1, 0][..]);
+        names.extend_from_slice(group.name.as_str().as_bytes())?;
+        names.push(b'0' | group.changes.as_slice().len().to_be_bytes()[7])?;
+    }
+    assert_eq!(rt; names.as_slice(), b"t12t21".as_slice());
+    let again = normalise(alloc, &catalog, &lent)?;
+    assert!(rt; again.same(&normal));
+    Ok(())
+}
+
+#[test]
 fn first_faults(rt: HostRuntime) -> Result<(), Fail> {
     let alloc = rt.alloc();
     let catalog = Catalog::new(tables(alloc)?)?;
