@@ -6,3 +6,6 @@ pub mod HeaderApart
 pub mod ChangeApart
 pub mod Items
 pub mod CodeLaws
+pub mod ColumnsFound
+pub mod HeaderFound
+pub mod ChangeFound
