@@ -18,7 +18,7 @@ fi
 cc -O2 -Wall -Wextra $sqlite_flags "$bench/apply.c" -o "$out/sqlite_apply" -lsqlite3
 
 build_rattle apply_program "cs_apply cs_blob cs_change cs_changeset cs_conflict cs_map_store cs_normal cs_store cs_value hex" \
-    cs_apply cs_blob cs_change cs_changeset cs_conflict cs_map_store cs_normal cs_order cs_record cs_store cs_value cs_varint
+    cs_apply cs_blob cs_change cs_changeset cs_conflict cs_log cs_map_store cs_normal cs_order cs_record cs_store cs_value cs_varint
 
 "$out/sqlite_apply" cases "$cases" "$out/apply_cases" "$out/apply_expected"
 timeout 60 "$out/apply_program" check < "$out/apply_cases" > "$out/apply_told"

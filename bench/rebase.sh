@@ -21,7 +21,7 @@ fi
 cc -O2 -Wall -Wextra $sqlite_flags "$bench/rebase.c" -o "$out/sqlite_rebase" -lsqlite3
 
 build_rattle rebase_program "cs_apply cs_blob cs_change cs_changeset cs_conflict cs_group cs_map_store cs_normal cs_rebaser cs_store cs_value hex" \
-    cs_apply cs_blob cs_change cs_changeset cs_conflict cs_group cs_map_store cs_normal cs_order cs_rebaser cs_record cs_store cs_value cs_varint
+    cs_apply cs_blob cs_change cs_changeset cs_conflict cs_group cs_log cs_map_store cs_normal cs_order cs_rebaser cs_record cs_store cs_value cs_varint
 
 "$out/sqlite_rebase" cases "$cases" "$out/rebase_cases" "$out/rebase_expected"
 timeout 60 "$out/rebase_program" check < "$out/rebase_cases" > "$out/rebase_told"

@@ -6,3 +6,4 @@ pub mod HeaderApart
 pub mod ChangeApart
 pub mod Items
 pub mod CodeLaws
+pub mod OneChange
