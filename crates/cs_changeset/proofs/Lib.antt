@@ -9,3 +9,4 @@ pub mod CodeLaws
 pub mod ColumnsFound
 pub mod HeaderFound
 pub mod ChangeFound
+pub mod OneChange

@@ -15,7 +15,7 @@ pub mod laws;
 mod reading;
 mod records;
 
-pub use changes::read_flag;
+pub use changes::{read_flag, read_one};
 pub use cs_change::{Bytes, Change, Changeset, Group, encode};
 pub use fault::{CodecFault, Fault, FirstFault};
 pub use groups::{HeadedGroup, read_file};

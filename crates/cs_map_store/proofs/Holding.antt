@@ -14,13 +14,14 @@ use Rattle.std.proofs.lemmas.Cmp.{nat_list_cmp_total}
 use Rattle.std.proofs.lemmas.Map.Lookups.{exact_bytes}
 use Rattle.cs_store.specs.Contents.{Bodies, place_cmp, nothing, IsListing}
 use Rattle.cs_store.specs.Written.{optional_entry, after_batch, appended, edit_body, edit_meta}
-use Rattle.cs_map_store.specs.Slots.{SlotKey, Slot, listed, shown, meta_of, meta_table, log_of, held_in, write_to, meta_write}
+use Rattle.cs_map_store.specs.Slots.{SlotKey, Slot, HasOwnNames, listed, shown, meta_of, meta_table, log_of, held_in, write_to, meta_write}
 use Rattle.cs_map_store.specs.Steps.{step_write}
 use Rattle.cs_store.specs.declared.batch.Batch.{Batch}
 use Rattle.cs_map_store.specs.declared.slots.Step.{Step}
 use Rattle.cs_map_store.proofs.Maps.{place_total, place_exact, get-meta_of, meta_after_meta, listed_sorted, find-listed}
 use Rattle.cs_map_store.proofs.Showing.{get-shown}
 use Rattle.cs_map_store.proofs.Numbered.{log_push}
+use Rattle.cs_map_store.proofs.Checks.{own_empty}
 
 -- ---- a new store
 
@@ -79,3 +80,6 @@ held_after rows made_rows end_rows pending made_pending end_pending es ns xs zs 
 
 pub no_leaves : AreLeaves []
 no_leaves = record { full = λ k d h. absurd (omega (arith, h)); rise = tt }
+
+pub no_names : (es : List (SlotKey × Slot)) → es ≡ [] → HasOwnNames (meta_of (shown es))
+no_names es none = own_empty (meta_of (shown es)) (ap (λ (e : List (SlotKey × Slot)). meta_of (shown e)) none ∙ no_meta)

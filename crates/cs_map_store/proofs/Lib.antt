@@ -8,3 +8,4 @@ pub mod Editing
 pub mod Packing
 pub mod Leafing
 pub mod Ordered
+pub mod Checks

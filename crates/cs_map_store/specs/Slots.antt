@@ -1,12 +1,13 @@
 -- What a `MapStore` holds: rows and pending changes in leaves, values of meta in a map of slots under `meta_table`, and the log as a list.
 -- A slot with no value shows as one that is not there, so that room can be made before anything changes.
 use Rattle.std.specs.declared.alloc.Global.{Global}
-use Rattle.std.specs.Prelude.{Vec, ◌≡◌, refl, ℕ, zero, suc, ℤ, pos, negsuc, ◌+◌, map, filter, List, [], ◌∷◌, Option}
+use Rattle.std.specs.Prelude.{Vec, ◌≡◌, Some, refl, ℕ, zero, suc, ℤ, pos, negsuc, ◌+◌, map, filter, List, [], ◌∷◌, Option}
 use Rattle.std.specs.Coded.{Coded, code_by, coded×, coded_ℕ}
 use Rattle.std.specs.declared.cmp.Ordering.{Ordering}
 use Rattle.std.specs.Ordering.{int_eq, nat_cmp, ordering_then}
 use Rattle.cs_order.specs.Order.{by_bytes}
-use Rattle.std.specs.FinMap.{empty, entries, from_entries}
+use Rattle.std.specs.FinMap.{empty, entries, from_entries, get}
+use Rattle.cs_store.specs.Whole.{IsName}
 use Rattle.cs_store.specs.declared.batch.MetaEdit.{MetaEdit}
 use Rattle.cs_store.specs.declared.batch.StoredEntry.{StoredEntry}
 use Rattle.cs_store.specs.Contents.{Contents, StorePlace, Bodies, Meta, Log, LogItem, contents_code, name_text, nothing}
@@ -96,3 +97,7 @@ misreads_of store = store.misreads
 -- a stop leaves what is held
 abbrev pub leaves_held : InMemory → Contents → Type 0
 leaves_held store left = left ≡ store.held
+
+-- values have no names but ours
+unfoldable pub HasOwnNames : Meta → Type 0
+HasOwnNames meta = (name value : List ℕ) → get meta name ≡ Some value → IsName name

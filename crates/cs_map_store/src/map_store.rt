@@ -3,16 +3,17 @@
 ghost use Rattle.std.specs.Prelude.{◌≡◌, ◌<◌, ◌^◌, ◌+◌, [], length, fold, IsSome, OnOk, OnErr};
 ghost use Rattle.std.specs.Vec.{vec_len, vec_capacity};
 ghost use Rattle.cs_store.specs.Written.{after_batch, appended, edit_meta, optional_entry};
-ghost use Rattle.cs_map_store.specs.Slots.{held_in, log_of, meta_of, shown};
+ghost use Rattle.cs_map_store.specs.Slots.{HasOwnNames, held_in, log_of, meta_of, shown};
 ghost use Rattle.cs_map_store.specs.Steps.{HasSlots, IsEmptyOnlyAt, IsKept, step_keys};
 
-use crate::leaf::Leaf;
+use crate::checking::{Shelf, all_hold, check_leaves, check_log};
 use crate::leaves::{Near, Shelves, find_row, list_rows, put_staged, stage_edits};
 use crate::log::{append, copied_entry, make_room, read_log};
 use crate::slots::{
     SlotKey, Slots, Step, make_slots, read_slot, steps_of, sweep_steps, write_steps,
 };
 use cs_store::{Batch, MetaName, RowStore, StoreFault, StoredBody, StoredEntry};
+use cs_value::Catalog;
 use std::alloc::{AllocError, Global};
 use std::collections::BTreeMap;
 use std::marker::Model;
@@ -110,6 +111,7 @@ fn write_rest(
     ensures given_back { OnErr result (vec_capacity log.new ≡ vec_capacity log.old) }
     ensures bound { length log.new.items < 2 ^ 32 }
     ensures filled { IsEmptyOnlyAt [] slots.new }
+    ensures names { HasOwnNames (meta_of (shown slots.old.entries)) → HasOwnNames (meta_of (shown slots.new.entries)) }
 {
     let steps = steps_of(alloc, batch)?;
     let entry = copied_entry(alloc, &batch.log)?;
@@ -148,7 +150,8 @@ fn write(
 }
 
 impl RowStore for MapStore {
-    ghost use Rattle.std.specs.Prelude.{◌≡◌, ◌+◌, ◌-◌, ◌^◌, ℕ, refl, min, IfOk, IfErr};
+    ghost use Rattle.std.specs.Prelude.{◌≡◌, ◌+◌, ◌-◌, ◌^◌, ℕ, ◌↔◌, refl, min, IfOk, IfErr, IsTrue};
+    ghost use Rattle.cs_store.specs.Whole.{IsWhole};
     ghost use Rattle.cs_store.specs.Calls.{OnlyReads, Commits, refusal};
     ghost use Rattle.cs_store.specs.Contents.{Contents, IsListing, stored_tables, stored_pending, meta_value, log_entry, log_count};
     ghost use Rattle.cs_store.specs.Written.{after_batch, optional_bytes, optional_entry, pairs_of};
@@ -259,6 +262,20 @@ impl RowStore for MapStore {
     {
         self.misreads = self.misreads.saturating_add(1);
         StoreFault::Device
+    }
+
+    fn check(&mut self, catalog: &Catalog) -> Result<bool, StoreFault>
+        ensures checked { is_honest self.new → IfOk result (λ good. IsTrue good ↔ IsWhole catalog.now self.old.held) }
+        ensures reads { OnlyReads is_honest held_by misreads_of leaves_held self.old self.new result }
+        ensures memory { IfErr result (λ fault. fault ≡ Memory) }
+        ensures count { self.new.misreads ≡ self.old.misreads }
+    {
+        // Values have no names but ours, by the type's invariant.
+        let rows = check_leaves(self.alloc, catalog, Shelf::Rows, self.shelves.rows.as_slice())?;
+        let pending = check_leaves(self.alloc, catalog, Shelf::Pending, self.shelves.pending.as_slice())?;
+        let entries = check_log(self.alloc, catalog, self.log.as_slice())?;
+        let whole = all_hold(rows, pending, entries);
+        Ok(whole)
     }
 
     fn failures(&self) -> u64 {

@@ -3,13 +3,17 @@
 //! there and changes nothing, a commit is whole or changes nothing, `Device` is answered only where the count of failures
 //! rose, and a stop leaves something. `Trip` is a store for tests that refuses one call. A store in memory stands in
 //! `cs_map_store`.
-//! The crate stands on the order of keys (`cs_order`). `laws` says that a listing and a commit have one answer, what a commit
-//! leaves at each place, how calls follow one another, and that a log without gaps stays so.
+//! `check` says whether all that a store holds is what its places say, by a catalog; `is_row`, `is_change`, `is_body` and
+//! `is_name` judge one piece of it. The crate stands on rows and changes (`cs_record`, `cs_change`, `cs_changeset`), on normal
+//! changesets and states (`cs_normal`), on entries (`cs_log`) and on the order of keys (`cs_order`). `laws` says that a listing
+//! and a commit have one answer, what a commit leaves at each place, how calls follow one another, that a log without gaps
+//! stays so, and that a store holds one state of the tables.
 //! Its tests stand in `cs_store_tests`.
 #![tactic(auto)]
 
 mod batch;
 mod fault;
+mod judging;
 pub mod laws;
 mod names;
 mod store;
@@ -17,6 +21,7 @@ mod trip;
 
 pub use batch::{Batch, MetaEdit, PlaceEdit, StoredEntry};
 pub use fault::StoreFault;
+pub use judging::{is_body, is_change, is_name, is_row};
 pub use names::MetaName;
 pub use store::{RowStore, StoredBody};
 pub use trip::{Trip, Written};

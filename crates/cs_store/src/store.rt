@@ -1,12 +1,14 @@
 //! What a store owes its callers.
 
-ghost use Rattle.std.specs.Prelude.{◌≡◌, ℕ, IfOk};
+ghost use Rattle.std.specs.Prelude.{◌≡◌, ◌↔◌, ℕ, IfOk, IsTrue};
 ghost use Rattle.cs_store.specs.Calls.{OnlyReads, Commits, refusal};
 ghost use Rattle.cs_store.specs.Contents.{Contents, IsListing, stored_tables, stored_pending, meta_value, log_entry, log_count};
 ghost use Rattle.cs_store.specs.Written.{after_batch, optional_bytes, optional_entry, pairs_of};
+ghost use Rattle.cs_store.specs.Whole.{IsWhole};
 ghost use Rattle.cs_store.specs.declared.fault.StoreFault.TheVariants.{Device};
 
 use crate::{Batch, MetaName, StoreFault, StoredEntry};
+use cs_value::Catalog;
 
 /// A body behind the bytes of its key: a row, or a pending change. (Profile of this project.)
 #[derive(Debug, Drop)]
@@ -88,6 +90,12 @@ pub trait RowStore {
     fn misread(&mut self) -> StoreFault
         ensures told { result ≡ Device }
         ensures reads { OnlyReads honest contents failed may_leave self.old self.new (refusal (Unit {0}) result) };
+
+    /// Whether all that it holds is what its places say: each row is one of a table of the catalog, at the table's number and
+    /// its own key, and so is each pending change; each entry's body decodes; and no value has a name but ours.
+    fn check(&mut self, catalog: &Catalog) -> Result<bool, StoreFault>
+        ensures checked { honest self.new → IfOk result (λ good. IsTrue good ↔ IsWhole catalog.now (contents self.old)) }
+        ensures reads { OnlyReads honest contents failed may_leave self.old self.new result };
 
     /// How often the device has failed; at 18,446,744,073,709,551,615 the count stays.
     fn failures(&self) -> u64

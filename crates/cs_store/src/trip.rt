@@ -1,13 +1,15 @@
 //! A store for tests that refuses one call, and counts what is written.
 
-ghost use Rattle.std.specs.Prelude.{◌≡◌, ◌+◌, ◌-◌, ◌^◌, ℕ, Some, None, Ok, Err, Option, min, IfOk, OnOk, OnErr};
+ghost use Rattle.std.specs.Prelude.{◌≡◌, ◌+◌, ◌-◌, ◌^◌, ℕ, Some, None, Ok, Err, Option, min, ◌↔◌, IfOk, IsTrue, OnOk, OnErr};
 ghost use Rattle.cs_store.specs.Trips.{Trips, after_call, at_call, contents_in, failed_in, honest_in, may_leave_in, nothing_written, own_failures, wrote_by};
 ghost use Rattle.cs_store.specs.Calls.{OnlyReads, Commits, refusal};
 ghost use Rattle.cs_store.specs.Contents.{Contents, IsListing, stored_tables, stored_pending, meta_value, log_entry, log_count};
+ghost use Rattle.cs_store.specs.Whole.{IsWhole};
 ghost use Rattle.cs_store.specs.Written.{after_batch, optional_bytes, optional_entry, pairs_of};
 ghost use Rattle.cs_store.specs.declared.fault.StoreFault.TheVariants.{Device};
 
 use crate::{Batch, MetaName, RowStore, StoreFault, StoredBody, StoredEntry};
+use cs_value::Catalog;
 
 /// How much commits that succeeded have written. Each count stays at 18,446,744,073,709,551,615. (Profile of this project.)
 #[derive(Clone, Copy, Debug, PartialEq, Eq)]
@@ -207,6 +209,16 @@ impl<S: RowStore> RowStore for Trip<S> {
         ensures wrote { self.new.wrote ≡ self.old.wrote }
     {
         self.inner.misread()
+    }
+
+    fn check(&mut self, catalog: &Catalog) -> Result<bool, StoreFault>
+        ensures checked { S.honest self.new.inner → IfOk result (λ good. IsTrue good ↔ IsWhole catalog.now (S.contents self.old.inner)) }
+        ensures reads { OnlyReads (honest_in S.honest) (contents_in S.contents) (failed_in S.failed) (may_leave_in S.may_leave) self.old self.new result }
+        ensures trips { Trips self.old self.new result (OnlyReads S.honest S.contents S.failed S.may_leave self.old.inner self.new.inner result) }
+        ensures wrote { self.new.wrote ≡ self.old.wrote }
+    {
+        pass(&mut self.passes)?;
+        self.inner.check(catalog)
     }
 
     fn failures(&self) -> u64 {

@@ -5,6 +5,7 @@ ghost use Rattle.std.specs.Prelude.{◌≡◌, IfErr};
 
 use cs_map_store::MapStore;
 use cs_store::*;
+use cs_value::{Catalog, Items, TableDef, Text};
 use std::alloc::{AllocError, Global};
 use std::test::Fail;
 
@@ -234,8 +235,89 @@ fn stores_show_what_was_committed(rt: HostRuntime) -> Result<(), Fail> {
     Ok(())
 }
 
+/// A catalog of one table of two columns, of which the first is the key.
+fn catalog(alloc: Global) -> Result<Catalog, Fail> {
+    let name = Text::from_string(String::from_str(alloc, "t1")?);
+    let key_marks = Items::from_vec(vec![in alloc; true, false]?);
+    let mut tables = Vec::new(alloc);
+    tables.push(TableDef { name, key_marks })?;
+    Ok(Catalog::new(tables)?)
+}
+
+/// The key 1, another, and NULL.
+const KEY: &[u8] = &[1, 0, 0, 0, 0, 0, 0, 0, 1];
+
+const OTHER_KEY: &[u8] = &[1, 0, 0, 0, 0, 0, 0, 0, 2];
+
+const NULL_KEY: &[u8] = &[5];
+
+/// The row (1, 'v1'), the same with a byte behind it, and (NULL, 'v1').
+const ROW: &[u8] = &[1, 0, 0, 0, 0, 0, 0, 0, 1, 3, 2, 0x76, 0x31];
+
+const LONG_ROW: &[u8] = &[1, 0, 0, 0, 0, 0, 0, 0, 1, 3, 2, 0x76, 0x31, 5];
+
+const NULL_ROW: &[u8] = &[5, 3, 2, 0x76, 0x31];
+
+/// The INSERT of (1, 'v1'), an UPDATE of it to 'v2', and the INSERT with a byte behind it.
+const INSERT: &[u8] = &[18, 0, 1, 0, 0, 0, 0, 0, 0, 0, 1, 3, 2, 0x76, 0x31];
+
+const UPDATE: &[u8] = &[
+    23, 0, 1, 0, 0, 0, 0, 0, 0, 0, 1, 3, 2, 0x76, 0x31, 0, 3, 2, 0x76, 0x32,
+];
+
+const LONG_INSERT: &[u8] = &[18, 0, 1, 0, 0, 0, 0, 0, 0, 0, 1, 3, 2, 0x76, 0x31, 5];
+
+/// The body of an entry that inserts (1, 'v1') into `t1`, and one of no kind that there is.
+const BODY: &[u8] = &[
+    0, 0x54, 2, 1, 0, 0x74, 0x31, 0, 18, 0, 1, 0, 0, 0, 0, 0, 0, 0, 1, 3, 2, 0x76, 0x31,
+];
+
+const OTHER_BODY: &[u8] = &[7, 0x54, 2, 1, 0, 0x74, 0x31, 0];
+
+/// Whether a store with this row, this pending change and this entry is found whole.
+fn is_whole(
+    alloc: Global,
+    row: Edit<'_>,
+    change: Edit<'_>,
+    body: &[u8],
+) -> Result<bool, Fail> {
+    let mut store = MapStore::new(alloc);
+    store.commit(&batch(alloc, &[row], &[change], &FIRST_META, Some((7, 1, body)))?)?;
+    Ok(store.check(&catalog(alloc)?)?)
+}
+
+#[test]
+fn a_store_is_whole_where_all_is_what_its_place_says(rt: HostRuntime) -> Result<(), Fail> {
+    let alloc = rt.alloc();
+    let row = (0, KEY, Some(ROW));
+    let change = (0, KEY, Some(INSERT));
+    assert!(rt; MapStore::new(alloc).check(&catalog(alloc)?)?);
+    assert!(rt; is_whole(alloc, row, change, BODY)?);
+    assert!(rt; is_whole(alloc, row, (0, KEY, Some(UPDATE)), &[0])?);
+    for wrong in [
+        (1, KEY, Some(ROW)),
+        (0, OTHER_KEY, Some(ROW)),
+        (0, KEY, Some(LONG_ROW)),
+        (0, NULL_KEY, Some(NULL_ROW)),
+        (0, KEY, Some(INSERT)),
+    ] {
+        assert!(rt; !is_whole(alloc, wrong, change, BODY)?);
+    }
+    for wrong in [
+        (1, KEY, Some(INSERT)),
+        (0, OTHER_KEY, Some(UPDATE)),
+        (0, KEY, Some(LONG_INSERT)),
+        (0, KEY, Some(ROW)),
+    ] {
+        assert!(rt; !is_whole(alloc, row, wrong, BODY)?);
+    }
+    assert!(rt; !is_whole(alloc, row, change, OTHER_BODY)?);
+    assert!(rt; !is_whole(alloc, row, change, &[])?);
+    Ok(())
+}
+
 /// A call of each kind, by its number.
-fn call<S: RowStore>(store: &mut S, next: &Batch, number: u64) -> Result<(), StoreFault> {
+fn call<S: RowStore>(store: &mut S, catalog: &Catalog, next: &Batch, number: u64) -> Result<(), StoreFault> {
     match number {
         0 => store.get(0, b"1").map(|_row| ()),
         1 => store.list(0).map(|_rows| ()),
@@ -244,6 +326,7 @@ fn call<S: RowStore>(store: &mut S, next: &Batch, number: u64) -> Result<(), Sto
         4 => store.log_get(0).map(|_entry| ()),
         5 => store.pend_get(0, b"1").map(|_change| ()),
         6 => store.pend_list(0).map(|_changes| ()),
+        7 => store.check(catalog).map(|_whole| ()),
         _ => store.commit(next),
     }
 }
@@ -253,17 +336,18 @@ fn a_call_that_the_device_refuses_leaves_everything(rt: HostRuntime) -> Result<(
     let alloc = rt.alloc();
     let first = first_batch(alloc)?;
     let next = next_batch(alloc)?;
-    for refused in 0..8u64 {
+    let catalog = catalog(alloc)?;
+    for refused in 0..9u64 {
         let mut store = MapStore::new(alloc);
         store.commit(&first)?;
         let mut trip = Trip::new(store, refused);
         for number in 0..refused {
-            call(&mut trip, &next, number)?;
+            call(&mut trip, &catalog, &next, number)?;
         }
-        assert!(rt; call(&mut trip, &next, refused) == Err(StoreFault::Device));
+        assert!(rt; call(&mut trip, &catalog, &next, refused) == Err(StoreFault::Device));
         assert_eq!(rt; trip.failures(), 1);
         assert!(rt; image(alloc, &mut trip.inner)?.as_slice() == FIRST_SHOWN);
-        call(&mut trip, &next, refused)?;
+        call(&mut trip, &catalog, &next, refused)?;
         assert_eq!(rt; trip.failures(), 1);
     }
     assert_eq!(rt; StoreFault::Device.to_string(alloc)?.as_str(), "Device");

@@ -36,4 +36,5 @@ returns-clause-kept c =
           (subst (λ (leaves : List (List Entry)). T (is_sorted place_cmp (flat (after_staged changes leaves)))) c.as_slice-3.ensures.value c.in_ok-pending.ensures.rise) c.put_staged-2.ensures.same c.put_staged-2.ensures.full;
       bound = c.write_rest.ensures.bound;
       filled = c.write_rest.ensures.filled;
+      names = c.write_rest.ensures.names c.requires.names;
     }

@@ -1,6 +1,6 @@
 use Rattle.std.proofs.Common.{ap, length, arith, subst, sym}
 use Rattle.cs_map_store.specs.Leaves.{AreLeaves}
-use Rattle.cs_map_store.proofs.Holding.{new_holds, no_leaves}
+use Rattle.cs_map_store.proofs.Holding.{new_holds, no_leaves, no_names}
 use Rattle.cs_map_store.proofs.Filled.{new_filled}
 use Rattle.cs_map_store.proofs.map_store.MapStore.new.Goals as goal
 
@@ -10,6 +10,7 @@ invariant_of-result c = record {
   pending = subst AreLeaves (sym c.new-2.ensures.items) no_leaves;
   bound = let none = ap length c.new-4.ensures.items in omega (arith, none);
   filled = new_filled c.new-3.result c.new-3.ensures.empty;
+  names = no_names c.new-3.result.entries c.new-3.ensures.empty;
 }
 
 pub returns : goal.returns
