@@ -1,14 +1,14 @@
 -- What a check finds of all that a `MapStore` holds.
-use Rattle.std.proofs.Common.{◌≡◌, ℕ, zero, suc, ◌+◌, ◌<◌, Bool, true, false, cond, ◌&&◌, List, [], ◌∷◌, ◌++◌, Option, Some, None, refl, sym, ap, subst, ◌∙◌, T, length, get_or, take, drop, fold, arith, IsTrue}
+use Rattle.std.proofs.Common.{◌≡◌, ℕ, zero, suc, ◌+◌, ◌<◌, Bool, true, false, cond, ◌&&◌, List, [], ◌∷◌, ◌++◌, Option, Some, None, refl, sym, ap, subst, ◌∙◌, T, length, get_or, take, fold, arith, IsTrue}
 use Rattle.std.specs.Prelude.{ℤ, pos, ◌↔◌}
 use Rattle.std.specs.List.{AllByRecursion}
 use Rattle.std.specs.declared.cmp.Ordering.{Ordering}
 use Rattle.std.specs.declared.cmp.Ordering.TheVariants.{Less, Equal, Greater}
 use Rattle.std.specs.Ordering.{is_eq, is_lt, eq_by_cmp, int_cmp}
 use Rattle.std.specs.Cmp.{eq_by_cmp_equiv}
-use Rattle.std.specs.FinMap.{empty, get, find, get-empty, is_sorted, from_sorted, get-from_sorted, get-from_entries}
+use Rattle.std.specs.FinMap.{empty, get, find, get-empty, is_sorted, get-from_sorted, get-from_entries}
 use Rattle.std.specs.FinMap.Entries.{below_all}
-use Rattle.std.proofs.lemmas.Cmp.{int_cmp_total, nat_list_cmp_total}
+use Rattle.std.proofs.lemmas.Cmp.{int_cmp_total}
 use Rattle.std.proofs.lemmas.Map.Lookups.{exact_bytes}
 use Rattle.std.proofs.lemmas.Option.{same_Some}
 use Rattle.std.proofs.lemmas.List.{take_more, append-nil, append_assoc}
@@ -96,9 +96,10 @@ module _ (P : StorePlace → List ℕ → Type 0) where
 
   pub holds_found : (es : List Entry) → T (is_sorted place_cmp es) → ((place : StorePlace) (body : List ℕ) → find place_cmp place es ≡ Some body → P place body) → AllByRecursion (λ e. P e.0 e.1) es
   holds_found [] s h = tt
-  holds_found (e ∷ es) s h =
-      (h e.0 e.1 (ap (λ b. cond b (Some e.1) (find place_cmp e.0 es)) ((eq_by_cmp_equiv place_total).refl e.0)),
-      holds_found es (second _ _ s) (λ place body is. h place body (behind place body is)))
+  holds_found (e ∷ es) s h = (
+    h e.0 e.1 (ap (λ b. cond b (Some e.1) (find place_cmp e.0 es)) ((eq_by_cmp_equiv place_total).refl e.0)),
+    holds_found es (second _ _ s) (λ place body is. h place body (behind place body is)),
+  )
     where
       behind : (place : StorePlace) (body : List ℕ) → find place_cmp place es ≡ Some body → find place_cmp place (e ∷ es) ≡ Some body
       behind place body is = elim (place_cmp place e.0) as (λ o. place_cmp place e.0 ≡ o → cond (is_eq o) (Some e.1) (find place_cmp place es) ≡ Some body) [
@@ -109,9 +110,10 @@ module _ (P : StorePlace → List ℕ → Type 0) where
 
   pub leaves_hold : (leaves : List (List Entry)) → T (is_sorted place_cmp (flat leaves))
       → AllByRecursion (λ e. P e.0 e.1) (flat leaves) ↔ ((place : StorePlace) (body : List ℕ) → get (bodies_in leaves) place ≡ Some body → P place body)
-  leaves_hold leaves s =
-      (λ all place body is. found_holds (flat leaves) all place body (sym (get-from_sorted place_cmp (flat leaves) place s) ∙ is),
-      λ h. holds_found (flat leaves) s (λ place body is. h place body (get-from_sorted place_cmp (flat leaves) place s ∙ is)))
+  leaves_hold leaves s = (
+    λ all place body is. found_holds (flat leaves) all place body (sym (get-from_sorted place_cmp (flat leaves) place s) ∙ is),
+    λ h. holds_found (flat leaves) s (λ place body is. h place body (get-from_sorted place_cmp (flat leaves) place s ∙ is)),
+  )
 
 -- ---- the log
 
@@ -130,9 +132,10 @@ module _ (P : List ℕ → Type 0) where
 
   pub log_holds : (xs : List StoredEntry) → AllByRecursion (λ x. P x.body.items) xs ↔ ((version : ℤ) (item : LogItem) → get (log_of xs) version ≡ Some item → P item.body)
   unfolding log_of
-  log_holds xs =
-      (λ all version item is. found_entry 0 xs all version item (sym (get-from_entries int_cmp_total (numbered 0 xs) version) ∙ is),
-      λ h. each_entry xs (λ k d less. h (pos k) (item_of (get_or xs k d)) (log_has xs k (get_or xs k d) less (same_element xs k d less))))
+  log_holds xs = (
+    λ all version item is. found_entry 0 xs all version item (sym (get-from_entries int_cmp_total (numbered 0 xs) version) ∙ is),
+    λ h. each_entry xs (λ k d less. h (pos k) (item_of (get_or xs k d)) (log_has xs k (get_or xs k d) less (same_element xs k d less))),
+  )
     where
       same_element : (ys : List StoredEntry) (k : ℕ) (d : StoredEntry) → k < length ys → get_or ys k d ≡ get_or ys k (get_or ys k d)
       same_element [] k d less = absurd (omega (arith, less))
@@ -158,6 +161,7 @@ own_after meta edit own name value is =
     equal Less h = absurd cc
     equal Equal h = refl
     equal Greater h = absurd cc
+
     tied : (a b : List ℕ) → eq_by_cmp by_bytes a b ≡ true → a ≡ b
     tied a b t = exact_bytes a b (equal _ t)
 
@@ -198,6 +202,7 @@ unfolding HasOwnNames
 whole_is tables rows pending es xs a b c sr sp own ra pb lc =
     let r = leaves_hold (AtTable StoresRow tables) rows sr in
     let p = leaves_hold (AtTable StoresChange tables) pending sp in
-    let l = log_holds (StoresBody tables) xs in
-    (λ all. let each = three a b c all in record { rows = r.0 (ra.0 each.0); pending = p.0 (pb.0 each.1); entries = l.0 (lc.0 each.2); names = own },
-    λ whole. all_three a b c (ra.1 (r.1 whole.rows)) (pb.1 (p.1 whole.pending)) (lc.1 (l.1 whole.entries)))
+    let l = log_holds (StoresBody tables) xs in (
+      λ all. let each = three a b c all in record { rows = r.0 (ra.0 each.0); pending = p.0 (pb.0 each.1); entries = l.0 (lc.0 each.2); names = own },
+      λ whole. all_three a b c (ra.1 (r.1 whole.rows)) (pb.1 (p.1 whole.pending)) (lc.1 (l.1 whole.entries)),
+    )

@@ -1,7 +1,6 @@
 -- What a `MapStore` holds, as its calls find and change it.
-use Rattle.std.proofs.Common.{◌≡◌, ℕ, Bool, true, cond, List, [], ◌∷◌, ◌++◌, map, fold, Option, Some, refl, sym, ap, subst, ◌∙◌, Vec, T, length, ◌<◌, arith}
+use Rattle.std.proofs.Common.{◌≡◌, ℕ, Bool, true, cond, List, [], ◌∷◌, ◌++◌, map, fold, Option, Some, refl, sym, ap, subst, ◌∙◌, T, length, ◌<◌, arith}
 use Rattle.std.specs.Prelude.{pos}
-use Rattle.std.specs.declared.alloc.Global.{Global}
 use Rattle.std.specs.List.{All}
 use Rattle.std.specs.FinMap.{get, empty, get-empty, same_map, is_sorted, from_sorted, get-from_sorted, entries-from_sorted}
 use Rattle.cs_map_store.specs.Entries.{Entry}

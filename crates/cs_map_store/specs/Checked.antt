@@ -1,9 +1,7 @@
 -- What a check of a `MapStore` asks of each body.
-use Rattle.std.specs.Prelude.{◌≡◌, List, Some}
-use Rattle.std.specs.FinMap.{get}
+use Rattle.std.specs.Prelude.{List}
 use Rattle.cs_value.specs.declared.catalog.TableDef.{TableDef}
-use Rattle.cs_store.specs.Contents.{Meta, StorePlace}
-use Rattle.cs_store.specs.Whole.{AtTable, IsName, StoresChange, StoresRow}
+use Rattle.cs_store.specs.Whole.{AtTable, StoresChange, StoresRow}
 use Rattle.cs_map_store.specs.Entries.{Entry}
 use Rattle.cs_map_store.specs.declared.checking.Shelf.{Shelf}
 use Rattle.cs_map_store.specs.declared.checking.Shelf.TheVariants.{Rows, Pending}

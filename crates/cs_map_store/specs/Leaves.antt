@@ -1,5 +1,5 @@
 -- Bodies as a `MapStore` keeps them: leaves of entries, whose places rise through all leaves together.
-use Rattle.std.specs.Prelude.{not, drop, ℤ, filter, ◌≡◌, ◌⊎◌, ◌<◌, ◌+◌, ℕ, Bool, true, false, pos, T, map, length, slice_index_or, slice_set, List, [], ◌∷◌, ◌++◌, Option, Some, None}
+use Rattle.std.specs.Prelude.{not, drop, ℤ, filter, ◌≡◌, ◌⊎◌, ◌<◌, ◌+◌, ℕ, Bool, true, false, T, map, length, slice_index_or, slice_set, List, [], ◌∷◌, ◌++◌, Option, Some, None}
 use Rattle.std.specs.Borrow.{Bor}
 use Rattle.std.specs.List.{All}
 use Rattle.std.specs.Ordering.{int_eq, is_eq, is_lt, eq_by_cmp, is_gt}

@@ -1,13 +1,13 @@
 -- The copies that a commit makes of a batch's edits.
 use Rattle.std.specs.declared.alloc.Global.{Global}
-use Rattle.std.specs.Prelude.{Vec, ◌≡◌, ◌<◌, ◌^◌, ℕ, Bool, true, false, Option, List, [], ◌∷◌, length, map, Some, None, IsSome}
+use Rattle.std.specs.Prelude.{Vec, ◌≡◌, ◌<◌, ◌^◌, Bool, true, false, Option, List, [], ◌∷◌, length, map, Some, None, IsSome}
 use Rattle.std.specs.List.{All, list_any}
 use Rattle.std.specs.BTreeMap.{BTreeMap, get, is_at}
 use Rattle.cs_map_store.specs.declared.slots.Step.{Step}
 use Rattle.cs_map_store.specs.declared.leaves.Shelves.{Shelves}
 use Rattle.cs_store.specs.declared.batch.StoredEntry.{StoredEntry}
 use Rattle.cs_store.specs.Written.{optional_bytes}
-use Rattle.cs_map_store.specs.Leaves.{Entry, AreLeaves}
+use Rattle.cs_map_store.specs.Leaves.{AreLeaves}
 use Rattle.cs_map_store.specs.Slots.{SlotKey, Slot, HasOwnNames, key_cmp, meta_of, place_of, shown, Write}
 
 abbrev pub step_write : Step → Write

@@ -30,7 +30,10 @@ fn is_last(edits: &[&PlaceEdit], at: usize) -> bool
 }
 
 /// Of edits whose places don't fall the last of each place.
-fn last_of_each<'a>(alloc: Global, edits: &[&'a PlaceEdit]) -> Result<Vec<&'a PlaceEdit>, AllocError>
+fn last_of_each<'a>(
+    alloc: Global,
+    edits: &[&'a PlaceEdit],
+) -> Result<Vec<&'a PlaceEdit>, AllocError>
     requires { DontFall (edits_behind edits.now) }
     ensures rise { IfOk result (λ latest. Rise (edits_behind latest.items)) }
     ensures same { IfOk result (λ latest. (rows : Bodies) → fold edit_body rows (edits_behind latest.items)

@@ -144,7 +144,11 @@ fn edits_in(leaves: &[Leaf], at: usize, edits: &[&PlaceEdit]) -> usize
 }
 
 /// The leaves that edits change, as they are after them.
-fn patches_of(alloc: Global, leaves: &[Leaf], edits: &[&PlaceEdit]) -> Result<Vec<Patch>, AllocError>
+fn patches_of(
+    alloc: Global,
+    leaves: &[Leaf],
+    edits: &[&PlaceEdit],
+) -> Result<Vec<Patch>, AllocError>
     requires some { 0 < length leaves.now }
     requires leaves { AreLeaves leaves.now }
     requires rise { Rise (edits_behind edits.now) }
@@ -197,7 +201,11 @@ fn stage(alloc: Global, leaves: &[Leaf], edits: &[&PlaceEdit]) -> Result<Staged,
 }
 
 /// What edits in any order make of the leaves. It changes none.
-pub fn stage_edits(alloc: Global, leaves: &[Leaf], edits: &[PlaceEdit]) -> Result<Staged, AllocError>
+pub fn stage_edits(
+    alloc: Global,
+    leaves: &[Leaf],
+    edits: &[PlaceEdit],
+) -> Result<Staged, AllocError>
     requires { AreLeaves leaves.now }
     ensures can { IfOk result (λ staged. CanBePut staged leaves.now) }
     ensures rise { IfOk result (λ staged. T (is_sorted place_cmp (flat (after_staged staged leaves.now)))) }

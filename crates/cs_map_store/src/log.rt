@@ -20,7 +20,10 @@ fn copy_of(alloc: Global, entry: &StoredEntry) -> Result<StoredEntry, AllocError
 }
 
 /// A copy of the entry, if there is one.
-pub fn copied_entry(alloc: Global, entry: &Option<StoredEntry>) -> Result<Option<StoredEntry>, AllocError>
+pub fn copied_entry(
+    alloc: Global,
+    entry: &Option<StoredEntry>,
+) -> Result<Option<StoredEntry>, AllocError>
     ensures { IfOk result (λ copy. optional_entry copy ≡ optional_entry entry.now) }
 {
     match entry {
@@ -30,7 +33,11 @@ pub fn copied_entry(alloc: Global, entry: &Option<StoredEntry>) -> Result<Option
 }
 
 /// The entry of the log at a version.
-pub fn read_log(alloc: Global, log: &[StoredEntry], version: u32) -> Result<Option<StoredEntry>, AllocError>
+pub fn read_log(
+    alloc: Global,
+    log: &[StoredEntry],
+    version: u32,
+) -> Result<Option<StoredEntry>, AllocError>
     ensures { IfOk result (λ entry. optional_entry entry ≡ get (log_of log.now) (pos version)) }
 {
     match log.get(version as usize) {

@@ -44,8 +44,8 @@ impl Model for MapStore {
     ghost coded = { in_memory_code };
 
     ghost view = { λ store. record {
-        held = held_in store.shelves.rows.items store.shelves.pending.items store.slots.entries store.log.items;
-        misreads = store.misreads;
+      held = held_in store.shelves.rows.items store.shelves.pending.items store.slots.entries store.log.items;
+      misreads = store.misreads;
     } };
 
     // Each slot has a value, so what was taken for a refused commit is given back.
@@ -271,8 +271,18 @@ impl RowStore for MapStore {
         ensures count { self.new.misreads ≡ self.old.misreads }
     {
         // Values have no names but ours, by the type's invariant.
-        let rows = check_leaves(self.alloc, catalog, Shelf::Rows, self.shelves.rows.as_slice())?;
-        let pending = check_leaves(self.alloc, catalog, Shelf::Pending, self.shelves.pending.as_slice())?;
+        let rows = check_leaves(
+            self.alloc,
+            catalog,
+            Shelf::Rows,
+            self.shelves.rows.as_slice(),
+        )?;
+        let pending = check_leaves(
+            self.alloc,
+            catalog,
+            Shelf::Pending,
+            self.shelves.pending.as_slice(),
+        )?;
         let entries = check_log(self.alloc, catalog, self.log.as_slice())?;
         let whole = all_hold(rows, pending, entries);
         Ok(whole)

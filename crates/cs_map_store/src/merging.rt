@@ -6,8 +6,8 @@ ghost use Rattle.cs_store.specs.Contents.{place_cmp};
 ghost use Rattle.cs_store.specs.Written.{optional_bytes};
 ghost use Rattle.cs_map_store.specs.Leaves.{IsBehind, IsMerged, Rise, store_place, edited, edits_behind, written};
 
-use cs_store::PlaceEdit;
 use crate::leaf::Leaf;
+use cs_store::PlaceEdit;
 use std::alloc::{AllocError, Global};
 use std::cmp::Ordering;
 

@@ -22,4 +22,3 @@ get-with_body m p (Some v) q = get-insert place_total m p v q
 pub get-with_meta : (m : Meta) (p : List ℕ) (w : Option (List ℕ)) (q : List ℕ) → get (with_meta m p w) q ≡ cond (eq_by_cmp (slice_cmp nat_cmp) q p) w (get m q)
 get-with_meta m p None q = get-remove nat_list_cmp_total m p q
 get-with_meta m p (Some v) q = get-insert nat_list_cmp_total m p v q
-

@@ -1,15 +1,12 @@
 -- Stores that hold the rows of tables.
-use Rattle.std.proofs.Common.{◌≡◌, ℕ, List, Option, Some, None, refl, sym, ap, subst, ◌∙◌, option_map, get_or, length, ◌<◌, Contains}
+use Rattle.std.proofs.Common.{◌≡◌, ℕ, List, Some, None, refl, sym, ap, subst, ◌∙◌, option_map, Contains}
 use Rattle.std.specs.Prelude.{slice_get}
 use Rattle.std.proofs.lemmas.Option.{same_Some, slice_get-get_or}
 use Rattle.cs_value.specs.Key.{Place}
 use Rattle.cs_value.specs.declared.catalog.TableDef.{TableDef}
-use Rattle.cs_value.specs.declared.value.Value.{Value}
 use Rattle.cs_record.specs.Spelling.{row_bytes}
 use Rattle.cs_record.specs.OneSpelling.{one_spelled_row}
-use Rattle.cs_normal.specs.State.{MayStandAt, IsRowOf}
-use Rattle.cs_store.specs.Contents.{Contents, stored_tables}
-use Rattle.cs_store.specs.States.{Holds}
+use Rattle.cs_normal.specs.State.{MayStandAt}
 use Rattle.cs_store.specs.StateLaws as law
 use Rattle.cs_store.proofs.StoreLaws.{writes_rows}
 

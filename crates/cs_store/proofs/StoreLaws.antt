@@ -105,10 +105,10 @@ module _ {S : Type 0} (honest : S → Type 0) (contents : S → Contents) (faile
   }
 
   pub reads_alike : (T U : Type 0) → law.ReadsAlike honest contents failed may_leave T U
-  reads_alike T U old new =
-      (
-      λ answer other a. record { was_honest = a.was_honest; same = a.same; crash = a.crash; failures = record { kept = a.failures.kept; later = a.failures.later; cause = λ e. absurd cc } },
-      λ fault a. record { was_honest = a.was_honest; same = a.same; crash = a.crash; failures = fault_counts fault (failed old) (failed new) a.failures })
+  reads_alike T U old new = (
+    λ answer other a. record { was_honest = a.was_honest; same = a.same; crash = a.crash; failures = record { kept = a.failures.kept; later = a.failures.later; cause = λ e. absurd cc } },
+    λ fault a. record { was_honest = a.was_honest; same = a.same; crash = a.crash; failures = fault_counts fault (failed old) (failed new) a.failures },
+  )
 
 -- ---- what is written
 
@@ -197,9 +197,10 @@ commit_can_be before after = record {
 -- ---- a log without gaps
 
 pub starts_with_no_gaps : law.StartsWithNoGaps
-starts_with_no_gaps version =
-    (λ some. absurd (let none : is_some {T = LogItem} None ≡ true = ap is_some (sym (get-empty int_cmp (pos version))) ∙ some in cc),
-    λ less. absurd (let none = len-empty int_cmp LogItem in omega (arith, less, none)))
+starts_with_no_gaps version = (
+  λ some. absurd (let none : is_some {T = LogItem} None ≡ true = ap is_some (sym (get-empty int_cmp (pos version))) ∙ some in cc),
+  λ less. absurd (let none = len-empty int_cmp LogItem in omega (arith, less, none)),
+)
 
 none_from : (o : Option LogItem) → (IsSome o → ⊥) → o ≡ None
 none_from None h = refl
@@ -218,9 +219,9 @@ one_more : (log : Log) (item : LogItem) → ((version : ℕ) → IsSome (get log
 one_more log item gapless version =
     let free : get log (pos (len log)) ≡ None = none_from _ (λ some. absurd (let less = (gapless (len log)).0 some in omega (arith, less))) in
     let count : len (insert log (pos (len log)) item) ≡ len log + 1 =
-        len-insert int_cmp_total log (pos (len log)) item ∙ ap (λ (o : Option LogItem). cond (is_some o) (len log) (len log + 1)) free in
+    len-insert int_cmp_total log (pos (len log)) item ∙ ap (λ (o : Option LogItem). cond (is_some o) (len log) (len log + 1)) free in
     let at : get (insert log (pos (len log)) item) (pos version) ≡ cond (eqb version (len log)) (Some item) (get log (pos version)) =
-        get-insert int_cmp_total log (pos (len log)) item (pos version) ∙ ap (λ b. cond b (Some item) (get log (pos version))) (tie_pos version (len log)) in
+    get-insert int_cmp_total log (pos (len log)) item (pos version) ∙ ap (λ b. cond b (Some item) (get log (pos version))) (tie_pos version (len log)) in
     let below = below_next (len log) version (get log (pos version)) item (gapless version) in
     (λ some. subst (λ n. version < n) (sym count) (below.0 (subst IsSome at some)), λ less. subst IsSome (sym at) (below.1 (subst (λ n. version < n) count less)))
 

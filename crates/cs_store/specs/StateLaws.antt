@@ -1,5 +1,5 @@
 -- The laws of stores that hold the rows of tables.
-use Rattle.std.specs.Prelude.{◌≡◌, List}
+use Rattle.std.specs.Prelude.{List}
 use Rattle.cs_value.specs.declared.catalog.TableDef.{TableDef}
 use Rattle.cs_normal.specs.State.{State, AreSame, IsStateOf}
 use Rattle.cs_store.specs.Contents.{Contents}

@@ -80,7 +80,13 @@ fn is_change_of(alloc: Global, table: &TableDef, key: &[u8], body: &[u8]) -> Res
 }
 
 /// Whether the bytes spell a row of the catalog's table with this number, at its own key. (Profile of this project.)
-pub fn is_row(alloc: Global, catalog: &Catalog, table: u32, key: &[u8], body: &[u8]) -> Result<bool, Memory>
+pub fn is_row(
+    alloc: Global,
+    catalog: &Catalog,
+    table: u32,
+    key: &[u8],
+    body: &[u8],
+) -> Result<bool, Memory>
     ensures { IfOk result (λ is. IsTrue is ↔ AtTable StoresRow catalog.now (pos table, key.now) body.now) }
 {
     let Some(named) = catalog.tables().get(table as usize) else {
@@ -91,7 +97,13 @@ pub fn is_row(alloc: Global, catalog: &Catalog, table: u32, key: &[u8], body: &[
 }
 
 /// Whether the bytes spell a change of the catalog's table with this number, at its own key. (Profile of this project.)
-pub fn is_change(alloc: Global, catalog: &Catalog, table: u32, key: &[u8], body: &[u8]) -> Result<bool, Memory>
+pub fn is_change(
+    alloc: Global,
+    catalog: &Catalog,
+    table: u32,
+    key: &[u8],
+    body: &[u8],
+) -> Result<bool, Memory>
     ensures { IfOk result (λ is. IsTrue is ↔ AtTable StoresChange catalog.now (pos table, key.now) body.now) }
 {
     let Some(named) = catalog.tables().get(table as usize) else {

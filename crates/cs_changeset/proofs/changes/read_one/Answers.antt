@@ -1,4 +1,4 @@
-use Rattle.std.proofs.Common.{◌≡◌, subst, sym, ◌∙◌, Option, Some, length, IfSome}
+use Rattle.std.proofs.Common.{◌≡◌, subst, sym, ◌∙◌, Option, IfSome}
 use Rattle.cs_change.specs.declared.change.Change.{Change}
 use Rattle.cs_change.specs.Spelling.{change_spelling, marks_of, FitsChange}
 use Rattle.cs_changeset.proofs.OneChange.{whole_found, whole_only}

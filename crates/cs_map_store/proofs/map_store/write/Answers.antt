@@ -1,4 +1,4 @@
-use Rattle.std.proofs.Common.{◌≡◌, ◌∙◌, List, T, fold, ap, subst, sym}
+use Rattle.std.proofs.Common.{◌≡◌, ◌∙◌, List, T, fold, ap, subst}
 use Rattle.std.specs.FinMap.{is_sorted}
 use Rattle.cs_store.specs.Contents.{place_cmp}
 use Rattle.cs_store.specs.Written.{edit_body}
@@ -14,11 +14,11 @@ returns-clause-ok c =
     let staged = c.in_ok-rows.rows in
     let changes = c.in_ok-pending.pending in
     let made : bodies_in (after_staged staged rows) ≡ fold edit_body (bodies_in rows) c.args.batch.now.rows.items =
-        subst (λ (leaves : List (List Entry)). bodies_in (after_staged staged leaves) ≡ fold edit_body (bodies_in leaves) c.args.batch.now.rows.items) c.as_slice.ensures.value
-        (c.in_ok-rows.ensures.made ∙ ap (fold edit_body (bodies_in c.as_slice.result.now)) c.as_slice-2.ensures.value) in
+    subst (λ (leaves : List (List Entry)). bodies_in (after_staged staged leaves) ≡ fold edit_body (bodies_in leaves) c.args.batch.now.rows.items) c.as_slice.ensures.value
+    (c.in_ok-rows.ensures.made ∙ ap (fold edit_body (bodies_in c.as_slice.result.now)) c.as_slice-2.ensures.value) in
     let made_pending : bodies_in (after_staged changes pending) ≡ fold edit_body (bodies_in pending) c.args.batch.now.pending.items =
-        subst (λ (leaves : List (List Entry)). bodies_in (after_staged changes leaves) ≡ fold edit_body (bodies_in leaves) c.args.batch.now.pending.items) c.as_slice-3.ensures.value
-        (c.in_ok-pending.ensures.made ∙ ap (fold edit_body (bodies_in c.as_slice-3.result.now)) c.as_slice-4.ensures.value) in
+    subst (λ (leaves : List (List Entry)). bodies_in (after_staged changes leaves) ≡ fold edit_body (bodies_in leaves) c.args.batch.now.pending.items) c.as_slice-3.ensures.value
+    (c.in_ok-pending.ensures.made ∙ ap (fold edit_body (bodies_in c.as_slice-3.result.now)) c.as_slice-4.ensures.value) in
     held_after rows (after_staged staged rows) c.put_staged.new.leaves.items pending (after_staged changes pending) c.put_staged-2.new.leaves.items
     c.args.slots.now.entries c.write_rest.new.slots.entries c.args.log.now.items c.write_rest.new.log.items c.args.batch.now
     made c.put_staged.ensures.same made_pending c.put_staged-2.ensures.same c.in_ok-write_rest.ensures.meta c.in_ok-write_rest.ensures.log

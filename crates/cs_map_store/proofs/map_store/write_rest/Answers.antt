@@ -1,4 +1,3 @@
-use Rattle.std.proofs.Common.{◌∙◌}
 use Rattle.cs_map_store.specs.Slots.{meta_of, shown}
 use Rattle.cs_map_store.proofs.Checks.{own_written}
 use Rattle.cs_map_store.proofs.Holding.{meta_after}
