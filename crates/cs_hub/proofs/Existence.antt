@@ -1,5 +1,5 @@
 -- Each push has an answer, and each request, as far as changesets are decided.
-use Rattle.std.proofs.Common.{◌≡◌, ◌≢◌, ◌⊎◌, inl, inr, ℕ, ◌+◌, ◌<◌, ◌≤◌, Bool, true, false, List, [], ◌∷◌, ◌++◌, length, Option, Some, None, Result, Ok, Err, slice_get, refl, sym, ap, subst, ◌∙◌, arith}
+use Rattle.std.proofs.Common.{◌≡◌, ◌⊎◌, inl, inr, ℕ, ◌+◌, ◌<◌, ◌≤◌, Bool, true, false, List, [], ◌∷◌, ◌++◌, length, Option, Some, None, Result, Ok, Err, slice_get, refl, ap, subst, ◌∙◌, arith}
 use Rattle.std.specs.Str.{bytes_eq}
 use Rattle.std.proofs.lemmas.Bool.{cases_lt}
 use Rattle.std.proofs.lemmas.Bool.Decides.{eqb_tells}
@@ -12,7 +12,6 @@ use Rattle.cs_log.specs.Log.{IsLog, state_of}
 use Rattle.cs_log.specs.Stored.{AreChangesOf, stored_body}
 use Rattle.cs_log.specs.Entry.{changes_of_body, entry_changes}
 use Rattle.cs_log.specs.declared.body.Body.{Body}
-use Rattle.cs_log.specs.declared.body.Body.TheVariants.{Changes}
 use Rattle.cs_log.specs.declared.entry.LogEntry.{LogEntry}
 use Rattle.cs_change.specs.Spelling.{FitsChangeset}
 use Rattle.cs_change.specs.declared.group.Group.{Group}
@@ -23,7 +22,7 @@ use Rattle.cs_hub.specs.Messages.{Asked, AsksPush, AsksPull, AsksNothing, Asks, 
 use Rattle.cs_hub.specs.Serves.{AnswersAsked, Outcome, TakesBytes, TakesGroups, or_refusal, push_answer, refused}
 use Rattle.cs_hub.specs.declared.push.PushHead.{PushHead}
 use Rattle.cs_hub.specs.declared.refusal.Refusal.TheVariants.{NoRequest, NoChangeset, NoForm, ByHub}
-use Rattle.cs_hub.specs.Pushes.{Case, CanFollow, IsRepeat, Push, Pushes, entry_of}
+use Rattle.cs_hub.specs.Pushes.{Case, CanFollow, IsRepeat, Push, entry_of}
 use Rattle.cs_hub.specs.declared.fault.HubFault.{HubFault}
 use Rattle.cs_hub.specs.declared.fault.HubFault.TheVariants.{Ahead, Conflict, Empty, Full}
 use Rattle.cs_hub.specs.declared.push.Pushed.{Pushed}

@@ -8,7 +8,7 @@ use crate::fault::HubFault;
 use crate::push::{PushHead, Pushed};
 use crate::refusal::Refusal;
 use crate::request::Request;
-use crate::rows::KeyedRow;
+use crate::rows::RowAtKey;
 use crate::tables::Tables;
 use cs_changeset::read;
 use cs_log::laws::{appended_is_log, empty_is_log};
@@ -51,7 +51,7 @@ fn is_push(entry: &LogEntry, head: PushHead, changes: &Normal) -> bool
 }
 
 impl Hub {
-    ghost use Rattle.std.specs.Prelude.{◌≡◌, ◌↔◌, ◌≤◌, ◌<◌, ◌^◌, ◌+◌, ◌≢◌, All, ℕ, List, [], Some, Ok, IsTrue, IfOk, OnErr, MatchResult, length};
+    ghost use Rattle.std.specs.Prelude.{◌≡◌, ◌↔◌, ◌≤◌, ◌<◌, ◌+◌, ◌≢◌, All, ℕ, List, [], Some, Ok, IsTrue, IfOk, OnErr, MatchResult, length};
     ghost use Rattle.cs_hub.specs.Messages.{AsksPush, AsksPull};
     ghost use Rattle.cs_hub.specs.Serves.{AnswersAsked, TakesBytesIf, Serves, refused};
     ghost use Rattle.std.specs.List.{slice_get};
@@ -123,11 +123,11 @@ impl Hub {
         Ok(&self.log[first..first + count])
     }
 
-    /// The rows of the catalog's table at this place at the newest version, behind the bytes of their keys and in the
+    /// The rows of the table with this number in the catalog, at the newest version, behind the bytes of their keys and in the
     /// order of these; none past the last table.
-    pub fn rows(&self, table: usize) -> &[KeyedRow]
-        ensures rows { (place : TableDef) → slice_get (synced self.now) table ≡ Some place
-            → (key : List ℕ) → row_at key result.now ≡ state_of self.now.log place.name key }
+    pub fn rows(&self, table: usize) -> &[RowAtKey]
+        ensures rows { (def : TableDef) → slice_get (synced self.now) table ≡ Some def
+            → (key : List ℕ) → row_at key result.now ≡ state_of self.now.log def.name key }
         ensures ordered { IsInOrder result.now }
         ensures none { length (synced self.now) ≤ table → result.now ≡ [] }
     {

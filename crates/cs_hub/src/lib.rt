@@ -25,4 +25,4 @@ pub use push::{PushHead, Pushed};
 
 pub mod laws;
 
-pub use rows::KeyedRow;
+pub use rows::RowAtKey;

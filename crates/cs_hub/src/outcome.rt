@@ -4,7 +4,7 @@ ghost use Rattle.std.specs.Prelude.{◌≡◌, IfOk};
 ghost use Rattle.cs_change.specs.Action.{action, after};
 ghost use Rattle.cs_hub.specs.Rows.{IsInOrder, row_at};
 
-use crate::rows::{KeyedRow, find};
+use crate::rows::{RowAtKey, find};
 use cs_change::Change;
 use cs_record::RowBuf;
 use cs_value::Memory;
@@ -13,7 +13,7 @@ use std::alloc::Global;
 /// What the change leaves at its key, a row or none; outer none where it is not defined there.
 pub(crate) fn outcome(
     alloc: Global,
-    rows: &[KeyedRow],
+    rows: &[RowAtKey],
     key: &[u8],
     change: &Change<'_>,
 ) -> Result<Option<Option<RowBuf>>, Memory>

@@ -9,23 +9,23 @@ use cs_record::RowBuf;
 use std::cmp::Ordering;
 
 /// A row behind the bytes of its key.
-pub type KeyedRow = (Bytes, RowBuf);
+pub type RowAtKey = (Bytes, RowBuf);
 
 /// Where the row of the key with these bytes is, or where it would go.
-pub(crate) fn find(rows: &[KeyedRow], key: &[u8]) -> Result<usize, usize>
+pub(crate) fn find(rows: &[RowAtKey], key: &[u8]) -> Result<usize, usize>
     requires { IsInOrder rows.now }
     ensures found { IfOk result (λ at. IsAt rows.now key.now at) }
     ensures absent { IfErr result (λ at. IsGap rows.now key.now at) }
 {
     rows.binary_search_by(
-        |row: &KeyedRow| -> Ordering
+        |row: &RowAtKey| -> Ordering
             ensures { result ≡ by_bytes row.now.0 key.entry.now }
         { row.0.as_slice().cmp(key) },
     )
 }
 
 /// Puts a row, or none, at a key. There is room for it.
-pub(crate) fn put(rows: &mut Vec<KeyedRow>, key: Bytes, row: Option<RowBuf>)
+pub(crate) fn put(rows: &mut Vec<RowAtKey>, key: Bytes, row: Option<RowBuf>)
     requires ordered { IsInOrder rows.old.items }
     requires room { vec_len rows.old < vec_capacity rows.old }
     ensures ordered { IsInOrder rows.new.items }

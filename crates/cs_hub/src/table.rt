@@ -6,7 +6,7 @@ ghost use Rattle.cs_hub.specs.Rows.{IsInOrder, row_at};
 ghost use Rattle.cs_hub.specs.Staged.{outcomes};
 
 use crate::outcome::outcome;
-use crate::rows::{KeyedRow, put};
+use crate::rows::{RowAtKey, put};
 use cs_change::Bytes;
 use cs_normal::{KeyedChanges, TableChanges, changes_of};
 use cs_record::RowBuf;
@@ -21,7 +21,7 @@ pub(crate) type Write = (Bytes, Option<RowBuf>);
 #[derive(Drop)]
 pub(crate) struct Table {
     name: Text,
-    rows: Vec<KeyedRow>,
+    rows: Vec<RowAtKey>,
     staged: Vec<Write>,
 }
 
@@ -41,7 +41,7 @@ impl Model for Table {
 #[tactic(auto, unfolding(crate::specs::Staged::outcomes))]
 fn plan(
     alloc: Global,
-    rows: &[KeyedRow],
+    rows: &[RowAtKey],
     changes: &KeyedChanges,
 ) -> Result<Option<Items<Write>>, Memory>
     requires { IsInOrder rows.now }
@@ -77,7 +77,7 @@ impl Table {
     }
 
     /// The rows, in the order of their keys' bytes.
-    pub(crate) fn rows(&self) -> &[KeyedRow]
+    pub(crate) fn rows(&self) -> &[RowAtKey]
         ensures rows { result.now ≡ self.now.rows }
         ensures ordered { IsInOrder self.now.rows }
     {

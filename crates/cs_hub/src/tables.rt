@@ -1,6 +1,6 @@
 //! The tables of the hub, in the catalog's order.
 
-use crate::rows::KeyedRow;
+use crate::rows::RowAtKey;
 use crate::table::Table;
 use cs_normal::{KeyedChanges, TableChanges};
 use cs_value::{Memory, TableDef, Text};
@@ -41,13 +41,13 @@ impl Tables {
         Ok(Tables { tables })
     }
 
-    /// The rows of the table at this place; none past the last table.
-    pub(crate) fn rows(&self, place: usize) -> &[KeyedRow]
-        ensures rows { (table : TableState) → slice_get self.now place ≡ Some table → result.now ≡ table.rows }
+    /// The rows of the table with this number; none past the last table.
+    pub(crate) fn rows(&self, number: usize) -> &[RowAtKey]
+        ensures rows { (table : TableState) → slice_get self.now number ≡ Some table → result.now ≡ table.rows }
         ensures ordered { IsInOrder result.now }
-        ensures none { length self.now ≤ place → result.now ≡ [] }
+        ensures none { length self.now ≤ number → result.now ≡ [] }
     {
-        match self.tables.get(place) {
+        match self.tables.get(number) {
             Some(table) => table.rows(),
             None => &[],
         }

@@ -1,10 +1,9 @@
 -- Fronts of logs, and logs with one entry more.
-use Rattle.std.proofs.Common.{◌≡◌, ◌⊎◌, inl, inr, ℕ, zero, suc, ◌<◌, ◌≤◌, List, [], ◌∷◌, ◌++◌, take, length, Some, slice_get, refl, sym, ap, subst, append_assoc, arith}
-use Rattle.std.proofs.lemmas.List.{append-nil, take-append-le}
+use Rattle.std.proofs.Common.{◌≡◌, ◌⊎◌, inl, inr, ℕ, zero, suc, ◌<◌, ◌≤◌, List, [], ◌∷◌, ◌++◌, take, length, Some, slice_get, refl, sym, ap, subst, arith}
+use Rattle.std.proofs.lemmas.List.{take-append-le}
 use Rattle.std.proofs.lemmas.Option.{slice_get_within}
-use Rattle.cs_value.specs.declared.catalog.TableDef.{TableDef}
 use Rattle.cs_log.specs.Laws.{AppendedIsLog, EmptyIsLog, FrontIsLog, LongerLog}
-use Rattle.cs_log.specs.Log.{IsLog, IsNextEntry, state_of}
+use Rattle.cs_log.specs.Log.{IsNextEntry, state_of}
 use Rattle.cs_log.specs.declared.entry.LogEntry.{LogEntry}
 
 -- an entry of the longer log stands where it stood, or is the last

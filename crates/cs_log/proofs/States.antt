@@ -1,8 +1,8 @@
 -- The states that a log makes, entry by entry.
-use Rattle.std.proofs.Common.{◌≡◌, ℕ, ◌≤◌, List, [], ◌∷◌, ◌++◌, take, drop, length, Option, Some, None, slice_get, refl, sym, ap, subst, map, append_assoc, ◌∙◌, arith}
+use Rattle.std.proofs.Common.{◌≡◌, ℕ, ◌≤◌, List, [], ◌∷◌, ◌++◌, take, drop, length, Option, Some, None, slice_get, refl, sym, ap, subst, map, append_assoc, ◌∙◌}
 use Rattle.std.specs.Option.{IsSome, unwrap_or}
 use Rattle.std.specs.List.{fold}
-use Rattle.std.proofs.lemmas.List.{append-nil, take-append-drop, take-take, take_all}
+use Rattle.std.proofs.lemmas.List.{append-nil, take-append-drop, take-take}
 use Rattle.std.proofs.lemmas.List.Sums.{fold-append}
 use Rattle.cs_value.specs.Catalog.{AreTables}
 use Rattle.cs_value.specs.Key.{Place}
