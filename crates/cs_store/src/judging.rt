@@ -17,7 +17,7 @@ use cs_value::{Catalog, Memory, TableDef};
 use std::alloc::{AllocError, Global};
 
 /// The row of so many values that the whole of the bytes spells, if they spell one.
-fn whole_row(bytes: &[u8], columns: usize) -> Option<Row<'_>>
+pub fn whole_row(bytes: &[u8], columns: usize) -> Option<Row<'_>>
     ensures found { IfSome result (λ row. FitsRow columns row × (bytes.now ≡ row_bytes row)) }
     ensures only { (row : List Value) → FitsRow columns row → bytes.now ≡ row_bytes row → result ≡ Some row }
 {
