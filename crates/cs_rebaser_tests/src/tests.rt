@@ -1,11 +1,15 @@
 //! Local changes of a table `t1` with a key column and another, and of `t2` with a key column and three others, from bytes
 //! to bytes.
 
+use crate::lawful::{Sides, apply_by_kind, apply_by_row, apply_over_local};
+use cs_apply::{Applied, ApplyFault, apply};
 use cs_changeset::read;
+use cs_conflict::{Conflict, Resolution};
 use cs_group::normalise_alone;
-use cs_normal::Normal;
+use cs_normal::{Normal, normalise};
 use cs_rebaser::*;
-use cs_value::Memory;
+use cs_store::{Batch, MapStore, RowStore};
+use cs_value::{Catalog, Items, Memory, TableDef, Text};
 use std::alloc::Global;
 use std::process::Abort;
 use std::test::Fail;
@@ -23,6 +27,8 @@ const WIDE_H1: [u8; 8] = [0x54, 3, 1, 0, 0, 0x74, 0x31, 0];
 const K1: [u8; 9] = [1, 0, 0, 0, 0, 0, 0, 0, 1];
 
 const K2: [u8; 9] = [1, 0, 0, 0, 0, 0, 0, 0, 2];
+
+const K3: [u8; 9] = [1, 0, 0, 0, 0, 0, 0, 0, 3];
 
 /// Texts.
 const V1: [u8; 4] = [3, 2, 0x76, 0x31];
@@ -445,5 +451,123 @@ fn faults_are_told_by_name(rt: HostRuntime) -> Result<(), Fail> {
         RebaseFault::WrongShape.to_string(alloc)?.as_str(),
         "WrongShape"
     );
+    Ok(())
+}
+
+/// The table t1 alone.
+fn one_table(alloc: Global) -> Result<Option<Catalog>, Memory> {
+    let mut tables = Vec::new(alloc);
+    tables.push(TableDef {
+        name: Text::from_string(String::from_str(alloc, "t1")?),
+        key_marks: Items::from_vec(vec![in alloc; true, false]?),
+    })?;
+    Ok(Catalog::new(tables).ok())
+}
+
+fn commit(alloc: Global, store: &mut MapStore, applied: Applied) -> Option<Vec<u8>> {
+    let batch = Batch {
+        rows: applied.edits,
+        meta: Vec::new(alloc),
+        log: None,
+    };
+    store.commit(&batch).ok()?;
+    Some(applied.blob)
+}
+
+/// A store with the rows that the local changes left: (1, 'v2') and (3, 'v2').
+fn left_rows(alloc: Global, catalog: &Catalog) -> Option<MapStore> {
+    let bytes = joined(alloc, &[&H1, &INSERT, &K1, &V2, &INSERT, &K3, &V2]).ok()?;
+    let changeset = read(alloc, bytes.as_slice()).ok()?;
+    let mut store = MapStore::new(alloc);
+    let applied = apply(
+        alloc,
+        &mut store,
+        catalog,
+        &changeset,
+        &mut |_: &Conflict<'_>| Resolution::Abort,
+    );
+    commit(alloc, &mut store, applied.ok()?)?;
+    Some(store)
+}
+
+/// The rows of the keys 1, 2 and 3, as the store has them, one after another.
+fn rows_of(alloc: Global, store: &mut MapStore) -> Option<Vec<u8>> {
+    let mut rows = Vec::new(alloc);
+    for key in [&K1, &K2, &K3] {
+        if let Some(row) = store.get(0, key.as_slice()).ok()? {
+            rows.extend_from_slice(row.as_slice()).ok()?;
+        }
+    }
+    Some(rows)
+}
+
+/// The closure that answers.
+#[derive(Clone, Copy)]
+enum Answers {
+    ByKind,
+    ByRow,
+    OverLocal,
+}
+
+/// What is left of the rows of the local side, and of its changes over the blob: the local side changed (1, 'v1') to 'v2',
+/// deleted (2, 'v1') and put (3, 'v2'), the remote one changed (1, 'v1') to 'v9', deleted (2, 'v1') and put (3, 'v9').
+fn both_sides(alloc: Global, answers: Answers) -> Option<(Vec<u8>, Vec<u8>)> {
+    let catalog = one_table(alloc).ok()??;
+    let local = joined(
+        alloc,
+        &[
+            &H1, &UPDATE, &K1, &V1, &NONE, &V2, &DELETE, &K2, &V1, &INSERT, &K3, &V2,
+        ],
+    );
+    let remote = joined(
+        alloc,
+        &[
+            &H1, &UPDATE, &K1, &V1, &NONE, &V9, &DELETE, &K2, &V1, &INSERT, &K3, &V9,
+        ],
+    );
+    let local_bytes = local.ok()?;
+    let remote_bytes = remote.ok()?;
+    let read_local = read(alloc, local_bytes.as_slice()).ok()?;
+    let read_remote = read(alloc, remote_bytes.as_slice()).ok()?;
+    let local = normalise(alloc, &catalog, &read_local).ok()?;
+    let remote = normalise(alloc, &catalog, &read_remote).ok()?;
+    if !remote.fits(&catalog) {
+        return None;
+    }
+    let sides = Sides {
+        local: &local,
+        remote: &remote,
+    };
+    let mut store = left_rows(alloc, &catalog)?;
+    let applied: Result<Applied, ApplyFault> = match answers {
+        Answers::ByKind => apply_by_kind(alloc, &mut store, &catalog, &sides),
+        Answers::ByRow => apply_by_row(alloc, &mut store, &catalog, &sides),
+        Answers::OverLocal => apply_over_local(alloc, &mut store, &catalog, &sides),
+    };
+    let blob = commit(alloc, &mut store, applied.ok()?)?;
+    let entries = cs_blob::read(alloc, blob.as_slice()).ok()?;
+    let rebaser = Rebaser::configure(alloc, entries).ok()?;
+    let rebased = rebaser.rebase(alloc, &local).ok()?;
+    let mut bytes = Vec::new(alloc);
+    rebased.encode(&mut bytes).ok()?;
+    Some((rows_of(alloc, &mut store)?, bytes))
+}
+
+#[test]
+fn lawful_answers_close_the_diamond(rt: HostRuntime) -> Result<(), Fail> {
+    let alloc = rt.alloc();
+    let theirs = joined(alloc, &[&K1, &V9, &K3, &V9])?;
+    for answers in [Answers::ByKind, Answers::ByRow] {
+        let Some((rows, rebased)) = both_sides(alloc, answers) else {
+            panic!(rt; "nothing was applied");
+        };
+        assert!(rt; rows == theirs);
+        assert_eq!(rt; rebased.len(), 0);
+    }
+    let Some((rows, rebased)) = both_sides(alloc, Answers::OverLocal) else {
+        panic!(rt; "nothing was applied");
+    };
+    assert!(rt; rows == joined(alloc, &[&K1, &V9, &K3, &V2])?);
+    assert!(rt; rebased == joined(alloc, &[&H1, &UPDATE, &K3, &V9, &NONE, &V2])?);
     Ok(())
 }
