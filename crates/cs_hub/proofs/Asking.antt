@@ -3,16 +3,12 @@ use Rattle.std.proofs.Common.{◌≡◌, inl, inr, ℕ, zero, suc, ◌+◌, ◌<
 use Rattle.std.specs.Int.{w32, w64, from_be_bytes}
 use Rattle.std.proofs.lemmas.Bool.{cases_lt}
 use Rattle.std.proofs.lemmas.Bool.Decides.{eqb_tells}
-use Rattle.cs_hub.specs.Laws.{AreBytes, AsksSomething}
+use Rattle.cs_varint.specs.Bytes.{AreBytes}
+use Rattle.cs_hub.specs.Laws.{AsksSomething}
 use Rattle.cs_hub.specs.Messages.{four_bytes, eight_bytes, push_numbers, pull_numbers, push_tag, pull_tag, FitsPush, FitsPull, Asked, AsksPush, AsksPull, AsksNothing, Asks}
 use Rattle.cs_hub.specs.declared.push.PushHead.{PushHead}
 use Rattle.cs_hub.specs.declared.request.RequestFault.TheVariants.{Truncated, BadTag, TooLong}
 use Rattle.cs_hub.proofs.Bytes.{AreSmall, after_four, after_eight, eight_front, four_front, small_take}
-
-small_all : (bytes : List ℕ) → AreBytes bytes → AreSmall bytes
-small_all [] all i = lit< tt
-small_all (b ∷ bytes) all zero = all.0
-small_all (b ∷ bytes) all (suc i) = small_all bytes all.1 i
 
 small_drop : (n : ℕ) (bytes : List ℕ) → AreSmall bytes → AreSmall (drop n bytes)
 small_drop zero bytes small i = small i
@@ -122,9 +118,9 @@ pub asks_something : AsksSomething
 asks_something [] all = (AsksNothing Truncated, inl refl)
 asks_something (tag ∷ rest) all =
     elim (eqb_tells tag push_tag) [
-      | inl (e, is) ↦ subst (λ (t : ℕ). AsksIt (t ∷ rest)) (sym is) (asks_push rest (small_all rest all.1))
+      | inl (e, is) ↦ subst (λ (t : ℕ). AsksIt (t ∷ rest)) (sym is) (asks_push rest (all.1))
       | inr (e, no_push) ↦ elim (eqb_tells tag pull_tag) [
-        | inl (f, is) ↦ subst (λ (t : ℕ). AsksIt (t ∷ rest)) (sym is) (asks_pull rest (small_all rest all.1))
+        | inl (f, is) ↦ subst (λ (t : ℕ). AsksIt (t ∷ rest)) (sym is) (asks_pull rest (all.1))
         | inr (f, no_pull) ↦ (AsksNothing BadTag, (tag, rest, refl, no_push, no_pull))
       ]
     ]

@@ -1,4 +1,4 @@
--- Each push has an answer, and each request, as far as changesets are decided.
+-- Each push has an answer, and each request.
 use Rattle.std.proofs.Common.{◌≡◌, ◌⊎◌, inl, inr, ℕ, ◌+◌, ◌<◌, ◌≤◌, Bool, true, false, List, [], ◌∷◌, ◌++◌, length, Option, Some, None, Result, Ok, Err, slice_get, refl, ap, subst, ◌∙◌, arith}
 use Rattle.std.specs.Str.{bytes_eq}
 use Rattle.std.proofs.lemmas.Bool.{cases_lt}
@@ -15,9 +15,11 @@ use Rattle.cs_log.specs.declared.body.Body.{Body}
 use Rattle.cs_log.specs.declared.entry.LogEntry.{LogEntry}
 use Rattle.cs_change.specs.Spelling.{FitsChangeset}
 use Rattle.cs_change.specs.declared.group.Group.{Group}
-use Rattle.cs_normal.specs.Laws.{FitHasForm}
+use Rattle.cs_normal.specs.Laws.{FormOrUnfit}
 use Rattle.cs_hub.specs.Hub.{HubState, entries_from, with_entry}
-use Rattle.cs_hub.specs.Laws.{AreBytes, AsksSomething, BytesDecided, FormDecided, IsOfHub, PushHasAnswer, RequestHasAnswer}
+use Rattle.cs_changeset.specs.Laws.{ChangesetOrFault}
+use Rattle.cs_varint.specs.Bytes.{AreBytes, bytes_behind}
+use Rattle.cs_hub.specs.Laws.{AsksSomething, IsOfHub, PushHasAnswer, RequestHasAnswer}
 use Rattle.cs_hub.specs.Messages.{Asked, AsksPush, AsksPull, AsksNothing, Asks, answer_spelling, eight_bytes, entries_spelling, four_bytes, push_numbers, push_tag}
 use Rattle.cs_hub.specs.Serves.{AnswersAsked, Outcome, TakesBytes, TakesGroups, or_refusal, push_answer, refused}
 use Rattle.cs_hub.specs.declared.push.PushHead.{PushHead}
@@ -140,48 +142,46 @@ push_has_answer decided one limit old push hub fits =
 abbrev Takes : ℕ → HubState → PushHead → (Outcome → HubState → Type 0) → Type 0
 Takes limit old head holds = (outcome : Outcome) × (new : HubState) × holds outcome new
 
-of_groups : PushHasAnswer → FitHasForm → FormDecided → (limit : ℕ) (old : HubState) (head : PushHead) (groups : List Group) → IsOfHub old → FitsChangeset groups → Takes limit old head (TakesGroups limit old head groups)
-of_groups pushes has decided limit old head groups hub fits =
+of_groups : PushHasAnswer → FormOrUnfit → (limit : ℕ) (old : HubState) (head : PushHead) (groups : List Group) → IsOfHub old → FitsChangeset groups → Takes limit old head (TakesGroups limit old head groups)
+of_groups pushes decided limit old head groups hub fits =
     elim (decided old.opening groups hub.tables fits) [
       | inr (fault, some, wrong) ↦ (Err (NoForm fault), old, inl (fault, some, wrong, refl, refl))
-      | inl fit ↦
-          let form = has old.opening groups hub.tables fits fit in
+      | inl form ↦
           let told = pushes limit old (record { head = head; changes = form.0 }) hub (form.1.normal, form.1.of_catalog) in
           (or_refusal told.0, told.1, inr (form.0, form.1, (told.0, told.2, refl)))
     ]
 
-of_bytes : PushHasAnswer → FitHasForm → BytesDecided → FormDecided → (limit : ℕ) (old : HubState) (head : PushHead) (bytes : List ℕ) → IsOfHub old → AreBytes bytes → Takes limit old head (TakesBytes limit old head bytes)
-of_bytes pushes has read decided limit old head bytes hub small =
+of_bytes : PushHasAnswer → ChangesetOrFault → FormOrUnfit → (limit : ℕ) (old : HubState) (head : PushHead) (bytes : List ℕ) → IsOfHub old → AreBytes bytes → Takes limit old head (TakesBytes limit old head bytes)
+of_bytes pushes read decided limit old head bytes hub small =
     elim (read bytes small) [
       | inr (fault, offset, wrong) ↦ (Err (NoChangeset fault), old, inl (fault, offset, wrong, refl, refl))
       | inl (groups, fits, is) ↦
-          let taken = of_groups pushes has decided limit old head groups hub fits in
+          let taken = of_groups pushes decided limit old head groups hub fits in
           (taken.0, taken.1, inr (groups, fits, is, taken.2))
     ]
-
-small_behind : (front bytes : List ℕ) → AreBytes (front ++ bytes) → AreBytes bytes
-small_behind [] bytes all = all
-small_behind (b ∷ front) bytes all = small_behind front bytes all.1
 
 -- the bytes of a changeset stand in those of its push
 small_changeset : (head : PushHead) (size : ℕ) (bytes : List ℕ) → AreBytes (push_tag ∷ push_numbers head size bytes) → AreBytes bytes
 small_changeset head size bytes all =
-    small_behind (four_bytes size) bytes (small_behind (eight_bytes head.base) _ (small_behind (eight_bytes head.number) _ (small_behind (four_bytes head.origin) _ all.1)))
+    bytes_behind (four_bytes size) bytes
+    (bytes_behind (eight_bytes head.base) _
+    (bytes_behind (eight_bytes head.number) _
+    (bytes_behind (four_bytes head.origin) _ (bytes_behind (push_tag ∷ []) _ all))))
 
-of_asked : PushHasAnswer → FitHasForm → BytesDecided → FormDecided → (limit : ℕ) (old : HubState) (request : List ℕ) (asked : Asked) → IsOfHub old → AreBytes request → Asks request asked → (answer : List ℕ) × (new : HubState) × AnswersAsked limit old asked answer new
-of_asked pushes has read decided limit old request (AsksNothing fault) hub small asks = (refused (NoRequest fault), old, (refl, refl))
-of_asked pushes has read decided limit old request (AsksPull first count) hub small asks =
+of_asked : PushHasAnswer → ChangesetOrFault → FormOrUnfit → (limit : ℕ) (old : HubState) (request : List ℕ) (asked : Asked) → IsOfHub old → AreBytes request → Asks request asked → (answer : List ℕ) × (new : HubState) × AnswersAsked limit old asked answer new
+of_asked pushes read decided limit old request (AsksNothing fault) hub small asks = (refused (NoRequest fault), old, (refl, refl))
+of_asked pushes read decided limit old request (AsksPull first count) hub small asks =
     elim (cases_lt (length old.log) first) [
       | inl above ↦ (refused (ByHub Ahead), old, (inl (above, refl), refl))
       | inr within ↦ (entries_spelling first (entries_from first count old.log), old, (inr (within, refl), refl))
     ]
-of_asked pushes has read decided limit old request (AsksPush head changeset) hub small asks =
+of_asked pushes read decided limit old request (AsksPush head changeset) hub small asks =
     let bytes : AreBytes changeset = small_changeset head (length changeset) changeset (subst AreBytes asks.1 small) in
-    let taken = of_bytes pushes has read decided limit old head changeset hub bytes in
+    let taken = of_bytes pushes read decided limit old head changeset hub bytes in
     (answer_spelling (push_answer head taken.0), taken.1, (taken.0, taken.2, refl))
 
-pub request_has_answer : AsksSomething → PushHasAnswer → FitHasForm → RequestHasAnswer
-request_has_answer asks pushes has read decided limit old request hub small =
+pub request_has_answer : AsksSomething → PushHasAnswer → ChangesetOrFault → FormOrUnfit → RequestHasAnswer
+request_has_answer asks pushes read decided limit old request hub small =
     let asked = asks request small in
-    let told = of_asked pushes has read decided limit old request asked.0 hub small asked.1 in
+    let told = of_asked pushes read decided limit old request asked.0 hub small asked.1 in
     (told.0, told.1, (asked.0, asked.1, told.2))

@@ -1,6 +1,7 @@
 -- The laws of requests, pushes and what a hub answers.
 use Rattle.std.specs.Prelude.{◌≡◌, ◌≢◌, ◌⊎◌, ℕ, ◌<◌, List, Result}
 use Rattle.std.specs.List.{AllByRecursion}
+use Rattle.cs_varint.specs.Bytes.{AreBytes}
 use Rattle.cs_value.specs.Catalog.{AreTables}
 use Rattle.cs_value.specs.declared.catalog.TableDef.{TableDef}
 use Rattle.cs_change.specs.Spelling.{FitsChangeset, changeset_spelling}
@@ -55,9 +56,6 @@ OneHubRun limit =
 
 -- ---- there is an answer
 
-abbrev pub AreBytes : List ℕ → Type 0
-AreBytes bytes = AllByRecursion (λ byte. byte < 256) bytes
-
 -- bytes ask something: a push, a pull, or nothing, where they have a fault
 abbrev pub AsksSomething : Type 0
 AsksSomething = (bytes : List ℕ) → AreBytes bytes → (asked : Asked) × Asks bytes asked
@@ -75,27 +73,10 @@ PushHasAnswer =
     → AreChangesOf (judging old push.head.base) push.changes
     → (answer : Result Pushed HubFault) × (new : HubState) × Pushes limit old push answer new
 
--- bytes spell a changeset, or have a fault
-abbrev pub BytesDecided : Type 0
-BytesDecided =
-    (bytes : List ℕ) → AreBytes bytes
-    → ((groups : List Group) × FitsChangeset groups × (bytes ≡ changeset_spelling groups))
-    ⊎ ((fault : Fault) × (offset : ℕ) × IsChangesetFault fault offset bytes)
-
--- a changeset fits tables, or has a refusal
-abbrev pub FormDecided : Type 0
-FormDecided =
-    (tables : List TableDef) (groups : List Group)
-    → AreTables tables
-    → FitsChangeset groups
-    → AreFit tables groups ⊎ ((fault : Unfit) × (fault ≢ unfit.Memory) × IsUnfit fault tables groups)
-
--- where it is decided of bytes whether they spell a changeset, and of a changeset whether it fits, a request has an answer
+-- a request has an answer, whatever its bytes
 abbrev pub RequestHasAnswer : Type 0
 RequestHasAnswer =
-    BytesDecided
-    → FormDecided
-    → (limit : ℕ) (old : HubState) (request : List ℕ)
+    (limit : ℕ) (old : HubState) (request : List ℕ)
     → IsOfHub old
     → AreBytes request
     → (answer : List ℕ) × (new : HubState) × Serves limit old request answer new

@@ -7,7 +7,7 @@ ghost use Rattle.cs_hub.specs.declared.hub.TheConstants.{MAX_ENTRIES};
 use crate::Hub;
 use cs_changeset::laws::changesets;
 use cs_log::laws::{defined_or_not, one_body};
-use cs_normal::laws::{fit_has_form, no_fault_where_fit, one_normal_form, one_unfit};
+use cs_normal::laws::{form_or_unfit, no_fault_where_fit, one_normal_form, one_unfit};
 
 /// How many entries a hub's log may have.
 pub fn most_entries()
@@ -32,14 +32,14 @@ pub fn push_has_answer()
     one_body();
 }
 
-/// There is an answer to each request, where it is decided of bytes whether they spell a changeset, and of a changeset whether
-/// it fits.
+/// There is an answer to each request, whatever its bytes.
 pub fn request_has_answer()
     ensures { RequestHasAnswer }
 {
     asks_something();
     push_has_answer();
-    fit_has_form();
+    changesets();
+    form_or_unfit();
 }
 
 /// The answer to a push, and the hub after it, are determined by the hub and the push.

@@ -6,9 +6,10 @@ use cs_apply::{Applied, ApplyFault, apply};
 use cs_changeset::read;
 use cs_conflict::{Conflict, Resolution};
 use cs_group::normalise_alone;
+use cs_map_store::MapStore;
 use cs_normal::{Normal, normalise};
 use cs_rebaser::*;
-use cs_store::{Batch, MapStore, RowStore};
+use cs_store::{Batch, RowStore};
 use cs_value::{Catalog, Items, Memory, TableDef, Text};
 use std::alloc::Global;
 use std::process::Abort;
@@ -467,6 +468,7 @@ fn one_table(alloc: Global) -> Result<Option<Catalog>, Memory> {
 fn commit(alloc: Global, store: &mut MapStore, applied: Applied) -> Option<Vec<u8>> {
     let batch = Batch {
         rows: applied.edits,
+        pending: Vec::new(alloc),
         meta: Vec::new(alloc),
         log: None,
     };
