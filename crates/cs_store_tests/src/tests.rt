@@ -73,8 +73,7 @@ const NEXT_ENTRY: Entry<'static> = (u32::MAX, u64::MAX, b"two");
 
 /// What a store shows after the first commit, and after both: the rows of five tables, their pending changes, the values, and
 /// the entries.
-const FIRST_SHOWN: &[u8] =
-    b"1=x;10=y;|1=gone;||9=z;|1=a;2=c;|1=r;||1=p;||2=s;|...f..|7.1=one;|";
+const FIRST_SHOWN: &[u8] = b"1=x;10=y;|1=gone;||9=z;|1=a;2=c;|1=r;||1=p;||2=s;|...f..|7.1=one;|";
 
 const NEXT_SHOWN: &[u8] =
     b"=;1=other;10=y;|||9=z;|1=a;2=c;|=;1=r;|1=t;|1=p;|||..n...|7.1=one;4294967295.18446744073709551615=two;|";
@@ -129,15 +128,31 @@ fn batch(
 }
 
 fn first_batch(alloc: Global) -> Result<Batch, AllocError> {
-    batch(alloc, &FIRST_ROWS, &FIRST_PENDING, &FIRST_META, Some(FIRST_ENTRY))
+    batch(
+        alloc,
+        &FIRST_ROWS,
+        &FIRST_PENDING,
+        &FIRST_META,
+        Some(FIRST_ENTRY),
+    )
 }
 
 fn next_batch(alloc: Global) -> Result<Batch, AllocError> {
-    batch(alloc, &NEXT_ROWS, &NEXT_PENDING, &NEXT_META, Some(NEXT_ENTRY))
+    batch(
+        alloc,
+        &NEXT_ROWS,
+        &NEXT_PENDING,
+        &NEXT_META,
+        Some(NEXT_ENTRY),
+    )
 }
 
 /// Writes a body that is listed, if a call for its key found the same.
-fn put_body(image: &mut Vec<u8>, listed: &StoredBody, found: Option<Vec<u8>>) -> Result<(), AllocError> {
+fn put_body(
+    image: &mut Vec<u8>,
+    listed: &StoredBody,
+    found: Option<Vec<u8>>,
+) -> Result<(), AllocError> {
     image.extend_from_slice(listed.key.as_slice())?;
     image.push(b'=')?;
     if let Some(body) = found {
@@ -150,7 +165,11 @@ fn put_body(image: &mut Vec<u8>, listed: &StoredBody, found: Option<Vec<u8>>) ->
 }
 
 /// The rows of a table, each also got by its key.
-fn put_table<S: RowStore>(image: &mut Vec<u8>, store: &mut S, table: u32) -> Result<(), StoreFault> {
+fn put_table<S: RowStore>(
+    image: &mut Vec<u8>,
+    store: &mut S,
+    table: u32,
+) -> Result<(), StoreFault> {
     for listed in &store.list(table)? {
         let found = store.get(table, listed.key.as_slice())?;
         put_body(image, listed, found)?;
@@ -160,7 +179,11 @@ fn put_table<S: RowStore>(image: &mut Vec<u8>, store: &mut S, table: u32) -> Res
 }
 
 /// The pending changes of a table, each also got by its key.
-fn put_pending<S: RowStore>(image: &mut Vec<u8>, store: &mut S, table: u32) -> Result<(), StoreFault> {
+fn put_pending<S: RowStore>(
+    image: &mut Vec<u8>,
+    store: &mut S,
+    table: u32,
+) -> Result<(), StoreFault> {
     for listed in &store.pend_list(table)? {
         let found = store.pend_get(table, listed.key.as_slice())?;
         put_body(image, listed, found)?;
@@ -275,12 +298,7 @@ const BODY: &[u8] = &[
 const OTHER_BODY: &[u8] = &[7, 0x54, 2, 1, 0, 0x74, 0x31, 0];
 
 /// Whether a store with this row, this pending change and this entry is found whole.
-fn is_whole(
-    alloc: Global,
-    row: Edit<'_>,
-    change: Edit<'_>,
-    body: &[u8],
-) -> Result<bool, Fail> {
+fn is_whole(alloc: Global, row: Edit<'_>, change: Edit<'_>, body: &[u8]) -> Result<bool, Fail> {
     let mut store = MapStore::new(alloc);
     store.commit(&batch(alloc, &[row], &[change], &FIRST_META, Some((7, 1, body)))?)?;
     Ok(store.check(&catalog(alloc)?)?)
@@ -317,7 +335,12 @@ fn a_store_is_whole_where_all_is_what_its_place_says(rt: HostRuntime) -> Result<
 }
 
 /// A call of each kind, by its number.
-fn call<S: RowStore>(store: &mut S, catalog: &Catalog, next: &Batch, number: u64) -> Result<(), StoreFault> {
+fn call<S: RowStore>(
+    store: &mut S,
+    catalog: &Catalog,
+    next: &Batch,
+    number: u64,
+) -> Result<(), StoreFault> {
     match number {
         0 => store.get(0, b"1").map(|_row| ()),
         1 => store.list(0).map(|_rows| ()),
@@ -391,7 +414,13 @@ fn what_is_written_is_counted_where_a_commit_succeeds(rt: HostRuntime) -> Result
 /// A batch of so many rows and as many pending changes in two tables, of which each fifth is removed, with a value and an
 /// entry of the log.
 fn many(alloc: Global, count: u8, body: &[u8]) -> Result<Batch, AllocError> {
-    let mut made = batch(alloc, &[], &[], &[(MetaName::Number, Some(body))], Some((1, 1, body)))?;
+    let mut made = batch(
+        alloc,
+        &[],
+        &[],
+        &[(MetaName::Number, Some(body))],
+        Some((1, 1, body)),
+    )?;
     for number in 0..count {
         let table = if number % 2 == 0 { 0 } else { LAST };
         let key = [number.wrapping_mul(37)];
