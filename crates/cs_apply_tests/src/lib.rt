@@ -1,6 +1,8 @@
-//! Tests of `apply` (`cs_apply`), by their public calls. They stand in a crate of their own since a crate with tests is
-//! proved twice. Nothing stands on it.
+//! Tests of `apply` (`cs_apply`), by its public calls. They stand in a crate of their own since a crate with tests is proved
+//! twice. Nothing stands on it. `trying` uses the law of a closure that always aborts.
 #![tactic(auto)]
+
+pub mod trying;
 
 #[cfg(test)]
 mod tests;

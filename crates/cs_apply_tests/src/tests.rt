@@ -1,10 +1,12 @@
 //! Changesets over a store in memory, beside rows and answers that were written by hand.
 
+use crate::trying::try_push;
 use cs_apply::*;
 use cs_change::{Change, Changeset};
 use cs_changeset::read;
 use cs_conflict::{Conflict, ConflictBuf, Kind, Resolution};
 use cs_map_store::MapStore;
+use cs_normal::normalise;
 use cs_record::Row;
 use cs_store::{Batch, PlaceEdit, RowStore, Trip};
 use cs_value::{Catalog, Items, Memory, TableDef, Text};
@@ -223,6 +225,42 @@ fn told(alloc: Global, bytes: &[u8], answers: &[Resolution]) -> Result<Vec<u8>, 
         }
     }
     Ok(out)
+}
+
+/// What trying these bytes as a push answers.
+fn tried(alloc: Global, bytes: &[u8]) -> Result<Vec<u8>, Memory> {
+    let mut out = Vec::new(alloc);
+    let Some(catalog) = catalog(alloc)? else {
+        return Ok(out);
+    };
+    let Ok(changeset) = read(alloc, bytes) else {
+        return Ok(out);
+    };
+    let Ok(push) = normalise(alloc, &catalog, &changeset) else {
+        return Ok(out);
+    };
+    if !push.fits(&catalog) {
+        return Ok(out);
+    }
+    let mut store = store(alloc)?;
+    match try_push(alloc, &mut store, &catalog, &push) {
+        Ok(applied) => put_applied(&applied, &mut out)?,
+        Err(fault) => put_fault(&fault, &mut out)?,
+    }
+    Ok(out)
+}
+
+#[test]
+fn pushes_are_tried(rt: HostRuntime) -> Result<(), Fail> {
+    let alloc = rt.alloc();
+    let defined = group(alloc, FIRST, &[(DELETE, 1, b"v1"), (INSERT, 2, b"a")])?;
+    assert_eq!(rt; tried(alloc, &defined)?.as_slice(), "01- 02=a  0".as_bytes());
+    let conflicting = group(alloc, FIRST, &[(INSERT, 2, b"a"), (INSERT, 1, b"z")])?;
+    assert_eq!(rt;
+        tried(alloc, &conflicting)?.as_slice(),
+        "Aborted30+1z 1v1".as_bytes()
+    );
+    Ok(())
 }
 
 #[test]

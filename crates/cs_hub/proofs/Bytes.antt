@@ -3,6 +3,7 @@ use Rattle.std.proofs.Common.{◌≡◌, ℕ, zero, suc, ◌+◌, ◌<◌, ◌�
 use Rattle.std.specs.Int.{w32, w64, from_be_bytes}
 use Rattle.std.proofs.lemmas.Nat.{be_bytes_4, be_bytes_8}
 use Rattle.std.proofs.lemmas.List.{take-append-drop}
+use Rattle.cs_varint.specs.Bytes.{AreBytes}
 use Rattle.cs_hub.specs.Messages.{four_bytes, eight_bytes}
 
 pub four_length : (number : ℕ) → length (four_bytes number) ≡ 4
@@ -13,22 +14,19 @@ pub eight_length : (number : ℕ) → length (eight_bytes number) ≡ 8
 unfolding eight_bytes
 eight_length number = refl
 
-abbrev pub AreSmall : List ℕ → Type 0
-AreSmall bytes = (i : ℕ) → get_or bytes i 0 < 256
-
-pub small_take : (n : ℕ) (bytes : List ℕ) → AreSmall bytes → AreSmall (take n bytes)
+pub small_take : (n : ℕ) (bytes : List ℕ) → AreBytes bytes → AreBytes (take n bytes)
 small_take zero bytes small i = lit< tt
 small_take (suc n) [] small i = lit< tt
 small_take (suc n) (b ∷ bytes) small zero = small zero
 small_take (suc n) (b ∷ bytes) small (suc i) = small_take n bytes (λ j. small (suc j)) i
 
-pub four_front : (bytes front : List ℕ) (number : ℕ) → front ≡ take 4 bytes → 4 ≤ length bytes → AreSmall bytes → number ≡ from_be_bytes w32 front → bytes ≡ four_bytes number ++ drop 4 bytes
+pub four_front : (bytes front : List ℕ) (number : ℕ) → front ≡ take 4 bytes → 4 ≤ length bytes → AreBytes bytes → number ≡ from_be_bytes w32 front → bytes ≡ four_bytes number ++ drop 4 bytes
 unfolding four_bytes
 four_front bytes front number is long small read =
     let back : number ≡ from_be_bytes w32 (take 4 bytes) = read ∙ ap (from_be_bytes w32) is in
     sym (take-append-drop 4 bytes) ∙ ap (λ (f : List ℕ). f ++ drop 4 bytes) (sym (be_bytes_4 (take 4 bytes) number (length-take-le 4 bytes long) (small_take 4 bytes small) back))
 
-pub eight_front : (bytes front : List ℕ) (number : ℕ) → front ≡ take 8 bytes → 8 ≤ length bytes → AreSmall bytes → number ≡ from_be_bytes w64 front → bytes ≡ eight_bytes number ++ drop 8 bytes
+pub eight_front : (bytes front : List ℕ) (number : ℕ) → front ≡ take 8 bytes → 8 ≤ length bytes → AreBytes bytes → number ≡ from_be_bytes w64 front → bytes ≡ eight_bytes number ++ drop 8 bytes
 unfolding eight_bytes
 eight_front bytes front number is long small read =
     let back : number ≡ from_be_bytes w64 (take 8 bytes) = read ∙ ap (from_be_bytes w64) is in
