@@ -79,7 +79,11 @@ fn batch_of(alloc: Global, rows: Vec<PlaceEdit>) -> Batch {
     }
 }
 
-pub fn commit_edits(alloc: Global, store: &mut MapStore, edits: Vec<PlaceEdit>) -> Result<(), Wrong> {
+pub fn commit_edits(
+    alloc: Global,
+    store: &mut MapStore,
+    edits: Vec<PlaceEdit>,
+) -> Result<(), Wrong> {
     match store.commit(&batch_of(alloc, edits)) {
         Ok(()) => Ok(()),
         Err(_) => Err(Wrong::Memory),

@@ -2,7 +2,6 @@
 //! twice. Nothing stands on it. `trying` uses the law of a closure that always aborts.
 #![tactic(auto)]
 
-pub mod trying;
-
 #[cfg(test)]
 mod tests;
+pub mod trying;

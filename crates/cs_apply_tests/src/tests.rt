@@ -254,7 +254,10 @@ fn tried(alloc: Global, bytes: &[u8]) -> Result<Vec<u8>, Memory> {
 fn pushes_are_tried(rt: HostRuntime) -> Result<(), Fail> {
     let alloc = rt.alloc();
     let defined = group(alloc, FIRST, &[(DELETE, 1, b"v1"), (INSERT, 2, b"a")])?;
-    assert_eq!(rt; tried(alloc, &defined)?.as_slice(), "01- 02=a  0".as_bytes());
+    assert_eq!(rt;
+        tried(alloc, &defined)?.as_slice(),
+        "01- 02=a  0".as_bytes()
+    );
     let conflicting = group(alloc, FIRST, &[(INSERT, 2, b"a"), (INSERT, 1, b"z")])?;
     assert_eq!(rt;
         tried(alloc, &conflicting)?.as_slice(),

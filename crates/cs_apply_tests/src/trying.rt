@@ -59,8 +59,6 @@ pub fn try_push<S: RowStore>(
         push,
         &mut |_shown: &Conflict<'_>| -> Resolution
             ensures { result ≡ Abort }
-        {
-            Resolution::Abort
-        },
+        { Resolution::Abort },
     )
 }

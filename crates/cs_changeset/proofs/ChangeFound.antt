@@ -55,15 +55,19 @@ module _ (columns : ColumnsOrFault) where
   new_or_fault marks bytes rest old right e are =
       elim (columns (new_rules marks old) rest are) [
         | inl (new, more, right', f) ↦ inl (old, new, more, right, right', e ∙ ap (λ (t : List ℕ). record_of old ++ t) f ∙ sym (append_assoc (record_of old) (record_of new) more))
-        | inr (fault, inner, told) ↦ inr (fault, length (record_of old) + inner, inr (record {
-          before = old;
-          rest = rest;
-          inner = inner;
-          whole = right;
-          parts = e;
-          wrong = told;
-          there = refl;
-        }))
+        | inr (fault, inner, told) ↦ inr (
+          fault,
+          length (record_of old) + inner,
+          inr (record {
+            before = old;
+            rest = rest;
+            inner = inner;
+            whole = right;
+            parts = e;
+            wrong = told;
+            there = refl;
+          }),
+        )
       ]
 
   update_or_fault : (marks : List Bool) (bytes : List ℕ) → AreBytes bytes → UpdateAhead marks bytes ⊎ HasFault (IsUpdateFault marks) bytes
@@ -127,7 +131,7 @@ module _ (columns : ColumnsOrFault) where
             | inl is ↦ flag_or_fault marks first rest (inr (inr is)) behind
             | inr no_update ↦ elim (cases_eq first 80) [
               | inl is ↦ inr (Patchset, 0, inr (inl (is, refl, refl)))
-              | inr no_patchset ↦ inr (BadOperation, 0, inr (inr (elim [ | inl is ↦ no_insert is | inr (inl is) ↦ no_delete is | inr (inr is) ↦ no_update is ], no_patchset, other, refl, refl)))
+              | inr no_patchset ↦ inr (BadOperation, 0, inr (inr (elim [ inl is ↦ no_insert is | inr (inl is) ↦ no_delete is | inr (inr is) ↦ no_update is ], no_patchset, other, refl, refl)))
             ]
           ]
         ]

@@ -22,15 +22,19 @@ column_before : (rule : Rule) (rules : List Rule) (bytes rest : List ℕ) (value
     → BeginsWith record_of (AreRight (rule ∷ rules)) bytes ⊎ HasFault (IsColumnsFault (rule ∷ rules)) bytes
 column_before rule rules bytes rest value right e (inl (columns, more, are, f)) =
     inl (value ∷ columns, more, (right, are), e ∙ ap (λ (t : List ℕ). field value ++ t) f ∙ sym (append_assoc (field value) (record_of columns) more))
-column_before rule rules bytes rest value right e (inr (fault, inner, told)) = inr (fault, length (field value) + inner, inr (record {
-  before = value;
-  rest = rest;
-  inner = inner;
-  whole = right;
-  parts = e;
-  wrong = told;
-  there = refl;
-}))
+column_before rule rules bytes rest value right e (inr (fault, inner, told)) = inr (
+  fault,
+  length (field value) + inner,
+  inr (record {
+    before = value;
+    rest = rest;
+    inner = inner;
+    whole = right;
+    parts = e;
+    wrong = told;
+    there = refl;
+  }),
+)
 
 module _ (fields : FieldLaws) where
   pub columns_or_fault : ColumnsOrFault

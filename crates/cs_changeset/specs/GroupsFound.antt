@@ -32,26 +32,34 @@ module _ {X : Type 0} (sp : X → List ℕ) (IsWhole : X → Type 0) (IsWrong : 
   Behind bytes = HasFault (FaultBehind (flat_map sp) (AllByRecursion IsWhole) (λ _. IsWrong)) bytes
 
   wrong_at_once : (bytes : List ℕ) → HasFault IsWrong bytes → Behind bytes
-  wrong_at_once bytes (fault, offset, told) = (fault, offset, record {
-    before = [];
-    rest = bytes;
-    inner = offset;
-    whole = tt;
-    parts = refl;
-    wrong = told;
-    there = omega arith;
-  })
+  wrong_at_once bytes (fault, offset, told) = (
+    fault,
+    offset,
+    record {
+      before = [];
+      rest = bytes;
+      inner = offset;
+      whole = tt;
+      parts = refl;
+      wrong = told;
+      there = omega arith;
+    },
+  )
 
   wrong_more : (bytes more : List ℕ) (x : X) → IsWhole x → bytes ≡ sp x ++ more → Behind more → Behind bytes
-  wrong_more bytes more x is e (fault, offset, told) = (fault, length (flat_map sp (x ∷ told.before)) + told.inner, record {
-    before = x ∷ told.before;
-    rest = told.rest;
-    inner = told.inner;
-    whole = (is, told.whole);
-    parts = spelled_more sp bytes more told.rest x told.before e told.parts;
-    wrong = told.wrong;
-    there = refl;
-  })
+  wrong_more bytes more x is e (fault, offset, told) = (
+    fault,
+    length (flat_map sp (x ∷ told.before)) + told.inner,
+    record {
+      before = x ∷ told.before;
+      rest = told.rest;
+      inner = told.inner;
+      whole = (is, told.whole);
+      parts = spelled_more sp bytes more told.rest x told.before e told.parts;
+      wrong = told.wrong;
+      there = refl;
+    },
+  )
 
 module _ {E G : Type 0} (spelled : E → List ℕ) (FitsEntry : List Bool → E → Type 0)
     (IsWrong : List Bool → Fault → ℕ → List ℕ → Type 0) (marks name : G → List ℕ) (entries : G → List E)
@@ -125,15 +133,19 @@ module _ {E G : Type 0} (spelled : E → List ℕ) (FitsEntry : List Bool → E 
       }
 
   body_wrong : (bytes m n rest : List ℕ) → FitsHeader m n → bytes ≡ header_spelling m n ++ rest → EntriesWrong (marks_of m) rest → HasFault IsGroupWrong bytes
-  body_wrong bytes m n rest header e (fault, inner, told) = (fault, length (header_spelling m n) + inner, inr (record {
-    before = (m, n);
-    rest = rest;
-    inner = inner;
-    whole = header;
-    parts = e;
-    wrong = told;
-    there = refl;
-  }))
+  body_wrong bytes m n rest header e (fault, inner, told) = (
+    fault,
+    length (header_spelling m n) + inner,
+    inr (record {
+      before = (m, n);
+      rest = rest;
+      inner = inner;
+      whole = header;
+      parts = e;
+      wrong = told;
+      there = refl;
+    }),
+  )
 
   group_found : (behind : List ℕ) → AreBytes behind → Front (84 ∷ behind) ⊎ HasFault IsGroupWrong (84 ∷ behind)
   group_found behind are =

@@ -29,10 +29,10 @@ impl Model for ConflictBuf {
     ghost Value = { Shown };
 
     ghost view = { λ here. record {
-        kind = here.kind;
-        table = here.table;
-        change = the_one here.changes here.one;
-        row = here.row;
+      kind = here.kind;
+      table = here.table;
+      change = the_one here.changes here.one;
+      row = here.row;
     } };
 }
 

@@ -95,7 +95,7 @@ behind_first key k keys rising less rest = record {
   rising = cons_sorted k rest.keys (rest.above k less (sorted_head by_bytes k keys rising)) rest.rising;
   above = λ low below all. (all.0, rest.above low below all.1);
   new = λ q e. among_rest q k rest.keys (rest.new q e);
-  old = λ q h. elim (first_or_rest q k keys h) [ | inl e ↦ among_first q k rest.keys e | inr h ↦ among_rest q k rest.keys (rest.old q h) ];
+  old = λ q h. elim (first_or_rest q k keys h) [ inl e ↦ among_first q k rest.keys e | inr h ↦ among_rest q k rest.keys (rest.old q h) ];
 }
 
 with_key : (key : List ℕ) (keys : Keys) → IsStrictlySortedBy by_bytes keys → WithKey key keys
@@ -128,7 +128,7 @@ in_order (key ∷ all) =
     record {
       keys = more.keys;
       rising = more.rising;
-      each = λ q h. elim (first_or_rest q key all h) [ | inl e ↦ more.new q e | inr h ↦ more.old q (rest.each q h) ];
+      each = λ q h. elim (first_or_rest q key all h) [ inl e ↦ more.new q e | inr h ↦ more.old q (rest.each q h) ];
     }
 
 -- ---- the changes of one table, taken together
@@ -139,7 +139,7 @@ all_keys (changes ∷ lists) = keys_of changes ++ all_keys lists
 
 among_front : (q : List ℕ) (front rest : Keys) → IsAmong q front → IsAmong q (front ++ rest)
 among_front q [] rest h = cc
-among_front q (k ∷ front) rest h = elim (first_or_rest q k front h) [ | inl e ↦ among_first q k (front ++ rest) e | inr h ↦ among_rest q k (front ++ rest) (among_front q front rest h) ]
+among_front q (k ∷ front) rest h = elim (first_or_rest q k front h) [ inl e ↦ among_first q k (front ++ rest) e | inr h ↦ among_rest q k (front ++ rest) (among_front q front rest h) ]
 
 among_behind : (q : List ℕ) (front rest : Keys) → IsAmong q rest → IsAmong q (front ++ rest)
 among_behind q [] rest h = h
@@ -162,13 +162,15 @@ none_together marks q (changes ∷ lists) none =
 together : (marks : List Bool) (lists : List Changes) → (joined : Changes) × AreTakenTogether marks lists joined
 together marks lists =
     let left : List ℕ → Option Change = λ q. fold (then_form marks) None (map (change_at q) lists) in
-    let ordered = in_order (all_keys lists) in
-    (listing left ordered.keys, record {
-      ordered = listing_sorted left ordered.keys ordered.rising;
-      at_key = λ q.
-          found_at left q ordered.keys (IsDistinct-from_sorted by_bytes ordered.keys ordered.rising)
-          ∙ by_bool (list_any (same_bytes q) ordered.keys) (λ e. rw e refl) (λ e. rw e (sym (none_together marks q lists (λ h. let there = ordered.each q h in cc))));
-    })
+    let ordered = in_order (all_keys lists) in (
+      listing left ordered.keys,
+      record {
+        ordered = listing_sorted left ordered.keys ordered.rising;
+        at_key = λ q.
+            found_at left q ordered.keys (IsDistinct-from_sorted by_bytes ordered.keys ordered.rising)
+            ∙ by_bool (list_any (same_bytes q) ordered.keys) (λ e. rw e refl) (λ e. rw e (sym (none_together marks q lists (λ h. let there = ordered.each q h in cc))));
+      },
+    )
 
 -- ---- all tables
 

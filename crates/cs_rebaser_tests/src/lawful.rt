@@ -161,8 +161,6 @@ pub fn apply_over_local<S: RowStore>(
         sides,
         &mut |conflict: &Conflict<'_>| -> Resolution
             ensures { result ≢ Abort → result ≡ over (local_beside catalog.entry.now local.entry.now conflict.now) conflict.now.kind }
-        {
-            over_local(alloc, catalog, local, conflict)
-        },
+        { over_local(alloc, catalog, local, conflict) },
     )
 }

@@ -3,6 +3,5 @@
 #![tactic(auto)]
 
 pub mod lawful;
-
 #[cfg(test)]
 mod tests;

@@ -137,31 +137,38 @@ record_more count bytes more value fits e (fields, len, (wide, all, at)) =
 fault_more : (count : ℕ) (bytes more : List ℕ) (value : Field) → Fits value → bytes ≡ field value ++ more
     → (fault : Fault) × (offset : ℕ) × IsRecordFault count fault offset more
     → (fault : Fault) × (offset : ℕ) × IsRecordFault (suc count) fault offset bytes
-fault_more count bytes more value fits e (fault, offset, told) =
-    (fault, length (record_of (value ∷ told.before)) + told.inner, record {
-      before = value ∷ told.before;
-      rest = told.rest;
-      inner = told.inner;
-      whole = (omega (arith, told.whole.0), (fits, told.whole.1));
-      parts = first_spelled bytes more told.rest value told.before e told.parts;
-      wrong = told.wrong;
-      there = refl;
-    })
+fault_more count bytes more value fits e (fault, offset, told) = (
+  fault,
+  length (record_of (value ∷ told.before)) + told.inner,
+  record {
+    before = value ∷ told.before;
+    rest = told.rest;
+    inner = told.inner;
+    whole = (omega (arith, told.whole.0), (fits, told.whole.1));
+    parts = first_spelled bytes more told.rest value told.before e told.parts;
+    wrong = told.wrong;
+    there = refl;
+  },
+)
 
 module _ (fields : FieldLaws) where
   pub record_or_fault : RecordOrFault
   record_or_fault zero bytes are = inl ([], 0, (refl, tt, stands bytes [] bytes refl))
   record_or_fault (suc count) bytes are =
       elim (fields.found bytes are) [
-        | inr (fault, offset, told) ↦ inr (fault, offset, record {
-          before = [];
-          rest = bytes;
-          inner = offset;
-          whole = (omega arith, tt);
-          parts = refl;
-          wrong = told;
-          there = omega arith;
-        })
+        | inr (fault, offset, told) ↦ inr (
+          fault,
+          offset,
+          record {
+            before = [];
+            rest = bytes;
+            inner = offset;
+            whole = (omega arith, tt);
+            parts = refl;
+            wrong = told;
+            there = omega arith;
+          },
+        )
         | inl (value, len, (fits, at)) ↦
             let e = parts bytes (field value) len at in
             elim (record_or_fault count (drop len bytes) (bytes_rest bytes (field value) (drop len bytes) e are)) [

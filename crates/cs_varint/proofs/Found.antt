@@ -23,15 +23,21 @@ begins_from front [] more short are = inr (rw append-nil (omega arith, more))
 begins_from front (b ∷ rest) more short are =
     elim (cases_lt b (last_values (length front))) [
       | inl small ↦
-          inl (last_values (length front) * with_groups 0 front + b, front ++ b ∷ [], rest, sym (append_assoc front (b ∷ []) rest), record {
-            front = front;
-            last = b;
-            parts = refl;
-            more = more;
-            short = short;
-            small = small;
-            makes = refl;
-          })
+          inl (
+            last_values (length front) * with_groups 0 front + b,
+            front ++ b ∷ [],
+            rest,
+            sym (append_assoc front (b ∷ []) rest),
+            record {
+              front = front;
+              last = b;
+              parts = refl;
+              more = more;
+              short = short;
+              small = small;
+              makes = refl;
+            },
+          )
       | inr large ↦ elim (cases_lt (length front) 8) [
         | inl early ↦
             let above : 128 ≤ b = rw (lt-ltb (length front) 8 early) at large in
