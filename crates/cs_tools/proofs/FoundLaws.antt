@@ -31,7 +31,7 @@ use Rattle.cs_tools.specs.CombinedLines.{AreNotCombined, HasBadLine, HasFaultToC
 use Rattle.cs_tools.specs.Endings.{Owes, Refuses}
 use Rattle.cs_tools.specs.Faults.{IsBadLine, IsNoHex}
 use Rattle.cs_tools.specs.Laws.{IsOfNoLine, TextOrFault}
-use Rattle.cs_tools.specs.RebasedLine.{heads_of_both, HasFaultToRebase, IsNotRebased, IsRebased, TakesBoth}
+use Rattle.cs_tools.specs.RebasedLine.{heads_of_both, IsNotRebased, IsRebased, TakesBoth}
 use Rattle.cs_tools.specs.ShownLine.{RefusesToShow, ShowsFirst}
 use Rattle.cs_tools.specs.SpelledLine.{IsHexOf, SpellsBlob, SpellsChangeset, SpellsInHex, TakesNext}
 use Rattle.cs_tools.specs.WrittenForm.{IsNotWritten, SpellsIn}
