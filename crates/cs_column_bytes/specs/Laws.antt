@@ -1,5 +1,5 @@
 -- The laws of changesets with SQLite's column bytes.
-use Rattle.std.specs.Prelude.{◌≡◌, List, All, length}
+use Rattle.std.specs.Prelude.{◌≡◌, ◌⊎◌, List, All, length}
 use Rattle.std.specs.List.{AllByRecursion, AllZip, flat_map}
 use Rattle.cs_change.specs.Spelling.{changeset_spelling, marks_of, FitsChangeset, FitsHeader}
 use Rattle.cs_change.specs.declared.group.Group.{Group}
@@ -11,6 +11,10 @@ use Rattle.cs_column_bytes.specs.KeyPlaces.{Head, for_sqlite, heads_of, HaveOneO
 -- no headers have one order and two
 abbrev pub OneOrderOrTwo : Type 0
 OneOrderOrTwo = (heads : List Head) → HaveOneOrder heads → HasTwoOrders heads → ⊥
+
+-- there is one: headers have one order, or two
+abbrev pub SomeOrder : Type 0
+SomeOrder = (heads : List Head) → HaveOneOrder heads ⊎ HasTwoOrders heads
 
 -- a header that can be read, and has the table's key columns where it is of its name
 abbrev pub IsHeadOf : Head → TableChanges → Type 0

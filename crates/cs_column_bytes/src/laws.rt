@@ -1,10 +1,15 @@
 //! The laws of changesets with SQLite's column bytes, each the contract of a function that does nothing.
 
-ghost use Rattle.cs_column_bytes.specs.Laws.{HeadsOfCatalog, OneOrderOrTwo, SameLength, StaysTheSame};
+ghost use Rattle.cs_column_bytes.specs.Laws.{HeadsOfCatalog, OneOrderOrTwo, SameLength, SomeOrder, StaysTheSame};
 
 /// No headers have one order of a key's columns and two.
 pub fn one_order_or_two()
     ensures { OneOrderOrTwo }
+{}
+
+/// Headers have one order of a key's columns or two.
+pub fn some_order()
+    ensures { SomeOrder }
 {}
 
 /// With headers of its tables a changeset stays the same but for the column bytes, and the reader takes it.

@@ -1,6 +1,7 @@
 -- The first line of an input is what a read up to a line feed takes.
 use Rattle.std.proofs.Common.{◌≡◌, ℕ, suc, ◌-◌, ◌<◌, Bool, true, false, eqb, ◌&&◌, nat_lt, List, [], ◌∷◌, ◌++◌, inl, inr, cond, length, take, get_or, refl, sym, ap, ◌∙◌, arith}
 use Rattle.std.specs.Io.BufRead.{take_through, drop_through, strip_last, first_piece}
+use Rattle.cs_lines.specs.Laws.{LineOrEnd}
 use Rattle.cs_lines.specs.Reading.{IsCut}
 use Rattle.cs_lines.specs.Lines.{lines_of, onto_first}
 
@@ -69,3 +70,12 @@ pub first_cut : (xs : List ℕ) → 0 < length xs → IsCut xs (first_piece 10 x
 first_cut [] some = absurd (omega arith)
 first_cut (x ∷ []) some = lone_cut (eqb x 10) x refl
 first_cut (x ∷ y ∷ ys) some = longer_cut (eqb x 10) x (y ∷ ys) refl (omega arith) (first_cut (y ∷ ys) (omega arith))
+
+-- so there is a next line, or no byte
+pub line_or_end : LineOrEnd
+line_or_end [] = inr refl
+line_or_end (x ∷ xs) =
+    let bytes = x ∷ xs in
+    let some : 0 < length bytes = omega arith in
+    let rest = drop_through 10 bytes in
+    inl (first_piece 10 bytes, rest, (rest, refl, lines_of-first bytes some, first_cut bytes some))

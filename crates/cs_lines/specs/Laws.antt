@@ -1,5 +1,5 @@
 -- The laws of lines and runs: lines are taken one after another, and have one list of answers.
-use Rattle.std.specs.Prelude.{◌≡◌, ◌≢◌, ℕ, List, [], ◌∷◌, ◌++◌, Option}
+use Rattle.std.specs.Prelude.{◌≡◌, ◌≢◌, ◌⊎◌, ℕ, List, [], ◌∷◌, ◌++◌, Option, Some}
 use Rattle.std.specs.Io.KnownBytes.{IsAtEnd}
 use Rattle.std.specs.List.{AllByRecursion}
 use Rattle.cs_lines.specs.Reading.{AreTaken, TakesLine}
@@ -18,6 +18,12 @@ OneMoreTaken = (input left after : Option (List ℕ)) (lines : List (List ℕ)) 
 abbrev pub AllTaken : Type 0
 AllTaken = (input left : Option (List ℕ)) (lines : List (List ℕ)) → AreTaken input left lines
     → IsAtEnd left → AreAllLines input lines
+
+-- there is one: a next line can be taken off an input, or it is at its end
+abbrev pub LineOrEnd : Type 0
+LineOrEnd =
+    (input : List ℕ)
+    → ((line : List ℕ) × (rest : List ℕ) × TakesLine [] (Some input) (Some rest) line) ⊎ IsAtEnd (Some input)
 
 -- at this state each request has one answer, and one state after it
 abbrev pub HasOneAnswer : {State : Type 0} → (State → List ℕ → List ℕ → State → Type 0) → State → Type 0

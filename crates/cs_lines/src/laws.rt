@@ -1,14 +1,15 @@
 //! The laws of lines and runs, each the contract of a function that does nothing.
 
-ghost use Rattle.cs_lines.specs.Laws.{AllTaken, NoneTaken, OneMoreTaken, OneRun};
+ghost use Rattle.cs_lines.specs.Laws.{AllTaken, LineOrEnd, NoneTaken, OneMoreTaken, OneRun};
 
 use crate::serve::Serve;
 
-/// Lines are taken off an input one after another, until all are taken.
+/// Lines are taken off an input one after another, until all are taken. There is a next one, or the input is at its end.
 pub fn lines_taken()
     ensures none { NoneTaken }
     ensures more { OneMoreTaken }
     ensures all { AllTaken }
+    ensures next { LineOrEnd }
 {}
 
 /// Where each request has one answer, a run's lines have one list of answers, up to want of memory.

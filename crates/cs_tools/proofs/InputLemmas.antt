@@ -13,7 +13,7 @@ use Rattle.cs_change.specs.declared.group.Group.{Group}
 use Rattle.cs_group.specs.Combined.{IsCombined}
 use Rattle.cs_normal.specs.declared.normal.TableChanges.{TableChanges}
 use Rattle.cs_lines.specs.Lines.{hex_line, lines_of}
-use Rattle.cs_lines.specs.Laws.{AllTaken, NoneTaken, OneMoreTaken}
+use Rattle.cs_lines.specs.Laws.{NoneTaken, OneMoreTaken}
 use Rattle.cs_lines.specs.Served.{AreAllLines, AreFirstLines}
 use Rattle.cs_lines.specs.Reading.{AreTaken, TakesLine, StaysInLine}
 use Rattle.cs_lines.specs.declared.serve.TheConstants.{ASKS}
@@ -27,7 +27,7 @@ use Rattle.cs_tools.specs.Faults.{AreBadBytes, IsBadLine, of_codec}
 use Rattle.cs_tools.specs.LinesRead.{AreHexOf, AreRead, AreReadUpTo, HasBadInput, IsNotTaken, SpellAll, TakesBytes, TakesNextBytes}
 use Rattle.cs_tools.specs.RebasedLine.{heads_of_both, IsRebased, Rebases, RebasesLines}
 use Rattle.cs_tools.specs.ShownLine.{RefusesToShow, ShowsBytes, ShowsFirst}
-use Rattle.cs_tools.specs.SpelledLine.{IsHexOf, Spells, TakesNext}
+use Rattle.cs_tools.specs.SpelledLine.{IsHexOf, Spells}
 use Rattle.cs_tools.specs.WrittenForm.{SpellsIn}
 use Rattle.cs_tools.specs.declared.tool.Form.{Form}
 use Rattle.cs_tools.specs.declared.fault.ToolFault.{ToolFault}

@@ -1,6 +1,7 @@
 pub mod EndingLemmas
 pub mod FaultLaws
 pub mod FormLemmas
+pub mod FoundLaws
 pub mod InputLemmas
 pub mod RefusalLemmas
 pub mod TextLaws

@@ -103,3 +103,11 @@ NoFaultWhereOwed =
     → Owes tool (Some input) left text
     → Refuses tool ⊤ (Some input) next told
     → IsOfNoLine told
+
+-- there is one: an input owes a text, or has a fault that its lines are the reason of
+abbrev pub TextOrFault : Type 0
+TextOrFault =
+    (tool : Tool) (input : List ℕ)
+    → (left : Option (List ℕ))
+    × (((text : List ℕ) × Owes tool (Some input) left text)
+    ⊎ ((told : ToolFault) × (IsOfNoLine told → ⊥) × Refuses tool ⊥ (Some input) left told))

@@ -1,6 +1,6 @@
 //! The laws of the tools, each the contract of a function that does nothing.
 
-ghost use Rattle.cs_tools.specs.Laws.{CombinedStaysTheSame, NoFaultWhereOwed, NothingCombinedOfTwoOrders, NothingRebasedOfTwoOrders, OneCombinedText, OneFault, OneRebasedText, OneShownBlob, OneShownChangeset, RebasedStaysTheSame};
+ghost use Rattle.cs_tools.specs.Laws.{CombinedStaysTheSame, NoFaultWhereOwed, NothingCombinedOfTwoOrders, NothingRebasedOfTwoOrders, OneCombinedText, OneFault, OneRebasedText, OneShownBlob, OneShownChangeset, RebasedStaysTheSame, TextOrFault};
 
 /// An input has one text that `combine` owes in each form.
 pub fn one_combined_text()
@@ -91,4 +91,17 @@ pub fn no_fault_where_owed()
     cs_group::laws::one_combined();
     cs_rebaser::laws::no_wrong_shape();
     cs_column_bytes::laws::one_order_or_two();
+}
+
+/// An input owes a text, or has a fault that is neither want of memory nor a failed read.
+pub fn text_or_fault()
+    ensures { TextOrFault }
+{
+    cs_blob::laws::blobs();
+    cs_changeset::laws::changesets();
+    cs_column_bytes::laws::some_order();
+    cs_group::laws::combined_or_fault();
+    cs_lines::laws::lines_taken();
+    cs_rebaser::laws::each_once_or_not();
+    cs_rebaser::laws::shapes_or_wrong();
 }

@@ -1,0 +1,91 @@
+-- What is asked of a blob holds, or doesn't.
+use Rattle.std.proofs.Common.{◌≡◌, suc, Bool, true, false, List, [], ◌∷◌, map, ap, arith, refl, inl, inr}
+use Rattle.std.specs.Prelude.{◌≢◌, ◌⊎◌}
+use Rattle.std.specs.List.{All, AllByRecursion, Contains, IsDistinct}
+use Rattle.std.specs.Str.{bytes_eq}
+use Rattle.std.proofs.lemmas.Bool.{cases_Bool}
+use Rattle.std.proofs.lemmas.Bool.Decides.{not_from_Decides}
+use Rattle.std.proofs.lemmas.List.Elements.{All-cons, All-nil}
+use Rattle.std.proofs.lemmas.Slice.Eq.{bytes_eq-Decides}
+use Rattle.cs_change.specs.Spelling.{marks_of}
+use Rattle.cs_blob.specs.declared.blob.BlobGroup.{BlobGroup}
+use Rattle.cs_normal.specs.declared.normal.TableChanges.{TableChanges}
+use Rattle.cs_rebaser.specs.Rebased.{HasShapeOf, placed, Placed, same_spot}
+use Rattle.cs_rebaser.specs.RebasedLaws.{EachOnceOrNot, ShapesOrWrong}
+
+-- ---- places
+
+abbrev OrNot : Type 0 → Type 0
+OrNot P = P ⊎ (P → ⊥)
+
+none_alike : {K : Type 0} (eq : K → K → Bool) (x : K) (xs : List K) → OrNot (AllByRecursion (λ y. eq x y ≡ false) xs)
+none_alike eq x [] = inl tt
+none_alike eq x (y ∷ xs) =
+    elim (cases_Bool (eq x y)) [
+      | inl same ↦ inr (λ h. let differ : eq x y ≡ false = h.0 in cc)
+      | inr differ ↦ elim (none_alike eq x xs) [ inl all ↦ inl (differ, all) | inr some ↦ inr (λ h. some h.1) ]
+    ]
+
+distinct_or_not : {K : Type 0} (eq : K → K → Bool) (xs : List K) → OrNot (IsDistinct eq xs)
+unfolding IsDistinct
+distinct_or_not eq [] = inl tt
+distinct_or_not eq (x ∷ xs) =
+    elim (none_alike eq x xs) [
+      | inr some ↦ inr (λ h. some h.0)
+      | inl none ↦ elim (distinct_or_not eq xs) [ inl all ↦ inl (none, all) | inr twice ↦ inr (λ h. twice h.1) ]
+    ]
+
+pub each_once_or_not : EachOnceOrNot
+each_once_or_not blob = distinct_or_not same_spot (map (λ (p : Placed). p.0) (placed blob))
+
+-- ---- shapes
+
+-- where each element has one of two facts, all have the first, or one has the second
+all_or_one : {X : Type 0} (P Q : X → Type 0) → ((x : X) → P x ⊎ Q x) → (xs : List X) → All P xs ⊎ ((x : X) × Contains xs x × Q x)
+all_or_one P Q either [] = inl (All-nil P)
+all_or_one P Q either (x ∷ xs) =
+    elim (either x) [
+      | inr other ↦ inr (x, (0, omega arith, refl), other)
+      | inl holds ↦ elim (all_or_one P Q either xs) [
+        | inl all ↦ inl (All-cons P x xs holds all)
+        | inr (y, (k, within, is), other) ↦ inr (y, (suc k, omega (arith, within), is), other)
+      ]
+    ]
+
+same_marks_or_not : (a b : List Bool) → (a ≡ b) ⊎ (a ≢ b)
+same_marks_or_not [] [] = inl refl
+same_marks_or_not [] (y ∷ ys) = inr (λ e. cc)
+same_marks_or_not (x ∷ xs) [] = inr (λ e. cc)
+same_marks_or_not (true ∷ xs) (true ∷ ys) =
+    elim (same_marks_or_not xs ys) [ inl e ↦ inl (ap (λ (ms : List Bool). true ∷ ms) e) | inr n ↦ inr (λ e. n (cc)) ]
+same_marks_or_not (false ∷ xs) (false ∷ ys) =
+    elim (same_marks_or_not xs ys) [ inl e ↦ inl (ap (λ (ms : List Bool). false ∷ ms) e) | inr n ↦ inr (λ e. n (cc)) ]
+same_marks_or_not (true ∷ xs) (false ∷ ys) = inr (λ e. cc)
+same_marks_or_not (false ∷ xs) (true ∷ ys) = inr (λ e. cc)
+
+abbrev IsOfOtherShape : BlobGroup → TableChanges → Type 0
+IsOfOtherShape group table = (group.name ≡ table.name) × (marks_of group.marks ≢ table.marks)
+
+shape_or_other : (group : BlobGroup) (table : TableChanges) → HasShapeOf group table ⊎ IsOfOtherShape group table
+shape_or_other group table =
+    elim (same_marks_or_not (marks_of group.marks) table.marks) [
+      | inl same ↦ inl (λ named. same)
+      | inr differ ↦ elim (cases_Bool (bytes_eq group.name table.name)) [
+        | inl named ↦ inr ((bytes_eq-Decides group.name table.name).0 named, differ)
+        | inr apart ↦ inl (λ named. absurd (not_from_Decides (bytes_eq group.name table.name) (bytes_eq-Decides group.name table.name) apart named))
+      ]
+    ]
+
+-- a table that this group has another shape than
+abbrev HasOther : List TableChanges → BlobGroup → Type 0
+HasOther local group = (table : TableChanges) × Contains local table × IsOfOtherShape group table
+
+with_all : (local : List TableChanges) (group : BlobGroup) → All (HasShapeOf group) local ⊎ HasOther local group
+with_all local group = all_or_one (HasShapeOf group) (IsOfOtherShape group) (shape_or_other group) local
+
+pub shapes_or_wrong : ShapesOrWrong
+shapes_or_wrong blob local =
+    elim (all_or_one (λ group. All (HasShapeOf group) local) (HasOther local) (with_all local) blob) [
+      | inl all ↦ inl all
+      | inr (group, here, (table, there, wrong)) ↦ inr (group, table, here, there, wrong.0, wrong.1)
+    ]
