@@ -20,7 +20,7 @@ returns c =
     (slice_get-get_or c.tables.result.now c.args.conflict.now.table c.in-Some.table.now less ∙ ap (λ (t : TableDef). Some t) (sym found.1)) in
     let change = c.args.conflict.now.change in
     let bytes = c.as_slice-in-Some-changes_of.ensures.value
-    ∙ (c.in_ok-put_key.ensures.0
+    ∙ (c.in_ok-put_key.ensures.ok.0
     ∙ (ap (λ (front : List ℕ). front ++ change_bytes c.as_slice.result.now change) c.new-key.ensures.items
     ∙ ap (λ m. change_bytes m change) c.as_slice.ensures)) in
     let key = c.as_slice-in-Some-changes_of.result.now in
