@@ -11,7 +11,7 @@ use mathlib.Core.Bool.{false≢true}
 use Rattle.cs_value.specs.Key.{Place}
 use Rattle.cs_change.specs.declared.change.Change.{Change}
 use Rattle.cs_value.specs.declared.catalog.TableDef.{TableDef}
-use Rattle.cs_normal.specs.Changes.{change_at, IsOrdered}
+use Rattle.cs_keyed.specs.Changes.{change_at, IsOrdered}
 use Rattle.cs_normal.specs.Normal.{FitsCatalog, IsNormalChangeset, changes_in, normal_spelling}
 use Rattle.cs_normal.specs.State.{State, IsDefinedOn, left_at}
 use Rattle.cs_normal.specs.declared.normal.TableChanges.{TableChanges}

@@ -5,7 +5,7 @@ use Rattle.std.proofs.lemmas.Option.{slice_get_within, get_or_from_slice_get}
 use Rattle.cs_value.specs.Key.{Place}
 use Rattle.cs_change.specs.declared.change.Change.{Change}
 use Rattle.cs_change.specs.Action.{action, after}
-use Rattle.cs_normal.specs.Changes.{Changes}
+use Rattle.cs_keyed.specs.Changes.{Changes}
 use Rattle.cs_hub.specs.Rows.{Rows, row_at}
 use Rattle.cs_hub.specs.Staged.{Writes, outcomes, with_write}
 use Rattle.cs_hub.proofs.Written.{prepend, prepend_one}

@@ -16,7 +16,7 @@ use Rattle.std.proofs.lemmas.Map.Keys.{Less-from_sorted, IsDistinct-from_sorted,
 use Rattle.std.proofs.lemmas.Map.Lookups.{exact_bytes}
 use Rattle.std.proofs.lemmas.Option.{get_or_from_slice_get, slice_get-get_or, slice_get_within}
 use Rattle.cs_value.specs.declared.value.Value.{Value}
-use Rattle.cs_normal.specs.Changes.{by_bytes, same_bytes}
+use Rattle.cs_order.specs.Order.{by_bytes, same_bytes}
 use Rattle.cs_value.specs.Key.{Place}
 use Rattle.cs_change.specs.Action.{Action, after}
 use Rattle.cs_hub.specs.Rows.{Rows, IsInOrder, row_at, IsAt, IsGap}

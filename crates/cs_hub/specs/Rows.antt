@@ -6,7 +6,7 @@ use Rattle.std.specs.Map.{keys_of, lookup}
 use Rattle.std.specs.declared.cmp.Ordering.TheVariants.{Less, Greater}
 use Rattle.cs_value.specs.Key.{Place}
 use Rattle.cs_value.specs.declared.value.Value.{Value}
-use Rattle.cs_normal.specs.Changes.{by_bytes, same_bytes}
+use Rattle.cs_order.specs.Order.{by_bytes, same_bytes}
 
 -- rows behind the bytes of their keys
 abbrev pub Rows : Type 0

@@ -2,7 +2,8 @@
 use Rattle.std.specs.Prelude.{◌≡◌, ℕ, ◌<◌, length, slice_index_or, All, HoldsAt, Bool, true, false, List, [], ◌∷◌, Option, Some, None, if◌then◌else◌}
 use Rattle.cs_value.specs.Key.{Place}
 use Rattle.cs_change.specs.Action.{action, after}
-use Rattle.cs_normal.specs.Changes.{Changes, same_bytes}
+use Rattle.cs_order.specs.Order.{same_bytes}
+use Rattle.cs_keyed.specs.Changes.{Changes}
 use Rattle.cs_normal.specs.Normal.{changes_in}
 use Rattle.cs_normal.specs.declared.normal.TableChanges.{TableChanges}
 use Rattle.cs_hub.specs.Rows.{Rows, row_at}

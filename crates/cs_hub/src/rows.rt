@@ -1,7 +1,7 @@
 //! The rows of one table, in the order of their keys' bytes.
 
 ghost use Rattle.std.specs.Prelude.{◌≡◌, ◌+◌, ◌<◌, ◌≤◌, ℕ, List, if◌then◌else◌, IfOk, IfErr, vec_len, vec_capacity};
-ghost use Rattle.cs_normal.specs.Changes.{by_bytes, same_bytes};
+ghost use Rattle.cs_order.specs.Order.{by_bytes, same_bytes};
 ghost use Rattle.cs_hub.specs.Rows.{IsInOrder, IsAt, IsGap, row_at};
 
 use cs_change::Bytes;

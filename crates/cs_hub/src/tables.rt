@@ -2,7 +2,8 @@
 
 use crate::rows::RowAtKey;
 use crate::table::Table;
-use cs_normal::{KeyedChanges, TableChanges};
+use cs_keyed::KeyedChanges;
+use cs_normal::TableChanges;
 use cs_value::{Memory, TableDef, Text};
 use std::alloc::Global;
 use std::marker::Model;

@@ -17,10 +17,11 @@ use Rattle.cs_value.specs.declared.catalog.TableDef.{TableDef}
 use Rattle.cs_change.specs.Spelling.{marks_of}
 use Rattle.cs_change.specs.declared.change.Change.{Change}
 use Rattle.cs_change.specs.declared.group.Group.{Group}
-use Rattle.cs_normal.specs.Changes.{same_bytes}
+use Rattle.cs_order.specs.Order.{same_bytes}
 use Rattle.cs_normal.specs.Headers.{tables_of_headers, AreTwoShapes, HasTwoShapes, HaveCatalog, CatalogOrHeaderFault}
 use Rattle.cs_normal.specs.Laws.{FitHasForm, FormOrUnfit}
-use Rattle.cs_normal.specs.NormalForm.{has_key, change_bytes, AreKeyed, HasFirstUnfitChange}
+use Rattle.cs_keyed.specs.NormalForm.{has_key, change_bytes, AreKeyed}
+use Rattle.cs_normal.specs.UnfitChanges.{HasFirstUnfitChange}
 use Rattle.cs_normal.specs.NormalFormOf.{changes_of, HasTable, AreFit, IsUnfit}
 use Rattle.cs_normal.specs.Steps.TableByTable.{HasTableFault}
 use Rattle.cs_normal.specs.declared.headers.HeaderFault.TheVariants.{Shape as TwoShapes, BadCatalog}

@@ -2,7 +2,9 @@
 
 use cs_change::{Change, Changeset, Group};
 use cs_changeset::read;
+use cs_keyed::{KeysBuilder, key_front};
 use cs_normal::*;
+use cs_order::Keys;
 use cs_record::read_record;
 use cs_value::{Catalog, Items, Memory, TableDef, Text, Value};
 use std::alloc::{AllocError, Global};
@@ -363,9 +365,10 @@ fn keys_of_a_record(rt: HostRuntime) -> Result<(), Fail> {
     let mut expected = Keys::new(alloc);
     expected.push(&[7, 3, 1, 0x61])?;
     expected.push(&[7, 5, 3, 1, 0x62])?;
-    let mut keys = Keys::with_room_for(alloc, &expected)?;
-    keys.push_behind(&[7], &[false, true], &fields)?;
-    keys.push_behind(&[7], &[true, false, true], &fields)?;
+    let mut built = KeysBuilder::with_capacity(alloc, expected.len(), 9)?;
+    built.push_behind(&[7], &[false, true], &fields)?;
+    built.push_behind(&[7], &[true, false, true], &fields)?;
+    let mut keys = built.finish();
     assert!(rt; keys.same(&expected));
     assert!(rt; keys.rise());
     keys.push(&[7, 5])?;

@@ -9,7 +9,7 @@ use Rattle.cs_value.specs.declared.value.Value.{Value}
 use Rattle.cs_record.specs.Spelling.{row_bytes}
 use Rattle.cs_change.specs.Action.{Action, Inserts, Deletes, Updates, action, action_any, after, after_any}
 use Rattle.cs_change.specs.Columns.{fits}
-use Rattle.cs_normal.specs.NormalForm.{change_bytes}
+use Rattle.cs_keyed.specs.NormalForm.{change_bytes}
 use Rattle.cs_normal.specs.State.{State, IsApplied}
 use Rattle.cs_normal.specs.declared.normal.TableChanges.{TableChanges}
 use Rattle.cs_conflict.specs.Conflict.{kind}

@@ -1,7 +1,7 @@
 use Rattle.std.proofs.Common.{List, ℕ, rules}
 use Rattle.std.proofs.lemmas.Fn.{always_returns_same}
 use Rattle.cs_value.specs.declared.value.Value.{Value}
-use Rattle.cs_normal.specs.Changes.{by_bytes}
+use Rattle.cs_order.specs.Order.{by_bytes}
 use Rattle.cs_hub.proofs.Sorted.{found_at, gap_at}
 use Rattle.cs_hub.proofs.rows.find.Goals as goal
 

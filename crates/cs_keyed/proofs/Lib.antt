@@ -1,0 +1,7 @@
+pub mod Beside
+pub mod Built
+pub mod Found
+pub mod Gathered
+pub mod KeyBytes
+pub mod KeyFronts
+pub mod OneForm

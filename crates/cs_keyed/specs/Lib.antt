@@ -1,0 +1,7 @@
+pub mod Changes
+pub mod Facts
+pub mod Keyed
+pub mod Laws
+pub mod NormalForm
+pub mod Prepared
+pub mod Steps

@@ -1,0 +1,107 @@
+//! The bytes of the keys of changes that stay in their bytes.
+
+ghost use Rattle.std.specs.Prelude.{◌≡◌, ◌++◌, IfOk};
+ghost use Rattle.std.specs.List.{list_all};
+ghost use Rattle.cs_value.specs.Catalog.{is_set, marked};
+ghost use Rattle.cs_record.specs.Spelling.{Extends};
+ghost use Rattle.cs_keyed.specs.Changes.{key_bytes};
+ghost use Rattle.cs_keyed.specs.NormalForm.{HaveSameKeys, change_bytes, has_key, marked_fields};
+
+use cs_change::Change;
+use cs_record::{Cell, Record, Row};
+use cs_value::Memory;
+
+/// The byte that spells NULL.
+const NULL: u8 = 5;
+
+/// The marks up to the last key column: the columns behind it are in no key, and needn't be looked at.
+#[tactic(auto, unfolding(crate::specs::NormalForm::marked_fields))]
+pub fn key_front(marks: &[bool]) -> &[bool]
+    ensures { HaveSameKeys result.now marks.now }
+{
+    let mut front = marks;
+    while let Some((last, before)) = front.split_last() {
+        if *last {
+            return front;
+        }
+        front = before;
+    }
+    front
+}
+
+/// Appends the bytes of a row's key, and tells whether none of its values is NULL.
+#[inline(always)]
+fn put_row_key(marks: &[bool], row: &Row<'_>, out: &mut Vec<u8>) -> Result<bool, Memory>
+    ensures ok { IfOk result (λ whole. (out.new.items ≡ out.old.items ++ key_bytes (marked marks.now row.now))
+        × (whole ≡ list_all is_set (marked marks.now row.now))) }
+    ensures kept { Extends out.old.items out.new.items }
+{
+    let mut whole = true;
+    let mut marks = marks;
+    let mut row = row.again();
+    while let Some((mark, more_marks)) = marks.split_first() {
+        let Some((cell, more_row)) = row.split_first() else {
+            break;
+        };
+        if *mark {
+            cell.append(out)?;
+            whole = whole && cell.is_set();
+        }
+        marks = more_marks;
+        row = more_row;
+    }
+    Ok(whole)
+}
+
+/// Appends the bytes of the key that a record holds, and tells whether none of its values is NULL; an undefined field
+/// counts as NULL. An `Err` may leave a part of it there.
+#[inline(always)]
+#[tactic(auto, unfolding(crate::specs::NormalForm::marked_fields))]
+pub fn put_record_key(
+    marks: &[bool],
+    fields: &Record<'_>,
+    out: &mut Vec<u8>,
+) -> Result<bool, Memory>
+    ensures ok { IfOk result (λ whole. (out.new.items ≡ out.old.items ++ key_bytes (marked_fields marks.now fields.now))
+        × (whole ≡ list_all is_set (marked_fields marks.now fields.now))) }
+    ensures kept { Extends out.old.items out.new.items }
+{
+    let mut whole = true;
+    let mut marks = marks;
+    let mut fields = fields.again();
+    while let Some((mark, more_marks)) = marks.split_first() {
+        let Some((column, more_fields)) = fields.split_first() else {
+            break;
+        };
+        if *mark {
+            match Cell::of_column(&column) {
+                Some(cell) => {
+                    cell.append(out)?;
+                    whole = whole && cell.is_set();
+                }
+                None => {
+                    out.push(NULL)?;
+                    whole = false;
+                }
+            }
+        }
+        marks = more_marks;
+        fields = more_fields;
+    }
+    Ok(whole)
+}
+
+/// Appends the bytes of a change's key, and tells whether none of its values is NULL. An `Err` may leave a part of it
+/// there.
+#[inline(always)]
+pub fn put_key(marks: &[bool], change: &Change<'_>, out: &mut Vec<u8>) -> Result<bool, Memory>
+    ensures ok { IfOk result (λ whole. (out.new.items ≡ out.old.items ++ change_bytes marks.now change.now)
+        × (whole ≡ has_key marks.now change.now)) }
+    ensures kept { Extends out.old.items out.new.items }
+{
+    match change {
+        Change::Insert { new_row, .. } => put_row_key(marks, new_row, out),
+        Change::Delete { old_row, .. } => put_row_key(marks, old_row, out),
+        Change::Update { old_fields, .. } => put_record_key(marks, old_fields, out),
+    }
+}

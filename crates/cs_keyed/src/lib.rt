@@ -1,0 +1,23 @@
+//! Changes of one table behind the bytes of their keys, all in bytes: what normal forms are made of. It stands on changes as
+//! read (`cs_change`), records (`cs_record`), values (`cs_value`) and the order of keys (`cs_order`). `put_key` and
+//! `gather_keys` write the keys of changes, which `KeysBuilder` puts together; `lend_form` gives the normal form of one change;
+//! `KeyedChanges` keeps changes behind their keys, searched, compared and spelled exactly. `laws` says that the bytes of keys
+//! tell the keys apart.
+#![tactic(auto)]
+
+mod builder;
+mod gathering;
+mod key_bytes;
+mod key_of_change;
+mod keyed_changes;
+mod one_form;
+
+pub use builder::KeysBuilder;
+pub use gathering::{gather_all_keys, gather_keys};
+pub use key_bytes::encode_key;
+pub use key_of_change::{key_front, put_key, put_record_key};
+pub use keyed_changes::KeyedChanges;
+
+pub mod laws;
+
+pub use one_form::{all_normal, lend_form};

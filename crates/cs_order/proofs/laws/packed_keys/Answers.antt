@@ -1,0 +1,5 @@
+use Rattle.cs_order.proofs.KeyLaws.{keys_stay, one_key_more}
+use Rattle.cs_order.proofs.laws.packed_keys.Goals as goal
+
+pub returns : goal.returns
+returns c = record { stay = keys_stay; one_more = one_key_more }
