@@ -8,6 +8,7 @@ use Rattle.std.proofs.lemmas.Cmp.{nat_list_cmp_total}
 use Rattle.std.proofs.lemmas.List.{get_or_default}
 use Rattle.std.proofs.lemmas.Map.Keys.{Less-from_sorted}
 use Rattle.std.proofs.lemmas.Map.Lookups.{exact_bytes}
+use Rattle.cs_order.specs.Laws.{OneSpot}
 use Rattle.cs_order.specs.Order.{Keys, by_bytes, key_at}
 
 -- each key before the place is below the key
@@ -57,3 +58,14 @@ found keys key at place is equal = sym is ∙ exact_bytes at key equal
 -- nothing stands past the end
 pub none_past : (keys : Keys) (key : List ℕ) (end : ℕ) → end ≡ length keys → AreAbove keys key end
 none_past keys key end is j past within = absurd (omega (arith, is, past, within))
+
+-- two places of one key are one
+apart : (keys : Keys) (key : List ℕ) (i j : ℕ) → IsStrictlySortedBy by_bytes keys → i < j → j < length keys → key_at keys i ≡ key → key_at keys j ≡ key → ⊥
+apart keys key i j ordered less within first next =
+    not_itself key (subst (λ (k : List ℕ). by_bytes k key ≡ Less) first (subst (λ (k : List ℕ). by_bytes (key_at keys i) k ≡ Less) next (Less-from_sorted by_bytes keys i j [] ordered less within)))
+
+pub one_spot : OneSpot
+one_spot keys key some other ordered within also is same =
+    split some other (some ≡ other) (λ front. absurd (apart keys key some other ordered front also is same)) (λ past.
+    split other some (some ≡ other) (λ front. absurd (apart keys key other some ordered front within same is)) (λ met.
+    omega (arith, past, met)))
