@@ -1,5 +1,5 @@
 -- The change at the place of its key.
-use Rattle.std.proofs.Common.{◌≡◌, ℕ, Bool, true, false, ◌<◌, List, [], ◌∷◌, length, get_or, slice_get, Some, None, zero, suc, refl, sym, ap, subst, ◌∙◌, arith}
+use Rattle.std.proofs.Common.{◌≡◌, ℕ, Bool, true, false, ◌<◌, List, [], ◌∷◌, length, get_or, slice_get, Some, None, zero, suc, refl, sym, ap, ◌∙◌, arith}
 use Rattle.std.specs.Cmp.{Equal-is, eq_by_cmp_equiv}
 use Rattle.std.specs.List.{Contains}
 use Rattle.std.specs.Map.{keys_of, values_of}
@@ -9,7 +9,6 @@ use Rattle.std.proofs.lemmas.List.{get_or-map}
 use Rattle.std.proofs.lemmas.Map.Entries.{lookup_from_place}
 use Rattle.std.proofs.lemmas.Map.Keys.{IsDistinct-from_sorted}
 use Rattle.std.proofs.lemmas.Map.Lookups.{exact_bytes}
-use Rattle.std.proofs.lemmas.Map.Views.{Contains-from_lookup}
 use Rattle.std.proofs.lemmas.Option.{slice_get-map, slice_get_within, get_or_from_slice_get}
 use Rattle.cs_order.specs.Order.{by_bytes, key_at, same_bytes}
 use Rattle.cs_change.specs.declared.change.Change.{Change}

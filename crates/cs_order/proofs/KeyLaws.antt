@@ -1,5 +1,5 @@
 -- Keys in one piece of memory.
-use Rattle.std.proofs.Common.{◌≡◌, Bool, true, false, get_or, ℕ, zero, suc, ◌+◌, ◌-◌, ◌<◌, ◌≤◌, Ordering, Less, Equal, Greater, List, [], ◌∷◌, ◌++◌, length, take, drop, refl, sym, ap, ◌∙◌, arith, length-append, append-nil}
+use Rattle.std.proofs.Common.{◌≡◌, true, false, get_or, ℕ, zero, suc, ◌+◌, ◌-◌, ◌<◌, ◌≤◌, Ordering, Less, Equal, Greater, List, [], ◌∷◌, ◌++◌, length, take, drop, refl, sym, ap, ◌∙◌, arith, length-append}
 use Rattle.std.specs.Prelude.{not, slice_index_or}
 use Rattle.std.specs.Bool.{◌==◌}
 use Rattle.std.specs.Ordering.{is_lt, ordering_index}
