@@ -5,7 +5,7 @@ use Rattle.cs_normal.specs.State.{State, IsApplied, IsDefinedOn}
 use Rattle.cs_normal.specs.declared.normal.TableChanges.{TableChanges}
 use Rattle.cs_store.specs.Contents.{Contents}
 use Rattle.cs_apply.specs.Shown.{IsConflictIn}
-use Rattle.cs_apply.specs.Stored.{AreEdits}
+use Rattle.cs_store.specs.States.{AreEdits}
 use Rattle.cs_apply.specs.declared.applying.Applied.{Applied}
 use Rattle.cs_apply.specs.declared.fault.ApplyFault.{ApplyFault}
 use Rattle.cs_apply.specs.declared.fault.ApplyFault.TheVariants.{Aborted, Misuse}

@@ -152,7 +152,7 @@ fn write(
 impl RowStore for MapStore {
     ghost use Rattle.std.specs.Prelude.{◌≡◌, ◌+◌, ◌-◌, ◌^◌, ℕ, ◌↔◌, refl, min, IfOk, IfErr, IsTrue};
     ghost use Rattle.cs_store.specs.Whole.{IsWhole};
-    ghost use Rattle.cs_store.specs.Calls.{OnlyReads, Commits, refusal};
+    ghost use Rattle.cs_store.specs.Calls.{OnlyReads, Commits, CountsMisread};
     ghost use Rattle.cs_store.specs.Contents.{Contents, IsListing, stored_tables, stored_pending, meta_value, log_entry, log_count};
     ghost use Rattle.cs_store.specs.Written.{after_batch, optional_bytes, optional_entry, pairs_of};
     ghost use Rattle.cs_store.specs.declared.fault.StoreFault.TheVariants.{Memory, Device};
@@ -166,11 +166,13 @@ impl RowStore for MapStore {
 
     ghost may_leave = { leaves_held };
 
+    ghost misreads = { misreads_of };
+
     ghost leaves = { λ store _. ∣ (store.held, refl) ∣₁ };
 
     fn get(&mut self, table: u32, key: &[u8]) -> Result<Option<Vec<u8>>, StoreFault>
         ensures found { is_honest self.new → IfOk result (λ row. optional_bytes row ≡ stored_tables self.old.held table key.now) }
-        ensures reads { OnlyReads is_honest held_by misreads_of leaves_held self.old self.new result }
+        ensures reads { OnlyReads is_honest held_by misreads_of leaves_held misreads_of self.old self.new result }
         ensures memory { IfErr result (λ fault. fault ≡ Memory) }
         ensures count { self.new.misreads ≡ self.old.misreads }
     {
@@ -181,7 +183,7 @@ impl RowStore for MapStore {
 
     fn list(&mut self, table: u32) -> Result<Vec<StoredBody>, StoreFault>
         ensures listed { is_honest self.new → IfOk result (λ rows. IsListing (stored_tables self.old.held table) (pairs_of rows.items)) }
-        ensures reads { OnlyReads is_honest held_by misreads_of leaves_held self.old self.new result }
+        ensures reads { OnlyReads is_honest held_by misreads_of leaves_held misreads_of self.old self.new result }
         ensures memory { IfErr result (λ fault. fault ≡ Memory) }
         ensures count { self.new.misreads ≡ self.old.misreads }
     {
@@ -191,7 +193,7 @@ impl RowStore for MapStore {
 
     fn pend_get(&mut self, table: u32, key: &[u8]) -> Result<Option<Vec<u8>>, StoreFault>
         ensures found { is_honest self.new → IfOk result (λ change. optional_bytes change ≡ stored_pending self.old.held table key.now) }
-        ensures reads { OnlyReads is_honest held_by misreads_of leaves_held self.old self.new result }
+        ensures reads { OnlyReads is_honest held_by misreads_of leaves_held misreads_of self.old self.new result }
         ensures memory { IfErr result (λ fault. fault ≡ Memory) }
         ensures count { self.new.misreads ≡ self.old.misreads }
     {
@@ -202,7 +204,7 @@ impl RowStore for MapStore {
 
     fn pend_list(&mut self, table: u32) -> Result<Vec<StoredBody>, StoreFault>
         ensures listed { is_honest self.new → IfOk result (λ changes. IsListing (stored_pending self.old.held table) (pairs_of changes.items)) }
-        ensures reads { OnlyReads is_honest held_by misreads_of leaves_held self.old self.new result }
+        ensures reads { OnlyReads is_honest held_by misreads_of leaves_held misreads_of self.old self.new result }
         ensures memory { IfErr result (λ fault. fault ≡ Memory) }
         ensures count { self.new.misreads ≡ self.old.misreads }
     {
@@ -212,7 +214,7 @@ impl RowStore for MapStore {
 
     fn meta(&mut self, name: MetaName) -> Result<Option<Vec<u8>>, StoreFault>
         ensures found { is_honest self.new → IfOk result (λ value. optional_bytes value ≡ meta_value self.old.held name) }
-        ensures reads { OnlyReads is_honest held_by misreads_of leaves_held self.old self.new result }
+        ensures reads { OnlyReads is_honest held_by misreads_of leaves_held misreads_of self.old self.new result }
         ensures memory { IfErr result (λ fault. fault ≡ Memory) }
         ensures count { self.new.misreads ≡ self.old.misreads }
     {
@@ -223,7 +225,7 @@ impl RowStore for MapStore {
 
     fn log_len(&mut self) -> Result<u32, StoreFault>
         ensures counted { is_honest self.new → IfOk result (λ count. count ≡ log_count self.old.held) }
-        ensures reads { OnlyReads is_honest held_by misreads_of leaves_held self.old self.new result }
+        ensures reads { OnlyReads is_honest held_by misreads_of leaves_held misreads_of self.old self.new result }
         ensures memory { IfErr result (λ fault. fault ≡ Memory) }
         ensures count { self.new.misreads ≡ self.old.misreads }
     {
@@ -232,7 +234,7 @@ impl RowStore for MapStore {
 
     fn log_get(&mut self, version: u32) -> Result<Option<StoredEntry>, StoreFault>
         ensures found { is_honest self.new → IfOk result (λ entry. optional_entry entry ≡ log_entry self.old.held version) }
-        ensures reads { OnlyReads is_honest held_by misreads_of leaves_held self.old self.new result }
+        ensures reads { OnlyReads is_honest held_by misreads_of leaves_held misreads_of self.old self.new result }
         ensures memory { IfErr result (λ fault. fault ≡ Memory) }
         ensures count { self.new.misreads ≡ self.old.misreads }
     {
@@ -241,7 +243,7 @@ impl RowStore for MapStore {
     }
 
     fn commit(&mut self, batch: &Batch) -> Result<(), StoreFault>
-        ensures commits { Commits is_honest held_by misreads_of leaves_held (after_batch batch.now self.old.held) self.old self.new result }
+        ensures commits { Commits is_honest held_by misreads_of leaves_held misreads_of (after_batch batch.now self.old.held) self.old self.new result }
         ensures memory { IfErr result (λ fault. fault ≡ Memory) }
         ensures count { self.new.misreads ≡ self.old.misreads }
     {
@@ -257,7 +259,7 @@ impl RowStore for MapStore {
 
     fn misread(&mut self) -> StoreFault
         ensures told { result ≡ Device }
-        ensures reads { OnlyReads is_honest held_by misreads_of leaves_held self.old self.new (refusal (Unit {0}) result) }
+        ensures counted { CountsMisread is_honest held_by misreads_of leaves_held misreads_of self.old self.new result }
         ensures count { self.new.misreads ≡ min (self.old.misreads + 1) (2 ^ 64 - 1) }
     {
         self.misreads = self.misreads.saturating_add(1);
@@ -266,7 +268,7 @@ impl RowStore for MapStore {
 
     fn check(&mut self, catalog: &Catalog) -> Result<bool, StoreFault>
         ensures checked { is_honest self.new → IfOk result (λ good. IsTrue good ↔ IsWhole catalog.now self.old.held) }
-        ensures reads { OnlyReads is_honest held_by misreads_of leaves_held self.old self.new result }
+        ensures reads { OnlyReads is_honest held_by misreads_of leaves_held misreads_of self.old self.new result }
         ensures memory { IfErr result (λ fault. fault ≡ Memory) }
         ensures count { self.new.misreads ≡ self.old.misreads }
     {

@@ -9,7 +9,7 @@ use Rattle.cs_store.specs.Contents.{Contents}
 use Rattle.cs_conflict.specs.declared.conflict.Conflict.{Conflict}
 use Rattle.cs_conflict.specs.declared.conflict.Resolution.{Resolution}
 use Rattle.cs_apply.specs.Calls.{IsCarriedOut}
-use Rattle.cs_apply.specs.Stored.{Holds}
+use Rattle.cs_store.specs.States.{Holds}
 use Rattle.cs_apply.specs.declared.applying.Applied.{Applied}
 use Rattle.cs_apply.specs.declared.fault.ApplyFault.{ApplyFault}
 use Rattle.cs_rebaser.specs.DiamondOfTables.{AnswersLawfully, DiamondOfTables, LawfulAreGiven}

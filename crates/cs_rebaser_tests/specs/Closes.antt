@@ -8,7 +8,7 @@ use Rattle.cs_store.specs.Contents.{Contents}
 use Rattle.cs_conflict.specs.declared.conflict.Resolution.{Resolution}
 use Rattle.cs_blob.specs.Spelling.{blob_spelling}
 use Rattle.cs_apply.specs.Blob.{blob_of}
-use Rattle.cs_apply.specs.Stored.{Holds, AreEdits}
+use Rattle.cs_store.specs.States.{Holds, AreEdits}
 use Rattle.cs_apply.specs.Tasks.{tasks}
 use Rattle.cs_apply.specs.declared.applying.Applied.{Applied}
 use Rattle.cs_rebaser.specs.DiamondOfTables.{IsMerged}

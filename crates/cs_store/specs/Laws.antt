@@ -28,13 +28,13 @@ TwoRows = record nothing { rows = insert (insert empty (pos 5, 98 ∷ []) (2 ∷
 abbrev pub ListsTwoRows : Type 0
 ListsTwoRows = IsListing (stored_tables TwoRows 5) ((97 ∷ [], 1 ∷ []) ∷ (98 ∷ [], 2 ∷ []) ∷ [])
 
-module _ {S : Type 0} (honest : S → Type 0) (contents : S → Contents) (failed : S → ℕ) (may_leave : S → Contents → Type 0) where
+module _ {S : Type 0} (honest : S → Type 0) (contents : S → Contents) (failed : S → ℕ) (may_leave : S → Contents → Type 0) (misreads : S → ℕ) where
   -- commits of one batch that succeed leave one store, and a stop then leaves one
   abbrev pub OneCommit : Type 0
   OneCommit =
       (after : Contents) (old new next : S) (result other : Result (Unit {0}) StoreFault)
-      → Commits honest contents failed may_leave after old new result
-      → Commits honest contents failed may_leave after old next other
+      → Commits honest contents failed may_leave misreads after old new result
+      → Commits honest contents failed may_leave misreads after old next other
       → honest new → honest next
       → OnOk result (OnOk other ((contents new ≡ contents next)
       × ((some others : Contents) → may_leave new some → may_leave next others → some ≡ others)))
@@ -43,8 +43,8 @@ module _ {S : Type 0} (honest : S → Type 0) (contents : S → Contents) (faile
   abbrev pub OneRefusal : Type 0
   OneRefusal =
       (after : Contents) (old new next : S) (result other : Result (Unit {0}) StoreFault)
-      → Commits honest contents failed may_leave after old new result
-      → Commits honest contents failed may_leave after old next other
+      → Commits honest contents failed may_leave misreads after old new result
+      → Commits honest contents failed may_leave misreads after old next other
       → honest new → honest next → OnErr result (OnErr other (contents new ≡ contents next))
 
   -- ---- calls after calls
@@ -53,39 +53,39 @@ module _ {S : Type 0} (honest : S → Type 0) (contents : S → Contents) (faile
   abbrev pub ReadsThenReads : Type 0 → Type 0 → Type 0
   ReadsThenReads T U =
       (old middle new : S) (first : Result T StoreFault) (second : Result U StoreFault)
-      → OnlyReads honest contents failed may_leave old middle first → IsOk first
-      → OnlyReads honest contents failed may_leave middle new second
-      → OnlyReads honest contents failed may_leave old new second
+      → OnlyReads honest contents failed may_leave misreads old middle first → IsOk first
+      → OnlyReads honest contents failed may_leave misreads middle new second
+      → OnlyReads honest contents failed may_leave misreads old new second
 
   -- a read and then a commit of what is made of the contents are that commit, also in what a stop may leave
   abbrev pub ReadsThenCommits : Type 0 → Type 0 → Type 0
   ReadsThenCommits T U =
       (after : Contents → Contents) (old middle new : S) (first : Result T StoreFault) (second : Result U StoreFault)
-      → OnlyReads honest contents failed may_leave old middle first → IsOk first
-      → Commits honest contents failed may_leave (after (contents middle)) middle new second
-      → Commits honest contents failed may_leave (after (contents old)) old new second
+      → OnlyReads honest contents failed may_leave misreads old middle first → IsOk first
+      → Commits honest contents failed may_leave misreads (after (contents middle)) middle new second
+      → Commits honest contents failed may_leave misreads (after (contents old)) old new second
 
   -- reads after a commit that succeeded, where they succeed, are that commit
   abbrev pub CommitsThenReads : Type 0 → Type 0 → Type 0
   CommitsThenReads T U =
       (after : Contents) (old middle new : S) (first : Result T StoreFault) (second : Result U StoreFault)
-      → Commits honest contents failed may_leave after old middle first → IsOk first
-      → OnlyReads honest contents failed may_leave middle new second → IsOk second
-      → Commits honest contents failed may_leave after old new second
+      → Commits honest contents failed may_leave misreads after old middle first → IsOk first
+      → OnlyReads honest contents failed may_leave misreads middle new second → IsOk second
+      → Commits honest contents failed may_leave misreads after old new second
 
   -- a read that fails, told as the failure of a commit, is that commit
   abbrev pub FailsToCommit : Type 0 → Type 0 → Type 0
   FailsToCommit T U =
       (after : Contents) (old new : S) (fault : StoreFault)
-      → OnlyReads honest contents failed may_leave old new (refusal T fault)
-      → Commits honest contents failed may_leave after old new (refusal U fault)
+      → OnlyReads honest contents failed may_leave misreads old new (refusal T fault)
+      → Commits honest contents failed may_leave misreads after old new (refusal U fault)
 
   -- a read that answers something else, or whose fault is told of another answer, is that read
   abbrev pub ReadsAlike : Type 0 → Type 0 → Type 0
   ReadsAlike T U =
       (old new : S)
-      → ((answer : T) (other : U) → OnlyReads honest contents failed may_leave old new (Ok answer) → OnlyReads honest contents failed may_leave old new (Ok other))
-      × ((fault : StoreFault) → OnlyReads honest contents failed may_leave old new (refusal T fault) → OnlyReads honest contents failed may_leave old new (refusal U fault))
+      → ((answer : T) (other : U) → OnlyReads honest contents failed may_leave misreads old new (Ok answer) → OnlyReads honest contents failed may_leave misreads old new (Ok other))
+      × ((fault : StoreFault) → OnlyReads honest contents failed may_leave misreads old new (refusal T fault) → OnlyReads honest contents failed may_leave misreads old new (refusal U fault))
 
 abbrev pub success : Result (Unit {0}) StoreFault
 success = Ok tt
@@ -94,7 +94,7 @@ success = Ok tt
 abbrev pub CommitCanBe : Type 0
 CommitCanBe =
     (before after : Contents)
-    → Commits (λ _. Unit {0}) (λ held. held) (λ _. 0) (λ held left. left ≡ held) after before after success
+    → Commits (λ _. Unit {0}) (λ held. held) (λ _. 0) (λ held left. left ≡ held) (λ _. 0) after before after success
 
 -- ---- faults
 

@@ -1,7 +1,7 @@
 //! What a store owes its callers.
 
 ghost use Rattle.std.specs.Prelude.{◌≡◌, ◌↔◌, ℕ, IfOk, IsTrue};
-ghost use Rattle.cs_store.specs.Calls.{OnlyReads, Commits, refusal};
+ghost use Rattle.cs_store.specs.Calls.{OnlyReads, Commits, CountsMisread};
 ghost use Rattle.cs_store.specs.Contents.{Contents, IsListing, stored_tables, stored_pending, meta_value, log_entry, log_count};
 ghost use Rattle.cs_store.specs.Written.{after_batch, optional_bytes, optional_entry, pairs_of};
 ghost use Rattle.cs_store.specs.Whole.{IsWhole};
@@ -40,62 +40,65 @@ pub trait RowStore {
     /// What a stop at this moment may leave.
     ghost may_leave: { Self → Contents → Type 0 };
 
+    /// How often `misread` was called, up to 18,446,744,073,709,551,615. No other call changes it.
+    ghost misreads: { Self → ℕ };
+
     /// The row at a table's number and the bytes of a key, if there is one.
     fn get(&mut self, table: u32, key: &[u8]) -> Result<Option<Vec<u8>>, StoreFault>
         ensures found { honest self.new → IfOk result (λ row.
             optional_bytes row ≡ stored_tables (contents self.old) table key.now) }
-        ensures reads { OnlyReads honest contents failed may_leave self.old self.new result };
+        ensures reads { OnlyReads honest contents failed may_leave misreads self.old self.new result };
 
     /// The rows of a table, by ascending bytes of the key.
     fn list(&mut self, table: u32) -> Result<Vec<StoredBody>, StoreFault>
         ensures listed { honest self.new → IfOk result (λ rows.
             IsListing (stored_tables (contents self.old) table) (pairs_of rows.items)) }
-        ensures reads { OnlyReads honest contents failed may_leave self.old self.new result };
+        ensures reads { OnlyReads honest contents failed may_leave misreads self.old self.new result };
 
     /// The pending change at a table's number and the bytes of a key, if there is one.
     fn pend_get(&mut self, table: u32, key: &[u8]) -> Result<Option<Vec<u8>>, StoreFault>
         ensures found { honest self.new → IfOk result (λ change.
             optional_bytes change ≡ stored_pending (contents self.old) table key.now) }
-        ensures reads { OnlyReads honest contents failed may_leave self.old self.new result };
+        ensures reads { OnlyReads honest contents failed may_leave misreads self.old self.new result };
 
     /// The pending changes of a table, by ascending bytes of the key.
     fn pend_list(&mut self, table: u32) -> Result<Vec<StoredBody>, StoreFault>
         ensures listed { honest self.new → IfOk result (λ changes.
             IsListing (stored_pending (contents self.old) table) (pairs_of changes.items)) }
-        ensures reads { OnlyReads honest contents failed may_leave self.old self.new result };
+        ensures reads { OnlyReads honest contents failed may_leave misreads self.old self.new result };
 
     /// The value of a name, if there is one.
     fn meta(&mut self, name: MetaName) -> Result<Option<Vec<u8>>, StoreFault>
         ensures found { honest self.new → IfOk result (λ value.
             optional_bytes value ≡ meta_value (contents self.old) name) }
-        ensures reads { OnlyReads honest contents failed may_leave self.old self.new result };
+        ensures reads { OnlyReads honest contents failed may_leave misreads self.old self.new result };
 
     /// How many entries the log has.
     fn log_len(&mut self) -> Result<u32, StoreFault>
         ensures counted { honest self.new → IfOk result (λ count. count ≡ log_count (contents self.old)) }
-        ensures reads { OnlyReads honest contents failed may_leave self.old self.new result };
+        ensures reads { OnlyReads honest contents failed may_leave misreads self.old self.new result };
 
     /// The entry of the log at a version, the first being 0, if there is one.
     fn log_get(&mut self, version: u32) -> Result<Option<StoredEntry>, StoreFault>
         ensures found { honest self.new → IfOk result (λ entry.
             optional_entry entry ≡ log_entry (contents self.old) version) }
-        ensures reads { OnlyReads honest contents failed may_leave self.old self.new result };
+        ensures reads { OnlyReads honest contents failed may_leave misreads self.old self.new result };
 
     /// Writes the batch, whole.
     fn commit(&mut self, batch: &Batch) -> Result<(), StoreFault>
-        ensures { Commits honest contents failed may_leave (after_batch batch.now (contents self.old)) self.old self.new result };
+        ensures { Commits honest contents failed may_leave misreads (after_batch batch.now (contents self.old)) self.old self.new result };
 
     /// Counts a failed call, since what a call of this store gave can't have been written to it: a body that is no row of its
     /// table, an entry that doesn't decode. It answers the fault to tell, which is `Device`, and changes nothing else.
     fn misread(&mut self) -> StoreFault
         ensures told { result ≡ Device }
-        ensures reads { OnlyReads honest contents failed may_leave self.old self.new (refusal (Unit {0}) result) };
+        ensures counted { CountsMisread honest contents failed may_leave misreads self.old self.new result };
 
     /// Whether all that it holds is what its places say: each row is one of a table of the catalog, at the table's number and
     /// its own key, and so is each pending change; each entry's body decodes; and no value has a name but ours.
     fn check(&mut self, catalog: &Catalog) -> Result<bool, StoreFault>
         ensures checked { honest self.new → IfOk result (λ good. IsTrue good ↔ IsWhole catalog.now (contents self.old)) }
-        ensures reads { OnlyReads honest contents failed may_leave self.old self.new result };
+        ensures reads { OnlyReads honest contents failed may_leave misreads self.old self.new result };
 
     /// How often the device has failed; at 18,446,744,073,709,551,615 the count stays.
     fn failures(&self) -> u64

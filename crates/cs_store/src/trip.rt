@@ -1,8 +1,8 @@
 //! A store for tests that refuses one call, and counts what is written.
 
 ghost use Rattle.std.specs.Prelude.{◌≡◌, ◌+◌, ◌-◌, ◌^◌, ℕ, Some, None, Ok, Err, Option, min, ◌↔◌, IfOk, IsTrue, OnOk, OnErr};
-ghost use Rattle.cs_store.specs.Trips.{Trips, after_call, at_call, contents_in, failed_in, honest_in, may_leave_in, nothing_written, own_failures, wrote_by};
-ghost use Rattle.cs_store.specs.Calls.{OnlyReads, Commits, refusal};
+ghost use Rattle.cs_store.specs.Trips.{Trips, after_call, at_call, contents_in, failed_in, honest_in, may_leave_in, misreads_in, nothing_written, own_failures, wrote_by};
+ghost use Rattle.cs_store.specs.Calls.{OnlyReads, Commits, CountsMisread};
 ghost use Rattle.cs_store.specs.Contents.{Contents, IsListing, stored_tables, stored_pending, meta_value, log_entry, log_count};
 ghost use Rattle.cs_store.specs.Whole.{IsWhole};
 ghost use Rattle.cs_store.specs.Written.{after_batch, optional_bytes, optional_entry, pairs_of};
@@ -115,12 +115,14 @@ impl<S: RowStore> RowStore for Trip<S> {
 
     ghost may_leave = { λ t. S.may_leave t.inner };
 
+    ghost misreads = { λ t. S.misreads t.inner };
+
     ghost leaves = { λ t. S.leaves t.inner };
 
     fn get(&mut self, table: u32, key: &[u8]) -> Result<Option<Vec<u8>>, StoreFault>
         ensures found { S.honest self.new.inner → IfOk result (λ row. optional_bytes row ≡ stored_tables (S.contents self.old.inner) table key.now) }
-        ensures reads { OnlyReads (honest_in S.honest) (contents_in S.contents) (failed_in S.failed) (may_leave_in S.may_leave) self.old self.new result }
-        ensures trips { Trips self.old self.new result (OnlyReads S.honest S.contents S.failed S.may_leave self.old.inner self.new.inner result) }
+        ensures reads { OnlyReads (honest_in S.honest) (contents_in S.contents) (failed_in S.failed) (may_leave_in S.may_leave) (misreads_in S.misreads) self.old self.new result }
+        ensures trips { Trips self.old self.new result (OnlyReads S.honest S.contents S.failed S.may_leave S.misreads self.old.inner self.new.inner result) }
         ensures wrote { self.new.wrote ≡ self.old.wrote }
     {
         pass(&mut self.passes)?;
@@ -129,8 +131,8 @@ impl<S: RowStore> RowStore for Trip<S> {
 
     fn list(&mut self, table: u32) -> Result<Vec<StoredBody>, StoreFault>
         ensures listed { S.honest self.new.inner → IfOk result (λ rows. IsListing (stored_tables (S.contents self.old.inner) table) (pairs_of rows.items)) }
-        ensures reads { OnlyReads (honest_in S.honest) (contents_in S.contents) (failed_in S.failed) (may_leave_in S.may_leave) self.old self.new result }
-        ensures trips { Trips self.old self.new result (OnlyReads S.honest S.contents S.failed S.may_leave self.old.inner self.new.inner result) }
+        ensures reads { OnlyReads (honest_in S.honest) (contents_in S.contents) (failed_in S.failed) (may_leave_in S.may_leave) (misreads_in S.misreads) self.old self.new result }
+        ensures trips { Trips self.old self.new result (OnlyReads S.honest S.contents S.failed S.may_leave S.misreads self.old.inner self.new.inner result) }
         ensures wrote { self.new.wrote ≡ self.old.wrote }
     {
         pass(&mut self.passes)?;
@@ -139,8 +141,8 @@ impl<S: RowStore> RowStore for Trip<S> {
 
     fn pend_get(&mut self, table: u32, key: &[u8]) -> Result<Option<Vec<u8>>, StoreFault>
         ensures found { S.honest self.new.inner → IfOk result (λ change. optional_bytes change ≡ stored_pending (S.contents self.old.inner) table key.now) }
-        ensures reads { OnlyReads (honest_in S.honest) (contents_in S.contents) (failed_in S.failed) (may_leave_in S.may_leave) self.old self.new result }
-        ensures trips { Trips self.old self.new result (OnlyReads S.honest S.contents S.failed S.may_leave self.old.inner self.new.inner result) }
+        ensures reads { OnlyReads (honest_in S.honest) (contents_in S.contents) (failed_in S.failed) (may_leave_in S.may_leave) (misreads_in S.misreads) self.old self.new result }
+        ensures trips { Trips self.old self.new result (OnlyReads S.honest S.contents S.failed S.may_leave S.misreads self.old.inner self.new.inner result) }
         ensures wrote { self.new.wrote ≡ self.old.wrote }
     {
         pass(&mut self.passes)?;
@@ -149,8 +151,8 @@ impl<S: RowStore> RowStore for Trip<S> {
 
     fn pend_list(&mut self, table: u32) -> Result<Vec<StoredBody>, StoreFault>
         ensures listed { S.honest self.new.inner → IfOk result (λ changes. IsListing (stored_pending (S.contents self.old.inner) table) (pairs_of changes.items)) }
-        ensures reads { OnlyReads (honest_in S.honest) (contents_in S.contents) (failed_in S.failed) (may_leave_in S.may_leave) self.old self.new result }
-        ensures trips { Trips self.old self.new result (OnlyReads S.honest S.contents S.failed S.may_leave self.old.inner self.new.inner result) }
+        ensures reads { OnlyReads (honest_in S.honest) (contents_in S.contents) (failed_in S.failed) (may_leave_in S.may_leave) (misreads_in S.misreads) self.old self.new result }
+        ensures trips { Trips self.old self.new result (OnlyReads S.honest S.contents S.failed S.may_leave S.misreads self.old.inner self.new.inner result) }
         ensures wrote { self.new.wrote ≡ self.old.wrote }
     {
         pass(&mut self.passes)?;
@@ -159,8 +161,8 @@ impl<S: RowStore> RowStore for Trip<S> {
 
     fn meta(&mut self, name: MetaName) -> Result<Option<Vec<u8>>, StoreFault>
         ensures found { S.honest self.new.inner → IfOk result (λ value. optional_bytes value ≡ meta_value (S.contents self.old.inner) name) }
-        ensures reads { OnlyReads (honest_in S.honest) (contents_in S.contents) (failed_in S.failed) (may_leave_in S.may_leave) self.old self.new result }
-        ensures trips { Trips self.old self.new result (OnlyReads S.honest S.contents S.failed S.may_leave self.old.inner self.new.inner result) }
+        ensures reads { OnlyReads (honest_in S.honest) (contents_in S.contents) (failed_in S.failed) (may_leave_in S.may_leave) (misreads_in S.misreads) self.old self.new result }
+        ensures trips { Trips self.old self.new result (OnlyReads S.honest S.contents S.failed S.may_leave S.misreads self.old.inner self.new.inner result) }
         ensures wrote { self.new.wrote ≡ self.old.wrote }
     {
         pass(&mut self.passes)?;
@@ -169,8 +171,8 @@ impl<S: RowStore> RowStore for Trip<S> {
 
     fn log_len(&mut self) -> Result<u32, StoreFault>
         ensures counted { S.honest self.new.inner → IfOk result (λ count. count ≡ log_count (S.contents self.old.inner)) }
-        ensures reads { OnlyReads (honest_in S.honest) (contents_in S.contents) (failed_in S.failed) (may_leave_in S.may_leave) self.old self.new result }
-        ensures trips { Trips self.old self.new result (OnlyReads S.honest S.contents S.failed S.may_leave self.old.inner self.new.inner result) }
+        ensures reads { OnlyReads (honest_in S.honest) (contents_in S.contents) (failed_in S.failed) (may_leave_in S.may_leave) (misreads_in S.misreads) self.old self.new result }
+        ensures trips { Trips self.old self.new result (OnlyReads S.honest S.contents S.failed S.may_leave S.misreads self.old.inner self.new.inner result) }
         ensures wrote { self.new.wrote ≡ self.old.wrote }
     {
         pass(&mut self.passes)?;
@@ -179,8 +181,8 @@ impl<S: RowStore> RowStore for Trip<S> {
 
     fn log_get(&mut self, version: u32) -> Result<Option<StoredEntry>, StoreFault>
         ensures found { S.honest self.new.inner → IfOk result (λ entry. optional_entry entry ≡ log_entry (S.contents self.old.inner) version) }
-        ensures reads { OnlyReads (honest_in S.honest) (contents_in S.contents) (failed_in S.failed) (may_leave_in S.may_leave) self.old self.new result }
-        ensures trips { Trips self.old self.new result (OnlyReads S.honest S.contents S.failed S.may_leave self.old.inner self.new.inner result) }
+        ensures reads { OnlyReads (honest_in S.honest) (contents_in S.contents) (failed_in S.failed) (may_leave_in S.may_leave) (misreads_in S.misreads) self.old self.new result }
+        ensures trips { Trips self.old self.new result (OnlyReads S.honest S.contents S.failed S.may_leave S.misreads self.old.inner self.new.inner result) }
         ensures wrote { self.new.wrote ≡ self.old.wrote }
     {
         pass(&mut self.passes)?;
@@ -188,9 +190,9 @@ impl<S: RowStore> RowStore for Trip<S> {
     }
 
     fn commit(&mut self, batch: &Batch) -> Result<(), StoreFault>
-        ensures commits { Commits (honest_in S.honest) (contents_in S.contents) (failed_in S.failed) (may_leave_in S.may_leave)
+        ensures commits { Commits (honest_in S.honest) (contents_in S.contents) (failed_in S.failed) (may_leave_in S.may_leave) (misreads_in S.misreads)
             (after_batch batch.now (S.contents self.old.inner)) self.old self.new result }
-        ensures trips { Trips self.old self.new result (Commits S.honest S.contents S.failed S.may_leave
+        ensures trips { Trips self.old self.new result (Commits S.honest S.contents S.failed S.may_leave S.misreads
             (after_batch batch.now (S.contents self.old.inner)) self.old.inner self.new.inner result) }
         ensures wrote { OnOk result (self.new.wrote ≡ wrote_by self.old.wrote batch.now) }
         ensures kept { OnErr result (self.new.wrote ≡ self.old.wrote) }
@@ -203,8 +205,8 @@ impl<S: RowStore> RowStore for Trip<S> {
 
     fn misread(&mut self) -> StoreFault
         ensures told { result ≡ Device }
-        ensures reads { OnlyReads (honest_in S.honest) (contents_in S.contents) (failed_in S.failed) (may_leave_in S.may_leave) self.old self.new (refusal (Unit {0}) result) }
-        ensures passed { OnlyReads S.honest S.contents S.failed S.may_leave self.old.inner self.new.inner (refusal (Unit {0}) result) }
+        ensures counted { CountsMisread (honest_in S.honest) (contents_in S.contents) (failed_in S.failed) (may_leave_in S.may_leave) (misreads_in S.misreads) self.old self.new result }
+        ensures passed { CountsMisread S.honest S.contents S.failed S.may_leave S.misreads self.old.inner self.new.inner result }
         ensures passes { self.new.passes ≡ self.old.passes }
         ensures wrote { self.new.wrote ≡ self.old.wrote }
     {
@@ -213,8 +215,8 @@ impl<S: RowStore> RowStore for Trip<S> {
 
     fn check(&mut self, catalog: &Catalog) -> Result<bool, StoreFault>
         ensures checked { S.honest self.new.inner → IfOk result (λ good. IsTrue good ↔ IsWhole catalog.now (S.contents self.old.inner)) }
-        ensures reads { OnlyReads (honest_in S.honest) (contents_in S.contents) (failed_in S.failed) (may_leave_in S.may_leave) self.old self.new result }
-        ensures trips { Trips self.old self.new result (OnlyReads S.honest S.contents S.failed S.may_leave self.old.inner self.new.inner result) }
+        ensures reads { OnlyReads (honest_in S.honest) (contents_in S.contents) (failed_in S.failed) (may_leave_in S.may_leave) (misreads_in S.misreads) self.old self.new result }
+        ensures trips { Trips self.old self.new result (OnlyReads S.honest S.contents S.failed S.may_leave S.misreads self.old.inner self.new.inner result) }
         ensures wrote { self.new.wrote ≡ self.old.wrote }
     {
         pass(&mut self.passes)?;
