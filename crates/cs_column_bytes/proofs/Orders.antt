@@ -1,29 +1,17 @@
 -- Headers have one order of a key's columns, or two.
-use Rattle.std.proofs.Common.{◌≡◌, suc, List, [], ◌∷◌, arith, refl, inl, inr}
+use Rattle.std.proofs.Common.{◌≡◌, List, inl, inr}
 use Rattle.std.specs.Prelude.{◌⊎◌}
 use Rattle.std.specs.List.{All, Contains}
 use Rattle.std.specs.Ordering.{is_eq}
 use Rattle.std.specs.Str.{bytes_eq}
 use Rattle.std.proofs.lemmas.Bool.Decides.{not_from_Decides}
-use Rattle.std.proofs.lemmas.List.Elements.{All-cons, All-nil}
 use Rattle.std.proofs.lemmas.Slice.Eq.{bytes_eq-Decides}
+use Rattle.cs_value.specs.Decided.{all_or_one}
 use Rattle.cs_column_bytes.proofs.Columns.{alike_decides}
 use Rattle.cs_column_bytes.specs.KeyPlaces.{AreAlike, Head}
 use Rattle.cs_column_bytes.specs.Laws.{SomeOrder}
 use Rattle.cs_column_bytes.specs.Steps.{DifferInOrder, kind_cmp}
 use Rattle.std.proofs.lemmas.Bool.{cases_Bool}
-
--- where each element has one of two facts, all have the first, or one has the second
-all_or_one : {X : Type 0} (P Q : X → Type 0) → ((x : X) → P x ⊎ Q x) → (xs : List X) → All P xs ⊎ ((x : X) × Contains xs x × Q x)
-all_or_one P Q either [] = inl (All-nil P)
-all_or_one P Q either (x ∷ xs) =
-    elim (either x) [
-      | inr other ↦ inr (x, (0, omega arith, refl), other)
-      | inl holds ↦ elim (all_or_one P Q either xs) [
-        | inl all ↦ inl (All-cons P x xs holds all)
-        | inr (y, (k, within, is), other) ↦ inr (y, (suc k, omega (arith, within), is), other)
-      ]
-    ]
 
 abbrev Agree : Head → Head → Type 0
 Agree head other = AreAlike head other → head.1 ≡ other.1

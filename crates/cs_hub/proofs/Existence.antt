@@ -1,10 +1,9 @@
 -- Each push has an answer, and each request.
-use Rattle.std.proofs.Common.{◌≡◌, ◌⊎◌, inl, inr, ℕ, ◌+◌, ◌<◌, ◌≤◌, Bool, true, false, List, [], ◌∷◌, ◌++◌, length, Option, Some, None, Result, Ok, Err, slice_get, refl, ap, subst, ◌∙◌, arith}
-use Rattle.std.specs.Str.{bytes_eq}
+use Rattle.std.proofs.Common.{◌≡◌, inl, inr, ℕ, ◌+◌, ◌<◌, ◌≤◌, Bool, List, [], ◌∷◌, ◌++◌, length, Option, Some, None, Result, Ok, Err, slice_get, refl, ap, subst, ◌∙◌, arith}
 use Rattle.std.proofs.lemmas.Bool.{cases_lt}
 use Rattle.std.proofs.lemmas.Bool.Decides.{eqb_tells}
-use Rattle.std.proofs.lemmas.Slice.Eq.{bytes_eq-Decides}
 use Rattle.cs_value.specs.Catalog.{AreTables}
+use Rattle.cs_value.specs.Decided.{OrNot, same_bytes_or_not}
 use Rattle.cs_value.specs.declared.catalog.TableDef.{TableDef}
 use Rattle.cs_normal.specs.declared.normal.TableChanges.{TableChanges}
 use Rattle.cs_log.specs.Laws.{DefinedOrNot, OneBody}
@@ -24,42 +23,30 @@ use Rattle.cs_hub.specs.Messages.{Asked, AsksPush, AsksPull, AsksNothing, Asks, 
 use Rattle.cs_hub.specs.Serves.{AnswersAsked, Outcome, TakesBytes, TakesGroups, or_refusal, push_answer, refused}
 use Rattle.cs_hub.specs.declared.push.PushHead.{PushHead}
 use Rattle.cs_hub.specs.declared.refusal.Refusal.TheVariants.{NoRequest, NoChangeset, NoForm, ByHub}
-use Rattle.cs_hub.specs.Pushes.{Case, CanFollow, IsRepeat, Push, entry_of}
+use Rattle.cs_hub.specs.Pushes.{Case, CanFollow, IsRepeat, Push, entry_of_push}
 use Rattle.cs_hub.specs.declared.fault.HubFault.{HubFault}
 use Rattle.cs_hub.specs.declared.fault.HubFault.TheVariants.{Ahead, Conflict, Empty, Full}
 use Rattle.cs_hub.specs.declared.push.Pushed.{Pushed}
 use Rattle.cs_hub.specs.declared.push.Pushed.TheVariants.{Accepted, Stale}
 
-abbrev Either : Type 0 → Type 0
-Either P = P ⊎ (P → ⊥)
-
 -- ---- the guards are decided
 
-no_change : (changes : List TableChanges) → Either (changes ≡ [])
+no_change : (changes : List TableChanges) → OrNot (changes ≡ [])
 no_change [] = inl refl
 no_change (first ∷ others) = inr (λ is. cc)
 
-is_below : (a b : ℕ) → Either (a < b)
+is_below : (a b : ℕ) → OrNot (a < b)
 is_below a b = elim (cases_lt a b) [ inl lt ↦ inl lt | inr ge ↦ inr (λ lt. omega arith) ]
 
-is_within : (a b : ℕ) → Either (a ≤ b)
+is_within : (a b : ℕ) → OrNot (a ≤ b)
 is_within a b = elim (cases_lt b a) [ inl lt ↦ inr (λ le. omega arith) | inr le ↦ inl le ]
 
-same_number : (a b : ℕ) → Either (a ≡ b)
+same_number : (a b : ℕ) → OrNot (a ≡ b)
 same_number a b = elim (eqb_tells a b) [ inl (e, is) ↦ inl is | inr (e, ne) ↦ inr ne ]
 
-same_bytes : (a b : List ℕ) → Either (a ≡ b)
-same_bytes a b =
-    let split : (t : Bool) → bytes_eq a b ≡ t → Either (a ≡ b) =
-    elim [
-      | true ↦ λ e. inl ((bytes_eq-Decides a b).0 e)
-      | false ↦ λ e. inr (λ is. let yes : bytes_eq a b ≡ true = (bytes_eq-Decides a b).1 is in cc)
-    ] in
-    split (bytes_eq a b) refl
-
-same_body : OneBody → (tables : List TableDef) (a b : Body) → AreTables tables → AreChangesOf tables (changes_of_body a) → AreChangesOf tables (changes_of_body b) → Either (a ≡ b)
+same_body : OneBody → (tables : List TableDef) (a b : Body) → AreTables tables → AreChangesOf tables (changes_of_body a) → AreChangesOf tables (changes_of_body b) → OrNot (a ≡ b)
 same_body one tables a b are first second =
-    elim (same_bytes (stored_body a) (stored_body b)) [
+    elim (same_bytes_or_not (stored_body a) (stored_body b)) [
       | inl is ↦ inl (one tables a b are first second is)
       | inr not ↦ inr (λ is. not (ap stored_body is))
     ]
@@ -70,7 +57,7 @@ same_parts a b origin number body =
     ∙ (ap (λ (n : ℕ). record { origin = b.origin; number = n; body = a.body }) number
     ∙ ap (λ (c : Body). record { origin = b.origin; number = b.number; body = c }) body)
 
-same_entry : OneBody → (tables : List TableDef) (a b : LogEntry) → AreTables tables → AreChangesOf tables (entry_changes a) → AreChangesOf tables (entry_changes b) → Either (a ≡ b)
+same_entry : OneBody → (tables : List TableDef) (a b : LogEntry) → AreTables tables → AreChangesOf tables (entry_changes a) → AreChangesOf tables (entry_changes b) → OrNot (a ≡ b)
 same_entry one tables a b are first second =
     elim (same_number a.origin b.origin) [
       | inr not ↦ inr (λ is. not (ap (λ (e : LogEntry). e.origin) is))
@@ -83,7 +70,7 @@ same_entry one tables a b are first second =
       ]
     ]
 
-found_entry : OneBody → (tables : List TableDef) (log : List LogEntry) (version : ℕ) (entry : LogEntry) (found : Option LogEntry) → AreTables tables → IsLog tables log → AreChangesOf tables (entry_changes entry) → slice_get log version ≡ found → Either (slice_get log version ≡ Some entry)
+found_entry : OneBody → (tables : List TableDef) (log : List LogEntry) (version : ℕ) (entry : LogEntry) (found : Option LogEntry) → AreTables tables → IsLog tables log → AreChangesOf tables (entry_changes entry) → slice_get log version ≡ found → OrNot (slice_get log version ≡ Some entry)
 found_entry one tables log version entry None are each fits is = inr (λ there. cc)
 found_entry one tables log version entry (Some kept) are each fits is =
     let next = each version kept is in
@@ -100,7 +87,7 @@ Told = Result Pushed HubFault
 abbrev Some2 : (Told → HubState → Type 0) → Type 0
 Some2 holds = (answer : Told) × (new : HubState) × holds answer new
 
-in_case : {guard : Type 0} (below : Told → HubState → Type 0) (told : Told) (after : HubState) → Either guard → Some2 below → Some2 (λ answer new. Case guard ((answer ≡ told) × (new ≡ after)) (below answer new))
+in_case : {guard : Type 0} (below : Told → HubState → Type 0) (told : Told) (after : HubState) → OrNot guard → Some2 below → Some2 (λ answer new. Case guard ((answer ≡ told) × (new ≡ after)) (below answer new))
 in_case below told after (inl holds) other = (told, after, inl (holds, (refl, refl)))
 in_case below told after (inr not) (answer, new, is) = (answer, new, inr (not, is))
 
@@ -109,7 +96,7 @@ Conflicts old push answer new = (answer ≡ Err Conflict) × (new ≡ old)
 
 abbrev OfNewest : HubState → Push → Told → HubState → Type 0
 OfNewest old push answer new =
-    Case (CanFollow old push) ((answer ≡ Ok (Accepted (push.head.base + 1))) × (new ≡ with_entry old (entry_of push))) (Conflicts old push answer new)
+    Case (CanFollow old push) ((answer ≡ Ok (Accepted (push.head.base + 1))) × (new ≡ with_entry old (entry_of_push push))) (Conflicts old push answer new)
 
 abbrev OfRoom : ℕ → HubState → Push → Told → HubState → Type 0
 OfRoom limit old push answer new =
@@ -131,10 +118,10 @@ pub push_has_answer : DefinedOrNot → OneBody → PushHasAnswer
 push_has_answer decided one limit old push hub fits =
     in_case (OfSome limit old push) (Err Empty) old (no_change push.changes)
     (in_case (OfBase limit old push) (Err Ahead) old (is_below (length old.log) push.head.base)
-    (in_case (OfOther limit old push) (Ok (Accepted (push.head.base + 1))) old (found_entry one old.opening old.log push.head.base (entry_of push) (slice_get old.log push.head.base) hub.tables hub.log fits refl)
+    (in_case (OfOther limit old push) (Ok (Accepted (push.head.base + 1))) old (found_entry one old.opening old.log push.head.base (entry_of_push push) (slice_get old.log push.head.base) hub.tables hub.log fits refl)
     (in_case (OfRoom limit old push) (Ok (Stale (length old.log))) old (is_below push.head.base (length old.log))
     (in_case (OfNewest old push) (Err Full) old (is_within limit (length old.log))
-    (in_case (Conflicts old push) (Ok (Accepted (push.head.base + 1))) (with_entry old (entry_of push)) (decided old.opening push.changes (state_of old.log))
+    (in_case (Conflicts old push) (Ok (Accepted (push.head.base + 1))) (with_entry old (entry_of_push push)) (decided old.opening push.changes (state_of old.log))
     (Err Conflict, old, (refl, refl)))))))
 
 -- ---- a request

@@ -18,7 +18,7 @@ use Rattle.cs_normal.specs.declared.normal.TableChanges.{TableChanges}
 use Rattle.cs_log.specs.declared.entry.LogEntry.{LogEntry}
 use Rattle.cs_log.specs.Laws.{AppendedIsLog}
 use Rattle.cs_log.specs.Log.{IsNextEntry, after_entry, empty_state, state_of}
-use Rattle.cs_hub.specs.Pushes.{entry_of}
+use Rattle.cs_hub.specs.Pushes.{entry_of_push}
 use Rattle.cs_hub.specs.Rows.{Rows, row_at}
 use Rattle.cs_hub.specs.Sound.{IsSound, HoldsRows, FitsMessage}
 use Rattle.cs_hub.specs.Staged.{TableState, name_and_rows, KeepsRows, AnswersStage, AnswersStages, CommitsOne, Commits, written}
@@ -63,16 +63,16 @@ pub one_more_state : (log : List LogEntry) (entry : LogEntry) → state_of (log 
 one_more_state log entry = fold-append after_entry empty_state log (entry ∷ [])
 
 -- one table after a push
-holds_grown : (log : List LogEntry) (changes : List TableChanges) (head : PushHead) (old new : TableState) → HoldsRows log old → AnswersStage changes old true → CommitsOne old new → HoldsRows (log ++ entry_of (push_of head changes) ∷ []) new
+holds_grown : (log : List LogEntry) (changes : List TableChanges) (head : PushHead) (old new : TableState) → HoldsRows log old → AnswersStage changes old true → CommitsOne old new → HoldsRows (log ++ entry_of_push (push_of head changes) ∷ []) new
 holds_grown log changes head old new holds staged commits key =
     let there = leaves_there log changes old key (Some (written old.staged key (row_at key old.rows))) holds (outcomes_leave old.rows (changes_in old.name changes) old.staged staged key) in
-    let grown : state_of (log ++ entry_of (push_of head changes) ∷ []) old.name key ≡ unwrap_or (left_at changes (state_of log) old.name key) (state_of log old.name key) =
-    ap (λ (s : State). s old.name key) (one_more_state log (entry_of (push_of head changes))) in
+    let grown : state_of (log ++ entry_of_push (push_of head changes) ∷ []) old.name key ≡ unwrap_or (left_at changes (state_of log) old.name key) (state_of log old.name key) =
+    ap (λ (s : State). s old.name key) (one_more_state log (entry_of_push (push_of head changes))) in
     let is : unwrap_or (left_at changes (state_of log) old.name key) (state_of log old.name key) ≡ written old.staged key (row_at key old.rows) =
     ap (λ (o : Option Place). unwrap_or o (state_of log old.name key)) there in
     rw commits.0 (commits.1 key ∙ sym (grown ∙ is))
 
-pub sound_grown : AppendedIsLog → (catalog : List TableDef) (log : List LogEntry) (changes : List TableChanges) (head : PushHead) (old staged new : List TableState) → IsSound catalog log old → KeepsRows old staged → AnswersStages changes staged true → Commits staged new → IsNextEntry catalog log (entry_of (push_of head changes)) → length log < MAX_ENTRIES → length (normal_spelling changes) ≤ MAX_CHANGESET → IsSound catalog (log ++ entry_of (push_of head changes) ∷ []) new
+pub sound_grown : AppendedIsLog → (catalog : List TableDef) (log : List LogEntry) (changes : List TableChanges) (head : PushHead) (old staged new : List TableState) → IsSound catalog log old → KeepsRows old staged → AnswersStages changes staged true → Commits staged new → IsNextEntry catalog log (entry_of_push (push_of head changes)) → length log < MAX_ENTRIES → length (normal_spelling changes) ≤ MAX_CHANGESET → IsSound catalog (log ++ entry_of_push (push_of head changes) ∷ []) new
 sound_grown appended catalog log changes head old staged new sound kept answers commits entry room size =
     let between = sound_kept catalog log old staged sound kept in
     record {
@@ -80,12 +80,12 @@ sound_grown appended catalog log changes head old staged new sound kept answers 
       rows = λ k d lt.
           let within : k < length staged = omega (arith, commits.as_many) in
           holds_grown log changes head (get_or staged k d) (get_or new k d) (between.rows k d within) (answers k d within) (commits.each k d within);
-      entries = appended catalog log (entry_of (push_of head changes)) sound.entries entry;
+      entries = appended catalog log (entry_of_push (push_of head changes)) sound.entries entry;
       few = simp length-append (omega arith);
-      sizes = All-append FitsMessage log (entry_of (push_of head changes) ∷ []) between.sizes (one_size head changes size);
+      sizes = All-append FitsMessage log (entry_of_push (push_of head changes) ∷ []) between.sizes (one_size head changes size);
     }
   where
-    one_size : (head : PushHead) (changes : List TableChanges) → length (normal_spelling changes) ≤ MAX_CHANGESET → All FitsMessage (entry_of (push_of head changes) ∷ [])
+    one_size : (head : PushHead) (changes : List TableChanges) → length (normal_spelling changes) ≤ MAX_CHANGESET → All FitsMessage (entry_of_push (push_of head changes) ∷ [])
     one_size head changes size zero d lt = size
     one_size head changes size (suc k) d lt = absurd (omega (arith, lt))
 

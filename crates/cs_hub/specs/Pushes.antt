@@ -19,13 +19,13 @@ pub record Push : Type 0 where
   pub changes : List TableChanges
 
 -- the entry of the log that a push becomes
-abbrev pub entry_of : Push → LogEntry
-entry_of push =
+abbrev pub entry_of_push : Push → LogEntry
+entry_of_push push =
     record { origin = push.head.origin; number = push.head.number; body = Changes push.changes }
 
 -- the entry at its base is this very push
 abbrev pub IsRepeat : List LogEntry → Push → Type 0
-IsRepeat log push = slice_get log push.head.base ≡ Some (entry_of push)
+IsRepeat log push = slice_get log push.head.base ≡ Some (entry_of_push push)
 
 -- each of its changes is defined at its place on the tables that the log makes
 abbrev pub CanFollow : HubState → Push → Type 0
@@ -43,7 +43,7 @@ Pushes limit old push answer new =
     (Case (IsRepeat old.log push) ((answer ≡ Ok (Accepted (push.head.base + 1))) × (new ≡ old))
     (Case (push.head.base < length old.log) ((answer ≡ Ok (Stale (length old.log))) × (new ≡ old))
     (Case (limit ≤ length old.log) ((answer ≡ Err Full) × (new ≡ old))
-    (Case (CanFollow old push) ((answer ≡ Ok (Accepted (push.head.base + 1))) × (new ≡ with_entry old (entry_of push)))
+    (Case (CanFollow old push) ((answer ≡ Ok (Accepted (push.head.base + 1))) × (new ≡ with_entry old (entry_of_push push)))
     ((answer ≡ Err Conflict) × (new ≡ old)))))))
 
 -- the same, or want of memory, which changes nothing

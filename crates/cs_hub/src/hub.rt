@@ -1,7 +1,7 @@
 //! The hub's log and tables, and what it answers.
 
 ghost use Rattle.std.specs.Prelude.{◌≡◌, ◌↔◌, IsTrue};
-ghost use Rattle.cs_hub.specs.Pushes.{entry_of};
+ghost use Rattle.cs_hub.specs.Pushes.{entry_of_push};
 
 use crate::answer::{SHORT, ShortAnswer, entries_answer};
 use crate::fault::HubFault;
@@ -44,7 +44,7 @@ impl Model for Hub {
 
 /// Whether the entry is this push.
 fn is_push(entry: &LogEntry, head: PushHead, changes: &Normal) -> bool
-    ensures { IsTrue result ↔ (entry.now ≡ entry_of (record { head = head; changes = changes.now })) }
+    ensures { IsTrue result ↔ (entry.now ≡ entry_of_push (record { head = head; changes = changes.now })) }
 {
     let Body::Changes(kept) = &entry.body;
     entry.origin == head.origin && entry.number == head.number && kept.same(changes)

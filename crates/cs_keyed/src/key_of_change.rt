@@ -8,11 +8,8 @@ ghost use Rattle.cs_keyed.specs.Changes.{key_bytes};
 ghost use Rattle.cs_keyed.specs.NormalForm.{HaveSameKeys, change_bytes, has_key, marked_fields};
 
 use cs_change::Change;
-use cs_record::{Cell, Record, Row};
+use cs_record::{Cell, NULL, Record, Row};
 use cs_value::Memory;
-
-/// The byte that spells NULL.
-const NULL: u8 = 5;
 
 /// The marks up to the last key column: the columns behind it are in no key, and needn't be looked at.
 #[tactic(auto, unfolding(crate::specs::NormalForm::marked_fields))]

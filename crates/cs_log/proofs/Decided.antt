@@ -5,6 +5,7 @@ use Rattle.std.specs.Str.{bytes_eq}
 use Rattle.std.specs.Cmp.{Equal-is}
 use Rattle.std.proofs.lemmas.Map.Lookups.{exact_bytes}
 use Rattle.std.proofs.lemmas.Slice.Eq.{bytes_eq-Decides}
+use Rattle.cs_value.specs.Decided.{OrNot, both_or_not, same_bytes_or_not, same_marks_or_not}
 use Rattle.cs_value.specs.Key.{Place}
 use Rattle.cs_value.specs.declared.catalog.TableDef.{TableDef}
 use Rattle.cs_change.specs.Action.{action_any, after_any}
@@ -16,55 +17,21 @@ use Rattle.cs_normal.specs.State.{State, left_at}
 use Rattle.cs_normal.specs.declared.normal.TableChanges.{TableChanges}
 use Rattle.cs_log.specs.Laws.{DefinedOrNot, NextOrNot}
 
--- it holds, or it doesn't
-abbrev Either : Type 0 → Type 0
-Either P = P ⊎ (P → ⊥)
-
-both : {P Q : Type 0} → Either P → Either Q → Either (P × Q)
-both (inl p) (inl q) = inl (p, q)
-both (inl p) (inr not) = inr (λ pq. not pq.1)
-both (inr not) q = inr (λ pq. not pq.0)
-
-one_of : {P Q : Type 0} → Either P → Either Q → Either (P ⊎ Q)
+one_of : {P Q : Type 0} → OrNot P → OrNot Q → OrNot (P ⊎ Q)
 one_of (inl p) q = inl (inl p)
 one_of (inr not) (inl q) = inl (inr q)
 one_of (inr not) (inr nor) = inr (elim [ inl p ↦ not p | inr q ↦ nor q ])
 
 -- ---- its tables are the catalog's
 
-same_name : (a b : List ℕ) → Either (a ≡ b)
-same_name a b =
-    let split : (t : Bool) → bytes_eq a b ≡ t → Either (a ≡ b) =
-    elim [
-      | true ↦ λ e. inl ((bytes_eq-Decides a b).0 e)
-      | false ↦ λ e. inr (λ is. let yes : bytes_eq a b ≡ true = (bytes_eq-Decides a b).1 is in cc)
-    ] in
-    split (bytes_eq a b) refl
+is_of_table : (table : TableDef) (changes : TableChanges) → OrNot (IsOfTable table changes)
+is_of_table table changes = both_or_not (same_bytes_or_not changes.name table.name) (same_marks_or_not changes.marks table.key_marks)
 
-same_mark : (a b : Bool) → Either (a ≡ b)
-same_mark true true = inl refl
-same_mark false false = inl refl
-same_mark true false = inr (λ is. cc)
-same_mark false true = inr (λ is. cc)
-
-same_marks : (a b : List Bool) → Either (a ≡ b)
-same_marks [] [] = inl refl
-same_marks [] (y ∷ ys) = inr (λ is. cc)
-same_marks (x ∷ xs) [] = inr (λ is. cc)
-same_marks (x ∷ xs) (y ∷ ys) =
-    elim (both (same_mark x y) (same_marks xs ys)) [
-      | inl same ↦ let first = same.0 in let others = same.1 in inl (cc)
-      | inr not ↦ inr (λ is. not (cc, cc))
-    ]
-
-is_of_table : (table : TableDef) (changes : TableChanges) → Either (IsOfTable table changes)
-is_of_table table changes = both (same_name changes.name table.name) (same_marks changes.marks table.key_marks)
-
-fits : (tables : List TableDef) (changes : List TableChanges) → Either (FitsCatalog tables changes)
+fits : (tables : List TableDef) (changes : List TableChanges) → OrNot (FitsCatalog tables changes)
 fits tables [] = inl tt
 fits [] (first ∷ others) = inr (λ it. it)
 fits (table ∷ tables) (first ∷ others) =
-    one_of (both (is_of_table table first) (fits tables others)) (fits tables (first ∷ others))
+    one_of (both_or_not (is_of_table table first) (fits tables others)) (fits tables (first ∷ others))
 
 -- ---- each change is defined at its place
 
@@ -138,7 +105,7 @@ is_none (Some a) e some = cc
 
 pub defined_or_not : DefinedOrNot
 defined_or_not tables changes state =
-    both (fits tables changes)
+    both_or_not (fits tables changes)
     (elim (all_of (left_at changes state) changes) [
       | inl all ↦ inl (λ name key. at_place (left_at changes state) name key changes all (unchanged changes state name key))
       | inr refused ↦ inr (λ each. is_none (left_at changes state refused.0 refused.1) refused.2 (each refused.0 refused.1))

@@ -1,6 +1,6 @@
 use Rattle.std.proofs.Common.{arith, ◌≡◌, ◌+◌, length, true, false, Ok, Err, ap, sym, subst, rules}
 use Rattle.cs_hub.specs.Hub.{HubState, with_entry}
-use Rattle.cs_hub.specs.Pushes.{Pushes, CanFollow, entry_of}
+use Rattle.cs_hub.specs.Pushes.{Pushes, CanFollow, entry_of_push}
 use Rattle.cs_hub.specs.declared.fault.HubFault.TheVariants.{Conflict}
 use Rattle.cs_hub.specs.declared.hub.TheConstants.{MAX_ENTRIES}
 use Rattle.cs_hub.specs.declared.push.Pushed.TheVariants.{Accepted}
@@ -54,4 +54,4 @@ returns c =
     let taken = next MAX_ENTRIES c.args.self.now push (search rules) (omega (arith, c.self.inside.log.ok.0)) (omega (arith, c.self.inside.log.ok.0))
     (subst (λ (h : HubState). CanFollow h push) c.self.view_is on) in
     rw (c.push_reserved.ensures.items, c.reserve.ensures.items)
-    (subst (λ (h : HubState). Pushes MAX_ENTRIES c.args.self.now push (Ok (Accepted (c.args.head.base + 1))) (with_entry h (entry_of push))) (sym c.self.view_is) taken)
+    (subst (λ (h : HubState). Pushes MAX_ENTRIES c.args.self.now push (Ok (Accepted (c.args.head.base + 1))) (with_entry h (entry_of_push push))) (sym c.self.view_is) taken)
