@@ -266,36 +266,46 @@ fn pushes_are_tried(rt: HostRuntime) -> Result<(), Fail> {
     Ok(())
 }
 
+/// Whether applying the changes of one group tells this, where the conflicts are answered by these answers in turn.
+fn tells(
+    alloc: Global,
+    header: &[u8],
+    changes: &[([u8; 2], u8, &[u8])],
+    answers: &[Resolution],
+    expected: &str,
+) -> Result<bool, Memory> {
+    let bytes = group(alloc, header, changes)?;
+    Ok(told(alloc, &bytes, answers)?.as_slice() == expected.as_bytes())
+}
+
 #[test]
 fn worked_rows(rt: HostRuntime) -> Result<(), Fail> {
     let alloc = rt.alloc();
-    let delete = group(alloc, FIRST, &[(DELETE, 1, b"v2")])?;
-    assert_eq!(rt;
-        told(alloc, &delete, &[Resolution::Omit])?.as_slice(),
-        "0 0 1".as_bytes()
+    let delete: [([u8; 2], u8, &[u8]); 1] = [(DELETE, 1, b"v2")];
+    assert!(rt; tells(alloc, FIRST, &delete, &[Resolution::Omit], "0 0 1")?);
+    assert!(rt; tells(alloc, FIRST, &delete, &[Resolution::Replace], "01- 1 0 1")?);
+    let missing: [([u8; 2], u8, &[u8]); 1] = [(DELETE, 2, b"x")];
+    assert!(rt;
+        tells(
+            alloc,
+            FIRST,
+            &missing,
+            &[Resolution::Replace],
+            "Misuse20-2x - 2"
+        )?
     );
-    assert_eq!(rt;
-        told(alloc, &delete, &[Resolution::Replace])?.as_slice(),
-        "01- 1 0 1".as_bytes()
-    );
-    let missing = group(alloc, FIRST, &[(DELETE, 2, b"x")])?;
-    assert_eq!(rt;
-        told(alloc, &missing, &[Resolution::Replace])?.as_slice(),
-        "Misuse20-2x - 2".as_bytes()
-    );
-    let twice = group(alloc, FIRST, &[(INSERT, 5, b"a"), (INSERT, 5, b"b")])?;
-    assert_eq!(rt;
-        told(alloc, &twice, &[Resolution::Replace])?.as_slice(),
-        "05=b 1 0 3".as_bytes()
-    );
-    let both = group(alloc, FIRST, &[(DELETE, 1, b"v2"), (INSERT, 1, b"z")])?;
+    let twice: [([u8; 2], u8, &[u8]); 2] = [(INSERT, 5, b"a"), (INSERT, 5, b"b")];
+    assert!(rt; tells(alloc, FIRST, &twice, &[Resolution::Replace], "05=b 1 0 3")?);
+    let both: [([u8; 2], u8, &[u8]); 2] = [(DELETE, 1, b"v2"), (INSERT, 1, b"z")];
     let answers = [Resolution::Omit, Resolution::Abort];
-    assert_eq!(rt;
-        told(alloc, &both, &answers)?.as_slice(),
-        "Aborted30+1z 1v1 13".as_bytes()
-    );
-    let unknown = group(alloc, UNKNOWN, &[(INSERT, 1, b"a")])?;
-    assert_eq!(rt; told(alloc, &unknown, &[])?.as_slice(), " 1 ".as_bytes());
+    assert!(rt; tells(alloc, FIRST, &both, &answers, "Aborted30+1z 1v1 13")?);
+    assert!(rt; tells(alloc, UNKNOWN, &[(INSERT, 1, b"a")], &[], " 1 ")?);
+    Ok(())
+}
+
+#[test]
+fn null_in_a_key(rt: HostRuntime) -> Result<(), Fail> {
+    let alloc = rt.alloc();
     let mut null = Vec::from_slice(alloc, FIRST)?;
     null.extend_from_slice(&[0x12, 0, 5, 3, 1, b'a'])?;
     assert_eq!(rt; told(alloc, &null, &[])?.as_slice(), "NullKey ".as_bytes());
