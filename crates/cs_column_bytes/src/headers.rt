@@ -1,10 +1,10 @@
 //! Headers, and whether those of one table have the same column bytes.
 
-ghost use Rattle.std.specs.Prelude.{◌≡◌, ◌↔◌, ◌++◌, ℕ, List, IfOk, IsTrue, MatchBool, OnOk, length, take};
+ghost use Rattle.std.specs.Prelude.{◌≡◌, ◌↔◌, ◌++◌, ℕ, List, IfOk, IsTrue, MatchBool, OnOk, length, map, take};
 ghost use Rattle.std.specs.Cmp.Lexicographic.{slice_cmp};
 ghost use Rattle.std.specs.Ordering.{nat_cmp};
 ghost use Rattle.cs_change.specs.Spelling.{flag_byte, is_nonzero};
-ghost use Rattle.cs_column_bytes.specs.KeyPlaces.{heads_of, blob_heads_of, HaveOneOrder, HasTwoOrders};
+ghost use Rattle.cs_column_bytes.specs.KeyPlaces.{HaveOneOrder, HasTwoOrders};
 ghost use Rattle.cs_column_bytes.specs.Steps.{flags_of, head_of, heads_behind, kind_cmp, DifferInOrder, FirstColumns, NeighboursAgree};
 
 use cs_blob::BlobGroup;
@@ -23,33 +23,47 @@ pub struct Header<'a> {
     pub marks: &'a [u8],
 }
 
-/// Appends the headers of a changeset. At an `Err` what stood there stands in front of what was appended.
-pub fn put_headers<'a>(groups: &'a [Group<'_>], headers: &mut Vec<Header<'a>>) -> Result<(), Memory>
-    ensures ok { OnOk result (heads_behind headers.new.items ≡ heads_behind headers.old.items ++ heads_of groups.now) }
-    ensures kept { take (length headers.old.items) headers.new.items ≡ headers.old.items }
-{
-    for group in groups {
-        headers.push(Header {
-            name: group.name.as_str(),
-            marks: group.marks.as_slice(),
-        })?;
-    }
-    Ok(())
+/// A group that begins with a header: of a changeset, or of a rebase blob.
+pub trait Headed: Drop {
+    ghost head: { Self → List ℕ × List ℕ };
+
+    /// Its header.
+    fn header(&self) -> Header<'_>
+        ensures { head_of result ≡ head self.now };
 }
 
-/// Appends the headers of a rebase blob. At an `Err` what stood there stands in front of what was appended.
-pub fn put_blob_headers<'a>(
-    groups: &'a [BlobGroup<'_>],
+impl<'b> Headed for Group<'b> {
+    ghost head = { λ group. (group.name, group.marks) };
+
+    fn header(&self) -> Header<'_> {
+        Header {
+            name: self.name.as_str(),
+            marks: self.marks.as_slice(),
+        }
+    }
+}
+
+impl<'b> Headed for BlobGroup<'b> {
+    ghost head = { λ group. (group.name, group.marks) };
+
+    fn header(&self) -> Header<'_> {
+        Header {
+            name: self.name.as_str(),
+            marks: self.marks.as_slice(),
+        }
+    }
+}
+
+/// Appends the headers of groups. At an `Err` what stood there stands in front of what was appended.
+pub fn put_headers<'a, G: Headed>(
+    groups: &'a [G],
     headers: &mut Vec<Header<'a>>,
 ) -> Result<(), Memory>
-    ensures ok { OnOk result (heads_behind headers.new.items ≡ heads_behind headers.old.items ++ blob_heads_of groups.now) }
+    ensures ok { OnOk result (heads_behind headers.new.items ≡ heads_behind headers.old.items ++ map G.head groups.now) }
     ensures kept { take (length headers.old.items) headers.new.items ≡ headers.old.items }
 {
     for group in groups {
-        headers.push(Header {
-            name: group.name.as_str(),
-            marks: group.marks.as_slice(),
-        })?;
+        headers.push(group.header())?;
     }
     Ok(())
 }

@@ -8,7 +8,7 @@ mod headers;
 pub mod laws;
 mod spelling;
 
-pub use headers::{Header, has_one_order, put_blob_headers, put_headers};
+pub use headers::{Headed, Header, has_one_order, put_headers};
 pub use spelling::encode;
 
 #[cfg(test)]

@@ -85,7 +85,7 @@ fn headers_of_both<'a>(
 ) -> Result<Vec<Header<'a>>, Memory> {
     let mut headers = Vec::new(alloc);
     put_headers(groups, &mut headers)?;
-    put_blob_headers(blob, &mut headers)?;
+    put_headers(blob, &mut headers)?;
     Ok(headers)
 }
 

@@ -1,12 +1,12 @@
 -- What is asked of a blob holds, or doesn't.
-use Rattle.std.proofs.Common.{◌≡◌, suc, Bool, true, false, List, [], ◌∷◌, map, ap, arith, refl, inl, inr}
+use Rattle.std.proofs.Common.{◌≡◌, Bool, false, List, [], ◌∷◌, map, inl, inr}
 use Rattle.std.specs.Prelude.{◌≢◌, ◌⊎◌}
 use Rattle.std.specs.List.{All, AllByRecursion, Contains, IsDistinct}
 use Rattle.std.specs.Str.{bytes_eq}
 use Rattle.std.proofs.lemmas.Bool.{cases_Bool}
 use Rattle.std.proofs.lemmas.Bool.Decides.{not_from_Decides}
-use Rattle.std.proofs.lemmas.List.Elements.{All-cons, All-nil}
 use Rattle.std.proofs.lemmas.Slice.Eq.{bytes_eq-Decides}
+use Rattle.cs_value.specs.Decided.{OrNot, all_or_one, same_marks_or_not}
 use Rattle.cs_change.specs.Spelling.{marks_of}
 use Rattle.cs_blob.specs.declared.blob.BlobGroup.{BlobGroup}
 use Rattle.cs_normal.specs.declared.normal.TableChanges.{TableChanges}
@@ -14,9 +14,6 @@ use Rattle.cs_rebaser.specs.Rebased.{HasShapeOf, placed, Placed, same_spot}
 use Rattle.cs_rebaser.specs.RebasedLaws.{EachOnceOrNot, ShapesOrWrong}
 
 -- ---- places
-
-abbrev OrNot : Type 0 → Type 0
-OrNot P = P ⊎ (P → ⊥)
 
 none_alike : {K : Type 0} (eq : K → K → Bool) (x : K) (xs : List K) → OrNot (AllByRecursion (λ y. eq x y ≡ false) xs)
 none_alike eq x [] = inl tt
@@ -39,29 +36,6 @@ pub each_once_or_not : EachOnceOrNot
 each_once_or_not blob = distinct_or_not same_spot (map (λ (p : Placed). p.0) (placed blob))
 
 -- ---- shapes
-
--- where each element has one of two facts, all have the first, or one has the second
-all_or_one : {X : Type 0} (P Q : X → Type 0) → ((x : X) → P x ⊎ Q x) → (xs : List X) → All P xs ⊎ ((x : X) × Contains xs x × Q x)
-all_or_one P Q either [] = inl (All-nil P)
-all_or_one P Q either (x ∷ xs) =
-    elim (either x) [
-      | inr other ↦ inr (x, (0, omega arith, refl), other)
-      | inl holds ↦ elim (all_or_one P Q either xs) [
-        | inl all ↦ inl (All-cons P x xs holds all)
-        | inr (y, (k, within, is), other) ↦ inr (y, (suc k, omega (arith, within), is), other)
-      ]
-    ]
-
-same_marks_or_not : (a b : List Bool) → (a ≡ b) ⊎ (a ≢ b)
-same_marks_or_not [] [] = inl refl
-same_marks_or_not [] (y ∷ ys) = inr (λ e. cc)
-same_marks_or_not (x ∷ xs) [] = inr (λ e. cc)
-same_marks_or_not (true ∷ xs) (true ∷ ys) =
-    elim (same_marks_or_not xs ys) [ inl e ↦ inl (ap (λ (ms : List Bool). true ∷ ms) e) | inr n ↦ inr (λ e. n (cc)) ]
-same_marks_or_not (false ∷ xs) (false ∷ ys) =
-    elim (same_marks_or_not xs ys) [ inl e ↦ inl (ap (λ (ms : List Bool). false ∷ ms) e) | inr n ↦ inr (λ e. n (cc)) ]
-same_marks_or_not (true ∷ xs) (false ∷ ys) = inr (λ e. cc)
-same_marks_or_not (false ∷ xs) (true ∷ ys) = inr (λ e. cc)
 
 abbrev IsOfOtherShape : BlobGroup → TableChanges → Type 0
 IsOfOtherShape group table = (group.name ≡ table.name) × (marks_of group.marks ≢ table.marks)

@@ -24,7 +24,7 @@ use crate::tool::Form;
 use crate::written::{spelled_for_sqlite, spelled_normal};
 use cs_blob::BlobGroup;
 use cs_changeset::{Changeset, Group};
-use cs_column_bytes::{Header, put_blob_headers, put_headers};
+use cs_column_bytes::{Header, put_headers};
 use cs_group::normalise_alone;
 use cs_lines::{LineInput, LineOutput};
 use cs_normal::Normal;
@@ -74,7 +74,7 @@ fn headers_of_both<'a>(
 {
     let mut headers = Vec::new(alloc);
     put_headers(groups, &mut headers)?;
-    put_blob_headers(blob, &mut headers)?;
+    put_headers(blob, &mut headers)?;
     Ok(headers)
 }
 
