@@ -119,10 +119,7 @@ pub fn write_combined(alloc: Global, inputs: &[u8], lengths: &[usize], output: &
     ensures fit { AreFitInputs lengths.now inputs.now → TellsNoFault result }
 {
     match combined_bytes(alloc, inputs, lengths) {
-        Ok(bytes) => {
-            hand_over(&bytes, output);
-            Answer::read(bytes.len())
-        }
+        Ok(bytes) => hand_over(&bytes, output),
         Err(answer) => answer,
     }
 }
@@ -141,10 +138,7 @@ pub fn write_inverse(alloc: Global, input: &[u8], output: &mut [u8]) -> Answer
     ensures fit { IsFitAlone input.now → TellsNoFault result }
 {
     match inverse_bytes(alloc, input) {
-        Ok(bytes) => {
-            hand_over(&bytes, output);
-            Answer::read(bytes.len())
-        }
+        Ok(bytes) => hand_over(&bytes, output),
         Err(answer) => answer,
     }
 }

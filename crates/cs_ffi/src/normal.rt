@@ -75,10 +75,7 @@ pub fn write_normal(alloc: Global, declared: &[u8], input: &[u8], output: &mut [
     changesets();
     no_fault_where_fit();
     match normal_bytes(alloc, declared, input) {
-        Ok(bytes) => {
-            hand_over(&bytes, output);
-            Answer::read(bytes.len())
-        }
+        Ok(bytes) => hand_over(&bytes, output),
         Err(answer) => answer,
     }
 }

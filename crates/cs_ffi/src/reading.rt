@@ -40,13 +40,15 @@ pub fn count(alloc: Global, input: &[u8]) -> Answer
     }
 }
 
-/// Copies the bytes to the front of the caller's memory if they have room there.
-pub fn hand_over(bytes: &[u8], output: &mut [u8])
-    ensures { IsHanded bytes.now output.old output.new }
+/// Copies the bytes to the front of the caller's memory if they have room there, and answers how many they are.
+pub fn hand_over(bytes: &[u8], output: &mut [u8]) -> Answer
+    ensures handed { IsHanded bytes.now output.old output.new }
+    ensures told { TellsCount (length bytes.now) result }
 {
     if bytes.len() <= output.len() {
         output[..bytes.len()].copy_from_slice(bytes);
     }
+    Answer::read(bytes.len())
 }
 
 /// Reads a changeset and writes it again into the caller's memory. Where it has no room there, nothing is written, and
@@ -63,11 +65,8 @@ pub fn reencode(alloc: Global, input: &[u8], output: &mut [u8]) -> Answer
         → TellsFault fault offset result }
 {
     match read(alloc, input) {
-        Ok(_) => {
-            // What was read is spelled by exactly these bytes.
-            hand_over(input, output);
-            Answer::read(input.len())
-        }
+        // What was read is spelled by exactly these bytes.
+        Ok(_) => hand_over(input, output),
         Err(first_fault) => Answer::refused(first_fault),
     }
 }

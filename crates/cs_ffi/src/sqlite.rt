@@ -62,10 +62,7 @@ pub fn write_for_sqlite(alloc: Global, declared: &[u8], input: &[u8], output: &m
     no_fault_where_fit();
     one_order_or_two();
     match bytes_for_sqlite(alloc, declared, input) {
-        Ok(bytes) => {
-            hand_over(&bytes, output);
-            Answer::read(bytes.len())
-        }
+        Ok(bytes) => hand_over(&bytes, output),
         Err(answer) => answer,
     }
 }

@@ -16,6 +16,7 @@ use Rattle.cs_change.specs.Spelling.{FitsChangeset}
 use Rattle.cs_change.specs.declared.change.Change.{Change}
 use Rattle.cs_change.specs.declared.group.Group.{Group}
 use Rattle.cs_order.specs.Order.{Keys, by_bytes, same_bytes}
+use Rattle.cs_order.specs.Facts.{same_is, Above, above_more, cons_sorted}
 use Rattle.cs_keyed.specs.Changes.{Changes, change_at, IsOrdered}
 use Rattle.cs_normal.specs.Headers.{header, headers, has_other_name, tables_of_headers, CatalogOrHeaderFault}
 use Rattle.cs_normal.specs.Laws.{FormOrUnfit}
@@ -30,25 +31,12 @@ use Rattle.cs_group.specs.Steps.Reading.{AreTakenTogether, IsReadJoinOf, read_ea
 use Rattle.cs_group.specs.Steps.TableByTable.{AreMade, no_table, next}
 use Rattle.cs_group.specs.declared.combining.CombineFault.TheVariants.{Headers, Unfit as NoForm}
 use Rattle.cs_group.proofs.GroupFolds.{by_bool, listing, listing_sorted, found_at}
-use Rattle.cs_group.proofs.Lookups.{same_is}
 use Rattle.cs_group.proofs.ReadJoins.{FormLaws, read_combined}
 
 -- ---- keys in order
 
 abbrev IsAmong : List ℕ → Keys → Type 0
 IsAmong q keys = list_any (same_bytes q) keys ≡ true
-
-abbrev Above : List ℕ → Keys → Type 0
-Above low keys = AllByRecursion (λ key. by_bytes low key ≡ Less) keys
-
-above_more : (low key : List ℕ) (keys : Keys) → by_bytes low key ≡ Less → Above key keys → Above low keys
-above_more low key [] less all = tt
-above_more low key (k ∷ keys) less all =
-    (nat_list_cmp_total.trans low key k less all.0, above_more low key keys less all.1)
-
-cons_sorted : (key : List ℕ) (keys : Keys) → Above key keys → IsStrictlySortedBy by_bytes keys → IsStrictlySortedBy by_bytes (key ∷ keys)
-unfolding IsStrictlySortedBy
-cons_sorted key keys above rising = (above, rising)
 
 no_keys : IsStrictlySortedBy by_bytes []
 unfolding IsStrictlySortedBy

@@ -17,6 +17,7 @@ use Rattle.std.proofs.lemmas.Map.Lookups.{exact_bytes}
 use Rattle.std.proofs.lemmas.Option.{get_or_from_slice_get, slice_get-get_or, slice_get_within}
 use Rattle.cs_value.specs.declared.value.Value.{Value}
 use Rattle.cs_order.specs.Order.{by_bytes, same_bytes}
+use Rattle.cs_order.specs.Facts.{same_is}
 use Rattle.cs_value.specs.Key.{Place}
 use Rattle.cs_change.specs.Action.{Action, after}
 use Rattle.cs_hub.specs.Rows.{Rows, IsInOrder, row_at, IsAt, IsGap}
@@ -26,9 +27,6 @@ Row = List Value
 
 abbrev Entry : Type 0
 Entry = List ℕ × Row
-
-pub same_is : (x y : List ℕ) → same_bytes x y ≡ true → x ≡ y
-same_is x y e = exact_bytes x y ((Equal-is (by_bytes x y)).0 e)
 
 one_key : (key x y : List ℕ) → same_bytes key x ≡ true → same_bytes key y ≡ same_bytes x y
 one_key key x y e = ap (λ k. same_bytes k y) (same_is key x e)

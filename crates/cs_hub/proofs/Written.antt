@@ -4,6 +4,7 @@ use Rattle.cs_value.specs.Key.{Place}
 use Rattle.cs_change.specs.Action.{action, action_any, after, after_any}
 use Rattle.cs_change.specs.declared.change.Change.{Change}
 use Rattle.cs_order.specs.Order.{same_bytes, by_bytes}
+use Rattle.cs_order.specs.Facts.{same_is}
 use Rattle.cs_keyed.specs.Changes.{Changes, change_at, IsOrdered}
 use Rattle.cs_hub.specs.Rows.{Rows, row_at}
 use Rattle.std.proofs.lemmas.Cmp.{nat_list_cmp_total, eq_by_cmp_equiv}
@@ -11,7 +12,7 @@ use Rattle.std.proofs.lemmas.Map.{lookup-none}
 use Rattle.std.proofs.lemmas.Map.Entries.{none_past_head}
 use Rattle.std.proofs.lemmas.Map.Keys.{IsDistinct-from_sorted, sorted_tail}
 use Rattle.std.specs.Map.{keys_of}
-use Rattle.cs_hub.proofs.Sorted.{same_is, same_refl}
+use Rattle.cs_hub.proofs.Sorted.{same_refl}
 use Rattle.cs_hub.specs.Staged.{Writes, with_write, outcomes, written}
 
 -- what a change, if any, leaves at its place; outer none where it is not defined there

@@ -11,6 +11,7 @@ use Rattle.std.proofs.lemmas.Map.Keys.{IsDistinct-from_sorted}
 use Rattle.std.proofs.lemmas.Map.Lookups.{exact_bytes}
 use Rattle.std.proofs.lemmas.Option.{slice_get-map, slice_get_within, get_or_from_slice_get}
 use Rattle.cs_order.specs.Order.{by_bytes, key_at, same_bytes}
+use Rattle.cs_order.specs.Facts.{same_is}
 use Rattle.cs_change.specs.declared.change.Change.{Change}
 use Rattle.cs_keyed.specs.Changes.{Changes, change_at, IsOrdered}
 
@@ -42,9 +43,6 @@ found entries key place ordered within is =
 by_test : (t : Bool) (P : Type 0) → (t ≡ true → P) → (t ≡ false → P) → P
 by_test true P one other = one refl
 by_test false P one other = other refl
-
-same_is : (x y : List ℕ) → same_bytes x y ≡ true → x ≡ y
-same_is x y e = exact_bytes x y ((Equal-is (by_bytes x y)).0 e)
 
 behind : (key first : List ℕ) (keys : List (List ℕ)) → Contains keys key → Contains (first ∷ keys) key
 behind key first keys (k, within, is) = (suc k, omega (arith, within), is)

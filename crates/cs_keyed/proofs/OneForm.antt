@@ -6,6 +6,7 @@ use Rattle.cs_value.specs.declared.value.Field.TheVariants.{Undefined, Is}
 use Rattle.cs_change.specs.Columns.{is_blank}
 use Rattle.cs_change.specs.Listed.{listed}
 use Rattle.cs_change.specs.declared.change.Change.TheVariants.{Update}
+use Rattle.cs_change.specs.Facts.{both}
 use Rattle.cs_keyed.specs.NormalForm.{normal_old, normal_new, normal_olds, normal_news, normal_form}
 use Rattle.cs_keyed.specs.Steps.Forms.{is_normal_column, normal_columns}
 
@@ -17,10 +18,6 @@ on_ok (Err e) P Q f p = tt
 pub none_left : (marks : List Bool) (flag : Bool) (old new : List Field) → is_blank (normal_news marks old new) ≡ true → listed (normal_form marks (Update flag old new)) ≡ []
 unfolding normal_form
 none_left marks flag old new none = rw none refl
-
-both : (a b : Bool) → (a && b) ≡ true → (a ≡ true) × (b ≡ true)
-both true b e = (refl, e)
-both false b e = cc
 
 or_true : (m : Bool) (o : Field) → (if m || true then o else Undefined) ≡ o
 or_true true o = refl

@@ -1,5 +1,6 @@
 pub mod Changes
 pub mod Facts
+pub mod InRange
 pub mod Keyed
 pub mod Laws
 pub mod NormalForm

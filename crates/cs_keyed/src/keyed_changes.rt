@@ -48,6 +48,7 @@ fn put_both(
 }
 
 /// Appends a key and the normal form of a change, if one is left. An `Err` leaves nothing.
+// Six parameters: the change with its key and its table's key columns, and the room and the two lists that are written into.
 #[inline(always)]
 fn put_form(
     keys: &mut Keys,

@@ -11,6 +11,7 @@ use Rattle.cs_value.specs.declared.catalog.TableDef.{TableDef}
 use Rattle.cs_change.specs.Action.{action_any, after_any}
 use Rattle.cs_change.specs.declared.change.Change.{Change}
 use Rattle.cs_order.specs.Order.{by_bytes, same_bytes}
+use Rattle.cs_order.specs.Facts.{same_is}
 use Rattle.cs_keyed.specs.Changes.{Changes, change_at}
 use Rattle.cs_normal.specs.Normal.{FitsCatalog, IsOfTable, change_of, changes_in}
 use Rattle.cs_normal.specs.State.{State, left_at}
@@ -68,9 +69,6 @@ all_in left name (keyed ∷ changes) =
 all_of : (left : Left) (tables : List TableChanges) → AllOf left tables ⊎ Refuses left
 all_of left [] = inl tt
 all_of left (table ∷ tables) = all_or_one (all_in left table.name table.changes) (all_of left tables)
-
-same_is : (x y : List ℕ) → same_bytes x y ≡ true → x ≡ y
-same_is x y e = exact_bytes x y ((Equal-is (by_bytes x y)).0 e)
 
 -- what is left where no change stands
 abbrev LeavesElsewhere : Left → List ℕ → List ℕ → Option Change → Type 0

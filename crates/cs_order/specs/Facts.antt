@@ -1,15 +1,24 @@
--- Keys that rise are sorted, and sorted keys rise. Crates above cite it.
-use Rattle.std.proofs.Common.{◌≡◌, ℕ, Bool, true, false, ◌&&◌, List, [], ◌∷◌, refl}
+-- Equal keys, keys that rise, and the places of a key. Crates above cite it.
+use Rattle.std.proofs.Common.{◌≡◌, ℕ, ◌<◌, Bool, true, false, ◌&&◌, List, [], ◌∷◌, length, refl, sym, ◌∙◌, arith}
 use Rattle.std.specs.Prelude.{◌↔◌}
+use Rattle.std.specs.Cmp.{Equal-is}
 use Rattle.std.specs.Ordering.{is_lt}
 use Rattle.std.specs.declared.cmp.Ordering.{Ordering}
 use Rattle.std.specs.declared.cmp.Ordering.TheVariants.{Less, Equal, Greater}
-use Rattle.std.specs.List.{AllByRecursion}
+use Rattle.std.specs.List.{All, AllByRecursion, Contains}
 use Rattle.std.specs.List.Sorted.{IsStrictlySortedBy}
 use Rattle.std.proofs.lemmas.Cmp.{nat_list_cmp_total}
+use Rattle.std.proofs.lemmas.List.{get_or_default}
+use Rattle.std.proofs.lemmas.List.Elements.{All-filter, filter_passes}
+use Rattle.std.proofs.lemmas.List.FromFn.{get_or-range_with_len, length-range_with_len}
 use Rattle.std.proofs.lemmas.Map.Keys.{sorted_head, sorted_tail}
-use Rattle.cs_order.specs.Order.{Keys, by_bytes}
+use Rattle.std.proofs.lemmas.Map.Lookups.{exact_bytes}
+use Rattle.cs_order.specs.Groups.{has_bytes, places_of}
+use Rattle.cs_order.specs.Order.{Keys, by_bytes, key_at, places, same_bytes}
 use Rattle.cs_order.specs.Steps.Rising.{ascend, ascend_from}
+
+pub same_is : (x y : List ℕ) → same_bytes x y ≡ true → x ≡ y
+same_is x y e = exact_bytes x y ((Equal-is (by_bytes x y)).0 e)
 
 pub both_true : (a b : Bool) → (a && b) ≡ true → (a ≡ true) × (b ≡ true)
 both_true true b h = (refl, h)
@@ -68,3 +77,25 @@ sorted_ascend (k ∷ keys) o = sorted_ascend_from k keys o
 
 pub ascend_tells : (keys : Keys) → (ascend keys ≡ true) ↔ IsStrictlySortedBy by_bytes keys
 ascend_tells keys = (ascend_sorted keys, sorted_ascend keys)
+
+-- ---- the places of a key
+
+pub places_within : (keys : Keys) → All (λ place. place < length keys) (places keys)
+places_within keys k d less =
+    let n = length-range_with_len 0 (length keys) in
+    let at : k < length keys = omega (arith, less, n) in
+    omega (arith, get_or-range_with_len 0 (length keys) k d at, at)
+
+-- the first place of a key holds it
+pub first_place : (keys : Keys) (q : List ℕ) (p : ℕ) (ps : List ℕ) → places_of keys q ≡ p ∷ ps → (q ≡ key_at keys p) × (p < length keys)
+first_place keys q p ps is =
+    let passes : All (λ x. has_bytes keys q x ≡ true) (p ∷ ps) = rw is at (filter_passes (has_bytes keys q) (places keys)) in
+    let within : All (λ x. x < length keys) (p ∷ ps) = rw is at (All-filter (has_bytes keys q) (λ x. x < length keys) (places keys) (places_within keys)) in
+    (same_is q (key_at keys p) (passes 0 p (omega arith)), within 0 p (omega arith))
+
+-- a key that isn't there has none
+pub no_places : (keys : Keys) (q : List ℕ) (ps : List ℕ) → (Contains keys q → ⊥) → places_of keys q ≡ ps → places_of keys q ≡ []
+no_places keys q [] missing is = is
+no_places keys q (p ∷ ps) missing is =
+    let first = first_place keys q p ps is in
+    absurd (missing (p, first.1, get_or_default keys p q [] first.1 ∙ sym first.0))
