@@ -2,11 +2,11 @@
 
 use crate::trying::try_push;
 use cs_apply::*;
-use cs_change::{Change, Changeset};
+use cs_change::Change;
 use cs_changeset::read;
 use cs_conflict::{Conflict, ConflictBuf, Kind, Resolution};
 use cs_map_store::MapStore;
-use cs_normal::normalise;
+use cs_normal::{Normal, normalise};
 use cs_record::Row;
 use cs_store::{Batch, PlaceEdit, RowStore, Trip};
 use cs_value::{Catalog, Items, Memory, TableDef, Text};
@@ -182,24 +182,55 @@ fn put_fault(fault: &ApplyFault, out: &mut Vec<u8>) -> Result<(), Memory> {
     }
 }
 
-/// What `apply` makes of these bytes, where the conflicts are answered by these answers in turn and then by `Abort`.
-fn told(alloc: Global, bytes: &[u8], answers: &[Resolution]) -> Result<Vec<u8>, Memory> {
-    let mut out = Vec::new(alloc);
+/// Puts what applying gives, or the fault.
+fn put_outcome(outcome: &Result<Applied, ApplyFault>, out: &mut Vec<u8>) -> Result<(), Memory> {
+    match outcome {
+        Ok(applied) => put_applied(applied, out),
+        Err(fault) => put_fault(fault, out),
+    }
+}
+
+/// Puts the numbers of the kinds that were asked.
+fn put_kinds(kinds: &[u8], out: &mut Vec<u8>) -> Result<(), Memory> {
+    for kind in kinds {
+        if *kind != 0 {
+            put_digit(*kind, out)?;
+        }
+    }
+    Ok(())
+}
+
+/// Applies these bytes to the store. Bytes that can't be read for want of memory are told as that.
+fn apply_bytes<S: RowStore, H: FnMut(&Conflict<'_>) -> Resolution>(
+    alloc: Global,
+    store: &mut S,
+    bytes: &[u8],
+    answer: &mut H,
+) -> Result<Applied, ApplyFault> {
     let Some(catalog) = catalog(alloc)? else {
-        return Ok(out);
+        return Err(ApplyFault::Memory);
     };
     let Ok(changeset) = read(alloc, bytes) else {
-        return Ok(out);
+        return Err(ApplyFault::Memory);
     };
+    apply(alloc, store, &catalog, &changeset, answer)
+}
+
+/// Applies these bytes to the row of `t1`; the conflicts are answered by these answers in turn, and the kinds of the first
+/// four are kept.
+fn answered(
+    alloc: Global,
+    bytes: &[u8],
+    answers: &[Resolution],
+    kinds: &mut [u8; 4],
+) -> Result<Applied, ApplyFault> {
     let mut store = store(alloc)?;
     let mut rest = answers;
-    let mut kinds = [0u8; 4];
     let mut asked = 0;
-    let applied = apply(
+    apply_bytes(
         alloc,
         &mut store,
-        &catalog,
-        &changeset,
+        bytes,
         &mut |conflict: &Conflict<'_>| {
             if asked < 4 {
                 kinds[asked] = conflict.kind as u8;
@@ -213,56 +244,58 @@ fn told(alloc: Global, bytes: &[u8], answers: &[Resolution]) -> Result<Vec<u8>, 
                 None => Resolution::Abort,
             }
         },
-    );
-    match &applied {
-        Ok(applied) => put_applied(applied, &mut out)?,
-        Err(fault) => put_fault(fault, &mut out)?,
-    }
+    )
+}
+
+/// What `apply` makes of these bytes, where the conflicts are answered by these answers in turn and then by `Abort`.
+fn told(alloc: Global, bytes: &[u8], answers: &[Resolution]) -> Result<Vec<u8>, Memory> {
+    let mut out = Vec::new(alloc);
+    let mut kinds = [0u8; 4];
+    put_outcome(&answered(alloc, bytes, answers, &mut kinds), &mut out)?;
     out.push(b' ')?;
-    for kind in &kinds {
-        if *kind != 0 {
-            put_digit(*kind, &mut out)?;
-        }
-    }
+    put_kinds(&kinds, &mut out)?;
     Ok(out)
 }
 
-/// What trying these bytes as a push answers.
-fn tried(alloc: Global, bytes: &[u8]) -> Result<Vec<u8>, Memory> {
-    let mut out = Vec::new(alloc);
-    let Some(catalog) = catalog(alloc)? else {
-        return Ok(out);
-    };
+/// The normal form of these bytes.
+fn normal_of(alloc: Global, catalog: &Catalog, bytes: &[u8]) -> Result<Normal, ApplyFault> {
     let Ok(changeset) = read(alloc, bytes) else {
-        return Ok(out);
+        return Err(ApplyFault::Memory);
     };
-    let Ok(push) = normalise(alloc, &catalog, &changeset) else {
-        return Ok(out);
+    match normalise(alloc, catalog, &changeset) {
+        Ok(normal) => Ok(normal),
+        Err(_) => Err(ApplyFault::Memory),
+    }
+}
+
+/// Tries these bytes as a push.
+fn try_bytes(alloc: Global, bytes: &[u8]) -> Result<Applied, ApplyFault> {
+    let Some(catalog) = catalog(alloc)? else {
+        return Err(ApplyFault::Memory);
     };
+    let push = normal_of(alloc, &catalog, bytes)?;
     if !push.fits(&catalog) {
-        return Ok(out);
+        return Err(ApplyFault::Memory);
     }
     let mut store = store(alloc)?;
-    match try_push(alloc, &mut store, &catalog, &push) {
-        Ok(applied) => put_applied(&applied, &mut out)?,
-        Err(fault) => put_fault(&fault, &mut out)?,
-    }
-    Ok(out)
+    try_push(alloc, &mut store, &catalog, &push)
+}
+
+/// Whether trying the changes of one group as a push tells this.
+fn tries(alloc: Global, changes: &[([u8; 2], u8, &[u8])], expected: &str) -> Result<bool, Memory> {
+    let bytes = group(alloc, FIRST, changes)?;
+    let mut out = Vec::new(alloc);
+    put_outcome(&try_bytes(alloc, &bytes), &mut out)?;
+    Ok(out.as_slice() == expected.as_bytes())
 }
 
 #[test]
 fn pushes_are_tried(rt: HostRuntime) -> Result<(), Fail> {
     let alloc = rt.alloc();
-    let defined = group(alloc, FIRST, &[(DELETE, 1, b"v1"), (INSERT, 2, b"a")])?;
-    assert_eq!(rt;
-        tried(alloc, &defined)?.as_slice(),
-        "01- 02=a  0".as_bytes()
-    );
-    let conflicting = group(alloc, FIRST, &[(INSERT, 2, b"a"), (INSERT, 1, b"z")])?;
-    assert_eq!(rt;
-        tried(alloc, &conflicting)?.as_slice(),
-        "Aborted30+1z 1v1".as_bytes()
-    );
+    let defined: [([u8; 2], u8, &[u8]); 2] = [(DELETE, 1, b"v1"), (INSERT, 2, b"a")];
+    assert!(rt; tries(alloc, &defined, "01- 02=a  0")?);
+    let conflicting: [([u8; 2], u8, &[u8]); 2] = [(INSERT, 2, b"a"), (INSERT, 1, b"z")];
+    assert!(rt; tries(alloc, &conflicting, "Aborted30+1z 1v1")?);
     Ok(())
 }
 
@@ -319,7 +352,7 @@ const SECOND: &[u8] = &[0x54, 4, 1, 0, 0, 0, 0x74, 0x32, 0];
 
 /// A row that stands in a table, a changeset, the answer to each of its conflicts, and the blob that they leave.
 #[derive(Drop)]
-struct Answered<'a> {
+struct BlobCase<'a> {
     table: u32,
     row: &'a [&'a [u8]],
     changeset: &'a [&'a [u8]],
@@ -335,14 +368,13 @@ fn joined(alloc: Global, pieces: &[&[u8]]) -> Result<Vec<u8>, Memory> {
     Ok(bytes)
 }
 
-/// The blob that is left where the key 1 has the row, or none where it has no bytes.
-fn blob_left(alloc: Global, case: &Answered<'_>) -> Result<Vec<u8>, ApplyFault> {
+/// A store in which the key 1 has the row, or none where it has no bytes.
+fn store_with(alloc: Global, table: u32, row: Vec<u8>) -> Result<MapStore, ApplyFault> {
     let mut store = MapStore::new(alloc);
-    let row = joined(alloc, case.row)?;
     let mut rows = Vec::new(alloc);
     if !row.is_empty() {
         rows.push(PlaceEdit {
-            table: case.table,
+            table,
             key: Vec::from_slice(alloc, ONE)?,
             body: Some(row),
         })?;
@@ -353,91 +385,104 @@ fn blob_left(alloc: Global, case: &Answered<'_>) -> Result<Vec<u8>, ApplyFault> 
         meta: Vec::new(alloc),
         log: None,
     })?;
-    let bytes = joined(alloc, case.changeset)?;
-    let (Some(catalog), Ok(changeset)) = (catalog(alloc)?, read(alloc, &bytes)) else {
-        return Err(ApplyFault::Memory);
-    };
-    let applied = apply(
-        alloc,
-        &mut store,
-        &catalog,
-        &changeset,
-        &mut |_: &Conflict<'_>| case.answer,
-    )?;
-    Ok(applied.blob)
+    Ok(store)
 }
 
+/// Whether the case leaves its blob.
+fn leaves_blob(alloc: Global, case: &BlobCase<'_>) -> Result<bool, ApplyFault> {
+    let mut store = store_with(alloc, case.table, joined(alloc, case.row)?)?;
+    let bytes = joined(alloc, case.changeset)?;
+    let answer = case.answer;
+    let applied = apply_bytes(alloc, &mut store, &bytes, &mut |_: &Conflict<'_>| answer)?;
+    Ok(applied.blob.as_slice() == joined(alloc, case.blob)?.as_slice())
+}
+
+/// Texts, as values of a row.
+const V1: &[u8] = b"\x03\x02v1";
+
+const V2: &[u8] = b"\x03\x02v2";
+
+const V9: &[u8] = b"\x03\x02v9";
+
+const B0: &[u8] = b"\x03\x02b0";
+
+const B1: &[u8] = b"\x03\x02b1";
+
+const B2: &[u8] = b"\x03\x02b2";
+
+const C0: &[u8] = b"\x03\x02c0";
+
+const C2: &[u8] = b"\x03\x02c2";
+
+const D0: &[u8] = b"\x03\x02d0";
+
+const D1: &[u8] = b"\x03\x02d1";
+
 /// Each kind of change, answered by OMIT and by REPLACE; changes that don't conflict leave nothing.
+const CASES: &[BlobCase<'static>] = &[
+    BlobCase {
+        table: 0,
+        row: &[ONE, V1],
+        changeset: &[FIRST, &[0x12, 0], ONE, V2],
+        answer: Resolution::Omit,
+        blob: &[FIRST, &[0x12, 0], ONE, V2],
+    },
+    BlobCase {
+        table: 1,
+        row: &[ONE, B1, C0, D0],
+        changeset: &[SECOND, &[0x17, 0], ONE, B0, C0, &[0, 0], B2, C2, &[0]],
+        answer: Resolution::Replace,
+        blob: &[SECOND, &[0x12, 1], ONE, B2, C2, &[0]],
+    },
+    BlobCase {
+        table: 1,
+        row: &[ONE, B1, C0, D1],
+        changeset: &[SECOND, &[0x17, 0], ONE, B0, &[0, 0, 0], B2, &[0, 0]],
+        answer: Resolution::Omit,
+        blob: &[SECOND, &[0x12, 0], ONE, B2, &[0, 0]],
+    },
+    BlobCase {
+        table: 1,
+        row: &[ONE, B0, C0, D1],
+        changeset: &[SECOND, &[0x17, 0], ONE, B0, &[0, 0, 0], B2, &[0, 0]],
+        answer: Resolution::Omit,
+        blob: &[],
+    },
+    BlobCase {
+        table: 0,
+        row: &[ONE, V9],
+        changeset: &[FIRST, &[0x17, 0], ONE, V1, &[0], V9],
+        answer: Resolution::Omit,
+        blob: &[FIRST, &[0x12, 0], ONE, V9],
+    },
+    BlobCase {
+        table: 0,
+        row: &[],
+        changeset: &[FIRST, &[0x17, 0], ONE, V1, &[0], V2],
+        answer: Resolution::Omit,
+        blob: &[FIRST, &[0x12, 0], ONE, V2],
+    },
+    BlobCase {
+        table: 0,
+        row: &[],
+        changeset: &[UNKNOWN, &[9, 0], ONE, V1, FIRST, &[9, 0], ONE, V1, SECOND],
+        answer: Resolution::Omit,
+        blob: &[FIRST, &[9, 0], ONE, V1],
+    },
+    BlobCase {
+        table: 0,
+        row: &[ONE, V9],
+        changeset: &[FIRST, &[9, 0], ONE, V1],
+        answer: Resolution::Replace,
+        blob: &[FIRST, &[9, 1], ONE, V1],
+    },
+];
+
 #[test]
 fn blobs_of_answered_conflicts(rt: HostRuntime) -> Result<(), Fail> {
     let alloc = rt.alloc();
-    let (v1, v2, v9): (&[u8], &[u8], &[u8]) = (b"\x03\x02v1", b"\x03\x02v2", b"\x03\x02v9");
-    let (b0, b1, b2): (&[u8], &[u8], &[u8]) = (b"\x03\x02b0", b"\x03\x02b1", b"\x03\x02b2");
-    let (c0, c2): (&[u8], &[u8]) = (b"\x03\x02c0", b"\x03\x02c2");
-    let (d0, d1): (&[u8], &[u8]) = (b"\x03\x02d0", b"\x03\x02d1");
-    let cases = [
-        Answered {
-            table: 0,
-            row: &[ONE, v1],
-            changeset: &[FIRST, &[0x12, 0], ONE, v2],
-            answer: Resolution::Omit,
-            blob: &[FIRST, &[0x12, 0], ONE, v2],
-        },
-        Answered {
-            table: 1,
-            row: &[ONE, b1, c0, d0],
-            changeset: &[SECOND, &[0x17, 0], ONE, b0, c0, &[0, 0], b2, c2, &[0]],
-            answer: Resolution::Replace,
-            blob: &[SECOND, &[0x12, 1], ONE, b2, c2, &[0]],
-        },
-        Answered {
-            table: 1,
-            row: &[ONE, b1, c0, d1],
-            changeset: &[SECOND, &[0x17, 0], ONE, b0, &[0, 0, 0], b2, &[0, 0]],
-            answer: Resolution::Omit,
-            blob: &[SECOND, &[0x12, 0], ONE, b2, &[0, 0]],
-        },
-        Answered {
-            table: 1,
-            row: &[ONE, b0, c0, d1],
-            changeset: &[SECOND, &[0x17, 0], ONE, b0, &[0, 0, 0], b2, &[0, 0]],
-            answer: Resolution::Omit,
-            blob: &[],
-        },
-        Answered {
-            table: 0,
-            row: &[ONE, v9],
-            changeset: &[FIRST, &[0x17, 0], ONE, v1, &[0], v9],
-            answer: Resolution::Omit,
-            blob: &[FIRST, &[0x12, 0], ONE, v9],
-        },
-        Answered {
-            table: 0,
-            row: &[],
-            changeset: &[FIRST, &[0x17, 0], ONE, v1, &[0], v2],
-            answer: Resolution::Omit,
-            blob: &[FIRST, &[0x12, 0], ONE, v2],
-        },
-        Answered {
-            table: 0,
-            row: &[],
-            changeset: &[UNKNOWN, &[9, 0], ONE, v1, FIRST, &[9, 0], ONE, v1, SECOND],
-            answer: Resolution::Omit,
-            blob: &[FIRST, &[9, 0], ONE, v1],
-        },
-        Answered {
-            table: 0,
-            row: &[ONE, v9],
-            changeset: &[FIRST, &[9, 0], ONE, v1],
-            answer: Resolution::Replace,
-            blob: &[FIRST, &[9, 1], ONE, v1],
-        },
-    ];
-    for case in &cases {
-        match blob_left(alloc, case) {
-            Ok(blob) => assert_eq!(rt; blob.as_slice(), joined(alloc, case.blob)?.as_slice()),
-            Err(_) => assert!(rt; false, "not applied"),
-        }
+    for case in CASES {
+        assert!(rt; leaves_blob(alloc, case).unwrap_or(false));
     }
     Ok(())
 }
@@ -469,19 +514,12 @@ fn replaces<S: RowStore>(
     store: &mut S,
     bytes: &[u8],
 ) -> Result<Vec<u8>, ApplyFault> {
-    let mut out = Vec::new(alloc);
-    let Some(catalog) = catalog(alloc)? else {
-        return Ok(out);
-    };
-    let changeset = match read(alloc, bytes) {
-        Ok(changeset) => changeset,
-        Err(_) => return Err(ApplyFault::Memory),
-    };
     let mut answer = |conflict: &Conflict<'_>| match conflict.kind {
         Kind::NotFound => Resolution::Omit,
         Kind::DataDiffers | Kind::KeyConflict => Resolution::Replace,
     };
-    let applied = apply(alloc, store, &catalog, &changeset, &mut answer)?;
+    let applied = apply_bytes(alloc, store, bytes, &mut answer)?;
+    let mut out = Vec::new(alloc);
     put_applied(&applied, &mut out)?;
     Ok(out)
 }
@@ -489,41 +527,49 @@ fn replaces<S: RowStore>(
 /// What applying the three gives.
 const REPLACED: &[u8] = b"01=z 02=new 10 0";
 
+/// The one row of `t1`, behind its key.
+const STORED: &[u8] = b"\x01\0\0\0\0\0\0\0\x01\x01\0\0\0\0\0\0\0\x01\x03\x02v1";
+
+/// Whether a refused look-up is told, counts, and leaves the row, and the same call then succeeds.
+fn stays_where_refused(alloc: Global, bytes: &[u8], refused: u64) -> Result<bool, ApplyFault> {
+    let mut trip = Trip::new(store(alloc)?, refused);
+    let is_told = matches!(replaces(alloc, &mut trip, bytes), Err(ApplyFault::Device));
+    let stays = image(alloc, &mut trip.inner)?.as_slice() == STORED;
+    let counts = trip.failures() == 1;
+    let again = replaces(alloc, &mut trip, bytes)?;
+    Ok(is_told && stays && counts && again.as_slice() == REPLACED)
+}
+
 #[test]
 fn a_look_up_that_the_device_refuses_leaves_everything(rt: HostRuntime) -> Result<(), Fail> {
     let alloc = rt.alloc();
     let bytes = changes_of_three(alloc)?;
     for refused in 0..3u64 {
-        let mut trip = Trip::new(store(alloc)?, refused);
-        assert!(rt; matches!(replaces(alloc, &mut trip, &bytes), Err(ApplyFault::Device)));
-        assert_eq!(rt; trip.failures(), 1);
-        let rows = image(alloc, &mut trip.inner).unwrap_or(Vec::new(alloc));
-        assert_eq!(rt;
-            rows.as_slice(),
-            b"\x01\0\0\0\0\0\0\0\x01\x01\0\0\0\0\0\0\0\x01\x03\x02v1".as_slice()
-        );
-        let told = replaces(alloc, &mut trip, &bytes).unwrap_or(Vec::new(alloc));
-        assert_eq!(rt; told.as_slice(), REPLACED);
+        assert!(rt; stays_where_refused(alloc, &bytes, refused).unwrap_or(false));
     }
     Ok(())
 }
 
-/// Applies, and once more where that was refused: whether the refusal was for memory and left what was there.
+/// Whether the refusal was for memory and left the row, and the same call then succeeds.
+fn stays_without_memory(
+    alloc: Global,
+    store: &mut MapStore,
+    bytes: &[u8],
+    fault: &ApplyFault,
+) -> Result<bool, ApplyFault> {
+    let stays = image(alloc, store)?.as_slice() == STORED;
+    let again = replaces(alloc, store, bytes)?;
+    Ok(matches!(fault, ApplyFault::Memory) && stays && again.as_slice() == REPLACED)
+}
+
+/// Applies, and once more where that was refused.
 fn replaces_at_last(alloc: Global) -> Result<bool, ApplyFault> {
     let bytes = changes_of_three(alloc)?;
     let mut store = store(alloc)?;
-    let before = image(alloc, &mut store)?;
-    let told = replaces(alloc, &mut store, bytes.as_slice());
-    if let Ok(told) = &told {
-        return Ok(told.as_slice() == REPLACED);
+    match replaces(alloc, &mut store, &bytes) {
+        Ok(told) => Ok(told.as_slice() == REPLACED),
+        Err(fault) => stays_without_memory(alloc, &mut store, &bytes, &fault),
     }
-    let after = image(alloc, &mut store)?;
-    let again = replaces(alloc, &mut store, bytes.as_slice())?;
-    Ok(
-        matches!(told, Err(ApplyFault::Memory))
-            && before.as_slice() == after.as_slice()
-            && again.as_slice() == REPLACED,
-    )
 }
 
 /// Everything is as it was where memory is refused, and the same call then succeeds. `bench/refuse_tests.sh` refuses each

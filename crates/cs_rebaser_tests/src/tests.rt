@@ -2,7 +2,7 @@
 //! to bytes.
 
 use crate::lawful::{Sides, apply_by_kind, apply_by_row, apply_over_local};
-use cs_apply::{Applied, ApplyFault, apply};
+use cs_apply::{Applied, apply};
 use cs_changeset::read;
 use cs_conflict::{Conflict, Resolution};
 use cs_group::normalise_alone;
@@ -94,182 +94,194 @@ fn rebaser_of<'a>(rt: &impl Abort, alloc: Global, bytes: &'a [u8]) -> Result<Reb
     }
 }
 
-/// Rebases the local changes over the blob, and compares what is left.
+/// What is left of the local changes over the blob, as bytes.
+fn left_of(rt: &impl Abort, alloc: Global, local: &[u8], blob: &[u8]) -> Result<Vec<u8>, Fail> {
+    let normal = normal_of(alloc, local)?;
+    let rebased = rebaser_of(rt, alloc, blob)?.rebase(alloc, &normal)?;
+    let mut bytes = Vec::new(alloc);
+    rebased.encode(&mut bytes)?;
+    Ok(bytes)
+}
+
+/// Whether this is left of the local changes over the blob.
 fn rebases(
     rt: &impl Abort,
     alloc: Global,
     local: &[&[u8]],
     blob: &[&[u8]],
     left: &[&[u8]],
-) -> Result<(), Fail> {
+) -> Result<bool, Fail> {
     let local = joined(alloc, local)?;
     let blob = joined(alloc, blob)?;
-    let expected = joined(alloc, left)?;
-    let normal = normal_of(alloc, &local)?;
-    let rebaser = rebaser_of(rt, alloc, &blob)?;
-    let rebased = rebaser.rebase(alloc, &normal)?;
-    let mut bytes = Vec::new(alloc);
-    rebased.encode(&mut bytes)?;
-    assert!(rt; bytes == expected, "another changeset is left");
-    Ok(())
+    let bytes = left_of(rt, alloc, &local, &blob)?;
+    Ok(bytes == joined(alloc, left)?)
 }
+
+/// Local changes, a blob, and what is left.
+type Case = (
+    &'static [&'static [u8]],
+    &'static [&'static [u8]],
+    &'static [&'static [u8]],
+);
+
+/// One change over an entry at its place, or over none.
+const ONE_ENTRY: [Case; 12] = [
+    (
+        &[&H1, &INSERT, &K1, &V1],
+        &[&H1, &OMIT, &K1, &V2],
+        &[&H1, &UPDATE, &K1, &V2, &NONE, &V1],
+    ),
+    (&[&H1, &INSERT, &K1, &V1], &[&H1, &OMIT, &K1, &V1], &[]),
+    (
+        &[
+            &H2, &UPDATE, &K1, &B0, &NONE, &NONE, &NONE, &B1, &NONE, &NONE,
+        ],
+        &[&H2, &REPLACE, &K1, &B2, &C2, &NONE],
+        &[],
+    ),
+    (
+        &[
+            &H2,
+            &UPDATE,
+            &K1,
+            &B0,
+            &NONE,
+            &LAST_BEFORE,
+            &NONE,
+            &B1,
+            &NONE,
+            &LAST_AFTER,
+        ],
+        &[&H2, &OMIT, &K1, &B2, &NONE, &NONE],
+        &[
+            &H2,
+            &UPDATE,
+            &K1,
+            &B2,
+            &NONE,
+            &LAST_BEFORE,
+            &NONE,
+            &B1,
+            &NONE,
+            &LAST_AFTER,
+        ],
+    ),
+    (
+        &[
+            &H2,
+            &UPDATE,
+            &K1,
+            &NONE,
+            &NONE,
+            &LAST_BEFORE,
+            &NONE,
+            &NONE,
+            &NONE,
+            &LAST_AFTER,
+        ],
+        &[],
+        &[
+            &H2,
+            &UPDATE,
+            &K1,
+            &NONE,
+            &NONE,
+            &LAST_BEFORE,
+            &NONE,
+            &NONE,
+            &NONE,
+            &LAST_AFTER,
+        ],
+    ),
+    (
+        &[&H1, &UPDATE, &K1, &V1, &NONE, &V9],
+        &[&H1, &OMIT, &K1, &V9],
+        &[],
+    ),
+    (
+        &[&H1, &DELETE, &K1, &V1],
+        &[&H1, &OMIT, &K1, &V2],
+        &[&H1, &DELETE, &K1, &V2],
+    ),
+    (
+        &[&H1, &DELETE, &K1, &V1],
+        &[&H1, &OMIT_DELETE, &K1, &V1],
+        &[],
+    ),
+    (
+        &[&H1, &UPDATE, &K1, &V1, &NONE, &V9],
+        &[&H1, &OMIT_DELETE, &K1, &V1],
+        &[&H1, &INSERT, &K1, &V9],
+    ),
+    (
+        &[&H1, &UPDATE, &K1, &V1, &NONE, &V9],
+        &[&H1, &REPLACE_DELETE, &K1, &V1],
+        &[],
+    ),
+    (&[&H1, &INSERT, &K1, &V1], &[&H1, &REPLACE, &K1, &V2], &[]),
+    (
+        &[&H1, &INDIRECT_UPDATE, &K1, &V1, &NONE, &V9],
+        &[&H1, &OMIT, &K1, &V2],
+        &[&H1, &INDIRECT_UPDATE, &K1, &V2, &NONE, &V9],
+    ),
+];
 
 #[test]
 fn one_change_over_one_entry(rt: HostRuntime) -> Result<(), Fail> {
-    let alloc = rt.alloc();
-    let cases: [(&[&[u8]], &[&[u8]], &[&[u8]]); 12] = [
-        (
-            &[&H1, &INSERT, &K1, &V1],
-            &[&H1, &OMIT, &K1, &V2],
-            &[&H1, &UPDATE, &K1, &V2, &NONE, &V1],
-        ),
-        (&[&H1, &INSERT, &K1, &V1], &[&H1, &OMIT, &K1, &V1], &[]),
-        (
-            &[
-                &H2, &UPDATE, &K1, &B0, &NONE, &NONE, &NONE, &B1, &NONE, &NONE,
-            ],
-            &[&H2, &REPLACE, &K1, &B2, &C2, &NONE],
-            &[],
-        ),
-        (
-            &[
-                &H2,
-                &UPDATE,
-                &K1,
-                &B0,
-                &NONE,
-                &LAST_BEFORE,
-                &NONE,
-                &B1,
-                &NONE,
-                &LAST_AFTER,
-            ],
-            &[&H2, &OMIT, &K1, &B2, &NONE, &NONE],
-            &[
-                &H2,
-                &UPDATE,
-                &K1,
-                &B2,
-                &NONE,
-                &LAST_BEFORE,
-                &NONE,
-                &B1,
-                &NONE,
-                &LAST_AFTER,
-            ],
-        ),
-        (
-            &[
-                &H2,
-                &UPDATE,
-                &K1,
-                &NONE,
-                &NONE,
-                &LAST_BEFORE,
-                &NONE,
-                &NONE,
-                &NONE,
-                &LAST_AFTER,
-            ],
-            &[],
-            &[
-                &H2,
-                &UPDATE,
-                &K1,
-                &NONE,
-                &NONE,
-                &LAST_BEFORE,
-                &NONE,
-                &NONE,
-                &NONE,
-                &LAST_AFTER,
-            ],
-        ),
-        (
-            &[&H1, &UPDATE, &K1, &V1, &NONE, &V9],
-            &[&H1, &OMIT, &K1, &V9],
-            &[],
-        ),
-        (
-            &[&H1, &DELETE, &K1, &V1],
-            &[&H1, &OMIT, &K1, &V2],
-            &[&H1, &DELETE, &K1, &V2],
-        ),
-        (
-            &[&H1, &DELETE, &K1, &V1],
-            &[&H1, &OMIT_DELETE, &K1, &V1],
-            &[],
-        ),
-        (
-            &[&H1, &UPDATE, &K1, &V1, &NONE, &V9],
-            &[&H1, &OMIT_DELETE, &K1, &V1],
-            &[&H1, &INSERT, &K1, &V9],
-        ),
-        (
-            &[&H1, &UPDATE, &K1, &V1, &NONE, &V9],
-            &[&H1, &REPLACE_DELETE, &K1, &V1],
-            &[],
-        ),
-        (&[&H1, &INSERT, &K1, &V1], &[&H1, &REPLACE, &K1, &V2], &[]),
-        (
-            &[&H1, &INDIRECT_UPDATE, &K1, &V1, &NONE, &V9],
-            &[&H1, &OMIT, &K1, &V2],
-            &[&H1, &INDIRECT_UPDATE, &K1, &V2, &NONE, &V9],
-        ),
-    ];
-    for (local, blob, left) in &cases {
-        rebases(&rt, alloc, local, blob, left)?;
+    for (local, blob, left) in &ONE_ENTRY {
+        assert!(rt; rebases(&rt, rt.alloc(), local, blob, left)?);
     }
     Ok(())
 }
 
+/// Entries at other places than the changes.
+const OTHER_PLACES: [Case; 3] = [
+    // An entry of another key, and one of another table of another shape.
+    (
+        &[&H1, &DELETE, &K1, &V1],
+        &[
+            &H1,
+            &OMIT_DELETE,
+            &K2,
+            &V1,
+            &H2,
+            &OMIT_DELETE,
+            &K1,
+            &V1,
+            &V1,
+            &V1,
+        ],
+        &[&H1, &DELETE, &K1, &V1],
+    ),
+    // A table in two groups, its entries in no order.
+    (
+        &[&H1, &DELETE, &K1, &V1, &DELETE, &K2, &V2],
+        &[&H1, &OMIT, &K2, &V9, &H2, &H1, &OMIT, &K1, &B2],
+        &[&H1, &DELETE, &K1, &B2, &DELETE, &K2, &V9],
+    ),
+    // Of two tables one is left.
+    (
+        &[
+            &H1,
+            &DELETE,
+            &K1,
+            &V1,
+            &H2,
+            &INSERT,
+            &K1,
+            &B0,
+            &C2,
+            &LAST_BEFORE,
+        ],
+        &[&H1, &OMIT_DELETE, &K1, &V1],
+        &[&H2, &INSERT, &K1, &B0, &C2, &LAST_BEFORE],
+    ),
+];
+
 #[test]
 fn entries_of_other_places(rt: HostRuntime) -> Result<(), Fail> {
-    let alloc = rt.alloc();
-    let cases: [(&[&[u8]], &[&[u8]], &[&[u8]]); 3] = [
-        // An entry of another key, and one of another table of another shape.
-        (
-            &[&H1, &DELETE, &K1, &V1],
-            &[
-                &H1,
-                &OMIT_DELETE,
-                &K2,
-                &V1,
-                &H2,
-                &OMIT_DELETE,
-                &K1,
-                &V1,
-                &V1,
-                &V1,
-            ],
-            &[&H1, &DELETE, &K1, &V1],
-        ),
-        // A table in two groups, its entries in no order.
-        (
-            &[&H1, &DELETE, &K1, &V1, &DELETE, &K2, &V2],
-            &[&H1, &OMIT, &K2, &V9, &H2, &H1, &OMIT, &K1, &B2],
-            &[&H1, &DELETE, &K1, &B2, &DELETE, &K2, &V9],
-        ),
-        // Of two tables one is left.
-        (
-            &[
-                &H1,
-                &DELETE,
-                &K1,
-                &V1,
-                &H2,
-                &INSERT,
-                &K1,
-                &B0,
-                &C2,
-                &LAST_BEFORE,
-            ],
-            &[&H1, &OMIT_DELETE, &K1, &V1],
-            &[&H2, &INSERT, &K1, &B0, &C2, &LAST_BEFORE],
-        ),
-    ];
-    for (local, blob, left) in &cases {
-        rebases(&rt, alloc, local, blob, left)?;
+    for (local, blob, left) in &OTHER_PLACES {
+        assert!(rt; rebases(&rt, rt.alloc(), local, blob, left)?);
     }
     Ok(())
 }
@@ -285,33 +297,55 @@ fn at_each(alloc: Global, first: [u8; 2], keys: &[u8]) -> Result<Vec<u8>, Memory
     Ok(bytes)
 }
 
+/// Whether of local DELETEs of these keys, over entries of DELETEs of these, those of these are left.
+fn leaves_keys(
+    rt: &impl Abort,
+    alloc: Global,
+    local: &[u8],
+    entries: &[u8],
+    left: &[u8],
+) -> Result<bool, Fail> {
+    let local = at_each(alloc, DELETE, local)?;
+    let blob = at_each(alloc, OMIT_DELETE, entries)?;
+    let bytes = left_of(rt, alloc, &local, &blob)?;
+    Ok(bytes == at_each(alloc, DELETE, left)?)
+}
+
+/// Keys of local changes, of entries, and of the changes that are left.
+const AMONG_OTHERS: [(&[u8], &[u8], &[u8]); 6] = [
+    (
+        &[1, 2, 3, 4, 5, 6, 7, 8, 9],
+        &[1, 3, 5, 7, 9],
+        &[2, 4, 6, 8],
+    ),
+    (
+        &[1, 2, 3, 4, 5, 6, 7, 8, 9],
+        &[8, 2, 6, 4],
+        &[1, 3, 5, 7, 9],
+    ),
+    (&[1, 9], &[2, 3, 4, 5, 6, 7, 8], &[1, 9]),
+    (&[1, 8, 9], &[1, 2, 3, 4, 5, 6, 7, 8], &[9]),
+    (&[4, 20, 30], &[9, 8, 7, 6, 5, 4, 3, 2, 1, 30], &[20]),
+    (&[5, 6, 7, 8], &[1, 2, 3, 4, 9], &[5, 6, 7, 8]),
+];
+
 /// Nothing is left of a local DELETE over that of an entry, and the others stay, wherever the entries stand.
 #[test]
 fn entries_among_others(rt: HostRuntime) -> Result<(), Fail> {
-    let alloc = rt.alloc();
-    let cases: [(&[u8], &[u8], &[u8]); 6] = [
-        (
-            &[1, 2, 3, 4, 5, 6, 7, 8, 9],
-            &[1, 3, 5, 7, 9],
-            &[2, 4, 6, 8],
-        ),
-        (
-            &[1, 2, 3, 4, 5, 6, 7, 8, 9],
-            &[8, 2, 6, 4],
-            &[1, 3, 5, 7, 9],
-        ),
-        (&[1, 9], &[2, 3, 4, 5, 6, 7, 8], &[1, 9]),
-        (&[1, 8, 9], &[1, 2, 3, 4, 5, 6, 7, 8], &[9]),
-        (&[4, 20, 30], &[9, 8, 7, 6, 5, 4, 3, 2, 1, 30], &[20]),
-        (&[5, 6, 7, 8], &[1, 2, 3, 4, 9], &[5, 6, 7, 8]),
-    ];
-    for (local, entries, left) in cases {
-        let local = at_each(alloc, DELETE, local)?;
-        let blob = at_each(alloc, OMIT_DELETE, entries)?;
-        let left = at_each(alloc, DELETE, left)?;
-        rebases(&rt, alloc, &[&local], &[&blob], &[&left])?;
+    for (local, entries, left) in &AMONG_OTHERS {
+        assert!(rt; leaves_keys(&rt, rt.alloc(), local, entries, left)?);
     }
     Ok(())
+}
+
+/// What a blob of these bytes is refused for.
+fn configure_fault(alloc: Global, pieces: &[&[u8]]) -> Result<Option<ConfigureFault>, Fail> {
+    let bytes = joined(alloc, pieces)?;
+    let blob = cs_blob::read(alloc, &bytes)?;
+    match Rebaser::configure(alloc, blob) {
+        Ok(_) => Ok(None),
+        Err((_, fault)) => Ok(Some(fault)),
+    }
 }
 
 #[test]
@@ -322,108 +356,116 @@ fn key_twice(rt: HostRuntime) -> Result<(), Fail> {
         &[&H1, &OMIT, &K1, &V2, &H2, &H1, &REPLACE_DELETE, &K1, &V1],
     ];
     for pieces in &cases {
-        let bytes = joined(alloc, pieces)?;
-        let blob = cs_blob::read(alloc, &bytes)?;
-        match Rebaser::configure(alloc, blob) {
-            Ok(_) => panic!(&rt; "a key comes twice"),
-            Err((_, fault)) => assert_eq!(&rt; fault, ConfigureFault::KeyTwice),
-        }
+        assert!(rt; configure_fault(alloc, pieces)? == Some(ConfigureFault::KeyTwice));
     }
     Ok(())
+}
+
+/// What rebasing the local changes over the blob is refused for.
+fn rebase_fault(
+    rt: &impl Abort,
+    alloc: Global,
+    local: &[&[u8]],
+    blob: &[&[u8]],
+) -> Result<Option<RebaseFault>, Fail> {
+    let normal = normal_of(alloc, &joined(alloc, local)?)?;
+    let bytes = joined(alloc, blob)?;
+    match rebaser_of(rt, alloc, &bytes)?.rebase(alloc, &normal) {
+        Ok(_) => Ok(None),
+        Err(fault) => Ok(Some(fault)),
+    }
 }
 
 #[test]
 fn wrong_shape(rt: HostRuntime) -> Result<(), Fail> {
-    let alloc = rt.alloc();
-    let local = joined(alloc, &[&H1, &INSERT, &K1, &V1])?;
-    let bytes = joined(alloc, &[&WIDE_H1, &OMIT, &K1, &NONE, &NONE])?;
-    let normal = normal_of(alloc, &local)?;
-    let rebaser = rebaser_of(&rt, alloc, &bytes)?;
-    match rebaser.rebase(alloc, &normal) {
-        Ok(_) => panic!(&rt; "a table has another shape"),
-        Err(fault) => assert_eq!(&rt; fault, RebaseFault::WrongShape),
-    }
+    let local: [&[u8]; 4] = [&H1, &INSERT, &K1, &V1];
+    let blob: [&[u8]; 5] = [&WIDE_H1, &OMIT, &K1, &NONE, &NONE];
+    let fault = rebase_fault(&rt, rt.alloc(), &local, &blob)?;
+    assert!(rt; fault == Some(RebaseFault::WrongShape));
     Ok(())
 }
 
-/// What is left of the local changes over the blob, as bytes. A call that is refused memory is made once more.
+/// A rebaser of the blob in these bytes. A call that is refused memory is made once more.
+fn configured_at_last<'a>(alloc: Global, bytes: &'a [u8]) -> Option<Rebaser<'a>> {
+    let blob = cs_blob::read(alloc, bytes).ok()?;
+    match Rebaser::configure(alloc, blob) {
+        Err((blob, ConfigureFault::Memory)) => Rebaser::configure(alloc, blob).ok(),
+        other => other.ok(),
+    }
+}
+
+/// The local changes, rebased. A call that is refused memory is made once more.
+fn rebased_at_last(alloc: Global, rebaser: &Rebaser<'_>, local: &Normal) -> Option<Normal> {
+    match rebaser.rebase(alloc, local) {
+        Err(RebaseFault::Memory) => rebaser.rebase(alloc, local).ok(),
+        other => other.ok(),
+    }
+}
+
+/// What is left of the local changes over the blob, as bytes.
 fn left_at_last(alloc: Global, local: &[u8], blob: &[u8]) -> Option<Vec<u8>> {
     let changeset = read(alloc, local).ok()?;
     let normal = normalise_alone(alloc, &changeset).ok()?;
-    let blob = cs_blob::read(alloc, blob).ok()?;
-    let configured = match Rebaser::configure(alloc, blob) {
-        Err((blob, ConfigureFault::Memory)) => Rebaser::configure(alloc, blob),
-        other => other,
-    };
-    let rebaser = configured.ok()?;
-    let rebased = match rebaser.rebase(alloc, &normal) {
-        Err(RebaseFault::Memory) => rebaser.rebase(alloc, &normal),
-        other => other,
-    };
+    let rebased = rebased_at_last(alloc, &configured_at_last(alloc, blob)?, &normal)?;
     let mut bytes = Vec::new(alloc);
-    rebased.ok()?.encode(&mut bytes).ok()?;
+    rebased.encode(&mut bytes).ok()?;
     Some(bytes)
 }
 
+/// Changes of two tables, a blob of both, and what is left.
+const TWO_TABLES: Case = (
+    &[
+        &H1,
+        &INSERT,
+        &K1,
+        &V1,
+        &DELETE,
+        &K2,
+        &V2,
+        &H2,
+        &UPDATE,
+        &K1,
+        &B0,
+        &NONE,
+        &LAST_BEFORE,
+        &NONE,
+        &B1,
+        &NONE,
+        &LAST_AFTER,
+    ],
+    &[
+        &H2, &OMIT, &K1, &B2, &NONE, &NONE, &H1, &OMIT, &K2, &V9, &OMIT, &K1, &V2,
+    ],
+    &[
+        &H1,
+        &UPDATE,
+        &K1,
+        &V2,
+        &NONE,
+        &V1,
+        &DELETE,
+        &K2,
+        &V9,
+        &H2,
+        &UPDATE,
+        &K1,
+        &B2,
+        &NONE,
+        &LAST_BEFORE,
+        &NONE,
+        &B1,
+        &NONE,
+        &LAST_AFTER,
+    ],
+);
+
 /// Whether what is left of two tables is what it has to be.
 fn leaves_two_tables(alloc: Global) -> Option<bool> {
-    let local = joined(
-        alloc,
-        &[
-            &H1,
-            &INSERT,
-            &K1,
-            &V1,
-            &DELETE,
-            &K2,
-            &V2,
-            &H2,
-            &UPDATE,
-            &K1,
-            &B0,
-            &NONE,
-            &LAST_BEFORE,
-            &NONE,
-            &B1,
-            &NONE,
-            &LAST_AFTER,
-        ],
-    )
-    .ok()?;
-    let blob = joined(
-        alloc,
-        &[
-            &H2, &OMIT, &K1, &B2, &NONE, &NONE, &H1, &OMIT, &K2, &V9, &OMIT, &K1, &V2,
-        ],
-    )
-    .ok()?;
-    let expected = joined(
-        alloc,
-        &[
-            &H1,
-            &UPDATE,
-            &K1,
-            &V2,
-            &NONE,
-            &V1,
-            &DELETE,
-            &K2,
-            &V9,
-            &H2,
-            &UPDATE,
-            &K1,
-            &B2,
-            &NONE,
-            &LAST_BEFORE,
-            &NONE,
-            &B1,
-            &NONE,
-            &LAST_AFTER,
-        ],
-    )
-    .ok()?;
-    let left = left_at_last(alloc, &local, &blob)?;
-    Some(left == expected)
+    let (local, blob, left) = TWO_TABLES;
+    let local = joined(alloc, local).ok()?;
+    let blob = joined(alloc, blob).ok()?;
+    let bytes = left_at_last(alloc, &local, &blob)?;
+    Some(bytes == joined(alloc, left).ok()?)
 }
 
 /// Everything is as it was where memory is refused, and the same call then succeeds. `bench/refuse_tests.sh` refuses each
@@ -481,14 +523,9 @@ fn left_rows(alloc: Global, catalog: &Catalog) -> Option<MapStore> {
     let bytes = joined(alloc, &[&H1, &INSERT, &K1, &V2, &INSERT, &K3, &V2]).ok()?;
     let changeset = read(alloc, bytes.as_slice()).ok()?;
     let mut store = MapStore::new(alloc);
-    let applied = apply(
-        alloc,
-        &mut store,
-        catalog,
-        &changeset,
-        &mut |_: &Conflict<'_>| Resolution::Abort,
-    );
-    commit(alloc, &mut store, applied.ok()?)?;
+    let mut answer = |_: &Conflict<'_>| Resolution::Abort;
+    let applied = apply(alloc, &mut store, catalog, &changeset, &mut answer).ok()?;
+    commit(alloc, &mut store, applied)?;
     Some(store)
 }
 
@@ -511,65 +548,79 @@ enum Answers {
     OverLocal,
 }
 
-/// What is left of the rows of the local side, and of its changes over the blob: the local side changed (1, 'v1') to 'v2',
-/// deleted (2, 'v1') and put (3, 'v2'), the remote one changed (1, 'v1') to 'v9', deleted (2, 'v1') and put (3, 'v9').
-fn both_sides(alloc: Global, answers: Answers) -> Option<(Vec<u8>, Vec<u8>)> {
-    let catalog = one_table(alloc).ok()??;
-    let local = joined(
-        alloc,
-        &[
-            &H1, &UPDATE, &K1, &V1, &NONE, &V2, &DELETE, &K2, &V1, &INSERT, &K3, &V2,
-        ],
-    );
-    let remote = joined(
-        alloc,
-        &[
-            &H1, &UPDATE, &K1, &V1, &NONE, &V9, &DELETE, &K2, &V1, &INSERT, &K3, &V9,
-        ],
-    );
-    let local_bytes = local.ok()?;
-    let remote_bytes = remote.ok()?;
-    let read_local = read(alloc, local_bytes.as_slice()).ok()?;
-    let read_remote = read(alloc, remote_bytes.as_slice()).ok()?;
-    let local = normalise(alloc, &catalog, &read_local).ok()?;
-    let remote = normalise(alloc, &catalog, &read_remote).ok()?;
-    if !remote.fits(&catalog) {
+/// The local side changed (1, 'v1') to 'v2', deleted (2, 'v1') and put (3, 'v2').
+const LOCAL: &[&[u8]] = &[
+    &H1, &UPDATE, &K1, &V1, &NONE, &V2, &DELETE, &K2, &V1, &INSERT, &K3, &V2,
+];
+
+/// The remote side changed (1, 'v1') to 'v9', deleted (2, 'v1') and put (3, 'v9').
+const REMOTE: &[&[u8]] = &[
+    &H1, &UPDATE, &K1, &V1, &NONE, &V9, &DELETE, &K2, &V1, &INSERT, &K3, &V9,
+];
+
+/// The normal form of these bytes, by the catalog.
+fn normal_by(alloc: Global, catalog: &Catalog, pieces: &[&[u8]]) -> Option<Normal> {
+    let bytes = joined(alloc, pieces).ok()?;
+    let changeset = read(alloc, bytes.as_slice()).ok()?;
+    normalise(alloc, catalog, &changeset).ok()
+}
+
+/// Applies the remote changes to the rows that the local ones left.
+fn apply_remote(
+    alloc: Global,
+    store: &mut MapStore,
+    catalog: &Catalog,
+    local: &Normal,
+    answers: Answers,
+) -> Option<Applied> {
+    let remote = normal_by(alloc, catalog, REMOTE)?;
+    if !remote.fits(catalog) {
         return None;
     }
     let sides = Sides {
-        local: &local,
+        local,
         remote: &remote,
     };
-    let mut store = left_rows(alloc, &catalog)?;
-    let applied: Result<Applied, ApplyFault> = match answers {
-        Answers::ByKind => apply_by_kind(alloc, &mut store, &catalog, &sides),
-        Answers::ByRow => apply_by_row(alloc, &mut store, &catalog, &sides),
-        Answers::OverLocal => apply_over_local(alloc, &mut store, &catalog, &sides),
-    };
-    let blob = commit(alloc, &mut store, applied.ok()?)?;
-    let entries = cs_blob::read(alloc, blob.as_slice()).ok()?;
-    let rebaser = Rebaser::configure(alloc, entries).ok()?;
-    let rebased = rebaser.rebase(alloc, &local).ok()?;
+    match answers {
+        Answers::ByKind => apply_by_kind(alloc, store, catalog, &sides).ok(),
+        Answers::ByRow => apply_by_row(alloc, store, catalog, &sides).ok(),
+        Answers::OverLocal => apply_over_local(alloc, store, catalog, &sides).ok(),
+    }
+}
+
+/// The local changes over the blob, as bytes.
+fn rebased_over(alloc: Global, blob: &[u8], local: &Normal) -> Option<Vec<u8>> {
+    let entries = cs_blob::read(alloc, blob).ok()?;
+    let rebased = Rebaser::configure(alloc, entries)
+        .ok()?
+        .rebase(alloc, local)
+        .ok()?;
     let mut bytes = Vec::new(alloc);
     rebased.encode(&mut bytes).ok()?;
-    Some((rows_of(alloc, &mut store)?, bytes))
+    Some(bytes)
+}
+
+/// Whether these rows are left on the local side, and these changes of its own over the blob.
+fn meets(alloc: Global, answers: Answers, rows: &[&[u8]], left: &[&[u8]]) -> Option<bool> {
+    let catalog = one_table(alloc).ok()??;
+    let local = normal_by(alloc, &catalog, LOCAL)?;
+    let mut store = left_rows(alloc, &catalog)?;
+    let applied = apply_remote(alloc, &mut store, &catalog, &local, answers)?;
+    let blob = commit(alloc, &mut store, applied)?;
+    let rebased = rebased_over(alloc, &blob, &local)?;
+    let is_left = rebased == joined(alloc, left).ok()?;
+    Some(is_left && rows_of(alloc, &mut store)? == joined(alloc, rows).ok()?)
 }
 
 #[test]
 fn lawful_answers_close_the_diamond(rt: HostRuntime) -> Result<(), Fail> {
     let alloc = rt.alloc();
-    let theirs = joined(alloc, &[&K1, &V9, &K3, &V9])?;
+    let theirs: [&[u8]; 4] = [&K1, &V9, &K3, &V9];
     for answers in [Answers::ByKind, Answers::ByRow] {
-        let Some((rows, rebased)) = both_sides(alloc, answers) else {
-            panic!(rt; "nothing was applied");
-        };
-        assert!(rt; rows == theirs);
-        assert_eq!(rt; rebased.len(), 0);
+        assert!(rt; meets(alloc, answers, &theirs, &[]).unwrap_or(false));
     }
-    let Some((rows, rebased)) = both_sides(alloc, Answers::OverLocal) else {
-        panic!(rt; "nothing was applied");
-    };
-    assert!(rt; rows == joined(alloc, &[&K1, &V9, &K3, &V2])?);
-    assert!(rt; rebased == joined(alloc, &[&H1, &UPDATE, &K3, &V9, &NONE, &V2])?);
+    let over: [&[u8]; 4] = [&K1, &V9, &K3, &V2];
+    let left: [&[u8]; 6] = [&H1, &UPDATE, &K3, &V9, &NONE, &V2];
+    assert!(rt; meets(alloc, Answers::OverLocal, &over, &left).unwrap_or(false));
     Ok(())
 }
