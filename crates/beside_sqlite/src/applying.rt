@@ -19,6 +19,15 @@ use std::alloc::{AllocError, Global};
 use std::rt::Clock;
 use std::time::Instant;
 
+/// The parts of a case.
+#[derive(Clone, Copy)]
+struct Parts<'a> {
+    declared: &'a [u8],
+    rows: &'a [u8],
+    changeset: &'a [u8],
+    answers: &'a [u8],
+}
+
 /// What a case is made of.
 #[derive(Drop)]
 struct Case<'a> {
@@ -28,18 +37,12 @@ struct Case<'a> {
     answers: &'a [u8],
 }
 
-fn case_of<'a>(
-    alloc: Global,
-    declared: &[u8],
-    rows: &'a [u8],
-    changeset: &'a [u8],
-    answers: &'a [u8],
-) -> Result<Case<'a>, Wrong> {
+fn case_of<'a>(alloc: Global, parts: &Parts<'a>) -> Result<Case<'a>, Wrong> {
     Ok(Case {
-        catalog: catalog_in(alloc, declared)?,
-        rows: changeset_of(alloc, rows)?,
-        changeset: changeset_of(alloc, changeset)?,
-        answers,
+        catalog: catalog_in(alloc, parts.declared)?,
+        rows: changeset_of(alloc, parts.rows)?,
+        changeset: changeset_of(alloc, parts.changeset)?,
+        answers: parts.answers,
     })
 }
 
@@ -134,21 +137,28 @@ fn put_blob(alloc: Global, blob: &[u8], out: &mut Vec<u8>) -> Result<(), Wrong> 
     Ok(())
 }
 
-/// What comes of a case.
-fn told(alloc: Global, case: &Case<'_>) -> Result<Vec<u8>, Wrong> {
-    let mut out = Vec::new(alloc);
+/// Puts the rebase blob there, and makes the edits.
+fn keep(
+    alloc: Global,
+    store: &mut MapStore,
+    applied: Applied,
+    out: &mut Vec<u8>,
+) -> Result<(), Wrong> {
+    put_blob(alloc, applied.blob.as_slice(), out)?;
+    commit_edits(alloc, store, applied.edits)
+}
+
+/// Puts what comes of a case there.
+fn tell(alloc: Global, case: &Case<'_>, out: &mut Vec<u8>) -> Result<(), Wrong> {
+    out.extend_from_slice(b"case\n")?;
     let mut store = store_of(alloc, &case.catalog, &case.rows)?;
-    let ended = apply_case(alloc, &mut store, case, &mut out);
-    put_end(alloc, &ended, &mut out)?;
-    match ended {
-        Ok(applied) => {
-            put_blob(alloc, applied.blob.as_slice(), &mut out)?;
-            commit_edits(alloc, &mut store, applied.edits)?;
-        }
-        Err(_fault) => {}
+    let ended = apply_case(alloc, &mut store, case, out);
+    put_end(alloc, &ended, out)?;
+    if let Ok(applied) = ended {
+        keep(alloc, &mut store, applied, out)?;
     }
-    put_rows(alloc, "row", &mut store, &case.catalog, &mut out)?;
-    Ok(out)
+    put_rows(alloc, "row", &mut store, &case.catalog, out)?;
+    Ok(())
 }
 
 /// The nanoseconds of one round, and how many conflicts and edits there were.
@@ -201,6 +211,36 @@ fn put_times<R: Clock>(
     Ok(())
 }
 
+/// The parts of the first case in these bytes, and what stands behind it.
+fn take_case(bytes: &[u8]) -> Option<(Parts<'_>, &[u8])> {
+    let (declared, rest) = take_part(bytes)?;
+    let (rows, rest) = take_part(rest)?;
+    let (changeset, rest) = take_part(rest)?;
+    let (answers, rest) = take_part(rest)?;
+    let parts = Parts {
+        declared,
+        rows,
+        changeset,
+        answers,
+    };
+    Some((parts, rest))
+}
+
+/// Runs a case.
+fn run_case<R: Clock>(
+    rt: &R,
+    alloc: Global,
+    parts: &Parts<'_>,
+    rounds: Option<u64>,
+    out: &mut Vec<u8>,
+) -> Result<(), Wrong> {
+    let case = case_of(alloc, parts)?;
+    match rounds {
+        Some(rounds) => put_times(rt, alloc, &case, rounds, out),
+        None => tell(alloc, &case, out),
+    }
+}
+
 /// Runs all cases; `rounds` is none where each is checked.
 pub fn run_cases<R: Clock>(
     rt: &R,
@@ -211,28 +251,15 @@ pub fn run_cases<R: Clock>(
 ) -> Result<(), Wrong> {
     let mut rest = bytes;
     for _ in 0..bytes.len() {
-        let Some((declared, more)) = take_part(rest) else {
-            return Ok(());
+        let Some((parts, more)) = take_case(rest) else {
+            break;
         };
-        let Some((rows, more)) = take_part(more) else {
-            return Err(Wrong::Case);
-        };
-        let Some((changeset, more)) = take_part(more) else {
-            return Err(Wrong::Case);
-        };
-        let Some((answers, more)) = take_part(more) else {
-            return Err(Wrong::Case);
-        };
-        let case = case_of(alloc, declared, rows, changeset, answers)?;
-        match rounds {
-            Some(rounds) => put_times(rt, alloc, &case, rounds, out)?,
-            None => {
-                out.extend_from_slice(b"case\n")?;
-                let lines = told(alloc, &case)?;
-                out.extend_from_slice(lines.as_slice())?;
-            }
-        }
+        run_case(rt, alloc, &parts, rounds, out)?;
         rest = more;
     }
-    Ok(())
+    if rest.is_empty() {
+        Ok(())
+    } else {
+        Err(Wrong::Case)
+    }
 }

@@ -58,6 +58,14 @@ fn rebased(alloc: Global, local: &Normal, blob: &[u8]) -> Result<Normal, Wrong> 
     }
 }
 
+/// The bytes of the local changeset over this blob.
+fn rebased_bytes(alloc: Global, local: &[u8], blob: &[u8]) -> Result<Vec<u8>, Wrong> {
+    let made = rebased(alloc, &normal_of(alloc, local)?, blob)?;
+    let mut bytes = Vec::new(alloc);
+    made.encode(&mut bytes)?;
+    Ok(bytes)
+}
+
 /// A line of a word and a number.
 fn put_count(alloc: Global, word: &str, count: u64, out: &mut Vec<u8>) -> Result<(), AllocError> {
     out.extend_from_slice(word.as_bytes())?;
@@ -129,21 +137,46 @@ fn apply_rebased(
     Ok(met)
 }
 
+/// A store with the rows that this changeset inserts.
+fn store_with(alloc: Global, catalog: &Catalog, rows: &[u8]) -> Result<MapStore, Wrong> {
+    store_of(alloc, catalog, &changeset_of(alloc, rows)?)
+}
+
+/// Tells of the local side, and gives the rebase blob.
+fn tell_local(
+    alloc: Global,
+    catalog: &Catalog,
+    case: &Case<'_>,
+    out: &mut Vec<u8>,
+) -> Result<Vec<u8>, Wrong> {
+    let mut store = store_with(alloc, catalog, case.local_rows)?;
+    let blob = apply_remote(alloc, &mut store, catalog, case, out)?;
+    put_rows(alloc, "local", &mut store, catalog, out)?;
+    Ok(blob)
+}
+
+/// Tells of the remote side, with these rows, over which the rebased changeset is applied.
+fn tell_remote(
+    alloc: Global,
+    catalog: &Catalog,
+    rows: &[u8],
+    rebased: &[u8],
+    out: &mut Vec<u8>,
+) -> Result<(), Wrong> {
+    let mut store = store_with(alloc, catalog, rows)?;
+    let met = apply_rebased(alloc, &mut store, catalog, rebased)?;
+    put_rows(alloc, "remote", &mut store, catalog, out)?;
+    put_count(alloc, "met", met, out)?;
+    Ok(())
+}
+
 /// Puts what comes of a case there.
 fn tell(alloc: Global, declared: &[u8], case: &Case<'_>, out: &mut Vec<u8>) -> Result<(), Wrong> {
     let catalog = catalog_in(alloc, declared)?;
-    let mut mine = store_of(alloc, &catalog, &changeset_of(alloc, case.local_rows)?)?;
-    let mut theirs = store_of(alloc, &catalog, &changeset_of(alloc, case.remote_rows)?)?;
     out.extend_from_slice(b"case\n")?;
-    let blob = apply_remote(alloc, &mut mine, &catalog, case, out)?;
-    let made = rebased(alloc, &normal_of(alloc, case.local)?, blob.as_slice())?;
-    let mut bytes = Vec::new(alloc);
-    made.encode(&mut bytes)?;
-    let met = apply_rebased(alloc, &mut theirs, &catalog, bytes.as_slice())?;
-    put_rows(alloc, "local", &mut mine, &catalog, out)?;
-    put_rows(alloc, "remote", &mut theirs, &catalog, out)?;
-    put_count(alloc, "met", met, out)?;
-    Ok(())
+    let blob = tell_local(alloc, &catalog, case, out)?;
+    let bytes = rebased_bytes(alloc, case.local, &blob)?;
+    tell_remote(alloc, &catalog, case.remote_rows, &bytes, out)
 }
 
 /// The first case in these bytes, and what stands behind it.
@@ -169,12 +202,16 @@ fn check_cases(alloc: Global, bytes: &[u8], out: &mut Vec<u8>) -> Result<(), Wro
     let mut rest = bytes;
     for _ in 0..bytes.len() {
         let Some((declared, case, more)) = take_case(rest) else {
-            return Ok(());
+            break;
         };
         tell(alloc, declared, &case, out)?;
         rest = more;
     }
-    Ok(())
+    if rest.is_empty() {
+        Ok(())
+    } else {
+        Err(Wrong::Case)
+    }
 }
 
 /// What one round took.
