@@ -6,6 +6,7 @@ ghost use Rattle.cs_change.specs.declared.group.Group.{Group as GroupRead};
 ghost use Rattle.cs_changeset.specs.Reading.{IsChangesetFault};
 ghost use Rattle.cs_changeset.specs.declared.fault.Fault.{Fault};
 ghost use Rattle.cs_ffi.specs.Answers.{AnswersAgain, AnswersCount, change_count, IsHanded, Spell, TellsCount, TellsFault};
+ghost use Rattle.cs_ffi.specs.Answers.{read as read_of};
 
 use crate::answer::Answer;
 use cs_changeset::{Change, Group, read};
@@ -43,7 +44,7 @@ pub fn count(alloc: Global, input: &[u8]) -> Answer
 /// Copies the bytes to the front of the caller's memory if they have room there, and answers how many they are.
 pub fn hand_over(bytes: &[u8], output: &mut [u8]) -> Answer
     ensures handed { IsHanded bytes.now output.old output.new }
-    ensures told { TellsCount (length bytes.now) result }
+    ensures told { result ≡ read_of (length bytes.now) }
 {
     if bytes.len() <= output.len() {
         output[..bytes.len()].copy_from_slice(bytes);
