@@ -206,7 +206,9 @@ fn apply_bytes<S: RowStore, H: FnMut(&Conflict<'_>) -> Resolution>(
     store: &mut S,
     bytes: &[u8],
     answer: &mut H,
-) -> Result<Applied, ApplyFault> {
+) -> Result<Applied, ApplyFault>
+    requires { H.IsAlwaysCallable answer.old }
+{
     let Some(catalog) = catalog(alloc)? else {
         return Err(ApplyFault::Memory);
     };
