@@ -154,8 +154,9 @@ fn tell(alloc: Global, case: &Case<'_>, out: &mut Vec<u8>) -> Result<(), Wrong> 
     let mut store = store_of(alloc, &case.catalog, &case.rows)?;
     let ended = apply_case(alloc, &mut store, case, out);
     put_end(alloc, &ended, out)?;
-    if let Ok(applied) = ended {
-        keep(alloc, &mut store, applied, out)?;
+    match ended {
+        Ok(applied) => keep(alloc, &mut store, applied, out)?,
+        Err(_fault) => {}
     }
     put_rows(alloc, "row", &mut store, &case.catalog, out)?;
     Ok(())
