@@ -11,8 +11,8 @@ use crate::conflict::Conflict;
 use cs_change::Change;
 use cs_record::{Cell, Record};
 
-/// Another's change that can't be made on the own row, beside the own change of its place. It is made by `Clash::new`
-/// alone: what its ghost fields say is so of each. (Profile of this project.)
+/// Another's change that can't be made on the own row, beside the own change of its place. What the ghost fields say is so
+/// of each clash. (Profile of this project.)
 #[derive(Drop)]
 pub struct Clash<'a> {
     /// The other's change, why it can't be made, and the own row or none.
