@@ -24,6 +24,9 @@ delete_covers (Inserts new) remote is = cc
 delete_covers (Deletes old) remote is = refl
 delete_covers (Updates old new) remote is = cc
 
+pub not_found_is_covered : (clash : Clash) → clash.conflict.kind ≡ NotFound → clash.covers ≡ true
+not_found_is_covered clash is = clash.covers_is ∙ delete_covers _ _ (clash.not_found is)
+
 made_lawful : (wish : Wish) (why : Kind) (covered : Bool) → (why ≡ NotFound → covered ≡ true) → IsLawfulWish (guarded wish why covered) why covered
 unfolding guarded
 made_lawful Keep why true gone = refl
@@ -35,7 +38,7 @@ made_lawful Stop why covered gone = tt
 
 pub guarded_is_lawful : (wish : Wish) (clash : Clash) → IsLawfulAt clash (guarded wish clash.conflict.kind clash.covers)
 guarded_is_lawful wish clash =
-    made_lawful wish clash.conflict.kind clash.covers (λ is. clash.covers_is ∙ delete_covers _ _ (clash.not_found is))
+    made_lawful wish clash.conflict.kind clash.covers (not_found_is_covered clash)
 
 pub lawful_stands : (wish : Wish) (why : Kind) (covered : Bool) → IsLawfulWish wish why covered → guarded wish why covered ≡ wish
 unfolding guarded

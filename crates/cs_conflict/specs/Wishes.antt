@@ -1,5 +1,5 @@
 -- What is wished at a clash, a conflict of another's change with an own one (profile of this project).
-use Rattle.std.specs.Prelude.{Bool, true, false}
+use Rattle.std.specs.Prelude.{Bool, false}
 use Rattle.cs_conflict.specs.Lawful.{IsLawful}
 use Rattle.cs_conflict.specs.declared.kind.Kind.{Kind}
 use Rattle.cs_conflict.specs.declared.kind.Kind.TheVariants.{NotFound}

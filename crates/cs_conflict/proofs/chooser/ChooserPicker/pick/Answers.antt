@@ -1,5 +1,5 @@
 use Rattle.std.proofs.Common.{of_calls, refl, subst}
-use Rattle.std.specs.Fn.{Called, CalledAt}
+use Rattle.std.specs.Fn.{Called}
 use Rattle.cs_conflict.proofs.Picking.{after_call}
 use Rattle.cs_conflict.proofs.chooser.ChooserPicker.pick.Goals as goal
 

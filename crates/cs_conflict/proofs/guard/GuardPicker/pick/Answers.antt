@@ -1,5 +1,5 @@
 use Rattle.std.proofs.Common.{refl, subst}
-use Rattle.std.specs.Fn.{Called, CalledAt}
+use Rattle.std.specs.Fn.{Called}
 use Rattle.cs_conflict.proofs.Picking.{guarded_is_lawful}
 use Rattle.cs_conflict.proofs.guard.GuardPicker.pick.Goals as goal
 
