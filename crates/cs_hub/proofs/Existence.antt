@@ -23,7 +23,7 @@ use Rattle.cs_hub.specs.Laws.{IsOfHub, PushHasAnswer, RequestHasAnswer}
 use Rattle.cs_wire.specs.Requests.{Asked, AsksPush, AsksPull, ReadsRequest, push_numbers, push_tag}
 use Rattle.cs_wire.specs.Answers.{answer_spelling}
 use Rattle.cs_wire.specs.Numbers.{eight_bytes, four_bytes}
-use Rattle.cs_wire.specs.Told.{told}
+use Rattle.cs_wire.specs.Told.{told_entry}
 use Rattle.cs_wire.specs.declared.answer.Answer.TheVariants.{Entries}
 use Rattle.cs_wire.specs.declared.fault.WireFault.{WireFault}
 use Rattle.cs_hub.specs.Serves.{AnswersAsked, Outcome, TakesBytes, TakesGroups, or_refusal, push_answer, refused}
@@ -166,7 +166,7 @@ of_asked pushes read decided limit old request (Err fault) hub small asks = (ref
 of_asked pushes read decided limit old request (Ok (AsksPull first count)) hub small asks =
     elim (cases_lt (length old.log) first) [
       | inl above ↦ (refused (ByHub Ahead), old, (inl (above, refl), refl))
-      | inr within ↦ (answer_spelling (Entries first (map told (entries_from first count old.log))), old, (inr (within, refl), refl))
+      | inr within ↦ (answer_spelling (Entries first (map told_entry (entries_from first count old.log))), old, (inr (within, refl), refl))
     ]
 of_asked pushes read decided limit old request (Ok (AsksPush head changeset)) hub small asks =
     let bytes : AreBytes changeset = small_changeset head (length changeset) changeset (subst AreBytes asks.1 small) in

@@ -19,7 +19,7 @@ use Rattle.cs_hub.specs.declared.refusal.Refusal.{Refusal}
 use Rattle.cs_hub.specs.declared.refusal.Refusal.TheVariants.{Memory, NoRequest, NoChangeset, NoForm, ByHub}
 use Rattle.cs_wire.specs.Answers.{answer_spelling}
 use Rattle.cs_wire.specs.Requests.{Asked, AsksPush, AsksPull, ReadsRequest}
-use Rattle.cs_wire.specs.Told.{told}
+use Rattle.cs_wire.specs.Told.{told_entry}
 use Rattle.cs_wire.specs.declared.answer.Answer.{Answer}
 use Rattle.cs_wire.specs.declared.answer.Answer.TheVariants.{Short, Entries}
 use Rattle.cs_wire.specs.declared.fault.WireFault.{WireFault}
@@ -75,7 +75,7 @@ abbrev pub AnswersAsked : ℕ → HubState → Result Asked WireFault → List �
 AnswersAsked limit old (Err fault) bytes new = (bytes ≡ refused (NoRequest fault)) × (new ≡ old)
 AnswersAsked limit old (Ok (AsksPull first count)) bytes new =
     (((length old.log < first) × (bytes ≡ refused (ByHub Ahead)))
-    ⊎ ((first ≤ length old.log) × (bytes ≡ answer_spelling (Entries first (map told (entries_from first count old.log))))))
+    ⊎ ((first ≤ length old.log) × (bytes ≡ answer_spelling (Entries first (map told_entry (entries_from first count old.log))))))
     × (new ≡ old)
 AnswersAsked limit old (Ok (AsksPush head changeset)) bytes new =
     (outcome : Outcome) × TakesBytes limit old head changeset outcome new

@@ -1,10 +1,9 @@
 -- What the whole of bytes is read as, clause by clause.
-use Rattle.std.proofs.Common.{◌≡◌, ◌≢◌, ◌↔◌, ℕ, List, [], ◌++◌, Result, Ok, Err, refl, subst, ap}
+use Rattle.std.proofs.Common.{◌≡◌, ◌↔◌, ℕ, List, Result, Ok, Err, refl, subst, ap}
 use Rattle.std.specs.Result.{IsErrOf}
-use Rattle.cs_varint.specs.Bytes.{AreBytes}
 use Rattle.cs_wire.specs.Answers.{IsAnswerFault, ReadsAnswer}
 use Rattle.cs_wire.specs.Laws.{OneRequest, OneToldAnswer}
-use Rattle.cs_wire.specs.Requests.{Asked, IsRequestFault, ReadsRequest, asked_by, asked_of}
+use Rattle.cs_wire.specs.Requests.{IsRequestFault, ReadsRequest, asked_by, asked_of}
 use Rattle.cs_wire.specs.declared.answer.Answer.{Answer}
 use Rattle.cs_wire.specs.declared.fault.WireFault.{WireFault}
 use Rattle.cs_wire.specs.declared.request.Request.{Request}

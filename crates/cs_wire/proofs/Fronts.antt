@@ -1,10 +1,9 @@
 -- The front of a message that isn't the whole of it is Truncated: there is a message or a fault, and each but Truncated is
 -- told of whatever goes on from there.
-use Rattle.std.proofs.Common.{◌≡◌, ◌≢◌, ℕ, ◌+◌, ◌<◌, ◌≤◌, List, [], ◌∷◌, ◌++◌, length, Result, Ok, Err, inl, inr, refl, sym, ap, subst, ◌∙◌, append_assoc, length-append, arith}
+use Rattle.std.proofs.Common.{◌≡◌, ◌≢◌, ℕ, ◌<◌, List, [], ◌∷◌, ◌++◌, length, Result, Ok, Err, inl, inr, refl, sym, ap, ◌∙◌, append_assoc, length-append, arith}
 use Rattle.std.specs.List.{flat_map}
-use Rattle.cs_varint.specs.Bytes.{AreBytes}
-use Rattle.cs_wire.specs.Answers.{FitsAnswer, FitsEntriesNumbers, IsAnswerFault, ReadsAnswer, answer_spelling, entries_numbers, entries_tag, short_before}
-use Rattle.cs_wire.specs.Entries.{ToldEntry, IsEntriesFault, StandBefore, entry_spelling}
+use Rattle.cs_wire.specs.Answers.{FitsAnswer, IsAnswerFault, ReadsAnswer, answer_spelling, entries_numbers, entries_tag, short_before}
+use Rattle.cs_wire.specs.Entries.{ToldEntry, StandBefore, entry_spelling}
 use Rattle.cs_wire.specs.Laws.{AsksSomething, FrontOfAnswer, FrontOfRequest, OneRequest, OneToldAnswer, TellsSomething}
 use Rattle.cs_wire.specs.Numbers.{four_bytes, eight_bytes}
 use Rattle.cs_wire.specs.Requests.{Asked, AsksPush, AsksPull, FitsPush, FitsPull, FitsRequest, IsRequestFault, ReadsRequest, request_spelling, push_numbers, pull_numbers}
@@ -98,13 +97,20 @@ answer_front one answer bytes rest (Ok (Short short)) fits more goes (other, is)
     absurd (no_answer one answer (bytes ++ rest) TooLong fits goes (inl (short, rest, other, longer_short short [] rest bytes is, more)))
 answer_front one answer bytes rest (Ok (Entries first entries)) fits more goes (other, is) =
     absurd (no_answer one answer (bytes ++ rest) TooLong fits goes
-    (inr (first, length entries, flat_map entry_spelling entries ++ rest, other.0, behind_numbers first (length entries) (flat_map entry_spelling entries) rest bytes is, record {
-      entries = entries;
-      more = rest;
-      all = refl;
-      stand = record { fit = other.1; are = refl };
-      some = more;
-    })))
+    (inr (
+      first,
+      length entries,
+      flat_map entry_spelling entries ++ rest,
+      other.0,
+      behind_numbers first (length entries) (flat_map entry_spelling entries) rest bytes is,
+      record {
+        entries = entries;
+        more = rest;
+        all = refl;
+        stand = record { fit = other.1; are = refl };
+        some = more;
+      },
+    )))
 answer_front one answer bytes rest (Err Truncated) fits more goes wrong = wrong
 answer_front one answer bytes rest (Err BadTag) fits more goes (tag, behind, is, other) =
     absurd (no_answer one answer (bytes ++ rest) BadTag fits goes (tag, behind ++ rest, ap (λ (t : List ℕ). t ++ rest) is, other))
@@ -112,22 +118,35 @@ answer_front one answer bytes rest (Err TooLong) fits more goes (inl (short, par
     absurd (no_answer one answer (bytes ++ rest) TooLong fits goes (inl (short, part ++ rest, other, longer_short short part rest bytes is, omega (arith, many, length-append part rest))))
 answer_front one answer bytes rest (Err TooLong) fits more goes (inr (first, count, part, other, is, wrong)) =
     absurd (no_answer one answer (bytes ++ rest) TooLong fits goes
-    (inr (first, count, part ++ rest, other, behind_numbers first count part rest bytes is, record {
-      entries = wrong.entries;
-      more = wrong.more ++ rest;
-      all = wrong.all;
-      stand = stand_on wrong.entries wrong.more rest part wrong.stand;
-      some = omega (arith, wrong.some, length-append wrong.more rest);
-    })))
+    (inr (
+      first,
+      count,
+      part ++ rest,
+      other,
+      behind_numbers first count part rest bytes is,
+      record {
+        entries = wrong.entries;
+        more = wrong.more ++ rest;
+        all = wrong.all;
+        stand = stand_on wrong.entries wrong.more rest part wrong.stand;
+        some = omega (arith, wrong.some, length-append wrong.more rest);
+      },
+    )))
 answer_front one answer bytes rest (Err BadKind) fits more goes (first, count, part, other, is, wrong) =
-    absurd (no_answer one answer (bytes ++ rest) BadKind fits goes
-    (first, count, part ++ rest, other, behind_numbers first count part rest bytes is, record {
-      before = wrong.before;
-      rest = wrong.rest ++ rest;
-      fewer = wrong.fewer;
-      stand = stand_on wrong.before wrong.rest rest part wrong.stand;
-      wrong = (wrong.wrong.0, wrong.wrong.1 ++ rest, ap (λ (t : List ℕ). t ++ rest) wrong.wrong.2, wrong.wrong.3);
-    }))
+    absurd (no_answer one answer (bytes ++ rest) BadKind fits goes (
+      first,
+      count,
+      part ++ rest,
+      other,
+      behind_numbers first count part rest bytes is,
+      record {
+        before = wrong.before;
+        rest = wrong.rest ++ rest;
+        fewer = wrong.fewer;
+        stand = stand_on wrong.before wrong.rest rest part wrong.stand;
+        wrong = (wrong.wrong.0, wrong.wrong.1 ++ rest, ap (λ (t : List ℕ). t ++ rest) wrong.wrong.2, wrong.wrong.3);
+      },
+    ))
 
 pub front_of_answer : OneToldAnswer → TellsSomething → FrontOfAnswer
 front_of_answer one there answer bytes rest fits small not goes =

@@ -1,10 +1,9 @@
 -- What bytes tell, as a function: so they tell one thing.
-use Rattle.std.proofs.Common.{◌≡◌, ℕ, zero, suc, ◌+◌, ◌<◌, ◌≤◌, true, false, cond, nat_eq, nat_lt, List, [], ◌∷◌, ◌++◌, length, drop, Result, Ok, Err, inl, inr, refl, sym, ap, ◌∙◌, append_assoc, arith}
+use Rattle.std.proofs.Common.{◌≡◌, ℕ, zero, suc, ◌+◌, ◌<◌, false, cond, nat_eq, nat_lt, List, [], ◌∷◌, ◌++◌, length, drop, Result, Ok, Err, inl, inr, refl, ap, ◌∙◌, append_assoc, arith}
 use Rattle.std.specs.List.{flat_map, AllByRecursion}
 use Rattle.std.proofs.lemmas.Bool.Decides.{nat_tests}
-use Rattle.std.proofs.lemmas.List.{append-nil}
-use Rattle.cs_wire.specs.Answers.{FitsShort, FitsEntriesNumbers, IsNoTag, ReadsAnswer, accepted_numbers, entries_numbers, short_before}
-use Rattle.cs_wire.specs.Entries.{ToldEntry, AreInRange, FitsEntry, IsEntryFault, IsEntriesFault, StandBefore, entry_numbers, entry_spelling}
+use Rattle.cs_wire.specs.Answers.{FitsShort, FitsEntriesNumbers, ReadsAnswer, accepted_numbers, entries_numbers, short_before}
+use Rattle.cs_wire.specs.Entries.{ToldEntry, FitsEntry, IsEntryFault, IsFaultOfEntries, entry_spelling}
 use Rattle.cs_wire.specs.Numbers.{four_bytes, eight_bytes}
 use Rattle.cs_wire.specs.OneSpelling.{four, eight, four_back, four_rest, eight_back, eight_rest, after_four, after_eight, below, not_below, entry_back, entry_behind, entry_reading, numbers_back, sized_entry}
 use Rattle.cs_wire.specs.declared.answer.Answer.{Answer}
@@ -77,7 +76,7 @@ items_behind (e ∷ es) more fits some =
     ∙ item_more (length es) e (flat_map entry_spelling es ++ more) fits.0
     ∙ ap (before_items e) (items_behind es more fits.1 some)
 
-items_wrong : (count : ℕ) (fault : WireFault) (bytes : List ℕ) → IsEntriesFault count fault bytes → items count bytes ≡ Err fault
+items_wrong : (count : ℕ) (fault : WireFault) (bytes : List ℕ) → IsFaultOfEntries count fault bytes → items count bytes ≡ Err fault
 items_wrong count Truncated bytes is = rw is.stand.are (items_next is.before count Truncated is.rest is.fewer is.stand.fit is.wrong)
 items_wrong count BadKind bytes is = rw is.stand.are (items_next is.before count BadKind is.rest is.fewer is.stand.fit is.wrong)
 items_wrong count TooLong bytes is = rw (is.stand.are, ← is.all) (items_behind is.entries is.more is.stand.fit is.some)
@@ -149,7 +148,7 @@ entries_back first count behind (ff, cf) =
     let long = not_below (length (entries_numbers first count behind)) 12 (omega (arith, entries_length first count behind)) in
     rw (long, eight_rest, four_rest, eight_back first _ ff, four_back count behind cf) refl
 
-entries_wrong : (first count : ℕ) (behind : List ℕ) (fault : WireFault) (bytes : List ℕ) → FitsEntriesNumbers first count → bytes ≡ 20 ∷ entries_numbers first count behind → IsEntriesFault count fault behind → answer_reading bytes ≡ Err fault
+entries_wrong : (first count : ℕ) (behind : List ℕ) (fault : WireFault) (bytes : List ℕ) → FitsEntriesNumbers first count → bytes ≡ 20 ∷ entries_numbers first count behind → IsFaultOfEntries count fault behind → answer_reading bytes ≡ Err fault
 unfolding from_first
 entries_wrong first count behind fault bytes fits is wrong =
     ap answer_reading is ∙ entries_back first count behind fits ∙ ap (from_first first) (items_wrong count fault behind wrong)

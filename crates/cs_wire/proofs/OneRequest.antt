@@ -1,5 +1,5 @@
 -- What bytes ask, as a function: so they ask one thing.
-use Rattle.std.proofs.Common.{◌≡◌, ℕ, ◌+◌, ◌<◌, ◌≤◌, true, false, cond, nat_eq, nat_lt, List, [], ◌∷◌, ◌++◌, length, drop, Result, Ok, Err, inl, inr, refl, arith}
+use Rattle.std.proofs.Common.{◌≡◌, ℕ, ◌+◌, ◌<◌, false, cond, nat_eq, nat_lt, List, [], ◌∷◌, ◌++◌, length, drop, Result, Ok, Err, inl, inr, refl, arith}
 use Rattle.std.proofs.lemmas.Bool.Decides.{nat_tests}
 use Rattle.cs_wire.specs.Numbers.{four_bytes, eight_bytes}
 use Rattle.cs_wire.specs.OneSpelling.{four, eight, four_back, four_rest, eight_back, eight_rest, after_four, after_eight, below, not_below}

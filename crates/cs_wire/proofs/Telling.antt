@@ -1,12 +1,12 @@
 -- Bytes tell something: an answer, or nothing, for a fault that they have.
-use Rattle.std.proofs.Common.{◌≡◌, inl, inr, ℕ, zero, suc, ◌+◌, ◌<◌, ◌≤◌, List, [], ◌∷◌, ◌++◌, length, take, drop, Result, Ok, Err, refl, sym, ap, subst, ◌∙◌, append_assoc, arith, length-take-le}
-use Rattle.std.specs.List.{flat_map, AllByRecursion}
+use Rattle.std.proofs.Common.{◌≡◌, inl, inr, ℕ, zero, suc, ◌<◌, ◌≤◌, List, [], ◌∷◌, ◌++◌, length, take, drop, Result, Ok, Err, refl, sym, ap, subst, ◌∙◌, append_assoc, arith, length-take-le}
+use Rattle.std.specs.List.{flat_map}
 use Rattle.std.proofs.lemmas.Bool.{cases_lt}
 use Rattle.std.proofs.lemmas.Bool.Decides.{eqb_tells}
-use Rattle.std.proofs.lemmas.List.{take-append-drop, append-nil}
+use Rattle.std.proofs.lemmas.List.{take-append-drop}
 use Rattle.cs_varint.specs.Bytes.{AreBytes}
-use Rattle.cs_wire.specs.Answers.{FitsShort, FitsEntriesNumbers, IsNoTag, ReadsAnswer, accepted_numbers, entries_numbers, short_before, accepted_tag, stale_tag, refused_tag, entries_tag}
-use Rattle.cs_wire.specs.Entries.{ToldEntry, AreInRange, FitsEntry, FindsEntries, IsEntryFault, IsEntriesFault, StandBefore, StandsBefore, changeset_kind, entry_numbers, entry_spelling}
+use Rattle.cs_wire.specs.Answers.{FitsShort, FitsEntriesNumbers, ReadsAnswer, accepted_numbers, entries_numbers, short_before, accepted_tag, stale_tag, refused_tag, entries_tag}
+use Rattle.cs_wire.specs.Entries.{ToldEntry, FitsEntryNumbers, FindsEntries, IsEntryFault, IsFaultOfEntries, StandBefore, StandsBefore, changeset_kind, entry_numbers, entry_spelling}
 use Rattle.cs_wire.specs.Laws.{TellsSomething}
 use Rattle.cs_wire.specs.Numbers.{four_bytes, eight_bytes}
 use Rattle.cs_wire.specs.OneSpelling.{after_four, after_eight, numbers_more}
@@ -33,17 +33,17 @@ data EntryOrFault (bytes : List ℕ) : Type 0 where
   Wrong : (fault : WireFault) → (IsEntryFault fault bytes) → EntryOrFault bytes
 
 -- a body of that length is the front of what follows the numbers
-cut_entry : (origin number size : ℕ) (part : List ℕ) → AreInRange origin number size → size ≤ length part → (bytes : List ℕ) → bytes ≡ changeset_kind ∷ entry_numbers origin number size part → StandsBefore (record { kind = 0; origin = origin; number = number; body = take size part }) (drop size part) bytes
+cut_entry : (origin number size : ℕ) (part : List ℕ) → FitsEntryNumbers origin number size → size ≤ length part → (bytes : List ℕ) → bytes ≡ changeset_kind ∷ entry_numbers origin number size part → StandsBefore (record { kind = 0; origin = origin; number = number; body = take size part }) (drop size part) bytes
 cut_entry origin number size part (of, nf, sf) enough bytes is =
     let long : length (take size part) ≡ size = length-take-le size part enough in (
       (refl, (of, nf, rw long sf)),
       is
-      ∙ ap (λ (p : List ℕ). changeset_kind ∷ entry_numbers origin number size p) (sym (take-append-drop size part))
-      ∙ ap (λ (t : List ℕ). changeset_kind ∷ t) (sym (numbers_more origin number size (take size part) (drop size part)))
-      ∙ ap (λ (n : ℕ). (changeset_kind ∷ entry_numbers origin number n (take size part)) ++ drop size part) (sym long),
+          ∙ ap (λ (p : List ℕ). changeset_kind ∷ entry_numbers origin number size p) (sym (take-append-drop size part))
+          ∙ ap (λ (t : List ℕ). changeset_kind ∷ t) (sym (numbers_more origin number size (take size part) (drop size part)))
+          ∙ ap (λ (n : ℕ). (changeset_kind ∷ entry_numbers origin number n (take size part)) ++ drop size part) (sym long),
     )
 
-sized_entry_found : (origin number size : ℕ) (part : List ℕ) (bytes : List ℕ) → AreInRange origin number size → AreBytes part → bytes ≡ changeset_kind ∷ entry_numbers origin number size part → EntryOrFault bytes
+sized_entry_found : (origin number size : ℕ) (part : List ℕ) (bytes : List ℕ) → FitsEntryNumbers origin number size → AreBytes part → bytes ≡ changeset_kind ∷ entry_numbers origin number size part → EntryOrFault bytes
 sized_entry_found origin number size part bytes fits small is =
     elim (cases_lt (length part) size) [
       | inl few ↦ Wrong Truncated (inr (inr (origin, number, size, part, fits, is, few)))
@@ -81,7 +81,7 @@ entry_or_fault (kind ∷ rest) all =
 abbrev Finds : ℕ → List ℕ → Type 0
 Finds count bytes = (told : Result (List ToldEntry) WireFault) × FindsEntries count bytes told
 
-first_wrong : (count : ℕ) (fault : WireFault) (bytes : List ℕ) → 0 < count → IsEntryFault fault bytes → IsEntriesFault count fault bytes
+first_wrong : (count : ℕ) (fault : WireFault) (bytes : List ℕ) → 0 < count → IsEntryFault fault bytes → IsFaultOfEntries count fault bytes
 first_wrong count Truncated bytes some wrong = record { before = []; rest = bytes; fewer = some; stand = record { fit = tt; are = refl }; wrong = wrong }
 first_wrong count BadKind bytes some wrong = record { before = []; rest = bytes; fewer = some; stand = record { fit = tt; are = refl }; wrong = wrong }
 first_wrong count BadTag bytes some wrong = wrong
@@ -94,7 +94,7 @@ stand_more entry rest bytes entries behind first others = record {
   are = first.1 ∙ ap (λ (t : List ℕ). entry_spelling entry ++ t) others.are ∙ sym (append_assoc (entry_spelling entry) (flat_map entry_spelling entries) behind);
 }
 
-later_wrong : (count : ℕ) (fault : WireFault) (entry : ToldEntry) (rest bytes : List ℕ) → StandsBefore entry rest bytes → IsEntriesFault count fault rest → IsEntriesFault (suc count) fault bytes
+later_wrong : (count : ℕ) (fault : WireFault) (entry : ToldEntry) (rest bytes : List ℕ) → StandsBefore entry rest bytes → IsFaultOfEntries count fault rest → IsFaultOfEntries (suc count) fault bytes
 later_wrong count Truncated entry rest bytes first is = record { before = entry ∷ is.before; rest = is.rest; fewer = omega (arith, is.fewer); stand = stand_more entry rest bytes is.before is.rest first is.stand; wrong = is.wrong }
 later_wrong count BadKind entry rest bytes first is = record { before = entry ∷ is.before; rest = is.rest; fewer = omega (arith, is.fewer); stand = stand_more entry rest bytes is.before is.rest first is.stand; wrong = is.wrong }
 later_wrong count TooLong entry rest bytes first is = record { entries = entry ∷ is.entries; more = is.more; all = ap suc is.all; stand = stand_more entry rest bytes is.entries is.more first is.stand; some = is.some }
@@ -155,7 +155,7 @@ tells_refused (code ∷ more) small = ended_short (Refused code) more (small 0)
 abbrev Numbered : ℕ → ℕ → List ℕ → List ℕ
 Numbered first count behind = entries_tag ∷ entries_numbers first count behind
 
-numbered_wrong : (first count : ℕ) (behind : List ℕ) (fault : WireFault) → FitsEntriesNumbers first count → IsEntriesFault count fault behind → ReadsAnswer (Numbered first count behind) (Err fault)
+numbered_wrong : (first count : ℕ) (behind : List ℕ) (fault : WireFault) → FitsEntriesNumbers first count → IsFaultOfEntries count fault behind → ReadsAnswer (Numbered first count behind) (Err fault)
 numbered_wrong first count behind Truncated fits wrong = inr (first, count, behind, fits, refl, wrong)
 numbered_wrong first count behind TooLong fits wrong = inr (first, count, behind, fits, refl, wrong)
 numbered_wrong first count behind BadKind fits wrong = (first, count, behind, fits, refl, wrong)

@@ -1,7 +1,7 @@
 -- Answers: how each is spelled in bytes, and what is wrong with bytes that spell none. (Profile of this project.)
 use Rattle.std.specs.Prelude.{◌≡◌, ◌≢◌, ◌⊎◌, ℕ, ◌<◌, ◌^◌, List, [], ◌∷◌, ◌++◌, length, Result, Ok, Err}
 use Rattle.std.specs.List.{flat_map, AllByRecursion}
-use Rattle.cs_wire.specs.Entries.{ToldEntry, FitsEntry, IsEntriesFault, entry_spelling}
+use Rattle.cs_wire.specs.Entries.{ToldEntry, FitsEntry, IsFaultOfEntries, entry_spelling}
 use Rattle.cs_wire.specs.Numbers.{four_bytes, eight_bytes}
 use Rattle.cs_wire.specs.declared.answer.Answer.{Answer}
 use Rattle.cs_wire.specs.declared.answer.Answer.TheVariants.{Short, Entries}
@@ -87,7 +87,7 @@ IsLongerAnswer bytes =
 abbrev pub HasEntriesFault : WireFault → List ℕ → Type 0
 HasEntriesFault fault bytes =
     (first : ℕ) × (count : ℕ) × (behind : List ℕ) × FitsEntriesNumbers first count
-    × (bytes ≡ entries_tag ∷ entries_numbers first count behind) × IsEntriesFault count fault behind
+    × (bytes ≡ entries_tag ∷ entries_numbers first count behind) × IsFaultOfEntries count fault behind
 
 -- no answer has this tag
 pub record IsNoTag (tag : ℕ) : Type 0 where

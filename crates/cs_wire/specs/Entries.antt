@@ -26,12 +26,12 @@ abbrev pub entry_spelling : ToldEntry → List ℕ
 entry_spelling entry = entry.kind ∷ entry_numbers entry.origin entry.number (length entry.body) entry.body
 
 -- its numbers are in range
-abbrev pub AreInRange : ℕ → ℕ → ℕ → Type 0
-AreInRange origin number size = (origin < 2 ^ 32) × (number < 2 ^ 64) × (size < 2 ^ 32)
+abbrev pub FitsEntryNumbers : ℕ → ℕ → ℕ → Type 0
+FitsEntryNumbers origin number size = (origin < 2 ^ 32) × (number < 2 ^ 64) × (size < 2 ^ 32)
 
 -- it is of the kind that there is, and its numbers are in range
 abbrev pub FitsEntry : ToldEntry → Type 0
-FitsEntry entry = (entry.kind ≡ changeset_kind) × AreInRange entry.origin entry.number (length entry.body)
+FitsEntry entry = (entry.kind ≡ changeset_kind) × FitsEntryNumbers entry.origin entry.number (length entry.body)
 
 -- ---- what is wrong where an entry is to stand
 
@@ -40,7 +40,7 @@ abbrev pub IsPartialEntry : List ℕ → Type 0
 IsPartialEntry bytes =
     (bytes ≡ [])
     ⊎ ((rest : List ℕ) × (bytes ≡ changeset_kind ∷ rest) × (length rest < 16))
-    ⊎ ((origin : ℕ) × (number : ℕ) × (size : ℕ) × (part : List ℕ) × AreInRange origin number size
+    ⊎ ((origin : ℕ) × (number : ℕ) × (size : ℕ) × (part : List ℕ) × FitsEntryNumbers origin number size
     × (bytes ≡ changeset_kind ∷ entry_numbers origin number size part) × (length part < size))
 
 abbrev pub IsEntryFault : WireFault → List ℕ → Type 0
@@ -70,11 +70,11 @@ pub record HaveMoreBehind (count : ℕ) (bytes : List ℕ) : Type 0 where
   pub stand : StandBefore entries more bytes
   pub some : 0 < length more
 
-abbrev pub IsEntriesFault : ℕ → WireFault → List ℕ → Type 0
-IsEntriesFault count Truncated bytes = IsFaultOfNext count Truncated bytes
-IsEntriesFault count BadKind bytes = IsFaultOfNext count BadKind bytes
-IsEntriesFault count TooLong bytes = HaveMoreBehind count bytes
-IsEntriesFault count BadTag bytes = ⊥
+abbrev pub IsFaultOfEntries : ℕ → WireFault → List ℕ → Type 0
+IsFaultOfEntries count Truncated bytes = IsFaultOfNext count Truncated bytes
+IsFaultOfEntries count BadKind bytes = IsFaultOfNext count BadKind bytes
+IsFaultOfEntries count TooLong bytes = HaveMoreBehind count bytes
+IsFaultOfEntries count BadTag bytes = ⊥
 
 -- ---- what reading gives
 
@@ -86,9 +86,9 @@ StandsBefore entry rest bytes = FitsEntry entry × (bytes ≡ entry_spelling ent
 abbrev pub FindsEntries : ℕ → List ℕ → Result (List ToldEntry) WireFault → Type 0
 FindsEntries count bytes (Ok entries) =
     (length entries ≡ count) × AllByRecursion FitsEntry entries × (bytes ≡ flat_map entry_spelling entries)
-FindsEntries count bytes (Err fault) = IsEntriesFault count fault bytes
+FindsEntries count bytes (Err fault) = IsFaultOfEntries count fault bytes
 
 -- so many entries are the whole of the bytes, or the fault of these
-abbrev pub ReadsEntries : ℕ → List ℕ → Result (Unit {0}) WireFault → Type 0
-ReadsEntries count bytes (Ok done) = (entries : List ToldEntry) × FindsEntries count bytes (Ok entries)
-ReadsEntries count bytes (Err fault) = IsEntriesFault count fault bytes
+abbrev pub AreEntries : ℕ → List ℕ → Result (Unit {0}) WireFault → Type 0
+AreEntries count bytes (Ok done) = (entries : List ToldEntry) × FindsEntries count bytes (Ok entries)
+AreEntries count bytes (Err fault) = IsFaultOfEntries count fault bytes

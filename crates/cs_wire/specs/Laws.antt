@@ -1,11 +1,10 @@
 -- The laws of requests and answers.
 use Rattle.std.specs.Prelude.{◌≡◌, ◌≢◌, ℕ, ◌<◌, ◌^◌, List, [], ◌++◌, length, map, All, Result}
-use Rattle.std.specs.List.{AllByRecursion}
 use Rattle.cs_log.specs.declared.entry.LogEntry.{LogEntry}
 use Rattle.cs_varint.specs.Bytes.{AreBytes}
 use Rattle.cs_wire.specs.Answers.{FitsAnswer, IsAnswerFault, ReadsAnswer, answer_spelling}
 use Rattle.cs_wire.specs.Requests.{Asked, FitsRequest, IsRequestFault, ReadsRequest, request_spelling}
-use Rattle.cs_wire.specs.Told.{FitsMessage, told}
+use Rattle.cs_wire.specs.Told.{FitsMessage, told_entry}
 use Rattle.cs_wire.specs.declared.answer.Answer.{Answer}
 use Rattle.cs_wire.specs.declared.answer.Answer.TheVariants.{Entries}
 use Rattle.cs_wire.specs.declared.fault.WireFault.{WireFault}
@@ -51,4 +50,4 @@ HasNumbersInRange entry = (entry.origin < 2 ^ 32) × (entry.number < 2 ^ 64)
 abbrev pub ToldAreRead : Type 0
 ToldAreRead =
     (first : ℕ) (log : List LogEntry) → first < 2 ^ 64 → length log < 2 ^ 32 → All FitsMessage log
-    → All HasNumbersInRange log → FitsAnswer (Entries first (map told log))
+    → All HasNumbersInRange log → FitsAnswer (Entries first (map told_entry log))

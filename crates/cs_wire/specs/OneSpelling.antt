@@ -5,7 +5,7 @@ use Rattle.std.specs.List.{flat_map, AllByRecursion}
 use Rattle.std.proofs.Math.Seq.{take-append_seam, drop-append_seam}
 use Rattle.std.proofs.lemmas.Nat.{from_be_bytes-to_be_bytes_4, from_be_bytes-to_be_bytes_8}
 use Rattle.std.proofs.lemmas.Bool.Decides.{nat_tests}
-use Rattle.cs_wire.specs.Entries.{ToldEntry, AreInRange, FitsEntry, entry_numbers, entry_spelling}
+use Rattle.cs_wire.specs.Entries.{ToldEntry, FitsEntryNumbers, FitsEntry, entry_numbers, entry_spelling}
 use Rattle.cs_wire.specs.Numbers.{four_bytes, eight_bytes}
 use Rattle.cs_wire.specs.declared.fault.WireFault.{WireFault}
 use Rattle.cs_wire.specs.declared.fault.WireFault.TheVariants.{Truncated, BadKind}
@@ -80,7 +80,7 @@ numbers_length origin number size part =
       after_four (four_bytes size ++ part) part size refl,
     )
 
-pub numbers_back : (origin number size : ℕ) (part : List ℕ) → AreInRange origin number size → entry_behind (entry_numbers origin number size part) ≡ sized_entry origin number size part
+pub numbers_back : (origin number size : ℕ) (part : List ℕ) → FitsEntryNumbers origin number size → entry_behind (entry_numbers origin number size part) ≡ sized_entry origin number size part
 unfolding entry_behind
 numbers_back origin number size part (of, nf, sf) =
     let long = not_below (length (entry_numbers origin number size part)) 16 (omega (arith, numbers_length origin number size part)) in

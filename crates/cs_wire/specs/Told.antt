@@ -5,8 +5,8 @@ use Rattle.cs_log.specs.declared.entry.LogEntry.{LogEntry}
 use Rattle.cs_wire.specs.Entries.{ToldEntry}
 
 -- its kind, whose push it was, its number, and the bytes of what it does
-abbrev pub told : LogEntry → ToldEntry
-told entry =
+abbrev pub told_entry : LogEntry → ToldEntry
+told_entry entry =
     record { kind = kind_of entry.body; origin = entry.origin; number = entry.number; body = body_spelling entry.body }
 
 -- what an entry does is within the bound on its bytes, so it fits a message

@@ -133,7 +133,7 @@ impl<'a> Answer<'a> {
         ensures front { (answer : Told) (rest : List ℕ) → FitsAnswer answer → rest ≢ []
             → answer_spelling answer ≡ bytes.now ++ rest → result ≡ Err Truncated }
     {
-        crate::laws::one_answer();
+        crate::laws::one_told_answer();
         crate::laws::front_of_answer();
         read_answer(bytes)
     }

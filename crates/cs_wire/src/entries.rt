@@ -1,7 +1,7 @@
 //! Entries that stay in the bytes of an answer.
 
 ghost use Rattle.std.specs.Prelude.{◌≡◌};
-ghost use Rattle.cs_wire.specs.Entries.{ReadsEntries};
+ghost use Rattle.cs_wire.specs.Entries.{AreEntries};
 ghost use Rattle.cs_wire.specs.Spelled.{SpelledEntries, SpelledEntries-prop};
 
 use crate::entry::{WireEntry, split_entry};
@@ -27,7 +27,7 @@ impl<'a> Model for Entries<'a> {
 
 /// Reads so many entries: the whole of the bytes.
 fn check_entries(count: u32, bytes: &[u8]) -> Result<(), WireFault>
-    ensures { ReadsEntries count bytes.now result }
+    ensures { AreEntries count bytes.now result }
 {
     let mut rest = bytes;
     for _ in 0..count {

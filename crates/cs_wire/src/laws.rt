@@ -21,7 +21,7 @@ pub fn front_of_request()
 }
 
 /// Bytes spell one answer, or have one fault and spell none.
-pub fn one_answer()
+pub fn one_told_answer()
     ensures { OneToldAnswer }
 {}
 
@@ -34,7 +34,7 @@ pub fn tells_something()
 pub fn front_of_answer()
     ensures { FrontOfAnswer }
 {
-    one_answer();
+    one_told_answer();
     tells_something();
 }
 

@@ -4,7 +4,7 @@ ghost use Rattle.std.specs.Prelude.{◌≡◌, ◌+◌, ◌≤◌, ◌<◌, ◌^
 ghost use Rattle.cs_wire.specs.Answers.{answer_spelling};
 ghost use Rattle.cs_wire.specs.Entries.{entry_spelling};
 ghost use Rattle.cs_wire.specs.Numbers.{four_bytes};
-ghost use Rattle.cs_wire.specs.Told.{FitsMessage, told};
+ghost use Rattle.cs_wire.specs.Told.{FitsMessage, told_entry};
 ghost use Rattle.cs_wire.specs.declared.answer.Answer.TheVariants.{Entries};
 
 use crate::numbers::{put_u8, put_u32, put_u64};
@@ -26,7 +26,7 @@ fn set_u32(out: &mut Vec<u8>, at: usize, number: u32)
 /// Appends an entry. The length of what it does is written once that stands behind it.
 fn put_entry(entry: &LogEntry, out: &mut Vec<u8>) -> Result<(), Memory>
     requires { FitsMessage entry.now }
-    ensures { OnOk result (out.new.items ≡ out.old.items ++ entry_spelling (told entry.now)) }
+    ensures { OnOk result (out.new.items ≡ out.old.items ++ entry_spelling (told_entry entry.now)) }
 {
     out.reserve(17)?;
     put_u8(entry.body.kind(), out);
@@ -45,14 +45,10 @@ fn put_entry(entry: &LogEntry, out: &mut Vec<u8>) -> Result<(), Memory>
 /// # Errors
 ///
 /// Memory was refused.
-pub fn entries_answer(
-    alloc: Global,
-    first: u64,
-    entries: &[LogEntry],
-) -> Result<Vec<u8>, Memory>
+pub fn entries_answer(alloc: Global, first: u64, entries: &[LogEntry]) -> Result<Vec<u8>, Memory>
     requires fit { All FitsMessage entries.now }
     requires few { length entries.now < 2 ^ 32 }
-    ensures { IfOk result (λ answer. answer.items ≡ answer_spelling (Entries first (map told entries.now))) }
+    ensures { IfOk result (λ answer. answer.items ≡ answer_spelling (Entries first (map told_entry entries.now))) }
 {
     let mut out = Vec::with_capacity(alloc, 13)?;
     put_u8(ENTRIES, &mut out);

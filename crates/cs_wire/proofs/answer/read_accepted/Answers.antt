@@ -1,4 +1,4 @@
-use Rattle.std.proofs.Common.{◌<◌, length, inl, refl, arith, ap, rules}
+use Rattle.std.proofs.Common.{◌<◌, length, inl, arith, ap, rules}
 use Rattle.std.proofs.lemmas.Bool.Decides.{nat_tests}
 use Rattle.cs_wire.specs.Answers.{accepted_tag}
 use Rattle.cs_wire.specs.declared.short_answer.ShortAnswer.TheVariants.{Accepted}
