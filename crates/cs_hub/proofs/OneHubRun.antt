@@ -8,11 +8,7 @@ use Rattle.cs_lines.specs.Laws.{HasOneAnswerAlong, OneRun}
 use Rattle.cs_lines.specs.Served.{Answers, AnswersDecoded}
 use Rattle.cs_hub.specs.Hub.{HubState, fresh}
 use Rattle.cs_hub.specs.Laws.{OneHubRun, OneService}
-use Rattle.cs_wire.specs.Requests.{Asked, AsksPush, AsksPull, ReadsRequest, push_numbers, push_tag}
-use Rattle.cs_wire.specs.Answers.{answer_spelling}
-use Rattle.cs_wire.specs.Numbers.{eight_bytes, four_bytes}
-use Rattle.cs_wire.specs.Told.{told_entry}
-use Rattle.cs_wire.specs.declared.answer.Answer.TheVariants.{Entries}
+use Rattle.cs_wire.specs.Requests.{Asked, AsksPush, AsksPull}
 use Rattle.cs_wire.specs.declared.fault.WireFault.{WireFault}
 use Rattle.cs_hub.specs.Pushes.{Push, Pushes}
 use Rattle.cs_hub.specs.Serves.{AnswersAsked, Outcome, Serves, TakesBytes, TakesGroups}

@@ -10,11 +10,8 @@ use Rattle.cs_normal.specs.declared.normal.TableChanges.{TableChanges}
 use Rattle.cs_hub.specs.Hub.{HubState}
 use Rattle.cs_wire.specs.Laws.{OneRequest}
 use Rattle.cs_hub.specs.Laws.{OneAnswer, OneService}
-use Rattle.cs_wire.specs.Requests.{Asked, AsksPush, AsksPull, ReadsRequest, push_numbers, push_tag}
+use Rattle.cs_wire.specs.Requests.{Asked, AsksPush, AsksPull}
 use Rattle.cs_wire.specs.Answers.{answer_spelling}
-use Rattle.cs_wire.specs.Numbers.{eight_bytes, four_bytes}
-use Rattle.cs_wire.specs.Told.{told_entry}
-use Rattle.cs_wire.specs.declared.answer.Answer.TheVariants.{Entries}
 use Rattle.cs_wire.specs.declared.fault.WireFault.{WireFault}
 use Rattle.cs_hub.specs.Pushes.{Push}
 use Rattle.cs_hub.specs.Serves.{AnswersAsked, Outcome, TakesBytes, TakesGroups, TakesNormal, or_refusal, push_answer}

@@ -24,7 +24,7 @@ use Rattle.cs_wire.specs.declared.push_head.PushHead.{PushHead}
 use Rattle.cs_wire.specs.declared.request.Request.{Request}
 use Rattle.cs_hub.specs.declared.push.Pushed.{Pushed}
 use Rattle.cs_hub.specs.declared.refusal.Refusal.{Refusal}
-use Rattle.cs_hub.specs.declared.refusal.Refusal.TheVariants.{NoRequest, NoChangeset, NoForm, ByHub}
+use Rattle.cs_hub.specs.declared.refusal.Refusal.TheVariants.{NoRequest}
 
 abbrev pub push_of : PushHead → List TableChanges → Push
 push_of head changes = record { head = head; changes = changes }
