@@ -64,14 +64,20 @@ fn requests_are_read(rt: HostRuntime) {
     assert!(rt; is_the_pull(&PULL));
 }
 
-/// The requests above, written one behind the other.
-fn written_requests(alloc: Global) -> Result<Vec<u8>, Memory> {
+/// The push above, written.
+fn written_push(alloc: Global) -> Result<Vec<u8>, Memory> {
     let mut out = Vec::new(alloc);
     let push = Request::Push {
         head: HEAD,
         changeset: &PUSH[25..],
     };
     push.encode(&mut out)?;
+    Ok(out)
+}
+
+/// The pull above, written.
+fn written_pull(alloc: Global) -> Result<Vec<u8>, Memory> {
+    let mut out = Vec::new(alloc);
     let pull = Request::Pull {
         first: 0,
         limit: 10,
@@ -81,7 +87,7 @@ fn written_requests(alloc: Global) -> Result<Vec<u8>, Memory> {
 }
 
 /// The push above, written out of a request that owns its changeset.
-fn written_push(alloc: Global) -> Result<Vec<u8>, Memory> {
+fn written_owned_push(alloc: Global) -> Result<Vec<u8>, Memory> {
     let mut out = Vec::new(alloc);
     let push = RequestBuf::Push {
         head: HEAD,
@@ -93,10 +99,10 @@ fn written_push(alloc: Global) -> Result<Vec<u8>, Memory> {
 
 #[test]
 fn requests_are_written(rt: HostRuntime) -> Result<(), Fail> {
-    let requests = written_requests(rt.alloc())?;
-    assert_eq!(rt; &requests.as_slice()[..47], PUSH.as_slice());
-    assert_eq!(rt; &requests.as_slice()[47..], PULL.as_slice());
-    assert_eq!(rt; written_push(rt.alloc())?.as_slice(), PUSH.as_slice());
+    let alloc = rt.alloc();
+    assert_eq!(rt; written_push(alloc)?.as_slice(), PUSH.as_slice());
+    assert_eq!(rt; written_owned_push(alloc)?.as_slice(), PUSH.as_slice());
+    assert_eq!(rt; written_pull(alloc)?.as_slice(), PULL.as_slice());
     Ok(())
 }
 
@@ -195,16 +201,16 @@ fn short_answers_are_written(rt: HostRuntime) -> Result<(), Fail> {
     let accepted = ShortAnswer::accepted(HEAD, 1);
     assert_eq!(rt; written(alloc, accepted)?.as_slice(), ACCEPTED.as_slice());
     assert_eq!(rt; written(alloc, STALE_ANSWER)?.as_slice(), STALE.as_slice());
-    assert_eq!(rt; written(alloc, REFUSED_ANSWER)?.as_slice(), REFUSED.as_slice());
+    assert_eq!(rt;
+        written(alloc, REFUSED_ANSWER)?.as_slice(),
+        REFUSED.as_slice()
+    );
     Ok(())
 }
 
 /// Whether the entry is the push above.
 fn is_the_entry(entry: &WireEntry<'_>) -> bool {
-    entry.kind() == 0
-        && entry.origin() == 7
-        && entry.number() == 1
-        && entry.body() == &PUSH[25..]
+    entry.kind() == 0 && entry.origin() == 7 && entry.number() == 1 && entry.body() == &PUSH[25..]
 }
 
 /// Whether there is one entry, the push above.
