@@ -1,5 +1,5 @@
 -- Each push has an answer, and each request.
-use Rattle.std.proofs.Common.{◌≡◌, inl, inr, ℕ, ◌+◌, ◌<◌, ◌≤◌, Bool, List, [], ◌∷◌, ◌++◌, length, Option, Some, None, Result, Ok, Err, slice_get, refl, ap, subst, ◌∙◌, arith}
+use Rattle.std.proofs.Common.{◌≡◌, inl, inr, ℕ, ◌+◌, ◌<◌, ◌≤◌, List, [], ◌∷◌, length, map, Option, Some, None, Result, Ok, Err, slice_get, refl, ap, subst, ◌∙◌, arith}
 use Rattle.std.proofs.lemmas.Bool.{cases_lt}
 use Rattle.std.proofs.lemmas.Bool.Decides.{eqb_tells}
 use Rattle.cs_value.specs.Catalog.{AreTables}
@@ -18,10 +18,16 @@ use Rattle.cs_normal.specs.Laws.{FormOrUnfit}
 use Rattle.cs_hub.specs.Hub.{HubState, entries_from, with_entry}
 use Rattle.cs_changeset.specs.Laws.{ChangesetOrFault}
 use Rattle.cs_varint.specs.Bytes.{AreBytes, bytes_behind}
-use Rattle.cs_hub.specs.Laws.{AsksSomething, IsOfHub, PushHasAnswer, RequestHasAnswer}
-use Rattle.cs_hub.specs.Messages.{Asked, AsksPush, AsksPull, AsksNothing, Asks, answer_spelling, eight_bytes, entries_spelling, four_bytes, push_numbers, push_tag}
+use Rattle.cs_wire.specs.Laws.{AsksSomething}
+use Rattle.cs_hub.specs.Laws.{IsOfHub, PushHasAnswer, RequestHasAnswer}
+use Rattle.cs_wire.specs.Requests.{Asked, AsksPush, AsksPull, ReadsRequest, push_numbers, push_tag}
+use Rattle.cs_wire.specs.Answers.{answer_spelling}
+use Rattle.cs_wire.specs.Numbers.{eight_bytes, four_bytes}
+use Rattle.cs_wire.specs.Told.{told_entry}
+use Rattle.cs_wire.specs.declared.answer.Answer.TheVariants.{Entries}
+use Rattle.cs_wire.specs.declared.fault.WireFault.{WireFault}
 use Rattle.cs_hub.specs.Serves.{AnswersAsked, Outcome, TakesBytes, TakesGroups, or_refusal, push_answer, refused}
-use Rattle.cs_hub.specs.declared.push.PushHead.{PushHead}
+use Rattle.cs_wire.specs.declared.push_head.PushHead.{PushHead}
 use Rattle.cs_hub.specs.declared.refusal.Refusal.TheVariants.{NoRequest, NoChangeset, NoForm, ByHub}
 use Rattle.cs_hub.specs.Pushes.{Case, CanFollow, IsRepeat, Push, entry_of_push}
 use Rattle.cs_hub.specs.declared.fault.HubFault.{HubFault}
@@ -155,14 +161,14 @@ small_changeset head size bytes all =
     (bytes_behind (eight_bytes head.number) _
     (bytes_behind (four_bytes head.origin) _ (bytes_behind (push_tag ∷ []) _ all))))
 
-of_asked : PushHasAnswer → ChangesetOrFault → FormOrUnfit → (limit : ℕ) (old : HubState) (request : List ℕ) (asked : Asked) → IsOfHub old → AreBytes request → Asks request asked → (answer : List ℕ) × (new : HubState) × AnswersAsked limit old asked answer new
-of_asked pushes read decided limit old request (AsksNothing fault) hub small asks = (refused (NoRequest fault), old, (refl, refl))
-of_asked pushes read decided limit old request (AsksPull first count) hub small asks =
+of_asked : PushHasAnswer → ChangesetOrFault → FormOrUnfit → (limit : ℕ) (old : HubState) (request : List ℕ) (asked : Result Asked WireFault) → IsOfHub old → AreBytes request → ReadsRequest request asked → (answer : List ℕ) × (new : HubState) × AnswersAsked limit old asked answer new
+of_asked pushes read decided limit old request (Err fault) hub small asks = (refused (NoRequest fault), old, (refl, refl))
+of_asked pushes read decided limit old request (Ok (AsksPull first count)) hub small asks =
     elim (cases_lt (length old.log) first) [
       | inl above ↦ (refused (ByHub Ahead), old, (inl (above, refl), refl))
-      | inr within ↦ (entries_spelling first (entries_from first count old.log), old, (inr (within, refl), refl))
+      | inr within ↦ (answer_spelling (Entries first (map told_entry (entries_from first count old.log))), old, (inr (within, refl), refl))
     ]
-of_asked pushes read decided limit old request (AsksPush head changeset) hub small asks =
+of_asked pushes read decided limit old request (Ok (AsksPush head changeset)) hub small asks =
     let bytes : AreBytes changeset = small_changeset head (length changeset) changeset (subst AreBytes asks.1 small) in
     let taken = of_bytes pushes read decided limit old head changeset hub bytes in
     (answer_spelling (push_answer head taken.0), taken.1, (taken.0, taken.2, refl))

@@ -20,11 +20,12 @@ use Rattle.cs_log.specs.Laws.{AppendedIsLog}
 use Rattle.cs_log.specs.Log.{IsNextEntry, after_entry, empty_state, state_of}
 use Rattle.cs_hub.specs.Pushes.{entry_of_push}
 use Rattle.cs_hub.specs.Rows.{Rows, row_at}
-use Rattle.cs_hub.specs.Sound.{IsSound, HoldsRows, FitsMessage}
+use Rattle.cs_hub.specs.Sound.{IsSound, HoldsRows}
+use Rattle.cs_wire.specs.Told.{FitsMessage}
 use Rattle.cs_hub.specs.Staged.{TableState, name_and_rows, KeepsRows, AnswersStage, AnswersStages, CommitsOne, Commits, written}
 use Rattle.cs_hub.specs.declared.hub.TheConstants.{MAX_ENTRIES}
 use Rattle.cs_log.specs.declared.entry.TheConstants.{MAX_CHANGESET}
-use Rattle.cs_hub.specs.declared.push.PushHead.{PushHead}
+use Rattle.cs_wire.specs.declared.push_head.PushHead.{PushHead}
 use Rattle.cs_hub.proofs.Served.{push_of}
 use Rattle.cs_hub.proofs.Written.{left_by, outcomes_leave, outcomes_refuse}
 

@@ -1,5 +1,3 @@
-pub mod Asking
-pub mod Bytes
 pub mod Decided
 pub mod Existence
 pub mod Fresh
@@ -7,7 +5,6 @@ pub mod Grown
 pub mod OneAnswer
 pub mod OneHubRun
 pub mod OneService
-pub mod Reading
 pub mod Planned
 pub mod Served
 pub mod Sorted

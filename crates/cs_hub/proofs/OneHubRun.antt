@@ -8,11 +8,12 @@ use Rattle.cs_lines.specs.Laws.{HasOneAnswerAlong, OneRun}
 use Rattle.cs_lines.specs.Served.{Answers, AnswersDecoded}
 use Rattle.cs_hub.specs.Hub.{HubState, fresh}
 use Rattle.cs_hub.specs.Laws.{OneHubRun, OneService}
-use Rattle.cs_hub.specs.Messages.{Asked, AsksPush, AsksPull, AsksNothing}
+use Rattle.cs_wire.specs.Requests.{Asked, AsksPush, AsksPull}
+use Rattle.cs_wire.specs.declared.fault.WireFault.{WireFault}
 use Rattle.cs_hub.specs.Pushes.{Push, Pushes}
 use Rattle.cs_hub.specs.Serves.{AnswersAsked, Outcome, Serves, TakesBytes, TakesGroups}
 use Rattle.cs_hub.specs.declared.fault.HubFault.{HubFault}
-use Rattle.cs_hub.specs.declared.push.PushHead.{PushHead}
+use Rattle.cs_wire.specs.declared.push_head.PushHead.{PushHead}
 use Rattle.cs_hub.specs.declared.push.Pushed.{Pushed}
 
 same_catalog : (old new : HubState) → new ≡ old → new.opening ≡ old.opening
@@ -36,10 +37,10 @@ changeset_keeps : (limit : ℕ) (old new : HubState) (head : PushHead) (changese
 changeset_keeps limit old new head changeset outcome (inl (f, at, w, a, s)) = same_catalog old new s
 changeset_keeps limit old new head changeset outcome (inr (groups, fits, is, p)) = groups_keep limit old new head groups outcome p
 
-asked_keeps : (limit : ℕ) (old new : HubState) (asked : Asked) (answer : List ℕ) → AnswersAsked limit old asked answer new → new.opening ≡ old.opening
-asked_keeps limit old new (AsksNothing fault) answer (a, s) = same_catalog old new s
-asked_keeps limit old new (AsksPull first count) answer (a, s) = same_catalog old new s
-asked_keeps limit old new (AsksPush head changeset) answer (some, p, a) = changeset_keeps limit old new head changeset some p
+asked_keeps : (limit : ℕ) (old new : HubState) (asked : Result Asked WireFault) (answer : List ℕ) → AnswersAsked limit old asked answer new → new.opening ≡ old.opening
+asked_keeps limit old new (Err fault) answer (a, s) = same_catalog old new s
+asked_keeps limit old new (Ok (AsksPull first count)) answer (a, s) = same_catalog old new s
+asked_keeps limit old new (Ok (AsksPush head changeset)) answer (some, p, a) = changeset_keeps limit old new head changeset some p
 
 decoded_keeps : (limit : ℕ) (old new : HubState) (decoded : Result (List ℕ) _) (answer : List ℕ) → AnswersDecoded (Serves limit) old decoded answer new → new.opening ≡ old.opening
 decoded_keeps limit old new (Ok request) answer (asked, asks, p) = asked_keeps limit old new asked answer p

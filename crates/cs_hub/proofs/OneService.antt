@@ -1,5 +1,5 @@
 -- A request has one answer, and leaves one hub.
-use Rattle.std.proofs.Common.{◌≡◌, ℕ, List, Err, inl, inr, sym, ap, subst, ◌∙◌, arith}
+use Rattle.std.proofs.Common.{◌≡◌, ℕ, List, Result, Ok, Err, inl, inr, sym, ap, subst, ◌∙◌, arith}
 use Rattle.cs_value.specs.Catalog.{AreTables}
 use Rattle.cs_change.specs.declared.group.Group.{Group}
 use Rattle.cs_changeset.specs.declared.fault.Fault.{Fault}
@@ -8,11 +8,14 @@ use Rattle.cs_normal.specs.Laws.{NoFaultWhereFit, OneNormalForm, OneUnfit}
 use Rattle.cs_normal.specs.declared.unfit.Unfit.{Unfit}
 use Rattle.cs_normal.specs.declared.normal.TableChanges.{TableChanges}
 use Rattle.cs_hub.specs.Hub.{HubState}
-use Rattle.cs_hub.specs.Laws.{OneAnswer, OneRequest, OneService}
-use Rattle.cs_hub.specs.Messages.{Asked, AsksPush, AsksPull, AsksNothing, answer_spelling}
+use Rattle.cs_wire.specs.Laws.{OneRequest}
+use Rattle.cs_hub.specs.Laws.{OneAnswer, OneService}
+use Rattle.cs_wire.specs.Requests.{Asked, AsksPush, AsksPull}
+use Rattle.cs_wire.specs.Answers.{answer_spelling}
+use Rattle.cs_wire.specs.declared.fault.WireFault.{WireFault}
 use Rattle.cs_hub.specs.Pushes.{Push}
 use Rattle.cs_hub.specs.Serves.{AnswersAsked, Outcome, TakesBytes, TakesGroups, TakesNormal, or_refusal, push_answer}
-use Rattle.cs_hub.specs.declared.push.PushHead.{PushHead}
+use Rattle.cs_wire.specs.declared.push_head.PushHead.{PushHead}
 use Rattle.cs_hub.specs.declared.refusal.Refusal.{Refusal}
 use Rattle.cs_hub.specs.declared.refusal.Refusal.TheVariants.{NoChangeset, NoForm}
 
@@ -64,17 +67,17 @@ changesets_agree laws limit old new last head changeset one other are (inr (grou
     let same : groups ≡ others = laws.changesets.one groups others fits fits' (sym is ∙ is') in
     groups_agree laws limit old new last head others one other are (subst (λ (g : List Group). TakesGroups limit old head g one new) same p) q
 
-asked_agree : (laws : Below) (limit : ℕ) (old new last : HubState) (asked : Asked) (answer other : List ℕ) → AreTables old.opening → AnswersAsked limit old asked answer new → AnswersAsked limit old asked other last → (answer ≡ other) × (new ≡ last)
-asked_agree laws limit old new last (AsksNothing fault) answer other are (a, n) (b, m) = (a ∙ sym b, n ∙ sym m)
-asked_agree laws limit old new last (AsksPull first count) answer other are (inl (lt, a), n) (inl (lt', b), m) = (a ∙ sym b, n ∙ sym m)
-asked_agree laws limit old new last (AsksPull first count) answer other are (inl (lt, a), n) (inr (le, b), m) = absurd (omega arith)
-asked_agree laws limit old new last (AsksPull first count) answer other are (inr (le, a), n) (inl (lt, b), m) = absurd (omega arith)
-asked_agree laws limit old new last (AsksPull first count) answer other are (inr (le, a), n) (inr (le', b), m) = (a ∙ sym b, n ∙ sym m)
-asked_agree laws limit old new last (AsksPush head changeset) answer other are (some, p, a) (others, q, b) =
+asked_agree : (laws : Below) (limit : ℕ) (old new last : HubState) (asked : Result Asked WireFault) (answer other : List ℕ) → AreTables old.opening → AnswersAsked limit old asked answer new → AnswersAsked limit old asked other last → (answer ≡ other) × (new ≡ last)
+asked_agree laws limit old new last (Err fault) answer other are (a, n) (b, m) = (a ∙ sym b, n ∙ sym m)
+asked_agree laws limit old new last (Ok (AsksPull first count)) answer other are (inl (lt, a), n) (inl (lt', b), m) = (a ∙ sym b, n ∙ sym m)
+asked_agree laws limit old new last (Ok (AsksPull first count)) answer other are (inl (lt, a), n) (inr (le, b), m) = absurd (omega arith)
+asked_agree laws limit old new last (Ok (AsksPull first count)) answer other are (inr (le, a), n) (inl (lt, b), m) = absurd (omega arith)
+asked_agree laws limit old new last (Ok (AsksPull first count)) answer other are (inr (le, a), n) (inr (le', b), m) = (a ∙ sym b, n ∙ sym m)
+asked_agree laws limit old new last (Ok (AsksPush head changeset)) answer other are (some, p, a) (others, q, b) =
     let both = changesets_agree laws limit old new last head changeset some others are p q in
     (a ∙ ap (λ (o : Outcome). answer_spelling (push_answer head o)) both.0 ∙ sym b, both.1)
 
 pub one_service : Below → OneService
 one_service laws limit old new last request answer other are (one, asks, answers) (two, asks', answers') =
     let same : one ≡ two = laws.request request one two asks asks' in
-    asked_agree laws limit old new last two answer other are (subst (λ (a : Asked). AnswersAsked limit old a answer new) same answers) answers'
+    asked_agree laws limit old new last two answer other are (subst (λ (a : Result Asked WireFault). AnswersAsked limit old a answer new) same answers) answers'

@@ -1,6 +1,7 @@
 -- What becomes of pushes, from the bytes of their changesets on.
-use Rattle.std.proofs.Common.{◌≡◌, ◌≢◌, ℕ, List, Ok, Err, inl, inr, refl, sym, subst}
-use Rattle.std.specs.Result.{IsErr, IsErrAnd}
+use Rattle.std.proofs.Common.{◌≡◌, ◌≢◌, ℕ, List, Result, Ok, Err, inl, inr, refl, sym, subst, Vec}
+use Rattle.std.specs.Global.{Global}
+use Rattle.std.specs.Result.{IfOk, IsErr, IsErrAnd}
 use Rattle.cs_value.specs.declared.catalog.TableDef.{TableDef}
 use Rattle.cs_change.specs.Spelling.{FitsChangeset, changeset_spelling}
 use Rattle.cs_change.specs.declared.group.Group.{Group}
@@ -14,12 +15,16 @@ use Rattle.cs_normal.specs.declared.unfit.Unfit.TheVariants as unfit
 use Rattle.cs_hub.specs.Hub.{HubState, judging}
 use Rattle.cs_hub.specs.Pushes.{Push, PushesIf}
 use Rattle.cs_hub.specs.Refusals.{refusal_of_codec, refusal_of_hub, refusal_of_unfit}
-use Rattle.cs_hub.specs.Serves.{Outcome, TakesBytes, TakesBytesIf}
+use Rattle.cs_hub.specs.Serves.{AnswersAsked, Outcome, Serves, TakesBytes, TakesBytesIf, refused}
 use Rattle.cs_hub.specs.declared.fault.HubFault.{HubFault}
 use Rattle.cs_hub.specs.declared.fault.HubFault.TheVariants as hub
-use Rattle.cs_hub.specs.declared.push.PushHead.{PushHead}
+use Rattle.cs_wire.specs.Requests.{Asked, FitsRequest, ReadsRequest, asked_by, request_spelling}
+use Rattle.cs_wire.specs.declared.fault.WireFault.{WireFault}
+use Rattle.cs_wire.specs.declared.push_head.PushHead.{PushHead}
+use Rattle.cs_wire.specs.declared.request.Request.{Request}
 use Rattle.cs_hub.specs.declared.push.Pushed.{Pushed}
 use Rattle.cs_hub.specs.declared.refusal.Refusal.{Refusal}
+use Rattle.cs_hub.specs.declared.refusal.Refusal.TheVariants.{NoRequest}
 
 abbrev pub push_of : PushHead → List TableChanges → Push
 push_of head changes = record { head = head; changes = changes }
@@ -79,3 +84,17 @@ refused_by limit old new head bytes changes hub.Full has pushes = inr (has.group
 -- the hub took it
 pub taken : (limit : ℕ) (old new : HubState) (head : PushHead) (bytes : List ℕ) (changes : List TableChanges) (pushed : Pushed) → HasForm (judging old head.base) bytes changes → PushesIf limit old (push_of head changes) (Ok pushed) new → TakesBytesIf limit old head bytes (Ok pushed) new
 taken limit old new head bytes changes pushed has pushes = inr (has.groups, has.spells.fits, has.spells.spelled, inr (changes, has.form, (Ok pushed, pushes, refl)))
+
+-- what is read of a request is answered
+pub serves : {E : Type 0} (limit : ℕ) (old new : HubState) (request : List ℕ) (asked : Result Asked WireFault) (result : Result (Vec ℕ Global) E) → ReadsRequest request asked → IfOk result (λ answer. AnswersAsked limit old asked answer.items new) → IfOk result (λ answer. Serves limit old request answer.items new)
+serves limit old new request asked (Ok answer) reads answers = (asked, reads, answers)
+serves limit old new request asked (Err fault) reads answers = tt
+
+-- a request that was read, told by its parts
+pub read_as : (bytes : List ℕ) (read same : Request) → read ≡ same → FitsRequest (asked_by read) × (bytes ≡ request_spelling (asked_by read)) → ReadsRequest bytes (Ok (asked_by same))
+read_as bytes read same is found = subst (λ (r : Request). ReadsRequest bytes (Ok (asked_by r))) is found
+
+-- a refusal is the answer to bytes that are no request
+pub refuses : {E : Type 0} (limit : ℕ) (old : HubState) (fault : WireFault) (result : Result (Vec ℕ Global) E) → IfOk result (λ answer. answer.items ≡ refused (NoRequest fault)) → IfOk result (λ answer. AnswersAsked limit old (Err fault) answer.items old)
+refuses limit old fault (Ok answer) is = (is, refl)
+refuses limit old fault (Err want) is = tt

@@ -1,30 +1,17 @@
--- The laws of requests, pushes and what a hub answers.
-use Rattle.std.specs.Prelude.{◌≡◌, ◌≢◌, ◌⊎◌, ℕ, ◌<◌, List, Result}
-use Rattle.std.specs.List.{AllByRecursion}
+-- The laws of pushes and what a hub answers.
+use Rattle.std.specs.Prelude.{◌≡◌, ℕ, List, Result}
 use Rattle.cs_varint.specs.Bytes.{AreBytes}
 use Rattle.cs_value.specs.Catalog.{AreTables}
 use Rattle.cs_value.specs.declared.catalog.TableDef.{TableDef}
-use Rattle.cs_change.specs.Spelling.{FitsChangeset, changeset_spelling}
-use Rattle.cs_change.specs.declared.group.Group.{Group}
-use Rattle.cs_changeset.specs.Reading.{IsChangesetFault}
-use Rattle.cs_changeset.specs.declared.fault.Fault.{Fault}
-use Rattle.cs_normal.specs.NormalFormOf.{AreFit, IsUnfit}
-use Rattle.cs_normal.specs.declared.unfit.Unfit.{Unfit}
-use Rattle.cs_normal.specs.declared.unfit.Unfit.TheVariants as unfit
 use Rattle.cs_lines.specs.Laws.{AreInMemory}
 use Rattle.cs_lines.specs.Served.{AnswersAll}
 use Rattle.cs_log.specs.Log.{IsLog}
 use Rattle.cs_log.specs.Stored.{AreChangesOf}
 use Rattle.cs_hub.specs.Hub.{HubState, fresh, judging}
-use Rattle.cs_hub.specs.Messages.{Asked, Asks}
 use Rattle.cs_hub.specs.Pushes.{Push, Pushes}
 use Rattle.cs_hub.specs.Serves.{Serves}
 use Rattle.cs_hub.specs.declared.fault.HubFault.{HubFault}
 use Rattle.cs_hub.specs.declared.push.Pushed.{Pushed}
-
--- bytes ask one thing: a request that they spell, or the one fault that they have
-abbrev pub OneRequest : Type 0
-OneRequest = (bytes : List ℕ) (one other : Asked) → Asks bytes one → Asks bytes other → one ≡ other
 
 -- a push has one answer, and leaves one hub
 abbrev pub OneAnswer : Type 0
@@ -55,10 +42,6 @@ OneHubRun limit =
     → (ones ≡ others) × (new ≡ last)
 
 -- ---- there is an answer
-
--- bytes ask something: a push, a pull, or nothing, where they have a fault
-abbrev pub AsksSomething : Type 0
-AsksSomething = (bytes : List ℕ) → AreBytes bytes → (asked : Asked) × Asks bytes asked
 
 -- a state that a hub can be in
 pub record IsOfHub (hub : HubState) : Type 0 where

@@ -1,6 +1,5 @@
 pub mod Hub
 pub mod Laws
-pub mod Messages
 pub mod Pushes
 pub mod Refusals
 pub mod Rows

@@ -9,9 +9,9 @@ use Rattle.cs_log.specs.Log.{state_of}
 use Rattle.cs_hub.specs.Hub.{HubState, synced, with_entry}
 use Rattle.cs_hub.specs.declared.fault.HubFault.{HubFault}
 use Rattle.cs_hub.specs.declared.fault.HubFault.TheVariants.{Memory, Ahead, Conflict, Empty, Full}
-use Rattle.cs_hub.specs.declared.push.PushHead.{PushHead}
 use Rattle.cs_hub.specs.declared.push.Pushed.{Pushed}
 use Rattle.cs_hub.specs.declared.push.Pushed.TheVariants.{Accepted, Stale}
+use Rattle.cs_wire.specs.declared.push_head.PushHead.{PushHead}
 
 -- a changeset that was made on the tables of the first entries, as many as its base
 pub record Push : Type 0 where

@@ -10,14 +10,7 @@ use Rattle.cs_hub.specs.declared.fault.HubFault.{HubFault}
 use Rattle.cs_hub.specs.declared.fault.HubFault.TheVariants as hub
 use Rattle.cs_hub.specs.declared.refusal.Refusal.{Refusal}
 use Rattle.cs_hub.specs.declared.refusal.Refusal.TheVariants.{Memory, NoRequest, NoChangeset, NoForm, ByHub}
-use Rattle.cs_hub.specs.declared.request.RequestFault.{RequestFault}
-use Rattle.cs_hub.specs.declared.request.RequestFault.TheVariants as request
-
--- bytes that spell no request
-abbrev pub request_code : RequestFault → ℕ
-request_code request.Truncated = 2
-request_code request.BadTag = 20
-request_code request.TooLong = 21
+use Rattle.cs_wire.specs.Codes.{wire_code}
 
 -- what the hub itself refuses
 abbrev pub hub_code : HubFault → ℕ
@@ -27,10 +20,11 @@ hub_code hub.Conflict = 41
 hub_code hub.Empty = 42
 hub_code hub.Full = 43
 
--- all of them; a line that is no hex is 22, and want of memory 1: these are told by whoever reads the lines
+-- all of them: those of bytes that spell no request, of a changeset and of its form are these faults' own; a line that is no
+-- hex is 22, and want of memory 1: these are told by whoever reads the lines
 abbrev pub refusal_code : Refusal → ℕ
 refusal_code Memory = 1
-refusal_code (NoRequest fault) = request_code fault
+refusal_code (NoRequest fault) = wire_code fault
 refusal_code (NoChangeset fault) = fault_code fault
 refusal_code (NoForm fault) = unfit_code fault
 refusal_code (ByHub fault) = hub_code fault

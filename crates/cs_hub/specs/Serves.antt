@@ -1,5 +1,5 @@
 -- The hub's answer to the bytes of a request, and the hub after it. (Profile of this project.)
-use Rattle.std.specs.Prelude.{◌≡◌, ◌≢◌, ◌⊎◌, ℕ, ◌<◌, ◌≤◌, List, length, Result, Ok, Err}
+use Rattle.std.specs.Prelude.{◌≡◌, ◌≢◌, ◌⊎◌, ℕ, ◌<◌, ◌≤◌, List, length, map, Result, Ok, Err}
 use Rattle.cs_normal.specs.NormalFormOf.{IsNormalFormOf, IsUnfit}
 use Rattle.cs_normal.specs.declared.normal.TableChanges.{TableChanges}
 use Rattle.cs_normal.specs.declared.unfit.Unfit.{Unfit}
@@ -9,18 +9,22 @@ use Rattle.cs_change.specs.declared.group.Group.{Group}
 use Rattle.cs_changeset.specs.Reading.{IsChangesetFault}
 use Rattle.cs_changeset.specs.declared.fault.Fault.{Fault}
 use Rattle.cs_hub.specs.Hub.{HubState, entries_from, judging}
-use Rattle.cs_hub.specs.Messages.{Asked, AsksPush, AsksPull, AsksNothing, Asks, answer_spelling, entries_spelling}
 use Rattle.cs_hub.specs.Pushes.{Push, Pushes}
 use Rattle.cs_hub.specs.Refusals.{refusal_of_hub, refusal_code}
-use Rattle.cs_hub.specs.declared.answer.ShortAnswer.{ShortAnswer}
-use Rattle.cs_hub.specs.declared.answer.ShortAnswer.TheVariants.{Accepted, Stale, Refused}
 use Rattle.cs_hub.specs.declared.fault.HubFault.{HubFault}
 use Rattle.cs_hub.specs.declared.fault.HubFault.TheVariants.{Ahead}
-use Rattle.cs_hub.specs.declared.push.PushHead.{PushHead}
 use Rattle.cs_hub.specs.declared.push.Pushed.{Pushed}
 use Rattle.cs_hub.specs.declared.push.Pushed.TheVariants as pushed
 use Rattle.cs_hub.specs.declared.refusal.Refusal.{Refusal}
 use Rattle.cs_hub.specs.declared.refusal.Refusal.TheVariants.{Memory, NoRequest, NoChangeset, NoForm, ByHub}
+use Rattle.cs_wire.specs.Answers.{answer_spelling}
+use Rattle.cs_wire.specs.Requests.{Asked, AsksPush, AsksPull, ReadsRequest}
+use Rattle.cs_wire.specs.Told.{told_entry}
+use Rattle.cs_wire.specs.declared.answer.Answer.{Answer}
+use Rattle.cs_wire.specs.declared.answer.Answer.TheVariants.{Short, Entries}
+use Rattle.cs_wire.specs.declared.fault.WireFault.{WireFault}
+use Rattle.cs_wire.specs.declared.push_head.PushHead.{PushHead}
+use Rattle.cs_wire.specs.declared.short_answer.ShortAnswer.TheVariants.{Accepted, Stale, Refused}
 
 -- what became of a push whose changeset was yet to be read: it was taken, or the request is refused
 abbrev pub Outcome : Type 0
@@ -57,27 +61,27 @@ TakesBytesIf limit old head changeset (Err Memory) new = new ≡ old
 TakesBytesIf limit old head changeset outcome new = TakesBytes limit old head changeset outcome new
 
 -- the answer that tells what became of a push
-abbrev pub push_answer : PushHead → Outcome → ShortAnswer
-push_answer head (Ok (pushed.Accepted version)) = Accepted head.origin head.number version
-push_answer head (Ok (pushed.Stale newest)) = Stale newest
-push_answer head (Err refusal) = Refused (refusal_code refusal)
+abbrev pub push_answer : PushHead → Outcome → Answer
+push_answer head (Ok (pushed.Accepted version)) = Short (Accepted head.origin head.number version)
+push_answer head (Ok (pushed.Stale newest)) = Short (Stale newest)
+push_answer head (Err refusal) = Short (Refused (refusal_code refusal))
 
 -- the answer that tells of a refusal
 abbrev pub refused : Refusal → List ℕ
-refused refusal = answer_spelling (Refused (refusal_code refusal))
+refused refusal = answer_spelling (Short (Refused (refusal_code refusal)))
 
--- the answer to what is asked
-abbrev pub AnswersAsked : ℕ → HubState → Asked → List ℕ → HubState → Type 0
-AnswersAsked limit old (AsksNothing fault) bytes new = (bytes ≡ refused (NoRequest fault)) × (new ≡ old)
-AnswersAsked limit old (AsksPull first count) bytes new =
+-- the answer to what is asked, or to bytes that ask nothing
+abbrev pub AnswersAsked : ℕ → HubState → Result Asked WireFault → List ℕ → HubState → Type 0
+AnswersAsked limit old (Err fault) bytes new = (bytes ≡ refused (NoRequest fault)) × (new ≡ old)
+AnswersAsked limit old (Ok (AsksPull first count)) bytes new =
     (((length old.log < first) × (bytes ≡ refused (ByHub Ahead)))
-    ⊎ ((first ≤ length old.log) × (bytes ≡ entries_spelling first (entries_from first count old.log))))
+    ⊎ ((first ≤ length old.log) × (bytes ≡ answer_spelling (Entries first (map told_entry (entries_from first count old.log))))))
     × (new ≡ old)
-AnswersAsked limit old (AsksPush head changeset) bytes new =
+AnswersAsked limit old (Ok (AsksPush head changeset)) bytes new =
     (outcome : Outcome) × TakesBytes limit old head changeset outcome new
     × (bytes ≡ answer_spelling (push_answer head outcome))
 
 -- the hub, whose log has at most so many entries, answers the bytes of a request with these bytes, and is then another
 abbrev pub Serves : ℕ → HubState → List ℕ → List ℕ → HubState → Type 0
 Serves limit old request answer new =
-    (asked : Asked) × Asks request asked × AnswersAsked limit old asked answer new
+    (asked : Result Asked WireFault) × ReadsRequest request asked × AnswersAsked limit old asked answer new

@@ -3,18 +3,14 @@ use Rattle.std.specs.Prelude.{◌≡◌, ℕ, ◌≤◌, List, length, map, All}
 use Rattle.cs_value.specs.declared.catalog.TableDef.{TableDef}
 use Rattle.cs_log.specs.declared.entry.LogEntry.{LogEntry}
 use Rattle.cs_log.specs.Log.{IsLog, catalog_at, state_of}
-use Rattle.cs_log.specs.Stored.{IsWithinBound}
 use Rattle.cs_hub.specs.Rows.{row_at}
 use Rattle.cs_hub.specs.Staged.{TableState}
 use Rattle.cs_hub.specs.declared.hub.TheConstants.{MAX_ENTRIES}
+use Rattle.cs_wire.specs.Told.{FitsMessage}
 
 -- a table holds the rows that the log makes
 abbrev pub HoldsRows : List LogEntry → TableState → Type 0
 HoldsRows log table = (key : List ℕ) → row_at key table.rows ≡ state_of log table.name key
-
--- what an entry does is within the bound on its bytes, so it fits a message
-abbrev pub FitsMessage : LogEntry → Type 0
-FitsMessage entry = IsWithinBound entry.body
 
 -- the log is one that opened with these tables; the tables are the catalog's at the newest version, and hold the rows that
 -- the log makes

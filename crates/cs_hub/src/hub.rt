@@ -3,11 +3,9 @@
 ghost use Rattle.std.specs.Prelude.{◌≡◌, ◌↔◌, IsTrue};
 ghost use Rattle.cs_hub.specs.Pushes.{entry_of_push};
 
-use crate::answer::{SHORT, ShortAnswer, entries_answer};
 use crate::fault::HubFault;
-use crate::push::{PushHead, Pushed};
+use crate::push::Pushed;
 use crate::refusal::Refusal;
-use crate::request::Request;
 use crate::rows::RowAtKey;
 use crate::tables::Tables;
 use cs_changeset::read;
@@ -15,6 +13,7 @@ use cs_log::laws::{appended_is_log, empty_is_log};
 use cs_log::{Body, LogEntry, MAX_CHANGESET};
 use cs_normal::{Normal, normalise};
 use cs_value::{Catalog, Memory, TableDef};
+use cs_wire::{PushHead, Request, SHORT, ShortAnswer, entries_answer};
 use std::alloc::{AllocError, Global};
 use std::marker::Model;
 
@@ -52,7 +51,7 @@ fn is_push(entry: &LogEntry, head: PushHead, changes: &Normal) -> bool
 
 impl Hub {
     ghost use Rattle.std.specs.Prelude.{◌≡◌, ◌↔◌, ◌≤◌, ◌<◌, ◌+◌, ◌≢◌, All, ℕ, List, [], Some, Ok, IsTrue, IfOk, OnErr, MatchResult, length};
-    ghost use Rattle.cs_hub.specs.Messages.{AsksPush, AsksPull};
+    ghost use Rattle.cs_wire.specs.Requests.{AsksPush, AsksPull};
     ghost use Rattle.cs_hub.specs.Serves.{AnswersAsked, TakesBytesIf, Serves, refused};
     ghost use Rattle.std.specs.List.{slice_get};
     ghost use Rattle.cs_value.specs.Catalog.{AreTables};
@@ -62,7 +61,7 @@ impl Hub {
     ghost use Rattle.cs_log.specs.Log.{IsLog, state_of};
     ghost use Rattle.cs_log.specs.declared.entry.TheConstants.{MAX_CHANGESET};
     ghost use Rattle.cs_hub.specs.Rows.{IsInOrder, row_at};
-    ghost use Rattle.cs_hub.specs.Sound.{FitsMessage};
+    ghost use Rattle.cs_wire.specs.Told.{FitsMessage};
     ghost use Rattle.cs_hub.specs.Pushes.{Push, Pushes, PushesIf};
 
     /// A hub of these tables that has taken nothing yet. It keeps `alloc` for later calls.
@@ -215,7 +214,7 @@ impl Hub {
     /// The answer to a Pull.
     fn serve_pull(&self, first: u64, limit: u32) -> Result<Vec<u8>, Memory>
         ensures { IfOk result (λ bytes.
-            AnswersAsked MAX_ENTRIES self.now (AsksPull first limit) bytes.items self.now) }
+            AnswersAsked MAX_ENTRIES self.now (Ok (AsksPull first limit)) bytes.items self.now) }
     {
         match self.entries(first, limit) {
             Ok(entries) => entries_answer(self.alloc, first, entries),
@@ -227,7 +226,7 @@ impl Hub {
     fn serve_push(&mut self, head: PushHead, changeset: &[u8]) -> Result<Vec<u8>, Memory>
         requires { length changeset.now ≤ MAX_CHANGESET }
         ensures ok { IfOk result (λ bytes.
-            AnswersAsked MAX_ENTRIES self.old (AsksPush head changeset.now) bytes.items self.new) }
+            AnswersAsked MAX_ENTRIES self.old (Ok (AsksPush head changeset.now)) bytes.items self.new) }
         ensures err { OnErr result (self.new ≡ self.old) }
     {
         let mut told = Vec::with_capacity(self.alloc, SHORT)?;

@@ -1,27 +1,18 @@
-//! The laws of requests, pushes and what a hub answers, each the contract of a function that does nothing.
+//! The laws of pushes and what a hub answers, each the contract of a function that does nothing.
 
 ghost use Rattle.std.specs.Prelude.{◌≡◌};
-ghost use Rattle.cs_hub.specs.Laws.{AsksSomething, OneAnswer, OneHubRun, OneRequest, OneService, PushHasAnswer, RequestHasAnswer};
+ghost use Rattle.cs_hub.specs.Laws.{OneAnswer, OneHubRun, OneService, PushHasAnswer, RequestHasAnswer};
 ghost use Rattle.cs_hub.specs.declared.hub.TheConstants.{MAX_ENTRIES};
 
 use crate::Hub;
 use cs_changeset::laws::changesets;
 use cs_log::laws::{defined_or_not, one_body};
 use cs_normal::laws::{form_or_unfit, no_fault_where_fit, one_normal_form, one_unfit};
+use cs_wire::laws::{asks_something, one_request};
 
 /// How many entries a hub's log may have.
 pub fn most_entries()
     ensures { MAX_ENTRIES ≡ 4096 }
-{}
-
-/// Bytes spell one request, or have one fault and spell none.
-pub fn one_request()
-    ensures { OneRequest }
-{}
-
-/// Bytes ask a push or a pull, or have a fault.
-pub fn asks_something()
-    ensures { AsksSomething }
 {}
 
 /// There is an answer to each push that fits the catalog, and a hub after it: each guard is decided.

@@ -1,13 +1,4 @@
-//! Pushes: what heads one, and what the hub makes of it.
-
-/// Whose push it is, the number that its replica gave it, and the version on whose tables it was made. (Profile of this
-/// project.)
-#[derive(Clone, Copy, Debug, PartialEq, Eq)]
-pub struct PushHead {
-    pub origin: u32,
-    pub number: u64,
-    pub base: u64,
-}
+//! What the hub makes of pushes.
 
 /// What the hub made of a push that it read. (Profile of this project.)
 #[derive(Clone, Copy, Debug, PartialEq, Eq)]

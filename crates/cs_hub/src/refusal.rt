@@ -4,16 +4,16 @@ ghost use Rattle.std.specs.Prelude.{◌≡◌};
 ghost use Rattle.cs_hub.specs.Refusals.{refusal_of_codec, refusal_of_hub, refusal_of_unfit, refusal_code};
 
 use crate::fault::HubFault;
-use crate::request::RequestFault;
 use cs_changeset::{CodecFault, Fault};
 use cs_normal::Unfit;
+use cs_wire::WireFault;
 
 /// Why a request is refused; or want of memory, of which no answer of the hub tells.
 #[derive(Clone, Copy)]
 pub(crate) enum Refusal {
     Memory,
     /// The bytes spell no request.
-    NoRequest(RequestFault),
+    NoRequest(WireFault),
     /// The bytes of the changeset spell none.
     NoChangeset(Fault),
     /// The changeset has no normal form by the catalog.
@@ -23,16 +23,14 @@ pub(crate) enum Refusal {
 }
 
 impl Refusal {
-    /// The code by which the refusal is told; the faults of a changeset's bytes (2 to 14) and of its form (30 to 33) bring
-    /// their own. (Profile of this project.)
+    /// The code by which the refusal is told; the faults of a request's bytes (2, 20 and 21), of a changeset's (2 to 14) and of
+    /// its form (30 to 33) bring their own. (Profile of this project.)
     pub(crate) fn code(self) -> u8
         ensures { result ≡ refusal_code self }
     {
         match self {
             Refusal::Memory => 1,
-            Refusal::NoRequest(RequestFault::Truncated) => 2,
-            Refusal::NoRequest(RequestFault::BadTag) => 20,
-            Refusal::NoRequest(RequestFault::TooLong) => 21,
+            Refusal::NoRequest(fault) => fault.code(),
             Refusal::NoChangeset(fault) => fault.code(),
             Refusal::NoForm(unfit) => unfit.code(),
             Refusal::ByHub(HubFault::Memory) => 1,

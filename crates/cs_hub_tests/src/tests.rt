@@ -2,6 +2,7 @@ use cs_changeset::read;
 use cs_hub::*;
 use cs_normal::normalise;
 use cs_value::{Catalog, Items, TableDef, Text};
+use cs_wire::PushHead;
 use std::alloc::Global;
 use std::process::Abort;
 use std::test::Fail;

@@ -1,7 +1,0 @@
-use Rattle.std.proofs.Common.{refl}
-use Rattle.cs_hub.specs.Messages.{eight_bytes}
-use Rattle.cs_hub.proofs.answer.put_u64.Goals as goal
-
-pub returns-clause-items : goal.returns-clause-items
-unfolding eight_bytes
-returns-clause-items c = rw (c.put.ensures.items, c.to_be_bytes.ensures) refl

@@ -1,0 +1,69 @@
+-- Bytes that begin with a number.
+use Rattle.std.proofs.Common.{◌≡◌, ℕ, zero, suc, ◌<◌, ◌≤◌, ◌^◌, List, [], ◌∷◌, ◌++◌, length, take, drop, refl, sym, ap, ◌∙◌, length-take-le, arith, lit<}
+use Rattle.std.specs.Int.{w32, w64, from_be_bytes}
+use Rattle.std.proofs.lemmas.Nat.{be_bytes_4, be_bytes_8}
+use Rattle.std.proofs.lemmas.List.{take-append-drop}
+use Rattle.cs_varint.specs.Bytes.{AreBytes}
+use Rattle.cs_wire.specs.Numbers.{four_bytes, eight_bytes}
+
+pub small_take : (n : ℕ) (bytes : List ℕ) → AreBytes bytes → AreBytes (take n bytes)
+small_take zero bytes small i = lit< tt
+small_take (suc n) [] small i = lit< tt
+small_take (suc n) (b ∷ bytes) small zero = small zero
+small_take (suc n) (b ∷ bytes) small (suc i) = small_take n bytes (λ j. small (suc j)) i
+
+pub small_drop : (n : ℕ) (bytes : List ℕ) → AreBytes bytes → AreBytes (drop n bytes)
+small_drop zero bytes small i = small i
+small_drop (suc n) [] small i = lit< tt
+small_drop (suc n) (b ∷ bytes) small i = small_drop n bytes (λ j. small (suc j)) i
+
+pub four_front : (bytes front : List ℕ) (number : ℕ) → front ≡ take 4 bytes → 4 ≤ length bytes → AreBytes bytes → number ≡ from_be_bytes w32 front → bytes ≡ four_bytes number ++ drop 4 bytes
+unfolding four_bytes
+four_front bytes front number is long small read =
+    let back : number ≡ from_be_bytes w32 (take 4 bytes) = read ∙ ap (from_be_bytes w32) is in
+    sym (take-append-drop 4 bytes) ∙ ap (λ (f : List ℕ). f ++ drop 4 bytes) (sym (be_bytes_4 (take 4 bytes) number (length-take-le 4 bytes long) (small_take 4 bytes small) back))
+
+pub eight_front : (bytes front : List ℕ) (number : ℕ) → front ≡ take 8 bytes → 8 ≤ length bytes → AreBytes bytes → number ≡ from_be_bytes w64 front → bytes ≡ eight_bytes number ++ drop 8 bytes
+unfolding eight_bytes
+eight_front bytes front number is long small read =
+    let back : number ≡ from_be_bytes w64 (take 8 bytes) = read ∙ ap (from_be_bytes w64) is in
+    sym (take-append-drop 8 bytes) ∙ ap (λ (f : List ℕ). f ++ drop 8 bytes) (sym (be_bytes_8 (take 8 bytes) number (length-take-le 8 bytes long) (small_take 8 bytes small) back))
+
+four_below : (bytes : List ℕ) (number : ℕ) → AreBytes bytes → number ≡ from_be_bytes w32 bytes → number < 2 ^ 32
+four_below bytes number small is = omega (arith, small 0, small 1, small 2, small 3)
+
+eight_below : (bytes : List ℕ) (number : ℕ) → AreBytes bytes → number ≡ from_be_bytes w64 bytes → number < 2 ^ 64
+eight_below bytes number small is = omega (arith, small 0, small 1, small 2, small 3, small 4, small 5, small 6, small 7)
+
+-- bytes that begin with a number of four bytes, or of eight
+pub record BeginsFour (bytes : List ℕ) : Type 0 where
+  pub number : ℕ
+  pub rest : List ℕ
+  pub fits : number < 2 ^ 32
+  pub is : bytes ≡ four_bytes number ++ rest
+  pub small : AreBytes rest
+
+pub record BeginsEight (bytes : List ℕ) : Type 0 where
+  pub number : ℕ
+  pub rest : List ℕ
+  pub fits : number < 2 ^ 64
+  pub is : bytes ≡ eight_bytes number ++ rest
+  pub small : AreBytes rest
+
+pub begins_four : (bytes : List ℕ) → AreBytes bytes → 4 ≤ length bytes → BeginsFour bytes
+begins_four bytes small long = record {
+  number = from_be_bytes w32 (take 4 bytes);
+  rest = drop 4 bytes;
+  fits = four_below (take 4 bytes) (from_be_bytes w32 (take 4 bytes)) (small_take 4 bytes small) refl;
+  is = four_front bytes (take 4 bytes) (from_be_bytes w32 (take 4 bytes)) refl long small refl;
+  small = small_drop 4 bytes small;
+}
+
+pub begins_eight : (bytes : List ℕ) → AreBytes bytes → 8 ≤ length bytes → BeginsEight bytes
+begins_eight bytes small long = record {
+  number = from_be_bytes w64 (take 8 bytes);
+  rest = drop 8 bytes;
+  fits = eight_below (take 8 bytes) (from_be_bytes w64 (take 8 bytes)) (small_take 8 bytes small) refl;
+  is = eight_front bytes (take 8 bytes) (from_be_bytes w64 (take 8 bytes)) refl long small refl;
+  small = small_drop 8 bytes small;
+}

@@ -1,0 +1,9 @@
+pub mod Asking
+pub mod Begins
+pub mod Decoded
+pub mod Fronts
+pub mod Log
+pub mod OneAnswer
+pub mod OneRequest
+pub mod Telling
+pub mod Walked

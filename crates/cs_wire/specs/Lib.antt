@@ -1,0 +1,9 @@
+pub mod Answers
+pub mod Codes
+pub mod Entries
+pub mod Laws
+pub mod Numbers
+pub mod OneSpelling
+pub mod Requests
+pub mod Spelled
+pub mod Told

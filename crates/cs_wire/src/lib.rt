@@ -1,0 +1,28 @@
+//! Requests and answers as bytes, for both sides of the wire: what a replica asks of a hub, and what the hub tells it.
+//! `Request::decode` and `Answer::decode` read exactly what is spelled and tell each fault exactly where the bytes have it,
+//! in no memory: a changeset and entries stay in the bytes that came, and `Entries::split_first` walks them. `Request::encode`,
+//! `ShortAnswer::put` and `entries_answer` append exactly the spelling. `laws` says that bytes are one message or have one
+//! fault, that there is one or the other, that a front of a message is Truncated, and that entries of a log are read as they
+//! were told. The crate stands on the log's entries (`cs_log`); its tests stand in `cs_wire_tests`.
+#![tactic(auto)]
+
+mod answer;
+mod entries;
+mod entry;
+mod fault;
+mod numbers;
+mod push_head;
+mod request;
+mod short_answer;
+mod writing;
+
+pub use answer::Answer;
+pub use entries::Entries;
+pub use entry::WireEntry;
+pub use fault::WireFault;
+pub use push_head::PushHead;
+pub use request::{Request, RequestBuf};
+pub use short_answer::{SHORT, ShortAnswer};
+pub use writing::entries_answer;
+
+pub mod laws;

@@ -1,0 +1,310 @@
+//! Messages beside bytes that were written by hand.
+
+ghost use Rattle.std.specs.Prelude.{IfOk};
+ghost use Rattle.cs_wire.specs.Told.{FitsMessage};
+
+use cs_log::{LogEntry, read_body};
+use cs_value::{Catalog, Items, Memory, TableDef, Text};
+use cs_wire::*;
+use std::alloc::Global;
+use std::test::Fail;
+
+/// The head of the push of replica 7 that is told of below.
+const HEAD: PushHead = PushHead {
+    origin: 7,
+    number: 1,
+    base: 0,
+};
+
+/// A Push: 7, 1, base 0, and the changeset that inserts a row with the key 1 and the text `v1` into `t1`.
+const PUSH: [u8; 47] = [
+    1, 0, 0, 0, 7, 0, 0, 0, 0, 0, 0, 0, 1, 0, 0, 0, 0, 0, 0, 0, 0, 0, 0, 0, 0x16, 0x54, 2, 1, 0,
+    0x74, 0x31, 0, 0x12, 0, 1, 0, 0, 0, 0, 0, 0, 0, 1, 3, 2, 0x76, 0x31,
+];
+
+/// A Pull: from entry 0, at most 10.
+const PULL: [u8; 13] = [2, 0, 0, 0, 0, 0, 0, 0, 0, 0, 0, 0, 0x0a];
+
+/// Accepted: 7, 1, version 1.
+const ACCEPTED: [u8; 21] = [
+    0x11, 0, 0, 0, 7, 0, 0, 0, 0, 0, 0, 0, 1, 0, 0, 0, 0, 0, 0, 0, 1,
+];
+
+/// Stale: newest 1.
+const STALE: [u8; 9] = [0x12, 0, 0, 0, 0, 0, 0, 0, 1];
+
+/// Refused: code 41.
+const REFUSED: [u8; 2] = [0x13, 0x29];
+
+/// Entries: from 0, one, which is the push above.
+const ENTRIES: [u8; 52] = [
+    0x14, 0, 0, 0, 0, 0, 0, 0, 0, 0, 0, 0, 1, 0, 0, 0, 0, 7, 0, 0, 0, 0, 0, 0, 0, 1, 0, 0, 0, 0x16,
+    0x54, 2, 1, 0, 0x74, 0x31, 0, 0x12, 0, 1, 0, 0, 0, 0, 0, 0, 0, 1, 3, 2, 0x76, 0x31,
+];
+
+/// Whether the bytes are read as the push above.
+fn is_the_push(bytes: &[u8]) -> bool {
+    match Request::decode(bytes) {
+        Ok(Request::Push { head, changeset }) => head == HEAD && changeset == &PUSH[25..],
+        _ => false,
+    }
+}
+
+/// Whether the bytes are read as the pull above.
+fn is_the_pull(bytes: &[u8]) -> bool {
+    match Request::decode(bytes) {
+        Ok(Request::Pull { first, limit }) => first == 0 && limit == 10,
+        _ => false,
+    }
+}
+
+#[test]
+fn requests_are_read(rt: HostRuntime) {
+    assert!(rt; is_the_push(&PUSH));
+    assert!(rt; is_the_pull(&PULL));
+}
+
+/// The push above, written.
+fn written_push(alloc: Global) -> Result<Vec<u8>, Memory> {
+    let mut out = Vec::new(alloc);
+    let push = Request::Push {
+        head: HEAD,
+        changeset: &PUSH[25..],
+    };
+    push.encode(&mut out)?;
+    Ok(out)
+}
+
+/// The pull above, written.
+fn written_pull(alloc: Global) -> Result<Vec<u8>, Memory> {
+    let mut out = Vec::new(alloc);
+    let pull = Request::Pull {
+        first: 0,
+        limit: 10,
+    };
+    pull.encode(&mut out)?;
+    Ok(out)
+}
+
+/// The push above, written out of a request that owns its changeset.
+fn written_owned_push(alloc: Global) -> Result<Vec<u8>, Memory> {
+    let mut out = Vec::new(alloc);
+    let push = RequestBuf::Push {
+        head: HEAD,
+        changeset: Vec::from_slice(alloc, &PUSH[25..])?,
+    };
+    push.encode(&mut out)?;
+    Ok(out)
+}
+
+#[test]
+fn requests_are_written(rt: HostRuntime) -> Result<(), Fail> {
+    let alloc = rt.alloc();
+    assert_eq!(rt; written_push(alloc)?.as_slice(), PUSH.as_slice());
+    assert_eq!(rt; written_owned_push(alloc)?.as_slice(), PUSH.as_slice());
+    assert_eq!(rt; written_pull(alloc)?.as_slice(), PULL.as_slice());
+    Ok(())
+}
+
+/// Whether the bytes are no request, for this fault.
+fn is_no_request(bytes: &[u8], fault: WireFault) -> bool {
+    match Request::decode(bytes) {
+        Ok(_) => false,
+        Err(told) => told == fault,
+    }
+}
+
+/// Whether the bytes are no answer, for this fault.
+fn is_no_answer(bytes: &[u8], fault: WireFault) -> bool {
+    match Answer::decode(bytes) {
+        Ok(_) => false,
+        Err(told) => told == fault,
+    }
+}
+
+#[test]
+fn faults_of_requests(rt: HostRuntime) {
+    let longer_pull = [2, 0, 0, 0, 0, 0, 0, 0, 0, 0, 0, 0, 0x0a, 0];
+    let mut longer_push = PUSH;
+    longer_push[24] = 0x15;
+    assert!(rt; is_no_request(&[], WireFault::Truncated));
+    assert!(rt; is_no_request(&[0x99], WireFault::BadTag));
+    assert!(rt; is_no_request(&longer_pull, WireFault::TooLong));
+    assert!(rt; is_no_request(&longer_push, WireFault::TooLong));
+    assert!(rt; is_no_request(&ACCEPTED, WireFault::BadTag));
+}
+
+/// Whether each front of the bytes is a Truncated request.
+fn are_truncated_requests(bytes: &[u8]) -> bool {
+    let mut all = true;
+    for end in 0..bytes.len() {
+        all = all && is_no_request(&bytes[..end], WireFault::Truncated);
+    }
+    all
+}
+
+/// Whether each front of the bytes is a Truncated answer.
+fn are_truncated_answers(bytes: &[u8]) -> bool {
+    let mut all = true;
+    for end in 0..bytes.len() {
+        all = all && is_no_answer(&bytes[..end], WireFault::Truncated);
+    }
+    all
+}
+
+#[test]
+fn fronts(rt: HostRuntime) {
+    assert!(rt; are_truncated_requests(&PUSH));
+    assert!(rt; are_truncated_requests(&PULL));
+    assert!(rt; are_truncated_answers(&ACCEPTED));
+    assert!(rt; are_truncated_answers(&STALE));
+    assert!(rt; are_truncated_answers(&REFUSED));
+    assert!(rt; are_truncated_answers(&ENTRIES));
+}
+
+/// Whether the bytes are read as this answer.
+fn is_short(bytes: &[u8], answer: ShortAnswer) -> bool {
+    match Answer::decode(bytes) {
+        Ok(Answer::Short(told)) => told == answer,
+        _ => false,
+    }
+}
+
+/// The answers above but entries.
+const ACCEPTED_ANSWER: ShortAnswer = ShortAnswer::Accepted {
+    origin: 7,
+    number: 1,
+    version: 1,
+};
+
+const STALE_ANSWER: ShortAnswer = ShortAnswer::Stale { newest: 1 };
+
+const REFUSED_ANSWER: ShortAnswer = ShortAnswer::Refused(0x29);
+
+#[test]
+fn short_answers_are_read(rt: HostRuntime) {
+    assert!(rt; is_short(&ACCEPTED, ACCEPTED_ANSWER));
+    assert!(rt; is_short(&STALE, STALE_ANSWER));
+    assert!(rt; is_short(&REFUSED, REFUSED_ANSWER));
+}
+
+/// The bytes of the answer, for which the room is taken first.
+fn written(alloc: Global, answer: ShortAnswer) -> Result<Vec<u8>, Memory> {
+    let mut out = Vec::with_capacity(alloc, SHORT)?;
+    answer.put(&mut out);
+    Ok(out)
+}
+
+#[test]
+fn short_answers_are_written(rt: HostRuntime) -> Result<(), Fail> {
+    let alloc = rt.alloc();
+    let accepted = ShortAnswer::accepted(HEAD, 1);
+    assert_eq!(rt; written(alloc, accepted)?.as_slice(), ACCEPTED.as_slice());
+    assert_eq!(rt; written(alloc, STALE_ANSWER)?.as_slice(), STALE.as_slice());
+    assert_eq!(rt;
+        written(alloc, REFUSED_ANSWER)?.as_slice(),
+        REFUSED.as_slice()
+    );
+    Ok(())
+}
+
+/// Whether the entry is the push above.
+fn is_the_entry(entry: &WireEntry<'_>) -> bool {
+    entry.kind() == 0 && entry.origin() == 7 && entry.number() == 1 && entry.body() == &PUSH[25..]
+}
+
+/// Whether there is one entry, the push above.
+fn is_one(entries: &Entries<'_>) -> bool {
+    match entries.split_first() {
+        Some((entry, others)) => is_the_entry(&entry) && others.split_first().is_none(),
+        None => false,
+    }
+}
+
+/// Whether the bytes tell one entry from 0 on, the push above.
+fn tells_the_push(bytes: &[u8]) -> bool {
+    match Answer::decode(bytes) {
+        Ok(Answer::Entries { first, entries }) => first == 0 && is_one(&entries),
+        _ => false,
+    }
+}
+
+#[test]
+fn entries_are_read(rt: HostRuntime) {
+    assert!(rt; tells_the_push(&ENTRIES));
+}
+
+#[test]
+fn faults_of_answers(rt: HostRuntime) {
+    let mut other_kind = ENTRIES;
+    other_kind[13] = 1;
+    let mut one_more = ENTRIES;
+    one_more[12] = 2;
+    let mut none = ENTRIES;
+    none[12] = 0;
+    assert!(rt; is_no_answer(&[], WireFault::Truncated));
+    assert!(rt; is_no_answer(&[0x99], WireFault::BadTag));
+    assert!(rt; is_no_answer(&[0x13, 0x29, 0], WireFault::TooLong));
+    assert!(rt; is_no_answer(&other_kind, WireFault::BadKind));
+    // The kind is told before the entry's end is missed.
+    assert!(rt; is_no_answer(&other_kind[..14], WireFault::BadKind));
+    assert!(rt; is_no_answer(&one_more, WireFault::Truncated));
+    assert!(rt; is_no_answer(&none, WireFault::TooLong));
+    assert!(rt; is_no_answer(&PUSH, WireFault::BadTag));
+}
+
+/// A catalog of one table `t1` of two columns, of which the first is the key.
+fn catalog_of_t1(alloc: Global) -> Result<Catalog, Fail> {
+    let name = Text::from_string(String::from_str(alloc, "t1")?);
+    let key_marks = Items::from_vec(vec![in alloc; true, false]?);
+    let mut tables = Vec::new(alloc);
+    tables.push(TableDef { name, key_marks })?;
+    Ok(Catalog::new(tables)?)
+}
+
+/// The push above as an entry of a log.
+fn log_entry(alloc: Global) -> Result<LogEntry, Fail>
+    ensures { IfOk result FitsMessage }
+{
+    let mut stored = Vec::new(alloc);
+    stored.push(0)?;
+    stored.extend_from_slice(&PUSH[25..])?;
+    let body = read_body(alloc, &catalog_of_t1(alloc)?, &stored)?;
+    Ok(LogEntry {
+        origin: 7,
+        number: 1,
+        body,
+    })
+}
+
+/// The answer that tells the push above out of a log.
+fn told_of_log(alloc: Global) -> Result<Vec<u8>, Fail> {
+    let entries = [log_entry(alloc)?];
+    Ok(entries_answer(alloc, 0, &entries)?)
+}
+
+#[test]
+fn entries_are_written(rt: HostRuntime) -> Result<(), Fail> {
+    assert_eq!(rt; told_of_log(rt.alloc())?.as_slice(), ENTRIES.as_slice());
+    Ok(())
+}
+
+/// The name of the fault.
+fn name(alloc: Global, fault: WireFault) -> Result<String, Fail> {
+    Ok(format!(in alloc; "{fault}")?)
+}
+
+#[test]
+fn names_and_codes(rt: HostRuntime) -> Result<(), Fail> {
+    let faults: [(WireFault, &str, u8); 4] = [
+        (WireFault::Truncated, "Truncated", 2),
+        (WireFault::BadTag, "BadTag", 20),
+        (WireFault::TooLong, "TooLong", 21),
+        (WireFault::BadKind, "BadKind", 23),
+    ];
+    for (fault, text, code) in faults {
+        assert_eq!(rt; name(rt.alloc(), fault)?.as_str(), text);
+        assert_eq!(rt; fault.code(), code);
+    }
+    Ok(())
+}
