@@ -20,7 +20,7 @@ cc -O2 -Wall -Wextra $sqlite_flags "$bench/apply.c" -o "$out/sqlite_apply" -lsql
 need_runner
 
 "$out/sqlite_apply" cases "$cases" "$out/apply_cases" "$out/apply_expected"
-timeout 60 "$runner" apply < "$out/apply_cases" > "$out/apply_told"
+timeout 300 "$runner" apply < "$out/apply_cases" > "$out/apply_told"
 cmp "$out/apply_expected" "$out/apply_told" || {
     echo "the library and SQLite apply a changeset in different ways: compare $out/apply_expected with $out/apply_told" >&2
     exit 1

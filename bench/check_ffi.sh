@@ -11,4 +11,4 @@ mkdir -p "$out"
 build_library
 cc -O2 -Wall -Wextra -Wl,--wrap=malloc,--wrap=realloc,--wrap=free "$bench/check_ffi.c" "$library" "$(heap_library)" \
     -o "$out/check_ffi"
-timeout 60 "$out/check_ffi"
+timeout 300 "$out/check_ffi"

@@ -25,14 +25,14 @@ build_program check_rebase
 mkdir -p "$out/cases"
 "$out/sqlite_capture" cases "$out/cases"
 "$out/sqlite_capture" changes 1000 "$out/cases/changes.changeset"
-timeout 60 "$out/check" "$out"/cases/*.changeset
+timeout 300 "$out/check" "$out"/cases/*.changeset
 
 rm -rf "$out/sequences"
 mkdir -p "$out/sequences"
-timeout 60 "$out/check_combine" "$out/sequences"
+timeout 300 "$out/check_combine" "$out/sequences"
 rm -rf "$out/rebased"
 mkdir -p "$out/rebased"
-timeout 60 "$out/check_rebase" "$out/rebased"
+timeout 300 "$out/check_rebase" "$out/rebased"
 
 [ -n "$sync" ] || exit 0
 for file in "$out"/cases/*.changeset; do

@@ -1,7 +1,7 @@
 # What the scripts of this folder share: where things are, and how the programs are built. To be read by `.`, with
-# `bench` set to this folder.
+# `bench` set to this folder. Scripts that run side by side are given a folder each to write into, as BENCH_OUT.
 
-out="$bench/out"
+out="${BENCH_OUT:-$bench/out}"
 sqlite_flags="-DSQLITE_ENABLE_SESSION -DSQLITE_ENABLE_PREUPDATE_HOOK"
 crate="$bench/../crates/cs_ffi"
 library="${library:-}"

@@ -23,7 +23,7 @@ cc -O2 -Wall -Wextra $sqlite_flags "$bench/rebase.c" -o "$out/sqlite_rebase" -ls
 need_runner
 
 "$out/sqlite_rebase" cases "$cases" "$out/rebase_cases" "$out/rebase_expected"
-timeout 60 "$runner" rebase < "$out/rebase_cases" > "$out/rebase_told"
+timeout 300 "$runner" rebase < "$out/rebase_cases" > "$out/rebase_told"
 awk -f "$bench/rebase.awk" "$out/rebase_expected" "$out/rebase_told" || {
     echo "rebasing is wrong: compare $out/rebase_expected with $out/rebase_told" >&2
     exit 1

@@ -1,9 +1,7 @@
 //! What the tests of changesets and of rebase blobs share: pieces of bytes, and reading each front of some bytes.
 
 use cs_changeset::{CodecFault, Fault};
-use std::alloc::Global;
-use std::process::Abort;
-use std::test::Fail;
+use std::alloc::{AllocError, Global};
 
 /// The header of a table t1 with a key column and another.
 pub const HEADER: [u8; 7] = [0x54, 2, 1, 0, 0x74, 0x31, 0];
@@ -20,7 +18,7 @@ pub const V1: [u8; 4] = [3, 2, 0x76, 0x31];
 pub const V2: [u8; 4] = [3, 2, 0x76, 0x32];
 
 /// The pieces, one behind another.
-pub fn joined(alloc: Global, pieces: &[&[u8]]) -> Result<Vec<u8>, Fail> {
+fn joined(alloc: Global, pieces: &[&[u8]]) -> Result<Vec<u8>, AllocError> {
     let mut bytes = Vec::new(alloc);
     for piece in pieces {
         bytes.extend_from_slice(piece)?;
@@ -49,64 +47,67 @@ impl Format {
         Ok(out)
     }
 
-    /// Reads the bytes and writes them again behind a byte that stays; the same bytes come out.
-    pub fn comes_back(self, rt: &impl Abort, alloc: Global, bytes: &[u8]) -> Result<(), Fail> {
-        let out = self.written_again(alloc, bytes)?;
-        let Some((first, again)) = out.split_first() else {
-            panic!(rt; "nothing was written");
-        };
-        assert!(rt; *first == 7, "what was there is gone");
-        assert!(rt; again == bytes, "other bytes came back");
-        Ok(())
+    /// Whether the bytes are read, and written again behind a byte that stays.
+    fn comes_back(self, alloc: Global, bytes: &[u8]) -> bool {
+        match self.written_again(alloc, bytes) {
+            Ok(out) => match out.split_first() {
+                Some((first, again)) => *first == 7 && again == bytes,
+                None => false,
+            },
+            Err(_) => false,
+        }
     }
 
-    /// The bytes have this fault at this offset.
-    pub fn told(self, rt: &impl Abort, alloc: Global, bytes: &[u8], fault: Fault, offset: usize) {
+    /// Whether the bytes have this fault at this offset.
+    fn tells(self, alloc: Global, bytes: &[u8], fault: Fault, offset: usize) -> bool {
         match self.written_again(alloc, bytes) {
             Err(
                 CodecFault::At {
                     fault: found,
                     offset: at,
                 },
-            ) => {
-                assert_eq!(rt; found, fault);
-                assert_eq!(rt; at, offset, "{fault}");
-            }
-            Err(CodecFault::Memory) => panic!(rt; "out of memory"),
-            Ok(_) => panic!(rt; "no fault was told"),
+            ) => found == fault && at == offset,
+            _ => false,
         }
     }
 
-    /// Each of these pieces has its fault at its offset.
-    pub fn each_told(
-        self,
-        rt: &impl Abort,
-        alloc: Global,
-        cases: &[(&[&[u8]], Fault, usize)],
-    ) -> Result<(), Fail> {
-        for (pieces, fault, offset) in cases {
-            let bytes = joined(alloc, pieces)?;
-            self.told(rt, alloc, &bytes, *fault, *offset);
-        }
-        Ok(())
-    }
-
-    /// Reads each proper front: one of these lengths is whole itself, any other is cut.
-    pub fn each_front(
-        self,
-        rt: &impl Abort,
-        alloc: Global,
-        bytes: &[u8],
-        whole: &[usize],
-    ) -> Result<(), Fail> {
+    /// Whether of each proper front one of these lengths is whole itself, and any other is cut.
+    fn has_fronts(self, alloc: Global, bytes: &[u8], whole: &[usize]) -> bool {
         for len in 0..bytes.len() {
             let front = &bytes[..len];
-            if whole.contains(&len) {
-                self.comes_back(rt, alloc, front)?;
+            let is_right = if whole.contains(&len) {
+                self.comes_back(alloc, front)
             } else {
-                self.told(rt, alloc, front, Fault::Truncated, len);
+                self.tells(alloc, front, Fault::Truncated, len)
+            };
+            if !is_right {
+                return false;
             }
         }
-        Ok(())
+        true
+    }
+
+    /// Whether the pieces come back.
+    pub fn stays(self, alloc: Global, pieces: &[&[u8]]) -> bool {
+        match joined(alloc, pieces) {
+            Ok(bytes) => self.comes_back(alloc, &bytes),
+            Err(_) => false,
+        }
+    }
+
+    /// Whether the pieces have this fault at this offset.
+    pub fn tells_of(self, alloc: Global, pieces: &[&[u8]], fault: Fault, offset: usize) -> bool {
+        match joined(alloc, pieces) {
+            Ok(bytes) => self.tells(alloc, &bytes, fault, offset),
+            Err(_) => false,
+        }
+    }
+
+    /// Whether the pieces have these fronts.
+    pub fn is_whole_at(self, alloc: Global, pieces: &[&[u8]], whole: &[usize]) -> bool {
+        match joined(alloc, pieces) {
+            Ok(bytes) => self.has_fronts(alloc, &bytes, whole),
+            Err(_) => false,
+        }
     }
 }

@@ -6,6 +6,7 @@
 //! `read_line` takes exactly one line off a reader, also where memory runs out in the middle of
 //! it; `write_hex_line` writes bytes as one line without taking memory, and holds nothing of it
 //! back. `LineInput` and `LineOutput` say what a reader and a writer owe for that.
+//! Its tests stand in `cs_small_tests`.
 #![tactic(auto)]
 
 pub mod laws;
@@ -22,6 +23,3 @@ pub use streams::{LineInput, LineOutput, write_whole};
 
 /// Memory was refused.
 pub type Memory = AllocError;
-
-#[cfg(test)]
-mod tests;

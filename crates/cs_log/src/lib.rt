@@ -4,13 +4,12 @@
 //! `read_body` reads exactly that. `laws` says that a longer log has the same tables at the versions that it had, that there
 //! is one state a version, and that the entries between two versions lead from the one's tables to the other's. The crate
 //! stands on changesets (`cs_changeset`) and their normal forms (`cs_normal`), and on no store.
+//! Its tests stand in `cs_small_tests`.
 #![tactic(auto)]
 
 mod body;
 mod entry;
 mod fault;
-#[cfg(test)]
-mod tests;
 
 pub use body::{Body, put_body, read_body};
 pub use entry::{LogEntry, MAX_CHANGESET};

@@ -5,15 +5,27 @@ use cs_changeset::read;
 use cs_keyed::{KeysBuilder, key_front};
 use cs_normal::*;
 use cs_order::Keys;
-use cs_record::read_record;
+use cs_record::{Record, read_record};
 use cs_value::{Catalog, Items, Memory, TableDef, Text, Value};
-use std::alloc::{AllocError, Global};
+use std::alloc::Global;
+use std::slice;
 use std::test::Fail;
 
-/// The header of the table `t1`, and of `t2`.
-const FIRST: [u8; 7] = [0x54, 2, 1, 0, 0x74, 0x31, 0];
+/// The headers of the tables `t1` and `t2`, and the INSERTs of keys with a text.
+const FIRST: &[u8] = &[0x54, 2, 1, 0, 0x74, 0x31, 0];
 
-const SECOND: [u8; 7] = [0x54, 2, 1, 0, 0x74, 0x32, 0];
+const SECOND: &[u8] = &[0x54, 2, 1, 0, 0x74, 0x32, 0];
+
+const ONE_V1: &[u8] = &[0x12, 0, 1, 0, 0, 0, 0, 0, 0, 0, 1, 3, 2, 0x76, 0x31];
+
+const TWO_V1: &[u8] = &[0x12, 0, 1, 0, 0, 0, 0, 0, 0, 0, 2, 3, 2, 0x76, 0x31];
+
+const TWO_V2: &[u8] = &[0x12, 0, 1, 0, 0, 0, 0, 0, 0, 0, 2, 3, 2, 0x76, 0x32];
+
+/// The UPDATE of the key 1 from `v1` to `v2`, in normal form.
+const UPDATE: &[u8] = &[
+    0x17, 0, 1, 0, 0, 0, 0, 0, 0, 0, 1, 3, 2, 0x76, 0x31, 0, 3, 2, 0x76, 0x32,
+];
 
 /// NULL for 0, else the number.
 fn put_key(key: u8, out: &mut Vec<u8>) -> Result<(), Memory> {
@@ -83,162 +95,232 @@ fn tables(alloc: Global) -> Result<Vec<TableDef>, Memory> {
     Ok(tables)
 }
 
+/// The catalog of these tables.
+fn catalog(alloc: Global) -> Option<Catalog> {
+    Catalog::new(tables(alloc).ok()?).ok()
+}
+
 /// The normal form of these bytes.
-fn normal_of(alloc: Global, catalog: &Catalog, bytes: &[u8]) -> Result<Normal, Fail> {
-    let changeset = read(alloc, bytes)?;
-    Ok(normalise(alloc, catalog, &changeset)?)
+fn normal_of(alloc: Global, catalog: &Catalog, bytes: &[u8]) -> Option<Normal> {
+    let changeset = read(alloc, bytes).ok()?;
+    normalise(alloc, catalog, &changeset).ok()
 }
 
-fn bytes_of(alloc: Global, normal: &Normal) -> Result<Vec<u8>, Memory> {
+/// Whether the bytes are these parts, one behind another.
+fn is_joined(bytes: &[u8], parts: &[&[u8]]) -> bool {
+    let mut rest = bytes;
+    for part in parts {
+        match rest.split_at_checked(part.len()) {
+            Some((front, behind)) if front == *part => rest = behind,
+            _ => return false,
+        }
+    }
+    rest.is_empty()
+}
+
+/// Whether the normal form is written so, in parts.
+fn is_written(alloc: Global, normal: &Normal, parts: &[&[u8]]) -> bool {
     let mut out = Vec::new(alloc);
-    normal.encode(&mut out)?;
-    Ok(out)
+    normal.encode(&mut out).is_ok() && is_joined(&out, parts)
 }
 
-#[test]
-fn in_key_order_with_marks_of_one(rt: HostRuntime) -> Result<(), Fail> {
-    let alloc = rt.alloc();
-    let catalog = Catalog::new(tables(alloc)?)?;
+/// Whether the normal form of these bytes is written so, in parts.
+fn becomes(alloc: Global, bytes: &[u8], parts: &[&[u8]]) -> Option<bool> {
+    let normal = normal_of(alloc, &catalog(alloc)?, bytes)?;
+    Some(is_written(alloc, &normal, parts))
+}
+
+/// INSERTs out of order in a table whose key column is marked by 2.
+fn unordered(alloc: Global) -> Result<Vec<u8>, Memory> {
     let mut bytes = Vec::new(alloc);
     put_header(2, "t1", &mut bytes)?;
     put_insert(2, "v2", &mut bytes)?;
     put_insert(1, "v1", &mut bytes)?;
-    let normal = normal_of(alloc, &catalog, bytes.as_slice())?;
-    let mut want = Vec::from_slice(alloc, &FIRST)?;
-    want.extend_from_slice(&[0x12, 0, 1, 0, 0, 0, 0, 0, 0, 0, 1, 3, 2, 0x76, 0x31])?;
-    want.extend_from_slice(&[0x12, 0, 1, 0, 0, 0, 0, 0, 0, 0, 2, 3, 2, 0x76, 0x32])?;
-    assert_eq!(rt; bytes_of(alloc, &normal)?, want);
-    Ok(())
+    Ok(bytes)
 }
 
 #[test]
-fn updates(rt: HostRuntime) -> Result<(), Fail> {
-    let alloc = rt.alloc();
-    let catalog = Catalog::new(tables(alloc)?)?;
+fn in_key_order_with_marks_of_one(rt: HostRuntime) -> Result<(), Fail> {
+    let bytes = unordered(rt.alloc())?;
+    assert!(rt; becomes(rt.alloc(), &bytes, &[FIRST, ONE_V1, TWO_V2]).unwrap_or(false));
+    Ok(())
+}
+
+/// An UPDATE, and one that changes nothing.
+fn two_updates(alloc: Global) -> Result<Vec<u8>, Memory> {
     let mut bytes = Vec::new(alloc);
     put_header(1, "t1", &mut bytes)?;
     put_update(1, "v1", "v2", &mut bytes)?;
     put_update(2, "v1", "v1", &mut bytes)?;
-    let normal = normal_of(alloc, &catalog, bytes.as_slice())?;
-    let mut want = Vec::from_slice(alloc, &FIRST)?;
-    want.extend_from_slice(&[0x17, 0, 1, 0, 0, 0, 0, 0, 0, 0, 1, 3, 2, 0x76, 0x31])?;
-    want.extend_from_slice(&[0, 3, 2, 0x76, 0x32])?;
-    assert_eq!(rt; bytes_of(alloc, &normal)?, want);
-    Ok(())
+    Ok(bytes)
 }
 
 #[test]
-fn nothing_left(rt: HostRuntime) -> Result<(), Fail> {
-    let alloc = rt.alloc();
-    let catalog = Catalog::new(tables(alloc)?)?;
+fn updates(rt: HostRuntime) -> Result<(), Fail> {
+    let bytes = two_updates(rt.alloc())?;
+    assert!(rt; becomes(rt.alloc(), &bytes, &[FIRST, UPDATE]).unwrap_or(false));
+    Ok(())
+}
+
+/// An UPDATE that changes nothing, and a header behind it.
+fn idle_update(alloc: Global) -> Result<Vec<u8>, Memory> {
     let mut bytes = Vec::new(alloc);
     put_header(1, "t1", &mut bytes)?;
     put_update(1, "v1", "v1", &mut bytes)?;
     put_header(1, "t2", &mut bytes)?;
-    let normal = normal_of(alloc, &catalog, bytes.as_slice())?;
-    assert_eq!(rt; bytes_of(alloc, &normal)?.len(), 0);
-    Ok(())
+    Ok(bytes)
 }
 
 #[test]
-fn dropped_update_has_a_key(rt: HostRuntime) -> Result<(), Fail> {
-    let alloc = rt.alloc();
-    let catalog = Catalog::new(tables(alloc)?)?;
+fn nothing_left(rt: HostRuntime) -> Result<(), Fail> {
+    let bytes = idle_update(rt.alloc())?;
+    assert!(rt; becomes(rt.alloc(), &bytes, &[]).unwrap_or(false));
+    Ok(())
+}
+
+/// Why these bytes have no normal form, if they have none.
+fn unfit(alloc: Global, bytes: &[u8]) -> Option<Unfit> {
+    let catalog = catalog(alloc)?;
+    let changeset = read(alloc, bytes).ok()?;
+    normalise(alloc, &catalog, &changeset).err()
+}
+
+/// An UPDATE that changes nothing, and an INSERT of its key.
+fn idle_update_and_insert(alloc: Global) -> Result<Vec<u8>, Memory> {
     let mut bytes = Vec::new(alloc);
     put_header(1, "t1", &mut bytes)?;
     put_update(1, "v1", "v1", &mut bytes)?;
     put_insert(1, "v1", &mut bytes)?;
-    let changeset = read(alloc, bytes.as_slice())?;
-    assert!(rt; matches!(normalise(alloc, &catalog, &changeset), Err(Unfit::KeyTwice)));
+    Ok(bytes)
+}
+
+#[test]
+fn dropped_update_has_a_key(rt: HostRuntime) -> Result<(), Fail> {
+    let bytes = idle_update_and_insert(rt.alloc())?;
+    assert!(rt; unfit(rt.alloc(), &bytes) == Some(Unfit::KeyTwice));
     Ok(())
+}
+
+/// INSERTs of `t2` and then of `t1`, and those in normal form.
+const OF_TWO: &[(&str, &[u8])] = &[("t2", &[1]), ("t1", &[2]), ("t1", &[1])];
+
+/// The normal form of groups of INSERTs with these keys, each of a table.
+fn normal_inserts(alloc: Global, catalog: &Catalog, spelled: &[(&str, &[u8])]) -> Option<Normal> {
+    let bytes = inserts(alloc, spelled).ok()?;
+    normal_of(alloc, catalog, &bytes)
+}
+
+/// Whether the copy of it is the same.
+fn is_copied(alloc: Global, normal: &Normal) -> Result<bool, Memory> {
+    Ok(normal.copy(alloc)?.same(normal))
 }
 
 #[test]
 fn tables_in_the_catalogs_order(rt: HostRuntime) -> Result<(), Fail> {
     let alloc = rt.alloc();
-    let catalog = Catalog::new(tables(alloc)?)?;
-    let spelled: [(&str, &[u8]); 3] = [("t2", &[1]), ("t1", &[2]), ("t1", &[1])];
-    let normal = normal_of(alloc, &catalog, inserts(alloc, &spelled)?.as_slice())?;
-    let mut want = Vec::from_slice(alloc, &FIRST)?;
-    want.extend_from_slice(&[0x12, 0, 1, 0, 0, 0, 0, 0, 0, 0, 1, 3, 2, 0x76, 0x31])?;
-    want.extend_from_slice(&[0x12, 0, 1, 0, 0, 0, 0, 0, 0, 0, 2, 3, 2, 0x76, 0x31])?;
-    want.extend_from_slice(&SECOND)?;
-    want.extend_from_slice(&[0x12, 0, 1, 0, 0, 0, 0, 0, 0, 0, 1, 3, 2, 0x76, 0x31])?;
-    assert_eq!(rt; bytes_of(alloc, &normal)?, want);
+    let Some(catalog) = catalog(alloc) else {
+        panic!(rt; "the tables are no catalog");
+    };
+    let Some(normal) = normal_inserts(alloc, &catalog, OF_TWO) else {
+        panic!(rt; "there is no normal form");
+    };
+    assert!(rt; is_written(alloc, &normal, &[FIRST, ONE_V1, TWO_V1, SECOND, ONE_V1]));
     assert!(rt; normal.fits(&catalog));
-    let copied = normal.copy(alloc)?;
-    assert!(rt; copied.same(&normal));
+    assert!(rt; is_copied(alloc, &normal)?);
     Ok(())
 }
 
+/// Whether the group has this name, one key column of two, and so many changes.
+fn is_group(group: &Group<'_>, name: &str, changes: usize) -> bool {
+    group.marks.as_slice() == &[1, 0][..]
+        && group.name.as_str() == name
+        && group.changes.as_slice().len() == changes
+}
+
+/// Whether it is lent as two groups, whose normal form is the same.
+fn is_lent(alloc: Global, catalog: &Catalog, normal: &Normal) -> Option<bool> {
+    let lent = normal.lend(alloc).ok()?;
+    let are_groups = match lent.as_slice() {
+        [first, second] => is_group(first, "t1", 2) && is_group(second, "t2", 1),
+        _ => false,
+    };
+    Some(are_groups && normalise(alloc, catalog, &lent).ok()?.same(normal))
+}
+
 #[test]
-fn lent_as_it_is_written(rt: HostRuntime) -> Result<(), Fail> {
+fn lent_as_it_is_written(rt: HostRuntime) {
     let alloc = rt.alloc();
-    let catalog = Catalog::new(tables(alloc)?)?;
-    let spelled: [(&str, &[u8]); 3] = [("t2", &[1]), ("t1", &[2]), ("t1", &[1])];
-    let normal = normal_of(alloc, &catalog, inserts(alloc, &spelled)?.as_slice())?;
-    let lent = normal.lend(alloc)?;
-    let mut names = Vec::new(alloc);
-    for group in lent.as_slice() {
-        assert_eq!(rt; group.marks.as_slice(), &[1, 0][..]);
-        names.extend_from_slice(group.name.as_str().as_bytes())?;
-        names.push(b'0' | group.changes.as_slice().len().to_be_bytes()[7])?;
-    }
-    assert_eq!(rt; names.as_slice(), b"t12t21".as_slice());
-    let again = normalise(alloc, &catalog, &lent)?;
-    assert!(rt; again.same(&normal));
-    Ok(())
+    let Some(catalog) = catalog(alloc) else {
+        panic!(rt; "the tables are no catalog");
+    };
+    let Some(normal) = normal_inserts(alloc, &catalog, OF_TWO) else {
+        panic!(rt; "there is no normal form");
+    };
+    assert!(rt; is_lent(alloc, &catalog, &normal).unwrap_or(false));
+}
+
+/// Groups of INSERTs, and why they have no normal form.
+const UNFIT: &[(&[(&str, &[u8])], Unfit)] = &[
+    (&[("t9", &[])], Unfit::UnknownTable),
+    (&[("t3", &[1])], Unfit::Shape),
+    (&[("t1", &[0])], Unfit::NullKey),
+    (&[("t1", &[1, 1])], Unfit::KeyTwice),
+    (&[("t1", &[1]), ("t1", &[1])], Unfit::KeyTwice),
+    (&[("t1", &[0, 1, 1])], Unfit::NullKey),
+    (&[("t1", &[1, 1, 0])], Unfit::KeyTwice),
+    (&[("t1", &[1, 1]), ("t9", &[])], Unfit::KeyTwice),
+    (&[("t9", &[]), ("t1", &[0])], Unfit::UnknownTable),
+    (&[("t3", &[1]), ("t1", &[0])], Unfit::Shape),
+    (&[("t1", &[1]), ("t2", &[0]), ("t1", &[1])], Unfit::NullKey),
+    (
+        &[("t2", &[1]), ("t1", &[1, 1]), ("t2", &[0])],
+        Unfit::KeyTwice,
+    ),
+];
+
+/// Whether they have this fault.
+fn has_fault(alloc: Global, spelled: &[(&str, &[u8])], fault: Unfit) -> Result<bool, Memory> {
+    let bytes = inserts(alloc, spelled)?;
+    Ok(unfit(alloc, &bytes) == Some(fault))
 }
 
 #[test]
 fn first_faults(rt: HostRuntime) -> Result<(), Fail> {
-    let alloc = rt.alloc();
-    let catalog = Catalog::new(tables(alloc)?)?;
-    let cases: [(&[(&str, &[u8])], Unfit); 12] = [
-        (&[("t9", &[])], Unfit::UnknownTable),
-        (&[("t3", &[1])], Unfit::Shape),
-        (&[("t1", &[0])], Unfit::NullKey),
-        (&[("t1", &[1, 1])], Unfit::KeyTwice),
-        (&[("t1", &[1]), ("t1", &[1])], Unfit::KeyTwice),
-        (&[("t1", &[0, 1, 1])], Unfit::NullKey),
-        (&[("t1", &[1, 1, 0])], Unfit::KeyTwice),
-        (&[("t1", &[1, 1]), ("t9", &[])], Unfit::KeyTwice),
-        (&[("t9", &[]), ("t1", &[0])], Unfit::UnknownTable),
-        (&[("t3", &[1]), ("t1", &[0])], Unfit::Shape),
-        (&[("t1", &[1]), ("t2", &[0]), ("t1", &[1])], Unfit::NullKey),
-        (
-            &[("t2", &[1]), ("t1", &[1, 1]), ("t2", &[0])],
-            Unfit::KeyTwice,
-        ),
-    ];
-    for (spelled, fault) in &cases {
-        let bytes = inserts(alloc, spelled)?;
-        let changeset = read(alloc, bytes.as_slice())?;
-        match normalise(alloc, &catalog, &changeset) {
-            Err(Unfit::Memory) => return Err(AllocError)?,
-            Err(told) => assert_eq!(rt; told, *fault),
-            Ok(_) => panic!(rt; "no fault was told"),
-        }
+    for (spelled, fault) in UNFIT {
+        assert!(rt; has_fault(rt.alloc(), spelled, *fault)?);
     }
     Ok(())
 }
 
+/// The tables `t2` and `t1`.
+fn turned_tables(alloc: Global) -> Result<Vec<TableDef>, Memory> {
+    let mut tables = Vec::new(alloc);
+    tables.push(table(alloc, "t2", false)?)?;
+    tables.push(table(alloc, "t1", false)?)?;
+    Ok(tables)
+}
+
+/// Whether it fits these.
+fn fits_turned(alloc: Global, normal: &Normal) -> Option<bool> {
+    let other = Catalog::new(turned_tables(alloc).ok()?).ok()?;
+    Some(normal.fits(&other))
+}
+
 #[test]
-fn apart(rt: HostRuntime) -> Result<(), Fail> {
+fn apart(rt: HostRuntime) {
     let alloc = rt.alloc();
-    let catalog = Catalog::new(tables(alloc)?)?;
-    let other = Catalog::new(vec![in alloc;
-        table(alloc, "t2", false)?,
-        table(alloc, "t1", false)?,
-    ]?)?;
-    let first = inserts(alloc, &[("t1", &[1]), ("t2", &[1])])?;
-    let second = inserts(alloc, &[("t1", &[1]), ("t2", &[2])])?;
-    let one = normal_of(alloc, &catalog, first.as_slice())?;
-    let two = normal_of(alloc, &catalog, second.as_slice())?;
+    let Some(catalog) = catalog(alloc) else {
+        panic!(rt; "the tables are no catalog");
+    };
+    let Some(one) = normal_inserts(alloc, &catalog, &[("t1", &[1]), ("t2", &[1])]) else {
+        panic!(rt; "there is no normal form");
+    };
+    let Some(two) = normal_inserts(alloc, &catalog, &[("t1", &[1]), ("t2", &[2])]) else {
+        panic!(rt; "there is no normal form");
+    };
     assert!(rt; !one.same(&two));
     assert!(rt; one.fits(&catalog));
-    assert!(rt; !one.fits(&other));
-    Ok(())
+    assert!(rt; fits_turned(alloc, &one) == Some(false));
 }
 
 /// The names and key columns of a catalog, one after another.
@@ -271,73 +353,106 @@ fn header_list<'a>(alloc: Global, spelled: &[(&str, &[u8])]) -> Result<Changeset
     Ok(Items::from_vec(groups))
 }
 
+/// The catalog of changesets of these headers, or why there is none.
+fn catalog_of_headers(alloc: Global, spelled: &[&[(&str, &[u8])]]) -> Result<Catalog, HeaderFault> {
+    let mut changesets = Vec::new(alloc);
+    for headers in spelled {
+        changesets.push(header_list(alloc, headers)?)?;
+    }
+    catalog_of(alloc, &changesets)
+}
+
+/// Whether it is shown so.
+fn has_catalog(
+    alloc: Global,
+    spelled: &[&[(&str, &[u8])]],
+    text: &str,
+) -> Result<bool, HeaderFault> {
+    let catalog = catalog_of_headers(alloc, spelled)?;
+    Ok(shown(alloc, &catalog)?.as_str() == text)
+}
+
+/// Headers of three changesets.
+const HEADERS: &[&[(&str, &[u8])]] = &[
+    &[("t2", &[1, 0]), ("t1", &[0, 1])],
+    &[],
+    &[("t2", &[2, 0]), ("t3", &[1, 2, 0]), ("t1", &[0, 9])],
+];
+
 #[test]
-fn tables_as_they_first_came(rt: HostRuntime) -> Result<(), Fail> {
-    let alloc = rt.alloc();
-    let changesets = vec![in alloc;
-        header_list(alloc, &[("t2", &[1, 0]), ("t1", &[0, 1])])?,
-        header_list(alloc, &[])?,
-        header_list(
-            alloc,
-            &[("t2", &[2, 0]), ("t3", &[1, 2, 0]), ("t1", &[0, 9])]
-        )?,
-    ]?;
-    let catalog = catalog_of(alloc, &changesets)?;
-    assert_eq!(rt; shown(alloc, &catalog)?.as_str(), "t2+-t1-+t3++-");
-    Ok(())
+fn tables_as_they_first_came(rt: HostRuntime) {
+    assert!(rt; has_catalog(rt.alloc(), HEADERS, "t2+-t1-+t3++-").unwrap_or(false));
+}
+
+/// Headers that are no catalog's, and why.
+const NO_CATALOG: &[(&[(&str, &[u8])], HeaderFault)] = &[
+    (
+        &[("t1", &[1, 0]), ("t2", &[1]), ("t1", &[1, 1])],
+        HeaderFault::Shape,
+    ),
+    (&[("t1", &[1, 0]), ("t1", &[1, 0, 0])], HeaderFault::Shape),
+    (
+        &[("", &[1]), ("t1", &[1, 0]), ("t1", &[0, 1])],
+        HeaderFault::Shape,
+    ),
+    (&[("t1", &[1]), ("", &[1])], HeaderFault::BadCatalog),
+    (&[("t1", &[0, 0])], HeaderFault::BadCatalog),
+];
+
+/// Whether the fault prints like this.
+fn prints(alloc: Global, fault: HeaderFault, printed: &str) -> Result<bool, Memory> {
+    Ok(format!(in alloc; "{fault}")?.as_str() == printed)
 }
 
 #[test]
 fn header_faults(rt: HostRuntime) -> Result<(), Fail> {
-    let alloc = rt.alloc();
-    let cases: [(&[(&str, &[u8])], HeaderFault); 5] = [
-        (
-            &[("t1", &[1, 0]), ("t2", &[1]), ("t1", &[1, 1])],
-            HeaderFault::Shape,
-        ),
-        (&[("t1", &[1, 0]), ("t1", &[1, 0, 0])], HeaderFault::Shape),
-        (
-            &[("", &[1]), ("t1", &[1, 0]), ("t1", &[0, 1])],
-            HeaderFault::Shape,
-        ),
-        (&[("t1", &[1]), ("", &[1])], HeaderFault::BadCatalog),
-        (&[("t1", &[0, 0])], HeaderFault::BadCatalog),
-    ];
-    for (spelled, fault) in &cases {
-        let changesets = vec![in alloc; header_list(alloc, spelled)?]?;
-        match catalog_of(alloc, &changesets) {
-            Err(HeaderFault::Memory) => return Err(AllocError)?,
-            Err(told) => assert_eq!(rt; told, *fault),
-            Ok(_) => panic!(rt; "no fault was told"),
-        }
+    for (spelled, fault) in NO_CATALOG {
+        assert!(rt; catalog_of_headers(rt.alloc(), &[spelled]).err() == Some(*fault));
     }
-    assert_eq!(rt;
-        format!(in alloc; "{}", HeaderFault::BadCatalog)?.as_str(),
-        "BadCatalog"
-    );
+    assert!(rt; prints(rt.alloc(), HeaderFault::BadCatalog, "BadCatalog")?);
     Ok(())
+}
+
+/// A changeset of so many tables, each of one column.
+fn many_headers<'a>(alloc: Global, count: u16) -> Result<Changeset<'a>, Memory> {
+    let mut groups = Vec::new(alloc);
+    for number in 0..count {
+        let name = format!(in alloc; "t{number}")?;
+        groups.push(header(alloc, name.as_str(), &[1])?)?;
+    }
+    Ok(Items::from_vec(groups))
 }
 
 #[test]
 fn more_names_than_a_catalog_has(rt: HostRuntime) -> Result<(), Fail> {
-    let alloc = rt.alloc();
-    let mut groups = Vec::new(alloc);
-    for number in 0..1001u16 {
-        let name = format!(in alloc; "t{number}")?;
-        groups.push(header(alloc, name.as_str(), &[1])?)?;
-    }
-    let changesets = vec![in alloc; Items::from_vec(groups)]?;
-    assert!(rt; matches!(catalog_of(alloc, &changesets), Err(HeaderFault::BadCatalog)));
+    let changeset = many_headers(rt.alloc(), 1001)?;
+    let told = catalog_of(rt.alloc(), slice::from_ref(&changeset)).err();
+    assert!(rt; told == Some(HeaderFault::BadCatalog));
     Ok(())
 }
 
+/// Whether the key of this number has an INSERT in the table, or no change.
+fn has_insert(alloc: Global, normal: &Normal, name: &str, number: i64) -> Option<bool> {
+    let mut key = Vec::new(alloc);
+    key.push(Value::Int(number)).ok()?;
+    match normal.change(alloc, name, &Items::from_vec(key)).ok()? {
+        Some(Change::Insert { .. }) => Some(true),
+        Some(_) => None,
+        None => Some(false),
+    }
+}
+
 #[test]
-fn changes_are_counted_and_found(rt: HostRuntime) -> Result<(), Fail> {
+fn changes_are_counted_and_found(rt: HostRuntime) {
     let alloc = rt.alloc();
-    let catalog = Catalog::new(tables(alloc)?)?;
     let spelled: [(&str, &[u8]); 3] = [("t2", &[1]), ("t1", &[5, 2, 9]), ("t1", &[1])];
-    let normal = normal_of(alloc, &catalog, inserts(alloc, &spelled)?.as_slice())?;
-    assert_eq!(rt; normal.len(), 5);
+    let Some(catalog) = catalog(alloc) else {
+        panic!(rt; "the tables are no catalog");
+    };
+    let Some(normal) = normal_inserts(alloc, &catalog, &spelled) else {
+        panic!(rt; "there is no normal form");
+    };
+    assert!(rt; normal.len() == 5);
     let cases = [
         ("t1", 1, true),
         ("t1", 5, true),
@@ -349,29 +464,41 @@ fn changes_are_counted_and_found(rt: HostRuntime) -> Result<(), Fail> {
         ("t3", 1, false),
     ];
     for (name, number, there) in cases {
-        let key = Items::from_vec(vec![in alloc; Value::Int(i64::from(number))]?);
-        let found = normal.change(alloc, name, &key)?;
-        assert_eq!(rt; matches!(found, Some(Change::Insert { .. })), there);
+        assert!(rt; has_insert(alloc, &normal, name, number) == Some(there));
     }
-    Ok(())
+}
+
+/// A byte, and keys behind it.
+fn two_keys(alloc: Global) -> Result<Keys, Memory> {
+    let mut expected = Keys::new(alloc);
+    expected.push(&[7, 3, 1, 0x61])?;
+    expected.push(&[7, 5, 3, 1, 0x62])?;
+    Ok(expected)
+}
+
+/// The keys of the record's fields with these marks, behind the byte.
+fn built_keys(alloc: Global, fields: &Record<'_>) -> Result<Keys, Memory> {
+    let mut built = KeysBuilder::with_capacity(alloc, 2, 9)?;
+    built.push_behind(&[7], &[false, true], fields)?;
+    built.push_behind(&[7], &[true, false, true], fields)?;
+    Ok(built.finish())
+}
+
+/// Whether these are the keys, which rise, and don't once another stands behind them.
+fn are_built(alloc: Global, fields: &Record<'_>) -> Result<bool, Memory> {
+    let mut keys = built_keys(alloc, fields)?;
+    let are_same = keys.same(&two_keys(alloc)?);
+    let rose = keys.rise();
+    keys.push(&[7, 5])?;
+    Ok(are_same && rose && !keys.rise())
 }
 
 #[test]
 fn keys_of_a_record(rt: HostRuntime) -> Result<(), Fail> {
-    let alloc = rt.alloc();
-    let bytes = [0, 3, 1, 0x61, 3, 1, 0x62];
-    let (fields, _) = read_record(&bytes, 3)?;
-    assert_eq!(rt; key_front(&[false, true, false]), &[false, true][..]);
-    let mut expected = Keys::new(alloc);
-    expected.push(&[7, 3, 1, 0x61])?;
-    expected.push(&[7, 5, 3, 1, 0x62])?;
-    let mut built = KeysBuilder::with_capacity(alloc, expected.len(), 9)?;
-    built.push_behind(&[7], &[false, true], &fields)?;
-    built.push_behind(&[7], &[true, false, true], &fields)?;
-    let mut keys = built.finish();
-    assert!(rt; keys.same(&expected));
-    assert!(rt; keys.rise());
-    keys.push(&[7, 5])?;
-    assert!(rt; !keys.rise());
+    let Ok((fields, _)) = read_record(&[0, 3, 1, 0x61, 3, 1, 0x62], 3) else {
+        panic!(rt; "no record was read");
+    };
+    assert!(rt; key_front(&[false, true, false]) == &[false, true][..]);
+    assert!(rt; are_built(rt.alloc(), &fields)?);
     Ok(())
 }

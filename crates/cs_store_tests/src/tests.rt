@@ -85,16 +85,42 @@ fn optional(alloc: Global, bytes: Option<&[u8]>) -> Result<Option<Vec<u8>>, Allo
     }
 }
 
+fn edit_of(alloc: Global, edit: &Edit<'_>) -> Result<PlaceEdit, AllocError> {
+    Ok(PlaceEdit {
+        table: edit.0,
+        key: Vec::from_slice(alloc, edit.1)?,
+        body: optional(alloc, edit.2)?,
+    })
+}
+
 fn edits_of(alloc: Global, edits: &[Edit<'_>]) -> Result<Vec<PlaceEdit>, AllocError> {
     let mut made = Vec::new(alloc);
     for edit in edits {
-        made.push(PlaceEdit {
-            table: edit.0,
-            key: Vec::from_slice(alloc, edit.1)?,
-            body: optional(alloc, edit.2)?,
+        made.push(edit_of(alloc, edit)?)?;
+    }
+    Ok(made)
+}
+
+fn meta_of(alloc: Global, named: &[Named<'_>]) -> Result<Vec<MetaEdit>, AllocError> {
+    let mut made = Vec::new(alloc);
+    for edit in named {
+        made.push(MetaEdit {
+            name: edit.0,
+            value: optional(alloc, edit.1)?,
         })?;
     }
     Ok(made)
+}
+
+fn entry_of(alloc: Global, entry: Option<Entry<'_>>) -> Result<Option<StoredEntry>, AllocError> {
+    let Some((origin, number, body)) = entry else {
+        return Ok(None);
+    };
+    Ok(Some(StoredEntry {
+        origin,
+        number,
+        body: Vec::from_slice(alloc, body)?,
+    }))
 }
 
 fn batch(
@@ -104,26 +130,11 @@ fn batch(
     named: &[Named<'_>],
     log: Option<Entry<'_>>,
 ) -> Result<Batch, AllocError> {
-    let mut meta = Vec::new(alloc);
-    for edit in named {
-        meta.push(MetaEdit {
-            name: edit.0,
-            value: optional(alloc, edit.1)?,
-        })?;
-    }
-    let log = match log {
-        Some((origin, number, body)) => Some(StoredEntry {
-            origin,
-            number,
-            body: Vec::from_slice(alloc, body)?,
-        }),
-        None => None,
-    };
     Ok(Batch {
         rows: edits_of(alloc, rows)?,
         pending: edits_of(alloc, pending)?,
-        meta,
-        log,
+        meta: meta_of(alloc, named)?,
+        log: entry_of(alloc, log)?,
     })
 }
 
@@ -200,71 +211,107 @@ fn put_entry(image: &mut Vec<u8>, alloc: Global, entry: &StoredEntry) -> Result<
     Ok(())
 }
 
-/// All that a store shows, as text.
-fn image<S: RowStore>(alloc: Global, store: &mut S) -> Result<Vec<u8>, StoreFault> {
-    let mut image = Vec::new(alloc);
-    for table in [0, 1, 7, BUT_LAST, LAST] {
-        put_table(&mut image, store, table)?;
+/// The tables that are looked at.
+const TABLES: [u32; 5] = [0, 1, 7, BUT_LAST, LAST];
+
+/// The names of values.
+const NAMES: [MetaName; 6] = [
+    MetaName::Id,
+    MetaName::Version,
+    MetaName::Number,
+    MetaName::Flight,
+    MetaName::Pending,
+    MetaName::Catalog,
+];
+
+/// The rows and the pending changes of all tables.
+fn put_tables<S: RowStore>(image: &mut Vec<u8>, store: &mut S) -> Result<(), StoreFault> {
+    for table in TABLES {
+        put_table(image, store, table)?;
     }
-    for table in [0, 1, 7, BUT_LAST, LAST] {
-        put_pending(&mut image, store, table)?;
+    for table in TABLES {
+        put_pending(image, store, table)?;
     }
-    for name in [
-        MetaName::Id,
-        MetaName::Version,
-        MetaName::Number,
-        MetaName::Flight,
-        MetaName::Pending,
-        MetaName::Catalog,
-    ] {
+    Ok(())
+}
+
+/// The values.
+fn put_meta<S: RowStore>(image: &mut Vec<u8>, store: &mut S) -> Result<(), StoreFault> {
+    for name in NAMES {
         match store.meta(name)? {
             Some(value) => image.extend_from_slice(value.as_slice())?,
             None => image.push(b'.')?,
         }
     }
     image.push(b'|')?;
+    Ok(())
+}
+
+/// The entries of the log, and what stands behind them.
+fn put_log<S: RowStore>(
+    image: &mut Vec<u8>,
+    alloc: Global,
+    store: &mut S,
+) -> Result<(), StoreFault> {
     for version in 0..store.log_len()?.saturating_add(1) {
         if let Some(entry) = store.log_get(version)? {
-            put_entry(&mut image, alloc, &entry)?;
+            put_entry(image, alloc, &entry)?;
         }
     }
     image.push(b'|')?;
+    Ok(())
+}
+
+/// All that a store shows, as text.
+fn image<S: RowStore>(alloc: Global, store: &mut S) -> Result<Vec<u8>, StoreFault> {
+    let mut image = Vec::new(alloc);
+    put_tables(&mut image, store)?;
+    put_meta(&mut image, store)?;
+    put_log(&mut image, alloc, store)?;
     Ok(image)
+}
+
+/// Whether the store shows this once the batch is committed.
+fn shows<S: RowStore>(
+    alloc: Global,
+    store: &mut S,
+    batch: &Batch,
+    shown: &[u8],
+) -> Result<bool, StoreFault> {
+    store.commit(batch)?;
+    Ok(image(alloc, store)?.as_slice() == shown)
 }
 
 /// Three commits, through a caller that knows no store: whether it shows what was written by hand after each.
 fn shows_commits<S: RowStore>(alloc: Global, store: &mut S) -> Result<bool, StoreFault> {
-    store.commit(&first_batch(alloc)?)?;
-    let first = image(alloc, store)?;
-    store.commit(&next_batch(alloc)?)?;
-    let next = image(alloc, store)?;
-    store.commit(&batch(alloc, &[], &[], &[], None)?)?;
-    let last = image(alloc, store)?;
-    Ok(
-        first.as_slice() == FIRST_SHOWN
-            && next.as_slice() == NEXT_SHOWN
-            && last.as_slice() == NEXT_SHOWN
-            && store.failures() == 0,
-    )
+    let first = shows(alloc, store, &first_batch(alloc)?, FIRST_SHOWN)?;
+    let next = shows(alloc, store, &next_batch(alloc)?, NEXT_SHOWN)?;
+    let nothing = batch(alloc, &[], &[], &[], None)?;
+    let last = shows(alloc, store, &nothing, NEXT_SHOWN)?;
+    Ok(first && next && last && store.failures() == 0)
 }
 
 #[test]
-fn stores_show_what_was_committed(rt: HostRuntime) -> Result<(), Fail> {
+fn stores_show_what_was_committed(rt: HostRuntime) {
     let alloc = rt.alloc();
-    let mut store = MapStore::new(alloc);
-    assert!(rt; shows_commits(alloc, &mut store)?);
+    assert!(rt; shows_commits(alloc, &mut MapStore::new(alloc)).unwrap_or(false));
     let mut trip = Trip::new(MapStore::new(alloc), u64::MAX);
-    assert!(rt; shows_commits(alloc, &mut trip)?);
-    Ok(())
+    assert!(rt; shows_commits(alloc, &mut trip).unwrap_or(false));
 }
 
-/// A catalog of one table of two columns, of which the first is the key.
-fn catalog(alloc: Global) -> Result<Catalog, Fail> {
-    let name = Text::from_string(String::from_str(alloc, "t1")?);
-    let key_marks = Items::from_vec(vec![in alloc; true, false]?);
+/// A table of two columns, of which the first is the key.
+fn tables(alloc: Global) -> Result<Vec<TableDef>, AllocError> {
     let mut tables = Vec::new(alloc);
-    tables.push(TableDef { name, key_marks })?;
-    Ok(Catalog::new(tables)?)
+    tables.push(TableDef {
+        name: Text::from_string(String::from_str(alloc, "t1")?),
+        key_marks: Items::from_vec(vec![in alloc; true, false]?),
+    })?;
+    Ok(tables)
+}
+
+/// The catalog of that table.
+fn catalog(alloc: Global) -> Option<Catalog> {
+    Catalog::new(tables(alloc).ok()?).ok()
 }
 
 /// The key 1, another, and NULL.
@@ -297,41 +344,62 @@ const BODY: &[u8] = &[
 
 const OTHER_BODY: &[u8] = &[7, 0x54, 2, 1, 0, 0x74, 0x31, 0];
 
-/// Whether a store with this row, this pending change and this entry is found whole.
-fn is_whole(alloc: Global, row: Edit<'_>, change: Edit<'_>, body: &[u8]) -> Result<bool, Fail> {
+/// A store with this row, this pending change and this entry.
+fn store_of(
+    alloc: Global,
+    row: Edit<'_>,
+    change: Edit<'_>,
+    body: &[u8],
+) -> Result<MapStore, StoreFault> {
     let mut store = MapStore::new(alloc);
-    store.commit(&batch(alloc, &[row], &[change], &FIRST_META, Some((7, 1, body)))?)?;
-    Ok(store.check(&catalog(alloc)?)?)
+    let batch = batch(alloc, &[row], &[change], &FIRST_META, Some((7, 1, body)))?;
+    store.commit(&batch)?;
+    Ok(store)
 }
 
+/// Whether the store is found whole.
+fn is_found_whole(alloc: Global, store: &mut MapStore) -> Option<bool> {
+    store.check(&catalog(alloc)?).ok()
+}
+
+/// Whether a store with this row, this pending change and this entry is found whole.
+fn is_whole(alloc: Global, row: Edit<'_>, change: Edit<'_>, body: &[u8]) -> Option<bool> {
+    let mut store = store_of(alloc, row, change, body).ok()?;
+    is_found_whole(alloc, &mut store)
+}
+
+/// A row and a pending change of it.
+const WHOLE: Edit<'static> = (0, KEY, Some(ROW));
+
+const CHANGE: Edit<'static> = (0, KEY, Some(INSERT));
+
 #[test]
-fn a_store_is_whole_where_all_is_what_its_place_says(rt: HostRuntime) -> Result<(), Fail> {
+fn a_store_is_whole_where_all_is_what_its_place_says(rt: HostRuntime) {
     let alloc = rt.alloc();
-    let row = (0, KEY, Some(ROW));
-    let change = (0, KEY, Some(INSERT));
-    assert!(rt; MapStore::new(alloc).check(&catalog(alloc)?)?);
-    assert!(rt; is_whole(alloc, row, change, BODY)?);
-    assert!(rt; is_whole(alloc, row, (0, KEY, Some(UPDATE)), &[0])?);
-    for wrong in [
+    assert!(rt; is_found_whole(alloc, &mut MapStore::new(alloc)) == Some(true));
+    assert!(rt; is_whole(alloc, WHOLE, CHANGE, BODY) == Some(true));
+    assert!(rt; is_whole(alloc, WHOLE, (0, KEY, Some(UPDATE)), &[0]) == Some(true));
+    let rows: [Edit<'_>; 5] = [
         (1, KEY, Some(ROW)),
         (0, OTHER_KEY, Some(ROW)),
         (0, KEY, Some(LONG_ROW)),
         (0, NULL_KEY, Some(NULL_ROW)),
         (0, KEY, Some(INSERT)),
-    ] {
-        assert!(rt; !is_whole(alloc, wrong, change, BODY)?);
+    ];
+    for wrong in rows {
+        assert!(rt; is_whole(alloc, wrong, CHANGE, BODY) == Some(false));
     }
-    for wrong in [
+    let changes: [Edit<'_>; 4] = [
         (1, KEY, Some(INSERT)),
         (0, OTHER_KEY, Some(UPDATE)),
         (0, KEY, Some(LONG_INSERT)),
         (0, KEY, Some(ROW)),
-    ] {
-        assert!(rt; !is_whole(alloc, row, wrong, BODY)?);
+    ];
+    for wrong in changes {
+        assert!(rt; is_whole(alloc, WHOLE, wrong, BODY) == Some(false));
     }
-    assert!(rt; !is_whole(alloc, row, change, OTHER_BODY)?);
-    assert!(rt; !is_whole(alloc, row, change, &[])?);
-    Ok(())
+    assert!(rt; is_whole(alloc, WHOLE, CHANGE, OTHER_BODY) == Some(false));
+    assert!(rt; is_whole(alloc, WHOLE, CHANGE, &[]) == Some(false));
 }
 
 /// A call of each kind, by its number.
@@ -354,89 +422,129 @@ fn call<S: RowStore>(
     }
 }
 
+/// A store that holds what the first batch writes, and whose device refuses the call of this number.
+fn first_trip(alloc: Global, refused: u64) -> Result<Trip<MapStore>, StoreFault> {
+    let mut store = MapStore::new(alloc);
+    store.commit(&first_batch(alloc)?)?;
+    Ok(Trip::new(store, refused))
+}
+
+/// Whether the call of this number, behind those before it, is refused by the device, and counted.
+fn is_refused<S: RowStore>(
+    store: &mut S,
+    catalog: &Catalog,
+    next: &Batch,
+    refused: u64,
+) -> Result<bool, StoreFault> {
+    for number in 0..refused {
+        call(store, catalog, next, number)?;
+    }
+    Ok(call(store, catalog, next, refused) == Err(StoreFault::Device) && store.failures() == 1)
+}
+
+/// Whether a call of each kind is refused so, leaves everything, and then is made.
+fn leaves_everything(
+    alloc: Global,
+    catalog: &Catalog,
+    next: &Batch,
+    refused: u64,
+) -> Result<bool, StoreFault> {
+    let mut trip = first_trip(alloc, refused)?;
+    let is_told = is_refused(&mut trip, catalog, next, refused)?;
+    let stays = image(alloc, &mut trip.inner)?.as_slice() == FIRST_SHOWN;
+    call(&mut trip, catalog, next, refused)?;
+    Ok(is_told && stays && trip.failures() == 1)
+}
+
+/// Whether the fault prints like this.
+fn prints(alloc: Global, fault: StoreFault, printed: &str) -> Result<bool, AllocError> {
+    Ok(fault.to_string(alloc)?.as_str() == printed)
+}
+
 #[test]
 fn a_call_that_the_device_refuses_leaves_everything(rt: HostRuntime) -> Result<(), Fail> {
     let alloc = rt.alloc();
-    let first = first_batch(alloc)?;
+    let Some(catalog) = catalog(alloc) else {
+        panic!(rt; "the table is a catalog");
+    };
     let next = next_batch(alloc)?;
-    let catalog = catalog(alloc)?;
     for refused in 0..9u64 {
-        let mut store = MapStore::new(alloc);
-        store.commit(&first)?;
-        let mut trip = Trip::new(store, refused);
-        for number in 0..refused {
-            call(&mut trip, &catalog, &next, number)?;
-        }
-        assert!(rt; call(&mut trip, &catalog, &next, refused) == Err(StoreFault::Device));
-        assert_eq!(rt; trip.failures(), 1);
-        assert!(rt; image(alloc, &mut trip.inner)?.as_slice() == FIRST_SHOWN);
-        call(&mut trip, &catalog, &next, refused)?;
-        assert_eq!(rt; trip.failures(), 1);
+        assert!(rt; leaves_everything(alloc, &catalog, &next, refused).unwrap_or(false));
     }
-    assert_eq!(rt; StoreFault::Device.to_string(alloc)?.as_str(), "Device");
-    assert_eq!(rt; StoreFault::Memory.to_string(alloc)?.as_str(), "Memory");
+    assert!(rt; prints(alloc, StoreFault::Device, "Device").unwrap_or(false));
+    assert!(rt; prints(alloc, StoreFault::Memory, "Memory").unwrap_or(false));
     Ok(())
 }
 
-#[test]
-fn a_misread_counts_and_changes_nothing_else(rt: HostRuntime) -> Result<(), Fail> {
-    let alloc = rt.alloc();
-    let mut store = MapStore::new(alloc);
-    store.commit(&first_batch(alloc)?)?;
-    let mut trip = Trip::new(store, 1);
-    assert!(rt; trip.misread() == StoreFault::Device);
-    assert_eq!(rt; trip.failures(), 1);
-    assert!(rt; trip.log_len() == Ok(1));
-    assert!(rt; trip.log_len() == Err(StoreFault::Device));
-    assert_eq!(rt; trip.failures(), 2);
-    assert_eq!(rt; trip.inner.failures(), 1);
-    assert!(rt; image(alloc, &mut trip)?.as_slice() == FIRST_SHOWN);
-    Ok(())
+/// Whether a misread is told as the device's, is counted, and takes no call.
+fn counts_a_misread(alloc: Global) -> Result<bool, StoreFault> {
+    let mut trip = first_trip(alloc, 1)?;
+    let is_told = trip.misread() == StoreFault::Device && trip.failures() == 1;
+    let is_read = trip.log_len() == Ok(1) && trip.log_len() == Err(StoreFault::Device);
+    let is_counted = trip.failures() == 2 && trip.inner.failures() == 1;
+    let stays = image(alloc, &mut trip)?.as_slice() == FIRST_SHOWN;
+    Ok(is_told && is_read && is_counted && stays)
 }
 
 #[test]
-fn what_is_written_is_counted_where_a_commit_succeeds(rt: HostRuntime) -> Result<(), Fail> {
-    let alloc = rt.alloc();
-    let mut trip = Trip::new(MapStore::new(alloc), 1);
-    let nothing = trip.written();
-    assert!(rt; (nothing.rows, nothing.pending, nothing.meta, nothing.log) == (0, 0, 0, 0));
+fn a_misread_counts_and_changes_nothing_else(rt: HostRuntime) {
+    assert!(rt; counts_a_misread(rt.alloc()).unwrap_or(false));
+}
+
+/// So many edits of rows, of pending changes and of values, and entries.
+fn written(rows: u64, pending: u64, meta: u64, log: u64) -> Written {
+    Written {
+        rows,
+        pending,
+        meta,
+        log,
+    }
+}
+
+/// Whether the first batch is counted where it is committed, and the next one where it isn't refused.
+fn counts_commits<S: RowStore>(alloc: Global, trip: &mut Trip<S>) -> Result<bool, StoreFault> {
+    let next = next_batch(alloc)?;
+    let nothing = trip.written() == written(0, 0, 0, 0);
     trip.commit(&first_batch(alloc)?)?;
-    assert!(rt; trip.commit(&next_batch(alloc)?).is_err());
-    let first = trip.written();
-    assert!(rt; (first.rows, first.pending, first.meta, first.log) == (8, 4, 3, 1));
-    trip.commit(&next_batch(alloc)?)?;
-    trip.commit(&batch(alloc, &[], &FIRST_PENDING, &[], None)?)?;
-    let last = trip.written();
-    assert!(rt; (last.rows, last.pending, last.meta, last.log) == (13, 11, 5, 2));
-    Ok(())
+    let is_refused = trip.commit(&next).is_err();
+    let first = trip.written() == written(8, 4, 3, 1);
+    trip.commit(&next)?;
+    Ok(nothing && is_refused && first)
 }
 
-/// A batch of so many rows and as many pending changes in two tables, of which each fifth is removed, with a value and an
-/// entry of the log.
-fn many(alloc: Global, count: u8, body: &[u8]) -> Result<Batch, AllocError> {
-    let mut made = batch(
-        alloc,
-        &[],
-        &[],
-        &[(MetaName::Number, Some(body))],
-        Some((1, 1, body)),
-    )?;
+/// Whether what two more commits write is counted too.
+fn counts_written(alloc: Global) -> Result<bool, StoreFault> {
+    let mut trip = Trip::new(MapStore::new(alloc), 1);
+    let first = counts_commits(alloc, &mut trip)?;
+    trip.commit(&batch(alloc, &[], &FIRST_PENDING, &[], None)?)?;
+    Ok(first && trip.written() == written(13, 11, 5, 2))
+}
+
+#[test]
+fn what_is_written_is_counted_where_a_commit_succeeds(rt: HostRuntime) {
+    assert!(rt; counts_written(rt.alloc()).unwrap_or(false));
+}
+
+/// So many edits in two tables, of which each fifth removes.
+fn many_edits(alloc: Global, count: u8, body: &[u8]) -> Result<Vec<PlaceEdit>, AllocError> {
+    let mut made = Vec::new(alloc);
     for number in 0..count {
         let table = if number % 2 == 0 { 0 } else { LAST };
         let key = [number.wrapping_mul(37)];
         let set = if number % 5 == 4 { None } else { Some(body) };
-        made.rows.push(PlaceEdit {
-            table,
-            key: Vec::from_slice(alloc, &key)?,
-            body: optional(alloc, set)?,
-        })?;
-        made.pending.push(PlaceEdit {
-            table,
-            key: Vec::from_slice(alloc, &key)?,
-            body: optional(alloc, set)?,
-        })?;
+        made.push(edit_of(alloc, &(table, &key, set))?)?;
     }
     Ok(made)
+}
+
+/// A batch of so many rows and as many pending changes, with a value and an entry of the log.
+fn many(alloc: Global, count: u8, body: &[u8]) -> Result<Batch, AllocError> {
+    Ok(Batch {
+        rows: many_edits(alloc, count, body)?,
+        pending: many_edits(alloc, count, body)?,
+        meta: meta_of(alloc, &[(MetaName::Number, Some(body))])?,
+        log: entry_of(alloc, Some((1, 1, body)))?,
+    })
 }
 
 /// A store in memory refuses for want of memory alone, as a caller sees from its clauses.
@@ -457,27 +565,29 @@ fn commits_at_last(alloc: Global, store: &mut MapStore, batch: &Batch) -> Result
     Ok(fault == StoreFault::Memory && before.as_slice() == after.as_slice())
 }
 
-/// Two commits of which one may be refused, and what is shown behind them.
-fn commits_twice(alloc: Global) -> Result<bool, StoreFault> {
-    let first = many(alloc, 40, b"first")?;
-    let next = many(alloc, 80, b"next")?;
-    let mut store = MapStore::new(alloc);
-    let kept = commits_at_last(alloc, &mut store, &first)?
-        && commits_at_last(alloc, &mut store, &next)?;
+/// Whether the store holds what both of them left.
+fn holds_both(store: &mut MapStore) -> Result<bool, StoreFault> {
     let rows = store.list(0)?.len() + store.list(LAST)?.len();
     let changes = store.pend_list(0)?.len() + store.pend_list(LAST)?.len();
-    Ok(kept && rows == 64 && changes == 64 && store.log_len()? == 2)
+    Ok(rows == 64 && changes == 64 && store.log_len()? == 2)
+}
+
+/// Two commits of which one may be refused, and what is shown behind them.
+fn commits_twice(alloc: Global) -> Result<bool, StoreFault> {
+    let mut store = MapStore::new(alloc);
+    let first = commits_at_last(alloc, &mut store, &many(alloc, 40, b"first")?)?;
+    let next = commits_at_last(alloc, &mut store, &many(alloc, 80, b"next")?)?;
+    Ok(first && next && holds_both(&mut store)?)
 }
 
 /// Everything is as it was where memory is refused, and the same call then succeeds. `bench/refuse_tests.sh` refuses each
 /// allocation in turn here; a batch that can't be made, or a read that is refused, is tried again with the rest.
 #[test]
-fn refused_memory_leaves_everything(rt: HostRuntime) -> Result<(), Fail> {
+fn refused_memory_leaves_everything(rt: HostRuntime) {
     let alloc = rt.alloc();
     let kept = match commits_twice(alloc) {
         Ok(kept) => kept,
-        Err(fault) => fault == StoreFault::Memory && commits_twice(alloc)?,
+        Err(fault) => fault == StoreFault::Memory && commits_twice(alloc).unwrap_or(false),
     };
     assert!(rt; kept);
-    Ok(())
 }

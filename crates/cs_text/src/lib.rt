@@ -3,6 +3,7 @@
 //! its own. The definitions of `Text` state each text exactly, and each type here promises its own: what `{}` writes of a
 //! `ChangesetText`, a `BlobText`, a `NameText`, a `ValueText` or a `FieldText` is that text and nothing else, so `format!`
 //! ensures it where it succeeds. The text is a format of this project, described in docs/FORMATS.md.
+//! Its tests stand in `cs_small_tests`.
 #![tactic(auto)]
 
 mod blobs;
@@ -13,6 +14,3 @@ mod words;
 pub use blobs::BlobText;
 pub use changesets::ChangesetText;
 pub use words::{FieldText, NameText, ValueText, is_plain};
-
-#[cfg(test)]
-mod tests;
