@@ -1,18 +1,20 @@
 -- The laws of stores: one answer for each input, and what a commit leaves at each place.
-use Rattle.std.proofs.Common.{◌≡◌, ℕ, ◌&&◌, cond, List, [], ◌∷◌, Option, Some, None, is_some, refl, sym, ap, ◌∙◌, fold, arith, Result, Ok, Err, IsOk, OnOk, OnErr, IsSome, true, inl, inr, ⊎_elim, subst, ◌+◌, ◌<◌}
+use Rattle.std.proofs.Common.{◌≡◌, ◌≢◌, ◌≤◌, ◌-◌, zero, suc, ℕ, ◌&&◌, cond, List, [], ◌∷◌, Option, Some, None, is_some, refl, sym, ap, ◌∙◌, fold, arith, Result, Ok, Err, IsOk, OnOk, OnErr, IsSome, true, inl, inr, ⊎_elim, subst, ◌+◌, ◌<◌}
 use Rattle.std.specs.Prelude.{pos, nat_eq, false, ◌↔◌}
 use Rattle.std.proofs.Math.Dec.{eqb}
 use borrow.Author.Tests.{eqb-true, eqb-false}
 use Rattle.std.specs.declared.cmp.Ordering.{Ordering}
 use Rattle.std.specs.declared.cmp.Ordering.TheVariants.{Less, Equal, Greater}
 use Rattle.std.specs.Ordering.{is_eq, eq_by_cmp, int_cmp, ordering_then}
-use Rattle.std.specs.FinMap.{empty, get, len, insert, get-empty, get-insert, len-insert, len-empty}
+use Rattle.std.specs.FinMap.{empty, empty_of_len, get, len, insert, get-empty, get-insert, len-insert, len-remove, len-empty}
+use Rattle.std.specs.Cmp.{Equal-is}
+use Rattle.std.proofs.lemmas.Bool.{false_from_ne_true}
 use Rattle.std.specs.FinMap.Entries.{same_entries}
 use Rattle.std.proofs.lemmas.Cmp.{int_cmp_total, nat_list_cmp_total}
 use Rattle.std.proofs.lemmas.Map.Lookups.{exact_bytes}
 use Rattle.cs_order.specs.Order.{by_bytes, same_bytes}
-use Rattle.cs_store.specs.Contents.{Contents, Log, LogItem, Bodies, Meta, place_cmp, name_text}
-use Rattle.cs_store.specs.Written.{edit_body, edit_meta, appended, optional_bytes, optional_entry, item_of}
+use Rattle.cs_store.specs.Contents.{Contents, Log, LogItem, Bodies, Meta, StorePlace, place_cmp, name_text}
+use Rattle.cs_store.specs.Written.{edit_body, edit_meta, appended, optional_bytes, optional_entry, item_of, store_place, with_body}
 use Rattle.cs_store.specs.Laws as law
 use Rattle.cs_store.specs.Calls as call
 use Rattle.cs_store.specs.Calls.{CountsFailures}
@@ -22,7 +24,7 @@ use Rattle.cs_store.specs.declared.batch.MetaEdit.{MetaEdit}
 use Rattle.cs_store.specs.declared.names.MetaName.{MetaName}
 use Rattle.cs_store.specs.declared.names.MetaName.TheVariants.{Id, Version, Number, Flight, Pending, Catalog}
 use Rattle.cs_store.specs.declared.fault.StoreFault.TheVariants.{Memory, Device}
-use Rattle.cs_store.proofs.Maps.{place_total, get-with_body, get-with_meta}
+use Rattle.cs_store.proofs.Maps.{place_exact, place_total, get-with_body, get-with_meta}
 use Rattle.cs_store.proofs.Numbers.{tie_pos}
 
 -- ---- one answer
@@ -130,11 +132,73 @@ rows_at rows (e ∷ es) table key = rows_at (edit_body rows e) es table key
     ∙ ap (law.row_after es table key) (get-with_body rows (pos e.table, e.key.items) (optional_bytes e.body) (pos table, key)
     ∙ ap (λ b. cond b (optional_bytes e.body) (get rows (pos table, key))) (same_place table e.table key e.key.items))
 
+pub reads_edits : law.ReadsEdits
+reads_edits bodies edits table key = rows_at bodies edits table key
+
 pub writes_rows : law.WritesRows
 writes_rows batch before table key = rows_at before.rows batch.rows.items table key
 
 pub writes_pending : law.WritesPending
 writes_pending batch before table key = rows_at before.pending batch.pending.items table key
+
+-- a place that isn't named keeps what it has
+other_tie : (some other : StorePlace) → (other ≡ some → ⊥) → eq_by_cmp place_cmp some other ≡ false
+other_tie some other apart =
+    false_from_ne_true (eq_by_cmp place_cmp some other) (λ t. apart (sym (place_exact some other ((Equal-is (place_cmp some other)).0 t))))
+
+others_at : (bodies : Bodies) (edits : List PlaceEdit) (place : StorePlace) → law.IsNoPlaceOf edits place → get (fold edit_body bodies edits) place ≡ get bodies place
+others_at bodies [] place none = refl
+others_at bodies (e ∷ es) place none = others_at (edit_body bodies e) es place none.1
+    ∙ get-with_body bodies (store_place e) (optional_bytes e.body) place
+    ∙ ap (λ b. cond b (optional_bytes e.body) (get bodies place)) (other_tie place (store_place e) none.0)
+
+pub keeps_other_rows : law.KeepsOtherRows
+keeps_other_rows batch before place none = others_at before.rows batch.rows.items place none
+
+pub keeps_other_pending : law.KeepsOtherPending
+keeps_other_pending batch before place none = others_at before.pending batch.pending.items place none
+
+other_text : (some other : List ℕ) → (other ≡ some → ⊥) → eq_by_cmp by_bytes some other ≡ false
+other_text some other apart =
+    false_from_ne_true (eq_by_cmp by_bytes some other) (λ t. apart (sym (exact_bytes some other ((Equal-is (by_bytes some other)).0 t))))
+
+other_names_at : (meta : Meta) (edits : List MetaEdit) (text : List ℕ) → ((name : MetaName) → name_text name ≢ text) → get (fold edit_meta meta edits) text ≡ get meta text
+other_names_at meta [] text none = refl
+other_names_at meta (e ∷ es) text none = other_names_at (edit_meta meta e) es text none
+    ∙ get-with_meta meta (name_text e.name) (optional_bytes e.value) text
+    ∙ ap (λ b. cond b (optional_bytes e.value) (get meta text)) (other_text text (name_text e.name) (none e.name))
+
+pub keeps_other_names : law.KeepsOtherNames
+keeps_other_names batch before text none = other_names_at before.meta batch.meta.items text none
+
+-- a body that is set, or removed
+count_set : (n : ℕ) (there : Option (List ℕ)) → cond (is_some there) n (n + 1) + law.one_if_some there ≡ n + 1
+count_set n None = omega arith
+count_set n (Some body) = refl
+
+count_removed : (n : ℕ) (there : Option (List ℕ)) → (IsSome there → 1 ≤ n) → cond (is_some there) (n - 1) n + law.one_if_some there ≡ n + 0
+count_removed n None least = refl
+count_removed n (Some body) least = let l = least refl in omega (arith, l)
+
+some_counts : (bodies : Bodies) (place : StorePlace) → IsSome (get bodies place) → 1 ≤ len bodies
+some_counts bodies place there = at_least (len bodies) refl
+  where
+    at_least : (n : ℕ) → n ≡ len bodies → 1 ≤ n
+    at_least zero none =
+        let nothing_there : get bodies place ≡ None = ap (λ (m : Bodies). get m place) (empty_of_len bodies (sym none)) ∙ get-empty place_cmp place in
+        absurd (let some = subst IsSome nothing_there there in cc)
+    at_least (suc n) none = omega arith
+
+counts_with : (bodies : Bodies) (place : StorePlace) (body : Option (List ℕ)) → len (with_body bodies place body) + law.one_if_some (get bodies place) ≡ len bodies + law.one_if_some body
+counts_with bodies place None =
+    ap (λ n. n + law.one_if_some (get bodies place)) (len-remove place_total bodies place)
+    ∙ count_removed (len bodies) (get bodies place) (λ there. some_counts bodies place there)
+counts_with bodies place (Some body) =
+    ap (λ n. n + law.one_if_some (get bodies place)) (len-insert place_total bodies place body)
+    ∙ count_set (len bodies) (get bodies place)
+
+pub counts_bodies : law.CountsBodies
+counts_bodies bodies edit = counts_with bodies (store_place edit) (optional_bytes edit.body)
 
 meta_at : (meta : Meta) (edits : List MetaEdit) (name : MetaName) → get (fold edit_meta meta edits) (name_text name) ≡ law.value_after edits name (get meta (name_text name))
 meta_at meta [] name = refl

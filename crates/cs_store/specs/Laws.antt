@@ -1,6 +1,7 @@
 -- The laws of stores: one answer for each input, how calls follow one another, and what a commit leaves at each place.
-use Rattle.std.specs.Prelude.{◌≡◌, ◌<◌, ◌+◌, ◌-◌, ◌^◌, ℕ, pos, if◌then◌else◌, nat_eq, ◌&&◌, List, [], ◌∷◌, Option, None, Result, Ok, IsOk, OnOk, OnErr, IfErr, is_some}
-use Rattle.std.specs.FinMap.{empty, insert}
+use Rattle.std.specs.Prelude.{◌≡◌, ◌≢◌, ◌<◌, ◌+◌, ◌-◌, ◌^◌, ℕ, pos, if◌then◌else◌, nat_eq, ◌&&◌, List, [], ◌∷◌, Option, None, Result, Ok, IsOk, OnOk, OnErr, IfErr, fold, is_some}
+use Rattle.std.specs.FinMap.{empty, get, insert, len}
+use Rattle.std.specs.List.{AllByRecursion}
 use Rattle.cs_order.specs.Order.{same_bytes}
 use Rattle.cs_store.specs.declared.batch.PlaceEdit.{PlaceEdit}
 use Rattle.cs_store.specs.declared.batch.MetaEdit.{MetaEdit}
@@ -9,8 +10,8 @@ use Rattle.cs_store.specs.declared.batch.Batch.{Batch}
 use Rattle.cs_store.specs.declared.names.MetaName.{MetaName}
 use Rattle.cs_store.specs.declared.fault.StoreFault.{StoreFault}
 use Rattle.cs_store.specs.declared.fault.StoreFault.TheVariants.{Memory}
-use Rattle.cs_store.specs.Contents.{Contents, HasNoGaps, IsListing, LogItem, name_text, nothing, stored_tables, stored_pending, meta_value, log_entry, log_count}
-use Rattle.cs_store.specs.Written.{after_batch, optional_bytes, optional_entry}
+use Rattle.cs_store.specs.Contents.{Bodies, Contents, HasNoGaps, IsListing, LogItem, StorePlace, name_text, nothing, stored_tables, stored_pending, meta_value, log_entry, log_count}
+use Rattle.cs_store.specs.Written.{after_batch, edit_body, optional_bytes, optional_entry, store_place}
 use Rattle.cs_store.specs.Calls.{Commits, CountsFailures, OnlyReads, refusal}
 
 -- ---- one answer
@@ -157,6 +158,46 @@ CountsLog =
     (batch : Batch) (before : Contents)
     → log_entry before (log_count before) ≡ None
     → log_count (after_batch batch before) ≡ (if is_some batch.log then log_count before + 1 else log_count before)
+
+-- a place that none of the edits names
+abbrev pub IsNoPlaceOf : List PlaceEdit → StorePlace → Type 0
+IsNoPlaceOf edits place = AllByRecursion (λ edit. store_place edit ≢ place) edits
+
+-- what a batch's edits don't name it leaves: places, also under numbers of no table, and names that are none of ours
+abbrev pub KeepsOtherRows : Type 0
+KeepsOtherRows =
+    (batch : Batch) (before : Contents) (place : StorePlace)
+    → IsNoPlaceOf batch.rows.items place
+    → get (after_batch batch before).rows place ≡ get before.rows place
+
+abbrev pub KeepsOtherPending : Type 0
+KeepsOtherPending =
+    (batch : Batch) (before : Contents) (place : StorePlace)
+    → IsNoPlaceOf batch.pending.items place
+    → get (after_batch batch before).pending place ≡ get before.pending place
+
+abbrev pub KeepsOtherNames : Type 0
+KeepsOtherNames =
+    (batch : Batch) (before : Contents) (text : List ℕ)
+    → ((name : MetaName) → name_text name ≢ text)
+    → get (after_batch batch before).meta text ≡ get before.meta text
+
+-- what edits of bodies leave at each place, one after another
+abbrev pub ReadsEdits : Type 0
+ReadsEdits =
+    (bodies : Bodies) (edits : List PlaceEdit) (table : ℕ) (key : List ℕ)
+    → get (fold edit_body bodies edits) (pos table, key) ≡ row_after edits table key (get bodies (pos table, key))
+
+-- one where there is a body
+abbrev pub one_if_some : Option (List ℕ) → ℕ
+one_if_some body = if is_some body then 1 else 0
+
+-- an edit of a place: one body less where one stood, and one more where it sets one
+abbrev pub CountsBodies : Type 0
+CountsBodies =
+    (bodies : Bodies) (edit : PlaceEdit)
+    → len (edit_body bodies edit) + one_if_some (get bodies (store_place edit))
+    ≡ len bodies + one_if_some (optional_bytes edit.body)
 
 -- no two names have one text
 abbrev pub NamesApart : Type 0

@@ -55,8 +55,8 @@ fn byte_of(mark: bool) -> u8
     if mark { 1 } else { 0 }
 }
 
-/// A byte for each mark.
-fn bytes_of(alloc: Global, marks: &[bool]) -> Result<Vec<u8>, Memory>
+/// The marks of a table's columns as bytes, 1 for a key column and 0 for another, as the reader of one change takes them.
+pub fn mark_bytes(alloc: Global, marks: &[bool]) -> Result<Vec<u8>, Memory>
     ensures { IfOk result (λ bytes. marks_of bytes.items ≡ marks.now) }
 {
     let mut bytes = Vec::with_capacity(alloc, marks.len())?;
@@ -71,7 +71,7 @@ fn is_change_of(alloc: Global, table: &TableDef, key: &[u8], body: &[u8]) -> Res
     ensures { IfOk result (λ is. IsTrue is ↔ StoresChange table.now key.now body.now) }
 {
     let marks = table.key_marks.as_slice();
-    let columns = bytes_of(alloc, marks)?;
+    let columns = mark_bytes(alloc, marks)?;
     let Some(change) = read_one(columns.as_slice(), body) else {
         return Ok(false);
     };

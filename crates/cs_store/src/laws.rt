@@ -1,6 +1,6 @@
 //! The laws of stores, each the contract of a function that does nothing.
 
-ghost use Rattle.cs_store.specs.Laws.{CommitCanBe, CommitsThenReads, CountsLog, FailsToCommit, KeepsNoGaps, ListsTwoRows, NamesApart, OneCommit, OneListing, OneRefusal, OnlyMemory, ReadsAlike, ReadsThenCommits, ReadsThenReads, StartsWithNoGaps, WritesLog, WritesMeta, WritesPending, WritesRows};
+ghost use Rattle.cs_store.specs.Laws.{CommitCanBe, CommitsThenReads, CountsBodies, CountsLog, FailsToCommit, KeepsNoGaps, KeepsOtherNames, KeepsOtherPending, KeepsOtherRows, ListsTwoRows, NamesApart, OneCommit, OneListing, OneRefusal, OnlyMemory, ReadsAlike, ReadsEdits, ReadsThenCommits, ReadsThenReads, StartsWithNoGaps, WritesLog, WritesMeta, WritesPending, WritesRows};
 ghost use Rattle.cs_store.specs.StateLaws.{EditsLeadToState, HoldsOneState};
 
 use crate::RowStore;
@@ -29,14 +29,19 @@ pub fn calls<S: RowStore, T, U>(_store: &S)
     ensures alike { ReadsAlike S.honest S.contents S.failed S.may_leave S.misreads T U }
 {}
 
-/// What a commit leaves at each place of the tables and of the pending changes, at each name and at each version. A store that
-/// does just that shows that there are such commits.
+/// What a commit leaves at each place of the tables and of the pending changes, at each name and at each version, and that what
+/// it doesn't name stays. A store that does just that shows that there are such commits.
 pub fn commits()
     ensures rows { WritesRows }
     ensures pending { WritesPending }
     ensures meta { WritesMeta }
     ensures log { WritesLog }
     ensures count { CountsLog }
+    ensures other_rows { KeepsOtherRows }
+    ensures other_pending { KeepsOtherPending }
+    ensures other_names { KeepsOtherNames }
+    ensures edits { ReadsEdits }
+    ensures bodies { CountsBodies }
     ensures can_be { CommitCanBe }
 {}
 

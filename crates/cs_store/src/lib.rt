@@ -21,7 +21,7 @@ mod trip;
 
 pub use batch::{Batch, MetaEdit, PlaceEdit, StoredEntry};
 pub use fault::StoreFault;
-pub use judging::{is_body, is_change, is_name, is_row, whole_row};
+pub use judging::{is_body, is_change, is_name, is_row, mark_bytes, whole_row};
 pub use names::MetaName;
 pub use store::{RowStore, StoredBody};
 pub use trip::{Trip, Written};
