@@ -3,9 +3,9 @@
 #![tactic(auto)]
 
 #[cfg(test)]
-mod combine;
+mod answers;
 #[cfg(test)]
-mod expect;
+mod combine;
 #[cfg(test)]
 mod rebase;
 #[cfg(test)]
