@@ -1,0 +1,33 @@
+-- What is pending, as one changeset (profile of this project).
+use Rattle.std.specs.Prelude.{◌≡◌, ◌≢◌, ◌<◌, ◌≤◌, ℕ, List, [], length, Contains}
+use Rattle.cs_value.specs.Catalog.{AreTables}
+use Rattle.cs_value.specs.declared.catalog.TableDef.{TableDef}
+use Rattle.cs_normal.specs.Normal.{FitsCatalog, IsNormalChangeset, change_of, normal_spelling}
+use Rattle.cs_normal.specs.declared.normal.TableChanges.{TableChanges}
+use Rattle.cs_log.specs.declared.entry.TheConstants.{MAX_CHANGESET}
+use Rattle.cs_pending.specs.View.{Changed}
+use Rattle.cs_outgoing.specs.declared.gathering.Outgoing.{Outgoing}
+use Rattle.cs_outgoing.specs.declared.gathering.Outgoing.TheVariants.{Nothing, TooLarge, Changes}
+
+-- a changeset in normal form that has, at each place of the tables, the change that is pending there
+pub record IsPendingOf (tables : List TableDef) (pending : Changed) (changes : List TableChanges) : Type 0 where
+  pub fits : FitsCatalog tables changes
+  pub normal : IsNormalChangeset changes
+  pub changes_are : (table : TableDef) (key : List ℕ) → Contains tables table → change_of table.name key changes ≡ pending table.name key
+
+-- the changeset of what is pending, that there is nothing, or that it has more bytes than a push may have
+abbrev pub IsOutgoing : List TableDef → Changed → Outgoing → Type 0
+IsOutgoing tables pending Nothing = IsPendingOf tables pending []
+IsOutgoing tables pending TooLarge =
+    (changes : List TableChanges) × IsPendingOf tables pending changes × (MAX_CHANGESET < length (normal_spelling changes))
+IsOutgoing tables pending (Changes changes) =
+    IsPendingOf tables pending changes × (changes ≢ []) × (length (normal_spelling changes) ≤ MAX_CHANGESET)
+
+-- there is one changeset of what is pending
+abbrev pub OnePending : Type 0
+OnePending =
+    (tables : List TableDef) (pending : Changed) (some other : List TableChanges)
+    → AreTables tables
+    → IsPendingOf tables pending some
+    → IsPendingOf tables pending other
+    → some ≡ other

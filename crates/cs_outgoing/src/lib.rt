@@ -1,0 +1,12 @@
+//! What is pending, as the changeset of a push: `gather` lists the pending changes of a store table by table, and gives them as
+//! one changeset in normal form, or tells that nothing is pending or that it has more bytes than a push may have. The crate
+//! stands on edits and pending changes (`cs_pending`), and on what an entry of the log is stored as (`cs_log`). `laws` says
+//! that there is one changeset of what is pending.
+//! Its tests stand in `cs_pending_tests`.
+#![tactic(auto)]
+
+mod gathering;
+pub mod laws;
+mod putting;
+
+pub use gathering::{Outgoing, gather};

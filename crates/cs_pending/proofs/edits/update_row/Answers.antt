@@ -1,0 +1,65 @@
+use Rattle.std.proofs.Common.{◌∙◌, ℕ, List, ap, ap₂, inr, sym}
+use Rattle.cs_value.specs.declared.value.Field.{Field}
+use Rattle.cs_record.specs.Spelling.{row_bytes}
+use Rattle.cs_pending.specs.Edits.{AskUpdate, edit_at}
+use Rattle.cs_pending.specs.declared.wanted.Wanted.TheVariants.{Update}
+use Rattle.cs_pending.proofs.Named.{at_place, both_counts, changed_alike, found_there, is_named, no_kept_key, no_set_key, no_table, no_width, not_both_counts, not_named, told_as}
+use Rattle.cs_pending.proofs.Storing.{writes_as}
+use Rattle.cs_pending.proofs.edits.update_row.Goals as goal
+
+pub returns-in_default-clause-refused : goal.returns-in_default-clause-refused
+returns-in_default-clause-refused g c = λ honest view shows.
+    inr (no_table c.args.catalog.now c.args.name.now (AskUpdate c.args.key.now c.args.fields.now) (not_named c.args.name.now c.args.catalog.now c.in_default.ensures.found) view)
+
+pub returns-then-as_slice-key_width-clause-refused : goal.returns-then-as_slice-key_width-clause-refused
+returns-then-as_slice-key_width-clause-refused g c = λ honest view shows.
+    let found = found_there c.args.catalog.now c.tables.result.now c.args.name.now c.in-Some.place c.index-tables-place.result c.tables.ensures.same c.in-Some.ensures.found.0 c.index-tables-place.is c.in-Some.ensures.found.1 in
+    let here = is_named c.catalogs.ensures.place c.args.catalog.now c.tables.ensures.tables c.args.name.now c.index-tables-place.result found.1 found.2 in
+    inr (no_width c.args.catalog.now c.args.name.now (AskUpdate c.args.key.now c.args.fields.now) c.index-tables-place.result here (not_both_counts _ _ _ _ (rw (c.as_slice.ensures, c.key_width.ensures, c.as_slice-marks.ensures) at c.then-as_slice-key_width.either)) view)
+
+pub returns-then-not-are_set-clause-refused : goal.returns-then-not-are_set-clause-refused
+returns-then-not-are_set-clause-refused g c = λ honest view shows.
+    let found = found_there c.args.catalog.now c.tables.result.now c.args.name.now c.in-Some.place c.index-tables-place.result c.tables.ensures.same c.in-Some.ensures.found.0 c.index-tables-place.is c.in-Some.ensures.found.1 in
+    let here = is_named c.catalogs.ensures.place c.args.catalog.now c.tables.ensures.tables c.args.name.now c.index-tables-place.result found.1 found.2 in
+    let wide = both_counts _ _ _ _ (rw (c.as_slice.ensures, c.key_width.ensures, c.as_slice-marks.ensures) at c.if-as_slice-key_width.false) (rw c.as_slice-marks.ensures at c.if-fields-marks.false) in
+    inr (no_set_key c.args.catalog.now c.args.name.now (AskUpdate c.args.key.now c.args.fields.now) c.index-tables-place.result here wide (rw c.as_slice-2.ensures at (sym c.are_set.ensures ∙ c.if-not-are_set.true)) view)
+
+pub returns-then-not-are_kept-clause-refused : goal.returns-then-not-are_kept-clause-refused
+returns-then-not-are_kept-clause-refused g c = λ honest view shows.
+    let found = found_there c.args.catalog.now c.tables.result.now c.args.name.now c.in-Some.place c.index-tables-place.result c.tables.ensures.same c.in-Some.ensures.found.0 c.index-tables-place.is c.in-Some.ensures.found.1 in
+    let here = is_named c.catalogs.ensures.place c.args.catalog.now c.tables.ensures.tables c.args.name.now c.index-tables-place.result found.1 found.2 in
+    let wide = both_counts _ _ _ _ (rw (c.as_slice.ensures, c.key_width.ensures, c.as_slice-marks.ensures) at c.if-as_slice-key_width.false) (rw c.as_slice-marks.ensures at c.if-fields-marks.false) in
+    let set = rw c.as_slice-2.ensures at (sym c.are_set.ensures ∙ c.if-not-are_set.false) in
+    inr (no_kept_key c.args.catalog.now c.args.name.now (AskUpdate c.args.key.now c.args.fields.now) c.index-tables-place.result here wide set (rw c.as_slice-marks.ensures at (sym c.are_kept.ensures ∙ c.if-not-are_kept.true)) view)
+
+pub edit_place-requires-clause-there : goal.edit_place-requires-clause-there
+edit_place-requires-clause-there g c =
+    (found_there c.args.catalog.now c.tables.result.now c.args.name.now c.in-Some.place c.index-tables-place.result c.tables.ensures.same c.in-Some.ensures.found.0 c.index-tables-place.is c.in-Some.ensures.found.1).0
+
+pub returns-clause-writes : goal.returns-clause-writes
+returns-clause-writes g c =
+    let found = found_there c.args.catalog.now c.tables.result.now c.args.name.now c.in-Some.place c.index-tables-place.result c.tables.ensures.same c.in-Some.ensures.found.0 c.index-tables-place.is c.in-Some.ensures.found.1 in
+    let here = is_named c.catalogs.ensures.place c.args.catalog.now c.tables.ensures.tables c.args.name.now c.index-tables-place.result found.1 found.2 in
+    let wide = both_counts _ _ _ _ (rw (c.as_slice.ensures, c.key_width.ensures, c.as_slice-marks.ensures) at c.if-as_slice-key_width.false) (rw c.as_slice-marks.ensures at c.if-fields-marks.false) in
+    let set = rw c.as_slice-2.ensures at (sym c.are_set.ensures ∙ c.if-not-are_set.false) in
+    let kept = rw c.as_slice-marks.ensures at (sym c.are_kept.ensures ∙ c.if-not-are_kept.false) in
+    let key_is = c.as_slice-4.ensures.value ∙ c.in_ok-key.ensures ∙ ap row_bytes c.as_slice-3.ensures in
+    let fields_are = c.as_record.ensures ∙ c.in_ok-fields.ensures.fields in
+    writes_as g.S.RowStore.honest g.S.RowStore.contents g.S.RowStore.failed g.S.RowStore.may_leave g.S.RowStore.misreads _ _ _ _ c.args.store.now c.edit_place.new.store c.edit_place.result
+    (λ left changed. changed_alike c.args.catalog.now _ _ _ left (λ view. (at_place c.args.catalog.now c.args.name.now (AskUpdate c.args.key.now c.args.fields.now) c.index-tables-place.result here wide set kept view
+    ∙ ap₂ (λ (key : List ℕ) (fields : List Field). edit_at c.index-tables-place.result key (Update fields) view) (sym key_is) (sym fields_are))) changed)
+    c.edit_place.ensures.writes
+
+pub returns-clause-refused : goal.returns-clause-refused
+returns-clause-refused g c = λ honest view shows.
+    let found = found_there c.args.catalog.now c.tables.result.now c.args.name.now c.in-Some.place c.index-tables-place.result c.tables.ensures.same c.in-Some.ensures.found.0 c.index-tables-place.is c.in-Some.ensures.found.1 in
+    let here = is_named c.catalogs.ensures.place c.args.catalog.now c.tables.ensures.tables c.args.name.now c.index-tables-place.result found.1 found.2 in
+    let wide = both_counts _ _ _ _ (rw (c.as_slice.ensures, c.key_width.ensures, c.as_slice-marks.ensures) at c.if-as_slice-key_width.false) (rw c.as_slice-marks.ensures at c.if-fields-marks.false) in
+    let set = rw c.as_slice-2.ensures at (sym c.are_set.ensures ∙ c.if-not-are_set.false) in
+    let kept = rw c.as_slice-marks.ensures at (sym c.are_kept.ensures ∙ c.if-not-are_kept.false) in
+    let key_is = c.as_slice-4.ensures.value ∙ c.in_ok-key.ensures ∙ ap row_bytes c.as_slice-3.ensures in
+    let fields_are = c.as_record.ensures ∙ c.in_ok-fields.ensures.fields in
+    told_as _ _ c.edit_place.result
+    (at_place c.args.catalog.now c.args.name.now (AskUpdate c.args.key.now c.args.fields.now) c.index-tables-place.result here wide set kept view
+    ∙ ap₂ (λ (key : List ℕ) (fields : List Field). edit_at c.index-tables-place.result key (Update fields) view) (sym key_is) (sym fields_are))
+    (c.edit_place.ensures.refused honest view shows)

@@ -1,0 +1,24 @@
+-- The laws of views.
+use Rattle.std.specs.Prelude.{◌≡◌, ℕ, List, None, Contains}
+use Rattle.cs_value.specs.declared.catalog.TableDef.{TableDef}
+use Rattle.cs_normal.specs.State.{AreSame}
+use Rattle.cs_store.specs.Contents.{Contents, nothing}
+use Rattle.cs_pending.specs.View.{View}
+use Rattle.cs_pending.specs.Shows.{ShowsRows}
+
+-- contents show one view, at the places of the tables
+abbrev pub OneView : Type 0
+OneView =
+    (tables : List TableDef) (contents : Contents) (some other : View)
+    → ShowsRows tables contents some
+    → ShowsRows tables contents other
+    → AreSame some.tables other.tables
+    × ((table : TableDef) (key : List ℕ) → Contains tables table → other.pending table.name key ≡ some.pending table.name key)
+
+-- no row, and nothing pending
+abbrev pub empty_view : View
+empty_view = record { tables = λ name key. None; pending = λ name key. None }
+
+-- what a new store shows
+abbrev pub NewShows : Type 0
+NewShows = (tables : List TableDef) → ShowsRows tables nothing empty_view

@@ -1,0 +1,42 @@
+-- Edits of rows and of pending changes in the making, place by place.
+use Rattle.std.specs.Prelude.{◌≡◌, ◌+◌, ◌-◌, ◌++◌, ◌∷◌, [], ℕ, Bool, true, false, if◌then◌else◌, List, Option, Some, option_map, IfSome, slice_get, length, ◌<◌, fold, Contains}
+use Rattle.std.specs.List.{AllByRecursion}
+use Rattle.std.specs.FinMap.{len}
+use Rattle.cs_value.specs.declared.catalog.TableDef.{TableDef}
+use Rattle.cs_record.specs.Spelling.{row_bytes}
+use Rattle.cs_change.specs.Spelling.{change_spelling, FitsChange}
+use Rattle.cs_store.specs.Contents.{Contents, stored_tables, stored_pending}
+use Rattle.cs_store.specs.Laws.{row_after}
+use Rattle.cs_store.specs.Written.{edit_body, optional_bytes}
+use Rattle.cs_store.specs.declared.batch.PlaceEdit.{PlaceEdit}
+use Rattle.cs_pending.specs.View.{View}
+use Rattle.cs_pending.specs.Shows.{IsSoundOf}
+use Rattle.cs_pending.specs.declared.settling.Settling.{Settling}
+
+-- a count, less one where a change was pending, and one more where one is
+abbrev pub recount : ℕ → Bool → Bool → ℕ
+recount count was is = count - (if was then 1 else 0) + (if is then 1 else 0)
+
+-- an edit of this place was appended, that sets this body or none; or nothing was
+abbrev pub IsPushed : Bool → ℕ → List ℕ → Option (List ℕ) → List PlaceEdit → List PlaceEdit → Type 0
+IsPushed false number key body old new = new ≡ old
+IsPushed true number key body old new =
+    (edit : PlaceEdit) × (new ≡ old ++ edit ∷ []) × (edit.table ≡ number) × (edit.key.items ≡ key) × (optional_bytes edit.body ≡ body)
+
+-- the edits are of places of the tables
+abbrev pub AreWithin : List TableDef → List PlaceEdit → Type 0
+AreWithin tables edits = AllByRecursion (λ (edit : PlaceEdit). edit.table < length tables) edits
+
+abbrev pub IsWithin : List TableDef → Settling → Type 0
+IsWithin tables settling = AreWithin tables settling.rows.items × AreWithin tables settling.pending.items
+
+-- the edits, made of what the contents hold, lead to this view; `begun` is the count of pending changes that they began with
+pub record Settles (tables : List TableDef) (contents : Contents) (begun : ℕ) (settling : Settling) (view : View) : Type 0 where
+  pub rows_are : (number : ℕ) (table : TableDef) (key : List ℕ) → slice_get tables number ≡ Some table
+      → row_after settling.rows.items number key (stored_tables contents number key) ≡ option_map row_bytes (view.tables table.name key)
+  pub pending_are : (number : ℕ) (table : TableDef) (key : List ℕ) → slice_get tables number ≡ Some table
+      → row_after settling.pending.items number key (stored_pending contents number key) ≡ option_map change_spelling (view.pending table.name key)
+  pub fits : (table : TableDef) (key : List ℕ) → Contains tables table → IfSome (view.pending table.name key) (FitsChange table.key_marks)
+  pub sound : IsSoundOf tables view.pending view.tables
+  -- where the count was right, it is right after the edits
+  pub counted : begun ≡ len contents.pending → settling.count ≡ len (fold edit_body contents.pending settling.pending.items)

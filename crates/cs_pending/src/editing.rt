@@ -1,0 +1,115 @@
+//! An edit of one place.
+
+ghost use Rattle.std.specs.Prelude.{◌≡◌, ◌⊎◌, Some, IfOk, IfErr, Err, slice_get};
+ghost use Rattle.std.specs.FinMap.{len};
+ghost use Rattle.cs_store.specs.declared.fault.StoreFault.TheVariants as stored;
+ghost use Rattle.cs_pending.specs.Calls.{WritesStore};
+ghost use Rattle.cs_pending.specs.Edits.{IsChangedBy, IsOfStore, IsWantedAt, Leads, edit_at};
+ghost use Rattle.cs_pending.specs.Placing.{IsPutIn, MaySettle};
+ghost use Rattle.cs_pending.specs.Shows.{ShowsRows, ShowsSome};
+ghost use Rattle.cs_pending.specs.View.{View};
+ghost use Rattle.cs_pending.specs.declared.fault.EditFault.TheVariants.{Device};
+
+use crate::fault::EditFault;
+use crate::places::{are_same, lent};
+use crate::placing::{Standing, standing_at};
+use crate::settling::Settling;
+use crate::wanted::{Wanted, left_by};
+use cs_record::RowBuf;
+use cs_store::{Batch, RowStore, StoreFault};
+use cs_value::{Catalog, TableDef};
+use std::alloc::Global;
+
+/// Leaves another row or none at a place, in one commit. It answers how many changes are pending then. The place is told by its
+/// table, the table's number and its key; and what stood there, what is to stand there, and the count go with it.
+fn put_place<S: RowStore>(
+    alloc: Global,
+    store: &mut S,
+    catalog: &Catalog,
+    table: &TableDef,
+    number: u32,
+    key: &[u8],
+    before: &Standing,
+    mine: &Option<RowBuf>,
+    pending: u64,
+) -> Result<u64, StoreFault>
+    requires there { slice_get catalog.now number ≡ Some table.now }
+    ensures writes { WritesStore S.honest S.contents S.failed S.may_leave S.misreads stored.Device (ShowsSome catalog.now (S.contents store.old))
+        (IsPutIn catalog.now table.now key.now before.now mine.now (S.contents store.old)) store.old store.new result }
+    ensures counted { S.honest store.new → (view : View) → ShowsRows catalog.now (S.contents store.old) view
+        → MaySettle catalog.now view table.now key.now before.now mine.now
+        → pending ≡ len (S.contents store.old).pending → IfOk result (λ count. count ≡ len (S.contents store.new).pending) }
+{
+    cs_value::laws::catalogs();
+    cs_normal::laws::one_key_stands();
+    cs_change::laws::net_takes();
+    cs_store::laws::commits();
+    let _tables = catalog.tables();
+    let mut settling = Settling::new(alloc, pending);
+    let base = lent(&before.base);
+    let row = lent(mine);
+    settling.settle(
+        alloc,
+        table,
+        number,
+        key,
+        before,
+        base.as_ref(),
+        row.as_ref(),
+    )?;
+    let count = settling.count;
+    let batch = Batch {
+        rows: settling.rows,
+        pending: settling.pending,
+        meta: Vec::new(alloc),
+        log: None,
+    };
+    match store.commit(&batch) {
+        Ok(_) => Ok(count),
+        Err(fault) => Err(fault),
+    }
+}
+
+/// Makes an edit at a place. It answers how many changes are pending then. The place is told by its table, the table's number and
+/// its key; and what is wanted, and the count go with it.
+pub(crate) fn edit_place<S: RowStore>(
+    alloc: Global,
+    store: &mut S,
+    catalog: &Catalog,
+    table: &TableDef,
+    number: u32,
+    key: &[u8],
+    wanted: &Wanted<'_>,
+    pending: u64,
+) -> Result<u64, EditFault>
+    requires there { slice_get catalog.now number ≡ Some table.now }
+    requires wanted { IsWantedAt table.now key.now wanted.now }
+    ensures writes { WritesStore S.honest S.contents S.failed S.may_leave S.misreads Device (ShowsSome catalog.now (S.contents store.old))
+        (IsChangedBy catalog.now (Leads (edit_at table.now key.now wanted.now)) (S.contents store.old)) store.old store.new result }
+    ensures refused { S.honest store.new → (view : View) → ShowsRows catalog.now (S.contents store.old) view
+        → IfErr result (λ fault. IsOfStore fault ⊎ (edit_at table.now key.now wanted.now view ≡ Err fault)) }
+    ensures counted { S.honest store.new → ShowsSome catalog.now (S.contents store.old)
+        → pending ≡ len (S.contents store.old).pending → IfOk result (λ count. count ≡ len (S.contents store.new).pending) }
+{
+    cs_value::laws::catalogs();
+    let _tables = catalog.tables();
+    let before = match standing_at(alloc, store, catalog, table, number, key) {
+        Ok(before) => before,
+        Err(fault) => return Err(EditFault::from(fault)),
+    };
+    let stood = lent(&before.mine);
+    let mine = match left_by(alloc, wanted, stood.as_ref()) {
+        Ok(mine) => mine,
+        Err(fault) => return Err(fault),
+    };
+    let row = lent(&mine);
+    if are_same(stood.as_ref(), row.as_ref()) {
+        return Ok(pending);
+    }
+    match put_place(
+        alloc, store, catalog, table, number, key, &before, &mine, pending,
+    ) {
+        Ok(count) => Ok(count),
+        Err(fault) => Err(EditFault::from(fault)),
+    }
+}

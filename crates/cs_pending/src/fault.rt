@@ -1,0 +1,66 @@
+//! Why an edit is refused.
+
+ghost use Rattle.std.specs.Prelude.{◌≡◌};
+ghost use Rattle.cs_pending.specs.declared.fault.EditFault.TheVariants.{Memory, Device};
+ghost use Rattle.cs_store.specs.declared.fault.StoreFault.TheVariants as stored;
+
+use cs_store::StoreFault;
+use std::alloc::{AllocError, AllocFailed};
+use thiserror::Error;
+
+/// Why an edit is refused. Nothing has changed then. The text is the name that programs print. (Profile of this project.)
+#[derive(Clone, Copy, Debug, PartialEq, Eq, Error)]
+pub enum EditFault {
+    /// Memory was refused. It may come before any other fault.
+    #[error("Memory")]
+    Memory = 1,
+    /// No table has the name.
+    #[error("NoTable")]
+    NoTable = 2,
+    /// The row, the fields or the key haven't the table's width.
+    #[error("Width")]
+    Width = 3,
+    /// A value of the key is NULL.
+    #[error("NullKey")]
+    NullKey = 4,
+    /// A row has the key.
+    #[error("Exists")]
+    Exists = 5,
+    /// No row has the key.
+    #[error("Missing")]
+    Missing = 6,
+    /// A field at a key column is defined.
+    #[error("KeyColumn")]
+    KeyColumn = 7,
+    /// The device that keeps the store failed, or what the store holds there is no row or no change of the table, and its count of
+    /// failures rose.
+    #[error("Device")]
+    Device = 8,
+}
+
+impl From<AllocError> for EditFault {
+    ghost from_gives = { λ _ e. e ≡ Memory };
+
+    fn from(_e: AllocError) -> EditFault {
+        EditFault::Memory
+    }
+}
+
+impl<T: Drop> From<AllocFailed<T>> for EditFault {
+    ghost from_gives = { λ _ e. e ≡ Memory };
+
+    fn from(_e: AllocFailed<T>) -> EditFault {
+        EditFault::Memory
+    }
+}
+
+impl From<StoreFault> for EditFault {
+    ghost from_gives = { λ fault e. (fault ≡ stored.Memory → e ≡ Memory) × (fault ≡ stored.Device → e ≡ Device) };
+
+    fn from(fault: StoreFault) -> EditFault {
+        match fault {
+            StoreFault::Memory => EditFault::Memory,
+            StoreFault::Device => EditFault::Device,
+        }
+    }
+}

@@ -1,0 +1,12 @@
+//! The laws of views, each the contract of a function that does nothing.
+
+ghost use Rattle.cs_pending.specs.Laws.{NewShows, OneView};
+
+/// A store shows one view. A new store shows that there are such.
+pub fn one_view()
+    ensures one { OneView }
+    ensures some { NewShows }
+{
+    cs_store::laws::states();
+    cs_changeset::laws::changesets();
+}

@@ -1,0 +1,22 @@
+//! Edits of rows while changes are pending, in any store. At each place that was edited a store keeps the row that stands there and
+//! the net change that leads to it from the row that stood there before, so an edit is one commit of one row and one pending
+//! change, whatever else is pending. `insert_row`, `update_row` and `delete_row` do that for an application, by a table's name,
+//! and refuse by the first fault that holds. For a replica above, `standing_at` reads what stands at a place and what stood
+//! there before what is pending, and `Settling` gathers the edits of several places for one commit.
+//! The crate stands on stores (`cs_store`), on net changes (`cs_group`) and on the places of tables (`cs_apply`). `laws` says
+//! that a store shows one view, and that an edit leads to one view or has one fault. Its tests stand in `cs_pending_tests`.
+#![tactic(auto)]
+
+mod editing;
+mod edits;
+mod fault;
+pub mod laws;
+mod places;
+mod placing;
+mod settling;
+mod wanted;
+
+pub use edits::{delete_row, insert_row, update_row};
+pub use fault::EditFault;
+pub use placing::{Standing, standing_at};
+pub use settling::Settling;

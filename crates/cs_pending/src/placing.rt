@@ -1,0 +1,116 @@
+//! What stands at a place, and stood there before what is pending.
+
+ghost use Rattle.std.specs.Prelude.{◌≡◌, Option, Some, option_map, IfOk, IfSome, length, slice_get};
+ghost use Rattle.std.specs.Option.{option_copied};
+ghost use Rattle.cs_value.specs.Key.{Place};
+ghost use Rattle.cs_change.specs.Action.{action_any};
+ghost use Rattle.cs_change.specs.Spelling.{change_spelling, FitsChange};
+ghost use Rattle.cs_change.specs.declared.change.Change.{Change as OneChange};
+ghost use Rattle.cs_store.specs.Contents.{stored_pending, stored_tables};
+ghost use Rattle.cs_store.specs.States.{IsStored};
+ghost use Rattle.cs_store.specs.declared.fault.StoreFault.TheVariants.{Device};
+ghost use Rattle.cs_pending.specs.Calls.{ReadsStore};
+ghost use Rattle.cs_pending.specs.Placing.{IsStandingAt, StoresSome, StoresSomeChange};
+ghost use Rattle.cs_pending.specs.Shows.{ShowsSome};
+ghost use Rattle.cs_pending.specs.View.{undo};
+
+use crate::places::{copied, lent, undone};
+use cs_changeset::read_one;
+use cs_record::{Row, RowBuf};
+use cs_store::{RowStore, StoreFault, mark_bytes, whole_row};
+use cs_value::{Catalog, TableDef};
+use std::alloc::Global;
+
+/// What stands at a place, and what stood there before the change that is pending. Where none is pending, they are the same. (Profile
+/// of this project.)
+#[derive(Drop)]
+pub struct Standing {
+    /// The row that stands there, if there is one.
+    pub mine: Option<RowBuf>,
+    /// The row that stood there before what is pending, if there was one.
+    pub base: Option<RowBuf>,
+}
+
+/// The row or none that the store has at a place. What is no row of the table is told to the store.
+fn own_at<S: RowStore>(
+    alloc: Global,
+    store: &mut S,
+    table: &TableDef,
+    number: u32,
+    key: &[u8],
+) -> Result<Option<RowBuf>, StoreFault>
+    ensures reads { ReadsStore S.honest S.contents S.failed S.may_leave S.misreads Device
+        (StoresSome (length table.now.key_marks) (stored_tables (S.contents store.old) number key.now)) store.old store.new result }
+    ensures found { S.honest store.new → (row : Place)
+        → IsStored (length table.now.key_marks) (stored_tables (S.contents store.old) number key.now) row → IfOk result (λ found. found ≡ row) }
+{
+    let Some(bytes) = store.get(number, key)? else {
+        return Ok(None);
+    };
+    let Some(row) = whole_row(bytes.as_slice(), table.key_marks.as_slice().len()) else {
+        return Err(store.misread());
+    };
+    Ok(Some(RowBuf::of_row(alloc, &row)?))
+}
+
+/// The row or none before what is pending at a place where this stands. What is no change of the table is told to the store.
+fn base_at<S: RowStore>(
+    alloc: Global,
+    store: &mut S,
+    table: &TableDef,
+    number: u32,
+    key: &[u8],
+    mine: Option<&Row<'_>>,
+) -> Result<Option<RowBuf>, StoreFault>
+    ensures reads { ReadsStore S.honest S.contents S.failed S.may_leave S.misreads Device
+        (StoresSomeChange table.now.key_marks (stored_pending (S.contents store.old) number key.now)) store.old store.new result }
+    ensures found { S.honest store.new → (change : Option OneChange)
+        → stored_pending (S.contents store.old) number key.now ≡ option_map change_spelling change
+        → IfSome change (FitsChange table.now.key_marks)
+        → IfOk result (λ base. base ≡ undo (action_any change) (option_copied mine.entry)) }
+{
+    let Some(body) = store.pend_get(number, key)? else {
+        return Ok(copied(alloc, mine)?);
+    };
+    let marks = mark_bytes(alloc, table.key_marks.as_slice())?;
+    let Some(change) = read_one(marks.as_slice(), body.as_slice()) else {
+        return Err(store.misread());
+    };
+    Ok(undone(alloc, &change, mine)?)
+}
+
+/// What stands at the place of a table, by the table's number in the catalog and the bytes of the key, and what stood there before
+/// what is pending. What the store has there that is no row or no change of the table is told to the store. (Profile of this
+/// project.)
+pub fn standing_at<S: RowStore>(
+    alloc: Global,
+    store: &mut S,
+    catalog: &Catalog,
+    table: &TableDef,
+    number: u32,
+    key: &[u8],
+) -> Result<Standing, StoreFault>
+    requires { slice_get catalog.now number ≡ Some table.now }
+
+    // The store is only read.
+    ensures reads { ReadsStore S.honest S.contents S.failed S.may_leave S.misreads Device
+        (ShowsSome catalog.now (S.contents store.old)) store.old store.new result }
+
+    // It is what the store shows there.
+    ensures found { S.honest store.new → IfOk result (IsStandingAt catalog.now (S.contents store.old) table.now key.now) }
+{
+    cs_value::laws::catalogs();
+    cs_normal::laws::one_key_stands();
+    cs_change::laws::net_takes();
+    let _tables = catalog.tables();
+    let mine = match own_at(alloc, store, table, number, key) {
+        Ok(mine) => mine,
+        Err(fault) => return Err(fault),
+    };
+    let row = lent(&mine);
+    let base = match base_at(alloc, store, table, number, key, row.as_ref()) {
+        Ok(base) => base,
+        Err(fault) => return Err(fault),
+    };
+    Ok(Standing { mine, base })
+}

@@ -1,0 +1,173 @@
+//! Edits of rows and of pending changes in the making.
+
+ghost use Rattle.std.specs.Prelude.{◌≡◌, ◌<◌, ◌||◌, not, true, ℕ, List, [], Some, is_some, length, slice_get, option_map, IfOk, OnOk};
+ghost use Rattle.std.specs.Option.{option_copied};
+ghost use Rattle.cs_value.specs.Catalog.{AreTables};
+ghost use Rattle.cs_value.specs.declared.catalog.TableDef.{TableDef as Table};
+ghost use Rattle.cs_value.specs.Same.{same_place};
+ghost use Rattle.cs_record.specs.Spelling.{row_bytes};
+ghost use Rattle.cs_change.specs.Spelling.{change_spelling};
+ghost use Rattle.cs_normal.specs.State.{MayStandAt};
+ghost use Rattle.cs_store.specs.Written.{optional_bytes};
+ghost use Rattle.cs_store.specs.Contents.{Contents};
+ghost use Rattle.cs_pending.specs.Placing.{StandsIn};
+ghost use Rattle.cs_pending.specs.Settling.{IsPushed, IsWithin, Settles, recount};
+ghost use Rattle.cs_pending.specs.View.{View, direct_net, settled};
+
+use crate::places::{are_same, lent, net_body, row_body};
+use crate::placing::Standing;
+use cs_record::Row;
+use cs_store::PlaceEdit;
+use cs_value::{Memory, TableDef};
+use std::alloc::{AllocError, Global};
+
+/// Edits of rows and of pending changes in the making, place by place, for one commit; and how many changes are pending after
+/// them. (Profile of this project.)
+#[derive(Drop)]
+pub struct Settling {
+    /// Edits of rows, in order.
+    pub rows: Vec<PlaceEdit>,
+    /// Edits of pending changes, in order.
+    pub pending: Vec<PlaceEdit>,
+    /// How many changes are pending after them.
+    pub count: u64,
+}
+
+/// Appends an edit of a place.
+fn push_edit(
+    edits: &mut Vec<PlaceEdit>,
+    alloc: Global,
+    number: u32,
+    key: &[u8],
+    body: Option<Vec<u8>>,
+) -> Result<(), Memory>
+    ensures { OnOk result (IsPushed true number key.now (optional_bytes body) edits.old.items edits.new.items) }
+{
+    let key = Vec::from_slice(alloc, key)?;
+    edits.push(PlaceEdit {
+        table: number,
+        key,
+        body,
+    })?;
+    Ok(())
+}
+
+/// Appends the edit of a row, where another row or none stood.
+fn push_row(
+    edits: &mut Vec<PlaceEdit>,
+    alloc: Global,
+    number: u32,
+    key: &[u8],
+    stood: Option<&Row<'_>>,
+    mine: Option<&Row<'_>>,
+) -> Result<(), Memory>
+    ensures { OnOk result (IsPushed (not (same_place (option_copied stood.entry) (option_copied mine.entry)))
+        number key.now (option_map row_bytes (option_copied mine.entry)) edits.old.items edits.new.items) }
+{
+    if are_same(stood, mine) {
+        return Ok(());
+    }
+    let body = row_body(alloc, mine)?;
+    push_edit(edits, alloc, number, key, body)
+}
+
+/// Appends the edit of a pending change, where one was pending or is. It answers whether one is.
+fn push_pending(
+    edits: &mut Vec<PlaceEdit>,
+    alloc: Global,
+    table: &TableDef,
+    number: u32,
+    key: &[u8],
+    was: bool,
+    base: Option<&Row<'_>>,
+    mine: Option<&Row<'_>>,
+) -> Result<bool, Memory>
+    ensures is { IfOk result (λ is. is ≡ is_some (direct_net table.now (option_copied base.entry) (option_copied mine.entry))) }
+    ensures pushed { IfOk result (λ is. IsPushed (was || is) number key.now
+        (option_map change_spelling (direct_net table.now (option_copied base.entry) (option_copied mine.entry))) edits.old.items edits.new.items) }
+{
+    let body = net_body(alloc, table, base, mine)?;
+    let is = body.is_some();
+    if !was && !is {
+        return Ok(false);
+    }
+    match push_edit(edits, alloc, number, key, body) {
+        Ok(()) => Ok(is),
+        Err(fault) => Err(fault),
+    }
+}
+
+/// A count, less one where a change was pending, and one more where one is.
+fn counted(count: u64, was: bool, is: bool) -> Result<u64, Memory>
+    ensures { IfOk result (λ left. left ≡ recount count was is) }
+{
+    let less = if was { count.saturating_sub(1) } else { count };
+    if !is {
+        return Ok(less);
+    }
+    match less.checked_add(1) {
+        Some(more) => Ok(more),
+        None => Err(AllocError),
+    }
+}
+
+impl Settling {
+    /// No edits, where so many changes are pending. It takes no memory.
+    pub fn new(alloc: Global, count: u64) -> Settling
+        ensures rows { result.rows.items ≡ [] }
+        ensures pending { result.pending.items ≡ [] }
+        ensures count { result.count ≡ count }
+    {
+        Settling {
+            rows: Vec::new(alloc),
+            pending: Vec::new(alloc),
+            count,
+        }
+    }
+
+    /// A place settled, by its table's number in the catalog and the bytes of its key: there stands `mine`, and what is pending is
+    /// the net change from `base` to it. What stood there before this is `before`. A row or a pending change that stays as it
+    /// is has no edit. An `Err` may leave a part of it there.
+    pub fn settle(
+        &mut self,
+        alloc: Global,
+        table: &TableDef,
+        number: u32,
+        key: &[u8],
+        before: &Standing,
+        base: Option<&Row<'_>>,
+        mine: Option<&Row<'_>>,
+    ) -> Result<(), Memory>
+        ensures within { (tables : List Table) → number < length tables → IsWithin tables self.old → OnOk result (IsWithin tables self.new) }
+        ensures settled { (tables : List Table) (contents : Contents) (begun : ℕ) (view : View)
+            → AreTables tables
+            → slice_get tables number ≡ Some table.now
+            → MayStandAt tables table.now.name key.now (option_copied base.entry)
+            → MayStandAt tables table.now.name key.now (option_copied mine.entry)
+            → StandsIn view table.now key.now before.now
+            → Settles tables contents begun self.old view
+            → OnOk result (Settles tables contents begun self.new
+            (settled table.now key.now (option_copied base.entry) (option_copied mine.entry) view)) }
+    {
+        cs_value::laws::catalogs();
+        cs_normal::laws::one_key_stands();
+        cs_change::laws::net_takes();
+        cs_store::laws::commits();
+        let stood = lent(&before.mine);
+        let stood_base = lent(&before.base);
+        let was = !are_same(stood_base.as_ref(), stood.as_ref());
+        push_row(&mut self.rows, alloc, number, key, stood.as_ref(), mine)?;
+        let is = push_pending(
+            &mut self.pending,
+            alloc,
+            table,
+            number,
+            key,
+            was,
+            base,
+            mine,
+        )?;
+        self.count = counted(self.count, was, is)?;
+        Ok(())
+    }
+}

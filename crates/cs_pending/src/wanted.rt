@@ -1,0 +1,44 @@
+//! What an edit leaves of the row at its place.
+
+ghost use Rattle.std.specs.Prelude.{◌≡◌, ◌⊎◌, IfOk, IfErr, Ok, Err};
+ghost use Rattle.std.specs.Option.{option_copied};
+ghost use Rattle.cs_pending.specs.Edits.{after_edit};
+ghost use Rattle.cs_pending.specs.declared.fault.EditFault.TheVariants.{Memory};
+
+use crate::fault::EditFault;
+use cs_change::put_set_columns;
+use cs_record::{Record, Row, RowBuf};
+use std::alloc::Global;
+
+/// What is asked of the row at a place.
+#[derive(Drop)]
+pub(crate) enum Wanted<'a> {
+    /// That this row is put where there is none.
+    Insert(Row<'a>),
+    /// That these fields are put into it.
+    Update(Record<'a>),
+    /// That it goes.
+    Delete,
+}
+
+/// What an edit leaves where this row is, or none.
+pub(crate) fn left_by(
+    alloc: Global,
+    wanted: &Wanted<'_>,
+    mine: Option<&Row<'_>>,
+) -> Result<Option<RowBuf>, EditFault>
+    ensures left { IfOk result (λ left. after_edit wanted.now (option_copied mine.entry) ≡ Ok left) }
+    ensures refused { IfErr result (λ fault. (fault ≡ Memory) ⊎ (after_edit wanted.now (option_copied mine.entry) ≡ Err fault)) }
+{
+    match (wanted, mine) {
+        (Wanted::Insert(row), None) => Ok(Some(RowBuf::of_row(alloc, row)?)),
+        (Wanted::Insert(_), Some(_)) => Err(EditFault::Exists),
+        (_, None) => Err(EditFault::Missing),
+        (Wanted::Update(fields), Some(row)) => {
+            let mut updated = RowBuf::new(alloc);
+            put_set_columns(fields, row, &mut updated)?;
+            Ok(Some(updated))
+        }
+        (Wanted::Delete, Some(_)) => Ok(None),
+    }
+}

@@ -1,0 +1,643 @@
+//! Edits one after another beside the rows and the pending changes that were written by hand; faults in their order; what an edit
+//! writes; and calls that are refused, by the device, for want of memory or for bytes that are no row, which leave everything.
+
+use cs_map_store::MapStore;
+use cs_outgoing::{Outgoing, gather};
+use cs_pending::*;
+use cs_record::{RowBuf, read_row};
+use cs_store::{Batch, PlaceEdit, RowStore, StoreFault, Trip, Written};
+use cs_value::{Catalog, Field, Items, TableDef, Text, Value};
+use std::alloc::{AllocError, Global};
+
+/// A value.
+#[derive(Clone, Copy)]
+enum Cell {
+    Null,
+    Int(i64),
+    Text(&'static str),
+}
+
+/// An edit of the table with this name: a row, a key and fields, or a key.
+enum Step {
+    Insert(&'static str, &'static [Cell]),
+    Update(&'static str, &'static [Cell], &'static [Option<Cell>]),
+    Delete(&'static str, &'static [Cell]),
+}
+
+/// A table of two columns, of which the first is the key.
+fn table(alloc: Global, name: &str) -> Result<TableDef, AllocError> {
+    Ok(TableDef {
+        name: Text::from_string(String::from_str(alloc, name)?),
+        key_marks: Items::from_vec(vec![in alloc; true, false]?),
+    })
+}
+
+fn tables(alloc: Global) -> Result<Vec<TableDef>, AllocError> {
+    let mut tables = Vec::new(alloc);
+    tables.push(table(alloc, "t")?)?;
+    tables.push(table(alloc, "s")?)?;
+    Ok(tables)
+}
+
+fn catalog(alloc: Global) -> Option<Catalog> {
+    Catalog::new(tables(alloc).ok()?).ok()
+}
+
+fn value_of(alloc: Global, cell: Cell) -> Result<Value, AllocError> {
+    Ok(match cell {
+        Cell::Null => Value::Null,
+        Cell::Int(number) => Value::Int(number),
+        Cell::Text(text) => Value::Text(Text::from_string(String::from_str(alloc, text)?)),
+    })
+}
+
+fn values_of(alloc: Global, cells: &[Cell]) -> Result<Items<Value>, AllocError> {
+    let mut values = Vec::new(alloc);
+    for cell in cells {
+        values.push(value_of(alloc, *cell)?)?;
+    }
+    Ok(Items::from_vec(values))
+}
+
+fn field_of(alloc: Global, cell: Option<Cell>) -> Result<Field, AllocError> {
+    match cell {
+        None => Ok(Field::Undefined),
+        Some(cell) => Ok(Field::Is(value_of(alloc, cell)?)),
+    }
+}
+
+fn fields_of(alloc: Global, cells: &[Option<Cell>]) -> Result<Vec<Field>, AllocError> {
+    let mut fields = Vec::new(alloc);
+    for cell in cells {
+        fields.push(field_of(alloc, *cell)?)?;
+    }
+    Ok(fields)
+}
+
+/// Makes an edit, where so many changes are pending.
+fn make<S: RowStore>(
+    alloc: Global,
+    store: &mut S,
+    catalog: &Catalog,
+    step: &Step,
+    pending: u64,
+) -> Result<u64, EditFault> {
+    match step {
+        Step::Insert(name, row) => {
+            let row = values_of(alloc, row)?;
+            insert_row(alloc, store, catalog, name, &row, pending)
+        }
+        Step::Update(name, key, fields) => {
+            let key = values_of(alloc, key)?;
+            let fields = fields_of(alloc, fields)?;
+            update_row(
+                alloc,
+                store,
+                catalog,
+                name,
+                &key,
+                fields.as_slice(),
+                pending,
+            )
+        }
+        Step::Delete(name, key) => {
+            let key = values_of(alloc, key)?;
+            delete_row(alloc, store, catalog, name, &key, pending)
+        }
+    }
+}
+
+/// The key 1, and the key 2.
+const ONE: &[u8] = &[1, 0, 0, 0, 0, 0, 0, 0, 1];
+
+const TWO: &[u8] = &[1, 0, 0, 0, 0, 0, 0, 0, 2];
+
+/// The rows (1, 'x'), (1, 'y'), (2, 'b'), (2, 'c') and (2, 'd').
+const ONE_X: &[u8] = &[1, 0, 0, 0, 0, 0, 0, 0, 1, 3, 1, 0x78];
+
+const ONE_Y: &[u8] = &[1, 0, 0, 0, 0, 0, 0, 0, 1, 3, 1, 0x79];
+
+const TWO_B: &[u8] = &[1, 0, 0, 0, 0, 0, 0, 0, 2, 3, 1, 0x62];
+
+const TWO_C: &[u8] = &[1, 0, 0, 0, 0, 0, 0, 0, 2, 3, 1, 0x63];
+
+const TWO_D: &[u8] = &[1, 0, 0, 0, 0, 0, 0, 0, 2, 3, 1, 0x64];
+
+/// The INSERTs of (1, 'x') and (1, 'y').
+const INSERT_X: &[u8] = &[18, 0, 1, 0, 0, 0, 0, 0, 0, 0, 1, 3, 1, 0x78];
+
+const INSERT_Y: &[u8] = &[18, 0, 1, 0, 0, 0, 0, 0, 0, 0, 1, 3, 1, 0x79];
+
+/// The UPDATEs of (2, 'b') to 'c' and to 'd', and its DELETE.
+const B_TO_C: &[u8] = &[23, 0, 1, 0, 0, 0, 0, 0, 0, 0, 2, 3, 1, 0x62, 0, 3, 1, 0x63];
+
+const B_TO_D: &[u8] = &[23, 0, 1, 0, 0, 0, 0, 0, 0, 0, 2, 3, 1, 0x62, 0, 3, 1, 0x64];
+
+const DELETE_B: &[u8] = &[9, 0, 1, 0, 0, 0, 0, 0, 0, 0, 2, 3, 1, 0x62];
+
+/// The UPDATE of (1, 'x') to 'y'.
+const X_TO_Y: &[u8] = &[23, 0, 1, 0, 0, 0, 0, 0, 0, 0, 1, 3, 1, 0x78, 0, 3, 1, 0x79];
+
+fn set_body(alloc: Global, key: &[u8], body: &[u8]) -> Result<PlaceEdit, AllocError> {
+    Ok(PlaceEdit {
+        table: 0,
+        key: Vec::from_slice(alloc, key)?,
+        body: Some(Vec::from_slice(alloc, body)?),
+    })
+}
+
+/// A store in which these bytes stand as the row with the key 2.
+fn store_of(alloc: Global, body: &[u8]) -> Result<MapStore, StoreFault> {
+    let mut rows = Vec::new(alloc);
+    rows.push(set_body(alloc, TWO, body)?)?;
+    let mut store = MapStore::new(alloc);
+    store.commit(&Batch {
+        rows,
+        pending: Vec::new(alloc),
+        meta: Vec::new(alloc),
+        log: None,
+    })?;
+    Ok(store)
+}
+
+/// Whether these are the bytes, or there are none.
+fn are_bytes(found: Option<Vec<u8>>, wanted: Option<&[u8]>) -> bool {
+    match (found, wanted) {
+        (None, None) => true,
+        (Some(found), Some(wanted)) => found.as_slice() == wanted,
+        _ => false,
+    }
+}
+
+/// Whether this row stands at a key and this change is pending there.
+fn stands<S: RowStore>(
+    store: &mut S,
+    key: &[u8],
+    row: Option<&[u8]>,
+    change: Option<&[u8]>,
+) -> Result<bool, StoreFault> {
+    let is_row = are_bytes(store.get(0, key)?, row);
+    Ok(are_bytes(store.pend_get(0, key)?, change) && is_row)
+}
+
+/// An edit, the key of its row, the row that stands there then, the change that is pending there, and how many are.
+type Case = (
+    Step,
+    &'static [u8],
+    Option<&'static [u8]>,
+    Option<&'static [u8]>,
+    u64,
+);
+
+const K1: &[Cell] = &[Cell::Int(1)];
+
+const K2: &[Cell] = &[Cell::Int(2)];
+
+/// A row that comes, changes and goes; and one that changes, changes back, goes and comes again, and stays as it is.
+const CASES: [Case; 8] = [
+    (
+        Step::Insert("t", &[Cell::Int(1), Cell::Text("x")]),
+        ONE,
+        Some(ONE_X),
+        Some(INSERT_X),
+        1,
+    ),
+    (
+        Step::Update("t", K1, &[None, Some(Cell::Text("y"))]),
+        ONE,
+        Some(ONE_Y),
+        Some(INSERT_Y),
+        1,
+    ),
+    (
+        Step::Update("t", K2, &[None, Some(Cell::Text("c"))]),
+        TWO,
+        Some(TWO_C),
+        Some(B_TO_C),
+        2,
+    ),
+    (Step::Delete("t", K1), ONE, None, None, 1),
+    (
+        Step::Update("t", K2, &[None, Some(Cell::Text("b"))]),
+        TWO,
+        Some(TWO_B),
+        None,
+        0,
+    ),
+    (Step::Delete("t", K2), TWO, None, Some(DELETE_B), 1),
+    (
+        Step::Insert("t", &[Cell::Int(2), Cell::Text("d")]),
+        TWO,
+        Some(TWO_D),
+        Some(B_TO_D),
+        1,
+    ),
+    (
+        Step::Update("t", K2, &[None, Some(Cell::Text("d"))]),
+        TWO,
+        Some(TWO_D),
+        Some(B_TO_D),
+        1,
+    ),
+];
+
+/// Whether an edit leaves what the case says.
+fn leaves<S: RowStore>(
+    alloc: Global,
+    store: &mut S,
+    catalog: &Catalog,
+    case: &Case,
+    pending: u64,
+) -> Result<bool, EditFault> {
+    let count = make(alloc, store, catalog, &case.0, pending)?;
+    Ok(stands(store, case.1, case.2, case.3)? && count == case.4)
+}
+
+/// Whether each case leaves what it says, one after another.
+fn each_leaves(alloc: Global) -> Option<bool> {
+    let catalog = catalog(alloc)?;
+    let mut store = store_of(alloc, TWO_B).ok()?;
+    let mut pending = 0;
+    for case in &CASES {
+        if !leaves(alloc, &mut store, &catalog, case, pending).ok()? {
+            return Some(false);
+        }
+        pending = case.4;
+    }
+    Some(true)
+}
+
+#[test]
+fn edits_are_rows_and_net_changes(rt: HostRuntime) {
+    assert!(rt; each_leaves(rt.alloc()) == Some(true));
+}
+
+const K9: &[Cell] = &[Cell::Int(9)];
+
+const NULL: &[Cell] = &[Cell::Null];
+
+const PAIR: &[Cell] = &[Cell::Int(2), Cell::Text("b")];
+
+const NEW_TEXT: &[Option<Cell>] = &[None, Some(Cell::Text("c"))];
+
+const NEW_KEY: &[Option<Cell>] = &[Some(Cell::Int(2)), None];
+
+/// Edits that are refused, each for a reason that goes before another of its own.
+const REFUSED: [(Step, EditFault); 16] = [
+    (Step::Insert("u", K2), EditFault::NoTable),
+    (Step::Update("u", PAIR, &[]), EditFault::NoTable),
+    (Step::Delete("", PAIR), EditFault::NoTable),
+    (Step::Insert("t", NULL), EditFault::Width),
+    (Step::Update("t", PAIR, NEW_KEY), EditFault::Width),
+    (
+        Step::Update("t", NULL, &[Some(Cell::Int(2))]),
+        EditFault::Width,
+    ),
+    (
+        Step::Delete("t", &[Cell::Null, Cell::Null]),
+        EditFault::Width,
+    ),
+    (
+        Step::Insert("t", &[Cell::Null, Cell::Null]),
+        EditFault::NullKey,
+    ),
+    (Step::Update("t", NULL, NEW_KEY), EditFault::NullKey),
+    (Step::Delete("t", NULL), EditFault::NullKey),
+    (Step::Update("t", K9, NEW_KEY), EditFault::KeyColumn),
+    (Step::Update("t", K2, NEW_KEY), EditFault::KeyColumn),
+    (Step::Insert("t", PAIR), EditFault::Exists),
+    (
+        Step::Insert("t", &[Cell::Int(2), Cell::Null]),
+        EditFault::Exists,
+    ),
+    (Step::Update("t", K9, NEW_TEXT), EditFault::Missing),
+    (Step::Delete("t", K9), EditFault::Missing),
+];
+
+/// Whether each of them is refused so, with nothing changed.
+fn each_is_refused(alloc: Global) -> Option<bool> {
+    let catalog = catalog(alloc)?;
+    let mut store = store_of(alloc, TWO_B).ok()?;
+    for (step, fault) in &REFUSED {
+        if make(alloc, &mut store, &catalog, step, 0) != Err(*fault) {
+            return Some(false);
+        }
+    }
+    Some(stands(&mut store, TWO, Some(TWO_B), None).ok()? && store.list(0).ok()?.len() == 1)
+}
+
+/// Whether a fault prints like this.
+fn prints(alloc: Global, fault: EditFault, printed: &str) -> bool {
+    match fault.to_string(alloc) {
+        Ok(text) => text.as_str() == printed,
+        Err(AllocError) => false,
+    }
+}
+
+#[test]
+fn the_first_fault_is_told(rt: HostRuntime) {
+    let alloc = rt.alloc();
+    assert!(rt; each_is_refused(alloc) == Some(true));
+    assert!(rt; prints(alloc, EditFault::KeyColumn, "KeyColumn"));
+    assert!(rt; prints(alloc, EditFault::Device, "Device"));
+}
+
+/// What is written by so many edits of rows and of pending changes.
+fn written(rows: u64, pending: u64) -> Written {
+    Written {
+        rows,
+        pending,
+        meta: 0,
+        log: 0,
+    }
+}
+
+/// A thousand rows with pending changes are put in, one after another.
+fn put_thousand<S: RowStore>(
+    alloc: Global,
+    store: &mut S,
+    catalog: &Catalog,
+) -> Result<u64, EditFault> {
+    let mut pending = 0;
+    for number in 0..1000i64 {
+        let mut values = Vec::new(alloc);
+        values.push(Value::Int(number + 10))?;
+        values.push(Value::Null)?;
+        let row = Items::from_vec(values);
+        pending = insert_row(alloc, store, catalog, "t", &row, pending)?;
+    }
+    Ok(pending)
+}
+
+/// Whether an edit writes one row and one pending change whatever is pending, and one that changes nothing writes nothing.
+fn writes_one_place(alloc: Global) -> Option<bool> {
+    let catalog = catalog(alloc)?;
+    let mut trip = Trip::new(store_of(alloc, TWO_B).ok()?, u64::MAX);
+    let pending = put_thousand(alloc, &mut trip, &catalog).ok()?;
+    let many = trip.written() == written(1000, 1000);
+    let changed = make(alloc, &mut trip, &catalog, &CASES[2].0, pending);
+    let one = changed == Ok(1001) && trip.written() == written(1001, 1001);
+    let same = make(alloc, &mut trip, &catalog, &CASES[2].0, 1001);
+    Some(many && one && same == Ok(1001) && trip.written() == written(1001, 1001))
+}
+
+#[test]
+fn an_edit_writes_one_place(rt: HostRuntime) {
+    assert!(rt; writes_one_place(rt.alloc()) == Some(true));
+}
+
+/// An edit of each kind where only the row (2, 'b') stands.
+const ALONE: [Case; 3] = [
+    (
+        Step::Insert("t", &[Cell::Int(1), Cell::Text("x")]),
+        ONE,
+        Some(ONE_X),
+        Some(INSERT_X),
+        1,
+    ),
+    (
+        Step::Update("t", K2, NEW_TEXT),
+        TWO,
+        Some(TWO_C),
+        Some(B_TO_C),
+        1,
+    ),
+    (Step::Delete("t", K2), TWO, None, Some(DELETE_B), 1),
+];
+
+/// Whether an edit is refused where the device refuses this call, leaves everything, and then is made.
+fn is_made_again(alloc: Global, refused: u64, case: &Case) -> Option<bool> {
+    let catalog = catalog(alloc)?;
+    let mut trip = Trip::new(store_of(alloc, TWO_B).ok()?, refused);
+    let told = make(alloc, &mut trip, &catalog, &case.0, 0) == Err(EditFault::Device);
+    let counts = trip.failures() == 1 && trip.written() == written(0, 0);
+    let stays = stands(&mut trip, TWO, Some(TWO_B), None).ok()?;
+    Some(told && counts && stays && leaves(alloc, &mut trip, &catalog, case, 0).ok()?)
+}
+
+#[test]
+fn an_edit_that_the_device_refuses_changes_nothing(rt: HostRuntime) {
+    let alloc = rt.alloc();
+    for refused in 0..3u64 {
+        for case in &ALONE {
+            assert!(rt; is_made_again(alloc, refused, case) == Some(true));
+        }
+    }
+}
+
+/// Whether bytes that are no row, or no change of the table, are told as the device's, and counted.
+fn is_told_unread(alloc: Global, row: &[u8], change: &[u8]) -> Option<bool> {
+    let catalog = catalog(alloc)?;
+    let mut store = store_of(alloc, row).ok()?;
+    let mut pending = Vec::new(alloc);
+    pending.push(set_body(alloc, TWO, change).ok()?).ok()?;
+    let batch = Batch {
+        rows: Vec::new(alloc),
+        pending,
+        meta: Vec::new(alloc),
+        log: None,
+    };
+    store.commit(&batch).ok()?;
+    let told = make(alloc, &mut store, &catalog, &CASES[2].0, 1) == Err(EditFault::Device);
+    Some(told && store.failures() == 1 && stands(&mut store, TWO, Some(row), Some(change)).ok()?)
+}
+
+#[test]
+fn what_is_no_row_or_change_is_told(rt: HostRuntime) {
+    let alloc = rt.alloc();
+    assert!(rt; is_told_unread(alloc, &TWO_B[..11], B_TO_C) == Some(true));
+    assert!(rt; is_told_unread(alloc, TWO_C, &B_TO_C[..17]) == Some(true));
+    assert!(rt; is_told_unread(alloc, TWO_C, &[]) == Some(true));
+}
+
+/// A row that is spelled by these bytes.
+fn row(alloc: Global, bytes: &[u8]) -> Result<RowBuf, StoreFault> {
+    match read_row(bytes, 2) {
+        Some((row, _len)) => Ok(RowBuf::of_row(alloc, &row)?),
+        None => Err(StoreFault::Device),
+    }
+}
+
+/// Edits of both places: at the first (1, 'y') over (1, 'x'), and at the second what stands there, over what stood there.
+fn settled(alloc: Global, store: &mut MapStore, catalog: &Catalog) -> Result<Settling, StoreFault> {
+    let Some(table) = catalog.tables().get(0) else {
+        return Err(StoreFault::Device);
+    };
+    let x = row(alloc, ONE_X)?;
+    let y = row(alloc, ONE_Y)?;
+    let b = row(alloc, TWO_B)?;
+    let first = standing_at(alloc, store, catalog, table, 0, ONE)?;
+    let second = standing_at(alloc, store, catalog, table, 0, TWO)?;
+    let mut settling = Settling::new(alloc, 0);
+    settling.settle(
+        alloc,
+        table,
+        0,
+        ONE,
+        &first,
+        Some(&x.as_row()),
+        Some(&y.as_row()),
+    )?;
+    settling.settle(
+        alloc,
+        table,
+        0,
+        TWO,
+        &second,
+        Some(&b.as_row()),
+        Some(&b.as_row()),
+    )?;
+    Ok(settling)
+}
+
+/// Whether a commit of them leaves a row and a pending change at the first place, and edits nothing at the second.
+fn settles_two(alloc: Global) -> Option<bool> {
+    let catalog = catalog(alloc)?;
+    let mut store = store_of(alloc, TWO_B).ok()?;
+    let settling = settled(alloc, &mut store, &catalog).ok()?;
+    let counts = settling.count == 1 && settling.rows.len() == 1 && settling.pending.len() == 1;
+    let batch = Batch {
+        rows: settling.rows,
+        pending: settling.pending,
+        meta: Vec::new(alloc),
+        log: None,
+    };
+    store.commit(&batch).ok()?;
+    let first = stands(&mut store, ONE, Some(ONE_Y), Some(X_TO_Y)).ok()?;
+    Some(counts && first && stands(&mut store, TWO, Some(TWO_B), None).ok()?)
+}
+
+#[test]
+fn places_are_settled_for_one_commit(rt: HostRuntime) {
+    assert!(rt; settles_two(rt.alloc()) == Some(true));
+}
+
+/// Edits of which one may be refused for memory, and then is made.
+fn edits_at_last(
+    alloc: Global,
+    store: &mut MapStore,
+    catalog: &Catalog,
+) -> Result<bool, EditFault> {
+    let mut kept = true;
+    let mut pending = 0;
+    for case in &CASES {
+        if let Err(fault) = make(alloc, store, catalog, &case.0, pending) {
+            kept = kept && fault == EditFault::Memory;
+            make(alloc, store, catalog, &case.0, pending)?;
+        }
+        kept = kept && stands(store, case.1, case.2, case.3)?;
+        pending = case.4;
+    }
+    Ok(kept)
+}
+
+/// The edits over a store of their own.
+fn edits_all(alloc: Global) -> Option<bool> {
+    let catalog = catalog(alloc)?;
+    let mut store = store_of(alloc, TWO_B).ok()?;
+    edits_at_last(alloc, &mut store, &catalog).ok()
+}
+
+/// Everything is as it was where memory is refused, and the same edit is then made. `bench/refuse_tests.sh` refuses each
+/// allocation in turn here; where it is refused to what stands around the edits, all is tried again.
+#[test]
+fn refused_memory_leaves_everything(rt: HostRuntime) {
+    let alloc = rt.alloc();
+    let kept = match edits_all(alloc) {
+        Some(kept) => kept,
+        None => edits_all(alloc) == Some(true),
+    };
+    assert!(rt; kept);
+}
+
+/// Two groups: of `t` the INSERT of (1, 'x') and the UPDATE of (2, 'b') to 'c', and of `s` the INSERT of (1, 'x').
+const GATHERED: &[u8] = &[
+    0x54, 2, 1, 0, 0x74, 0, 18, 0, 1, 0, 0, 0, 0, 0, 0, 0, 1, 3, 1, 0x78, 23, 0, 1, 0, 0, 0, 0, 0,
+    0, 0, 2, 3, 1, 0x62, 0, 3, 1, 0x63, 0x54, 2, 1, 0, 0x73, 0, 18, 0, 1, 0, 0, 0, 0, 0, 0, 0, 1,
+    3, 1, 0x78,
+];
+
+/// Whether what is pending is spelled so; without bytes, whether nothing is pending.
+fn gathers<S: RowStore>(
+    alloc: Global,
+    store: &mut S,
+    catalog: &Catalog,
+    wanted: &[u8],
+) -> Result<bool, StoreFault> {
+    match gather(alloc, store, catalog)? {
+        Outgoing::Nothing => Ok(wanted.is_empty()),
+        Outgoing::TooLarge => Ok(false),
+        Outgoing::Changes(changes) => {
+            let mut spelled = Vec::new(alloc);
+            changes.encode(&mut spelled)?;
+            Ok(spelled.as_slice() == wanted)
+        }
+    }
+}
+
+/// The edits that this changeset has, in another order.
+const EDITS: [Step; 3] = [
+    Step::Insert("s", &[Cell::Int(1), Cell::Text("x")]),
+    Step::Update("t", K2, NEW_TEXT),
+    Step::Insert("t", &[Cell::Int(1), Cell::Text("x")]),
+];
+
+/// A store in which these edits were made.
+fn edited(alloc: Global, catalog: &Catalog) -> Result<MapStore, EditFault> {
+    let mut store = store_of(alloc, TWO_B)?;
+    for step in &EDITS {
+        make(alloc, &mut store, catalog, step, 0)?;
+    }
+    Ok(store)
+}
+
+/// Whether they are gathered table by table and key by key, and nothing is where they were taken back.
+fn gathers_all(alloc: Global) -> Option<bool> {
+    let catalog = catalog(alloc)?;
+    let mut store = edited(alloc, &catalog).ok()?;
+    let all = gathers(alloc, &mut store, &catalog, GATHERED).ok()?;
+    make(alloc, &mut store, &catalog, &Step::Delete("s", K1), 3).ok()?;
+    make(alloc, &mut store, &catalog, &Step::Delete("t", K1), 2).ok()?;
+    make(alloc, &mut store, &catalog, &CASES[4].0, 1).ok()?;
+    Some(all && gathers(alloc, &mut store, &catalog, &[]).ok()?)
+}
+
+#[test]
+fn what_is_pending_is_one_changeset(rt: HostRuntime) {
+    assert!(rt; gathers_all(rt.alloc()) == Some(true));
+}
+
+/// Whether a listing that the device refuses is told, and then is made.
+fn is_gathered_again(alloc: Global, refused: u64) -> Option<bool> {
+    let catalog = catalog(alloc)?;
+    let mut trip = Trip::new(edited(alloc, &catalog).ok()?, refused);
+    let told = gathers(alloc, &mut trip, &catalog, GATHERED) == Err(StoreFault::Device);
+    Some(told && trip.failures() == 1 && gathers(alloc, &mut trip, &catalog, GATHERED).ok()?)
+}
+
+/// Whether bytes that are no change are told as the device's, and counted.
+fn is_told_ungathered(alloc: Global) -> Option<bool> {
+    let catalog = catalog(alloc)?;
+    let mut store = store_of(alloc, TWO_C).ok()?;
+    let mut pending = Vec::new(alloc);
+    pending
+        .push(set_body(alloc, TWO, &B_TO_C[..17]).ok()?)
+        .ok()?;
+    let batch = Batch {
+        rows: Vec::new(alloc),
+        pending,
+        meta: Vec::new(alloc),
+        log: None,
+    };
+    store.commit(&batch).ok()?;
+    let told = gathers(alloc, &mut store, &catalog, &[]) == Err(StoreFault::Device);
+    Some(told && store.failures() == 1)
+}
+
+#[test]
+fn what_cannot_be_gathered_is_told(rt: HostRuntime) {
+    let alloc = rt.alloc();
+    assert!(rt; is_gathered_again(alloc, 0) == Some(true));
+    assert!(rt; is_gathered_again(alloc, 1) == Some(true));
+    assert!(rt; is_told_ungathered(alloc) == Some(true));
+}
