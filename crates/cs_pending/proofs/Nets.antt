@@ -1,23 +1,20 @@
 -- Net changes: taken back, whether there is one, and that the reader of changes takes them.
 use Rattle.std.proofs.Common.{◌≡◌, Bool, true, false, not, refl, ap, sym, arith, List, [], ◌∷◌, Option, Some, None, length, is_some}
-use Rattle.std.specs.List.{AllByRecursion}
 use Rattle.std.specs.Prelude.{IfSome}
 use Rattle.cs_value.specs.Key.{Place, FitsPlace}
 use Rattle.cs_value.specs.Facts.{same_value-tells, same_row-Decides}
-use Rattle.cs_value.specs.Same.{same_row, same_value, same_place}
+use Rattle.cs_value.specs.Same.{same_row, same_place}
 use Rattle.cs_value.specs.declared.value.Value.{Value}
-use Rattle.cs_value.specs.declared.value.Field.{Field}
-use Rattle.cs_value.specs.declared.value.Field.TheVariants.{Is}
-use Rattle.cs_record.specs.Spelling.{Fits}
 use Rattle.cs_change.specs.Action.{Action, Inserts, Deletes, Updates, action_any}
 use Rattle.cs_change.specs.Columns.{set_columns, field_or}
 use Rattle.cs_change.specs.Facts.{conjoin}
 use Rattle.cs_change.specs.Laws.{NetTakes}
-use Rattle.cs_change.specs.Net.{net, old_record, new_record, old_field, new_field}
-use Rattle.cs_change.specs.Normal.{IsNormal, IsNormalIfAny, NormalUpdate, no_column, key_column, unmodified, modified}
-use Rattle.cs_change.specs.Spelling.{AreUpdateColumns, FitsChange}
+use Rattle.cs_change.specs.Net.{net, old_record, old_field}
+use Rattle.cs_change.specs.Normal.{IsNormalIfAny}
+use Rattle.cs_change.specs.Spelling.{FitsChange}
 use Rattle.cs_change.specs.declared.change.Change.{Change}
 use Rattle.cs_keyed.specs.Changes.{IsSpelled}
+use Rattle.cs_keyed.specs.InRange.{AreInRangeIfAny, normal_fits, net_in_range}
 use Rattle.cs_group.specs.Combine.{with_flag, with_flag_any}
 use Rattle.cs_apply.specs.Spots.{by_test}
 use Rattle.cs_pending.specs.View.{undo}
@@ -69,62 +66,23 @@ action_there (Some change) = refl
 
 -- ---- in range
 
-abbrev AreInRange : Action → Type 0
-AreInRange (Inserts row) = IsSpelled row
-AreInRange (Deletes row) = IsSpelled row
-AreInRange (Updates old new) = AllByRecursion Fits old × AllByRecursion Fits new
-
-abbrev AreInRangeIfAny : Option Action → Type 0
-AreInRangeIfAny None = Unit {0}
-AreInRangeIfAny (Some change) = AreInRange change
-
-update_columns : {marks : List Bool} {key : List Value} {old new : List Field} → NormalUpdate marks key old new → AreUpdateColumns marks old new
-update_columns no_column = tt
-update_columns (key_column k l) = (tt, update_columns l)
-update_columns (unmodified l) = (tt, update_columns l)
-update_columns (modified u v differ l) = (tt, update_columns l)
-
-normal_fits : (marks : List Bool) (key : List Value) (change : Action) → IsNormal marks key change → AreInRange change → FitsChange marks (with_flag false change)
-normal_fits marks key (Inserts new) n r = (n.wide, r)
-normal_fits marks key (Deletes old) n r = (n.wide, r)
-normal_fits marks key (Updates old new) n r = (update_columns n.0, r.0, r.1)
-
-normals_fit : (marks : List Bool) (key : List Value) (change : Option Action) → IsNormalIfAny marks key change → AreInRangeIfAny change → IfSome (with_flag_any false change) (FitsChange marks)
-normals_fit marks key None n r = tt
-normals_fit marks key (Some change) n r = normal_fits marks key change n r
-
-old_column_fits : (m : Bool) (b x : Value) → Fits (Is b) → Fits (old_field m b x)
-old_column_fits true b x h = h
-old_column_fits false b x h = by_test (same_value b x) _ (λ e. simp e tt) (λ e. simp e h)
-
-new_column_fits : (b x : Value) → Fits (Is x) → Fits (new_field b x)
-new_column_fits b x h = by_test (same_value b x) _ (λ e. simp e tt) (λ e. simp e h)
-
-net_olds_fit : (marks : List Bool) (old new : List Value) → IsSpelled old → AllByRecursion Fits (old_record marks old new)
-unfolding old_record
-net_olds_fit (m ∷ marks) (b ∷ old) (x ∷ new) h = (old_column_fits m b x h.0, net_olds_fit marks old new h.1)
-net_olds_fit [] old new h = tt
-net_olds_fit (m ∷ marks) [] new h = tt
-net_olds_fit (m ∷ marks) (b ∷ old) [] h = tt
-
-net_news_fit : (old new : List Value) → IsSpelled new → AllByRecursion Fits (new_record old new)
-unfolding new_record
-net_news_fit (b ∷ old) (x ∷ new) h = (new_column_fits b x h.0, net_news_fit old new h.1)
-net_news_fit [] new h = tt
-net_news_fit (b ∷ old) [] h = tt
-
 -- the values of a row or none have spellings
 abbrev pub IsSpelledPlace : Place → Type 0
 IsSpelledPlace None = Unit {0}
 IsSpelledPlace (Some row) = IsSpelled row
 
-net_in_range : (marks : List Bool) (b x : Place) → IsSpelledPlace b → IsSpelledPlace x → AreInRangeIfAny (net marks b x)
+places_in_range : (marks : List Bool) (b x : Place) → IsSpelledPlace b → IsSpelledPlace x → AreInRangeIfAny (net marks b x)
 unfolding net
-net_in_range marks None None hb hx = tt
-net_in_range marks None (Some x) hb hx = hx
-net_in_range marks (Some b) None hb hx = hb
-net_in_range marks (Some b) (Some x) hb hx =
-    by_test (same_row b x) _ (λ e. simp e tt) (λ e. simp e (net_olds_fit marks b x hb, net_news_fit b x hx))
+places_in_range marks None None hb hx = tt
+places_in_range marks None (Some x) hb hx = hx
+places_in_range marks (Some b) None hb hx = hb
+places_in_range marks (Some b) (Some x) hb hx = net_in_range marks b x hb hx
+
+direct_fits : (marks : List Bool) (key : List Value) (change : Option Action) → IsNormalIfAny marks key change → AreInRangeIfAny change → IfSome (with_flag_any false change) (FitsChange marks)
+direct_fits marks key None n r = tt
+direct_fits marks key (Some (Inserts new)) n r = normal_fits marks key (with_flag false (Inserts new)) n r
+direct_fits marks key (Some (Deletes old)) n r = normal_fits marks key (with_flag false (Deletes old)) n r
+direct_fits marks key (Some (Updates old new)) n r = normal_fits marks key (with_flag false (Updates old new)) n r
 
 pub net_fits : NetTakes → (marks : List Bool) (key : List Value) (b x : Place) → FitsPlace marks key b → FitsPlace marks key x → IsSpelledPlace b → IsSpelledPlace x → IfSome (with_flag_any false (net marks b x)) (FitsChange marks)
-net_fits law marks key b x fb fx sb sx = normals_fit marks key (net marks b x) (law marks key b x fb fx).0 (net_in_range marks b x sb sx)
+net_fits law marks key b x fb fx sb sx = direct_fits marks key (net marks b x) (law marks key b x fb fx).0 (places_in_range marks b x sb sx)
