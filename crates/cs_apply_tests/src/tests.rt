@@ -406,19 +406,20 @@ const V2: &[u8] = b"\x03\x02v2";
 
 const V9: &[u8] = b"\x03\x02v9";
 
-const B0: &[u8] = b"\x03\x02b0";
+/// Texts of the columns b, c and d.
+const B_0: &[u8] = b"\x03\x02b0";
 
-const B1: &[u8] = b"\x03\x02b1";
+const B_1: &[u8] = b"\x03\x02b1";
 
-const B2: &[u8] = b"\x03\x02b2";
+const B_2: &[u8] = b"\x03\x02b2";
 
-const C0: &[u8] = b"\x03\x02c0";
+const C_0: &[u8] = b"\x03\x02c0";
 
-const C2: &[u8] = b"\x03\x02c2";
+const C_2: &[u8] = b"\x03\x02c2";
 
-const D0: &[u8] = b"\x03\x02d0";
+const D_0: &[u8] = b"\x03\x02d0";
 
-const D1: &[u8] = b"\x03\x02d1";
+const D_1: &[u8] = b"\x03\x02d1";
 
 /// Each kind of change, answered by OMIT and by REPLACE; changes that don't conflict leave nothing.
 const CASES: &[BlobCase<'static>] = &[
@@ -431,22 +432,22 @@ const CASES: &[BlobCase<'static>] = &[
     },
     BlobCase {
         table: 1,
-        row: &[ONE, B1, C0, D0],
-        changeset: &[SECOND, &[0x17, 0], ONE, B0, C0, &[0, 0], B2, C2, &[0]],
+        row: &[ONE, B_1, C_0, D_0],
+        changeset: &[SECOND, &[0x17, 0], ONE, B_0, C_0, &[0, 0], B_2, C_2, &[0]],
         answer: Resolution::Replace,
-        blob: &[SECOND, &[0x12, 1], ONE, B2, C2, &[0]],
+        blob: &[SECOND, &[0x12, 1], ONE, B_2, C_2, &[0]],
     },
     BlobCase {
         table: 1,
-        row: &[ONE, B1, C0, D1],
-        changeset: &[SECOND, &[0x17, 0], ONE, B0, &[0, 0, 0], B2, &[0, 0]],
+        row: &[ONE, B_1, C_0, D_1],
+        changeset: &[SECOND, &[0x17, 0], ONE, B_0, &[0, 0, 0], B_2, &[0, 0]],
         answer: Resolution::Omit,
-        blob: &[SECOND, &[0x12, 0], ONE, B2, &[0, 0]],
+        blob: &[SECOND, &[0x12, 0], ONE, B_2, &[0, 0]],
     },
     BlobCase {
         table: 1,
-        row: &[ONE, B0, C0, D1],
-        changeset: &[SECOND, &[0x17, 0], ONE, B0, &[0, 0, 0], B2, &[0, 0]],
+        row: &[ONE, B_0, C_0, D_1],
+        changeset: &[SECOND, &[0x17, 0], ONE, B_0, &[0, 0, 0], B_2, &[0, 0]],
         answer: Resolution::Omit,
         blob: &[],
     },

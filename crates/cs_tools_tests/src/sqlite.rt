@@ -82,19 +82,21 @@ fn places_in_the_key_are_kept(rt: HostRuntime) {
 }
 
 /// Headers of three tables, of which the last has one column.
-const T1: &str = "54020201743100";
+const HEAD_ONE: &str = "54020201743100";
 
-const T2: &str = "54020102743200";
+const HEAD_TWO: &str = "54020102743200";
 
-const T3: &str = "540102743300";
+const HEAD_THREE: &str = "540102743300";
 
 /// Lines of changesets of them, and what is written.
 const MIXED: Parts<'static> = &[
-    T2, T3, "1200", A, "\n", T1, "1200", A, X, T2, "1200", A, X, "\n", T3, "0900", A, T1, "1200",
-    B, X, "\n",
+    HEAD_TWO, HEAD_THREE, "1200", A, "\n", HEAD_ONE, "1200", A, X, HEAD_TWO, "1200", A, X, "\n",
+    HEAD_THREE, "0900", A, HEAD_ONE, "1200", B, X, "\n",
 ];
 
-const TAKEN_TOGETHER: Parts<'static> = &[T2, "1200", A, X, T1, "1200", A, X, "1200", B, X, "\n"];
+const TAKEN_TOGETHER: Parts<'static> = &[
+    HEAD_TWO, "1200", A, X, HEAD_ONE, "1200", A, X, "1200", B, X, "\n",
+];
 
 // Each table by its own first header, in the order in which these come; a table without changes isn't written.
 #[test]
