@@ -1,5 +1,7 @@
 //! The laws of lines and runs, each the contract of a function that does nothing.
 
+ghost use Rattle.std.specs.Prelude.{◌≡◌};
+ghost use Rattle.cs_lines.specs.declared.serve.TheConstants.{ASKS};
 ghost use Rattle.cs_lines.specs.Laws.{AllTaken, LineOrEnd, NoneTaken, OneMoreTaken, OneRun};
 
 use crate::serve::Serve;
@@ -10,6 +12,11 @@ pub fn lines_taken()
     ensures more { OneMoreTaken }
     ensures all { AllTaken }
     ensures next { LineOrEnd }
+{}
+
+/// How often a reader is asked at most.
+pub fn most_asks()
+    ensures { ASKS ≡ 1099511627776 }
 {}
 
 /// Where each request has one answer, a run's lines have one list of answers, up to want of memory.
