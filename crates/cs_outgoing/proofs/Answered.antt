@@ -1,32 +1,22 @@
 -- What the bytes that were put tell of what is pending.
 use Rattle.std.proofs.Common.{◌≡◌, ◌≢◌, ◌<◌, ◌≤◌, ◌+◌, ◌++◌, ◌⊎◌, inl, inr, ℕ, List, [], ◌∷◌, length, Option, Some, Result, Ok, Err, refl, sym, ap, subst, ◌∙◌, arith}
-use Rattle.std.specs.Prelude.{Contains, slice_get}
-use Rattle.std.proofs.lemmas.List.Elements.{Contains-get_or}
-use Rattle.std.proofs.lemmas.Option.{slice_get_within, get_or_from_slice_get}
 use Rattle.cs_value.specs.declared.catalog.TableDef.{TableDef}
 use Rattle.cs_normal.specs.Laws.{CatalogIsApart, FittingIsNormal}
 use Rattle.cs_normal.specs.Normal.{FitsCatalog, IsNormalChangeset, normal_spelling}
 use Rattle.cs_normal.specs.declared.normal.TableChanges.{TableChanges}
-use Rattle.cs_store.specs.Calls.{CountsMisread, MoreFailures}
 use Rattle.cs_store.specs.Contents.{Contents}
-use Rattle.cs_store.specs.declared.fault.StoreFault.{StoreFault}
-use Rattle.cs_store.specs.declared.fault.StoreFault.TheVariants.{Device}
 use Rattle.cs_log.specs.declared.entry.TheConstants.{MAX_CHANGESET}
 use Rattle.cs_log.specs.Entry.{changes_of_body}
 use Rattle.cs_log.specs.declared.body.Body.{Body}
 use Rattle.cs_log.specs.declared.body.Body.TheVariants.{Changes}
 use Rattle.cs_log.specs.declared.fault.BodyFault.{BodyFault}
 use Rattle.cs_log.specs.declared.fault.BodyFault.TheVariants.{Memory, NoBody}
-use Rattle.cs_pending.specs.Calls.{ReadsStore}
+use Rattle.cs_pending.specs.OnePlace.{contained}
 use Rattle.cs_pending.specs.Shows.{ShowsRows}
 use Rattle.cs_pending.specs.View.{Changed, View}
 use Rattle.cs_outgoing.specs.Outgoing.{IsPendingOf}
 use Rattle.cs_outgoing.specs.Steps.{AreAppended, ArePut}
 use Rattle.cs_outgoing.proofs.Gathered.{Laws, all_gathered}
-
-contained : {X : Type 0} (xs : List X) (i : ℕ) (x : X) → slice_get xs i ≡ Some x → Contains xs x
-contained xs i x is =
-    subst (λ y. Contains xs y) (get_or_from_slice_get xs i x x is) (Contains-get_or xs i x (slice_get_within xs i x is))
 
 -- the changeset that is spelled behind the byte of its kind
 abbrev pub IsSpelledBehind : List TableDef → Changed → List ℕ → Type 0
@@ -67,27 +57,6 @@ read_pending tables pending bytes read more within only (changes, is, spelled) =
       (λ e. more (long ∙ ap (λ (cs : List TableChanges). length (0 ∷ normal_spelling cs)) e)),
       fits,
     )
-
-same_err : {T U E : Type 0} (a b : E) → ◌≡◌ {A = Result T E} (Err a) (Err b) → ◌≡◌ {A = Result U E} (Err a) (Err b)
-same_err a b e =
-    let f : a ≡ b = (let g = e in cc) in
-    ap (λ x. Err x) f
-
--- what was read is told to be no such thing, where it can't be so
-pub misread_told : {S T U : Type 0} (honest : S → Type 0) (contents : S → Contents) (failed : S → ℕ) (may_leave : S → Contents → Type 0) (misreads : S → ℕ) (fault : StoreFault) (readable less : Type 0) (old mid new : S) (t : T)
-    → (honest mid → readable → ⊥)
-    → ReadsStore honest contents failed may_leave misreads {T = T} {E = StoreFault} Device less old mid (Ok t)
-    → CountsMisread honest contents failed may_leave misreads mid new fault
-    → ReadsStore honest contents failed may_leave misreads {T = U} Device readable old new (Err fault)
-misread_told honest contents failed may_leave misreads fault readable less old mid new t never reads counts = record {
-  was_honest = λ h. reads.was_honest (counts.was_honest h);
-  same = λ h. counts.same h ∙ reads.same (counts.was_honest h);
-  crash = λ h left l. reads.crash (counts.was_honest h) left (counts.crash h left l);
-  kept = tt;
-  later = omega (arith, counts.failures.later, reads.kept);
-  cause = λ e. subst (λ (n : ℕ). MoreFailures n (failed new)) reads.kept (counts.failures.cause (same_err fault Device e));
-  as_read = λ h r. absurd (never (counts.was_honest h) r);
-}
 
 -- a body that was read, or wasn't
 pub read_is : (body : Body) (changes : List TableChanges) → (◌≡◌ {A = Result Body BodyFault} (Ok body) (Ok (Changes changes))) ⊎ (◌≡◌ {A = Result Body BodyFault} (Ok body) (Err Memory)) → changes_of_body body ≡ changes

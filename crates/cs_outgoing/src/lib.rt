@@ -10,3 +10,4 @@ pub mod laws;
 mod putting;
 
 pub use gathering::{Outgoing, gather};
+pub use putting::flag_bytes;

@@ -21,8 +21,8 @@ fn byte_of(mark: bool) -> u8
     if mark { 1 } else { 0 }
 }
 
-/// Marks as they are written.
-fn flag_bytes(alloc: Global, marks: &[bool]) -> Result<Vec<u8>, Memory>
+/// Marks as they are written: a byte each. (SQLite's "changeset format".)
+pub fn flag_bytes(alloc: Global, marks: &[bool]) -> Result<Vec<u8>, Memory>
     ensures { IfOk result (λ bytes. bytes.items ≡ map flag_byte marks.now) }
 {
     let mut bytes = Vec::with_capacity(alloc, marks.len())?;

@@ -23,7 +23,7 @@ use Rattle.cs_store.specs.declared.batch.Batch.{Batch}
 use Rattle.cs_store.specs.declared.batch.PlaceEdit.{PlaceEdit}
 use Rattle.cs_pending.specs.Settling.{AreWithin, IsWithin, Settles}
 use Rattle.cs_pending.specs.declared.settling.Settling.{Settling}
-use Rattle.cs_pending.proofs.Steps.{rest_after, settles_none, shows_after}
+use Rattle.cs_pending.specs.Steps.{rest_after, settles_none, shows_after}
 use Rattle.cs_store.specs.declared.fault.StoreFault.{StoreFault}
 use Rattle.cs_store.specs.declared.fault.StoreFault.TheVariants as stored
 use Rattle.cs_apply.specs.NormalTasks.{one_table}

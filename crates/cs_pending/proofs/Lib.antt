@@ -1,9 +1,5 @@
-pub mod OnePlace
-pub mod Nets
-pub mod Settled
 pub mod Reading
-pub mod Steps
 pub mod Views
-pub mod Storing
 pub mod Edited
 pub mod Named
+pub mod Kept

@@ -21,7 +21,7 @@ use Rattle.cs_pending.specs.declared.fault.EditFault.TheVariants.{NoTable, Width
 
 -- ---- the table with a name
 
-first_named : (name : List ℕ) (tables : List TableDef) (table : TableDef) → named name tables ≡ Some table → Contains tables table × (table.name ≡ name)
+pub first_named : (name : List ℕ) (tables : List TableDef) (table : TableDef) → named name tables ≡ Some table → Contains tables table × (table.name ≡ name)
 unfolding named
 first_named name [] table e = absurd cc
 first_named name (first ∷ tables) table e =

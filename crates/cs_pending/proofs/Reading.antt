@@ -14,9 +14,9 @@ use Rattle.cs_apply.specs.NormalTasks.{one_table}
 use Rattle.cs_pending.specs.Placing.{StoresSome, StoresSomeChange}
 use Rattle.cs_pending.specs.Shows.{ShowsRows, ShowsSome}
 use Rattle.cs_pending.specs.View.{View, undo}
-use Rattle.cs_pending.proofs.Nets.{undo_none}
-use Rattle.cs_pending.proofs.OnePlace.{contained}
-use Rattle.cs_pending.proofs.Settled.{Catalogs}
+use Rattle.cs_pending.specs.Nets.{undo_none}
+use Rattle.cs_pending.specs.OnePlace.{contained}
+use Rattle.cs_pending.specs.Settled.{Catalogs}
 
 -- where none is pending, what stands there stood before
 pub none_there : (stored : Option (List ℕ)) (change : Option Change) (base mine : Place) → stored ≡ None → stored ≡ option_map change_spelling change → base ≡ mine → base ≡ undo (action_any change) mine

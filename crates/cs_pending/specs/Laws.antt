@@ -1,10 +1,12 @@
 -- The laws of views.
-use Rattle.std.specs.Prelude.{◌≡◌, ℕ, List, None, Contains}
+use Rattle.std.specs.Prelude.{◌≡◌, ℕ, List, None, Ok, Contains}
+use Rattle.cs_value.specs.Catalog.{AreTables}
 use Rattle.cs_value.specs.declared.catalog.TableDef.{TableDef}
-use Rattle.cs_normal.specs.State.{AreSame}
+use Rattle.cs_normal.specs.State.{AreSame, IsStateOf}
 use Rattle.cs_store.specs.Contents.{Contents, nothing}
-use Rattle.cs_pending.specs.View.{View}
-use Rattle.cs_pending.specs.Shows.{ShowsRows}
+use Rattle.cs_pending.specs.Edits.{Asked, edit}
+use Rattle.cs_pending.specs.View.{View, middle}
+use Rattle.cs_pending.specs.Shows.{IsSoundOf, ShowsRows}
 
 -- contents show one view, at the places of the tables
 abbrev pub OneView : Type 0
@@ -22,3 +24,13 @@ empty_view = record { tables = λ name key. None; pending = λ name key. None }
 -- what a new store shows
 abbrev pub NewShows : Type 0
 NewShows = (tables : List TableDef) → ShowsRows tables nothing empty_view
+
+-- an edit keeps the rows before what is pending
+abbrev pub EditKeepsBefore : Type 0
+EditKeepsBefore =
+    (tables : List TableDef) (name : List ℕ) (asked : Asked) (view next : View)
+    → AreTables tables
+    → IsSoundOf tables view.pending view.tables
+    → IsStateOf tables next.tables
+    → edit tables name asked view ≡ Ok next
+    → AreSame (middle view) (middle next)

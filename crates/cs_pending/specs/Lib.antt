@@ -5,3 +5,8 @@ pub mod Placing
 pub mod Settling
 pub mod Edits
 pub mod Laws
+pub mod Storing
+pub mod OnePlace
+pub mod Nets
+pub mod Settled
+pub mod Steps

@@ -1,6 +1,6 @@
 //! The laws of views, each the contract of a function that does nothing.
 
-ghost use Rattle.cs_pending.specs.Laws.{NewShows, OneView};
+ghost use Rattle.cs_pending.specs.Laws.{EditKeepsBefore, NewShows, OneView};
 
 /// A store shows one view. A new store shows that there are such.
 pub fn one_view()
@@ -9,4 +9,13 @@ pub fn one_view()
 {
     cs_store::laws::states();
     cs_changeset::laws::changesets();
+}
+
+/// An edit keeps the rows before what is pending.
+pub fn edit_keeps_before()
+    ensures { EditKeepsBefore }
+{
+    cs_value::laws::catalogs();
+    cs_normal::laws::one_key_stands();
+    cs_change::laws::net_takes();
 }

@@ -43,6 +43,15 @@ fn catalog(alloc: Global) -> Option<Catalog> {
     Catalog::new(tables(alloc).ok()?).ok()
 }
 
+/// The catalog, and a store in which these bytes stand as the row with the key 2.
+fn begun(alloc: Global, body: &[u8]) -> Option<(Catalog, MapStore)> {
+    let catalog = catalog(alloc)?;
+    let Ok(store) = store_of(alloc, body) else {
+        return None;
+    };
+    Some((catalog, store))
+}
+
 fn value_of(alloc: Global, cell: Cell) -> Result<Value, AllocError> {
     Ok(match cell {
         Cell::Null => Value::Null,
@@ -254,22 +263,27 @@ fn leaves<S: RowStore>(
 }
 
 /// Whether each case leaves what it says, one after another.
-fn each_leaves(alloc: Global) -> Option<bool> {
-    let catalog = catalog(alloc)?;
-    let mut store = store_of(alloc, TWO_B).ok()?;
+fn each_leaves<S: RowStore>(alloc: Global, store: &mut S, catalog: &Catalog) -> bool {
     let mut pending = 0;
     for case in &CASES {
-        if !leaves(alloc, &mut store, &catalog, case, pending).ok()? {
-            return Some(false);
+        if leaves(alloc, store, catalog, case, pending) != Ok(true) {
+            return false;
         }
         pending = case.4;
     }
-    Some(true)
+    true
+}
+
+fn cases_leave(alloc: Global) -> bool {
+    match begun(alloc, TWO_B) {
+        Some((catalog, mut store)) => each_leaves(alloc, &mut store, &catalog),
+        None => false,
+    }
 }
 
 #[test]
 fn edits_are_rows_and_net_changes(rt: HostRuntime) {
-    assert!(rt; each_leaves(rt.alloc()) == Some(true));
+    assert!(rt; cases_leave(rt.alloc()));
 }
 
 const K9: &[Cell] = &[Cell::Int(9)];
@@ -314,16 +328,30 @@ const REFUSED: [(Step, EditFault); 16] = [
     (Step::Delete("t", K9), EditFault::Missing),
 ];
 
-/// Whether each of them is refused so, with nothing changed.
-fn each_is_refused(alloc: Global) -> Option<bool> {
-    let catalog = catalog(alloc)?;
-    let mut store = store_of(alloc, TWO_B).ok()?;
+/// Whether each of them is refused so.
+fn are_refused<S: RowStore>(alloc: Global, store: &mut S, catalog: &Catalog) -> bool {
     for (step, fault) in &REFUSED {
-        if make(alloc, &mut store, &catalog, step, 0) != Err(*fault) {
-            return Some(false);
+        if make(alloc, store, catalog, step, 0) != Err(*fault) {
+            return false;
         }
     }
-    Some(stands(&mut store, TWO, Some(TWO_B), None).ok()? && store.list(0).ok()?.len() == 1)
+    true
+}
+
+/// Whether the row (2, 'b') stands alone, and nothing is pending there.
+fn is_untouched<S: RowStore>(store: &mut S) -> Result<bool, StoreFault> {
+    let stays = stands(store, TWO, Some(TWO_B), None)?;
+    Ok(stays && store.list(0)?.len() == 1)
+}
+
+/// Whether each of them is refused so, with nothing changed.
+fn each_is_refused(alloc: Global) -> bool {
+    match begun(alloc, TWO_B) {
+        Some((catalog, mut store)) => {
+            are_refused(alloc, &mut store, &catalog) && is_untouched(&mut store) == Ok(true)
+        }
+        None => false,
+    }
 }
 
 /// Whether a fault prints like this.
@@ -337,7 +365,7 @@ fn prints(alloc: Global, fault: EditFault, printed: &str) -> bool {
 #[test]
 fn the_first_fault_is_told(rt: HostRuntime) {
     let alloc = rt.alloc();
-    assert!(rt; each_is_refused(alloc) == Some(true));
+    assert!(rt; each_is_refused(alloc));
     assert!(rt; prints(alloc, EditFault::KeyColumn, "KeyColumn"));
     assert!(rt; prints(alloc, EditFault::Device, "Device"));
 }
@@ -370,20 +398,32 @@ fn put_thousand<S: RowStore>(
 }
 
 /// Whether an edit writes one row and one pending change whatever is pending, and one that changes nothing writes nothing.
-fn writes_one_place(alloc: Global) -> Option<bool> {
-    let catalog = catalog(alloc)?;
-    let mut trip = Trip::new(store_of(alloc, TWO_B).ok()?, u64::MAX);
-    let pending = put_thousand(alloc, &mut trip, &catalog).ok()?;
+fn writes_one_place(
+    alloc: Global,
+    trip: &mut Trip<MapStore>,
+    catalog: &Catalog,
+) -> Result<bool, EditFault> {
+    let pending = put_thousand(alloc, trip, catalog)?;
     let many = trip.written() == written(1000, 1000);
-    let changed = make(alloc, &mut trip, &catalog, &CASES[2].0, pending);
-    let one = changed == Ok(1001) && trip.written() == written(1001, 1001);
-    let same = make(alloc, &mut trip, &catalog, &CASES[2].0, 1001);
-    Some(many && one && same == Ok(1001) && trip.written() == written(1001, 1001))
+    let changed = make(alloc, trip, catalog, &CASES[2].0, pending)?;
+    let one = changed == 1001 && trip.written() == written(1001, 1001);
+    let same = make(alloc, trip, catalog, &CASES[2].0, 1001)?;
+    Ok(many && one && same == 1001 && trip.written() == written(1001, 1001))
+}
+
+fn edits_write_one_place(alloc: Global) -> bool {
+    match begun(alloc, TWO_B) {
+        Some((catalog, store)) => {
+            let mut trip = Trip::new(store, u64::MAX);
+            writes_one_place(alloc, &mut trip, &catalog) == Ok(true)
+        }
+        None => false,
+    }
 }
 
 #[test]
 fn an_edit_writes_one_place(rt: HostRuntime) {
-    assert!(rt; writes_one_place(rt.alloc()) == Some(true));
+    assert!(rt; edits_write_one_place(rt.alloc()));
 }
 
 /// An edit of each kind where only the row (2, 'b') stands.
@@ -406,13 +446,27 @@ const ALONE: [Case; 3] = [
 ];
 
 /// Whether an edit is refused where the device refuses this call, leaves everything, and then is made.
-fn is_made_again(alloc: Global, refused: u64, case: &Case) -> Option<bool> {
-    let catalog = catalog(alloc)?;
-    let mut trip = Trip::new(store_of(alloc, TWO_B).ok()?, refused);
-    let told = make(alloc, &mut trip, &catalog, &case.0, 0) == Err(EditFault::Device);
+fn is_made_again(
+    alloc: Global,
+    trip: &mut Trip<MapStore>,
+    catalog: &Catalog,
+    case: &Case,
+) -> Result<bool, EditFault> {
+    let told = make(alloc, trip, catalog, &case.0, 0) == Err(EditFault::Device);
     let counts = trip.failures() == 1 && trip.written() == written(0, 0);
-    let stays = stands(&mut trip, TWO, Some(TWO_B), None).ok()?;
-    Some(told && counts && stays && leaves(alloc, &mut trip, &catalog, case, 0).ok()?)
+    let stays = stands(trip, TWO, Some(TWO_B), None)?;
+    let made = leaves(alloc, trip, catalog, case, 0)?;
+    Ok(told && counts && stays && made)
+}
+
+fn call_is_refused(alloc: Global, refused: u64, case: &Case) -> bool {
+    match begun(alloc, TWO_B) {
+        Some((catalog, store)) => {
+            let mut trip = Trip::new(store, refused);
+            is_made_again(alloc, &mut trip, &catalog, case) == Ok(true)
+        }
+        None => false,
+    }
 }
 
 #[test]
@@ -420,34 +474,52 @@ fn an_edit_that_the_device_refuses_changes_nothing(rt: HostRuntime) {
     let alloc = rt.alloc();
     for refused in 0..3u64 {
         for case in &ALONE {
-            assert!(rt; is_made_again(alloc, refused, case) == Some(true));
+            assert!(rt; call_is_refused(alloc, refused, case));
         }
     }
 }
 
-/// Whether bytes that are no row, or no change of the table, are told as the device's, and counted.
-fn is_told_unread(alloc: Global, row: &[u8], change: &[u8]) -> Option<bool> {
-    let catalog = catalog(alloc)?;
-    let mut store = store_of(alloc, row).ok()?;
+/// Makes these bytes the change that is pending at the key 2.
+fn put_change<S: RowStore>(alloc: Global, store: &mut S, change: &[u8]) -> Result<(), StoreFault> {
     let mut pending = Vec::new(alloc);
-    pending.push(set_body(alloc, TWO, change).ok()?).ok()?;
-    let batch = Batch {
+    pending.push(set_body(alloc, TWO, change)?)?;
+    store.commit(&Batch {
         rows: Vec::new(alloc),
         pending,
         meta: Vec::new(alloc),
         log: None,
-    };
-    store.commit(&batch).ok()?;
-    let told = make(alloc, &mut store, &catalog, &CASES[2].0, 1) == Err(EditFault::Device);
-    Some(told && store.failures() == 1 && stands(&mut store, TWO, Some(row), Some(change)).ok()?)
+    })
+}
+
+/// Whether bytes that are no row, or no change of the table, are told as the device's, and counted.
+fn is_unread<S: RowStore>(
+    alloc: Global,
+    store: &mut S,
+    catalog: &Catalog,
+    row: &[u8],
+    change: &[u8],
+) -> Result<bool, StoreFault> {
+    put_change(alloc, store, change)?;
+    let told = make(alloc, store, catalog, &CASES[2].0, 1) == Err(EditFault::Device);
+    let stays = stands(store, TWO, Some(row), Some(change))?;
+    Ok(told && stays && store.failures() == 1)
+}
+
+fn is_told_unread(alloc: Global, row: &[u8], change: &[u8]) -> bool {
+    match begun(alloc, row) {
+        Some((catalog, mut store)) => {
+            is_unread(alloc, &mut store, &catalog, row, change) == Ok(true)
+        }
+        None => false,
+    }
 }
 
 #[test]
 fn what_is_no_row_or_change_is_told(rt: HostRuntime) {
     let alloc = rt.alloc();
-    assert!(rt; is_told_unread(alloc, &TWO_B[..11], B_TO_C) == Some(true));
-    assert!(rt; is_told_unread(alloc, TWO_C, &B_TO_C[..17]) == Some(true));
-    assert!(rt; is_told_unread(alloc, TWO_C, &[]) == Some(true));
+    assert!(rt; is_told_unread(alloc, &TWO_B[..11], B_TO_C));
+    assert!(rt; is_told_unread(alloc, TWO_C, &B_TO_C[..17]));
+    assert!(rt; is_told_unread(alloc, TWO_C, &[]));
 }
 
 /// A row that is spelled by these bytes.
@@ -458,58 +530,73 @@ fn row(alloc: Global, bytes: &[u8]) -> Result<RowBuf, StoreFault> {
     }
 }
 
-/// Edits of both places: at the first (1, 'y') over (1, 'x'), and at the second what stands there, over what stood there.
-fn settled(alloc: Global, store: &mut MapStore, catalog: &Catalog) -> Result<Settling, StoreFault> {
+/// Settles a place that stands as the store has it: what stood there and what stands there are spelled so.
+fn settle_at<S: RowStore>(
+    alloc: Global,
+    store: &mut S,
+    catalog: &Catalog,
+    settling: &mut Settling,
+    key: &[u8],
+    rows: (&[u8], &[u8]),
+) -> Result<(), StoreFault> {
     let Some(table) = catalog.tables().get(0) else {
         return Err(StoreFault::Device);
     };
-    let x = row(alloc, ONE_X)?;
-    let y = row(alloc, ONE_Y)?;
-    let b = row(alloc, TWO_B)?;
-    let first = standing_at(alloc, store, catalog, table, 0, ONE)?;
-    let second = standing_at(alloc, store, catalog, table, 0, TWO)?;
+    let before = standing_at(alloc, store, catalog, table, 0, key)?;
+    let base = row(alloc, rows.0)?;
+    let mine = row(alloc, rows.1)?;
+    settling.settle(
+        alloc,
+        table,
+        0,
+        key,
+        &before,
+        Some(&base.as_row()),
+        Some(&mine.as_row()),
+    )?;
+    Ok(())
+}
+
+/// Edits of both places: at the first (1, 'y') over (1, 'x'), and at the second what stands there, over what stood there.
+fn settled<S: RowStore>(
+    alloc: Global,
+    store: &mut S,
+    catalog: &Catalog,
+) -> Result<Settling, StoreFault> {
     let mut settling = Settling::new(alloc, 0);
-    settling.settle(
-        alloc,
-        table,
-        0,
-        ONE,
-        &first,
-        Some(&x.as_row()),
-        Some(&y.as_row()),
-    )?;
-    settling.settle(
-        alloc,
-        table,
-        0,
-        TWO,
-        &second,
-        Some(&b.as_row()),
-        Some(&b.as_row()),
-    )?;
+    settle_at(alloc, store, catalog, &mut settling, ONE, (ONE_X, ONE_Y))?;
+    settle_at(alloc, store, catalog, &mut settling, TWO, (TWO_B, TWO_B))?;
     Ok(settling)
 }
 
 /// Whether a commit of them leaves a row and a pending change at the first place, and edits nothing at the second.
-fn settles_two(alloc: Global) -> Option<bool> {
-    let catalog = catalog(alloc)?;
-    let mut store = store_of(alloc, TWO_B).ok()?;
-    let settling = settled(alloc, &mut store, &catalog).ok()?;
+fn settles_two<S: RowStore>(
+    alloc: Global,
+    store: &mut S,
+    catalog: &Catalog,
+) -> Result<bool, StoreFault> {
+    let settling = settled(alloc, store, catalog)?;
     let counts = settling.count == 1 && settling.rows.len() == 1 && settling.pending.len() == 1;
-    let batch = Batch {
+    store.commit(&Batch {
         rows: settling.rows,
         pending: settling.pending,
         meta: Vec::new(alloc),
         log: None,
-    };
-    store.commit(&batch).ok()?;
-    let first = stands(&mut store, ONE, Some(ONE_Y), Some(X_TO_Y)).ok()?;
-    Some(counts && first && stands(&mut store, TWO, Some(TWO_B), None).ok()?)
+    })?;
+    let first = stands(store, ONE, Some(ONE_Y), Some(X_TO_Y))?;
+    Ok(counts && first && stands(store, TWO, Some(TWO_B), None)?)
+}
+
+fn two_are_settled(alloc: Global) -> bool {
+    match begun(alloc, TWO_B) {
+        Some((catalog, mut store)) => settles_two(alloc, &mut store, &catalog) == Ok(true),
+        None => false,
+    }
 }
 
 #[test]
 fn places_are_settled_for_one_commit(rt: HostRuntime) {
-    assert!(rt; settles_two(rt.alloc()) == Some(true));
+    assert!(rt; two_are_settled(rt.alloc()));
 }
 
 /// Edits of which one may be refused for memory, and then is made.
@@ -533,8 +620,7 @@ fn edits_at_last(
 
 /// The edits over a store of their own.
 fn edits_all(alloc: Global) -> Option<bool> {
-    let catalog = catalog(alloc)?;
-    let mut store = store_of(alloc, TWO_B).ok()?;
+    let (catalog, mut store) = begun(alloc, TWO_B)?;
     edits_at_last(alloc, &mut store, &catalog).ok()
 }
 
@@ -582,62 +668,86 @@ const EDITS: [Step; 3] = [
     Step::Insert("t", &[Cell::Int(1), Cell::Text("x")]),
 ];
 
-/// A store in which these edits were made.
-fn edited(alloc: Global, catalog: &Catalog) -> Result<MapStore, EditFault> {
-    let mut store = store_of(alloc, TWO_B)?;
+/// Makes these edits.
+fn make_all<S: RowStore>(alloc: Global, store: &mut S, catalog: &Catalog) -> Result<(), EditFault> {
     for step in &EDITS {
-        make(alloc, &mut store, catalog, step, 0)?;
+        make(alloc, store, catalog, step, 0)?;
     }
-    Ok(store)
+    Ok(())
 }
 
 /// Whether they are gathered table by table and key by key, and nothing is where they were taken back.
-fn gathers_all(alloc: Global) -> Option<bool> {
-    let catalog = catalog(alloc)?;
-    let mut store = edited(alloc, &catalog).ok()?;
-    let all = gathers(alloc, &mut store, &catalog, GATHERED).ok()?;
-    make(alloc, &mut store, &catalog, &Step::Delete("s", K1), 3).ok()?;
-    make(alloc, &mut store, &catalog, &Step::Delete("t", K1), 2).ok()?;
-    make(alloc, &mut store, &catalog, &CASES[4].0, 1).ok()?;
-    Some(all && gathers(alloc, &mut store, &catalog, &[]).ok()?)
+fn gathers_all<S: RowStore>(
+    alloc: Global,
+    store: &mut S,
+    catalog: &Catalog,
+) -> Result<bool, EditFault> {
+    make_all(alloc, store, catalog)?;
+    let all = gathers(alloc, store, catalog, GATHERED)?;
+    make(alloc, store, catalog, &Step::Delete("s", K1), 3)?;
+    make(alloc, store, catalog, &Step::Delete("t", K1), 2)?;
+    make(alloc, store, catalog, &CASES[4].0, 1)?;
+    Ok(all && gathers(alloc, store, catalog, &[])?)
+}
+
+fn edits_are_gathered(alloc: Global) -> bool {
+    match begun(alloc, TWO_B) {
+        Some((catalog, mut store)) => gathers_all(alloc, &mut store, &catalog) == Ok(true),
+        None => false,
+    }
 }
 
 #[test]
 fn what_is_pending_is_one_changeset(rt: HostRuntime) {
-    assert!(rt; gathers_all(rt.alloc()) == Some(true));
+    assert!(rt; edits_are_gathered(rt.alloc()));
 }
 
 /// Whether a listing that the device refuses is told, and then is made.
-fn is_gathered_again(alloc: Global, refused: u64) -> Option<bool> {
-    let catalog = catalog(alloc)?;
-    let mut trip = Trip::new(edited(alloc, &catalog).ok()?, refused);
-    let told = gathers(alloc, &mut trip, &catalog, GATHERED) == Err(StoreFault::Device);
-    Some(told && trip.failures() == 1 && gathers(alloc, &mut trip, &catalog, GATHERED).ok()?)
+fn is_gathered_again(
+    alloc: Global,
+    trip: &mut Trip<MapStore>,
+    catalog: &Catalog,
+) -> Result<bool, StoreFault> {
+    let told = gathers(alloc, trip, catalog, GATHERED) == Err(StoreFault::Device);
+    let counts = trip.failures() == 1;
+    Ok(told && counts && gathers(alloc, trip, catalog, GATHERED)?)
+}
+
+fn listing_is_refused(alloc: Global, refused: u64) -> bool {
+    match begun(alloc, TWO_B) {
+        Some((catalog, mut store)) => {
+            if make_all(alloc, &mut store, &catalog) != Ok(()) {
+                return false;
+            }
+            let mut trip = Trip::new(store, refused);
+            is_gathered_again(alloc, &mut trip, &catalog) == Ok(true)
+        }
+        None => false,
+    }
 }
 
 /// Whether bytes that are no change are told as the device's, and counted.
-fn is_told_ungathered(alloc: Global) -> Option<bool> {
-    let catalog = catalog(alloc)?;
-    let mut store = store_of(alloc, TWO_C).ok()?;
-    let mut pending = Vec::new(alloc);
-    pending
-        .push(set_body(alloc, TWO, &B_TO_C[..17]).ok()?)
-        .ok()?;
-    let batch = Batch {
-        rows: Vec::new(alloc),
-        pending,
-        meta: Vec::new(alloc),
-        log: None,
-    };
-    store.commit(&batch).ok()?;
-    let told = gathers(alloc, &mut store, &catalog, &[]) == Err(StoreFault::Device);
-    Some(told && store.failures() == 1)
+fn is_ungathered<S: RowStore>(
+    alloc: Global,
+    store: &mut S,
+    catalog: &Catalog,
+) -> Result<bool, StoreFault> {
+    put_change(alloc, store, &B_TO_C[..17])?;
+    let told = gathers(alloc, store, catalog, &[]) == Err(StoreFault::Device);
+    Ok(told && store.failures() == 1)
+}
+
+fn is_told_ungathered(alloc: Global) -> bool {
+    match begun(alloc, TWO_C) {
+        Some((catalog, mut store)) => is_ungathered(alloc, &mut store, &catalog) == Ok(true),
+        None => false,
+    }
 }
 
 #[test]
 fn what_cannot_be_gathered_is_told(rt: HostRuntime) {
     let alloc = rt.alloc();
-    assert!(rt; is_gathered_again(alloc, 0) == Some(true));
-    assert!(rt; is_gathered_again(alloc, 1) == Some(true));
-    assert!(rt; is_told_ungathered(alloc) == Some(true));
+    assert!(rt; listing_is_refused(alloc, 0));
+    assert!(rt; listing_is_refused(alloc, 1));
+    assert!(rt; is_told_ungathered(alloc));
 }

@@ -20,6 +20,7 @@ pub use answer::Answer;
 pub use entries::Entries;
 pub use entry::WireEntry;
 pub use fault::WireFault;
+pub use numbers::{split_u32, split_u64};
 pub use push_head::PushHead;
 pub use request::{Request, RequestBuf};
 pub use short_answer::{SHORT, ShortAnswer};

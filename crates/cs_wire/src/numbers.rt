@@ -4,7 +4,7 @@ ghost use Rattle.std.specs.Prelude.{◌≡◌, ◌+◌, ◌≤◌, ◌<◌, ◌�
 ghost use Rattle.cs_wire.specs.Numbers.{four_bytes, eight_bytes};
 
 /// The number in the first four bytes, and the rest.
-pub(crate) fn split_u32(bytes: &[u8]) -> Option<(u32, &[u8])>
+pub fn split_u32(bytes: &[u8]) -> Option<(u32, &[u8])>
     ensures { MatchOption result (length bytes.now < 4) (λ split. bytes.now ≡ four_bytes split.0 ++ split.1.now) }
 {
     let (front, rest) = bytes.split_first_chunk::<4>()?;
@@ -12,7 +12,7 @@ pub(crate) fn split_u32(bytes: &[u8]) -> Option<(u32, &[u8])>
 }
 
 /// The number in the first eight bytes, and the rest.
-pub(crate) fn split_u64(bytes: &[u8]) -> Option<(u64, &[u8])>
+pub fn split_u64(bytes: &[u8]) -> Option<(u64, &[u8])>
     ensures { MatchOption result (length bytes.now < 8) (λ split. bytes.now ≡ eight_bytes split.0 ++ split.1.now) }
 {
     let (front, rest) = bytes.split_first_chunk::<8>()?;

@@ -3,7 +3,8 @@ use Rattle.cs_normal.specs.Normal.{normal_spelling}
 use Rattle.cs_normal.specs.declared.normal.TableChanges.{TableChanges}
 use Rattle.cs_log.specs.declared.entry.TheConstants.{MAX_CHANGESET}
 use Rattle.cs_outgoing.specs.Outgoing.{IsPendingOf}
-use Rattle.cs_outgoing.proofs.Answered.{misread_told, nothing_pending, read_pending, same_read, spelled_behind, too_large}
+use Rattle.cs_pending.specs.Storing.{misread_told}
+use Rattle.cs_outgoing.proofs.Answered.{nothing_pending, read_pending, same_read, spelled_behind, too_large}
 use Rattle.cs_outgoing.proofs.Gathered.{Laws}
 use Rattle.cs_outgoing.proofs.gathering.gather.Goals as goal
 

@@ -4,8 +4,8 @@ use Rattle.cs_store.specs.Contents.{Contents}
 use Rattle.cs_pending.specs.Placing.{IsPutIn}
 use Rattle.cs_pending.specs.Shows.{ShowsRows, ShowsSome}
 use Rattle.cs_pending.proofs.Edited.{may_settle, put_changes, was_device}
-use Rattle.cs_pending.proofs.OnePlace.{contained}
-use Rattle.cs_pending.proofs.Storing.{then_not_written, then_written, went_well}
+use Rattle.cs_pending.specs.OnePlace.{contained}
+use Rattle.cs_pending.specs.Storing.{then_not_written, then_written, went_well}
 use Rattle.cs_pending.proofs.editing.edit_place.Goals as goal
 
 pub returns-in-Ok-put_place-clause-writes : goal.returns-in-Ok-put_place-clause-writes

@@ -2,7 +2,7 @@ use Rattle.std.proofs.Common.{None, refl}
 use Rattle.std.proofs.lemmas.Option.{slice_get_within}
 use Rattle.cs_store.specs.declared.batch.Batch.{Batch}
 use Rattle.cs_pending.proofs.Edited.{none_within, put_counts, put_in}
-use Rattle.cs_pending.proofs.Storing.{committed, not_committed}
+use Rattle.cs_pending.specs.Storing.{committed, not_committed}
 use Rattle.cs_pending.proofs.editing.put_place.Goals as goal
 
 pub returns-in-Ok-clause-writes : goal.returns-in-Ok-clause-writes

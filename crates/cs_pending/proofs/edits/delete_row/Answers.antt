@@ -3,7 +3,7 @@ use Rattle.cs_record.specs.Spelling.{row_bytes}
 use Rattle.cs_pending.specs.Edits.{AskDelete, edit_at}
 use Rattle.cs_pending.specs.declared.wanted.Wanted.TheVariants.{Delete}
 use Rattle.cs_pending.proofs.Named.{at_place, changed_alike, found_there, is_named, no_set_key, no_table, no_width, not_named, other_count, same_count, told_as}
-use Rattle.cs_pending.proofs.Storing.{writes_as}
+use Rattle.cs_pending.specs.Storing.{writes_as}
 use Rattle.cs_pending.proofs.edits.delete_row.Goals as goal
 
 pub returns-in_default-clause-refused : goal.returns-in_default-clause-refused

@@ -4,7 +4,7 @@ use Rattle.cs_record.specs.Spelling.{row_bytes}
 use Rattle.cs_pending.specs.Edits.{AskUpdate, edit_at}
 use Rattle.cs_pending.specs.declared.wanted.Wanted.TheVariants.{Update}
 use Rattle.cs_pending.proofs.Named.{at_place, both_counts, changed_alike, found_there, is_named, no_kept_key, no_set_key, no_table, no_width, not_both_counts, not_named, told_as}
-use Rattle.cs_pending.proofs.Storing.{writes_as}
+use Rattle.cs_pending.specs.Storing.{writes_as}
 use Rattle.cs_pending.proofs.edits.update_row.Goals as goal
 
 pub returns-in_default-clause-refused : goal.returns-in_default-clause-refused

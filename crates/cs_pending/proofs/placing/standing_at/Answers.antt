@@ -3,10 +3,10 @@ use Rattle.cs_change.specs.Action.{action_any}
 use Rattle.cs_store.specs.Contents.{Contents, stored_pending}
 use Rattle.cs_pending.specs.Placing.{StoresSomeChange}
 use Rattle.cs_pending.specs.View.{undo}
-use Rattle.cs_pending.proofs.OnePlace.{contained}
+use Rattle.cs_pending.specs.OnePlace.{contained}
 use Rattle.cs_pending.proofs.Reading.{some_change, some_row, view_row}
-use Rattle.cs_pending.proofs.Settled.{Catalogs}
-use Rattle.cs_pending.proofs.Storing.{no_call, reads_well, then_reads_failed, then_well, went_well}
+use Rattle.cs_pending.specs.Settled.{Catalogs}
+use Rattle.cs_pending.specs.Storing.{no_call, reads_well, then_reads_failed, then_well, went_well}
 use Rattle.cs_pending.proofs.placing.standing_at.Goals as goal
 
 pub returns-in-Err-clause-reads : goal.returns-in-Err-clause-reads

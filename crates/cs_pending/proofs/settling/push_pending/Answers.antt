@@ -1,4 +1,4 @@
-use Rattle.cs_pending.proofs.Steps.{one_of, pushed_as}
+use Rattle.cs_pending.specs.Steps.{one_of, pushed_as}
 use Rattle.cs_pending.proofs.settling.push_pending.Goals as goal
 
 pub returns-in-Ok-clause-pushed : goal.returns-in-Ok-clause-pushed

@@ -1,5 +1,5 @@
 use Rattle.std.proofs.Common.{◌∙◌, ap, not, sym}
-use Rattle.cs_pending.proofs.Steps.{ok_weaker, pushed_as}
+use Rattle.cs_pending.specs.Steps.{ok_weaker, pushed_as}
 use Rattle.cs_pending.proofs.settling.push_row.Goals as goal
 
 pub returns : goal.returns

@@ -1,6 +1,6 @@
 use Rattle.std.proofs.Common.{ap, not}
-use Rattle.cs_pending.proofs.Settled.{Catalogs}
-use Rattle.cs_pending.proofs.Steps.{settle_step}
+use Rattle.cs_pending.specs.Settled.{Catalogs}
+use Rattle.cs_pending.specs.Steps.{settle_step}
 use Rattle.cs_pending.proofs.settling.Settling.settle.Goals as goal
 
 pub returns-clause-settled : goal.returns-clause-settled

@@ -1,4 +1,4 @@
--- A place settled: what the view is then, and that it is sound.
+-- A place settled: what the view is then, and that it is sound. Crates above cite it.
 use Rattle.std.proofs.Common.{◌≡◌, ℕ, refl, ap, ap₂, sym, ◌∙◌, subst, List, Some, None}
 use Rattle.std.specs.Prelude.{Contains, IfSome}
 use Rattle.cs_value.specs.Catalog.{AreTables}
@@ -13,8 +13,8 @@ use Rattle.cs_normal.specs.State.{State, MayStandAt, OneKeyStands}
 use Rattle.cs_apply.specs.NormalTasks.{one_table}
 use Rattle.cs_pending.specs.Shows.{IsSoundOf}
 use Rattle.cs_pending.specs.View.{undo, put_at, View, middle, settled, direct_net}
-use Rattle.cs_pending.proofs.OnePlace.{by_spot}
-use Rattle.cs_pending.proofs.Nets.{undo_net, action_with_flag, net_fits, IsSpelledPlace}
+use Rattle.cs_pending.specs.OnePlace.{by_spot}
+use Rattle.cs_pending.specs.Nets.{undo_net, action_with_flag, net_fits, IsSpelledPlace}
 
 -- the laws that a catalog's tables and their rows have
 pub record Catalogs (tables : List TableDef) : Type 0 where
@@ -23,7 +23,7 @@ pub record Catalogs (tables : List TableDef) : Type 0 where
   pub key : OneKeyStands
   pub net_takes : NetTakes
 
-spelled_place : (tables : List TableDef) (name key : List ℕ) (place : Place) → MayStandAt tables name key place → IsSpelledPlace place
+pub spelled_place : (tables : List TableDef) (name key : List ℕ) (place : Place) → MayStandAt tables name key place → IsSpelledPlace place
 spelled_place tables name key None stands = tt
 spelled_place tables name key (Some row) stands = stands.3.fits.1
 

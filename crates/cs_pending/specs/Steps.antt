@@ -1,4 +1,4 @@
--- Edits of places in the making: what one more leaves, and what a commit of all makes of contents.
+-- Edits of places in the making: what one more leaves, and what a commit of all makes of contents. Crates above cite it.
 use Rattle.std.proofs.Common.{◌≡◌, ◌+◌, ◌++◌, ◌||◌, ◌&&◌, ◌⊎◌, inl, inr, Result, Ok, Err, ℕ, pos, Bool, true, false, not, cond, is_some, List, [], ◌∷◌, fold, Option, Some, None, option_map, refl, sym, ap, ap₂, ◌∙◌, subst, arith}
 use Rattle.std.specs.Prelude.{slice_get, nat_eq, OnOk}
 use Rattle.std.specs.FinMap.{get, len}
@@ -25,21 +25,21 @@ use Rattle.cs_pending.specs.Shows.{IsElsewhere, SameRest, ShowsRows}
 use Rattle.cs_pending.specs.View.{View, direct_net, middle, put_at, settled}
 use Rattle.cs_pending.specs.declared.placing.Standing.{Standing}
 use Rattle.cs_pending.specs.declared.settling.Settling.{Settling}
-use Rattle.cs_pending.proofs.OnePlace.{by_spot, contained, tests_agree}
-use Rattle.cs_pending.proofs.Nets.{action_there, net_there}
-use Rattle.cs_pending.proofs.Settled.{Catalogs, settled_fits, settled_sound}
+use Rattle.cs_pending.specs.OnePlace.{by_spot, contained, tests_agree}
+use Rattle.cs_pending.specs.Nets.{action_there, net_there}
+use Rattle.cs_pending.specs.Settled.{Catalogs, settled_fits, settled_sound}
 
-through : {A B : Type 0} (f : A → B) (t : Bool) (x y : A) → cond t (f x) (f y) ≡ f (cond t x y)
+pub through : {A B : Type 0} (f : A → B) (t : Bool) (x y : A) → cond t (f x) (f y) ≡ f (cond t x y)
 through f true x y = refl
 through f false x y = refl
 
 -- what one more edit leaves
-row_more : (edits : List PlaceEdit) (edit : PlaceEdit) (n : ℕ) (k : List ℕ) (stood : Option (List ℕ))
+pub row_more : (edits : List PlaceEdit) (edit : PlaceEdit) (n : ℕ) (k : List ℕ) (stood : Option (List ℕ))
     → row_after (edits ++ edit ∷ []) n k stood ≡ cond (nat_eq n edit.table && same_bytes k edit.key.items) (optional_bytes edit.body) (row_after edits n k stood)
 row_more [] edit n k stood = refl
 row_more (e ∷ edits) edit n k stood = row_more edits edit n k (cond (nat_eq n e.table && same_bytes k e.key.items) (optional_bytes e.body) stood)
 
-fold_more : (bodies : Bodies) (edits : List PlaceEdit) (edit : PlaceEdit) → fold edit_body bodies (edits ++ edit ∷ []) ≡ edit_body (fold edit_body bodies edits) edit
+pub fold_more : (bodies : Bodies) (edits : List PlaceEdit) (edit : PlaceEdit) → fold edit_body bodies (edits ++ edit ∷ []) ≡ edit_body (fold edit_body bodies edits) edit
 fold_more bodies [] edit = refl
 fold_more bodies (e ∷ edits) edit = fold_more (edit_body bodies e) edits edit
 
@@ -99,15 +99,15 @@ counted_more reads counts bodies number key false false false body old new count
 
 -- ---- one place settled
 
-none_left : {A : Type 0} (o : Option A) → is_some o ≡ false → o ≡ None
+pub none_left : {A : Type 0} (o : Option A) → is_some o ≡ false → o ≡ None
 none_left None e = refl
 none_left (Some x) e = absurd cc
 
-map_there : {A B : Type 0} (f : A → B) (o : Option A) → is_some (option_map f o) ≡ is_some o
+pub map_there : {A B : Type 0} (f : A → B) (o : Option A) → is_some (option_map f o) ≡ is_some o
 map_there f None = refl
 map_there f (Some x) = refl
 
-not_not : (t : Bool) → not t ≡ false → t ≡ true
+pub not_not : (t : Bool) → not t ≡ false → t ≡ true
 not_not true e = refl
 not_not false e = absurd cc
 
@@ -167,7 +167,7 @@ settles_none tables contents begun settling view rows pending count shows = reco
 
 -- ---- within the tables
 
-no_place : (tables : List TableDef) (place : StorePlace) (edits : List PlaceEdit) → IsElsewhere tables place → AreWithin tables edits → IsNoPlaceOf edits place
+pub no_place : (tables : List TableDef) (place : StorePlace) (edits : List PlaceEdit) → IsElsewhere tables place → AreWithin tables edits → IsNoPlaceOf edits place
 no_place tables place [] elsewhere within = tt
 no_place tables place (edit ∷ edits) elsewhere within = (
   λ is. let past = elsewhere edit.table (ap (λ (p : StorePlace). p.0) (sym is)) in absurd (omega (arith, past, within.0)),

@@ -1,4 +1,4 @@
--- Net changes: taken back, whether there is one, and that the reader of changes takes them.
+-- Net changes: taken back, whether there is one, and that the reader of changes takes them. Crates above cite it.
 use Rattle.std.proofs.Common.{◌≡◌, Bool, true, false, not, refl, ap, sym, arith, List, [], ◌∷◌, Option, Some, None, length, is_some}
 use Rattle.std.specs.Prelude.{IfSome}
 use Rattle.cs_value.specs.Key.{Place, FitsPlace}

@@ -1,18 +1,18 @@
--- Calls of a store one after another: from what each leaves to what all leave.
+-- Calls of a store one after another: from what each leaves to what all leave. Crates above cite it.
 use Rattle.std.proofs.Common.{◌≡◌, ◌⊎◌, ℕ, Result, Ok, Err, refl, sym, ap, subst, ◌∙◌, arith, inl, inr}
 use Rattle.std.specs.Prelude.{OnOk}
-use Rattle.cs_store.specs.Calls.{Commits, MoreFailures}
+use Rattle.cs_store.specs.Calls.{Commits, CountsMisread, MoreFailures}
 use Rattle.cs_store.specs.Contents.{Contents}
 use Rattle.cs_store.specs.declared.fault.StoreFault.{StoreFault}
 use Rattle.cs_store.specs.declared.fault.StoreFault.TheVariants.{Device}
 use Rattle.cs_pending.specs.Calls.{ReadsStore, WritesStore}
 
-same_err : {T U E : Type 0} (a b : E) → ◌≡◌ {A = Result T E} (Err a) (Err b) → ◌≡◌ {A = Result U E} (Err a) (Err b)
+pub same_err : {T U E : Type 0} (a b : E) → ◌≡◌ {A = Result T E} (Err a) (Err b) → ◌≡◌ {A = Result U E} (Err a) (Err b)
 same_err a b e =
     let f : a ≡ b = (let g = e in cc) in
     ap (λ x. Err x) f
 
-err_is : {T E : Type 0} (a b : E) → ◌≡◌ {A = Result T E} (Err a) (Err b) → a ≡ b
+pub err_is : {T E : Type 0} (a b : E) → ◌≡◌ {A = Result T E} (Err a) (Err b) → a ≡ b
 err_is a b e = cc
 
 module _ {S : Type 0} (honest : S → Type 0) (contents : S → Contents) (failed : S → ℕ) (may_leave : S → Contents → Type 0) (misreads : S → ℕ) where
@@ -173,3 +173,19 @@ module _ {S : Type 0} (honest : S → Type 0) (contents : S → Contents) (faile
     cause = writes.cause;
     as_read = writes.as_read;
   }
+
+-- what was read is told to be no such thing, where it can't be so
+pub misread_told : {S T U : Type 0} (honest : S → Type 0) (contents : S → Contents) (failed : S → ℕ) (may_leave : S → Contents → Type 0) (misreads : S → ℕ) (fault : StoreFault) (readable less : Type 0) (old mid new : S) (t : T)
+    → (honest mid → readable → ⊥)
+    → ReadsStore honest contents failed may_leave misreads {T = T} {E = StoreFault} Device less old mid (Ok t)
+    → CountsMisread honest contents failed may_leave misreads mid new fault
+    → ReadsStore honest contents failed may_leave misreads {T = U} Device readable old new (Err fault)
+misread_told honest contents failed may_leave misreads fault readable less old mid new t never reads counts = record {
+  was_honest = λ h. reads.was_honest (counts.was_honest h);
+  same = λ h. counts.same h ∙ reads.same (counts.was_honest h);
+  crash = λ h left l. reads.crash (counts.was_honest h) left (counts.crash h left l);
+  kept = tt;
+  later = omega (arith, counts.failures.later, reads.kept);
+  cause = λ e. subst (λ (n : ℕ). MoreFailures n (failed new)) reads.kept (counts.failures.cause (same_err fault Device e));
+  as_read = λ h r. absurd (never (counts.was_honest h) r);
+}

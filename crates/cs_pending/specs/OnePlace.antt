@@ -1,4 +1,4 @@
--- Places of tables: when two are one, and what a put changes.
+-- Places of tables: when two are one, and what a put changes. Crates above cite it.
 use Rattle.std.proofs.Common.{◌≡◌, ◌<◌, ℕ, Bool, true, false, ◌&&◌, List, length, Some, sym, ap, ◌∙◌, subst}
 use Rattle.std.specs.Prelude.{slice_get, nat_eq, Contains}
 use Rattle.std.specs.Bool.{Decides}
