@@ -1,0 +1,4 @@
+pub mod Fresh
+pub mod Kept
+pub mod Owner
+pub mod Said

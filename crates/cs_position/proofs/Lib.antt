@@ -1,0 +1,2 @@
+pub mod Committed
+pub mod OnePosition

@@ -1,0 +1,4 @@
+pub mod Confirmed
+pub mod Cleared
+pub mod Counted
+pub mod Pushed

@@ -1,0 +1,4 @@
+pub mod Pushes
+pub mod Batches
+pub mod Steps
+pub mod Laws
