@@ -1,0 +1,8 @@
+use Rattle.cs_replica.proofs.Stood.{entry_stands, kept_stands}
+use Rattle.cs_replica.proofs.laws.steps_stand.Goals as goal
+
+pub returns-clause-kept : goal.returns-clause-kept
+returns-clause-kept c = kept_stands
+
+pub returns-clause-entry : goal.returns-clause-entry
+returns-clause-entry c = entry_stands c.slices.ensures

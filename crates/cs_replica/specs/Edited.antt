@@ -1,0 +1,19 @@
+-- What an edit makes of a replica (profile of this project).
+use Rattle.std.specs.Prelude.{◌≡◌, ℕ, List, Ok}
+use Rattle.std.specs.FinMap.{len}
+use Rattle.cs_value.specs.declared.catalog.TableDef.{TableDef}
+use Rattle.cs_store.specs.Contents.{Contents}
+use Rattle.cs_pending.specs.Edits.{Asked, edit}
+use Rattle.cs_pending.specs.View.{View}
+use Rattle.cs_position.specs.Shows.{ShowsAt}
+use Rattle.cs_position.specs.declared.position.Position.{Position}
+
+-- the position where so many changes are pending
+abbrev pub with_pending : Position → ℕ → Position
+with_pending position pending = record position { pending = pending }
+
+-- contents that show the replica after the edit, at the same version, number and flight
+abbrev pub IsEditedIn : List TableDef → Position → List ℕ → Asked → Contents → Contents → Type 0
+IsEditedIn tables position name asked old new =
+    (view : View) → ShowsAt tables old position view
+    → (next : View) × (edit tables name asked view ≡ Ok next) × ShowsAt tables new (with_pending position (len new.pending)) next

@@ -1,0 +1,89 @@
+-- The laws of replicas that stand on a log.
+use Rattle.std.specs.Prelude.{◌≡◌, ◌+◌, ℕ, List, ◌++◌, Some, None, Ok, slice_get, Contains}
+use Rattle.cs_value.specs.Catalog.{AreTables}
+use Rattle.cs_value.specs.declared.catalog.TableDef.{TableDef}
+use Rattle.cs_normal.specs.State.{AreSame, IsApplied}
+use Rattle.cs_normal.specs.declared.normal.TableChanges.{TableChanges}
+use Rattle.cs_log.specs.Entry.{entry_changes}
+use Rattle.cs_log.specs.Log.{IsLog, tables_at}
+use Rattle.cs_log.specs.declared.entry.LogEntry.{LogEntry}
+use Rattle.cs_store.specs.Contents.{Contents}
+use Rattle.cs_pending.specs.Edits.{Asked, edit}
+use Rattle.cs_pending.specs.Laws.{empty_view}
+use Rattle.cs_pending.specs.View.{View, middle}
+use Rattle.cs_position.specs.Shows.{ShowsAt, base}
+use Rattle.cs_position.specs.declared.position.Position.{Position}
+use Rattle.cs_replica.specs.Edited.{with_pending}
+use Rattle.cs_replica.specs.Stands.{StandsOn}
+
+-- a replica at version 0 with no row and nothing pending or under way stands on every log
+abbrev pub FirstStands : Type 0
+FirstStands =
+    (log : List LogEntry) (position : Position)
+    → position.version ≡ 0
+    → position.flight ≡ None
+    → StandsOn log position empty_view
+
+-- one that stands on a log stands on it as it grows
+abbrev pub StandsLonger : Type 0
+StandsLonger =
+    (log more : List LogEntry) (position : Position) (view : View)
+    → StandsOn log position view
+    → StandsOn (log ++ more) position view
+
+-- an edit leaves it there
+abbrev pub EditStands : Type 0
+EditStands =
+    (tables : List TableDef) (log : List LogEntry) (name : List ℕ) (asked : Asked) (old new : Contents) (position : Position) (pending : ℕ) (view next : View)
+    → AreTables tables
+    → ShowsAt tables old position view
+    → edit tables name asked view ≡ Ok next
+    → ShowsAt tables new (with_pending position pending) next
+    → StandsOn log position view
+    → StandsOn log (with_pending position pending) next
+
+-- so does what leaves the version and the log's rows as they were: a push that is made
+abbrev pub KeptStands : Type 0
+KeptStands =
+    (log : List LogEntry) (position other : Position) (view next : View)
+    → other.version ≡ position.version
+    → AreSame (base position.flight view) (base other.flight next)
+    → StandsOn log position view
+    → StandsOn log other next
+
+-- what leaves of the log's rows what the next entry leaves of them stands on the log one version further: the own entry that is
+-- confirmed, and another's that is taken
+abbrev pub EntryStands : Type 0
+EntryStands =
+    (tables : List TableDef) (log : List LogEntry) (entry : LogEntry) (position other : Position) (view next : View)
+    → IsLog tables log
+    → slice_get log position.version ≡ Some entry
+    → other.version ≡ position.version + 1
+    → IsApplied tables (entry_changes entry) (base position.flight view) (base other.flight next)
+    → StandsOn log position view
+    → StandsOn log other next
+
+-- what is under way is defined on the log's tables at the version, and leaves of them the rows before what is pending
+abbrev pub FlightFits : Type 0
+FlightFits =
+    (tables : List TableDef) (contents : Contents) (log : List LogEntry) (position : Position) (changes : List TableChanges) (view : View)
+    → AreTables tables
+    → ShowsAt tables contents position view
+    → position.flight ≡ Some changes
+    → StandsOn log position view
+    → IsApplied tables changes (tables_at log position.version) (middle view)
+
+-- two replicas that stand on one log at one version, with nothing under way and nothing pending, have the same rows
+abbrev pub EqualAtRest : Type 0
+EqualAtRest =
+    (tables : List TableDef) (log : List LogEntry) (contents others : Contents) (position other : Position) (view seen : View)
+    → ShowsAt tables contents position view
+    → ShowsAt tables others other seen
+    → StandsOn log position view
+    → StandsOn log other seen
+    → position.version ≡ other.version
+    → position.flight ≡ None
+    → other.flight ≡ None
+    → position.pending ≡ 0
+    → other.pending ≡ 0
+    → (table : TableDef) (key : List ℕ) → Contains tables table → view.tables table.name key ≡ seen.tables table.name key

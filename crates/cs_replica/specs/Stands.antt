@@ -1,0 +1,14 @@
+-- A replica that stands on a log (profile of this project).
+use Rattle.std.specs.Prelude.{◌≤◌, List, length}
+use Rattle.cs_normal.specs.State.{AreSame}
+use Rattle.cs_log.specs.Log.{tables_at}
+use Rattle.cs_log.specs.declared.entry.LogEntry.{LogEntry}
+use Rattle.cs_pending.specs.View.{View}
+use Rattle.cs_position.specs.Shows.{base}
+use Rattle.cs_position.specs.declared.position.Position.{Position}
+
+-- its version is one of the log's, and what is left where what is pending and what is under way are taken back from its rows are
+-- the log's tables there
+pub record StandsOn (log : List LogEntry) (position : Position) (view : View) : Type 0 where
+  pub within : position.version ≤ length log
+  pub on_tables : AreSame (tables_at log position.version) (base position.flight view)
