@@ -1,0 +1,183 @@
+-- From the steps to an entry that was taken.
+use Rattle.std.proofs.Common.{◌≡◌, ◌⊎◌, ℕ, Result, Ok, Err, List, [], ◌∷◌, map, Option, Some, None, refl, sym, ap, subst, ◌∙◌, inl, inr}
+use Rattle.std.specs.Prelude.{IsSome}
+use Rattle.std.specs.List.{AllByRecursion}
+use Rattle.cs_value.specs.Key.{Place}
+use Rattle.cs_value.specs.declared.catalog.TableDef.{TableDef}
+use Rattle.cs_change.specs.Action.{action, action_any, after, after_any}
+use Rattle.cs_change.specs.declared.change.Change.{Change}
+use Rattle.cs_keyed.specs.Changes.{Changes, IsEntry}
+use Rattle.cs_normal.specs.Normal.{FitsCatalog, IsNormalChangeset, change_of, groups_of}
+use Rattle.cs_normal.specs.State.{AreSame, IsDefinedOn, IsStateOf, State, left_at}
+use Rattle.cs_normal.specs.declared.normal.TableChanges.{TableChanges}
+use Rattle.cs_store.specs.Contents.{Contents}
+use Rattle.cs_store.specs.declared.fault.StoreFault.{StoreFault}
+use Rattle.cs_store.specs.declared.fault.StoreFault.TheVariants as stored
+use Rattle.cs_conflict.specs.declared.clash.Clash.{Clash}
+use Rattle.cs_conflict.specs.declared.conflict.Conflict.{Conflict}
+use Rattle.cs_conflict.specs.declared.wish.Wish.{Wish}
+use Rattle.cs_apply.specs.NormalTasks.{AreElsewhere, HaveOwnPlaces, are_apart, each_found, entries_in, found_at, found_is, keyed_task, keyed_tasks, number_of, of_one, spot_of, table_tasks, tasks_are}
+use Rattle.cs_apply.specs.Spots.{all_both}
+use Rattle.cs_apply.specs.Tasks.{Task, tasks}
+use Rattle.cs_pending.specs.Calls.{ReadsStore}
+use Rattle.cs_pending.specs.Storing.{err_is}
+use Rattle.cs_pending.specs.View.{View, middle}
+use Rattle.cs_position.specs.Shows.{base}
+use Rattle.cs_taking.specs.Steps.{AreOn, AreSitesPlaced, HasBad, IsDecided, IsReady, site_task}
+use Rattle.cs_taking.specs.Takes.{IfStopped, IsTaken, StopsAt, TakeAll}
+use Rattle.cs_taking.specs.declared.fault.TakeFault.{TakeFault}
+use Rattle.cs_taking.specs.declared.fault.TakeFault.TheVariants.{Memory, BadEntry, Device}
+use Rattle.cs_taking.specs.declared.site.Site.{Site}
+use Rattle.cs_taking.proofs.Whole.{none_elsewhere, there_or_elsewhere}
+
+-- ---- the changes of the entry
+
+each_entry : (table : ℕ) (first : TableChanges) (changes : Changes) → AllByRecursion (IsEntry first.marks) changes → AllByRecursion (λ (t : Task). IsEntry t.marks (t.key, t.change)) (map (keyed_task table first) changes)
+each_entry table first [] are = tt
+each_entry table first (c ∷ changes) are = (are.0, each_entry table first changes are.1)
+
+all_entries : (tables : List TableDef) (changes : List TableChanges) → IsNormalChangeset changes → AllByRecursion (λ (t : Task). IsEntry t.marks (t.key, t.change)) (keyed_tasks tables changes)
+unfolding keyed_tasks
+all_entries tables [] normal = tt
+all_entries tables (first ∷ others) normal =
+    all_both (λ (t : Task). IsEntry t.marks (t.key, t.change)) (table_tasks tables first) (keyed_tasks tables others)
+    (each_entry (number_of tables first) first first.changes (entries_in first others normal)) (all_entries tables others normal.2)
+
+everywhere : (P : List ℕ → List ℕ → Type 0) (ts : List Task) → ((name key : List ℕ) → P name key) → AllByRecursion (λ (t : Task). P t.name t.key) ts
+everywhere P [] all = tt
+everywhere P (t ∷ ts) all = (all t.name t.key, everywhere P ts all)
+
+none_some : {A : Type 0} (o : Option A) → IsSome o → o ≡ None → ⊥
+none_some None some none = absurd (let no = some in cc)
+none_some (Some a) some none = absurd (let no = none in cc)
+
+module _ (changes : List TableChanges) where
+  -- each change is the one of its place
+  abbrev pub AreFound : List Task → Type 0
+  AreFound ts = AllByRecursion (λ (t : Task). change_of t.name t.key changes ≡ Some t.change) ts
+
+  found_each : (tables : List TableDef) (ts : List Task) → IsNormalChangeset changes → AllByRecursion (λ (t : Task). found_at (spot_of t) (keyed_tasks tables changes) ≡ Some t.change) ts → AreFound ts
+  found_each tables [] normal all = tt
+  found_each tables (t ∷ ts) normal all = (sym (found_is tables t.name t.key changes normal) ∙ all.0, found_each tables ts normal all.1)
+
+  pub all_found : (tables : List TableDef) → IsNormalChangeset changes → AreFound (keyed_tasks tables changes)
+  all_found tables normal = found_each tables (keyed_tasks tables changes) normal (each_found (keyed_tasks tables changes) (are_apart tables changes normal))
+
+  left_each : (log theirs : State) (ts : List Task) → AreFound ts → AllByRecursion (λ (t : Task). after (action t.change) (log t.name t.key) ≡ Some (theirs t.name t.key)) ts
+      → AllByRecursion (λ (t : Task). left_at changes log t.name t.key ≡ Some (theirs t.name t.key)) ts
+  left_each log theirs [] found are = tt
+  left_each log theirs (t ∷ ts) found are =
+      (ap (λ (c : Option Change). after_any (action_any c) (log t.name t.key)) found.0 ∙ are.0, left_each log theirs ts found.1 are.1)
+
+  never_none : (ts : List Task) → AreFound ts → AllByRecursion (λ (t : Task). change_of t.name t.key changes ≡ None → ⊥) ts
+  never_none [] found = tt
+  never_none (t ∷ ts) found = (λ none. absurd (let no = sym found.0 ∙ none in cc), never_none ts found.1)
+
+  -- a change that isn't defined, and all are
+  never_bad : (log : State) (ts : List Task) → AreFound ts → ((name key : List ℕ) → IsSome (left_at changes log name key)) → HasBad log ts → ⊥
+  unfolding HasBad
+  never_bad log [] found all bad = bad
+  never_bad log (t ∷ ts) found all (inl none) =
+      none_some (left_at changes log t.name t.key) (all t.name t.key) (ap (λ (c : Option Change). after_any (action_any c) (log t.name t.key)) found.0 ∙ none)
+  never_bad log (t ∷ ts) found all (inr behind) = never_bad log ts found.1 all behind
+
+  pub bad_entry : (tables : List TableDef) (log : State) → IsNormalChangeset changes → HasBad log (keyed_tasks tables changes) → IsDefinedOn tables changes log → ⊥
+  bad_entry tables log normal bad defined = never_bad log (keyed_tasks tables changes) (all_found tables normal) defined.1 bad
+
+-- ---- the places are ready, and the entry is taken
+
+module _ (tables : List TableDef) (changes : List TableChanges) (fits : FitsCatalog tables changes) (normal : IsNormalChangeset changes) (sites : List Site) (are : map site_task sites ≡ keyed_tasks tables changes) where
+  pub is_ready : (log own : State) (view : View) → AreSitesPlaced tables sites → AreOn log own sites → IsStateOf tables log → IsStateOf tables own → AreSame own view.tables → AreSame log (middle view)
+      → IsReady tables log own sites view
+  is_ready log own view placed on log_state own_state same_own same_log = record {
+    placed = placed;
+    on = on;
+    apart = subst (λ (ts : List Task). HaveOwnPlaces ts) (sym are) (are_apart tables changes normal);
+    entries = subst (λ (ts : List Task). AllByRecursion (λ (t : Task). IsEntry t.marks (t.key, t.change)) ts) (sym are) (all_entries tables changes normal);
+    log_state = log_state;
+    own_state = own_state;
+    stand = everywhere (λ n k. (view.tables n k ≡ own n k) × (middle view n k ≡ log n k)) (map site_task sites) (λ n k. (same_own n k, same_log n k));
+  }
+
+  all_tasks : map site_task sites ≡ tasks tables (groups_of changes)
+  all_tasks = are ∙ sym (tasks_are tables changes (of_one tables changes fits) normal)
+
+  none_there : (name key : List ℕ) → AreElsewhere (name, key) (keyed_tasks tables changes) → change_of name key changes ≡ None
+  none_there name key away = sym (found_is tables name key changes normal) ∙ none_elsewhere name key (keyed_tasks tables changes) away
+
+  module _ {P : Type 0} (picks : P → Clash → Wish → P → Type 0) (p q : P) where
+    pub stops_entry : (log own : State) (conflict : Conflict) → StopsAt picks log own (map site_task sites) p conflict q → StopsAt picks log own (tasks tables (groups_of changes)) p conflict q
+    stops_entry log own conflict stops = subst (λ (ts : List Task). StopsAt picks log own ts p conflict q) all_tasks stops
+
+    module _ (flight : Option (List TableChanges)) (seen view end : View) (same_own : AreSame seen.tables view.tables) (same_log : AreSame (base flight seen) (middle view))
+        (decided : IsDecided picks (base flight seen) seen.tables (map site_task sites) view p end q) where
+      at_entry : IsDecided picks (base flight seen) seen.tables (keyed_tasks tables changes) view p end q
+      at_entry = subst (λ (ts : List Task). IsDecided picks (base flight seen) seen.tables ts view p end q) are decided
+
+      left_here : (name key : List ℕ) → (left_at changes (base flight seen) name key ≡ Some (middle end name key)) ⊎ AreElsewhere (name, key) (keyed_tasks tables changes)
+          → left_at changes (base flight seen) name key ≡ Some (middle end name key)
+      left_here name key (inl is) = is
+      left_here name key (inr away) =
+          ap (λ (c : Option Change). after_any (action_any c) (base flight seen name key)) (none_there name key away)
+          ∙ ap (λ (x : Place). Some x) (sym ((at_entry.elsewhere name key away).1 ∙ same_log name key))
+
+      own_stays : (name key : List ℕ) → change_of name key changes ≡ None → (change_of name key changes ≡ None → ⊥) ⊎ AreElsewhere (name, key) (keyed_tasks tables changes)
+          → end.tables name key ≡ seen.tables name key
+      own_stays name key none (inl never) = absurd (never none)
+      own_stays name key none (inr away) = (at_entry.elsewhere name key away).0 ∙ same_own name key
+
+      pub is_taken : IsTaken picks tables flight changes seen end p q
+      is_taken = record {
+        takes = subst (λ (ts : List Task). TakeAll picks (base flight seen) seen.tables (middle end) end.tables ts p q) all_tasks decided.takes;
+        applied = (
+          fits,
+          λ n k. left_here n k (there_or_elsewhere (λ name key. left_at changes (base flight seen) name key ≡ Some (middle end name key)) (keyed_tasks tables changes)
+              (left_each changes (base flight seen) (middle end) (keyed_tasks tables changes) (all_found changes tables normal) at_entry.theirs) n k),
+        );
+        others = λ n k none. own_stays n k none (there_or_elsewhere (λ name key. change_of name key changes ≡ None → ⊥) (keyed_tasks tables changes)
+            (never_none changes (keyed_tasks tables changes) (all_found changes tables normal)) n k);
+      }
+
+-- ---- faults
+
+pub was_device : (fault : StoreFault) (told : TakeFault) → (fault ≡ stored.Memory → told ≡ Memory) → told ≡ Device → fault ≡ stored.Device
+was_device stored.Memory told memory is = absurd (let no = sym (memory refl) ∙ is in cc)
+was_device stored.Device told memory is = refl
+
+-- a fault of the store tells neither of the entry nor of a picker
+pub stops_never : (fault : StoreFault) (told : TakeFault) (said : Conflict → Type 0) → (fault ≡ stored.Memory → told ≡ Memory) × (fault ≡ stored.Device → told ≡ Device) → IfStopped told said
+stops_never stored.Memory told said gives = subst (λ (f : TakeFault). IfStopped f said) (sym (gives.0 refl)) tt
+stops_never stored.Device told said gives = subst (λ (f : TakeFault). IfStopped f said) (sym (gives.1 refl)) tt
+
+pub bad_never : {T : Type 0} (fault : StoreFault) (told : TakeFault) → (fault ≡ stored.Memory → told ≡ Memory) × (fault ≡ stored.Device → told ≡ Device) → ◌≡◌ {A = Result T TakeFault} (Err told) (Err BadEntry) → ⊥
+bad_never stored.Memory told gives is = absurd (let no = sym (gives.0 refl) ∙ err_is told BadEntry is in cc)
+bad_never stored.Device told gives is = absurd (let no = sym (gives.1 refl) ∙ err_is told BadEntry is in cc)
+
+module _ {S : Type 0} (honest : S → Type 0) (contents : S → Contents) (failed : S → ℕ) (may_leave : S → Contents → Type 0) (misreads : S → ℕ) (readable : Type 0) (old new : S) where
+  -- reads that failed, told by another name
+  pub reads_told : {T U : Type 0} (fault : StoreFault) (told : TakeFault) → (told ≡ Device → fault ≡ stored.Device)
+      → ReadsStore honest contents failed may_leave misreads {T = T} stored.Device readable old new (Err fault)
+      → ReadsStore honest contents failed may_leave misreads {T = U} Device readable old new (Err told)
+  reads_told fault told is reads = record {
+    was_honest = reads.was_honest;
+    same = reads.same;
+    crash = reads.crash;
+    kept = tt;
+    later = reads.later;
+    cause = λ e. reads.cause (ap (λ (f : StoreFault). Err f) (is (err_is told Device e)));
+    as_read = reads.as_read;
+  }
+
+  -- a fault after reads that isn't the device's
+  pub reads_then_fault : {T U : Type 0} (t : T) (told : TakeFault) → (◌≡◌ {A = Result U TakeFault} (Err told) (Err Device) → ⊥)
+      → ReadsStore honest contents failed may_leave misreads {T = T} {E = StoreFault} stored.Device readable old new (Ok t)
+      → ReadsStore honest contents failed may_leave misreads {T = U} Device readable old new (Err told)
+  reads_then_fault t told never reads = record {
+    was_honest = reads.was_honest;
+    same = reads.same;
+    crash = reads.crash;
+    kept = tt;
+    later = reads.later;
+    cause = λ e. absurd (never e);
+    as_read = reads.as_read;
+  }

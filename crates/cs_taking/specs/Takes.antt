@@ -1,0 +1,87 @@
+-- How a replica takes another's entry of the log (profile of this project). `picks p clash wish q` is an answer: at p the picker is
+-- shown the clash, wishes, and is left as q.
+use Rattle.std.specs.Prelude.{◌≡◌, ◌≢◌, ◌⊎◌, ◌+◌, ℕ, List, [], ◌∷◌, Option, Some, None}
+use Rattle.std.specs.FinMap.{len}
+use Rattle.cs_value.specs.Key.{Place}
+use Rattle.cs_value.specs.declared.catalog.TableDef.{TableDef}
+use Rattle.cs_change.specs.Action.{action}
+use Rattle.cs_change.specs.Net.{net}
+use Rattle.cs_normal.specs.Normal.{change_of, groups_of}
+use Rattle.cs_normal.specs.State.{State, IsApplied}
+use Rattle.cs_normal.specs.declared.normal.TableChanges.{TableChanges}
+use Rattle.cs_store.specs.Contents.{Contents}
+use Rattle.cs_conflict.specs.Conflict.{kind}
+use Rattle.cs_conflict.specs.Wishes.{resolution_of}
+use Rattle.cs_conflict.specs.declared.clash.Clash.{Clash}
+use Rattle.cs_conflict.specs.declared.conflict.Conflict.{Conflict}
+use Rattle.cs_conflict.specs.declared.wish.Wish.{Wish}
+use Rattle.cs_conflict.specs.declared.wish.Wish.TheVariants.{Stop}
+use Rattle.cs_apply.specs.Applies.{IsConflictOf}
+use Rattle.cs_apply.specs.Tasks.{Task, tasks}
+use Rattle.cs_rebaser.specs.Merge.{merge}
+use Rattle.cs_pending.specs.View.{View, middle}
+use Rattle.cs_position.specs.Shows.{ShowsAt, base}
+use Rattle.cs_position.specs.declared.position.Position.{Position}
+use Rattle.cs_taking.specs.declared.fault.TakeFault.{TakeFault}
+use Rattle.cs_taking.specs.declared.fault.TakeFault.TheVariants.{Memory, BadEntry, Stopped, Device}
+
+-- the clash shows the other's change, its conflict with the own row, and the own change, which leads from the log's row to it
+pub record IsClashOf (task : Task) (log own : Place) (clash : Clash) : Type 0 where
+  pub of_conflict : IsConflictOf task.table task.change own clash.conflict
+  pub of_local : net task.marks log own ≡ Some (action clash.local)
+
+module _ {P : Type 0} (picks : P → Clash → Wish → P → Type 0) where
+  -- where the change doesn't conflict with the own row the picker isn't asked, and any wish serves; else it wishes so
+  abbrev pub Asks : Task → Place → Place → P → Wish → P → Type 0
+  Asks task log own p wish q =
+      ((kind (action task.change) own ≡ None) × (q ≡ p))
+      ⊎ ((clash : Clash) × IsClashOf task log own clash × picks p clash wish q)
+
+  -- the changes in order: each is merged by its wish, which isn't to stop. The log's rows and the own ones are those before all;
+  -- `theirs` is what the entry leaves of the log's rows, and `merged` what stands after all
+  unfoldable pub TakeAll : State → State → State → State → List Task → P → P → Type 0
+  TakeAll log own theirs merged [] p q = q ≡ p
+  TakeAll log own theirs merged (t ∷ ts) p q =
+      (wish : Wish) × (between : P) × (wish ≢ Stop)
+      × Asks t (log t.name t.key) (own t.name t.key) p wish between
+      × (merged t.name t.key ≡ merge (resolution_of wish) (log t.name t.key) (own t.name t.key) (theirs t.name t.key))
+      × TakeAll log own theirs merged ts between q
+
+  -- the picker stops at this clash of the change
+  abbrev pub StopsHere : Task → Place → Place → P → Conflict → P → Type 0
+  StopsHere task log own p conflict q =
+      (clash : Clash) × IsClashOf task log own clash × picks p clash Stop q × (conflict ≡ clash.conflict)
+
+  -- the first clash at which it stops
+  unfoldable pub StopsAt : State → State → List Task → P → Conflict → P → Type 0
+  StopsAt log own [] p conflict q = ⊥
+  StopsAt log own (t ∷ ts) p conflict q =
+      StopsHere t (log t.name t.key) (own t.name t.key) p conflict q
+      ⊎ ((wish : Wish) × (between : P) × (wish ≢ Stop)
+      × Asks t (log t.name t.key) (own t.name t.key) p wish between
+      × StopsAt log own ts between conflict q)
+
+  -- another's entry was taken: the log's rows are now what it leaves of them, and at each of its places the own row is the
+  -- three-way merge
+  pub record IsTaken (tables : List TableDef) (flight : Option (List TableChanges)) (entry : List TableChanges) (before after : View) (p q : P) : Type 0 where
+    pub takes : TakeAll (base flight before) before.tables (middle after) after.tables (tasks tables (groups_of entry)) p q
+    pub applied : IsApplied tables entry (base flight before) (middle after)
+    pub others : (name key : List ℕ) → change_of name key entry ≡ None → after.tables name key ≡ before.tables name key
+
+  -- contents in which it was taken at a position
+  abbrev pub IsTakenIn : List TableDef → Position → List TableChanges → P → P → Contents → Contents → Type 0
+  IsTakenIn tables position entry p q old new =
+      (before : View) → ShowsAt tables old position before
+      → (after : View) × ShowsAt tables new (record position { version = position.version + 1; flight = None; pending = len new.pending }) after
+      × IsTaken tables position.flight entry before after p q
+
+-- the position after another's entry: nothing is under way, and so many changes are pending
+abbrev pub taken : Position → ℕ → Position
+taken position pending = record position { version = position.version + 1; flight = None; pending = pending }
+
+-- where it is told that the picker stopped, this is said of the conflict
+abbrev pub IfStopped : TakeFault → (Conflict → Type 0) → Type 0
+IfStopped Memory said = Unit {0}
+IfStopped BadEntry said = Unit {0}
+IfStopped (Stopped conflict) said = said conflict
+IfStopped Device said = Unit {0}

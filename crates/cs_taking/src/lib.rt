@@ -1,0 +1,24 @@
+//! A replica takes another's entry of the log: the three-way merge, row by row. `take_changes` judges the entry on the log's rows before
+//! it asks anything, asks a picker at each change that conflicts with the own row, and makes one commit: the own rows become the
+//! merged ones, what was under way becomes pending, and what is pending at a place of the entry leads from what the entry leaves there.
+//! `flight` makes what is under way pending over the log's rows; `reading` reads the places of the entry, and tells whether each
+//! change is defined on the log's rows; `deciding` asks a picker at each change that conflicts with the own row, and merges the
+//! rows; `gathering` does all this for an entry, and `committing` commits the gathered edits.
+//! The crate stands on positions (`cs_position`), pending changes (`cs_pending`), conflicts and pickers (`cs_conflict`), and on
+//! the merge and its diamond (`cs_rebaser`).
+#![tactic(auto)]
+
+mod asking;
+mod committing;
+mod deciding;
+mod fault;
+mod flight;
+mod gathering;
+mod placed;
+mod reading;
+mod rows;
+mod site;
+mod taking;
+
+pub use fault::TakeFault;
+pub use taking::take_changes;
