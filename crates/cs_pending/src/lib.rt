@@ -2,7 +2,8 @@
 //! the net change that leads to it from the row that stood there before, so an edit is one commit of one row and one pending
 //! change, whatever else is pending. `insert_row`, `update_row` and `delete_row` do that for an application, by a table's name,
 //! and refuse by the first fault that holds. For a replica above, `standing_at` reads what stands at a place and what stood
-//! there before what is pending, and `Settling` gathers the edits of several places for one commit.
+//! there before what is pending, and `Settling` gathers the edits of several places for one commit; `lent`, `copied` and `undone`
+//! are of rows or none in their bytes.
 //! The crate stands on stores (`cs_store`), on net changes (`cs_group`) and on the places of tables (`cs_apply`). `laws` says
 //! that a store shows one view, and that an edit leads to one view or has one fault. Its tests stand in `cs_pending_tests`.
 #![tactic(auto)]
@@ -18,5 +19,6 @@ mod wanted;
 
 pub use edits::{delete_row, insert_row, update_row};
 pub use fault::EditFault;
+pub use places::{copied, lent, undone};
 pub use placing::{Standing, standing_at};
 pub use settling::Settling;

@@ -15,8 +15,8 @@ use cs_record::{Row, RowBuf};
 use cs_value::{Memory, TableDef};
 use std::alloc::Global;
 
-/// The row or none, where it stands.
-pub(crate) fn lent(row: &Option<RowBuf>) -> Option<Row<'_>>
+/// The row or none, where it stands. (Profile of this project.)
+pub fn lent(row: &Option<RowBuf>) -> Option<Row<'_>>
     ensures { result ≡ row.now }
 {
     match row {
@@ -25,8 +25,8 @@ pub(crate) fn lent(row: &Option<RowBuf>) -> Option<Row<'_>>
     }
 }
 
-/// A row or none, in memory of its own.
-pub(crate) fn copied(alloc: Global, row: Option<&Row<'_>>) -> Result<Option<RowBuf>, Memory>
+/// A row or none, in memory of its own. (Profile of this project.)
+pub fn copied(alloc: Global, row: Option<&Row<'_>>) -> Result<Option<RowBuf>, Memory>
     ensures { IfOk result (λ copied. copied ≡ option_copied row.entry) }
 {
     match row {
@@ -47,9 +47,9 @@ pub(crate) fn are_same(some: Option<&Row<'_>>, other: Option<&Row<'_>>) -> bool
     }
 }
 
-/// What a place held before a change that left this there.
+/// What a place held before a change that left this there. (Profile of this project.)
 #[tactic(auto, unfolding(crate::specs::View::undo))]
-pub(crate) fn undone(
+pub fn undone(
     alloc: Global,
     change: &Change<'_>,
     row: Option<&Row<'_>>,
