@@ -8,7 +8,7 @@ use Rattle.cs_pending.specs.Nets.{net_there, undo_none}
 use Rattle.cs_pending.specs.Settling.{AreWithin, IsWithin}
 use Rattle.cs_pending.specs.Shows.{IsSoundOf}
 use Rattle.cs_pending.specs.Steps.{none_left, shows_after}
-use Rattle.cs_pending.specs.View.{View, before, middle}
+use Rattle.cs_pending.specs.View.{View, middle}
 use Rattle.cs_pending.specs.declared.settling.Settling.{Settling}
 use Rattle.cs_position.specs.Laws.{CommitShows}
 use Rattle.cs_position.specs.Shows.{IsUnderWay, changes_at}
@@ -65,10 +65,6 @@ none_under_way tables view is = record {
   size = omega arith;
   sound = sound_nothing tables (middle view) is;
 }
-
--- with nothing under way, the log's rows are those before what is pending
-pub log_is_middle : (view : View) (n k : List ℕ) → before (changes_at []) (middle view) n k ≡ middle view n k
-log_is_middle view n k = undo_none (middle view n k)
 
 -- ---- the commit
 

@@ -1,5 +1,5 @@
 -- A place of the entry merged, and the others.
-use Rattle.std.proofs.Common.{◌≡◌, ℕ, false, List, [], ◌∷◌, map, length, arith, Some, refl, sym, ap, subst, ◌∙◌, inl, inr}
+use Rattle.std.proofs.Common.{◌≡◌, ℕ, false, List, [], ◌∷◌, map, Some, refl, sym, ap, subst, ◌∙◌, inl, inr}
 use Rattle.std.specs.Prelude.{◌≢◌, Contains}
 use Rattle.std.specs.List.{AllByRecursion}
 use Rattle.cs_value.specs.Key.{Place}
@@ -28,14 +28,14 @@ use Rattle.cs_pending.specs.OnePlace.{contained}
 use Rattle.cs_pending.specs.Placing.{StandsIn}
 use Rattle.cs_pending.specs.Settling.{Settles}
 use Rattle.cs_pending.specs.declared.settling.Settling.{Settling}
-use Rattle.cs_taking.specs.Steps.{AreOn, IsDecided, IsPlaced, IsReady, LeavesOwn, site_task}
+use Rattle.cs_taking.specs.Steps.{AreOn, IsDecided, IsPlaced, IsReady, IsStill, LeavesOwn, site_task}
 use Rattle.cs_taking.specs.Takes.{Asks, IfStopped, StopsAt, StopsHere, TakeAll}
 use Rattle.cs_taking.specs.declared.fault.TakeFault.{TakeFault}
 use Rattle.cs_taking.specs.declared.fault.TakeFault.TheVariants.{Memory, BadEntry, Stopped, Device}
 use Rattle.cs_taking.specs.declared.site.Site.{Site}
 use Rattle.cs_taking.proofs.Merged.{left_own_stands, made_stands, takes_one}
 use Rattle.cs_taking.proofs.Standing.{stands_keyed}
-use Rattle.cs_taking.proofs.Stepped.{middle_other, middle_there, put_other, put_there}
+use Rattle.cs_taking.proofs.Stepped.{direct_there, middle_there, other_still, put_there, still_direct, still_log, still_then}
 
 module _ {P : Type 0} (picks : P → Clash → Wish → P → Type 0) (tables : List TableDef) (law : Catalogs tables) (log own : State) (site : Site) (sites : List Site) (view : View) (theirs merged : Place)
     (inside : Contains tables site.at.table.now) (sound : IsSoundOf tables view.pending view.tables) (ready : IsReady tables log own (site ∷ sites) view)
@@ -49,11 +49,8 @@ module _ {P : Type 0} (picks : P → Clash → Wish → P → Type 0) (tables : 
   abbrev next : View
   next = settled table key theirs merged view
 
-  other_middle : (n k : List ℕ) → same_spot (n, k) (table.name, key) ≡ false → middle next n k ≡ middle view n k
-  other_middle = middle_other tables law view table key theirs merged inside sound theirs_stand merged_stand
-
-  other_row : (n k : List ℕ) → same_spot (n, k) (table.name, key) ≡ false → next.tables n k ≡ view.tables n k
-  other_row = put_other table.name key merged view.tables
+  still_there : (n k : List ℕ) → same_spot (n, k) (table.name, key) ≡ false → IsStill view next n k
+  still_there = other_still tables law view table key theirs merged inside sound theirs_stand merged_stand
 
   stand_still : (ts : List Task) → AreElsewhere (table.name, key) ts
       → AllByRecursion (λ (t : Task). (view.tables t.name t.key ≡ own t.name t.key) × (middle view t.name t.key ≡ log t.name t.key)) ts
@@ -61,7 +58,8 @@ module _ {P : Type 0} (picks : P → Clash → Wish → P → Type 0) (tables : 
   stand_still [] away stand = tt
   stand_still (u ∷ ts) away stand =
       let apart = spots_apart (table.name, key) (spot_of u) away.0 in
-      ((other_row u.name u.key apart ∙ stand.0.0, other_middle u.name u.key apart ∙ stand.0.1), stand_still ts away.1 stand.1)
+      let still = still_there u.name u.key apart in
+      ((still.row ∙ stand.0.0, still_log view next u.name u.key still ∙ stand.0.1), stand_still ts away.1 stand.1)
 
   pub ready_next : IsReady tables log own sites next
   ready_next = record {
@@ -76,19 +74,20 @@ module _ {P : Type 0} (picks : P → Clash → Wish → P → Type 0) (tables : 
 
   pub decided_more : (wish : Wish) (p between q : P) (end : View) → wish ≢ Stop → Asks picks (site_task site) (log table.name key) (own table.name key) p wish between
       → merged ≡ merge (resolution_of wish) (log table.name key) (own table.name key) theirs → after (action site.at.change) (log table.name key) ≡ Some theirs
-      → IsDecided picks log own (map site_task sites) next between end q → IsDecided picks log own (map site_task (site ∷ sites)) view p end q
+      → IsDecided picks tables log own (map site_task sites) next between end q → IsDecided picks tables log own (map site_task (site ∷ sites)) view p end q
   unfolding TakeAll
   decided_more wish p between q end on asks is made rest =
-      let away = rest.elsewhere table.name key ready.apart.0 in
-      let row : end.tables table.name key ≡ merged = away.0 ∙ put_there table.name key merged view.tables in
-      let mid : middle end table.name key ≡ theirs = away.1 ∙ middle_there tables law view table key theirs merged inside sound theirs_stand merged_stand in
+      let still = rest.elsewhere table.name key ready.apart.0 in
+      let row : end.tables table.name key ≡ merged = still.row ∙ put_there table.name key merged view.tables in
+      let mid : middle end table.name key ≡ theirs = still_log next end table.name key still ∙ middle_there tables law view table key theirs merged inside sound theirs_stand merged_stand in
       record {
         takes = (wish, between, on, asks, row ∙ is ∙ ap (λ (x : Place). merge (resolution_of wish) (log table.name key) (own table.name key) x) (sym mid), rest.takes);
         theirs = (made ∙ ap (λ (x : Place). Some x) (sym mid), rest.theirs);
-        elsewhere = λ n k apart. (
-          (rest.elsewhere n k apart.1).0 ∙ other_row n k apart.0,
-          (rest.elsewhere n k apart.1).1 ∙ other_middle n k apart.0,
+        direct = (
+          still_direct tables next end table.name key still (direct_there tables law view table key theirs merged inside sound theirs_stand merged_stand),
+          rest.direct,
         );
+        elsewhere = λ n k away. still_then view next end n k (still_there n k away.0) (rest.elsewhere n k away.1);
       }
 
 -- ---- where the picker stops
@@ -111,9 +110,6 @@ if_stopped_as Device some other on is = tt
 module _ {P : Type 0} (picks : P → Clash → Wish → P → Type 0) (log own : State) (site : Site) (sites all : List Site) (p q : P) (parts : all ≡ site ∷ sites) (on : AreOn log own all) where
   on_all : AreOn log own (site ∷ sites)
   on_all = subst (λ (ss : List Site). AreOn log own ss) parts on
-
-  pub on_others : AreOn log own sites
-  on_others = on_all.1
 
   pub left_on : (merged : Place) → LeavesOwn picks (site_task site) site.before.base site.before.mine p merged q
       → LeavesOwn picks (site_task site) (log site.at.table.now.name site.at.key.now) (own site.at.table.now.name site.at.key.now) p merged q
@@ -140,10 +136,9 @@ stop_later picks log own site sites all p between q merged conflict parts on lef
     subst (λ (ss : List Site). StopsAt picks log own (map site_task ss) p conflict q) (sym parts)
     (stop_behind picks log own (site_task site) (map site_task sites) p conflict asks.0 between q asks.1 asks.2 behind)
 
-pub decided_none : {P : Type 0} (picks : P → Clash → Wish → P → Type 0) (log own : State) (sites : List Site) (view : View) (p : P) → length sites ≡ 0 → IsDecided picks log own (map site_task sites) view p view p
+decided_none : {P : Type 0} (picks : P → Clash → Wish → P → Type 0) (tables : List TableDef) (log own : State) (view : View) (p : P) → IsDecided picks tables log own [] view p view p
 unfolding TakeAll
-decided_none picks log own [] view p none = record { takes = refl; theirs = tt; elsewhere = λ n k away. (refl, refl) }
-decided_none picks log own (site ∷ sites) view p none = absurd (omega (arith, none))
+decided_none picks tables log own view p = record { takes = refl; theirs = tt; direct = tt; elsewhere = λ n k away. record { row = refl; pending = refl } }
 
 -- ---- the whole step
 
@@ -155,38 +150,46 @@ pub record AllLaws : Type 0 where
   pub diamond : Diamond
   pub normal_is_net : NormalIsNet
 
-module _ {P : Type 0} (picks : P → Clash → Wish → P → Type 0) (laws : AllLaws) (tables : List TableDef) (law : Catalogs tables) (log own : State) (site : Site) (sites all : List Site) (view : View) (merged : Place) (p between q : P)
-    (contents : Contents) (begun : ℕ) (old new last : Settling) (parts : all ≡ site ∷ sites) where
-  abbrev settled_here : View
-  settled_here = settled site.at.table.now site.at.key.now site.theirs merged view
+-- the places before the rest were merged: what the rest leads to from here, all lead to from the start
+pub record DecidesOn {P : Type 0} (picks : P → Clash → Wish → P → Type 0) (tables : List TableDef) (contents : Contents) (begun : ℕ) (log own : State) (all rest : List Site) (view : View) (p : P) (now : Settling) (q : P) : Type 0 where
+  pub mid : View
+  pub ready : IsReady tables log own rest mid
+  pub settles : Settles tables contents begun now mid
+  pub leads : (end : View) (last : P) → IsDecided picks tables log own (map site_task rest) mid q end last → IsDecided picks tables log own (map site_task all) view p end last
 
-  pub decide_step : IsReady tables log own all view → Settles tables contents begun old view
-      → LeavesOwn picks (site_task site) site.before.base site.before.mine p merged between
-      → (IsPlaced tables site.at → MayStandAt tables site.at.table.now.name site.at.key.now site.theirs → MayStandAt tables site.at.table.now.name site.at.key.now merged → StandsIn view site.at.table.now site.at.key.now site.before
-      → Settles tables contents begun old view → Settles tables contents begun new settled_here)
-      → (IsReady tables log own sites settled_here → Settles tables contents begun new settled_here
-      → (end : View) × Settles tables contents begun last end × IsDecided picks log own (map site_task sites) settled_here between end q)
-      → (end : View) × Settles tables contents begun last end × IsDecided picks log own (map site_task all) view p end q
-  decide_step whole settles left claim others =
+module _ {P : Type 0} (picks : P → Clash → Wish → P → Type 0) (tables : List TableDef) (contents : Contents) (begun : ℕ) (log own : State) (all : List Site) (view : View) (p : P) where
+  pub decides_more : AllLaws → Catalogs tables → (rest : List Site) (site : Site) (sites : List Site) (merged : Place) (q between : P) (old new : Settling) → rest ≡ site ∷ sites
+      → LeavesOwn picks (site_task site) site.before.base site.before.mine q merged between
+      → ((mid : View) → IsPlaced tables site.at → MayStandAt tables site.at.table.now.name site.at.key.now site.theirs → MayStandAt tables site.at.table.now.name site.at.key.now merged → StandsIn mid site.at.table.now site.at.key.now site.before
+      → Settles tables contents begun old mid → Settles tables contents begun new (settled site.at.table.now site.at.key.now site.theirs merged mid))
+      → DecidesOn picks tables contents begun log own all rest view p old q → DecidesOn picks tables contents begun log own all sites view p new between
+  decides_more laws law rest site sites merged q between old new parts left claim so_far =
+      let on = subst (λ (ss : List Site). DecidesOn picks tables contents begun log own all ss view p old q) parts so_far in
       let name = site.at.table.now.name in
       let key = site.at.key.now in
       let change = site.at.change in
-      let ready = subst (λ (ss : List Site). IsReady tables log own ss view) parts whole in
+      let ready = on.ready in
       let inside = contained tables site.at.number site.at.table.now ready.placed.0 in
       let entry = ready.entries.0 in
       let log_stands = ready.log_state name key in
       let own_stands = ready.own_state name key in
       let made : after (action change) (log name key) ≡ Some site.theirs = ap (λ (x : Place). after (action change) x) (sym ready.on.0.log_is) ∙ site.made in
-      let here = left_on picks log own site sites all p between parts whole.on merged left in
+      let here = left_on picks log own site sites (site ∷ sites) q between refl ready.on merged left in
       let theirs_stand = made_stands laws.tells laws.fit law.one laws.made_as laws.kinds tables law.are site.at.table.now inside key change entry (log name key) site.theirs log_stands made in
-      let merged_stand = left_own_stands laws.tells laws.fit law.one laws.made_as laws.kinds tables law.are site.at.table.now inside key change entry picks (site_task site) (log name key) (own name key) merged p between refl own_stands here in
-      let one = claim ready.placed.0 theirs_stand merged_stand (record { mine_is = ready.on.0.own_is ∙ sym ready.stand.0.0; base_is = ready.on.0.log_is ∙ sym ready.stand.0.1 }) settles in
-      let rest = others (ready_next picks tables law log own site sites view site.theirs merged inside settles.sound ready theirs_stand merged_stand) one in
-      let took = takes_one picks laws.diamond laws.normal_is_net (site_task site) entry.key (log name key) (own name key) site.theirs merged p between entry.normal
+      let merged_stand = left_own_stands laws.tells laws.fit law.one laws.made_as laws.kinds tables law.are site.at.table.now inside key change entry picks (site_task site) (log name key) (own name key) merged q between refl own_stands here in
+      let took = takes_one picks laws.diamond laws.normal_is_net (site_task site) entry.key (log name key) (own name key) site.theirs merged q between entry.normal
       (stands_keyed laws.tells laws.fit law.one tables law.are site.at.table.now inside key change (log name key) entry log_stands)
-      (stands_keyed laws.tells laws.fit law.one tables law.are site.at.table.now inside key change (own name key) entry own_stands) made here in (
-        rest.0,
-        rest.1,
-        subst (λ (ss : List Site). IsDecided picks log own (map site_task ss) view p rest.0 q) (sym parts)
-            (decided_more picks tables law log own site sites view site.theirs merged inside settles.sound ready theirs_stand merged_stand took.0 p between q rest.0 took.1 took.2 took.3 made rest.2),
-      )
+      (stands_keyed laws.tells laws.fit law.one tables law.are site.at.table.now inside key change (own name key) entry own_stands) made here in
+      record {
+        mid = settled site.at.table.now key site.theirs merged on.mid;
+        ready = ready_next picks tables law log own site sites on.mid site.theirs merged inside on.settles.sound ready theirs_stand merged_stand;
+        settles = claim on.mid ready.placed.0 theirs_stand merged_stand (record { mine_is = ready.on.0.own_is ∙ sym ready.stand.0.0; base_is = ready.on.0.log_is ∙ sym ready.stand.0.1 }) on.settles;
+        leads = λ end last rest_decided. on.leads end last
+            (decided_more picks tables law log own site sites on.mid site.theirs merged inside on.settles.sound ready theirs_stand merged_stand took.0 q between last end took.1 took.2 took.3 made rest_decided);
+      }
+
+  pub decides_end : (rest : List Site) (now : Settling) (q : P) → rest ≡ [] → DecidesOn picks tables contents begun log own all rest view p now q
+      → (end : View) × Settles tables contents begun now end × IsDecided picks tables log own (map site_task all) view p end q
+  decides_end rest now q none so_far =
+      let on = subst (λ (ss : List Site). DecidesOn picks tables contents begun log own all ss view p now q) none so_far in
+      (on.mid, on.settles, on.leads on.mid q (decided_none picks tables log own on.mid q))

@@ -1,6 +1,6 @@
 -- From the steps to an entry that was taken.
-use Rattle.std.proofs.Common.{◌≡◌, ◌⊎◌, ℕ, Result, Ok, Err, List, [], ◌∷◌, map, Option, Some, None, refl, sym, ap, subst, ◌∙◌, inl, inr}
-use Rattle.std.specs.Prelude.{IsSome}
+use Rattle.std.proofs.Common.{◌≡◌, ◌⊎◌, ℕ, Bool, true, false, is_some, Result, Ok, Err, List, [], ◌∷◌, map, Option, Some, None, refl, sym, ap, subst, ◌∙◌, inl, inr}
+use Rattle.std.specs.Prelude.{◌||◌, IsSome}
 use Rattle.std.specs.List.{AllByRecursion}
 use Rattle.cs_value.specs.Key.{Place}
 use Rattle.cs_value.specs.declared.catalog.TableDef.{TableDef}
@@ -16,19 +16,20 @@ use Rattle.cs_store.specs.declared.fault.StoreFault.TheVariants as stored
 use Rattle.cs_conflict.specs.declared.clash.Clash.{Clash}
 use Rattle.cs_conflict.specs.declared.conflict.Conflict.{Conflict}
 use Rattle.cs_conflict.specs.declared.wish.Wish.{Wish}
-use Rattle.cs_apply.specs.NormalTasks.{AreElsewhere, HaveOwnPlaces, are_apart, each_found, entries_in, found_at, found_is, keyed_task, keyed_tasks, number_of, of_one, spot_of, table_tasks, tasks_are}
-use Rattle.cs_apply.specs.Spots.{all_both}
+use Rattle.cs_apply.specs.NormalTasks.{AreElsewhere, HaveOwnPlaces, are_apart, entries_in, keyed_task, keyed_tasks, number_of, of_one, table_tasks, tasks_are}
+use Rattle.cs_apply.specs.Spots.{all_both, by_test}
 use Rattle.cs_apply.specs.Tasks.{Task, tasks}
 use Rattle.cs_pending.specs.Calls.{ReadsStore}
 use Rattle.cs_pending.specs.Storing.{err_is}
 use Rattle.cs_pending.specs.View.{View, middle}
-use Rattle.cs_position.specs.Shows.{base}
-use Rattle.cs_taking.specs.Steps.{AreOn, AreSitesPlaced, HasBad, IsDecided, IsReady, site_task}
-use Rattle.cs_taking.specs.Takes.{IfStopped, IsTaken, StopsAt, TakeAll}
+use Rattle.cs_position.specs.Shows.{base, flown}
+use Rattle.cs_taking.specs.Steps.{AreOn, AreSitesPlaced, HasBad, IsDecided, IsDirectAt, IsFlightFolded, IsReady, IsStill, site_task}
+use Rattle.cs_taking.specs.Takes.{IfStopped, IsPendingOver, IsTaken, StopsAt, StopsTaking, TakeAll, is_touched}
 use Rattle.cs_taking.specs.declared.fault.TakeFault.{TakeFault}
 use Rattle.cs_taking.specs.declared.fault.TakeFault.TheVariants.{Memory, BadEntry, Device}
 use Rattle.cs_taking.specs.declared.site.Site.{Site}
-use Rattle.cs_taking.proofs.Whole.{none_elsewhere, there_or_elsewhere}
+use Rattle.cs_taking.proofs.Stepped.{still_direct, still_log}
+use Rattle.cs_taking.proofs.Whole.{AreFound, all_found, nothing_there, there_or_elsewhere, where_none, where_some}
 
 -- ---- the changes of the entry
 
@@ -51,30 +52,25 @@ none_some : {A : Type 0} (o : Option A) → IsSome o → o ≡ None → ⊥
 none_some None some none = absurd (let no = some in cc)
 none_some (Some a) some none = absurd (let no = none in cc)
 
+some_is : {A : Type 0} (o : Option A) (a : A) → o ≡ Some a → IsSome o
+some_is o a is = subst (λ (x : Option _). IsSome x) (sym is) refl
+
 module _ (changes : List TableChanges) where
-  -- each change is the one of its place
-  abbrev pub AreFound : List Task → Type 0
-  AreFound ts = AllByRecursion (λ (t : Task). change_of t.name t.key changes ≡ Some t.change) ts
-
-  found_each : (tables : List TableDef) (ts : List Task) → IsNormalChangeset changes → AllByRecursion (λ (t : Task). found_at (spot_of t) (keyed_tasks tables changes) ≡ Some t.change) ts → AreFound ts
-  found_each tables [] normal all = tt
-  found_each tables (t ∷ ts) normal all = (sym (found_is tables t.name t.key changes normal) ∙ all.0, found_each tables ts normal all.1)
-
-  pub all_found : (tables : List TableDef) → IsNormalChangeset changes → AreFound (keyed_tasks tables changes)
-  all_found tables normal = found_each tables (keyed_tasks tables changes) normal (each_found (keyed_tasks tables changes) (are_apart tables changes normal))
-
-  left_each : (log theirs : State) (ts : List Task) → AreFound ts → AllByRecursion (λ (t : Task). after (action t.change) (log t.name t.key) ≡ Some (theirs t.name t.key)) ts
+  left_each : (log theirs : State) (ts : List Task) → AreFound changes ts → AllByRecursion (λ (t : Task). after (action t.change) (log t.name t.key) ≡ Some (theirs t.name t.key)) ts
       → AllByRecursion (λ (t : Task). left_at changes log t.name t.key ≡ Some (theirs t.name t.key)) ts
   left_each log theirs [] found are = tt
   left_each log theirs (t ∷ ts) found are =
       (ap (λ (c : Option Change). after_any (action_any c) (log t.name t.key)) found.0 ∙ are.0, left_each log theirs ts found.1 are.1)
 
-  never_none : (ts : List Task) → AreFound ts → AllByRecursion (λ (t : Task). change_of t.name t.key changes ≡ None → ⊥) ts
-  never_none [] found = tt
-  never_none (t ∷ ts) found = (λ none. absurd (let no = sym found.0 ∙ none in cc), never_none ts found.1)
+  -- each change is defined, and so the changeset leaves something at its place
+  defined_each : (log : State) (ts : List Task) → AreFound changes ts → AllByRecursion (λ (t : Task). IsSome (after (action t.change) (log t.name t.key))) ts
+      → AllByRecursion (λ (t : Task). IsSome (left_at changes log t.name t.key)) ts
+  defined_each log [] found are = tt
+  defined_each log (t ∷ ts) found are =
+      (subst (λ (c : Option Change). IsSome (after_any (action_any c) (log t.name t.key))) (sym found.0) are.0, defined_each log ts found.1 are.1)
 
   -- a change that isn't defined, and all are
-  never_bad : (log : State) (ts : List Task) → AreFound ts → ((name key : List ℕ) → IsSome (left_at changes log name key)) → HasBad log ts → ⊥
+  never_bad : (log : State) (ts : List Task) → AreFound changes ts → ((name key : List ℕ) → IsSome (left_at changes log name key)) → HasBad log ts → ⊥
   unfolding HasBad
   never_bad log [] found all bad = bad
   never_bad log (t ∷ ts) found all (inl none) =
@@ -82,7 +78,23 @@ module _ (changes : List TableChanges) where
   never_bad log (t ∷ ts) found all (inr behind) = never_bad log ts found.1 all behind
 
   pub bad_entry : (tables : List TableDef) (log : State) → IsNormalChangeset changes → HasBad log (keyed_tasks tables changes) → IsDefinedOn tables changes log → ⊥
-  bad_entry tables log normal bad defined = never_bad log (keyed_tasks tables changes) (all_found tables normal) defined.1 bad
+  bad_entry tables log normal bad defined = never_bad log (keyed_tasks tables changes) (all_found changes tables normal) defined.1 bad
+
+-- the places of an entry have what their changes leave
+made_each : (log own : State) (sites : List Site) → AreOn log own sites → AllByRecursion (λ (t : Task). IsSome (after (action t.change) (log t.name t.key))) (map site_task sites)
+made_each log own [] on = tt
+made_each log own (site ∷ sites) on = (
+  some_is (after (action site.at.change) (log site.at.table.now.name site.at.key.now)) site.theirs (ap (λ (x : Place). after (action site.at.change) x) (sym on.0.log_is) ∙ site.made),
+  made_each log own sites on.1,
+)
+
+or_right : (a b : Bool) → a ≡ false → (a || b) ≡ true → b ≡ true
+or_right true b e either = absurd cc
+or_right false b e either = either
+
+or_none : (a b : Bool) → (a || b) ≡ false → (a ≡ false) × (b ≡ false)
+or_none true b e = absurd cc
+or_none false b e = (refl, e)
 
 -- ---- the places are ready, and the entry is taken
 
@@ -103,28 +115,58 @@ module _ (tables : List TableDef) (changes : List TableChanges) (fits : FitsCata
   all_tasks = are ∙ sym (tasks_are tables changes (of_one tables changes fits) normal)
 
   none_there : (name key : List ℕ) → AreElsewhere (name, key) (keyed_tasks tables changes) → change_of name key changes ≡ None
-  none_there name key away = sym (found_is tables name key changes normal) ∙ none_elsewhere name key (keyed_tasks tables changes) away
+  none_there = nothing_there tables changes normal (keyed_tasks tables changes) refl
+
+  defined_at : (log : State) (name key : List ℕ) → IsSome (left_at changes log name key) ⊎ AreElsewhere (name, key) (keyed_tasks tables changes) → IsSome (left_at changes log name key)
+  defined_at log name key (inl is) = is
+  defined_at log name key (inr away) = subst (λ (c : Option Change). IsSome (after_any (action_any c) (log name key))) (sym (none_there name key away)) refl
+
+  all_defined : (log own : State) → AreOn log own sites → IsDefinedOn tables changes log
+  all_defined log own on =
+      let made = subst (λ (ts : List Task). AllByRecursion (λ (t : Task). IsSome (after (action t.change) (log t.name t.key))) ts) are (made_each log own sites on) in (
+        fits,
+        λ n k. defined_at log n k (there_or_elsewhere (λ name key. IsSome (left_at changes log name key)) (keyed_tasks tables changes)
+            (defined_each changes log (keyed_tasks tables changes) (all_found changes tables normal) made) n k),
+      )
 
   module _ {P : Type 0} (picks : P → Clash → Wish → P → Type 0) (p q : P) where
-    pub stops_entry : (log own : State) (conflict : Conflict) → StopsAt picks log own (map site_task sites) p conflict q → StopsAt picks log own (tasks tables (groups_of changes)) p conflict q
-    stops_entry log own conflict stops = subst (λ (ts : List Task). StopsAt picks log own ts p conflict q) all_tasks stops
+    pub stops_entry : (flight : Option (List TableChanges)) (seen : View) (conflict : Conflict) → AreOn (base flight seen) seen.tables sites
+        → StopsAt picks (base flight seen) seen.tables (map site_task sites) p conflict q → StopsTaking picks tables flight changes seen p conflict q
+    stops_entry flight seen conflict on stops = record {
+      defined = all_defined (base flight seen) seen.tables on;
+      stops = subst (λ (ts : List Task). StopsAt picks (base flight seen) seen.tables ts p conflict q) all_tasks stops;
+    }
 
-    module _ (flight : Option (List TableChanges)) (seen view end : View) (same_own : AreSame seen.tables view.tables) (same_log : AreSame (base flight seen) (middle view))
-        (decided : IsDecided picks (base flight seen) seen.tables (map site_task sites) view p end q) where
-      at_entry : IsDecided picks (base flight seen) seen.tables (keyed_tasks tables changes) view p end q
-      at_entry = subst (λ (ts : List Task). IsDecided picks (base flight seen) seen.tables ts view p end q) are decided
+    module _ (flight : Option (List TableChanges)) (seen view end : View) (folded : IsFlightFolded tables flight seen view)
+        (decided : IsDecided picks tables (base flight seen) seen.tables (map site_task sites) view p end q) where
+      at_entry : IsDecided picks tables (base flight seen) seen.tables (keyed_tasks tables changes) view p end q
+      at_entry = subst (λ (ts : List Task). IsDecided picks tables (base flight seen) seen.tables ts view p end q) are decided
+
+      -- a place where the entry has no change
+      beside : (name key : List ℕ) → is_some (change_of name key changes) ≡ false → IsStill view end name key
+      beside name key none = at_entry.elsewhere name key (where_none tables changes normal (keyed_tasks tables changes) refl name key none)
 
       left_here : (name key : List ℕ) → (left_at changes (base flight seen) name key ≡ Some (middle end name key)) ⊎ AreElsewhere (name, key) (keyed_tasks tables changes)
           → left_at changes (base flight seen) name key ≡ Some (middle end name key)
       left_here name key (inl is) = is
       left_here name key (inr away) =
           ap (λ (c : Option Change). after_any (action_any c) (base flight seen name key)) (none_there name key away)
-          ∙ ap (λ (x : Place). Some x) (sym ((at_entry.elsewhere name key away).1 ∙ same_log name key))
+          ∙ ap (λ (x : Place). Some x) (sym (still_log view end name key (at_entry.elsewhere name key away) ∙ folded.log name key))
 
-      own_stays : (name key : List ℕ) → change_of name key changes ≡ None → (change_of name key changes ≡ None → ⊥) ⊎ AreElsewhere (name, key) (keyed_tasks tables changes)
-          → end.tables name key ≡ seen.tables name key
-      own_stays name key none (inl never) = absurd (never none)
-      own_stays name key none (inr away) = (at_entry.elsewhere name key away).0 ∙ same_own name key
+      direct_at : (name key : List ℕ) → is_touched flight changes name key ≡ true → IsDirectAt tables end name key
+      direct_at name key touched =
+          by_test (is_some (change_of name key changes)) _
+          (λ e. where_some tables changes normal (keyed_tasks tables changes) refl (IsDirectAt tables end) at_entry.direct name key e)
+          (λ e. still_direct tables view end name key (beside name key e)
+          (folded.direct name key (or_right (is_some (change_of name key changes)) (is_some (change_of name key (flown flight))) e touched)))
+
+      pub pends_over : IsPendingOver tables flight changes seen end
+      pends_over = record {
+        touched = λ table key inside is. direct_at table.name key is table inside refl;
+        untouched = λ n k is.
+            let none = or_none (is_some (change_of n k changes)) (is_some (change_of n k (flown flight))) is in
+            (beside n k none.0).pending ∙ (folded.still n k none.1).pending;
+      }
 
       pub is_taken : IsTaken picks tables flight changes seen end p q
       is_taken = record {
@@ -134,8 +176,8 @@ module _ (tables : List TableDef) (changes : List TableChanges) (fits : FitsCata
           λ n k. left_here n k (there_or_elsewhere (λ name key. left_at changes (base flight seen) name key ≡ Some (middle end name key)) (keyed_tasks tables changes)
               (left_each changes (base flight seen) (middle end) (keyed_tasks tables changes) (all_found changes tables normal) at_entry.theirs) n k),
         );
-        others = λ n k none. own_stays n k none (there_or_elsewhere (λ name key. change_of name key changes ≡ None → ⊥) (keyed_tasks tables changes)
-            (never_none changes (keyed_tasks tables changes) (all_found changes tables normal)) n k);
+        others = λ n k none. (beside n k (ap (λ (c : Option Change). is_some c) none)).row ∙ folded.same n k;
+        pending = pends_over;
       }
 
 -- ---- faults

@@ -1,4 +1,5 @@
 mod Local
+mod Rest
 mod Stepped
 mod Folded
 mod Surveyed
@@ -10,3 +11,12 @@ mod Whole
 mod Committed
 mod Gathered
 pub mod Called
+mod OneTaking
+mod EntryPlaces
+mod Worked
+mod OneContents
+mod TakenOnce
+mod PutBodies
+mod TakenContents
+mod TakenSome
+mod TakenStored

@@ -21,6 +21,7 @@ use Rattle.cs_group.specs.Combine.{with_flag_any}
 use Rattle.cs_apply.specs.Applies.{IsConflictOf}
 use Rattle.cs_apply.specs.Spots.{by_test}
 use Rattle.cs_apply.specs.Tasks.{Task}
+use Rattle.cs_pending.specs.Nets.{action_with_flag}
 use Rattle.cs_taking.specs.Takes.{IsClashOf}
 
 -- where there is no net change, both are the same
@@ -36,17 +37,18 @@ none_first : (change : Option Action) → slice_get (listed (with_flag_any false
 none_first None e = refl
 none_first (Some change) e = absurd cc
 
--- the first of the list is the net change
-pub first_is : (change : Option Action) (local : Change) → slice_get (listed (with_flag_any false change)) 0 ≡ Some local → change ≡ Some (action local)
-first_is None local e = absurd cc
-first_is (Some (Inserts new)) local e = ap (λ (o : Option Change). action_any o) e
-first_is (Some (Deletes old)) local e = ap (λ (o : Option Change). action_any o) e
-first_is (Some (Updates old new)) local e = ap (λ (o : Option Change). action_any o) e
+whole_is : (change : Option Change) (local : Change) → slice_get (listed change) 0 ≡ Some local → change ≡ Some local
+whole_is None local e = absurd cc
+whole_is (Some change) local e = e
 
+-- the first of the list is the net change, not indirect
 pub local_is : (marks : List Bool) (log own : Place) (changes : List Change) (local : Change) → changes ≡ listed (with_flag_any false (net marks log own)) → slice_get changes 0 ≡ Some local
-    → net marks log own ≡ Some (action local)
+    → with_flag_any false (net marks log own) ≡ Some local
 local_is marks log own changes local are first =
-    first_is (net marks log own) local (ap (λ (cs : List Change). slice_get cs 0) (sym are) ∙ first)
+    whole_is (with_flag_any false (net marks log own)) local (ap (λ (cs : List Change). slice_get cs 0) (sym are) ∙ first)
+
+pub action_is : (change : Option Action) (local : Change) → with_flag_any false change ≡ Some local → change ≡ Some (action local)
+action_is change local is = sym (action_with_flag false change) ∙ ap (λ (c : Option Change). action_any c) is
 
 pub no_local : KindTells → (marks : List Bool) (log own theirs : Place) (change : Action) (k : Kind) (changes : List Change)
     → changes ≡ listed (with_flag_any false (net marks log own)) → slice_get changes 0 ≡ None
@@ -82,10 +84,10 @@ gone_deletes tells replaces marks None (Some row) theirs change local made stuck
     absurd (let none : Some row ≡ None = no_row change (Some row) ((replaces change (Some row)).1 stuck) in cc)
 
 pub is_clash : (task : Task) (log own : Place) (clash : Clash) (conflict : Conflict) (local : Change) → clash.conflict ≡ conflict → clash.local ≡ local
-    → IsConflictOf task.table task.change own conflict → net task.marks log own ≡ Some (action local) → IsClashOf task log own clash
+    → IsConflictOf task.table task.change own conflict → with_flag_any false (net task.marks log own) ≡ Some local → IsClashOf task log own clash
 is_clash task log own clash conflict local c l of is = record {
   of_conflict = subst (λ (x : Conflict). IsConflictOf task.table task.change own x) (sym c) of;
-  of_local = is ∙ ap (λ (x : Change). Some (action x)) (sym l);
+  of_local = is ∙ ap (λ (x : Change). Some x) (sym l);
 }
 
 pub able : (wish : Wish) (k shown : Kind) (covered : Bool) → shown ≡ k → IsLawfulWish wish shown covered → wish ≡ Take → k ≢ NotFound

@@ -30,6 +30,7 @@ use Rattle.cs_rebaser.specs.Diamond.{Diamond, IsLawfulOver, outcome}
 use Rattle.cs_rebaser.specs.Merge.{merge}
 use Rattle.cs_taking.specs.Steps.{LeavesOwn}
 use Rattle.cs_taking.specs.Takes.{Asks}
+use Rattle.cs_taking.proofs.Local.{action_is}
 use Rattle.cs_taking.proofs.Standing.{replaced_stands}
 
 some_same : {A : Type 0} {x y : A} → Some x ≡ Some y → x ≡ y
@@ -78,7 +79,7 @@ module _ {P : Type 0} (picks : P → Clash → Wish → P → Type 0) (diamond :
     on,
     inr (clash, is, picked),
     merged_by diamond normal_is_net task.marks key (resolution_of wish) log own theirs merged (action task.change) normal fb fm made
-        (asked_lawful (resolution_of wish) (net task.marks log own) (action clash.local) (action task.change) own clash.conflict.kind clash.covers is.of_local is.of_conflict.of_kind
+        (asked_lawful (resolution_of wish) (net task.marks log own) (action clash.local) (action task.change) own clash.conflict.kind clash.covers (action_is (net task.marks log own) clash.local is.of_local) is.of_conflict.of_kind
         (clash.covers_is ∙ ap (λ (c : Change). covers (action clash.local) (action c)) is.of_conflict.of_change) lawful (not_abort wish on))
         (ap (λ k. effect_at k (resolution_of wish) (action task.change) own) is.of_conflict.of_kind ∙ left),
   )

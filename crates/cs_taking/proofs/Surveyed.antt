@@ -1,10 +1,11 @@
--- A change that isn't defined on the log's row.
-use Rattle.std.proofs.Common.{◌≡◌, Bool, true, false, List, [], ◌∷◌, None, sym, ap, ◌∙◌, inl, inr}
+-- The places of an entry surveyed: a change that isn't defined on the log's row, and the places that are left.
+use Rattle.std.proofs.Common.{◌≡◌, ◌++◌, List, [], ◌∷◌, None, sym, ap, ◌∙◌, append_assoc, inl, inr}
+use Rattle.std.proofs.lemmas.List.{append-nil}
 use Rattle.cs_value.specs.Key.{Place}
 use Rattle.cs_change.specs.Action.{action, after}
 use Rattle.cs_normal.specs.State.{State}
 use Rattle.cs_apply.specs.Tasks.{Task}
-use Rattle.cs_taking.specs.Steps.{HasBad, IsSurveyed}
+use Rattle.cs_taking.specs.Steps.{HasBad}
 
 pub bad_here : (log : State) (t : Task) (ts : List Task) (place : Place) → place ≡ log t.name t.key → after (action t.change) place ≡ None → HasBad log (t ∷ ts)
 unfolding HasBad
@@ -20,6 +21,11 @@ pub bad_behind : (log : State) (t : Task) (ts : List Task) → HasBad log ts →
 unfolding HasBad
 bad_behind log t ts bad = inr bad
 
-pub surveyed_more : (all : Bool) (good bad more : Type 0) → (bad → more) → IsSurveyed all good bad → IsSurveyed all good more
-surveyed_more true good bad more on is = is
-surveyed_more false good bad more on is = on is
+-- ---- the places surveyed, and those that are left
+
+pub sites_more : (old new : List Task) (t : Task) (rest left all : List Task) → new ≡ old ++ t ∷ [] → left ≡ t ∷ rest → old ++ left ≡ all → new ++ rest ≡ all
+sites_more old new t rest left all grown parts so_far =
+    ap (λ (ts : List Task). ts ++ rest) grown ∙ append_assoc old (t ∷ []) rest ∙ ap (λ (ts : List Task). old ++ ts) (sym parts) ∙ so_far
+
+pub sites_all : (now left all : List Task) → left ≡ [] → now ++ left ≡ all → now ≡ all
+sites_all now left all none is = sym (append-nil now) ∙ ap (λ (ts : List Task). now ++ ts) (sym none) ∙ is

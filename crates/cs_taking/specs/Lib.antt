@@ -1,3 +1,4 @@
 pub mod Made
 pub mod Takes
 pub mod Steps
+pub mod Laws

@@ -1,11 +1,12 @@
 -- What the code holds on its way: no definition that a public clause cites.
-use Rattle.std.specs.Prelude.{◌≡◌, ◌≢◌, ◌⊎◌, ℕ, Bool, true, false, List, [], ◌∷◌, map, slice_get, Option, Some, None}
+use Rattle.std.specs.Prelude.{◌≡◌, ◌≢◌, ◌⊎◌, ℕ, Bool, true, false, is_some, List, [], ◌∷◌, map, slice_get, Option, Some, None, Contains}
 use Rattle.std.specs.FinMap.{len}
 use Rattle.std.specs.List.{AllByRecursion}
 use Rattle.cs_value.specs.Key.{Place}
 use Rattle.cs_value.specs.declared.catalog.TableDef.{TableDef}
 use Rattle.cs_change.specs.Action.{action, after}
 use Rattle.cs_keyed.specs.Changes.{IsEntry}
+use Rattle.cs_normal.specs.Normal.{change_of}
 use Rattle.cs_normal.specs.State.{State, AreSame, IsStateOf}
 use Rattle.cs_normal.specs.declared.normal.TableChanges.{TableChanges}
 use Rattle.cs_conflict.specs.Conflict.{kind, answered}
@@ -23,9 +24,9 @@ use Rattle.cs_store.specs.declared.names.MetaName.{MetaName}
 use Rattle.cs_store.specs.declared.names.MetaName.TheVariants.{Flight, Version}
 use Rattle.cs_wire.specs.Numbers.{eight_bytes}
 use Rattle.cs_pending.specs.Settling.{Settles}
-use Rattle.cs_pending.specs.View.{View, middle}
+use Rattle.cs_pending.specs.View.{View, direct_net, middle}
 use Rattle.cs_pending.specs.declared.settling.Settling.{Settling}
-use Rattle.cs_position.specs.Shows.{ShowsAt, base}
+use Rattle.cs_position.specs.Shows.{ShowsAt, base, flown}
 use Rattle.cs_position.specs.declared.position.Position.{Position}
 use Rattle.cs_taking.specs.Takes.{IsClashOf, TakeAll, taken}
 use Rattle.cs_taking.specs.declared.placed.Placed.{Placed}
@@ -48,6 +49,19 @@ IsPlaced tables placed = slice_get tables placed.number ≡ Some placed.table.no
 abbrev pub ArePlaced : List TableDef → List Placed → Type 0
 ArePlaced tables placed = AllByRecursion (IsPlaced tables) placed
 
+-- ---- what is pending at a place
+
+-- at a place of a table, what is pending is the net change from the row before it to the own one, not indirect
+abbrev pub IsDirectAt : List TableDef → View → List ℕ → List ℕ → Type 0
+IsDirectAt tables view name key =
+    (table : TableDef) → Contains tables table → table.name ≡ name
+    → view.pending name key ≡ direct_net table (middle view name key) (view.tables name key)
+
+-- the place has the row and the pending change that it had
+pub record IsStill (view end : View) (name key : List ℕ) : Type 0 where
+  pub row : end.tables name key ≡ view.tables name key
+  pub pending : end.pending name key ≡ view.pending name key
+
 -- ---- what is under way becomes pending
 
 -- at the places to come stands what stood there
@@ -59,10 +73,18 @@ pub record IsFoldReady (tables : List TableDef) (flight : Option (List TableChan
   pub stand : AllByRecursion (λ (t : Task). middle view t.name t.key ≡ middle seen t.name t.key) ts
 
 -- the rows are what they were, and at these places what is pending leads from the log's rows
-pub record IsFolded (flight : Option (List TableChanges)) (seen : View) (ts : List Task) (view end : View) : Type 0 where
+pub record IsFolded (tables : List TableDef) (flight : Option (List TableChanges)) (seen : View) (ts : List Task) (view end : View) : Type 0 where
   pub same : AreSame seen.tables end.tables
   pub there : AllByRecursion (λ (t : Task). middle end t.name t.key ≡ base flight seen t.name t.key) ts
-  pub elsewhere : (name key : List ℕ) → AreElsewhere (name, key) ts → middle end name key ≡ middle view name key
+  pub direct : AllByRecursion (λ (t : Task). IsDirectAt tables end t.name t.key) ts
+  pub elsewhere : (name key : List ℕ) → AreElsewhere (name, key) ts → IsStill view end name key
+
+-- the same of all that is under way: what is pending leads from the log's rows everywhere
+pub record IsFlightFolded (tables : List TableDef) (flight : Option (List TableChanges)) (seen end : View) : Type 0 where
+  pub same : AreSame seen.tables end.tables
+  pub log : AreSame (base flight seen) (middle end)
+  pub direct : (name key : List ℕ) → is_some (change_of name key (flown flight)) ≡ true → IsDirectAt tables end name key
+  pub still : (name key : List ℕ) → is_some (change_of name key (flown flight)) ≡ false → IsStill seen end name key
 
 -- ---- the places of the entry
 
@@ -121,10 +143,11 @@ pub record IsReady (tables : List TableDef) (log own : State) (sites : List Site
   pub stand : AllByRecursion (λ (t : Task). (view.tables t.name t.key ≡ own t.name t.key) × (middle view t.name t.key ≡ log t.name t.key)) (map site_task sites)
 
 -- they were merged
-pub record IsDecided {P : Type 0} (picks : P → Clash → Wish → P → Type 0) (log own : State) (ts : List Task) (view : View) (p : P) (end : View) (q : P) : Type 0 where
+pub record IsDecided {P : Type 0} (picks : P → Clash → Wish → P → Type 0) (tables : List TableDef) (log own : State) (ts : List Task) (view : View) (p : P) (end : View) (q : P) : Type 0 where
   pub takes : TakeAll picks log own (middle end) end.tables ts p q
   pub theirs : AllByRecursion (λ (t : Task). after (action t.change) (log t.name t.key) ≡ Some (middle end t.name t.key)) ts
-  pub elsewhere : (name key : List ℕ) → AreElsewhere (name, key) ts → (end.tables name key ≡ view.tables name key) × (middle end name key ≡ middle view name key)
+  pub direct : AllByRecursion (λ (t : Task). IsDirectAt tables end t.name t.key) ts
+  pub elsewhere : (name key : List ℕ) → AreElsewhere (name, key) ts → IsStill view end name key
 
 -- ---- the commit
 

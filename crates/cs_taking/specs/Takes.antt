@@ -1,13 +1,13 @@
 -- How a replica takes another's entry of the log (profile of this project). `picks p clash wish q` is an answer: at p the picker is
 -- shown the clash, wishes, and is left as q.
-use Rattle.std.specs.Prelude.{◌≡◌, ◌≢◌, ◌⊎◌, ◌+◌, ℕ, List, [], ◌∷◌, Option, Some, None}
+use Rattle.std.specs.Prelude.{◌≡◌, ◌≢◌, ◌⊎◌, ◌+◌, ◌||◌, ℕ, Bool, true, false, is_some, List, [], ◌∷◌, Option, Some, None, Contains}
 use Rattle.std.specs.FinMap.{len}
 use Rattle.cs_value.specs.Key.{Place}
 use Rattle.cs_value.specs.declared.catalog.TableDef.{TableDef}
 use Rattle.cs_change.specs.Action.{action}
 use Rattle.cs_change.specs.Net.{net}
 use Rattle.cs_normal.specs.Normal.{change_of, groups_of}
-use Rattle.cs_normal.specs.State.{State, IsApplied}
+use Rattle.cs_normal.specs.State.{State, IsApplied, IsDefinedOn}
 use Rattle.cs_normal.specs.declared.normal.TableChanges.{TableChanges}
 use Rattle.cs_store.specs.Contents.{Contents}
 use Rattle.cs_conflict.specs.Conflict.{kind}
@@ -18,17 +18,30 @@ use Rattle.cs_conflict.specs.declared.wish.Wish.{Wish}
 use Rattle.cs_conflict.specs.declared.wish.Wish.TheVariants.{Stop}
 use Rattle.cs_apply.specs.Applies.{IsConflictOf}
 use Rattle.cs_apply.specs.Tasks.{Task, tasks}
+use Rattle.cs_group.specs.Combine.{with_flag_any}
 use Rattle.cs_rebaser.specs.Merge.{merge}
-use Rattle.cs_pending.specs.View.{View, middle}
-use Rattle.cs_position.specs.Shows.{ShowsAt, base}
+use Rattle.cs_pending.specs.View.{View, direct_net, middle}
+use Rattle.cs_position.specs.Shows.{ShowsAt, base, flown}
 use Rattle.cs_position.specs.declared.position.Position.{Position}
 use Rattle.cs_taking.specs.declared.fault.TakeFault.{TakeFault}
 use Rattle.cs_taking.specs.declared.fault.TakeFault.TheVariants.{Memory, BadEntry, Stopped, Device}
 
--- the clash shows the other's change, its conflict with the own row, and the own change, which leads from the log's row to it
+-- the clash shows the other's change, its conflict with the own row, and the own change: the net change from the log's row to it,
+-- not indirect
 pub record IsClashOf (task : Task) (log own : Place) (clash : Clash) : Type 0 where
   pub of_conflict : IsConflictOf task.table task.change own clash.conflict
-  pub of_local : net task.marks log own ≡ Some (action clash.local)
+  pub of_local : with_flag_any false (net task.marks log own) ≡ Some clash.local
+
+-- the entry or what is under way has a change at the place
+abbrev pub is_touched : Option (List TableChanges) → List TableChanges → List ℕ → List ℕ → Bool
+is_touched flight entry name key = is_some (change_of name key entry) || is_some (change_of name key (flown flight))
+
+-- where the entry or what was under way has a change, what is pending is the net change from the log's row to the own one, not
+-- indirect; elsewhere it is what it was
+pub record IsPendingOver (tables : List TableDef) (flight : Option (List TableChanges)) (entry : List TableChanges) (before after : View) : Type 0 where
+  pub touched : (table : TableDef) (key : List ℕ) → Contains tables table → is_touched flight entry table.name key ≡ true
+      → after.pending table.name key ≡ direct_net table (middle after table.name key) (after.tables table.name key)
+  pub untouched : (name key : List ℕ) → is_touched flight entry name key ≡ false → after.pending name key ≡ before.pending name key
 
 module _ {P : Type 0} (picks : P → Clash → Wish → P → Type 0) where
   -- where the change doesn't conflict with the own row the picker isn't asked, and any wish serves; else it wishes so
@@ -61,12 +74,18 @@ module _ {P : Type 0} (picks : P → Clash → Wish → P → Type 0) where
       × Asks t (log t.name t.key) (own t.name t.key) p wish between
       × StopsAt log own ts between conflict q)
 
+  -- the entry is defined on the log's rows, and the picker stops at this clash: the first at which it does
+  pub record StopsTaking (tables : List TableDef) (flight : Option (List TableChanges)) (entry : List TableChanges) (before : View) (p : P) (conflict : Conflict) (q : P) : Type 0 where
+    pub defined : IsDefinedOn tables entry (base flight before)
+    pub stops : StopsAt (base flight before) before.tables (tasks tables (groups_of entry)) p conflict q
+
   -- another's entry was taken: the log's rows are now what it leaves of them, and at each of its places the own row is the
   -- three-way merge
   pub record IsTaken (tables : List TableDef) (flight : Option (List TableChanges)) (entry : List TableChanges) (before after : View) (p q : P) : Type 0 where
     pub takes : TakeAll (base flight before) before.tables (middle after) after.tables (tasks tables (groups_of entry)) p q
     pub applied : IsApplied tables entry (base flight before) (middle after)
     pub others : (name key : List ℕ) → change_of name key entry ≡ None → after.tables name key ≡ before.tables name key
+    pub pending : IsPendingOver tables flight entry before after
 
   -- contents in which it was taken at a position
   abbrev pub IsTakenIn : List TableDef → Position → List TableChanges → P → P → Contents → Contents → Type 0

@@ -11,10 +11,11 @@ ghost use Rattle.cs_taking.specs.Takes.{IfStopped, StopsHere};
 ghost use Rattle.cs_taking.specs.declared.fault.TakeFault.TheVariants.{BadEntry, Device};
 
 use crate::fault::TakeFault;
-use crate::rows::{copied, lent, local_of, replacing};
+use crate::rows::{local_of, replacing};
 use crate::site::Site;
 use cs_change::outcome;
 use cs_conflict::{Clash, Conflict, ConflictBuf, Kind, Picker, Wish, kind_of};
+use cs_pending::{copied, lent};
 use cs_record::RowBuf;
 use std::alloc::Global;
 

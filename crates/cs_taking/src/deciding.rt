@@ -34,7 +34,7 @@ pub(crate) fn decide<P: Picker>(
         → IsReady tables log own sites.now view
         → Settles tables contents begun settling.old view
         → OnOk result ((end : View) × Settles tables contents begun settling.new end
-        × IsDecided P.picks log own (map site_task sites.now) view picker.old end picker.new) }
+        × IsDecided P.picks tables log own (map site_task sites.now) view picker.old end picker.new) }
     ensures stopped { (log own : State) → AreOn log own sites.now
         → IfErr result (λ fault. IfStopped fault (λ conflict. StopsAt P.picks log own (map site_task sites.now) picker.old conflict picker.new)) }
     ensures good { result ≢ Err BadEntry }
@@ -49,23 +49,19 @@ pub(crate) fn decide<P: Picker>(
     cs_conflict::laws::made_as_replaced();
     cs_conflict::laws::kind_tells();
     cs_rebaser::laws::diamond();
-    let Some((first, others)) = sites.split_first() else {
-        return Ok(());
-    };
-    let merged = match own_after(alloc, first, picker) {
-        Ok(merged) => merged,
-        Err(fault) => return Err(fault),
-    };
-    settle_at(
-        alloc,
-        &first.at,
-        &first.before,
-        &first.theirs,
-        &merged,
-        settling,
-    )?;
-    match decide(alloc, others, picker, settling) {
-        Ok(()) => Ok(()),
-        Err(fault) => Err(fault),
+    for site in sites {
+        let merged = match own_after(alloc, site, picker) {
+            Ok(merged) => merged,
+            Err(fault) => return Err(fault),
+        };
+        settle_at(
+            alloc,
+            &site.at,
+            &site.before,
+            &site.theirs,
+            &merged,
+            settling,
+        )?;
     }
+    Ok(())
 }

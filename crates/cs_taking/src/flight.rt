@@ -2,15 +2,14 @@
 
 ghost use Rattle.std.specs.Prelude.{◌≡◌, ℕ, List, map, IfOk, OnOk};
 ghost use Rattle.cs_normal.specs.Normal.{FitsCatalog};
-ghost use Rattle.cs_normal.specs.State.{AreSame};
 ghost use Rattle.cs_apply.specs.NormalTasks.{keyed_tasks};
 ghost use Rattle.cs_store.specs.declared.fault.StoreFault.TheVariants.{Device};
 ghost use Rattle.cs_pending.specs.Calls.{ReadsStore};
 ghost use Rattle.cs_pending.specs.Settling.{IsWithin, Settles};
 ghost use Rattle.cs_pending.specs.Shows.{ShowsRows, ShowsSome};
-ghost use Rattle.cs_pending.specs.View.{View, middle};
-ghost use Rattle.cs_position.specs.Shows.{IsUnderWay, base as log_rows, flown};
-ghost use Rattle.cs_taking.specs.Steps.{ArePlaced, task_of};
+ghost use Rattle.cs_pending.specs.View.{View};
+ghost use Rattle.cs_position.specs.Shows.{IsUnderWay, flown};
+ghost use Rattle.cs_taking.specs.Steps.{ArePlaced, IsFlightFolded, task_of};
 
 use crate::placed::{Placed, place_all};
 use crate::reading::fold_flight;
@@ -52,7 +51,7 @@ pub(crate) fn fold_all<S: RowStore>(
     ensures folded { S.honest store.new → (seen : View) → ShowsRows catalog.now (S.contents store.old) seen → IsUnderWay catalog.now flight.now seen
         → (begun : ℕ) → Settles catalog.now (S.contents store.old) begun settling.old seen
         → OnOk result ((end : View) × Settles catalog.now (S.contents store.old) begun settling.new end
-        × AreSame seen.tables end.tables × AreSame (log_rows flight.now seen) (middle end)) }
+        × IsFlightFolded catalog.now flight.now seen end) }
 {
     let placed = place_flight(alloc, catalog, flight)?;
     match fold_flight(alloc, store, catalog, flight, placed.as_slice(), settling) {

@@ -1,18 +1,17 @@
 //! The edits by which an entry is taken.
 
 ghost use Rattle.std.specs.Prelude.{◌≡◌, ℕ, map, Err, IfErr, IfOk, IfSome, OnOk};
-ghost use Rattle.cs_normal.specs.Normal.{FitsCatalog, groups_of};
-ghost use Rattle.cs_normal.specs.State.{AreSame, IsDefinedOn};
+ghost use Rattle.cs_normal.specs.Normal.{FitsCatalog};
+ghost use Rattle.cs_normal.specs.State.{IsDefinedOn};
 ghost use Rattle.cs_apply.specs.NormalTasks.{keyed_tasks};
-ghost use Rattle.cs_apply.specs.Tasks.{tasks};
 ghost use Rattle.cs_store.specs.declared.fault.StoreFault.TheVariants as stored;
 ghost use Rattle.cs_pending.specs.Calls.{ReadsStore};
 ghost use Rattle.cs_pending.specs.Settling.{IsWithin, Settles};
 ghost use Rattle.cs_pending.specs.Shows.{ShowsRows, ShowsSome};
-ghost use Rattle.cs_pending.specs.View.{View, middle};
+ghost use Rattle.cs_pending.specs.View.{View};
 ghost use Rattle.cs_position.specs.Shows.{IsUnderWay, base as log_rows};
-ghost use Rattle.cs_taking.specs.Steps.{AreOn, AreSitesPlaced, HasBad, IsFound, site_task};
-ghost use Rattle.cs_taking.specs.Takes.{IfStopped, IsTaken, StopsAt};
+ghost use Rattle.cs_taking.specs.Steps.{AreOn, AreSitesPlaced, HasBad, IsFlightFolded, IsFound, site_task};
+ghost use Rattle.cs_taking.specs.Takes.{IfStopped, IsTaken, StopsTaking};
 ghost use Rattle.cs_taking.specs.declared.fault.TakeFault.TheVariants.{BadEntry, Device};
 
 use crate::deciding::decide;
@@ -75,7 +74,7 @@ fn fold_and_find<'a, S: RowStore>(
     ensures folded { S.honest store.new → (seen : View) → ShowsRows catalog.now (S.contents store.old) seen → IsUnderWay catalog.now flight.now seen
         → (begun : ℕ) → Settles catalog.now (S.contents store.old) begun settling.old seen
         → OnOk result ((end : View) × Settles catalog.now (S.contents store.old) begun settling.new end
-        × AreSame seen.tables end.tables × AreSame (log_rows flight.now seen) (middle end)) }
+        × IsFlightFolded catalog.now flight.now seen end) }
 {
     match fold_all(alloc, store, catalog, flight, settling) {
         Ok(()) => {}
@@ -109,9 +108,10 @@ pub(crate) fn gather_edits<S: RowStore, P: Picker>(
         × IsTaken P.picks catalog.now flight.now changes.now seen end picker.old picker.new) }
     ensures bad { S.honest store.new → (seen : View) → ShowsRows catalog.now (S.contents store.old) seen
         → result ≡ Err BadEntry → IsDefinedOn catalog.now changes.now (log_rows flight.now seen) → ⊥ }
+    ensures unasked { result ≡ Err BadEntry → picker.new ≡ picker.old }
     ensures stopped { S.honest store.new → (seen : View) → ShowsRows catalog.now (S.contents store.old) seen
-        → IfErr result (λ fault. IfStopped fault (λ conflict. StopsAt P.picks (log_rows flight.now seen) seen.tables
-        (tasks catalog.now (groups_of changes.now)) picker.old conflict picker.new)) }
+        → IfErr result (λ fault. IfStopped fault (λ conflict.
+        StopsTaking P.picks catalog.now flight.now changes.now seen picker.old conflict picker.new)) }
 {
     let _tables = catalog.tables();
     let _normal = changes.tables();

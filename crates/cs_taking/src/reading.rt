@@ -15,11 +15,11 @@ ghost use Rattle.cs_position.specs.Shows.{base as log_rows};
 ghost use Rattle.cs_taking.specs.Steps.{AreOn, ArePlaced, AreSitesPlaced, HasBad, IsFolded, IsFoldReady, IsPlaced, IsSurveyed, site_task, task_of};
 
 use crate::placed::Placed;
-use crate::rows::{before_flight, lent};
+use crate::rows::before_flight;
 use crate::site::Site;
 use cs_change::outcome;
 use cs_normal::Normal;
-use cs_pending::{Settling, Standing, standing_at};
+use cs_pending::{Settling, Standing, lent, standing_at};
 use cs_record::RowBuf;
 use cs_store::{RowStore, StoreFault};
 use cs_value::{Catalog, Memory};
@@ -123,35 +123,31 @@ pub(crate) fn fold_flight<S: RowStore>(
     store: &mut S,
     catalog: &Catalog,
     flight: &Option<Normal>,
-    placed: &[Placed<'_>],
+    places: &[Placed<'_>],
     settling: &mut Settling,
 ) -> Result<(), StoreFault>
-    requires { ArePlaced catalog.now placed.now }
+    requires { ArePlaced catalog.now places.now }
     ensures reads { ReadsStore S.honest S.contents S.failed S.may_leave S.misreads Device
         (ShowsSome catalog.now (S.contents store.old)) store.old store.new result }
     ensures within { IsWithin catalog.now settling.old → OnOk result (IsWithin catalog.now settling.new) }
     ensures folded { S.honest store.new → (seen : View) → ShowsRows catalog.now (S.contents store.old) seen
         → (contents : Contents) (begun : ℕ) (view : View)
-        → IsFoldReady catalog.now flight.now seen (map task_of placed.now) view
+        → IsFoldReady catalog.now flight.now seen (map task_of places.now) view
         → Settles catalog.now contents begun settling.old view
         → OnOk result ((end : View) × Settles catalog.now contents begun settling.new end
-        × IsFolded flight.now seen (map task_of placed.now) view end) }
+        × IsFolded catalog.now flight.now seen (map task_of places.now) view end) }
 {
     cs_value::laws::catalogs();
     cs_normal::laws::one_key_stands();
     cs_change::laws::net_takes();
     let _tables = catalog.tables();
-    let Some((first, others)) = placed.split_first() else {
-        return Ok(());
-    };
-    match fold_one(alloc, store, catalog, flight, first, settling) {
-        Ok(()) => {}
-        Err(fault) => return Err(fault),
+    for placed in places {
+        match fold_one(alloc, store, catalog, flight, placed, settling) {
+            Ok(()) => {}
+            Err(fault) => return Err(fault),
+        }
     }
-    match fold_flight(alloc, store, catalog, flight, others, settling) {
-        Ok(()) => Ok(()),
-        Err(fault) => Err(fault),
-    }
+    Ok(())
 }
 
 /// Appends a place of the entry. It answers whether the change is defined on the log's row.
@@ -203,29 +199,25 @@ pub(crate) fn survey<'a, S: RowStore>(
     store: &mut S,
     catalog: &Catalog,
     flight: &Option<Normal>,
-    placed: &[Placed<'a>],
+    places: &[Placed<'a>],
     sites: &mut Vec<Site<'a>>,
 ) -> Result<bool, StoreFault>
-    requires { ArePlaced catalog.now placed.now }
+    requires { ArePlaced catalog.now places.now }
     ensures reads { ReadsStore S.honest S.contents S.failed S.may_leave S.misreads Device
         (ShowsSome catalog.now (S.contents store.old)) store.old store.new result }
-    ensures tasks { IfOk result (λ all. all ≡ true → map site_task sites.new.items ≡ map site_task sites.old.items ++ map task_of placed.now) }
+    ensures tasks { IfOk result (λ all. all ≡ true → map site_task sites.new.items ≡ map site_task sites.old.items ++ map task_of places.now) }
     ensures placed { IfOk result (λ all. AreSitesPlaced catalog.now sites.old.items → AreSitesPlaced catalog.now sites.new.items) }
     ensures surveyed { S.honest store.new → (seen : View) → ShowsRows catalog.now (S.contents store.old) seen
         → IfOk result (λ all. AreOn (log_rows flight.now seen) seen.tables sites.old.items
         → IsSurveyed all (AreOn (log_rows flight.now seen) seen.tables sites.new.items)
-        (HasBad (log_rows flight.now seen) (map task_of placed.now))) }
+        (HasBad (log_rows flight.now seen) (map task_of places.now))) }
 {
-    let Some((first, others)) = placed.split_first() else {
-        return Ok(true);
-    };
-    match survey_one(alloc, store, catalog, flight, first, sites) {
-        Ok(true) => {}
-        Ok(false) => return Ok(false),
-        Err(fault) => return Err(fault),
+    for placed in places {
+        match survey_one(alloc, store, catalog, flight, placed, sites) {
+            Ok(true) => {}
+            Ok(false) => return Ok(false),
+            Err(fault) => return Err(fault),
+        }
     }
-    match survey(alloc, store, catalog, flight, others, sites) {
-        Ok(all) => Ok(all),
-        Err(fault) => Err(fault),
-    }
+    Ok(true)
 }

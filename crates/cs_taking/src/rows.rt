@@ -14,50 +14,10 @@ ghost use Rattle.cs_position.specs.Shows.{flown};
 use cs_change::{Change, ChangesBuf, Scratch, put_set_columns};
 use cs_group::net_into;
 use cs_normal::Normal;
+use cs_pending::{copied, lent, undone};
 use cs_record::{Row, RowBuf};
 use cs_value::{Memory, TableDef};
 use std::alloc::Global;
-
-/// The row or none, where it stands.
-pub(crate) fn lent(row: &Option<RowBuf>) -> Option<Row<'_>>
-    ensures { result ≡ row.now }
-{
-    match row {
-        None => None,
-        Some(row) => Some(row.as_row()),
-    }
-}
-
-/// A row or none, in memory of its own.
-pub(crate) fn copied(alloc: Global, row: Option<&Row<'_>>) -> Result<Option<RowBuf>, Memory>
-    ensures { IfOk result (λ copied. copied ≡ option_copied row.entry) }
-{
-    match row {
-        None => Ok(None),
-        Some(row) => Ok(Some(RowBuf::of_row(alloc, row)?)),
-    }
-}
-
-/// What a place held before a change that left this there.
-#[tactic(auto, unfolding(cs_pending::specs::View::undo))]
-fn undone(
-    alloc: Global,
-    change: &Change<'_>,
-    row: Option<&Row<'_>>,
-) -> Result<Option<RowBuf>, Memory>
-    ensures { IfOk result (λ before. before ≡ undo (action_any (Some change.now)) (option_copied row.entry)) }
-{
-    match (change, row) {
-        (Change::Insert { .. }, _) => Ok(None),
-        (Change::Delete { old_row, .. }, _) => Ok(Some(RowBuf::of_row(alloc, old_row)?)),
-        (Change::Update { .. }, None) => Ok(None),
-        (Change::Update { old_fields, .. }, Some(row)) => {
-            let mut before = RowBuf::new(alloc);
-            put_set_columns(old_fields, row, &mut before)?;
-            Ok(Some(before))
-        }
-    }
-}
 
 /// The change at a place of what is under way, if there is one.
 fn flown_at<'a>(flight: &'a Option<Normal>, table: &TableDef, key: &[u8]) -> Option<Change<'a>>

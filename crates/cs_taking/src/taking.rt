@@ -2,13 +2,12 @@
 
 ghost use Rattle.std.specs.Prelude.{◌≡◌, ◌⊎◌, ◌<◌, ◌-◌, ◌^◌, Err, IfOk, IfErr, OnErr, OnOk};
 ghost use Rattle.std.specs.FinMap.{len};
-ghost use Rattle.cs_normal.specs.Normal.{FitsCatalog, groups_of};
+ghost use Rattle.cs_normal.specs.Normal.{FitsCatalog};
 ghost use Rattle.cs_normal.specs.State.{IsDefinedOn};
-ghost use Rattle.cs_apply.specs.Tasks.{tasks};
 ghost use Rattle.cs_pending.specs.Calls.{WritesStore};
 ghost use Rattle.cs_pending.specs.View.{View};
 ghost use Rattle.cs_position.specs.Shows.{ShowsAt, ShowsSomeAt, base as log_rows};
-ghost use Rattle.cs_taking.specs.Takes.{IfStopped, IsTakenIn, StopsAt, taken};
+ghost use Rattle.cs_taking.specs.Takes.{IfStopped, IsTakenIn, StopsTaking, taken};
 ghost use Rattle.cs_taking.specs.declared.fault.TakeFault.TheVariants.{BadEntry, Device};
 
 use crate::committing::commit_taken;
@@ -42,9 +41,10 @@ fn take_at<S: RowStore, P: Picker>(
         → IfOk result (λ count. count ≡ len (S.contents store.new).pending) }
     ensures bad { S.honest store.new → (view : View) → ShowsAt catalog.now (S.contents store.old) position.now view
         → result ≡ Err BadEntry → IsDefinedOn catalog.now changes.now (log_rows position.now.flight view) → ⊥ }
+    ensures unasked { result ≡ Err BadEntry → picker.new ≡ picker.old }
     ensures stopped { S.honest store.new → (view : View) → ShowsAt catalog.now (S.contents store.old) position.now view
-        → IfErr result (λ fault. IfStopped fault (λ conflict. StopsAt P.picks (log_rows position.now.flight view) view.tables
-        (tasks catalog.now (groups_of changes.now)) picker.old conflict picker.new)) }
+        → IfErr result (λ fault. IfStopped fault (λ conflict.
+        StopsTaking P.picks catalog.now position.now.flight changes.now view picker.old conflict picker.new)) }
 {
     let mut settling = Settling::new(alloc, position.pending);
     match gather_edits(
@@ -67,9 +67,9 @@ fn take_at<S: RowStore, P: Picker>(
 
 /// Takes another's entry of the log, the one at the position's version: at each of its places the own row becomes the three-way merge
 /// of the log's row, the own one and what the entry leaves, by the picker's wishes, which is asked once at each change that
-/// conflicts with the own row, in the entry's order. What is pending then leads from what the entry leaves to the own rows, what
-/// was under way is pending too, and the version is one more. It is one commit; places that neither the entry nor the push
-/// under way names are neither read nor written. (Profile of this project.)
+/// conflicts with the own row, in the entry's order. At the places of the entry and of the push under way, what is pending is then
+/// the net change from what the entry leaves to the own row, not indirect; nothing is under way, and the version is one more. It is
+/// one commit; places that neither the entry nor the push under way names are neither read nor written. (Profile of this project.)
 ///
 /// # Errors
 ///
@@ -97,13 +97,19 @@ pub fn take_changes<S: RowStore, P: Picker>(
         → OnOk result (position.new.pending ≡ len (S.contents store.new).pending) }
     ensures kept { OnErr result (position.new ≡ position.old) }
 
-    // What is told of the entry, and of the picker, holds.
+    // What is told of the entry holds, and then nothing was asked.
     ensures bad { S.honest store.new → (view : View) → ShowsAt catalog.now (S.contents store.old) position.old view
         → result ≡ Err BadEntry
         → (position.old.version ≡ 2 ^ 64 - 1) ⊎ (IsDefinedOn catalog.now changes.now (log_rows position.old.flight view) → ⊥) }
+    ensures unasked { result ≡ Err BadEntry → picker.new ≡ picker.old }
+
+    // There is no entry behind the last version.
+    ensures last { position.old.version ≡ 2 ^ 64 - 1 → result ≡ Err BadEntry }
+
+    // What is told of the picker holds.
     ensures stopped { S.honest store.new → (view : View) → ShowsAt catalog.now (S.contents store.old) position.old view
-        → IfErr result (λ fault. IfStopped fault (λ conflict. StopsAt P.picks (log_rows position.old.flight view) view.tables
-        (tasks catalog.now (groups_of changes.now)) picker.old conflict picker.new)) }
+        → IfErr result (λ fault. IfStopped fault (λ conflict.
+        StopsTaking P.picks catalog.now position.old.flight changes.now view picker.old conflict picker.new)) }
 {
     if position.version == u64::MAX || !changes.fits(catalog) {
         return Err(TakeFault::BadEntry);

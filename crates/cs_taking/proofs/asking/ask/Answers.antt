@@ -1,8 +1,9 @@
 use Rattle.std.proofs.Common.{◌∙◌, Some, ap, refl, sym}
 use Rattle.cs_change.specs.Action.{action}
+use Rattle.cs_change.specs.Net.{net}
 use Rattle.cs_conflict.specs.declared.conflict.Conflict.{Conflict}
 use Rattle.cs_taking.specs.Steps.{site_task}
-use Rattle.cs_taking.proofs.Local.{able, gone_deletes, is_clash, local_is, no_local}
+use Rattle.cs_taking.proofs.Local.{able, action_is, gone_deletes, is_clash, local_is, no_local}
 use Rattle.cs_taking.proofs.asking.ask.Goals as goal
 
 pub unreachable-requires : goal.unreachable-requires
@@ -14,7 +15,7 @@ new-clash-requires-clause-not_found g c = λ gone.
     let own = c.args.site.now.before.mine in
     let local = local_is c.args.site.now.at.table.now.key_marks c.args.site.now.before.base own c.in_ok-changes.changes c.in-Some.local c.in_ok-changes.ensures (sym c.get.ensures ∙ c.in-Some.is) in
     gone_deletes c.kind_tells.ensures c.replaces_unless_not_found.ensures c.args.site.now.at.table.now.key_marks c.args.site.now.before.base own c.args.site.now.theirs (action c.args.site.now.at.change) c.in-Some.local
-    c.args.site.now.made (c.requires.stuck ∙ ap (λ k. Some k) gone) local
+    c.args.site.now.made (c.requires.stuck ∙ ap (λ k. Some k) gone) (action_is (net c.args.site.now.at.table.now.key_marks c.args.site.now.before.base own) c.in-Some.local local)
 
 pub returns-in-Stop-clause-stopped : goal.returns-in-Stop-clause-stopped
 returns-in-Stop-clause-stopped g c =

@@ -9,4 +9,4 @@ returns-in-Ok-clause-folded g c = λ honest seen shows under begun settles.
     let ts = map task_of c.as_slice.result.now in
     let are = ap (λ (ps : List Placed). map task_of ps) c.as_slice.ensures.value ∙ c.in_ok-placed.ensures.tasks under.fits in
     let rest = c.in-Ok.ensures.folded honest seen shows _ begun seen (fold_begins c.args.catalog.now c.args.flight.now seen _ ts are shows under) settles in
-    (rest.0, rest.1, rest.2.same, fold_ends c.args.catalog.now c.args.flight.now seen _ ts are shows under rest.0 rest.2)
+    (rest.0, rest.1, fold_ends c.args.catalog.now c.args.flight.now seen _ ts are shows under rest.0 rest.2)

@@ -26,9 +26,9 @@ returns-in-Ok-clause-settled g c = λ honest seen shows under begun settles.
     let placed = subst (λ (ss : List Site). AreSitesPlaced tables ss) (sym c.as_slice.ensures.value) (rw c.in-Ok-Some.field-0-is at c.in-Ok-Some.ensures.placed) in
     let on = subst (λ (ss : List Site). AreOn (base flight seen) seen.tables ss) (sym c.as_slice.ensures.value) ((rw c.in-Ok-Some.field-0-is at c.in-Ok-Some.ensures.surveyed) honest seen shows) in
     let folded = c.in-Ok-Some.ensures.folded honest seen shows under begun settles in
-    let ready = is_ready tables changes c.requires.fits normal sites are (base flight seen) seen.tables folded.0 placed on under.sound.before_state shows.rows.rows folded.2 folded.3 in
+    let ready = is_ready tables changes c.requires.fits normal sites are (base flight seen) seen.tables folded.0 placed on under.sound.before_state shows.rows.rows folded.2.same folded.2.log in
     let rest = c.in-Ok.ensures.decided tables _ begun (base flight seen) seen.tables folded.0 c.tables-tables.ensures.tables ready folded.1 in
-    (rest.0, rest.1, is_taken tables changes c.requires.fits normal sites are g.P.Picker.picks c.args.picker.now c.decide.new.picker flight seen folded.0 rest.0 folded.2 folded.3 rest.2)
+    (rest.0, rest.1, is_taken tables changes c.requires.fits normal sites are g.P.Picker.picks c.args.picker.now c.decide.new.picker flight seen folded.0 rest.0 folded.2 rest.2)
 
 pub returns-clause-stopped : goal.returns-clause-stopped
 returns-clause-stopped g c = λ honest seen shows.
@@ -38,5 +38,5 @@ returns-clause-stopped g c = λ honest seen shows.
     let are = ap (λ (ss : List Site). map site_task ss) c.as_slice.ensures.value ∙ (rw c.in-Ok-Some.field-0-is at c.in-Ok-Some.ensures.tasks) in
     let on = subst (λ (ss : List Site). AreOn (base flight seen) seen.tables ss) (sym c.as_slice.ensures.value) ((rw c.in-Ok-Some.field-0-is at c.in-Ok-Some.ensures.surveyed) honest seen shows) in
     if_stopped_as c.in-Err-decide.fault _ _
-    (λ conflict stops. stops_entry tables c.args.changes.now c.requires.fits c.tables-normal.ensures.normal sites are g.P.Picker.picks c.args.picker.now c.decide.new.picker (base flight seen) seen.tables conflict stops)
+    (λ conflict stops. stops_entry tables c.args.changes.now c.requires.fits c.tables-normal.ensures.normal sites are g.P.Picker.picks c.args.picker.now c.decide.new.picker flight seen conflict on stops)
     (c.in-Err-decide.ensures.stopped (base flight seen) seen.tables on)

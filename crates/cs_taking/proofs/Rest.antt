@@ -1,0 +1,45 @@
+-- What is left of a list, and reads of a store so far: the steps of loops.
+use Rattle.std.proofs.Common.{◌≡◌, ◌<◌, ◌+◌, ℕ, zero, suc, Ok, Err, List, [], ◌∷◌, length, get_or, drop, sym, ap, subst, ◌∙◌}
+use Rattle.std.specs.List.{AllByRecursion}
+use Rattle.std.proofs.lemmas.List.{drop_more}
+use Rattle.cs_value.specs.declared.catalog.TableDef.{TableDef}
+use Rattle.cs_store.specs.Contents.{Contents}
+use Rattle.cs_pending.specs.Calls.{ReadsStore}
+use Rattle.cs_pending.specs.Shows.{ShowsRows, ShowsSome}
+use Rattle.cs_pending.specs.Storing.{WasRead, reads_well, then_reads_failed, then_well, went_well}
+use Rattle.cs_pending.specs.View.{View}
+
+pub drop_here : {X : Type 0} (xs : List X) (i : ℕ) (x : X) → i < length xs → x ≡ get_or xs i x → drop i xs ≡ x ∷ drop (i + 1) xs
+drop_here xs i x less is = drop_more xs i x less ∙ ap (λ y. y ∷ drop (i + 1) xs) (sym is)
+
+pub all_left : {X : Type 0} (P : X → Type 0) (i : ℕ) (xs : List X) → AllByRecursion P xs → AllByRecursion P (drop i xs)
+all_left P zero xs all = all
+all_left P (suc i) [] all = tt
+all_left P (suc i) (x ∷ xs) all = all_left P i xs all.1
+
+pub all_here : {X : Type 0} (P : X → Type 0) (xs : List X) (i : ℕ) (x : X) → i < length xs → x ≡ get_or xs i x → AllByRecursion P xs → P x
+all_here P xs i x less is all =
+    let left = subst (λ (ys : List _). AllByRecursion P ys) (drop_here xs i x less is) (all_left P i xs all) in left.0
+
+-- ---- reads of a store
+
+module _ {S : Type 0} (honest : S → Type 0) (contents : S → Contents) (failed : S → ℕ) (may_leave : S → Contents → Type 0) (misreads : S → ℕ) (tables : List TableDef) (old mid : S)
+    (so_far : WasRead honest contents failed may_leave misreads (ShowsSome tables (contents old)) old mid) where
+  still_some : honest mid → ShowsSome tables (contents old) → ShowsSome tables (contents mid)
+  still_some h some = subst (λ (c : Contents). ShowsSome tables c) (sym (so_far.same h)) some
+
+  pub still_shows : honest mid → (seen : View) → ShowsRows tables (contents old) seen → ShowsRows tables (contents mid) seen
+  still_shows h seen shows = subst (λ (c : Contents). ShowsRows tables c seen) (sym (so_far.same h)) shows
+
+  pub read_more : {T E : Type 0} (device : E) (new : S) (t : T) → ReadsStore honest contents failed may_leave misreads device (ShowsSome tables (contents mid)) mid new (Ok t)
+      → WasRead honest contents failed may_leave misreads (ShowsSome tables (contents old)) old new
+  read_more device new t reads =
+      then_well honest contents failed may_leave misreads _ _ _ old mid new (λ some. some) still_some so_far (went_well honest contents failed may_leave misreads device _ mid new t reads)
+
+  pub read_failed : {T U E : Type 0} (device fault : E) (new : S) → ReadsStore honest contents failed may_leave misreads {T = T} device (ShowsSome tables (contents mid)) mid new (Err fault)
+      → ReadsStore honest contents failed may_leave misreads {T = U} device (ShowsSome tables (contents old)) old new (Err fault)
+  read_failed device fault new reads = then_reads_failed honest contents failed may_leave misreads device fault _ _ _ old mid new (λ some. some) still_some so_far reads
+
+  pub read_then : {T U E : Type 0} (device : E) (new : S) (t : T) (u : U) → ReadsStore honest contents failed may_leave misreads device (ShowsSome tables (contents mid)) mid new (Ok t)
+      → ReadsStore honest contents failed may_leave misreads device (ShowsSome tables (contents old)) old new (Ok u)
+  read_then device new t u reads = reads_well honest contents failed may_leave misreads device _ old new u (read_more device new t reads)
