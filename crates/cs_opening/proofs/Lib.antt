@@ -1,2 +1,12 @@
 pub mod Nothing
 pub mod Decoded
+pub mod Bases
+pub mod Seen
+pub mod Shown
+pub mod Flown
+pub mod Counted
+pub mod Walked
+pub mod Lowered
+pub mod Judged
+pub mod Opened
+pub mod OpenLaws

@@ -145,6 +145,28 @@ none_under_way : (tables : List TableDef) → IsSoundOf tables (changes_at []) (
 unfolding undo net
 none_under_way tables = record { before_state = λ name key. tt; after_state = λ name key. tt; net_of = λ table key inside. refl }
 
+-- contents with the values of the first position, and nothing else
+module _ (tables : List TableDef) (id : ℕ) (contents : Contents) (rows : (place : StorePlace) → get contents.rows place ≡ None) (pending : (place : StorePlace) → get contents.pending place ≡ None) (none : len contents.pending ≡ 0) (log : log_count contents ≡ 0)
+    (values : (name : MetaName) → meta_value contents name ≡ value_of tables (first_position id) name) (names : (text value : List ℕ) → get contents.meta text ≡ Some value → IsName text) where
+  pub first_shows : IsFirst tables id contents
+  first_shows = record {
+    rows = record {
+      rows = record { rows = λ name key. tt; stored = λ n t k at. rows (pos n, k) };
+      pends = record { stored = λ n t k at. pending (pos n, k); fits = λ t k inside. tt };
+      sound = no_row_sound tables;
+    };
+    values = values;
+    alone = record {
+      rows = λ place elsewhere. rows place;
+      pending = λ place elsewhere. pending place;
+      log = log;
+      names = names;
+    };
+    under_way = record { fits = tt; normal = tt; size = omega arith; sound = none_under_way tables };
+    counted = sym none;
+    numbered = omega arith;
+  }
+
 module _ (tables : List TableDef) (id : ℕ) (batch : Batch) (meta_law : WritesMeta) (other_names : KeepsOtherNames)
     (rows : batch.rows.items ≡ []) (pending : batch.pending.items ≡ []) (log : batch.log ≡ None)
     (values : (name : MetaName) → value_after batch.meta.items name None ≡ value_of tables (first_position id) name) where
@@ -161,24 +183,9 @@ module _ (tables : List TableDef) (id : ℕ) (batch : Batch) (meta_law : WritesM
   named_left text value is (inl named) = named
   named_left text value is (inr never) = absurd (let no = sym is ∙ other_names batch nothing text never ∙ get-empty by_bytes text in cc)
 
-  first_shows : IsFirst tables id (after_batch batch nothing)
-  first_shows = record {
-    rows = record {
-      rows = record { rows = λ name key. tt; stored = λ n t k at. no_rows_left (pos n, k) };
-      pends = record { stored = λ n t k at. no_pending_left (pos n, k); fits = λ t k inside. tt };
-      sound = no_row_sound tables;
-    };
-    values = λ name. meta_law batch nothing name ∙ ap (value_after batch.meta.items name) (get-empty by_bytes (name_text name)) ∙ values name;
-    alone = record {
-      rows = λ place elsewhere. no_rows_left place;
-      pending = λ place elsewhere. no_pending_left place;
-      log = no_log_left;
-      names = λ name value is. named_left name value is (named_or_not name);
-    };
-    under_way = record { fits = tt; normal = tt; size = omega arith; sound = none_under_way tables };
-    counted = sym (ap (λ (es : List PlaceEdit). len (fold edit_body nothing.pending es)) pending ∙ len-empty place_cmp _);
-    numbered = omega arith;
-  }
-
   pub laid_out : (old : Contents) → IsLaidOut tables id old (after_batch batch old)
-  laid_out old is = subst (λ (c : Contents). IsFirst tables id (after_batch batch c)) (sym is) first_shows
+  laid_out old is = subst (λ (c : Contents). IsFirst tables id (after_batch batch c)) (sym is)
+      (first_shows tables id (after_batch batch nothing) no_rows_left no_pending_left
+      (ap (λ (es : List PlaceEdit). len (fold edit_body nothing.pending es)) pending ∙ len-empty place_cmp _) no_log_left
+      (λ name. meta_law batch nothing name ∙ ap (value_after batch.meta.items name) (get-empty by_bytes (name_text name)) ∙ values name)
+      (λ name value is. named_left name value is (named_or_not name)))

@@ -125,8 +125,8 @@ fn lay_out<S: RowStore>(
 }
 
 /// Lays out a store that holds nothing as that of a replica with this id and these tables, in one commit, and answers its
-/// position. Where the store holds anything, it answers none, and nothing has changed. (Profile of this project.)
-pub fn open_fresh<S: RowStore>(
+/// position. Where the store holds anything, it answers none, and nothing has changed.
+pub(crate) fn open_fresh<S: RowStore>(
     alloc: Global,
     store: &mut S,
     catalog: &Catalog,

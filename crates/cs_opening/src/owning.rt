@@ -85,7 +85,7 @@ fn owner_of(
 
 /// Whose store it is: that of the replica with this id and these tables, another's, or one of which that can't be read.
 /// (Profile of this project.)
-pub fn owner_of_store<S: RowStore>(
+pub(crate) fn owner_of_store<S: RowStore>(
     alloc: Global,
     store: &mut S,
     catalog: &Catalog,

@@ -18,7 +18,7 @@ use cs_wire::split_u64;
 use std::alloc::{AllocError, Global};
 
 /// A number of 64 bits is in range.
-fn in_range(_number: u64)
+pub(crate) fn in_range(_number: u64)
     ensures { _number < 2 ^ 64 }
 {}
 
@@ -30,7 +30,7 @@ fn are_same(some: &[u8], other: &[u8]) -> bool
 }
 
 /// The number that is these eight bytes, the high byte first, if they are eight. (Profile of this project.)
-pub fn number_in(bytes: &[u8]) -> Option<u64>
+pub(crate) fn number_in(bytes: &[u8]) -> Option<u64>
     ensures found { IfSome result (λ number. bytes.now ≡ eight_bytes number) }
     ensures only { (number : ℕ) → number < 2 ^ 64 → bytes.now ≡ eight_bytes number → result ≡ Some number }
 {
@@ -56,7 +56,7 @@ fn put_tables(alloc: Global, groups: &[Group<'_>], tables: &mut Vec<TableDef>) -
 }
 
 /// The tables whose headers these bytes are, one behind another, if there is a catalog of them. (Profile of this project.)
-pub fn catalog_in(alloc: Global, bytes: &[u8]) -> Result<Option<Catalog>, Memory>
+pub(crate) fn catalog_in(alloc: Global, bytes: &[u8]) -> Result<Option<Catalog>, Memory>
     ensures found { IfOk result (λ read. IfSome read (IsCatalogValue bytes.now)) }
     ensures only { (tables : List OneTable) → IsCatalogValue bytes.now tables → IfOk result (λ read. read ≡ Some tables) }
 {
@@ -89,7 +89,7 @@ fn changes_of(body: Body) -> Normal
 
 /// The changes of the push with this number that these bytes are, if they are those of one: the number in eight bytes, and a
 /// changeset of the tables in normal form of at most `MAX_CHANGESET` bytes. (Profile of this project.)
-pub fn flight_in(
+pub(crate) fn flight_in(
     alloc: Global,
     catalog: &Catalog,
     number: u64,

@@ -1,0 +1,16 @@
+//! The laws of opening, the contract of a function that does nothing.
+
+ghost use Rattle.cs_opening.specs.Laws.{FirstCanBe, NoFaultWhereOpened, NothingShowsNone, OneOpenFault, OneOpening, OpensOrFails};
+
+/// What a store held is opened at one position, or has one fault, and never both, and there is one of the two. A store that shows a
+/// replica holds something, and there are contents at the first position.
+pub fn openings()
+    ensures one { OneOpening }
+    ensures fault { OneOpenFault }
+    ensures opened { NoFaultWhereOpened }
+    ensures found { OpensOrFails }
+    ensures some { NothingShowsNone }
+    ensures first { FirstCanBe }
+{
+    cs_position::laws::one_position();
+}
