@@ -1,0 +1,4 @@
+mod Reading
+mod Next
+mod Walk
+mod Leading

@@ -1,0 +1,6 @@
+pub mod Calls
+pub mod Pulls
+pub mod Told
+pub mod Listed
+pub mod Steps
+pub mod Laws
