@@ -1,6 +1,5 @@
 -- From an edit of rows to what it makes of a replica.
-use Rattle.std.proofs.Common.{◌≡◌, ℕ, List, Result, Ok, refl, sym, ap, ap₂, subst, ◌∙◌}
-use Rattle.std.specs.Prelude.{IfErr, Err}
+use Rattle.std.proofs.Common.{◌≡◌, ℕ, List, refl, sym, ap, subst, ◌∙◌}
 use Rattle.std.specs.FinMap.{get, len}
 use Rattle.cs_value.specs.Catalog.{AreTables}
 use Rattle.cs_value.specs.Key.{Place}
@@ -14,7 +13,7 @@ use Rattle.cs_store.specs.declared.names.MetaName.TheVariants.{Id, Version, Numb
 use Rattle.cs_pending.specs.Edits.{Asked, IsChangedBy, Leads, edit}
 use Rattle.cs_pending.specs.Laws.{EditKeepsBefore}
 use Rattle.cs_pending.specs.Shows.{IsSoundOf}
-use Rattle.cs_pending.specs.View.{Changed, before, undo}
+use Rattle.cs_pending.specs.View.{Changed, undo}
 use Rattle.cs_position.specs.Values.{value_of}
 use Rattle.cs_position.specs.declared.position.Position.{Position}
 use Rattle.cs_replica.specs.Edited.{IsEditedIn, with_pending}

@@ -1,2 +1,4 @@
 pub mod Edited
 pub mod Stood
+mod Answered
+mod Reopened

@@ -1,6 +1,7 @@
 pub mod Holding
-pub mod Begun
+pub mod Opened
 pub mod Edited
 pub mod Accepted
+pub mod Answered
 pub mod Stands
 pub mod Laws

@@ -1,17 +1,19 @@
 //! A replica: tables that are edited offline, over any store. `Replica` holds the store, the tables and where it stands
 //! (`cs_position`); by its own invariant an honest store shows a replica there: its rows, what is pending, what is under way, and
-//! nothing else. `begin` makes one over a store that holds nothing (`cs_opening`); `insert`, `update` and `delete` edit rows
-//! (`cs_pending`); `make_push`, `resend` and `accepted` push what is pending and tell what the hub answered (`cs_pushing`). `laws`
-//! says when a replica stands on a log, and that two that are at rest at one version have the same rows.
-//! Its tests stand in `cs_replica_tests`.
+//! nothing else. `open` lays out a new store or judges one that holds something (`cs_opening`); `insert`, `update` and `delete` edit
+//! rows (`cs_pending`); `rows`, `pending` and `in_flight` give what is shown; `make_push` and `resend` push what is pending (`cs_pushing`); `take` and `answer` take what the hub tells
+//! (`cs_pulling`). `laws` says when a replica stands on a log, that each step keeps it there, and that two that are at rest at one
+//! version have the same rows.
+//! Its tests stand in `cs_replica_tests` and `cs_pulling_tests`.
 #![tactic(auto)]
 
-mod accepting;
-mod beginning;
+mod answering;
 mod editing;
-mod fault;
 pub mod laws;
+mod opening;
 mod replica;
+mod showing;
+mod told;
 
-pub use fault::BeginFault;
 pub use replica::Replica;
+pub use told::Told;

@@ -1,33 +1,48 @@
 //! A replica over any store.
 
-ghost use Rattle.std.specs.Prelude.{◌≡◌, ◌≢◌, ◌⊎◌, ◌<◌, ◌-◌, ◌^◌, MatchResult, true, false, Ok, Err, IfOk, IfErr, IsSome, OnOk, OnErr};
-ghost use Rattle.cs_pending.specs.Calls.{WritesStore};
+ghost use Rattle.std.specs.Prelude.{◌≡◌, ◌⊎◌, ◌≤◌, ◌<◌, ◌-◌, ◌^◌, [], Some, length, slice_get, MatchResult, Ok, Err, IfOk, IfErr, IsSome, OnOk, OnErr};
+ghost use Rattle.std.specs.Option.{option_copied};
+ghost use Rattle.cs_pending.specs.Calls.{ReadsStore, WritesStore};
 ghost use Rattle.cs_pending.specs.Edits.{AskDelete, AskInsert, AskUpdate, IsOfStore, edit};
 ghost use Rattle.cs_pending.specs.View.{View};
 ghost use Rattle.cs_pending.specs.declared.fault.EditFault.TheVariants.{Device};
-ghost use Rattle.cs_opening.specs.Fresh.{IsFirst, first_position};
-ghost use Rattle.cs_position.specs.Shows.{ShowsSomeAt, flown};
-ghost use Rattle.cs_pushing.specs.Pushes.{IsPushFault, IsPushMadeIn, IsPushOf, IsResendFault, confirmed, request_of};
-ghost use Rattle.cs_pushing.specs.declared.fault.PushFault.TheVariants as push;
+ghost use Rattle.cs_outgoing.specs.Outgoing.{IsOutgoing};
 ghost use Rattle.cs_store.specs.declared.fault.StoreFault.TheVariants as stored;
-ghost use Rattle.cs_store.specs.Contents.{nothing};
+ghost use Rattle.cs_rows.specs.Rows.{AreRowsOf};
+ghost use Rattle.cs_value.specs.declared.catalog.TableDef.{TableDef};
+ghost use Rattle.cs_opening.specs.Opens.{IsOpenFault, IsReplicaAt};
+ghost use Rattle.cs_opening.specs.declared.fault.OpenFault.TheVariants as opening;
+ghost use Rattle.cs_position.specs.Shows.{ShowsSomeAt, flown};
+ghost use Rattle.cs_pushing.specs.Pushes.{IsPushFault, IsPushMadeIn, IsPushOf, IsResendFault, request_of};
+ghost use Rattle.cs_pushing.specs.declared.fault.PushFault.TheVariants as push;
 ghost use Rattle.cs_wire.specs.Requests.{HasShortChangeset, asked_by_owned};
-ghost use Rattle.cs_replica.specs.Accepted.{IsAccepted, IsToldIn};
-ghost use Rattle.cs_replica.specs.Begun.{Begins};
+ghost use Rattle.cs_taking.specs.Takes.{taken};
+ghost use Rattle.cs_pulling.specs.Calls.{WritesInTurn};
+ghost use Rattle.cs_pulling.specs.Pulls.{IsPullFault, IsPulledIn};
+ghost use Rattle.cs_pulling.specs.declared.fault.PullFault.TheVariants as pull;
+ghost use Rattle.cs_replica.specs.Answered.{Answers, IsAnsweredAmong, IsDone, SaysDevice};
 ghost use Rattle.cs_replica.specs.Edited.{IsEditedIn, with_pending};
 ghost use Rattle.cs_replica.specs.Holding.{Shows};
-ghost use Rattle.cs_replica.specs.declared.fault.BeginFault.TheVariants.{Filled};
+ghost use Rattle.cs_replica.specs.Opened.{Opens, Reopens};
 
-use crate::accepting::accept_at;
-use crate::beginning::begin_at;
+use crate::answering::answer_at;
 use crate::editing::{delete_at, insert_at, update_at};
-use crate::fault::BeginFault;
+use crate::opening::reopen_at;
+use crate::showing::{gather_at, rows_at};
+use crate::told::Told;
+use cs_conflict::Picker;
+use cs_log::LogEntry;
+use cs_normal::Normal;
+use cs_opening::{OpenFault, open_at};
+use cs_outgoing::Outgoing;
 use cs_pending::EditFault;
 use cs_position::Position;
+use cs_pulling::{AnswerFault, PullFault, take_entry};
 use cs_pushing::{PushFault, make_push, resend};
+use cs_rows::RowAtKey;
 use cs_store::{RowStore, StoreFault};
 use cs_value::{Catalog, Field, Key, Row};
-use cs_wire::RequestBuf;
+use cs_wire::{Answer, RequestBuf};
 use std::alloc::Global;
 use std::marker::Model;
 
@@ -50,41 +65,45 @@ impl<S: RowStore> Model for Replica<S> {
 }
 
 impl<S: RowStore> Replica<S> {
-    /// Begins a replica with this id over a store that holds nothing: the store is laid out in one commit, and the replica is at
-    /// version 0 with no row, nothing pending and nothing under way. An id is at most 4,294,967,294: the last number is a hub's own.
-    /// At `Err` the store comes back as it was. (Profile of this project.)
+    /// Opens the replica with this id over a store. A store that holds nothing is laid out in one commit: the replica is at version 0
+    /// with no row, nothing pending and nothing under way. Of any other store each row and each pending change is read once, and
+    /// judged. An id is at most 4,294,967,294: the last number is a hub's own. At `Err` the store comes back as it was. (Profile of
+    /// this project.)
     ///
     /// # Errors
     ///
-    /// `Filled` where the store holds something.
-    pub fn begin(
+    /// `Damaged` where the store's id or tables can't be read; `Mismatch` where they are another's; `Damaged` where it shows no
+    /// replica at any position; `Memory` and `Device`.
+    pub fn open(
         alloc: Global,
         store: S,
         catalog: &Catalog,
         id: u32,
-    ) -> Result<Replica<S>, (S, BeginFault)>
+    ) -> Result<Replica<S>, (S, OpenFault)>
         requires { id < 2 ^ 32 - 1 }
 
-        // It is a new replica of these tables, and the store held nothing.
-        ensures begun { IfOk result (λ replica. (replica.catalog ≡ catalog.now) × (replica.position ≡ first_position id)) }
-        ensures fresh { IfOk result (λ replica. S.honest replica.store
-            → (S.contents store ≡ nothing) × IsFirst catalog.now id (S.contents replica.store)) }
+        // It is the replica with this id, of these tables.
+        ensures of { IfOk result (λ replica. (replica.catalog ≡ catalog.now) × (replica.position.id ≡ id)) }
 
-        // At `Err` the store is as it was, and held something where that is told.
+        // It is new where the store held nothing, and else where the store shows it.
+        ensures opened { IfOk result (λ replica. S.honest replica.store
+            → IsReplicaAt catalog.now id (S.contents store) (S.contents replica.store) replica.position) }
+
+        // At `Err` the store is as it was, and what is told of it holds.
         ensures kept { IfErr result (λ told. S.honest told.0 → S.contents told.0 ≡ S.contents store) }
-        ensures filled { IfErr result (λ told. S.honest told.0 → told.1 ≡ Filled → S.contents store ≢ nothing) }
+        ensures refused { IfErr result (λ told. S.honest told.0 → IsOpenFault catalog.now id (S.contents store) told.1) }
 
         // What a stop leaves, and how the count of failures goes.
-        ensures begins { MatchResult result
-            (λ replica. Begins S.honest S.contents S.failed S.may_leave S.misreads catalog.now id store replica.store (Ok tt))
-            (λ told. Begins S.honest S.contents S.failed S.may_leave S.misreads catalog.now id store told.0 (Err told.1)) }
+        ensures opens { MatchResult result
+            (λ replica. Opens S.honest S.contents S.failed S.may_leave S.misreads catalog.now id store replica.store (Ok tt))
+            (λ told. Opens S.honest S.contents S.failed S.may_leave S.misreads catalog.now id store told.0 (Err told.1)) }
     {
         let mut store = store;
         let copied = match catalog.copy(alloc) {
             Ok(copied) => copied,
-            Err(fault) => return Err((store, BeginFault::from(fault))),
+            Err(fault) => return Err((store, OpenFault::from(fault))),
         };
-        match begin_at(alloc, &mut store, catalog, id) {
+        match open_at(alloc, &mut store, catalog, id) {
             Ok(position) => Ok(Replica {
                 store,
                 catalog: copied,
@@ -92,6 +111,24 @@ impl<S: RowStore> Replica<S> {
             }),
             Err(fault) => Err((store, fault)),
         }
+    }
+
+    /// Forgets what it holds in memory of the store, and reads the store again. (Profile of this project.)
+    ///
+    /// # Errors
+    ///
+    /// `Memory` and `Device`, and of a store that isn't as it was left those of `open`. What it holds in memory stays then.
+    pub fn reload(&mut self, alloc: Global) -> Result<(), OpenFault>
+        // The store holds what it held, and the replica is where it was.
+        ensures reopens { Reopens S.honest S.contents S.failed S.may_leave S.misreads self.old.store self.new.store result }
+        ensures same { S.honest self.new.store → self.new.position ≡ self.old.position }
+
+        // Of a store that is as it was left nothing else is told.
+        ensures refused { S.honest self.new.store → IfErr result (λ fault. (fault ≡ opening.Memory) ⊎ (fault ≡ opening.Device)) }
+        ensures catalog { self.new.catalog ≡ self.old.catalog }
+    {
+        self.position = reopen_at(alloc, &mut self.store, &self.catalog, &self.position)?;
+        Ok(())
     }
 
     /// Where its store is honest, it shows rows, and what is pending, at its position.
@@ -113,6 +150,46 @@ impl<S: RowStore> Replica<S> {
         ensures { result ≡ self.now.position.pending }
     {
         self.position.pending
+    }
+
+    /// The changes of the push that is under way, if one is. It takes no memory.
+    pub fn in_flight(&self) -> Option<&Normal>
+        ensures { option_copied result ≡ self.now.position.flight }
+    {
+        self.position.flight.as_ref()
+    }
+
+    /// What is pending, as one changeset in normal form, or that nothing is, or that it has more bytes than a push may have. The
+    /// store is only read. (Profile of this project.)
+    pub fn pending(&mut self, alloc: Global) -> Result<Outgoing, StoreFault>
+        // It is what the store shows as pending.
+        ensures gathered { S.honest self.new.store → (view : View) → Shows S.contents self.old view
+            → IfOk result (IsOutgoing self.old.catalog view.pending) }
+
+        // The store is only read, and the replica stays as it is.
+        ensures reads { ReadsStore S.honest S.contents S.failed S.may_leave S.misreads stored.Device
+            (ShowsSomeAt self.old.catalog self.old.position (S.contents self.old.store)) self.old.store self.new.store result }
+        ensures catalog { self.new.catalog ≡ self.old.catalog }
+        ensures kept { self.new.position ≡ self.old.position }
+    {
+        gather_at(alloc, &mut self.store, &self.catalog, &self.position)
+    }
+
+    /// The rows of the table with this number in the catalog, each behind the bytes of its key and in the order of these; none past
+    /// the last table. The store is only read. (Profile of this project.)
+    pub fn rows(&mut self, alloc: Global, table: usize) -> Result<Vec<RowAtKey>, StoreFault>
+        // They are the rows that the store shows.
+        ensures listed { S.honest self.new.store → (view : View) → Shows S.contents self.old view → (def : TableDef)
+            → slice_get self.old.catalog table ≡ Some def → IfOk result (λ rows. AreRowsOf (view.tables def.name) rows.items) }
+        ensures none { length self.old.catalog ≤ table → IfOk result (λ rows. rows.items ≡ []) }
+
+        // The store is only read, and the replica stays as it is.
+        ensures reads { ReadsStore S.honest S.contents S.failed S.may_leave S.misreads stored.Device
+            (ShowsSomeAt self.old.catalog self.old.position (S.contents self.old.store)) self.old.store self.new.store result }
+        ensures catalog { self.new.catalog ≡ self.old.catalog }
+        ensures kept { self.new.position ≡ self.old.position }
+    {
+        rows_at(alloc, &mut self.store, &self.catalog, &self.position, table)
     }
 
     /// Puts a row where there is none: one row and one pending change are written, in one commit. The first fault that holds is
@@ -234,36 +311,77 @@ impl<S: RowStore> Replica<S> {
         resend(alloc, &self.position)
     }
 
-    /// The hub has accepted a push as the entry before this version. Where that is the push that is under way, as the entry behind
-    /// this replica's version, it is confirmed; any other is ignored. It answers whether it was confirmed. (Profile of this
-    /// project.)
-    pub fn accepted(
+    /// Takes the entry of the hub's log that is told at an index: where it is the push that is under way, that is confirmed; of
+    /// another's each row becomes the three-way merge of the log's row at the version, the own one, and the log's at the next, by
+    /// the picker's wishes. It is one commit. The first fault that holds is told: `Behind`, `Gap`, `BadEntry`, `Stopped`. (Profile
+    /// of this project.)
+    pub fn take<P: Picker>(
         &mut self,
         alloc: Global,
-        origin: u32,
-        number: u64,
-        version: u64,
-    ) -> Result<bool, StoreFault>
-        // It was confirmed, in one commit, or nothing has changed.
-        ensures writes { WritesStore S.honest S.contents S.failed S.may_leave S.misreads stored.Device (ShowsSomeAt self.old.catalog self.old.position (S.contents self.old.store))
-            (IsToldIn self.old.catalog self.old.position origin number version (S.contents self.old.store)) self.old.store self.new.store result }
+        index: u64,
+        entry: &LogEntry,
+        picker: &mut P,
+    ) -> Result<(), PullFault>
+        requires ready { P.is_ready picker.old }
+        ensures ready { P.is_ready picker.new }
 
-        // Which of them.
-        ensures confirmed { result ≡ Ok true → IsAccepted self.old.position origin number version × (self.new.position ≡ confirmed self.old.position) }
-        ensures ignored { result ≡ Ok false → (IsAccepted self.old.position origin number version → ⊥) × (self.new.position ≡ self.old.position) × (self.new.store ≡ self.old.store) }
+        // The entry was taken, in one commit, or nothing has changed.
+        ensures writes { WritesStore S.honest S.contents S.failed S.may_leave S.misreads pull.Device (ShowsSomeAt self.old.catalog self.old.position (S.contents self.old.store))
+            (IsPulledIn P.picks self.old.catalog self.old.position entry.now picker.old picker.new (S.contents self.old.store)) self.old.store self.new.store result }
+
+        // It was the one at the version, and the replica is behind it.
+        ensures next { OnOk result ((index ≡ self.old.position.version) × (self.old.position.version < 2 ^ 64 - 1)) }
+        ensures moved { OnOk result (self.new.position ≡ taken self.old.position self.new.position.pending) }
+
+        // What is told holds.
+        ensures refused { S.honest self.new.store → (view : View) → Shows S.contents self.old view
+            → IfErr result (IsPullFault P.picks self.old.catalog self.old.position index entry.now view picker.old picker.new) }
 
         // The tables stay, and at `Err` the position.
         ensures catalog { self.new.catalog ≡ self.old.catalog }
         ensures kept { OnErr result (self.new.position ≡ self.old.position) }
     {
-        accept_at(
+        take_entry(
             alloc,
             &mut self.store,
             &self.catalog,
             &mut self.position,
-            origin,
-            number,
-            version,
+            index,
+            entry,
+            picker,
+        )
+    }
+
+    /// Takes an answer of the hub. A push that was accepted is confirmed, where it is the one that is under way; entries are taken one
+    /// after another, each in a commit of its own: those before the version are passed over, and the list ends where the picker
+    /// stops, and at an entry behind the one at the version. What was taken stays, whatever comes later. (Profile of this
+    /// project.)
+    pub fn answer<P: Picker>(
+        &mut self,
+        alloc: Global,
+        answer: &Answer<'_>,
+        picker: &mut P,
+    ) -> Result<Told, AnswerFault>
+        requires ready { P.is_ready picker.old }
+        ensures ready { P.is_ready picker.new }
+
+        // What it made of the replica, and what is told of that.
+        ensures told { S.honest self.new.store → (before : View) → Shows S.contents self.old before
+            → Answers P.picks self.old.catalog answer.now result self.old.position before picker.old self.new.position (S.contents self.new.store) picker.new }
+
+        // In whole commits, one after another.
+        ensures writes { WritesInTurn S.honest S.contents S.failed S.may_leave S.misreads (IsDone result) (SaysDevice result)
+            (ShowsSomeAt self.old.catalog self.old.position (S.contents self.old.store))
+            (IsAnsweredAmong P.picks self.old.catalog answer.now self.old.position (S.contents self.old.store) picker.old) self.old.store self.new.store }
+        ensures catalog { self.new.catalog ≡ self.old.catalog }
+    {
+        answer_at(
+            alloc,
+            &mut self.store,
+            &self.catalog,
+            &mut self.position,
+            answer,
+            picker,
         )
     }
 

@@ -1,0 +1,95 @@
+//! Answers of the hub, taken.
+
+ghost use Rattle.std.specs.Prelude.{◌≡◌, ◌↔◌, Err, IsTrue};
+ghost use Rattle.cs_pending.specs.View.{View};
+ghost use Rattle.cs_position.specs.Shows.{ShowsAt, ShowsSomeAt};
+ghost use Rattle.cs_pulling.specs.Calls.{WritesInTurn};
+ghost use Rattle.cs_replica.specs.Accepted.{IsAccepted};
+ghost use Rattle.cs_replica.specs.Answered.{Answers, IsAnsweredAmong, IsDone, SaysDevice, TellsAccepted, KeepsRows};
+ghost use Rattle.cs_pushing.specs.Pushes.{IsConfirmedIn};
+
+use crate::told::Told;
+use cs_conflict::Picker;
+use cs_position::Position;
+use cs_pulling::{AnswerFault, Pulled, take_entries};
+use cs_pushing::confirm;
+use cs_store::{RowStore, StoreFault};
+use cs_value::Catalog;
+use cs_wire::{Answer, ShortAnswer};
+use std::alloc::Global;
+
+/// Whether the push that is under way was accepted, as the entry at the version.
+fn is_accepted(position: &Position, origin: u32, number: u64, version: u64) -> bool
+    ensures { IsTrue result ↔ IsAccepted position.now origin number version }
+{
+    if position.flight.is_none() || origin != position.id || number != position.number {
+        return false;
+    }
+    match position.version.checked_add(1) {
+        None => false,
+        Some(next) => version == next,
+    }
+}
+
+/// The hub has accepted a push as the entry before this version: where it is the one that is under way, it is confirmed.
+fn accept_at<S: RowStore>(
+    alloc: Global,
+    store: &mut S,
+    catalog: &Catalog,
+    position: &mut Position,
+    origin: u32,
+    number: u64,
+    version: u64,
+) -> Result<Told, AnswerFault>
+    ensures told { S.honest store.new → (before : View) → ShowsAt catalog.now (S.contents store.old) position.old before
+        → TellsAccepted origin number version result position.old position.new × ShowsAt catalog.now (S.contents store.new) position.new before }
+    ensures writes { WritesInTurn S.honest S.contents S.failed S.may_leave S.misreads (IsDone result) (SaysDevice result)
+        (ShowsSomeAt catalog.now position.old (S.contents store.old))
+        (λ left. IsAccepted position.old origin number version × IsConfirmedIn catalog.now position.old (S.contents store.old) left) store.old store.new }
+{
+    if !is_accepted(position, origin, number, version) {
+        return Ok(Told::Ignored);
+    }
+    match confirm(alloc, store, catalog, position) {
+        Ok(()) => Ok(Told::Confirmed(version)),
+        Err(StoreFault::Memory) => Err(AnswerFault::Memory(0)),
+        Err(StoreFault::Device) => Err(AnswerFault::Device(0)),
+    }
+}
+
+/// Takes an answer of the hub.
+pub(crate) fn answer_at<S: RowStore, P: Picker>(
+    alloc: Global,
+    store: &mut S,
+    catalog: &Catalog,
+    position: &mut Position,
+    answer: &Answer<'_>,
+    picker: &mut P,
+) -> Result<Told, AnswerFault>
+    requires ready { P.is_ready picker.old }
+    ensures ready { P.is_ready picker.new }
+    ensures told { S.honest store.new → (before : View) → ShowsAt catalog.now (S.contents store.old) position.old before
+        → Answers P.picks catalog.now answer.now result position.old before picker.old position.new (S.contents store.new) picker.new }
+    ensures writes { WritesInTurn S.honest S.contents S.failed S.may_leave S.misreads (IsDone result) (SaysDevice result)
+        (ShowsSomeAt catalog.now position.old (S.contents store.old))
+        (IsAnsweredAmong P.picks catalog.now answer.now position.old (S.contents store.old) picker.old) store.old store.new }
+{
+    match answer {
+        Answer::Short(
+            ShortAnswer::Accepted {
+                origin,
+                number,
+                version,
+            },
+        ) => accept_at(alloc, store, catalog, position, *origin, *number, *version),
+        Answer::Short(ShortAnswer::Stale { newest }) => Ok(Told::Stale(*newest)),
+        Answer::Short(ShortAnswer::Refused(code)) => Ok(Told::Refused(*code)),
+        Answer::Entries { first, entries } => {
+            match take_entries(alloc, store, catalog, position, *first, entries, picker) {
+                Ok(Pulled::Taken(count)) => Ok(Told::Taken(count)),
+                Ok(Pulled::Stopped(count)) => Ok(Told::Stopped(count)),
+                Err(fault) => Err(fault),
+            }
+        }
+    }
+}

@@ -1,0 +1,55 @@
+//! What a replica shows: what is pending, and rows.
+
+ghost use Rattle.std.specs.Prelude.{◌≡◌, ◌≤◌, [], IfOk, Some, length, slice_get};
+ghost use Rattle.cs_rows.specs.Rows.{AreRowsOf};
+ghost use Rattle.cs_value.specs.declared.catalog.TableDef.{TableDef};
+ghost use Rattle.cs_store.specs.declared.fault.StoreFault.TheVariants.{Device};
+ghost use Rattle.cs_pending.specs.Calls.{ReadsStore};
+ghost use Rattle.cs_pending.specs.View.{View};
+ghost use Rattle.cs_outgoing.specs.Outgoing.{IsOutgoing};
+ghost use Rattle.cs_position.specs.Shows.{ShowsAt, ShowsSomeAt};
+
+use cs_outgoing::{Outgoing, gather};
+use cs_position::Position;
+use cs_rows::{RowAtKey, rows_of};
+use cs_store::{RowStore, StoreFault};
+use cs_value::Catalog;
+use std::alloc::Global;
+
+/// What is pending, as one changeset.
+pub(crate) fn gather_at<S: RowStore>(
+    alloc: Global,
+    store: &mut S,
+    catalog: &Catalog,
+    _position: &Position,
+) -> Result<Outgoing, StoreFault>
+    ensures reads { ReadsStore S.honest S.contents S.failed S.may_leave S.misreads Device
+        (ShowsSomeAt catalog.now _position.now (S.contents store.old)) store.old store.new result }
+    ensures gathered { S.honest store.new → (view : View) → ShowsAt catalog.now (S.contents store.old) _position.now view
+        → IfOk result (IsOutgoing catalog.now view.pending) }
+{
+    match gather(alloc, store, catalog) {
+        Ok(pending) => Ok(pending),
+        Err(fault) => Err(fault),
+    }
+}
+
+/// The rows of a table.
+pub(crate) fn rows_at<S: RowStore>(
+    alloc: Global,
+    store: &mut S,
+    catalog: &Catalog,
+    _position: &Position,
+    table: usize,
+) -> Result<Vec<RowAtKey>, StoreFault>
+    ensures reads { ReadsStore S.honest S.contents S.failed S.may_leave S.misreads Device
+        (ShowsSomeAt catalog.now _position.now (S.contents store.old)) store.old store.new result }
+    ensures listed { S.honest store.new → (view : View) → ShowsAt catalog.now (S.contents store.old) _position.now view → (def : TableDef)
+        → slice_get catalog.now table ≡ Some def → IfOk result (λ rows. AreRowsOf (view.tables def.name) rows.items) }
+    ensures none { length catalog.now ≤ table → IfOk result (λ rows. rows.items ≡ []) }
+{
+    match rows_of(alloc, store, catalog, table) {
+        Ok(rows) => Ok(rows),
+        Err(fault) => Err(fault),
+    }
+}

@@ -1,0 +1,18 @@
+//! What becomes of an answer.
+
+/// What became of an answer of the hub. (Profile of this project.)
+#[derive(Clone, Copy, Debug, PartialEq, Eq)]
+pub enum Told {
+    /// The push that was under way is the entry before this version, and confirmed.
+    Confirmed(u64),
+    /// A push was accepted that isn't the one under way. Nothing has changed.
+    Ignored,
+    /// The push came too late: the newest version of the hub is this. Nothing has changed.
+    Stale(u64),
+    /// The hub refused, with this code. Nothing has changed.
+    Refused(u8),
+    /// So many entries were taken: all that the answer tells from the replica's version on.
+    Taken(u64),
+    /// So many entries were taken, and at the next the picker wished to stop.
+    Stopped(u64),
+}
