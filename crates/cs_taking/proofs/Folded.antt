@@ -20,7 +20,7 @@ use Rattle.cs_pending.specs.declared.placing.Standing.{Standing}
 use Rattle.cs_pending.specs.declared.settling.Settling.{Settling}
 use Rattle.cs_position.specs.Shows.{base}
 use Rattle.cs_taking.specs.Steps.{IsFolded, IsFoldReady, IsPlaced, IsStill, task_of}
-use Rattle.cs_taking.specs.declared.placed.Placed.{Placed}
+use Rattle.cs_placed.specs.declared.placed.Placed.{Placed}
 use Rattle.cs_taking.proofs.Stepped.{direct_there, middle_there, other_still, still_direct, still_log, still_then}
 
 module _ (tables : List TableDef) (flight : Option (List TableChanges)) (seen view : View) (x : Placed) (others : List Task) (standing : Standing) (log : Place) (contents : Contents) (begun : ℕ) (old new : Settling) where

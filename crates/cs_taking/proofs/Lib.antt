@@ -3,7 +3,6 @@ mod Rest
 mod Stepped
 mod Folded
 mod Surveyed
-mod Put
 mod Standing
 mod Merged
 mod Decided

@@ -29,25 +29,8 @@ use Rattle.cs_pending.specs.declared.settling.Settling.{Settling}
 use Rattle.cs_position.specs.Shows.{ShowsAt, base, flown}
 use Rattle.cs_position.specs.declared.position.Position.{Position}
 use Rattle.cs_taking.specs.Takes.{IsClashOf, TakeAll, taken}
-use Rattle.cs_taking.specs.declared.placed.Placed.{Placed}
 use Rattle.cs_taking.specs.declared.site.Site.{Site}
-
--- ---- changes with their places
-
-abbrev pub task_of : Placed → Task
-task_of placed = record {
-  table = placed.number;
-  name = placed.table.now.name;
-  marks = placed.table.now.key_marks;
-  key = placed.key.now;
-  change = placed.change;
-}
-
-abbrev pub IsPlaced : List TableDef → Placed → Type 0
-IsPlaced tables placed = slice_get tables placed.number ≡ Some placed.table.now
-
-abbrev pub ArePlaced : List TableDef → List Placed → Type 0
-ArePlaced tables placed = AllByRecursion (IsPlaced tables) placed
+pub use Rattle.cs_placed.specs.Places.{ArePlaced, IsPlaced, task_of}
 
 -- ---- what is pending at a place
 

@@ -11,7 +11,7 @@ ghost use Rattle.cs_pending.specs.View.{View};
 ghost use Rattle.cs_position.specs.Shows.{IsUnderWay, flown};
 ghost use Rattle.cs_taking.specs.Steps.{ArePlaced, IsFlightFolded, task_of};
 
-use crate::placed::{Placed, place_all};
+use cs_placed::{Placed, place_all};
 use crate::reading::fold_flight;
 use cs_normal::Normal;
 use cs_pending::Settling;

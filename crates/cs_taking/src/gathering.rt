@@ -17,7 +17,7 @@ ghost use Rattle.cs_taking.specs.declared.fault.TakeFault.TheVariants.{BadEntry,
 use crate::deciding::decide;
 use crate::fault::TakeFault;
 use crate::flight::fold_all;
-use crate::placed::place_all;
+use cs_placed::place_all;
 use crate::reading::survey;
 use crate::site::Site;
 use cs_conflict::Picker;

@@ -16,7 +16,6 @@ mod fault;
 mod flight;
 mod gathering;
 pub mod laws;
-mod placed;
 mod reading;
 mod rows;
 mod site;

@@ -14,7 +14,7 @@ ghost use Rattle.cs_pending.specs.View.{View, settled};
 ghost use Rattle.cs_position.specs.Shows.{base as log_rows};
 ghost use Rattle.cs_taking.specs.Steps.{AreOn, ArePlaced, AreSitesPlaced, HasBad, IsFolded, IsFoldReady, IsPlaced, IsSurveyed, site_task, task_of};
 
-use crate::placed::Placed;
+use cs_placed::Placed;
 use crate::rows::before_flight;
 use crate::site::Site;
 use cs_change::outcome;

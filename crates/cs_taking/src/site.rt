@@ -2,7 +2,7 @@
 
 ghost use Rattle.cs_taking.specs.Made.{IsMade, IsMade-prop};
 
-use crate::placed::Placed;
+use cs_placed::Placed;
 use cs_pending::Standing;
 use cs_record::RowBuf;
 

@@ -1,6 +1,6 @@
 use Rattle.std.proofs.Common.{List, map, ap, ◌∙◌}
 use Rattle.cs_taking.specs.Steps.{task_of}
-use Rattle.cs_taking.specs.declared.placed.Placed.{Placed}
+use Rattle.cs_placed.specs.declared.placed.Placed.{Placed}
 use Rattle.cs_taking.proofs.Whole.{fold_begins, fold_ends}
 use Rattle.cs_taking.proofs.flight.fold_all.Goals as goal
 

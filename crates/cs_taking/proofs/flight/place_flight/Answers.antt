@@ -1,6 +1,6 @@
 use Rattle.std.proofs.Common.{List, map, ap, sym, ◌∙◌}
 use Rattle.cs_taking.specs.Steps.{task_of}
-use Rattle.cs_taking.specs.declared.placed.Placed.{Placed}
+use Rattle.cs_placed.specs.declared.placed.Placed.{Placed}
 use Rattle.cs_taking.proofs.Whole.{none_flown}
 use Rattle.cs_taking.proofs.flight.place_flight.Goals as goal
 

@@ -3,7 +3,7 @@ use Rattle.std.proofs.lemmas.List.{drop_all}
 use Rattle.cs_store.specs.declared.fault.StoreFault.TheVariants.{Device}
 use Rattle.cs_position.specs.Shows.{base}
 use Rattle.cs_taking.specs.Steps.{HasBad, IsPlaced, site_task, task_of}
-use Rattle.cs_taking.specs.declared.placed.Placed.{Placed}
+use Rattle.cs_placed.specs.declared.placed.Placed.{Placed}
 use Rattle.cs_taking.proofs.Rest.{all_here, drop_here, read_failed, read_more, read_then, still_shows}
 use Rattle.cs_taking.proofs.Surveyed.{bad_behind, bad_first, sites_all, sites_more}
 use Rattle.cs_taking.proofs.reading.survey.Goals as goal

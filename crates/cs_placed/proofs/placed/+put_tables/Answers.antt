@@ -2,9 +2,9 @@ use Rattle.std.proofs.Common.{List, map, subst}
 use Rattle.std.specs.List.{AllByRecursion}
 use Rattle.cs_normal.specs.declared.normal.TableChanges.{TableChanges}
 use Rattle.cs_apply.specs.NormalTasks.{IsOfOne}
-use Rattle.cs_taking.specs.Steps.{task_of}
-use Rattle.cs_taking.proofs.Put.{found_there, marks_are, none_put, number_is, table_put}
-use Rattle.cs_taking.proofs.placed.+put_tables.Goals as goal
+use Rattle.cs_placed.specs.Places.{task_of}
+use Rattle.cs_placed.proofs.Put.{found_there, marks_are, none_put, number_is, table_put}
+use Rattle.cs_placed.proofs.placed.+put_tables.Goals as goal
 
 pub returns-in_default-clause-tasks : goal.returns-in_default-clause-tasks
 returns-in_default-clause-tasks t c = none_put c.args.catalog.now c.args.changes.now (map task_of c.args.out.now.items) c.in_default.ensures.cases

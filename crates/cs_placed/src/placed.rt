@@ -4,7 +4,7 @@ ghost use Rattle.std.specs.Prelude.{◌≡◌, ◌++◌, ◌∷◌, [], map, sli
 ghost use Rattle.std.specs.List.{AllByRecursion};
 ghost use Rattle.cs_apply.specs.NormalTasks.{IsOfOne, keyed_task, keyed_tasks, number_of};
 ghost use Rattle.cs_normal.specs.Normal.{FitsCatalog};
-ghost use Rattle.cs_taking.specs.Steps.{ArePlaced, IsPlaced, task_of};
+ghost use Rattle.cs_placed.specs.Places.{ArePlaced, IsPlaced, task_of};
 
 use cs_change::Change;
 use cs_keyed::KeyedChanges;
@@ -14,7 +14,7 @@ use std::alloc::Global;
 
 /// A change of a changeset, with its place: its table, the table's number in the catalog, and the bytes of its key.
 #[derive(Drop)]
-pub(crate) struct Placed<'a> {
+pub struct Placed<'a> {
     /// The table's number in the catalog.
     pub number: u32,
     /// The table.
@@ -80,7 +80,7 @@ fn put_tables<'a>(
 }
 
 /// The changes of a changeset of the catalog's tables, in order.
-pub(crate) fn place_all<'a>(
+pub fn place_all<'a>(
     alloc: Global,
     catalog: &'a Catalog,
     changes: &'a Normal,

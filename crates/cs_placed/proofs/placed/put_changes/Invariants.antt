@@ -2,8 +2,8 @@ use Rattle.std.proofs.Common.{◌≡◌, ◌++◌, ◌-◌, List, length, map, t
 use Rattle.std.specs.Prelude.{slice_get}
 use Rattle.cs_value.specs.declared.catalog.TableDef.{TableDef}
 use Rattle.cs_apply.specs.NormalTasks.{keyed_task}
-use Rattle.cs_taking.specs.Steps.{ArePlaced, task_of}
-use Rattle.cs_taking.proofs.placed.put_changes.Given as goal
+use Rattle.cs_placed.specs.Places.{ArePlaced, task_of}
+use Rattle.cs_placed.proofs.placed.put_changes.Given as goal
 
 abbrev pub invariant-loop-key : goal.invariant-loop-key
 invariant-loop-key l = record {

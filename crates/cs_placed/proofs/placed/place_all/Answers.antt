@@ -2,7 +2,7 @@ use Rattle.std.proofs.Common.{List, subst, sym}
 use Rattle.std.specs.List.{AllByRecursion}
 use Rattle.cs_normal.specs.declared.normal.TableChanges.{TableChanges}
 use Rattle.cs_apply.specs.NormalTasks.{IsOfOne, of_one}
-use Rattle.cs_taking.proofs.placed.place_all.Goals as goal
+use Rattle.cs_placed.proofs.placed.place_all.Goals as goal
 
 pub put_tables-requires : goal.put_tables-requires
 put_tables-requires c =

@@ -1,9 +1,9 @@
 use Rattle.std.proofs.Common.{map, refl}
 use Rattle.cs_apply.specs.NormalTasks.{keyed_task}
-use Rattle.cs_taking.specs.Steps.{task_of}
-use Rattle.cs_taking.specs.declared.placed.Placed.{Placed}
-use Rattle.cs_taking.proofs.Put.{are_placed_more, placed_all, placed_more, same_made}
-use Rattle.cs_taking.proofs.placed.put_changes.Goals as goal
+use Rattle.cs_placed.specs.Places.{task_of}
+use Rattle.cs_placed.specs.declared.placed.Placed.{Placed}
+use Rattle.cs_placed.proofs.Put.{are_placed_more, placed_all, placed_more, same_made}
+use Rattle.cs_placed.proofs.placed.put_changes.Goals as goal
 
 pub loop-key-preserved : goal.loop-key-preserved
 loop-key-preserved c =
