@@ -4,6 +4,7 @@ use Rattle.std.specs.List.{AllByRecursion}
 use Rattle.cs_value.specs.Catalog.{AreTables}
 use Rattle.cs_value.specs.declared.catalog.TableDef.{TableDef}
 use Rattle.cs_store.specs.Contents.{Contents, nothing}
+use Rattle.cs_store.specs.Whole.{IsWhole}
 use Rattle.cs_position.specs.Shows.{ShowsSomeAt}
 use Rattle.cs_position.specs.declared.position.Position.{Position}
 use Rattle.cs_opening.specs.Fresh.{IsFirst}
@@ -60,6 +61,14 @@ NothingShowsNone =
     (tables : List TableDef) (position : Position) (contents : Contents)
     → ShowsSomeAt tables position contents
     → contents ≢ nothing
+
+-- all that it holds is what its place says
+abbrev pub ShownIsWhole : Type 0
+ShownIsWhole =
+    (tables : List TableDef) (position : Position) (contents : Contents)
+    → AreTables tables
+    → ShowsSomeAt tables position contents
+    → IsWhole tables contents
 
 -- there are contents at the first position
 abbrev pub FirstCanBe : Type 0

@@ -1,0 +1,73 @@
+//! The batch that moves a value to the places of its changes.
+
+ghost use Rattle.std.specs.Prelude.{◌≡◌, ◌++◌, [], map, fold, take, Some, List, IfOk, OnOk};
+ghost use Rattle.cs_store.specs.Contents.{Contents};
+ghost use Rattle.cs_change.specs.Spelling.{change_spelling};
+ghost use Rattle.cs_store.specs.Written.{after_batch, edit_body, optional_bytes};
+ghost use Rattle.cs_normal.specs.Normal.{FitsCatalog};
+ghost use Rattle.cs_apply.specs.NormalTasks.{keyed_tasks};
+ghost use Rattle.cs_placed.specs.Places.{task_of};
+ghost use Rattle.cs_moving.specs.Moved.{moved};
+ghost use Rattle.cs_moving.specs.Steps.{edit_parts, task_parts};
+
+use cs_change::{Change, ChangesBuf};
+use cs_normal::Normal;
+use cs_placed::{Placed, place_all};
+use cs_store::{Batch, MetaEdit, MetaName, PlaceEdit};
+use cs_value::{Catalog, Memory};
+use std::alloc::Global;
+
+/// The bytes of a change.
+fn body_of(alloc: Global, change: &Change<'_>) -> Result<Vec<u8>, Memory>
+    ensures { IfOk result (λ body. body.items ≡ change_spelling change.now) }
+{
+    let mut changes = ChangesBuf::new(alloc);
+    changes.push(change)?;
+    Ok(Vec::from_slice(alloc, changes.spelling())?)
+}
+
+/// The edit that puts a change at its place.
+fn edit_of(alloc: Global, placed: &Placed<'_>) -> Result<PlaceEdit, Memory>
+    ensures { IfOk result (λ edit. edit_parts edit ≡ task_parts (task_of placed.now)) }
+{
+    Ok(PlaceEdit {
+        table: placed.number,
+        key: Vec::from_slice(alloc, placed.key)?,
+        body: Some(body_of(alloc, &placed.change)?),
+    })
+}
+
+/// The edits that put changes at their places.
+fn edits_of(alloc: Global, placed: &[Placed<'_>]) -> Result<Vec<PlaceEdit>, Memory>
+    ensures { IfOk result (λ edits. map edit_parts edits.items ≡ map task_parts (map task_of placed.now)) }
+{
+    let mut edits = Vec::with_capacity(alloc, placed.len())?;
+    for one in placed {
+        edits.push(edit_of(alloc, one)?)?;
+    }
+    Ok(edits)
+}
+
+/// The batch that puts the changes at their places, and takes the value away.
+pub fn moving_batch(
+    alloc: Global,
+    catalog: &Catalog,
+    changes: &Normal,
+) -> Result<Batch, Memory>
+    requires { FitsCatalog catalog.now changes.now }
+    ensures { IfOk result (λ batch. (contents : Contents) → after_batch batch contents ≡ moved catalog.now changes.now contents) }
+{
+    let placed = place_all(alloc, catalog, changes)?;
+    let pending = edits_of(alloc, placed.as_slice())?;
+    let mut meta = Vec::new(alloc);
+    meta.push(MetaEdit {
+        name: MetaName::Pending,
+        value: None,
+    })?;
+    Ok(Batch {
+        rows: Vec::new(alloc),
+        pending,
+        meta,
+        log: None,
+    })
+}
