@@ -1,2 +1,3 @@
 mod Bodies
 mod Batches
+mod Planned
