@@ -19,7 +19,8 @@ use Rattle.cs_copying.specs.Copied.{HoldsRowsAlone}
 use Rattle.cs_opening.specs.Laws.{IsOfContents, NoFaultWhereOpened, ShownIsWhole}
 use Rattle.cs_opening.specs.Opens.{IsOpenFault, IsReplicaAt, StandsAt}
 use Rattle.cs_opening.specs.declared.fault.OpenFault.{OpenFault}
-use Rattle.cs_moving.specs.Moved.{KeepsValue, moved}
+use Rattle.cs_opening.specs.declared.fault.OpenFault.TheVariants.{Memory, Damaged, Device, Mismatch}
+use Rattle.cs_moving.specs.Moved.{IsStoreFault, KeepsValue, NeverMoves, moved}
 use Rattle.cs_moving.specs.Steps.{IsKeptValue, IsPlan}
 
 some_value : {A : Type 0} (o : Option A) (x : A) → o ≡ Some x → is_some o ≡ true
@@ -86,3 +87,10 @@ module _ (tables : List TableDef) (id : ℕ) (old : Contents) where
 
 pub one_read : (some other : List TableChanges) → ◌≡◌ {A = Option (List TableChanges)} (Some some) (Some other) → some ≡ other
 one_read some other e = cc
+
+-- what is told of contents as they are, where no value that is moved mends them
+pub store_fault : (tables : List TableDef) (id : ℕ) (old : Contents) → NeverMoves tables id old → (fault : OpenFault) → IsOpenFault tables id old fault → IsStoreFault tables id old fault
+store_fault tables id old never Memory told = tt
+store_fault tables id old never Damaged told = (told, never)
+store_fault tables id old never Device told = tt
+store_fault tables id old never Mismatch told = told

@@ -49,7 +49,7 @@ fn edits_of(alloc: Global, placed: &[Placed<'_>]) -> Result<Vec<PlaceEdit>, Memo
 }
 
 /// The batch that puts the changes at their places, and takes the value away.
-pub fn moving_batch(
+pub(crate) fn moving_batch(
     alloc: Global,
     catalog: &Catalog,
     changes: &Normal,

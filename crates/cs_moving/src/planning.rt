@@ -30,7 +30,7 @@ use std::alloc::{AllocError, Global};
 
 /// What is written where a value is moved, and where the replica then stands.
 #[derive(Drop)]
-pub struct Plan {
+pub(crate) struct Plan {
     pub position: Position,
     pub batch: Batch,
 }
@@ -91,7 +91,7 @@ fn position_in(
 }
 
 /// How a value is moved, if the store keeps one, and then shows the replica with this id.
-pub fn plan_move<S: RowStore>(
+pub(crate) fn plan_move<S: RowStore>(
     alloc: Global,
     store: &mut S,
     catalog: &Catalog,

@@ -20,7 +20,7 @@ fn changes_of(body: Body) -> Normal
 }
 
 /// The changes that these bytes are, if they are a changeset of the tables in normal form, of at most `MAX_CHANGESET` bytes.
-pub fn value_in(
+pub(crate) fn value_in(
     alloc: Global,
     catalog: &Catalog,
     bytes: &[u8],
