@@ -1,3 +1,4 @@
 mod Bodies
 mod Batches
 mod Planned
+mod StoreLaws

@@ -6,6 +6,7 @@
 #![tactic(auto)]
 
 mod edits;
+pub mod laws;
 mod moving;
 mod planning;
 mod value;
