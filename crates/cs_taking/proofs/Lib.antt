@@ -13,9 +13,11 @@ pub mod Called
 mod OneTaking
 mod EntryPlaces
 mod Worked
+mod SameStore
 mod OneContents
 mod TakenOnce
 mod PutBodies
 mod TakenContents
 mod TakenSome
 mod TakenStored
+mod NextShown

@@ -1,8 +1,8 @@
 -- What shows one view at one position holds the same.
-use Rattle.std.proofs.Common.{◌≡◌, ◌≤◌, ℕ, List, Option, Some, None, length, option_map, sym, ap, ◌∙◌, inl, inr, arith}
+use Rattle.std.proofs.Common.{◌≡◌, ◌≤◌, ℕ, List, Option, Some, None, length, option_map, refl, sym, ap, ◌∙◌, inl, inr, arith}
 use Rattle.std.specs.Prelude.{ℤ, pos, negsuc, slice_get, Contains}
 use Rattle.std.specs.Cmp.{IsTotalOrder}
-use Rattle.std.specs.FinMap.{IsAntisymmetric, empty_of_len, get, same_map}
+use Rattle.std.specs.FinMap.{IsAntisymmetric, empty_of_len, get, len, same_map}
 use Rattle.std.specs.Ordering.{int_cmp, nat_cmp}
 use Rattle.std.specs.Cmp.Lexicographic.{slice_cmp}
 use Rattle.std.proofs.lemmas.Cmp.{int_cmp_total, nat_list_cmp_total, on_total, then_total}
@@ -17,12 +17,14 @@ use Rattle.cs_normal.specs.State.{AreSame}
 use Rattle.cs_store.specs.Contents.{Bodies, Contents, Meta, StorePlace, name_text, place_cmp}
 use Rattle.cs_store.specs.Whole.{IsName}
 use Rattle.cs_store.specs.declared.names.MetaName.{MetaName}
+use Rattle.cs_store.specs.declared.names.MetaName.TheVariants.{Id, Version, Number, Flight, Pending, Catalog}
 use Rattle.cs_pending.specs.OnePlace.{contained}
 use Rattle.cs_pending.specs.Shows.{IsElsewhere}
 use Rattle.cs_pending.specs.View.{View}
 use Rattle.cs_position.specs.Shows.{ShowsAt}
 use Rattle.cs_position.specs.Values.{value_of}
 use Rattle.cs_position.specs.declared.position.Position.{Position}
+use Rattle.cs_taking.specs.Laws.{OneContents}
 use Rattle.cs_taking.proofs.Worked.{by_option}
 
 -- ---- maps
@@ -70,7 +72,7 @@ module _ (some other : Meta) (here : (name : MetaName) → get some (name_text n
 
 -- ---- contents
 
-pub same_contents : (tables : List TableDef) (some other : Contents) (here there : Position) (view seen : View) → ShowsAt tables some here view → ShowsAt tables other there seen
+same_contents : (tables : List TableDef) (some other : Contents) (here there : Position) (view seen : View) → ShowsAt tables some here view → ShowsAt tables other there seen
     → ((name : MetaName) → value_of tables here name ≡ value_of tables there name) → AreSame seen.tables view.tables
     → ((table : TableDef) (key : List ℕ) → Contains tables table → view.pending table.name key ≡ seen.pending table.name key) → some ≡ other
 same_contents tables some other here there view seen s o values rows pending =
@@ -83,3 +85,16 @@ same_contents tables some other here there view seen s o values rows pending =
     let meta_is : some.meta ≡ other.meta = same_meta some.meta other.meta (λ name. s.values name ∙ values name ∙ sym (o.values name)) s.alone.names o.alone.names in
     let log_is : some.log ≡ other.log = empty_of_len some.log s.alone.log ∙ sym (empty_of_len other.log o.alone.log) in
     λ i. record { rows = rows_are i; pending = pending_are i; meta = meta_is i; log = log_is i }
+
+value_at : (tables : List TableDef) (position : Position) (some other : ℕ) (name : MetaName) → value_of tables (record position { pending = some }) name ≡ value_of tables (record position { pending = other }) name
+value_at tables position some other Id = refl
+value_at tables position some other Version = refl
+value_at tables position some other Number = refl
+value_at tables position some other Flight = refl
+value_at tables position some other Pending = refl
+value_at tables position some other Catalog = refl
+
+pub one_contents : OneContents
+one_contents tables position some other view seen s o rows pending =
+    same_contents tables some other (record position { pending = len some.pending }) (record position { pending = len other.pending }) view seen s o
+    (value_at tables position (len some.pending) (len other.pending)) (λ name key. sym (rows name key)) (λ table key inside. sym (pending table key inside))

@@ -44,7 +44,7 @@ pub record CanBeShown (tables : List TableDef) (view : View) : Type 0 where
 no_net : (marks : List Bool) (x : Place) → net marks x x ≡ None
 no_net marks x = none_left (net marks x x) (net_there marks x x ∙ ap not ((same_place-Decides x x).1 refl))
 
-nothing_under_way : (tables : List TableDef) (view : View) → IsStateOf tables (middle view) → IsUnderWay tables None view
+pub nothing_under_way : (tables : List TableDef) (view : View) → IsStateOf tables (middle view) → IsUnderWay tables None view
 nothing_under_way tables view states = record {
   fits = tt;
   normal = tt;

@@ -1,7 +1,6 @@
 -- An entry that is taken leaves one view.
 use Rattle.std.proofs.Common.{◌≡◌, ◌⊎◌, ℕ, List, [], ◌∷◌, Option, None, refl, sym, ap, subst, ◌∙◌, inl, inr}
 use Rattle.std.proofs.lemmas.Option.{same_Some}
-use Rattle.std.specs.FinMap.{len}
 use Rattle.std.specs.List.{AllByRecursion}
 use Rattle.std.specs.Prelude.{Contains}
 use Rattle.cs_value.specs.Catalog.{AreTables}
@@ -22,17 +21,15 @@ use Rattle.cs_apply.specs.NormalTasks.{AreElsewhere, keyed_tasks}
 use Rattle.cs_apply.specs.Spots.{by_test}
 use Rattle.cs_apply.specs.Tasks.{Task}
 use Rattle.cs_rebaser.specs.Diamond.{MergesAlike, kind_any}
+use Rattle.cs_pending.specs.Laws.{OneView}
 use Rattle.cs_pending.specs.View.{View, direct_net, middle}
-use Rattle.cs_store.specs.declared.names.MetaName.{MetaName}
-use Rattle.cs_store.specs.declared.names.MetaName.TheVariants.{Id, Version, Number, Flight, Pending, Catalog}
 use Rattle.cs_position.specs.Shows.{base}
-use Rattle.cs_position.specs.Values.{value_of}
-use Rattle.cs_position.specs.declared.position.Position.{Position}
 use Rattle.cs_taking.specs.Laws.{BadIsNeither, NoStopWhereTaken, OneStopTaking, OneTaken, OneTakenIn, PicksOnce}
 use Rattle.cs_taking.specs.Takes.{IsTaken, TakeAll, is_touched, taken}
 use Rattle.cs_taking.proofs.EntryPlaces.{IsOfEntry, entry_tasks, keyed_there, left_there, of_entry}
-use Rattle.cs_taking.proofs.OneContents.{same_contents}
+use Rattle.cs_taking.proofs.OneContents.{one_contents}
 use Rattle.cs_taking.proofs.OneTaking.{MergesAlikeAt, no_stop, one_stop, one_take}
+use Rattle.cs_taking.proofs.SameStore.{log_same, own_same, same_changes}
 use Rattle.cs_taking.proofs.Whole.{nothing_there, there_or_elsewhere}
 
 -- ---- where the picker isn't asked
@@ -55,26 +52,37 @@ module _ (tells : BytesTellKeys) (fit : SetColumnsFit) (one_place : OnePlaceOfNa
 -- ---- each place
 
 module _ (tells : BytesTellKeys) (fit : SetColumnsFit) (one_place : OnePlaceOfName) (normal_is_net : NormalIsNet) (alike : MergesAlike) {P : Type 0} (picks : P → Clash → Wish → P → Type 0) where
-  module _ (tables : List TableDef) (flight : Option (List TableChanges)) (entry : List TableChanges) (before some other : View) (p q r : P) (are : AreTables tables) (normal : IsNormalChangeset entry) (once : PicksOnce picks)
-      (log_state : IsStateOf tables (base flight before)) (own_state : IsStateOf tables before.tables) (s : IsTaken picks tables flight entry before some p q) (o : IsTaken picks tables flight entry before other p r) where
-    same_middle : (name key : List ℕ) → middle other name key ≡ middle some name key
-    same_middle name key = same_Some _ _ (sym (o.applied.1 name key) ∙ s.applied.1 name key)
+  -- two views with the same rows, the same log's rows and the same pending changes at the places of the tables
+  module _ (tables : List TableDef) (flight : Option (List TableChanges)) (entry : List TableChanges) (before seen some other : View) (p q r : P) (are : AreTables tables) (normal : IsNormalChangeset entry) (once : PicksOnce picks)
+      (log_state : IsStateOf tables (base flight before)) (own_state : IsStateOf tables before.tables) (log_is : base flight before ≡ base flight seen) (own_is : before.tables ≡ seen.tables)
+      (pending_is : (table : TableDef) (key : List ℕ) → Contains tables table → seen.pending table.name key ≡ before.pending table.name key)
+      (s : IsTaken picks tables flight entry before some p q) (o : IsTaken picks tables flight entry seen other p r) where
+    other_applied : IsApplied tables entry (base flight before) (middle other)
+    other_applied = subst (λ (log : State). IsApplied tables entry log (middle other)) (sym log_is) o.applied
 
-    taken_by : (view : View) (last : P) → IsTaken picks tables flight entry before view p last → TakeAll picks (base flight before) before.tables (middle view) view.tables (keyed_tasks tables entry) p last
-    taken_by view last is =
-        subst (λ (ts : List Task). TakeAll picks (base flight before) before.tables (middle view) view.tables ts p last) (entry_tasks tables entry normal is.applied.0) is.takes
+    same_middle : (name key : List ℕ) → middle other name key ≡ middle some name key
+    same_middle name key = same_Some _ _ (sym (other_applied.1 name key) ∙ s.applied.1 name key)
+
+    taken_by : (here view : View) (last : P) → IsTaken picks tables flight entry here view p last → TakeAll picks (base flight here) here.tables (middle view) view.tables (keyed_tasks tables entry) p last
+    taken_by here view last is =
+        subst (λ (ts : List Task). TakeAll picks (base flight here) here.tables (middle view) view.tables ts p last) (entry_tasks tables entry normal is.applied.0) is.takes
+
+    other_takes : TakeAll picks (base flight before) before.tables (middle other) other.tables (keyed_tasks tables entry) p r
+    other_takes =
+        subst (λ (log : State). TakeAll picks log before.tables (middle other) other.tables (keyed_tasks tables entry) p r) (sym log_is)
+        (subst (λ (own : State). TakeAll picks (base flight seen) own (middle other) other.tables (keyed_tasks tables entry) p r) (sym own_is) (taken_by seen other r o))
 
     once_merged : AllByRecursion (λ (t : Task). other.tables t.name t.key ≡ some.tables t.name t.key) (keyed_tasks tables entry) × (q ≡ r)
     once_merged =
         one_take picks once (base flight before) before.tables (middle some) (middle other) some.tables other.tables same_middle (keyed_tasks tables entry)
         (all_merge_alike tells fit one_place normal_is_net alike tables are entry (base flight before) before.tables (middle some) log_state own_state s.applied (keyed_tasks tables entry) (of_entry tables entry normal s.applied.0))
-        p q r (taken_by some q s) (taken_by other r o)
+        p q r (taken_by before some q s) other_takes
 
     same_row : (name key : List ℕ) → (other.tables name key ≡ some.tables name key) ⊎ AreElsewhere (name, key) (keyed_tasks tables entry) → other.tables name key ≡ some.tables name key
     same_row name key (inl is) = is
     same_row name key (inr away) =
         let none = nothing_there tables entry normal (keyed_tasks tables entry) refl name key away in
-        o.others name key none ∙ sym (s.others name key none)
+        o.others name key none ∙ sym (ap (λ (own : State). own name key) own_is) ∙ sym (s.others name key none)
 
     pub same_rows : AreSame some.tables other.tables
     same_rows name key = same_row name key (there_or_elsewhere (λ n k. other.tables n k ≡ some.tables n k) (keyed_tasks tables entry) once_merged.0 name key)
@@ -86,34 +94,27 @@ module _ (tells : BytesTellKeys) (fit : SetColumnsFit) (one_place : OnePlaceOfNa
         ∙ ap (λ (b : Place). direct_net table b (other.tables table.name key)) (same_middle table.name key)
         ∙ ap (λ (x : Place). direct_net table (middle some table.name key) x) (same_rows table.name key)
         ∙ sym (s.pending.touched table key inside e))
-        (λ e. o.pending.untouched table.name key e ∙ sym (s.pending.untouched table.name key e))
+        (λ e. o.pending.untouched table.name key e ∙ pending_is table key inside ∙ sym (s.pending.untouched table.name key e))
 
-  pub one_taken : OneTaken picks
-  one_taken tables contents position entry before some other p q r are normal once shows s o =
-      let log_state = shows.under_way.sound.before_state in
-      let own_state = shows.rows.sound.after_state in (
-        same_rows tables position.flight entry before some other p q r are normal once log_state own_state s o,
-        same_pending tables position.flight entry before some other p q r are normal once log_state own_state s o,
-        (once_merged tables position.flight entry before some other p q r are normal once log_state own_state s o).1,
+  pub one_taken : OneView → OneTaken picks
+  one_taken one_view tables contents position entry before seen some other p q r are normal once b n s o =
+      let flight = position.flight in
+      let log_state = b.under_way.sound.before_state in
+      let own_state = b.rows.sound.after_state in
+      let log_is = log_same one_view tables contents position before seen b n in
+      let own_is = own_same one_view tables contents position before seen b n in
+      let pending_is = same_changes one_view tables contents position before seen b n in (
+        same_rows tables flight entry before seen some other p q r are normal once log_state own_state log_is own_is pending_is s o,
+        same_pending tables flight entry before seen some other p q r are normal once log_state own_state log_is own_is pending_is s o,
+        (once_merged tables flight entry before seen some other p q r are normal once log_state own_state log_is own_is pending_is s o).1,
       )
 
-  value_after : (tables : List TableDef) (position : Position) (some other : ℕ) (name : MetaName) → value_of tables (taken position some) name ≡ value_of tables (taken position other) name
-  value_after tables position some other Id = refl
-  value_after tables position some other Version = refl
-  value_after tables position some other Number = refl
-  value_after tables position some other Flight = refl
-  value_after tables position some other Pending = refl
-  value_after tables position some other Catalog = refl
-
-  pub one_taken_in : OneTakenIn picks
-  one_taken_in tables position entry old some other p q r are normal once (before, shows) s o =
+  pub one_taken_in : OneView → OneTakenIn picks
+  one_taken_in one_view tables position entry old some other p q r are normal once (before, shows) s o =
       let one = s before shows in
       let two = o before shows in
-      let same = one_taken tables old position entry before two.0 one.0 p r q are normal once shows two.2 one.2 in (
-        same_contents tables some other (taken position (len some.pending)) (taken position (len other.pending)) one.0 two.0 one.1 two.1
-            (value_after tables position (len some.pending) (len other.pending)) same.0 same.1,
-        sym same.2,
-      )
+      let same = one_taken one_view tables old position entry before before one.0 two.0 p q r are normal once shows shows one.2 two.2 in
+      (one_contents tables (taken position 0) some other one.0 two.0 one.1 two.1 same.0 same.1, same.2)
 
 -- ---- stops
 

@@ -175,13 +175,14 @@ module _ (laws : MergeLaws) (one_key : OneKeyStands) (defined_is_applied : Defin
   module _ (tables : List TableDef) (flight : Option (List TableChanges)) (entry : List TableChanges) (before : View) (p : P) (are : AreTables tables) (normal : IsNormalChangeset entry) (log_state : IsStateOf tables (base flight before))
       (own_state : IsStateOf tables before.tables) (defined : IsDefinedOn tables entry (base flight before)) (theirs : State) (applied : IsApplied tables entry (base flight before) theirs) where
     end_of : Worked picks is_ready laws tables are entry (base flight before) before.tables theirs log_state own_state applied (keyed_tasks tables entry) p
-        → ((after : View) × (q : P) × IsTaken picks tables flight entry before after p q) ⊎ ((conflict : Conflict) × (q : P) × StopsTaking picks tables flight entry before p conflict q)
-    end_of (inl (rows, q, takes, elsewhere, states)) =
+        → ((after : View) × (q : P) × IsTaken picks tables flight entry before after p q × is_ready q) ⊎ ((conflict : Conflict) × (q : P) × StopsTaking picks tables flight entry before p conflict q)
+    end_of (inl (rows, q, takes, elsewhere, states, ready)) =
         let theirs_state = (applied_is_net tables entry (base flight before) theirs are normal log_state applied).0 in
         inl (
           now laws one_key tables are flight entry normal before theirs rows theirs_state states applied elsewhere,
           q,
           now_is_taken laws one_key tables are flight entry normal before theirs rows theirs_state states applied elsewhere picks p q takes,
+          ready,
         )
     end_of (inr (conflict, q, stops)) = inr (conflict, q, stop_of tables flight entry before p normal defined picks conflict q stops)
 

@@ -1,15 +1,12 @@
 -- A store that holds what an entry leaves that is taken, or the picker stops at it.
-use Rattle.std.proofs.Common.{◌≡◌, ◌⊎◌, ℕ, List, [], ◌∷◌, Option, Some, None, refl, sym, ap₂, subst, ◌∙◌, inl, inr}
+use Rattle.std.proofs.Common.{◌≡◌, ◌⊎◌, ℕ, List, [], ◌∷◌, refl, sym, subst, ◌∙◌, inl, inr}
 use Rattle.std.specs.Prelude.{Contains}
 use Rattle.std.specs.FinMap.{len}
 use Rattle.cs_value.specs.Catalog.{AreTables}
-use Rattle.cs_value.specs.Key.{Place}
 use Rattle.cs_value.specs.declared.catalog.TableDef.{TableDef}
-use Rattle.cs_change.specs.Action.{action_any}
 use Rattle.cs_change.specs.Laws.{NetTakes}
-use Rattle.cs_change.specs.declared.change.Change.{Change}
-use Rattle.cs_normal.specs.Normal.{IsNormalChangeset, change_of}
-use Rattle.cs_normal.specs.State.{AppliedIsNet, DefinedIsApplied, IsApplied, IsDefinedOn, IsStateOf, MayStandAt, OneKeyStands, State}
+use Rattle.cs_normal.specs.Normal.{IsNormalChangeset}
+use Rattle.cs_normal.specs.State.{AppliedIsNet, DefinedIsApplied, IsApplied, IsDefinedOn, IsStateOf, OneKeyStands, State}
 use Rattle.cs_normal.specs.declared.normal.TableChanges.{TableChanges}
 use Rattle.cs_store.specs.Contents.{Contents}
 use Rattle.cs_conflict.specs.Laws.{NotFoundIsCovered}
@@ -24,45 +21,16 @@ use Rattle.cs_apply.specs.NormalTasks.{AreElsewhere, are_apart, keyed_tasks}
 use Rattle.cs_apply.specs.Spots.{by_test}
 use Rattle.cs_apply.specs.Tasks.{Task}
 use Rattle.cs_pending.specs.Laws.{OneView}
-use Rattle.cs_pending.specs.View.{Changed, View, middle, undo}
-use Rattle.cs_position.specs.Shows.{ShowsAt, base, flown}
+use Rattle.cs_pending.specs.View.{Changed, View}
+use Rattle.cs_position.specs.Shows.{ShowsAt, base}
 use Rattle.cs_position.specs.declared.position.Position.{Position}
 use Rattle.cs_taking.specs.Laws.{AnswersLawfully, TakenInOrStopped, TakerTakes, always_takes, taking_wish}
 use Rattle.cs_taking.specs.Takes.{IsTakenIn, StopsAt, StopsTaking, TakeAll, is_touched, taken}
 use Rattle.cs_taking.proofs.EntryPlaces.{of_entry}
+use Rattle.cs_taking.proofs.SameStore.{log_same, own_same, same_changes, same_own}
 use Rattle.cs_taking.proofs.TakenContents.{put_taken, shows_taken}
 use Rattle.cs_taking.proofs.TakenSome.{can_be_shown, now, now_is_taken, pending_now, pending_there, pending_untouched, row_stays, stop_of}
-use Rattle.cs_taking.proofs.Worked.{MergeLaws, Worked, by_option, work}
-
--- ---- two views that one store shows
-
-module _ (one_view : OneView) (tables : List TableDef) (old : Contents) (position : Position) (before seen : View) (b : ShowsAt tables old position before) (s : ShowsAt tables old position seen) where
-  same_own : (name key : List ℕ) → seen.tables name key ≡ before.tables name key
-  same_own = (one_view tables old before seen b.rows s.rows).0
-
-  same_changes : (table : TableDef) (key : List ℕ) → Contains tables table → seen.pending table.name key ≡ before.pending table.name key
-  same_changes = (one_view tables old before seen b.rows s.rows).1
-
-  -- where a row stands there is a table
-  middle_in : (name key : List ℕ) (row : Place) → MayStandAt tables name key row → (row ≡ None → ⊥) → middle seen name key ≡ middle before name key
-  middle_in name key None stands some = absurd (some refl)
-  middle_in name key (Some row) (table, inside, named, of) some =
-      subst (λ (n : List ℕ). middle seen n key ≡ middle before n key) named
-      (ap₂ (λ (c : Option Change) (x : Place). undo (action_any c) x) (same_changes table key inside) (same_own table.name key))
-
-  same_middle : (name key : List ℕ) → middle seen name key ≡ middle before name key
-  same_middle name key =
-      by_option (middle seen name key) _
-      (λ none. by_option (middle before name key) _
-      (λ nothing. none ∙ sym nothing)
-      (λ row is. middle_in name key (middle before name key) (b.rows.sound.before_state name key) (λ no. let f = sym is ∙ no in cc)))
-      (λ row is. middle_in name key (middle seen name key) (s.rows.sound.before_state name key) (λ no. let f = sym is ∙ no in cc))
-
-  log_same : base position.flight before ≡ base position.flight seen
-  log_same = sym (λ i name key. undo (action_any (change_of name key (flown position.flight))) (same_middle name key i))
-
-  own_same : before.tables ≡ seen.tables
-  own_same = sym (λ i name key. same_own name key i)
+use Rattle.cs_taking.proofs.Worked.{MergeLaws, Worked, work}
 
 -- ---- what is left of one view is left of the other
 
@@ -125,13 +93,14 @@ module _ (laws : MergeLaws) (one_key : OneKeyStands) (defined_is_applied : Defin
   module _ (tables : List TableDef) (old : Contents) (position : Position) (entry : List TableChanges) (before : View) (p : P) (are : AreTables tables) (normal : IsNormalChangeset entry) (shows : ShowsAt tables old position before)
       (defined : IsDefinedOn tables entry (base position.flight before)) (theirs : State) (applied : IsApplied tables entry (base position.flight before) theirs) where
     stored_of : Worked picks is_ready laws tables are entry (base position.flight before) before.tables theirs shows.under_way.sound.before_state shows.rows.sound.after_state applied (keyed_tasks tables entry) p
-        → ((new : Contents) × (q : P) × IsTakenIn picks tables position entry p q old new) ⊎ ((conflict : Conflict) × (q : P) × StopsTaking picks tables position.flight entry before p conflict q)
-    stored_of (inl (rows, q, takes, elsewhere, states)) =
+        → ((new : Contents) × (q : P) × IsTakenIn picks tables position entry p q old new × is_ready q) ⊎ ((conflict : Conflict) × (q : P) × StopsTaking picks tables position.flight entry before p conflict q)
+    stored_of (inl (rows, q, takes, elsewhere, states, ready)) =
         let theirs_states = (applied_is_net tables entry (base position.flight before) theirs are normal shows.under_way.sound.before_state applied).0 in
         inl (
           left laws one_key net_takes one_view picks tables are old position entry normal before shows theirs rows theirs_states states applied elsewhere p q takes,
           q,
           left_taken_in laws one_key net_takes one_view picks tables are old position entry normal before shows theirs rows theirs_states states applied elsewhere p q takes,
+          ready,
         )
     stored_of (inr (conflict, q, stops)) = inr (conflict, q, stop_of tables position.flight entry before p normal defined picks conflict q stops)
 
@@ -161,9 +130,9 @@ taker_never_stops log own (t ∷ ts) p conflict q (inl (clash, is, picked, told)
 taker_never_stops log own (t ∷ ts) p conflict q (inr (wish, between, on, asks, behind)) = taker_never_stops log own ts between conflict q behind
 
 taken_then : (tables : List TableDef) (old : Contents) (position : Position) (entry : List TableChanges) (before : View)
-    → ((new : Contents) × (q : Unit {0}) × IsTakenIn always_takes tables position entry tt q old new) ⊎ ((conflict : Conflict) × (q : Unit {0}) × StopsTaking always_takes tables position.flight entry before tt conflict q)
+    → ((new : Contents) × (q : Unit {0}) × IsTakenIn always_takes tables position entry tt q old new × Unit {0}) ⊎ ((conflict : Conflict) × (q : Unit {0}) × StopsTaking always_takes tables position.flight entry before tt conflict q)
     → (new : Contents) × IsTakenIn always_takes tables position entry tt tt old new
-taken_then tables old position entry before (inl (new, q, is)) = (new, is)
+taken_then tables old position entry before (inl (new, q, is, ready)) = (new, is)
 taken_then tables old position entry before (inr (conflict, q, stops)) = absurd (taker_never_stops (base position.flight before) before.tables _ tt conflict q stops.stops)
 
 pub taker_takes : MergeLaws → OneKeyStands → DefinedIsApplied → AppliedIsNet → NetTakes → OneView → NotFoundIsCovered → TakerTakes

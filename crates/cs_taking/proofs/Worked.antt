@@ -140,10 +140,10 @@ put_state tables rows name key x states stands n k =
 
 module _ {P : Type 0} (picks : P → Clash → Wish → P → Type 0) (is_ready : P → Type 0) (laws : MergeLaws) (tables : List TableDef) (are : AreTables tables) (entry : List TableChanges) (log own theirs : State)
     (log_state : IsStateOf tables log) (own_state : IsStateOf tables own) (applied : IsApplied tables entry log theirs) where
-  -- the merged rows, which are the own ones elsewhere, or where the picker stops
+  -- the merged rows, which are the own ones elsewhere, and a picker that may be asked; or where it stops
   abbrev pub Worked : List Task → P → Type 0
   Worked ts p =
-      ((rows : State) × (q : P) × TakeAll picks log own theirs rows ts p q × ((name key : List ℕ) → AreElsewhere (name, key) ts → rows name key ≡ own name key) × IsStateOf tables rows)
+      ((rows : State) × (q : P) × TakeAll picks log own theirs rows ts p q × ((name key : List ℕ) → AreElsewhere (name, key) ts → rows name key ≡ own name key) × IsStateOf tables rows × is_ready q)
       ⊎ ((conflict : Conflict) × (q : P) × StopsAt picks log own ts p conflict q)
 
   module _ (t : Task) (is : IsOfEntry tables entry t) where
@@ -169,7 +169,7 @@ module _ {P : Type 0} (picks : P → Clash → Wish → P → Type 0) (is_ready 
 
     work_on : (ts : List Task) → AreElsewhere (spot_of t) ts → (merged : Place) (p between : P) → LeavesOwn picks t (log t.name t.key) (own t.name t.key) p merged between → Worked ts between → Worked (t ∷ ts) p
     unfolding TakeAll StopsAt
-    work_on ts away merged p between left (inl (rows, q, takes, elsewhere, states)) =
+    work_on ts away merged p between left (inl (rows, q, takes, elsewhere, states, ready)) =
         let one = took merged p between left in inl (
           put_at t.name t.key merged rows,
           q,
@@ -183,6 +183,7 @@ module _ {P : Type 0} (picks : P → Clash → Wish → P → Type 0) (is_ready 
           ),
           λ n k apart. put_other t.name t.key merged rows n k apart.0 ∙ elsewhere n k apart.1,
           put_state tables rows t.name t.key merged states (merged_stands merged p between left),
+          ready,
         )
     work_on ts away merged p between left (inr (conflict, q, stops)) =
         let one = took merged p between left in inr (conflict, q, inr (one.0, between, one.1, one.2, stops))
@@ -191,9 +192,9 @@ module _ {P : Type 0} (picks : P → Clash → Wish → P → Type 0) (is_ready 
     unfolding StopsAt
     stop_at ts p conflict q here = inr (conflict, q, inl here)
 
-  no_work : (p : P) → Worked [] p
+  no_work : (p : P) → is_ready p → Worked [] p
   unfolding TakeAll
-  no_work p = inl (own, p, refl, λ n k away. refl, own_state)
+  no_work p ready = inl (own, p, refl, λ n k away. refl, own_state, ready)
 
   module _ (answers : AnswersLawfully picks is_ready) where
     work_first : (t : Task) (is : IsOfEntry tables entry t) (ts : List Task) → AreElsewhere (spot_of t) ts → (p : P)
@@ -202,7 +203,7 @@ module _ {P : Type 0} (picks : P → Clash → Wish → P → Type 0) (is_ready 
     work_first t is ts away p others (inr (conflict, q, here)) = stop_at t is ts p conflict q here
 
     pub work : (ts : List Task) → HaveOwnPlaces ts → AllByRecursion (IsOfEntry tables entry) ts → (p : P) → is_ready p → Worked ts p
-    work [] apart all p ready = no_work p
+    work [] apart all p ready = no_work p ready
     work (t ∷ ts) apart all p ready =
         work_first t all.0 ts apart.0 p (λ q r. work ts apart.1 all.1 q r)
         (step picks is_ready laws t (log t.name t.key) (own t.name t.key) (theirs t.name t.key) (made t all.0) answers p ready)

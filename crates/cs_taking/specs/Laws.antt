@@ -1,6 +1,7 @@
 -- The laws of taking another's entry: one input has one answer, and each has one. `picks p clash wish q` is an answer of a picker: at
 -- p it is shown the clash, wishes, and is left as q.
 use Rattle.std.specs.Prelude.{◌≡◌, ◌⊎◌, ℕ, List, Option, Contains}
+use Rattle.std.specs.FinMap.{len}
 use Rattle.cs_value.specs.Catalog.{AreTables}
 use Rattle.cs_value.specs.Key.{Place}
 use Rattle.cs_value.specs.declared.catalog.TableDef.{TableDef}
@@ -19,7 +20,7 @@ use Rattle.cs_apply.specs.Tasks.{Task}
 use Rattle.cs_pending.specs.View.{View}
 use Rattle.cs_position.specs.Shows.{ShowsAt, ShowsSomeAt, base}
 use Rattle.cs_position.specs.declared.position.Position.{Position}
-use Rattle.cs_taking.specs.Takes.{IsClashOf, IsTaken, IsTakenIn, StopsTaking}
+use Rattle.cs_taking.specs.Takes.{IsClashOf, IsTaken, IsTakenIn, StopsTaking, taken}
 
 -- a change, a row of the log and an own row have one clash
 abbrev pub OneClash : Type 0
@@ -28,6 +29,30 @@ OneClash =
     → IsClashOf task log own some
     → IsClashOf task log own other
     → some ≡ other
+
+-- what shows one view at one position holds one thing; how many changes are pending it tells itself
+abbrev pub OneContents : Type 0
+OneContents =
+    (tables : List TableDef) (position : Position) (some other : Contents) (view seen : View)
+    → ShowsAt tables some (record position { pending = len some.pending }) view
+    → ShowsAt tables other (record position { pending = len other.pending }) seen
+    → AreSame view.tables seen.tables
+    → ((table : TableDef) (key : List ℕ) → Contains tables table → seen.pending table.name key ≡ view.pending table.name key)
+    → some ≡ other
+
+-- what a store shows at one position has one state of the log's rows, and one of the own ones
+abbrev pub OneLogRows : Type 0
+OneLogRows =
+    (tables : List TableDef) (contents : Contents) (position : Position) (view seen : View)
+    → ShowsAt tables contents position view
+    → ShowsAt tables contents position seen
+    → AreSame (base position.flight view) (base position.flight seen) × AreSame view.tables seen.tables
+
+-- what a store shows can be shown one entry further, with nothing under way
+abbrev pub NextIsShown : Type 0
+NextIsShown =
+    (tables : List TableDef) (old : Contents) (position : Position)
+    → (new : Contents) × ((view : View) → ShowsAt tables old position view → ShowsAt tables new (taken position (len new.pending)) view)
 
 module _ {P : Type 0} (picks : P → Clash → Wish → P → Type 0) where
   -- at one state and one clash there is one wish, and one state after it
@@ -38,18 +63,19 @@ module _ {P : Type 0} (picks : P → Clash → Wish → P → Type 0) where
       → picks p clash other r
       → (some ≡ other) × (q ≡ r)
 
-  -- by such a picker an entry, taken from one view, leaves one view at the places of the tables, and one state of the picker. Where
-  -- the picker isn't asked, any wish serves, and they leave the same
+  -- by such a picker an entry, taken from what one store shows, leaves one view at the places of the tables, and one state of the
+  -- picker. Where the picker isn't asked, any wish serves, and they leave the same
   abbrev pub OneTaken : Type 0
   OneTaken =
       (tables : List TableDef) (contents : Contents) (position : Position) (entry : List TableChanges)
-      (before some other : View) (p q r : P)
+      (before seen some other : View) (p q r : P)
       → AreTables tables
       → IsNormalChangeset entry
       → PicksOnce
       → ShowsAt tables contents position before
+      → ShowsAt tables contents position seen
       → IsTaken picks tables position.flight entry before some p q
-      → IsTaken picks tables position.flight entry before other p r
+      → IsTaken picks tables position.flight entry seen other p r
       → AreSame some.tables other.tables
       × ((table : TableDef) (key : List ℕ) → Contains tables table
       → other.pending table.name key ≡ some.pending table.name key)
@@ -102,7 +128,8 @@ module _ {P : Type 0} (picks : P → Clash → Wish → P → Type 0) where
       → is_ready p
       → (wish : Wish) × (q : P) × picks p clash wish q × is_ready q × IsLawfulWish wish clash.conflict.kind clash.covers
 
-  -- there is one: an entry that is defined on the log's rows of a view that is shown is taken, or the picker stops at it
+  -- there is one: an entry that is defined on the log's rows of a view that is shown is taken, after which the picker may be asked, or
+  -- it stops there
   abbrev pub TakenOrStopped : (P → Type 0) → Type 0
   TakenOrStopped is_ready =
       (tables : List TableDef) (contents : Contents) (position : Position) (entry : List TableChanges) (before : View) (p : P)
@@ -112,7 +139,7 @@ module _ {P : Type 0} (picks : P → Clash → Wish → P → Type 0) where
       → IsDefinedOn tables entry (base position.flight before)
       → AnswersLawfully is_ready
       → is_ready p
-      → ((after : View) × (q : P) × IsTaken picks tables position.flight entry before after p q)
+      → ((after : View) × (q : P) × IsTaken picks tables position.flight entry before after p q × is_ready q)
       ⊎ ((conflict : Conflict) × (q : P) × StopsTaking picks tables position.flight entry before p conflict q)
 
   -- and where it is taken, there is a store that holds what is left
@@ -125,7 +152,7 @@ module _ {P : Type 0} (picks : P → Clash → Wish → P → Type 0) where
       → IsDefinedOn tables entry (base position.flight before)
       → AnswersLawfully is_ready
       → is_ready p
-      → ((new : Contents) × (q : P) × IsTakenIn picks tables position entry p q old new)
+      → ((new : Contents) × (q : P) × IsTakenIn picks tables position entry p q old new × is_ready q)
       ⊎ ((conflict : Conflict) × (q : P) × StopsTaking picks tables position.flight entry before p conflict q)
 
 -- a wish for the other's change where there is an own row, and else for what there is: none

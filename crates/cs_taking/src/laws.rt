@@ -1,6 +1,6 @@
 //! The laws of taking another's entry, each the contract of a function that does nothing.
 
-ghost use Rattle.cs_taking.specs.Laws.{BadIsNeither, NoStopWhereTaken, OneClash, OneStopTaking, OneTaken, OneTakenIn, TakenInOrStopped, TakenOrStopped, TakerTakes};
+ghost use Rattle.cs_taking.specs.Laws.{BadIsNeither, NextIsShown, NoStopWhereTaken, OneClash, OneContents, OneLogRows, OneStopTaking, OneTaken, OneTakenIn, TakenInOrStopped, TakenOrStopped, TakerTakes};
 
 use cs_conflict::Picker;
 
@@ -9,8 +9,18 @@ pub fn one_clash()
     ensures { OneClash }
 {}
 
-/// Where a picker has one answer to each clash, an entry that is taken from one view leaves one view and one state of the picker; and
-/// one store that shows a replica then holds one thing.
+/// What shows one view at one position holds one thing, and shows one state of the log's rows there; and what a store shows can be
+/// shown one entry further.
+pub fn one_contents()
+    ensures contents { OneContents }
+    ensures log_rows { OneLogRows }
+    ensures next { NextIsShown }
+{
+    cs_pending::laws::one_view();
+}
+
+/// Where a picker has one answer to each clash, an entry that is taken from what one store shows leaves one view and one state of the
+/// picker; and that store then holds one thing.
 pub fn one_taken<P: Picker>()
     ensures view { OneTaken P.picks }
     ensures contents { OneTakenIn P.picks }
@@ -20,6 +30,7 @@ pub fn one_taken<P: Picker>()
     cs_normal::laws::set_columns_fit();
     cs_change::laws::normal_is_net();
     cs_rebaser::laws::merge_alike();
+    cs_pending::laws::one_view();
 }
 
 /// Where a picker has one answer to each clash, it stops at one conflict, in one state.
