@@ -24,7 +24,7 @@ leads_on : (tables : List TableDef) (entry : List TableChanges) (log : State) (a
 leads_on tables entry log after applied =
     (applied.0, λ n k. applied.1 n k ∙ ap (λ (p : Place). Some p) (sym (undo_none (middle after n k))))
 
-own_leads : NetIsApplied → (tables : List TableDef) (contents : Contents) (position : Position) (entry : LogEntry) (view : View) → AreTables tables → ShowsAt tables contents position view → IsOwn position entry
+pub own_leads : NetIsApplied → (tables : List TableDef) (contents : Contents) (position : Position) (entry : LogEntry) (view : View) → AreTables tables → ShowsAt tables contents position view → IsOwn position entry
     → IsApplied tables (entry_changes entry) (base position.flight view) (middle view)
 own_leads law tables contents position entry view are shows own =
     let changes = entry_changes entry in

@@ -57,17 +57,18 @@ none_behind (e ∷ entries) (suc at) (suc place) told is less found = none_behin
 module _ {P : Type 0} (picks : P → Clash → Wish → P → Type 0) (tables : List TableDef) (first : ℕ) (entries : List ToldEntry) where
   -- one more behind so many
   pub pulls_more : (count : ℕ) (position : Position) (view : View) (p : P) (other : Position) (end : View) (q : P) → PullsMany picks tables first entries count position view p other end q
-      → (told : ToldEntry) (entry : LogEntry) (pending : ℕ) (next : View) (between : P)
+      → (told : ToldEntry) (entry : LogEntry) (pending : ℕ) (left : Contents) (next : View) (between : P)
       → IsToldAt first entries other.version told → IsReadAs tables told entry → PullsOne picks tables other entry end q next between
+      → ShowsAt tables left (taken other pending) next
       → PullsMany picks tables first entries (suc count) position view p (taken other pending) next between
   unfolding PullsMany
-  pulls_more zero position view p other end q same told entry pending next between there read one =
+  pulls_more zero position view p other end q same told entry pending left next between there read one shows =
       subst (λ (x : Position). PullsMany picks tables first entries 1 x view p (taken other pending) next between) same.0
       (subst (λ (v : View). PullsMany picks tables first entries 1 other v p (taken other pending) next between) same.1
       (subst (λ (r : P). PullsMany picks tables first entries 1 other end r (taken other pending) next between) same.2
-      (told, entry, pending, next, between, there, read, one, (refl, refl, refl))))
-  pulls_more (suc count) position view p other end q (told', entry', pending', next', between', there', read', one', rest) told entry pending next between there read one =
-      (told', entry', pending', next', between', there', read', one', pulls_more count (taken position pending') next' between' other end q rest told entry pending next between there read one)
+      (told, entry, pending, left, next, between, there, read, one, shows, (refl, refl, refl))))
+  pulls_more (suc count) position view p other end q (told', entry', pending', left', next', between', there', read', one', shows', rest) told entry pending left next between there read one shows =
+      (told', entry', pending', left', next', between', there', read', one', shows', pulls_more count (taken position pending') next' between' other end q rest told entry pending left next between there read one shows)
 
   -- where a list stands: what is left of it, and what was pulled
   pub record IsWalked {S : Type 0} (honest : S → Type 0) (contents : S → Contents) (failed : S → ℕ) (may_leave : S → Contents → Type 0) (misreads : S → ℕ)
@@ -156,7 +157,7 @@ module _ {P : Type 0} (picks : P → Clash → Wish → P → Type 0) (tables : 
     left_among told others is same next left h (entry, read, pulled) before shows =
         let here = walked.seen h before shows in
         let after = pulled here.0 here.2 in
-        (count, taken position (len left.pending), after.0, next, pulls_more count begun before p position here.0 q here.1 told entry (len left.pending) after.0 next (told_there told others is same) read after.2, after.1)
+        (count, taken position (len left.pending), after.0, next, pulls_more count begun before p position here.0 q here.1 told entry (len left.pending) left after.0 next (told_there told others is same) read after.2 after.1, after.1)
 
     -- one is pulled
     pub pulled_on : (told : ToldEntry) (others left : List ToldEntry) → rest ≡ told ∷ others → others ≡ left → index ≡ position.version → (done : Unit {0}) (other : Position) (new : S) (next : P)
@@ -181,7 +182,7 @@ module _ {P : Type 0} (picks : P → Clash → Wish → P → Type 0) (tables : 
             after.0,
             subst (λ (n : ℕ). PullsMany picks tables first entries n begun before p other after.0 next) suc_is
                 (subst (λ (x : Position). PullsMany picks tables first entries (suc count) begun before p x after.0 next) (sym where_is)
-                (pulls_more count begun before p position here.0 q here.1 told told_one.0 (len (contents new).pending) after.0 next (told_there told others is same) told_one.1 after.2)),
+                (pulls_more count begun before p position here.0 q here.1 told told_one.0 (len (contents new).pending) (contents new) after.0 next (told_there told others is same) told_one.1 after.2 after.1)),
             subst (λ (x : Position). ShowsAt tables (contents new) x after.0) (sym where_is) after.1,
           );
       turn = record {

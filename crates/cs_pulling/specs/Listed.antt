@@ -33,13 +33,15 @@ count_of (Err (fault.Device count)) = count
 count_of (Err (fault.BadEntry count)) = count
 
 module _ {P : Type 0} (picks : P → Clash → Wish → P → Type 0) (tables : List TableDef) (first : ℕ) (entries : List ToldEntry) where
-  -- so many entries are pulled one after another, each the one that the list tells at the version then
+  -- so many entries are pulled one after another, each the one that the list tells at the version then, and what each leaves a store
+  -- shows behind it
   unfoldable pub PullsMany : ℕ → Position → View → P → Position → View → P → Type 0
   PullsMany zero position view p other end q = (other ≡ position) × (end ≡ view) × (q ≡ p)
   PullsMany (suc count) position view p other end q =
-      (told : ToldEntry) × (entry : LogEntry) × (pending : ℕ) × (next : View) × (between : P)
+      (told : ToldEntry) × (entry : LogEntry) × (pending : ℕ) × (left : Contents) × (next : View) × (between : P)
       × IsToldAt first entries position.version told × IsReadAs tables told entry
       × PullsOne picks tables position entry view p next between
+      × ShowsAt tables left (taken position pending) next
       × PullsMany count (taken position pending) next between other end q
 
   -- behind them the list tells no entry at the version

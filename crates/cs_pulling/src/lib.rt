@@ -1,6 +1,7 @@
 //! A replica pulls the hub's log. `take_entry` takes the entry at the replica's version: its own push is confirmed, and another's is
 //! merged into its rows (`cs_taking`), in one commit. `take_entries` takes those of an answer one after another, straight from its
-//! bytes, and tells how many it took and why it ended. `laws` says that an entry that is pulled leads to the log's next rows.
+//! bytes, and tells how many it took and why it ended. `laws` says that an entry that is pulled leads to the log's next rows, and that
+//! an entry and a list have one result, and have one.
 //! The crate stands on taken entries (`cs_taking`), pushes (`cs_pushing`) and messages (`cs_wire`).
 //! Its tests stand in `cs_pulling_tests`.
 #![tactic(auto)]
