@@ -14,46 +14,6 @@ struct asked {
     unsigned kinds[6];
 };
 
-/* The change that an iterator stands at, as a changeset spells it. */
-static void put_change(struct buffer *buffer, sqlite3_changeset_iter *iter, int count, int operation, int indirect) {
-    put_byte(buffer, (uint8_t)operation);
-    put_byte(buffer, (uint8_t)indirect);
-    for (int side = 0; side < 2; side++) {
-        if (operation == (side == 0 ? SQLITE_INSERT : SQLITE_DELETE)) continue;
-        for (int column = 0; column < count; column++) {
-            sqlite3_value *value = NULL;
-            if ((side == 0 ? sqlite3changeset_old : sqlite3changeset_new)(iter, column, &value) != SQLITE_OK) fail("iterator", "no value");
-            put_value(buffer, value);
-        }
-    }
-}
-
-static void put_conflict(struct buffer *lines, int kind, sqlite3_changeset_iter *iter) {
-    const char *name;
-    int count, operation, indirect;
-    struct buffer change = {0}, row = {0};
-    char head[64];
-    if (sqlite3changeset_op(iter, &name, &count, &operation, &indirect) != SQLITE_OK) fail("iterator", "no change");
-    put_change(&change, iter, count, operation, indirect);
-    snprintf(head, sizeof head, "conflict %d %d ", kind, place_of(name));
-    put_text(lines, head);
-    put_hex(lines, &change);
-    put_byte(lines, ' ');
-    if (kind == SQLITE_CHANGESET_NOTFOUND) {
-        put_byte(lines, '-');
-    } else {
-        for (int column = 0; column < count; column++) {
-            sqlite3_value *value = NULL;
-            if (sqlite3changeset_conflict(iter, column, &value) != SQLITE_OK) fail("iterator", "no conflicting row");
-            put_value(&row, value);
-        }
-        put_hex(lines, &row);
-    }
-    put_byte(lines, '\n');
-    free(change.bytes);
-    free(row.bytes);
-}
-
 /* How many bytes the field at these bytes has. */
 static size_t field_length(const uint8_t *bytes) {
     switch (bytes[0]) {

@@ -63,9 +63,10 @@ build_program() {
         -o "$out/$name"
 }
 
-# Proves and builds the Rattle program NAME.rattle of this folder. It uses these crates and libraries of the kit, over copies of
-# all crates that are named behind them: build_rattle NAME "USED .." CRATE ... It is made in a repository of its own outside this one, since the gate takes no source that is no crate's. A crate is copied
-# with what its proof left, so that it isn't proved again.
+# Proves and builds the Rattle program NAME.rattle of this folder, with rows.rattle where that is a module of it. It uses these crates
+# and libraries of the kit, over copies of all crates that are named behind them: build_rattle NAME "USED .." CRATE ... It is made in
+# a repository of its own outside this one, since the gate takes no source that is no crate's. A crate is copied with what its proof
+# left, so that it isn't proved again.
 build_rattle() {
     local name="$1" used="$2" work
     shift 2
@@ -78,6 +79,7 @@ build_rattle() {
     done
     echo "$name: $used" >> "$work/crates.txt"
     cp "$bench/$name.rattle" "$work/crates/$name/src/main.rt"
+    ! grep -q '^mod rows;' "$bench/$name.rattle" || cp "$bench/rows.rattle" "$work/crates/$name/src/rows.rt"
     : > "$work/crates/$name/stdin"
     if (cd "$work/crates/$name" && rt run > "$out/${name}_build.log" 2>&1); then
         cp "$work/crates/$name/out/$name" "$out/$name"

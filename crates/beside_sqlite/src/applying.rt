@@ -6,12 +6,12 @@
 //! and one for each row behind it; one that is timed has the nanoseconds of the fastest round, and the conflicts and edits.
 
 use crate::drawn::{
-    Wrong, answer_at, catalog_in, changeset_of, commit_edits, put_hex, put_number, put_rows,
-    store_of, take_part,
+    Wrong, answer_at, catalog_in, changeset_of, commit_edits, put_conflict, put_hex, put_number,
+    put_rows, store_of, take_part,
 };
 use cs_apply::{Applied, ApplyFault, apply};
 use cs_blob::{BlobGroup, put_entry};
-use cs_change::{ChangesBuf, Changeset, put_header};
+use cs_change::{Changeset, put_header};
 use cs_conflict::{Conflict, Resolution};
 use cs_map_store::MapStore;
 use cs_value::Catalog;
@@ -44,29 +44,6 @@ fn case_of<'a>(alloc: Global, parts: &Parts<'a>) -> Result<Case<'a>, Wrong> {
         changeset: changeset_of(alloc, parts.changeset)?,
         answers: parts.answers,
     })
-}
-
-/// A line of a conflict: its number, the table's place, the change and the row behind it.
-fn put_conflict(
-    alloc: Global,
-    conflict: &Conflict<'_>,
-    out: &mut Vec<u8>,
-) -> Result<(), AllocError> {
-    out.extend_from_slice(b"conflict ")?;
-    put_number(alloc, u64::from(conflict.kind as u8), out)?;
-    out.push(b' ')?;
-    put_number(alloc, u64::from(conflict.table), out)?;
-    out.push(b' ')?;
-    let mut change = ChangesBuf::new(alloc);
-    change.push(&conflict.change)?;
-    put_hex(alloc, change.spelling(), out)?;
-    out.push(b' ')?;
-    match &conflict.row {
-        Some(row) => put_hex(alloc, row.bytes(), out)?,
-        None => out.push(b'-')?,
-    }
-    out.push(b'\n')?;
-    Ok(())
 }
 
 fn put_end(

@@ -1,7 +1,7 @@
 //! What the programs share that run drawn cases: parts of a case, rows in a `MapStore`, answers, and lines.
 
 use cs_apply::apply;
-use cs_change::Changeset;
+use cs_change::{ChangesBuf, Changeset};
 use cs_changeset::read;
 use cs_conflict::{Conflict, Resolution};
 use cs_map_store::MapStore;
@@ -111,7 +111,64 @@ pub fn put_hex(alloc: Global, bytes: &[u8], out: &mut Vec<u8>) -> Result<(), All
     out.extend_from_slice(text.as_str().as_bytes())
 }
 
-/// The rows of a table in the order of their keys, a line each, from this word on: the table's place, the key, the row.
+/// A line of a word and a number.
+pub fn put_count(
+    alloc: Global,
+    word: &str,
+    count: u64,
+    out: &mut Vec<u8>,
+) -> Result<(), AllocError> {
+    out.extend_from_slice(word.as_bytes())?;
+    out.push(b' ')?;
+    put_number(alloc, count, out)?;
+    out.push(b'\n')?;
+    Ok(())
+}
+
+/// A line of a conflict: its number, the table's place, the change and the row behind it.
+pub fn put_conflict(
+    alloc: Global,
+    conflict: &Conflict<'_>,
+    out: &mut Vec<u8>,
+) -> Result<(), AllocError> {
+    out.extend_from_slice(b"conflict ")?;
+    put_number(alloc, u64::from(conflict.kind as u8), out)?;
+    out.push(b' ')?;
+    put_number(alloc, u64::from(conflict.table), out)?;
+    out.push(b' ')?;
+    let mut change = ChangesBuf::new(alloc);
+    change.push(&conflict.change)?;
+    put_hex(alloc, change.spelling(), out)?;
+    out.push(b' ')?;
+    match &conflict.row {
+        Some(row) => put_hex(alloc, row.bytes(), out)?,
+        None => out.push(b'-')?,
+    }
+    out.push(b'\n')?;
+    Ok(())
+}
+
+/// A line of a row from this word on: the table's place, the key, the row.
+pub fn put_row(
+    alloc: Global,
+    word: &str,
+    table: u32,
+    key: &[u8],
+    row: &[u8],
+    out: &mut Vec<u8>,
+) -> Result<(), AllocError> {
+    out.extend_from_slice(word.as_bytes())?;
+    out.push(b' ')?;
+    put_number(alloc, u64::from(table), out)?;
+    out.push(b' ')?;
+    put_hex(alloc, key, out)?;
+    out.push(b' ')?;
+    put_hex(alloc, row, out)?;
+    out.push(b'\n')?;
+    Ok(())
+}
+
+/// The rows of a table in the order of their keys, a line each.
 fn put_table(
     alloc: Global,
     word: &str,
@@ -123,14 +180,14 @@ fn put_table(
         return Err(Wrong::Memory);
     };
     for row in &rows {
-        out.extend_from_slice(word.as_bytes())?;
-        out.push(b' ')?;
-        put_number(alloc, u64::from(table), out)?;
-        out.push(b' ')?;
-        put_hex(alloc, row.key.as_slice(), out)?;
-        out.push(b' ')?;
-        put_hex(alloc, row.body.as_slice(), out)?;
-        out.push(b'\n')?;
+        put_row(
+            alloc,
+            word,
+            table,
+            row.key.as_slice(),
+            row.body.as_slice(),
+            out,
+        )?;
     }
     Ok(())
 }

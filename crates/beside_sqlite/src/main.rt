@@ -1,11 +1,12 @@
-//! Runs drawn cases for the scripts of `bench/`, which run the same ones by SQLite and compare. The words `apply` and `rebase` say
-//! which; a number behind either says that the case is timed so many times, else each case is checked. Each file says what its
-//! cases are made of. What the crates below do is proved where they stand; this program only calls them and prints.
+//! Runs drawn cases for the scripts of `bench/`, which run the same ones by SQLite and compare. The words `apply`, `rebase` and
+//! `replica` say which; a number behind the first two says that the case is timed so many times, else each case is checked. Each
+//! file says what its cases are made of. What the crates below do is proved where they stand; this program only calls them and prints.
 #![tactic(auto)]
 
 mod applying;
 mod drawn;
 mod rebasing;
+mod replicas;
 
 use drawn::Wrong;
 use std::io::{BufRead, BufReader, BufWriter, Read, Write};
@@ -19,11 +20,23 @@ fn rounds_in(words: &[String]) -> Option<u64> {
     }
 }
 
-/// Whether changesets are to be rebased, and not applied.
-fn rebases(words: &[String]) -> bool {
-    match words {
-        [_, what, ..] => what.as_str() == "rebase",
-        _ => false,
+/// What is done with the cases.
+#[derive(Clone, Copy)]
+enum Work {
+    Apply,
+    Rebase,
+    Replica,
+}
+
+fn work_in(words: &[String]) -> Work {
+    let word = match words {
+        [_, word, ..] => word.as_str(),
+        _ => "apply",
+    };
+    match word {
+        "rebase" => Work::Rebase,
+        "replica" => Work::Replica,
+        _ => Work::Apply,
     }
 }
 
@@ -34,10 +47,10 @@ fn main(rt: HostRuntime) -> io::Result<()> {
     let mut bytes = Vec::new(alloc);
     BufReader::new(alloc, rt.reader())?.read_to_end(&mut bytes)?;
     let mut out = Vec::new(alloc);
-    let ended = if rebases(words.as_slice()) {
-        rebasing::run_cases(&rt, alloc, bytes.as_slice(), rounds, &mut out)
-    } else {
-        applying::run_cases(&rt, alloc, bytes.as_slice(), rounds, &mut out)
+    let ended = match work_in(words.as_slice()) {
+        Work::Apply => applying::run_cases(&rt, alloc, bytes.as_slice(), rounds, &mut out),
+        Work::Rebase => rebasing::run_cases(&rt, alloc, bytes.as_slice(), rounds, &mut out),
+        Work::Replica => replicas::run_cases(alloc, bytes.as_slice(), &mut out),
     };
     let mut writer = io::writer(&rt);
     writer.write_all(out.as_slice())?;

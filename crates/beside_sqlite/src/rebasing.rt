@@ -8,7 +8,7 @@
 //! fastest round, those of reading the local changeset and bringing it into normal form, and how many changes are left.
 
 use crate::drawn::{
-    Wrong, answer_at, catalog_in, changeset_of, commit_edits, put_number, put_rows, store_of,
+    Wrong, answer_at, catalog_in, changeset_of, commit_edits, put_count, put_rows, store_of,
     take_part,
 };
 use cs_apply::apply;
@@ -19,7 +19,7 @@ use cs_map_store::MapStore;
 use cs_normal::Normal;
 use cs_rebaser::Rebaser;
 use cs_value::Catalog;
-use std::alloc::{AllocError, Global};
+use std::alloc::Global;
 use std::rt::Clock;
 use std::time::Instant;
 
@@ -64,15 +64,6 @@ fn rebased_bytes(alloc: Global, local: &[u8], blob: &[u8]) -> Result<Vec<u8>, Wr
     let mut bytes = Vec::new(alloc);
     made.encode(&mut bytes)?;
     Ok(bytes)
-}
-
-/// A line of a word and a number.
-fn put_count(alloc: Global, word: &str, count: u64, out: &mut Vec<u8>) -> Result<(), AllocError> {
-    out.extend_from_slice(word.as_bytes())?;
-    out.push(b' ')?;
-    put_number(alloc, count, out)?;
-    out.push(b'\n')?;
-    Ok(())
 }
 
 /// Applies the remote changeset to the local rows with the case's answers, and gives the rebase blob.
