@@ -3,14 +3,14 @@ use Rattle.std.specs.Prelude.{◌≡◌, ℕ, List, Result}
 use Rattle.cs_value.specs.declared.catalog.TableDef.{TableDef}
 use Rattle.cs_store.specs.Contents.{Contents}
 use Rattle.cs_pending.specs.Calls.{WritesStore}
-use Rattle.cs_opening.specs.Fresh.{IsSameOrFirst}
 use Rattle.cs_opening.specs.declared.fault.OpenFault.{OpenFault}
 use Rattle.cs_opening.specs.declared.fault.OpenFault.TheVariants.{Device}
+use Rattle.cs_moving.specs.Moved.{IsSameOrOpened}
 
--- the store was laid out in one commit, or not written
+-- the store was laid out, or its value of pending changes moved, in one commit; or it was not written
 abbrev pub Opens : {S : Type 0} → (S → Type 0) → (S → Contents) → (S → ℕ) → (S → Contents → Type 0) → (S → ℕ) → List TableDef → ℕ → S → S → Result (Unit {0}) OpenFault → Type 0
 Opens honest contents failed may_leave misreads tables id old new result =
-    WritesStore honest contents failed may_leave misreads Device (Unit {0}) (IsSameOrFirst tables id (contents old)) old new result
+    WritesStore honest contents failed may_leave misreads Device (Unit {0}) (IsSameOrOpened tables id (contents old)) old new result
 
 -- the store was not written: it holds what it held, and so after a stop where anything else could be left
 abbrev pub Reopens : {S : Type 0} → (S → Type 0) → (S → Contents) → (S → ℕ) → (S → Contents → Type 0) → (S → ℕ) → S → S → Result (Unit {0}) OpenFault → Type 0

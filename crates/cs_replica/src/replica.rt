@@ -10,7 +10,7 @@ ghost use Rattle.cs_outgoing.specs.Outgoing.{IsOutgoing};
 ghost use Rattle.cs_store.specs.declared.fault.StoreFault.TheVariants as stored;
 ghost use Rattle.cs_rows.specs.Rows.{AreRowsOf};
 ghost use Rattle.cs_value.specs.declared.catalog.TableDef.{TableDef};
-ghost use Rattle.cs_opening.specs.Opens.{IsOpenFault, IsReplicaAt};
+ghost use Rattle.cs_moving.specs.Moved.{IsStoreFault, IsStoreOpened};
 ghost use Rattle.cs_opening.specs.declared.fault.OpenFault.TheVariants as opening;
 ghost use Rattle.cs_position.specs.Shows.{ShowsSomeAt, flown};
 ghost use Rattle.cs_pushing.specs.Pushes.{IsPushFault, IsPushMadeIn, IsPushOf, IsResendFault, request_of};
@@ -33,7 +33,8 @@ use crate::told::Told;
 use cs_conflict::Picker;
 use cs_log::LogEntry;
 use cs_normal::Normal;
-use cs_opening::{OpenFault, open_at};
+use cs_moving::open_store;
+use cs_opening::OpenFault;
 use cs_outgoing::Outgoing;
 use cs_pending::EditFault;
 use cs_position::Position;
@@ -67,7 +68,8 @@ impl<S: RowStore> Model for Replica<S> {
 impl<S: RowStore> Replica<S> {
     /// Opens the replica with this id over a store. A store that holds nothing is laid out in one commit: the replica is at version 0
     /// with no row, nothing pending and nothing under way. Of any other store each row and each pending change is read once, and
-    /// judged. An id is at most 4,294,967,294: the last number is a hub's own. At `Err` the store comes back as it was. (Profile of
+    /// judged. Where it keeps what is pending as one value, as replicas once did, that is moved to the places of its changes, in one
+    /// commit. An id is at most 4,294,967,294: the last number is a hub's own. At `Err` the store comes back as it was. (Profile of
     /// this project.)
     ///
     /// # Errors
@@ -85,13 +87,13 @@ impl<S: RowStore> Replica<S> {
         // It is the replica with this id, of these tables.
         ensures of { IfOk result (λ replica. (replica.catalog ≡ catalog.now) × (replica.position.id ≡ id)) }
 
-        // It is new where the store held nothing, and else where the store shows it.
+        // It is new where the store held nothing, and else where the store shows it, its value of pending changes moved where it kept one.
         ensures opened { IfOk result (λ replica. S.honest replica.store
-            → IsReplicaAt catalog.now id (S.contents store) (S.contents replica.store) replica.position) }
+            → IsStoreOpened catalog.now id (S.contents store) (S.contents replica.store) replica.position) }
 
         // At `Err` the store is as it was, and what is told of it holds.
         ensures kept { IfErr result (λ told. S.honest told.0 → S.contents told.0 ≡ S.contents store) }
-        ensures refused { IfErr result (λ told. S.honest told.0 → IsOpenFault catalog.now id (S.contents store) told.1) }
+        ensures refused { IfErr result (λ told. S.honest told.0 → IsStoreFault catalog.now id (S.contents store) told.1) }
 
         // What a stop leaves, and how the count of failures goes.
         ensures opens { MatchResult result
@@ -103,7 +105,7 @@ impl<S: RowStore> Replica<S> {
             Ok(copied) => copied,
             Err(fault) => return Err((store, OpenFault::from(fault))),
         };
-        match open_at(alloc, &mut store, catalog, id) {
+        match open_store(alloc, &mut store, catalog, id) {
             Ok(position) => Ok(Replica {
                 store,
                 catalog: copied,
