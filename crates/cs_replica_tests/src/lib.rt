@@ -1,10 +1,12 @@
-//! Tests of replicas (`cs_replica`) with how they are opened (`cs_opening`, `cs_position`), their edits and their pushes
+//! Tests of replicas (`cs_replica`) with how they are opened (`cs_opening`, `cs_moving`, `cs_position`), their edits and their pushes
 //! (`cs_pushing`), over the store in memory, by their public calls. They stand in a crate of their own since a crate with tests is
 //! proved twice. Nothing stands on it.
 #![tactic(auto)]
 
 #[cfg(test)]
 mod editing;
+#[cfg(test)]
+mod moving;
 #[cfg(test)]
 mod opening;
 #[cfg(test)]

@@ -10,7 +10,7 @@ use cs_store::{Batch, MetaEdit, MetaName, PlaceEdit, RowStore, StoreFault, Writt
 use std::alloc::Global;
 
 /// Whether these are the bytes of a value, or there are none.
-fn is_value(store: &mut Store, name: MetaName, wanted: Option<&[u8]>) -> Result<bool, StoreFault> {
+pub(crate) fn is_value(store: &mut Store, name: MetaName, wanted: Option<&[u8]>) -> Result<bool, StoreFault> {
     match (store.meta(name)?, wanted) {
         (None, None) => Ok(true),
         (Some(value), Some(wanted)) => Ok(value.as_slice() == wanted),
@@ -91,7 +91,7 @@ fn a_store_opens_as_it_was_left(rt: HostRuntime) {
 }
 
 /// A batch that writes nothing.
-fn nothing(alloc: Global) -> Batch {
+pub(crate) fn nothing(alloc: Global) -> Batch {
     Batch {
         rows: Vec::new(alloc),
         pending: Vec::new(alloc),
@@ -101,7 +101,7 @@ fn nothing(alloc: Global) -> Batch {
 }
 
 /// Writes a value.
-fn put_value(
+pub(crate) fn put_value(
     alloc: Global,
     store: &mut Store,
     name: MetaName,
@@ -151,7 +151,7 @@ fn is_damaged_at(alloc: Global, table: u32, key: &[u8], body: &[u8]) -> Option<b
 }
 
 /// The keys 2 and 3, and the INSERTs of (3, 'x') and of (2, 'y').
-const KEY_2: &[u8] = &[1, 0, 0, 0, 0, 0, 0, 0, 2];
+pub(crate) const KEY_2: &[u8] = &[1, 0, 0, 0, 0, 0, 0, 0, 2];
 
 const KEY_3: &[u8] = &[1, 0, 0, 0, 0, 0, 0, 0, 3];
 

@@ -56,17 +56,17 @@ fn is_done_again(alloc: Global, step: Step, passes: u64) -> bool {
     }
 }
 
-/// A store is asked nine times where it is laid out, three times by an edit, twice by a push and once by its answer.
+/// A store is asked ten times where it is laid out, three times by an edit, twice by a push and once by its answer.
 #[test]
 fn what_the_device_refuses_changes_nothing(rt: HostRuntime) {
     let alloc = rt.alloc();
-    for passes in 9..12u64 {
+    for passes in 10..13u64 {
         assert!(rt; is_done_again(alloc, Step::Edit, passes));
     }
-    for passes in 12..14u64 {
+    for passes in 13..15u64 {
         assert!(rt; is_done_again(alloc, Step::Push, passes));
     }
-    assert!(rt; is_done_again(alloc, Step::Confirm, 14));
+    assert!(rt; is_done_again(alloc, Step::Confirm, 15));
 }
 
 /// Whether a new store isn't opened, and then is laid out.
@@ -85,15 +85,15 @@ fn is_opened_again(alloc: Global, passes: u64) -> Option<bool> {
     Some(fault == OpenFault::Device && shows_both(alloc, &mut replica))
 }
 
-/// A store is asked nine times where it is laid out, and a filled one so often: whether it holds nothing, for five values, for three
-/// signs of damage, for the pending changes and the row of one, and for the row and the pending change of a place under way.
+/// A store is asked ten times where it is laid out, and a filled one so often: for a value of pending changes, whether it holds
+/// nothing, for five values, for three signs of damage, for the pending changes and the row of one, and for the row and the pending change of a place under way.
 #[test]
 fn what_the_device_refuses_is_not_opened(rt: HostRuntime) {
     let alloc = rt.alloc();
-    for passes in 0..9u64 {
+    for passes in 0..10u64 {
         assert!(rt; is_laid_out_again(alloc, passes));
     }
-    for passes in 0..13u64 {
+    for passes in 0..15u64 {
         assert!(rt; is_opened_again(alloc, passes).unwrap_or(false));
     }
 }

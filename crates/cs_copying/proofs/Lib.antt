@@ -1,0 +1,4 @@
+pub mod Maps
+pub mod Tables
+pub mod Whole
+pub mod Values
