@@ -2,3 +2,4 @@ pub mod Edited
 pub mod Stood
 mod Answered
 mod Reopened
+mod OneAnswer

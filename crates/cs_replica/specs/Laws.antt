@@ -1,5 +1,5 @@
 -- The laws of replicas that stand on a log.
-use Rattle.std.specs.Prelude.{◌≡◌, ◌+◌, ℕ, List, ◌++◌, Some, None, Ok, slice_get, Contains}
+use Rattle.std.specs.Prelude.{◌≡◌, ◌+◌, ℕ, List, ◌++◌, Some, None, Result, Ok, Err, slice_get, Contains}
 use Rattle.cs_value.specs.Catalog.{AreTables}
 use Rattle.cs_value.specs.declared.catalog.TableDef.{TableDef}
 use Rattle.cs_normal.specs.State.{AreSame, IsApplied}
@@ -8,13 +8,21 @@ use Rattle.cs_log.specs.Entry.{entry_changes}
 use Rattle.cs_log.specs.Log.{IsLog, tables_at}
 use Rattle.cs_log.specs.declared.entry.LogEntry.{LogEntry}
 use Rattle.cs_store.specs.Contents.{Contents}
+use Rattle.cs_conflict.specs.declared.clash.Clash.{Clash}
+use Rattle.cs_conflict.specs.declared.wish.Wish.{Wish}
 use Rattle.cs_pending.specs.Edits.{Asked, edit}
 use Rattle.cs_pending.specs.Laws.{empty_view}
 use Rattle.cs_pending.specs.View.{View, middle}
 use Rattle.cs_position.specs.Shows.{ShowsAt, base}
 use Rattle.cs_position.specs.declared.position.Position.{Position}
+use Rattle.cs_pulling.specs.declared.fault.AnswerFault.{AnswerFault}
+use Rattle.cs_pulling.specs.declared.fault.AnswerFault.TheVariants.{Memory, Device, BadEntry}
+use Rattle.cs_taking.specs.Laws.{PicksOnce}
+use Rattle.cs_wire.specs.declared.answer.Answer.{Answer}
+use Rattle.cs_replica.specs.Answered.{Answers}
 use Rattle.cs_replica.specs.Edited.{with_pending}
 use Rattle.cs_replica.specs.Stands.{StandsOn}
+use Rattle.cs_replica.specs.declared.told.Told.{Told}
 
 -- a replica at version 0 with no row and nothing pending or under way stands on every log
 abbrev pub FirstStands : Type 0
@@ -87,3 +95,25 @@ EqualAtRest =
     → position.pending ≡ 0
     → other.pending ≡ 0
     → (table : TableDef) (key : List ℕ) → Contains tables table → view.tables table.name key ≡ seen.tables table.name key
+
+-- a result that says something of the answer
+abbrev pub IsOfAnswer : Result Told AnswerFault → Type 0
+IsOfAnswer (Ok told) = Unit {0}
+IsOfAnswer (Err (Memory count)) = ⊥
+IsOfAnswer (Err (Device count)) = ⊥
+IsOfAnswer (Err (BadEntry count)) = Unit {0}
+
+-- by a picker that answers each clash once, an answer of the hub has one result, and leaves one position, one thing in the store, and
+-- one state of the picker
+abbrev pub OneAnswered : {P : Type 0} → (P → Clash → Wish → P → Type 0) → Type 0
+OneAnswered {P} picks =
+    (tables : List TableDef) (answer : Answer) (old new last : Contents) (position here there : Position) (before : View)
+    (some other : Result Told AnswerFault) (p q r : P)
+    → AreTables tables
+    → PicksOnce picks
+    → ShowsAt tables old position before
+    → IsOfAnswer some
+    → IsOfAnswer other
+    → Answers picks tables answer some position before p here new q
+    → Answers picks tables answer other position before p there last r
+    → (some ≡ other) × (here ≡ there) × (new ≡ last) × (q ≡ r)

@@ -1,6 +1,8 @@
-//! The laws of replicas that stand on a log, each the contract of a function that does nothing.
+//! The laws of replicas that stand on a log, and of answers, each the contract of a function that does nothing.
 
-ghost use Rattle.cs_replica.specs.Laws.{EditStands, EntryStands, EqualAtRest, FirstStands, FlightFits, KeptStands, StandsLonger};
+ghost use Rattle.cs_replica.specs.Laws.{EditStands, EntryStands, EqualAtRest, FirstStands, FlightFits, KeptStands, OneAnswered, StandsLonger};
+
+use cs_conflict::Picker;
 
 /// A new replica stands on every log.
 pub fn first_stands()
@@ -41,3 +43,12 @@ pub fn flight_fits()
 pub fn equal_at_rest()
     ensures { EqualAtRest }
 {}
+
+/// Where a picker has one answer to each clash, an answer of the hub has one result, and leaves one position, one thing in the store, and
+/// one state of the picker.
+pub fn one_answered<P: Picker>()
+    ensures { OneAnswered P.picks }
+{
+    cs_taking::laws::one_contents();
+    cs_pulling::laws::one_list::<P>();
+}

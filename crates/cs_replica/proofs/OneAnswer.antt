@@ -1,0 +1,87 @@
+-- An answer of the hub has one result, and leaves one thing.
+use Rattle.std.proofs.Common.{◌≡◌, ℕ, List, Result, Ok, Err, refl, sym, ap, subst, ◌∙◌}
+use Rattle.std.specs.FinMap.{len}
+use Rattle.cs_value.specs.declared.catalog.TableDef.{TableDef}
+use Rattle.cs_store.specs.Contents.{Contents}
+use Rattle.cs_conflict.specs.declared.clash.Clash.{Clash}
+use Rattle.cs_conflict.specs.declared.wish.Wish.{Wish}
+use Rattle.cs_pending.specs.View.{View}
+use Rattle.cs_position.specs.Shows.{ShowsAt}
+use Rattle.cs_position.specs.declared.position.Position.{Position}
+use Rattle.cs_pulling.specs.Laws.{IsOfList, OneList}
+use Rattle.cs_pulling.specs.declared.fault.AnswerFault.{AnswerFault}
+use Rattle.cs_pulling.specs.declared.fault.AnswerFault.TheVariants.{Memory, Device, BadEntry}
+use Rattle.cs_pulling.specs.declared.listing.Pulled.{Pulled}
+use Rattle.cs_pulling.specs.declared.listing.Pulled.TheVariants as pulled
+use Rattle.cs_taking.specs.Laws.{OneContents}
+use Rattle.cs_wire.specs.declared.answer.Answer.TheVariants.{Short, Entries}
+use Rattle.cs_wire.specs.declared.short_answer.ShortAnswer.TheVariants as short
+use Rattle.cs_replica.specs.Answered.{KeepsRows, TellsAccepted, told_of}
+use Rattle.cs_replica.specs.Laws.{IsOfAnswer, OneAnswered}
+use Rattle.cs_replica.specs.declared.told.Told.{Told}
+use Rattle.cs_replica.specs.declared.told.Told.TheVariants.{Confirmed, Ignored, Stale, Refused, Taken, Stopped}
+
+counted : (tables : List TableDef) (position : Position) (left : Contents) (view : View) → ShowsAt tables left position view → ShowsAt tables left (record position { pending = len left.pending }) view
+counted tables position left view shows = subst (λ (n : ℕ). ShowsAt tables left (record position { pending = n }) view) shows.counted shows
+
+-- what keeps the rows leaves one thing at one position
+module _ (contents : OneContents) {P : Type 0} (tables : List TableDef) (before : View) (new last : Contents) (here there : Position) (p q r : P) where
+  kept_once : here ≡ there → KeepsRows tables before p here new q → KeepsRows tables before p there last r → (new ≡ last) × (q ≡ r)
+  kept_once same (shows, asked) (shown, still) =
+      let at_here = subst (λ (x : Position). ShowsAt tables last x before) (sym same) shown in (
+        contents tables here new last before before (counted tables here new before shows) (counted tables here last before at_here) (λ name key. refl) (λ table key inside. refl),
+        asked ∙ sym still,
+      )
+
+-- a push is confirmed, or ignored
+accepted_once : (origin number version : ℕ) (position here there : Position) (some other : Result Told AnswerFault) → IsOfAnswer some → IsOfAnswer other → TellsAccepted origin number version some position here
+    → TellsAccepted origin number version other position there → (some ≡ other) × (here ≡ there)
+accepted_once origin number version position here there (Err (Memory count)) other of so s o = absurd of
+accepted_once origin number version position here there (Err (Device count)) other of so s o = absurd of
+accepted_once origin number version position here there (Err (BadEntry count)) other of so s o = absurd s
+accepted_once origin number version position here there (Ok (Stale newest)) other of so s o = absurd s
+accepted_once origin number version position here there (Ok (Refused code)) other of so s o = absurd s
+accepted_once origin number version position here there (Ok (Taken count)) other of so s o = absurd s
+accepted_once origin number version position here there (Ok (Stopped count)) other of so s o = absurd s
+accepted_once origin number version position here there (Ok (Confirmed newest)) (Err (Memory count)) of so s o = absurd so
+accepted_once origin number version position here there (Ok (Confirmed newest)) (Err (Device count)) of so s o = absurd so
+accepted_once origin number version position here there (Ok (Confirmed newest)) (Err (BadEntry count)) of so s o = absurd o
+accepted_once origin number version position here there (Ok (Confirmed newest)) (Ok (Confirmed latest)) of so s o = (ap (λ (n : ℕ). Ok (Confirmed n)) (s.1 ∙ sym o.1), s.2 ∙ sym o.2)
+accepted_once origin number version position here there (Ok (Confirmed newest)) (Ok Ignored) of so s o = absurd (o.0 s.0)
+accepted_once origin number version position here there (Ok (Confirmed newest)) (Ok (Stale latest)) of so s o = absurd o
+accepted_once origin number version position here there (Ok (Confirmed newest)) (Ok (Refused code)) of so s o = absurd o
+accepted_once origin number version position here there (Ok (Confirmed newest)) (Ok (Taken count)) of so s o = absurd o
+accepted_once origin number version position here there (Ok (Confirmed newest)) (Ok (Stopped count)) of so s o = absurd o
+accepted_once origin number version position here there (Ok Ignored) (Err (Memory count)) of so s o = absurd so
+accepted_once origin number version position here there (Ok Ignored) (Err (Device count)) of so s o = absurd so
+accepted_once origin number version position here there (Ok Ignored) (Err (BadEntry count)) of so s o = absurd o
+accepted_once origin number version position here there (Ok Ignored) (Ok (Confirmed latest)) of so s o = absurd (s.0 o.0)
+accepted_once origin number version position here there (Ok Ignored) (Ok Ignored) of so s o = (refl, s.1 ∙ sym o.1)
+accepted_once origin number version position here there (Ok Ignored) (Ok (Stale latest)) of so s o = absurd o
+accepted_once origin number version position here there (Ok Ignored) (Ok (Refused code)) of so s o = absurd o
+accepted_once origin number version position here there (Ok Ignored) (Ok (Taken count)) of so s o = absurd o
+accepted_once origin number version position here there (Ok Ignored) (Ok (Stopped count)) of so s o = absurd o
+
+-- what is told of a list says something of it
+of_list : (result : Result Pulled AnswerFault) → IsOfAnswer (told_of result) → IsOfList result
+of_list (Ok (pulled.Taken count)) of = tt
+of_list (Ok (pulled.Stopped count)) of = tt
+of_list (Err (Memory count)) of = of
+of_list (Err (Device count)) of = of
+of_list (Err (BadEntry count)) of = tt
+
+pub one_answered : OneContents → {P : Type 0} (picks : P → Clash → Wish → P → Type 0) → OneList picks → OneAnswered picks
+one_answered contents picks law tables (Short (short.Accepted origin number version)) old new last position here there before some other p q r are once shows of so (told, keeps) (says, stays) =
+    let same = accepted_once origin number version position here there some other of so told says in
+    let kept = kept_once contents tables before new last here there p q r same.1 keeps stays in
+    (same.0, same.1, kept.0, kept.1)
+one_answered contents picks law tables (Short (short.Stale newest)) old new last position here there before some other p q r are once shows of so (told, moved, keeps) (says, stood, stays) =
+    let kept = kept_once contents tables before new last here there p q r (moved ∙ sym stood) keeps stays in
+    (told ∙ sym says, moved ∙ sym stood, kept.0, kept.1)
+one_answered contents picks law tables (Short (short.Refused code)) old new last position here there before some other p q r are once shows of so (told, moved, keeps) (says, stood, stays) =
+    let kept = kept_once contents tables before new last here there p q r (moved ∙ sym stood) keeps stays in
+    (told ∙ sym says, moved ∙ sym stood, kept.0, kept.1)
+one_answered contents picks law tables (Entries first entries) old new last position here there before some other p q r are once shows of so (result, told, pulls) (outcome, says, took) =
+    let one = law tables first entries old new last position here there before result outcome p q r are once shows
+    (of_list result (subst (λ (x : Result Told AnswerFault). IsOfAnswer x) told of)) (of_list outcome (subst (λ (x : Result Told AnswerFault). IsOfAnswer x) says so)) pulls took in
+    (told ∙ ap told_of one.0 ∙ sym says, one.1, one.2, one.3)
