@@ -1,6 +1,7 @@
 -- An entry is pulled, or has a fault.
-use Rattle.std.proofs.Common.{◌≡◌, ◌<◌, ◌≤◌, ◌⊎◌, ℕ, List, Option, Some, None, refl, sym, ap, ◌∙◌, arith, inl, inr}
+use Rattle.std.proofs.Common.{◌≡◌, ◌<◌, ◌≤◌, ◌⊎◌, ℕ, List, Option, Some, None, refl, sym, ap, subst, ◌∙◌, arith, inl, inr}
 use Rattle.std.specs.Prelude.{◌-◌, ◌^◌}
+use Rattle.std.specs.FinMap.{len}
 use Rattle.std.proofs.lemmas.Bool.{cases_lt}
 use Rattle.std.proofs.lemmas.Bool.Decides.{eqb_tells}
 use Rattle.cs_value.specs.Catalog.{AreTables}
@@ -22,7 +23,7 @@ use Rattle.cs_pending.specs.View.{View, middle}
 use Rattle.cs_position.specs.Shows.{ShowsAt, base, flown}
 use Rattle.cs_position.specs.declared.position.Position.{Position}
 use Rattle.cs_taking.specs.Laws.{AnswersLawfully, NextIsShown, TakenInOrStopped}
-use Rattle.cs_taking.specs.Takes.{IsTakenIn, StopsTaking}
+use Rattle.cs_taking.specs.Takes.{IsTakenIn, StopsTaking, taken}
 use Rattle.cs_pulling.specs.Laws.{IsOfEntry, PulledOrRefused}
 use Rattle.cs_pulling.specs.Pulls.{IsOwn, IsPullFault, IsPulledIn}
 use Rattle.cs_pulling.specs.declared.fault.PullFault.{PullFault}
@@ -67,9 +68,14 @@ module _ (defined_or_not : DefinedOrNot) (one_body : OneBody) (net_is_applied : 
   own_defined : IsOwn position entry → IsDefinedOn tables changes (base position.flight before)
   own_defined own = (defined_is_applied tables changes (base position.flight before)).1 (middle before, own_leads net_is_applied tables old position entry before are shows own)
 
+  counted : (new : Contents) (view : View) → ShowsAt tables new (taken position position.pending) view → ShowsAt tables new (taken position (len new.pending)) view
+  counted new view seen = subst (λ (n : ℕ). ShowsAt tables new (taken position n) view) seen.counted seen
+
   module _ (same : index ≡ position.version) (room : position.version < 2 ^ 64 - 1) where
     confirmed : IsOwn position entry → Either
-    confirmed own = let left = next tables old position in inl (left.0, p, same, λ view seen. (view, left.1 view seen, (room, inl (own, refl, refl))), ready)
+    confirmed own =
+        let left = next tables old position in
+        inl (left.0, p, same, λ view seen. (view, counted left.0 view (left.1 view seen), (room, inl (own, refl, refl))), ready)
 
     taken_there : (IsOwn position entry → ⊥)
         → ((new : Contents) × (q : P) × IsTakenIn picks tables position changes p q old new × is_ready q) ⊎ ((conflict : Conflict) × (q : P) × StopsTaking picks tables position.flight changes before p conflict q) → Either

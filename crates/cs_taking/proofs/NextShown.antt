@@ -1,6 +1,6 @@
 -- What a store holds where the next entry has come and leaves what it shows.
-use Rattle.std.proofs.Common.{◌≡◌, ◌+◌, List, refl, ◌∙◌}
-use Rattle.std.specs.FinMap.{get, len}
+use Rattle.std.proofs.Common.{◌≡◌, ◌+◌, List, None, refl, ◌∙◌}
+use Rattle.std.specs.FinMap.{get}
 use Rattle.cs_value.specs.declared.catalog.TableDef.{TableDef}
 use Rattle.cs_store.specs.Contents.{Contents, name_text}
 use Rattle.cs_store.specs.declared.names.MetaName.{MetaName}
@@ -11,7 +11,6 @@ use Rattle.cs_position.specs.Values.{value_of}
 use Rattle.cs_position.specs.declared.position.Position.{Position}
 use Rattle.cs_wire.specs.Numbers.{eight_bytes}
 use Rattle.cs_taking.specs.Laws.{NextIsShown}
-use Rattle.cs_taking.specs.Takes.{taken}
 use Rattle.cs_taking.proofs.PutBodies.{next_meta, next_names, value_next}
 use Rattle.cs_taking.proofs.TakenContents.{nothing_under_way}
 
@@ -19,8 +18,11 @@ module _ (tables : List TableDef) (old : Contents) (position : Position) where
   abbrev pub new : Contents
   new = record { rows = old.rows; pending = old.pending; meta = next_meta (eight_bytes (position.version + 1)) old.meta; log = old.log }
 
+  abbrev pub next : Position
+  next = record position { version = position.version + 1; flight = None }
+
   module _ (view : View) (shows : ShowsAt tables old position view) where
-    value_now : (name : MetaName) → get new.meta (name_text name) ≡ value_of tables (taken position (len new.pending)) name
+    value_now : (name : MetaName) → get new.meta (name_text name) ≡ value_of tables next name
     value_now Id = value_next (eight_bytes (position.version + 1)) old.meta (name_text Id) ∙ shows.values Id
     value_now Version = value_next (eight_bytes (position.version + 1)) old.meta (name_text Version)
     value_now Number = value_next (eight_bytes (position.version + 1)) old.meta (name_text Number) ∙ shows.values Number
@@ -28,7 +30,7 @@ module _ (tables : List TableDef) (old : Contents) (position : Position) where
     value_now Pending = value_next (eight_bytes (position.version + 1)) old.meta (name_text Pending) ∙ shows.values Pending
     value_now Catalog = value_next (eight_bytes (position.version + 1)) old.meta (name_text Catalog) ∙ shows.values Catalog
 
-    shows_next : ShowsAt tables new (taken position (len new.pending)) view
+    shows_next : ShowsAt tables new next view
     shows_next = record {
       rows = record {
         rows = record { rows = shows.rows.rows.rows; stored = shows.rows.rows.stored };
@@ -43,7 +45,7 @@ module _ (tables : List TableDef) (old : Contents) (position : Position) where
         names = next_names (eight_bytes (position.version + 1)) old.meta shows.alone.names;
       };
       under_way = nothing_under_way tables view shows.rows.sound.before_state;
-      counted = refl;
+      counted = shows.counted;
       numbered = shows.numbered;
     }
 

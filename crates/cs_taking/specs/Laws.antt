@@ -1,6 +1,6 @@
 -- The laws of taking another's entry: one input has one answer, and each has one. `picks p clash wish q` is an answer of a picker: at
 -- p it is shown the clash, wishes, and is left as q.
-use Rattle.std.specs.Prelude.{◌≡◌, ◌⊎◌, ℕ, List, Option, Contains}
+use Rattle.std.specs.Prelude.{◌≡◌, ◌⊎◌, ◌+◌, ℕ, List, Option, None, Contains}
 use Rattle.std.specs.FinMap.{len}
 use Rattle.cs_value.specs.Catalog.{AreTables}
 use Rattle.cs_value.specs.Key.{Place}
@@ -20,7 +20,7 @@ use Rattle.cs_apply.specs.Tasks.{Task}
 use Rattle.cs_pending.specs.View.{View}
 use Rattle.cs_position.specs.Shows.{ShowsAt, ShowsSomeAt, base}
 use Rattle.cs_position.specs.declared.position.Position.{Position}
-use Rattle.cs_taking.specs.Takes.{IsClashOf, IsTaken, IsTakenIn, StopsTaking, taken}
+use Rattle.cs_taking.specs.Takes.{IsClashOf, IsTaken, IsTakenIn, StopsTaking}
 
 -- a change, a row of the log and an own row have one clash
 abbrev pub OneClash : Type 0
@@ -52,7 +52,8 @@ OneLogRows =
 abbrev pub NextIsShown : Type 0
 NextIsShown =
     (tables : List TableDef) (old : Contents) (position : Position)
-    → (new : Contents) × ((view : View) → ShowsAt tables old position view → ShowsAt tables new (taken position (len new.pending)) view)
+    → (new : Contents)
+    × ((view : View) → ShowsAt tables old position view → ShowsAt tables new (record position { version = position.version + 1; flight = None }) view)
 
 module _ {P : Type 0} (picks : P → Clash → Wish → P → Type 0) where
   -- at one state and one clash there is one wish, and one state after it
