@@ -3,3 +3,4 @@ pub mod Stood
 mod Answered
 mod Reopened
 mod OneAnswer
+mod AnswerSome

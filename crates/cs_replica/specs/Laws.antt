@@ -1,5 +1,7 @@
 -- The laws of replicas that stand on a log.
-use Rattle.std.specs.Prelude.{◌≡◌, ◌+◌, ℕ, List, ◌++◌, Some, None, Result, Ok, Err, slice_get, Contains}
+use Rattle.std.specs.Prelude.{◌≡◌, ◌+◌, ◌<◌, ◌^◌, ℕ, List, ◌++◌, Some, None, Result, Ok, Err, slice_get, Contains}
+use Rattle.std.specs.List.{AllByRecursion}
+use Rattle.cs_varint.specs.Bytes.{AreBytes}
 use Rattle.cs_value.specs.Catalog.{AreTables}
 use Rattle.cs_value.specs.declared.catalog.TableDef.{TableDef}
 use Rattle.cs_normal.specs.State.{AreSame, IsApplied}
@@ -17,8 +19,10 @@ use Rattle.cs_position.specs.Shows.{ShowsAt, base}
 use Rattle.cs_position.specs.declared.position.Position.{Position}
 use Rattle.cs_pulling.specs.declared.fault.AnswerFault.{AnswerFault}
 use Rattle.cs_pulling.specs.declared.fault.AnswerFault.TheVariants.{Memory, Device, BadEntry}
-use Rattle.cs_taking.specs.Laws.{PicksOnce}
+use Rattle.cs_taking.specs.Laws.{AnswersLawfully, PicksOnce}
+use Rattle.cs_wire.specs.Entries.{ToldEntry}
 use Rattle.cs_wire.specs.declared.answer.Answer.{Answer}
+use Rattle.cs_wire.specs.declared.answer.Answer.TheVariants.{Short, Entries}
 use Rattle.cs_replica.specs.Answered.{Answers}
 use Rattle.cs_replica.specs.Edited.{with_pending}
 use Rattle.cs_replica.specs.Stands.{StandsOn}
@@ -117,3 +121,22 @@ OneAnswered {P} picks =
     → Answers picks tables answer some position before p here new q
     → Answers picks tables answer other position before p there last r
     → (some ≡ other) × (here ≡ there) × (new ≡ last) × (q ≡ r)
+
+-- the bodies of its entries are bytes
+abbrev pub IsInBytes : Answer → Type 0
+IsInBytes (Short answer) = Unit {0}
+IsInBytes (Entries first entries) = AllByRecursion (λ (told : ToldEntry). AreBytes told.body) entries
+
+-- there is one, by a picker that has a lawful answer to each clash: an answer of the hub in bytes has a result, and there is a store that
+-- holds what is left
+abbrev pub AnswerHasResult : {P : Type 0} → (P → Clash → Wish → P → Type 0) → (P → Type 0) → Type 0
+AnswerHasResult {P} picks is_ready =
+    (tables : List TableDef) (answer : Answer) (old : Contents) (position : Position) (before : View) (p : P)
+    → AreTables tables
+    → IsInBytes answer
+    → position.version < 2 ^ 64
+    → ShowsAt tables old position before
+    → AnswersLawfully picks is_ready
+    → is_ready p
+    → (result : Result Told AnswerFault) × (other : Position) × (new : Contents) × (q : P) × IsOfAnswer result
+    × Answers picks tables answer result position before p other new q

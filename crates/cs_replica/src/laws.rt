@@ -1,6 +1,6 @@
 //! The laws of replicas that stand on a log, and of answers, each the contract of a function that does nothing.
 
-ghost use Rattle.cs_replica.specs.Laws.{EditStands, EntryStands, EqualAtRest, FirstStands, FlightFits, KeptStands, OneAnswered, StandsLonger};
+ghost use Rattle.cs_replica.specs.Laws.{AnswerHasResult, EditStands, EntryStands, EqualAtRest, FirstStands, FlightFits, KeptStands, OneAnswered, StandsLonger};
 
 use cs_conflict::Picker;
 
@@ -51,4 +51,13 @@ pub fn one_answered<P: Picker>()
 {
     cs_taking::laws::one_contents();
     cs_pulling::laws::one_list::<P>();
+}
+
+/// Where a picker has a lawful answer to each clash, an answer of the hub in bytes has a result, and there is a store that holds what is
+/// left.
+pub fn answer_has_result<P: Picker>()
+    ensures { AnswerHasResult P.picks P.is_ready }
+{
+    cs_taking::laws::one_contents();
+    cs_pulling::laws::list_has_result::<P>();
 }

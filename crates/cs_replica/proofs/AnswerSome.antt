@@ -1,0 +1,77 @@
+-- An answer of the hub has a result, and there is what it leaves.
+use Rattle.std.proofs.Common.{◌≡◌, ℕ, List, Option, Some, None, Result, Ok, Err, refl, inl, inr}
+use Rattle.std.specs.Prelude.{◌+◌, IsSome}
+use Rattle.std.proofs.lemmas.Bool.Decides.{eqb_tells}
+use Rattle.cs_value.specs.Decided.{OrNot}
+use Rattle.cs_value.specs.declared.catalog.TableDef.{TableDef}
+use Rattle.cs_store.specs.Contents.{Contents}
+use Rattle.cs_conflict.specs.declared.clash.Clash.{Clash}
+use Rattle.cs_conflict.specs.declared.wish.Wish.{Wish}
+use Rattle.cs_pending.specs.View.{View}
+use Rattle.cs_position.specs.Shows.{ShowsAt}
+use Rattle.cs_position.specs.declared.position.Position.{Position}
+use Rattle.cs_pushing.specs.Pushes.{confirmed}
+use Rattle.cs_pulling.specs.Laws.{IsOfList, ListHasResult}
+use Rattle.cs_pulling.specs.declared.fault.AnswerFault.{AnswerFault}
+use Rattle.cs_pulling.specs.declared.fault.AnswerFault.TheVariants.{Memory, Device, BadEntry}
+use Rattle.cs_pulling.specs.declared.listing.Pulled.{Pulled}
+use Rattle.cs_pulling.specs.declared.listing.Pulled.TheVariants as pulled
+use Rattle.cs_taking.specs.Laws.{NextIsShown}
+use Rattle.cs_wire.specs.declared.answer.Answer.{Answer}
+use Rattle.cs_wire.specs.declared.answer.Answer.TheVariants.{Short, Entries}
+use Rattle.cs_wire.specs.declared.short_answer.ShortAnswer.TheVariants as short
+use Rattle.cs_replica.specs.Accepted.{IsAccepted}
+use Rattle.cs_replica.specs.Answered.{Answers, told_of}
+use Rattle.cs_replica.specs.Laws.{AnswerHasResult, IsOfAnswer}
+use Rattle.cs_replica.specs.declared.told.Told.{Told}
+use Rattle.cs_replica.specs.declared.told.Told.TheVariants.{Confirmed, Ignored, Stale, Refused}
+
+-- ---- whether a push was accepted
+
+same_number : (a b : ℕ) → OrNot (a ≡ b)
+same_number a b = elim (eqb_tells a b) [ inl (e, is) ↦ inl is | inr (e, ne) ↦ inr ne ]
+
+some_or_not : {A : Type 0} (o : Option A) → OrNot (IsSome o)
+some_or_not None = inr (λ none. (let e = none in cc))
+some_or_not (Some a) = inl refl
+
+accepted_with : (position : Position) (origin number version : ℕ) → OrNot (IsSome position.flight) → OrNot (origin ≡ position.id) → OrNot (number ≡ position.number) → OrNot (version ≡ position.version + 1)
+    → OrNot (IsAccepted position origin number version)
+accepted_with position origin number version (inl some) (inl own) (inl last) (inl next) = inl (record { under_way = some; own = own; last = last; next = next })
+accepted_with position origin number version (inr none) own last next = inr (λ is. none is.under_way)
+accepted_with position origin number version (inl some) (inr other) last next = inr (λ is. other is.own)
+accepted_with position origin number version (inl some) (inl own) (inr other) next = inr (λ is. other is.last)
+accepted_with position origin number version (inl some) (inl own) (inl last) (inr other) = inr (λ is. other is.next)
+
+accepted_or_not : (position : Position) (origin number version : ℕ) → OrNot (IsAccepted position origin number version)
+accepted_or_not position origin number version =
+    accepted_with position origin number version (some_or_not position.flight) (same_number origin position.id) (same_number number position.number) (same_number version (position.version + 1))
+
+-- ---- each answer
+
+of_answer : (result : Result Pulled AnswerFault) → IsOfList result → IsOfAnswer (told_of result)
+of_answer (Ok (pulled.Taken count)) of = tt
+of_answer (Ok (pulled.Stopped count)) of = tt
+of_answer (Err (Memory count)) of = of
+of_answer (Err (Device count)) of = of
+of_answer (Err (BadEntry count)) of = tt
+
+module _ (next : NextIsShown) {P : Type 0} (picks : P → Clash → Wish → P → Type 0) (is_ready : P → Type 0) (lists : ListHasResult picks is_ready) where
+  module _ (tables : List TableDef) (old : Contents) (position : Position) (before : View) (p : P) (shows : ShowsAt tables old position before) where
+    abbrev Told_of : Answer → Type 0
+    Told_of answer = (result : Result Told AnswerFault) × (other : Position) × (new : Contents) × (q : P) × IsOfAnswer result × Answers picks tables answer result position before p other new q
+
+    by_accepted : (origin number version : ℕ) → OrNot (IsAccepted position origin number version) → Told_of (Short (short.Accepted origin number version))
+    by_accepted origin number version (inl is) =
+        let left = next tables old position in
+        (Ok (Confirmed version), confirmed position, left.0, p, tt, ((is, refl, refl), (left.1 before shows, refl)))
+    by_accepted origin number version (inr other) = (Ok Ignored, position, old, p, tt, ((other, refl), (shows, refl)))
+
+  pub answer_has_result : AnswerHasResult picks is_ready
+  answer_has_result tables (Short (short.Accepted origin number version)) old position before p are small ranged shows answers ready =
+      by_accepted tables old position before p shows origin number version (accepted_or_not position origin number version)
+  answer_has_result tables (Short (short.Stale newest)) old position before p are small ranged shows answers ready = (Ok (Stale newest), position, old, p, tt, (refl, refl, (shows, refl)))
+  answer_has_result tables (Short (short.Refused code)) old position before p are small ranged shows answers ready = (Ok (Refused code), position, old, p, tt, (refl, refl, (shows, refl)))
+  answer_has_result tables (Entries first entries) old position before p are small ranged shows answers ready =
+      let list = lists tables first entries old position before p are small ranged shows answers ready in
+      (told_of list.0, list.1, list.2, list.3, of_answer list.0 list.4, (list.0, refl, list.5))
