@@ -1,5 +1,5 @@
 -- What a store holds where the next entry has come and leaves what it shows.
-use Rattle.std.proofs.Common.{◌≡◌, ◌+◌, List, None, refl, ◌∙◌}
+use Rattle.std.proofs.Common.{◌≡◌, ◌+◌, List, None, ◌∙◌}
 use Rattle.std.specs.FinMap.{get}
 use Rattle.cs_value.specs.declared.catalog.TableDef.{TableDef}
 use Rattle.cs_store.specs.Contents.{Contents, name_text}
