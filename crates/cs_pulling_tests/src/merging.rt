@@ -5,6 +5,7 @@ use crate::given::*;
 use cs_change::Change;
 use cs_conflict::{ConflictBuf, Kind, Wish};
 use cs_pulling::PullFault;
+use cs_record::Row;
 use std::alloc::Global;
 
 /// Texts of the columns of t2.
@@ -318,21 +319,28 @@ const AFTER: Shown = Shown {
     flight: &[],
 };
 
+/// Whether the change is the INSERT of a row.
+fn is_insert(alloc: Global, change: &Change<'_>, parts: &[&[u8]]) -> bool {
+    match change {
+        Change::Insert { new_row, .. } => are(alloc, new_row.bytes(), parts),
+        _ => false,
+    }
+}
+
+fn is_row(alloc: Global, row: Option<&Row<'_>>, parts: &[&[u8]]) -> bool {
+    match row {
+        Some(row) => are(alloc, row.bytes(), parts),
+        None => false,
+    }
+}
+
 /// Whether this is the conflict of the INSERT of (3, 'c') with the row (3, 'z').
 fn is_third(alloc: Global, stop: &ConflictBuf) -> bool {
     let conflict = stop.as_conflict();
-    let Some(row) = conflict.row else {
-        return false;
-    };
-    match conflict.change {
-        Change::Insert { new_row, .. } => {
-            conflict.kind == Kind::KeyConflict
-                && conflict.table == 0
-                && are(alloc, new_row.bytes(), &[&K3, &C])
-                && are(alloc, row.bytes(), &[&K3, &Z])
-        }
-        _ => false,
-    }
+    conflict.kind == Kind::KeyConflict
+        && conflict.table == 0
+        && is_insert(alloc, &conflict.change, &[&K3, &C])
+        && is_row(alloc, conflict.row.as_ref(), &[&K3, &Z])
 }
 
 /// Whether the picker is asked three times, and taking stops at the third conflict.

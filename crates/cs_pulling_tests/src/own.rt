@@ -1,8 +1,9 @@
 //! Entries that come while a push is under way: the own one, and another's.
 
+ghost use Rattle.cs_wire.specs.Requests.{HasShortChangeset, asked_by_owned};
+
 use crate::given::*;
 use cs_conflict::Wish;
-use cs_pushing::PushFault;
 use cs_wire::RequestBuf;
 use std::alloc::Global;
 
@@ -306,12 +307,25 @@ const BEHIND: Shown = Shown {
 };
 
 /// Whether the request is that push.
-fn is_push(alloc: Global, asked: &Result<RequestBuf, PushFault>) -> bool {
-    let Ok(request) = asked else {
-        return false;
-    };
+fn is_push(alloc: Global, request: &RequestBuf) -> bool
+    requires { HasShortChangeset (asked_by_owned request.now) }
+{
     let mut bytes = Vec::new(alloc);
     request.encode(&mut bytes).is_ok() && are(alloc, bytes.as_slice(), PUSH)
+}
+
+fn makes_push(alloc: Global, replica: &mut Seven) -> bool {
+    match replica.make_push(alloc) {
+        Ok(request) => is_push(alloc, &request),
+        Err(_) => false,
+    }
+}
+
+fn resends_push(alloc: Global, replica: &Seven) -> bool {
+    match replica.resend(alloc) {
+        Ok(request) => is_push(alloc, &request),
+        Err(_) => false,
+    }
 }
 
 /// Whether another's entry whose picker stops is refused.
@@ -331,12 +345,12 @@ fn push_stays(alloc: Global) -> bool {
         return false;
     };
     edits(alloc, &mut replica, &[Edit::Insert("t1", 1, &["v1"])])
-        && is_push(alloc, &replica.make_push(alloc))
+        && makes_push(alloc, &mut replica)
         && edits(alloc, &mut replica, &[Edit::Update("t1", 1, &[Some("v9")])])
-        && is_push(alloc, &replica.resend(alloc))
+        && resends_push(alloc, &replica)
         && shows(alloc, &mut replica, 0, &BEHIND)
         && stops(alloc, &mut replica)
-        && is_push(alloc, &replica.resend(alloc))
+        && resends_push(alloc, &replica)
         && shows(alloc, &mut replica, 0, &BEHIND)
 }
 
