@@ -6,7 +6,7 @@ use crate::replicas::{
 };
 use cs_opening::OpenFault;
 use cs_pushing::PushFault;
-use cs_store::{Batch, MetaEdit, MetaName, PlaceEdit, RowStore, StoreFault, Written};
+use cs_store::{Batch, MetaEdit, MetaName, PlaceEdit, RowStore, StoreFault, StoredEntry, Written};
 use std::alloc::Global;
 
 /// Whether these are the bytes of a value, or there are none.
@@ -150,6 +150,27 @@ fn is_damaged_at(alloc: Global, table: u32, key: &[u8], body: &[u8]) -> Option<b
     Some(is_damaged(alloc, store))
 }
 
+/// Writes an entry of a log: the push that is under way, as a hub would store it.
+fn put_entry(alloc: Global, store: &mut Store) -> Result<(), StoreFault> {
+    let mut batch = nothing(alloc);
+    // The kind of an entry that has changes.
+    let mut body = vec![in alloc; 0]?;
+    body.extend_from_slice(&FLIGHT[8..])?;
+    batch.log = Some(StoredEntry {
+        origin: 7,
+        number: 1,
+        body,
+    });
+    store.commit(&batch)
+}
+
+/// Whether it is, where it has one entry of a log.
+fn is_damaged_by_an_entry(alloc: Global) -> Option<bool> {
+    let mut store = filled(alloc)?;
+    put_entry(alloc, &mut store).ok()?;
+    Some(is_damaged(alloc, store))
+}
+
 /// The keys 2 and 3, and the INSERTs of (3, 'x') and of (2, 'y').
 pub(crate) const KEY_2: &[u8] = &[1, 0, 0, 0, 0, 0, 0, 0, 2];
 
@@ -174,6 +195,11 @@ fn values_that_cannot_be_read_are_damage(rt: HostRuntime) {
     for (name, value) in cases {
         assert!(rt; is_damaged_by(alloc, name, value).unwrap_or(false));
     }
+}
+
+#[test]
+fn a_log_is_damage(rt: HostRuntime) {
+    assert!(rt; is_damaged_by_an_entry(rt.alloc()).unwrap_or(false));
 }
 
 #[test]
