@@ -95,6 +95,6 @@ pub all_copied : (tables : List TableDef) (contents checked valued first copy : 
     → HoldsRowsAlone tables contents × (copy ≡ contents)
 all_copied tables contents checked valued first copy same again holds values shown is copies =
     let start : AreCopied checked first 0 = values (subst HasOurNames (sym same) holds.0.names) in
-    let end : AreCopied valued copy (length shown) = copies (subst (λ (c : Contents). AreCopied c first 0) (sym again) start) in
+    let end : AreCopied valued copy (length shown) = subst (AreCopied valued copy) (omega arith) (copies (subst (λ (c : Contents). AreCopied c first 0) (sym again) start)) in
     is_copy tables contents copy holds.0 holds.1
     (subst (λ (ts : List TableDef). AreCopied contents copy (length ts)) is (subst (λ (c : Contents). AreCopied c copy (length shown)) (again ∙ same) end))

@@ -1,6 +1,6 @@
 //! A store copied into memory.
 
-ghost use Rattle.std.specs.Prelude.{◌≡◌, ℕ, List, ◌<◌, ◌+◌, ◌^◌, ◌↔◌, [], None, length, map, IfOk, IfSome, IsTrue, OnOk};
+ghost use Rattle.std.specs.Prelude.{◌≡◌, ◌≢◌, true, false, ℕ, List, ◌<◌, ◌+◌, ◌^◌, ◌↔◌, [], None, length, map, IfOk, IfSome, IsTrue, OnOk};
 ghost use Rattle.std.specs.FinMap.{empty};
 ghost use Rattle.cs_store.specs.Contents.{Contents, IsListing, meta_value, stored_pending, stored_tables};
 ghost use Rattle.cs_store.specs.Laws.{value_after};
@@ -145,6 +145,17 @@ fn put_rows(
     }
 }
 
+/// Whether nothing is listed.
+fn are_none(listed: &[StoredBody]) -> bool
+    ensures none { result ≡ true → listed.now ≡ [] }
+    ensures some { result ≡ false → listed.now ≢ [] }
+{
+    match listed.split_first() {
+        None => true,
+        Some(_) => false,
+    }
+}
+
 /// Copies the rows of the table with this number, if no change of it is pending.
 fn copy_table<S: RowStore>(
     alloc: Global,
@@ -157,7 +168,7 @@ fn copy_table<S: RowStore>(
         → IfOk result (IsCopied (S.contents store.old) copy.old.held copy.new.held number (number + 1)) }
 {
     let pending = store.pend_list(number)?;
-    if !pending.is_empty() {
+    if !are_none(pending.as_slice()) {
         return Ok(false);
     }
     let listed = store.list(number)?;

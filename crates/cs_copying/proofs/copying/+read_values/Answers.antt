@@ -4,7 +4,7 @@ use Rattle.cs_copying.proofs.Values.{read_more}
 use Rattle.cs_copying.proofs.copying.+read_values.Goals as goal
 
 pub returns-in-Ok-clause-read : goal.returns-in-Ok-clause-read
-returns-in-Ok-clause-read g c = λ honest.
+returns-in-Ok-clause-read g t c = λ honest.
     let edit : MetaEdit = record { name = c.in-Some.name.now; value = c.in_ok-value.value } in
     let was = c.in-Ok.ensures.reads.was_honest honest in
     read_more (g.S.RowStore.contents c.args.store.now) (g.S.RowStore.contents c.meta.new.self) (c.in_ok-value.ensures.reads.same was)
