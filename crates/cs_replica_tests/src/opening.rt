@@ -10,7 +10,11 @@ use cs_store::{Batch, MetaEdit, MetaName, PlaceEdit, RowStore, StoreFault, Store
 use std::alloc::Global;
 
 /// Whether these are the bytes of a value, or there are none.
-pub(crate) fn is_value(store: &mut Store, name: MetaName, wanted: Option<&[u8]>) -> Result<bool, StoreFault> {
+pub(crate) fn is_value(
+    store: &mut Store,
+    name: MetaName,
+    wanted: Option<&[u8]>,
+) -> Result<bool, StoreFault> {
     match (store.meta(name)?, wanted) {
         (None, None) => Ok(true),
         (Some(value), Some(wanted)) => Ok(value.as_slice() == wanted),

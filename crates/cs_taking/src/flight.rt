@@ -11,10 +11,10 @@ ghost use Rattle.cs_pending.specs.View.{View};
 ghost use Rattle.cs_position.specs.Shows.{IsUnderWay, flown};
 ghost use Rattle.cs_taking.specs.Steps.{ArePlaced, IsFlightFolded, task_of};
 
-use cs_placed::{Placed, place_all};
 use crate::reading::fold_flight;
 use cs_normal::Normal;
 use cs_pending::Settling;
+use cs_placed::{Placed, place_all};
 use cs_store::{RowStore, StoreFault};
 use cs_value::{Catalog, Memory};
 use std::alloc::Global;

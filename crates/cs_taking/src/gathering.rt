@@ -17,12 +17,12 @@ ghost use Rattle.cs_taking.specs.declared.fault.TakeFault.TheVariants.{BadEntry,
 use crate::deciding::decide;
 use crate::fault::TakeFault;
 use crate::flight::fold_all;
-use cs_placed::place_all;
 use crate::reading::survey;
 use crate::site::Site;
 use cs_conflict::Picker;
 use cs_normal::Normal;
 use cs_pending::Settling;
+use cs_placed::place_all;
 use cs_store::{RowStore, StoreFault};
 use cs_value::Catalog;
 use std::alloc::Global;

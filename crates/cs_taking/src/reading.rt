@@ -14,12 +14,12 @@ ghost use Rattle.cs_pending.specs.View.{View, settled};
 ghost use Rattle.cs_position.specs.Shows.{base as log_rows};
 ghost use Rattle.cs_taking.specs.Steps.{AreOn, ArePlaced, AreSitesPlaced, HasBad, IsFolded, IsFoldReady, IsPlaced, IsSurveyed, site_task, task_of};
 
-use cs_placed::Placed;
 use crate::rows::before_flight;
 use crate::site::Site;
 use cs_change::outcome;
 use cs_normal::Normal;
 use cs_pending::{Settling, Standing, lent, standing_at};
+use cs_placed::Placed;
 use cs_record::RowBuf;
 use cs_store::{RowStore, StoreFault};
 use cs_value::{Catalog, Memory};

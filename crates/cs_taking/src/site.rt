@@ -2,8 +2,8 @@
 
 ghost use Rattle.cs_taking.specs.Made.{IsMade, IsMade-prop};
 
-use cs_placed::Placed;
 use cs_pending::Standing;
+use cs_placed::Placed;
 use cs_record::RowBuf;
 
 /// A place of the entry: its change, what stands here and on the log, and what the change leaves of the log's row.

@@ -9,7 +9,7 @@ use Rattle.cs_copying.proofs.copying.copy_table.Goals as goal
 pub returns-then-not-are_none-clause-told : goal.returns-then-not-are_none-clause-told
 returns-then-not-are_none-clause-told g c = λ honest none.
     let empty = some_listed (stored_pending (g.S.RowStore.contents c.args.store.now) c.args.number) c.in_ok-pending.pending.items (c.in_ok-pending.ensures.listed honest)
-        (λ key. ap (λ (bodies : Bodies). get bodies (pos c.args.number, key)) none ∙ get-empty place_cmp (pos c.args.number, key)) in
+    (λ key. ap (λ (bodies : Bodies). get bodies (pos c.args.number, key)) none ∙ get-empty place_cmp (pos c.args.number, key)) in
     c.are_none.ensures.some c.if-not-are_none.true (c.as_slice.ensures.value ∙ empty)
 
 pub returns-clause-told : goal.returns-clause-told
