@@ -1,5 +1,5 @@
 -- Maps told by what stands at each place, and the names of values.
-use Rattle.std.proofs.Common.{◌≡◌, ◌≢◌, ◌⊎◌, inl, inr, ℕ, List, [], Option, Some, None, refl, sym, ap, ◌∙◌}
+use Rattle.std.proofs.Common.{◌≡◌, ◌≢◌, ◌⊎◌, inl, inr, ℕ, List, Option, Some, None, refl, sym, ap, ◌∙◌}
 use Rattle.std.specs.Prelude.{Bool, true, false}
 use Rattle.std.specs.Cmp.{Equal-is, IsTotalOrder}
 use Rattle.std.specs.FinMap.{IsAntisymmetric, empty, get, get-empty, same_map}
@@ -12,7 +12,7 @@ use Rattle.cs_store.specs.Contents.{Bodies, Contents, Meta, StorePlace, name_tex
 use Rattle.cs_store.specs.Whole.{IsName}
 use Rattle.cs_store.specs.declared.names.MetaName.{MetaName}
 use Rattle.cs_store.specs.declared.names.MetaName.TheVariants.{Id, Version, Number, Flight, Pending, Catalog}
-use Rattle.cs_copying.specs.Steps.{HasOurNames, value_read}
+use Rattle.cs_copying.specs.Steps.{HasOurNames}
 
 -- ---- cases
 

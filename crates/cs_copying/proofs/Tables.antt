@@ -1,14 +1,14 @@
 -- A table that is copied: what edits that set its listed rows leave.
-use Rattle.std.proofs.Common.{◌≡◌, ◌≢◌, ◌⊎◌, ◌<◌, ◌≤◌, ◌+◌, ◌&&◌, inl, inr, ℕ, Bool, true, false, T, List, [], ◌∷◌, map, Option, Some, None, refl, sym, ap, ap₂, subst, ◌∙◌, arith}
-use Rattle.std.specs.Prelude.{ℤ, pos, negsuc, fold, nat_eq, if◌then◌else◌}
-use Rattle.std.specs.FinMap.{empty, find, get, get-empty, is_sorted}
+use Rattle.std.proofs.Common.{◌≡◌, ◌≢◌, ◌+◌, ◌&&◌, inl, inr, ℕ, Bool, true, false, List, [], ◌∷◌, map, Option, Some, None, refl, sym, ap, subst, ◌∙◌, arith}
+use Rattle.std.specs.Prelude.{pos, negsuc, fold, nat_eq, if◌then◌else◌}
+use Rattle.std.specs.FinMap.{find, get, get-empty}
 use Rattle.std.specs.List.{AllByRecursion}
 use Rattle.std.proofs.lemmas.Bool.Decides.{eqb_tells}
 use Rattle.cs_order.specs.Order.{by_bytes, same_bytes}
 use Rattle.cs_rows.specs.Listings.{each_found}
-use Rattle.cs_store.specs.Contents.{Bodies, Contents, IsListing, Log, Meta, StorePlace, name_text, meta_value, nothing, stored_pending, stored_tables}
+use Rattle.cs_store.specs.Contents.{Bodies, Contents, IsListing, StorePlace, name_text, meta_value, nothing, stored_pending, stored_tables}
 use Rattle.cs_store.specs.Laws.{IsNoPlaceOf, KeepsOtherNames, KeepsOtherRows, WritesMeta, WritesRows, row_after, value_after}
-use Rattle.cs_store.specs.Written.{after_batch, appended, edit_body, edit_meta, optional_entry, pairs_of, store_place}
+use Rattle.cs_store.specs.Written.{after_batch, appended, edit_body, edit_meta, optional_entry, pairs_of}
 use Rattle.cs_store.specs.declared.batch.Batch.{Batch}
 use Rattle.cs_store.specs.declared.batch.MetaEdit.{MetaEdit}
 use Rattle.cs_store.specs.declared.batch.PlaceEdit.{PlaceEdit}

@@ -1,5 +1,5 @@
 -- Values that are read one after another, as edits that set them.
-use Rattle.std.proofs.Common.{◌≡◌, ◌++◌, ℕ, List, [], ◌∷◌, Option, Some, None, refl, sym, ap, ap₂, ◌∙◌}
+use Rattle.std.proofs.Common.{◌≡◌, ◌++◌, ℕ, List, [], ◌∷◌, Option, None, refl, sym, ap, ap₂, ◌∙◌}
 use Rattle.std.specs.Prelude.{if◌then◌else◌}
 use Rattle.cs_order.specs.Order.{same_bytes}
 use Rattle.cs_store.specs.Contents.{Contents, meta_value, name_text}

@@ -1,14 +1,14 @@
 -- Contents all of whose tables are copied are the copy.
-use Rattle.std.proofs.Common.{◌≡◌, ◌≢◌, ◌⊎◌, ◌<◌, ◌≤◌, ◌+◌, inl, inr, ℕ, Bool, true, false, List, [], ◌∷◌, Option, Some, None, length, refl, sym, ap, subst, ◌∙◌, arith}
+use Rattle.std.proofs.Common.{◌≡◌, ◌<◌, ◌≤◌, ◌+◌, inl, inr, ℕ, Bool, List, [], ◌∷◌, Option, Some, None, length, refl, sym, ap, subst, ◌∙◌, arith}
 use Rattle.std.specs.Prelude.{ℤ, pos, negsuc, IsTrue, if◌then◌else◌, nat_eq}
-use Rattle.std.specs.FinMap.{empty, find, get, get-empty, empty_of_len, len, len-empty}
+use Rattle.std.specs.FinMap.{empty, find, get, empty_of_len, len, len-empty}
 use Rattle.std.specs.Ordering.{int_cmp}
 use Rattle.std.proofs.lemmas.Bool.{cases_lt}
 use Rattle.std.proofs.lemmas.Bool.Decides.{eqb_tells}
 use Rattle.std.proofs.lemmas.Option.{slice_get_within}
 use Rattle.cs_order.specs.Order.{by_bytes}
 use Rattle.cs_value.specs.declared.catalog.TableDef.{TableDef}
-use Rattle.cs_store.specs.Contents.{Bodies, Contents, IsListing, Log, Meta, StorePlace, log_count, place_cmp, stored_pending, stored_tables}
+use Rattle.cs_store.specs.Contents.{Contents, IsListing, Log, StorePlace, log_count}
 use Rattle.cs_store.specs.Whole.{AtTable, IsWhole, StoresChange, StoresRow}
 use Rattle.cs_store.specs.Written.{pairs_of}
 use Rattle.cs_store.specs.declared.store.StoredBody.{StoredBody}

@@ -1,6 +1,5 @@
 -- What the code has found on its way: no definition that a public clause cites.
-use Rattle.std.specs.declared.alloc.Global.{Global}
-use Rattle.std.specs.Prelude.{Vec, ◌≡◌, ◌<◌, ◌≤◌, ℕ, negsuc, Bool, true, false, List, [], ◌∷◌, Option, Some, None, if◌then◌else◌, map}
+use Rattle.std.specs.Prelude.{◌≡◌, ◌<◌, ◌≤◌, ℕ, negsuc, Bool, true, false, List, [], ◌∷◌, Option, Some, None, if◌then◌else◌}
 use Rattle.std.specs.FinMap.{empty, get}
 use Rattle.cs_order.specs.Order.{same_bytes}
 use Rattle.cs_store.specs.Contents.{Contents, meta_value, name_text, stored_pending, stored_tables}

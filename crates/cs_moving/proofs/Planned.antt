@@ -1,7 +1,7 @@
 -- A value that is kept, and whether what is held once it is moved shows the replica.
 use Rattle.std.proofs.Common.{◌≡◌, ◌≢◌, ◌∙◌, inl, inr, ℕ, true, false, List, Option, Some, None, refl, sym, ap, subst}
 use Rattle.std.specs.Prelude.{is_some, IsUtf8}
-use Rattle.std.specs.FinMap.{empty_of_len, get, get-empty, get-remove, remove}
+use Rattle.std.specs.FinMap.{empty_of_len, get, get-empty, get-remove}
 use Rattle.std.specs.List.{AllByRecursion}
 use Rattle.std.proofs.lemmas.Cmp.{nat_list_cmp_total}
 use Rattle.cs_order.specs.Order.{by_bytes, same_bytes}

@@ -1,8 +1,6 @@
 -- The laws of opening any store: one value, one position or one fault, never both, and never neither.
-use Rattle.std.proofs.Common.{◌≡◌, ◌≢◌, ◌<◌, ◌^◌, ◌∙◌, inl, inr, ℕ, List, ◌∷◌, Option, Some, None, refl, sym, ap, subst}
-use Rattle.std.specs.Prelude.{IsUtf8}
+use Rattle.std.proofs.Common.{◌≡◌, ◌∙◌, inl, inr, ℕ, List, ◌∷◌, Some, refl, sym, ap, subst}
 use Rattle.std.specs.FinMap.{get-empty, get-remove}
-use Rattle.std.specs.List.{AllByRecursion}
 use Rattle.std.proofs.lemmas.Cmp.{nat_list_cmp_total}
 use Rattle.std.proofs.lemmas.Option.{same_Some}
 use Rattle.cs_order.specs.Order.{by_bytes}
@@ -12,7 +10,7 @@ use Rattle.cs_normal.specs.declared.normal.TableChanges.{TableChanges}
 use Rattle.cs_log.specs.Entry.{changes_of_body}
 use Rattle.cs_log.specs.Laws.{OneBody}
 use Rattle.cs_log.specs.declared.body.Body.TheVariants.{Changes}
-use Rattle.cs_store.specs.Contents.{Contents, meta_value, name_text, nothing}
+use Rattle.cs_store.specs.Contents.{Contents, meta_value, name_text}
 use Rattle.cs_store.specs.declared.names.MetaName.TheVariants as named
 use Rattle.cs_wire.specs.Numbers.{four_bytes}
 use Rattle.cs_position.specs.Laws.{OnePosition}

@@ -1,4 +1,4 @@
-use Rattle.std.proofs.Common.{◌≡◌, ap, subst, sym, ◌∙◌}
+use Rattle.std.proofs.Common.{ap, ◌∙◌}
 use Rattle.cs_store.specs.Contents.{log_count}
 use Rattle.cs_copying.proofs.Whole.{count_none}
 use Rattle.cs_copying.proofs.copying.has_no_log.Goals as goal

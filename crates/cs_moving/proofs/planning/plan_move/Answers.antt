@@ -1,6 +1,5 @@
 use Rattle.std.proofs.Common.{List, ◌∙◌, refl, sym, subst, ap}
 use Rattle.cs_normal.specs.declared.normal.TableChanges.{TableChanges}
-use Rattle.cs_store.specs.Contents.{Contents}
 use Rattle.cs_store.specs.Written.{after_batch}
 use Rattle.cs_copying.specs.Copied.{HoldsRowsAlone}
 use Rattle.cs_opening.specs.Opens.{StandsAt}
