@@ -1,8 +1,9 @@
 #!/bin/sh
 # Refuses a test each of its allocations in turn, one in a run of its own: `refused_memory_leaves_everything` of the store
-# commits twice to the one in memory, that of `apply` applies a changeset, and that of the rebaser rebases one. Where that is
-# refused, the test looks whether everything is as it was, and makes the same call again. Each run has to pass.
-# Usage: bench/refuse_tests.sh store|apply|rebaser [TESTS]
+# commits twice to the one in memory, that of `apply` applies a changeset, that of the rebaser rebases one, that of pending changes
+# edits rows, and that of pulls takes an entry and an answer. Where that is refused, the test looks whether everything is as it
+# was, and makes the same call again. Each run has to pass.
+# Usage: bench/refuse_tests.sh store|apply|rebaser|pending|pulling [TESTS]
 # TESTS is the program of its tests, as `rt test` leaves it (crates/cs_store_tests/out/cs_store_tests_tests and so on); where none
 # is given, it is proved and built.
 set -eu
@@ -12,10 +13,13 @@ tests="${2:-}"
 . "$bench/common.sh"
 # So many allocations at least: the store's test makes batches of 120 rows and a commit copies each key, that of `apply` four
 # changes, and the rebaser's reads and rebases three.
+module=tests
 case "$tested" in
     store) least=400 ;;
     apply) least=30 ;;
     rebaser) least=30 ;;
+    pending) least=30 ;;
+    pulling) least=200; module=failing ;;
     *) echo "no such test of $tested" >&2; exit 1 ;;
 esac
 command -v cc > /dev/null || { echo "no allocation refused: there is no C compiler here"; exit 0; }
@@ -33,7 +37,7 @@ while true; do
     status=0
     # `env` stands behind `timeout`, whose own allocations would be counted and refused too.
     timeout 20 env REFUSE=$number LD_PRELOAD="$out/refuse_memory.so" "$tests" \
-        "tests::refused_memory_leaves_everything" > "$out/answers" 2> "$out/errors" 9> "$out/reached" || status=$?
+        "$module::refused_memory_leaves_everything" > "$out/answers" 2> "$out/errors" 9> "$out/reached" || status=$?
     [ ! -s "$out/reached" ] || break
     [ "$status" -eq 0 ] || { echo "allocation $number: status $status, $(cat "$out/answers" "$out/errors")" >&2; exit 1; }
     number=$((number + 1))
