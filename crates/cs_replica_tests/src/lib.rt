@@ -6,6 +6,8 @@
 #[cfg(test)]
 mod editing;
 #[cfg(test)]
+mod memory;
+#[cfg(test)]
 mod moving;
 #[cfg(test)]
 mod opening;
