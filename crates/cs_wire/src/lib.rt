@@ -24,6 +24,6 @@ pub use numbers::{split_u32, split_u64};
 pub use push_head::PushHead;
 pub use request::{Request, RequestBuf};
 pub use short_answer::{SHORT, ShortAnswer};
-pub use writing::entries_answer;
+pub use writing::{entries_answer, entries_head, put_entry};
 
 pub mod laws;
