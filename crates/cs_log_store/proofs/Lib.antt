@@ -1,0 +1,3 @@
+pub mod OneLog
+pub mod Appended
+pub mod First

@@ -1,0 +1,2 @@
+pub mod Shows
+pub mod Laws
