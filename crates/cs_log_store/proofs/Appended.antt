@@ -6,18 +6,19 @@ use Rattle.std.specs.List.{AllByRecursion}
 use Rattle.std.specs.Option.{unwrap_or}
 use Rattle.std.proofs.lemmas.Bool.{eq-eqb, eqb-true}
 use Rattle.std.proofs.lemmas.List.Elements.{All-append, recursion_from_All}
+use Rattle.std.proofs.lemmas.List.{take_all}
 use Rattle.std.proofs.lemmas.List.Sums.{fold-append}
 use Rattle.cs_value.specs.Catalog.{AreTables}
 use Rattle.cs_value.specs.Key.{Place}
 use Rattle.cs_value.specs.declared.catalog.TableDef.{TableDef}
 use Rattle.cs_record.specs.Spelling.{row_bytes}
-use Rattle.cs_normal.specs.State.{State, IsApplied, left_at}
+use Rattle.cs_normal.specs.State.{State, IsApplied, IsStateOf, left_at}
 use Rattle.cs_log.specs.Entry.{entry_changes}
 use Rattle.cs_log.specs.Laws.{AppendedIsLog, LogStates}
 use Rattle.cs_log.specs.Log.{after_entry, empty_state, state_of}
 use Rattle.cs_log.specs.Stored.{IsEntryOf}
 use Rattle.cs_log.specs.declared.entry.LogEntry.{LogEntry}
-use Rattle.cs_store.specs.Contents.{Bodies, Contents, LogItem, Meta, log_count, log_entry, meta_value}
+use Rattle.cs_store.specs.Contents.{Bodies, Contents, LogItem, Meta, log_count, log_entry, name_text}
 use Rattle.cs_store.specs.Laws.{CountsLog, KeepsOtherRows, WritesLog, WritesRows, entry_after}
 use Rattle.cs_store.specs.Written.{after_batch, edit_body, edit_meta, optional_entry}
 use Rattle.cs_store.specs.declared.batch.Batch.{Batch}
@@ -85,27 +86,28 @@ entries_grown writes counts contents log entry batch was new = record {
 
 -- ---- all of it
 
+one_fits : (opening : List TableDef) (entry : LogEntry) → IsEntryOf opening entry → All (IsEntryOf opening) (entry ∷ [])
+one_fits opening entry fits zero d lt = fits
+one_fits opening entry fits (suc k) d lt = absurd (omega (arith, lt))
+
 pub append_shows : AppendedIsLog → LogStates → WritesRows → WritesLog → CountsLog → KeepsOtherRows → AppendShows
-append_shows appended states rows_law log_law count_law others opening contents log entry batch are was made = record {
-  is_log = longer;
-  fit = All-append (IsEntryOf opening) log (entry ∷ []) was.fit (one_fits made.fits);
-  rows = record {
-    rows = states opening (log ++ entry ∷ []) (length (log ++ entry ∷ [])) are longer;
-    stored = λ number table key at. rows_law batch contents number key ∙ made.edits.written number table key at
-        ∙ ap (option_map row_bytes) (left_there opening log entry made.after made.applied table.name key);
-  };
-  elsewhere = λ place out. others batch contents place (no_place opening place batch.rows.items out (recursion_from_All _ batch.rows.items made.edits.within)) ∙ was.elsewhere place out;
-  pending = ap (λ (edits : List PlaceEdit). fold edit_body contents.pending edits) made.no_pending ∙ was.pending;
-  values = record {
-    values = λ name. ap (λ (m : Meta). get m _) meta ∙ was.values.values name;
-    names = λ text never. ap (λ (m : Meta). get m text) meta ∙ was.values.names text never;
-  };
-  entries = entries_grown log_law count_law contents log entry batch was.entries made.entry;
-}
-  where
-    longer = appended opening log entry was.is_log made.next
-    meta : (after_batch batch contents).meta ≡ contents.meta
-    meta = ap (λ (edits : List MetaEdit). fold edit_meta contents.meta edits) made.no_meta
-    one_fits : IsEntryOf opening entry → All (IsEntryOf opening) (entry ∷ [])
-    one_fits fits zero d lt = fits
-    one_fits fits (suc k) d lt = absurd (omega (arith, lt))
+append_shows appended states rows_law log_law count_law others opening contents log entry batch are was made =
+    let longer = appended opening log entry was.is_log made.next in
+    let meta : (after_batch batch contents).meta ≡ contents.meta = ap (λ (edits : List MetaEdit). fold edit_meta contents.meta edits) made.no_meta in
+    record {
+      is_log = longer;
+      fit = All-append (IsEntryOf opening) log (entry ∷ []) was.fit (one_fits opening entry made.fits);
+      rows = record {
+        rows = subst (λ (l : List LogEntry). IsStateOf opening (state_of l)) (take_all (length (log ++ entry ∷ [])) (log ++ entry ∷ []) (omega arith))
+            (states opening (log ++ entry ∷ []) (length (log ++ entry ∷ [])) are longer);
+        stored = λ number table key at. rows_law batch contents number key ∙ made.edits.written number table key at
+            ∙ ap (option_map row_bytes) (left_there opening log entry made.after made.applied table.name key);
+      };
+      elsewhere = λ place out. others batch contents place (no_place opening place batch.rows.items out (recursion_from_All _ batch.rows.items made.edits.within)) ∙ was.elsewhere place out;
+      pending = ap (λ (edits : List PlaceEdit). fold edit_body contents.pending edits) made.no_pending ∙ was.pending;
+      values = record {
+        values = λ name. ap (λ (m : Meta). get m (name_text name)) meta ∙ was.values.values name;
+        names = λ text never. ap (λ (m : Meta). get m text) meta ∙ was.values.names text never;
+      };
+      entries = entries_grown log_law count_law contents log entry batch was.entries made.item;
+    }

@@ -31,7 +31,7 @@ pub record IsEntryBatch (opening : List TableDef) (contents : Contents) (log : L
   pub edits : AreEdits opening contents batch.rows.items after
   pub no_pending : batch.pending.items ≡ []
   pub no_meta : batch.meta.items ≡ []
-  pub entry : optional_entry batch.log ≡ Some (item_of_entry entry)
+  pub item : optional_entry batch.log ≡ Some (item_of_entry entry)
 
 -- a commit of such a batch shows the longer log
 abbrev pub AppendShows : Type 0

@@ -1,0 +1,39 @@
+-- An entry that is appended to the log that a store shows (profile of this project).
+use Rattle.std.specs.Prelude.{◌≡◌, List, [], ◌∷◌, ◌++◌}
+use Rattle.cs_value.specs.declared.catalog.TableDef.{TableDef}
+use Rattle.cs_normal.specs.Normal.{groups_of}
+use Rattle.cs_normal.specs.State.{State}
+use Rattle.cs_normal.specs.declared.normal.TableChanges.{TableChanges}
+use Rattle.cs_log.specs.Entry.{entry_changes}
+use Rattle.cs_log.specs.Log.{IsNextEntry, state_of}
+use Rattle.cs_log.specs.declared.entry.LogEntry.{LogEntry}
+use Rattle.cs_conflict.specs.declared.conflict.Conflict.{Conflict}
+use Rattle.cs_conflict.specs.declared.conflict.Resolution.{Resolution}
+use Rattle.cs_conflict.specs.declared.conflict.Resolution.TheVariants.{Abort}
+use Rattle.cs_store.specs.Contents.{Contents}
+use Rattle.cs_apply.specs.Calls.{IsStoppedAt}
+use Rattle.cs_log_store.specs.Shows.{ShowsLog}
+use Rattle.cs_appending.specs.declared.fault.AppendFault.{AppendFault}
+use Rattle.cs_appending.specs.declared.fault.AppendFault.TheVariants.{Memory, Conflict as OnConflict, Device}
+
+-- what asks nobody, and answers ABORT whatever it is shown
+abbrev pub aborts : Unit {0} → Conflict → Resolution → Unit {0} → Type 0
+aborts before conflict answer after = answer ≡ Abort
+
+-- the first conflict of the changeset with the rows: at this one applying it stops, where ABORT is the answer to each (SQLite's
+-- "Session Extension", `sqlite3changeset_apply_v2`)
+abbrev pub IsFirstConflict : List TableDef → List TableChanges → State → Conflict → Type 0
+IsFirstConflict tables changes before conflict = IsStoppedAt aborts tables (groups_of changes) before tt Abort conflict tt
+
+-- contents after the entry is appended: it is defined behind the log that was shown, and the longer log is shown
+abbrev pub IsAppendedIn : List TableDef → LogEntry → Contents → Contents → Type 0
+IsAppendedIn opening entry old new =
+    (log : List LogEntry) → ShowsLog opening old log
+    → IsNextEntry opening log entry × ShowsLog opening new (log ++ entry ∷ [])
+
+-- why it isn't: it isn't defined behind the log, and this is the first conflict; Memory and Device may come before
+abbrev pub IsAppendFault : List TableDef → List LogEntry → LogEntry → AppendFault → Type 0
+IsAppendFault opening log entry Memory = Unit {0}
+IsAppendFault opening log entry (OnConflict conflict) =
+    (IsNextEntry opening log entry → ⊥) × IsFirstConflict opening (entry_changes entry) (state_of log) conflict
+IsAppendFault opening log entry Device = Unit {0}

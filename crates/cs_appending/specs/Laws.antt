@@ -1,0 +1,15 @@
+-- The laws of appending.
+use Rattle.std.specs.Prelude.{◌≡◌, List}
+use Rattle.cs_value.specs.declared.catalog.TableDef.{TableDef}
+use Rattle.cs_normal.specs.State.{State}
+use Rattle.cs_normal.specs.declared.normal.TableChanges.{TableChanges}
+use Rattle.cs_conflict.specs.declared.conflict.Conflict.{Conflict}
+use Rattle.cs_appending.specs.Appended.{IsFirstConflict}
+
+-- a changeset has one first conflict with the rows
+abbrev pub OneFirstConflict : Type 0
+OneFirstConflict =
+    (tables : List TableDef) (changes : List TableChanges) (before : State) (some other : Conflict)
+    → IsFirstConflict tables changes before some
+    → IsFirstConflict tables changes before other
+    → some ≡ other

@@ -1,0 +1,3 @@
+pub mod Appended
+pub mod Laws
+pub mod Steps
