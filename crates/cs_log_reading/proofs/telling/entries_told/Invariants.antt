@@ -1,0 +1,19 @@
+use Rattle.std.proofs.Common.{◌≡◌, ◌+◌, ◌≤◌, ◌∷◌, List, drop, length, map, take}
+use Rattle.std.specs.List.{flat_map}
+use Rattle.cs_log.specs.declared.entry.LogEntry.{LogEntry as Entry}
+use Rattle.cs_log_reading.specs.Reading.{ShowsEntries}
+use Rattle.cs_log_store.specs.Shows.{ShowsLog}
+use Rattle.cs_pending.specs.Storing.{WasRead}
+use Rattle.cs_wire.specs.Answers.{entries_numbers, entries_tag}
+use Rattle.cs_wire.specs.Entries.{entry_spelling}
+use Rattle.cs_wire.specs.Told.{told_entry}
+use Rattle.cs_log_reading.proofs.telling.entries_told.Given as goal
+
+-- the store was only read so far, and the answer tells the first of the entries that are asked for
+abbrev pub invariant-loop-at : goal.invariant-loop-at
+invariant-loop-at g l = record {
+  read : WasRead g.S.RowStore.honest g.S.RowStore.contents g.S.RowStore.failed g.S.RowStore.may_leave g.S.RowStore.misreads (ShowsEntries l.fn.catalog (g.S.RowStore.contents l.fn.store) l.fn.first l.fn.count) l.fn.store l.store;
+  told : g.S.RowStore.honest l.store → (log : List Entry) → ShowsLog l.fn.catalog (g.S.RowStore.contents l.fn.store) log
+      → l.fn.first + l.fn.count ≤ length log
+      → l.answer.items ≡ entries_tag ∷ entries_numbers l.fn.first l.fn.count (flat_map entry_spelling (map told_entry (take l.at (drop l.fn.first log))));
+}
