@@ -83,6 +83,15 @@ fn try_changes<S: RowStore>(
     )
 }
 
+/// The changes of an entry.
+fn changes_of(entry: &LogEntry) -> &Normal
+    ensures { result.now ≡ entry_changes entry.now }
+{
+    match &entry.body {
+        Body::Changes(changes) => changes,
+    }
+}
+
 /// What writes these edits of rows, and the entry.
 fn batch_of(alloc: Global, entry: &LogEntry, edits: Vec<PlaceEdit>) -> Result<Batch, Memory>
     ensures { IfOk result (IsBatchOf entry.now edits.items) }
@@ -125,8 +134,7 @@ pub fn append<S: RowStore>(
 {
     cs_log_store::laws::append_shows();
     let _tables = catalog.tables();
-    let Body::Changes(changes) = &entry.body;
-    let edits = match try_changes(alloc, store, catalog, changes) {
+    let edits = match try_changes(alloc, store, catalog, changes_of(entry)) {
         Ok(edits) => edits,
         Err(fault) => return Err(fault),
     };
