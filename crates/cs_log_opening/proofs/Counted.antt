@@ -1,5 +1,5 @@
 -- What is looked at of a hub's store, step by step, is what it is.
-use Rattle.std.proofs.Common.{◌≡◌, ◌≢◌, ◌<◌, ◌∙◌, ℕ, List, [], ◌∷◌, Some, None, length, refl, ap, subst, sym}
+use Rattle.std.proofs.Common.{◌≡◌, ◌≢◌, ◌∙◌, ℕ, List, [], ◌∷◌, Some, None, length, ap, subst, sym}
 use Rattle.std.specs.Prelude.{ℤ, pos}
 use Rattle.std.specs.FinMap.{get, get-empty}
 use Rattle.std.specs.List.{AllByRecursion}

@@ -1,5 +1,5 @@
 -- What the values of a hub make of contents that hold nothing.
-use Rattle.std.proofs.Common.{◌≡◌, ℕ, List, [], Option, None, arith, refl, sym, ap, subst, ◌∙◌}
+use Rattle.std.proofs.Common.{◌≡◌, List, [], Option, None, arith, sym, ap, subst, ◌∙◌}
 use Rattle.std.specs.Prelude.{pos, fold}
 use Rattle.std.specs.FinMap.{empty, get, get-empty, len, len-empty}
 use Rattle.std.specs.Ordering.{int_cmp}

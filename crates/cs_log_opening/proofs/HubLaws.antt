@@ -1,5 +1,5 @@
 -- The laws of opening a hub: one count of entries or one fault, never both, and never neither.
-use Rattle.std.proofs.Common.{◌≡◌, ◌≢◌, ◌∙◌, inl, inr, ℕ, List, [], Option, None, Some, refl, subst, sym}
+use Rattle.std.proofs.Common.{◌≡◌, ◌≢◌, ◌∙◌, inl, inr, ℕ, List, Option, refl, subst, sym}
 use Rattle.std.specs.Prelude.{IsUtf8}
 use Rattle.std.specs.List.{AllByRecursion}
 use Rattle.cs_value.specs.Catalog.{AreTables}

@@ -1,5 +1,5 @@
 -- What a listing tells of the pending changes of a table, and one table after another.
-use Rattle.std.proofs.Common.{◌≡◌, ◌<◌, ◌+◌, ◌∙◌, inl, inr, ℕ, Bool, cond, List, [], ◌∷◌, Option, Some, None, arith, length, ap, subst, sym}
+use Rattle.std.proofs.Common.{◌≡◌, ◌+◌, ◌∙◌, inl, inr, ℕ, Bool, cond, List, [], ◌∷◌, Some, arith, length, ap, subst, sym}
 use Rattle.std.specs.Prelude.{◌==◌, IsTrue}
 use Rattle.std.specs.FinMap.{find}
 use Rattle.std.proofs.lemmas.Bool.{eqb-true}

@@ -19,9 +19,8 @@ use Rattle.cs_normal.specs.State.{IsRowOf, MayStandAt}
 use Rattle.cs_log.specs.Log.{state_of}
 use Rattle.cs_log.specs.Stored.{IsEntryOf}
 use Rattle.cs_log.specs.declared.entry.LogEntry.{LogEntry}
-use Rattle.cs_store.specs.Contents.{Bodies, Contents, Log, LogItem, StorePlace, log_count, log_entry, meta_value, name_text, nothing, place_cmp, stored_tables}
+use Rattle.cs_store.specs.Contents.{Bodies, Contents, Log, LogItem, log_entry, meta_value, name_text, nothing, place_cmp, stored_tables}
 use Rattle.cs_store.specs.Whole.{AtTable, IsName, IsWhole, StoresBody, StoresRow}
-use Rattle.cs_store.specs.declared.names.MetaName.{MetaName}
 use Rattle.cs_store.specs.declared.names.MetaName.TheVariants.{Catalog}
 use Rattle.cs_apply.specs.NormalTasks.{one_table}
 use Rattle.cs_apply.specs.Spots.{by_test}
