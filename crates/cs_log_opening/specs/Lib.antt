@@ -1,3 +1,4 @@
 pub mod Owner
 pub mod Opens
 pub mod Laws
+pub mod Steps

@@ -5,6 +5,8 @@
 //! `laws` says that what a store held has one opening or one fault, and that a store that shows a log is opened.
 #![tactic(auto)]
 
+mod fresh;
+mod judging;
 pub mod laws;
 mod opening;
 mod owning;

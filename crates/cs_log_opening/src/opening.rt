@@ -1,14 +1,46 @@
 //! Opening a hub over any store.
 
-ghost use Rattle.std.specs.Prelude.{◌≡◌, IfOk, IfErr};
-ghost use Rattle.cs_log_opening.specs.Opens.{IsHubAt, IsHubFault, IsSameOrFirst};
+ghost use Rattle.std.specs.Prelude.{◌≡◌, ◌≢◌, IfOk, IfErr};
+ghost use Rattle.cs_store.specs.Contents.{log_count, nothing};
+ghost use Rattle.cs_pending.specs.Calls.{ReadsStore, WritesStore};
 ghost use Rattle.cs_opening.specs.declared.fault.OpenFault.TheVariants.{Device};
-ghost use Rattle.cs_pending.specs.Calls.{WritesStore};
+ghost use Rattle.cs_log_opening.specs.Opens.{IsHubAt, IsHubFault, IsHubStore, IsSameOrFirst};
 
-use cs_opening::OpenFault;
+use crate::fresh::open_fresh;
+use crate::judging::count_entries;
+use crate::owning::owner_of_hub_store;
+use cs_opening::{OpenFault, Owner};
 use cs_store::RowStore;
 use cs_value::Catalog;
 use std::alloc::Global;
+
+/// How many entries a store that holds something has as a hub's, or why it can't be opened.
+fn open_there<S: RowStore>(
+    alloc: Global,
+    store: &mut S,
+    catalog: &Catalog,
+) -> Result<u32, OpenFault>
+    ensures reads { ReadsStore S.honest S.contents S.failed S.may_leave S.misreads Device (Unit {0}) store.old store.new result }
+    ensures opened { S.honest store.new → IfOk result (λ count.
+        IsHubStore catalog.now (S.contents store.old) × (count ≡ log_count (S.contents store.old))) }
+    ensures refused { S.honest store.new → S.contents store.old ≢ nothing
+        → IfErr result (IsHubFault catalog.now (S.contents store.old)) }
+{
+    let owner = match owner_of_hub_store(alloc, store, catalog) {
+        Ok(owner) => owner,
+        Err(fault) => return Err(OpenFault::from(fault)),
+    };
+    match owner {
+        Owner::Unreadable => return Err(OpenFault::Damaged),
+        Owner::Other => return Err(OpenFault::Mismatch),
+        Owner::This => {}
+    }
+    match count_entries(store, catalog) {
+        Ok(Some(count)) => Ok(count),
+        Ok(None) => Err(OpenFault::Damaged),
+        Err(fault) => Err(OpenFault::from(fault)),
+    }
+}
 
 /// Opens a store as that of a hub with these tables, and answers how many entries its log has. A store that holds nothing is laid
 /// out in one commit; any other is only read. (Profile of this project.)
@@ -32,5 +64,13 @@ pub fn open_log<S: RowStore>(
     // What is told holds of it.
     ensures refused { S.honest store.new → IfErr result (IsHubFault catalog.now (S.contents store.old)) }
 {
-    loop {}
+    match open_fresh(alloc, store, catalog) {
+        Ok(true) => return Ok(0),
+        Ok(false) => {}
+        Err(fault) => return Err(OpenFault::from(fault)),
+    }
+    match open_there(alloc, store, catalog) {
+        Ok(count) => Ok(count),
+        Err(fault) => Err(fault),
+    }
 }

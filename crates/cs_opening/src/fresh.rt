@@ -25,8 +25,8 @@ fn no_tables(alloc: Global) -> Catalog
     }
 }
 
-/// Whether none of these names has a value.
-fn have_none<S: RowStore>(store: &mut S, names: &[MetaName]) -> Result<bool, StoreFault>
+/// Whether none of these names has a value. (Profile of this project.)
+pub fn have_none<S: RowStore>(store: &mut S, names: &[MetaName]) -> Result<bool, StoreFault>
     ensures reads { ReadsStore S.honest S.contents S.failed S.may_leave S.misreads Device (Unit {0}) store.old store.new result }
     ensures found { S.honest store.new → IfOk result (λ none.
         IsTrue none ↔ AllByRecursion (λ (name : Name). meta_value (S.contents store.old) name ≡ None) names.now) }
@@ -44,8 +44,8 @@ fn have_none<S: RowStore>(store: &mut S, names: &[MetaName]) -> Result<bool, Sto
     }
 }
 
-/// Whether the store holds nothing.
-fn holds_nothing<S: RowStore>(alloc: Global, store: &mut S) -> Result<bool, StoreFault>
+/// Whether the store holds nothing: no row, no pending change, no value, no entry. (Profile of this project.)
+pub fn holds_nothing<S: RowStore>(alloc: Global, store: &mut S) -> Result<bool, StoreFault>
     ensures reads { ReadsStore S.honest S.contents S.failed S.may_leave S.misreads Device (Unit {0}) store.old store.new result }
     ensures nothing { S.honest store.new → IfOk result (λ is. IsTrue is ↔ (S.contents store.old ≡ nothing)) }
 {

@@ -18,5 +18,6 @@ mod reading;
 mod values;
 
 pub use fault::OpenFault;
+pub use fresh::{have_none, holds_nothing};
 pub use opening::open_at;
-pub use owning::Owner;
+pub use owning::{Owner, is_value, reads_id, reads_tables};

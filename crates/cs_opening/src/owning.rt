@@ -25,8 +25,8 @@ pub enum Owner {
     Unreadable,
 }
 
-/// Whether there is no id, or four bytes.
-fn reads_id(value: &Option<Vec<u8>>) -> bool
+/// Whether there is no id, or four bytes. (Profile of this project.)
+pub fn reads_id(value: &Option<Vec<u8>>) -> bool
     ensures { IsTrue result ↔ IsIdOrNone (optional_bytes value.now) }
 {
     match value {
@@ -35,8 +35,8 @@ fn reads_id(value: &Option<Vec<u8>>) -> bool
     }
 }
 
-/// Whether the value is headers of tables of which there is a catalog.
-fn reads_tables(alloc: Global, value: &Option<Vec<u8>>) -> Result<bool, Memory>
+/// Whether the value is headers of tables of which there is a catalog. (Profile of this project.)
+pub fn reads_tables(alloc: Global, value: &Option<Vec<u8>>) -> Result<bool, Memory>
     ensures { IfOk result (λ reads. IsTrue reads ↔ TellsTables (optional_bytes value.now)) }
 {
     let Some(bytes) = value else {
@@ -46,8 +46,8 @@ fn reads_tables(alloc: Global, value: &Option<Vec<u8>>) -> Result<bool, Memory>
     Ok(read.is_some())
 }
 
-/// Whether the value is these bytes.
-fn is_value(value: &Option<Vec<u8>>, bytes: &[u8]) -> bool
+/// Whether the value is these bytes. (Profile of this project.)
+pub fn is_value(value: &Option<Vec<u8>>, bytes: &[u8]) -> bool
     ensures { IsTrue result ↔ (optional_bytes value.now ≡ Some bytes.now) }
 {
     match value {

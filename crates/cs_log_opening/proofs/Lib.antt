@@ -1,0 +1,6 @@
+pub mod Names
+pub mod First
+pub mod Listed
+pub mod Counted
+pub mod Whole
+pub mod HubLaws

@@ -1,0 +1,10 @@
+use Rattle.cs_pending.specs.Storing.{WasRead}
+use Rattle.cs_log_opening.specs.Steps.{HasAllBelow}
+use Rattle.cs_log_opening.proofs.judging.has_all_below.Given as goal
+
+-- the store was only read so far, and it is so below this one
+abbrev pub invariant-loop-version : goal.invariant-loop-version
+invariant-loop-version g l = record {
+  read : WasRead g.S.RowStore.honest g.S.RowStore.contents g.S.RowStore.failed g.S.RowStore.may_leave g.S.RowStore.misreads (Unit {0}) l.fn.store l.store;
+  told : g.S.RowStore.honest l.store → HasAllBelow (g.S.RowStore.contents l.fn.store) l.version;
+}
