@@ -1,9 +1,8 @@
 -- A commit of an entry that was tried.
-use Rattle.std.proofs.Common.{◌≡◌, ℕ, List, Option, Some, None, IsSome, Result, Ok, Err, refl, sym, ap, subst, ◌∙◌}
+use Rattle.std.proofs.Common.{◌≡◌, ℕ, List, Option, Some, None, IsSome, Ok, Err, refl, sym, subst}
 use Rattle.cs_value.specs.Key.{Place}
 use Rattle.cs_value.specs.Catalog.{AreTables}
 use Rattle.cs_value.specs.declared.catalog.TableDef.{TableDef}
-use Rattle.cs_normal.specs.Normal.{IsNormalChangeset}
 use Rattle.cs_normal.specs.State.{State, IsApplied, IsDefinedOn}
 use Rattle.cs_log.specs.Entry.{entry_changes}
 use Rattle.cs_log.specs.Log.{IsNextEntry, state_of}
@@ -20,7 +19,7 @@ use Rattle.cs_store.specs.declared.fault.StoreFault.TheVariants as stored
 use Rattle.cs_pending.specs.Calls.{WritesStore}
 use Rattle.cs_pending.specs.Storing.{WasRead, committed, not_committed, then_not_written, then_written}
 use Rattle.cs_log_store.specs.Laws.{AppendShows}
-use Rattle.cs_log_store.specs.Shows.{ShowsLog, ShowsSomeLog}
+use Rattle.cs_log_store.specs.Shows.{ShowsSomeLog}
 use Rattle.cs_appending.specs.Appended.{IsAppendFault, IsAppendedIn}
 use Rattle.cs_appending.specs.Steps.{IsBatchOf, IsNotTried, IsTried}
 use Rattle.cs_appending.specs.declared.fault.AppendFault.{AppendFault}
@@ -41,17 +40,19 @@ module _ (opening : List TableDef) (entry : LogEntry) (are : AreTables opening) 
       → IsBatchOf entry edits batch → IsAppendedIn opening entry old (after_batch batch old)
   appended_in law old edits batch tries is log shows =
       let tried = tries (state_of log) shows.rows in
-      let next : IsNextEntry opening log entry = record { normal = fits.changes.0; defined = defined opening log entry tried.0 tried.1 } in
-      (next, law opening old log entry batch are shows (record {
-        next = next;
-        fits = fits;
-        after = tried.0;
-        applied = tried.1;
-        edits = subst (λ (es : List PlaceEdit). AreEdits opening old es tried.0) (sym is.rows) tried.2;
-        no_pending = is.pending;
-        no_meta = is.meta;
-        item = is.log;
-      }))
+      let next : IsNextEntry opening log entry = record { normal = fits.changes.0; defined = defined opening log entry tried.0 tried.1 } in (
+        next,
+        law opening old log entry batch are shows (record {
+          next = next;
+          fits = fits;
+          after = tried.0;
+          applied = tried.1;
+          edits = subst (λ (es : List PlaceEdit). AreEdits opening old es tried.0) (sym is.rows) tried.2;
+          no_pending = is.pending;
+          no_meta = is.meta;
+          item = is.log;
+        }),
+      )
 
   -- what is told of one that can't be
   pub told : (log : List LogEntry) (fault : AppendFault) → IsNotTried opening (entry_changes entry) (state_of log) fault → IsAppendFault opening log entry fault
@@ -65,9 +66,9 @@ was_device stored.Memory told is at = absurd (let m = is.0 refl in cc)
 was_device stored.Device told is at = refl
 
 module _ {S : Type 0} (honest : S → Type 0) (contents : S → Contents) (failed : S → ℕ) (may_leave : S → Contents → Type 0) (misreads : S → ℕ)
-  (opening : List TableDef) (entry : LogEntry) (are : AreTables opening) (fits : IsEntryOf opening entry) (law : AppendShows) (old mid new : S) (edits : List PlaceEdit) (batch : Batch) (is : IsBatchOf entry edits batch)
-  (tries : honest mid → (before : State) → Holds opening (contents old) before → IsTried opening (entry_changes entry) (contents old) before edits)
-  (read : WasRead honest contents failed may_leave misreads ((before : State) × Holds opening (contents old) before) old mid) where
+    (opening : List TableDef) (entry : LogEntry) (are : AreTables opening) (fits : IsEntryOf opening entry) (law : AppendShows) (old mid new : S) (edits : List PlaceEdit) (batch : Batch) (is : IsBatchOf entry edits batch)
+    (tries : honest mid → (before : State) → Holds opening (contents old) before → IsTried opening (entry_changes entry) (contents old) before edits)
+    (read : WasRead honest contents failed may_leave misreads ((before : State) × Holds opening (contents old) before) old mid) where
   -- what is written leaves the entry appended, by what the store held when the entry was tried
   written : honest mid → IsAppendedIn opening entry (contents mid) (after_batch batch (contents mid))
   written h = appended_in opening entry are fits law (contents mid) edits batch

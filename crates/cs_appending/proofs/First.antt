@@ -9,7 +9,7 @@ use Rattle.cs_conflict.specs.declared.conflict.Conflict.{Conflict}
 use Rattle.cs_conflict.specs.declared.conflict.Resolution.{Resolution}
 use Rattle.cs_conflict.specs.declared.conflict.Resolution.TheVariants.{Abort}
 use Rattle.cs_conflict.specs.declared.kind.Kind.{Kind}
-use Rattle.cs_apply.specs.Applies.{AppliesOne, AppliesTask, IsConflictOf, IsStop, KeepsOthers, Stops}
+use Rattle.cs_apply.specs.Applies.{AppliesOne, IsConflictOf, IsStop, KeepsOthers, Stops}
 use Rattle.cs_apply.specs.Laws.{AlwaysAborts}
 use Rattle.cs_apply.specs.Spots.{by_test, same_spot, spot_is, spot_refl}
 use Rattle.cs_apply.specs.Tasks.{Task}

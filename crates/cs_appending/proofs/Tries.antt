@@ -1,7 +1,5 @@
 -- What a closure that always aborts tells of a changeset.
-use Rattle.std.proofs.Common.{◌≡◌, ℕ, true, false, List, Result, Ok, Err, refl, sym, ap, subst, ◌∙◌}
-use Rattle.std.specs.Prelude.{IfOk, IfErr}
-use Rattle.std.specs.List.{AllByRecursion}
+use Rattle.std.proofs.Common.{◌≡◌, ℕ, true, List, Ok, Err, ap, subst, ◌∙◌}
 use Rattle.cs_value.specs.declared.catalog.TableDef.{TableDef}
 use Rattle.cs_normal.specs.Normal.{FitsCatalog, IsNormalChangeset, groups_of}
 use Rattle.cs_normal.specs.State.{State}
@@ -48,7 +46,7 @@ module _ {F : Type 0} (asks : F → Conflict → Resolution → F → Type 0) (t
 -- ---- the store was only read
 
 module _ {S : Type 0} (honest : S → Type 0) (contents : S → Contents) (failed : S → ℕ) (may_leave : S → Contents → Type 0) (misreads : S → ℕ) (tables : List TableDef) (old new : S)
-  (right : honest new → (before : State) → Holds tables (contents old) before → misreads new ≡ misreads old) where
+    (right : honest new → (before : State) → Holds tables (contents old) before → misreads new ≡ misreads old) where
   -- rows of the tables can be read
   abbrev CanBeRead : Type 0
   CanBeRead = (before : State) × Holds tables (contents old) before

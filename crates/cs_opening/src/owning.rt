@@ -14,12 +14,12 @@ use cs_store::{MetaName, RowStore, StoreFault};
 use cs_value::{Catalog, Memory};
 use std::alloc::Global;
 
-/// Whose store it is, by the values `id` and `catalog`. (Profile of this project.)
+/// Whose store it is, a replica's or a hub's, by the values `id` and `catalog`. (Profile of this project.)
 #[derive(Clone, Copy, Debug, PartialEq, Eq)]
 pub enum Owner {
-    /// That of the replica with this id and these tables.
+    /// That of the replica with this id and these tables, or of the hub with these tables, which has no id.
     This,
-    /// Both values can be read, and are not those of this replica: another's, or none's where there is no id.
+    /// Both values can be read, and are those of another.
     Other,
     /// There is an id that is not four bytes, or there are no headers of tables of which there is a catalog.
     Unreadable,

@@ -1,4 +1,4 @@
-use Rattle.std.proofs.Common.{ap, ◌∙◌, Err, refl}
+use Rattle.std.proofs.Common.{ap, ◌∙◌, Err}
 use Rattle.std.specs.Fn.{CalledAt}
 use Rattle.cs_appending.proofs.Tries as tries
 use Rattle.cs_appending.proofs.appending.try_with.Goals as goal
