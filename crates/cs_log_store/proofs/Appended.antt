@@ -1,14 +1,12 @@
 -- A commit of the next entry shows the longer log.
-use Rattle.std.proofs.Common.{◌≡◌, ◌≢◌, ◌<◌, ◌≤◌, ◌+◌, ℕ, zero, suc, Bool, true, false, ◌&&◌, cond, List, [], ◌∷◌, ◌++◌, length, Option, Some, None, is_some, refl, sym, ap, subst, ◌∙◌, option_map, fold, arith, length-append}
+use Rattle.std.proofs.Common.{◌≡◌, ◌≢◌, ◌+◌, ℕ, zero, suc, Bool, true, false, cond, List, [], ◌∷◌, ◌++◌, length, Option, Some, None, is_some, refl, sym, ap, subst, ◌∙◌, option_map, fold, arith, length-append}
 use Rattle.std.specs.Prelude.{nat_eq, slice_get, All}
-use Rattle.std.specs.FinMap.{empty, get, len}
-use Rattle.std.specs.List.{AllByRecursion}
+use Rattle.std.specs.FinMap.{get}
 use Rattle.std.specs.Option.{unwrap_or}
 use Rattle.std.proofs.lemmas.Bool.{eq-eqb, eqb-true}
 use Rattle.std.proofs.lemmas.List.Elements.{All-append, recursion_from_All}
 use Rattle.std.proofs.lemmas.List.{take_all}
 use Rattle.std.proofs.lemmas.List.Sums.{fold-append}
-use Rattle.cs_value.specs.Catalog.{AreTables}
 use Rattle.cs_value.specs.Key.{Place}
 use Rattle.cs_value.specs.declared.catalog.TableDef.{TableDef}
 use Rattle.cs_record.specs.Spelling.{row_bytes}
@@ -18,7 +16,7 @@ use Rattle.cs_log.specs.Laws.{AppendedIsLog, LogStates}
 use Rattle.cs_log.specs.Log.{after_entry, empty_state, state_of}
 use Rattle.cs_log.specs.Stored.{IsEntryOf}
 use Rattle.cs_log.specs.declared.entry.LogEntry.{LogEntry}
-use Rattle.cs_store.specs.Contents.{Bodies, Contents, LogItem, Meta, log_count, log_entry, name_text}
+use Rattle.cs_store.specs.Contents.{Contents, LogItem, Meta, log_count, log_entry, name_text}
 use Rattle.cs_store.specs.Laws.{CountsLog, KeepsOtherRows, WritesLog, WritesRows, entry_after}
 use Rattle.cs_store.specs.Written.{after_batch, edit_body, edit_meta, optional_entry}
 use Rattle.cs_store.specs.declared.batch.Batch.{Batch}
@@ -27,7 +25,7 @@ use Rattle.cs_store.specs.declared.batch.PlaceEdit.{PlaceEdit}
 use Rattle.cs_store.specs.declared.batch.StoredEntry.{StoredEntry}
 use Rattle.cs_pending.specs.Steps.{no_place}
 use Rattle.cs_log_store.specs.Laws.{AppendShows}
-use Rattle.cs_log_store.specs.Shows.{HasEntries, HasHubValues, hub_value, item_of_entry}
+use Rattle.cs_log_store.specs.Shows.{HasEntries, item_of_entry}
 
 -- ---- the rows
 
@@ -73,8 +71,10 @@ entries_grown writes counts contents log entry batch was new = record {
   where
     some : is_some batch.log ≡ true
     some = one_there batch.log (item_of_entry entry) new
+
     free : log_entry contents (log_count contents) ≡ None
     free = was.stored (log_count contents) ∙ ap (λ (n : ℕ). option_map item_of_entry (slice_get log n)) was.counted ∙ ap (option_map item_of_entry) (none_behind log)
+
     at : (version : ℕ) (b : Bool) → nat_eq version (log_count contents) ≡ b → entry_after batch.log contents version ≡ option_map item_of_entry (slice_get (log ++ entry ∷ []) version)
     at version true test =
         let here : version ≡ length log = eqb-true version (log_count contents) test ∙ was.counted in

@@ -1,6 +1,6 @@
 -- A store of a hub without entries.
-use Rattle.std.proofs.Common.{◌≡◌, ◌≢◌, ℕ, List, [], ◌∷◌, Option, Some, None, refl, sym, ap, ◌∙◌, arith}
-use Rattle.std.specs.FinMap.{empty, get, find, from_entries, get-empty, get-from_entries, len-empty}
+use Rattle.std.proofs.Common.{◌≡◌, ◌≢◌, ℕ, List, [], ◌∷◌, None, refl, sym, ◌∙◌, arith}
+use Rattle.std.specs.FinMap.{get, find, from_entries, get-empty, get-from_entries, len-empty}
 use Rattle.std.specs.Ordering.{int_cmp}
 use Rattle.std.proofs.lemmas.Cmp.{nat_list_cmp_total}
 use Rattle.cs_order.specs.Order.{by_bytes, same_bytes}

@@ -1,0 +1,4 @@
+pub mod Hub
+pub mod Pushes
+pub mod Judged
+pub mod Laws
