@@ -1,10 +1,12 @@
-//! Tests of a hub's log over the store in memory: how it is opened (`cs_log_opening`), appended to (`cs_appending`) and read
-//! (`cs_log_reading`), by their public calls. They stand in a crate of their own since a crate with tests is proved twice. Nothing
+//! Tests of a hub's log over the store in memory: how it is opened (`cs_log_opening`), appended to (`cs_appending`), read
+//! (`cs_log_reading`) and pushed to (`cs_judging`), by their public calls. They stand in a crate of their own since a crate with tests is proved twice. Nothing
 //! stands on it.
 #![tactic(auto)]
 
 #[cfg(test)]
 mod appending;
+#[cfg(test)]
+mod judging;
 #[cfg(test)]
 mod logs;
 #[cfg(test)]
