@@ -8,6 +8,10 @@ mod appending;
 #[cfg(test)]
 mod logs;
 #[cfg(test)]
+mod memory;
+#[cfg(test)]
 mod opening;
 #[cfg(test)]
 mod reading;
+#[cfg(test)]
+mod refusing;
