@@ -10,6 +10,10 @@ mod judging;
 #[cfg(test)]
 mod logs;
 #[cfg(test)]
+mod memory;
+#[cfg(test)]
 mod opening;
 #[cfg(test)]
 mod reading;
+#[cfg(test)]
+mod refusing;
