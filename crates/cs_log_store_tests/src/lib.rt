@@ -1,6 +1,6 @@
 //! Tests of a hub's log over the store in memory: how it is opened (`cs_log_opening`), appended to (`cs_appending`), read
-//! (`cs_log_reading`) and pushed to (`cs_judging`), by their public calls. They stand in a crate of their own since a crate with tests is proved twice. Nothing
-//! stands on it.
+//! (`cs_log_reading`) and pushed to (`cs_judging`), by their public calls. They stand in a crate of their own since a crate with
+//! tests is proved twice. Nothing stands on it.
 #![tactic(auto)]
 
 #[cfg(test)]
