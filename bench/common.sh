@@ -63,21 +63,38 @@ build_program() {
         -o "$out/$name"
 }
 
+# The crates that are named, and all below them, one a line.
+crates_below() {
+    awk -v wanted="$*" '
+        /^#/ { next }
+        { name = $1; sub(/:$/, "", name); sub(/^[^:]*: */, ""); deps[name] = $0 }
+        END {
+            count = split(wanted, queue, " ")
+            for (at = 1; at <= count; at++) {
+                name = queue[at]
+                if (seen[name]++ || !(name in deps)) continue
+                print name
+                more = split(deps[name], below, " ")
+                for (k = 1; k <= more; k++) queue[++count] = below[k]
+            }
+        }' "$bench/../crates.txt"
+}
+
 # Proves and builds the Rattle program NAME.rattle of this folder, with rows.rattle where that is a module of it. It uses these crates
-# and libraries of the kit, over copies of all crates that are named behind them: build_rattle NAME "USED .." CRATE ... It is made in
-# a repository of its own outside this one, since the gate takes no source that is no crate's. A crate is copied with what its proof
-# left, so that it isn't proved again.
+# and libraries of the kit: build_rattle NAME USED ... It is made over copies of them and of all crates below, in a repository of its
+# own outside this one, since the gate takes no source that is no crate's. A crate is copied with what its proof left, so that it
+# isn't proved again.
 build_rattle() {
-    local name="$1" used="$2" work
-    shift 2
+    local name="$1" work
+    shift
     mkdir -p "$out"
     work="$(mktemp -d)"
     mkdir -p "$work/crates/$name/src"
-    for crate_below in "$@"; do
+    for crate_below in $(crates_below "$@"); do
         cp -r "$bench/../crates/$crate_below" "$work/crates/"
         grep "^$crate_below:" "$bench/../crates.txt" >> "$work/crates.txt"
     done
-    echo "$name: $used" >> "$work/crates.txt"
+    echo "$name: $*" >> "$work/crates.txt"
     cp "$bench/$name.rattle" "$work/crates/$name/src/main.rt"
     ! grep -q '^mod rows;' "$bench/$name.rattle" || cp "$bench/rows.rattle" "$work/crates/$name/src/rows.rt"
     : > "$work/crates/$name/stdin"

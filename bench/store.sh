@@ -6,8 +6,7 @@
 set -eu
 bench="$(cd "$(dirname "$0")" && pwd)"
 . "$bench/common.sh"
-build_rattle store_bench "cs_map_store cs_store" \
-    cs_change cs_changeset cs_keyed cs_log cs_map_store cs_normal cs_order cs_record cs_store cs_value cs_varint
+build_rattle store_bench cs_map_store cs_store
 rustc -O --edition 2021 -o "$out/store_plain" "$bench/store_plain.rs"
 print_machine
 "$out/store_bench" > "$out/store_times"

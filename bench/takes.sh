@@ -8,10 +8,7 @@ set -eu
 bench="$(cd "$(dirname "$0")" && pwd)"
 . "$bench/common.sh"
 need_sqlite || { echo "SQLite's library can't be had"; exit 1; }
-build_rattle takes_bench "cs_changeset cs_conflict cs_log cs_map_store cs_normal cs_replica cs_store cs_value" \
-    cs_apply cs_blob cs_change cs_changeset cs_conflict cs_group cs_keyed cs_log cs_map_store cs_normal cs_opening cs_order \
-    cs_outgoing cs_pending cs_position cs_pulling cs_pushing cs_rebaser cs_record cs_replica cs_rows cs_store cs_taking cs_value \
-    cs_varint cs_wire
+build_rattle takes_bench cs_changeset cs_conflict cs_log cs_map_store cs_normal cs_replica cs_store cs_value
 cc -O2 -Wall -Wextra $sqlite_flags "$bench/takes.c" -o "$out/takes" -lsqlite3
 print_machine_and_sqlite
 : > "$out/takes_times"
