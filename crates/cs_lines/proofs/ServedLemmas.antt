@@ -43,12 +43,12 @@ pub sent_through : (T U : Type 0) (stop : Stop) (before mid after : Type 0) → 
 sent_through T U Read before mid after so_far now = λ sent. now (so_far sent)
 sent_through T U Write before mid after so_far now = tt
 
-module _ {State : Type 0} (serves : State → List ℕ → List ℕ → State → Type 0) where
+module _ {State : Type 0} (serves : State → List ℕ → List ℕ → State → Type 0) (keeps : State → State → Type 0) where
   AnswersAll-more : (old : State) (lines answers : List (List ℕ)) (mid : State) (line answer : List ℕ) (new : State)
-      → AnswersAll serves old lines answers mid → Answers serves mid line answer new
-      → AnswersAll serves old (lines ++ line ∷ []) (answers ++ answer ∷ []) new
+      → AnswersAll serves keeps old lines answers mid → Answers serves keeps mid line answer new
+      → AnswersAll serves keeps old (lines ++ line ∷ []) (answers ++ answer ∷ []) new
   AnswersAll-more old [] [] mid line answer new before now =
-      (new, subst (λ (s : State). Answers serves s line answer new) before now, refl)
+      (new, subst (λ (s : State). Answers serves keeps s line answer new) before now, refl)
   AnswersAll-more old (l ∷ lines) (a ∷ answers) mid line answer new before now =
       (before.0, before.1, AnswersAll-more before.0 lines answers mid line answer new before.2 now)
   AnswersAll-more old [] (a ∷ answers) mid line answer new before now = absurd before
@@ -59,7 +59,7 @@ module _ {State : Type 0} (serves : State → List ℕ → List ℕ → State �
     pub lines : List (List ℕ)
     pub answers : List (List ℕ)
     pub taken : AreTaken input left lines
-    pub answered : AnswersAll serves old lines answers new
+    pub answered : AnswersAll serves keeps old lines answers new
     pub written : Appends before after (flat_map hex_line answers)
     pub counted : length lines ≡ count
 
@@ -74,7 +74,7 @@ module _ {State : Type 0} (serves : State → List ℕ → List ℕ → State �
   }
 
   pub served_more : (input left after : Option (List ℕ)) (old mid new : State) (w v u : Option (List ℕ)) (count : ℕ) (line answer : List ℕ)
-      → HasServed input left old mid w v count → TakesLine [] left after line → Answers serves mid line answer new
+      → HasServed input left old mid w v count → TakesLine [] left after line → Answers serves keeps mid line answer new
       → Appends v u (hex_line answer) → HasServed input after old new w u (count + 1)
   served_more input left after old mid new w v u count line answer has took now wrote = record {
     lines = has.lines ++ line ∷ [];
@@ -90,12 +90,12 @@ module _ {State : Type 0} (serves : State → List ℕ → List ℕ → State �
   pub served_all : (input left : Option (List ℕ)) (old mid new : State) (w v u : Option (List ℕ)) (count : ℕ)
       → HasServed input left old mid w v count → (new ≡ mid) × IsAtEnd left × (u ≡ v)
       → (lines : List (List ℕ)) × (answers : List (List ℕ)) × AreAllLines input lines
-      × AnswersAll serves old lines answers new × Appends w u (flat_map hex_line answers)
+      × AnswersAll serves keeps old lines answers new × Appends w u (flat_map hex_line answers)
   served_all input left old mid new w v u count has turn = (
     has.lines,
     has.answers,
     taken_all input left has.lines has.taken turn.1,
-    subst (λ (s : State). AnswersAll serves old has.lines has.answers s) (sym turn.0) has.answered,
+    subst (λ (s : State). AnswersAll serves keeps old has.lines has.answers s) (sym turn.0) has.answered,
     subst (λ (o : Option (List ℕ)). Appends w o (flat_map hex_line has.answers)) (sym turn.2) has.written,
   )
 
@@ -103,12 +103,12 @@ module _ {State : Type 0} (serves : State → List ℕ → List ℕ → State �
   served_front : (Failed : Type 0) (asks : ℕ) (input left after : Option (List ℕ)) (old mid new : State) (w v u : Option (List ℕ)) (count : ℕ)
       → HasServed input left old mid w v count → (new ≡ mid) × (u ≡ v) → StaysInLine left after → Failed ⊎ (count ≡ asks)
       → (lines : List (List ℕ)) × (answers : List (List ℕ)) × AreAllBefore input after lines
-      × AnswersAll serves old lines answers new × Appends w u (flat_map hex_line answers) × (Failed ⊎ (length lines ≡ asks))
+      × AnswersAll serves keeps old lines answers new × Appends w u (flat_map hex_line answers) × (Failed ⊎ (length lines ≡ asks))
   served_front Failed asks input left after old mid new w v u count has turn stays why = (
     has.lines,
     has.answers,
     (left, has.taken, stays),
-    subst (λ (s : State). AnswersAll serves old has.lines has.answers s) (sym turn.0) has.answered,
+    subst (λ (s : State). AnswersAll serves keeps old has.lines has.answers s) (sym turn.0) has.answered,
     subst (λ (o : Option (List ℕ)). Appends w o (flat_map hex_line has.answers)) (sym turn.1) has.written,
     elim why [ inl failed ↦ inl failed | inr all ↦ inr (has.counted ∙ all) ],
   )
@@ -116,15 +116,15 @@ module _ {State : Type 0} (serves : State → List ℕ → List ℕ → State �
   pub served_all_asked : (Failed : Type 0) (asks : ℕ) (input left : Option (List ℕ)) (old mid : State) (w v : Option (List ℕ)) (count : ℕ)
       → HasServed input left old mid w v count → count ≡ asks
       → (lines : List (List ℕ)) × (answers : List (List ℕ)) × AreAllBefore input left lines
-      × AnswersAll serves old lines answers mid × Appends w v (flat_map hex_line answers) × (Failed ⊎ (length lines ≡ asks))
+      × AnswersAll serves keeps old lines answers mid × Appends w v (flat_map hex_line answers) × (Failed ⊎ (length lines ≡ asks))
   served_all_asked Failed asks input left old mid w v count has all =
       served_front Failed asks input left left old mid mid w v v count has (refl, refl) (stays left) (inr all)
 
   pub stopped_reading : (Reader Writer : Type 0) (asks : ℕ) (stop : Stop) (input left after : Option (List ℕ)) (old mid new : State)
       (w v u : Option (List ℕ)) (count : ℕ) → HasServed input left old mid w v count
-      → TakesTurn (Err stop) serves mid new left after v u → HasFailed stop Reader Writer → stop ≡ Read
+      → TakesTurn (Err stop) serves keeps mid new left after v u → HasFailed stop Reader Writer → stop ≡ Read
       → (lines : List (List ℕ)) × (answers : List (List ℕ)) × AreAllBefore input after lines
-      × AnswersAll serves old lines answers new × Appends w u (flat_map hex_line answers) × (Reader ⊎ (length lines ≡ asks))
+      × AnswersAll serves keeps old lines answers new × Appends w u (flat_map hex_line answers) × (Reader ⊎ (length lines ≡ asks))
   stopped_reading Reader Writer asks Read input left after old mid new w v u count has turn failed is =
       served_front Reader asks input left after old mid new w v u count has (turn.0, turn.1) turn.2 (inl failed)
   stopped_reading Reader Writer asks Write input left after old mid new w v u count has turn failed is = absurd (cc)
@@ -132,9 +132,9 @@ module _ {State : Type 0} (serves : State → List ℕ → List ℕ → State �
   -- where the writer fails, a front of the last answer's line is written
   pub stopped_writing : (Reader Writer : Type 0) (stop : Stop) (input left after : Option (List ℕ)) (old mid new : State)
       (w v u : Option (List ℕ)) (count : ℕ) → HasServed input left old mid w v count
-      → TakesTurn (Err stop) serves mid new left after v u → HasFailed stop Reader Writer → stop ≡ Write
+      → TakesTurn (Err stop) serves keeps mid new left after v u → HasFailed stop Reader Writer → stop ≡ Write
       → (lines : List (List ℕ)) × (answers : List (List ℕ)) × AreFirstLines input lines
-      × AnswersAll serves old lines answers new × AppendsBroken w u answers × Writer
+      × AnswersAll serves keeps old lines answers new × AppendsBroken w u answers × Writer
   stopped_writing Reader Writer Read input left after old mid new w v u count has turn failed is = absurd (cc)
   stopped_writing Reader Writer Write input left after old mid new w v u count has turn failed is =
       let line = turn.0 in

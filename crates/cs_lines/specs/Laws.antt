@@ -31,19 +31,19 @@ HasOneAnswer {State} serves old = (request one other : List ℕ) (new next : Sta
     → serves old request one new → serves old request other next → (one ≡ other) × (new ≡ next)
 
 -- so it is at each state at which one of these lines can be answered
-abbrev pub HasOneAnswerAlong : {State : Type 0} → (State → List ℕ → List ℕ → State → Type 0)
+abbrev pub HasOneAnswerAlong : {State : Type 0} → (State → List ℕ → List ℕ → State → Type 0) → (State → State → Type 0)
     → State → List (List ℕ) → Type 0
-HasOneAnswerAlong serves old [] = Unit {0}
-HasOneAnswerAlong {State} serves old (line ∷ lines) = HasOneAnswer serves old
-    × ((answer : List ℕ) (mid : State) → Answers serves old line answer mid → HasOneAnswerAlong serves mid lines)
+HasOneAnswerAlong serves stays old [] = Unit {0}
+HasOneAnswerAlong {State} serves stays old (line ∷ lines) = HasOneAnswer serves old
+    × ((answer : List ℕ) (mid : State) → Answers serves stays old line answer mid → HasOneAnswerAlong serves stays mid lines)
 
 -- no line was refused for want of memory
 abbrev pub AreInMemory : List (List ℕ) → Type 0
 AreInMemory answers = AllByRecursion (λ answer. answer ≢ no_memory) answers
 
 -- two lists of answers to the same lines, in which memory was never wanting, are the same, and so are the states
-abbrev pub OneRun : {State : Type 0} → (State → List ℕ → List ℕ → State → Type 0) → Type 0
-OneRun {State} serves = (old new next : State) (lines ones others : List (List ℕ))
-    → HasOneAnswerAlong serves old lines → AreInMemory ones → AreInMemory others
-    → AnswersAll serves old lines ones new → AnswersAll serves old lines others next
+abbrev pub OneRun : {State : Type 0} → (State → List ℕ → List ℕ → State → Type 0) → (State → State → Type 0) → Type 0
+OneRun {State} serves stays = (old new next : State) (lines ones others : List (List ℕ))
+    → HasOneAnswerAlong serves stays old lines → AreInMemory ones → AreInMemory others
+    → AnswersAll serves stays old lines ones new → AnswersAll serves stays old lines others next
     → (ones ≡ others) × (new ≡ next)

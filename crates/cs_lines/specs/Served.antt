@@ -19,20 +19,24 @@ abbrev pub AnswersDecoded : {State : Type 0} → (State → List ℕ → List �
 AnswersDecoded serves old (Ok request) answer new = serves old request answer new
 AnswersDecoded serves old (Err fault) answer new = (answer ≡ not_hex) × (new ≡ old)
 
--- a line is answered by what it decodes to, or refused for memory, which changes nothing
-abbrev pub Answers : {State : Type 0} → (State → List ℕ → List ℕ → State → Type 0)
+-- the server is as it was where memory ran out: it wasn't asked, or it says in which way it stays
+abbrev pub IsLeft : {State : Type 0} → (State → State → Type 0) → State → State → Type 0
+IsLeft stays old new = (new ≡ old) ⊎ stays old new
+
+-- a line is answered by what it decodes to, or refused for memory, which leaves the server
+abbrev pub Answers : {State : Type 0} → (State → List ℕ → List ℕ → State → Type 0) → (State → State → Type 0)
     → State → List ℕ → List ℕ → State → Type 0
-Answers serves old line answer new =
-    AnswersDecoded serves old (decode_of line) answer new ⊎ ((answer ≡ no_memory) × (new ≡ old))
+Answers serves stays old line answer new =
+    AnswersDecoded serves old (decode_of line) answer new ⊎ ((answer ≡ no_memory) × IsLeft stays old new)
 
 -- the lines get these answers, one after another
-abbrev pub AnswersAll : {State : Type 0} → (State → List ℕ → List ℕ → State → Type 0)
+abbrev pub AnswersAll : {State : Type 0} → (State → List ℕ → List ℕ → State → Type 0) → (State → State → Type 0)
     → State → List (List ℕ) → List (List ℕ) → State → Type 0
-AnswersAll serves old [] [] new = new ≡ old
-AnswersAll {State} serves old (line ∷ lines) (answer ∷ answers) new =
-    (mid : State) × Answers serves old line answer mid × AnswersAll serves mid lines answers new
-AnswersAll serves old [] (answer ∷ answers) new = ⊥
-AnswersAll serves old (line ∷ lines) [] new = ⊥
+AnswersAll serves stays old [] [] new = new ≡ old
+AnswersAll {State} serves stays old (line ∷ lines) (answer ∷ answers) new =
+    (mid : State) × Answers serves stays old line answer mid × AnswersAll serves stays mid lines answers new
+AnswersAll serves stays old [] (answer ∷ answers) new = ⊥
+AnswersAll serves stays old (line ∷ lines) [] new = ⊥
 
 -- these are all lines of the input, where its bytes are known
 abbrev pub AreAllLines : Option (List ℕ) → List (List ℕ) → Type 0

@@ -12,17 +12,17 @@ use Rattle.cs_lines.specs.Writing.{AppendsFront}
 
 -- a line was taken and answered, and its answer written, or a front of it where the writer failed; at the input's end
 -- and where the reader failed nothing happened but that a part of the line is gone
-abbrev pub TakesTurn : {State : Type 0} → Result Turn Stop → (State → List ℕ → List ℕ → State → Type 0) → State
-    → State → Option (List ℕ) → Option (List ℕ) → Option (List ℕ) → Option (List ℕ) → Type 0
-TakesTurn (Ok Answered) serves old new input rest before after =
+abbrev pub TakesTurn : {State : Type 0} → Result Turn Stop → (State → List ℕ → List ℕ → State → Type 0) → (State → State → Type 0)
+    → State → State → Option (List ℕ) → Option (List ℕ) → Option (List ℕ) → Option (List ℕ) → Type 0
+TakesTurn (Ok Answered) serves stays old new input rest before after =
     (line : List ℕ) × (answer : List ℕ) × TakesLine [] input rest line
-    × Answers serves old line answer new × Appends before after (hex_line answer)
-TakesTurn (Ok Ended) serves old new input rest before after =
+    × Answers serves stays old line answer new × Appends before after (hex_line answer)
+TakesTurn (Ok Ended) serves stays old new input rest before after =
     (new ≡ old) × IsAtEnd input × (after ≡ before)
-TakesTurn (Err Read) serves old new input rest before after = (new ≡ old) × (after ≡ before) × StaysInLine input rest
-TakesTurn (Err Write) serves old new input rest before after =
+TakesTurn (Err Read) serves stays old new input rest before after = (new ≡ old) × (after ≡ before) × StaysInLine input rest
+TakesTurn (Err Write) serves stays old new input rest before after =
     (line : List ℕ) × (answer : List ℕ) × TakesLine [] input rest line
-    × Answers serves old line answer new × AppendsFront before after (hex_line answer)
+    × Answers serves stays old line answer new × AppendsFront before after (hex_line answer)
 
 -- the side that stopped the run has failed
 abbrev pub HasFailed : Stop → Type 0 → Type 0 → Type 0

@@ -21,5 +21,5 @@ pub fn most_asks()
 
 /// Where each request has one answer, a run's lines have one list of answers, up to want of memory.
 pub fn one_run<S: Serve>(_server: &S)
-    ensures { OneRun S.serves }
+    ensures { OneRun S.serves S.stays }
 {}

@@ -24,10 +24,13 @@ pub trait Serve {
     // The state, a request, the answer, and the state after it.
     ghost serves: { Self → List ℕ → List ℕ → Self → Type 0 };
 
+    // The state before a request for which memory was refused, and the state after it, which a caller can't tell from it.
+    ghost stays: { Self → Self → Type 0 };
+
     /// Answers one request. Where memory is refused, the server is as it was.
     fn serve(&mut self, request: &[u8]) -> Result<Vec<u8>, Memory>
         ensures served { IfOk result (λ answer. serves self.old request.now answer.items self.new) }
-        ensures refused { OnErr result (self.new ≡ self.old) };
+        ensures refused { OnErr result (stays self.old self.new) };
 }
 
 /// What ended a run before its input's end.
@@ -61,20 +64,20 @@ pub fn serve_lines<S: Serve, R: LineInput, W: LineOutput>(
     // All lines were answered.
     ensures served { OnOk result ((lines : List (List ℕ)) × (answers : List (List ℕ))
         × AreAllLines (R.remaining reader.old) lines
-        × AnswersAll S.serves server.old lines answers server.new
+        × AnswersAll S.serves S.stays server.old lines answers server.new
         × Appends (W.contents writer.old) (W.contents writer.new) (flat_map hex_line answers)) }
 
     // The reader failed within a line, or gave a whole run's lines: each line before was answered.
     ensures read { IfErr result (λ stop. stop ≡ Stop.Read → (lines : List (List ℕ)) × (answers : List (List ℕ))
         × AreAllBefore (R.remaining reader.old) (R.remaining reader.new) lines
-        × AnswersAll S.serves server.old lines answers server.new
+        × AnswersAll S.serves S.stays server.old lines answers server.new
         × Appends (W.contents writer.old) (W.contents writer.new) (flat_map hex_line answers)
         × (R.failed reader.new ⊎ (length lines ≡ ASKS))) }
 
     // The writer failed, within the answer to the last line that was taken.
     ensures write { IfErr result (λ stop. stop ≡ Stop.Write → (lines : List (List ℕ)) × (answers : List (List ℕ))
         × AreFirstLines (R.remaining reader.old) lines
-        × AnswersAll S.serves server.old lines answers server.new
+        × AnswersAll S.serves S.stays server.old lines answers server.new
         × AppendsBroken (W.contents writer.old) (W.contents writer.new) answers
         × W.failed writer.new) }
 
@@ -98,7 +101,7 @@ fn serve_line<S: Serve, R: LineInput, W: LineOutput>(
     writer: &mut W,
     line: &mut Vec<u8>,
 ) -> Result<Turn, Stop>
-    ensures turn { TakesTurn result S.serves server.old server.new
+    ensures turn { TakesTurn result S.serves S.stays server.old server.new
         (R.remaining reader.old) (R.remaining reader.new) (W.contents writer.old) (W.contents writer.new) }
     ensures sent { StaysSent result (W.sent writer.old) (W.sent writer.new) }
     ensures failed { IfErr result (λ stop. HasFailed stop (R.failed reader.new) (W.failed writer.new)) }
@@ -132,7 +135,7 @@ fn send<W: LineOutput>(writer: &mut W, reply: &Reply) -> Result<Turn, Stop>
 
 // Answers one line. Where memory runs out, the server stays.
 fn answer_line<S: Serve>(alloc: Global, server: &mut S, line: &[u8]) -> Reply
-    ensures { Answers S.serves server.old line.now (bytes_of result) server.new }
+    ensures { Answers S.serves S.stays server.old line.now (bytes_of result) server.new }
 {
     match hex::decode(alloc, line) {
         Ok(request) => match server.serve(&request) {

@@ -17,6 +17,8 @@ struct Counter {
 impl Serve for Counter {
     ghost serves = { λ old request answer new. Unit {0} };
 
+    ghost stays = { λ old new. Unit {0} };
+
     fn serve(&mut self, request: &[u8]) -> Result<Vec<u8>, Memory> {
         let mut answer = Vec::with_capacity(self.alloc, request.len())?;
         answer.push(self.served)?;

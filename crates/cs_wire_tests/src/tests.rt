@@ -1,10 +1,6 @@
 //! Messages beside bytes that were written by hand.
 
-ghost use Rattle.std.specs.Prelude.{IfOk};
-ghost use Rattle.cs_wire.specs.Told.{FitsMessage};
-
-use cs_log::{LogEntry, read_body};
-use cs_value::{Catalog, Items, Memory, TableDef, Text};
+use cs_value::Memory;
 use cs_wire::*;
 use std::alloc::Global;
 use std::test::Fail;
@@ -253,34 +249,11 @@ fn faults_of_answers(rt: HostRuntime) {
     assert!(rt; is_no_answer(&PUSH, WireFault::BadTag));
 }
 
-/// A catalog of one table `t1` of two columns, of which the first is the key.
-fn catalog_of_t1(alloc: Global) -> Result<Catalog, Fail> {
-    let name = Text::from_string(String::from_str(alloc, "t1")?);
-    let key_marks = Items::from_vec(vec![in alloc; true, false]?);
-    let mut tables = Vec::new(alloc);
-    tables.push(TableDef { name, key_marks })?;
-    Ok(Catalog::new(tables)?)
-}
-
-/// The push above as an entry of a log.
-fn log_entry(alloc: Global) -> Result<LogEntry, Fail>
-    ensures { IfOk result FitsMessage }
-{
-    let mut stored = Vec::new(alloc);
-    stored.push(0)?;
-    stored.extend_from_slice(&PUSH[25..])?;
-    let body = read_body(alloc, &catalog_of_t1(alloc)?, &stored)?;
-    Ok(LogEntry {
-        origin: 7,
-        number: 1,
-        body,
-    })
-}
-
-/// The answer that tells the push above out of a log.
+/// The answer that tells the push above as the one entry of a log.
 fn told_of_log(alloc: Global) -> Result<Vec<u8>, Fail> {
-    let entries = [log_entry(alloc)?];
-    Ok(entries_answer(alloc, 0, &entries)?)
+    let mut answer = entries_head(alloc, 0, 1)?;
+    put_entry(0, 7, 1, &PUSH[25..], &mut answer)?;
+    Ok(answer)
 }
 
 #[test]

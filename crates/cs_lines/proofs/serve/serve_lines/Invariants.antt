@@ -4,6 +4,6 @@ use Rattle.cs_lines.proofs.serve.serve_lines.Given as goal
 
 abbrev pub invariant-loop-asked : goal.invariant-loop-asked
 invariant-loop-asked g l =
-    HasServed g.S.Serve.serves (g.R.Read.remaining l.initial.reader) (g.R.Read.remaining l.reader) l.initial.server
+    HasServed g.S.Serve.serves g.S.Serve.stays (g.R.Read.remaining l.initial.reader) (g.R.Read.remaining l.reader) l.initial.server
     l.server (g.W.Write.contents l.initial.writer) (g.W.Write.contents l.writer) l.asked
     × (g.W.LineOutput.sent l.initial.writer → g.W.LineOutput.sent l.writer)
