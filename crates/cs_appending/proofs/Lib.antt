@@ -1,3 +1,4 @@
 pub mod First
 pub mod Tries
 pub mod Batches
+pub mod Found

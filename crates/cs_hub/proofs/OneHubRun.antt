@@ -4,17 +4,18 @@ use Rattle.std.specs.Prelude.{Result, Ok, Err}
 use Rattle.cs_value.specs.Catalog.{AreTables}
 use Rattle.cs_value.specs.declared.catalog.TableDef.{TableDef}
 use Rattle.cs_change.specs.declared.group.Group.{Group}
-use Rattle.cs_lines.specs.Laws.{HasOneAnswerAlong, OneRun}
+use Rattle.cs_lines.specs.Laws.{HasOneAnswerAlong}
+use Rattle.cs_lines.specs.OneRun as once_run
 use Rattle.cs_lines.specs.Served.{Answers, AnswersDecoded}
-use Rattle.cs_hub.specs.Hub.{HubState, fresh}
+use Rattle.cs_judging.specs.Hub.{HubState, fresh}
+use Rattle.cs_judging.specs.Pushes.{Push, Pushes}
+use Rattle.cs_judging.specs.declared.fault.HubFault.{HubFault}
+use Rattle.cs_judging.specs.declared.push.Pushed.{Pushed}
 use Rattle.cs_hub.specs.Laws.{OneHubRun, OneService}
 use Rattle.cs_wire.specs.Requests.{Asked, AsksPush, AsksPull}
 use Rattle.cs_wire.specs.declared.fault.WireFault.{WireFault}
-use Rattle.cs_hub.specs.Pushes.{Push, Pushes}
-use Rattle.cs_hub.specs.Serves.{AnswersAsked, Outcome, Serves, TakesBytes, TakesGroups}
-use Rattle.cs_hub.specs.declared.fault.HubFault.{HubFault}
+use Rattle.cs_hub.specs.Serves.{AnswersAsked, IsSame, Outcome, Serves, TakesBytes, TakesGroups}
 use Rattle.cs_wire.specs.declared.push_head.PushHead.{PushHead}
-use Rattle.cs_hub.specs.declared.push.Pushed.{Pushed}
 
 same_catalog : (old new : HubState) → new ≡ old → new.opening ≡ old.opening
 same_catalog old new same = ap (λ (hub : HubState). hub.opening) same
@@ -46,17 +47,18 @@ decoded_keeps : (limit : ℕ) (old new : HubState) (decoded : Result (List ℕ) 
 decoded_keeps limit old new (Ok request) answer (asked, asks, p) = asked_keeps limit old new asked answer p
 decoded_keeps limit old new (Err fault) answer (a, s) = same_catalog old new s
 
-answer_keeps : (limit : ℕ) (old new : HubState) (line answer : List ℕ) → Answers (Serves limit) old line answer new → new.opening ≡ old.opening
+answer_keeps : (limit : ℕ) (old new : HubState) (line answer : List ℕ) → Answers (Serves limit) IsSame old line answer new → new.opening ≡ old.opening
 answer_keeps limit old new line answer (inl served) = decoded_keeps limit old new _ answer served
-answer_keeps limit old new line answer (inr (a, s)) = same_catalog old new s
+answer_keeps limit old new line answer (inr (a, inl s)) = same_catalog old new s
+answer_keeps limit old new line answer (inr (a, inr s)) = same_catalog old new s
 
-along : OneService → (limit : ℕ) (old : HubState) (lines : List (List ℕ)) → AreTables old.opening → HasOneAnswerAlong (Serves limit) old lines
+along : OneService → (limit : ℕ) (old : HubState) (lines : List (List ℕ)) → AreTables old.opening → HasOneAnswerAlong (Serves limit) IsSame old lines
 along once limit old [] are = tt
 along once limit old (line ∷ lines) are = (
   λ request one other new next first second. once limit old new next request one other are first second,
   λ answer mid served. along once limit mid lines (subst (λ (c : List TableDef). AreTables c) (sym (answer_keeps limit old mid line answer served)) are),
 )
 
-pub one_hub_run : OneService → (limit : ℕ) → OneRun (Serves limit) → OneHubRun limit
-one_hub_run once limit run tables new last lines ones others are here there first second =
-    run (fresh tables) new last lines ones others (along once limit (fresh tables) lines are) here there first second
+pub one_hub_run : OneService → (limit : ℕ) → OneHubRun limit
+one_hub_run once limit tables new last lines ones others are here there first second =
+    once_run.one_run (Serves limit) IsSame (fresh tables) new last lines ones others (along once limit (fresh tables) lines are) here there first second

@@ -7,13 +7,14 @@ use Rattle.cs_changeset.specs.Laws.{ChangesetLaws}
 use Rattle.cs_normal.specs.Laws.{NoFaultWhereFit, OneNormalForm, OneUnfit}
 use Rattle.cs_normal.specs.declared.unfit.Unfit.{Unfit}
 use Rattle.cs_normal.specs.declared.normal.TableChanges.{TableChanges}
-use Rattle.cs_hub.specs.Hub.{HubState}
+use Rattle.cs_judging.specs.Hub.{HubState}
+use Rattle.cs_judging.specs.Laws.{OneAnswer}
+use Rattle.cs_judging.specs.Pushes.{Push}
 use Rattle.cs_wire.specs.Laws.{OneRequest}
-use Rattle.cs_hub.specs.Laws.{OneAnswer, OneService}
+use Rattle.cs_hub.specs.Laws.{OneService}
 use Rattle.cs_wire.specs.Requests.{Asked, AsksPush, AsksPull}
 use Rattle.cs_wire.specs.Answers.{answer_spelling}
 use Rattle.cs_wire.specs.declared.fault.WireFault.{WireFault}
-use Rattle.cs_hub.specs.Pushes.{Push}
 use Rattle.cs_hub.specs.Serves.{AnswersAsked, Outcome, TakesBytes, TakesGroups, TakesNormal, or_refusal, push_answer}
 use Rattle.cs_wire.specs.declared.push_head.PushHead.{PushHead}
 use Rattle.cs_hub.specs.declared.refusal.Refusal.{Refusal}

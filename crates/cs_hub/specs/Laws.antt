@@ -1,25 +1,28 @@
--- The laws of pushes and what a hub answers.
-use Rattle.std.specs.Prelude.{◌≡◌, ℕ, List, Result}
+-- The laws of what a hub answers.
+use Rattle.std.specs.Prelude.{◌≡◌, ◌<◌, ◌-◌, ◌^◌, ℕ, List, [], length}
 use Rattle.cs_varint.specs.Bytes.{AreBytes}
 use Rattle.cs_value.specs.Catalog.{AreTables}
 use Rattle.cs_value.specs.declared.catalog.TableDef.{TableDef}
 use Rattle.cs_lines.specs.Laws.{AreInMemory}
 use Rattle.cs_lines.specs.Served.{AnswersAll}
-use Rattle.cs_log.specs.Log.{IsLog}
-use Rattle.cs_log.specs.Stored.{AreChangesOf}
-use Rattle.cs_hub.specs.Hub.{HubState, fresh, judging}
-use Rattle.cs_hub.specs.Pushes.{Push, Pushes}
-use Rattle.cs_hub.specs.Serves.{Serves}
-use Rattle.cs_hub.specs.declared.fault.HubFault.{HubFault}
-use Rattle.cs_hub.specs.declared.push.Pushed.{Pushed}
+use Rattle.cs_log.specs.declared.entry.LogEntry.{LogEntry}
+use Rattle.cs_store.specs.Contents.{Contents, nothing}
+use Rattle.cs_log_store.specs.Shows.{ShowsLog}
+use Rattle.cs_log_opening.specs.Opens.{IsHubAt}
+use Rattle.cs_judging.specs.Hub.{HubState, fresh}
+use Rattle.cs_judging.specs.Judged.{hub_of}
+use Rattle.cs_judging.specs.Laws.{IsOfHub}
+use Rattle.cs_hub.specs.Calls.{AnswersHub, StaysHub}
+use Rattle.cs_hub.specs.Holding.{Holding, Shows}
+use Rattle.cs_hub.specs.Serves.{IsSame, Serves}
 
--- a push has one answer, and leaves one hub
-abbrev pub OneAnswer : Type 0
-OneAnswer =
-    (limit : ℕ) (old new last : HubState) (push : Push) (one other : Result Pushed HubFault)
-    → Pushes limit old push one new
-    → Pushes limit old push other last
-    → (one ≡ other) × (new ≡ last)
+-- what is opened shows the log that the store showed, or no entry where it held nothing
+abbrev pub OpenedShows : Type 0
+OpenedShows =
+    (opening : List TableDef) (old new : Contents) (count : ℕ)
+    → IsHubAt opening old new count
+    → (old ≡ nothing → ShowsLog opening new [] × (count ≡ 0))
+    × ((log : List LogEntry) → ShowsLog opening old log → AreTables opening → ShowsLog opening new log × (count ≡ length log))
 
 -- a request has one answer, and leaves one hub
 abbrev pub OneService : Type 0
@@ -37,24 +40,9 @@ OneHubRun limit =
     → AreTables tables
     → AreInMemory ones
     → AreInMemory others
-    → AnswersAll (Serves limit) (fresh tables) lines ones new
-    → AnswersAll (Serves limit) (fresh tables) lines others last
+    → AnswersAll (Serves limit) IsSame (fresh tables) lines ones new
+    → AnswersAll (Serves limit) IsSame (fresh tables) lines others last
     → (ones ≡ others) × (new ≡ last)
-
--- ---- there is an answer
-
--- a state that a hub can be in
-pub record IsOfHub (hub : HubState) : Type 0 where
-  pub tables : AreTables hub.opening
-  pub log : IsLog hub.opening hub.log
-
--- a push has an answer
-abbrev pub PushHasAnswer : Type 0
-PushHasAnswer =
-    (limit : ℕ) (old : HubState) (push : Push)
-    → IsOfHub old
-    → AreChangesOf (judging old push.head.base) push.changes
-    → (answer : Result Pushed HubFault) × (new : HubState) × Pushes limit old push answer new
 
 -- a request has an answer, whatever its bytes
 abbrev pub RequestHasAnswer : Type 0
@@ -63,3 +51,16 @@ RequestHasAnswer =
     → IsOfHub old
     → AreBytes request
     → (answer : List ℕ) × (new : HubState) × Serves limit old request answer new
+
+-- lines that are answered over a store that never fails, but where what it gives was misread, are answered by the log that the store
+-- showed, and the store shows the log after them
+abbrev pub RunsByLog : {S : Type 0} → (S → Type 0) → (S → Contents) → (S → ℕ) → (S → Contents → Type 0) → (S → ℕ) → Type 0
+RunsByLog {S} honest contents failed may_leave misreads =
+    (limit : ℕ) (old new : Holding S) (log : List LogEntry) (lines answers : List (List ℕ))
+    → ((store : S) → failed store ≡ misreads store)
+    → failed old.store < 2 ^ 64 - 1
+    → honest new.store
+    → Shows contents old log
+    → AnswersAll (AnswersHub honest contents failed may_leave misreads limit) (StaysHub honest contents failed may_leave misreads) old lines answers new
+    → (end : List LogEntry) × AnswersAll (Serves limit) IsSame (hub_of old.catalog log) lines answers (hub_of old.catalog end)
+    × Shows contents new end

@@ -1,8 +1,6 @@
-pub mod Hub
-pub mod Laws
-pub mod Pushes
 pub mod Refusals
-pub mod Rows
 pub mod Serves
-pub mod Sound
-pub mod Staged
+pub mod Holding
+pub mod Calls
+pub mod Steps
+pub mod Laws

@@ -6,8 +6,8 @@ use Rattle.cs_changeset.specs.declared.fault.CodecFault.TheVariants as codec
 use Rattle.cs_normal.specs.Codes.{unfit_code}
 use Rattle.cs_normal.specs.declared.unfit.Unfit.{Unfit}
 use Rattle.cs_normal.specs.declared.unfit.Unfit.TheVariants as unfit
-use Rattle.cs_hub.specs.declared.fault.HubFault.{HubFault}
-use Rattle.cs_hub.specs.declared.fault.HubFault.TheVariants as hub
+use Rattle.cs_judging.specs.declared.fault.HubFault.{HubFault}
+use Rattle.cs_judging.specs.declared.fault.HubFault.TheVariants as hub
 use Rattle.cs_hub.specs.declared.refusal.Refusal.{Refusal}
 use Rattle.cs_hub.specs.declared.refusal.Refusal.TheVariants.{Memory, NoRequest, NoChangeset, NoForm, ByHub}
 use Rattle.cs_wire.specs.Codes.{wire_code}
@@ -16,9 +16,10 @@ use Rattle.cs_wire.specs.Codes.{wire_code}
 abbrev pub hub_code : HubFault → ℕ
 hub_code hub.Memory = 1
 hub_code hub.Ahead = 40
-hub_code hub.Conflict = 41
+hub_code (hub.Conflict conflict) = 41
 hub_code hub.Empty = 42
 hub_code hub.Full = 43
+hub_code hub.Device = 44
 
 -- all of them: those of bytes that spell no request, of a changeset and of its form are these faults' own; a line that is no
 -- hex is 22, and want of memory 1: these are told by whoever reads the lines
@@ -45,6 +46,7 @@ refusal_of_unfit unfit.KeyTwice = NoForm unfit.KeyTwice
 abbrev pub refusal_of_hub : HubFault → Refusal
 refusal_of_hub hub.Memory = Memory
 refusal_of_hub hub.Ahead = ByHub hub.Ahead
-refusal_of_hub hub.Conflict = ByHub hub.Conflict
+refusal_of_hub (hub.Conflict conflict) = ByHub (hub.Conflict conflict)
 refusal_of_hub hub.Empty = ByHub hub.Empty
 refusal_of_hub hub.Full = ByHub hub.Full
+refusal_of_hub hub.Device = ByHub hub.Device

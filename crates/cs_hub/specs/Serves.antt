@@ -8,13 +8,13 @@ use Rattle.cs_change.specs.Spelling.{FitsChangeset, changeset_spelling}
 use Rattle.cs_change.specs.declared.group.Group.{Group}
 use Rattle.cs_changeset.specs.Reading.{IsChangesetFault}
 use Rattle.cs_changeset.specs.declared.fault.Fault.{Fault}
-use Rattle.cs_hub.specs.Hub.{HubState, entries_from, judging}
-use Rattle.cs_hub.specs.Pushes.{Push, Pushes}
+use Rattle.cs_judging.specs.Hub.{HubState, entries_from, judging}
+use Rattle.cs_judging.specs.Pushes.{Push, Pushes}
+use Rattle.cs_judging.specs.declared.fault.HubFault.{HubFault}
+use Rattle.cs_judging.specs.declared.fault.HubFault.TheVariants.{Ahead, Device}
+use Rattle.cs_judging.specs.declared.push.Pushed.{Pushed}
+use Rattle.cs_judging.specs.declared.push.Pushed.TheVariants as pushed
 use Rattle.cs_hub.specs.Refusals.{refusal_of_hub, refusal_code}
-use Rattle.cs_hub.specs.declared.fault.HubFault.{HubFault}
-use Rattle.cs_hub.specs.declared.fault.HubFault.TheVariants.{Ahead}
-use Rattle.cs_hub.specs.declared.push.Pushed.{Pushed}
-use Rattle.cs_hub.specs.declared.push.Pushed.TheVariants as pushed
 use Rattle.cs_hub.specs.declared.refusal.Refusal.{Refusal}
 use Rattle.cs_hub.specs.declared.refusal.Refusal.TheVariants.{Memory, NoRequest, NoChangeset, NoForm, ByHub}
 use Rattle.cs_wire.specs.Answers.{answer_spelling}
@@ -55,11 +55,6 @@ TakesBytes limit old head changeset outcome new =
     ⊎ ((groups : List Group) × FitsChangeset groups × (changeset ≡ changeset_spelling groups)
     × TakesGroups limit old head groups outcome new)
 
--- the same, or want of memory, which changes nothing
-abbrev pub TakesBytesIf : ℕ → HubState → PushHead → List ℕ → Outcome → HubState → Type 0
-TakesBytesIf limit old head changeset (Err Memory) new = new ≡ old
-TakesBytesIf limit old head changeset outcome new = TakesBytes limit old head changeset outcome new
-
 -- the answer that tells what became of a push
 abbrev pub push_answer : PushHead → Outcome → Answer
 push_answer head (Ok (pushed.Accepted version)) = Short (Accepted head.origin head.number version)
@@ -85,3 +80,12 @@ AnswersAsked limit old (Ok (AsksPush head changeset)) bytes new =
 abbrev pub Serves : ℕ → HubState → List ℕ → List ℕ → HubState → Type 0
 Serves limit old request answer new =
     (asked : Result Asked WireFault) × ReadsRequest request asked × AnswersAsked limit old asked answer new
+
+-- the same over a store whose device may fail: then that is told, and nothing has changed
+abbrev pub ServesIf : Type 0 → ℕ → HubState → List ℕ → List ℕ → HubState → Type 0
+ServesIf device_failed limit old request answer new =
+    Serves limit old request answer new ⊎ (device_failed × (answer ≡ refused (ByHub Device)) × (new ≡ old))
+
+-- a hub that is as it was
+abbrev pub IsSame : HubState → HubState → Type 0
+IsSame old new = new ≡ old

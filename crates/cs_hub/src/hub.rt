@@ -1,148 +1,182 @@
-//! The hub's log and tables, and what it answers.
+//! The hub over any store, and what it answers.
 
-ghost use Rattle.std.specs.Prelude.{◌≡◌, ◌↔◌, IsTrue};
-ghost use Rattle.cs_hub.specs.Pushes.{entry_of_push};
+ghost use Rattle.std.specs.Prelude.{◌≡◌, ◌≤◌, [], List, Some, IfErr, IfOk, MatchResult, OnErr, Ok, Err, length, slice_get};
+ghost use Rattle.cs_log.specs.Log.{state_of};
+ghost use Rattle.cs_log.specs.declared.entry.LogEntry.{LogEntry as Entry};
+ghost use Rattle.cs_log.specs.declared.entry.TheConstants.{MAX_CHANGESET};
+ghost use Rattle.cs_log_opening.specs.Opens.{IsHubAt, IsHubFault, IsSameOrFirst};
+ghost use Rattle.cs_log_store.specs.Shows.{ShowsLog};
+ghost use Rattle.cs_normal.specs.Normal.{FitsCatalog, normal_spelling};
+ghost use Rattle.cs_opening.specs.declared.fault.OpenFault.TheVariants as opening;
+ghost use Rattle.cs_pending.specs.Calls.{ReadsStore, WritesStore};
+ghost use Rattle.cs_rows.specs.Rows.{AreRowsOf};
+ghost use Rattle.cs_store.specs.Contents.{nothing};
+ghost use Rattle.cs_store.specs.declared.fault.StoreFault.TheVariants as stored;
+ghost use Rattle.cs_value.specs.Catalog.{AreTables};
+ghost use Rattle.cs_value.specs.declared.catalog.TableDef.{TableDef as Table};
+ghost use Rattle.cs_judging.specs.Hub.{entries_from};
+ghost use Rattle.cs_judging.specs.Judged.{IsSameOrAppended};
+ghost use Rattle.cs_judging.specs.Pushes.{Push};
+ghost use Rattle.cs_judging.specs.declared.fault.HubFault.TheVariants.{Device};
+ghost use Rattle.cs_hub.specs.Calls.{AnswersHub, IsEntriesFault, ServesStore, StaysHub};
+ghost use Rattle.cs_hub.specs.Holding.{Shows, ShowsSome};
+ghost use Rattle.cs_hub.specs.Steps.{IsPushedOf};
 
-use crate::fault::HubFault;
-use crate::push::Pushed;
 use crate::refusal::Refusal;
-use crate::rows::RowAtKey;
-use crate::tables::Tables;
-use cs_changeset::read;
-use cs_log::laws::{appended_is_log, empty_is_log};
-use cs_log::{Body, LogEntry, MAX_CHANGESET};
-use cs_normal::{Normal, normalise};
+use crate::serving::{pull_at, push_told, refuse};
+use crate::taking::push_counted;
+use cs_judging::{HubFault, Pushed};
+use cs_log::LogEntry;
+use cs_log_opening::open_log;
+use cs_log_reading::entries_at;
+use cs_normal::Normal;
+use cs_opening::OpenFault;
+use cs_rows::{RowAtKey, rows_of};
+use cs_store::{RowStore, StoreFault};
 use cs_value::{Catalog, Memory, TableDef};
-use cs_wire::{PushHead, Request, SHORT, ShortAnswer, entries_answer};
-use std::alloc::{AllocError, Global};
+use cs_wire::{PushHead, Request};
+use std::alloc::Global;
 use std::marker::Model;
 
 /// The most entries of the log. (Profile of this project.)
-pub const MAX_ENTRIES: usize = 4096;
+pub const MAX_ENTRIES: u32 = 4096;
 
-/// An append-only log of accepted pushes, and the tables that it makes. Contracts see the tables that it opened with and the log. (Profile
+/// An append-only log of accepted pushes, and the rows that it makes, in a store. Contracts see it as what it holds: the store, the
+/// tables that it opened with, and how many entries the log has. What they say of the log they say where the store shows one. (Profile
 /// of this project.)
 #[derive(Drop)]
-pub struct Hub {
+pub struct Hub<S: RowStore> {
     alloc: Global,
+    store: S,
     catalog: Catalog,
-    tables: Tables,
-    log: Vec<LogEntry>,
+    newest: u32,
 }
 
-impl Model for Hub {
-    ghost use Rattle.cs_hub.specs.Hub.{HubState};
-    ghost use Rattle.cs_hub.specs.Sound.{IsSound};
+impl<S: RowStore> Model for Hub<S> {
+    ghost use Rattle.cs_hub.specs.Holding.{Holding};
 
-    ghost Value = { HubState };
+    ghost Value = { Holding S };
 
-    ghost view = { λ hub. record { opening = hub.catalog; log = hub.log.items } };
-
-    ghost invariant = { λ hub. IsSound hub.catalog hub.log.items hub.tables };
+    ghost view = { λ hub. record { store = hub.store; catalog = hub.catalog; newest = hub.newest } };
 }
 
-/// Whether the entry is this push.
-fn is_push(entry: &LogEntry, head: PushHead, changes: &Normal) -> bool
-    ensures { IsTrue result ↔ (entry.now ≡ entry_of_push (record { head = head; changes = changes.now })) }
-{
-    let Body::Changes(kept) = &entry.body;
-    entry.origin == head.origin && entry.number == head.number && kept.same(changes)
-}
-
-impl Hub {
-    ghost use Rattle.std.specs.Prelude.{◌≡◌, ◌↔◌, ◌≤◌, ◌<◌, ◌+◌, ◌≢◌, All, ℕ, List, [], Some, Ok, IsTrue, IfOk, OnErr, MatchResult, length};
-    ghost use Rattle.cs_wire.specs.Requests.{AsksPush, AsksPull};
-    ghost use Rattle.cs_hub.specs.Serves.{AnswersAsked, TakesBytesIf, Serves, refused};
-    ghost use Rattle.std.specs.List.{slice_get};
-    ghost use Rattle.cs_value.specs.Catalog.{AreTables};
-    ghost use Rattle.cs_value.specs.declared.catalog.TableDef.{TableDef};
-    ghost use Rattle.cs_normal.specs.Normal.{FitsCatalog, normal_spelling};
-    ghost use Rattle.cs_hub.specs.Hub.{HubState, fresh, entries_from, judging, synced};
-    ghost use Rattle.cs_log.specs.Log.{IsLog, state_of};
-    ghost use Rattle.cs_log.specs.declared.entry.TheConstants.{MAX_CHANGESET};
-    ghost use Rattle.cs_hub.specs.Rows.{IsInOrder, row_at};
-    ghost use Rattle.cs_wire.specs.Told.{FitsMessage};
-    ghost use Rattle.cs_hub.specs.Pushes.{Push, Pushes, PushesIf};
-
-    /// A hub of these tables that has taken nothing yet. It keeps `alloc` for later calls.
+impl<S: RowStore> Hub<S> {
+    /// Opens the hub of these tables over a store. A store that holds nothing is laid out, in one commit: the log has no entry. Any other is
+    /// only read, and judged; that its rows are those that its entries make is taken as it stands. It keeps `alloc` for later calls. At `Err`
+    /// the store comes back as it was. (Profile of this project.)
     ///
     /// # Errors
     ///
-    /// `Memory` where memory was refused.
-    pub fn new(alloc: Global, catalog: &Catalog) -> Result<Hub, Memory>
-        ensures { IfOk result (λ hub. hub ≡ fresh catalog.now) }
+    /// `Damaged` where the store's id or tables can't be read; `Mismatch` where they are a replica's or another hub's; `Damaged` where it
+    /// is not what a hub's store is; `Memory` and `Device`.
+    pub fn open(alloc: Global, store: S, catalog: &Catalog) -> Result<Hub<S>, (S, OpenFault)>
+        // It is the hub of these tables, and the store a hub's, with so many entries.
+        ensures tables { IfOk result (λ hub. hub.catalog ≡ catalog.now) }
+        ensures opened { IfOk result (λ hub. S.honest hub.store
+            → IsHubAt catalog.now (S.contents store) (S.contents hub.store) hub.newest) }
+
+        // Of a store that held nothing it shows the log without entries, and of any other the log that the store showed.
+        ensures fresh { IfOk result (λ hub. S.honest hub.store → S.contents store ≡ nothing → Shows S.contents hub []) }
+        ensures shown { IfOk result (λ hub. S.honest hub.store → (log : List Entry)
+            → ShowsLog catalog.now (S.contents store) log → Shows S.contents hub log) }
+
+        // At `Err` the store is as it was, and what is told of it holds.
+        ensures kept { IfErr result (λ told. S.honest told.0 → S.contents told.0 ≡ S.contents store) }
+        ensures refused { IfErr result (λ told. S.honest told.0 → IsHubFault catalog.now (S.contents store) told.1) }
+
+        // What a stop leaves, and how the count of failures goes.
+        ensures opens { MatchResult result
+            (λ hub. WritesStore S.honest S.contents S.failed S.may_leave S.misreads opening.Device (Unit {0})
+                (IsSameOrFirst catalog.now (S.contents store)) store hub.store (Ok tt))
+            (λ told. WritesStore S.honest S.contents S.failed S.may_leave S.misreads opening.Device (Unit {0})
+                (IsSameOrFirst catalog.now (S.contents store)) store told.0 (Err told.1)) }
     {
-        empty_is_log();
-        Ok(Hub {
-            alloc,
-            catalog: catalog.copy(alloc)?,
-            tables: Tables::new(alloc, catalog.tables())?,
-            log: Vec::new(alloc),
-        })
+        crate::laws::opened_shows();
+        let _tables = catalog.tables();
+        let mut store = store;
+        let copied = match catalog.copy(alloc) {
+            Ok(copied) => copied,
+            Err(fault) => return Err((store, OpenFault::from(fault))),
+        };
+        match open_log(alloc, &mut store, catalog) {
+            Ok(newest) => Ok(Hub {
+                alloc,
+                store,
+                catalog: copied,
+                newest,
+            }),
+            Err(fault) => Err((store, fault)),
+        }
     }
 
     /// The tables that are synced, in the catalog's order.
     pub fn tables(&self) -> &[TableDef]
-        ensures same { result.now ≡ synced self.now }
-        ensures tables { AreTables (synced self.now) }
+        ensures same { result.now ≡ self.now.catalog }
+        ensures tables { AreTables self.now.catalog }
     {
         self.catalog.tables()
     }
 
     /// How many entries the log has, which is the newest version.
     pub fn newest(&self) -> u64
-        ensures newest { result ≡ length self.now.log }
-        ensures limit { result ≤ MAX_ENTRIES }
-
-        // Each entry is a changeset of the catalog's tables in normal form, defined on the tables before it.
-        ensures log { IsLog self.now.opening self.now.log }
-
-        // What each entry does is within the bound on its bytes.
-        ensures sizes { All FitsMessage self.now.log }
+        ensures { result ≡ self.now.newest }
     {
-        self.log.len() as u64
+        self.newest as u64
     }
 
-    /// The entries from `first` on, at most `limit`. It takes no memory.
+    /// The entries from `first` on, at most `limit`. The store is only read. (Profile of this project.)
     ///
     /// # Errors
     ///
-    /// `Ahead` where `first` is above the log's length.
-    pub fn entries(&self, first: u64, limit: u32) -> Result<&[LogEntry], HubFault>
-        ensures { MatchResult result (λ entries. (first ≤ length self.now.log)
-            × (entries.now ≡ entries_from first limit self.now.log))
-            (λ fault. (fault ≡ HubFault.Ahead) × (length self.now.log < first)) }
+    /// `Ahead` where `first` is above the log's length; `Memory` and `Device`.
+    pub fn entries(&mut self, first: u64, limit: u32) -> Result<Vec<LogEntry>, HubFault>
+        // They are those of the log that the store shows.
+        ensures found { S.honest self.new.store → (log : List Entry) → Shows S.contents self.old log
+            → IfOk result (λ entries. (first ≤ length log) × (entries.items ≡ entries_from first limit log)) }
+        ensures refused { S.honest self.new.store → (log : List Entry) → Shows S.contents self.old log
+            → IfErr result (IsEntriesFault log first) }
+
+        // The store is only read, and the hub stays as it is.
+        ensures reads { ReadsStore S.honest S.contents S.failed S.may_leave S.misreads Device
+            (ShowsSome S.contents self.old) self.old.store self.new.store result }
+        ensures catalog { self.new.catalog ≡ self.old.catalog }
+        ensures newest { self.new.newest ≡ self.old.newest }
     {
-        let newest = self.log.len();
-        if first > newest as u64 {
+        if first > self.newest as u64 {
             return Err(HubFault::Ahead);
         }
-        let first = first as usize;
-        let count = (limit as usize).min(newest - first);
-        Ok(&self.log[first..first + count])
-    }
-
-    /// The rows of the table with this number in the catalog, at the newest version, behind the bytes of their keys and in the
-    /// order of these; none past the last table.
-    pub fn rows(&self, table: usize) -> &[RowAtKey]
-        ensures rows { (def : TableDef) → slice_get (synced self.now) table ≡ Some def
-            → (key : List ℕ) → row_at key result.now ≡ state_of self.now.log def.name key }
-        ensures ordered { IsInOrder result.now }
-        ensures none { length (synced self.now) ≤ table → result.now ≡ [] }
-    {
-        self.tables.rows(table)
-    }
-
-    /// The answer to a push whose base is below the newest version.
-    fn recall(&self, head: PushHead, changes: &Normal) -> Pushed
-        requires below { head.base < length self.now.log }
-        requires some { changes.now ≢ [] }
-        ensures { Pushes MAX_ENTRIES self.now (record { head = head; changes = changes.now }) (Ok result) self.now }
-    {
-        if is_push(&self.log[head.base as usize], head, changes) {
-            return Pushed::Accepted(head.base + 1);
+        let first = first as u32;
+        let count = limit.min(self.newest - first);
+        match entries_at(self.alloc, &mut self.store, &self.catalog, first, count) {
+            Ok(entries) => Ok(entries),
+            Err(fault) => Err(HubFault::from(fault)),
         }
-        Pushed::Stale(self.newest())
+    }
+
+    /// The rows of the table with this number in the catalog, at the newest version, each behind the bytes of its key and in the order of
+    /// these; none past the last table. The store is only read. (Profile of this project.)
+    ///
+    /// # Errors
+    ///
+    /// `Memory` and `Device`.
+    pub fn rows(&mut self, table: usize) -> Result<Vec<RowAtKey>, StoreFault>
+        // They are the rows that the log makes.
+        ensures listed { S.honest self.new.store → (log : List Entry) → Shows S.contents self.old log → (def : Table)
+            → slice_get self.old.catalog table ≡ Some def → IfOk result (λ rows. AreRowsOf (state_of log def.name) rows.items) }
+        ensures none { length self.old.catalog ≤ table → IfOk result (λ rows. rows.items ≡ []) }
+
+        // The store is only read, and the hub stays as it is.
+        ensures reads { ReadsStore S.honest S.contents S.failed S.may_leave S.misreads stored.Device
+            (ShowsSome S.contents self.old) self.old.store self.new.store result }
+        ensures catalog { self.new.catalog ≡ self.old.catalog }
+        ensures newest { self.new.newest ≡ self.old.newest }
+    {
+        cs_log::laws::log_states();
+        let _tables = self.catalog.tables();
+        match rows_of(self.alloc, &mut self.store, &self.catalog, table) {
+            Ok(rows) => Ok(rows),
+            Err(fault) => Err(fault),
+        }
     }
 
     /// Takes a push: a changeset that the replica `head.origin` made as its push `head.number` on the tables of the version
@@ -152,101 +186,72 @@ impl Hub {
     ///
     /// # Errors
     ///
-    /// `Empty`, `Ahead`, `Full` and `Conflict` in these cases; `Memory` where memory was refused. Nothing has changed then.
+    /// `Empty`, `Ahead`, `Full` and `Conflict` in these cases; `Memory` and `Device`. Nothing has changed then.
     pub fn push(&mut self, head: PushHead, changes: Normal) -> Result<Pushed, HubFault>
-        requires fits { FitsCatalog (judging self.old head.base) changes }
+        requires fits { FitsCatalog self.old.catalog changes }
         requires size { length (normal_spelling changes) ≤ MAX_CHANGESET }
-        ensures { PushesIf MAX_ENTRIES self.old (record { head = head; changes = changes }) result self.new }
+
+        // The answer is that to the push by the log that the store showed; the store then shows the log after it.
+        ensures answered { S.honest self.new.store → (log : List Entry) → Shows S.contents self.old log
+            → IsPushedOf MAX_ENTRIES self.old.catalog log (record { head = head; changes = changes }) (S.contents self.new.store) self.new.newest result }
+
+        // The store was only read, or the push appended, in one commit.
+        ensures writes { WritesStore S.honest S.contents S.failed S.may_leave S.misreads Device (ShowsSome S.contents self.old)
+            (IsSameOrAppended self.old.catalog (record { head = head; changes = changes }) (S.contents self.old.store)) self.old.store self.new.store result }
+        ensures catalog { self.new.catalog ≡ self.old.catalog }
+        ensures kept { OnErr result (self.new.newest ≡ self.old.newest) }
     {
-        appended_is_log();
-        if changes.tables().is_empty() {
-            return Err(HubFault::Empty);
-        }
-        let newest = self.newest();
-        if head.base > newest {
-            return Err(HubFault::Ahead);
-        }
-        if head.base < newest {
-            return Ok(self.recall(head, &changes));
-        }
-        if self.log.len() >= MAX_ENTRIES {
-            return Err(HubFault::Full);
-        }
-        if !self.tables.stage(self.alloc, changes.tables())? {
-            return Err(HubFault::Conflict);
-        }
-        self.log.reserve(1)?;
-        self.tables.commit();
-        self.log.push_reserved(LogEntry {
-            origin: head.origin,
-            number: head.number,
-            body: Body::Changes(changes),
-        });
-        Ok(Pushed::Accepted(head.base + 1))
+        push_counted(
+            self.alloc,
+            &mut self.store,
+            &self.catalog,
+            &mut self.newest,
+            head,
+            changes,
+        )
     }
 
-    /// Answers the bytes of a request with the bytes of an answer. The room of the answer is taken before anything
-    /// changes. (Profile of this project.)
+    /// Answers the bytes of a request with the bytes of an answer. The room of the answer to a push is taken before anything changes. A
+    /// device that fails is told as a refusal, with nothing changed. (Profile of this project.)
     ///
     /// # Errors
     ///
     /// `Memory` where memory was refused; nothing has changed then.
     pub fn serve(&mut self, request: &[u8]) -> Result<Vec<u8>, Memory>
-        ensures served { IfOk result (λ answer. Serves MAX_ENTRIES self.old request.now answer.items self.new) }
-        ensures refused { OnErr result (self.new ≡ self.old) }
+        // The answer is that to the request by the log that the store showed; the store then shows the log after it.
+        ensures served { IfOk result (λ answer.
+            AnswersHub S.honest S.contents S.failed S.may_leave S.misreads MAX_ENTRIES self.old request.now answer.items self.new) }
+        ensures refused { OnErr result (StaysHub S.honest S.contents S.failed S.may_leave S.misreads self.old self.new) }
+
+        // What becomes of the store: a push that is told to be taken stands in it, also after a stop.
+        ensures store { ServesStore S.honest S.contents S.failed S.may_leave S.misreads self.old.catalog
+            (ShowsSome S.contents self.old) self.old.store self.new.store result }
     {
         match Request::decode(request) {
-            Err(fault) => self.refuse(Refusal::NoRequest(fault)),
-            Ok(Request::Pull { first, limit }) => self.serve_pull(first, limit),
-            Ok(Request::Push { head, changeset }) => self.serve_push(head, changeset),
+            Err(fault) => refuse(self.alloc, &Refusal::NoRequest(fault)),
+            Ok(Request::Pull { first, limit }) => pull_at(
+                self.alloc,
+                &mut self.store,
+                &self.catalog,
+                self.newest,
+                first,
+                limit,
+            ),
+            Ok(Request::Push { head, changeset }) => push_told(
+                self.alloc,
+                &mut self.store,
+                &self.catalog,
+                &mut self.newest,
+                head,
+                changeset,
+            ),
         }
     }
 
-    /// The answer that tells of a refusal.
-    fn refuse(&self, refusal: Refusal) -> Result<Vec<u8>, Memory>
-        ensures { IfOk result (λ bytes. bytes.items ≡ refused refusal) }
+    /// The store, as it is. It takes no memory.
+    pub fn close(self) -> S
+        ensures { result ≡ self.store }
     {
-        let mut bytes = Vec::with_capacity(self.alloc, SHORT)?;
-        ShortAnswer::Refused(refusal.code()).put(&mut bytes);
-        Ok(bytes)
-    }
-
-    /// The answer to a Pull.
-    fn serve_pull(&self, first: u64, limit: u32) -> Result<Vec<u8>, Memory>
-        ensures { IfOk result (λ bytes.
-            AnswersAsked MAX_ENTRIES self.now (Ok (AsksPull first limit)) bytes.items self.now) }
-    {
-        match self.entries(first, limit) {
-            Ok(entries) => entries_answer(self.alloc, first, entries),
-            Err(fault) => self.refuse(Refusal::ByHub(fault)),
-        }
-    }
-
-    /// The answer to a Push. Its room is taken before anything changes.
-    fn serve_push(&mut self, head: PushHead, changeset: &[u8]) -> Result<Vec<u8>, Memory>
-        requires { length changeset.now ≤ MAX_CHANGESET }
-        ensures ok { IfOk result (λ bytes.
-            AnswersAsked MAX_ENTRIES self.old (Ok (AsksPush head changeset.now)) bytes.items self.new) }
-        ensures err { OnErr result (self.new ≡ self.old) }
-    {
-        let mut told = Vec::with_capacity(self.alloc, SHORT)?;
-        let answer = match self.take(head, changeset) {
-            Ok(Pushed::Accepted(version)) => ShortAnswer::accepted(head, version),
-            Ok(Pushed::Stale(newest)) => ShortAnswer::Stale { newest },
-            Err(Refusal::Memory) => return Err(AllocError),
-            Err(refusal) => ShortAnswer::Refused(refusal.code()),
-        };
-        answer.put(&mut told);
-        Ok(told)
-    }
-
-    /// Takes a push: reads its changeset, brings it into normal form, and pushes that.
-    fn take(&mut self, head: PushHead, changeset: &[u8]) -> Result<Pushed, Refusal>
-        requires { length changeset.now ≤ MAX_CHANGESET }
-        ensures { TakesBytesIf MAX_ENTRIES self.old head changeset.now result self.new }
-    {
-        let groups = read(self.alloc, changeset)?;
-        let changes = normalise(self.alloc, &self.catalog, &groups)?;
-        Ok(self.push(head, changes)?)
+        self.store
     }
 }

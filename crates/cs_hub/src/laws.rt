@@ -1,13 +1,14 @@
-//! The laws of pushes and what a hub answers, each the contract of a function that does nothing.
+//! The laws of what a hub answers, each the contract of a function that does nothing.
 
 ghost use Rattle.std.specs.Prelude.{◌≡◌};
-ghost use Rattle.cs_hub.specs.Laws.{OneAnswer, OneHubRun, OneService, PushHasAnswer, RequestHasAnswer};
+ghost use Rattle.cs_hub.specs.Laws.{OneHubRun, OneService, OpenedShows, RequestHasAnswer, RunsByLog};
 ghost use Rattle.cs_hub.specs.declared.hub.TheConstants.{MAX_ENTRIES};
 
-use crate::Hub;
+use crate::hub::Hub;
 use cs_changeset::laws::changesets;
-use cs_log::laws::{defined_or_not, one_body};
+use cs_judging::laws::{one_answer, push_has_answer};
 use cs_normal::laws::{form_or_unfit, no_fault_where_fit, one_normal_form, one_unfit};
+use cs_store::RowStore;
 use cs_wire::laws::{asks_something, one_request};
 
 /// How many entries a hub's log may have.
@@ -15,12 +16,11 @@ pub fn most_entries()
     ensures { MAX_ENTRIES ≡ 4096 }
 {}
 
-/// There is an answer to each push that fits the catalog, and a hub after it: each guard is decided.
-pub fn push_has_answer()
-    ensures { PushHasAnswer }
+/// What is opened shows the log that the store showed, or none where it held nothing.
+pub fn opened_shows()
+    ensures { OpenedShows }
 {
-    defined_or_not();
-    one_body();
+    cs_log_opening::laws::hub_is_opened();
 }
 
 /// There is an answer to each request, whatever its bytes.
@@ -32,11 +32,6 @@ pub fn request_has_answer()
     changesets();
     form_or_unfit();
 }
-
-/// The answer to a push, and the hub after it, are determined by the hub and the push.
-pub fn one_answer()
-    ensures { OneAnswer }
-{}
 
 /// The answer to the bytes of a request, and the hub after it, are determined by the hub and the bytes, where memory is
 /// not wanting.
@@ -51,11 +46,15 @@ pub fn one_service()
     one_normal_form();
 }
 
-/// The lines that a new hub answers have one list of answers, up to want of memory. The hub at hand changes nothing: it
-/// names whose lines these are.
-pub fn one_run(hub: &Hub)
+/// The lines that a new hub answers have one list of answers, up to want of memory.
+pub fn one_run()
     ensures { OneHubRun MAX_ENTRIES }
 {
     one_service();
-    cs_lines::laws::one_run(hub);
 }
+
+/// Lines that are answered over a store that doesn't fail are answered by the log that it shows. The hub at hand changes nothing: it
+/// names whose store it is.
+pub fn runs_by_log<S: RowStore>(_hub: &Hub<S>)
+    ensures { RunsByLog S.honest S.contents S.failed S.may_leave S.misreads }
+{}

@@ -1,26 +1,16 @@
-//! The hub: an append-only log of accepted pushes, the tables that the log makes, and the answers to requests. `Hub::push`
-//! gives exactly the definition's answer to a push (`specs/Pushes.antt`), `Hub::rows` the rows that the log makes, and
-//! `Hub::serve` the answer to the bytes of a request (`specs/Serves.antt`); want of memory changes nothing.
-//! `laws` says that there is one answer to each push and request, and that there is one at all. The crate stands on
-//! requests and answers as bytes (`cs_wire`), the log (`cs_log`), changesets (`cs_changeset`), their normal forms
-//! (`cs_normal`), rows (`cs_record`) and what a change does at its place (`cs_change`).
-//! Its tests stand in `cs_hub_tests`.
+//! The hub over any store: an append-only log of accepted pushes, the rows that the log makes, and the answers to requests. `Hub::open`
+//! opens a store as a hub's, `Hub::push` gives exactly the definition's answer to a push by the log that the store shows, and `Hub::serve`
+//! the answer to the bytes of a request (`specs/Serves.antt`); a failed device is told by a code of its own, want of memory changes
+//! nothing. `laws` says that there is one answer to each request, that there is one at all, and that lines answered over a store in memory
+//! are those of the log alone. The crate stands on judging pushes (`cs_judging`), opening and reading a log (`cs_log_opening`,
+//! `cs_log_reading`) and requests and answers as bytes (`cs_wire`). Its tests stand in `cs_hub_tests`.
 #![tactic(auto)]
 
-mod fault;
 mod hub;
-mod outcome;
-mod push;
-mod refusal;
-mod rows;
-mod serve;
-mod table;
-mod tables;
-
-pub use fault::HubFault;
-pub use hub::{Hub, MAX_ENTRIES};
-pub use push::Pushed;
-
 pub mod laws;
+mod refusal;
+mod serve;
+mod serving;
+mod taking;
 
-pub use rows::RowAtKey;
+pub use hub::{Hub, MAX_ENTRIES};

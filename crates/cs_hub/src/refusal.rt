@@ -1,15 +1,15 @@
 //! What a request is refused for, and the code by which that is told.
 
 ghost use Rattle.std.specs.Prelude.{◌≡◌};
-ghost use Rattle.cs_hub.specs.Refusals.{refusal_of_codec, refusal_of_hub, refusal_of_unfit, refusal_code};
+ghost use Rattle.cs_hub.specs.Refusals.{refusal_code, refusal_of_codec, refusal_of_hub, refusal_of_unfit};
 
-use crate::fault::HubFault;
 use cs_changeset::{CodecFault, Fault};
+use cs_judging::HubFault;
 use cs_normal::Unfit;
 use cs_wire::WireFault;
 
 /// Why a request is refused; or want of memory, of which no answer of the hub tells.
-#[derive(Clone, Copy)]
+#[derive(Drop)]
 pub(crate) enum Refusal {
     Memory,
     /// The bytes spell no request.
@@ -25,8 +25,8 @@ pub(crate) enum Refusal {
 impl Refusal {
     /// The code by which the refusal is told; the faults of a request's bytes (2, 20 and 21), of a changeset's (2 to 14) and of
     /// its form (30 to 33) bring their own. (Profile of this project.)
-    pub(crate) fn code(self) -> u8
-        ensures { result ≡ refusal_code self }
+    pub(crate) fn code(&self) -> u8
+        ensures { result ≡ refusal_code self.now }
     {
         match self {
             Refusal::Memory => 1,
@@ -35,9 +35,10 @@ impl Refusal {
             Refusal::NoForm(unfit) => unfit.code(),
             Refusal::ByHub(HubFault::Memory) => 1,
             Refusal::ByHub(HubFault::Ahead) => 40,
-            Refusal::ByHub(HubFault::Conflict) => 41,
+            Refusal::ByHub(HubFault::Conflict(_)) => 41,
             Refusal::ByHub(HubFault::Empty) => 42,
             Refusal::ByHub(HubFault::Full) => 43,
+            Refusal::ByHub(HubFault::Device) => 44,
         }
     }
 }

@@ -2,13 +2,16 @@
 
 use crate::hub::Hub;
 use cs_lines::Serve;
+use cs_store::RowStore;
 use cs_value::Memory;
 
-impl Serve for Hub {
-    ghost use Rattle.cs_hub.specs.Serves.{Serves};
+impl<S: RowStore> Serve for Hub<S> {
+    ghost use Rattle.cs_hub.specs.Calls.{AnswersHub, StaysHub};
     ghost use Rattle.cs_hub.specs.declared.hub.TheConstants.{MAX_ENTRIES};
 
-    ghost serves = { Serves MAX_ENTRIES };
+    ghost serves = { AnswersHub S.honest S.contents S.failed S.may_leave S.misreads MAX_ENTRIES };
+
+    ghost stays = { StaysHub S.honest S.contents S.failed S.may_leave S.misreads };
 
     fn serve(&mut self, request: &[u8]) -> Result<Vec<u8>, Memory> {
         Hub::serve(self, request)

@@ -1,6 +1,9 @@
--- The law of pushes.
+-- The laws of pushes: there is an answer to each, and one.
 use Rattle.std.specs.Prelude.{◌≡◌, ℕ, Result}
-use Rattle.cs_judging.specs.Hub.{HubState}
+use Rattle.cs_value.specs.Catalog.{AreTables}
+use Rattle.cs_log.specs.Log.{IsLog}
+use Rattle.cs_log.specs.Stored.{AreChangesOf}
+use Rattle.cs_judging.specs.Hub.{HubState, judging}
 use Rattle.cs_judging.specs.Pushes.{Push, Pushes}
 use Rattle.cs_judging.specs.declared.fault.HubFault.{HubFault}
 use Rattle.cs_judging.specs.declared.push.Pushed.{Pushed}
@@ -12,3 +15,16 @@ OneAnswer =
     → Pushes limit old push one new
     → Pushes limit old push other last
     → (one ≡ other) × (new ≡ last)
+
+-- a state that a hub can be in
+pub record IsOfHub (hub : HubState) : Type 0 where
+  pub tables : AreTables hub.opening
+  pub log : IsLog hub.opening hub.log
+
+-- a push has an answer
+abbrev pub PushHasAnswer : Type 0
+PushHasAnswer =
+    (limit : ℕ) (old : HubState) (push : Push)
+    → IsOfHub old
+    → AreChangesOf (judging old push.head.base) push.changes
+    → (answer : Result Pushed HubFault) × (new : HubState) × Pushes limit old push answer new

@@ -1,6 +1,5 @@
 pub mod HexText
 pub mod LineLemmas
 pub mod ReadLemmas
-pub mod RunLaw
 pub mod ServedLemmas
 pub mod WriteLemmas

@@ -1,5 +1,6 @@
 pub mod Laws
 pub mod Lines
+pub mod OneRun
 pub mod Reading
 pub mod Served
 pub mod Shown

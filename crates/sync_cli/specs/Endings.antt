@@ -4,9 +4,9 @@ use Rattle.std.specs.Io.KnownBytes.{Appends, Keeps}
 use Rattle.clap.specs.Kinds.{IsAmong, Kinds}
 use Rattle.clap.specs.declared.error.kind.ErrorKind.{ErrorKind}
 use Rattle.clap.specs.declared.error.kind.ErrorKind.TheVariants as kind
-use Rattle.cs_hub.specs.Hub.{HubState, fresh}
-use Rattle.cs_hub.specs.Serves.{Serves}
+use Rattle.cs_hub.specs.Serves.{IsSame, Serves}
 use Rattle.cs_hub.specs.declared.hub.TheConstants.{MAX_ENTRIES}
+use Rattle.cs_judging.specs.Hub.{HubState, fresh}
 use Rattle.cs_lines.specs.Lines.{hex_line}
 use Rattle.cs_lines.specs.Reading.{AreAllBefore}
 use Rattle.cs_lines.specs.Served.{AnswersAll, AreAllLines, AreFirstLines}
@@ -55,19 +55,19 @@ abbrev pub EndsServing : List (List ℕ) → Option (List ℕ) → Option (List 
 EndsServing words input left read_failed write_failed old new (Ok done) =
     (tables : List TableDef) × (lines : List (List ℕ)) × (answers : List (List ℕ)) × (end : HubState)
     × IsCatalogOf words tables × AreAllLines input lines
-    × AnswersAll (Serves MAX_ENTRIES) (fresh tables) lines answers end
+    × AnswersAll (Serves MAX_ENTRIES) IsSame (fresh tables) lines answers end
     × Appends old new (flat_map hex_line answers)
 EndsServing words input left read_failed write_failed old new (Err Memory) = Keeps old new
 EndsServing words input left read_failed write_failed old new (Err (Table word)) = IsFirstRefused (Table word) words × Keeps old new
 EndsServing words input left read_failed write_failed old new (Err Read) =
     (tables : List TableDef) × (lines : List (List ℕ)) × (answers : List (List ℕ)) × (end : HubState)
     × IsCatalogOf words tables × AreAllBefore input left lines
-    × AnswersAll (Serves MAX_ENTRIES) (fresh tables) lines answers end
+    × AnswersAll (Serves MAX_ENTRIES) IsSame (fresh tables) lines answers end
     × Appends old new (flat_map hex_line answers) × (read_failed ⊎ (length lines ≡ ASKS))
 EndsServing words input left read_failed write_failed old new (Err Write) =
     (tables : List TableDef) × (lines : List (List ℕ)) × (answers : List (List ℕ)) × (end : HubState)
     × IsCatalogOf words tables × AreFirstLines input lines
-    × AnswersAll (Serves MAX_ENTRIES) (fresh tables) lines answers end
+    × AnswersAll (Serves MAX_ENTRIES) IsSame (fresh tables) lines answers end
     × AppendsBroken old new answers × write_failed
 EndsServing words input left read_failed write_failed old new (Err _) = ⊥
 

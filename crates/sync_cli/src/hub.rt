@@ -6,10 +6,12 @@ ghost use Rattle.sync_cli.specs.Endings.{EndsServing};
 use crate::fault::RunFault;
 use crate::table;
 use cs_hub::Hub;
+use cs_hub::laws::runs_by_log;
 use cs_lines::{LineInput, LineOutput, Stop, serve_lines};
+use cs_map_store::MapStore;
 use std::alloc::Global;
 
-/// Answers each line of the input as a new hub of the tables that the words spell. (Profile of this project.)
+/// Answers each line of the input as a new hub of the tables that the words spell, over a store in memory. (Profile of this project.)
 pub fn serve_hub<'w, R: LineInput, W: LineOutput>(
     alloc: Global,
     table_words: &[&'w str],
@@ -21,9 +23,10 @@ pub fn serve_hub<'w, R: LineInput, W: LineOutput>(
     ensures sent { OnOk result (W.sent writer.old → W.sent writer.new) }
 {
     let catalog = table::catalog(alloc, table_words)?;
-    let Ok(mut hub) = Hub::new(alloc, &catalog) else {
+    let Ok(mut hub) = Hub::open(alloc, MapStore::new(alloc), &catalog) else {
         return Err(RunFault::Memory);
     };
+    runs_by_log(&hub);
     match serve_lines(alloc, &mut hub, reader, writer) {
         Ok(()) => Ok(()),
         Err(Stop::Read) => Err(RunFault::Read),

@@ -3,4 +3,4 @@ use Rattle.cs_hub.proofs.OneHubRun.{one_hub_run}
 use Rattle.cs_hub.proofs.laws.one_run.Goals as goal
 
 pub returns : goal.returns
-returns c = one_hub_run c.one_service.ensures MAX_ENTRIES c.one_run.ensures
+returns c = one_hub_run c.one_service.ensures MAX_ENTRIES

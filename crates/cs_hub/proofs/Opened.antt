@@ -1,0 +1,20 @@
+-- What is opened shows the log that the store showed.
+use Rattle.std.proofs.Common.{◌≡◌, ℕ, List, [], inl, inr, ap, sym, subst, ◌∙◌}
+use Rattle.cs_value.specs.Catalog.{AreTables}
+use Rattle.cs_value.specs.declared.catalog.TableDef.{TableDef}
+use Rattle.cs_log.specs.declared.entry.LogEntry.{LogEntry}
+use Rattle.cs_store.specs.Contents.{Contents, nothing}
+use Rattle.cs_log_store.specs.Shows.{ShowsLog}
+use Rattle.cs_log_opening.specs.Laws.{HubIsOpened}
+use Rattle.cs_log_opening.specs.Opens.{IsHubAt}
+use Rattle.cs_hub.specs.Laws.{OpenedShows}
+
+pub opened_shows : HubIsOpened → OpenedShows
+opened_shows is_opened opening old new count (inl (none, first, zero)) = (
+  (λ is. (first, zero)),
+  λ log shows are. absurd ((is_opened opening old log are shows).0 none),
+)
+opened_shows is_opened opening old new count (inr (some, same, hubs, counted)) = (
+  (λ is. absurd (some is)),
+  λ log shows are. (subst (λ (c : Contents). ShowsLog opening c log) (sym same) shows, counted ∙ shows.entries.counted),
+)

@@ -1,0 +1,46 @@
+-- The rows of a log, as rows that a store shows with nothing pending.
+use Rattle.std.proofs.Common.{◌≡◌, ℕ, List, length, take, Some, None, refl, sym, ap, subst, ◌∙◌, arith}
+use Rattle.std.specs.FinMap.{get, get-empty}
+use Rattle.std.proofs.lemmas.List.{take_all}
+use Rattle.cs_value.specs.Catalog.{AreTables}
+use Rattle.cs_value.specs.Facts.{same_row-refl}
+use Rattle.cs_value.specs.Key.{Place}
+use Rattle.cs_value.specs.declared.catalog.TableDef.{TableDef}
+use Rattle.std.specs.Prelude.{Bool}
+use Rattle.cs_change.specs.Net.{net}
+use Rattle.cs_log.specs.Laws.{LogStates}
+use Rattle.cs_log.specs.Log.{state_of}
+use Rattle.cs_log.specs.declared.entry.LogEntry.{LogEntry}
+use Rattle.cs_normal.specs.State.{State, IsStateOf}
+use Rattle.cs_store.specs.Contents.{Contents, place_cmp, stored_pending}
+use Rattle.cs_log_store.specs.Shows.{ShowsLog}
+use Rattle.cs_pending.specs.Shows.{ShowsRows}
+use Rattle.cs_pending.specs.View.{View}
+
+-- these rows, with nothing pending
+abbrev pub at_rest : State → View
+at_rest state = record { tables = state; pending = λ name key. None }
+
+net_same : (marks : List Bool) (place : Place) → net marks place place ≡ None
+unfolding net
+net_same marks None = refl
+net_same marks (Some row) = simp (same_row-refl row) refl
+
+state_there : LogStates → (opening : List TableDef) (log : List LogEntry) → AreTables opening → (contents : Contents) → ShowsLog opening contents log → IsStateOf opening (state_of log)
+state_there states opening log are contents shows =
+    subst (λ (es : List LogEntry). IsStateOf opening (state_of es)) (take_all (length log) log (omega arith)) (states opening log (length log) are shows.is_log)
+
+pub log_rows : LogStates → (opening : List TableDef) (contents : Contents) (log : List LogEntry) → AreTables opening → ShowsLog opening contents log → ShowsRows opening contents (at_rest (state_of log))
+unfolding undo
+log_rows states opening contents log are shows = record {
+  rows = shows.rows;
+  pends = record {
+    stored = λ number table key is. ap (λ pending. get pending _) shows.pending ∙ get-empty place_cmp _;
+    fits = λ table key inside. tt;
+  };
+  sound = record {
+    before_state = state_there states opening log are contents shows;
+    after_state = state_there states opening log are contents shows;
+    net_of = λ table key inside. sym (net_same table.key_marks (state_of log table.name key));
+  };
+}

@@ -1,0 +1,54 @@
+-- What the code has found on its way: no definition that a public clause cites.
+use Rattle.std.specs.Prelude.{◌≡◌, ◌≢◌, ◌⊎◌, ℕ, List, length, Result, Ok, Err, Option, Some, None}
+use Rattle.cs_value.specs.declared.catalog.TableDef.{TableDef}
+use Rattle.cs_log.specs.declared.entry.LogEntry.{LogEntry}
+use Rattle.cs_store.specs.Contents.{Contents}
+use Rattle.cs_log_store.specs.Shows.{ShowsLog}
+use Rattle.cs_judging.specs.Hub.{HubState}
+use Rattle.cs_judging.specs.Judged.{hub_of}
+use Rattle.cs_judging.specs.Pushes.{Push, PushesIf}
+use Rattle.cs_judging.specs.declared.fault.HubFault.{HubFault}
+use Rattle.cs_judging.specs.declared.fault.HubFault.TheVariants.{Device}
+use Rattle.cs_judging.specs.declared.push.Pushed.{Pushed}
+use Rattle.cs_wire.specs.Requests.{Asked}
+use Rattle.cs_wire.specs.declared.answer.Answer.TheVariants.{Short}
+use Rattle.cs_wire.specs.declared.fault.WireFault.{WireFault}
+use Rattle.cs_wire.specs.declared.push_head.PushHead.{PushHead}
+use Rattle.cs_wire.specs.declared.short_answer.ShortAnswer.{ShortAnswer}
+use Rattle.cs_hub.specs.Serves.{AnswersAsked, Outcome, TakesBytes, push_answer, refused}
+use Rattle.cs_hub.specs.declared.refusal.Refusal.TheVariants.{Memory, ByHub}
+
+-- contents show a log of so many entries after these
+abbrev pub Leads : List TableDef → Contents → ℕ → List LogEntry → Type 0
+Leads opening new count next = ShowsLog opening new next × (count ≡ length next)
+
+-- the answer to a push by the log that was shown, and the log after it
+abbrev pub IsPushedOf : ℕ → List TableDef → List LogEntry → Push → Contents → ℕ → Result Pushed HubFault → Type 0
+IsPushedOf limit opening log push new count result =
+    (next : List LogEntry) × PushesIf limit (hub_of opening log) push result (hub_of opening next) × Leads opening new count next
+
+-- what becomes of the bytes of a push, or want of memory or a failed device, which change nothing
+abbrev pub TakesBytesIf : Type 0 → ℕ → HubState → PushHead → List ℕ → Outcome → HubState → Type 0
+TakesBytesIf device_failed limit old head changeset (Err Memory) new = new ≡ old
+TakesBytesIf device_failed limit old head changeset (Err (ByHub Device)) new = device_failed × (new ≡ old)
+TakesBytesIf device_failed limit old head changeset outcome new = TakesBytes limit old head changeset outcome new
+
+-- the same by the log that was shown, and the log after it
+abbrev pub IsTakenOf : Type 0 → ℕ → List TableDef → List LogEntry → PushHead → List ℕ → Contents → ℕ → Outcome → Type 0
+IsTakenOf device_failed limit opening log head changeset new count outcome =
+    (next : List LogEntry) × TakesBytesIf device_failed limit (hub_of opening log) head changeset outcome (hub_of opening next) × Leads opening new count next
+
+-- the answer that tells what became of a push; want of memory is not told
+abbrev pub TellsOutcome : PushHead → Outcome → Option ShortAnswer → Type 0
+TellsOutcome head outcome None = outcome ≡ Err Memory
+TellsOutcome head outcome (Some answer) = (outcome ≢ Err Memory) × (Short answer ≡ push_answer head outcome)
+
+-- the answer to what is asked, or a failed device, which changes nothing
+abbrev pub AnswersAskedIf : Type 0 → ℕ → HubState → Result Asked WireFault → List ℕ → HubState → Type 0
+AnswersAskedIf device_failed limit old asked answer new =
+    AnswersAsked limit old asked answer new ⊎ (device_failed × (answer ≡ refused (ByHub Device)) × (new ≡ old))
+
+-- the same by the log that was shown, and the log after it
+abbrev pub IsAnsweredOf : Type 0 → ℕ → List TableDef → List LogEntry → Result Asked WireFault → List ℕ → Contents → ℕ → Type 0
+IsAnsweredOf device_failed limit opening log asked answer new count =
+    (next : List LogEntry) × AnswersAskedIf device_failed limit (hub_of opening log) asked answer (hub_of opening next) × Leads opening new count next

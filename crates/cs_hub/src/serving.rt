@@ -1,0 +1,93 @@
+//! Requests, answered.
+
+ghost use Rattle.std.specs.Prelude.{◌≡◌, ◌≤◌, List, Ok, IfOk, OnErr, length};
+ghost use Rattle.cs_log.specs.declared.entry.LogEntry.{LogEntry as Entry};
+ghost use Rattle.cs_log.specs.declared.entry.TheConstants.{MAX_CHANGESET};
+ghost use Rattle.cs_log_store.specs.Shows.{ShowsLog};
+ghost use Rattle.cs_store.specs.Calls.{MoreFailures};
+ghost use Rattle.cs_judging.specs.Judged.{ShowsLogOf};
+ghost use Rattle.cs_wire.specs.Requests.{AsksPull, AsksPush};
+ghost use Rattle.cs_hub.specs.Calls.{ServesStore};
+ghost use Rattle.cs_hub.specs.Serves.{refused};
+ghost use Rattle.cs_hub.specs.Steps.{IsAnsweredOf, TellsOutcome};
+
+use crate::hub::MAX_ENTRIES;
+use crate::refusal::Refusal;
+use crate::taking::take_at;
+use cs_judging::{HubFault, Pushed};
+use cs_log_reading::entries_told;
+use cs_store::{RowStore, StoreFault};
+use cs_value::{Catalog, Memory};
+use cs_wire::{PushHead, SHORT, ShortAnswer};
+use std::alloc::{AllocError, Global};
+
+/// The answer that tells of a refusal.
+pub(crate) fn refuse(alloc: Global, refusal: &Refusal) -> Result<Vec<u8>, Memory>
+    ensures { IfOk result (λ bytes. bytes.items ≡ refused refusal.now) }
+{
+    let mut bytes = Vec::with_capacity(alloc, SHORT)?;
+    ShortAnswer::Refused(refusal.code()).put(&mut bytes);
+    Ok(bytes)
+}
+
+/// The answer to a Pull. A device that fails is told by its code.
+pub(crate) fn pull_at<S: RowStore>(
+    alloc: Global,
+    store: &mut S,
+    catalog: &Catalog,
+    newest: u32,
+    first: u64,
+    limit: u32,
+) -> Result<Vec<u8>, Memory>
+    ensures serves { ServesStore S.honest S.contents S.failed S.may_leave S.misreads catalog.now
+        (ShowsLogOf catalog.now newest (S.contents store.old)) store.old store.new result }
+    ensures answered { S.honest store.new → (log : List Entry) → ShowsLog catalog.now (S.contents store.old) log → newest ≡ length log
+        → IfOk result (λ bytes. IsAnsweredOf (MoreFailures (S.failed store.old) (S.failed store.new)) MAX_ENTRIES catalog.now log (Ok (AsksPull first limit)) bytes.items (S.contents store.new) newest) }
+{
+    if first > newest as u64 {
+        return refuse(alloc, &Refusal::ByHub(HubFault::Ahead));
+    }
+    let first = first as u32;
+    match entries_told(alloc, store, catalog, first, limit.min(newest - first)) {
+        Ok(answer) => Ok(answer),
+        Err(StoreFault::Memory) => Err(AllocError),
+        Err(StoreFault::Device) => refuse(alloc, &Refusal::ByHub(HubFault::Device)),
+    }
+}
+
+/// The answer that tells what became of a push, but of want of memory.
+fn answer_to(head: PushHead, taken: &Result<Pushed, Refusal>) -> Option<ShortAnswer>
+    ensures { TellsOutcome head taken.now result }
+{
+    match taken {
+        Ok(Pushed::Accepted(version)) => Some(ShortAnswer::accepted(head, *version)),
+        Ok(Pushed::Stale(newest)) => Some(ShortAnswer::Stale { newest: *newest }),
+        Err(Refusal::Memory) => None,
+        Err(refusal) => Some(ShortAnswer::Refused(refusal.code())),
+    }
+}
+
+/// The answer to a Push. Its room is taken before anything changes.
+pub(crate) fn push_told<S: RowStore>(
+    alloc: Global,
+    store: &mut S,
+    catalog: &Catalog,
+    newest: &mut u32,
+    head: PushHead,
+    changeset: &[u8],
+) -> Result<Vec<u8>, Memory>
+    requires { length changeset.now ≤ MAX_CHANGESET }
+    ensures serves { ServesStore S.honest S.contents S.failed S.may_leave S.misreads catalog.now
+        (ShowsLogOf catalog.now newest.old (S.contents store.old)) store.old store.new result }
+    ensures answered { S.honest store.new → (log : List Entry) → ShowsLog catalog.now (S.contents store.old) log → newest.old ≡ length log
+        → IfOk result (λ bytes. IsAnsweredOf (MoreFailures (S.failed store.old) (S.failed store.new)) MAX_ENTRIES catalog.now log (Ok (AsksPush head changeset.now)) bytes.items (S.contents store.new) newest.new) }
+    ensures kept { OnErr result (newest.new ≡ newest.old) }
+{
+    let mut told = Vec::with_capacity(alloc, SHORT)?;
+    let taken = take_at(alloc, store, catalog, newest, head, changeset);
+    let Some(answer) = answer_to(head, &taken) else {
+        return Err(AllocError);
+    };
+    answer.put(&mut told);
+    Ok(told)
+}

@@ -1,0 +1,90 @@
+//! A push, taken: its changeset is read, brought into normal form, and judged.
+
+ghost use Rattle.std.specs.Prelude.{◌≡◌, ◌+◌, ◌-◌, ◌^◌, ◌<◌, ◌≤◌, ℕ, List, Ok, OnErr, length};
+ghost use Rattle.cs_log.specs.declared.entry.LogEntry.{LogEntry as Entry};
+ghost use Rattle.cs_log.specs.declared.entry.TheConstants.{MAX_CHANGESET};
+ghost use Rattle.cs_log_store.specs.Shows.{ShowsLog};
+ghost use Rattle.cs_normal.specs.Normal.{FitsCatalog, normal_spelling};
+ghost use Rattle.cs_pending.specs.Calls.{WritesStore};
+ghost use Rattle.cs_store.specs.Calls.{MoreFailures};
+ghost use Rattle.cs_judging.specs.Judged.{IsSameOrAppended, ShowsLogOf};
+ghost use Rattle.cs_judging.specs.Pushes.{Push};
+ghost use Rattle.cs_judging.specs.declared.fault.HubFault.TheVariants.{Device};
+ghost use Rattle.cs_judging.specs.declared.push.Pushed.TheVariants.{Accepted};
+ghost use Rattle.cs_hub.specs.Calls.{IsSameOrGrown};
+ghost use Rattle.cs_hub.specs.Steps.{IsPushedOf, IsTakenOf};
+ghost use Rattle.cs_hub.specs.declared.refusal.Refusal.TheVariants.{ByHub};
+
+use crate::hub::MAX_ENTRIES;
+use crate::refusal::Refusal;
+use cs_changeset::read;
+use cs_judging::{HubFault, Pushed, push_at};
+use cs_normal::{Normal, normalise};
+use cs_store::RowStore;
+use cs_value::Catalog;
+use cs_wire::PushHead;
+use std::alloc::Global;
+
+/// How many entries a log has after a push that was answered so.
+fn count_after(newest: u32, told: &Result<Pushed, HubFault>) -> u32
+    ensures more { (version : ℕ) → told.now ≡ Ok (Accepted version) → newest < version → newest < 2 ^ 32 - 1 → result ≡ newest + 1 }
+    ensures same { ((version : ℕ) → told.now ≡ Ok (Accepted version) → version ≤ newest) → result ≡ newest }
+{
+    match told {
+        Ok(Pushed::Accepted(version)) => {
+            if *version > newest as u64 {
+                return newest.saturating_add(1);
+            }
+            newest
+        }
+        _ => newest,
+    }
+}
+
+/// Takes a push, and counts the entry that it may have become.
+pub(crate) fn push_counted<S: RowStore>(
+    alloc: Global,
+    store: &mut S,
+    catalog: &Catalog,
+    newest: &mut u32,
+    head: PushHead,
+    changes: Normal,
+) -> Result<Pushed, HubFault>
+    requires fits { FitsCatalog catalog.now changes }
+    requires size { length (normal_spelling changes) ≤ MAX_CHANGESET }
+    ensures writes { WritesStore S.honest S.contents S.failed S.may_leave S.misreads Device
+        (ShowsLogOf catalog.now newest.old (S.contents store.old))
+        (IsSameOrAppended catalog.now (record { head = head; changes = changes }) (S.contents store.old)) store.old store.new result }
+    ensures answered { S.honest store.new → (log : List Entry) → ShowsLog catalog.now (S.contents store.old) log → newest.old ≡ length log
+        → IsPushedOf MAX_ENTRIES catalog.now log (record { head = head; changes = changes }) (S.contents store.new) newest.new result }
+    ensures kept { OnErr result (newest.new ≡ newest.old) }
+{
+    let told = push_at(alloc, store, catalog, *newest, MAX_ENTRIES, head, changes);
+    *newest = count_after(*newest, &told);
+    told
+}
+
+/// Takes a push by the bytes of its changeset.
+pub(crate) fn take_at<S: RowStore>(
+    alloc: Global,
+    store: &mut S,
+    catalog: &Catalog,
+    newest: &mut u32,
+    head: PushHead,
+    changeset: &[u8],
+) -> Result<Pushed, Refusal>
+    requires { length changeset.now ≤ MAX_CHANGESET }
+    ensures writes { WritesStore S.honest S.contents S.failed S.may_leave S.misreads (ByHub Device)
+        (ShowsLogOf catalog.now newest.old (S.contents store.old))
+        (IsSameOrGrown catalog.now (S.contents store.old)) store.old store.new result }
+    ensures taken { S.honest store.new → (log : List Entry) → ShowsLog catalog.now (S.contents store.old) log → newest.old ≡ length log
+        → IsTakenOf (MoreFailures (S.failed store.old) (S.failed store.new)) MAX_ENTRIES catalog.now log head changeset.now (S.contents store.new) newest.new result }
+    ensures kept { OnErr result (newest.new ≡ newest.old) }
+{
+    let groups = read(alloc, changeset)?;
+    let changes = normalise(alloc, catalog, &groups)?;
+    match push_counted(alloc, store, catalog, newest, head, changes) {
+        Ok(pushed) => Ok(pushed),
+        Err(fault) => Err(Refusal::from(fault)),
+    }
+}
