@@ -3,3 +3,4 @@ pub mod CommandLemmas
 pub mod EndingLemmas
 pub mod FoundLemmas
 pub mod WordLemmas
+pub mod HubLemmas
