@@ -40,45 +40,46 @@ module _ (device_failed : Type 0) (limit : ℕ) (opening : List TableDef) (log :
 
   -- bytes that are no request
   pub no_request : {E : Type 0} (fault : WireFault) (result : Result (Vec ℕ Global) E) → IfOk result (λ bytes. bytes.items ≡ refused (NoRequest fault)) → IfOk result (λ bytes. Answered (Err fault) bytes.items)
-  no_request fault (Ok bytes) is = (log, inl (is, refl), shows, same)
+  no_request fault (Ok bytes) is = (log, inl (is, refl), (shows, same))
   no_request fault (Err want) is = tt
 
   -- a pull from above the newest version
   pub ahead : {E : Type 0} (first many : ℕ) (result : Result (Vec ℕ Global) E) → length log < first → IfOk result (λ bytes. bytes.items ≡ refused (ByHub hub.Ahead)) → IfOk result (λ bytes. Answered (Ok (AsksPull first many)) bytes.items)
-  ahead first many (Ok bytes) above is = (log, inl (inl (above, is), refl), shows, same)
+  ahead first many (Ok bytes) above is = (log, inl (inl (above, is), refl), (shows, same))
   ahead first many (Err want) above is = tt
 
   -- a device that failed
   pub device : {E : Type 0} (asked : Result Asked WireFault) (result : Result (Vec ℕ Global) E) → device_failed → IfOk result (λ bytes. bytes.items ≡ refused (ByHub hub.Device)) → IfOk result (λ bytes. Answered asked bytes.items)
-  device asked (Ok bytes) failed is = (log, inr (failed, is, refl), shows, same)
+  device asked (Ok bytes) failed is = (log, inr (failed, is, refl), (shows, same))
   device asked (Err want) failed is = tt
 
   -- entries
   pub entries : (first many so_many : ℕ) (bytes : List ℕ) → first ≤ length log → so_many ≡ min many (length log - first)
       → bytes ≡ answer_spelling (Entries first (map told_entry (take so_many (drop first log)))) → Answered (Ok (AsksPull first many)) bytes
   entries first many so_many bytes within cut is =
-      (log, inl (inr (within, is ∙ ap (λ (es : List LogEntry). answer_spelling (Entries first (map told_entry es))) (cut_entries log first many so_many within cut)), refl), shows, same)
+      (log, inl (inr (within, is ∙ ap (λ (es : List LogEntry). answer_spelling (Entries first (map told_entry es))) (cut_entries log first many so_many within cut)), refl), (shows, same))
 
 -- what became of a push
+by_outcome : (device_failed : Type 0) (limit : ℕ) (opening : List TableDef) (log : List LogEntry) (contents : Contents) (count : ℕ) (head : PushHead) (changeset : List ℕ) (outcome : Outcome) (bytes : List ℕ)
+    → outcome ≢ Err Memory → bytes ≡ answer_spelling (push_answer head outcome) → IsTakenOf device_failed limit opening log head changeset contents count outcome
+    → IsAnsweredOf device_failed limit opening log (Ok (AsksPush head changeset)) bytes contents count
+by_outcome failed limit opening log contents count head changeset (Ok p) bytes some is (next, takes, leads) = (next, inl (Ok p, takes, is), leads)
+by_outcome failed limit opening log contents count head changeset (Err Memory) bytes some is (next, takes, leads) = absurd (some refl)
+by_outcome failed limit opening log contents count head changeset (Err (NoRequest fault)) bytes some is (next, takes, leads) = (next, inl (Err (NoRequest fault), takes, is), leads)
+by_outcome failed limit opening log contents count head changeset (Err (NoChangeset fault)) bytes some is (next, takes, leads) = (next, inl (Err (NoChangeset fault), takes, is), leads)
+by_outcome failed limit opening log contents count head changeset (Err (NoForm fault)) bytes some is (next, takes, leads) = (next, inl (Err (NoForm fault), takes, is), leads)
+by_outcome failed limit opening log contents count head changeset (Err (ByHub hub.Memory)) bytes some is (next, takes, leads) = (next, inl (Err (ByHub hub.Memory), takes, is), leads)
+by_outcome failed limit opening log contents count head changeset (Err (ByHub hub.Ahead)) bytes some is (next, takes, leads) = (next, inl (Err (ByHub hub.Ahead), takes, is), leads)
+by_outcome failed limit opening log contents count head changeset (Err (ByHub (hub.Conflict conflict))) bytes some is (next, takes, leads) = (next, inl (Err (ByHub (hub.Conflict conflict)), takes, is), leads)
+by_outcome failed limit opening log contents count head changeset (Err (ByHub hub.Empty)) bytes some is (next, takes, leads) = (next, inl (Err (ByHub hub.Empty), takes, is), leads)
+by_outcome failed limit opening log contents count head changeset (Err (ByHub hub.Full)) bytes some is (next, takes, leads) = (next, inl (Err (ByHub hub.Full), takes, is), leads)
+by_outcome failed limit opening log contents count head changeset (Err (ByHub hub.Device)) bytes some is (next, takes, leads) = (next, inr (takes.0, is, takes.1), leads)
+
 pub told : (device_failed : Type 0) (limit : ℕ) (opening : List TableDef) (log : List LogEntry) (contents : Contents) (count : ℕ) (head : PushHead) (changeset : List ℕ) (outcome : Outcome) (answer : ShortAnswer) (bytes : List ℕ)
     → TellsOutcome head outcome (Some answer) → bytes ≡ answer_spelling (Short answer) → IsTakenOf device_failed limit opening log head changeset contents count outcome
     → IsAnsweredOf device_failed limit opening log (Ok (AsksPush head changeset)) bytes contents count
 told device_failed limit opening log contents count head changeset outcome answer bytes tells is taken =
-    by_outcome outcome tells.0 (is ∙ ap answer_spelling tells.1) taken
-where
-  by_outcome : (outcome : Outcome) → outcome ≢ Err Memory → bytes ≡ answer_spelling (push_answer head outcome) → IsTakenOf device_failed limit opening log head changeset contents count outcome
-      → IsAnsweredOf device_failed limit opening log (Ok (AsksPush head changeset)) bytes contents count
-  by_outcome (Ok p) some is (next, takes, leads) = (next, inl (Ok p, takes, is), leads)
-  by_outcome (Err Memory) some is (next, takes, leads) = absurd (some refl)
-  by_outcome (Err (NoRequest fault)) some is (next, takes, leads) = (next, inl (Err (NoRequest fault), takes, is), leads)
-  by_outcome (Err (NoChangeset fault)) some is (next, takes, leads) = (next, inl (Err (NoChangeset fault), takes, is), leads)
-  by_outcome (Err (NoForm fault)) some is (next, takes, leads) = (next, inl (Err (NoForm fault), takes, is), leads)
-  by_outcome (Err (ByHub hub.Memory)) some is (next, takes, leads) = (next, inl (Err (ByHub hub.Memory), takes, is), leads)
-  by_outcome (Err (ByHub hub.Ahead)) some is (next, takes, leads) = (next, inl (Err (ByHub hub.Ahead), takes, is), leads)
-  by_outcome (Err (ByHub (hub.Conflict conflict))) some is (next, takes, leads) = (next, inl (Err (ByHub (hub.Conflict conflict)), takes, is), leads)
-  by_outcome (Err (ByHub hub.Empty)) some is (next, takes, leads) = (next, inl (Err (ByHub hub.Empty), takes, is), leads)
-  by_outcome (Err (ByHub hub.Full)) some is (next, takes, leads) = (next, inl (Err (ByHub hub.Full), takes, is), leads)
-  by_outcome (Err (ByHub hub.Device)) some is (next, takes, leads) = (next, inr (takes.0, is, takes.1), leads)
+    by_outcome device_failed limit opening log contents count head changeset outcome bytes tells.0 (is ∙ ap answer_spelling tells.1) taken
 
 -- ---- a request
 
@@ -99,9 +100,11 @@ module _ {S : Type 0} (honest : S → Type 0) (contents : S → Contents) (faile
     was_honest = stores.was_honest;
     catalog = catalog;
     answered = λ h log shows.
-        let is = told h log shows.0 shows.1 in
-        (is.0, elim is.1 [ inl right ↦ inl (asked, reads, right) | inr broken ↦ inr broken ],
-        (subst (λ (t : List TableDef). ShowsLog t (contents new.store) is.0) (sym catalog) is.2, is.3));
+        let is = told h log shows.0 shows.1 in (
+          is.0,
+          elim is.1 [ inl right ↦ inl (asked, reads, right) | inr broken ↦ inr broken ],
+          (subst (λ (t : List TableDef). ShowsLog t (contents new.store) is.0) (sym catalog) is.2.0, is.2.1),
+        );
     as_read = λ h log shows. stores.as_read h (log, shows.0, shows.1);
   }
 

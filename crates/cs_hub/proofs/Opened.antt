@@ -10,11 +10,11 @@ use Rattle.cs_log_opening.specs.Opens.{IsHubAt}
 use Rattle.cs_hub.specs.Laws.{OpenedShows}
 
 pub opened_shows : HubIsOpened → OpenedShows
-opened_shows is_opened opening old new count (inl (none, first, zero)) = (
+opened_shows is_opened opening old new count are (inl (none, first, zero)) = (
   (λ is. (first, zero)),
-  λ log shows are. absurd ((is_opened opening old log are shows).0 none),
+  λ log shows. absurd ((is_opened opening old log are shows).0 none),
 )
-opened_shows is_opened opening old new count (inr (some, same, hubs, counted)) = (
+opened_shows is_opened opening old new count are (inr (some, same, hubs, counted)) = (
   (λ is. absurd (some is)),
-  λ log shows are. (subst (λ (c : Contents). ShowsLog opening c log) (sym same) shows, counted ∙ shows.entries.counted),
+  λ log shows. (subst (λ (c : Contents). ShowsLog opening c log) (sym same) shows, counted ∙ shows.entries.counted),
 )

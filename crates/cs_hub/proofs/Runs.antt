@@ -82,7 +82,7 @@ module _ {S : Type 0} (honest : S → Type 0) (contents : S → Contents) (faile
         let after = served.answered h log shows in
         let same = same_failures old new (served.as_read h log shows) in
         let right : Serves limit (hub_of old.catalog log) request answer (hub_of old.catalog after.0) =
-            (elim after.1 [ inl is ↦ is | inr (more, a, s) ↦ absurd (no_more (failed old.store) (failed new.store) same few more) ]) in
+        (elim after.1 [ inl is ↦ is | inr (more, a, s) ↦ absurd (no_more (failed old.store) (failed new.store) same few more) ]) in
         record {
           next = after.0;
           answered = inl (subst (λ (d : Result (List ℕ) FromHexError). AnswersDecoded (Serves limit) (hub_of old.catalog log) d answer (hub_of old.catalog after.0)) (sym decoded) right);
@@ -117,6 +117,12 @@ module _ {S : Type 0} (honest : S → Type 0) (contents : S → Contents) (faile
   runs_by_log limit old new log (line ∷ lines) [] only few h shows run = absurd run
   runs_by_log limit old new log (line ∷ lines) (a ∷ answers) only few h shows (mid, here, rest) =
       let step = goes_on limit only old mid log line a few (all_back limit mid new lines answers rest h) shows here in
-      let after = runs_by_log limit mid new step.next lines answers only (subst (λ (n : ℕ). n < 2 ^ 64 - 1) (sym step.failures) few) h step.shows rest in
-      (after.0, (hub_of old.catalog step.next, step.answered,
-      subst (λ (t : List TableDef). AnswersAll (Serves limit) IsSame (hub_of t step.next) lines answers (hub_of t after.0)) step.catalog after.1), after.2)
+      let after = runs_by_log limit mid new step.next lines answers only (subst (λ (n : ℕ). n < 2 ^ 64 - 1) (sym step.failures) few) h step.shows rest in (
+        after.0,
+        (
+          hub_of old.catalog step.next,
+          step.answered,
+          subst (λ (t : List TableDef). AnswersAll (Serves limit) IsSame (hub_of t step.next) lines answers (hub_of t after.0)) step.catalog after.1,
+        ),
+        after.2,
+      )

@@ -6,16 +6,16 @@ use Rattle.cs_value.specs.Catalog.{AreTables}
 use Rattle.cs_value.specs.Facts.{same_row-refl}
 use Rattle.cs_value.specs.Key.{Place}
 use Rattle.cs_value.specs.declared.catalog.TableDef.{TableDef}
-use Rattle.std.specs.Prelude.{Bool}
+use Rattle.std.specs.Prelude.{Bool, pos}
 use Rattle.cs_change.specs.Net.{net}
 use Rattle.cs_log.specs.Laws.{LogStates}
 use Rattle.cs_log.specs.Log.{state_of}
 use Rattle.cs_log.specs.declared.entry.LogEntry.{LogEntry}
 use Rattle.cs_normal.specs.State.{State, IsStateOf}
-use Rattle.cs_store.specs.Contents.{Contents, place_cmp, stored_pending}
+use Rattle.cs_store.specs.Contents.{Bodies, Contents, place_cmp}
 use Rattle.cs_log_store.specs.Shows.{ShowsLog}
 use Rattle.cs_pending.specs.Shows.{ShowsRows}
-use Rattle.cs_pending.specs.View.{View}
+use Rattle.cs_pending.specs.View.{View, undo}
 
 -- these rows, with nothing pending
 abbrev pub at_rest : State → View
@@ -35,7 +35,7 @@ unfolding undo
 log_rows states opening contents log are shows = record {
   rows = shows.rows;
   pends = record {
-    stored = λ number table key is. ap (λ pending. get pending _) shows.pending ∙ get-empty place_cmp _;
+    stored = λ number table key is. ap (λ (held : Bodies). get held (pos number, key)) shows.pending ∙ get-empty place_cmp (pos number, key);
     fits = λ table key inside. tt;
   };
   sound = record {

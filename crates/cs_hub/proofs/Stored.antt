@@ -33,6 +33,12 @@ device_of_hub hub.Empty is = absurd (let e = is in cc)
 device_of_hub hub.Full is = absurd (let e = is in cc)
 device_of_hub hub.Device is = refl
 
+same_tag : (a b : ℕ) (xs ys : List ℕ) → a ∷ xs ≡ b ∷ ys → a ≡ b
+same_tag a b xs ys e = cc
+
+tags_apart : ◌≡◌ {A = ℕ} 17 19 → ⊥
+tags_apart e = omega (arith, e)
+
 module _ {S : Type 0} (honest : S → Type 0) (contents : S → Contents) (failed : S → ℕ) (may_leave : S → Contents → Type 0) (misreads : S → ℕ) where
   -- ---- a push that was judged
 
@@ -99,11 +105,24 @@ module _ {S : Type 0} (honest : S → Type 0) (contents : S → Contents) (faile
       was_honest = writes.was_honest;
       grown = λ h. inl (writes.err h);
       err = λ h. tt;
-      durable = λ h says. absurd (let e = sym says.3 ∙ is in cc);
+      durable = λ h says. absurd (tags_apart (same_tag 17 19 _ _ (sym says.3 ∙ is)));
       crash = λ h left l. writes.crash h left l;
       later = writes.later;
       as_read = λ h r. writes.as_read h r;
     }
+
+  -- the same reads, where more is asked of what is read
+  pub read_when : {T E : Type 0} (device : E) (inner outer : Type 0) (old new : S) (result : Result T E) → (outer → inner) → ReadsStore honest contents failed may_leave misreads device inner old new result
+      → ReadsStore honest contents failed may_leave misreads device outer old new result
+  read_when device inner outer old new result on reads = record {
+    was_honest = reads.was_honest;
+    same = reads.same;
+    crash = reads.crash;
+    kept = reads.kept;
+    later = reads.later;
+    cause = reads.cause;
+    as_read = λ h r. reads.as_read h (on r);
+  }
 
   -- nothing was asked of the store
   pub served_none : {E : Type 0} (opening : List TableDef) (readable : Type 0) (store : S) (result : Result (Vec ℕ Global) E) → ServesStore honest contents failed may_leave misreads opening readable store store result

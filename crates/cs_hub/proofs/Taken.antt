@@ -51,22 +51,22 @@ none_above told other count is from version accepted = from version (sym is ∙ 
 
 pub pushes_count : (opening : List TableDef) (log next : List LogEntry) (push : Push) (told : Result Pushed HubFault) (count after : ℕ) → count ≡ length log → Counts count told after
     → Pushes MAX_ENTRIES (hub_of opening log) push told (hub_of opening next) → after ≡ length next
-pushes_count opening log next push told count after is counts (inl (g, a, s)) =
+pushes_count opening log next push told count after is counts (inl (g, (a, s))) =
     counts.same (none_above told (Err hub.Empty) count a (λ v e. absurd (let f = e in cc))) ∙ is ∙ sym (same_log opening log next s)
-pushes_count opening log next push told count after is counts (inr (g, inl (h, a, s))) =
+pushes_count opening log next push told count after is counts (inr (g, inl (h, (a, s)))) =
     counts.same (none_above told (Err hub.Ahead) count a (λ v e. absurd (let f = e in cc))) ∙ is ∙ sym (same_log opening log next s)
-pushes_count opening log next push told count after is counts (inr (g, inr (h, inl (i, a, s)))) =
+pushes_count opening log next push told count after is counts (inr (g, inr (h, inl (i, (a, s))))) =
     let below : push.head.base < count = rw is (slice_get_within log push.head.base (entry_of_push push) i) in
     counts.same (none_above told (Ok (pushed.Accepted (push.head.base + 1))) count a (λ v e. within v push.head.base count e below)) ∙ is ∙ sym (same_log opening log next s)
-pushes_count opening log next push told count after is counts (inr (g, inr (h, inr (i, inl (j, a, s))))) =
+pushes_count opening log next push told count after is counts (inr (g, inr (h, inr (i, inl (j, (a, s)))))) =
     counts.same (none_above told (Ok (pushed.Stale (length log))) count a (λ v e. absurd (let f = e in cc))) ∙ is ∙ sym (same_log opening log next s)
-pushes_count opening log next push told count after is counts (inr (g, inr (h, inr (i, inr (j, inl (k, a, s)))))) =
+pushes_count opening log next push told count after is counts (inr (g, inr (h, inr (i, inr (j, inl (k, (a, s))))))) =
     counts.same (none_above told (Err hub.Full) count a (λ v e. absurd (let f = e in cc))) ∙ is ∙ sym (same_log opening log next s)
-pushes_count opening log next push told count after is counts (inr (g, inr (h, inr (i, inr (j, inr (k, inl (l, a, s))))))) =
+pushes_count opening log next push told count after is counts (inr (g, inr (h, inr (i, inr (j, inr (k, inl (l, (a, s)))))))) =
     let grown : length next ≡ length (log ++ entry_of_push push ∷ []) = ap (λ (h : HubState). length h.log) s in
     let few : length log < 4096 = omega (arith, k) in
     counts.more (push.head.base + 1) a (omega (arith, j, is)) (omega (arith, few, is)) ∙ omega (arith, grown, length-append log (entry_of_push push ∷ []), is)
-pushes_count opening log next push told count after is counts (inr (g, inr (h, inr (i, inr (j, inr (k, inr (l, (conflict, first, a), s))))))) =
+pushes_count opening log next push told count after is counts (inr (g, inr (h, inr (i, inr (j, inr (k, inr (l, ((conflict, first, a), s)))))))) =
     counts.same (none_above told (Err (hub.Conflict conflict)) count a (λ v e. absurd (let f = e in cc))) ∙ is ∙ sym (same_log opening log next s)
 
 pub pushes_if_count : (opening : List TableDef) (log next : List LogEntry) (push : Push) (told : Result Pushed HubFault) (count after : ℕ) → count ≡ length log → Counts count told after
@@ -84,7 +84,7 @@ pub counted : (opening : List TableDef) (log : List LogEntry) (push : Push) (old
     → (ShowsLogOf opening count old → IsPushedIn MAX_ENTRIES opening push old new told) → IsPushedOf MAX_ENTRIES opening log push new after told
 counted opening log push old new told count after shows is counts answered =
     let judged = answered (log, shows, is) log shows in
-    (judged.0, judged.1, judged.2, pushes_if_count opening log judged.0 push told count after is counts judged.1)
+    (judged.0, judged.1, (judged.2, pushes_if_count opening log judged.0 push told count after is counts judged.1))
 
 -- ---- from the bytes on
 
@@ -134,12 +134,12 @@ module _ (device_failed : Type 0) (limit : ℕ) (head : PushHead) (bytes : List 
     pub unread : (contents : Contents) (count : ℕ) (outcome : Outcome) (fault : CodecFault) → IsErr outcome → IsErrAnd outcome (λ e. e ≡ refusal_of_codec fault) → ReadsChangeset bytes (Err fault)
         → ShowsLog opening contents log → count ≡ length log → Taken contents count outcome
     unread contents count outcome fault is and wrong shows same =
-        (log, told_as (hub_of opening log) (hub_of opening log) outcome (refusal_of_codec fault) is and (unread_at (hub_of opening log) fault wrong), shows, same)
+        (log, told_as (hub_of opening log) (hub_of opening log) outcome (refusal_of_codec fault) is and (unread_at (hub_of opening log) fault wrong), (shows, same))
 
     pub unformed : (contents : Contents) (count : ℕ) (outcome : Outcome) (groups : List Group) (fault : Unfit) → IsErr outcome → IsErrAnd outcome (λ e. e ≡ refusal_of_unfit fault)
         → FitsChangeset groups × (bytes ≡ changeset_spelling groups) → IsUnfit fault opening groups → ShowsLog opening contents log → count ≡ length log → Taken contents count outcome
     unformed contents count outcome groups fault is and (fits, spelled) wrong shows same =
-        (log, told_as (hub_of opening log) (hub_of opening log) outcome (refusal_of_unfit fault) is and (unformed_at opening log groups fault (record { fits = fits; spelled = spelled }) wrong), shows, same)
+        (log, told_as (hub_of opening log) (hub_of opening log) outcome (refusal_of_unfit fault) is and (unformed_at opening log groups fault (record { fits = fits; spelled = spelled }) wrong), (shows, same))
 
     by_form : (next : List LogEntry) (changes : List TableChanges) (told : Result Pushed HubFault) (outcome : Outcome) → outcome ≡ or_refusal told → HasForm opening bytes changes
         → Pushes limit (hub_of opening log) (push_of head changes) told (hub_of opening next) → TakesBytes limit (hub_of opening log) head bytes outcome (hub_of opening next)

@@ -4,6 +4,7 @@ use Rattle.cs_value.specs.declared.catalog.TableDef.{TableDef}
 use Rattle.cs_store.specs.Contents.{Contents}
 use Rattle.cs_log.specs.declared.entry.LogEntry.{LogEntry}
 use Rattle.cs_log_store.specs.Shows.{ShowsLog}
+use Rattle.cs_judging.specs.Judged.{ShowsLogOf}
 
 -- a store, the tables that the hub opened with, and how many entries its log has
 pub record Holding (S : Type 0) : Type 0 where
@@ -17,4 +18,4 @@ Shows contents held log = ShowsLog held.catalog (contents held.store) log × (he
 
 -- its store shows a log
 abbrev pub ShowsSome : {S : Type 0} → (S → Contents) → Holding S → Type 0
-ShowsSome contents held = (log : List LogEntry) × Shows contents held log
+ShowsSome contents held = ShowsLogOf held.catalog held.newest (contents held.store)

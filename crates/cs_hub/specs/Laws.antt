@@ -20,9 +20,10 @@ use Rattle.cs_hub.specs.Serves.{IsSame, Serves}
 abbrev pub OpenedShows : Type 0
 OpenedShows =
     (opening : List TableDef) (old new : Contents) (count : ℕ)
+    → AreTables opening
     → IsHubAt opening old new count
     → (old ≡ nothing → ShowsLog opening new [] × (count ≡ 0))
-    × ((log : List LogEntry) → ShowsLog opening old log → AreTables opening → ShowsLog opening new log × (count ≡ length log))
+    × ((log : List LogEntry) → ShowsLog opening old log → ShowsLog opening new log × (count ≡ length log))
 
 -- a request has one answer, and leaves one hub
 abbrev pub OneService : Type 0

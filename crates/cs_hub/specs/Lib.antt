@@ -4,3 +4,4 @@ pub mod Holding
 pub mod Calls
 pub mod Steps
 pub mod Laws
+pub mod Opened

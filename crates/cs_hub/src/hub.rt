@@ -4,10 +4,9 @@ ghost use Rattle.std.specs.Prelude.{◌≡◌, ◌≤◌, [], List, Some, IfErr,
 ghost use Rattle.cs_log.specs.Log.{state_of};
 ghost use Rattle.cs_log.specs.declared.entry.LogEntry.{LogEntry as Entry};
 ghost use Rattle.cs_log.specs.declared.entry.TheConstants.{MAX_CHANGESET};
-ghost use Rattle.cs_log_opening.specs.Opens.{IsHubAt, IsHubFault, IsSameOrFirst};
+ghost use Rattle.cs_log_opening.specs.Opens.{IsHubAt, IsHubFault};
 ghost use Rattle.cs_log_store.specs.Shows.{ShowsLog};
 ghost use Rattle.cs_normal.specs.Normal.{FitsCatalog, normal_spelling};
-ghost use Rattle.cs_opening.specs.declared.fault.OpenFault.TheVariants as opening;
 ghost use Rattle.cs_pending.specs.Calls.{ReadsStore, WritesStore};
 ghost use Rattle.cs_rows.specs.Rows.{AreRowsOf};
 ghost use Rattle.cs_store.specs.Contents.{nothing};
@@ -20,6 +19,7 @@ ghost use Rattle.cs_judging.specs.Pushes.{Push};
 ghost use Rattle.cs_judging.specs.declared.fault.HubFault.TheVariants.{Device};
 ghost use Rattle.cs_hub.specs.Calls.{AnswersHub, IsEntriesFault, ServesStore, StaysHub};
 ghost use Rattle.cs_hub.specs.Holding.{Shows, ShowsSome};
+ghost use Rattle.cs_hub.specs.Opened.{Opens};
 ghost use Rattle.cs_hub.specs.Steps.{IsPushedOf};
 
 use crate::refusal::Refusal;
@@ -86,10 +86,8 @@ impl<S: RowStore> Hub<S> {
 
         // What a stop leaves, and how the count of failures goes.
         ensures opens { MatchResult result
-            (λ hub. WritesStore S.honest S.contents S.failed S.may_leave S.misreads opening.Device (Unit {0})
-                (IsSameOrFirst catalog.now (S.contents store)) store hub.store (Ok tt))
-            (λ told. WritesStore S.honest S.contents S.failed S.may_leave S.misreads opening.Device (Unit {0})
-                (IsSameOrFirst catalog.now (S.contents store)) store told.0 (Err told.1)) }
+            (λ hub. Opens S.honest S.contents S.failed S.may_leave S.misreads catalog.now store hub.store (Ok tt))
+            (λ told. Opens S.honest S.contents S.failed S.may_leave S.misreads catalog.now store told.0 (Err told.1)) }
     {
         crate::laws::opened_shows();
         let _tables = catalog.tables();
@@ -147,10 +145,11 @@ impl<S: RowStore> Hub<S> {
         }
         let first = first as u32;
         let count = limit.min(self.newest - first);
-        match entries_at(self.alloc, &mut self.store, &self.catalog, first, count) {
-            Ok(entries) => Ok(entries),
-            Err(fault) => Err(HubFault::from(fault)),
-        }
+        let entries = match entries_at(self.alloc, &mut self.store, &self.catalog, first, count) {
+            Ok(entries) => entries,
+            Err(fault) => return Err(HubFault::from(fault)),
+        };
+        Ok(entries)
     }
 
     /// The rows of the table with this number in the catalog, at the newest version, each behind the bytes of its key and in the order of
@@ -173,10 +172,7 @@ impl<S: RowStore> Hub<S> {
     {
         cs_log::laws::log_states();
         let _tables = self.catalog.tables();
-        match rows_of(self.alloc, &mut self.store, &self.catalog, table) {
-            Ok(rows) => Ok(rows),
-            Err(fault) => Err(fault),
-        }
+        rows_of(self.alloc, &mut self.store, &self.catalog, table)
     }
 
     /// Takes a push: a changeset that the replica `head.origin` made as its push `head.number` on the tables of the version

@@ -72,7 +72,8 @@ fn answers(hub: &mut Hub<Store>, request: &[u8], expected: &[u8]) -> bool {
 /// Pull: from entry 0, at most 10; and the answer where one push of the INSERT by replica 7 was taken.
 const PULL: [u8; 13] = [2, 0, 0, 0, 0, 0, 0, 0, 0, 0, 0, 0, 10];
 
-const ONE_ENTRY: &[u8] = b"\x14\0\0\0\0\0\0\0\0\0\0\0\x01\0\0\0\0\x07\0\0\0\0\0\0\0\x01\0\0\0\x16\x54\x02\x01\0\x74\x31\0\x12\0\x01\0\0\0\0\0\0\0\x01\x03\x02\x76\x31";
+const ONE_ENTRY: &[u8] =
+    b"\x14\0\0\0\0\0\0\0\0\0\0\0\x01\0\0\0\0\x07\0\0\0\0\0\0\0\x01\0\0\0\x16\x54\x02\x01\0\x74\x31\0\x12\0\x01\0\0\0\0\0\0\0\x01\x03\x02\x76\x31";
 
 const ACCEPTED: &[u8] = b"\x11\0\0\0\x07\0\0\0\0\0\0\0\x01\0\0\0\0\0\0\0\x01";
 
@@ -167,9 +168,18 @@ fn refused_requests(rt: HostRuntime) -> Result<(), Fail> {
     let session: [(Vec<u8>, &[u8]); 5] = [
         (Vec::new(alloc), b"\x13\x02"),
         (Vec::from_slice(alloc, &[0x99])?, b"\x13\x14"),
-        (Vec::from_slice(alloc, &[2, 0, 0, 0, 0, 0, 0, 0, 0, 0, 0, 0, 10, 0])?, b"\x13\x15"),
-        (Vec::from_slice(alloc, &[2, 0, 0, 0, 0, 0, 0, 0, 0, 0, 0, 0])?, b"\x13\x02"),
-        (Vec::from_slice(alloc, &[2, 0, 0, 0, 0, 0, 0, 0, 1, 0, 0, 0, 10])?, b"\x13\x28"),
+        (
+            Vec::from_slice(alloc, &[2, 0, 0, 0, 0, 0, 0, 0, 0, 0, 0, 0, 10, 0])?,
+            b"\x13\x15",
+        ),
+        (
+            Vec::from_slice(alloc, &[2, 0, 0, 0, 0, 0, 0, 0, 0, 0, 0, 0])?,
+            b"\x13\x02",
+        ),
+        (
+            Vec::from_slice(alloc, &[2, 0, 0, 0, 0, 0, 0, 0, 1, 0, 0, 0, 10])?,
+            b"\x13\x28",
+        ),
     ];
     assert!(rt; answers_session(alloc, &session).unwrap_or(false));
     Ok(())
@@ -213,7 +223,11 @@ fn accepts_all(alloc: Global, hub: &mut Hub<Store>, count: u16) -> Option<bool> 
 fn is_full_at_last(alloc: Global) -> Option<bool> {
     let mut hub = hub_of_t1(alloc)?;
     let all = accepts_all(alloc, &mut hub, 4096)?;
-    let refused = answers(&mut hub, &push(alloc, 7, 1, 4096, &INSERT).ok()?, b"\x13\x2b");
+    let refused = answers(
+        &mut hub,
+        &push(alloc, 7, 1, 4096, &INSERT).ok()?,
+        b"\x13\x2b",
+    );
     let rows = hub.rows(0).ok()?.len();
     let entries = hub.entries(4090, 10).ok()?.len();
     Some(all && refused && hub.newest() == 4096 && rows == 4096 && entries == 6)

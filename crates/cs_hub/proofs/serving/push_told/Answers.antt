@@ -1,0 +1,13 @@
+use Rattle.std.proofs.Common.{List, ℕ, ◌++◌, ◌∙◌, ap}
+use Rattle.cs_store.specs.Calls.{MoreFailures}
+use Rattle.cs_wire.specs.Answers.{short_spelling}
+use Rattle.cs_hub.specs.declared.hub.TheConstants.{MAX_ENTRIES}
+use Rattle.cs_hub.proofs.Answered.{told}
+use Rattle.cs_hub.proofs.serving.push_told.Goals as goal
+
+pub returns-clause-answered : goal.returns-clause-answered
+returns-clause-answered g c = λ honest log shows same.
+    told (MoreFailures (g.S.RowStore.failed c.args.store.now) (g.S.RowStore.failed c.take_at-taken.new.store)) MAX_ENTRIES c.args.catalog.now log
+    (g.S.RowStore.contents c.take_at-taken.new.store) c.take_at-taken.new.newest c.args.head c.args.changeset.now c.take_at-taken.result c.in-Some.answer c.put.new.out.items
+    c.in-Some.ensures (c.put.ensures ∙ ap (λ (xs : List ℕ). xs ++ short_spelling c.in-Some.answer) c.in_ok-told.ensures.items)
+    (c.take_at-taken.ensures.taken honest log shows same)
