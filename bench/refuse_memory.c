@@ -34,5 +34,16 @@ void *realloc(void *memory, size_t size) {
 
 __attribute__((destructor)) static void tell(void) {
     static const char text[] = "not reached\n";
-    if (calls < refused && write(9, text, sizeof text - 1) < 0) _exit(99);
+    static int told;
+    if (told++ || calls >= refused) return;
+    if (write(9, text, sizeof text - 1) < 0) abort();
+}
+
+/* A program that may start threads ends by this call, which runs no destructor. */
+__attribute__((noreturn)) void _exit(int status) {
+    static void (*next)(int);
+    tell();
+    if (!next) next = (void (*)(int))dlsym(RTLD_NEXT, "_exit");
+    next(status);
+    __builtin_unreachable();
 }

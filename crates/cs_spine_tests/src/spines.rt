@@ -18,72 +18,113 @@ pub(crate) fn sees<'s>(spine: &'s Spine, pass: &mut Pass<'s>, wanted: &LogEntry)
     }
 }
 
-/// Offers on a spine of one cell: the first is `Mine`, the next through that pass finds it full, another pass sees the first
-/// entry, and an unequal offer of a third is `Other`.
-fn one_cell(alloc: Global) -> Option<bool> {
-    let spine = Spine::new(alloc, 1).ok()?;
-    let first = insert(alloc, 1, 1)?;
-    let second = insert(alloc, 2, 1)?;
-    let mut mine = spine.pass().ok()?;
-    let mut reading = spine.pass().ok()?;
-    let mut late = spine.pass().ok()?;
-    let lone = spine.offer(&mut mine, &first) == Ok(Offered::Mine);
-    let full = spine.offer(&mut mine, &second) == Err(OfferFault::Full);
-    let seen = sees(&spine, &mut reading, &first);
-    let other = spine.offer(&mut late, &second) == Ok(Offered::Other);
-    Some(lone && full && seen && other && late.len() == 1 && spine.entry(&late, 0).same(&first))
+/// Whether an offer is answered so.
+pub(crate) fn offers<'s>(
+    spine: &'s Spine,
+    pass: &mut Pass<'s>,
+    entry: &LogEntry,
+    told: Result<Offered, OfferFault>,
+) -> bool
+    requires { pass.old.spine ≡ spine.now }
+    ensures { pass.new.spine ≡ pass.old.spine }
+{
+    spine.offer(pass, entry) == told
 }
 
-#[test]
-fn one_cell_is_decided_once(rt: HostRuntime) {
-    assert!(rt; one_cell(rt.alloc()) == Some(true));
+/// Whether a pass knows so many entries, of which this is the last.
+fn knows(spine: &Spine, pass: &Pass<'_>, count: usize, last: &LogEntry) -> bool {
+    pass.len() == count && count > 0 && spine.entry(pass, count - 1).same(last)
+}
+
+/// Offers on a spine of one cell: the first is `Mine`, the next through that pass finds it full, another pass sees the first
+/// entry, and an unequal offer of a third is `Other`.
+fn decides_once(spine: &Spine, first: &LogEntry, second: &LogEntry) -> Option<bool> {
+    let mut pass = spine.pass().ok()?;
+    let mut reading = spine.pass().ok()?;
+    let mut late = spine.pass().ok()?;
+    let lone = offers(spine, &mut pass, first, Ok(Offered::Mine));
+    let full = offers(spine, &mut pass, second, Err(OfferFault::Full));
+    let seen = sees(spine, &mut reading, first);
+    let other = offers(spine, &mut late, second, Ok(Offered::Other));
+    Some(lone & full & seen & other & knows(spine, &late, 1, first))
 }
 
 /// Two passes offer on two cells, and three meet.
+fn meets(spine: &Spine, first: &LogEntry, second: &LogEntry) -> Option<bool> {
+    let mut one = spine.pass().ok()?;
+    let mut other = spine.pass().ok()?;
+    let idle = spine.pass().ok()?;
+    let mine = offers(spine, &mut one, first, Ok(Offered::Mine));
+    let taken = offers(spine, &mut other, second, Ok(Offered::Other));
+    let next = offers(spine, &mut other, second, Ok(Offered::Mine));
+    let apart = spine.meet(&one, &other) == 1;
+    let seen = sees(spine, &mut one, second);
+    let met = spine.meet(&one, &other) == 2;
+    let full = offers(spine, &mut other, second, Err(OfferFault::Full));
+    Some(mine & taken & next & apart & seen & met & full & (spine.meet(&one, &idle) == 0))
+}
+
+/// An entry that equals the one that the cell holds is `Mine`, whoever offered it first; another isn't. A shared pass knows the
+/// same, and goes on by itself.
+fn goes_on(spine: &Spine, entry: &LogEntry, same: &LogEntry, later: &LogEntry) -> Option<bool> {
+    let mut one = spine.pass().ok()?;
+    let mut other = spine.pass().ok()?;
+    let mine = offers(spine, &mut one, entry, Ok(Offered::Mine));
+    let also = offers(spine, &mut other, same, Ok(Offered::Mine));
+    let mut shared = spine.share(&one).ok()?;
+    let knew = knows(spine, &shared, 1, entry);
+    let unset = spine.see(&mut shared).is_none();
+    let next = offers(spine, &mut other, later, Ok(Offered::Mine));
+    let taken = offers(spine, &mut shared, entry, Ok(Offered::Other));
+    Some(
+        mine & also
+            & knew
+            & unset
+            & next
+            & taken
+            & knows(spine, &shared, 2, later)
+            & (one.len() == 1),
+    )
+}
+
+/// A spine of so many cells, and the entries number 1 of the origins 1 and 2.
+fn with_entries(alloc: Global, cap: usize) -> Option<(Spine, LogEntry, LogEntry)> {
+    Some((
+        Spine::new(alloc, cap).ok()?,
+        insert(alloc, 1, 1)?,
+        insert(alloc, 2, 1)?,
+    ))
+}
+
+fn one_cell(alloc: Global) -> Option<bool> {
+    let (spine, first, second) = with_entries(alloc, 1)?;
+    decides_once(&spine, &first, &second)
+}
+
 fn two_cells(alloc: Global) -> Option<bool> {
-    let spine = Spine::new(alloc, 2).ok()?;
-    let first = insert(alloc, 1, 1)?;
-    let second = insert(alloc, 2, 1)?;
-    let mut p = spine.pass().ok()?;
-    let mut q = spine.pass().ok()?;
-    let r = spine.pass().ok()?;
-    let mine = spine.offer(&mut p, &first) == Ok(Offered::Mine);
-    let other = spine.offer(&mut q, &second) == Ok(Offered::Other);
-    let next = spine.offer(&mut q, &second) == Ok(Offered::Mine);
-    let apart = spine.meet(&p, &q) == 1;
-    let seen = sees(&spine, &mut p, &second);
-    let met = spine.meet(&p, &q) == 2 && spine.meet(&p, &r) == 0;
-    let full = spine.offer(&mut q, &second) == Err(OfferFault::Full);
-    Some(mine && other && next && apart && seen && met && full)
+    let (spine, first, second) = with_entries(alloc, 2)?;
+    meets(&spine, &first, &second)
+}
+
+fn three_cells(alloc: Global) -> Option<bool> {
+    let (spine, first, later) = with_entries(alloc, 3)?;
+    let same = insert(alloc, 1, 1)?;
+    goes_on(&spine, &first, &same, &later)
 }
 
 #[test]
-fn two_passes_meet(rt: HostRuntime) {
-    assert!(rt; two_cells(rt.alloc()) == Some(true));
+fn a_cell_is_decided_once(rt: HostRuntime) {
+    assert!(rt; one_cell(rt.alloc()) == Some(true));
 }
 
-/// An entry that equals the one that the cell holds is `Mine`, whoever offered it first; one of another number isn't. A shared
-/// pass knows the same, and goes on by itself.
-fn equal_entries(alloc: Global) -> Option<bool> {
-    let spine = Spine::new(alloc, 3).ok()?;
-    let entry = insert(alloc, 1, 1)?;
-    let same = insert(alloc, 1, 1)?;
-    let later = insert(alloc, 1, 2)?;
-    let mut p = spine.pass().ok()?;
-    let mut q = spine.pass().ok()?;
-    let mine = spine.offer(&mut p, &entry) == Ok(Offered::Mine);
-    let also = spine.offer(&mut q, &same) == Ok(Offered::Mine);
-    let mut shared = spine.share(&p).ok()?;
-    let knows = shared.len() == 1 && spine.entry(&shared, 0).same(&entry);
-    let unset = spine.see(&mut shared).is_none() && shared.len() == 1;
-    let next = spine.offer(&mut q, &later) == Ok(Offered::Mine);
-    let other = spine.offer(&mut shared, &entry) == Ok(Offered::Other);
-    Some(mine && also && knows && unset && next && other && p.len() == 1 && shared.len() == 2)
+#[test]
+fn passes_meet(rt: HostRuntime) {
+    assert!(rt; two_cells(rt.alloc()) == Some(true));
 }
 
 #[test]
 fn equal_entries_are_mine(rt: HostRuntime) {
-    assert!(rt; equal_entries(rt.alloc()) == Some(true));
+    assert!(rt; three_cells(rt.alloc()) == Some(true));
 }
 
 /// How many cells a spine has that was asked for so many.
@@ -97,8 +138,9 @@ fn none_is_full(alloc: Global) -> Option<bool> {
     let spine = Spine::new(alloc, 0).ok()?;
     let entry = insert(alloc, 1, 1)?;
     let mut pass = spine.pass().ok()?;
-    let full = spine.offer(&mut pass, &entry) == Err(OfferFault::Full);
-    Some(full && spine.see(&mut pass).is_none() && pass.len() == 0)
+    let full = offers(&spine, &mut pass, &entry, Err(OfferFault::Full));
+    let unset = spine.see(&mut pass).is_none();
+    Some(full & unset & (pass.len() == 0))
 }
 
 #[test]

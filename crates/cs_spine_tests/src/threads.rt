@@ -108,7 +108,7 @@ fn one_offers_one_sees<R: Threads + Sync>(rt: &R, alloc: Global) -> Option<bool>
         || offers_next(&spine, pass, &second),
         || sees_first_or_second(&spine, other, &first, &second),
     );
-    Some(mine && next && seen)
+    Some(mine & next & seen)
 }
 
 /// Whether an entry gets into the next cell.
