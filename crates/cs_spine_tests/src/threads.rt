@@ -76,7 +76,7 @@ fn are_in_order(spine: &Spine, pass: &Pass<'_>, alloc: Global) -> Option<bool> {
 
 /// Eight threads offer a hundred entries each, on a spine of as many cells. After they have joined, a pass that knew nothing sees
 /// all of them.
-fn eight_by_hundred<R: Threads + Sync>(rt: &R, alloc: Global) -> Option<bool> {
+fn offered_by_eight<R: Threads + Sync>(rt: &R, alloc: Global) -> Option<bool> {
     let spine = Spine::new(alloc, 800).ok()?;
     let counts = thread::map_indices(
         rt,
@@ -91,8 +91,8 @@ fn eight_by_hundred<R: Threads + Sync>(rt: &R, alloc: Global) -> Option<bool> {
 }
 
 #[test]
-fn eight_threads_offer_a_hundred_each(rt: HostRuntime) {
-    assert!(rt; eight_by_hundred(&rt, rt.alloc()) == Some(true));
+fn eight_by_hundred(rt: HostRuntime) {
+    assert!(rt; offered_by_eight(&rt, rt.alloc()) == Some(true));
 }
 
 /// A pass goes to another thread, which sees what was set meanwhile, beside a thread that offers on the same spine.
