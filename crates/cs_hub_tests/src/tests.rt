@@ -53,7 +53,7 @@ fn push(
     number: u8,
     base: u16,
     changeset: &[u8],
-) -> Result<Vec<u8>, Fail> {
+) -> Result<Vec<u8>, AllocError> {
     let mut bytes = Vec::new(alloc);
     bytes.extend_from_slice(&[1, 0, 0, 0, origin, 0, 0, 0, 0, 0, 0, 0, number])?;
     bytes.extend_from_slice(&[0, 0, 0, 0, 0, 0])?;
@@ -265,7 +265,7 @@ fn is_answered_again(alloc: Global, passes: u64, request: &[u8], expected: &[u8]
 }
 
 /// Another push of replica 7, of a row with the key 2.
-fn second_push(alloc: Global) -> Result<Vec<u8>, Fail> {
+fn second_push(alloc: Global) -> Result<Vec<u8>, AllocError> {
     let mut insert = INSERT;
     insert[17] = 2;
     push(alloc, 7, 2, 1, &insert)
