@@ -13,17 +13,17 @@ returns-in_err-catalog-clause-ends g c =
 pub returns-in-Ok-serve_lines-clause-ends : goal.returns-in-Ok-serve_lines-clause-ends
 returns-in-Ok-serve_lines-clause-ends g c =
     all_answered c.runs_by_log.ensures _ _ _ _ _ (g.R.Read.remaining c.serve_lines.new.reader) (g.R.LineInput.failed c.serve_lines.new.reader)
-        (g.W.LineOutput.failed c.serve_lines.new.writer) _ _ c.in_ok-catalog.ensures.ok c.in-Ok.ensures.tables
-        (c.in-Ok.ensures.fresh tt (ap held_by c.new.ensures)) (c.in-Ok.ensures.opens.kept ∙ ap misreads_of c.new.ensures) c.in-Ok-serve_lines.ensures.served
+    (g.W.LineOutput.failed c.serve_lines.new.writer) _ _ c.in_ok-catalog.ensures.ok c.in-Ok.ensures.tables
+    (c.in-Ok.ensures.fresh tt (ap held_by c.new.ensures)) (c.in-Ok.ensures.opens.kept ∙ ap misreads_of c.new.ensures) c.in-Ok-serve_lines.ensures.served
 
 pub returns-in-Err-Read-clause-ends : goal.returns-in-Err-Read-clause-ends
 returns-in-Err-Read-clause-ends g c =
     read_stopped c.runs_by_log.ensures _ _ _ _ _ (g.R.Read.remaining c.serve_lines.new.reader) (g.R.LineInput.failed c.serve_lines.new.reader)
-        (g.W.LineOutput.failed c.serve_lines.new.writer) _ _ c.in_ok-catalog.ensures.ok c.in-Ok.ensures.tables
-        (c.in-Ok.ensures.fresh tt (ap held_by c.new.ensures)) (c.in-Ok.ensures.opens.kept ∙ ap misreads_of c.new.ensures) (c.in-Err-Read.ensures.read c.in-Err-Read.field-0-is)
+    (g.W.LineOutput.failed c.serve_lines.new.writer) _ _ c.in_ok-catalog.ensures.ok c.in-Ok.ensures.tables
+    (c.in-Ok.ensures.fresh tt (ap held_by c.new.ensures)) (c.in-Ok.ensures.opens.kept ∙ ap misreads_of c.new.ensures) (c.in-Err-Read.ensures.read c.in-Err-Read.field-0-is)
 
 pub returns-clause-ends : goal.returns-clause-ends
 returns-clause-ends g c =
     write_stopped c.runs_by_log.ensures _ _ _ _ _ (g.R.Read.remaining c.serve_lines.new.reader) (g.R.LineInput.failed c.serve_lines.new.reader)
-        (g.W.LineOutput.failed c.serve_lines.new.writer) _ _ c.in_ok-catalog.ensures.ok c.in-Ok.ensures.tables
-        (c.in-Ok.ensures.fresh tt (ap held_by c.new.ensures)) (c.in-Ok.ensures.opens.kept ∙ ap misreads_of c.new.ensures) (c.in-Err-Write.ensures.write c.in-Err-Write.field-0-is)
+    (g.W.LineOutput.failed c.serve_lines.new.writer) _ _ c.in_ok-catalog.ensures.ok c.in-Ok.ensures.tables
+    (c.in-Ok.ensures.fresh tt (ap held_by c.new.ensures)) (c.in-Ok.ensures.opens.kept ∙ ap misreads_of c.new.ensures) (c.in-Err-Write.ensures.write c.in-Err-Write.field-0-is)
