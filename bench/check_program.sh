@@ -5,32 +5,7 @@
 # Usage: bench/check_program.sh PROGRAM
 set -u
 program="${1:?usage: bench/check_program.sh PROGRAM}"
-dir="$(mktemp -d)"
-trap 'rm -rf "$dir"' EXIT
-failed=0
-runs=0
-
-# expect STATUS INPUT OUTPUT ERRORS WORD..: runs the program on the words. INPUT, OUTPUT and ERRORS are printf formats.
-expect() {
-    status=$1
-    printf "$2" > "$dir/input"
-    printf "$3" > "$dir/output_wanted"
-    printf "$4" > "$dir/errors_wanted"
-    shift 4
-    ended=0
-    timeout 20 "$program" "$@" < "$dir/input" > "$dir/output" 2> "$dir/errors" || ended=$?
-    runs=$((runs + 1))
-    [ "$ended" -eq "$status" ] || tell "ended with $ended in place of $status" "$@"
-    cmp -s "$dir/output" "$dir/output_wanted" || tell "wrote $(head -c 200 "$dir/output")" "$@"
-    cmp -s "$dir/errors" "$dir/errors_wanted" || tell "told $(head -c 200 "$dir/errors")" "$@"
-}
-
-tell() {
-    what=$1
-    shift
-    echo "sync $*: $what" >&2
-    failed=1
-}
+. "$(dirname "$0")/running.sh"
 
 insert=54020100743100120001000000000000000103027631
 update=540201007431001700010000000000000001030276310003027632

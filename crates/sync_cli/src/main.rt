@@ -9,8 +9,8 @@
 //! `run`'s clauses stand over a reader and a writer whose bytes are known, as those of slices and vectors are. Standard
 //! input and output are none such in the toolchain: of `main`, which hands `run` the words, the standard streams and the
 //! allocator, the clauses say which end may come for which words, and nothing of the bytes. What the built program
-//! reads and writes on files and pipes is shown by tests instead: the stored run (`stdin`, `stdout`) and
-//! `bench/check_program.sh`.
+//! reads and writes on files and pipes is shown by runs instead: the stored run (`stdin`, `stdout`), and `bench/check_program.sh` and
+//! `bench/check_sessions.sh`, which are its tests.
 #![tactic(auto)]
 
 mod command;
@@ -54,8 +54,3 @@ fn refused_start<'w>(error: &io::Error) -> RunFault<'w> {
         _ => RunFault::Memory,
     }
 }
-
-#[cfg(test)]
-mod sessions;
-#[cfg(test)]
-mod tests;

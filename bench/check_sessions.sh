@@ -1,0 +1,266 @@
+#!/bin/sh
+# Runs the built program `sync` on what a person types, and compares each run's status, output and errors with what they have to
+# be: a hub's sessions, each request and changeset that it refuses, each front of requests and of a pushed changeset, long lines, a
+# full log; the tools by their words; table words that are read and that are refused; command lines that aren't taken; the help; and
+# reads and writes that fail in mid-stream. One case is one run.
+# Usage: bench/check_sessions.sh PROGRAM
+# A read that fails is that of a terminal whose other side is gone, for which it wants python3 (as `rt` does).
+set -u
+program="${1:?usage: bench/check_sessions.sh PROGRAM}"
+. "$(dirname "$0")/running.sh"
+
+# push ORIGIN NUMBER BASE CHANGESET: the push of a changeset in hex.
+push() {
+    printf '01%08x%016x%016x%08x%s' "$1" "$2" "$3" "$((${#4} / 2))" "$4"
+}
+
+# answers OUTPUT LINE..: a hub of t1 answers these lines so.
+answers() {
+    answer=$1
+    shift
+    expect 0 "$(printf '%s\\n' "$@")" "$answer" '' hub t1:10
+}
+
+# refuses_words WORD..: the words are no command line, and nothing is read or written.
+refuses_words() {
+    expect 2 "$line" '' 'sync: command line\n' "$@"
+}
+
+# The INSERT of (1, 'v1') into t1, the UPDATE of that row to (1, 'v2'), the DELETE of the one row and of the other.
+insert=54020100743100120001000000000000000103027631
+update=540201007431001700010000000000000001030276310003027632
+delete=54020100743100090001000000000000000103027631
+delete_updated=54020100743100090001000000000000000103027632
+
+# ---- what a hub of two tables, and one of none, answers to lines: no first byte of these is a request's tag
+
+hub_answers() {
+    expect 0 "$1" "$2" '' hub t1:10 a:b:1
+}
+
+hub_answers '' ''
+hub_answers '\n' '1302\n'
+hub_answers '07' '1314\n'
+hub_answers '07\n' '1314\n'
+hub_answers 'zz\n' '1316\n'
+hub_answers '070\n' '1316\n'
+hub_answers '07\r\n' '1316\n'
+hub_answers '0a0B\n\nff\n 07\n0' '1314\n1302\n1314\n1316\n1316\n'
+expect 0 '07\n' '1314\n' '' hub
+
+# ---- sessions with a hub of t1
+
+answers '110000000700000000000000010000000000000001\n110000000700000000000000010000000000000001\n120000000000000001\n14000000000000000000000001000000000700000000000000010000001654020100743100120001000000000000000103027631\n1329\n1328\n132a\n' \
+    "$(push 7 1 0 $insert)" "$(push 7 1 0 $insert)" "$(push 8 1 0 $insert)" 0200000000000000000000000A \
+    "$(push 8 2 1 $insert)" "$(push 8 3 7 $insert)" "$(push 8 4 1 '')"
+answers '110000000700000000000000010000000000000001\n110000000700000000000000020000000000000002\n1329\n110000000800000000000000020000000000000003\n110000000800000000000000030000000000000004\n' \
+    "$(push 7 1 0 $insert)" "$(push 7 2 1 $update)" "$(push 8 1 2 $delete)" "$(push 8 2 2 $delete_updated)" "$(push 8 3 3 $insert)"
+
+# ---- requests that are refused, and one of no entry: the answer, the line
+
+while read -r answer line; do
+    answers "$answer\n" "$line"
+done << 'END'
+1302
+1316 zz
+1316 0
+1314 99
+1315 0200000000000000000000000a00
+1316 0200000000000000000000000
+14000000000000000000000000 02000000000000000000000000
+1328 0200000000000000010000000a
+1314 030000000900000000000000000000000a
+END
+
+# ---- changesets that are refused: the answer to a push of it, the changeset
+
+while read -r answer changeset; do
+    answers "$answer\n" "$(push 7 1 0 "$changeset")"
+done << 'END'
+132a
+132a 54020100743100
+1307 50
+1308 ff
+1309 5402010074310013
+130a 540201007431001202
+130b 5400
+130c 54020000
+130d 54020100743100120000
+1302 5402010074310012000100000000000000010380
+1305 54020100743100120001000000000000000102
+1304 54020100743100120001000000000000000106
+1306 5402010074310012000100000000000000010301ff
+131e 54020100743200120001000000000000000103027631
+131f 54020101743100120001000000000000000103027631
+1320 5402010074310012000503027631
+1321 54020100743100120001000000000000000103027631120001000000000000000103027632
+END
+
+# ---- fronts of the pushed INSERT: of its 21, the one that is a header alone is a changeset without changes
+
+bytes=1
+while [ "$bytes" -lt 22 ]; do
+    answer=1302
+    [ "$bytes" -ne 7 ] || answer=132a
+    answers "$answer\n" "$(push 7 1 0 "$(printf "%.$((2 * bytes))s" "$insert")")"
+    bytes=$((bytes + 1))
+done
+
+# ---- fronts of requests that are taken, digit by digit: a half of a byte is no hex
+
+for request in "$(push 7 1 0 $insert)" 0200000000000000000000000a; do
+    digits=0
+    while [ "$digits" -lt "${#request}" ]; do
+        answer=1302
+        [ $((digits % 2)) -eq 0 ] || answer=1316
+        answers "$answer\n" "$(printf "%.${digits}s" "$request")"
+        digits=$((digits + 1))
+    done
+done
+
+# ---- a line of 131,072 digits, alone and as a changeset
+
+long="$(head -c 131072 /dev/zero | tr '\0' f)"
+answers '1314\n1308\n' "$long" "$(push 7 1 0 "$long")"
+
+# ---- a full log: 4,096 pushes of rows with keys of their own, and one more
+
+awk 'BEGIN { for (base = 0; base < 4097; base++)
+    printf "0100000007%016x%016x0000001654020100743100120001%016x03027631\n", base + 1, base, base }' > "$dir/input"
+awk 'BEGIN { for (next_one = 1; next_one < 4097; next_one++) printf "1100000007%016x%016x\n", next_one, next_one; print "132b" }' \
+    > "$dir/output_wanted"
+: > "$dir/errors_wanted"
+seconds=120
+expect_files 0 hub t1:10
+seconds=20
+
+# ---- table words that are read: `A%b` with marks 1 and 0, `a:b` with 0 and 1, and a name of an e with an acute accent and `~!`
+
+words='%41%25b:10 a:b:01 %C3%A9~!:1'
+of_first=5402010041256200120001000000000000000103027631
+of_second=54020001613a6200120003027631010000000000000001
+of_third=540101c3a97e21001200010000000000000001
+# What was pushed in another order stands in the order of the words; other marks are another shape, and another name no table's.
+expect 0 "$(push 7 1 0 $of_third$of_second$of_first)\n0200000000000000000000000a\n" \
+    "110000000700000000000000010000000000000001\n140000000000000000000000010000000007000000000000000100000041$of_first$of_second$of_third\n" \
+    '' hub $words
+while read -r answer changeset; do
+    expect 0 "$(push 7 1 0 "$changeset")\n" "$answer\n" '' hub $words
+done << 'END'
+131f 5402000141256200120003027631010000000000000001
+131f 54020100613a6200120001000000000000000103027631
+131f 54020100c3a97e2100120001000000000000000103027631
+131e 540201004100120001000000000000000103027631
+END
+
+# ---- table words that are refused, and the first of them is told: the words, what is told
+
+line='07\n'
+while IFS='|' read -r first second refused; do
+    expect 2 "$line" '' "sync: table $refused\n" hub "$first" "$second"
+done << 'END'
+t1|t2:1|t1
+t1:10|t2:00|t2:00
+t1:10|t1:01|t1:01
+t1:|t2:1|t1:
+t1:12|t2:1|t1:12
+:10|t2:1|:10
+a%00:10|t2:1|a%00:10
+a%4a:10|t2:1|a%4a:10
+a%:10|t2:1|a%:10
+a%4:10|t2:1|a%4:10
+a%FF:10|t2:1|a%FF:10
+a b:10|t2:1|a b:10
+é:10|t2:1|é:10
+A:1|%41:1|%41:1
+END
+expect 2 "$line" '' 'sync: table %41%c:1\n' hub t1:10 a:b:1 %41%c:1
+# A table too many, the 1,001st, which is sought one by one.
+seconds=120
+expect 2 '' '' 'sync: table t1000:1\n' hub $(awk 'BEGIN { for (place = 0; place < 1001; place++) print "t" place ":1" }')
+seconds=20
+
+# ---- words that are no command line
+
+refuses_words
+refuses_words frob
+refuses_words hub --frob
+refuses_words help frob
+line='50\n'
+refuses_words show
+refuses_words show frob
+line=''
+refuses_words combine t1:10
+# The other commands don't take the option, nor is it taken twice or with a value.
+refuses_words show changeset --sqlite
+refuses_words show blob --sqlite
+refuses_words hub t1:10 --sqlite
+refuses_words hub --sqlite
+refuses_words --sqlite combine
+refuses_words combine --sqlite --sqlite
+refuses_words combine --sqlite=true
+refuses_words rebase --sqlit
+refuses_words rebase sqlite
+
+# ---- each tool by its words, and what it tells as the run's; headers of one table with its key's columns in two orders
+
+two_orders='54020201743100\n54020102743100\n'
+for tool in combine rebase; do
+    expect 0 "$insert\n" "$insert\n" '' $tool
+    expect 0 "$two_orders" '\n' '' $tool
+    expect 1 "$two_orders" '' 'sync: KeyOrder\n' $tool --sqlite
+done
+expect 0 "$insert\n" 'table t1 10\ninsert 0 1 t=v1\n' '' show changeset
+expect 0 "$insert\n" 'table t1 10\nchange omit 1 t=v1\n' '' show blob
+expect 1 '54\n' '' 'sync: Truncated at 1\n' show blob
+
+# ---- the help: the usage line by the program's own name, whatever it was called by, and a line for each command
+
+help='Offline-first table sync: a hub, and tools for changesets\n\nUsage: sync [COMMAND]\n\nCommands:\n  hub      Answer requests, one a line in hex, as a hub of these tables\n  show     Show the changeset or rebase blob that the first line spells in hex\n  combine  Take the changesets that the lines spell in hex together as one\n  rebase   Rebase the changeset of the first line over the rebase blob of the second, in hex\n  help     Print this message or the help of the given subcommand(s)\n\nOptions:\n  -h, --help  Print help\n'
+help_to_combine='Take the changesets that the lines spell in hex together as one\n\nUsage: sync combine [--sqlite]\n\nOptions:\n      --sqlite  Write the column bytes that came in, as SQLite applies them\n  -h, --help    Print help\n'
+expect 0 '07\n' "$help" '' --help
+expect 0 '07\n' "$help_to_combine" '' help combine
+ln -s "$(realpath "$program")" "$dir/any"
+own="$program"
+program="$dir/any"
+expect 0 '07\n' "$help" '' help
+program="$own"
+
+# ---- a write that fails behind seven bytes: the output is a file that may be only seven bytes longer than it is
+
+printf '07\n08\n' > "$dir/input"
+head -c 1017 /dev/zero > "$dir/output"
+cp "$dir/output" "$dir/output_wanted"
+printf '1314\n13' >> "$dir/output_wanted"
+printf 'sync: Write\n' > "$dir/errors_wanted"
+ended=0
+(
+    trap '' XFSZ
+    ulimit -f 2
+    timeout "$seconds" "$program" hub t1:10 < "$dir/input" >> "$dir/output" 2> "$dir/errors"
+) || ended=$?
+compare 1 hub t1:10
+
+# ---- a read that fails behind two empty lines, which are answered before: the input is a terminal whose other side is gone
+
+printf '\n\n' > "$dir/input"
+printf '1302\n1302\n' > "$dir/output_wanted"
+printf 'sync: Read\n' > "$dir/errors_wanted"
+ended=0
+timeout "$seconds" python3 -c '
+import os, pty, subprocess, sys, tty
+near, far = pty.openpty()
+tty.setraw(far)
+os.write(far, b"\n\n")
+os.close(far)
+sys.exit(subprocess.run(sys.argv[1:], stdin=near).returncode)' "$program" hub t1:10 > "$dir/output" 2> "$dir/errors" || ended=$?
+compare 1 hub t1:10
+# The same before any line: a folder can't be read.
+: > "$dir/input"
+: > "$dir/output_wanted"
+ended=0
+timeout "$seconds" "$program" hub t1:10 < / > "$dir/output" 2> "$dir/errors" || ended=$?
+compare 1 hub t1:10
+
+[ "$failed" -eq 0 ] || exit 1
+echo "sessions: $runs runs, each with its status, output and errors"
