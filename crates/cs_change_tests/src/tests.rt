@@ -4,7 +4,6 @@ use cs_change::*;
 use cs_record::{Record, Row, read_record, read_row};
 use cs_value::{Items, Memory, Text};
 use std::alloc::Global;
-use std::test::Fail;
 
 /// The header of `t1(a key, b)`.
 const FIRST: [u8; 7] = [0x54, 2, 1, 0, 0x74, 0x31, 0];
@@ -82,17 +81,19 @@ fn is_change(alloc: Global, bytes: &[u8], columns: usize, indirect: bool) -> Opt
     Some(is_kept && change.is_indirect() == indirect)
 }
 
+/// Changes, the columns of their tables, and whether they are indirect.
+const CHANGES: [(&[u8], usize, bool); 5] = [
+    (&INSERT, 2, false),
+    (&INDIRECT_INSERT, 2, true),
+    (&INDIRECT_DELETE, 2, true),
+    (&UPDATE, 2, false),
+    (&WIDE_UPDATE, 4, false),
+];
+
 #[test]
 fn one_change(rt: HostRuntime) {
-    let cases: [(&[u8], usize, bool); 5] = [
-        (&INSERT, 2, false),
-        (&INDIRECT_INSERT, 2, true),
-        (&INDIRECT_DELETE, 2, true),
-        (&UPDATE, 2, false),
-        (&WIDE_UPDATE, 4, false),
-    ];
-    for (bytes, columns, indirect) in cases {
-        assert!(rt; is_change(rt.alloc(), bytes, columns, indirect).unwrap_or(false));
+    for (bytes, columns, indirect) in &CHANGES {
+        assert!(rt; is_change(rt.alloc(), bytes, *columns, *indirect).unwrap_or(false));
     }
 }
 
@@ -105,21 +106,22 @@ fn set_changes(alloc: Global, row: &Row<'_>, fields: &Record<'_>) -> Result<Chan
     Ok(changes)
 }
 
-/// The row (1, 'v1') with 'v2' in its second column.
+/// The row (1, 'v1') with 'v2' in its second column, as both.
+const SET: [&[u8]; 4] = [&[0x12, 1], &UPDATED, &[9, 0], &UPDATED];
+
+/// Whether those made of the row are.
+fn are_set(alloc: Global) -> Option<bool> {
+    let (row, _) = read_row(&INSERT[2..], 2)?;
+    let (fields, _) = read_record(&UPDATE[15..], 2).ok()?;
+    match set_changes(alloc, &row, &fields) {
+        Ok(made) => Some(is_joined(made.spelling(), &SET)),
+        Err(_) => None,
+    }
+}
+
 #[test]
-fn changes_made_of_a_row(rt: HostRuntime) -> Result<(), Fail> {
-    let made: [u8; 30] = [
-        0x12, 1, 1, 0, 0, 0, 0, 0, 0, 0, 1, 3, 2, 0x76, 0x32, 9, 0, 1, 0, 0, 0, 0, 0, 0, 0, 1, 3,
-        2, 0x76, 0x32,
-    ];
-    let Some((row, _)) = read_row(&INSERT[2..], 2) else {
-        panic!(rt; "no row was read");
-    };
-    let Ok((fields, _)) = read_record(&UPDATE[15..], 2) else {
-        panic!(rt; "no record was read");
-    };
-    assert!(rt; set_changes(rt.alloc(), &row, &fields)?.spelling() == &made[..]);
-    Ok(())
+fn changes_made_of_a_row(rt: HostRuntime) {
+    assert!(rt; are_set(rt.alloc()).unwrap_or(false));
 }
 
 /// The INSERT and the UPDATE behind it.
@@ -161,14 +163,20 @@ fn is_kept_again(alloc: Global, all: &ChangesBuf) -> Result<bool, Memory> {
     Ok(is_same && again.len() == 0)
 }
 
-#[test]
-fn changes_that_own_their_bytes(rt: HostRuntime) -> Result<(), Fail> {
-    let alloc = rt.alloc();
+/// Whether the copy of them is the same.
+fn is_copied(alloc: Global, all: &ChangesBuf) -> Result<bool, Memory> {
+    Ok(all.copy(alloc)?.same(all))
+}
+
+/// Whether both are kept, copied and lent.
+fn own_their_bytes(alloc: Global) -> Result<bool, Memory> {
     let all = both(alloc)?;
-    assert!(rt; has_its_last(alloc, &all)?);
-    assert!(rt; all.copy(alloc)?.same(&all));
-    assert!(rt; is_kept_again(alloc, &all)?);
-    Ok(())
+    Ok(has_its_last(alloc, &all)? && is_copied(alloc, &all)? && is_kept_again(alloc, &all)?)
+}
+
+#[test]
+fn changes_that_own_their_bytes(rt: HostRuntime) {
+    assert!(rt; own_their_bytes(rt.alloc()).unwrap_or(false));
 }
 
 /// Whether the change leaves the row with these bytes.
@@ -192,51 +200,50 @@ fn is_undefined(alloc: Global, change: &Change<'_>, row: Option<&Row<'_>>) -> bo
 /// The row (1, 'v2').
 const UPDATED: [u8; 13] = [1, 0, 0, 0, 0, 0, 0, 0, 1, 3, 2, 0x76, 0x32];
 
+/// Whether the UPDATE leaves it, and isn't defined on it, nor where there is no row.
+fn update_leaves(alloc: Global) -> Option<bool> {
+    let update = change_of(&UPDATE, 2)?;
+    let (row, _) = read_row(&INSERT[2..], 2)?;
+    let (updated, _) = read_row(&UPDATED, 2)?;
+    Some(
+        leaves(alloc, &update, Some(&row), &UPDATED)
+            && is_undefined(alloc, &update, Some(&updated))
+            && is_undefined(alloc, &update, None),
+    )
+}
+
 #[test]
 fn what_an_update_leaves(rt: HostRuntime) {
-    let alloc = rt.alloc();
-    let Some(update) = change_of(&UPDATE, 2) else {
-        panic!(rt; "no change was read");
-    };
-    let Some((row, _)) = read_row(&INSERT[2..], 2) else {
-        panic!(rt; "no row was read");
-    };
-    let Some((updated, _)) = read_row(&UPDATED, 2) else {
-        panic!(rt; "no row was read");
-    };
-    assert!(rt; leaves(alloc, &update, Some(&row), &UPDATED));
-    assert!(rt; is_undefined(alloc, &update, Some(&updated)));
-    assert!(rt; is_undefined(alloc, &update, None));
+    assert!(rt; update_leaves(rt.alloc()).unwrap_or(false));
+}
+
+/// Whether the INSERT leaves its row, and isn't defined where there is one.
+fn insert_leaves(alloc: Global) -> Option<bool> {
+    let insert = change_of(&INSERT, 2)?;
+    let (row, _) = read_row(&INSERT[2..], 2)?;
+    Some(leaves(alloc, &insert, None, &INSERT[2..]) && is_undefined(alloc, &insert, Some(&row)))
 }
 
 #[test]
 fn what_an_insert_leaves(rt: HostRuntime) {
-    let alloc = rt.alloc();
-    let Some(insert) = change_of(&INSERT, 2) else {
-        panic!(rt; "no change was read");
-    };
-    let Some((row, _)) = read_row(&INSERT[2..], 2) else {
-        panic!(rt; "no row was read");
-    };
-    assert!(rt; leaves(alloc, &insert, None, &INSERT[2..]));
-    assert!(rt; is_undefined(alloc, &insert, Some(&row)));
+    assert!(rt; insert_leaves(rt.alloc()).unwrap_or(false));
+}
+
+/// Whether the DELETE leaves no row, and isn't defined on another row, nor where there is none.
+fn delete_leaves(alloc: Global) -> Option<bool> {
+    let delete = change_of(&INDIRECT_DELETE, 2)?;
+    let (row, _) = read_row(&INSERT[2..], 2)?;
+    let (updated, _) = read_row(&UPDATED, 2)?;
+    Some(
+        leaves_none(alloc, &delete, Some(&row))
+            && is_undefined(alloc, &delete, Some(&updated))
+            && is_undefined(alloc, &delete, None),
+    )
 }
 
 #[test]
 fn what_a_delete_leaves(rt: HostRuntime) {
-    let alloc = rt.alloc();
-    let Some(delete) = change_of(&INDIRECT_DELETE, 2) else {
-        panic!(rt; "no change was read");
-    };
-    let Some((row, _)) = read_row(&INSERT[2..], 2) else {
-        panic!(rt; "no row was read");
-    };
-    let Some((updated, _)) = read_row(&UPDATED, 2) else {
-        panic!(rt; "no row was read");
-    };
-    assert!(rt; leaves_none(alloc, &delete, Some(&row)));
-    assert!(rt; is_undefined(alloc, &delete, Some(&updated)));
-    assert!(rt; is_undefined(alloc, &delete, None));
+    assert!(rt; delete_leaves(rt.alloc()).unwrap_or(false));
 }
 
 /// A group: the marks, the name, and the bytes of each change.
@@ -256,44 +263,60 @@ fn group<'a>(alloc: Global, spelled: &Spelled<'a>) -> Result<Group<'a>, Memory> 
     })
 }
 
-/// The bytes of these groups, behind those.
-fn encoded(alloc: Global, front: &[u8], spelled: &[Spelled<'_>]) -> Result<Vec<u8>, Memory> {
+/// These groups.
+fn groups_of<'a>(alloc: Global, spelled: &[Spelled<'a>]) -> Result<Changeset<'a>, Memory> {
     let mut groups = Vec::new(alloc);
     for one in spelled {
         groups.push(group(alloc, one)?)?;
     }
+    Ok(Items::from_vec(groups))
+}
+
+/// The bytes of these groups, behind those.
+fn encoded(alloc: Global, front: &[u8], spelled: &[Spelled<'_>]) -> Result<Vec<u8>, Memory> {
+    let groups = groups_of(alloc, spelled)?;
     let mut out = Vec::from_slice(alloc, front)?;
-    encode(&Items::from_vec(groups), &mut out)?;
+    encode(&groups, &mut out)?;
     Ok(out)
 }
 
-#[test]
-fn changesets(rt: HostRuntime) -> Result<(), Fail> {
-    let alloc = rt.alloc();
-    assert!(rt; encoded(alloc, &[], &[])?.is_empty());
-    let one = encoded(alloc, &[], &[(&[1, 0], "t1", &[&INSERT])])?;
-    assert!(rt; one.len() == 22 && is_joined(&one, &[&FIRST, &INSERT]));
-    Ok(())
+/// Whether they are these parts, one behind another.
+fn becomes(alloc: Global, front: &[u8], spelled: &[Spelled<'_>], parts: &[&[u8]]) -> bool {
+    match encoded(alloc, front, spelled) {
+        Ok(bytes) => is_joined(&bytes, parts),
+        Err(_) => false,
+    }
 }
+
+/// One INSERT.
+const ONE_GROUP: [Spelled<'static>; 1] = [(&[1, 0], "t1", &[&INSERT])];
+
+#[test]
+fn changesets(rt: HostRuntime) {
+    assert!(rt; becomes(rt.alloc(), &[], &[], &[]));
+    assert!(rt; becomes(rt.alloc(), &[], &ONE_GROUP, &[&FIRST, &INSERT]));
+}
+
+/// Groups of two tables, of which the first comes again under another mark and without changes.
+const GROUPS: [Spelled<'static>; 3] = [
+    (&[1, 0], "t1", &[&UPDATE, &INDIRECT_DELETE]),
+    (&[1, 0, 0, 0], "t2", &[&WIDE_UPDATE]),
+    (&[2, 0], "t1", &[]),
+];
+
+/// A byte, and these.
+const GROUPS_SPELLED: [&[u8]; 7] = [
+    &[0xee],
+    &FIRST,
+    &UPDATE,
+    &INDIRECT_DELETE,
+    &SECOND,
+    &WIDE_UPDATE,
+    &[0x54, 2, 2, 0, 0x74, 0x31, 0],
+];
 
 // The bytes of the marks and groups without changes are kept.
 #[test]
-fn several_groups(rt: HostRuntime) -> Result<(), Fail> {
-    let groups: [Spelled<'_>; 3] = [
-        (&[1, 0], "t1", &[&UPDATE, &INDIRECT_DELETE]),
-        (&[1, 0, 0, 0], "t2", &[&WIDE_UPDATE]),
-        (&[2, 0], "t1", &[]),
-    ];
-    let last = [0x54, 2, 2, 0, 0x74, 0x31, 0];
-    let parts: [&[u8]; 7] = [
-        &[0xee],
-        &FIRST,
-        &UPDATE,
-        &INDIRECT_DELETE,
-        &SECOND,
-        &WIDE_UPDATE,
-        &last,
-    ];
-    assert!(rt; is_joined(&encoded(rt.alloc(), &[0xee], &groups)?, &parts));
-    Ok(())
+fn several_groups(rt: HostRuntime) {
+    assert!(rt; becomes(rt.alloc(), &[0xee], &GROUPS, &GROUPS_SPELLED));
 }
