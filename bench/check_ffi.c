@@ -55,6 +55,26 @@ void __wrap_free(void *memory) {
 #define STRAIGHT "540201026b00"
 #define ROW "1200" V1 K1
 
+/* A table t of two columns with two changes, INSERT (1, 'a') and DELETE (2, NULL); the same in another order under another mark;
+ * t and u of one column each. */
+#define T "540201007400"
+#define T_INSERT "1200" K1 "030161"
+#define TWO_CHANGES T T_INSERT "0900" K2 "05"
+#define UNSORTED "540202007400" "0900" K2 "05" T_INSERT
+#define T1 "5401017400"
+#define U1 "5401017500"
+
+/* Headers of t with the key (second column, first column), as SQLite writes them, then of u, then of t again; and t with both
+ * columns in its key: INSERT ('a', 'b'), as we write it and as SQLite does. */
+#define ORDERED "540202017400" U1 "540202017400"
+#define AB "1200" "030161" "030162"
+#define KEY_INSERT "540201017400" AB
+#define KEY_ORDERED "540202017400" AB
+#define OF_U U1 "12000400"
+#define TWO_SHAPES T1 "540201007400"
+#define OTHER_DELETE H1 "0900" K1 V2
+#define OTHER_INSERT H1 "1200" K1 V2
+
 enum function { DECODE, REENCODE, NORMALISE, FOR_SQLITE, COMBINE, INVERT, REBASE };
 
 static const char *const names[] = {"cs_ffi_decode", "cs_ffi_reencode", "cs_ffi_normalise", "cs_ffi_for_sqlite",
@@ -216,6 +236,107 @@ static const struct row rows[] = {
     REBASES_NOT(INSERT, H1 "120000", CS_FFI_UNDEFINED_HERE, 31),
     REBASES_NOT(INSERT, H1 "1200" K1 V1 "1200" K1 V1, CS_FFI_BLOB_KEY_TWICE, 0),
     REBASES_NOT(INSERT, "5403010000743100" "1200" K1 "0000", CS_FFI_WRONG_SHAPE, 0),
+    /* two changes of one table: counted, written again, and in normal form */
+    READS(T, 0),
+    READS(T T_INSERT, 1),
+    READS(TWO_CHANGES, 2),
+    WRITES(REENCODE, TWO_CHANGES, 34, 32, TWO_CHANGES),
+    WRITES(REENCODE, TWO_CHANGES, 31, 32, ""),
+    HAS_FORM(T, UNSORTED, 33, 32, TWO_CHANGES),
+    HAS_FORM(T, UNSORTED, 31, 32, ""),
+
+    /* each fault, of bytes that are read and of such that would be written again */
+    NOT_READ(T T_INSERT "0900" "0100000000000000", CS_FFI_TRUNCATED, 30),
+    WRITES_NOT(REENCODE, T T_INSERT "0900" "0100000000000000", CS_FFI_TRUNCATED, 30),
+    NOT_READ("548001", CS_FFI_NOT_SHORTEST, 1),
+    WRITES_NOT(REENCODE, "548001", CS_FFI_NOT_SHORTEST, 1),
+    NOT_READ("54010100120006", CS_FFI_BAD_TYPE, 6),
+    WRITES_NOT(REENCODE, "54010100120006", CS_FFI_BAD_TYPE, 6),
+    NOT_READ("54010100120002", CS_FFI_REAL, 6),
+    WRITES_NOT(REENCODE, "54010100120002", CS_FFI_REAL, 6),
+    NOT_READ("540101ff00", CS_FFI_NOT_UTF8, 3),
+    WRITES_NOT(REENCODE, "540101ff00", CS_FFI_NOT_UTF8, 3),
+    NOT_READ("50", CS_FFI_PATCHSET, 0),
+    WRITES_NOT(REENCODE, "50", CS_FFI_PATCHSET, 0),
+    NOT_READ("55", CS_FFI_BAD_MARK, 0),
+    WRITES_NOT(REENCODE, "55", CS_FFI_BAD_MARK, 0),
+    NOT_READ("5401010013", CS_FFI_BAD_OPERATION, 4),
+    WRITES_NOT(REENCODE, "5401010013", CS_FFI_BAD_OPERATION, 4),
+    NOT_READ("540101001202", CS_FFI_BAD_FLAG, 5),
+    WRITES_NOT(REENCODE, "540101001202", CS_FFI_BAD_FLAG, 5),
+    NOT_READ("5400", CS_FFI_COLUMNS, 1),
+    WRITES_NOT(REENCODE, "5400", CS_FFI_COLUMNS, 1),
+    NOT_READ("54020000", CS_FFI_NO_KEY_COLUMN, 2),
+    WRITES_NOT(REENCODE, "54020000", CS_FFI_NO_KEY_COLUMN, 2),
+    NOT_READ("54010100120000", CS_FFI_UNDEFINED_HERE, 6),
+    WRITES_NOT(REENCODE, "54010100120000", CS_FFI_UNDEFINED_HERE, 6),
+    NOT_READ("54010100170003000400", CS_FFI_KEY_CHANGED, 8),
+    WRITES_NOT(REENCODE, "54010100170003000400", CS_FFI_KEY_CHANGED, 8),
+
+    /* why there is no normal form */
+    HAS_NO_FORM("5401", "", CS_FFI_NO_TABLES, 0),
+    HAS_NO_FORM(TWO_SHAPES, "", CS_FFI_NO_TABLES, 0),
+    HAS_NO_FORM("54010100", "", CS_FFI_NO_TABLES, 0),
+    HAS_NO_FORM(T1, T1 "13", CS_FFI_BAD_OPERATION, 5),
+    HAS_NO_FORM(T1, U1, CS_FFI_UNKNOWN_TABLE, 0),
+    HAS_NO_FORM(T1, "540201007400", CS_FFI_SHAPE, 0),
+    HAS_NO_FORM(T1, T1 "120005", CS_FFI_NULL_KEY, 0),
+    HAS_NO_FORM(T1, T1 "12000300" "09000300", CS_FFI_KEY_TWICE, 0),
+
+    /* for SQLite: by headers in any order and beside those of another table, and of the column bytes of another program */
+    FOR(ORDERED, KEY_INSERT, 24, 14, KEY_ORDERED),
+    FOR(ORDERED, KEY_ORDERED, 24, 14, KEY_ORDERED),
+    FOR(KEY_INSERT, KEY_ORDERED, 24, 14, KEY_INSERT),
+    FOR(ORDERED, OF_U, 24, 9, OF_U),
+    FOR(ORDERED, "5401077500" "12000400" "540201027400" AB, 24, 23, KEY_ORDERED OF_U),
+    FOR("", "", 24, 0, ""),
+    FOR(ORDERED, KEY_INSERT, 13, 14, ""),
+    NOT_FOR("540202", "540201017400" "13", CS_FFI_NO_TABLES, 0),
+    NOT_FOR("540202017400" "540201007400", "540201017400" "13", CS_FFI_NO_TABLES, 0),
+    NOT_FOR("54010100", "540201017400" "13", CS_FFI_NO_TABLES, 0),
+    NOT_FOR("540202017400" "540201027400", "540201017400" "13", CS_FFI_KEY_ORDER, 0),
+    NOT_FOR(ORDERED, "540201017400" "13", CS_FFI_BAD_OPERATION, 6),
+    NOT_FOR(ORDERED, INSERT, CS_FFI_UNKNOWN_TABLE, 0),
+    NOT_FOR(ORDERED, "540201007400", CS_FFI_SHAPE, 0),
+    NOT_FOR(ORDERED, U1 "120005", CS_FFI_NULL_KEY, 0),
+    NOT_FOR(ORDERED, U1 "12000300" "09000300", CS_FFI_KEY_TWICE, 0),
+
+    /* taken together: what SQLite's rules for a changegroup make of them, and none of no bytes */
+    COMBINES(INSERT UPDATE, 22, 27, 0, 2, 23, 22, OTHER_INSERT),
+    COMBINES(UPDATE OTHER_DELETE, 27, 22, 0, 2, 23, 22, H1 "0900" K1 V1),
+    COMBINES(INSERT, 0, 22, 0, 3, 23, 22, INSERT),
+    COMBINES("", 0, 0, 0, 0, 23, 0, ""),
+    COMBINES("", 0, 0, 0, 1, 23, 0, ""),
+    COMBINES_NOT(INSERT, 0, 0, 0, 0, CS_FFI_LENGTHS, 0),
+    COMBINES_NOT("", SIZE_MAX, 1, 0, 2, CS_FFI_LENGTHS, 0),
+    COMBINES_NOT(T1 U1 "13", 5, 6, 0, 2, CS_FFI_BAD_OPERATION, 10),
+    COMBINES_NOT(T1 U1 "13", 3, 8, 0, 2, CS_FFI_TRUNCATED, 3),
+    COMBINES_NOT(T1 U1 "13", 5, 5, 1, 3, CS_FFI_BAD_MARK, 10),
+    COMBINES_NOT(T1 "1200030161" "1200030161", 15, 0, 0, 1, CS_FFI_KEY_TWICE, 0),
+    COMBINES_NOT(T1 "120005", 8, 0, 0, 1, CS_FFI_NULL_KEY, 0),
+    COMBINES_NOT(TWO_SHAPES, 5, 6, 0, 2, CS_FFI_SHAPE, 0),
+    COMBINES_NOT(TWO_SHAPES, 11, 0, 0, 1, CS_FFI_SHAPE, 0),
+
+    /* taken back */
+    WRITES(INVERT, INSERT, 28, 22, H1 "0900" K1 V1),
+    WRITES(INVERT, UPDATE, 28, 27, H1 "1700" K1 V2 "00" V1),
+    WRITES(INVERT, OTHER_DELETE, 28, 22, OTHER_INSERT),
+    WRITES(INVERT, "", 28, 0, ""),
+    {.function = INVERT, .input = T1 "13", .room = 21, .fault = CS_FFI_BAD_OPERATION, .offset = 5, .output = ""},
+    {.function = INVERT, .input = T1 "120005", .room = 21, .fault = CS_FFI_NULL_KEY, .output = ""},
+
+    /* rebased: over a row of another text an UPDATE is left, over one of the same text nothing, and where there is no entry the
+     * INSERT; the local changeset is judged before the blob */
+    REBASES(INSERT, OTHER_INSERT, 28, 27, H1 "1700" K1 V2 "00" V1),
+    REBASES(INSERT, INSERT, 28, 0, ""),
+    REBASES(INSERT, "", 28, 22, INSERT),
+    REBASES("", INSERT, 28, 0, ""),
+    REBASES_NOT(T1 "13", H1 "13", CS_FFI_BAD_OPERATION, 5),
+    REBASES_NOT(TWO_SHAPES, H1 "13", CS_FFI_SHAPE, 0),
+    REBASES_NOT("54010100", H1 "13", CS_FFI_NO_TABLES, 0),
+    REBASES_NOT(T1 "120005", H1 "13", CS_FFI_NULL_KEY, 0),
+    REBASES_NOT(INSERT, H1 "13", CS_FFI_BAD_OPERATION, 29),
+    REBASES_NOT("", H1 "13", CS_FFI_BAD_OPERATION, 7),
 };
 
 /* ---- calls */

@@ -22,6 +22,3 @@ pub use export::{
     cs_ffi_combine, cs_ffi_decode, cs_ffi_for_sqlite, cs_ffi_invert, cs_ffi_normalise,
     cs_ffi_rebase, cs_ffi_reencode,
 };
-
-#[cfg(test)]
-mod tests;
