@@ -1,15 +1,19 @@
 //! A hub over stores in memory, also such that fail, beside answers that were written by hand.
 
+ghost use Rattle.std.specs.Prelude.{◌≡◌, ◌≤◌, length};
+ghost use Rattle.cs_log.specs.declared.entry.TheConstants.{MAX_CHANGESET};
+
+use cs_changeset::read;
 use cs_hub::Hub;
-use cs_judging::HubFault;
+use cs_judging::{HubFault, Pushed};
 use cs_map_store::MapStore;
+use cs_normal::normalise;
 use cs_opening::OpenFault;
 use cs_rows::RowAtKey;
 use cs_store::{RowStore, Trip};
 use cs_value::{Catalog, Items, TableDef, Text};
+use cs_wire::PushHead;
 use std::alloc::{AllocError, Global};
-use std::process::Abort;
-use std::test::Fail;
 
 /// The store of a hub here: it refuses a call of the store in memory.
 type Store = Trip<MapStore>;
@@ -43,6 +47,13 @@ const INSERT: [u8; 22] = [
     0x54, 2, 1, 0, 0x74, 0x31, 0, 0x12, 0, 1, 0, 0, 0, 0, 0, 0, 0, 1, 3, 2, 0x76, 0x31,
 ];
 
+/// A request: a push by its origin, its number, its base and its changeset, or other bytes.
+#[derive(Clone, Copy)]
+enum Asked<'a> {
+    Push(u8, u8, u16, &'a [u8]),
+    Bytes(&'a [u8]),
+}
+
 /// The bytes of a push.
 fn push(
     alloc: Global,
@@ -51,19 +62,38 @@ fn push(
     base: u16,
     changeset: &[u8],
 ) -> Result<Vec<u8>, AllocError> {
-    let mut bytes = Vec::new(alloc);
-    bytes.extend_from_slice(&[1, 0, 0, 0, origin, 0, 0, 0, 0, 0, 0, 0, number])?;
-    bytes.extend_from_slice(&[0, 0, 0, 0, 0, 0])?;
-    bytes.extend_from_slice(&base.to_be_bytes())?;
-    bytes.extend_from_slice(&[0, 0, 0])?;
+    let base = base.to_be_bytes();
+    let head = [
+        1, 0, 0, 0, origin, 0, 0, 0, 0, 0, 0, 0, number, 0, 0, 0, 0, 0, 0, base[0], base[1], 0, 0,
+        0,
+    ];
+    let mut bytes = Vec::from_slice(alloc, &head)?;
     bytes.push(u8::try_from(changeset.len()).unwrap_or(0))?;
     bytes.extend_from_slice(changeset)?;
     Ok(bytes)
 }
 
-/// Whether the hub answers a request so.
-fn answers(hub: &mut Hub<Store>, request: &[u8], expected: &[u8]) -> bool {
+/// The bytes of a request.
+fn request(alloc: Global, asked: &Asked<'_>) -> Result<Vec<u8>, AllocError> {
+    match asked {
+        Asked::Push(origin, number, base, changeset) => {
+            push(alloc, *origin, *number, *base, changeset)
+        }
+        Asked::Bytes(bytes) => Vec::from_slice(alloc, bytes),
+    }
+}
+
+/// Whether the hub answers the bytes of a request so.
+fn tells(hub: &mut Hub<Store>, request: &[u8], expected: &[u8]) -> bool {
     matches!(hub.serve(request), Ok(answer) if answer.as_slice() == expected)
+}
+
+/// Whether the hub answers a request so.
+fn answers(alloc: Global, hub: &mut Hub<Store>, asked: &Asked<'_>, expected: &[u8]) -> bool {
+    match request(alloc, asked) {
+        Ok(bytes) => tells(hub, &bytes, expected),
+        Err(_) => false,
+    }
 }
 
 /// Pull: from entry 0, at most 10; and the answer where one push of the INSERT by replica 7 was taken.
@@ -74,30 +104,35 @@ const ONE_ENTRY: &[u8] =
 
 const ACCEPTED: &[u8] = b"\x11\0\0\0\x07\0\0\0\0\0\0\0\x01\0\0\0\0\0\0\0\x01";
 
+/// A request, and its answer.
+type Turn = (Asked<'static>, &'static [u8]);
+
 /// Whether a new hub answers a session so.
-fn answers_session(alloc: Global, session: &[(Vec<u8>, &[u8])]) -> Option<bool> {
+fn answers_session(alloc: Global, session: &[Turn]) -> Option<bool> {
     let mut hub = hub_of_t1(alloc)?;
     let mut all = true;
-    for (request, expected) in session {
-        all = all && answers(&mut hub, request, expected);
+    for (asked, expected) in session {
+        all = all && answers(alloc, &mut hub, asked, expected);
     }
     Some(all && hub.close().failures() == 0)
 }
 
+/// The first push of replica 7.
+const FIRST: Asked<'static> = Asked::Push(7, 1, 0, &INSERT);
+
+const SESSION: [Turn; 7] = [
+    (FIRST, ACCEPTED),
+    (FIRST, ACCEPTED),
+    (Asked::Push(8, 1, 0, &INSERT), b"\x12\0\0\0\0\0\0\0\x01"),
+    (Asked::Bytes(&PULL), ONE_ENTRY),
+    (Asked::Push(8, 2, 1, &INSERT), b"\x13\x29"),
+    (Asked::Push(8, 3, 7, &INSERT), b"\x13\x28"),
+    (Asked::Push(8, 4, 1, &[]), b"\x13\x2a"),
+];
+
 #[test]
-fn a_session(rt: HostRuntime) -> Result<(), Fail> {
-    let alloc = rt.alloc();
-    let session: [(Vec<u8>, &[u8]); 7] = [
-        (push(alloc, 7, 1, 0, &INSERT)?, ACCEPTED),
-        (push(alloc, 7, 1, 0, &INSERT)?, ACCEPTED),
-        (push(alloc, 8, 1, 0, &INSERT)?, b"\x12\0\0\0\0\0\0\0\x01"),
-        (Vec::from_slice(alloc, &PULL)?, ONE_ENTRY),
-        (push(alloc, 8, 2, 1, &INSERT)?, b"\x13\x29"),
-        (push(alloc, 8, 3, 7, &INSERT)?, b"\x13\x28"),
-        (push(alloc, 8, 4, 1, &[])?, b"\x13\x2a"),
-    ];
-    assert!(rt; answers_session(alloc, &session).unwrap_or(false));
-    Ok(())
+fn a_session(rt: HostRuntime) {
+    assert!(rt; answers_session(rt.alloc(), &SESSION).unwrap_or(false));
 }
 
 /// Whether a hub's one row is the one of the INSERT, behind its key.
@@ -112,25 +147,30 @@ fn is_the_row(rows: &[RowAtKey]) -> bool {
     }
 }
 
+/// Whether a hub has one entry, of replica 7.
+fn has_one_entry(hub: &mut Hub<Store>) -> bool {
+    let entries = hub.entries(0, 10);
+    matches!(&entries, Ok(entries) if entries.len() == 1 && entries[0].origin == 7)
+}
+
 /// Whether a hub has one entry, of replica 7, and the row that it makes.
 fn has_the_entry(hub: &mut Hub<Store>) -> bool {
-    let entries = hub.entries(0, 10);
-    let rows = hub.rows(0);
-    hub.newest() == 1
-        && matches!(&entries, Ok(entries) if entries.len() == 1 && entries[0].origin == 7)
-        && matches!(&rows, Ok(rows) if is_the_row(rows))
+    hub.newest() == 1 && has_one_entry(hub) && matches!(hub.rows(0), Ok(rows) if is_the_row(&rows))
+}
+
+/// Whether the first push is taken.
+fn takes(alloc: Global, hub: &mut Hub<Store>) -> bool {
+    answers(alloc, hub, &FIRST, ACCEPTED) && has_the_entry(hub)
 }
 
 /// Whether a push is taken, and stands in the store when that is opened again, where the same one is answered alike.
 fn is_taken(alloc: Global) -> Option<bool> {
     let mut hub = hub_of_t1(alloc)?;
-    let request = push(alloc, 7, 1, 0, &INSERT).ok()?;
-    let told = answers(&mut hub, &request, ACCEPTED);
-    let has = has_the_entry(&mut hub);
+    if !takes(alloc, &mut hub) {
+        return Some(false);
+    }
     let mut again = hub_over(alloc, hub.close())?;
-    let stands = has_the_entry(&mut again);
-    let repeats = answers(&mut again, &request, ACCEPTED);
-    Some(told && has && stands && repeats)
+    Some(has_the_entry(&mut again) && answers(alloc, &mut again, &FIRST, ACCEPTED))
 }
 
 #[test]
@@ -152,40 +192,49 @@ fn a_hub_of_other_tables_is_refused(rt: HostRuntime) {
     assert!(rt; is_anothers(rt.alloc()).unwrap_or(false));
 }
 
+const REFUSED: [Turn; 5] = [
+    (Asked::Bytes(&[]), b"\x13\x02"),
+    (Asked::Bytes(&[0x99]), b"\x13\x14"),
+    (
+        Asked::Bytes(&[2, 0, 0, 0, 0, 0, 0, 0, 0, 0, 0, 0, 10, 0]),
+        b"\x13\x15",
+    ),
+    (
+        Asked::Bytes(&[2, 0, 0, 0, 0, 0, 0, 0, 0, 0, 0, 0]),
+        b"\x13\x02",
+    ),
+    (
+        Asked::Bytes(&[2, 0, 0, 0, 0, 0, 0, 0, 1, 0, 0, 0, 10]),
+        b"\x13\x28",
+    ),
+];
+
 #[test]
-fn refused_requests(rt: HostRuntime) -> Result<(), Fail> {
-    let alloc = rt.alloc();
-    let session: [(Vec<u8>, &[u8]); 5] = [
-        (Vec::new(alloc), b"\x13\x02"),
-        (Vec::from_slice(alloc, &[0x99])?, b"\x13\x14"),
-        (
-            Vec::from_slice(alloc, &[2, 0, 0, 0, 0, 0, 0, 0, 0, 0, 0, 0, 10, 0])?,
-            b"\x13\x15",
-        ),
-        (
-            Vec::from_slice(alloc, &[2, 0, 0, 0, 0, 0, 0, 0, 0, 0, 0, 0])?,
-            b"\x13\x02",
-        ),
-        (
-            Vec::from_slice(alloc, &[2, 0, 0, 0, 0, 0, 0, 0, 1, 0, 0, 0, 10])?,
-            b"\x13\x28",
-        ),
-    ];
-    assert!(rt; answers_session(alloc, &session).unwrap_or(false));
-    Ok(())
+fn refused_requests(rt: HostRuntime) {
+    assert!(rt; answers_session(rt.alloc(), &REFUSED).unwrap_or(false));
+}
+
+/// Whether a hub has no entry, nor one behind those that it has.
+fn has_no_entry(hub: &mut Hub<Store>) -> bool {
+    let entries = hub.entries(0, 10);
+    let above = hub.entries(1, 10);
+    matches!(&entries, Ok(entries) if entries.is_empty()) && matches!(above, Err(HubFault::Ahead))
+}
+
+/// Whether a hub has no row in the table of this number.
+fn has_no_row(hub: &mut Hub<Store>, table: usize) -> bool {
+    matches!(hub.rows(table), Ok(rows) if rows.is_empty())
 }
 
 /// Whether a new hub has nothing.
 fn has_nothing(alloc: Global) -> Option<bool> {
     let mut hub = hub_of_t1(alloc)?;
-    let above = hub.entries(1, 10);
     Some(
         hub.newest() == 0
             && hub.tables().len() == 1
-            && hub.rows(0).ok()?.is_empty()
-            && hub.rows(1).ok()?.is_empty()
-            && hub.entries(0, 10).ok()?.is_empty()
-            && matches!(above, Err(HubFault::Ahead)),
+            && has_no_row(&mut hub, 0)
+            && has_no_row(&mut hub, 1)
+            && has_no_entry(&mut hub),
     )
 }
 
@@ -194,33 +243,56 @@ fn a_new_hub(rt: HostRuntime) {
     assert!(rt; has_nothing(rt.alloc()).unwrap_or(false));
 }
 
+/// The INSERT of the row whose key ends so.
+fn insert_of(key: [u8; 2]) -> [u8; 22] {
+    let mut insert = INSERT;
+    insert[16] = key[0];
+    insert[17] = key[1];
+    insert
+}
+
+/// Whether the answer to a push of a row of its own is that it was accepted.
+fn accepts(alloc: Global, hub: &mut Hub<Store>, base: u16) -> bool {
+    match push(alloc, 7, 1, base, &insert_of(base.to_be_bytes())) {
+        Ok(request) => {
+            matches!(hub.serve(&request), Ok(answer) if answer.as_slice().first() == Some(&0x11))
+        }
+        Err(_) => false,
+    }
+}
+
 /// Whether so many pushes are accepted one after another.
-fn accepts_all(alloc: Global, hub: &mut Hub<Store>, count: u16) -> Option<bool> {
+fn accepts_all(alloc: Global, hub: &mut Hub<Store>, count: u16) -> bool {
     for base in 0..count {
-        let mut insert = INSERT;
-        let key = base.to_be_bytes();
-        insert[16] = key[0];
-        insert[17] = key[1];
-        let answer = hub.serve(&push(alloc, 7, 1, base, &insert).ok()?).ok()?;
-        if answer.as_slice().first() != Some(&0x11) {
-            return Some(false);
+        if !accepts(alloc, hub, base) {
+            return false;
         }
     }
-    Some(true)
+    true
+}
+
+/// Whether a hub has all of 4,096 pushes of rows of their own.
+fn has_all(hub: &mut Hub<Store>) -> bool {
+    let rows = hub.rows(0);
+    let entries = hub.entries(4090, 10);
+    hub.newest() == 4096
+        && matches!(&rows, Ok(rows) if rows.len() == 4096)
+        && matches!(&entries, Ok(entries) if entries.len() == 6)
 }
 
 /// Whether a log takes 4,096 pushes, and no more.
 fn is_full_at_last(alloc: Global) -> Option<bool> {
     let mut hub = hub_of_t1(alloc)?;
-    let all = accepts_all(alloc, &mut hub, 4096)?;
-    let refused = answers(
-        &mut hub,
-        &push(alloc, 7, 1, 4096, &INSERT).ok()?,
-        b"\x13\x2b",
-    );
-    let rows = hub.rows(0).ok()?.len();
-    let entries = hub.entries(4090, 10).ok()?.len();
-    Some(all && refused && hub.newest() == 4096 && rows == 4096 && entries == 6)
+    Some(
+        accepts_all(alloc, &mut hub, 4096)
+            && answers(
+                alloc,
+                &mut hub,
+                &Asked::Push(7, 1, 4096, &INSERT),
+                b"\x13\x2b",
+            )
+            && has_all(&mut hub),
+    )
 }
 
 #[test]
@@ -231,7 +303,7 @@ fn a_full_log(rt: HostRuntime) {
 /// A hub that has taken the INSERT. Its store refuses the call behind so many, of which eleven open the hub.
 fn filled(alloc: Global, calls: u64) -> Option<Hub<Store>> {
     let mut hub = hub_of_t1(alloc)?;
-    if !answers(&mut hub, &push(alloc, 7, 1, 0, &INSERT).ok()?, ACCEPTED) {
+    if !answers(alloc, &mut hub, &FIRST, ACCEPTED) {
         return None;
     }
     let store = hub.close();
@@ -246,32 +318,71 @@ fn filled(alloc: Global, calls: u64) -> Option<Hub<Store>> {
 }
 
 /// Whether a request is refused for the device, changes nothing, and is answered so when it comes again.
-fn is_answered_again(alloc: Global, calls: u64, request: &[u8], expected: &[u8]) -> Option<bool> {
+fn is_answered_again(
+    alloc: Global,
+    calls: u64,
+    asked: &Asked<'_>,
+    expected: &[u8],
+) -> Option<bool> {
     let mut hub = filled(alloc, calls)?;
-    let refused = answers(&mut hub, request, b"\x13\x2c");
+    let refused = answers(alloc, &mut hub, asked, b"\x13\x2c");
     let kept = has_the_entry(&mut hub);
-    let again = answers(&mut hub, request, expected);
+    let again = answers(alloc, &mut hub, asked, expected);
     Some(refused && kept && again && hub.close().failures() == 1)
 }
 
 /// Another push of replica 7, of a row with the key 2.
-fn second_push(alloc: Global) -> Result<Vec<u8>, AllocError> {
-    let mut insert = INSERT;
-    insert[17] = 2;
-    push(alloc, 7, 2, 1, &insert)
-}
+const SECOND_INSERT: [u8; 22] = [
+    0x54, 2, 1, 0, 0x74, 0x31, 0, 0x12, 0, 1, 0, 0, 0, 0, 0, 0, 0, 2, 3, 2, 0x76, 0x31,
+];
+
+const SECOND: Asked<'static> = Asked::Push(7, 2, 1, &SECOND_INSERT);
+
+const SECOND_ACCEPTED: &[u8] = b"\x11\0\0\0\x07\0\0\0\0\0\0\0\x02\0\0\0\0\0\0\0\x02";
 
 /// A push asks the store twice, for the row and for the commit, one that was taken once, and so does a pull of one entry.
 #[test]
-fn what_the_device_refuses_changes_nothing(rt: HostRuntime) -> Result<(), Fail> {
+fn what_the_device_refuses_changes_nothing(rt: HostRuntime) {
     let alloc = rt.alloc();
-    let second = second_push(alloc)?;
-    let accepted = b"\x11\0\0\0\x07\0\0\0\0\0\0\0\x02\0\0\0\0\0\0\0\x02";
     for calls in 11..13u64 {
-        assert!(rt; is_answered_again(alloc, calls, &second, accepted).unwrap_or(false));
+        assert!(rt; is_answered_again(alloc, calls, &SECOND, SECOND_ACCEPTED).unwrap_or(false));
     }
-    let first = push(alloc, 7, 1, 0, &INSERT)?;
-    assert!(rt; is_answered_again(alloc, 11, &first, ACCEPTED).unwrap_or(false));
-    assert!(rt; is_answered_again(alloc, 11, &PULL, ONE_ENTRY).unwrap_or(false));
-    Ok(())
+    assert!(rt; is_answered_again(alloc, 11, &FIRST, ACCEPTED).unwrap_or(false));
+    assert!(rt; is_answered_again(alloc, 11, &Asked::Bytes(&PULL), ONE_ENTRY).unwrap_or(false));
+}
+
+/// Whether a hub of these tables takes the changes of a changeset, handed over as the first push of replica 7.
+fn takes_changes(alloc: Global, hub: &mut Hub<Store>, catalog: &Catalog, bytes: &[u8]) -> bool
+    requires tables { hub.old.catalog ≡ catalog.now }
+    requires size { length bytes.now ≤ MAX_CHANGESET }
+{
+    let Ok(changeset) = read(alloc, bytes) else {
+        return false;
+    };
+    let Ok(changes) = normalise(alloc, catalog, &changeset) else {
+        return false;
+    };
+    let head = PushHead {
+        origin: 7,
+        number: 1,
+        base: 0,
+    };
+    matches!(hub.push(head, changes), Ok(Pushed::Accepted(1)))
+}
+
+/// Whether a hub takes the INSERT so, and has its entry.
+fn is_handed_over(alloc: Global) -> Option<bool> {
+    let catalog = catalog_of(alloc, "t1")?;
+    let store = Trip::new(MapStore::new(alloc), u64::MAX);
+    match Hub::open(alloc, store, &catalog) {
+        Ok(mut hub) => {
+            Some(takes_changes(alloc, &mut hub, &catalog, &INSERT) && has_the_entry(&mut hub))
+        }
+        Err(_) => None,
+    }
+}
+
+#[test]
+fn a_push_of_changes(rt: HostRuntime) {
+    assert!(rt; is_handed_over(rt.alloc()).unwrap_or(false));
 }
