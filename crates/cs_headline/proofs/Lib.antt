@@ -1,0 +1,7 @@
+mod Found
+mod Goes
+mod Served
+mod Heard
+mod Keeps
+mod Holds
+mod Wished

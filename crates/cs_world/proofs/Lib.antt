@@ -1,0 +1,4 @@
+mod Found
+mod Turned
+mod Moved
+mod Running
