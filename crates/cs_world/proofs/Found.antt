@@ -1,5 +1,5 @@
--- What stands in a list that grew, or of which one item was replaced.
-use Rattle.std.proofs.Common.{◌≡◌, ◌≢◌, ◌≤◌, ◌<◌, ◌+◌, ◌++◌, ℕ, zero, suc, List, [], ◌∷◌, Option, Some, None, length, slice_get, slice_set, refl, sym, ap, subst, inl, inr, arith}
+-- What stands in a list that grew, of which one item was replaced, or of which a part was taken.
+use Rattle.std.proofs.Common.{◌≡◌, ◌≢◌, ◌≤◌, ◌<◌, ◌+◌, ◌++◌, ℕ, zero, suc, List, [], ◌∷◌, Option, Some, None, length, slice_get, slice_set, take, drop, refl, sym, ap, subst, inl, inr, arith}
 use Rattle.std.specs.Prelude.{◌⊎◌}
 
 pub still : {X : Type 0} (xs ys : List X) (x : X) (k : ℕ) → slice_get xs k ≡ Some x → slice_get (xs ++ ys) k ≡ Some x
@@ -7,12 +7,12 @@ still [] ys x k at = absurd (cc)
 still (z ∷ zs) ys x zero at = at
 still (z ∷ zs) ys x (suc k) at = still zs ys x k at
 
-pub in_append : {X : Type 0} (xs : List X) (x y : X) (k : ℕ) → slice_get (xs ++ y ∷ []) k ≡ Some x → (slice_get xs k ≡ Some x) ⊎ ((k ≡ length xs) × (x ≡ y))
-in_append [] x y zero at = inr (refl, cc)
-in_append [] x y (suc k) at = absurd (cc)
-in_append (z ∷ zs) x y zero at = inl at
-in_append (z ∷ zs) x y (suc k) at =
-    elim (in_append zs x y k at) [ inl h ↦ inl h | inr h ↦ inr (ap suc h.0, h.1) ]
+pub in_one_more : {X : Type 0} (xs : List X) (x y : X) (k : ℕ) → slice_get (xs ++ y ∷ []) k ≡ Some x → (slice_get xs k ≡ Some x) ⊎ ((k ≡ length xs) × (x ≡ y))
+in_one_more [] x y zero at = inr (refl, cc)
+in_one_more [] x y (suc k) at = absurd (cc)
+in_one_more (z ∷ zs) x y zero at = inl at
+in_one_more (z ∷ zs) x y (suc k) at =
+    elim (in_one_more zs x y k at) [ inl h ↦ inl h | inr h ↦ inr (ap suc h.0, h.1) ]
 
 pub added : {X : Type 0} (xs : List X) (y : X) → slice_get (xs ++ y ∷ []) (length xs) ≡ Some y
 added [] y = refl
@@ -65,3 +65,31 @@ none_too [] (y ∷ ys) k same few = absurd (omega (arith, same))
 none_too (x ∷ xs) [] k same few = refl
 none_too (x ∷ xs) (y ∷ ys) zero same few = absurd (omega (arith, few))
 none_too (x ∷ xs) (y ∷ ys) (suc k) same few = none_too xs ys k (omega (arith, same)) (omega (arith, few))
+
+-- it was there, or it is among those that were added
+pub in_append : {X : Type 0} (xs ys : List X) (x : X) (k : ℕ) → slice_get (xs ++ ys) k ≡ Some x → (slice_get xs k ≡ Some x) ⊎ ((j : ℕ) × (k ≡ length xs + j) × (slice_get ys j ≡ Some x))
+in_append [] ys x k at = inr (k, omega arith, at)
+in_append (z ∷ zs) ys x zero at = inl at
+in_append (z ∷ zs) ys x (suc k) at =
+    elim (in_append zs ys x k at) [ inl h ↦ inl h | inr h ↦ let n = h.1 in inr (h.0, omega (arith, n), h.2) ]
+
+pub in_one : {X : Type 0} (x y : X) (k : ℕ) → slice_get (y ∷ []) k ≡ Some x → (k ≡ 0) × (x ≡ y)
+in_one x y zero at = (refl, cc)
+in_one x y (suc k) at = absurd (cc)
+
+pub in_take : {X : Type 0} (n : ℕ) (xs : List X) (j : ℕ) (x : X) → slice_get (take n xs) j ≡ Some x → slice_get xs j ≡ Some x
+in_take zero xs j x h = absurd (cc)
+in_take (suc n) [] j x h = absurd (cc)
+in_take (suc n) (z ∷ zs) zero x h = h
+in_take (suc n) (z ∷ zs) (suc j) x h = in_take n zs j x h
+
+pub in_drop : {X : Type 0} (f : ℕ) (xs : List X) (j : ℕ) (x : X) → slice_get (drop f xs) j ≡ Some x → slice_get xs (f + j) ≡ Some x
+in_drop zero xs j x h = let n : j ≡ 0 + j = omega arith in subst (λ (i : ℕ). slice_get xs i ≡ Some x) n h
+in_drop (suc f) [] j x h = absurd (cc)
+in_drop (suc f) (z ∷ zs) j x h =
+    let n : suc (f + j) ≡ suc f + j = omega arith in
+    subst (λ (i : ℕ). slice_get (z ∷ zs) i ≡ Some x) n (in_drop f zs j x h)
+
+-- nothing stands in no list
+pub nowhere : {X : Type 0} (x : X) (k : ℕ) → slice_get [] k ≡ Some x → ⊥
+nowhere x k at = absurd (cc)

@@ -1,6 +1,7 @@
 -- The step of each event, from what its calls give.
 use Rattle.std.proofs.Common.{◌≡◌, ◌≢◌, ◌≤◌, ◌<◌, ◌+◌, ◌^◌, ◌∙◌, ◌++◌, ℕ, List, [], ◌∷◌, Option, Some, None, Result, Ok, Err, length, slice_get, slice_set, refl, sym, ap, subst, inl, inr, arith, length-append}
-use Rattle.std.specs.Prelude.{◌⊎◌, IsSome}
+use Rattle.std.specs.Prelude.{◌⊎◌, IsSome, Vec}
+use Rattle.std.specs.declared.alloc.Global.{Global}
 use Rattle.cs_value.specs.Catalog.{AreTables}
 use Rattle.cs_value.specs.declared.catalog.TableDef.{TableDef}
 use Rattle.cs_value.specs.declared.edit.Edit.{Edit}
@@ -12,7 +13,6 @@ use Rattle.cs_judging.specs.Judged.{hub_of}
 use Rattle.cs_log.specs.declared.entry.LogEntry.{LogEntry}
 use Rattle.cs_normal.specs.declared.normal.TableChanges.{TableChanges}
 use Rattle.cs_opening.specs.declared.fault.OpenFault.{OpenFault}
-use Rattle.cs_opening.specs.declared.fault.OpenFault.TheVariants as opening
 use Rattle.cs_pending.specs.View.{View}
 use Rattle.cs_pending.specs.declared.fault.EditFault.{EditFault}
 use Rattle.cs_position.specs.Laws.{FitsPosition}
@@ -26,24 +26,25 @@ use Rattle.cs_replica.specs.declared.told.Told.{Told}
 use Rattle.cs_store.specs.Calls.{MoreFailures}
 use Rattle.cs_store.specs.Contents.{Contents}
 use Rattle.cs_wire.specs.Answers.{FitsAnswer, answer_spelling}
+use Rattle.cs_wire.specs.Laws.{OneToldAnswer}
 use Rattle.cs_wire.specs.Requests.{Asked, AsksPull, asked_by_owned, request_spelling}
 use Rattle.cs_wire.specs.declared.answer.Answer.{Answer}
 use Rattle.cs_wire.specs.declared.request.RequestBuf.{RequestBuf}
-use Rattle.cs_headline.specs.Laws.{AnswersFit}
-use Rattle.cs_headline.specs.Sound.{IsSound}
-use Rattle.cs_headline.specs.Steps as step
-use Rattle.cs_headline.specs.Steps.{Hears, Step, addressee, heard}
-use Rattle.cs_headline.specs.World.{Asks, IsMember, IsMessage, Member, Sent, Tells, World, with_log, with_member, with_message}
-use Rattle.cs_headline.specs.declared.event.Event.{Event}
-use Rattle.cs_headline.specs.declared.event.Event.TheVariants.{AskPull, Deliver, MakePush, OnEdit, Resend, Restart}
-use Rattle.cs_headline.specs.declared.outcome.Outcome.{Outcome}
-use Rattle.cs_headline.specs.declared.outcome.Outcome.TheVariants as told
+use Rattle.cs_world.specs.Laws.{AnswersFit}
+use Rattle.cs_world.specs.Sound.{IsSound}
+use Rattle.cs_world.specs.Steps as step
+use Rattle.cs_world.specs.Steps.{Hears, Step, addressee, heard}
+use Rattle.cs_world.specs.World.{Asks, IsMember, IsMessage, Member, Sent, Tells, World, with_log, with_member, with_message}
+use Rattle.cs_world.specs.declared.event.Event.{Event}
+use Rattle.cs_world.specs.declared.event.Event.TheVariants.{AskPull, Deliver, MakePush, OnEdit, Resend, Restart}
+use Rattle.cs_world.specs.declared.outcome.Outcome.{Outcome}
+use Rattle.cs_world.specs.declared.outcome.Outcome.TheVariants as told
 use Rattle.cs_world.specs.Holding.{AreHonest, Holding, Says, ShowsMember, ShowsWorld, StandsAt}
 use Rattle.cs_world.specs.Moves.{Moves}
-use Rattle.cs_world.specs.Turns.{IsEditedTo, IsPushedTo, IsSameMember, Turns, member_of}
+use Rattle.cs_world.specs.Turns.{IsEditedTo, IsPushedTo, IsReloadedTo, Turns, member_of}
 use Rattle.cs_world.specs.declared.letter.Letter.{Letter}
 use Rattle.cs_world.specs.declared.letter.Letter.TheVariants as letter
-use Rattle.cs_world.proofs.Found.{added, in_append, none_too, same_or_other, set_at, set_length, set_other, set_same, set_there, still}
+use Rattle.cs_world.proofs.Found.{added, in_one_more, none_too, same_or_other, set_at, set_length, set_other, set_same, set_there, still}
 
 module _ {S : Type 0} (honest : S → Type 0) (contents : S → Contents) (limit : ℕ) where
   abbrev pub held : hub.Holding S → List (replica.Holding S) → List Letter → Holding S
@@ -62,7 +63,7 @@ module _ {S : Type 0} (honest : S → Type 0) (contents : S → Contents) (limit
         members_count = shows.members_count;
         members = shows.members;
         messages_count = omega (arith, n, m, shows.messages_count);
-        messages = λ k other at. elim (in_append letters other one k at) [
+        messages = λ k other at. elim (in_one_more letters other one k at) [
           | inl old ↦
               let was = shows.messages k other old in
               (was.0, still world.messages (message ∷ []) was.0 k was.1, was.2)
@@ -93,9 +94,9 @@ module _ {S : Type 0} (honest : S → Type 0) (contents : S → Contents) (limit
     none_there event r ls same few to =
         stays event told.NoReplica ls same (λ world stands. step.no_replica (to world stands) (none_too replicas world.members r stands.0.members_count few))
 
-    pub no_letter : (k : ℕ) (wishes : List Wish) (ls : List Letter) → ls ≡ letters → slice_get letters k ≡ None → length letters ≤ k
+    pub no_letter : (k : ℕ) (wishes : List Wish) (ls : List Letter) → ls ≡ letters → length letters ≤ k
         → Moves honest contents limit (held h replicas letters) (Deliver k wishes) told.NoMessage (held h replicas ls)
-    no_letter k wishes ls same none few =
+    no_letter k wishes ls same few =
         stays (Deliver k wishes) told.NoMessage ls same (λ world stands. step.no_message (none_too letters world.messages k stands.0.messages_count few))
 
     pub sends : (event : Event) (one : Letter) (outcome : Outcome) (ls all : List Letter) → ls ≡ letters → all ≡ ls ++ one ∷ [] → outcome ≡ told.Sent (length ls)
@@ -113,6 +114,28 @@ module _ {S : Type 0} (honest : S → Type 0) (contents : S → Contents) (limit
                 says_more h replicas letters world one s.0 stands.0 s.1,
               );
         })
+
+    -- ---- an answer that no replica hears
+
+    -- what stands at a letter's number
+    told_of : (world : World) (k r : ℕ) (bytes : Vec ℕ Global) → (message : Sent) × IsMessage world k message × Says (letter.Tells r bytes) message → (answer : Answer) × IsMessage world k (Tells r answer) × (bytes.items ≡ answer_spelling answer)
+    told_of world k r bytes (Asks q asked, there, says) = absurd says
+    told_of world k r bytes (Tells q answer, there, (who, spelled)) = (answer, there ∙ ap (λ (x : ℕ). Some (Tells x answer)) (sym who), spelled)
+
+    pub none_told : (k r : ℕ) (wishes : List Wish) (bytes : Vec ℕ Global) (ls : List Letter) → ls ≡ letters → slice_get letters k ≡ Some (letter.Tells r bytes) → length replicas ≤ r
+        → Moves honest contents limit (held h replicas letters) (Deliver k wishes) told.NoReplica (held h replicas ls)
+    none_told k r wishes bytes ls same at few =
+        none_there (Deliver k wishes) r ls same few (λ world stands.
+          let t = told_of world k r bytes (stands.0.messages k (letter.Tells r bytes) at) in
+          ap step.receiver t.1)
+
+    pub unread : (k r : ℕ) (wishes : List Wish) (bytes : Vec ℕ Global) (ls : List Letter) → ls ≡ letters → slice_get letters k ≡ Some (letter.Tells r bytes)
+        → ((answer : Answer) → FitsAnswer answer → bytes.items ≡ answer_spelling answer → ⊥)
+        → Moves honest contents limit (held h replicas letters) (Deliver k wishes) told.NoMessage (held h replicas ls)
+    unread k r wishes bytes ls same at never =
+        stays (Deliver k wishes) told.NoMessage ls same (λ world stands.
+          let t = told_of world k r bytes (stands.0.messages k (letter.Tells r bytes) at) in
+          absurd (never t.0 (stands.1.spelled k (Tells r t.0) t.1) t.2))
 
     -- ---- a replica turns
 
@@ -224,15 +247,15 @@ module _ {S : Type 0} (honest : S → Type 0) (contents : S → Contents) (limit
         pushes_not fault ls same turns =
             unturned (MakePush r) (told.NotPushed fault) ls same (λ tables. IsPushedTo tables (Err fault)) turns (λ world before after is t. (t.0, step.pushes_not is t.1))
 
-        pub restarts : (ls : List Letter) → ls ≡ letters → Turns honest contents IsSameMember old new
+        pub restarts : (ls : List Letter) → ls ≡ letters → Turns honest contents (IsReloadedTo (Ok tt)) old new
             → Moves honest contents limit (held h replicas letters) (Restart r) told.Done (held h (slice_set replicas r new) ls)
         restarts ls same turns =
-            unturned (Restart r) told.Done ls same (λ tables. IsSameMember) turns (λ world before after is t. (t, step.restarts is))
+            unturned (Restart r) told.Done ls same (λ tables. IsReloadedTo (Ok tt)) turns (λ world before after is t. (t.0, step.restarts is))
 
-        pub restarts_not : (fault : OpenFault) (ls : List Letter) → ls ≡ letters → Turns honest contents (λ before after. (after ≡ before) × ((fault ≡ opening.Memory) ⊎ (fault ≡ opening.Device))) old new
+        pub restarts_not : (fault : OpenFault) (ls : List Letter) → ls ≡ letters → Turns honest contents (IsReloadedTo (Err fault)) old new
             → Moves honest contents limit (held h replicas letters) (Restart r) (told.NotReloaded fault) (held h (slice_set replicas r new) ls)
         restarts_not fault ls same turns =
-            unturned (Restart r) (told.NotReloaded fault) ls same (λ tables before after. (after ≡ before) × ((fault ≡ opening.Memory) ⊎ (fault ≡ opening.Device))) turns (λ world before after is t. (t.0, step.restarts_not is t.1))
+            unturned (Restart r) (told.NotReloaded fault) ls same (λ tables. IsReloadedTo (Err fault)) turns (λ world before after is t. (t.0, step.restarts_not is t.1))
 
         -- a push is made
         pub pushes : (request : RequestBuf) (asked : Asked) (outcome : Outcome) (ls all : List Letter) → asked ≡ asked_by_owned request → ls ≡ letters → all ≡ ls ++ letter.Asks r asked ∷ [] → outcome ≡ told.Sent (length ls)
@@ -260,22 +283,21 @@ module _ {S : Type 0} (honest : S → Type 0) (contents : S → Contents) (limit
                   says_more h (slice_set replicas r new) letters (with_member world r after) (letter.Asks r asked) (Asks r its) (shows_turned world before after shows at there) (refl, same_asked)
 
         -- an answer is told
-        pub hears : (k : ℕ) (wishes : List Wish) (bytes : _) (answer : Answer) (result : Result Told AnswerFault) (ls : List Letter) → ls ≡ letters
+        pub hears : (k : ℕ) (wishes : List Wish) (bytes : Vec ℕ Global) (answer : Answer) (result : Result Told AnswerFault) (ls : List Letter) → ls ≡ letters
             → slice_get letters k ≡ Some (letter.Tells r bytes) → FitsAnswer answer → bytes.items ≡ answer_spelling answer
-            → ((some other : Answer) → FitsAnswer some → FitsAnswer other → answer_spelling some ≡ answer_spelling other → some ≡ other)
+            → OneToldAnswer
             → Turns honest contents (λ before after. Hears old.catalog before answer wishes result after) old new
             → Moves honest contents limit (held h replicas letters) (Deliver k wishes) (heard result) (held h (slice_set replicas r new) ls)
         hears k wishes bytes answer result ls same at fits spelled one turns =
             turned (Deliver k wishes) (heard result) ls same (λ tables before after. Hears tables before answer wishes result after) turns
-            (λ world before after stands is t. told_step world before after stands is t (stands.0.messages k (letter.Tells r bytes) at))
+            (λ world before after stands is t. told_step world before after stands is t (told_of world k r bytes (stands.0.messages k (letter.Tells r bytes) at)))
             where
               told_step : (world : World) (before after : Member) → StandsAt honest contents limit (held h replicas letters) world → IsMember world r before → Hears world.tables before answer wishes result after
-                  → (message : Sent) × IsMessage world k message × Says (letter.Tells r bytes) message → Step limit world (Deliver k wishes) (heard result) (with_member world r after)
-              told_step world before after stands is t (Asks q asked, there, says) = absurd says
-              told_step world before after stands is t (Tells q its, there, (who, its_spelled)) =
-                  let same_answer : its ≡ answer = one its answer (stands.1.spelled k (Tells q its) there) fits (sym its_spelled ∙ spelled) in
-                  let message : IsMessage world k (Tells r answer) = there ∙ (ap (λ (x : ℕ). Some (Tells x its)) (sym who) ∙ ap (λ (a : Answer). Some (Tells r a)) same_answer) in
-                  step.hears message is t
+                  → (its : Answer) × IsMessage world k (Tells r its) × (bytes.items ≡ answer_spelling its) → Step limit world (Deliver k wishes) (heard result) (with_member world r after)
+              told_step world before after stands is t (its, there, its_spelled) =
+                  let both : Ok its ≡ Ok answer = one bytes.items (Ok its) (Ok answer) (stands.1.spelled k (Tells r its) there, its_spelled) (fits, spelled) in
+                  let same_answer : its ≡ answer = cc in
+                  step.hears (there ∙ ap (λ (a : Answer). Some (Tells r a)) same_answer) is t
 
     -- ---- requests
 
@@ -326,7 +348,7 @@ module _ {S : Type 0} (honest : S → Type 0) (contents : S → Contents) (limit
           there ∙ (ap (λ (x : ℕ). Some (Asks x asked)) (sym who) ∙ ap (λ (a : Asked). Some (Asks r a)) (sym is))
       what_was_asked world (Tells q answer, there, says) = absurd says
 
-      pub serves : (wishes : List Wish) (bytes : List ℕ) (answer : _) (new : hub.Holding S) (outcome : Outcome) (ls all : List Letter) → bytes ≡ request_spelling request
+      pub serves : (wishes : List Wish) (bytes : List ℕ) (answer : Vec ℕ Global) (new : hub.Holding S) (outcome : Outcome) (ls all : List Letter) → bytes ≡ request_spelling request
           → AnswersHub honest contents failed may_leave misreads limit h bytes answer.items new
           → ls ≡ letters → all ≡ ls ++ letter.Tells r answer ∷ [] → outcome ≡ told.Sent (length ls)
           → Moves honest contents limit (held h replicas letters) (Deliver k wishes) outcome (held new replicas all)
@@ -352,7 +374,7 @@ module _ {S : Type 0} (honest : S → Type 0) (contents : S → Contents) (limit
                 } in (
                   with_message next (Tells r f.0),
                   subst (λ (o : Outcome). Step limit world (Deliver k wishes) o (with_message next (Tells r f.0))) number
-                    (step.serves there f.1 (subst (λ (b : List ℕ). ServesIf (Unit {0}) limit (hub_of world.tables world.log) (request_spelling request) b (hub_of world.tables s.0)) f.2 by_asked)),
+                    (step.serves f.0 there f.1 (subst (λ (b : List ℕ). ServesIf (Unit {0}) limit (hub_of world.tables world.log) (request_spelling request) b (hub_of world.tables s.0)) f.2 by_asked)),
                   says_more new replicas letters next (letter.Tells r answer) (Tells r f.0) shown (refl, f.2),
                 );
           })

@@ -1,12 +1,12 @@
 -- From the step of an event to a run.
 use Rattle.std.proofs.Common.{◌≡◌, ◌<◌, ◌^◌, ◌++◌, ◌∙◌, ℕ, List, [], ◌∷◌, length, refl, sym, subst, append-nil, append_assoc, arith}
 use Rattle.cs_store.specs.Contents.{Contents}
-use Rattle.cs_headline.specs.Headline.{Headline}
-use Rattle.cs_headline.specs.Laws.{SoundHasHeadline, StepsAreSound}
-use Rattle.cs_headline.specs.Steps.{Step, Steps}
-use Rattle.cs_headline.specs.World.{World}
-use Rattle.cs_headline.specs.declared.event.Event.{Event}
-use Rattle.cs_headline.specs.declared.outcome.Outcome.{Outcome}
+use Rattle.cs_world.specs.Headline.{Headline}
+use Rattle.cs_world.specs.Laws.{SoundHasHeadline, StepsAreSound}
+use Rattle.cs_world.specs.Steps.{Step, Steps}
+use Rattle.cs_world.specs.World.{World}
+use Rattle.cs_world.specs.declared.event.Event.{Event}
+use Rattle.cs_world.specs.declared.outcome.Outcome.{Outcome}
 use Rattle.cs_world.specs.Holding.{AreHonest, Holding, StandsAt}
 use Rattle.cs_world.specs.Moves.{Moves}
 use Rattle.cs_world.specs.Runs.{AllGood, HasHeadline, Runs}

@@ -8,6 +8,7 @@ use Rattle.cs_value.specs.declared.edit.Edit.{Edit}
 use Rattle.cs_conflict.specs.declared.wish.Wish.{Wish}
 use Rattle.cs_normal.specs.declared.normal.TableChanges.{TableChanges}
 use Rattle.cs_opening.specs.declared.fault.OpenFault.{OpenFault}
+use Rattle.cs_opening.specs.declared.fault.OpenFault.TheVariants as opening
 use Rattle.cs_pending.specs.Calls.{WritesStore}
 use Rattle.cs_pending.specs.Edits.{Asked, IsOfStore, edit}
 use Rattle.cs_pending.specs.View.{View}
@@ -30,9 +31,9 @@ use Rattle.cs_wire.specs.Requests.{Asked as AskedOfHub, asked_by_owned}
 use Rattle.cs_wire.specs.declared.answer.Answer.{Answer}
 use Rattle.cs_wire.specs.declared.request.RequestBuf.{RequestBuf}
 use Rattle.cs_wishes.specs.Wished.{IsWished}
-use Rattle.cs_headline.specs.Steps.{Hears, asked_of, table_of}
-use Rattle.cs_headline.specs.World.{Member}
-use Rattle.cs_world.specs.Turns.{IsEditedTo, IsPushedTo, IsSameMember, Turns, member_of}
+use Rattle.cs_world.specs.Steps.{Hears, asked_of, table_of}
+use Rattle.cs_world.specs.World.{Member}
+use Rattle.cs_world.specs.Turns.{IsEditedTo, IsPushedTo, IsReloadedTo, Turns, member_of}
 
 module _ {S : Type 0} (honest : S → Type 0) (contents : S → Contents) (failed : S → ℕ) (may_leave : S → Contents → Type 0) (misreads : S → ℕ) (old new : Holding S) (catalog : new.catalog ≡ old.catalog) where
   -- what is shown by the old tables at this position is shown
@@ -120,27 +121,27 @@ module _ {S : Type 0} (honest : S → Type 0) (contents : S → Contents) (faile
           (view, still view (writes.err h) kept shows, (same_member view kept, refused h view shows));
     }
 
-    -- ---- an answer
+  -- ---- an answer
 
-    pub heard : (answer : Answer) (wishes unused : List Wish) (result : Result Told AnswerFault)
-        → (honest new.store → honest old.store)
-        → (honest new.store → (before : View) → Shows contents old before → Answers IsWished old.catalog answer result old.position before wishes new.position (contents new.store) unused)
-        → Turns honest contents (λ before after. Hears old.catalog before answer wishes result after) old new
-    heard answer wishes unused result was told = record {
-      was_honest = was;
-      catalog = catalog;
-      turned = λ h are fits view shows.
-          let next = seen h in (
-            next.0,
-            next.1,
-            record {
-              left = contents new.store;
-              unused = unused;
-              answers = told h view shows;
-              shows = subst (λ (t : List TableDef). ShowsAt t (contents new.store) new.position next.0) catalog next.1;
-            },
-          );
-    }
+  pub heard : (honest new.store → (view : View) × Shows contents new view) → (answer : Answer) (wishes unused : List Wish) (result : Result Told AnswerFault)
+      → (honest new.store → honest old.store)
+      → (honest new.store → (before : View) → Shows contents old before → Answers IsWished old.catalog answer result old.position before wishes new.position (contents new.store) unused)
+      → Turns honest contents (λ before after. Hears old.catalog before answer wishes result after) old new
+  heard seen answer wishes unused result was told = record {
+    was_honest = was;
+    catalog = catalog;
+    turned = λ h are fits view shows.
+        let next = seen h in (
+          next.0,
+          next.1,
+          record {
+            left = contents new.store;
+            unused = unused;
+            answers = told h view shows;
+            shows = subst (λ (t : List TableDef). ShowsAt t (contents new.store) new.position next.0) catalog next.1;
+          },
+        );
+  }
 
   -- ---- the store is read again
 
@@ -150,10 +151,11 @@ module _ {S : Type 0} (honest : S → Type 0) (contents : S → Contents) (faile
 
   pub reloaded : (result : Result (Unit {0}) OpenFault) → Reopens honest contents failed may_leave misreads old.store new.store result
       → (honest new.store → new.position ≡ old.position)
-      → Turns honest contents IsSameMember old new
-  reloaded result reopens position = record {
+      → (honest new.store → IfErr result (λ fault. (fault ≡ opening.Memory) ⊎ (fault ≡ opening.Device)))
+      → Turns honest contents (IsReloadedTo result) old new
+  reloaded result reopens position refused = record {
     was_honest = reopens.was_honest;
     catalog = catalog;
     turned = λ h are fits view shows.
-        (view, still view (same_contents result reopens h) (position h) shows, same_member view (position h));
+        (view, still view (same_contents result reopens h) (position h) shows, (same_member view (position h), refused h));
   }

@@ -5,8 +5,8 @@ use Rattle.cs_hub.specs.Holding as hub
 use Rattle.cs_replica.specs.Holding as replica
 use Rattle.cs_store.specs.Contents.{Contents}
 use Rattle.cs_wire.specs.Answers.{answer_spelling}
-use Rattle.cs_headline.specs.Sound.{IsSound}
-use Rattle.cs_headline.specs.World.{Asks, IsMember, IsMessage, Member, Sent, Tells, World}
+use Rattle.cs_world.specs.Sound.{IsSound}
+use Rattle.cs_world.specs.World.{Asks, IsMember, IsMessage, Member, Sent, Tells, World}
 use Rattle.cs_world.specs.declared.letter.Letter.{Letter}
 use Rattle.cs_world.specs.declared.letter.Letter.TheVariants as letter
 

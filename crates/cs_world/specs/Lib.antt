@@ -1,3 +1,8 @@
+pub mod World
+pub mod Steps
+pub mod Sound
+pub mod Headline
+pub mod Laws
 pub mod Short
 pub mod Holding
 pub mod Moves

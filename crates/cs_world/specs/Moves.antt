@@ -1,10 +1,10 @@
 -- What an event makes of a world over stores (profile of this project).
 use Rattle.std.specs.Prelude.{◌≡◌, ℕ, List}
 use Rattle.cs_store.specs.Contents.{Contents}
-use Rattle.cs_headline.specs.Steps.{Step, Steps}
-use Rattle.cs_headline.specs.World.{World}
-use Rattle.cs_headline.specs.declared.event.Event.{Event}
-use Rattle.cs_headline.specs.declared.outcome.Outcome.{Outcome}
+use Rattle.cs_world.specs.Steps.{Step, Steps}
+use Rattle.cs_world.specs.World.{World}
+use Rattle.cs_world.specs.declared.event.Event.{Event}
+use Rattle.cs_world.specs.declared.outcome.Outcome.{Outcome}
 use Rattle.cs_world.specs.Holding.{AreHonest, Holding, ShowsWorld, StandsAt}
 
 module _ {S : Type 0} (honest : S → Type 0) (contents : S → Contents) where

@@ -2,12 +2,12 @@
 use Rattle.std.specs.Prelude.{◌≡◌, ℕ, List, [], ◌∷◌, length}
 use Rattle.cs_value.specs.declared.catalog.TableDef.{TableDef}
 use Rattle.cs_store.specs.Contents.{Contents}
-use Rattle.cs_headline.specs.Headline.{Headline, IsGood}
-use Rattle.cs_headline.specs.Laws.{IsFirstMember}
-use Rattle.cs_headline.specs.Steps.{Steps}
-use Rattle.cs_headline.specs.World.{IsMember, Member, World, first_world}
-use Rattle.cs_headline.specs.declared.event.Event.{Event}
-use Rattle.cs_headline.specs.declared.outcome.Outcome.{Outcome}
+use Rattle.cs_world.specs.Headline.{Headline, IsGood}
+use Rattle.cs_world.specs.Laws.{IsFirstMember}
+use Rattle.cs_world.specs.Steps.{Steps}
+use Rattle.cs_world.specs.World.{IsMember, Member, World, first_world}
+use Rattle.cs_world.specs.declared.event.Event.{Event}
+use Rattle.cs_world.specs.declared.outcome.Outcome.{Outcome}
 use Rattle.cs_world.specs.Holding.{AreHonest, Holding, StandsAt}
 
 -- none of the outcomes is that a replica was handed an entry that isn't defined on the hub's tables at its version

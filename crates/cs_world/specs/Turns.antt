@@ -1,10 +1,12 @@
 -- What becomes of one replica in an event: no definition that a public clause cites.
-use Rattle.std.specs.Prelude.{◌≡◌, ◌⊎◌, ℕ, List, Result, Ok, Err}
+use Rattle.std.specs.Prelude.{◌≡◌, ◌⊎◌, ℕ, List, Result, Ok, Err, IfErr}
 use Rattle.cs_value.specs.Catalog.{AreTables}
 use Rattle.cs_value.specs.declared.catalog.TableDef.{TableDef}
 use Rattle.cs_value.specs.declared.edit.Edit.{Edit}
 use Rattle.cs_conflict.specs.declared.wish.Wish.{Wish}
 use Rattle.cs_normal.specs.declared.normal.TableChanges.{TableChanges}
+use Rattle.cs_opening.specs.declared.fault.OpenFault.{OpenFault}
+use Rattle.cs_opening.specs.declared.fault.OpenFault.TheVariants as opening
 use Rattle.cs_pending.specs.Edits.{IsOfStore, edit}
 use Rattle.cs_pending.specs.View.{View}
 use Rattle.cs_pending.specs.declared.fault.EditFault.{EditFault}
@@ -20,8 +22,8 @@ use Rattle.cs_store.specs.Contents.{Contents}
 use Rattle.cs_wire.specs.Requests.{asked_by_owned}
 use Rattle.cs_wire.specs.declared.answer.Answer.{Answer}
 use Rattle.cs_wire.specs.declared.request.RequestBuf.{RequestBuf}
-use Rattle.cs_headline.specs.Steps.{Hears, asked_of, table_of}
-use Rattle.cs_headline.specs.World.{Member}
+use Rattle.cs_world.specs.Steps.{Hears, asked_of, table_of}
+use Rattle.cs_world.specs.World.{Member}
 
 -- the replica, where its store shows these rows and pending changes
 abbrev pub member_of : {S : Type 0} → Holding S → View → Member
@@ -50,6 +52,6 @@ IsPushedTo tables (Ok request) before after =
     × IsPushMade tables before.position before.view left changes × (asked_by_owned request ≡ request_of (pushed before.position changes) changes)
 IsPushedTo tables (Err fault) before after = (after ≡ before) × IsPushFault fault tables before.position before.view
 
--- it is as it was
-abbrev pub IsSameMember : Member → Member → Type 0
-IsSameMember before after = after ≡ before
+-- it is as it was; where its store wasn't read, memory was refused or a device failed
+abbrev pub IsReloadedTo : Result (Unit {0}) OpenFault → Member → Member → Type 0
+IsReloadedTo result before after = (after ≡ before) × IfErr result (λ fault. (fault ≡ opening.Memory) ⊎ (fault ≡ opening.Device))

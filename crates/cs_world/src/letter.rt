@@ -17,7 +17,7 @@ pub(crate) struct Posted {
 }
 
 impl Model for Posted {
-    ghost use Rattle.cs_wire.specs.Requests.{Asked};
+    ghost use Rattle.cs_wire.specs.Requests.{Asked, asked_by_owned};
 
     ghost Value = { Asked };
 

@@ -1,15 +1,16 @@
 //! The hub, the replicas and the messages, moved by events.
 
 ghost use Rattle.std.specs.Prelude.{◌≡◌, ◌<◌, ◌++◌, [], ◌∷◌, List, Some, IfOk, OnErr, length, vec_capacity, vec_len};
-ghost use Rattle.cs_headline.specs.declared.event.Event.TheVariants.{AskPull, Deliver, MakePush, OnEdit, Resend, Restart};
-ghost use Rattle.cs_headline.specs.declared.outcome.Outcome.TheVariants as told;
+ghost use Rattle.cs_world.specs.declared.event.Event.TheVariants.{AskPull, Deliver, MakePush, OnEdit, Resend, Restart};
+ghost use Rattle.cs_world.specs.declared.outcome.Outcome.TheVariants as told;
 ghost use Rattle.cs_hub.specs.declared.hub.TheConstants.{MAX_ENTRIES};
 ghost use Rattle.cs_world.specs.Moves.{Moves};
 
 use crate::letter::{Letter, Posted};
 use crate::turning::{edit_replica, push_replica, reload_replica, tell_replica};
 use cs_conflict::Wish;
-use cs_headline::{Event, Outcome};
+use crate::event::Event;
+use crate::outcome::Outcome;
 use cs_hub::Hub;
 use cs_replica::Replica;
 use cs_store::RowStore;
@@ -68,8 +69,8 @@ impl<S: RowStore> Core<S> {
             return Outcome::NoReplica;
         };
         match edit_replica(self.alloc, replica, edit) {
-            Ok(()) => Outcome::Done,
-            Err(fault) => Outcome::NotEdited(fault),
+            Ok(()) => return Outcome::Done,
+            Err(fault) => return Outcome::NotEdited(fault),
         }
     }
 
@@ -144,14 +145,17 @@ impl<S: RowStore> Core<S> {
             return Outcome::NoReplica;
         };
         match reload_replica(self.alloc, replica) {
-            Ok(()) => Outcome::Done,
-            Err(fault) => Outcome::NotReloaded(fault),
+            Ok(()) => return Outcome::Done,
+            Err(fault) => return Outcome::NotReloaded(fault),
         }
     }
 
     fn deliver(&mut self, which: usize, wishes: &[Wish]) -> Outcome
         ensures { Moves S.honest S.contents MAX_ENTRIES self.old (Deliver which wishes.now) result self.new }
     {
+        crate::laws::answers_fit();
+        cs_hub::laws::most_entries();
+        cs_wire::laws::one_told_answer();
         if self.letters.reserve(1).is_err() {
             return Outcome::Memory;
         }
@@ -168,16 +172,16 @@ impl<S: RowStore> Core<S> {
                 send(&mut self.letters, Letter::Tells { replica, answer })
             }
             Some(Letter::Tells { replica, answer }) => {
-                let Some(replica) = self.replicas.get_mut(*replica as usize) else {
-                    return Outcome::NoReplica;
-                };
                 // Over honest stores each answer of the hub can be read.
                 let Ok(answer) = Answer::decode(answer.as_slice()) else {
                     return Outcome::NoMessage;
                 };
+                let Some(replica) = self.replicas.get_mut(*replica as usize) else {
+                    return Outcome::NoReplica;
+                };
                 match tell_replica(self.alloc, replica, &answer, wishes) {
-                    Ok(told) => Outcome::Heard(told),
-                    Err(fault) => Outcome::NotHeard(fault),
+                    Ok(told) => return Outcome::Heard(told),
+                    Err(fault) => return Outcome::NotHeard(fault),
                 }
             }
         }

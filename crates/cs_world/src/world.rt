@@ -7,7 +7,8 @@ ghost use Rattle.cs_world.specs.Runs.{HasHeadline, IsNew, Runs};
 
 use crate::moving::Core;
 use crate::opening::{open_hub, open_replica};
-use cs_headline::{Event, Outcome};
+use crate::event::Event;
+use crate::outcome::Outcome;
 use cs_map_store::MapStore;
 use cs_opening::OpenFault;
 use cs_store::RowStore;
@@ -24,7 +25,7 @@ pub struct World<S: RowStore> {
 }
 
 impl<S: RowStore> Model for World<S> {
-    ghost use Rattle.cs_headline.specs.World.{World as Standing};
+    ghost use Rattle.cs_world.specs.World.{World as Standing};
     ghost use Rattle.cs_hub.specs.declared.hub.TheConstants.{MAX_ENTRIES};
     ghost use Rattle.cs_world.specs.Holding.{AreHonest, Holding, StandsAt};
 
@@ -54,7 +55,7 @@ impl<S: RowStore + Drop> World<S> {
         requires count { length replicas.items < 2 ^ 32 - 1 }
         ensures { IfOk result (IsNew S.honest S.contents MAX_ENTRIES catalog.now (length replicas.items)) }
     {
-        cs_headline::laws::first_is_sound();
+        crate::laws::first_is_sound();
         let _tables = catalog.tables();
         let mut opened = Vec::with_capacity(alloc, replicas.len())?;
         for store in replicas {
@@ -103,7 +104,7 @@ impl<S: RowStore> World<S> {
     pub fn headline(&self)
         ensures { HasHeadline S.honest S.contents MAX_ENTRIES self.now }
     {
-        cs_headline::laws::sound_has_headline();
+        crate::laws::sound_has_headline();
         let _core = &self.core;
     }
 
@@ -111,7 +112,7 @@ impl<S: RowStore> World<S> {
     pub fn step(&mut self, event: &Event) -> Outcome
         ensures { Runs S.honest S.contents MAX_ENTRIES self.old (event.now ∷ []) (result ∷ []) self.new }
     {
-        cs_headline::laws::steps_are_sound();
+        crate::laws::steps_are_sound();
         cs_hub::laws::most_entries();
         self.core.step(event)
     }

@@ -1,8 +1,7 @@
 //! Lines of scripts, as the events that they name, and what is printed of these.
 
 use crate::given::{catalog, world};
-use cs_headline::{Event, Outcome};
-use cs_script::{LineFault, OutcomeText, read_event};
+use cs_world::{Event, LineFault, Outcome, OutcomeText, read_event};
 use std::alloc::Global;
 
 /// The replica that an event is of, or to which its message goes; a world of one replica has number 0 alone.

@@ -2,7 +2,7 @@
 
 use crate::given::{Act, plays, world};
 use cs_conflict::Wish;
-use cs_headline::Outcome;
+use cs_world::Outcome;
 use cs_pushing::PushFault;
 use cs_replica::Told;
 use std::alloc::Global;

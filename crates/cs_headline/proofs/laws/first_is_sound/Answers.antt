@@ -1,5 +1,0 @@
-use Rattle.cs_headline.proofs.Holds.{first_is_sound}
-use Rattle.cs_headline.proofs.laws.first_is_sound.Goals as goal
-
-pub returns : goal.returns
-returns c = first_is_sound c.empty_is_log.ensures c.first_stands.ensures
