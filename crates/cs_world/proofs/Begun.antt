@@ -16,11 +16,12 @@ use Rattle.cs_replica.specs.Holding as replica
 use Rattle.cs_store.specs.Contents.{Contents, meta_value, name_text, nothing}
 use Rattle.cs_store.specs.declared.names.MetaName.TheVariants.{Pending}
 use Rattle.cs_world.specs.Holding.{AreHonest, Holding, StandsAt}
+use Rattle.cs_world.specs.declared.letter.Letter.{Letter}
 use Rattle.cs_world.specs.Laws.{FirstIsSound, IsFirstMember}
 use Rattle.cs_world.specs.Opened.{IsNewReplica}
 use Rattle.cs_world.specs.Runs.{IsNew}
-use Rattle.cs_world.specs.World.{IsMember, Member, first_world}
-use Rattle.cs_world.proofs.Found.{in_one_more}
+use Rattle.cs_world.specs.World.{IsMember, Member, World, first_world}
+use Rattle.cs_world.proofs.Found.{in_one_more, nowhere}
 
 -- a store that held nothing is opened at the first position
 pub opened_new : (tables : List TableDef) (id : ℕ) (old new : Contents) (position : Position) → old ≡ nothing → IsStoreOpened tables id old new position → (position ≡ first_position id) × IsFirst tables id new
@@ -46,10 +47,10 @@ module _ {S : Type 0} (honest : S → Type 0) (contents : S → Contents) (limit
   found : (r : ℕ) (member : Member) → slice_get members r ≡ Some member → (one : replica.Holding S) × (slice_get replicas r ≡ Some one) × (member ≡ first_of one)
   found r member at = member_of r member (slice_get replicas r) refl (sym (slice_get-map first_of replicas r) ∙ at)
 
-  pub is_new : (count : ℕ) → length replicas ≡ count → count < 2 ^ 32 - 1 → h.catalog ≡ tables → (honest h.store → hub.Shows contents h [])
+  pub is_new : (letters : List Letter) → letters ≡ [] → (count : ℕ) → length replicas ≡ count → count < 2 ^ 32 - 1 → h.catalog ≡ tables → (honest h.store → hub.Shows contents h [])
       → ((r : ℕ) (one : replica.Holding S) → slice_get replicas r ≡ Some one → IsNewReplica honest contents tables r one)
-      → IsNew honest contents limit tables count (record { hub = h; replicas = replicas; letters = [] })
-  is_new count counted few catalog log news all =
+      → IsNew honest contents limit tables count (record { hub = h; replicas = replicas; letters = letters })
+  is_new letters bare count counted few catalog log news all =
       let firsts : (r : ℕ) (member : Member) → IsMember (first_world tables members) r member → IsFirstMember tables r member = (λ r member at.
         let f = found r member at in
         let n = news r f.0 f.1 (all.replicas r f.0 f.1) in
@@ -79,12 +80,18 @@ module _ {S : Type 0} (honest : S → Type 0) (contents : S → Contents) (limit
                     shows = subst (λ (t : List TableDef). ShowsAt t (contents one.store) one.position empty_view) (sym n.0) (subst (λ (p : Position). ShowsAt tables (contents one.store) p empty_view) (sym n.1) n.2);
                   },
                 );
-            messages_count = refl;
-            messages = λ k one at. absurd (cc);
+            messages_count = ap (λ (l : List Letter). length l) bare;
+            messages = λ k one at. let none : slice_get [] k ≡ Some one = subst (λ (l : List Letter). slice_get l k ≡ Some one) bare at in absurd (cc);
           },
           sound limit tables members are firsts,
         ),
       )
+
+-- none so far
+pub none_yet : {S : Type 0} (honest : S → Type 0) (contents : S → Contents) (tables : List TableDef) (replicas : List (replica.Holding S)) → replicas ≡ []
+    → (r : ℕ) (one : replica.Holding S) → slice_get replicas r ≡ Some one → IsNewReplica honest contents tables r one
+none_yet {S = S} honest contents tables replicas none r one at =
+    absurd (nowhere one r (subst (λ (l : List (replica.Holding S)). slice_get l r ≡ Some one) none at))
 
 -- a replica more
 pub one_more : {S : Type 0} (honest : S → Type 0) (contents : S → Contents) (tables : List TableDef) (replicas : List (replica.Holding S)) (new : replica.Holding S)
@@ -97,3 +104,10 @@ one_more honest contents tables replicas new news is all same r one at =
       | inl old ↦ news r one old
       | inr (last, it) ↦ subst (λ (i : ℕ). IsNewReplica honest contents tables i one) (sym last) (subst (λ (x : replica.Holding _). IsNewReplica honest contents tables (length replicas) x) (sym it) is)
     ]
+
+-- where it is new, it stands at a world
+pub new_stands : {S : Type 0} (honest : S → Type 0) (contents : S → Contents) (limit : ℕ) (tables : List TableDef) (count : ℕ) (held : Holding S) → IsNew honest contents limit tables count held
+    → AreHonest honest contents held → (world : World) × StandsAt honest contents limit held world
+new_stands honest contents limit tables count held is all =
+    let n = is all in
+    (first_world tables n.0, n.3)

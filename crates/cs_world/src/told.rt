@@ -5,7 +5,7 @@ use cs_pulling::AnswerFault;
 use cs_record::{Cell, Row};
 use cs_replica::Told;
 use cs_text::{NameText, ValueText};
-use cs_value::Text;
+use cs_value::{MAX_COLUMNS, Text};
 use std::fmt;
 
 /// What is printed of an outcome; `version` is the version of the replica that the event was of, behind it.
@@ -60,14 +60,22 @@ pub struct RowText<'a> {
     pub row: Row<'a>,
 }
 
+/// Writes the cells of a row, of which there are so many at most, each behind a space.
+fn write_cells<W: fmt::Write>(row: &Row<'_>, most: usize, f: &mut fmt::Formatter<W>) -> fmt::Result {
+    let mut rest = row.again();
+    for _ in 0..most {
+        let Some((cell, more)) = rest.split_first() else {
+            return Ok(());
+        };
+        write!(f, " {}", ValueText(&cell))?;
+        rest = more;
+    }
+    Ok(())
+}
+
 impl fmt::Display for RowText<'_> {
     fn fmt<W: fmt::Write>(&self, f: &mut fmt::Formatter<W>) -> fmt::Result {
         write!(f, "row {}", NameText(self.table))?;
-        let mut rest = self.row.again();
-        while let Some((cell, more)) = rest.split_first() {
-            write!(f, " {}", ValueText(&cell))?;
-            rest = more;
-        }
-        Ok(())
+        write_cells(&self.row, MAX_COLUMNS, f)
     }
 }
