@@ -52,16 +52,16 @@ module _ {S : Type 0} (honest : S → Type 0) (contents : S → Contents) (limit
       → IsNew honest contents limit tables count (record { hub = h; replicas = replicas; letters = letters })
   is_new letters bare count counted few catalog log news all =
       let firsts : (r : ℕ) (member : Member) → IsMember (first_world tables members) r member → IsFirstMember tables r member = (λ r member at.
-        let f = found r member at in
-        let n = news r f.0 f.1 (all.replicas r f.0 f.1) in
-        let within = slice_get_within replicas r f.0 f.1 in
-        record {
-          position = ap (λ (m : Member). m.position) f.2 ∙ n.1;
-          view = ap (λ (m : Member). m.view) f.2;
-          small = omega (arith, within, counted, few);
-          contents = contents f.0.store;
-          shown = subst (λ (m : Member). ShowsAt tables (contents f.0.store) m.position m.view) (sym f.2) (subst (λ (p : Position). ShowsAt tables (contents f.0.store) p empty_view) (sym n.1) n.2);
-        }) in (
+      let f = found r member at in
+      let n = news r f.0 f.1 (all.replicas r f.0 f.1) in
+      let within = slice_get_within replicas r f.0 f.1 in
+      record {
+        position = ap (λ (m : Member). m.position) f.2 ∙ n.1;
+        view = ap (λ (m : Member). m.view) f.2;
+        small = omega (arith, within, counted, few);
+        contents = contents f.0.store;
+        shown = subst (λ (m : Member). ShowsAt tables (contents f.0.store) m.position m.view) (sym f.2) (subst (λ (p : Position). ShowsAt tables (contents f.0.store) p empty_view) (sym n.1) n.2);
+      }) in (
         members,
         length-map replicas first_of ∙ counted,
         firsts,

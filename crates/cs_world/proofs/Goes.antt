@@ -190,14 +190,14 @@ module _ (longer : LongerLog) (stands : StandsLonger) where
   again_sound limit w r asked s was =
       said_sound limit w (Asks r asked) s (s.spelled was.0 (Asks was.1 asked) was.2) (s.true was.0 (Asks was.1 asked) was.2)
       (λ head other changeset its one two origins numbers.
-        let mine : AsksPush head changeset ≡ asked = (let is = (asked_one (Asks r asked) (AsksPush head changeset) one).1 in cc) in
-        let old : WasAsked w (AsksPush head changeset) = subst (WasAsked w) (sym mine) was in
-        elim (asked_split w.messages (Asks r asked ∷ []) (AsksPush other its) two) [
-          | inl h ↦ s.once head other changeset its old h origins numbers
-          | inr h ↦
-              let its_too : AsksPush other its ≡ asked = (let is = (asked_one (Asks r asked) (AsksPush other its) h).1 in cc) in
-              same_push head other changeset its asked mine its_too
-        ])
+      let mine : AsksPush head changeset ≡ asked = (let is = (asked_one (Asks r asked) (AsksPush head changeset) one).1 in cc) in
+      let old : WasAsked w (AsksPush head changeset) = subst (WasAsked w) (sym mine) was in
+      elim (asked_split w.messages (Asks r asked ∷ []) (AsksPush other its) two) [
+        | inl h ↦ s.once head other changeset its old h origins numbers
+        | inr h ↦
+            let its_too : AsksPush other its ≡ asked = (let is = (asked_one (Asks r asked) (AsksPush other its) h).1 in cc) in
+            same_push head other changeset its asked mine its_too
+      ])
 
   -- ---- a replica moves
 
@@ -242,6 +242,6 @@ module _ (longer : LongerLog) (stands : StandsLonger) where
       let goes = goes_moved limit w r before after [] s was counts in
       subst (λ (ms : List Sent). IsSound limit (record w { members = slice_set w.members r after; messages = ms })) none
       (moved_sound limit w r before after [] s was counts
-        (placed_on w (moved w r after []) [] goes r after placed)
-        (λ message k at. absurd (nowhere message k at))
-        (λ head other changeset its one two origins numbers. absurd (asked_none (AsksPush head changeset) one)))
+      (placed_on w (moved w r after []) [] goes r after placed)
+      (λ message k at. absurd (nowhere message k at))
+      (λ head other changeset its one two origins numbers. absurd (asked_none (AsksPush head changeset) one)))

@@ -196,8 +196,8 @@ module _ (laws : Below) (limit : ℕ) (small : limit < 2 ^ 32) (world : World) (
         let applied = laws.flight world.tables p.contents world.log before.position changes before.view s.tables p.shown flight p.stands in
         laws.entry world.tables world.log entry before.position (confirmed before.position) before.view before.view s.log there refl
         (subst (λ (c : List TableChanges). IsApplied world.tables c (base before.position.flight before.view) (base None before.view)) (sym same)
-          (applied_same world.tables changes (tables_at world.log before.position.version) (base before.position.flight before.view) (middle before.view) (base None before.view)
-            p.stands.on_tables (λ n k. undo_none (middle before.view n k)) applied))
+        (applied_same world.tables changes (tables_at world.log before.position.version) (base before.position.flight before.view) (middle before.view) (base None before.view)
+        p.stands.on_tables (λ n k. undo_none (middle before.view n k)) applied))
         p.stands
 
     kept_on : (other : Position) → other ≡ before.position → IsOn world.log before.position other before.view
@@ -208,17 +208,17 @@ module _ (laws : Below) (limit : ℕ) (small : limit < 2 ^ 32) (world : World) (
         → IsOn world.log before.position other before.view
     accepted_on origin number version (Ok (told.Confirmed newest)) other a (is, version_is, moved) =
         confirmed_on (before.position.flight) refl
-        where
-          confirmed_on : (f : Option (List TableChanges)) → before.position.flight ≡ f → IsOn world.log before.position other before.view
-          confirmed_on None none = let some = is.under_way in absurd (no_some before.position.flight some none)
-          confirmed_on (Some changes) flight =
-              let e = its_entry changes origin number version flight a is in
-              subst (λ (o : Position). IsOn world.log before.position o before.view) (sym moved) (record {
-                stands = its_entry_stands changes e.0 flight e.1 e.2;
-                id = refl;
-                number = refl;
-                flight = λ cs gone. absurd (cc);
-              })
+      where
+        confirmed_on : (f : Option (List TableChanges)) → before.position.flight ≡ f → IsOn world.log before.position other before.view
+        confirmed_on None none = let some = is.under_way in absurd (no_some before.position.flight some none)
+        confirmed_on (Some changes) flight =
+            let e = its_entry changes origin number version flight a is in
+            subst (λ (o : Position). IsOn world.log before.position o before.view) (sym moved) (record {
+              stands = its_entry_stands changes e.0 flight e.1 e.2;
+              id = refl;
+              number = refl;
+              flight = λ cs gone. absurd (cc);
+            })
     accepted_on origin number version (Ok told.Ignored) other a (not, same) = kept_on other same
     accepted_on origin number version (Ok (told.Stale newest)) other a t = absurd t
     accepted_on origin number version (Ok (told.Refused code)) other a t = absurd t
@@ -249,13 +249,13 @@ module _ (laws : Below) (limit : ℕ) (small : limit < 2 ^ 32) (world : World) (
     list_left first entries wishes unused result other left part (end, between, many, shows, ends) =
         let on = many_on first entries part (count_of result) p.contents before.position before.view wishes other end between p.shown p.stands many in
         record { end = end; shows = shows; on = on; good = good_list result ends on.stands }
-        where
-          good_list : (result : Result Pulled AnswerFault) → Ends IsWished world.tables first entries result other end between unused → StandsOn world.log other end → IsGood (heard (told_of result))
-          good_list (Ok (pulled.Taken count)) e stands n is = cc
-          good_list (Ok (pulled.Stopped count)) e stands n is = cc
-          good_list (Err (fault.Memory count)) e stands n is = cc
-          good_list (Err (fault.Device count)) e stands n is = cc
-          good_list (Err (fault.BadEntry count)) e stands n is = absurd (none_bad first entries part other end stands e.0)
+      where
+        good_list : (result : Result Pulled AnswerFault) → Ends IsWished world.tables first entries result other end between unused → StandsOn world.log other end → IsGood (heard (told_of result))
+        good_list (Ok (pulled.Taken count)) e stands n is = cc
+        good_list (Ok (pulled.Stopped count)) e stands n is = cc
+        good_list (Err (fault.Memory count)) e stands n is = cc
+        good_list (Err (fault.Device count)) e stands n is = cc
+        good_list (Err (fault.BadEntry count)) e stands n is = absurd (none_bad first entries part other end stands e.0)
 
     left_by : (answer : Answer) (wishes unused : List Wish) (result : Result Told AnswerFault) (other : Position) (left : Contents) → IsTrueAnswer world answer
         → Answers IsWished world.tables answer result before.position before.view wishes other left unused

@@ -46,9 +46,11 @@ module _ (laws : Below) (limit : ℕ) (w : World) (s : IsSound limit w) where
 
   module _ (r : ℕ) (m : Member) (p : IsPlaced w r m) where
     flight_applied : (flight : Option (List TableChanges)) → m.position.flight ≡ flight → IsApplied w.tables (flown flight) (tables_at w.log m.position.version) (middle m.view)
-    flight_applied None none =
-        (tt, λ n k. ap (λ (place : Place). Some place)
-          (sym (p.stands.on_tables n k) ∙ (ap (λ (f : Option (List TableChanges)). base f m.view n k) none ∙ undo_none (middle m.view n k))))
+    flight_applied None none = (
+      tt,
+      λ n k. ap (λ (place : Place). Some place)
+          (sym (p.stands.on_tables n k) ∙ (ap (λ (f : Option (List TableChanges)). base f m.view n k) none ∙ undo_none (middle m.view n k))),
+    )
     flight_applied (Some changes) flight =
         laws.flight w.tables p.contents w.log m.position changes m.view s.tables p.shown flight p.stands
 

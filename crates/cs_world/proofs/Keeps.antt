@@ -214,9 +214,11 @@ module _ (laws : Below) (limit : ℕ) (small : limit < 2 ^ 32) (w : World) (s : 
   step_sound (step.resends {r = r} {before = before} {changes = changes} was flight) =
       (again_sound laws.longer laws.stands limit w r (request_of before.position changes) s ((s.placed r before was).sent changes flight), λ n e. cc)
   step_sound (step.resends_not was why) = (s, λ n e. cc)
-  step_sound (step.asks {r = r} {count = count} {before = before} few was) =
-      (said_sound laws.longer laws.stands limit w (Asks r (AsksPull before.position.version count)) s (record { first_fits = (s.placed r before was).fits.version; limit_fits = few }) tt
-      (no_push laws.longer laws.stands (with_message w (Asks r (AsksPull before.position.version count))) (Asks r (AsksPull before.position.version count)) (λ j head changeset e. cc)), λ n e. cc)
+  step_sound (step.asks {r = r} {count = count} {before = before} few was) = (
+    said_sound laws.longer laws.stands limit w (Asks r (AsksPull before.position.version count)) s (record { first_fits = (s.placed r before was).fits.version; limit_fits = few }) tt
+        (no_push laws.longer laws.stands (with_message w (Asks r (AsksPull before.position.version count))) (Asks r (AsksPull before.position.version count)) (λ j head changeset e. cc)),
+    λ n e. cc,
+  )
   step_sound (step.restarts was) = (s, λ n e. cc)
   step_sound (step.restarts_not was why) = (s, λ n e. cc)
   step_sound (step.serves {k = k} {r = r} {asked = asked} {log = log} answer there fits serves) =

@@ -101,7 +101,7 @@ module _ {S : Type 0} (honest : S → Type 0) (contents : S → Contents) (limit
 
     pub sends : (event : Event) (one : Letter) (outcome : Outcome) (ls all : List Letter) → ls ≡ letters → all ≡ ls ++ one ∷ [] → outcome ≡ told.Sent (length ls)
         → ((world : World) → StandsAt honest contents limit (held h replicas letters) world
-            → (message : Sent) × Says one message × Step limit world event (told.Sent (length world.messages)) (with_message world message))
+        → (message : Sent) × Says one message × Step limit world event (told.Sent (length world.messages)) (with_message world message))
         → Moves honest contents limit (held h replicas letters) event outcome (held h replicas all)
     sends event one outcome ls all same is as_told steps =
         subst (λ (l : List Letter). Moves honest contents limit (held h replicas letters) event outcome (held h replicas l)) (sym (is ∙ ap (λ (l : List Letter). l ++ one ∷ []) same)) (record {
@@ -126,16 +126,16 @@ module _ {S : Type 0} (honest : S → Type 0) (contents : S → Contents) (limit
         → Moves honest contents limit (held h replicas letters) (Deliver k wishes) told.NoReplica (held h replicas ls)
     none_told k r wishes bytes ls same at few =
         none_there (Deliver k wishes) r ls same few (λ world stands.
-          let t = told_of world k r bytes (stands.0.messages k (letter.Tells r bytes) at) in
-          ap step.receiver t.1)
+        let t = told_of world k r bytes (stands.0.messages k (letter.Tells r bytes) at) in
+        ap step.receiver t.1)
 
     pub unread : (k r : ℕ) (wishes : List Wish) (bytes : Vec ℕ Global) (ls : List Letter) → ls ≡ letters → slice_get letters k ≡ Some (letter.Tells r bytes)
         → ((answer : Answer) → FitsAnswer answer → bytes.items ≡ answer_spelling answer → ⊥)
         → Moves honest contents limit (held h replicas letters) (Deliver k wishes) told.NoMessage (held h replicas ls)
     unread k r wishes bytes ls same at never =
         stays (Deliver k wishes) told.NoMessage ls same (λ world stands.
-          let t = told_of world k r bytes (stands.0.messages k (letter.Tells r bytes) at) in
-          absurd (never t.0 (stands.1.spelled k (Tells r t.0) t.1) t.2))
+        let t = told_of world k r bytes (stands.0.messages k (letter.Tells r bytes) at) in
+        absurd (never t.0 (stands.1.spelled k (Tells r t.0) t.1) t.2))
 
     -- ---- a replica turns
 
@@ -165,10 +165,11 @@ module _ {S : Type 0} (honest : S → Type 0) (contents : S → Contents) (limit
           log = shows.log;
           members_count = set_length replicas r new ∙ (shows.members_count ∙ sym (set_length world.members r after));
           members = λ j one at. elim (set_at replicas r new j one at) [
-            | inl same ↦
-                (after,
-                  subst (λ (i : ℕ). slice_get (slice_set world.members r after) i ≡ Some after) (sym same.0) (set_there world.members r after before is),
-                  subst (λ (x : replica.Holding S). ShowsMember honest contents world.tables x after) (sym same.1) there)
+            | inl same ↦ (
+              after,
+              subst (λ (i : ℕ). slice_get (slice_set world.members r after) i ≡ Some after) (sym same.0) (set_there world.members r after before is),
+              subst (λ (x : replica.Holding S). ShowsMember honest contents world.tables x after) (sym same.1) there,
+            )
             | inr other ↦
                 let m = shows.members j one other.1 in
                 (m.0, set_other world.members r after j m.0 other.0 m.1, m.2)
@@ -204,7 +205,7 @@ module _ {S : Type 0} (honest : S → Type 0) (contents : S → Contents) (limit
                   let t = turned_there turn turns letters all world stands in
                   let s = steps world t.0 t.2.0 t.1 t.2.1 in
                   let back : with_member world r t.2.0 ≡ world =
-                    ap (λ (m : Member). with_member world r m) s.0 ∙ ap (λ (ms : List Member). record world { members = ms }) (set_same world.members r t.0 t.1) in (
+                  ap (λ (m : Member). with_member world r m) s.0 ∙ ap (λ (ms : List Member). record world { members = ms }) (set_same world.members r t.0 t.1) in (
                     world,
                     s.1,
                     subst (ShowsWorld honest contents (held h (slice_set replicas r new) letters)) back (shows_turned world t.0 t.2.0 stands.0 t.1 t.2.2),
@@ -270,17 +271,17 @@ module _ {S : Type 0} (honest : S → Type 0) (contents : S → Contents) (limit
                   let message : Sent = Asks r (request_of (pushed t.0.position p.0) p.0) in
                   let number : told.Sent (length world.messages) ≡ outcome = ap (λ (n : ℕ). told.Sent n) (sym stands.0.messages_count ∙ ap (λ (l : List Letter). length l) (sym same)) ∙ sym as_told in
                   let made : Step limit world (MakePush r) (told.Sent (length world.messages)) (with_message (with_member world r t.2.0) message) =
-                    subst (λ (m : Member). Step limit world (MakePush r) (told.Sent (length world.messages)) (with_message (with_member world r m) message)) (sym p.2) (step.pushes {left = p.1} t.1 p.3) in (
+                  subst (λ (m : Member). Step limit world (MakePush r) (told.Sent (length world.messages)) (with_message (with_member world r m) message)) (sym p.2) (step.pushes {left = p.1} t.1 p.3) in (
                     with_message (with_member world r t.2.0) message,
                     subst (λ (o : Outcome). Step limit world (MakePush r) o (with_message (with_member world r t.2.0) message)) number made,
                     shown_and_said world t.0 t.2.0 message stands.0 t.1 t.2.2 (asks ∙ p.4),
                   );
             })
-            where
-              shown_and_said : (world : World) (before after : Member) (message : Sent) → ShowsWorld honest contents (held h replicas letters) world → IsMember world r before → ShowsMember honest contents world.tables new after
-                  → {its : Asked} → asked ≡ its → ShowsWorld honest contents (held h (slice_set replicas r new) (letters ++ letter.Asks r asked ∷ [])) (with_message (with_member world r after) (Asks r its))
-              shown_and_said world before after message shows at there {its = its} same_asked =
-                  says_more h (slice_set replicas r new) letters (with_member world r after) (letter.Asks r asked) (Asks r its) (shows_turned world before after shows at there) (refl, same_asked)
+          where
+            shown_and_said : (world : World) (before after : Member) (message : Sent) → ShowsWorld honest contents (held h replicas letters) world → IsMember world r before → ShowsMember honest contents world.tables new after
+                → {its : Asked} → asked ≡ its → ShowsWorld honest contents (held h (slice_set replicas r new) (letters ++ letter.Asks r asked ∷ [])) (with_message (with_member world r after) (Asks r its))
+            shown_and_said world before after message shows at there {its = its} same_asked =
+                says_more h (slice_set replicas r new) letters (with_member world r after) (letter.Asks r asked) (Asks r its) (shows_turned world before after shows at there) (refl, same_asked)
 
         -- an answer is told
         pub hears : (k : ℕ) (wishes : List Wish) (bytes : Vec ℕ Global) (answer : Answer) (result : Result Told AnswerFault) (ls : List Letter) → ls ≡ letters
@@ -291,13 +292,13 @@ module _ {S : Type 0} (honest : S → Type 0) (contents : S → Contents) (limit
         hears k wishes bytes answer result ls same at fits spelled one turns =
             turned (Deliver k wishes) (heard result) ls same (λ tables before after. Hears tables before answer wishes result after) turns
             (λ world before after stands is t. told_step world before after stands is t (told_of world k r bytes (stands.0.messages k (letter.Tells r bytes) at)))
-            where
-              told_step : (world : World) (before after : Member) → StandsAt honest contents limit (held h replicas letters) world → IsMember world r before → Hears world.tables before answer wishes result after
-                  → (its : Answer) × IsMessage world k (Tells r its) × (bytes.items ≡ answer_spelling its) → Step limit world (Deliver k wishes) (heard result) (with_member world r after)
-              told_step world before after stands is t (its, there, its_spelled) =
-                  let both : Ok its ≡ Ok answer = one bytes.items (Ok its) (Ok answer) (stands.1.spelled k (Tells r its) there, its_spelled) (fits, spelled) in
-                  let same_answer : its ≡ answer = cc in
-                  step.hears (there ∙ ap (λ (a : Answer). Some (Tells r a)) same_answer) is t
+          where
+            told_step : (world : World) (before after : Member) → StandsAt honest contents limit (held h replicas letters) world → IsMember world r before → Hears world.tables before answer wishes result after
+                → (its : Answer) × IsMessage world k (Tells r its) × (bytes.items ≡ answer_spelling its) → Step limit world (Deliver k wishes) (heard result) (with_member world r after)
+            told_step world before after stands is t (its, there, its_spelled) =
+                let both : Ok its ≡ Ok answer = one bytes.items (Ok its) (Ok answer) (stands.1.spelled k (Tells r its) there, its_spelled) (fits, spelled) in
+                let same_answer : its ≡ answer = cc in
+                step.hears (there ∙ ap (λ (a : Answer). Some (Tells r a)) same_answer) is t
 
     -- ---- requests
 
@@ -306,11 +307,11 @@ module _ {S : Type 0} (honest : S → Type 0) (contents : S → Contents) (limit
         → Moves honest contents limit (held h replicas letters) (AskPull r count) outcome (held h replicas all)
     asks r version count old asked outcome ls all was is_version few is same is_all as_told =
         sends (AskPull r count) (letter.Asks r asked) outcome ls all same is_all as_told (λ world stands.
-          let m = member_there r old was world stands in (
-            Asks r (AsksPull m.0.position.version count),
-            (refl, is ∙ ap (λ (v : ℕ). AsksPull v count) (is_version ∙ ap (λ (p : Position). p.version) m.2.position)),
-            step.asks few m.1,
-          ))
+        let m = member_there r old was world stands in (
+          Asks r (AsksPull m.0.position.version count),
+          (refl, is ∙ ap (λ (v : ℕ). AsksPull v count) (is_version ∙ ap (λ (p : Position). p.version) m.2.position)),
+          step.asks few m.1,
+        ))
 
     resent : (position : Position) (flight : Option (List TableChanges)) → position.flight ≡ flight → IsSome flight → (changes : List TableChanges) × (position.flight ≡ Some changes) × (request_of position (flown position.flight) ≡ request_of position changes)
     resent position None is some = let e = some in absurd (cc)
@@ -321,20 +322,20 @@ module _ {S : Type 0} (honest : S → Type 0) (contents : S → Contents) (limit
         → Moves honest contents limit (held h replicas letters) (Resend r) outcome (held h replicas all)
     resends r old asked outcome ls all was some is same is_all as_told =
         sends (Resend r) (letter.Asks r asked) outcome ls all same is_all as_told (λ world stands.
-          let m = member_there r old was world stands in
-          let f = resent old.position old.position.flight refl some in
-          let flight : m.0.position.flight ≡ Some f.0 = ap (λ (p : Position). p.flight) (sym m.2.position) ∙ f.1 in (
-            Asks r (request_of m.0.position f.0),
-            (refl, is ∙ (f.2 ∙ ap (λ (p : Position). request_of p f.0) m.2.position)),
-            step.resends m.1 flight,
-          ))
+        let m = member_there r old was world stands in
+        let f = resent old.position old.position.flight refl some in
+        let flight : m.0.position.flight ≡ Some f.0 = ap (λ (p : Position). p.flight) (sym m.2.position) ∙ f.1 in (
+          Asks r (request_of m.0.position f.0),
+          (refl, is ∙ (f.2 ∙ ap (λ (p : Position). request_of p f.0) m.2.position)),
+          step.resends m.1 flight,
+        ))
 
     pub resends_not : (r : ℕ) (old : replica.Holding S) (fault : PushFault) (ls : List Letter) → slice_get replicas r ≡ Some old → IsResendFault fault old.position → ls ≡ letters
         → Moves honest contents limit (held h replicas letters) (Resend r) (told.NotPushed fault) (held h replicas ls)
     resends_not r old fault ls was why same =
         stays (Resend r) (told.NotPushed fault) ls same (λ world stands.
-          let m = member_there r old was world stands in
-          step.resends_not m.1 (subst (IsResendFault fault) m.2.position why))
+        let m = member_there r old was world stands in
+        step.resends_not m.1 (subst (IsResendFault fault) m.2.position why))
 
     -- ---- the hub serves
 
@@ -374,7 +375,7 @@ module _ {S : Type 0} (honest : S → Type 0) (contents : S → Contents) (limit
                 } in (
                   with_message next (Tells r f.0),
                   subst (λ (o : Outcome). Step limit world (Deliver k wishes) o (with_message next (Tells r f.0))) number
-                    (step.serves f.0 there f.1 (subst (λ (b : List ℕ). ServesIf (Unit {0}) limit (hub_of world.tables world.log) (request_spelling request) b (hub_of world.tables s.0)) f.2 by_asked)),
+                      (step.serves f.0 there f.1 (subst (λ (b : List ℕ). ServesIf (Unit {0}) limit (hub_of world.tables world.log) (request_spelling request) b (hub_of world.tables s.0)) f.2 by_asked)),
                   says_more new replicas letters next (letter.Tells r answer) (Tells r f.0) shown (refl, f.2),
                 );
           })
@@ -397,6 +398,6 @@ module _ {S : Type 0} (honest : S → Type 0) (contents : S → Contents) (limit
               },
             );
           })
-          where
-            still_shown : (world : World) → honest new.store → hub.Shows contents h world.log → hub.Shows contents new world.log
-            still_shown world good (shows, count) = (rw (kept.catalog, kept.same good) shows, kept.newest ∙ count)
+        where
+          still_shown : (world : World) → honest new.store → hub.Shows contents h world.log → hub.Shows contents new world.log
+          still_shown world good (shows, count) = (rw (kept.catalog, kept.same good) shows, kept.newest ∙ count)

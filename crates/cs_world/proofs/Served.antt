@@ -211,15 +211,15 @@ module _ (laws : Below) (limit : ℕ) (small : limit < 2 ^ 32) (world : World) (
             ]
           ]
         ]
-        where
-          spelled_as : (is : Result Pushed HubFault) → told ≡ is → bytes ≡ answer_spelling (push_answer head (or_refusal is))
-          spelled_as is same = spelled ∙ ap (λ (o : Outcome). answer_spelling (push_answer head o)) (as_told ∙ ap or_refusal same)
+      where
+        spelled_as : (is : Result Pushed HubFault) → told ≡ is → bytes ≡ answer_spelling (push_answer head (or_refusal is))
+        spelled_as is same = spelled ∙ ap (λ (o : Outcome). answer_spelling (push_answer head o)) (as_told ∙ ap or_refusal same)
 
-          at_end : ((length world.log < head.base) → ⊥) → ((head.base < length world.log) → ⊥) → head.base ≡ length world.log
-          at_end above below = omega (arith, above, below)
+        at_end : ((length world.log < head.base) → ⊥) → ((head.base < length world.log) → ⊥) → head.base ≡ length world.log
+        at_end above below = omega (arith, above, below)
 
-          less : ((limit ≤ length world.log) → ⊥) → length world.log < limit
-          less full = omega (arith, full)
+        less : ((limit ≤ length world.log) → ⊥) → length world.log < limit
+        less full = omega (arith, full)
 
     normal_taken : (bytes : List ℕ) (log : List LogEntry) (outcome : Outcome) → bytes ≡ answer_spelling (push_answer head outcome)
         → TakesNormal limit (hub_of world.tables world.log) the_push outcome (hub_of world.tables log)

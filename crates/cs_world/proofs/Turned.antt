@@ -62,7 +62,7 @@ module _ {S : Type 0} (honest : S → Type 0) (contents : S → Contents) (faile
 
     pub edited : (asked : Edit) (result : Result (Unit {0}) EditFault)
         → WritesStore honest contents failed may_leave misreads edits.Device (ShowsSomeAt old.catalog old.position (contents old.store))
-            (IsEditedIn old.catalog old.position (table_of asked) (asked_of asked) (contents old.store)) old.store new.store result
+        (IsEditedIn old.catalog old.position (table_of asked) (asked_of asked) (contents old.store)) old.store new.store result
         → (honest new.store → (view : View) → Shows contents old view → IfErr result (λ fault. IsOfStore fault ⊎ (edit old.catalog (table_of asked) (asked_of asked) view ≡ Err fault)))
         → OnOk result (new.position ≡ with_pending old.position new.position.pending)
         → OnErr result (new.position ≡ old.position)
@@ -93,7 +93,7 @@ module _ {S : Type 0} (honest : S → Type 0) (contents : S → Contents) (faile
 
     pub pushed_to : (result : Result RequestBuf PushFault)
         → WritesStore honest contents failed may_leave misreads pushes.Device (ShowsSomeAt old.catalog old.position (contents old.store))
-            (IsPushMadeIn old.catalog old.position (contents old.store)) old.store new.store result
+        (IsPushMadeIn old.catalog old.position (contents old.store)) old.store new.store result
         → IfOk result (IsPushOf old.position new.position)
         → (honest new.store → (view : View) → Shows contents old view → IfErr result (λ fault. IsPushFault fault old.catalog old.position view))
         → OnErr result (new.position ≡ old.position)
@@ -108,7 +108,7 @@ module _ {S : Type 0} (honest : S → Type 0) (contents : S → Contents) (faile
           let same = there h are (pushed old.position made.0) (grounded view) in_range ranged made.1.shows in
           let changes : of.0 ≡ made.0 = push_changes of.0 made.0 (sym of.1 ∙ same) in
           let asked : asked_by_owned request ≡ request_of (pushed old.position made.0) made.0 =
-            of.2 ∙ (ap (λ (p : Position). request_of p of.0) same ∙ ap (λ (c : List TableChanges). request_of (pushed old.position made.0) c) changes) in (
+          of.2 ∙ (ap (λ (p : Position). request_of p of.0) same ∙ ap (λ (c : List TableChanges). request_of (pushed old.position made.0) c) changes) in (
             grounded view,
             shown_as (pushed old.position made.0) (grounded view) same made.1.shows,
             (made.0, contents new.store, ap (λ (p : Position). record { position = p; view = grounded view }) same, made.1, asked),

@@ -3,10 +3,10 @@
 ghost use Rattle.std.specs.Prelude.{◌≡◌};
 ghost use Rattle.cs_world.specs.declared.line.LineFault.TheVariants.{Memory};
 
+use crate::event::{Event, WishList};
 use crate::values::{read_field, read_text, read_value};
 use crate::words::{Words, small, unsigned};
 use cs_conflict::Wish;
-use crate::event::{Event, WishList};
 use cs_value::{Catalog, Edit, Field, Items, Text, Value};
 use std::alloc::{AllocError, AllocFailed, Global};
 
@@ -44,7 +44,11 @@ fn there<T: Drop>(found: Option<T>) -> Result<T, LineFault> {
 }
 
 /// The values that are left on the line.
-fn read_values(alloc: Global, words: &mut Words<'_>, most: usize) -> Result<Items<Value>, LineFault> {
+fn read_values(
+    alloc: Global,
+    words: &mut Words<'_>,
+    most: usize,
+) -> Result<Items<Value>, LineFault> {
     let mut values = Vec::new(alloc);
     for _ in 0..most {
         let Some(word) = words.next() else {

@@ -6,11 +6,11 @@ ghost use Rattle.cs_world.specs.declared.outcome.Outcome.TheVariants as told;
 ghost use Rattle.cs_hub.specs.declared.hub.TheConstants.{MAX_ENTRIES};
 ghost use Rattle.cs_world.specs.Moves.{Moves};
 
+use crate::event::Event;
 use crate::letter::{Letter, Posted};
+use crate::outcome::Outcome;
 use crate::turning::{edit_replica, push_replica, reload_replica, tell_replica};
 use cs_conflict::Wish;
-use crate::event::Event;
-use crate::outcome::Outcome;
 use cs_hub::Hub;
 use cs_replica::Replica;
 use cs_store::RowStore;

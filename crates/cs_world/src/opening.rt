@@ -1,16 +1,30 @@
 //! Stores that hold nothing, opened.
 
-ghost use Rattle.std.specs.Prelude.{◌≡◌, ◌<◌, ◌-◌, ◌^◌, [], IfOk};
+ghost use Rattle.std.specs.Prelude.{◌≡◌, ◌<◌, ◌-◌, ◌^◌, [], All, IfOk, length};
 ghost use Rattle.cs_hub.specs.Holding as hub;
 ghost use Rattle.cs_store.specs.Contents.{nothing};
 ghost use Rattle.cs_world.specs.Opened.{IsNewReplica};
 
 use cs_hub::Hub;
+use cs_map_store::MapStore;
 use cs_opening::OpenFault;
 use cs_replica::Replica;
 use cs_store::RowStore;
-use cs_value::Catalog;
+use cs_value::{Catalog, Memory};
 use std::alloc::Global;
+
+/// Stores in memory that hold nothing, so many.
+pub(crate) fn bare_stores(alloc: Global, count: u32) -> Result<Vec<MapStore>, Memory>
+    ensures bare { IfOk result (λ stores. All (λ store. ⟦<MapStore as RowStore>⟧.contents store ≡ nothing) stores.items) }
+    ensures count { IfOk result (λ stores. length stores.items ≡ count) }
+{
+    let mut stores = Vec::new(alloc);
+    for number in 0..count {
+        let _ = number;
+        stores.push(MapStore::new(alloc))?;
+    }
+    Ok(stores)
+}
 
 /// A replica to which nothing has happened.
 pub(crate) fn open_replica<S: RowStore + Drop>(

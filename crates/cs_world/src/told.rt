@@ -31,7 +31,8 @@ fn write_told<W: fmt::Write>(told: Told, version: u64, f: &mut fmt::Formatter<W>
 /// How many entries were taken before an answer ended in a fault.
 fn taken_before(fault: AnswerFault) -> u64 {
     match fault {
-        AnswerFault::Memory(count) | AnswerFault::Device(count) | AnswerFault::BadEntry(count) => count,
+        AnswerFault::Memory(count) | AnswerFault::Device(count) | AnswerFault::BadEntry(count) =>
+            count,
     }
 }
 
@@ -61,7 +62,11 @@ pub struct RowText<'a> {
 }
 
 /// Writes the cells of a row, of which there are so many at most, each behind a space.
-fn write_cells<W: fmt::Write>(row: &Row<'_>, most: usize, f: &mut fmt::Formatter<W>) -> fmt::Result {
+fn write_cells<W: fmt::Write>(
+    row: &Row<'_>,
+    most: usize,
+    f: &mut fmt::Formatter<W>,
+) -> fmt::Result {
     let mut rest = row.again();
     for _ in 0..most {
         let Some((cell, more)) = rest.split_first() else {

@@ -5,9 +5,9 @@ ghost use Rattle.cs_hub.specs.declared.hub.TheConstants.{MAX_ENTRIES};
 ghost use Rattle.cs_store.specs.Contents.{nothing};
 ghost use Rattle.cs_world.specs.Runs.{HasHeadline, IsNew, Runs};
 
-use crate::moving::Core;
-use crate::opening::{open_hub, open_replica};
 use crate::event::Event;
+use crate::moving::Core;
+use crate::opening::{bare_stores, open_hub, open_replica};
 use crate::outcome::Outcome;
 use cs_map_store::MapStore;
 use cs_opening::OpenFault;
@@ -88,10 +88,7 @@ impl World<MapStore> {
         requires { count < 2 ^ 32 - 1 }
         ensures { IfOk result (IsNew ⟦<MapStore as RowStore>⟧.honest ⟦<MapStore as RowStore>⟧.contents MAX_ENTRIES catalog.now count) }
     {
-        let mut stores = Vec::new(alloc);
-        for _ in 0..count {
-            stores.push(MapStore::new(alloc))?;
-        }
+        let stores = bare_stores(alloc, count)?;
         match World::new(alloc, catalog, MapStore::new(alloc), stores) {
             Ok(world) => Ok(world),
             Err(_) => Err(AllocError),

@@ -1,7 +1,6 @@
 //! Events of a world of one table, `t1(a, b)`, whose first column is the key, and what they come to.
 
 use cs_conflict::Wish;
-
 use cs_map_store::MapStore;
 use cs_value::{Catalog, Edit, Field, Fields, Items, Key, Memory, Row, TableDef, Text, Value};
 use cs_world::{Event, Outcome, WishList, World};

@@ -2,9 +2,9 @@
 
 use crate::given::{Act, plays, world};
 use cs_conflict::Wish;
-use cs_world::Outcome;
 use cs_pushing::PushFault;
 use cs_replica::Told;
+use cs_world::Outcome;
 use std::alloc::Global;
 
 /// An answer that was lost, and an old push that comes again.
@@ -32,7 +32,10 @@ const TWO: &[(Act, Outcome)] = &[
     (Act::Deliver(3, &[]), Outcome::Heard(Told::Stale(1))),
     (Act::Pull(1, 10), Outcome::Sent(4)),
     (Act::Deliver(4, &[]), Outcome::Sent(5)),
-    (Act::Deliver(5, &[Wish::Keep]), Outcome::Heard(Told::Taken(1))),
+    (
+        Act::Deliver(5, &[Wish::Keep]),
+        Outcome::Heard(Told::Taken(1)),
+    ),
     (Act::Push(1), Outcome::Sent(6)),
     (Act::Deliver(6, &[]), Outcome::Sent(7)),
     (Act::Deliver(7, &[]), Outcome::Heard(Told::Confirmed(2))),
