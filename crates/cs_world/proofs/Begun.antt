@@ -1,0 +1,113 @@
+-- A world in which nothing has happened.
+use Rattle.std.proofs.Common.{◌≡◌, ◌<◌, ◌-◌, ◌^◌, ◌∙◌, ◌++◌, ℕ, List, [], ◌∷◌, Option, Some, None, length, map, option_map, slice_get, refl, sym, ap, subst, inl, inr, arith}
+use Rattle.std.specs.FinMap.{get-empty}
+use Rattle.std.proofs.lemmas.Option.{slice_get-map, slice_get_within}
+use Rattle.std.proofs.lemmas.List.{length-map}
+use Rattle.cs_value.specs.Catalog.{AreTables}
+use Rattle.cs_value.specs.declared.catalog.TableDef.{TableDef}
+use Rattle.cs_hub.specs.Holding as hub
+use Rattle.cs_moving.specs.Moved.{IsStoreOpened}
+use Rattle.cs_opening.specs.Fresh.{IsFirst, first_position}
+use Rattle.cs_order.specs.Order.{by_bytes}
+use Rattle.cs_pending.specs.Laws.{empty_view}
+use Rattle.cs_position.specs.Shows.{ShowsAt}
+use Rattle.cs_position.specs.declared.position.Position.{Position}
+use Rattle.cs_replica.specs.Holding as replica
+use Rattle.cs_store.specs.Contents.{Contents, meta_value, name_text, nothing}
+use Rattle.cs_store.specs.declared.names.MetaName.TheVariants.{Pending}
+use Rattle.cs_world.specs.Holding.{AreHonest, Holding, StandsAt}
+use Rattle.cs_world.specs.declared.letter.Letter.{Letter}
+use Rattle.cs_world.specs.Laws.{FirstIsSound, IsFirstMember}
+use Rattle.cs_world.specs.Opened.{IsNewReplica}
+use Rattle.cs_world.specs.Runs.{IsNew}
+use Rattle.cs_world.specs.World.{IsMember, Member, World, first_world}
+use Rattle.cs_world.proofs.Found.{in_one_more, nowhere}
+
+-- a store that held nothing is opened at the first position
+pub opened_new : (tables : List TableDef) (id : ℕ) (old new : Contents) (position : Position) → old ≡ nothing → IsStoreOpened tables id old new position → (position ≡ first_position id) × IsFirst tables id new
+opened_new tables id old new position none (inl (inl (bare, at, first))) = (at, first)
+opened_new tables id old new position none (inl (inr (some, same, stands))) = absurd (some none)
+opened_new tables id old new position none (inr (changes, keeps, moved, stands)) =
+    let gone : meta_value old Pending ≡ None = ap (λ (c : Contents). meta_value c Pending) none ∙ get-empty by_bytes (name_text Pending) in
+    let there = keeps.there in
+    absurd (cc)
+
+module _ {S : Type 0} (honest : S → Type 0) (contents : S → Contents) (limit : ℕ) (tables : List TableDef) (are : AreTables tables) (sound : FirstIsSound) (h : hub.Holding S) (replicas : List (replica.Holding S)) where
+  abbrev first_of : replica.Holding S → Member
+  first_of one = record { position = one.position; view = empty_view }
+
+  abbrev members : List Member
+  members = map first_of replicas
+
+  member_of : (r : ℕ) (member : Member) (found : Option (replica.Holding S)) → slice_get replicas r ≡ found → option_map first_of found ≡ Some member
+      → (one : replica.Holding S) × (slice_get replicas r ≡ Some one) × (member ≡ first_of one)
+  member_of r member None is there = absurd (cc)
+  member_of r member (Some one) is there = (one, is, cc)
+
+  found : (r : ℕ) (member : Member) → slice_get members r ≡ Some member → (one : replica.Holding S) × (slice_get replicas r ≡ Some one) × (member ≡ first_of one)
+  found r member at = member_of r member (slice_get replicas r) refl (sym (slice_get-map first_of replicas r) ∙ at)
+
+  pub is_new : (letters : List Letter) → letters ≡ [] → (count : ℕ) → length replicas ≡ count → count < 2 ^ 32 - 1 → h.catalog ≡ tables → (honest h.store → hub.Shows contents h [])
+      → ((r : ℕ) (one : replica.Holding S) → slice_get replicas r ≡ Some one → IsNewReplica honest contents tables r one)
+      → IsNew honest contents limit tables count (record { hub = h; replicas = replicas; letters = letters })
+  is_new letters bare count counted few catalog log news all =
+      let firsts : (r : ℕ) (member : Member) → IsMember (first_world tables members) r member → IsFirstMember tables r member = (λ r member at.
+      let f = found r member at in
+      let n = news r f.0 f.1 (all.replicas r f.0 f.1) in
+      let within = slice_get_within replicas r f.0 f.1 in
+      record {
+        position = ap (λ (m : Member). m.position) f.2 ∙ n.1;
+        view = ap (λ (m : Member). m.view) f.2;
+        small = omega (arith, within, counted, few);
+        contents = contents f.0.store;
+        shown = subst (λ (m : Member). ShowsAt tables (contents f.0.store) m.position m.view) (sym f.2) (subst (λ (p : Position). ShowsAt tables (contents f.0.store) p empty_view) (sym n.1) n.2);
+      }) in (
+        members,
+        length-map replicas first_of ∙ counted,
+        firsts,
+        (
+          record {
+            catalog = catalog;
+            log = log all.hub;
+            members_count = sym (length-map replicas first_of);
+            members = λ r one at.
+                let n = news r one at (all.replicas r one at) in (
+                  first_of one,
+                  slice_get-map first_of replicas r ∙ ap (option_map first_of) at,
+                  record {
+                    catalog = n.0;
+                    position = refl;
+                    shows = subst (λ (t : List TableDef). ShowsAt t (contents one.store) one.position empty_view) (sym n.0) (subst (λ (p : Position). ShowsAt tables (contents one.store) p empty_view) (sym n.1) n.2);
+                  },
+                );
+            messages_count = ap (λ (l : List Letter). length l) bare;
+            messages = λ k one at. let none : slice_get [] k ≡ Some one = subst (λ (l : List Letter). slice_get l k ≡ Some one) bare at in absurd (cc);
+          },
+          sound limit tables members are firsts,
+        ),
+      )
+
+-- none so far
+pub none_yet : {S : Type 0} (honest : S → Type 0) (contents : S → Contents) (tables : List TableDef) (replicas : List (replica.Holding S)) → replicas ≡ []
+    → (r : ℕ) (one : replica.Holding S) → slice_get replicas r ≡ Some one → IsNewReplica honest contents tables r one
+none_yet {S = S} honest contents tables replicas none r one at =
+    absurd (nowhere one r (subst (λ (l : List (replica.Holding S)). slice_get l r ≡ Some one) none at))
+
+-- a replica more
+pub one_more : {S : Type 0} (honest : S → Type 0) (contents : S → Contents) (tables : List TableDef) (replicas : List (replica.Holding S)) (new : replica.Holding S)
+    → ((r : ℕ) (one : replica.Holding S) → slice_get replicas r ≡ Some one → IsNewReplica honest contents tables r one)
+    → IsNewReplica honest contents tables (length replicas) new
+    → (all : List (replica.Holding S)) → all ≡ replicas ++ new ∷ []
+    → (r : ℕ) (one : replica.Holding S) → slice_get all r ≡ Some one → IsNewReplica honest contents tables r one
+one_more honest contents tables replicas new news is all same r one at =
+    elim (in_one_more replicas one new r (subst (λ (l : List (replica.Holding _)). slice_get l r ≡ Some one) same at)) [
+      | inl old ↦ news r one old
+      | inr (last, it) ↦ subst (λ (i : ℕ). IsNewReplica honest contents tables i one) (sym last) (subst (λ (x : replica.Holding _). IsNewReplica honest contents tables (length replicas) x) (sym it) is)
+    ]
+
+-- where it is new, it stands at a world
+pub new_stands : {S : Type 0} (honest : S → Type 0) (contents : S → Contents) (limit : ℕ) (tables : List TableDef) (count : ℕ) (held : Holding S) → IsNew honest contents limit tables count held
+    → AreHonest honest contents held → (world : World) × StandsAt honest contents limit held world
+new_stands honest contents limit tables count held is all =
+    let n = is all in
+    (first_world tables n.0, n.3)

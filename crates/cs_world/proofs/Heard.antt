@@ -1,0 +1,297 @@
+-- What the hub's answers make of a replica of a sound world: it stands on the log again, and no entry was bad.
+use Rattle.std.proofs.Common.{◌≡◌, ◌≢◌, ◌≤◌, ◌<◌, ◌+◌, ◌-◌, ◌^◌, ◌∙◌, ℕ, zero, suc, List, [], ◌∷◌, Option, Some, None, Result, Ok, Err, length, slice_get, refl, sym, ap, subst, inl, inr, arith}
+use Rattle.std.specs.Prelude.{◌⊎◌, All, IsSome}
+use Rattle.std.proofs.lemmas.List.Elements.{All-head, All-tail}
+use Rattle.std.proofs.lemmas.Option.{slice_get_within}
+use Rattle.cs_value.specs.Key.{Place}
+use Rattle.cs_value.specs.declared.catalog.TableDef.{TableDef}
+use Rattle.cs_change.specs.Action.{action_any, after_any}
+use Rattle.cs_conflict.specs.declared.wish.Wish.{Wish}
+use Rattle.cs_log.specs.Entry.{body_spelling, changes_of_body, entry_changes}
+use Rattle.cs_log.specs.Laws.{OneBody}
+use Rattle.cs_log.specs.Log.{IsLog, tables_at}
+use Rattle.cs_log.specs.Stored.{AreChangesOf}
+use Rattle.cs_log.specs.declared.body.Body.{Body}
+use Rattle.cs_log.specs.declared.body.Body.TheVariants.{Changes}
+use Rattle.cs_log.specs.declared.entry.LogEntry.{LogEntry}
+use Rattle.cs_normal.specs.Laws.{NormalAgain, NormalIsTaken}
+use Rattle.cs_normal.specs.Normal.{FitsCatalog, change_of, groups_of, normal_spelling}
+use Rattle.cs_normal.specs.State.{AreSame, IsApplied, IsDefinedOn, State, left_at}
+use Rattle.cs_normal.specs.declared.normal.TableChanges.{TableChanges}
+use Rattle.cs_pending.specs.Nets.{undo_none}
+use Rattle.cs_pending.specs.View.{View, middle}
+use Rattle.cs_position.specs.Shows.{ShowsAt, base, flown}
+use Rattle.cs_position.specs.declared.position.Position.{Position}
+use Rattle.cs_pulling.specs.Laws.{OneRead, PulledLeads}
+use Rattle.cs_pulling.specs.Listed.{Ends, EndsBad, IsToldAt, PullsList, PullsMany, count_of}
+use Rattle.cs_pulling.specs.Pulls.{IsBad, IsOwn, PullsOne}
+use Rattle.cs_pulling.specs.Told.{IsReadAs}
+use Rattle.cs_pulling.specs.declared.fault.AnswerFault.{AnswerFault}
+use Rattle.cs_pulling.specs.declared.fault.AnswerFault.TheVariants as fault
+use Rattle.cs_pulling.specs.declared.listing.Pulled.{Pulled}
+use Rattle.cs_pulling.specs.declared.listing.Pulled.TheVariants as pulled
+use Rattle.cs_pushing.specs.Pushes.{confirmed, request_of}
+use Rattle.cs_replica.specs.Accepted.{IsAccepted}
+use Rattle.cs_replica.specs.Answered.{Answers, TellsAccepted, told_of}
+use Rattle.cs_replica.specs.Laws.{EntryStands, FlightFits, KeptStands}
+use Rattle.cs_replica.specs.Stands.{StandsOn}
+use Rattle.cs_replica.specs.declared.told.Told.{Told}
+use Rattle.cs_replica.specs.declared.told.Told.TheVariants as told
+use Rattle.cs_store.specs.Contents.{Contents}
+use Rattle.cs_taking.specs.Laws.{OneLogRows}
+use Rattle.cs_taking.specs.Takes.{taken}
+use Rattle.cs_wire.specs.Entries.{ToldEntry}
+use Rattle.cs_wire.specs.Requests.{AsksPush}
+use Rattle.cs_wire.specs.Told.{told_entry}
+use Rattle.cs_wire.specs.declared.answer.Answer.{Answer}
+use Rattle.cs_wire.specs.declared.answer.Answer.TheVariants.{Short, Entries}
+use Rattle.cs_wire.specs.declared.push_head.PushHead.{PushHead}
+use Rattle.cs_wire.specs.declared.short_answer.ShortAnswer.TheVariants.{Accepted, Stale, Refused}
+use Rattle.cs_wishes.specs.Wished.{IsWished}
+use Rattle.cs_world.specs.Headline.{IsGood}
+use Rattle.cs_world.specs.Sound.{ArePartOf, IsAcceptedIn, IsPlaced, IsSound, IsStoredEntry, IsTrueAnswer, push_of}
+use Rattle.cs_world.specs.Steps.{Hears, heard}
+use Rattle.cs_world.specs.World.{IsMember, Member, World}
+use Rattle.cs_world.specs.declared.outcome.Outcome.{Outcome}
+use Rattle.cs_world.specs.declared.outcome.Outcome.TheVariants.{Heard, NotHeard}
+
+-- the laws below
+pub record Below : Type 0 where
+  pub entry : EntryStands
+  pub kept : KeptStands
+  pub flight : FlightFits
+  pub leads : PulledLeads IsWished
+  pub read : OneRead
+  pub taken : NormalIsTaken
+  pub again : NormalAgain
+  pub body : OneBody
+  pub rows : OneLogRows
+
+-- what a replica is like after an answer: it stands on the log; what is under way is what was, at the same version
+pub record IsOn (log : List LogEntry) (position other : Position) (end : View) : Type 0 where
+  pub stands : StandsOn log other end
+  pub id : other.id ≡ position.id
+  pub number : other.number ≡ position.number
+  pub flight : (changes : List TableChanges) → other.flight ≡ Some changes → (position.flight ≡ Some changes) × (other.version ≡ position.version)
+
+-- ---- of lists, options and states
+
+all_at : {X : Type 0} (P : X → Type 0) (xs : List X) (at : ℕ) (x : X) → All P xs → slice_get xs at ≡ Some x → P x
+all_at P [] at x all there = absurd (cc)
+all_at P (y ∷ ys) zero x all there = let is : y ≡ x = cc in subst P is (All-head P y ys all)
+all_at P (y ∷ ys) (suc at) x all there = all_at P ys at x (All-tail P y ys all) there
+
+no_some : {X : Type 0} (o : Option X) → IsSome o → o ≡ None → ⊥
+no_some {X = X} o some none = let bad : IsSome {T = X} None = subst (λ (x : Option X). IsSome x) none some in absurd (cc)
+
+-- a changeset that is defined on the same rows is defined
+defined_same : (tables : List TableDef) (changes : List TableChanges) (some other : State) → AreSame some other → IsDefinedOn tables changes some → IsDefinedOn tables changes other
+defined_same tables changes some other same defined =
+    (defined.0, λ n k. subst (λ (place : Place). IsSome (after_any (action_any (change_of n k changes)) place)) (sym (same n k)) (defined.1 n k))
+
+-- what it leaves of the same rows is the same
+applied_same : (tables : List TableDef) (changes : List TableChanges) (some other left end : State) → AreSame some other → AreSame left end → IsApplied tables changes some left → IsApplied tables changes other end
+applied_same tables changes some other left end same too applied =
+    (applied.0, λ n k. ap (after_any (action_any (change_of n k changes))) (same n k) ∙ (applied.1 n k ∙ ap (λ (place : Place). Some place) (sym (too n k))))
+
+-- the bytes of a body are those of its changes
+spelled_body : (body : Body) → body_spelling body ≡ normal_spelling (changes_of_body body)
+spelled_body (Changes changes) = refl
+
+module _ (laws : Below) (limit : ℕ) (small : limit < 2 ^ 32) (world : World) (s : IsSound limit world) where
+  -- the bytes of changes are of one body
+  one_changes : (changes : List TableChanges) (body : Body) → AreChangesOf world.tables changes → AreChangesOf world.tables (changes_of_body body) → normal_spelling changes ≡ normal_spelling (changes_of_body body)
+      → changes_of_body body ≡ changes
+  one_changes changes (Changes others) fits its same =
+      let both : Changes others ≡ Changes changes = laws.body world.tables (Changes others) (Changes changes) s.tables its fits (ap (λ (bytes : List ℕ). 0 ∷ bytes) (sym same)) in
+      ap changes_of_body both
+
+  stays : (position : Position) (end : View) → StandsOn world.log position end → IsOn world.log position position end
+  stays position end stands = record { stands = stands; id = refl; number = refl; flight = λ changes is. (is, refl) }
+
+  -- ---- entries
+
+  stored_at : (at : ℕ) (entry : LogEntry) → slice_get world.log at ≡ Some entry → IsStoredEntry world.tables entry
+  stored_at at entry there = all_at (IsStoredEntry world.tables) world.log at entry s.entries there
+
+  -- an entry of the log is read as it was told
+  reads_itself : (entry : LogEntry) → IsStoredEntry world.tables entry → IsReadAs world.tables (told_entry entry) entry
+  reads_itself entry stored =
+      let own = laws.taken (entry_changes entry) stored.0.changes.0 in
+      record {
+        kind = refl;
+        origin = refl;
+        number = refl;
+        groups = groups_of (entry_changes entry);
+        fits = own.0;
+        spelled = spelled_body entry.body ∙ sym own.1;
+        form = laws.again world.tables (entry_changes entry) s.tables stored.0.changes.0 stored.0.changes.1;
+      }
+
+  module _ (first : ℕ) (entries : List ToldEntry) (part : ArePartOf world.log first entries) where
+    -- what is told at a version is the log's entry there
+    told_there : (version : ℕ) (told : ToldEntry) → IsToldAt first entries version told → (entry : LogEntry) × (slice_get world.log version ≡ Some entry) × (told ≡ told_entry entry)
+    told_there version told at =
+        let e = part at.at told at.there in
+        (e.0, subst (λ (v : ℕ). slice_get world.log v ≡ Some e.0) (sym at.place) e.1, e.2)
+
+    read_there : (version : ℕ) (told : ToldEntry) (entry : LogEntry) → IsToldAt first entries version told → IsReadAs world.tables told entry → slice_get world.log version ≡ Some entry
+    read_there version told entry at read =
+        let e = told_there version told at in
+        let own = reads_itself e.0 (stored_at version e.0 e.1) in
+        let same : entry ≡ e.0 = laws.read world.tables (told_entry e.0) entry e.0 s.tables (subst (λ (t : ToldEntry). IsReadAs world.tables t entry) e.2 read) own in
+        e.1 ∙ ap (λ (x : LogEntry). Some x) (sym same)
+
+    -- one after another
+    many_on : (count : ℕ) (contents : Contents) (position : Position) (view : View) (p : List Wish) (other : Position) (end : View) (q : List Wish)
+        → ShowsAt world.tables contents position view → StandsOn world.log position view
+        → PullsMany IsWished world.tables first entries count position view p other end q
+        → IsOn world.log position other end
+    unfolding PullsMany
+    many_on zero contents position view p other end q shows stands (here, still, none) =
+        subst (λ (o : Position). IsOn world.log position o end) (sym here)
+        (subst (λ (e : View). IsOn world.log position position e) (sym still) (stays position view stands))
+    many_on (suc count) contents position view p other end q shows stands (told, entry, pending, left, next, between, at, read, pulls, shown, more) =
+        let there = read_there position.version told entry at read in
+        let applied = laws.leads world.tables contents position entry view next p between s.tables shows pulls in
+        let stood = laws.entry world.tables world.log entry position (taken position pending) view next s.log there refl applied stands in
+        let rest = many_on count left (taken position pending) next between other end q shown stood more in
+        record {
+          stands = rest.stands;
+          id = rest.id;
+          number = rest.number;
+          flight = λ changes is. let none = (rest.flight changes is).0 in absurd (cc);
+        }
+
+    -- and none is bad
+    none_bad : (position : Position) (view : View) → StandsOn world.log position view → EndsBad IsWished world.tables first entries position view → ⊥
+    none_bad position view stands bad =
+        let e = told_there position.version bad.told bad.there in
+        let own = subst (λ (t : ToldEntry). IsReadAs world.tables t e.0) (sym e.2) (reads_itself e.0 (stored_at position.version e.0 e.1)) in
+        let within = slice_get_within world.log position.version e.0 e.1 in
+        elim (bad.bad e.0 own) [
+          | inl last ↦ omega (arith, last, within, s.short, small)
+          | inr wrong ↦ wrong.1 (defined_same world.tables (entry_changes e.0) (tables_at world.log position.version) (base position.flight view) stands.on_tables (s.log position.version e.0 e.1).defined)
+        ]
+
+  -- ---- a push is confirmed
+
+  -- the push under way is the entry that was told to be accepted
+  module _ (r : ℕ) (before : Member) (p : IsPlaced world r before) where
+    its_entry : (changes : List TableChanges) (origin number version : ℕ) → before.position.flight ≡ Some changes → IsAcceptedIn world.log origin number version → IsAccepted before.position origin number version
+        → (entry : LogEntry) × (slice_get world.log before.position.version ≡ Some entry) × (entry_changes entry ≡ changes)
+    its_entry changes origin number version flight a is =
+        let place : a.at ≡ before.position.version = omega (arith, a.next, is.next) in
+        let there : slice_get world.log before.position.version ≡ Some a.entry = subst (λ (i : ℕ). slice_get world.log i ≡ Some a.entry) place a.there in
+        let one = p.sent changes flight in
+        let two = s.pushed a.at a.entry a.there in
+        let both = s.once _ _ (normal_spelling changes) (normal_spelling (entry_changes a.entry)) one two (sym is.own ∙ sym a.by) (sym is.last ∙ sym a.numbered) in
+        let stored = stored_at a.at a.entry a.there in
+        let fits = subst (λ (f : Option (List TableChanges)). AreChangesOf world.tables (flown f)) flight (p.shown.under_way.normal, p.shown.under_way.fits) in
+        (a.entry, there, one_changes changes a.entry.body fits stored.0.changes both.1)
+
+    its_entry_stands : (changes : List TableChanges) (entry : LogEntry) → before.position.flight ≡ Some changes → slice_get world.log before.position.version ≡ Some entry → entry_changes entry ≡ changes
+        → StandsOn world.log (confirmed before.position) before.view
+    its_entry_stands changes entry flight there same =
+        let applied = laws.flight world.tables p.contents world.log before.position changes before.view s.tables p.shown flight p.stands in
+        laws.entry world.tables world.log entry before.position (confirmed before.position) before.view before.view s.log there refl
+        (subst (λ (c : List TableChanges). IsApplied world.tables c (base before.position.flight before.view) (base None before.view)) (sym same)
+        (applied_same world.tables changes (tables_at world.log before.position.version) (base before.position.flight before.view) (middle before.view) (base None before.view)
+        p.stands.on_tables (λ n k. undo_none (middle before.view n k)) applied))
+        p.stands
+
+    kept_on : (other : Position) → other ≡ before.position → IsOn world.log before.position other before.view
+    kept_on other same =
+        subst (λ (o : Position). IsOn world.log before.position o before.view) (sym same) (stays before.position before.view p.stands)
+
+    accepted_on : (origin number version : ℕ) (result : Result Told AnswerFault) (other : Position) → IsAcceptedIn world.log origin number version → TellsAccepted origin number version result before.position other
+        → IsOn world.log before.position other before.view
+    accepted_on origin number version (Ok (told.Confirmed newest)) other a (is, version_is, moved) =
+        confirmed_on (before.position.flight) refl
+      where
+        confirmed_on : (f : Option (List TableChanges)) → before.position.flight ≡ f → IsOn world.log before.position other before.view
+        confirmed_on None none = let some = is.under_way in absurd (no_some before.position.flight some none)
+        confirmed_on (Some changes) flight =
+            let e = its_entry changes origin number version flight a is in
+            subst (λ (o : Position). IsOn world.log before.position o before.view) (sym moved) (record {
+              stands = its_entry_stands changes e.0 flight e.1 e.2;
+              id = refl;
+              number = refl;
+              flight = λ cs gone. absurd (cc);
+            })
+    accepted_on origin number version (Ok told.Ignored) other a (not, same) = kept_on other same
+    accepted_on origin number version (Ok (told.Stale newest)) other a t = absurd t
+    accepted_on origin number version (Ok (told.Refused code)) other a t = absurd t
+    accepted_on origin number version (Ok (told.Taken count)) other a t = absurd t
+    accepted_on origin number version (Ok (told.Stopped count)) other a t = absurd t
+    accepted_on origin number version (Err (fault.Memory count)) other a (none, same) = kept_on other same
+    accepted_on origin number version (Err (fault.Device count)) other a (none, same) = kept_on other same
+    accepted_on origin number version (Err (fault.BadEntry count)) other a t = absurd t
+
+    -- ---- each answer
+
+    good_accepted : (origin number version : ℕ) (result : Result Told AnswerFault) (other : Position) → TellsAccepted origin number version result before.position other → IsGood (heard result)
+    good_accepted origin number version (Ok told) other t n e = cc
+    good_accepted origin number version (Err (fault.Memory count)) other t n e = cc
+    good_accepted origin number version (Err (fault.Device count)) other t n e = cc
+    good_accepted origin number version (Err (fault.BadEntry count)) other t n e = absurd t
+
+    -- what an answer leaves is shown, on the log, and no entry was bad
+    pub record IsLeft (result : Result Told AnswerFault) (other : Position) (left : Contents) : Type 0 where
+      pub end : View
+      pub shows : ShowsAt world.tables left other end
+      pub on : IsOn world.log before.position other end
+      pub good : IsGood (heard result)
+
+    list_left : (first : ℕ) (entries : List ToldEntry) (wishes unused : List Wish) (result : Result Pulled AnswerFault) (other : Position) (left : Contents) → ArePartOf world.log first entries
+        → PullsList IsWished world.tables first entries result before.position before.view wishes other left unused
+        → IsLeft (told_of result) other left
+    list_left first entries wishes unused result other left part (end, between, many, shows, ends) =
+        let on = many_on first entries part (count_of result) p.contents before.position before.view wishes other end between p.shown p.stands many in
+        record { end = end; shows = shows; on = on; good = good_list result ends on.stands }
+      where
+        good_list : (result : Result Pulled AnswerFault) → Ends IsWished world.tables first entries result other end between unused → StandsOn world.log other end → IsGood (heard (told_of result))
+        good_list (Ok (pulled.Taken count)) e stands n is = cc
+        good_list (Ok (pulled.Stopped count)) e stands n is = cc
+        good_list (Err (fault.Memory count)) e stands n is = cc
+        good_list (Err (fault.Device count)) e stands n is = cc
+        good_list (Err (fault.BadEntry count)) e stands n is = absurd (none_bad first entries part other end stands e.0)
+
+    left_by : (answer : Answer) (wishes unused : List Wish) (result : Result Told AnswerFault) (other : Position) (left : Contents) → IsTrueAnswer world answer
+        → Answers IsWished world.tables answer result before.position before.view wishes other left unused
+        → IsLeft result other left
+    left_by (Short (Accepted origin number version)) wishes unused result other left t (tells, (shows, asked)) = record {
+      end = before.view;
+      shows = shows;
+      on = accepted_on origin number version result other t tells;
+      good = good_accepted origin number version result other tells;
+    }
+    left_by (Short (Stale newest)) wishes unused result other left t (is, same, (shows, asked)) = record {
+      end = before.view;
+      shows = shows;
+      on = kept_on other same;
+      good = λ n e. cc;
+    }
+    left_by (Short (Refused code)) wishes unused result other left t (is, same, (shows, asked)) = record {
+      end = before.view;
+      shows = shows;
+      on = kept_on other same;
+      good = λ n e. cc;
+    }
+    left_by (Entries first entries) wishes unused result other left t (list, is, pulls) =
+        subst (λ (x : Result Told AnswerFault). IsLeft x other left) (sym is) (list_left first entries wishes unused list other left t pulls)
+
+    -- where the replica is placed after it
+    pub hears_on : (answer : Answer) (wishes : List Wish) (result : Result Told AnswerFault) (after : Member) → IsTrueAnswer world answer → Hears world.tables before answer wishes result after
+        → IsOn world.log before.position after.position after.view × IsGood (heard result)
+    hears_on answer wishes result after t hears =
+        let left = left_by answer wishes hears.unused result after.position hears.left t hears.answers in
+        let rows = laws.rows world.tables hears.left after.position left.end after.view left.shows hears.shows in (
+          record {
+            stands = laws.kept world.log after.position after.position left.end after.view refl rows.0 left.on.stands;
+            id = left.on.id;
+            number = left.on.number;
+            flight = left.on.flight;
+          },
+          left.good,
+        )

@@ -1,0 +1,103 @@
+-- What is sound has the headline.
+use Rattle.std.proofs.Common.{◌≡◌, ◌≢◌, ◌∙◌, ℕ, List, [], Option, Some, None, length, slice_get, refl, sym, ap, subst, arith}
+use Rattle.std.specs.Prelude.{All, Contains}
+use Rattle.std.proofs.lemmas.List.Elements.{All-nil}
+use Rattle.cs_value.specs.Catalog.{AreTables}
+use Rattle.cs_value.specs.Key.{Place}
+use Rattle.cs_value.specs.declared.catalog.TableDef.{TableDef}
+use Rattle.cs_change.specs.Action.{Action, action_any, after_any}
+use Rattle.cs_change.specs.Laws.{NetTakes}
+use Rattle.cs_log.specs.Entry.{entry_changes}
+use Rattle.cs_log.specs.Laws.{EmptyIsLog}
+use Rattle.cs_log.specs.Log.{tables_at}
+use Rattle.cs_log.specs.declared.entry.LogEntry.{LogEntry}
+use Rattle.cs_normal.specs.Normal.{change_of, normal_spelling}
+use Rattle.cs_normal.specs.State.{AreSame, IsApplied, OneKeyStands, State}
+use Rattle.cs_normal.specs.declared.normal.TableChanges.{TableChanges}
+use Rattle.cs_opening.specs.Fresh.{first_position}
+use Rattle.cs_pending.specs.Laws.{empty_view}
+use Rattle.cs_pending.specs.Nets.{undo_none}
+use Rattle.cs_pending.specs.Shows.{IsSoundOf}
+use Rattle.cs_pending.specs.View.{Changed, View, before, middle}
+use Rattle.cs_position.specs.Shows.{base, flown}
+use Rattle.cs_position.specs.declared.position.Position.{Position}
+use Rattle.cs_replica.specs.Laws.{EqualAtRest, FirstStands, FlightFits}
+use Rattle.cs_replica.specs.Stands.{StandsOn}
+use Rattle.cs_world.specs.Headline.{HasHubsRows, Headline, LeadTo}
+use Rattle.cs_world.specs.Laws.{FirstIsSound, IsFirstMember, SoundHasHeadline}
+use Rattle.cs_world.specs.Sound.{IsPlaced, IsSound, IsStoredEntry}
+use Rattle.cs_world.specs.World.{IsMember, Member, World, first_world}
+use Rattle.cs_world.proofs.Found.{nowhere}
+
+pub record Below : Type 0 where
+  pub flight : FlightFits
+  pub rest : EqualAtRest
+  pub key : OneKeyStands
+  pub net : NetTakes
+
+module _ (laws : Below) (limit : ℕ) (w : World) (s : IsSound limit w) where
+  -- net changes lead from the rows before them to those behind them
+  leads : (changed : Changed) (after : State) → IsSoundOf w.tables changed after → LeadTo w.tables changed (before changed after) after
+  leads changed after sound table key inside =
+      let of_key = laws.key w.tables table key (before changed after table.name key) (after table.name key) (after table.name key) s.tables inside
+      (sound.before_state table.name key) (sound.after_state table.name key) (sound.after_state table.name key) in
+      ap (λ (a : Option Action). after_any a (before changed after table.name key)) (sound.net_of table key inside)
+      ∙ (laws.net table.key_marks of_key.0 (before changed after table.name key) (after table.name key) of_key.1 of_key.2).1
+
+  module _ (r : ℕ) (m : Member) (p : IsPlaced w r m) where
+    flight_applied : (flight : Option (List TableChanges)) → m.position.flight ≡ flight → IsApplied w.tables (flown flight) (tables_at w.log m.position.version) (middle m.view)
+    flight_applied None none = (
+      tt,
+      λ n k. ap (λ (place : Place). Some place)
+          (sym (p.stands.on_tables n k) ∙ (ap (λ (f : Option (List TableChanges)). base f m.view n k) none ∙ undo_none (middle m.view n k))),
+    )
+    flight_applied (Some changes) flight =
+        laws.flight w.tables p.contents w.log m.position changes m.view s.tables p.shown flight p.stands
+
+    hubs_rows : HasHubsRows w m
+    hubs_rows = record {
+      within = p.stands.within;
+      middle = middle m.view;
+      flight = flight_applied m.position.flight refl;
+      pending = leads m.view.pending m.view.tables p.shown.rows.sound;
+    }
+
+  pub headline : Headline w
+  headline = record {
+    stands = λ r m at. hubs_rows r m (s.placed r m at);
+    no_conflict = λ k r at. s.true k _ at refl;
+    counts_once = λ at other entry its there here origins numbers.
+        (s.once _ _ (normal_spelling (entry_changes entry)) (normal_spelling (entry_changes its)) (s.pushed at entry there) (s.pushed other its here) origins numbers).0;
+    accepted = λ k r origin number version at. s.true k _ at;
+    equal = λ r q one other at its version rest too table key inside.
+        let p = s.placed r one at in
+        let o = s.placed q other its in
+        laws.rest w.tables w.log p.contents o.contents one.position other.position one.view other.view p.shown o.shown p.stands o.stands version rest.0 too.0 rest.1 too.1 table key inside;
+  }
+
+pub sound_has_headline : Below → SoundHasHeadline
+sound_has_headline laws limit world s = headline laws limit world s
+
+-- a world in which nothing has happened
+pub first_is_sound : EmptyIsLog → FirstStands → FirstIsSound
+first_is_sound empty stands limit tables members are firsts = record {
+  tables = are;
+  log = empty tables;
+  entries = All-nil (IsStoredEntry tables);
+  short = omega arith;
+  placed = λ r m at. placed r m (firsts r m at);
+  spelled = λ k m at. absurd (nowhere m k at);
+  true = λ k m at. absurd (nowhere m k at);
+  once = λ head other changeset its one two origins numbers. absurd (nowhere _ one.0 one.2);
+  pushed = λ at entry there. absurd (nowhere entry at there);
+}
+  where
+    placed : (r : ℕ) (m : Member) → IsFirstMember tables r m → IsPlaced (first_world tables members) r m
+    placed r m f = record {
+      id = ap (λ (p : Position). p.id) f.position;
+      fits = record { id = rw f.position f.small; version = rw f.position (omega arith) };
+      contents = f.contents;
+      shown = f.shown;
+      stands = rw f.view (stands [] m.position (ap (λ (p : Position). p.version) f.position) (ap (λ (p : Position). p.flight) f.position));
+      sent = λ changes flight. let none : m.position.flight ≡ None = ap (λ (p : Position). p.flight) f.position in absurd (cc);
+    }

@@ -1,0 +1,11 @@
+mod Found
+mod Goes
+mod Served
+mod Heard
+mod Keeps
+mod Holds
+mod Wished
+mod Turned
+mod Begun
+mod Moved
+mod Running

@@ -1,0 +1,161 @@
+-- What the calls of a replica give, as the step that it makes.
+use Rattle.std.proofs.Common.{◌≡◌, ◌∙◌, ℕ, List, Option, Some, None, Result, Ok, Err, refl, sym, ap, subst, inl, inr}
+use Rattle.std.specs.Prelude.{◌⊎◌, IfErr, IfOk, OnErr, OnOk}
+use Rattle.std.specs.FinMap.{len}
+use Rattle.cs_value.specs.Catalog.{AreTables}
+use Rattle.cs_value.specs.declared.catalog.TableDef.{TableDef}
+use Rattle.cs_value.specs.declared.edit.Edit.{Edit}
+use Rattle.cs_conflict.specs.declared.wish.Wish.{Wish}
+use Rattle.cs_normal.specs.declared.normal.TableChanges.{TableChanges}
+use Rattle.cs_opening.specs.declared.fault.OpenFault.{OpenFault}
+use Rattle.cs_opening.specs.declared.fault.OpenFault.TheVariants as opening
+use Rattle.cs_pending.specs.Calls.{WritesStore}
+use Rattle.cs_pending.specs.Edits.{Asked, IsOfStore, edit}
+use Rattle.cs_pending.specs.View.{View}
+use Rattle.cs_pending.specs.declared.fault.EditFault.{EditFault}
+use Rattle.cs_pending.specs.declared.fault.EditFault.TheVariants as edits
+use Rattle.cs_position.specs.Laws.{FitsPosition, OnePosition}
+use Rattle.cs_position.specs.Shows.{ShowsAt, ShowsSomeAt}
+use Rattle.cs_position.specs.declared.position.Position.{Position}
+use Rattle.cs_pulling.specs.declared.fault.AnswerFault.{AnswerFault}
+use Rattle.cs_pushing.specs.Pushes.{IsPushFault, IsPushMade, IsPushMadeIn, IsPushOf, grounded, pushed, request_of}
+use Rattle.cs_pushing.specs.declared.fault.PushFault.{PushFault}
+use Rattle.cs_pushing.specs.declared.fault.PushFault.TheVariants as pushes
+use Rattle.cs_replica.specs.Answered.{Answers}
+use Rattle.cs_replica.specs.Edited.{IsEditedIn, with_pending}
+use Rattle.cs_replica.specs.Holding.{Holding, Shows}
+use Rattle.cs_replica.specs.Opened.{Reopens}
+use Rattle.cs_replica.specs.declared.told.Told.{Told}
+use Rattle.cs_store.specs.Contents.{Contents}
+use Rattle.cs_wire.specs.Requests.{Asked as AskedOfHub, asked_by_owned}
+use Rattle.cs_wire.specs.declared.answer.Answer.{Answer}
+use Rattle.cs_wire.specs.declared.request.RequestBuf.{RequestBuf}
+use Rattle.cs_wishes.specs.Wished.{IsWished}
+use Rattle.cs_world.specs.Steps.{Hears, asked_of, table_of}
+use Rattle.cs_world.specs.World.{Member}
+use Rattle.cs_world.specs.Turns.{IsEditedTo, IsPushedTo, IsReloadedTo, Turns, member_of}
+
+module _ {S : Type 0} (honest : S → Type 0) (contents : S → Contents) (failed : S → ℕ) (may_leave : S → Contents → Type 0) (misreads : S → ℕ) (old new : Holding S) (catalog : new.catalog ≡ old.catalog) where
+  -- what is shown by the old tables at this position is shown
+  shown_as : (position : Position) (view : View) → new.position ≡ position → ShowsAt old.catalog (contents new.store) position view → Shows contents new view
+  shown_as position view same shows =
+      subst (λ (t : List TableDef). ShowsAt t (contents new.store) new.position view) (sym catalog)
+      (subst (λ (p : Position). ShowsAt old.catalog (contents new.store) p view) (sym same) shows)
+
+  -- where nothing has changed
+  still : (view : View) → contents new.store ≡ contents old.store → new.position ≡ old.position → Shows contents old view → Shows contents new view
+  still view same position shows =
+      shown_as old.position view position (subst (λ (c : Contents). ShowsAt old.catalog c old.position view) (sym same) shows)
+
+  same_member : (view : View) → new.position ≡ old.position → member_of new view ≡ member_of old view
+  same_member view position = ap (λ (p : Position). record { position = p; view = view }) position
+
+  -- ---- an edit
+
+  module _ (one : OnePosition) (seen : honest new.store → (view : View) × Shows contents new view) where
+    -- the position that is shown is the one that is held
+    there : honest new.store → AreTables old.catalog → (position : Position) (view : View) → FitsPosition position → FitsPosition new.position → ShowsAt old.catalog (contents new.store) position view → new.position ≡ position
+    there h are position view fits its shows =
+        let other = seen h in
+        let at_old = subst (λ (t : List TableDef). ShowsAt t (contents new.store) new.position other.0) catalog other.1 in
+        (one old.catalog (contents new.store) new.position position other.0 view are its fits at_old shows).0
+
+    pub edited : (asked : Edit) (result : Result (Unit {0}) EditFault)
+        → WritesStore honest contents failed may_leave misreads edits.Device (ShowsSomeAt old.catalog old.position (contents old.store))
+        (IsEditedIn old.catalog old.position (table_of asked) (asked_of asked) (contents old.store)) old.store new.store result
+        → (honest new.store → (view : View) → Shows contents old view → IfErr result (λ fault. IsOfStore fault ⊎ (edit old.catalog (table_of asked) (asked_of asked) view ≡ Err fault)))
+        → OnOk result (new.position ≡ with_pending old.position new.position.pending)
+        → OnErr result (new.position ≡ old.position)
+        → Turns honest contents (IsEditedTo old.catalog asked result) old new
+    edited asked (Ok done) writes refused moved kept = record {
+      was_honest = writes.was_honest;
+      catalog = catalog;
+      turned = λ h are fits view shows.
+          let made = writes.ok h view shows in
+          let ranged : FitsPosition new.position = subst FitsPosition (sym moved) (record { id = fits.id; version = fits.version }) in
+          let same = there h are (with_pending old.position (len (contents new.store).pending)) made.0 (record { id = fits.id; version = fits.version }) ranged made.2 in (
+            made.0,
+            shown_as (with_pending old.position (len (contents new.store).pending)) made.0 same made.2,
+            (len (contents new.store).pending, made.0, contents new.store, ap (λ (p : Position). record { position = p; view = made.0 }) same, made.1, made.2),
+          );
+    }
+    edited asked (Err fault) writes refused moved kept = record {
+      was_honest = writes.was_honest;
+      catalog = catalog;
+      turned = λ h are fits view shows.
+          (view, still view (writes.err h) kept shows, (same_member view kept, refused h view shows));
+    }
+
+    -- ---- a push
+
+    push_changes : (some other : List TableChanges) → pushed old.position some ≡ pushed old.position other → some ≡ other
+    push_changes some other same = let flight : Some some ≡ Some other = ap (λ (p : Position). p.flight) same in cc
+
+    pub pushed_to : (result : Result RequestBuf PushFault)
+        → WritesStore honest contents failed may_leave misreads pushes.Device (ShowsSomeAt old.catalog old.position (contents old.store))
+        (IsPushMadeIn old.catalog old.position (contents old.store)) old.store new.store result
+        → IfOk result (IsPushOf old.position new.position)
+        → (honest new.store → (view : View) → Shows contents old view → IfErr result (λ fault. IsPushFault fault old.catalog old.position view))
+        → OnErr result (new.position ≡ old.position)
+        → Turns honest contents (IsPushedTo old.catalog result) old new
+    pushed_to (Ok request) writes of refused kept = record {
+      was_honest = writes.was_honest;
+      catalog = catalog;
+      turned = λ h are fits view shows.
+          let made = writes.ok h view shows in
+          let in_range : FitsPosition (pushed old.position made.0) = record { id = fits.id; version = fits.version } in
+          let ranged : FitsPosition new.position = subst FitsPosition (sym of.1) (record { id = fits.id; version = fits.version }) in
+          let same = there h are (pushed old.position made.0) (grounded view) in_range ranged made.1.shows in
+          let changes : of.0 ≡ made.0 = push_changes of.0 made.0 (sym of.1 ∙ same) in
+          let asked : asked_by_owned request ≡ request_of (pushed old.position made.0) made.0 =
+          of.2 ∙ (ap (λ (p : Position). request_of p of.0) same ∙ ap (λ (c : List TableChanges). request_of (pushed old.position made.0) c) changes) in (
+            grounded view,
+            shown_as (pushed old.position made.0) (grounded view) same made.1.shows,
+            (made.0, contents new.store, ap (λ (p : Position). record { position = p; view = grounded view }) same, made.1, asked),
+          );
+    }
+    pushed_to (Err fault) writes of refused kept = record {
+      was_honest = writes.was_honest;
+      catalog = catalog;
+      turned = λ h are fits view shows.
+          (view, still view (writes.err h) kept shows, (same_member view kept, refused h view shows));
+    }
+
+  -- ---- an answer
+
+  pub heard : (honest new.store → (view : View) × Shows contents new view) → (answer : Answer) (wishes unused : List Wish) (result : Result Told AnswerFault)
+      → (honest new.store → honest old.store)
+      → (honest new.store → (before : View) → Shows contents old before → Answers IsWished old.catalog answer result old.position before wishes new.position (contents new.store) unused)
+      → Turns honest contents (λ before after. Hears old.catalog before answer wishes result after) old new
+  heard seen answer wishes unused result was told = record {
+    was_honest = was;
+    catalog = catalog;
+    turned = λ h are fits view shows.
+        let next = seen h in (
+          next.0,
+          next.1,
+          record {
+            left = contents new.store;
+            unused = unused;
+            answers = told h view shows;
+            shows = subst (λ (t : List TableDef). ShowsAt t (contents new.store) new.position next.0) catalog next.1;
+          },
+        );
+  }
+
+  -- ---- the store is read again
+
+  same_contents : (result : Result (Unit {0}) OpenFault) → Reopens honest contents failed may_leave misreads old.store new.store result → honest new.store → contents new.store ≡ contents old.store
+  same_contents (Ok done) reopens h = reopens.ok h
+  same_contents (Err fault) reopens h = reopens.err h
+
+  pub reloaded : (result : Result (Unit {0}) OpenFault) → Reopens honest contents failed may_leave misreads old.store new.store result
+      → (honest new.store → new.position ≡ old.position)
+      → (honest new.store → IfErr result (λ fault. (fault ≡ opening.Memory) ⊎ (fault ≡ opening.Device)))
+      → Turns honest contents (IsReloadedTo result) old new
+  reloaded result reopens position refused = record {
+    was_honest = reopens.was_honest;
+    catalog = catalog;
+    turned = λ h are fits view shows.
+        (view, still view (same_contents result reopens h) (position h) shows, (same_member view (position h), refused h));
+  }

@@ -1,0 +1,16 @@
+use Rattle.cs_world.proofs.Keeps.{answers_fit}
+use Rattle.cs_world.proofs.laws.answers_fit.Goals as goal
+
+pub returns : goal.returns
+returns c =
+    answers_fit (record {
+      changesets = c.changesets.ensures;
+      form = c.one_normal_form.ensures;
+      fit = c.no_fault_where_fit.ensures;
+      taken = c.normal_is_taken.ensures;
+      again = c.normal_again.ensures;
+      request = c.one_request.ensures;
+      answer = c.one_told_answer.ensures;
+      read = c.told_are_read.ensures;
+      appended = c.appended_is_log.ensures;
+    })

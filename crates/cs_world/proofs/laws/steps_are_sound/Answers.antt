@@ -1,0 +1,36 @@
+use Rattle.cs_world.proofs.Keeps.{steps_are_sound}
+use Rattle.cs_world.proofs.laws.steps_are_sound.Goals as goal
+
+pub returns : goal.returns
+returns c =
+    steps_are_sound (record {
+      longer = c.longer_log.ensures;
+      stands = c.stands_longer.ensures;
+      edit = c.edit_stands.ensures;
+      kept = c.steps_stand.ensures.kept;
+      flight = c.flight_fits.ensures;
+      most = c.most_bytes.ensures;
+      last = c.last_number.ensures;
+      service = record {
+        changesets = c.changesets.ensures;
+        form = c.one_normal_form.ensures;
+        fit = c.no_fault_where_fit.ensures;
+        taken = c.normal_is_taken.ensures;
+        again = c.normal_again.ensures;
+        request = c.one_request.ensures;
+        answer = c.one_told_answer.ensures;
+        read = c.told_are_read.ensures;
+        appended = c.appended_is_log.ensures;
+      };
+      answers = record {
+        entry = c.steps_stand.ensures.entry;
+        kept = c.steps_stand.ensures.kept;
+        flight = c.flight_fits.ensures;
+        leads = c.pulled_leads.ensures;
+        read = c.one_read.ensures;
+        taken = c.normal_is_taken.ensures;
+        again = c.normal_again.ensures;
+        body = c.one_body.ensures;
+        rows = c.one_contents.ensures.log_rows;
+      };
+    })

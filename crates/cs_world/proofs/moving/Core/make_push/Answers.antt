@@ -1,0 +1,22 @@
+use Rattle.std.proofs.Common.{◌≡◌, ◌∙◌, Some, Ok, length, refl, sym, ap, arith}
+use Rattle.std.proofs.lemmas.Option.{slice_get_read}
+use Rattle.cs_hub.specs.declared.hub.TheConstants.{MAX_ENTRIES}
+use Rattle.cs_world.specs.declared.event.Event.TheVariants.{AskPull, Deliver, MakePush, OnEdit, Resend, Restart}
+use Rattle.cs_world.proofs.Moved.{no_room, none_there, pushes, pushes_not}
+use Rattle.cs_world.proofs.moving.Core.make_push.Goals as goal
+
+pub returns-then-is_err : goal.returns-then-is_err
+returns-then-is_err g c =
+    rw (← c.self.view_is) (no_room g.S.RowStore.honest g.S.RowStore.contents MAX_ENTRIES c.self.inside.hub c.self.inside.replicas.items c.self.inside.letters.items (MakePush c.args.which) c.reserve.new.self.items c.reserve.ensures.items)
+
+pub returns-in_default : goal.returns-in_default
+returns-in_default g c =
+    rw (← c.self.view_is) (none_there g.S.RowStore.honest g.S.RowStore.contents MAX_ENTRIES c.self.inside.hub c.self.inside.replicas.items c.self.inside.letters.items (MakePush c.args.which) c.args.which c.reserve.new.self.items c.reserve.ensures.items c.in_default.ensures.item.3 (λ w s. refl))
+
+pub returns-in-Ok : goal.returns-in-Ok
+returns-in-Ok g c =
+    rw (← c.self.view_is) (pushes g.S.RowStore.honest g.S.RowStore.contents MAX_ENTRIES c.self.inside.hub c.self.inside.replicas.items c.self.inside.letters.items c.args.which c.in-Some.replica.now (slice_get_read c.self.inside.replicas.items (length c.self.inside.replicas.items) c.args.which c.in-Some.replica.now refl c.in-Some.ensures.item.3.0 c.in-Some.ensures.value) c.push_replica.new.replica c.in-Ok.request c.new.result c.send.result c.reserve.new.self.items c.send.new.letters.items c.new.ensures c.reserve.ensures.items c.send.ensures.items c.send.ensures.sent (rw c.in-Ok.is at c.push_replica.ensures.pushed))
+
+pub returns-in-Err : goal.returns-in-Err
+returns-in-Err g c =
+    rw (← c.self.view_is) (pushes_not g.S.RowStore.honest g.S.RowStore.contents MAX_ENTRIES c.self.inside.hub c.self.inside.replicas.items c.self.inside.letters.items c.args.which c.in-Some.replica.now (slice_get_read c.self.inside.replicas.items (length c.self.inside.replicas.items) c.args.which c.in-Some.replica.now refl c.in-Some.ensures.item.3.0 c.in-Some.ensures.value) c.push_replica.new.replica c.in-Err.fault c.reserve.new.self.items c.reserve.ensures.items (rw c.in-Err.is at c.push_replica.ensures.pushed))

@@ -1,0 +1,7 @@
+use Rattle.cs_world.proofs.Begun.{opened_new}
+use Rattle.cs_world.proofs.opening.open_replica.Goals as goal
+
+pub returns-in-Ok : goal.returns-in-Ok
+returns-in-Ok g c honest =
+    let is = opened_new c.args.catalog.now c.args.number (g.S.RowStore.contents c.args.store) (g.S.RowStore.contents c.in-Ok.replica.store) c.in-Ok.replica.position c.requires.bare (c.in-Ok.ensures.opened honest) in
+    (c.in-Ok.ensures.of.0, is.0, is.1)

@@ -1,0 +1,13 @@
+use Rattle.std.proofs.Common.{◌+◌, ◌≤◌, length, vec_capacity, vec_len}
+use Rattle.cs_hub.specs.declared.hub.TheConstants.{MAX_ENTRIES}
+use Rattle.cs_world.proofs.Running.{Running}
+use Rattle.cs_world.proofs.world.World.run.Given as goal
+
+abbrev pub invariant-loop-event : goal.invariant-loop-event
+invariant-loop-event g l = record {
+  running : Running g.S.RowStore.honest g.S.RowStore.contents MAX_ENTRIES l.fn.self l.fn.events l.self l.rest l.outcomes.items;
+  room : vec_len l.outcomes + length l.rest ≤ vec_capacity l.outcomes;
+}
+
+abbrev pub decreases-loop-event : goal.decreases-loop-event
+decreases-loop-event g l = length l.rest

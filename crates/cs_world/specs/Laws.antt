@@ -1,0 +1,65 @@
+-- The laws of worlds.
+use Rattle.std.specs.Prelude.{◌≡◌, ◌<◌, ◌^◌, ℕ, List}
+use Rattle.cs_value.specs.Catalog.{AreTables}
+use Rattle.cs_value.specs.declared.catalog.TableDef.{TableDef}
+use Rattle.cs_hub.specs.Serves.{ServesIf}
+use Rattle.cs_judging.specs.Judged.{hub_of}
+use Rattle.cs_log.specs.declared.entry.LogEntry.{LogEntry}
+use Rattle.cs_opening.specs.Fresh.{first_position}
+use Rattle.cs_pending.specs.Laws.{empty_view}
+use Rattle.cs_position.specs.Shows.{ShowsAt}
+use Rattle.cs_store.specs.Contents.{Contents}
+use Rattle.cs_taking.specs.Laws.{AnswersLawfully, PicksOnce}
+use Rattle.cs_wire.specs.Answers.{FitsAnswer, answer_spelling}
+use Rattle.cs_wire.specs.Requests.{Asked, request_spelling}
+use Rattle.cs_wire.specs.declared.answer.Answer.{Answer}
+use Rattle.cs_wishes.specs.Wished.{IsWished}
+use Rattle.cs_world.specs.Headline.{Headline, IsGood}
+use Rattle.cs_world.specs.Sound.{IsSound}
+use Rattle.cs_world.specs.Steps.{Step}
+use Rattle.cs_world.specs.World.{Asks, IsMember, IsMessage, Member, World, first_world}
+use Rattle.cs_world.specs.declared.event.Event.{Event}
+use Rattle.cs_world.specs.declared.outcome.Outcome.{Outcome}
+
+-- a replica to which nothing has happened, shown by some store
+pub record IsFirstMember (tables : List TableDef) (r : ℕ) (member : Member) : Type 0 where
+  pub position : member.position ≡ first_position r
+  pub view : member.view ≡ empty_view
+  pub small : r < 2 ^ 32
+  pub contents : Contents
+  pub shown : ShowsAt tables contents member.position member.view
+
+-- a world in which nothing has happened is sound
+abbrev pub FirstIsSound : Type 0
+FirstIsSound =
+    (limit : ℕ) (tables : List TableDef) (members : List Member)
+    → AreTables tables
+    → ((r : ℕ) (member : Member) → IsMember (first_world tables members) r member → IsFirstMember tables r member)
+    → IsSound limit (first_world tables members)
+
+-- each event keeps it sound, and hands no replica a bad entry
+abbrev pub StepsAreSound : Type 0
+StepsAreSound =
+    (limit : ℕ) (old new : World) (event : Event) (outcome : Outcome)
+    → limit < 2 ^ 32
+    → IsSound limit old
+    → Step limit old event outcome new
+    → IsSound limit new × IsGood outcome
+
+-- what is sound has the headline
+abbrev pub SoundHasHeadline : Type 0
+SoundHasHeadline = (limit : ℕ) (world : World) → IsSound limit world → Headline world
+
+-- by wishes in a list each clash has one answer
+abbrev pub WishesPickOnce : Type 0
+WishesPickOnce = PicksOnce IsWished
+
+-- what the hub of a sound world answers to what was asked of it spells an answer
+abbrev pub AnswersFit : Type 0
+AnswersFit =
+    (limit : ℕ) (world : World) (k r : ℕ) (asked : Asked) (bytes : List ℕ) (log : List LogEntry)
+    → limit < 2 ^ 32
+    → IsSound limit world
+    → IsMessage world k (Asks r asked)
+    → ServesIf (Unit {0}) limit (hub_of world.tables world.log) (request_spelling asked) bytes (hub_of world.tables log)
+    → (answer : Answer) × FitsAnswer answer × (bytes ≡ answer_spelling answer)

@@ -1,0 +1,11 @@
+pub mod World
+pub mod Steps
+pub mod Sound
+pub mod Headline
+pub mod Laws
+pub mod Short
+pub mod Holding
+pub mod Moves
+pub mod Turns
+pub mod Runs
+pub mod Opened

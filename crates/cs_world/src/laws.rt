@@ -1,0 +1,70 @@
+//! The laws of worlds, each the contract of a function that does nothing.
+
+ghost use Rattle.cs_world.specs.Laws.{AnswersFit, FirstIsSound, SoundHasHeadline, StepsAreSound, WishesPickOnce};
+
+use cs_wishes::Wishes;
+
+/// A world in which nothing has happened is sound.
+pub fn first_is_sound()
+    ensures { FirstIsSound }
+{
+    cs_log::laws::empty_is_log();
+    cs_replica::laws::first_stands();
+}
+
+/// Each event keeps a world sound, and hands no replica a bad entry.
+pub fn steps_are_sound()
+    ensures { StepsAreSound }
+{
+    cs_changeset::laws::changesets();
+    cs_normal::laws::one_normal_form();
+    cs_normal::laws::no_fault_where_fit();
+    cs_normal::laws::normal_is_taken();
+    cs_normal::laws::normal_again();
+    cs_log::laws::most_bytes();
+    cs_position::laws::last_number();
+    cs_log::laws::appended_is_log();
+    cs_log::laws::longer_log();
+    cs_log::laws::one_body();
+    cs_wire::laws::one_request();
+    cs_wire::laws::one_told_answer();
+    cs_wire::laws::told_are_read();
+    cs_taking::laws::one_contents();
+    cs_pulling::laws::one_read();
+    let wishes = Wishes::new(&[]);
+    cs_pulling::laws::pulled_leads(&wishes);
+    cs_replica::laws::stands_longer();
+    cs_replica::laws::edit_stands();
+    cs_replica::laws::steps_stand();
+    cs_replica::laws::flight_fits();
+}
+
+/// What is sound has the headline.
+pub fn sound_has_headline()
+    ensures { SoundHasHeadline }
+{
+    cs_change::laws::net_takes();
+    cs_normal::laws::one_key_stands();
+    cs_replica::laws::flight_fits();
+    cs_replica::laws::equal_at_rest();
+}
+
+/// By wishes in a list each clash has one answer.
+pub fn wishes_pick_once()
+    ensures { WishesPickOnce }
+{}
+
+/// What the hub of a sound world answers to what was asked of it spells an answer.
+pub fn answers_fit()
+    ensures { AnswersFit }
+{
+    cs_changeset::laws::changesets();
+    cs_normal::laws::one_normal_form();
+    cs_normal::laws::no_fault_where_fit();
+    cs_normal::laws::normal_is_taken();
+    cs_normal::laws::normal_again();
+    cs_log::laws::appended_is_log();
+    cs_wire::laws::one_request();
+    cs_wire::laws::one_told_answer();
+    cs_wire::laws::told_are_read();
+}

@@ -1,0 +1,51 @@
+//! The messages of a world.
+
+ghost use Rattle.std.specs.Prelude.{◌≡◌, IfOk};
+ghost use Rattle.cs_wire.specs.Requests.{HasShortChangeset, asked_by_owned, request_spelling};
+ghost use Rattle.cs_world.specs.Short.{HasShortChangeset-prop};
+
+use cs_value::Memory;
+use cs_wire::RequestBuf;
+use std::alloc::Global;
+use std::marker::Model;
+
+/// A request that can be spelled. Contracts see it as what it asks.
+#[derive(Drop)]
+pub(crate) struct Posted {
+    request: RequestBuf,
+    ghost short: { HasShortChangeset (asked_by_owned request) } by { HasShortChangeset-prop (asked_by_owned request) },
+}
+
+impl Model for Posted {
+    ghost use Rattle.cs_wire.specs.Requests.{Asked, asked_by_owned};
+
+    ghost Value = { Asked };
+
+    ghost view = { λ posted. asked_by_owned posted.request };
+}
+
+impl Posted {
+    /// The request, to be sent. It takes no memory.
+    pub(crate) fn new(request: RequestBuf) -> Posted
+        requires { HasShortChangeset (asked_by_owned request) }
+        ensures { result ≡ asked_by_owned request }
+    {
+        Posted { request }
+    }
+
+    /// Its bytes.
+    pub(crate) fn encode(&self, alloc: Global) -> Result<Vec<u8>, Memory>
+        ensures { IfOk result (λ bytes. bytes.items ≡ request_spelling self.now) }
+    {
+        let mut bytes = Vec::new(alloc);
+        self.request.encode(&mut bytes)?;
+        Ok(bytes)
+    }
+}
+
+/// A message that was sent: a replica's request, or the bytes of the hub's answer to a replica.
+#[derive(Drop)]
+pub(crate) enum Letter {
+    Asks { replica: u32, request: Posted },
+    Tells { replica: u32, answer: Vec<u8> },
+}

@@ -1,0 +1,189 @@
+//! The hub, the replicas and the messages, moved by events.
+
+ghost use Rattle.std.specs.Prelude.{◌≡◌, ◌<◌, ◌++◌, [], ◌∷◌, List, Some, IfOk, OnErr, length, vec_capacity, vec_len};
+ghost use Rattle.cs_world.specs.declared.event.Event.TheVariants.{AskPull, Deliver, MakePush, OnEdit, Resend, Restart};
+ghost use Rattle.cs_world.specs.declared.outcome.Outcome.TheVariants as told;
+ghost use Rattle.cs_hub.specs.declared.hub.TheConstants.{MAX_ENTRIES};
+ghost use Rattle.cs_world.specs.Moves.{Moves};
+
+use crate::event::Event;
+use crate::letter::{Letter, Posted};
+use crate::outcome::Outcome;
+use crate::turning::{edit_replica, push_replica, reload_replica, tell_replica};
+use cs_conflict::Wish;
+use cs_hub::Hub;
+use cs_replica::Replica;
+use cs_store::RowStore;
+use cs_value::Edit;
+use cs_wire::{Answer, RequestBuf};
+use std::alloc::Global;
+use std::marker::Model;
+
+/// The hub, the replicas, and every message that was ever sent.
+#[derive(Drop)]
+pub(crate) struct Core<S: RowStore> {
+    pub(crate) alloc: Global,
+    pub(crate) hub: Hub<S>,
+    pub(crate) replicas: Vec<Replica<S>>,
+    pub(crate) letters: Vec<Letter>,
+}
+
+impl<S: RowStore> Model for Core<S> {
+    ghost use Rattle.cs_world.specs.Holding.{Holding};
+
+    ghost Value = { Holding S };
+
+    ghost view = { λ core. record { hub = core.hub; replicas = core.replicas.items; letters = core.letters.items } };
+}
+
+/// Puts a message behind the others, in room that was made.
+fn send(letters: &mut Vec<Letter>, letter: Letter) -> Outcome
+    requires { vec_len letters.old < vec_capacity letters.old }
+    ensures sent { result ≡ told.Sent (length letters.old.items) }
+    ensures items { letters.new.items ≡ letters.old.items ++ letter ∷ [] }
+{
+    let number = letters.len();
+    letters.push_reserved(letter);
+    Outcome::Sent(number)
+}
+
+impl<S: RowStore> Core<S> {
+    /// What an event does, and what it comes to.
+    pub(crate) fn step(&mut self, event: &Event) -> Outcome
+        ensures { Moves S.honest S.contents MAX_ENTRIES self.old event.now result self.new }
+    {
+        match event {
+            Event::OnEdit { replica, edit } => self.edit(*replica, edit),
+            Event::MakePush { replica } => self.make_push(*replica),
+            Event::Resend { replica } => self.resend(*replica),
+            Event::AskPull { replica, limit } => self.ask_pull(*replica, *limit),
+            Event::Deliver { message, wishes } => self.deliver(*message, wishes.as_slice()),
+            Event::Restart { replica } => self.restart(*replica),
+        }
+    }
+
+    fn edit(&mut self, which: u32, edit: &Edit) -> Outcome
+        ensures { Moves S.honest S.contents MAX_ENTRIES self.old (OnEdit which edit.now) result self.new }
+    {
+        let Some(replica) = self.replicas.get_mut(which as usize) else {
+            return Outcome::NoReplica;
+        };
+        match edit_replica(self.alloc, replica, edit) {
+            Ok(()) => return Outcome::Done,
+            Err(fault) => return Outcome::NotEdited(fault),
+        }
+    }
+
+    fn make_push(&mut self, which: u32) -> Outcome
+        ensures { Moves S.honest S.contents MAX_ENTRIES self.old (MakePush which) result self.new }
+    {
+        if self.letters.reserve(1).is_err() {
+            return Outcome::Memory;
+        }
+        let Some(replica) = self.replicas.get_mut(which as usize) else {
+            return Outcome::NoReplica;
+        };
+        match push_replica(self.alloc, replica) {
+            Ok(request) => send(
+                &mut self.letters,
+                Letter::Asks {
+                    replica: which,
+                    request: Posted::new(request),
+                },
+            ),
+            Err(fault) => Outcome::NotPushed(fault),
+        }
+    }
+
+    fn resend(&mut self, which: u32) -> Outcome
+        ensures { Moves S.honest S.contents MAX_ENTRIES self.old (Resend which) result self.new }
+    {
+        if self.letters.reserve(1).is_err() {
+            return Outcome::Memory;
+        }
+        let Some(replica) = self.replicas.get(which as usize) else {
+            return Outcome::NoReplica;
+        };
+        match replica.resend(self.alloc) {
+            Ok(request) => send(
+                &mut self.letters,
+                Letter::Asks {
+                    replica: which,
+                    request: Posted::new(request),
+                },
+            ),
+            Err(fault) => Outcome::NotPushed(fault),
+        }
+    }
+
+    fn ask_pull(&mut self, which: u32, limit: u32) -> Outcome
+        ensures { Moves S.honest S.contents MAX_ENTRIES self.old (AskPull which limit) result self.new }
+    {
+        if self.letters.reserve(1).is_err() {
+            return Outcome::Memory;
+        }
+        let Some(replica) = self.replicas.get(which as usize) else {
+            return Outcome::NoReplica;
+        };
+        let request = RequestBuf::Pull {
+            first: replica.version(),
+            limit,
+        };
+        send(
+            &mut self.letters,
+            Letter::Asks {
+                replica: which,
+                request: Posted::new(request),
+            },
+        )
+    }
+
+    fn restart(&mut self, which: u32) -> Outcome
+        ensures { Moves S.honest S.contents MAX_ENTRIES self.old (Restart which) result self.new }
+    {
+        let Some(replica) = self.replicas.get_mut(which as usize) else {
+            return Outcome::NoReplica;
+        };
+        match reload_replica(self.alloc, replica) {
+            Ok(()) => return Outcome::Done,
+            Err(fault) => return Outcome::NotReloaded(fault),
+        }
+    }
+
+    fn deliver(&mut self, which: usize, wishes: &[Wish]) -> Outcome
+        ensures { Moves S.honest S.contents MAX_ENTRIES self.old (Deliver which wishes.now) result self.new }
+    {
+        crate::laws::answers_fit();
+        cs_hub::laws::most_entries();
+        cs_wire::laws::one_told_answer();
+        if self.letters.reserve(1).is_err() {
+            return Outcome::Memory;
+        }
+        match self.letters.get(which) {
+            None => Outcome::NoMessage,
+            Some(Letter::Asks { replica, request }) => {
+                let Ok(bytes) = request.encode(self.alloc) else {
+                    return Outcome::Memory;
+                };
+                let Ok(answer) = self.hub.serve(bytes.as_slice()) else {
+                    return Outcome::Memory;
+                };
+                let replica = *replica;
+                send(&mut self.letters, Letter::Tells { replica, answer })
+            }
+            Some(Letter::Tells { replica, answer }) => {
+                // Over honest stores each answer of the hub can be read.
+                let Ok(answer) = Answer::decode(answer.as_slice()) else {
+                    return Outcome::NoMessage;
+                };
+                let Some(replica) = self.replicas.get_mut(*replica as usize) else {
+                    return Outcome::NoReplica;
+                };
+                match tell_replica(self.alloc, replica, &answer, wishes) {
+                    Ok(told) => return Outcome::Heard(told),
+                    Err(fault) => return Outcome::NotHeard(fault),
+                }
+            }
+        }
+    }
+}

@@ -1,0 +1,141 @@
+//! The world over stores.
+
+ghost use Rattle.std.specs.Prelude.{◌≡◌, ◌<◌, ◌-◌, ◌^◌, [], ◌∷◌, All, IfOk, OnErr, length};
+ghost use Rattle.cs_hub.specs.declared.hub.TheConstants.{MAX_ENTRIES};
+ghost use Rattle.cs_store.specs.Contents.{nothing};
+ghost use Rattle.cs_world.specs.Runs.{HasHeadline, IsNew, Runs};
+
+use crate::event::Event;
+use crate::moving::Core;
+use crate::opening::{bare_stores, open_hub, open_replica};
+use crate::outcome::Outcome;
+use cs_map_store::MapStore;
+use cs_opening::OpenFault;
+use cs_store::RowStore;
+use cs_value::{Catalog, Memory};
+use std::alloc::{AllocError, Global};
+use std::marker::Model;
+
+/// A hub, replicas and all that was ever sent between them, over any stores, moved by events. Replicas and messages are numbered from 0,
+/// messages as they are sent; they are kept for ever, and each reaches whom it is for as often as an event says so, or never. Contracts see
+/// it as what it holds. (Profile of this project.)
+#[derive(Drop)]
+pub struct World<S: RowStore> {
+    pub(crate) core: Core<S>,
+}
+
+impl<S: RowStore> Model for World<S> {
+    ghost use Rattle.cs_world.specs.World.{World as Standing};
+    ghost use Rattle.cs_hub.specs.declared.hub.TheConstants.{MAX_ENTRIES};
+    ghost use Rattle.cs_world.specs.Holding.{AreHonest, Holding, StandsAt};
+
+    ghost Value = { Holding S };
+
+    ghost view = { λ world. world.core };
+
+    ghost invariant = { λ world. AreHonest S.honest S.contents world.core → (standing : Standing) × StandsAt S.honest S.contents MAX_ENTRIES world.core standing };
+}
+
+impl<S: RowStore + Drop> World<S> {
+    /// A world in which nothing has happened, over stores that hold nothing: a hub of these tables, and a replica over each other store,
+    /// of which the first has the number and the id 0. (Profile of this project.)
+    ///
+    /// # Errors
+    ///
+    /// `Memory`, or `Device` where a store failed; over stores that hold something, those of `Hub::open` and `Replica::open`. The stores are
+    /// let go then.
+    pub fn new(
+        alloc: Global,
+        catalog: &Catalog,
+        hub: S,
+        replicas: Vec<S>,
+    ) -> Result<World<S>, OpenFault>
+        requires hub { S.contents hub ≡ nothing }
+        requires replicas { All (λ store. S.contents store ≡ nothing) replicas.items }
+        requires count { length replicas.items < 2 ^ 32 - 1 }
+        ensures { IfOk result (IsNew S.honest S.contents MAX_ENTRIES catalog.now (length replicas.items)) }
+    {
+        crate::laws::first_is_sound();
+        let _tables = catalog.tables();
+        let mut opened = Vec::with_capacity(alloc, replicas.len())?;
+        for store in replicas {
+            let number = opened.len() as u32;
+            opened.push(open_replica(alloc, store, catalog, number)?)?;
+        }
+        let hub = open_hub(alloc, hub, catalog)?;
+        Ok(World {
+            core: Core {
+                alloc,
+                hub,
+                replicas: opened,
+                letters: Vec::new(alloc),
+            },
+        })
+    }
+}
+
+impl World<MapStore> {
+    /// A world in which nothing has happened, in memory, of so many replicas. (Profile of this project.)
+    ///
+    /// # Errors
+    ///
+    /// `Memory`.
+    pub fn in_memory(
+        alloc: Global,
+        catalog: &Catalog,
+        count: u32,
+    ) -> Result<World<MapStore>, Memory>
+        requires { count < 2 ^ 32 - 1 }
+        ensures { IfOk result (IsNew ⟦<MapStore as RowStore>⟧.honest ⟦<MapStore as RowStore>⟧.contents MAX_ENTRIES catalog.now count) }
+    {
+        let stores = bare_stores(alloc, count)?;
+        match World::new(alloc, catalog, MapStore::new(alloc), stores) {
+            Ok(world) => Ok(world),
+            Err(_) => Err(AllocError),
+        }
+    }
+}
+
+impl<S: RowStore> World<S> {
+    /// What is so of every world, whatever has happened in it: the headline. It takes no memory, and does nothing.
+    pub fn headline(&self)
+        ensures { HasHeadline S.honest S.contents MAX_ENTRIES self.now }
+    {
+        crate::laws::sound_has_headline();
+        let _core = &self.core;
+    }
+
+    /// Makes an event happen. (Profile of this project.)
+    pub fn step(&mut self, event: &Event) -> Outcome
+        ensures { Runs S.honest S.contents MAX_ENTRIES self.old (event.now ∷ []) (result ∷ []) self.new }
+    {
+        crate::laws::steps_are_sound();
+        cs_hub::laws::most_entries();
+        self.core.step(event)
+    }
+
+    /// Makes events happen, one behind another. The room of the outcomes is taken before the first. (Profile of this project.)
+    ///
+    /// # Errors
+    ///
+    /// `Memory`, and nothing has happened.
+    pub fn run(&mut self, events: &[Event]) -> Result<Vec<Outcome>, Memory>
+        // The steps of the events are made, with these outcomes.
+        ensures ran { IfOk result (λ outcomes. Runs S.honest S.contents MAX_ENTRIES self.old events.now outcomes.items self.new) }
+
+        // Each replica's tables are the hub's at its version with its own changes on top, no push conflicts, each counts once, and replicas
+        // at rest at one version have the same rows.
+        ensures headline { HasHeadline S.honest S.contents MAX_ENTRIES self.new }
+        ensures refused { OnErr result (self.new ≡ self.old) }
+    {
+        self.headline();
+        let mut outcomes = Vec::with_capacity(self.core.alloc, events.len())?;
+        let mut rest = events;
+        while let Some((event, more)) = rest.split_first() {
+            outcomes.push_reserved(self.step(event));
+            rest = more;
+        }
+        self.headline();
+        Ok(outcomes)
+    }
+}

@@ -1,0 +1,114 @@
+//! Events of a world of one table, `t1(a, b)`, whose first column is the key, and what they come to.
+
+use cs_conflict::Wish;
+use cs_map_store::MapStore;
+use cs_value::{Catalog, Edit, Field, Fields, Items, Key, Memory, Row, TableDef, Text, Value};
+use cs_world::{Event, Outcome, WishList, World};
+use std::alloc::Global;
+
+/// An event.
+#[derive(Clone, Copy)]
+pub(crate) enum Act {
+    Insert(u32, i64, &'static str),
+    Update(u32, i64, &'static str),
+    Delete(u32, i64),
+    Push(u32),
+    Resend(u32),
+    Pull(u32, u32),
+    Deliver(usize, &'static [Wish]),
+    Restart(u32),
+}
+
+fn text(alloc: Global, text: &str) -> Result<Text, Memory> {
+    Ok(Text::from_string(String::from_str(alloc, text)?))
+}
+
+pub(crate) fn catalog(alloc: Global) -> Option<Catalog> {
+    let mut tables = Vec::new(alloc);
+    let marks = Items::from_vec(Vec::from_slice(alloc, &[true, false]).ok()?);
+    tables
+        .push(TableDef {
+            name: text(alloc, "t1").ok()?,
+            key_marks: marks,
+        })
+        .ok()?;
+    Catalog::new(tables).ok()
+}
+
+pub(crate) fn world(alloc: Global, replicas: u32) -> Option<World<MapStore>> {
+    let catalog = catalog(alloc)?;
+    World::in_memory(alloc, &catalog, replicas).ok()
+}
+
+fn row(alloc: Global, key: i64, value: &str) -> Result<Row, Memory> {
+    let mut values = Vec::new(alloc);
+    values.push(Value::Int(key))?;
+    values.push(Value::Text(text(alloc, value)?))?;
+    Ok(Row::from_vec(values))
+}
+
+fn key(alloc: Global, key: i64) -> Result<Key, Memory> {
+    let mut values = Vec::new(alloc);
+    values.push(Value::Int(key))?;
+    Ok(Key::from_vec(values))
+}
+
+fn fields(alloc: Global, value: &str) -> Result<Fields, Memory> {
+    let mut fields = Vec::new(alloc);
+    fields.push(Field::Undefined)?;
+    fields.push(Field::Is(Value::Text(text(alloc, value)?)))?;
+    Ok(Fields::from_vec(fields))
+}
+
+fn edit(alloc: Global, act: Act) -> Result<Option<(u32, Edit)>, Memory> {
+    let table = text(alloc, "t1")?;
+    Ok(match act {
+        Act::Insert(replica, number, value) => {
+            let row = row(alloc, number, value)?;
+            Some((replica, Edit::Insert { table, row }))
+        }
+        Act::Update(replica, number, value) => {
+            let key = key(alloc, number)?;
+            let fields = fields(alloc, value)?;
+            Some((replica, Edit::Update { table, key, fields }))
+        }
+        Act::Delete(replica, number) => {
+            let key = key(alloc, number)?;
+            Some((replica, Edit::Delete { table, key }))
+        }
+        _ => None,
+    })
+}
+
+/// The event of an act.
+pub(crate) fn event(alloc: Global, act: Act) -> Result<Event, Memory> {
+    if let Some((replica, edit)) = edit(alloc, act)? {
+        return Ok(Event::OnEdit { replica, edit });
+    }
+    Ok(match act {
+        Act::Push(replica) => Event::MakePush { replica },
+        Act::Resend(replica) => Event::Resend { replica },
+        Act::Pull(replica, limit) => Event::AskPull { replica, limit },
+        Act::Deliver(message, wishes) => Event::Deliver {
+            message,
+            wishes: WishList::from_vec(Vec::from_slice(alloc, wishes)?),
+        },
+        Act::Restart(replica) => Event::Restart { replica },
+        _ => Event::Restart { replica: u32::MAX },
+    })
+}
+
+/// Whether the world makes each act, one behind another, and each comes to what stands beside it.
+pub(crate) fn plays(
+    alloc: Global,
+    world: &mut World<MapStore>,
+    acts: &[(Act, Outcome)],
+) -> Option<bool> {
+    for &(act, outcome) in acts {
+        let event = event(alloc, act).ok()?;
+        if world.step(&event) != outcome {
+            return Some(false);
+        }
+    }
+    Some(true)
+}

@@ -1,0 +1,13 @@
+//! Tests of worlds (`cs_world`, and the wishes of `cs_wishes`) over stores in memory, by public calls.
+//! They stand in a crate of their own since a crate with tests is proved twice. It is a program that does nothing, and no library: what the gate
+//! keeps of a library it marks by all ways that crates.txt has down from it, which are many here.
+#![tactic(auto)]
+
+#[cfg(test)]
+mod given;
+#[cfg(test)]
+mod scripts;
+#[cfg(test)]
+mod tests;
+
+fn main() {}

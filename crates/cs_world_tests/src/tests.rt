@@ -1,0 +1,106 @@
+//! Worlds, event by event, and what each came to.
+
+use crate::given::{Act, plays, world};
+use cs_conflict::Wish;
+use cs_pushing::PushFault;
+use cs_replica::Told;
+use cs_world::Outcome;
+use std::alloc::Global;
+
+/// An answer that was lost, and an old push that comes again.
+const LOST: &[(Act, Outcome)] = &[
+    (Act::Insert(0, 1, "v1"), Outcome::Done),
+    (Act::Push(0), Outcome::Sent(0)),
+    (Act::Deliver(0, &[]), Outcome::Sent(1)),
+    (Act::Update(0, 1, "v2"), Outcome::Done),
+    (Act::Pull(0, 10), Outcome::Sent(2)),
+    (Act::Deliver(2, &[]), Outcome::Sent(3)),
+    (Act::Deliver(3, &[]), Outcome::Heard(Told::Taken(1))),
+    (Act::Deliver(0, &[]), Outcome::Sent(4)),
+    (Act::Deliver(4, &[]), Outcome::Heard(Told::Ignored)),
+];
+
+/// Two pushes on one version: the second is stale, pulls, keeps its own, and pushes again.
+const TWO: &[(Act, Outcome)] = &[
+    (Act::Insert(0, 1, "v1"), Outcome::Done),
+    (Act::Insert(1, 1, "v2"), Outcome::Done),
+    (Act::Push(0), Outcome::Sent(0)),
+    (Act::Push(1), Outcome::Sent(1)),
+    (Act::Deliver(0, &[]), Outcome::Sent(2)),
+    (Act::Deliver(1, &[]), Outcome::Sent(3)),
+    (Act::Deliver(2, &[]), Outcome::Heard(Told::Confirmed(1))),
+    (Act::Deliver(3, &[]), Outcome::Heard(Told::Stale(1))),
+    (Act::Pull(1, 10), Outcome::Sent(4)),
+    (Act::Deliver(4, &[]), Outcome::Sent(5)),
+    (
+        Act::Deliver(5, &[Wish::Keep]),
+        Outcome::Heard(Told::Taken(1)),
+    ),
+    (Act::Push(1), Outcome::Sent(6)),
+    (Act::Deliver(6, &[]), Outcome::Sent(7)),
+    (Act::Deliver(7, &[]), Outcome::Heard(Told::Confirmed(2))),
+    (Act::Pull(0, 10), Outcome::Sent(8)),
+    (Act::Deliver(8, &[]), Outcome::Sent(9)),
+    (Act::Deliver(9, &[]), Outcome::Heard(Told::Taken(1))),
+];
+
+/// The third clash is stopped: nothing was taken.
+const STOPPED: &[(Act, Outcome)] = &[
+    (Act::Insert(0, 1, "a"), Outcome::Done),
+    (Act::Insert(0, 2, "b"), Outcome::Done),
+    (Act::Insert(0, 3, "c"), Outcome::Done),
+    (Act::Insert(1, 1, "x"), Outcome::Done),
+    (Act::Insert(1, 2, "y"), Outcome::Done),
+    (Act::Insert(1, 3, "z"), Outcome::Done),
+    (Act::Push(0), Outcome::Sent(0)),
+    (Act::Deliver(0, &[]), Outcome::Sent(1)),
+    (Act::Pull(1, 10), Outcome::Sent(2)),
+    (Act::Deliver(2, &[]), Outcome::Sent(3)),
+    (
+        Act::Deliver(3, &[Wish::Keep, Wish::Take, Wish::Stop]),
+        Outcome::Heard(Told::Stopped(0)),
+    ),
+];
+
+/// What is refused changes nothing: a second push, a message and a replica that aren't there.
+const REFUSED: &[(Act, Outcome)] = &[
+    (Act::Insert(0, 1, "v1"), Outcome::Done),
+    (Act::Push(0), Outcome::Sent(0)),
+    (Act::Insert(0, 2, "x"), Outcome::Done),
+    (Act::Push(0), Outcome::NotPushed(PushFault::InFlight)),
+    (Act::Resend(0), Outcome::Sent(1)),
+    (Act::Deliver(9, &[]), Outcome::NoMessage),
+    (Act::Deliver(1, &[]), Outcome::Sent(2)),
+    (Act::Deliver(0, &[]), Outcome::Sent(3)),
+    (Act::Deliver(2, &[]), Outcome::Heard(Told::Confirmed(1))),
+    (Act::Deliver(3, &[]), Outcome::Heard(Told::Ignored)),
+    (Act::Insert(1, 3, "y"), Outcome::NoReplica),
+    (Act::Restart(0), Outcome::Done),
+    (Act::Resend(0), Outcome::NotPushed(PushFault::Nothing)),
+];
+
+/// Whether a world of so many replicas makes these acts, and they come to this.
+fn made(alloc: Global, replicas: u32, acts: &[(Act, Outcome)]) -> Option<bool> {
+    let mut world = world(alloc, replicas)?;
+    plays(alloc, &mut world, acts)
+}
+
+#[test]
+fn lost_answers(rt: HostRuntime) {
+    assert!(rt; made(rt.alloc(), 1, LOST).unwrap_or(false));
+}
+
+#[test]
+fn two_pushes_on_one_version(rt: HostRuntime) {
+    assert!(rt; made(rt.alloc(), 2, TWO).unwrap_or(false));
+}
+
+#[test]
+fn a_clash_is_stopped(rt: HostRuntime) {
+    assert!(rt; made(rt.alloc(), 2, STOPPED).unwrap_or(false));
+}
+
+#[test]
+fn refused_events(rt: HostRuntime) {
+    assert!(rt; made(rt.alloc(), 1, REFUSED).unwrap_or(false));
+}
