@@ -35,9 +35,9 @@ pub(crate) fn catalog(alloc: Global) -> Option<Catalog> {
     Catalog::new(tables).ok()
 }
 
-pub(crate) fn world(alloc: Global, replicas: u32) -> Option<World<MapStore>> {
+pub(crate) fn world(alloc: Global, replicas: u8) -> Option<World<MapStore>> {
     let catalog = catalog(alloc)?;
-    World::in_memory(alloc, &catalog, replicas).ok()
+    World::in_memory(alloc, &catalog, u32::from(replicas)).ok()
 }
 
 fn row(alloc: Global, key: i64, value: &str) -> Result<Row, Memory> {

@@ -10,7 +10,7 @@ fn printed(alloc: Global, outcome: Outcome, version: u64) -> Option<String> {
 }
 
 /// Whether a world of so many replicas, all told by replica 0, prints these lines for those of a script.
-fn prints(alloc: Global, replicas: u32, script: &[(&str, &str)]) -> Option<bool> {
+fn prints(alloc: Global, replicas: u8, script: &[(&str, &str)]) -> Option<bool> {
     let catalog = catalog(alloc)?;
     let mut world = world(alloc, replicas)?;
     for (line, told) in script {

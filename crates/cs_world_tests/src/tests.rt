@@ -80,7 +80,7 @@ const REFUSED: &[(Act, Outcome)] = &[
 ];
 
 /// Whether a world of so many replicas makes these acts, and they come to this.
-fn made(alloc: Global, replicas: u32, acts: &[(Act, Outcome)]) -> Option<bool> {
+fn made(alloc: Global, replicas: u8, acts: &[(Act, Outcome)]) -> Option<bool> {
     let mut world = world(alloc, replicas)?;
     plays(alloc, &mut world, acts)
 }
