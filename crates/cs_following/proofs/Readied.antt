@@ -1,0 +1,103 @@
+-- A push that is made ready.
+use Rattle.std.proofs.Common.{◌≡◌, ◌+◌, ◌++◌, ◌∷◌, ℕ, Bool, true, false, List, Option, Some, None, option_map, Ok, Err, refl, sym, ap, subst, ◌∙◌, arith, inl, inr}
+use Rattle.std.specs.Prelude.{◌⊎◌, Result, IfOk, IfErr, IsSome, OnErr}
+use Rattle.std.proofs.lemmas.List.{append_cancel_left}
+use Rattle.std.proofs.lemmas.Option.{same_Some}
+use Rattle.cs_value.specs.Catalog.{AreTables}
+use Rattle.cs_value.specs.declared.catalog.TableDef.{TableDef}
+use Rattle.cs_normal.specs.Normal.{FitsCatalog, IsNormalChangeset, normal_spelling}
+use Rattle.cs_normal.specs.State.{AreSame}
+use Rattle.cs_normal.specs.declared.normal.TableChanges.{TableChanges}
+use Rattle.cs_log.specs.Entry.{changes_of_body}
+use Rattle.cs_log.specs.Laws.{OneBody}
+use Rattle.cs_log.specs.declared.body.Body.{Body}
+use Rattle.cs_log.specs.declared.body.Body.TheVariants.{Changes}
+use Rattle.cs_log.specs.declared.entry.LogEntry.{LogEntry}
+use Rattle.cs_store.specs.Contents.{Contents}
+use Rattle.cs_store.specs.declared.names.MetaName.TheVariants.{Flight}
+use Rattle.cs_pending.specs.View.{View}
+use Rattle.cs_position.specs.Shows.{ShowsAt, base, flown}
+use Rattle.cs_position.specs.Values.{value_of}
+use Rattle.cs_position.specs.declared.position.Position.{Position}
+use Rattle.cs_pushing.specs.Pushes.{IsPushFault, IsPushMade, grounded, pushed}
+use Rattle.cs_pushing.specs.declared.fault.PushFault.{PushFault}
+use Rattle.cs_pushing.specs.declared.fault.PushFault.TheVariants as push
+use Rattle.cs_wire.specs.Numbers.{eight_bytes}
+use Rattle.cs_following.specs.Faults.{told_of_push}
+use Rattle.cs_following.specs.Pushes.{IsReadied, IsReadyFault}
+use Rattle.cs_following.specs.declared.fault.NodeFault.{NodeFault}
+use Rattle.cs_following.specs.declared.fault.NodeFault.TheVariants.{Device, Full}
+
+behind_same : (front a b : List ℕ) → front ++ a ≡ front ++ b → a ≡ b
+behind_same front a b is = append_cancel_left front a b is
+
+-- what is written as under way, and what is held, are one changeset
+same_changes : OneBody → (tables : List TableDef) → AreTables tables → (contents : Contents) (position now : Position) (changes others : List TableChanges) (view seen : View)
+    → ShowsAt tables contents (pushed position changes) view → now ≡ pushed position others → ShowsAt tables contents now seen → others ≡ changes
+same_changes one tables are contents position now changes others view seen made is shown =
+    let held = subst (λ (x : Position). ShowsAt tables contents x seen) is shown in
+    let front = eight_bytes (position.number + 1) in
+    let bytes : front ++ normal_spelling others ≡ front ++ normal_spelling changes = same_Some _ _ (sym (held.values Flight) ∙ made.values Flight) in
+    let spelled : normal_spelling others ≡ normal_spelling changes = behind_same front (normal_spelling others) (normal_spelling changes) bytes in
+    ap changes_of_body (one tables (Changes others) (Changes changes) are (held.under_way.normal, held.under_way.fits) (made.under_way.normal, made.under_way.fits) (ap (λ (b : List ℕ). 0 ∷ b) spelled))
+
+module _ (one : OneBody) (tables : List TableDef) (are : AreTables tables) (position now : Position) (old new : Contents) (before : View) (changes others : List TableChanges)
+    (made : IsPushMade tables position before new changes) (is : now ≡ pushed position others) (seen : View) (shown : ShowsAt tables new now seen) where
+  now_is : now ≡ pushed position changes
+  now_is = is ∙ ap (pushed position) (same_changes one tables are new position now changes others (grounded before) seen made.shows is shown)
+
+  pub made_shows : ShowsAt tables new now (grounded before)
+  made_shows = subst (λ (x : Position). ShowsAt tables new x (grounded before)) (sym now_is) made.shows
+
+  pub made_ready : IsReadied tables position before true now new
+  made_ready = (grounded before, made_shows, inr (new, changes, made, now_is, refl))
+
+  pub made_rows : AreSame (base position.flight before) (base now.flight (grounded before))
+  made_rows = subst (λ (f : Option (List TableChanges)). AreSame (base position.flight before) (base f (grounded before))) (sym (ap (λ (x : Position). x.flight) now_is)) made.log_rows
+
+-- a push that was under way
+pub was_ready : (tables : List TableDef) (position : Position) (contents : Contents) (before : View) → IsSome position.flight → ShowsAt tables contents position before → IsReadied tables position before true position contents
+was_ready tables position contents before some shows = (before, shows, inl (some, refl, refl))
+
+-- no push was made
+pub none_made : (fault : PushFault) (tables : List TableDef) (position now : Position) (contents : Contents) (before : View) → position.flight ≡ None → now ≡ position → ShowsAt tables contents position before
+    → IsPushFault fault tables position before → IfOk (told_of_push fault) (λ some. IsReadied tables position before some now contents)
+none_made push.Memory tables position now contents before none kept shows told = tt
+none_made push.Nothing tables position now contents before none kept shows told = (kept, shows, none, told)
+none_made push.InFlight tables position now contents before none kept shows told = absurd (let some : IsSome None = subst (λ (f : Option (List TableChanges)). IsSome f) none told.1 in cc)
+none_made push.Device tables position now contents before none kept shows told = tt
+none_made push.Spent tables position now contents before none kept shows told = tt
+none_made push.TooLarge tables position now contents before none kept shows told = tt
+
+pub not_ready : (fault : PushFault) (tables : List TableDef) (position : Position) (before : View) (shown : Type 0) → shown → IsPushFault fault tables position before
+    → IfErr (told_of_push fault) (λ told. IsReadyFault told tables position before × shown)
+not_ready push.Memory tables position before shown s told = (tt, s)
+not_ready push.Nothing tables position before shown s told = tt
+not_ready push.InFlight tables position before shown s told = tt
+not_ready push.Device tables position before shown s told = (tt, s)
+not_ready push.Spent tables position before shown s told = (told, s)
+not_ready push.TooLarge tables position before shown s told = (told, s)
+
+pub told_device : (fault : PushFault) → told_of_push fault ≡ Err Device → fault ≡ push.Device
+told_device push.Memory is = absurd cc
+told_device push.Nothing is = absurd cc
+told_device push.InFlight is = absurd cc
+told_device push.Device is = refl
+told_device push.Spent is = absurd cc
+told_device push.TooLarge is = absurd cc
+
+pub told_true : (fault : PushFault) → told_of_push fault ≡ Ok true → ⊥
+told_true push.Memory is = absurd cc
+told_true push.Nothing is = absurd cc
+told_true push.InFlight is = absurd cc
+told_true push.Device is = absurd cc
+told_true push.Spent is = absurd cc
+told_true push.TooLarge is = absurd cc
+
+pub told_full : (fault : PushFault) → told_of_push fault ≡ Err Full → ⊥
+told_full push.Memory is = absurd cc
+told_full push.Nothing is = absurd cc
+told_full push.InFlight is = absurd cc
+told_full push.Device is = absurd cc
+told_full push.Spent is = absurd cc
+told_full push.TooLarge is = absurd cc

@@ -1,0 +1,9 @@
+use Rattle.cs_following.proofs.Stood.{stood_on}
+use Rattle.cs_following.proofs.Along.{along_none}
+use Rattle.cs_following.proofs.Readied.{made_ready}
+use Rattle.cs_following.proofs.Sent.{taken_leaves}
+use Rattle.cs_following.proofs.Met.{fresh_stands}
+use Rattle.cs_following.proofs.laws.probe.Goals as goal
+
+pub returns : goal.returns
+returns c = λ f. f
