@@ -12,3 +12,4 @@ pub use cs_following::{NodeFault, NodePush};
 pub use meet::meet_nodes;
 pub use node::Node;
 
+

@@ -1,9 +1,12 @@
 //! A node.
 
-ghost use Rattle.std.specs.Prelude.{◌≡◌, ◌⊎◌, ◌≤◌, ◌<◌, ◌+◌, ◌↔◌, [], Err, IfErr, IfOk, IsOk, IsTrue, MatchResult, Ok, OnErr, OnOk, Some, length, slice_get};
+ghost use Rattle.std.specs.Prelude.{◌≡◌, ◌⊎◌, ◌≤◌, ◌<◌, ◌+◌, ◌-◌, ◌^◌, ◌↔◌, [], Err, IfErr, IfOk, IsOk, IsTrue, MatchResult, Ok, OnErr, OnOk, Some, length, slice_get};
 ghost use Rattle.cs_pending.specs.Calls.{ReadsStore, WritesStore};
 ghost use Rattle.cs_pending.specs.Edits.{IsOfStore, edit as edit_of};
+ghost use Rattle.cs_opening.specs.Fresh.{first_position};
+ghost use Rattle.cs_pending.specs.Laws.{empty_view};
 ghost use Rattle.cs_pending.specs.View.{View};
+ghost use Rattle.cs_store.specs.Contents.{nothing};
 ghost use Rattle.cs_pending.specs.declared.fault.EditFault.TheVariants as editing;
 ghost use Rattle.cs_position.specs.Shows.{ShowsSomeAt};
 ghost use Rattle.cs_pulling.specs.Calls.{WritesInTurn};
@@ -22,12 +25,13 @@ ghost use Rattle.cs_nodes.specs.Nodes.{IsNode};
 
 use cs_conflict::Picker;
 use cs_following::{NodeFault, NodePush, edit_row, is_at_rest, pull_known, push_known, rows_of};
+use cs_opening::OpenFault;
 use cs_pending::EditFault;
 use cs_replica::Replica;
 use cs_rows::RowAtKey;
 use cs_spine::{Pass, Spine};
 use cs_store::{RowStore, StoreFault};
-use cs_value::Edit;
+use cs_value::{Catalog, Edit};
 use std::alloc::Global;
 use std::marker::Model;
 
@@ -46,6 +50,43 @@ impl<'s, S: RowStore> Model for Node<'s, S> {
     ghost view = { λ node. record { replica = node.replica; pass = node.pass } };
 
     ghost invariant = { λ node. IsNode S.honest S.contents (record { replica = node.replica; pass = node.pass }) };
+}
+
+impl<'s, S: RowStore + Drop> Node<'s, S> {
+    /// A new node over a store that holds nothing: its replica, with this id, is at version 0 with no row, nothing pending and nothing
+    /// under way, and its pass knows nothing. An id is at most 4,294,967,294. (Profile of this project.)
+    ///
+    /// # Errors
+    ///
+    /// Those of `Replica::open`. The store is gone then.
+    pub fn open(
+        alloc: Global,
+        store: S,
+        catalog: &Catalog,
+        id: u32,
+        spine: &'s Spine,
+    ) -> Result<Node<'s, S>, OpenFault>
+        requires id { id < 2 ^ 32 - 1 }
+        requires bare { S.contents store ≡ nothing }
+        ensures pass { IfOk result (λ node. (node.pass.spine ≡ spine.now) × (node.pass.known ≡ [])) }
+        ensures catalog { IfOk result (λ node. node.replica.catalog ≡ catalog.now) }
+        ensures fresh { IfOk result (λ node. S.honest node.replica.store
+            → (node.replica.position ≡ first_position id) × Shows S.contents node.replica empty_view) }
+    {
+        cs_following::laws::fresh_stands();
+        let _tables = catalog.tables();
+        let pass = spine.pass()?;
+        match Replica::open(alloc, store, catalog, id) {
+            Ok(replica) => {
+                // A new replica is at version 0.
+                if replica.version() != 0 {
+                    return Err(OpenFault::Damaged);
+                }
+                Ok(Node::new(replica, pass))
+            }
+            Err((_store, fault)) => Err(fault),
+        }
+    }
 }
 
 impl<'s, S: RowStore> Node<'s, S> {
