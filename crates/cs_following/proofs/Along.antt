@@ -55,7 +55,7 @@ module _ {P : Type 0} (picks : P → Clash → Wish → P → Type 0) (tables : 
       (pending', left', next', between', one', shows', pulls_more entries (taken position pending') next' between' other end q rest entry pending left next between one shows)
 
   module _ (known : List LogEntry) (position : Position) (view : View) (p : P) where
-    known_none : position.version ≤ length known → PullsKnown picks tables known position view p position view p
+    pub known_none : position.version ≤ length known → PullsKnown picks tables known position view p position view p
     unfolding PullsEach
     known_none within = record {
       onwards = omega arith;
@@ -63,7 +63,7 @@ module _ {P : Type 0} (picks : P → Clash → Wish → P → Type 0) (tables : 
       pulls = subst (λ (es : List LogEntry). PullsEach picks tables es position view p position view p) (sym (none_between known position.version)) (refl, refl, refl);
     }
 
-    known_more : (other : Position) (end : View) (q : P) → PullsKnown picks tables known position view p other end q → (entry : LogEntry) → slice_get known other.version ≡ Some entry
+    pub known_more : (other : Position) (end : View) (q : P) → PullsKnown picks tables known position view p other end q → (entry : LogEntry) → slice_get known other.version ≡ Some entry
         → (pending : ℕ) (left : Contents) (next : View) (between : P) → PullsOne picks tables other entry end q next between → ShowsAt tables left (taken other pending) next
         → PullsKnown picks tables known position view p (taken other pending) next between
     known_more other end q so_far entry here pending left next between one shows = record {

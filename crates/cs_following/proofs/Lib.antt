@@ -2,4 +2,6 @@ pub mod Stood
 pub mod Along
 pub mod Readied
 pub mod Sent
-pub mod Met
+pub mod Meeting
+pub mod OneKnown
+pub mod KnownSome

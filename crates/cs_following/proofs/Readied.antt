@@ -64,7 +64,7 @@ pub none_made : (fault : PushFault) (tables : List TableDef) (position now : Pos
     → IsPushFault fault tables position before → IfOk (told_of_push fault) (λ some. IsReadied tables position before some now contents)
 none_made push.Memory tables position now contents before none kept shows told = tt
 none_made push.Nothing tables position now contents before none kept shows told = (kept, shows, none, told)
-none_made push.InFlight tables position now contents before none kept shows told = absurd (let some : IsSome None = subst (λ (f : Option (List TableChanges)). IsSome f) none told.1 in cc)
+none_made push.InFlight tables position now contents before none kept shows told = absurd (let some : IsSome {T = List TableChanges} None = subst (λ (f : Option (List TableChanges)). IsSome f) none told.1 in cc)
 none_made push.Device tables position now contents before none kept shows told = tt
 none_made push.Spent tables position now contents before none kept shows told = tt
 none_made push.TooLarge tables position now contents before none kept shows told = tt

@@ -1,7 +1,8 @@
 //! The laws of replicas that stand on what is known, each the contract of a function that does nothing.
 
-ghost use Rattle.cs_following.specs.Laws.{EqualWhereMet, FreshStands, StandsWider};
+ghost use Rattle.cs_following.specs.Laws.{EqualWhereMet, FreshStands, KnownPullHasResult, OneKnownPull, StandsWider};
 
+use cs_conflict::Picker;
 use cs_store::RowStore;
 
 /// A new replica stands on whatever is known.
@@ -24,6 +25,25 @@ pub fn equal_where_met()
     ensures { EqualWhereMet }
 {
     cs_replica::laws::equal_at_rest();
+}
+
+/// Where a picker has one answer to each clash, a pull of what is known has one result, and leaves one position, one thing in the store,
+/// and one state of the picker.
+pub fn one_known_pull<P: Picker>()
+    ensures { OneKnownPull P.picks }
+{
+    cs_pending::laws::one_view();
+    cs_taking::laws::one_contents();
+    cs_taking::laws::one_stop_taking::<P>();
+    cs_pulling::laws::one_pull::<P>();
+    cs_pulling::laws::one_pull_fault::<P>();
+}
+
+/// Where a picker has a lawful answer to each clash, a pull of what is known has a result, and there is a store that holds what is left.
+pub fn known_pull_has_result<P: Picker>()
+    ensures { KnownPullHasResult P.picks P.is_ready }
+{
+    cs_pulling::laws::pulled_or_refused::<P>();
 }
 
 /// Probe.

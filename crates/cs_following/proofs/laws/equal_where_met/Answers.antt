@@ -1,4 +1,4 @@
-use Rattle.cs_following.proofs.Met.{equal_where_met}
+use Rattle.cs_following.proofs.Meeting.{equal_where_met}
 use Rattle.cs_following.proofs.laws.equal_where_met.Goals as goal
 
 pub returns : goal.returns

@@ -1,4 +1,4 @@
-use Rattle.cs_following.proofs.Met.{fresh_stands}
+use Rattle.cs_following.proofs.Meeting.{fresh_stands}
 use Rattle.cs_following.proofs.laws.fresh_stands.Goals as goal
 
 pub returns : goal.returns
