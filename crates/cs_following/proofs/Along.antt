@@ -115,9 +115,14 @@ module _ {P S : Type 0} (picks : P → Clash → Wish → P → Type 0) (honest 
     pub among : honest mid.store → (left : Contents) → IsPulledIn picks mid.catalog mid.position entry q r (contents mid.store) left → IsPulledAmong picks begun.catalog known begun.position (contents begun.store) p left
     among h left pulled before shows =
         let s = a.seen h before shows in
-        let after = subst (λ (t : List TableDef). IsPulledIn picks t mid.position entry q r (contents mid.store) left) a.catalog pulled s.0 s.2 in
-        (taken mid.position (len left.pending), after.0, r, known_more picks begun.catalog known begun.position before p mid.position s.0 q s.1 entry there (len left.pending) left after.0 r after.2 after.1,
-        omega (arith, a.from, a.at_is), after.1)
+        let after = subst (λ (t : List TableDef). IsPulledIn picks t mid.position entry q r (contents mid.store) left) a.catalog pulled s.0 s.2 in (
+          taken mid.position (len left.pending),
+          after.0,
+          r,
+          known_more picks begun.catalog known begun.position before p mid.position s.0 q s.1 entry there (len left.pending) left after.0 r after.2 after.1,
+          omega (arith, a.from, a.at_is),
+          after.1,
+        )
 
     -- one more was taken
     pub along_more : (done : Unit {0})
@@ -139,7 +144,7 @@ module _ {P S : Type 0} (picks : P → Clash → Wish → P → Type 0) (honest 
           let is : new.position ≡ taken mid.position pending = moved ∙ ap (taken mid.position) (counted h (readable h' (before, shows))) in (
             after.0,
             subst (λ (x : Position). PullsKnown picks begun.catalog known begun.position before p x after.0 r) (sym is)
-            (known_more picks begun.catalog known begun.position before p mid.position s.0 q s.1 entry there pending (contents new.store) after.0 r after.2 after.1),
+                (known_more picks begun.catalog known begun.position before p mid.position s.0 q s.1 entry there pending (contents new.store) after.0 r after.2 after.1),
             subst (λ (x : Position). ShowsAt begun.catalog (contents new.store) x after.0) (sym is) after.1,
           );
       turn = one_more honest contents failed may_leave misreads _ _ _ _ begun.store mid.store new.store readable among a.turn Device done writes;

@@ -1,15 +1,18 @@
 -- A push that was offered, and what came of it.
-use Rattle.std.proofs.Common.{◌≡◌, ◌≢◌, ◌+◌, ◌≤◌, ◌<◌, ◌++◌, ◌∷◌, ℕ, zero, suc, Bool, true, false, List, [], length, Option, Some, None, Ok, Err, refl, sym, ap, subst, ◌∙◌, arith, inl, inr}
-use Rattle.std.specs.Prelude.{◌⊎◌, Result, slice_get}
-use Rattle.std.specs.FinMap.{len}
-use Rattle.std.proofs.lemmas.Option.{same_Some}
+use Rattle.std.proofs.Common.{◌≡◌, ◌≢◌, ◌+◌, ◌≤◌, ◌<◌, ◌++◌, ◌∷◌, ℕ, zero, suc, Bool, true, false, List, [], length, Option, Some, None, option_map, Ok, Err, refl, sym, ap, subst, ◌∙◌, arith, inl, inr}
+use Rattle.std.specs.Prelude.{◌⊎◌, Result, pos, slice_get}
+use Rattle.std.specs.FinMap.{empty_of_len, get, get-empty, len}
+use Rattle.std.proofs.lemmas.Option.{same_Some, slice_get-get_or}
+use Rattle.cs_value.specs.Catalog.{AreTables}
 use Rattle.cs_value.specs.declared.catalog.TableDef.{TableDef}
+use Rattle.cs_change.specs.Spelling.{change_spelling}
+use Rattle.cs_change.specs.declared.change.Change.{Change}
 use Rattle.cs_normal.specs.State.{IsDefinedOn}
 use Rattle.cs_normal.specs.declared.normal.TableChanges.{TableChanges}
 use Rattle.cs_log.specs.Entry.{entry_changes}
 use Rattle.cs_log.specs.Log.{tables_at}
 use Rattle.cs_log.specs.declared.entry.LogEntry.{LogEntry}
-use Rattle.cs_store.specs.Contents.{Contents}
+use Rattle.cs_store.specs.Contents.{Bodies, Contents, place_cmp, stored_pending}
 use Rattle.cs_conflict.specs.declared.clash.Clash.{Clash}
 use Rattle.cs_conflict.specs.declared.wish.Wish.{Wish}
 use Rattle.cs_pending.specs.View.{View}
@@ -132,19 +135,32 @@ module _ {P : Type 0} (picks : P → Clash → Wish → P → Type 0) (tables : 
 
 -- ---- contents on the way
 
-made_among : {P : Type 0} (picks : P → Clash → Wish → P → Type 0) (tables : List TableDef) (position : Position) (old : Contents) (p : P) (left : Contents) → IsPushMadeIn tables position old left → IsSentAmong picks tables position old p left
-made_among picks tables position old p left is before shows =
+pub made_leaves : {P : Type 0} (picks : P → Clash → Wish → P → Type 0) (tables : List TableDef) (position : Position) (old : Contents) (p : P) → (left : Contents) → IsPushMadeIn tables position old left → IsSentAmong picks tables position old p left
+made_leaves picks tables position old p left is are before shows =
     let made = is before shows in
     (pushed position made.0, grounded before, inr (left, made.0, made.1, refl, refl), inl made.1.shows)
 
-pub made_leaves : {P : Type 0} (picks : P → Clash → Wish → P → Type 0) (tables : List TableDef) (position : Position) (old : Contents) (p : P) → (left : Contents) → IsPushMadeIn tables position old left → IsSentAmong picks tables position old p left
-made_leaves picks tables position old p left is = made_among picks tables position old p left is
-
 -- what a stop may leave behind the entry of the cell
 pub taken_leaves : {P : Type 0} (picks : P → Clash → Wish → P → Type 0) (tables : List TableDef) (position ready : Position) (old mid : Contents) (p q : P) (entry : LogEntry)
-    → ((before : View) → ShowsAt tables old position before → IsReadied tables position before true ready mid)
+    → (AreTables tables → (before : View) → ShowsAt tables old position before → IsReadied tables position before true ready mid)
     → (left : Contents) → IsPulledIn picks tables ready entry p q mid left → IsSentAmong picks tables position old p left
-taken_leaves picks tables position ready old mid p q entry readied left pulled before shows =
-    let r = readied before shows in
+taken_leaves picks tables position ready old mid p q entry readied left pulled are before shows =
+    let r = readied are before shows in
     let after = pulled r.0 r.1 in
     (ready, r.0, r.2, inr (entry, after.0, q, len left.pending, after.2, after.1))
+
+-- ---- nothing is pending
+
+no_change : (o : Option Change) → option_map change_spelling o ≡ None → o ≡ None
+no_change None e = refl
+no_change (Some change) e = absurd (let no = e in cc)
+
+pub nothing_there : (tables : List TableDef) (contents : Contents) (position : Position) (view : View) → ShowsAt tables contents position view → position.pending ≡ 0 → HasNothing tables view
+nothing_there tables contents position view shows none = record {
+  fits = tt;
+  normal = tt;
+  changes_are = λ table key inside.
+      let at : slice_get tables inside.0 ≡ Some table = slice_get-get_or tables inside.0 table inside.1 ∙ ap (λ (t : TableDef). Some t) inside.2 in
+      let gone : stored_pending contents inside.0 key ≡ None = ap (λ (m : Bodies). get m (pos inside.0, key)) (empty_of_len contents.pending (sym shows.counted ∙ none)) ∙ get-empty place_cmp (pos inside.0, key) in
+      sym (no_change (view.pending table.name key) (sym (shows.rows.pends.stored inside.0 table key at) ∙ gone));
+}

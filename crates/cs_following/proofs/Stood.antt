@@ -21,7 +21,7 @@ use Rattle.cs_conflict.specs.declared.clash.Clash.{Clash}
 use Rattle.cs_conflict.specs.declared.wish.Wish.{Wish}
 use Rattle.cs_pending.specs.Edits.{Asked}
 use Rattle.cs_pending.specs.View.{View}
-use Rattle.cs_position.specs.Shows.{ShowsAt, base}
+use Rattle.cs_position.specs.Shows.{ShowsAt, ShowsSomeAt, base}
 use Rattle.cs_position.specs.declared.position.Position.{Position}
 use Rattle.cs_pulling.specs.Laws.{PulledLeads}
 use Rattle.cs_pulling.specs.Pulls.{IsBad, IsPulledIn, PullsOne}
@@ -30,7 +30,10 @@ use Rattle.cs_replica.specs.Holding.{Holding, Shows}
 use Rattle.cs_replica.specs.Laws.{EditStands, KeptStands, StandsLonger}
 use Rattle.cs_replica.specs.Stands.{StandsOn}
 use Rattle.cs_taking.specs.Takes.{taken}
+use Rattle.cs_following.specs.Pulls.{IsTakeFault}
 use Rattle.cs_following.specs.Standing.{IsBadAt, StandsIn, StandsWhereHonest}
+use Rattle.cs_following.specs.declared.fault.NodeFault.{NodeFault}
+use Rattle.cs_following.specs.declared.fault.NodeFault.TheVariants.{BadEntry}
 
 -- ---- the tables that one entry more makes
 
@@ -129,13 +132,13 @@ module _ {S : Type 0} (honest : S → Type 0) (contents : S → Contents) where
         → slice_get known old.position.version ≡ Some entry
         → (honest new.store → IsPulledIn picks old.catalog old.position entry p q (contents old.store) (contents new.store))
         → new.position ≡ taken old.position new.position.pending
-        → (honest new.store → (view : View) × Shows contents new view)
+        → (honest new.store → ShowsSomeAt old.catalog old.position (contents old.store) → new.position.pending ≡ len (contents new.store).pending)
         → StandsWhereHonest honest contents known old → StandsWhereHonest honest contents known new
-    taken_stands picks leads defined appended entry p q normal here pulled moved shown stands h =
+    taken_stands picks leads defined appended entry p q normal here pulled moved counted stands h =
         let s = stands (was_honest h) in
         let e = pulled h s.0 s.1 in
         let pending = len (contents new.store).pending in
-        let is : new.position ≡ taken old.position pending = moved ∙ ap (taken old.position) ((shown h).1.counted) in
+        let is : new.position ≡ taken old.position pending = moved ∙ ap (taken old.position) (counted h (s.0, s.1)) in
         same_stands (taken old.position pending) e.0 h is e.1
         (stood_on defined appended old.catalog known entry old.position (taken old.position pending) s.0 e.0 normal here refl refl
         (leads old.catalog (contents old.store) old.position entry s.0 e.0 p q s.2.of_catalog s.1 e.2) s.2)
@@ -144,11 +147,15 @@ module _ {S : Type 0} (honest : S → Type 0) (contents : S → Contents) where
     pub readied_stands : KeptStands → (before view : View) → honest new.store → ShowsAt new.catalog (contents new.store) new.position view → new.position.version ≡ old.position.version
         → AreSame (base old.position.flight before) (base new.position.flight view) → StandsIn old.catalog known old.position before
         → (view : View) × Shows contents new view × StandsIn new.catalog known new.position view
-    readied_stands law before view h shows version same s = (view, shows, record {
-      of_catalog = subst (λ (t : List TableDef). AreTables t) (sym catalog) s.of_catalog;
-      front = subst (λ (t : List TableDef). IsLog t (take new.position.version known)) (sym catalog) (subst (λ (n : ℕ). IsLog old.catalog (take n known)) (sym version) s.front);
-      stands = law known old.position new.position before view version same s.stands;
-    })
+    readied_stands law before view h shows version same s = (
+      view,
+      shows,
+      record {
+        of_catalog = subst (λ (t : List TableDef). AreTables t) (sym catalog) s.of_catalog;
+        front = subst (λ (t : List TableDef). IsLog t (take new.position.version known)) (sym catalog) (subst (λ (n : ℕ). IsLog old.catalog (take n known)) (sym version) s.front);
+        stands = law known old.position new.position before view version same s.stands;
+      },
+    )
 
 -- ---- a bad entry
 
@@ -161,3 +168,12 @@ bad_there tables known entry position view here short s (inr (others, undefined)
   here = here;
   undefined = λ defined. undefined (subst (λ (t : State). IsDefinedOn tables (entry_changes entry) t) (one_state (tables_at known position.version) (base position.flight view) s.stands.on_tables) defined);
 }
+
+-- as it is told
+pub bad_told : {P : Type 0} (picks : P → Clash → Wish → P → Type 0) (tables others : List TableDef) (known : List LogEntry) (entry : LogEntry) (position now : Position) (view : View) (p q : P) (fault : NodeFault)
+    → slice_get known position.version ≡ Some entry → length known < 2 ^ 64 → StandsIn tables known position view → IsTakeFault picks tables fault position entry view p q → fault ≡ BadEntry
+    → others ≡ tables → now ≡ position → IsBadAt others known now.version
+bad_told picks tables others known entry position now view p q fault here short s told is same kept =
+    let bad : IsTakeFault picks tables BadEntry position entry view p q = subst (λ (f : NodeFault). IsTakeFault picks tables f position entry view p q) is told in
+    subst (λ (t : List TableDef). IsBadAt t known now.version) (sym same)
+    (subst (λ (x : Position). IsBadAt tables known x.version) (sym kept) (bad_there tables known entry position view here short s bad.0))

@@ -1,5 +1,6 @@
 -- How a replica pushes through a row of cells that are set once (profile of this project).
 use Rattle.std.specs.Prelude.{◌≡◌, ◌≢◌, ◌⊎◌, ◌<◌, ℕ, Bool, true, false, List, [], ◌∷◌, ◌++◌, length, Option, Some, None, IsSome, Result, Ok, Err}
+use Rattle.cs_value.specs.Catalog.{AreTables}
 use Rattle.cs_value.specs.declared.catalog.TableDef.{TableDef}
 use Rattle.cs_normal.specs.State.{IsDefinedOn}
 use Rattle.cs_normal.specs.declared.normal.TableChanges.{TableChanges}
@@ -129,7 +130,7 @@ module _ {P : Type 0} (picks : P → Clash → Wish → P → Type 0) (tables : 
 -- contents that stood after one of the commits: a push was made, or the entry of its cell was pulled after that
 abbrev pub IsSentAmong : {P : Type 0} → (P → Clash → Wish → P → Type 0) → List TableDef → Position → Contents → P → Contents → Type 0
 IsSentAmong {P} picks tables position old p left =
-    (before : View) → ShowsAt tables old position before
+    AreTables tables → (before : View) → ShowsAt tables old position before
     → (ready : Position) × (view : View) × IsReady tables position before ready view
     × (ShowsAt tables left ready view
     ⊎ ((entry : LogEntry) × (after : View) × (q : P) × (pending : ℕ)

@@ -68,10 +68,11 @@ pub fn edit_row<S: RowStore>(
     ensures stands { (known : List Entry) → StandsWhereHonest S.honest S.contents known replica.old → StandsWhereHonest S.honest S.contents known replica.new }
 {
     cs_replica::laws::edit_stands();
-    let edited = edit_any(alloc, replica, edit);
-    replica.shown();
-    match edited {
-        Ok(()) => Ok(()),
+    match edit_any(alloc, replica, edit) {
+        Ok(()) => {
+            replica.shown();
+            Ok(())
+        }
         Err(fault) => Err(fault),
     }
 }

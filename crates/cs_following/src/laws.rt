@@ -45,8 +45,3 @@ pub fn known_pull_has_result<P: Picker>()
 {
     cs_pulling::laws::pulled_or_refused::<P>();
 }
-
-/// Probe.
-pub fn probe()
-    ensures { FreshStands → FreshStands }
-{}

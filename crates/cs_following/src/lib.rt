@@ -25,5 +25,3 @@ pub use readying::{flight_entry, is_at_rest};
 pub use rows::rows_of;
 pub use seeing::see_all;
 pub use sending::push_known;
-
-

@@ -97,12 +97,12 @@ fn make_one<S: RowStore>(alloc: Global, replica: &mut Replica<S>) -> Result<bool
 {
     cs_log::laws::one_body();
     cs_replica::laws::steps_stand();
-    replica.shown();
-    let made = replica.make_push(alloc);
-    replica.shown();
-    match made {
-        Ok(_) => Ok(true),
-        Err(fault) => not_made(fault),
+    match replica.make_push(alloc) {
+        Ok(_request) => {
+            replica.shown();
+            return Ok(true);
+        }
+        Err(fault) => return not_made(fault),
     }
 }
 

@@ -56,10 +56,19 @@ fn send<'s, S: RowStore, P: Picker>(
         → IsBadAt replica.new.catalog pass.new.known replica.new.position.version }
 {
     cs_replica::laws::stands_longer();
-    if !make_ready(alloc, replica)? {
+    let ready = match make_ready(alloc, replica) {
+        Ok(ready) => ready,
+        Err(fault) => return Err(fault),
+    };
+    if !ready {
         return Ok(NodePush::Nothing);
     }
-    let Some(mine) = flight_entry(alloc, replica)? else {
+    replica.shown();
+    let found = match flight_entry(alloc, replica) {
+        Ok(found) => found,
+        Err(fault) => return Err(fault),
+    };
+    let Some(mine) = found else {
         return Ok(NodePush::Nothing);
     };
     let at = pass.len();
@@ -68,6 +77,7 @@ fn send<'s, S: RowStore, P: Picker>(
         Err(OfferFault::Full) => return Err(NodeFault::Full),
         Err(OfferFault::Memory) => return Err(NodeFault::Memory),
     };
+    let _known = pass.len();
     match take_standing(alloc, replica, spine.entry(pass, at), picker) {
         Ok(()) => {}
         Err(fault) => return Err(fault),

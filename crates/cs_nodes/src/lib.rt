@@ -13,3 +13,4 @@ pub use meet::meet_nodes;
 pub use node::Node;
 
 
+
