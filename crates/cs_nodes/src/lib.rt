@@ -11,6 +11,3 @@ mod node;
 pub use cs_following::{NodeFault, NodePush};
 pub use meet::meet_nodes;
 pub use node::Node;
-
-
-

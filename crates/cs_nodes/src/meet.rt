@@ -31,5 +31,8 @@ pub fn meet_nodes<S: RowStore, T: RowStore>(
     one.stands();
     other.stands();
     let _both = spine.meet(one.pass(), other.pass());
-    one.version() == other.version() && one.is_at_rest() && other.is_at_rest()
+    if one.version() != other.version() {
+        return false;
+    }
+    one.is_at_rest() && other.is_at_rest()
 }
