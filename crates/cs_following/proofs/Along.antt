@@ -1,6 +1,6 @@
 -- Entries that are known, on the way: those before were taken.
-use Rattle.std.proofs.Common.{◌≡◌, ◌+◌, ◌-◌, ◌≤◌, ◌<◌, ◌^◌, ℕ, zero, suc, List, [], ◌∷◌, ◌++◌, take, drop, length, Option, Some, None, Ok, Err, refl, sym, ap, subst, ◌∙◌, arith, inl, inr, add-one}
-use Rattle.std.specs.Prelude.{◌⊎◌, Result, slice_get}
+use Rattle.std.proofs.Common.{◌≡◌, ◌+◌, ◌≤◌, ℕ, zero, suc, List, [], ◌∷◌, ◌++◌, take, drop, length, Some, Ok, Err, refl, sym, ap, subst, ◌∙◌, arith}
+use Rattle.std.specs.Prelude.{slice_get}
 use Rattle.std.specs.FinMap.{len}
 use Rattle.std.proofs.lemmas.Option.{slice_get_within}
 use Rattle.cs_value.specs.declared.catalog.TableDef.{TableDef}
@@ -18,8 +18,8 @@ use Rattle.cs_pulling.specs.Pulls.{IsPulledIn, PullsOne}
 use Rattle.cs_replica.specs.Holding.{Holding, Shows}
 use Rattle.cs_taking.specs.Takes.{taken}
 use Rattle.cs_following.specs.InTurn.{WentOn, no_call_yet, one_more, one_failed}
-use Rattle.cs_following.specs.Pulls.{EndsPull, IsPulledAmong, IsTakeFault, PullsAll, PullsEach, PullsKnown}
-use Rattle.cs_following.specs.Standing.{IsBadAt, StandsWhereHonest}
+use Rattle.cs_following.specs.Pulls.{IsPulledAmong, IsTakeFault, PullsAll, PullsEach, PullsKnown}
+use Rattle.cs_following.specs.Standing.{StandsWhereHonest}
 use Rattle.cs_following.specs.declared.fault.NodeFault.{NodeFault}
 use Rattle.cs_following.specs.declared.fault.NodeFault.TheVariants.{Device}
 use Rattle.cs_following.proofs.Stood.{front_more}

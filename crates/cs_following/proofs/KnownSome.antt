@@ -1,8 +1,7 @@
 -- A pull of what is known has a result, and there is what it leaves.
-use Rattle.std.proofs.Common.{◌≡◌, ◌+◌, ◌-◌, ◌≤◌, ◌<◌, ◌^◌, ℕ, zero, suc, List, [], ◌∷◌, length, Option, Some, None, Ok, Err, refl, sym, ap, subst, ◌∙◌, arith, inl, inr}
-use Rattle.std.specs.Prelude.{◌⊎◌, Result, slice_get, get_or}
+use Rattle.std.proofs.Common.{◌≡◌, ◌+◌, ◌-◌, ◌<◌, ◌^◌, ℕ, zero, suc, List, [], ◌∷◌, length, Some, Ok, Err, refl, arith, inl, inr}
+use Rattle.std.specs.Prelude.{◌⊎◌, Result, slice_get}
 use Rattle.std.specs.FinMap.{len}
-use Rattle.std.proofs.lemmas.Option.{slice_get_within}
 use Rattle.cs_value.specs.Catalog.{AreTables}
 use Rattle.cs_value.specs.declared.catalog.TableDef.{TableDef}
 use Rattle.cs_log.specs.declared.entry.LogEntry.{LogEntry}
@@ -19,7 +18,7 @@ use Rattle.cs_pulling.specs.declared.fault.PullFault.TheVariants as pull
 use Rattle.cs_taking.specs.Laws.{AnswersLawfully}
 use Rattle.cs_taking.specs.Takes.{taken}
 use Rattle.cs_following.specs.Laws.{AreNormal, IsOfEntries, KnownPullHasResult}
-use Rattle.cs_following.specs.Pulls.{EndsPull, IsTakeFault, PullsAll, PullsKnown}
+use Rattle.cs_following.specs.Pulls.{PullsAll, PullsKnown}
 use Rattle.cs_following.specs.declared.fault.NodeFault.{NodeFault}
 use Rattle.cs_following.specs.declared.fault.NodeFault.TheVariants.{BadEntry, Stopped}
 use Rattle.cs_following.proofs.Along.{known_more, known_none}

@@ -1,19 +1,15 @@
 -- Replicas at rest at one version, on lists that are the same up to there.
-use Rattle.std.proofs.Common.{◌≡◌, ◌≤◌, ℕ, List, [], take, length, min, refl, sym, ap, subst, ◌∙◌, arith, length-take}
-use Rattle.std.specs.Prelude.{Contains}
+use Rattle.std.proofs.Common.{◌≡◌, ◌≤◌, ℕ, List, [], take, length, refl, sym, ap, subst, ◌∙◌, arith, length-take}
 use Rattle.std.proofs.lemmas.List.{take-take}
-use Rattle.cs_value.specs.Catalog.{AreTables}
 use Rattle.cs_value.specs.declared.catalog.TableDef.{TableDef}
-use Rattle.cs_normal.specs.State.{State}
 use Rattle.cs_log.specs.Laws.{EmptyIsLog}
 use Rattle.cs_log.specs.Log.{IsLog, state_of}
 use Rattle.cs_log.specs.declared.entry.LogEntry.{LogEntry}
-use Rattle.cs_store.specs.Contents.{Contents}
 use Rattle.cs_pending.specs.View.{View}
 use Rattle.cs_position.specs.declared.position.Position.{Position}
 use Rattle.cs_replica.specs.Laws.{EqualAtRest, FirstStands}
 use Rattle.cs_replica.specs.Stands.{StandsOn}
-use Rattle.cs_following.specs.Laws.{EqualWhereMet, FreshStands, StandsWider}
+use Rattle.cs_following.specs.Laws.{EqualWhereMet, FreshStands}
 use Rattle.cs_following.specs.Standing.{StandsIn}
 
 none_taken : (known : List LogEntry) → take 0 known ≡ []

@@ -1,6 +1,6 @@
 -- A pull of what is known has one result, and leaves one thing.
-use Rattle.std.proofs.Common.{◌≡◌, ◌≢◌, ◌+◌, ◌≤◌, ℕ, zero, suc, List, [], ◌∷◌, take, drop, length, Option, Some, None, Ok, Err, refl, sym, ap, subst, ◌∙◌, arith, inl, inr}
-use Rattle.std.specs.Prelude.{◌⊎◌, Result, slice_get}
+use Rattle.std.proofs.Common.{◌≡◌, ◌+◌, ℕ, zero, suc, List, [], ◌∷◌, take, drop, Some, Ok, Err, refl, sym, ap, subst, ◌∙◌, arith, inl, inr}
+use Rattle.std.specs.Prelude.{Result, slice_get}
 use Rattle.std.specs.FinMap.{len}
 use Rattle.std.proofs.lemmas.Option.{same_Some, slice_get_within}
 use Rattle.cs_value.specs.Catalog.{AreTables}
@@ -24,7 +24,7 @@ use Rattle.cs_pulling.specs.declared.fault.PullFault.TheVariants as pull
 use Rattle.cs_taking.specs.Laws.{OneContents, OneLogRows, PicksOnce}
 use Rattle.cs_taking.specs.Takes.{StopsAt, taken}
 use Rattle.cs_following.specs.Laws.{AreNormal, IsOfEntries, OneKnownPull}
-use Rattle.cs_following.specs.Pulls.{EndsPull, IsTakeFault, PullsAll, PullsEach}
+use Rattle.cs_following.specs.Pulls.{EndsPull, IsTakeFault, PullsEach}
 use Rattle.cs_following.specs.declared.fault.NodeFault.{NodeFault}
 use Rattle.cs_following.specs.declared.fault.NodeFault.TheVariants.{Memory, Device, BadEntry, Stopped, Full, Spent, TooLarge}
 

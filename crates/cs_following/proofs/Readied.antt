@@ -1,23 +1,20 @@
 -- A push that is made ready.
-use Rattle.std.proofs.Common.{◌≡◌, ◌+◌, ◌++◌, ◌∷◌, ℕ, Bool, true, false, List, Option, Some, None, option_map, Ok, Err, refl, sym, ap, subst, ◌∙◌, arith, inl, inr}
-use Rattle.std.specs.Prelude.{◌⊎◌, Result, IfOk, IfErr, IsSome, OnErr}
+use Rattle.std.proofs.Common.{◌≡◌, ◌+◌, ◌++◌, ◌∷◌, ℕ, true, List, Option, None, Ok, Err, refl, sym, ap, subst, ◌∙◌, inl, inr}
+use Rattle.std.specs.Prelude.{IfOk, IfErr, IsSome}
 use Rattle.std.proofs.lemmas.List.{append_cancel_left}
 use Rattle.std.proofs.lemmas.Option.{same_Some}
 use Rattle.cs_value.specs.Catalog.{AreTables}
 use Rattle.cs_value.specs.declared.catalog.TableDef.{TableDef}
-use Rattle.cs_normal.specs.Normal.{FitsCatalog, IsNormalChangeset, normal_spelling}
+use Rattle.cs_normal.specs.Normal.{normal_spelling}
 use Rattle.cs_normal.specs.State.{AreSame}
 use Rattle.cs_normal.specs.declared.normal.TableChanges.{TableChanges}
 use Rattle.cs_log.specs.Entry.{changes_of_body}
 use Rattle.cs_log.specs.Laws.{OneBody}
-use Rattle.cs_log.specs.declared.body.Body.{Body}
 use Rattle.cs_log.specs.declared.body.Body.TheVariants.{Changes}
-use Rattle.cs_log.specs.declared.entry.LogEntry.{LogEntry}
 use Rattle.cs_store.specs.Contents.{Contents}
 use Rattle.cs_store.specs.declared.names.MetaName.TheVariants.{Flight}
 use Rattle.cs_pending.specs.View.{View}
-use Rattle.cs_position.specs.Shows.{ShowsAt, base, flown}
-use Rattle.cs_position.specs.Values.{value_of}
+use Rattle.cs_position.specs.Shows.{ShowsAt, base}
 use Rattle.cs_position.specs.declared.position.Position.{Position}
 use Rattle.cs_pushing.specs.Pushes.{IsPushFault, IsPushMade, grounded, pushed}
 use Rattle.cs_pushing.specs.declared.fault.PushFault.{PushFault}
@@ -25,7 +22,6 @@ use Rattle.cs_pushing.specs.declared.fault.PushFault.TheVariants as push
 use Rattle.cs_wire.specs.Numbers.{eight_bytes}
 use Rattle.cs_following.specs.Faults.{told_of_push}
 use Rattle.cs_following.specs.Pushes.{IsReadied, IsReadyFault}
-use Rattle.cs_following.specs.declared.fault.NodeFault.{NodeFault}
 use Rattle.cs_following.specs.declared.fault.NodeFault.TheVariants.{Device, Full}
 
 behind_same : (front a b : List ℕ) → front ++ a ≡ front ++ b → a ≡ b

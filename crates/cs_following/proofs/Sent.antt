@@ -1,6 +1,6 @@
 -- A push that was offered, and what came of it.
-use Rattle.std.proofs.Common.{◌≡◌, ◌≢◌, ◌+◌, ◌≤◌, ◌<◌, ◌++◌, ◌∷◌, ℕ, zero, suc, Bool, true, false, List, [], length, Option, Some, None, option_map, Ok, Err, refl, sym, ap, subst, ◌∙◌, arith, inl, inr}
-use Rattle.std.specs.Prelude.{◌⊎◌, Result, pos, slice_get}
+use Rattle.std.proofs.Common.{◌≡◌, ◌++◌, ◌∷◌, ℕ, true, false, List, [], length, Option, Some, None, option_map, Ok, Err, refl, sym, ap, subst, ◌∙◌, inl, inr}
+use Rattle.std.specs.Prelude.{pos, slice_get}
 use Rattle.std.specs.FinMap.{empty_of_len, get, get-empty, len}
 use Rattle.std.proofs.lemmas.Option.{same_Some, slice_get-get_or}
 use Rattle.cs_value.specs.Catalog.{AreTables}
@@ -8,7 +8,6 @@ use Rattle.cs_value.specs.declared.catalog.TableDef.{TableDef}
 use Rattle.cs_change.specs.Spelling.{change_spelling}
 use Rattle.cs_change.specs.declared.change.Change.{Change}
 use Rattle.cs_normal.specs.State.{IsDefinedOn}
-use Rattle.cs_normal.specs.declared.normal.TableChanges.{TableChanges}
 use Rattle.cs_log.specs.Entry.{entry_changes}
 use Rattle.cs_log.specs.Log.{tables_at}
 use Rattle.cs_log.specs.declared.entry.LogEntry.{LogEntry}
@@ -16,13 +15,13 @@ use Rattle.cs_store.specs.Contents.{Bodies, Contents, place_cmp, stored_pending}
 use Rattle.cs_conflict.specs.declared.clash.Clash.{Clash}
 use Rattle.cs_conflict.specs.declared.wish.Wish.{Wish}
 use Rattle.cs_pending.specs.View.{View}
-use Rattle.cs_position.specs.Shows.{ShowsAt, ShowsSomeAt}
+use Rattle.cs_position.specs.Shows.{ShowsAt}
 use Rattle.cs_position.specs.declared.position.Position.{Position}
-use Rattle.cs_pulling.specs.Pulls.{IsPulledIn, PullsOne}
+use Rattle.cs_pulling.specs.Pulls.{IsPulledIn}
 use Rattle.cs_pushing.specs.Pushes.{HasNothing, IsPushMadeIn, grounded, pushed}
 use Rattle.cs_taking.specs.Takes.{taken}
 use Rattle.cs_following.specs.Pulls.{IsTakeFault}
-use Rattle.cs_following.specs.Pushes.{IsNotOffered, IsNotPushed, IsPushTold, IsReadied, IsReady, IsReadyFault, IsSent, IsSentAmong, PushesOn, flight_entry}
+use Rattle.cs_following.specs.Pushes.{IsNotOffered, IsReadied, IsReadyFault, IsSent, IsSentAmong, PushesOn, flight_entry}
 use Rattle.cs_following.specs.Standing.{Begins}
 use Rattle.cs_following.specs.declared.fault.NodeFault.{NodeFault}
 use Rattle.cs_following.specs.declared.fault.NodeFault.TheVariants.{Memory, Device, BadEntry, Stopped, Full, Spent, TooLarge}

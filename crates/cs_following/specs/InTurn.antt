@@ -1,6 +1,6 @@
 -- Calls of a store one after another, each of which writes once and whole: what they leave together. Lemmas; they needn't be read.
-use Rattle.std.proofs.Common.{◌≡◌, ◌≤◌, ℕ, Ok, Err, refl, sym, ap, subst, ◌∙◌, arith, inl, inr}
-use Rattle.std.specs.Prelude.{◌⊎◌, Result}
+use Rattle.std.proofs.Common.{◌≡◌, ℕ, Ok, Err, refl, sym, ap, subst, ◌∙◌, arith, inl, inr}
+use Rattle.std.specs.Prelude.{◌⊎◌}
 use Rattle.cs_pending.specs.Calls.{WritesStore}
 use Rattle.cs_pulling.specs.Calls.{WritesInTurn}
 use Rattle.cs_store.specs.Calls.{MoreFailures}

@@ -14,8 +14,8 @@ use Rattle.cs_conflict.specs.declared.wish.Wish.{Wish}
 use Rattle.cs_pending.specs.View.{View}
 use Rattle.cs_position.specs.Shows.{ShowsAt}
 use Rattle.cs_position.specs.declared.position.Position.{Position}
-use Rattle.cs_pulling.specs.Pulls.{PullsOne, IsPulledIn}
-use Rattle.cs_pushing.specs.Pushes.{HasNothing, IsPushFault, IsPushMade, IsPushMadeIn, grounded, pushed}
+use Rattle.cs_pulling.specs.Pulls.{PullsOne}
+use Rattle.cs_pushing.specs.Pushes.{HasNothing, IsPushFault, IsPushMade, grounded, pushed}
 use Rattle.cs_pushing.specs.declared.fault.PushFault.TheVariants as push
 use Rattle.cs_taking.specs.Takes.{taken}
 use Rattle.cs_following.specs.Pulls.{IsTakeFault}

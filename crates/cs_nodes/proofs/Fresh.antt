@@ -1,6 +1,5 @@
 -- A node over a store that held nothing.
-use Rattle.std.proofs.Common.{◌≡◌, ◌++◌, ◌∷◌, ℕ, List, Option, Some, None, refl, sym, ap, subst, ◌∙◌, inl, inr}
-use Rattle.std.specs.Prelude.{◌⊎◌}
+use Rattle.std.proofs.Common.{◌≡◌, ℕ, List, Option, Some, None, sym, ap, subst, ◌∙◌, inl, inr}
 use Rattle.std.specs.FinMap.{get-empty}
 use Rattle.cs_order.specs.Order.{by_bytes}
 use Rattle.cs_value.specs.Catalog.{AreTables}

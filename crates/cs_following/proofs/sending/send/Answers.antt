@@ -1,4 +1,4 @@
-use Rattle.std.proofs.Common.{◌≡◌, ◌<◌, ◌^◌, ◌∷◌, ◌++◌, [], arith, Bool, List, Option, Some, Err, Ok, true, length, slice_get, ap, subst, sym, ◌∙◌}
+use Rattle.std.proofs.Common.{◌≡◌, ◌<◌, ◌^◌, ◌∷◌, [], arith, Bool, List, Option, Some, Err, Ok, length, slice_get, ap, subst, sym, ◌∙◌}
 use Rattle.std.specs.Prelude.{IfSome}
 use Rattle.cs_value.specs.declared.catalog.TableDef.{TableDef}
 use Rattle.cs_normal.specs.State.{IsDefinedOn}
@@ -13,9 +13,9 @@ use Rattle.cs_spine.specs.declared.fault.OfferFault.{OfferFault}
 use Rattle.cs_spine.specs.declared.spine.Offered.TheVariants.{Mine, Other}
 use Rattle.cs_following.specs.InTurn.{one_failed, one_more, turned_early, turned_on, all_well}
 use Rattle.cs_following.specs.Pulls.{IsTakeFault}
-use Rattle.cs_following.specs.Pushes.{IsReadied, PushesOn, flight_entry}
+use Rattle.cs_following.specs.Pushes.{IsReadied, flight_entry}
 use Rattle.cs_following.specs.declared.fault.NodeFault.{NodeFault}
-use Rattle.cs_following.specs.declared.fault.NodeFault.TheVariants.{Memory, Device, BadEntry}
+use Rattle.cs_following.specs.declared.fault.NodeFault.TheVariants.{Device, BadEntry}
 use Rattle.cs_following.proofs.Sent.{full_sent, made_leaves, memory_sent, mine_sent, other_sent, stopped_sent, taken_leaves}
 use Rattle.cs_following.proofs.Stood.{stands_longer}
 use Rattle.cs_following.proofs.sending.send.Goals as goal
