@@ -97,13 +97,6 @@ module _ {P S : Type 0} (picks : P → Clash → Wish → P → Type 0) (honest 
     stands = λ s. s;
   }
 
-  -- at the end
-  pub along_end : (at count : ℕ) (now : Holding S) (q : P) → IsAlong at now q → at ≡ length known → at ≡ begun.position.version + count → honest now.store → (before : View) → Shows contents begun before
-      → PullsAll picks begun.catalog known (Ok count) begun.position before p now.position (contents now.store) q
-  along_end at count now q a end counted h before shows =
-      let s = a.seen h before shows in
-      (s.0, q, s.1, s.2, (a.at_is ∙ end, a.at_is ∙ counted, refl))
-
   module _ (at : ℕ) (mid new : Holding S) (q r : P) (a : IsAlong at mid q) (entry : LogEntry) (here : slice_get known at ≡ Some entry) where
     there : slice_get known mid.position.version ≡ Some entry
     there = ap (λ (n : ℕ). slice_get known n) a.at_is ∙ here

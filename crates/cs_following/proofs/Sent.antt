@@ -27,13 +27,6 @@ use Rattle.cs_following.specs.declared.fault.NodeFault.{NodeFault}
 use Rattle.cs_following.specs.declared.fault.NodeFault.TheVariants.{Memory, Device, BadEntry, Stopped, Full, Spent, TooLarge}
 use Rattle.cs_following.specs.declared.pushed.NodePush.TheVariants.{Nothing, Accepted, Other}
 
-pub begins_same : (known : List LogEntry) → Begins known known
-begins_same [] = ([], refl)
-begins_same (x ∷ known) = let more = begins_same known in (more.0, ap (λ (l : List LogEntry). x ∷ l) more.1)
-
-pub begins_one : (known all : List LogEntry) (held : LogEntry) → all ≡ known ++ held ∷ [] → Begins known all
-begins_one known all held is = (held ∷ [], is)
-
 -- the entry behind a list
 pub behind : (known : List LogEntry) (held : LogEntry) → slice_get (known ++ held ∷ []) (length known) ≡ Some held
 behind [] held = refl
@@ -44,7 +37,6 @@ held_is known all held entry is at =
     sym (same_Some held entry (sym (behind known held) ∙ ap (λ (l : List LogEntry). slice_get l (length known)) (sym is) ∙ at))
 
 module _ {P : Type 0} (picks : P → Clash → Wish → P → Type 0) (tables : List TableDef) (known : List LogEntry) (position : Position) (before : View) (p : P) where
-  -- no push was made
   early : (cells : ℕ) (fault : NodeFault) → IsReadyFault fault tables position before → IsNotOffered picks tables known position before p cells fault known p
   early cells Memory is = (refl, refl)
   early cells Device is = (refl, refl)
@@ -53,18 +45,6 @@ module _ {P : Type 0} (picks : P → Clash → Wish → P → Type 0) (tables : 
   early cells Full is = absurd is
   early cells Spent is = (is, refl, refl)
   early cells TooLarge is = (is, refl, refl)
-
-  pub none_sent : (cells : ℕ) (fault : NodeFault) (other : Position) (new : Contents) → IsReadyFault fault tables position before → ShowsAt tables new other before → other ≡ position
-      → PushesOn picks tables known position before p cells (Err fault) known other new p
-  none_sent cells fault other new is shows kept = record {
-    view = before;
-    held = inl (kept, refl);
-    shows = shows;
-    told = inl (early cells fault is);
-  }
-
-  pub nothing_sent : (cells : ℕ) (other : Position) (new : Contents) → IsReadied tables position before false other new → PushesOn picks tables known position before p cells (Ok Nothing) known other new p
-  nothing_sent cells other new (kept, shows, none, nothing) = (none, nothing, refl, kept, shows, refl)
 
   -- a push was made, and not offered
   pub memory_sent : (cells : ℕ) (other : Position) (new : Contents) (learned : List LogEntry) → IsReadied tables position before true other new → learned ≡ known

@@ -103,12 +103,6 @@ module _ {S : Type 0} (honest : S → Type 0) (contents : S → Contents) where
       subst (λ (x : Position). StandsIn new.catalog known x view) (sym is) (subst (λ (t : List TableDef). StandsIn t known position view) (sym catalog) stands),
     )
 
-    -- nothing has changed
-    pub kept_stands : (honest new.store → contents new.store ≡ contents old.store) → new.position ≡ old.position → StandsWhereHonest honest contents known old → StandsWhereHonest honest contents known new
-    kept_stands same position stands h =
-        let s = stands (was_honest h) in
-        same_stands old.position s.0 h position (subst (λ (c : Contents). ShowsAt old.catalog c old.position s.0) (sym (same h)) s.1) s.2
-
     -- an edit
     pub edited_stands : EditStands → (name : List ℕ) (asked : Asked)
         → (honest new.store → IsEditedIn old.catalog old.position name asked (contents old.store) (contents new.store))
