@@ -1,0 +1,7 @@
+pub mod Stood
+pub mod Along
+pub mod Readied
+pub mod Sent
+pub mod Meeting
+pub mod OneKnown
+pub mod KnownSome

@@ -1,0 +1,52 @@
+-- A push that is made ready.
+use Rattle.std.proofs.Common.{◌≡◌, ◌+◌, ◌++◌, ◌∷◌, ℕ, true, List, Option, None, Ok, Err, refl, sym, ap, subst, ◌∙◌, inl, inr}
+use Rattle.std.specs.Prelude.{IfOk, IfErr, IsSome}
+use Rattle.std.proofs.lemmas.List.{append_cancel_left}
+use Rattle.std.proofs.lemmas.Option.{same_Some}
+use Rattle.cs_value.specs.Catalog.{AreTables}
+use Rattle.cs_value.specs.declared.catalog.TableDef.{TableDef}
+use Rattle.cs_normal.specs.Normal.{normal_spelling}
+use Rattle.cs_normal.specs.State.{AreSame}
+use Rattle.cs_normal.specs.declared.normal.TableChanges.{TableChanges}
+use Rattle.cs_log.specs.Entry.{changes_of_body}
+use Rattle.cs_log.specs.Laws.{OneBody}
+use Rattle.cs_log.specs.declared.body.Body.TheVariants.{Changes}
+use Rattle.cs_store.specs.Contents.{Contents}
+use Rattle.cs_store.specs.declared.names.MetaName.TheVariants.{Flight}
+use Rattle.cs_pending.specs.View.{View}
+use Rattle.cs_position.specs.Shows.{ShowsAt, base}
+use Rattle.cs_position.specs.declared.position.Position.{Position}
+use Rattle.cs_pushing.specs.Pushes.{IsPushFault, IsPushMade, grounded, pushed}
+use Rattle.cs_pushing.specs.declared.fault.PushFault.{PushFault}
+use Rattle.cs_pushing.specs.declared.fault.PushFault.TheVariants as push
+use Rattle.cs_wire.specs.Numbers.{eight_bytes}
+use Rattle.cs_following.specs.Faults.{told_of_push}
+use Rattle.cs_following.specs.Pushes.{IsReadied, IsReadyFault}
+use Rattle.cs_following.specs.declared.fault.NodeFault.TheVariants.{Device, Full}
+
+behind_same : (front a b : List ℕ) → front ++ a ≡ front ++ b → a ≡ b
+behind_same front a b is = append_cancel_left front a b is
+
+-- what is written as under way, and what is held, are one changeset
+same_changes : OneBody → (tables : List TableDef) → AreTables tables → (contents : Contents) (position now : Position) (changes others : List TableChanges) (view seen : View)
+    → ShowsAt tables contents (pushed position changes) view → now ≡ pushed position others → ShowsAt tables contents now seen → others ≡ changes
+same_changes one tables are contents position now changes others view seen made is shown =
+    let held = subst (λ (x : Position). ShowsAt tables contents x seen) is shown in
+    let front = eight_bytes (position.number + 1) in
+    let bytes : front ++ normal_spelling others ≡ front ++ normal_spelling changes = same_Some _ _ (sym (held.values Flight) ∙ made.values Flight) in
+    let spelled : normal_spelling others ≡ normal_spelling changes = behind_same front (normal_spelling others) (normal_spelling changes) bytes in
+    ap changes_of_body (one tables (Changes others) (Changes changes) are (held.under_way.normal, held.under_way.fits) (made.under_way.normal, made.under_way.fits) (ap (λ (b : List ℕ). 0 ∷ b) spelled))
+
+module _ (one : OneBody) (tables : List TableDef) (are : AreTables tables) (position now : Position) (old new : Contents) (before : View) (changes others : List TableChanges)
+    (made : IsPushMade tables position before new changes) (is : now ≡ pushed position others) (seen : View) (shown : ShowsAt tables new now seen) where
+  now_is : now ≡ pushed position changes
+  now_is = is ∙ ap (pushed position) (same_changes one tables are new position now changes others (grounded before) seen made.shows is shown)
+
+  pub made_shows : ShowsAt tables new now (grounded before)
+  made_shows = subst (λ (x : Position). ShowsAt tables new x (grounded before)) (sym now_is) made.shows
+
+  pub made_ready : IsReadied tables position before true now new
+  made_ready = (grounded before, made_shows, inr (new, changes, made, now_is, refl))
+
+  pub made_rows : AreSame (base position.flight before) (base now.flight (grounded before))
+  made_rows = subst (λ (f : Option (List TableChanges)). AreSame (base position.flight before) (base f (grounded before))) (sym (ap (λ (x : Position). x.flight) now_is)) made.log_rows

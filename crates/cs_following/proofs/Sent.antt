@@ -1,0 +1,145 @@
+-- A push that was offered, and what came of it.
+use Rattle.std.proofs.Common.{◌≡◌, ◌++◌, ◌∷◌, ℕ, true, false, List, [], length, Option, Some, None, option_map, Ok, Err, refl, sym, ap, subst, ◌∙◌, inl, inr}
+use Rattle.std.specs.Prelude.{pos, slice_get}
+use Rattle.std.specs.FinMap.{empty_of_len, get, get-empty, len}
+use Rattle.std.proofs.lemmas.Option.{same_Some, slice_get-get_or}
+use Rattle.cs_value.specs.Catalog.{AreTables}
+use Rattle.cs_value.specs.declared.catalog.TableDef.{TableDef}
+use Rattle.cs_change.specs.Spelling.{change_spelling}
+use Rattle.cs_change.specs.declared.change.Change.{Change}
+use Rattle.cs_normal.specs.State.{IsDefinedOn}
+use Rattle.cs_log.specs.Entry.{entry_changes}
+use Rattle.cs_log.specs.Log.{tables_at}
+use Rattle.cs_log.specs.declared.entry.LogEntry.{LogEntry}
+use Rattle.cs_store.specs.Contents.{Bodies, Contents, place_cmp, stored_pending}
+use Rattle.cs_conflict.specs.declared.clash.Clash.{Clash}
+use Rattle.cs_conflict.specs.declared.wish.Wish.{Wish}
+use Rattle.cs_pending.specs.View.{View}
+use Rattle.cs_position.specs.Shows.{ShowsAt}
+use Rattle.cs_position.specs.declared.position.Position.{Position}
+use Rattle.cs_pulling.specs.Pulls.{IsPulledIn}
+use Rattle.cs_pushing.specs.Pushes.{HasNothing, IsPushMadeIn, grounded, pushed}
+use Rattle.cs_taking.specs.Takes.{taken}
+use Rattle.cs_following.specs.Pulls.{IsTakeFault}
+use Rattle.cs_following.specs.Pushes.{IsNotOffered, IsReadied, IsReadyFault, IsSent, IsSentAmong, PushesOn, flight_entry}
+use Rattle.cs_following.specs.Standing.{Begins}
+use Rattle.cs_following.specs.declared.fault.NodeFault.{NodeFault}
+use Rattle.cs_following.specs.declared.fault.NodeFault.TheVariants.{Memory, Device, BadEntry, Stopped, Full, Spent, TooLarge}
+use Rattle.cs_following.specs.declared.pushed.NodePush.TheVariants.{Nothing, Accepted, Other}
+
+-- the entry behind a list
+pub behind : (known : List LogEntry) (held : LogEntry) → slice_get (known ++ held ∷ []) (length known) ≡ Some held
+behind [] held = refl
+behind (x ∷ known) held = behind known held
+
+pub held_is : (known all : List LogEntry) (held entry : LogEntry) → all ≡ known ++ held ∷ [] → slice_get all (length known) ≡ Some entry → entry ≡ held
+held_is known all held entry is at =
+    sym (same_Some held entry (sym (behind known held) ∙ ap (λ (l : List LogEntry). slice_get l (length known)) (sym is) ∙ at))
+
+module _ {P : Type 0} (picks : P → Clash → Wish → P → Type 0) (tables : List TableDef) (known : List LogEntry) (position : Position) (before : View) (p : P) where
+  early : (cells : ℕ) (fault : NodeFault) → IsReadyFault fault tables position before → IsNotOffered picks tables known position before p cells fault known p
+  early cells Memory is = (refl, refl)
+  early cells Device is = (refl, refl)
+  early cells BadEntry is = is
+  early cells (Stopped conflict) is = is
+  early cells Full is = absurd is
+  early cells Spent is = (is, refl, refl)
+  early cells TooLarge is = (is, refl, refl)
+
+  -- a push was made, and not offered
+  pub memory_sent : (cells : ℕ) (other : Position) (new : Contents) (learned : List LogEntry) → IsReadied tables position before true other new → learned ≡ known
+      → PushesOn picks tables known position before p cells (Err Memory) learned other new p
+  memory_sent cells other new learned (view, shows, ready) same = record {
+    view = view;
+    held = inr ready;
+    shows = shows;
+    told = inl (same, refl);
+  }
+
+  pub full_sent : (cells : ℕ) (other : Position) (new : Contents) (learned : List LogEntry) → IsReadied tables position before true other new → length known ≡ cells → learned ≡ known
+      → PushesOn picks tables known position before p cells (Err Full) learned other new p
+  full_sent cells other new learned (view, shows, ready) full same = record {
+    view = view;
+    held = inr ready;
+    shows = shows;
+    told = inl (full, same, refl);
+  }
+
+  module _ (cells : ℕ) (ready : Position) (mid : Contents) (readied : IsReadied tables position before true ready mid) (learned : List LogEntry) (held : LogEntry) (holds : learned ≡ known ++ held ∷ [])
+      (entry : LogEntry) (at : slice_get learned (length known) ≡ Some entry) (q : P) where
+    it_holds : learned ≡ known ++ entry ∷ []
+    it_holds = holds ∙ ap (λ (e : LogEntry). known ++ e ∷ []) (sym (held_is known learned held entry holds at))
+
+    -- what the cell holds was not taken
+    pub stopped_sent : (fault : NodeFault) (other : Position) (new : Contents) → new ≡ mid → other ≡ ready
+        → ((view : View) → ShowsAt tables mid ready view → IsTakeFault picks tables fault ready entry view p q)
+        → PushesOn picks tables known position before p cells (Err fault) learned other new q
+    stopped_sent fault other new same kept told =
+        subst (λ (x : Position). PushesOn picks tables known position before p cells (Err fault) learned x new q) (sym kept) (record {
+          view = readied.0;
+          held = inr readied.2;
+          shows = subst (λ (c : Contents). ShowsAt tables c ready readied.0) (sym same) readied.1;
+          told = inr (record { entry = entry; holds = it_holds; told = told readied.0 readied.1 });
+        })
+
+    -- it was
+    module _ (other : Position) (new : Contents) (mine : LogEntry) (flight : flight_entry ready ≡ Some mine) (at_end : position.version ≡ length known)
+        (defined : IsDefinedOn tables (entry_changes mine) (tables_at known position.version))
+        (pulled : IsPulledIn picks tables ready entry p q mid new) (moved : other ≡ taken ready other.pending) (counted : other.pending ≡ len new.pending) where
+      is_sent : IsSent picks tables known position before p entry mine learned other new q
+      is_sent =
+          let after = pulled readied.0 readied.1 in
+          record {
+            at_end = at_end;
+            ready = ready;
+            view = readied.0;
+            readied = readied.2;
+            flight = flight;
+            defined = defined;
+            holds = it_holds;
+            after = after.0;
+            pulls = after.2;
+            version = moved;
+            shows = subst (λ (x : Position). ShowsAt tables new x after.0) (sym (moved ∙ ap (taken ready) counted)) after.1;
+          }
+
+      pub mine_sent : held ≡ mine → PushesOn picks tables known position before p cells (Ok (Accepted other.version)) learned other new q
+      mine_sent is =
+          let one : mine ≡ entry = sym is ∙ sym (held_is known learned held entry holds at) in
+          (refl, (entry, subst (λ (e : LogEntry). IsSent picks tables known position before p entry e learned other new q) one is_sent))
+
+      pub other_sent : (held ≡ mine → ⊥) → PushesOn picks tables known position before p cells (Ok (Other other.version)) learned other new q
+      other_sent not =
+          (refl, (entry, mine, (λ same. not (sym (held_is known learned held entry holds at) ∙ sym same)), is_sent))
+
+-- ---- contents on the way
+
+pub made_leaves : {P : Type 0} (picks : P → Clash → Wish → P → Type 0) (tables : List TableDef) (position : Position) (old : Contents) (p : P) → (left : Contents) → IsPushMadeIn tables position old left → IsSentAmong picks tables position old p left
+made_leaves picks tables position old p left is are before shows =
+    let made = is before shows in
+    (pushed position made.0, grounded before, inr (left, made.0, made.1, refl, refl), inl made.1.shows)
+
+-- what a stop may leave behind the entry of the cell
+pub taken_leaves : {P : Type 0} (picks : P → Clash → Wish → P → Type 0) (tables : List TableDef) (position ready : Position) (old mid : Contents) (p q : P) (entry : LogEntry)
+    → (AreTables tables → (before : View) → ShowsAt tables old position before → IsReadied tables position before true ready mid)
+    → (left : Contents) → IsPulledIn picks tables ready entry p q mid left → IsSentAmong picks tables position old p left
+taken_leaves picks tables position ready old mid p q entry readied left pulled are before shows =
+    let r = readied are before shows in
+    let after = pulled r.0 r.1 in
+    (ready, r.0, r.2, inr (entry, after.0, q, len left.pending, after.2, after.1))
+
+-- ---- nothing is pending
+
+no_change : (o : Option Change) → option_map change_spelling o ≡ None → o ≡ None
+no_change None e = refl
+no_change (Some change) e = absurd (let no = e in cc)
+
+pub nothing_there : (tables : List TableDef) (contents : Contents) (position : Position) (view : View) → ShowsAt tables contents position view → position.pending ≡ 0 → HasNothing tables view
+nothing_there tables contents position view shows none = record {
+  fits = tt;
+  normal = tt;
+  changes_are = λ table key inside.
+      let at : slice_get tables inside.0 ≡ Some table = slice_get-get_or tables inside.0 table inside.1 ∙ ap (λ (t : TableDef). Some t) inside.2 in
+      let gone : stored_pending contents inside.0 key ≡ None = ap (λ (m : Bodies). get m (pos inside.0, key)) (empty_of_len contents.pending (sym shows.counted ∙ none)) ∙ get-empty place_cmp (pos inside.0, key) in
+      sym (no_change (view.pending table.name key) (sym (shows.rows.pends.stored inside.0 table key at) ∙ gone));
+}

@@ -1,0 +1,102 @@
+-- The laws of replicas that stand on what is known.
+use Rattle.std.specs.Prelude.{◌≡◌, ◌≤◌, ◌<◌, ◌^◌, ℕ, List, None, Some, Result, Ok, Err, Contains, length, slice_get, take}
+use Rattle.cs_value.specs.Catalog.{AreTables}
+use Rattle.cs_value.specs.declared.catalog.TableDef.{TableDef}
+use Rattle.cs_normal.specs.Normal.{IsNormalChangeset}
+use Rattle.cs_log.specs.Entry.{entry_changes}
+use Rattle.cs_log.specs.declared.entry.LogEntry.{LogEntry}
+use Rattle.cs_store.specs.Contents.{Contents}
+use Rattle.cs_conflict.specs.declared.clash.Clash.{Clash}
+use Rattle.cs_conflict.specs.declared.wish.Wish.{Wish}
+use Rattle.cs_pending.specs.Laws.{empty_view}
+use Rattle.cs_pending.specs.View.{View}
+use Rattle.cs_position.specs.Shows.{ShowsAt}
+use Rattle.cs_position.specs.declared.position.Position.{Position}
+use Rattle.cs_replica.specs.Holding.{Holding}
+use Rattle.cs_taking.specs.Laws.{AnswersLawfully, PicksOnce}
+use Rattle.cs_following.specs.Pulls.{PullsAll}
+use Rattle.cs_following.specs.Pushes.{IsAtRest}
+use Rattle.cs_following.specs.Standing.{Begins, StandsIn, StandsWhereHonest}
+use Rattle.cs_following.specs.declared.fault.NodeFault.{NodeFault}
+use Rattle.cs_following.specs.declared.fault.NodeFault.TheVariants.{Memory, Device, BadEntry, Stopped, Full, Spent, TooLarge}
+
+-- a replica at version 0 with no row and nothing pending or under way stands on whatever is known
+abbrev pub FreshStands : Type 0
+FreshStands =
+    (tables : List TableDef) (known : List LogEntry) (position : Position)
+    → AreTables tables
+    → position.version ≡ 0
+    → position.flight ≡ None
+    → StandsIn tables known position empty_view
+
+-- one that stands on what is known stands there as more gets known
+abbrev pub StandsWider : {S : Type 0} → (S → Type 0) → (S → Contents) → Type 0
+StandsWider {S} honest contents =
+    (known all : List LogEntry) (held : Holding S)
+    → Begins known all
+    → StandsWhereHonest honest contents known held
+    → StandsWhereHonest honest contents all held
+
+-- two replicas at one version with nothing pending or under way, which stand on lists that are the same up to there, have the same rows
+abbrev pub EqualWhereMet : Type 0
+EqualWhereMet =
+    (tables : List TableDef) (known others : List LogEntry) (both : ℕ) (contents more : Contents) (position other : Position) (view seen : View)
+    → take both known ≡ take both others
+    → position.version ≤ both
+    → position.version ≡ other.version
+    → IsAtRest position
+    → IsAtRest other
+    → ShowsAt tables contents position view
+    → ShowsAt tables more other seen
+    → StandsIn tables known position view
+    → StandsIn tables others other seen
+    → (table : TableDef) (key : List ℕ) → Contains tables table → view.tables table.name key ≡ seen.tables table.name key
+
+-- ---- pulls
+
+-- the entries have normal changesets, as all of the type have
+abbrev pub AreNormal : List LogEntry → Type 0
+AreNormal known = (at : ℕ) (entry : LogEntry) → slice_get known at ≡ Some entry → IsNormalChangeset (entry_changes entry)
+
+-- a result that says something of the entries
+abbrev pub IsOfEntries : Result ℕ NodeFault → Type 0
+IsOfEntries (Ok count) = Unit {0}
+IsOfEntries (Err Memory) = ⊥
+IsOfEntries (Err Device) = ⊥
+IsOfEntries (Err BadEntry) = Unit {0}
+IsOfEntries (Err (Stopped conflict)) = Unit {0}
+IsOfEntries (Err Full) = Unit {0}
+IsOfEntries (Err Spent) = Unit {0}
+IsOfEntries (Err TooLarge) = Unit {0}
+
+module _ {P : Type 0} (picks : P → Clash → Wish → P → Type 0) where
+  -- by a picker that answers each clash once, a pull of what is known has one result, and leaves one position, one thing in the store, and
+  -- one state of the picker
+  abbrev pub OneKnownPull : Type 0
+  OneKnownPull =
+      (tables : List TableDef) (known : List LogEntry) (old new last : Contents) (position here there : Position) (before : View)
+      (some other : Result ℕ NodeFault) (p q r : P)
+      → AreTables tables
+      → AreNormal known
+      → PicksOnce picks
+      → ShowsAt tables old position before
+      → IsOfEntries some
+      → IsOfEntries other
+      → PullsAll picks tables known some position before p here new q
+      → PullsAll picks tables known other position before p there last r
+      → (some ≡ other) × (here ≡ there) × (new ≡ last) × (q ≡ r)
+
+  -- and there is one: a replica that is not ahead of what is known comes to the last of it or to an entry that isn't pulled, and there is a
+  -- store that holds what is left
+  abbrev pub KnownPullHasResult : (P → Type 0) → Type 0
+  KnownPullHasResult is_ready =
+      (tables : List TableDef) (known : List LogEntry) (old : Contents) (position : Position) (before : View) (p : P)
+      → AreTables tables
+      → AreNormal known
+      → length known < 2 ^ 64
+      → position.version ≤ length known
+      → ShowsAt tables old position before
+      → AnswersLawfully picks is_ready
+      → is_ready p
+      → (result : Result ℕ NodeFault) × (other : Position) × (new : Contents) × (q : P) × IsOfEntries result
+      × PullsAll picks tables known result position before p other new q

@@ -1,0 +1,131 @@
+//! A push that is ready to be offered.
+
+ghost use Rattle.std.specs.Prelude.{◌≡◌, ◌≢◌, ◌↔◌, true, List, None, Ok, Err, IfErr, IfOk, IfSome, IsTrue, OnErr};
+ghost use Rattle.cs_log.specs.Entry.{entry_changes};
+ghost use Rattle.cs_log.specs.Log.{tables_at};
+ghost use Rattle.cs_log.specs.declared.entry.LogEntry.{LogEntry as Entry};
+ghost use Rattle.cs_normal.specs.State.{IsDefinedOn};
+ghost use Rattle.cs_pending.specs.View.{View};
+ghost use Rattle.cs_position.specs.Shows.{ShowsSomeAt};
+ghost use Rattle.cs_pulling.specs.Calls.{WritesInTurn};
+ghost use Rattle.cs_pushing.specs.Pushes.{IsPushMadeIn};
+ghost use Rattle.cs_replica.specs.Holding.{Shows};
+ghost use Rattle.cs_following.specs.Faults.{told_of_push};
+ghost use Rattle.cs_following.specs.Pushes.{IsAtRest, IsReadied, IsReadyFault, flight_entry as entry_of};
+ghost use Rattle.cs_following.specs.Standing.{StandsWhereHonest};
+ghost use Rattle.cs_value.specs.Catalog.{AreTables};
+ghost use Rattle.cs_following.specs.declared.fault.NodeFault.TheVariants.{Memory, BadEntry, Device, Full};
+
+use crate::fault::{NodeFault, push_fault};
+use cs_log::{Body, LogEntry};
+use cs_pushing::PushFault;
+use cs_replica::Replica;
+use cs_store::RowStore;
+use cs_wire::RequestBuf;
+use std::alloc::Global;
+
+/// Whether nothing is pending and no push is under way. It takes no memory. (Profile of this project.)
+pub fn is_at_rest<S: RowStore>(replica: &Replica<S>) -> bool
+    ensures { IsTrue result ↔ IsAtRest replica.now.position }
+{
+    replica.in_flight().is_none() && replica.pending_len() == 0
+}
+
+/// The push that is under way, as the entry that it would be; `None` where none is. (Profile of this project.)
+///
+/// # Errors
+///
+/// `Memory`; `TooLarge` where it has more bytes than a push may have, which no push of an honest store has.
+pub fn flight_entry<S: RowStore>(
+    alloc: Global,
+    replica: &Replica<S>,
+) -> Result<Option<LogEntry>, NodeFault>
+    ensures entry { IfOk result (λ entry. entry ≡ entry_of replica.now.position) }
+
+    // It is defined on the tables at the version of what the replica stands on.
+    ensures defined { (known : List Entry) → StandsWhereHonest S.honest S.contents known replica.now → S.honest replica.now.store
+        → IfOk result (λ found. IfSome found (λ entry. IsDefinedOn replica.now.catalog (entry_changes entry) (tables_at known replica.now.position.version))) }
+    ensures refused { S.honest replica.now.store → IfErr result (λ fault. fault ≡ Memory) }
+    ensures device { (result ≢ Err Device) × (result ≢ Err Full) × (result ≢ Err BadEntry) }
+{
+    cs_replica::laws::flight_fits();
+    cs_normal::laws::defined_is_applied();
+    replica.shown();
+    let Some(changes) = replica.in_flight() else {
+        return Ok(None);
+    };
+    let request = match replica.resend(alloc) {
+        Ok(request) => request,
+        Err(fault) => return Err(push_fault(fault)),
+    };
+    let RequestBuf::Push { head, .. } = request else {
+        return Ok(None);
+    };
+    let changes = changes.copy(alloc)?;
+    Ok(Some(LogEntry {
+        origin: head.origin,
+        number: head.number,
+        body: Body::Changes(changes),
+    }))
+}
+
+/// What is told where no push was made: that there is nothing to push, or the fault.
+fn not_made(fault: PushFault) -> Result<bool, NodeFault>
+    ensures { result ≡ told_of_push fault }
+{
+    match fault {
+        PushFault::Nothing | PushFault::InFlight => Ok(false),
+        fault => Err(push_fault(fault)),
+    }
+}
+
+/// Makes what is pending the push that is under way, and says whether there was something.
+fn make_one<S: RowStore>(alloc: Global, replica: &mut Replica<S>) -> Result<bool, NodeFault>
+    requires { replica.old.position.flight ≡ None }
+    ensures writes { WritesInTurn S.honest S.contents S.failed S.may_leave S.misreads (result ≡ Ok true) (result ≡ Err Device)
+        (ShowsSomeAt replica.old.catalog replica.old.position (S.contents replica.old.store))
+        (IsPushMadeIn replica.old.catalog replica.old.position (S.contents replica.old.store)) replica.old.store replica.new.store }
+    ensures readied { S.honest replica.new.store → AreTables replica.old.catalog → (before : View) → Shows S.contents replica.old before
+        → IfOk result (λ some. IsReadied replica.old.catalog replica.old.position before some replica.new.position (S.contents replica.new.store)) }
+    ensures refused { S.honest replica.new.store → (before : View) → Shows S.contents replica.old before
+        → IfErr result (λ fault. IsReadyFault fault replica.old.catalog replica.old.position before × Shows S.contents replica.new before) }
+    ensures version { replica.new.position.version ≡ replica.old.position.version }
+    ensures catalog { replica.new.catalog ≡ replica.old.catalog }
+    ensures kept { OnErr result (replica.new.position ≡ replica.old.position) }
+    ensures stands { (known : List Entry) → StandsWhereHonest S.honest S.contents known replica.old → StandsWhereHonest S.honest S.contents known replica.new }
+    ensures full { result ≢ Err Full }
+{
+    cs_log::laws::one_body();
+    cs_replica::laws::steps_stand();
+    match replica.make_push(alloc) {
+        Ok(_request) => {
+            replica.shown();
+            return Ok(true);
+        }
+        Err(fault) => return not_made(fault),
+    }
+}
+
+/// Makes what is pending the push that is under way, where none is, and says whether one is then.
+pub(crate) fn make_ready<S: RowStore>(
+    alloc: Global,
+    replica: &mut Replica<S>,
+) -> Result<bool, NodeFault>
+    ensures writes { WritesInTurn S.honest S.contents S.failed S.may_leave S.misreads (result ≡ Ok true) (result ≡ Err Device)
+        (ShowsSomeAt replica.old.catalog replica.old.position (S.contents replica.old.store))
+        (IsPushMadeIn replica.old.catalog replica.old.position (S.contents replica.old.store)) replica.old.store replica.new.store }
+    ensures readied { S.honest replica.new.store → AreTables replica.old.catalog → (before : View) → Shows S.contents replica.old before
+        → IfOk result (λ some. IsReadied replica.old.catalog replica.old.position before some replica.new.position (S.contents replica.new.store)) }
+    ensures refused { S.honest replica.new.store → (before : View) → Shows S.contents replica.old before
+        → IfErr result (λ fault. IsReadyFault fault replica.old.catalog replica.old.position before × Shows S.contents replica.new before) }
+    ensures version { replica.new.position.version ≡ replica.old.position.version }
+    ensures catalog { replica.new.catalog ≡ replica.old.catalog }
+    ensures kept { OnErr result (replica.new.position ≡ replica.old.position) }
+    ensures stands { (known : List Entry) → StandsWhereHonest S.honest S.contents known replica.old → StandsWhereHonest S.honest S.contents known replica.new }
+    ensures full { result ≢ Err Full }
+{
+    if replica.in_flight().is_some() {
+        return Ok(true);
+    }
+    make_one(alloc, replica)
+}

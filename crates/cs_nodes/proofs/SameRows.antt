@@ -1,0 +1,29 @@
+-- Nodes that meet show the same rows.
+use Rattle.std.proofs.Common.{◌≡◌, ◌≤◌, ℕ, List, length, min, take, sym, subst, ◌∙◌, arith}
+use Rattle.std.specs.Prelude.{Contains}
+use Rattle.cs_value.specs.declared.catalog.TableDef.{TableDef}
+use Rattle.cs_log.specs.declared.entry.LogEntry.{LogEntry}
+use Rattle.cs_store.specs.Contents.{Contents}
+use Rattle.cs_pending.specs.View.{View}
+use Rattle.cs_position.specs.Shows.{ShowsAt}
+use Rattle.cs_position.specs.declared.position.Position.{Position}
+use Rattle.cs_taking.specs.Laws.{OneLogRows}
+use Rattle.cs_following.specs.Laws.{EqualWhereMet}
+use Rattle.cs_following.specs.Pushes.{IsAtRest}
+use Rattle.cs_following.specs.Standing.{StandsIn}
+
+-- `first` and `second` are what each is known to show, where it stands on what its pass knows
+pub same_rows : EqualWhereMet → OneLogRows → (tables others : List TableDef) → tables ≡ others → (known more : List LogEntry) (both : ℕ) (contents held : Contents) (position other : Position) (view first seen second : View)
+    → take both known ≡ take both more → both ≡ min (length known) (length more) → position.version ≤ length known → other.version ≤ length more → position.version ≡ other.version
+    → IsAtRest position → IsAtRest other
+    → ShowsAt tables contents position view → ShowsAt tables contents position first → StandsIn tables known position first
+    → ShowsAt others held other seen → ShowsAt others held other second → StandsIn others more other second
+    → (table : TableDef) (key : List ℕ) → Contains tables table → view.tables table.name key ≡ seen.tables table.name key
+same_rows law one tables others same known more both contents held position other view first seen second alike shorter within along version rest stays shows firsts stands sees seconds stood table key inside =
+    let sees' = subst (λ (t : List TableDef). ShowsAt t held other seen) (sym same) sees in
+    let seconds' = subst (λ (t : List TableDef). ShowsAt t held other second) (sym same) seconds in
+    let stood' = subst (λ (t : List TableDef). StandsIn t more other second) (sym same) stood in
+    let less : position.version ≤ both = omega (arith, shorter, within, along, version) in
+    sym ((one tables contents position view first shows firsts).1 table.name key)
+    ∙ law tables known more both contents held position other first second alike less version rest stays firsts seconds' stands stood' table key inside
+    ∙ sym ((one tables held other second seen seconds' sees').1 table.name key)

@@ -1,0 +1,4 @@
+use Rattle.cs_nodes.proofs.node.Node.push.Goals as goal
+
+pub returns-clause-writes : goal.returns-clause-writes
+returns-clause-writes g c = rw (← c.self.view_is) c.push_known.ensures.writes

@@ -1,0 +1,164 @@
+//! Nodes of one table on one row of cells, what is asked of them, and what they show.
+
+ghost use Rattle.std.specs.Prelude.{◌≡◌, ◌<◌, ◌-◌, ◌^◌, IfSome};
+
+use cs_conflict::{Clash, Guard, Wish};
+use cs_map_store::MapStore;
+use cs_nodes::{Node, NodeFault, NodePush};
+use cs_pending::EditFault;
+use cs_rows::RowAtKey;
+use cs_spine::Spine;
+use cs_store::StoreFault;
+use cs_value::{Catalog, Edit, Items, Memory, TableDef, Text, Value};
+use std::alloc::Global;
+
+/// A node over the store in memory.
+pub(crate) type Here<'s> = Node<'s, MapStore>;
+
+/// The table t1 of two columns, of which the first is the key.
+fn tables(alloc: Global) -> Result<Vec<TableDef>, Memory> {
+    let mut tables = Vec::new(alloc);
+    tables.push(TableDef {
+        name: Text::from_string(String::from_str(alloc, "t1")?),
+        key_marks: Items::from_vec(vec![in alloc; true, false]?),
+    })?;
+    Ok(tables)
+}
+
+fn catalog(alloc: Global) -> Option<Catalog> {
+    Catalog::new(tables(alloc).ok()?).ok()
+}
+
+/// A new node with this id.
+pub(crate) fn begun<'s>(alloc: Global, spine: &'s Spine, id: u32) -> Option<Here<'s>>
+    ensures { IfSome result (λ node. node.pass.spine ≡ spine.now) }
+{
+    if id == u32::MAX {
+        return None;
+    }
+    let catalog = catalog(alloc)?;
+    Node::open(alloc, MapStore::new(alloc), &catalog, id, spine).ok()
+}
+
+fn row(alloc: Global, number: i64, text: &str) -> Result<Items<Value>, Memory> {
+    let mut values = Vec::new(alloc);
+    values.push(Value::Int(number))?;
+    values.push(Value::Text(Text::from_string(String::from_str(alloc, text)?)))?;
+    Ok(Items::from_vec(values))
+}
+
+/// The edit that inserts a row of a number and a text into t1.
+fn inserting(alloc: Global, number: i64, text: &str) -> Result<Edit, Memory> {
+    Ok(Edit::Insert {
+        table: Text::from_string(String::from_str(alloc, "t1")?),
+        row: row(alloc, number, text)?,
+    })
+}
+
+/// Whether a row of a number and a text gets into t1.
+pub(crate) fn inserts<'s>(alloc: Global, node: &mut Here<'s>, number: i64, text: &str) -> bool
+    ensures { node.new.pass ≡ node.old.pass }
+{
+    match inserting(alloc, number, text) {
+        Ok(edit) => node.edit(alloc, &edit).is_ok(),
+        Err(_) => false,
+    }
+}
+
+/// The fault of an insert into t1, if it has one.
+pub(crate) fn insert_fault<'s>(
+    alloc: Global,
+    node: &mut Here<'s>,
+    number: i64,
+    text: &str,
+) -> Option<EditFault>
+    ensures { node.new.pass ≡ node.old.pass }
+{
+    match inserting(alloc, number, text) {
+        Ok(edit) => node.edit(alloc, &edit).err(),
+        Err(_) => None,
+    }
+}
+
+/// A pull; each clash is answered by this wish, where it is lawful.
+pub(crate) fn pulled<'s>(
+    alloc: Global,
+    node: &mut Here<'s>,
+    spine: &'s Spine,
+    wish: Wish,
+) -> Result<usize, NodeFault>
+    requires { node.old.pass.spine ≡ spine.now }
+    ensures { node.new.pass.spine ≡ node.old.pass.spine }
+{
+    let mut guard = Guard::new(move |_clash: &Clash<'_>| -> Wish { wish });
+    node.pull(alloc, spine, &mut guard)
+}
+
+/// A push; each clash is answered by this wish, where it is lawful.
+pub(crate) fn pushed<'s>(
+    alloc: Global,
+    node: &mut Here<'s>,
+    spine: &'s Spine,
+    wish: Wish,
+) -> Result<NodePush, NodeFault>
+    requires { node.old.pass.spine ≡ spine.now }
+    ensures { node.new.pass.spine ≡ node.old.pass.spine }
+{
+    let mut guard = Guard::new(move |_clash: &Clash<'_>| -> Wish { wish });
+    node.push(alloc, spine, &mut guard)
+}
+
+/// Whether a pull takes so many entries.
+pub(crate) fn pulls<'s>(alloc: Global, node: &mut Here<'s>, spine: &'s Spine, count: usize) -> bool
+    requires { node.old.pass.spine ≡ spine.now }
+    ensures { node.new.pass.spine ≡ node.old.pass.spine }
+{
+    match pulled(alloc, node, spine, Wish::Take) {
+        Ok(taken) => taken == count,
+        Err(_) => false,
+    }
+}
+
+/// Whether a push is told so.
+pub(crate) fn pushes<'s>(
+    alloc: Global,
+    node: &mut Here<'s>,
+    spine: &'s Spine,
+    told: NodePush,
+) -> bool
+    requires { node.old.pass.spine ≡ spine.now }
+    ensures { node.new.pass.spine ≡ node.old.pass.spine }
+{
+    match pushed(alloc, node, spine, Wish::Take) {
+        Ok(push) => push == told,
+        Err(_) => false,
+    }
+}
+
+/// The bytes of (1, 'v1') and of (2, 'v2').
+pub(crate) const ROW_1: &[u8] = &[1, 0, 0, 0, 0, 0, 0, 0, 1, 3, 2, 0x76, 0x31];
+
+pub(crate) const ROW_2: &[u8] = &[1, 0, 0, 0, 0, 0, 0, 0, 2, 3, 2, 0x76, 0x32];
+
+/// Whether rows, one behind another, have these bytes.
+fn have_bytes(rows: &[RowAtKey], wanted: &[&[u8]]) -> bool {
+    if rows.len() != wanted.len() {
+        return false;
+    }
+    rows.iter().zip(wanted.iter()).all(|(row, bytes)| row.1.as_row().bytes() == *bytes)
+}
+
+/// Whether a node shows these rows of t1, and is at a version with so many changes pending.
+pub(crate) fn shows<'s>(
+    alloc: Global,
+    node: &mut Here<'s>,
+    wanted: &[&[u8]],
+    version: u64,
+    pending: u64,
+) -> Result<bool, StoreFault>
+    ensures { node.new.pass ≡ node.old.pass }
+{
+    let rows = node.rows(alloc, 0)?;
+    let same = have_bytes(rows.as_slice(), wanted);
+    Ok(same && node.version() == version && node.pending_len() == pending)
+}

@@ -1,0 +1,108 @@
+//! Memory that is refused, to a node that is made, edited, pushed and pulled: it is told, and the same call is then made.
+
+ghost use Rattle.std.specs.Prelude.{◌≡◌, IfSome};
+
+use crate::given::{Here, ROW_1, begun, insert_fault, inserts, pulled, pulls, pushed, pushes, shows};
+use cs_conflict::Wish;
+use cs_nodes::{NodeFault, NodePush};
+use cs_pending::EditFault;
+use cs_spine::Spine;
+use cs_store::StoreFault;
+use std::alloc::Global;
+
+/// A new node, the first time or the second.
+fn made<'s>(alloc: Global, spine: &'s Spine, id: u32) -> Option<Here<'s>>
+    ensures { IfSome result (λ node. node.pass.spine ≡ spine.now) }
+{
+    match begun(alloc, spine, id) {
+        Some(node) => Some(node),
+        None => begun(alloc, spine, id),
+    }
+}
+
+/// Whether the node shows these rows, the first time or the second.
+fn shows_at_last<'s>(alloc: Global, node: &mut Here<'s>, wanted: &[&[u8]], version: u64, pending: u64) -> bool
+    ensures { node.new.pass ≡ node.old.pass }
+{
+    match shows(alloc, node, wanted, version, pending) {
+        Err(StoreFault::Memory) => shows(alloc, node, wanted, version, pending) == Ok(true),
+        told => told == Ok(true),
+    }
+}
+
+/// Whether a row gets in, the first time or the second; where memory is refused the node shows no row.
+fn inserts_at_last<'s>(alloc: Global, node: &mut Here<'s>) -> bool
+    ensures { node.new.pass ≡ node.old.pass }
+{
+    match insert_fault(alloc, node, 1, "v1") {
+        Some(EditFault::Memory) => {
+            let kept = shows_at_last(alloc, node, &[], 0, 0);
+            kept && inserts(alloc, node, 1, "v1")
+        }
+        Some(_) => false,
+        None => node.pending_len() == 1 || inserts(alloc, node, 1, "v1"),
+    }
+}
+
+/// Whether a push is accepted, the first time or the second; where memory is refused the row stays.
+fn pushes_at_last<'s>(alloc: Global, node: &mut Here<'s>, spine: &'s Spine) -> bool
+    requires { node.old.pass.spine ≡ spine.now }
+    ensures { node.new.pass.spine ≡ node.old.pass.spine }
+{
+    match pushed(alloc, node, spine, Wish::Take) {
+        Err(NodeFault::Memory) => {
+            if node.pass().len() == 1 {
+                // The cell holds the push, which is taken by a pull.
+                return pulls(alloc, node, spine, 1);
+            }
+            !node.is_at_rest() && pushes(alloc, node, spine, NodePush::Accepted(1))
+        }
+        Ok(told) => told == NodePush::Accepted(1),
+        Err(_) => false,
+    }
+}
+
+/// Whether a pull takes one entry, the first time or the second.
+fn pulls_at_last<'s>(alloc: Global, node: &mut Here<'s>, spine: &'s Spine) -> bool
+    requires { node.old.pass.spine ≡ spine.now }
+    ensures { node.new.pass.spine ≡ node.old.pass.spine }
+{
+    match pulled(alloc, node, spine, Wish::Take) {
+        Err(NodeFault::Memory) => {
+            let kept = node.version() == 0 && shows_at_last(alloc, node, &[], 0, 0);
+            kept && pulls(alloc, node, spine, 1)
+        }
+        Ok(taken) => taken == 1,
+        Err(_) => false,
+    }
+}
+
+/// A node that inserts a row and pushes it, and one that pulls it.
+fn live_on(alloc: Global, spine: &Spine) -> Option<bool> {
+    let mut one = made(alloc, spine, 1)?;
+    let mut two = made(alloc, spine, 2)?;
+    let inserted = inserts_at_last(alloc, &mut one);
+    let told = pushes_at_last(alloc, &mut one, spine);
+    let rows = shows_at_last(alloc, &mut one, &[ROW_1], 1, 0);
+    let taken = pulls_at_last(alloc, &mut two, spine);
+    Some(inserted & told & rows & taken & shows_at_last(alloc, &mut two, &[ROW_1], 1, 0))
+}
+
+fn live(alloc: Global) -> Option<bool> {
+    match Spine::new(alloc, 2) {
+        Ok(spine) => live_on(alloc, &spine),
+        Err(_) => None,
+    }
+}
+
+/// `bench/refuse_tests.sh` refuses each allocation in turn here; where it is refused to what stands around the calls, all is tried
+/// again.
+#[test]
+fn refused_memory_leaves_everything(rt: HostRuntime) {
+    let alloc = rt.alloc();
+    let kept = match live(alloc) {
+        Some(kept) => kept,
+        None => live(alloc) == Some(true),
+    };
+    assert!(rt; kept);
+}
