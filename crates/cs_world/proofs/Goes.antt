@@ -1,6 +1,6 @@
 -- A world goes on to another: its log and its messages grow, and what was so stays so.
-use Rattle.std.proofs.Common.{◌≡◌, ◌≢◌, ◌≤◌, ◌<◌, ◌+◌, ◌^◌, ◌∙◌, ◌++◌, ℕ, List, [], ◌∷◌, Option, Some, None, length, slice_get, slice_set, refl, sym, ap, subst, inl, inr, arith, append-nil, length-append}
-use Rattle.std.specs.Prelude.{◌⊎◌, All, IsSome}
+use Rattle.std.proofs.Common.{◌≡◌, ◌≢◌, ◌≤◌, ◌+◌, ◌∙◌, ◌++◌, ℕ, List, [], ◌∷◌, Some, length, slice_get, slice_set, refl, sym, ap, subst, inl, inr, arith, append-nil, length-append}
+use Rattle.std.specs.Prelude.{◌⊎◌, All}
 use Rattle.cs_value.specs.declared.catalog.TableDef.{TableDef}
 use Rattle.cs_log.specs.Laws.{LongerLog}
 use Rattle.cs_log.specs.Log.{IsLog, tables_at}
@@ -8,16 +8,12 @@ use Rattle.cs_log.specs.declared.entry.LogEntry.{LogEntry}
 use Rattle.cs_normal.specs.State.{IsDefinedOn, State}
 use Rattle.cs_normal.specs.declared.normal.TableChanges.{TableChanges}
 use Rattle.cs_replica.specs.Laws.{StandsLonger}
-use Rattle.cs_wire.specs.Entries.{ToldEntry}
 use Rattle.cs_wire.specs.Requests.{Asked, AsksPull, AsksPush}
-use Rattle.cs_wire.specs.Told.{told_entry}
-use Rattle.cs_wire.specs.declared.answer.Answer.{Answer}
 use Rattle.cs_wire.specs.declared.answer.Answer.TheVariants.{Short, Entries}
 use Rattle.cs_wire.specs.declared.push_head.PushHead.{PushHead}
-use Rattle.cs_wire.specs.declared.short_answer.ShortAnswer.{ShortAnswer}
 use Rattle.cs_wire.specs.declared.short_answer.ShortAnswer.TheVariants.{Accepted, Stale, Refused}
 use Rattle.cs_world.specs.Sound.{IsAcceptedIn, IsPlaced, IsSound, IsStoredEntry, IsTrue, IsTruePush, WasAsked, push_of}
-use Rattle.cs_world.specs.World.{Asks, FitsSent, IsMember, IsMessage, Member, Sent, Tells, World, with_member, with_message}
+use Rattle.cs_world.specs.World.{Asks, FitsSent, IsMember, Member, Sent, Tells, World, with_member, with_message}
 use Rattle.cs_world.proofs.Found.{in_append, in_one, nowhere, set_at, still}
 
 -- this was asked by one of these messages

@@ -1,6 +1,6 @@
 -- What the hub's answers make of a replica of a sound world: it stands on the log again, and no entry was bad.
-use Rattle.std.proofs.Common.{◌≡◌, ◌≢◌, ◌≤◌, ◌<◌, ◌+◌, ◌-◌, ◌^◌, ◌∙◌, ℕ, zero, suc, List, [], ◌∷◌, Option, Some, None, Result, Ok, Err, length, slice_get, refl, sym, ap, subst, inl, inr, arith}
-use Rattle.std.specs.Prelude.{◌⊎◌, All, IsSome}
+use Rattle.std.proofs.Common.{◌≡◌, ◌<◌, ◌^◌, ◌∙◌, ℕ, zero, suc, List, [], ◌∷◌, Option, Some, None, Result, Ok, Err, slice_get, refl, sym, ap, subst, inl, inr, arith}
+use Rattle.std.specs.Prelude.{All, IsSome}
 use Rattle.std.proofs.lemmas.List.Elements.{All-head, All-tail}
 use Rattle.std.proofs.lemmas.Option.{slice_get_within}
 use Rattle.cs_value.specs.Key.{Place}
@@ -9,14 +9,14 @@ use Rattle.cs_change.specs.Action.{action_any, after_any}
 use Rattle.cs_conflict.specs.declared.wish.Wish.{Wish}
 use Rattle.cs_log.specs.Entry.{body_spelling, changes_of_body, entry_changes}
 use Rattle.cs_log.specs.Laws.{OneBody}
-use Rattle.cs_log.specs.Log.{IsLog, tables_at}
+use Rattle.cs_log.specs.Log.{tables_at}
 use Rattle.cs_log.specs.Stored.{AreChangesOf}
 use Rattle.cs_log.specs.declared.body.Body.{Body}
 use Rattle.cs_log.specs.declared.body.Body.TheVariants.{Changes}
 use Rattle.cs_log.specs.declared.entry.LogEntry.{LogEntry}
 use Rattle.cs_normal.specs.Laws.{NormalAgain, NormalIsTaken}
-use Rattle.cs_normal.specs.Normal.{FitsCatalog, change_of, groups_of, normal_spelling}
-use Rattle.cs_normal.specs.State.{AreSame, IsApplied, IsDefinedOn, State, left_at}
+use Rattle.cs_normal.specs.Normal.{change_of, groups_of, normal_spelling}
+use Rattle.cs_normal.specs.State.{AreSame, IsApplied, IsDefinedOn, State}
 use Rattle.cs_normal.specs.declared.normal.TableChanges.{TableChanges}
 use Rattle.cs_pending.specs.Nets.{undo_none}
 use Rattle.cs_pending.specs.View.{View, middle}
@@ -24,13 +24,12 @@ use Rattle.cs_position.specs.Shows.{ShowsAt, base, flown}
 use Rattle.cs_position.specs.declared.position.Position.{Position}
 use Rattle.cs_pulling.specs.Laws.{OneRead, PulledLeads}
 use Rattle.cs_pulling.specs.Listed.{Ends, EndsBad, IsToldAt, PullsList, PullsMany, count_of}
-use Rattle.cs_pulling.specs.Pulls.{IsBad, IsOwn, PullsOne}
 use Rattle.cs_pulling.specs.Told.{IsReadAs}
 use Rattle.cs_pulling.specs.declared.fault.AnswerFault.{AnswerFault}
 use Rattle.cs_pulling.specs.declared.fault.AnswerFault.TheVariants as fault
 use Rattle.cs_pulling.specs.declared.listing.Pulled.{Pulled}
 use Rattle.cs_pulling.specs.declared.listing.Pulled.TheVariants as pulled
-use Rattle.cs_pushing.specs.Pushes.{confirmed, request_of}
+use Rattle.cs_pushing.specs.Pushes.{confirmed}
 use Rattle.cs_replica.specs.Accepted.{IsAccepted}
 use Rattle.cs_replica.specs.Answered.{Answers, TellsAccepted, told_of}
 use Rattle.cs_replica.specs.Laws.{EntryStands, FlightFits, KeptStands}
@@ -41,19 +40,15 @@ use Rattle.cs_store.specs.Contents.{Contents}
 use Rattle.cs_taking.specs.Laws.{OneLogRows}
 use Rattle.cs_taking.specs.Takes.{taken}
 use Rattle.cs_wire.specs.Entries.{ToldEntry}
-use Rattle.cs_wire.specs.Requests.{AsksPush}
 use Rattle.cs_wire.specs.Told.{told_entry}
 use Rattle.cs_wire.specs.declared.answer.Answer.{Answer}
 use Rattle.cs_wire.specs.declared.answer.Answer.TheVariants.{Short, Entries}
-use Rattle.cs_wire.specs.declared.push_head.PushHead.{PushHead}
 use Rattle.cs_wire.specs.declared.short_answer.ShortAnswer.TheVariants.{Accepted, Stale, Refused}
 use Rattle.cs_wishes.specs.Wished.{IsWished}
 use Rattle.cs_world.specs.Headline.{IsGood}
-use Rattle.cs_world.specs.Sound.{ArePartOf, IsAcceptedIn, IsPlaced, IsSound, IsStoredEntry, IsTrueAnswer, push_of}
+use Rattle.cs_world.specs.Sound.{ArePartOf, IsAcceptedIn, IsPlaced, IsSound, IsStoredEntry, IsTrueAnswer}
 use Rattle.cs_world.specs.Steps.{Hears, heard}
-use Rattle.cs_world.specs.World.{IsMember, Member, World}
-use Rattle.cs_world.specs.declared.outcome.Outcome.{Outcome}
-use Rattle.cs_world.specs.declared.outcome.Outcome.TheVariants.{Heard, NotHeard}
+use Rattle.cs_world.specs.World.{Member, World}
 
 -- the laws below
 pub record Below : Type 0 where

@@ -1,32 +1,25 @@
 -- What is sound has the headline.
-use Rattle.std.proofs.Common.{◌≡◌, ◌≢◌, ◌∙◌, ℕ, List, [], Option, Some, None, length, slice_get, refl, sym, ap, subst, arith}
-use Rattle.std.specs.Prelude.{All, Contains}
+use Rattle.std.proofs.Common.{◌≡◌, ◌∙◌, ℕ, List, [], Option, Some, None, refl, sym, ap, arith}
 use Rattle.std.proofs.lemmas.List.Elements.{All-nil}
-use Rattle.cs_value.specs.Catalog.{AreTables}
 use Rattle.cs_value.specs.Key.{Place}
-use Rattle.cs_value.specs.declared.catalog.TableDef.{TableDef}
-use Rattle.cs_change.specs.Action.{Action, action_any, after_any}
+use Rattle.cs_change.specs.Action.{Action, after_any}
 use Rattle.cs_change.specs.Laws.{NetTakes}
 use Rattle.cs_log.specs.Entry.{entry_changes}
 use Rattle.cs_log.specs.Laws.{EmptyIsLog}
 use Rattle.cs_log.specs.Log.{tables_at}
-use Rattle.cs_log.specs.declared.entry.LogEntry.{LogEntry}
-use Rattle.cs_normal.specs.Normal.{change_of, normal_spelling}
-use Rattle.cs_normal.specs.State.{AreSame, IsApplied, OneKeyStands, State}
+use Rattle.cs_normal.specs.Normal.{normal_spelling}
+use Rattle.cs_normal.specs.State.{IsApplied, OneKeyStands, State}
 use Rattle.cs_normal.specs.declared.normal.TableChanges.{TableChanges}
-use Rattle.cs_opening.specs.Fresh.{first_position}
-use Rattle.cs_pending.specs.Laws.{empty_view}
 use Rattle.cs_pending.specs.Nets.{undo_none}
 use Rattle.cs_pending.specs.Shows.{IsSoundOf}
-use Rattle.cs_pending.specs.View.{Changed, View, before, middle}
+use Rattle.cs_pending.specs.View.{Changed, before, middle}
 use Rattle.cs_position.specs.Shows.{base, flown}
 use Rattle.cs_position.specs.declared.position.Position.{Position}
 use Rattle.cs_replica.specs.Laws.{EqualAtRest, FirstStands, FlightFits}
-use Rattle.cs_replica.specs.Stands.{StandsOn}
 use Rattle.cs_world.specs.Headline.{HasHubsRows, Headline, LeadTo}
 use Rattle.cs_world.specs.Laws.{FirstIsSound, IsFirstMember, SoundHasHeadline}
 use Rattle.cs_world.specs.Sound.{IsPlaced, IsSound, IsStoredEntry}
-use Rattle.cs_world.specs.World.{IsMember, Member, World, first_world}
+use Rattle.cs_world.specs.World.{Member, World, first_world}
 use Rattle.cs_world.proofs.Found.{nowhere}
 
 pub record Below : Type 0 where

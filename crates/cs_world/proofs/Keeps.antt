@@ -1,8 +1,6 @@
 -- Each event keeps a world sound, and hands no replica a bad entry.
-use Rattle.std.proofs.Common.{◌≡◌, ◌≢◌, ◌≤◌, ◌<◌, ◌+◌, ◌-◌, ◌^◌, ◌∙◌, ◌++◌, ℕ, List, [], ◌∷◌, Option, Some, None, Result, Ok, Err, length, slice_get, slice_set, refl, sym, ap, subst, inl, inr, arith, append-nil, length-append}
-use Rattle.std.specs.Prelude.{◌⊎◌, IsSome}
-use Rattle.std.specs.FinMap.{len}
-use Rattle.cs_value.specs.declared.catalog.TableDef.{TableDef}
+use Rattle.std.proofs.Common.{◌≡◌, ◌≤◌, ◌<◌, ◌+◌, ◌^◌, ◌∙◌, ℕ, List, [], ◌∷◌, Option, Some, Result, Ok, length, refl, sym, ap, subst, inl, inr, arith}
+use Rattle.std.specs.Prelude.{IsSome}
 use Rattle.cs_value.specs.declared.edit.Edit.{Edit}
 use Rattle.cs_conflict.specs.declared.wish.Wish.{Wish}
 use Rattle.cs_log.specs.Laws.{LongerLog}
@@ -10,16 +8,13 @@ use Rattle.cs_log.specs.Log.{tables_at}
 use Rattle.cs_log.specs.declared.entry.LogEntry.{LogEntry}
 use Rattle.cs_log.specs.declared.entry.TheConstants.{MAX_CHANGESET}
 use Rattle.cs_normal.specs.Normal.{normal_spelling}
-use Rattle.cs_normal.specs.State.{IsDefinedOn, IsApplied, State}
+use Rattle.cs_normal.specs.State.{IsDefinedOn}
 use Rattle.cs_normal.specs.declared.normal.TableChanges.{TableChanges}
 use Rattle.cs_pending.specs.Edits.{edit}
-use Rattle.cs_pending.specs.View.{View, middle}
-use Rattle.cs_position.specs.Laws.{FitsPosition}
+use Rattle.cs_pending.specs.View.{View}
 use Rattle.cs_position.specs.Shows.{ShowsAt}
-use Rattle.cs_position.specs.declared.position.Position.{Position}
 use Rattle.cs_position.specs.declared.position.TheConstants.{LAST_NUMBER}
 use Rattle.cs_pulling.specs.declared.fault.AnswerFault.{AnswerFault}
-use Rattle.cs_pulling.specs.declared.fault.AnswerFault.TheVariants.{BadEntry}
 use Rattle.cs_pushing.specs.Pushes.{IsPushMade, grounded, pushed, request_of}
 use Rattle.cs_replica.specs.Edited.{with_pending}
 use Rattle.cs_replica.specs.Stands.{StandsOn}
@@ -39,7 +34,7 @@ use Rattle.cs_world.specs.World.{Asks, FitsSent, IsMember, IsMessage, Member, Se
 use Rattle.cs_world.specs.declared.event.Event.{Event}
 use Rattle.cs_world.specs.declared.outcome.Outcome.{Outcome}
 use Rattle.cs_world.proofs.Found.{added, in_append, in_one}
-use Rattle.cs_world.proofs.Goes.{AreOne, AskedIn, Goes, again_sound, asked_on, asked_one, moved, moved_at, moved_sound, goes_moved, next_sound, no_push, placed_on, quiet_sound, said_sound}
+use Rattle.cs_world.proofs.Goes.{AreOne, AskedIn, Goes, again_sound, asked_on, asked_one, moved, moved_at, moved_sound, next_sound, no_push, placed_on, quiet_sound, said_sound}
 use Rattle.cs_world.proofs.Heard as answers
 use Rattle.cs_world.proofs.Served as service
 

@@ -9,3 +9,4 @@ mod Turned
 mod Begun
 mod Moved
 mod Running
+mod Read

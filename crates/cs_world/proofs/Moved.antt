@@ -1,6 +1,6 @@
 -- The step of each event, from what its calls give.
-use Rattle.std.proofs.Common.{◌≡◌, ◌≢◌, ◌≤◌, ◌<◌, ◌+◌, ◌^◌, ◌∙◌, ◌++◌, ℕ, List, [], ◌∷◌, Option, Some, None, Result, Ok, Err, length, slice_get, slice_set, refl, sym, ap, subst, inl, inr, arith, length-append}
-use Rattle.std.specs.Prelude.{◌⊎◌, IsSome, Vec}
+use Rattle.std.proofs.Common.{◌≡◌, ◌≤◌, ◌<◌, ◌^◌, ◌∙◌, ◌++◌, ℕ, List, [], ◌∷◌, Option, Some, None, Result, Ok, Err, length, slice_get, slice_set, refl, sym, ap, subst, inl, inr, arith, length-append}
+use Rattle.std.specs.Prelude.{IsSome, Vec}
 use Rattle.std.specs.declared.alloc.Global.{Global}
 use Rattle.cs_value.specs.Catalog.{AreTables}
 use Rattle.cs_value.specs.declared.catalog.TableDef.{TableDef}
@@ -10,16 +10,14 @@ use Rattle.cs_hub.specs.Calls.{AnswersHub, StaysHub}
 use Rattle.cs_hub.specs.Holding as hub
 use Rattle.cs_hub.specs.Serves.{ServesIf}
 use Rattle.cs_judging.specs.Judged.{hub_of}
-use Rattle.cs_log.specs.declared.entry.LogEntry.{LogEntry}
 use Rattle.cs_normal.specs.declared.normal.TableChanges.{TableChanges}
 use Rattle.cs_opening.specs.declared.fault.OpenFault.{OpenFault}
-use Rattle.cs_pending.specs.View.{View}
 use Rattle.cs_pending.specs.declared.fault.EditFault.{EditFault}
 use Rattle.cs_position.specs.Laws.{FitsPosition}
 use Rattle.cs_position.specs.Shows.{flown}
 use Rattle.cs_position.specs.declared.position.Position.{Position}
 use Rattle.cs_pulling.specs.declared.fault.AnswerFault.{AnswerFault}
-use Rattle.cs_pushing.specs.Pushes.{IsResendFault, grounded, pushed, request_of}
+use Rattle.cs_pushing.specs.Pushes.{IsResendFault, pushed, request_of}
 use Rattle.cs_pushing.specs.declared.fault.PushFault.{PushFault}
 use Rattle.cs_replica.specs.Holding as replica
 use Rattle.cs_replica.specs.declared.told.Told.{Told}
@@ -31,7 +29,6 @@ use Rattle.cs_wire.specs.Requests.{Asked, AsksPull, asked_by_owned, request_spel
 use Rattle.cs_wire.specs.declared.answer.Answer.{Answer}
 use Rattle.cs_wire.specs.declared.request.RequestBuf.{RequestBuf}
 use Rattle.cs_world.specs.Laws.{AnswersFit}
-use Rattle.cs_world.specs.Sound.{IsSound}
 use Rattle.cs_world.specs.Steps as step
 use Rattle.cs_world.specs.Steps.{Hears, Step, addressee, heard}
 use Rattle.cs_world.specs.World.{Asks, IsMember, IsMessage, Member, Sent, Tells, World, with_log, with_member, with_message}

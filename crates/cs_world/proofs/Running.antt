@@ -1,15 +1,14 @@
 -- From the step of an event to a run.
-use Rattle.std.proofs.Common.{◌≡◌, ◌<◌, ◌^◌, ◌++◌, ◌∙◌, ℕ, List, [], ◌∷◌, length, refl, sym, subst, append-nil, append_assoc, arith}
+use Rattle.std.proofs.Common.{◌≡◌, ◌<◌, ◌^◌, ◌++◌, ℕ, List, [], ◌∷◌, length, refl, sym, subst, append-nil, append_assoc, arith}
 use Rattle.cs_store.specs.Contents.{Contents}
-use Rattle.cs_world.specs.Headline.{Headline}
 use Rattle.cs_world.specs.Laws.{SoundHasHeadline, StepsAreSound}
-use Rattle.cs_world.specs.Steps.{Step, Steps}
+use Rattle.cs_world.specs.Steps.{Step}
 use Rattle.cs_world.specs.World.{World}
 use Rattle.cs_world.specs.declared.event.Event.{Event}
 use Rattle.cs_world.specs.declared.outcome.Outcome.{Outcome}
 use Rattle.cs_world.specs.Holding.{AreHonest, Holding, StandsAt}
 use Rattle.cs_world.specs.Moves.{Moves}
-use Rattle.cs_world.specs.Runs.{AllGood, HasHeadline, Runs}
+use Rattle.cs_world.specs.Runs.{HasHeadline, Runs}
 
 module _ {S : Type 0} (honest : S → Type 0) (contents : S → Contents) (limit : ℕ) where
   abbrev pub Stands : Holding S → Type 0

@@ -1,37 +1,30 @@
 -- What the hub answers to a request of a sound world: it is true of the log after it, and the log grew by that push at most.
-use Rattle.std.proofs.Common.{◌≡◌, ◌≢◌, ◌≤◌, ◌<◌, ◌+◌, ◌^◌, ◌∙◌, ◌++◌, ℕ, List, [], ◌∷◌, Option, Some, None, Result, Ok, Err, length, map, slice_get, take, drop, min, option_map, refl, sym, ap, subst, inl, inr, arith, append-nil, length-append}
+use Rattle.std.proofs.Common.{◌≡◌, ◌≢◌, ◌≤◌, ◌<◌, ◌+◌, ◌^◌, ◌∙◌, ◌++◌, ℕ, List, [], ◌∷◌, Option, Some, None, Result, Ok, Err, length, map, slice_get, drop, option_map, refl, sym, ap, subst, inl, inr, arith, append-nil, length-append}
 use Rattle.std.specs.Prelude.{◌⊎◌, All}
 use Rattle.std.proofs.lemmas.List.{length-drop, length-take, take_all}
 use Rattle.std.proofs.lemmas.List.Elements.{All-append, All-cons, All-drop, All-nil, All-take, All-weaker}
-use Rattle.std.proofs.lemmas.Option.{slice_get-map, slice_get_within}
-use Rattle.cs_value.specs.Catalog.{AreTables}
-use Rattle.cs_value.specs.declared.catalog.TableDef.{TableDef}
-use Rattle.cs_change.specs.Spelling.{FitsChangeset, changeset_spelling}
+use Rattle.std.proofs.lemmas.Option.{slice_get-map}
 use Rattle.cs_change.specs.declared.group.Group.{Group}
 use Rattle.cs_changeset.specs.Laws.{ChangesetLaws}
-use Rattle.cs_changeset.specs.declared.fault.Fault.{Fault}
-use Rattle.cs_conflict.specs.declared.conflict.Conflict.{Conflict}
-use Rattle.cs_hub.specs.Serves.{AnswersAsked, Outcome, Serves, ServesIf, TakesBytes, TakesGroups, TakesNormal, or_refusal, push_answer, refused}
-use Rattle.cs_judging.specs.Hub.{HubState, entries_from, synced, with_entry}
+use Rattle.cs_hub.specs.Serves.{AnswersAsked, Outcome, ServesIf, TakesBytes, TakesGroups, TakesNormal, or_refusal, push_answer}
+use Rattle.cs_judging.specs.Hub.{HubState, entries_from}
 use Rattle.cs_judging.specs.Judged.{hub_of}
-use Rattle.cs_judging.specs.Pushes.{CanFollow, IsRepeat, Push, Pushes, TellsConflict, entry_of_push}
+use Rattle.cs_judging.specs.Pushes.{CanFollow, Push, Pushes, entry_of_push}
 use Rattle.cs_judging.specs.declared.fault.HubFault.{HubFault}
 use Rattle.cs_judging.specs.declared.fault.HubFault.TheVariants as hub
 use Rattle.cs_judging.specs.declared.push.Pushed.{Pushed}
 use Rattle.cs_judging.specs.declared.push.Pushed.TheVariants as pushed
 use Rattle.cs_log.specs.Laws.{AppendedIsLog}
-use Rattle.cs_log.specs.Log.{IsLog, state_of, tables_at}
-use Rattle.cs_log.specs.declared.body.Body.TheVariants.{Changes}
+use Rattle.cs_log.specs.Log.{IsLog, state_of}
 use Rattle.cs_log.specs.declared.entry.LogEntry.{LogEntry}
-use Rattle.cs_log.specs.declared.entry.TheConstants.{MAX_CHANGESET}
 use Rattle.cs_normal.specs.Laws.{NoFaultWhereFit, NormalAgain, NormalIsTaken, OneNormalForm}
-use Rattle.cs_normal.specs.Normal.{groups_of, normal_spelling}
-use Rattle.cs_normal.specs.State.{IsDefinedOn, State}
+use Rattle.cs_normal.specs.Normal.{groups_of}
+use Rattle.cs_normal.specs.State.{IsDefinedOn}
 use Rattle.cs_normal.specs.declared.normal.TableChanges.{TableChanges}
-use Rattle.cs_wire.specs.Answers.{FitsAnswer, ReadsAnswer, answer_spelling}
+use Rattle.cs_wire.specs.Answers.{FitsAnswer, answer_spelling}
 use Rattle.cs_wire.specs.Entries.{ToldEntry}
 use Rattle.cs_wire.specs.Laws.{HasNumbersInRange, OneRequest, OneToldAnswer, ToldAreRead}
-use Rattle.cs_wire.specs.Requests.{Asked, AsksPull, AsksPush, FitsRequest, ReadsRequest, request_spelling}
+use Rattle.cs_wire.specs.Requests.{Asked, AsksPull, AsksPush, FitsRequest, request_spelling}
 use Rattle.cs_wire.specs.Told.{FitsMessage, told_entry}
 use Rattle.cs_wire.specs.declared.answer.Answer.{Answer}
 use Rattle.cs_wire.specs.declared.answer.Answer.TheVariants.{Short, Entries}

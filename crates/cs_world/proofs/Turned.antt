@@ -1,5 +1,5 @@
 -- What the calls of a replica give, as the step that it makes.
-use Rattle.std.proofs.Common.{◌≡◌, ◌∙◌, ℕ, List, Option, Some, None, Result, Ok, Err, refl, sym, ap, subst, inl, inr}
+use Rattle.std.proofs.Common.{◌≡◌, ◌∙◌, ℕ, List, Some, Result, Ok, Err, sym, ap, subst}
 use Rattle.std.specs.Prelude.{◌⊎◌, IfErr, IfOk, OnErr, OnOk}
 use Rattle.std.specs.FinMap.{len}
 use Rattle.cs_value.specs.Catalog.{AreTables}
@@ -10,7 +10,7 @@ use Rattle.cs_normal.specs.declared.normal.TableChanges.{TableChanges}
 use Rattle.cs_opening.specs.declared.fault.OpenFault.{OpenFault}
 use Rattle.cs_opening.specs.declared.fault.OpenFault.TheVariants as opening
 use Rattle.cs_pending.specs.Calls.{WritesStore}
-use Rattle.cs_pending.specs.Edits.{Asked, IsOfStore, edit}
+use Rattle.cs_pending.specs.Edits.{IsOfStore, edit}
 use Rattle.cs_pending.specs.View.{View}
 use Rattle.cs_pending.specs.declared.fault.EditFault.{EditFault}
 use Rattle.cs_pending.specs.declared.fault.EditFault.TheVariants as edits
@@ -18,7 +18,7 @@ use Rattle.cs_position.specs.Laws.{FitsPosition, OnePosition}
 use Rattle.cs_position.specs.Shows.{ShowsAt, ShowsSomeAt}
 use Rattle.cs_position.specs.declared.position.Position.{Position}
 use Rattle.cs_pulling.specs.declared.fault.AnswerFault.{AnswerFault}
-use Rattle.cs_pushing.specs.Pushes.{IsPushFault, IsPushMade, IsPushMadeIn, IsPushOf, grounded, pushed, request_of}
+use Rattle.cs_pushing.specs.Pushes.{IsPushFault, IsPushMadeIn, IsPushOf, grounded, pushed, request_of}
 use Rattle.cs_pushing.specs.declared.fault.PushFault.{PushFault}
 use Rattle.cs_pushing.specs.declared.fault.PushFault.TheVariants as pushes
 use Rattle.cs_replica.specs.Answered.{Answers}
@@ -27,12 +27,11 @@ use Rattle.cs_replica.specs.Holding.{Holding, Shows}
 use Rattle.cs_replica.specs.Opened.{Reopens}
 use Rattle.cs_replica.specs.declared.told.Told.{Told}
 use Rattle.cs_store.specs.Contents.{Contents}
-use Rattle.cs_wire.specs.Requests.{Asked as AskedOfHub, asked_by_owned}
+use Rattle.cs_wire.specs.Requests.{asked_by_owned}
 use Rattle.cs_wire.specs.declared.answer.Answer.{Answer}
 use Rattle.cs_wire.specs.declared.request.RequestBuf.{RequestBuf}
 use Rattle.cs_wishes.specs.Wished.{IsWished}
 use Rattle.cs_world.specs.Steps.{Hears, asked_of, table_of}
-use Rattle.cs_world.specs.World.{Member}
 use Rattle.cs_world.specs.Turns.{IsEditedTo, IsPushedTo, IsReloadedTo, Turns, member_of}
 
 module _ {S : Type 0} (honest : S → Type 0) (contents : S → Contents) (failed : S → ℕ) (may_leave : S → Contents → Type 0) (misreads : S → ℕ) (old new : Holding S) (catalog : new.catalog ≡ old.catalog) where

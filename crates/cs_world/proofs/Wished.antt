@@ -1,5 +1,5 @@
 -- By wishes in a list each clash has one answer.
-use Rattle.std.proofs.Common.{◌≡◌, ◌∙◌, List, sym}
+use Rattle.std.proofs.Common.{◌∙◌, sym}
 use Rattle.cs_world.specs.Laws.{WishesPickOnce}
 
 pub wishes_pick_once : WishesPickOnce

@@ -1,6 +1,5 @@
 -- The headline: what is so of every world that began with nothing, after whatever happened in it (profile of this project).
-use Rattle.std.specs.Prelude.{◌≡◌, ◌≢◌, ◌≤◌, ◌-◌, ◌+◌, ℕ, List, Contains, length, Option, Some, None, slice_get}
-use Rattle.cs_value.specs.Key.{Place}
+use Rattle.std.specs.Prelude.{◌≡◌, ◌≢◌, ◌≤◌, ℕ, List, Contains, length, Some, None, slice_get}
 use Rattle.cs_value.specs.declared.catalog.TableDef.{TableDef}
 use Rattle.cs_change.specs.Action.{action_any, after_any}
 use Rattle.cs_log.specs.Log.{tables_at}

@@ -9,3 +9,4 @@ pub mod Moves
 pub mod Turns
 pub mod Runs
 pub mod Opened
+pub mod Reads

@@ -1,7 +1,7 @@
 -- What an event makes of a world over stores (profile of this project).
-use Rattle.std.specs.Prelude.{◌≡◌, ℕ, List}
+use Rattle.std.specs.Prelude.{ℕ}
 use Rattle.cs_store.specs.Contents.{Contents}
-use Rattle.cs_world.specs.Steps.{Step, Steps}
+use Rattle.cs_world.specs.Steps.{Step}
 use Rattle.cs_world.specs.World.{World}
 use Rattle.cs_world.specs.declared.event.Event.{Event}
 use Rattle.cs_world.specs.declared.outcome.Outcome.{Outcome}

@@ -15,7 +15,6 @@ use Rattle.cs_pending.specs.Edits.{Asked as AskedEdit, AskDelete, AskInsert, Ask
 use Rattle.cs_pending.specs.View.{View}
 use Rattle.cs_pending.specs.declared.fault.EditFault.{EditFault}
 use Rattle.cs_position.specs.Shows.{ShowsAt}
-use Rattle.cs_position.specs.declared.position.Position.{Position}
 use Rattle.cs_pulling.specs.declared.fault.AnswerFault.{AnswerFault}
 use Rattle.cs_pushing.specs.Pushes.{IsPushFault, IsPushMade, IsResendFault, grounded, pushed, request_of}
 use Rattle.cs_pushing.specs.declared.fault.PushFault.{PushFault}

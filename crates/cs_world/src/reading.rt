@@ -1,10 +1,46 @@
 //! What a world shows.
 
-ghost use Rattle.std.specs.Prelude.{◌≡◌, None, Some, length, slice_get};
+ghost use Rattle.std.specs.Prelude.{◌≡◌, [], None, Some, IfOk, length, slice_get};
+ghost use Rattle.cs_hub.specs.declared.hub.TheConstants.{MAX_ENTRIES};
+ghost use Rattle.cs_log.specs.Log.{state_of};
 ghost use Rattle.cs_replica.specs.Holding.{Holding as Held};
+ghost use Rattle.cs_world.specs.Holding.{AreHonest, StandsAt};
+ghost use Rattle.cs_world.specs.Reads.{AreRowsIn, Reads};
+ghost use Rattle.cs_world.specs.World.{IsMember, Member, World as Standing};
 
+use crate::moving::Core;
+use crate::turning::rows_of;
 use crate::world::World;
-use cs_store::RowStore;
+use cs_rows::RowAtKey;
+use cs_store::{RowStore, StoreFault};
+
+impl<S: RowStore> Core<S> {
+    /// The rows of a replica's table; none where there is no such replica.
+    fn rows(&mut self, replica: usize, table: usize) -> Result<Vec<RowAtKey>, StoreFault>
+        ensures reads { Reads S.honest S.contents MAX_ENTRIES self.old self.new }
+        ensures listed { AreHonest S.honest S.contents self.new → (world : Standing) → StandsAt S.honest S.contents MAX_ENTRIES self.old world → (member : Member) → IsMember world replica member → IfOk result (λ rows. AreRowsIn world.tables member.view.tables table rows.items) }
+        ensures none { slice_get self.old.replicas replica ≡ None → IfOk result (λ rows. rows.items ≡ []) }
+    {
+        let Some(one) = self.replicas.get_mut(replica) else {
+            return Ok(Vec::new(self.alloc));
+        };
+        match rows_of(self.alloc, one, table) {
+            Ok(rows) => return Ok(rows),
+            Err(fault) => return Err(fault),
+        }
+    }
+
+    /// The rows of the hub's table.
+    fn hub_rows(&mut self, table: usize) -> Result<Vec<RowAtKey>, StoreFault>
+        ensures reads { Reads S.honest S.contents MAX_ENTRIES self.old self.new }
+        ensures listed { AreHonest S.honest S.contents self.new → (world : Standing) → StandsAt S.honest S.contents MAX_ENTRIES self.old world → IfOk result (λ rows. AreRowsIn world.tables (state_of world.log) table rows.items) }
+    {
+        match self.hub.rows(table) {
+            Ok(rows) => return Ok(rows),
+            Err(fault) => return Err(fault),
+        }
+    }
+}
 
 impl<S: RowStore> World<S> {
     /// How many replicas there are.
@@ -41,5 +77,34 @@ impl<S: RowStore> World<S> {
             Some(one) => Some(one.pending_len()),
             None => None,
         }
+    }
+
+    /// The rows of the table with this number in the catalog, as a replica has them, each behind the bytes of its key and in the order of
+    /// these; none past the last table, and none where there is no replica with this number. The store is only read. (Profile of this
+    /// project.)
+    ///
+    /// # Errors
+    ///
+    /// `Memory` and `Device`.
+    pub fn rows(&mut self, replica: usize, table: usize) -> Result<Vec<RowAtKey>, StoreFault>
+        // Nothing has happened.
+        ensures reads { Reads S.honest S.contents MAX_ENTRIES self.old self.new }
+        ensures listed { AreHonest S.honest S.contents self.new → (world : Standing) → StandsAt S.honest S.contents MAX_ENTRIES self.old world → (member : Member) → IsMember world replica member → IfOk result (λ rows. AreRowsIn world.tables member.view.tables table rows.items) }
+        ensures none { slice_get self.old.replicas replica ≡ None → IfOk result (λ rows. rows.items ≡ []) }
+    {
+        self.core.rows(replica, table)
+    }
+
+    /// The same of the hub, at the newest version.
+    ///
+    /// # Errors
+    ///
+    /// `Memory` and `Device`.
+    pub fn hub_rows(&mut self, table: usize) -> Result<Vec<RowAtKey>, StoreFault>
+        // Nothing has happened.
+        ensures reads { Reads S.honest S.contents MAX_ENTRIES self.old self.new }
+        ensures listed { AreHonest S.honest S.contents self.new → (world : Standing) → StandsAt S.honest S.contents MAX_ENTRIES self.old world → IfOk result (λ rows. AreRowsIn world.tables (state_of world.log) table rows.items) }
+    {
+        self.core.hub_rows(table)
     }
 }

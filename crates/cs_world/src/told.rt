@@ -54,6 +54,7 @@ impl fmt::Display for OutcomeText {
 }
 
 /// A row of the table with this name.
+#[derive(Drop)]
 pub struct RowText<'a> {
     /// The table's name.
     pub table: &'a Text,

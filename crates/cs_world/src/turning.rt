@@ -4,6 +4,9 @@ ghost use Rattle.std.specs.Prelude.{◌≡◌, IfOk};
 ghost use Rattle.cs_world.specs.Steps.{Hears};
 ghost use Rattle.cs_value.specs.declared.edit.Edit.TheVariants.{Delete, Insert, Update};
 ghost use Rattle.cs_wire.specs.Requests.{HasShortChangeset, asked_by_owned};
+ghost use Rattle.cs_pending.specs.View.{View};
+ghost use Rattle.cs_replica.specs.Holding.{Shows};
+ghost use Rattle.cs_world.specs.Reads.{AreRowsIn};
 ghost use Rattle.cs_world.specs.Turns.{IsEditedTo, IsPushedTo, IsReloadedTo, Turns};
 
 use cs_conflict::Wish;
@@ -12,7 +15,8 @@ use cs_pending::EditFault;
 use cs_pulling::AnswerFault;
 use cs_pushing::PushFault;
 use cs_replica::{Replica, Told};
-use cs_store::RowStore;
+use cs_rows::RowAtKey;
+use cs_store::{RowStore, StoreFault};
 use cs_value::{Edit, Fields, Key, Row, Text};
 use cs_wire::{Answer, RequestBuf};
 use cs_wishes::Wishes;
@@ -116,4 +120,16 @@ pub(crate) fn tell_replica<S: RowStore>(
     let told = replica.answer(alloc, answer, &mut picker);
     replica.shown();
     told
+}
+
+/// The rows of a replica's table.
+pub(crate) fn rows_of<S: RowStore>(
+    alloc: Global,
+    replica: &mut Replica<S>,
+    table: usize,
+) -> Result<Vec<RowAtKey>, StoreFault>
+    ensures kept { Turns S.honest S.contents (λ before after. after ≡ before) replica.old replica.new }
+    ensures listed { S.honest replica.new.store → (view : View) → Shows S.contents replica.old view → IfOk result (λ rows. AreRowsIn replica.old.catalog view.tables table rows.items) }
+{
+    replica.rows(alloc, table)
 }

@@ -1,6 +1,6 @@
 //! Worlds, event by event, and what each came to.
 
-use crate::given::{Act, plays, world};
+use crate::given::{Act, plays, printed_rows, world};
 use cs_conflict::Wish;
 use cs_pushing::PushFault;
 use cs_replica::Told;
@@ -85,6 +85,25 @@ fn made(alloc: Global, replicas: u8, acts: &[(Act, Outcome)]) -> Option<bool> {
     plays(alloc, &mut world, acts)
 }
 
+/// Whether a world of so many replicas has made these acts, and a replica, or the hub, then has the rows that are printed so.
+fn leaves(
+    alloc: Global,
+    replicas: u8,
+    acts: &[(Act, Outcome)],
+    whose: &[(Option<usize>, &str)],
+) -> Option<bool> {
+    let mut world = world(alloc, replicas)?;
+    if !plays(alloc, &mut world, acts)? {
+        return Some(false);
+    }
+    for &(replica, rows) in whose {
+        if printed_rows(alloc, &mut world, replica)?.as_str() != rows {
+            return Some(false);
+        }
+    }
+    Some(true)
+}
+
 #[test]
 fn lost_answers(rt: HostRuntime) {
     assert!(rt; made(rt.alloc(), 1, LOST).unwrap_or(false));
@@ -103,4 +122,28 @@ fn a_clash_is_stopped(rt: HostRuntime) {
 #[test]
 fn refused_events(rt: HostRuntime) {
     assert!(rt; made(rt.alloc(), 1, REFUSED).unwrap_or(false));
+}
+
+/// The hub has the pushed row, the replica its own on top, and a replica that isn't there none.
+const ON_TOP: &[(Option<usize>, &str)] = &[
+    (None, "row t1 1 t=v1\n"),
+    (Some(0), "row t1 1 t=v2\n"),
+    (Some(1), ""),
+];
+
+#[test]
+fn own_changes_stand_on_top(rt: HostRuntime) {
+    assert!(rt; leaves(rt.alloc(), 1, LOST, ON_TOP).unwrap_or(false));
+}
+
+/// All have the row that the second kept.
+const AT_REST: &[(Option<usize>, &str)] = &[
+    (None, "row t1 1 t=v2\n"),
+    (Some(0), "row t1 1 t=v2\n"),
+    (Some(1), "row t1 1 t=v2\n"),
+];
+
+#[test]
+fn replicas_at_rest_have_the_same_rows(rt: HostRuntime) {
+    assert!(rt; leaves(rt.alloc(), 2, TWO, AT_REST).unwrap_or(false));
 }

@@ -1,4 +1,4 @@
-use Rattle.std.proofs.Common.{◌≡◌, All, [], ◌∷◌, length, subst, sym, ap, arith, length-append}
+use Rattle.std.proofs.Common.{◌≡◌, [], ◌∷◌, length, ap, arith, length-append}
 use Rattle.std.proofs.lemmas.List.Elements.{All-append, All-cons, All-nil}
 use Rattle.cs_map_store.specs.declared.map_store.MapStore.{MapStore}
 use Rattle.cs_store.specs.Contents.{nothing}

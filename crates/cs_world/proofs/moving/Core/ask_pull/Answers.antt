@@ -1,7 +1,7 @@
-use Rattle.std.proofs.Common.{◌≡◌, ◌∙◌, Some, Ok, length, refl, sym, ap, arith}
+use Rattle.std.proofs.Common.{length, refl, arith}
 use Rattle.std.proofs.lemmas.Option.{slice_get_read}
 use Rattle.cs_hub.specs.declared.hub.TheConstants.{MAX_ENTRIES}
-use Rattle.cs_world.specs.declared.event.Event.TheVariants.{AskPull, Deliver, MakePush, OnEdit, Resend, Restart}
+use Rattle.cs_world.specs.declared.event.Event.TheVariants.{AskPull}
 use Rattle.cs_world.proofs.Moved.{asks, no_room, none_there}
 use Rattle.cs_world.proofs.moving.Core.ask_pull.Goals as goal
 

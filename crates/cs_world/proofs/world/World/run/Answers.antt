@@ -1,4 +1,4 @@
-use Rattle.std.proofs.Common.{◌≡◌, ◌+◌, ◌≤◌, ◌∷◌, List, length, vec_capacity, vec_len, subst, arith}
+use Rattle.std.proofs.Common.{◌+◌, ◌≤◌, ◌∷◌, List, length, vec_capacity, vec_len, subst, arith}
 use Rattle.cs_hub.specs.declared.hub.TheConstants.{MAX_ENTRIES}
 use Rattle.cs_world.specs.declared.event.Event.{Event}
 use Rattle.cs_world.proofs.Running.{Running, ran, running_on}

@@ -1,0 +1,20 @@
+-- What is read of a world over stores (profile of this project).
+use Rattle.std.specs.Prelude.{◌≡◌, ◌≤◌, ℕ, List, [], Some, length, slice_get}
+use Rattle.cs_value.specs.declared.catalog.TableDef.{TableDef}
+use Rattle.cs_value.specs.declared.value.Value.{Value}
+use Rattle.cs_normal.specs.State.{State}
+use Rattle.cs_rows.specs.Rows.{AreRowsOf}
+use Rattle.cs_store.specs.Contents.{Contents}
+use Rattle.cs_world.specs.World.{World}
+use Rattle.cs_world.specs.Holding.{AreHonest, Holding, StandsAt}
+
+-- these are the rows of the table with this number, each behind the bytes of its key; none past the last table
+pub record AreRowsIn (tables : List TableDef) (state : State) (table : ℕ) (rows : List (List ℕ × List Value)) : Type 0 where
+  pub there : (def : TableDef) → slice_get tables table ≡ Some def → AreRowsOf (state def.name) rows
+  pub past : length tables ≤ table → rows ≡ []
+
+module _ {S : Type 0} (honest : S → Type 0) (contents : S → Contents) where
+  -- where the stores are honest, it stands at each world at which it stood
+  pub record Reads (limit : ℕ) (old new : Holding S) : Type 0 where
+    pub was_honest : AreHonest honest contents new → AreHonest honest contents old
+    pub stands : AreHonest honest contents new → (world : World) → StandsAt honest contents limit old world → StandsAt honest contents limit new world
