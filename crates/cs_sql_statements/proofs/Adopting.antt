@@ -6,7 +6,7 @@ use Rattle.std.specs.declared.cmp.Ordering.{Ordering}
 use Rattle.std.specs.declared.cmp.Ordering.TheVariants.{Less, Equal, Greater}
 use Rattle.std.specs.Ordering.{is_eq, is_ne, eq_by_cmp, int_cmp}
 use Rattle.std.specs.Cmp.{eq_by_cmp_equiv}
-use Rattle.std.specs.List.{AllByRecursion, filter, list_all, list_any}
+use Rattle.std.specs.List.{AllByRecursion, filter, list_any}
 use Rattle.std.specs.List.Sorted.{IsPermutation}
 use Rattle.std.specs.FinMap.{find, get, len, from_entries, get-from_entries, contains_key, len-insert, len-empty}
 use Rattle.std.proofs.lemmas.Bool.{cases_Bool, and_parts}
@@ -17,7 +17,7 @@ use Rattle.std.proofs.lemmas.List.Sorted.{length_permutation, list_any-IsPermuta
 use Rattle.sqlite.specs.Order.{Row, column}
 use Rattle.sqlite.specs.Effect.{Database, IsDatabase}
 use Rattle.sqlite.specs.Tree.{Trees, rowid}
-use Rattle.sqlite.specs.State.{State, HasCleanDisk, Shown, Survives, CommitsShowing, FailsToQuery, IsUnchanged, IsLive}
+use Rattle.sqlite.specs.State.{State, HasCleanDisk, Shown, Survives, CommitsShowing, FailsToQuery, IsUnchanged}
 use Rattle.sqlite.specs.declared.error.Error.{Error}
 use Rattle.sqlite.specs.Program.{overlay}
 use Rattle.sqlite.specs.Schema.{Schema}
@@ -31,9 +31,6 @@ use Rattle.sqlite_rules.proofs.ListLemmas.{all_has, all_from, some_from}
 use Rattle.sqlite_schema.specs.Rules.{is_of, are_typed, are_present, agree, clashes, differ, Keeps}
 use Rattle.sqlite_schema.specs.declared.schema.Kind.TheVariants as kind
 use Rattle.sqlite_schema.specs.declared.schema.Constraint.TheVariants.{Datatype, NotNull, Unique}
-use Rattle.sqlite_sql.specs.declared.ops.BinaryOp.TheVariants.{Compare}
-use Rattle.sqlite_sql.specs.declared.ops.CompareOp.TheVariants.{Eq, Ne}
-use Rattle.sqlite.specs.Collation.TheVariants.{Binary}
 use Rattle.sqlite_value.specs.Keys.{plain, first_key}
 use Rattle.sqlite_value.specs.declared.value.Value.{Value}
 use Rattle.sqlite_value.specs.declared.value.Value.TheVariants.{Null, Int, Real, Text as Words, Blob}
@@ -42,7 +39,7 @@ use Rattle.sqlite_value.proofs.OrderLemmas.{value_cmp-Int, value_cmp_total}
 use Rattle.cs_order.specs.Order.{by_bytes}
 use Rattle.cs_store.specs.Contents.{LogItem, place_cmp}
 use Rattle.cs_sql_schema.specs.Schemas.{front_schema, store_schema, rows_table, meta_table, log_table}
-use Rattle.cs_sql_statements.specs.Tables.{rows_ids_text, meta_ids_text, log_ids_text, pending_ids_text, IsRow, IsMeta, IsLog, IsMapped, IsKept, Apart, same_id, same_key, row_pair, value_pair, entry_pair, contents_in}
+use Rattle.cs_sql_statements.specs.Tables.{rows_ids_text, meta_ids_text, log_ids_text, pending_ids_text, IsRow, IsMeta, IsLog, IsKept, Apart, same_id, same_key, row_pair, value_pair, entry_pair, contents_in}
 use Rattle.cs_sql_statements.specs.Steps.{Stays}
 use Rattle.cs_sql_statements.specs.Found.{AreApart, AreEntries, AreNumbered, HasFront, IsCounted, IsFrontKept, IsLogOf, IsUntouched, Rise, Serves, ShowsIds, ShowsNumber, front_in, is_version}
 use Rattle.cs_sql_statements.proofs.Meanings.{ids_in, one_column, rising_by, rows_ids_front, meta_ids_front, log_ids_front, rows_ids_store, meta_ids_store, log_ids_store, pending_ids_store}
@@ -116,13 +113,13 @@ any_numbered from version (r ∷ rows) are =
     elim (cases_Bool (is_version version r)) [
       | inl here ↦ let same : from ≡ version = is_at r from version are.0 here in (λ t. (omega (arith, same), omega (arith, same)), λ h. rw here refl)
       | inr other ↦ (
-          λ t. let later = rest.0 (rw other at t) in let low = later.0 in let high = later.1 in (omega (arith, low), omega (arith, high)),
-          λ h.
-              let low = h.0 in
-              let high = h.1 in
-              let apart : from ≢ version = λ same. let own = at_own r from are.0 in let tie : is_version version r ≡ true = subst (λ (n : ℕ). is_version n r ≡ true) same own in let no : true ≡ false = sym tie ∙ other in absurd cc in
-              or_true (is_version version r) (list_any (is_version version) rows) (rest.1 (omega (arith, low, apart), omega (arith, high))),
-        )
+        λ t. let later = rest.0 (rw other at t) in let low = later.0 in let high = later.1 in (omega (arith, low), omega (arith, high)),
+        λ h.
+            let low = h.0 in
+            let high = h.1 in
+            let apart : from ≢ version = λ same. let own = at_own r from are.0 in let tie : is_version version r ≡ true = subst (λ (n : ℕ). is_version n r ≡ true) same own in let no : true ≡ false = sym tie ∙ other in absurd cc in
+            or_true (is_version version r) (list_any (is_version version) rows) (rest.1 (omega (arith, low, apart), omega (arith, high))),
+      )
     ]
 
 numbered_push : (from : ℕ) (es : List Row) (row : Row) → AreNumbered from es → column row 0 ≡ Int (pos (from + length es)) → AreNumbered from (es ++ row ∷ [])

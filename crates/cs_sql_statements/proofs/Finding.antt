@@ -20,7 +20,7 @@ use Rattle.sqlite.specs.State.{State, HasCleanDisk, Survives, Shown, ShowsRows, 
 use Rattle.sqlite.proofs.Callers.{IsPlain, reads_as, one_permutation, never_commits}
 use Rattle.sqlite.proofs.StateLemmas.{survives_then}
 use Rattle.sqlite_rules.proofs.ListLemmas.{all_has, all_from}
-use Rattle.sqlite_value.specs.declared.value.Value.TheVariants.{Null, Int, Blob, Text as Words}
+use Rattle.sqlite_value.specs.declared.value.Value.TheVariants.{Null, Int, Text as Words}
 use Rattle.cs_sql_schema.specs.Schemas.{store_schema}
 use Rattle.cs_sql_statements.specs.Tables.{IsRow, IsMeta, IsLog, IsMapped, IsKept, contents_in, row_pair, value_pair, entry_pair, select_row_text, select_meta_text, select_log_text, select_pending_text}
 use Rattle.cs_sql_statements.specs.Steps.{IsReady, IsOurs, Stays, first_read, body_read, item_read}

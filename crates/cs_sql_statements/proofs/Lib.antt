@@ -9,3 +9,4 @@ pub mod Finding
 pub mod Orders
 pub mod Listed
 pub mod Adopting
+pub mod Holding

@@ -1,5 +1,5 @@
 -- What the lists of a table show.
-use Rattle.std.proofs.Common.{◌≡◌, inl, inr, ℕ, suc, ◌+◌, ℤ, List, [], ◌∷◌, map, Bool, true, false, ◌&&◌, Some, T, refl, sym, ap, subst, ◌∙◌, arith, get_or}
+use Rattle.std.proofs.Common.{◌≡◌, inl, inr, ℕ, suc, ◌+◌, ℤ, List, [], ◌∷◌, map, Bool, true, false, refl, sym, ap, subst, ◌∙◌, arith, get_or}
 use Rattle.std.specs.declared.cmp.Ordering.{Ordering}
 use Rattle.std.specs.declared.cmp.Ordering.TheVariants.{Less, Equal, Greater}
 use Rattle.std.specs.Ordering.{is_eq, is_lt, eq_by_cmp, int_cmp, ordering_then}
@@ -15,21 +15,20 @@ use Rattle.sqlite.specs.Order.{Row, column}
 use Rattle.sqlite.specs.Query.{Output, output_cmp}
 use Rattle.sqlite.specs.State.{State, Shown}
 use Rattle.sqlite.proofs.Callers.{reads_as}
-use Rattle.sqlite_rules.specs.Lists.{Has}
 use Rattle.sqlite_rules.specs.Edit.{id_in}
 use Rattle.sqlite_rules.proofs.ListLemmas.{all_has, all_from, has_filtered}
 use Rattle.sqlite_value.specs.declared.value.Value.TheVariants.{Null, Int, Blob}
 use Rattle.sqlite_value.specs.Order.{bytes, value_cmp}
 use Rattle.sqlite_value.proofs.OrderLemmas.{value_cmp-Blob}
 use Rattle.cs_order.specs.Order.{by_bytes}
-use Rattle.cs_store.specs.Contents.{StorePlace, IsListing, place_cmp}
+use Rattle.cs_store.specs.Contents.{IsListing, place_cmp}
 use Rattle.cs_sql_schema.specs.Schemas.{store_schema}
 use Rattle.cs_sql_statements.specs.Tables.{list_rows_text, list_pending_text, IsRow, IsMapped, IsKept, Apart, same_key, row_pair, contents_in}
 use Rattle.cs_sql_statements.specs.Steps.{pair_read}
 use Rattle.cs_sql_statements.proofs.Meanings.{in_table, pair_terms, pairs_in, rising_by, list_is, list_plain, list_pending_is, list_pending_plain}
-use Rattle.cs_sql_statements.proofs.Answers.{place_total, passes_on, table_passes, given, IsOrdered, ordered_is}
+use Rattle.cs_sql_statements.proofs.Answers.{place_total, passes_on, table_passes, given, ordered_is}
 use Rattle.cs_sql_statements.proofs.Apart.{all_filter, apart_filter}
-use Rattle.cs_sql_statements.proofs.Orders.{has_permutation, all_permutation, apart_map, apart_permutation, tied, find_permutation, DontFall, rises}
+use Rattle.cs_sql_statements.proofs.Orders.{all_permutation, apart_map, apart_permutation, tied, find_permutation, DontFall, rises}
 
 -- a key and a body, as the table has them
 abbrev bare : Row → List ℕ × List ℕ

@@ -13,7 +13,7 @@ use Rattle.sqlite_sql.specs.declared.ops.BinaryOp.TheVariants.{Compare}
 use Rattle.sqlite_sql.specs.declared.ops.CompareOp.TheVariants.{Eq}
 use Rattle.sqlite_tied.specs.Compute.{everything}
 use Rattle.cs_sql_schema.specs.Schemas.{front_schema, store_schema}
-use Rattle.cs_sql_statements.specs.Tables.{remove_pending_text, insert_pending_text, select_pending_text, list_pending_text, rows_ids_text, meta_ids_text, log_ids_text, pending_ids_text, remove_row_text, insert_row_text, select_row_text, list_rows_text, remove_meta_text, insert_meta_text, select_meta_text, insert_log_text, select_log_text}
+use Rattle.cs_sql_statements.specs.Tables.{remove_pending_text, insert_pending_text, select_pending_text, list_pending_text, rows_ids_text, meta_ids_text, log_ids_text, pending_ids_text, all_rows_text, all_pending_text, all_names_text, all_bodies_text, remove_row_text, insert_row_text, select_row_text, list_rows_text, remove_meta_text, insert_meta_text, select_meta_text, insert_log_text, select_log_text}
 
 -- the terms of `tab = ?1 AND key = ?2`
 abbrev pub at_place : List Term
@@ -219,3 +219,43 @@ log_ids_store = (refl, refl, (refl, refl))
 pub pending_ids_store : (command_of (understood store_schema pending_ids_text) ≡ Select (record { lets = []; body = ids_in 5 }) (codes "rowid" ∷ [])) × (reads_listing store_schema pending_ids_text ≡ false) × IsPlain (understood store_schema pending_ids_text)
 unfolding understood everything
 pending_ids_store = (refl, refl, (refl, refl))
+
+-- a place and a body
+abbrev pub place_terms : List Term
+place_terms = col 1 1 ∷ col 1 2 ∷ col 1 3 ∷ []
+
+-- all of a table
+abbrev pub all_in : ℕ → List Term → Query
+all_in tree terms = query_on tree [] terms []
+
+pub all_rows_is : (command_of (understood store_schema all_rows_text) ≡ Select (record { lets = []; body = all_in 0 place_terms }) (codes "tab" ∷ codes "key" ∷ codes "body" ∷ [])) × (reads_listing store_schema all_rows_text ≡ false)
+unfolding understood everything
+all_rows_is = (refl, refl)
+
+pub all_rows_plain : IsPlain (understood store_schema all_rows_text)
+unfolding understood everything
+all_rows_plain = (refl, refl)
+
+pub all_pending_is : (command_of (understood store_schema all_pending_text) ≡ Select (record { lets = []; body = all_in 5 place_terms }) (codes "tab" ∷ codes "key" ∷ codes "body" ∷ [])) × (reads_listing store_schema all_pending_text ≡ false)
+unfolding understood everything
+all_pending_is = (refl, refl)
+
+pub all_pending_plain : IsPlain (understood store_schema all_pending_text)
+unfolding understood everything
+all_pending_plain = (refl, refl)
+
+pub all_names_is : (command_of (understood store_schema all_names_text) ≡ Select (record { lets = []; body = all_in 2 (one_column 1) }) (codes "name" ∷ [])) × (reads_listing store_schema all_names_text ≡ false)
+unfolding understood everything
+all_names_is = (refl, refl)
+
+pub all_names_plain : IsPlain (understood store_schema all_names_text)
+unfolding understood everything
+all_names_plain = (refl, refl)
+
+pub all_bodies_is : (command_of (understood store_schema all_bodies_text) ≡ Select (record { lets = []; body = all_in 4 (one_column 4) }) (codes "body" ∷ [])) × (reads_listing store_schema all_bodies_text ≡ false)
+unfolding understood everything
+all_bodies_is = (refl, refl)
+
+pub all_bodies_plain : IsPlain (understood store_schema all_bodies_text)
+unfolding understood everything
+all_bodies_plain = (refl, refl)

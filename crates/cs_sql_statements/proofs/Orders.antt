@@ -1,11 +1,11 @@
 -- Lists with the same elements, apart and in order.
-use Rattle.std.proofs.Common.{◌≡◌, inl, inr, ℕ, zero, suc, ◌+◌, ◌<◌, ◌≤◌, List, [], ◌∷◌, ◌++◌, take, map, Bool, true, false, not, ◌&&◌, cond, Option, Some, None, T, refl, sym, ap, subst, ◌∙◌, arith, length, get_or}
+use Rattle.std.proofs.Common.{◌≡◌, inl, inr, ℕ, ◌+◌, ◌<◌, ◌≤◌, List, [], ◌∷◌, ◌++◌, take, map, Bool, true, false, ◌&&◌, cond, Some, None, T, refl, sym, ap, subst, ◌∙◌, arith, length, get_or}
 use Rattle.std.specs.declared.cmp.Ordering.{Ordering}
 use Rattle.std.specs.declared.cmp.Ordering.TheVariants.{Less, Equal, Greater}
 use Rattle.std.specs.Ordering.{is_eq, is_lt, eq_by_cmp, ordering_reverse}
 use Rattle.std.specs.Cmp.{IsTotalOrder, eq_by_cmp_equiv}
 use Rattle.std.specs.List.{AllByRecursion, list_any, sum_by}
-use Rattle.std.specs.List.Sorted.{IsPermutation, IsSortedBy}
+use Rattle.std.specs.List.Sorted.{IsPermutation}
 use Rattle.std.specs.FinMap.{find, is_sorted, IsAntisymmetric}
 use Rattle.std.specs.FinMap.Entries.{below_all}
 use Rattle.std.proofs.lemmas.Bool.{cases_Bool}
@@ -75,7 +75,7 @@ module _ {A : Type 0} (tie : A → A → Bool) (symm : (a b : A) → tie a b ≡
   pub apart_permutation : (xs ys : List A) → IsPermutation xs ys → Apart tie xs → Apart tie ys
   apart_permutation xs ys same a = apart_from ys (λ x h. let e = sum_by-IsPermutation (marks x) xs ys same in let n = once xs a x (has_permutation xs ys x same h) in omega (arith, e, n))
 
-all_map : {A B : Type 0} (P : B → Type 0) (f : A → B) (xs : List A) → AllByRecursion (λ x. P (f x)) xs → AllByRecursion P (map f xs)
+pub all_map : {A B : Type 0} (P : B → Type 0) (f : A → B) (xs : List A) → AllByRecursion (λ x. P (f x)) xs → AllByRecursion P (map f xs)
 all_map P f [] all = tt
 all_map P f (x ∷ xs) all = (all.0, all_map P f xs all.1)
 
@@ -132,7 +132,7 @@ module _ {K X : Type 0} {R : K → K → Ordering} (total : IsTotalOrder R) (exa
   tied_self : (a : K × X) → tied a a ≡ true
   tied_self a = (eq_by_cmp_equiv total).refl a.0
 
-  find_had : (es : List (K × X)) → Apart tied es → (q : K) (e : K × X) → Has es e → eq_by_cmp R q e.0 ≡ true → find R q es ≡ Some e.1
+  pub find_had : (es : List (K × X)) → Apart tied es → (q : K) (e : K × X) → Has es e → eq_by_cmp R q e.0 ≡ true → find R q es ≡ Some e.1
   find_had [] a q e h t = absurd h
   find_had (f ∷ es) a q e (inl same) t =
       let here : eq_by_cmp R q f.0 ≡ true = subst (λ (z : K × X). eq_by_cmp R q z.0 ≡ true) same t in rw here (ap (λ (z : K × X). Some z.1) (sym same))

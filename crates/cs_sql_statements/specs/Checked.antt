@@ -1,5 +1,5 @@
 -- Whether what the tables hold is what its places say (profile of this project).
-use Rattle.std.specs.Prelude.{◌≡◌, ℕ, ℤ, pos, List, Some, Option}
+use Rattle.std.specs.Prelude.{◌≡◌, ℕ, ℤ, List, Some}
 use Rattle.std.specs.FinMap.{get}
 use Rattle.cs_value.specs.declared.catalog.TableDef.{TableDef}
 use Rattle.sqlite.specs.Order.{Row, column}

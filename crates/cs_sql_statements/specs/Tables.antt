@@ -1,5 +1,5 @@
 -- The statements of a store in SQLite, and what its tables hold (profile of this project).
-use Rattle.std.specs.Prelude.{◌≡◌, ⊤, Bool, true, false, [], ◌∷◌, None, Some, codes, List, ℕ, ℤ, pos, negsuc, ◌-◌, ◌^◌, map}
+use Rattle.std.specs.Prelude.{◌≡◌, ⊤, Bool, false, [], ◌∷◌, codes, List, ℕ, ℤ, pos, negsuc, ◌-◌, ◌^◌, map}
 use Rattle.std.specs.List.{AllByRecursion}
 use Rattle.std.specs.FinMap.{from_entries}
 use Rattle.sqlite.specs.Order.{Row, column}
@@ -54,6 +54,18 @@ insert_log_text = codes "INSERT INTO log VALUES (?1, ?2, ?3, ?4)"
 
 abbrev pub select_log_text : List ℕ
 select_log_text = codes "SELECT origin, number, body FROM log WHERE version = ?1"
+
+abbrev pub all_rows_text : List ℕ
+all_rows_text = codes "SELECT tab, key, body FROM rows"
+
+abbrev pub all_pending_text : List ℕ
+all_pending_text = codes "SELECT tab, key, body FROM pending"
+
+abbrev pub all_names_text : List ℕ
+all_names_text = codes "SELECT name FROM meta"
+
+abbrev pub all_bodies_text : List ℕ
+all_bodies_text = codes "SELECT body FROM log"
 
 abbrev pub rows_ids_text : List ℕ
 rows_ids_text = codes "SELECT rowid FROM rows ORDER BY rowid"

@@ -68,7 +68,11 @@ fn rising_ids<S: Alter>(conn: &mut Connection<S>, sql: &str) -> Result<Option<Ve
 {
     let rows = conn.query_all(sql, &[])?;
     are_whole(&rows)?;
-    if rise(&rows)? { Ok(Some(rows)) } else { Ok(None) }
+    if rise(&rows)? {
+        Ok(Some(rows))
+    } else {
+        Ok(None)
+    }
 }
 
 /// How many entries the log has, if the rowids of each table but `pending` are apart and the log's are the versions from 0 on.

@@ -9,7 +9,7 @@ ghost use Rattle.cs_store.specs.Contents.{IsListing, stored_tables, stored_pendi
 ghost use Rattle.cs_sql_statements.specs.Tables.{contents_in, number_of};
 ghost use Rattle.cs_sql_statements.specs.Steps.{IsReady, Stays, first_read, body_read, item_read, pair_read};
 
-use cs_store::{StoredEntry, StoredBody};
+use cs_store::{StoredBody, StoredEntry};
 use sqlite::{Alter, Connection, Error, Row, params};
 use std::alloc::Global;
 
@@ -124,10 +124,7 @@ pub fn read_pending<S: Alter>(
 }
 
 /// A value of meta.
-pub fn read_meta<S: Alter>(
-    conn: &mut Connection<S>,
-    name: &str,
-) -> Result<Option<Vec<u8>>, Error>
+pub fn read_meta<S: Alter>(conn: &mut Connection<S>, name: &str) -> Result<Option<Vec<u8>>, Error>
     requires idle { conn.old.in_transaction ≡ false }
     requires ready { HasCleanDisk (state S.Store conn.old) → IsTrue (state S.Store conn.old).is_open → IsReady (state S.Store conn.old) }
     ensures idle { conn.new.in_transaction ≡ false }

@@ -13,11 +13,7 @@ use cs_store::{Batch, MetaEdit, PlaceEdit, StoredEntry};
 use sqlite::{Alter, Connection, Error, Transaction, params};
 
 /// Removes the row at a place, if there is one.
-fn remove_row<S: Alter>(
-    tx: &mut Transaction<'_, S>,
-    table: u32,
-    key: &[u8],
-) -> Result<usize, Error>
+fn remove_row<S: Alter>(tx: &mut Transaction<'_, S>, table: u32, key: &[u8]) -> Result<usize, Error>
     requires { HasCleanDisk (state S.Store tx.old.conn.now) → IsInside (state S.Store tx.old.conn.now) }
     ensures same_reference { tx.new.conn.ghost_name ≡ tx.old.conn.ghost_name }
     ensures ok { HasCleanDisk (state S.Store tx.new.conn.now) → OnOk result (Edits (without_row (pos table) key.now (contents_in (state S.Store tx.old.conn.now).now.trees)) (state S.Store tx.old.conn.now) (state S.Store tx.new.conn.now)) }
@@ -66,10 +62,7 @@ fn write_row<S: Alter>(tx: &mut Transaction<'_, S>, edit: &PlaceEdit) -> Result<
 }
 
 /// Writes the rows of a batch, in order.
-fn write_rows<S: Alter>(
-    tx: &mut Transaction<'_, S>,
-    edits: &[PlaceEdit],
-) -> Result<(), Error>
+fn write_rows<S: Alter>(tx: &mut Transaction<'_, S>, edits: &[PlaceEdit]) -> Result<(), Error>
     requires { HasCleanDisk (state S.Store tx.old.conn.now) → IsInside (state S.Store tx.old.conn.now) }
     ensures same_reference { tx.new.conn.ghost_name ≡ tx.old.conn.ghost_name }
     ensures ok { HasCleanDisk (state S.Store tx.new.conn.now) → OnOk result (Edits (with_edits edits.now (contents_in (state S.Store tx.old.conn.now).now.trees)) (state S.Store tx.old.conn.now) (state S.Store tx.new.conn.now)) }
@@ -136,10 +129,7 @@ fn write_change<S: Alter>(tx: &mut Transaction<'_, S>, edit: &PlaceEdit) -> Resu
 }
 
 /// Writes the pending changes of a batch, in order.
-fn write_changes<S: Alter>(
-    tx: &mut Transaction<'_, S>,
-    edits: &[PlaceEdit],
-) -> Result<(), Error>
+fn write_changes<S: Alter>(tx: &mut Transaction<'_, S>, edits: &[PlaceEdit]) -> Result<(), Error>
     requires { HasCleanDisk (state S.Store tx.old.conn.now) → IsInside (state S.Store tx.old.conn.now) }
     ensures same_reference { tx.new.conn.ghost_name ≡ tx.old.conn.ghost_name }
     ensures ok { HasCleanDisk (state S.Store tx.new.conn.now) → OnOk result (Edits (with_changes edits.now (contents_in (state S.Store tx.old.conn.now).now.trees)) (state S.Store tx.old.conn.now) (state S.Store tx.new.conn.now)) }
@@ -180,10 +170,7 @@ fn insert_meta<S: Alter>(
 }
 
 /// Sets a value of meta, or removes it.
-fn write_value<S: Alter>(
-    tx: &mut Transaction<'_, S>,
-    edit: &MetaEdit,
-) -> Result<(), Error>
+fn write_value<S: Alter>(tx: &mut Transaction<'_, S>, edit: &MetaEdit) -> Result<(), Error>
     requires { HasCleanDisk (state S.Store tx.old.conn.now) → IsInside (state S.Store tx.old.conn.now) }
     ensures same_reference { tx.new.conn.ghost_name ≡ tx.old.conn.ghost_name }
     ensures ok { HasCleanDisk (state S.Store tx.new.conn.now) → OnOk result (Edits (with_value edit.now (contents_in (state S.Store tx.old.conn.now).now.trees)) (state S.Store tx.old.conn.now) (state S.Store tx.new.conn.now)) }
@@ -198,10 +185,7 @@ fn write_value<S: Alter>(
 }
 
 /// Writes the values of meta of a batch, in order.
-fn write_values<S: Alter>(
-    tx: &mut Transaction<'_, S>,
-    edits: &[MetaEdit],
-) -> Result<(), Error>
+fn write_values<S: Alter>(tx: &mut Transaction<'_, S>, edits: &[MetaEdit]) -> Result<(), Error>
     requires { HasCleanDisk (state S.Store tx.old.conn.now) → IsInside (state S.Store tx.old.conn.now) }
     ensures same_reference { tx.new.conn.ghost_name ≡ tx.old.conn.ghost_name }
     ensures ok { HasCleanDisk (state S.Store tx.new.conn.now) → OnOk result (Edits (with_values edits.now (contents_in (state S.Store tx.old.conn.now).now.trees)) (state S.Store tx.old.conn.now) (state S.Store tx.new.conn.now)) }

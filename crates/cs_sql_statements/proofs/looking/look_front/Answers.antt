@@ -1,4 +1,4 @@
-use Rattle.std.proofs.Common.{◌≡◌, ℕ, Option, IfSome, sym, subst, arith}
+use Rattle.std.proofs.Common.{ℕ, Option, IfSome, sym, subst, arith}
 use Rattle.sqlite.specs.Held.{state}
 use Rattle.sqlite.specs.State.{HasCleanDisk}
 use Rattle.cs_sql_statements.specs.Found.{IsCounted, IsLogOf, front_in}

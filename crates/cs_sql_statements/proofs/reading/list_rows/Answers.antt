@@ -1,4 +1,4 @@
-use Rattle.std.proofs.Common.{pos, arith, map, subst, sym, ap}
+use Rattle.std.proofs.Common.{pos, arith, map, subst, sym}
 use Rattle.sqlite.specs.Held.{state}
 use Rattle.sqlite.specs.Effect.{Database}
 use Rattle.sqlite.specs.State.{HasCleanDisk}

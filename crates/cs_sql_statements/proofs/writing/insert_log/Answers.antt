@@ -1,4 +1,4 @@
-use Rattle.std.proofs.Common.{◌≡◌, arith, pos, to_z, of_z, to_z-of_z, SFits, w64, rules}
+use Rattle.std.proofs.Common.{◌≡◌, arith, pos, to_z, of_z, to_z-of_z, w64, rules}
 use Rattle.sqlite.specs.Held.{state}
 use Rattle.cs_sql_statements.proofs.Statements.{inserts_log_inside, first_of, second_of}
 use Rattle.cs_sql_statements.proofs.writing.insert_log.Goals as goal
