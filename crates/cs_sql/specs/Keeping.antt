@@ -4,6 +4,7 @@ use Rattle.std.specs.FinMap.{len}
 use Rattle.std.specs.Coded.{Coded, code_by, coded×, coded_ℕ}
 use Rattle.sqlite.specs.Store.{Ghosts}
 use Rattle.sqlite.specs.Effect.{Database}
+use Rattle.sqlite.specs.Schema.{Schema}
 use Rattle.sqlite.specs.Tree.{Trees}
 use Rattle.sqlite.specs.State.{State, HasCleanDisk, Survives}
 use Rattle.sqlite.specs.Held.{Held, state, held_code}
@@ -66,6 +67,12 @@ module _ {S : Type 0} (g : Ghosts S) where
     pub durable : (left : Contents) → MayLeave s left → left ≡ found
 
 -- ---- a database that was found
+
+-- a connection that is open, between two transactions, on the tables of a schema
+pub record IsAt (schema : Schema) (s : State) : Type 0 where
+  pub is_open : IsTrue s.is_open
+  pub settled : s.committed ≡ s.now
+  pub schema_is : s.now.schema ≡ schema
 
 -- what a store over the database holds: nothing where it has no table, what a store's front holds, or what a store holds
 abbrev pub IsHeldIn : Database → Contents → Type 0

@@ -1,5 +1,4 @@
 -- A store in the files at a path (profile of this project).
-use Rattle.std.specs.Prelude.{◌≡◌}
 use Rattle.sqlite.specs.Held.{Held}
 use Rattle.sqlite.specs.Files.{file_state, over_files}
 use Rattle.sqlite.specs.Start.{FindsIn}

@@ -1,19 +1,19 @@
 //! A store over a connection.
 
-ghost use Rattle.std.specs.Prelude.{◌≡◌, false, IfErr, IfOk, IfSome, IsTrue};
+ghost use Rattle.std.specs.Prelude.{◌≡◌, false, IfErr, IfOk, IfSome};
 ghost use Rattle.std.specs.FinMap.{len};
 ghost use Rattle.sqlite.specs.Files.{file_state};
 ghost use Rattle.sqlite.specs.Held.{state};
 ghost use Rattle.sqlite.specs.State.{HasCleanDisk, Survives};
 ghost use Rattle.sqlite.specs.Steps.{over_memory};
 ghost use Rattle.sqlite.specs.WalFiles.{image_at};
-ghost use Rattle.cs_store.specs.Contents.{HasNoGaps, nothing};
+ghost use Rattle.cs_store.specs.Contents.{nothing};
 ghost use Rattle.cs_store.specs.Written.{optional_entry};
 ghost use Rattle.cs_sql_schema.specs.Schemas.{no_schema, front_schema};
 ghost use Rattle.cs_sql_statements.specs.Tables.{contents_in};
 ghost use Rattle.cs_sql_statements.specs.Steps.{IsReady};
 ghost use Rattle.cs_sql_statements.specs.Found.{IsFrontKept, IsLogOf, front_in};
-ghost use Rattle.cs_sql.specs.Keeping.{IsAdopted, IsFresh, IsGivenBack, IsMadeOf, IsToldAs, count_with, made_over};
+ghost use Rattle.cs_sql.specs.Keeping.{IsAdopted, IsAt, IsFresh, IsGivenBack, IsMadeOf, IsToldAs, count_with, made_over};
 ghost use Rattle.cs_sql.specs.Opening.{IsOpenedAt};
 
 use cs_sql_schema::{complete, lay_out};
@@ -21,6 +21,7 @@ use cs_sql_statements::{
     Found, check_store, commit_batch, list_pending, list_rows, look, read_log, read_meta,
     read_pending, read_row,
 };
+use cs_store::laws::no_gaps;
 use cs_store::{Batch, MetaName, RowStore, StoreFault, StoredBody, StoredEntry};
 use cs_value::Catalog;
 use sqlite::{Alter, Connection, Error, ErrorCode, FileFrom, FileStore, MemStore, Start};
@@ -114,10 +115,9 @@ impl<A: Alter> SqlStore<A> {
         mut conn: Connection<A>,
     ) -> Result<SqlStore<A>, (Connection<A>, StoreFault)>
         requires idle { conn.in_transaction ≡ false }
-        requires settled { HasCleanDisk (state A.Store conn) → IsTrue (state A.Store conn).is_open → (state A.Store conn).committed ≡ (state A.Store conn).now }
-        requires empty { HasCleanDisk (state A.Store conn) → IsTrue (state A.Store conn).is_open → (state A.Store conn).now.schema ≡ no_schema }
-        ensures made { IfOk result (λ s. HasCleanDisk (state A.Store s.conn) → IsTrue (state A.Store conn).is_open × IsFresh A.Store s nothing) }
-        ensures survives { IfOk result (λ s. Survives (state A.Store conn) (state A.Store s.conn) (λ left. contents_in left ≡ nothing)) }
+        requires fresh { HasCleanDisk (state A.Store conn) → IsAt no_schema (state A.Store conn) }
+        ensures made { IfOk result (λ s. HasCleanDisk (state A.Store s.conn) → IsFresh A.Store s nothing) }
+        ensures survives { IfOk result (λ s. Survives (state A.Store conn) (state A.Store s.conn) (IsMadeOf (state A.Store conn).now)) }
         ensures kept { IfErr result (λ e. IsGivenBack A.Store (state A.Store conn) e.0) }
     {
         match lay_out(&mut conn) {
@@ -133,12 +133,11 @@ impl<A: Alter> SqlStore<A> {
         entries: u32,
     ) -> Result<SqlStore<A>, (Connection<A>, StoreFault)>
         requires idle { conn.in_transaction ≡ false }
-        requires settled { HasCleanDisk (state A.Store conn) → IsTrue (state A.Store conn).is_open → (state A.Store conn).committed ≡ (state A.Store conn).now }
-        requires front { HasCleanDisk (state A.Store conn) → (state A.Store conn).now.schema ≡ front_schema }
+        requires front { HasCleanDisk (state A.Store conn) → IsAt front_schema (state A.Store conn) }
         requires kept { HasCleanDisk (state A.Store conn) → IsFrontKept (state A.Store conn).now.trees }
         requires log { HasCleanDisk (state A.Store conn) → IsLogOf (front_in (state A.Store conn).now.trees) entries }
-        ensures made { IfOk result (λ s. HasCleanDisk (state A.Store s.conn) → IsTrue (state A.Store conn).is_open × IsFresh A.Store s (front_in (state A.Store conn).now.trees)) }
-        ensures survives { IfOk result (λ s. Survives (state A.Store conn) (state A.Store s.conn) (λ left. contents_in left ≡ front_in (state A.Store conn).now.trees)) }
+        ensures made { IfOk result (λ s. HasCleanDisk (state A.Store s.conn) → IsFresh A.Store s (front_in (state A.Store conn).now.trees)) }
+        ensures survives { IfOk result (λ s. Survives (state A.Store conn) (state A.Store s.conn) (IsMadeOf (state A.Store conn).now)) }
         ensures kept { IfErr result (λ e. IsGivenBack A.Store (state A.Store conn) e.0) }
     {
         match complete(&mut conn) {
@@ -164,6 +163,7 @@ impl<A: Alter> SqlStore<A> {
         ensures kept { IfErr result (λ e. IsGivenBack A.Store (state A.Store conn) e.0) }
     {
         let _ = conn.is_autocommit();
+        no_gaps();
         match look(&mut conn) {
             Ok(Found::Fresh) => SqlStore::make(alloc, conn),
             Ok(Found::Front(entries)) => SqlStore::extend(alloc, conn, entries),
