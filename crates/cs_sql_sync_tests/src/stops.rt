@@ -249,12 +249,12 @@ fn takes<S: RowStore>(hub: &mut Hub<S>, push: &[u8]) -> bool {
 
 /// How many of so many pushes the hub takes one after another.
 fn pushes_taken<S: RowStore>(hub: &mut Hub<S>, pushes: &[&[u8]]) -> usize {
-    let mut taken = 0;
+    let mut taken = 0usize;
     for push in pushes {
         if !takes(hub, push) {
             return taken;
         }
-        taken += 1;
+        taken = taken.saturating_add(1);
     }
     taken
 }
