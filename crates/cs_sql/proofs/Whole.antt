@@ -1,0 +1,216 @@
+-- The store after a commit, and as it is made.
+use Rattle.std.proofs.Common.{◌≡◌, inl, inr, ℕ, pos, ◌+◌, Option, Some, None, Result, Ok, Err, IfOk, IfErr, IfSome, IsTrue, false, refl, sym, ap, subst, ◌∙◌, arith, cond}
+use Rattle.std.specs.FinMap.{get, len, contains_key, len-insert, len-empty}
+use Rattle.std.specs.Ordering.{int_cmp}
+use Rattle.std.proofs.lemmas.Cmp.{int_cmp_total}
+use Rattle.sqlite.specs.Store.{Ghosts}
+use Rattle.sqlite.specs.State.{State, HasCleanDisk, Survives}
+use Rattle.sqlite.specs.Effect.{Database}
+use Rattle.sqlite.specs.Schema.{Schema}
+use Rattle.sqlite.specs.Tree.{Trees}
+use Rattle.sqlite.specs.Held.{Held, state}
+use Rattle.sqlite.proofs.StateLemmas.{survives_then}
+use Rattle.cs_store.specs.Contents.{Contents, HasNoGaps, Log, LogItem, nothing}
+use Rattle.cs_store.specs.Written.{with_entry, optional_entry, item_of}
+use Rattle.cs_store.specs.declared.batch.StoredEntry.{StoredEntry}
+use Rattle.cs_store.specs.declared.batch.Batch.{Batch}
+use Rattle.cs_sql_schema.specs.Schemas.{no_schema, front_schema, store_schema}
+use Rattle.cs_sql_schema.specs.Making.{AddsPending, IsCompleted, IsEmptyIn, IsLaidOut, IsUndone}
+use Rattle.cs_sql_statements.specs.Tables.{IsKept, contents_in}
+use Rattle.cs_sql_statements.specs.Steps.{IsReady, IsWritten, Stays, with_batch}
+use Rattle.cs_sql_statements.specs.Found.{IsFrontKept, IsLogOf, IsUntouched, front_in}
+use Rattle.cs_sql.specs.Keeping.{Kept, IsSteady, IsFresh, IsAdopted, IsAt, IsGivenBack, IsMadeOf, count_with, holds, made_over}
+
+-- ---- a commit
+
+counted_more : (log : Log) (n : ℕ) (entry : Option StoredEntry) → n ≡ len log → IfSome entry (λ _. get log (pos n) ≡ None) → count_with n (optional_entry entry) ≡ len (with_entry (pos n) log (optional_entry entry))
+counted_more log n None is free = is
+counted_more log n (Some v) is free = let lacks : contains_key log (pos n) ≡ false = rw free refl in ap (λ m. m + 1) is ∙ sym (len-insert int_cmp_total log (pos n) (item_of v) ∙ ap (λ b. cond b (len log) (len log + 1)) lacks)
+
+pub written_steady : {S : Type 0} (g : Ghosts S) (old : Kept S) (conn : Held S) (batch : Batch) (entries : ℕ) → IsSteady g old.conn old.last old.entries → conn.in_transaction ≡ false
+    → Survives (state g old.conn) (state g conn) (λ db. IsTrue (state g old.conn).is_open × (contents_in db ≡ with_batch batch (pos old.entries) (contents_in (state g old.conn).now.trees)))
+    → (HasCleanDisk (state g conn) → IsWritten (with_batch batch (pos old.entries) (contents_in (state g old.conn).now.trees)) (state g old.conn) (state g conn))
+    → (HasCleanDisk (state g conn) → IfSome batch.log (λ _. get (contents_in (state g old.conn).now.trees).log (pos old.entries) ≡ None))
+    → entries ≡ count_with old.entries (optional_entry batch.log) → IsSteady g conn conn entries
+written_steady g old conn batch entries steady idle survives written free is = record {
+  idle = idle;
+  ready = λ clean _. (written clean).ready;
+  same = λ _ _. refl;
+  counted = λ clean.
+      let w = written clean in
+      let early : HasCleanDisk (state g old.conn) = omega (arith, clean, survives.clean) in
+      let there = steady.same early w.was_open in
+      let count = steady.counted early ∙ ap (λ (k : Contents). len k.log) (sym there) in
+      is ∙ counted_more (contents_in (state g old.conn).now.trees).log old.entries batch.log count (free clean) ∙ sym (ap (λ (k : Contents). len k.log) w.contents);
+}
+
+-- ---- a store that is made
+
+pub over_steady : {S : Type 0} (g : Ghosts S) (conn : Held S) (entries : ℕ) → conn.in_transaction ≡ false → (HasCleanDisk (state g conn) → IsReady (state g conn))
+    → (HasCleanDisk (state g conn) → entries ≡ len (contents_in (state g conn).now.trees).log) → IsSteady g conn conn entries
+over_steady g conn entries idle ready counted = record { idle = idle; ready = λ clean _. ready clean; same = λ _ _. refl; counted = counted }
+
+laid_is : (trees : Trees) → IsEmptyIn store_schema trees → contents_in trees ≡ nothing
+laid_is trees empty = rw (empty.0, empty.1.0, empty.1.1.0, empty.1.1.1.0) refl
+
+laid_kept : (db : Database) → db.schema ≡ store_schema → IsEmptyIn store_schema db.trees → IsKept db
+laid_kept db schema empty = record {
+  schema = schema;
+  rows = rw empty.0 (record { typed = tt; ids_apart = tt; keys_apart = tt });
+  meta = rw empty.1.0 (record { typed = tt; ids_apart = tt; keys_apart = tt });
+  log = rw empty.1.1.0 (record { typed = tt; ids_apart = tt; keys_apart = tt });
+  pending = rw empty.1.1.1.0 (record { typed = tt; ids_apart = tt; keys_apart = tt });
+}
+
+pub laid_ready : (old new : State) → IsLaidOut old new → IsReady new
+laid_ready old new laid = record { kept = laid_kept new.now laid.schema_is laid.empty; settled = laid.settled }
+
+pub laid_counted : (old new : State) → IsLaidOut old new → 0 ≡ len (contents_in new.now.trees).log
+laid_counted old new laid = sym (ap (λ (k : Contents). len k.log) (laid_is new.now.trees laid.empty) ∙ len-empty int_cmp LogItem)
+
+pub laid_survives : (old new : State) → (HasCleanDisk old → IsAt no_schema old) → Survives old new (IsEmptyIn store_schema) → Survives old new (IsMadeOf old.now)
+laid_survives old new at s = record {
+  clean = s.clean;
+  shield = s.shield;
+  counts = s.counts;
+  limit = s.limit;
+  closes = s.closes;
+  crash = λ clean db left. elim (s.crash clean db left) [ inl before ↦ inl before | inr empty ↦ inr (inl ((at (omega (arith, clean, s.clean))).schema_is, laid_is db empty)) ];
+}
+
+completed_is : (old new : Trees) → AddsPending old new → contents_in new ≡ front_in old
+completed_is old new adds = rw (adds.others.0, adds.others.1.0, adds.others.1.1.0, adds.empty) refl
+
+completed_kept : (old new : Database) → IsFrontKept old.trees → new.schema ≡ store_schema → AddsPending old.trees new.trees → IsKept new
+completed_kept old new kept schema adds = record {
+  schema = schema;
+  rows = rw adds.others.0 kept.rows;
+  meta = rw adds.others.1.0 kept.meta;
+  log = rw adds.others.1.1.0 kept.log;
+  pending = rw adds.empty (record { typed = tt; ids_apart = tt; keys_apart = tt });
+}
+
+pub completed_ready : (old new : State) → IsFrontKept old.now.trees → IsCompleted old new → IsReady new
+completed_ready old new kept done = record { kept = completed_kept old.now new.now kept done.schema_is done.added; settled = done.settled }
+
+pub completed_counted : (old new : State) (entries : ℕ) → IsLogOf (front_in old.now.trees) entries → IsCompleted old new → entries ≡ len (contents_in new.now.trees).log
+completed_counted old new entries log done = log.counted ∙ sym (ap (λ (k : Contents). len k.log) (completed_is old.now.trees new.now.trees done.added))
+
+pub completed_survives : (old new : State) → (HasCleanDisk old → IsAt front_schema old) → Survives old new (λ db. AddsPending old.now.trees db) → Survives old new (IsMadeOf old.now)
+completed_survives old new at s = record {
+  clean = s.clean;
+  shield = s.shield;
+  counts = s.counts;
+  limit = s.limit;
+  closes = s.closes;
+  crash = λ clean db left. elim (s.crash clean db left) [ inl before ↦ inl before | inr adds ↦ inr (inr ((at (omega (arith, clean, s.clean))).schema_is, completed_is old.now.trees db adds)) ];
+}
+
+-- a store just made over a connection that is open holds what it shows, and a stop leaves that alone
+fresh_over : {S : Type 0} (g : Ghosts S) (conn : Held S) (entries : ℕ) (found : Contents) → contents_in (state g conn).now.trees ≡ found → (state g conn).committed ≡ (state g conn).now
+    → ((db : Trees) → (state g conn).may_leave db → db ≡ (state g conn).committed.trees) → IsFresh g (made_over conn entries) found
+fresh_over g conn entries found is settled leaves = record {
+  holds_is = is;
+  durable = λ left m. m.2 ∙ ap contents_in (leaves m.0 m.1 ∙ ap (λ (d : Database). d.trees) settled) ∙ is;
+}
+
+pub laid_fresh : {S : Type 0} (g : Ghosts S) (start : State) (conn : Held S) → IsLaidOut start (state g conn) → ((db : Trees) → (state g conn).may_leave db → db ≡ (state g conn).committed.trees)
+    → IsFresh g (made_over conn 0) nothing
+laid_fresh g start conn laid leaves = fresh_over g conn 0 nothing (laid_is (state g conn).now.trees laid.empty) laid.settled leaves
+
+pub completed_fresh : {S : Type 0} (g : Ghosts S) (start : State) (conn : Held S) (entries : ℕ) → IsCompleted start (state g conn) → ((db : Trees) → (state g conn).may_leave db → db ≡ (state g conn).committed.trees)
+    → IsFresh g (made_over conn entries) (front_in start.now.trees)
+completed_fresh g start conn entries done leaves = fresh_over g conn entries (front_in start.now.trees) (completed_is start.now.trees (state g conn).now.trees done.added) done.settled leaves
+
+-- ---- a connection that is given back
+
+pub undone_stays : (schema : Schema) (old new : State) → IsAt schema old → IsUndone old new → Stays old new
+undone_stays schema old new at undone = record { was_open = undone.was_open; now = λ opened. undone.now opened ∙ at.settled; committed = undone.committed }
+
+pub given_back : {S : Type 0} (g : Ghosts S) (schema : Schema) (start : State) (conn : Held S) → conn.in_transaction ≡ false → (HasCleanDisk start → IsAt schema start) → Survives start (state g conn) (IsMadeOf start.now)
+    → (HasCleanDisk (state g conn) → IsUndone start (state g conn)) → IsGivenBack g start conn
+given_back g schema start conn idle at survives undone = record {
+  idle = idle;
+  stays = λ clean. undone_stays schema start (state g conn) (at (omega (arith, clean, survives.clean))) (undone clean);
+  survives = survives;
+}
+
+pub quiet_back : {S : Type 0} (g : Ghosts S) (start : State) (conn : Held S) → conn.in_transaction ≡ false → Survives start (state g conn) (λ _. ⊥) → (HasCleanDisk (state g conn) → Stays start (state g conn)) → IsGivenBack g start conn
+quiet_back g start conn idle quiet stays = record { idle = idle; stays = stays; survives = made_none start (state g conn) quiet }
+  where
+    made_none : (old new : State) → Survives old new (λ _. ⊥) → Survives old new (IsMadeOf old.now)
+    made_none old new s = record {
+      clean = s.clean;
+      shield = s.shield;
+      counts = s.counts;
+      limit = s.limit;
+      closes = s.closes;
+      crash = λ clean db left. elim (s.crash clean db left) [ inl before ↦ inl before | inr none ↦ absurd none ];
+    }
+
+-- ---- a database that was looked at
+
+pub untouched_at : (schema : Schema) (old new : State) → old.now.schema ≡ schema → IsUntouched old new → IsAt schema new
+untouched_at schema old new is u = record { is_open = u.is_open; settled = u.settled; schema_is = ap (λ (d : Database). d.schema) u.now ∙ is }
+
+-- what is made of a database that was looked at is made of it as it was
+survives_later : (start mid new : State) → (HasCleanDisk mid → mid.now ≡ start.now) → Survives start mid (λ _. ⊥) → Survives mid new (IsMadeOf mid.now) → Survives start new (IsMadeOf start.now)
+survives_later start mid new same first s =
+    survives_then start mid new (λ _. ⊥) (IsMadeOf mid.now) (IsMadeOf start.now) (λ _ db none. absurd none) (λ clean db made. subst (λ (d : Database). IsMadeOf d db) (same (omega (arith, clean, s.clean))) made) first s
+
+pub all_survive : {S X : Type 0} (g : Ghosts S) (start mid : State) → (HasCleanDisk mid → mid.now ≡ start.now) → (r : Result (Kept S) X) → Survives start mid (λ _. ⊥) → IfOk r (λ s. Survives mid (state g s.conn) (IsMadeOf mid.now))
+    → IfOk r (λ s. Survives start (state g s.conn) (IsMadeOf start.now))
+all_survive g start mid same (Ok s) first h = survives_later start mid (state g s.conn) same first h
+all_survive g start mid same (Err e) first h = tt
+
+stays_then : (a b c : State) → Stays a b → Stays b c → Stays a c
+stays_then a b c p q = record {
+  was_open = λ o. p.was_open (q.was_open o);
+  now = λ o. q.now o ∙ p.now (q.was_open o);
+  committed = λ o. q.committed o ∙ p.committed (q.was_open o);
+}
+
+pub all_back : {S F : Type 0} (g : Ghosts S) (start mid : State) → (HasCleanDisk mid → mid.now ≡ start.now) → (r : Result (Kept S) (Held S × F)) → Survives start mid (λ _. ⊥) → (HasCleanDisk mid → Stays start mid)
+    → IfErr r (λ e. IsGivenBack g mid e.0) → IfErr r (λ e. IsGivenBack g start e.0)
+all_back g start mid same (Ok s) first stays h = tt
+all_back g start mid same (Err e) first stays h = record {
+  idle = h.idle;
+  stays = λ clean. stays_then start mid (state g e.0) (stays (omega (arith, clean, h.survives.clean))) (h.stays clean);
+  survives = survives_later start mid (state g e.0) same first h.survives;
+}
+
+pub fresh_adopted : {S X : Type 0} (g : Ghosts S) (start mid : State) (r : Result (Kept S) X) → (HasCleanDisk mid → start.now.schema ≡ no_schema) → (HasCleanDisk mid → IsUntouched start mid) → IfOk r (λ s. Survives mid (state g s.conn) (IsMadeOf mid.now))
+    → IfOk r (λ s. HasCleanDisk (state g s.conn) → IsFresh g s nothing) → HasNoGaps nothing → IfOk r (λ s. HasCleanDisk (state g s.conn) → IsAdopted g start s)
+fresh_adopted g start mid (Err e) schema untouched survives made gapless = tt
+fresh_adopted g start mid (Ok s) schema untouched survives made gapless = λ clean.
+    let early : HasCleanDisk mid = omega (arith, clean, survives.clean) in
+    let u = untouched early in
+    let f = made clean in
+    record { was_open = u.was_open; from = inl (schema early, f.holds_is); no_gaps = subst HasNoGaps (sym f.holds_is) gapless; durable = λ left m. f.durable left m ∙ sym f.holds_is }
+
+pub front_adopted : {S X : Type 0} (g : Ghosts S) (start mid : State) (r : Result (Kept S) X) (entries : ℕ) → (HasCleanDisk mid → start.now.schema ≡ front_schema) → (HasCleanDisk mid → IsLogOf (front_in start.now.trees) entries) → (HasCleanDisk mid → IsUntouched start mid)
+    → IfOk r (λ s. Survives mid (state g s.conn) (IsMadeOf mid.now)) → IfOk r (λ s. HasCleanDisk (state g s.conn) → IsFresh g s (front_in mid.now.trees)) → IfOk r (λ s. HasCleanDisk (state g s.conn) → IsAdopted g start s)
+front_adopted g start mid (Err e) entries schema log untouched survives made = tt
+front_adopted g start mid (Ok s) entries schema log untouched survives made = λ clean.
+    let early : HasCleanDisk mid = omega (arith, clean, survives.clean) in
+    let u = untouched early in
+    let f = made clean in
+    let holds_it : holds g s ≡ front_in start.now.trees = f.holds_is ∙ ap (λ (d : Database). front_in d.trees) u.now in
+    record { was_open = u.was_open; from = inr (inl (schema early, holds_it)); no_gaps = subst HasNoGaps (sym holds_it) (log early).no_gaps; durable = λ left m. f.durable left m ∙ sym f.holds_is }
+
+pub ours_adopted : {S : Type 0} (g : Ghosts S) (start : State) (conn : Held S) (entries : ℕ) → IsKept start.now → IsLogOf (contents_in start.now.trees) entries → IsUntouched start (state g conn)
+    → ((db : Trees) → (state g conn).may_leave db → db ≡ (state g conn).committed.trees) → IsAdopted g start (made_over conn entries)
+ours_adopted g start conn entries kept log u leaves =
+    let holds_it : contents_in (state g conn).now.trees ≡ contents_in start.now.trees = ap (λ (d : Database). contents_in d.trees) u.now in
+    record {
+      was_open = u.was_open;
+      from = inr (inr (kept.schema, holds_it));
+      no_gaps = subst HasNoGaps (sym holds_it) log.no_gaps;
+      durable = λ left m. m.2 ∙ ap contents_in (leaves m.0 m.1 ∙ ap (λ (d : Database). d.trees) u.settled);
+    }
+
+pub ours_ready : (old new : State) → IsKept old.now → IsUntouched old new → IsReady new
+ours_ready old new kept u = record { kept = subst IsKept (sym u.now) kept; settled = u.settled }
+
+pub ours_counted : (old new : State) (entries : ℕ) → IsLogOf (contents_in old.now.trees) entries → IsUntouched old new → entries ≡ len (contents_in new.now.trees).log
+ours_counted old new entries log u = log.counted ∙ sym (ap (λ (d : Database). len (contents_in d.trees).log) u.now)

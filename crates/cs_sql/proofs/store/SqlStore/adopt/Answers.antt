@@ -1,0 +1,43 @@
+use Rattle.std.proofs.Common.{sym, subst}
+use Rattle.sqlite.specs.Held.{state}
+use Rattle.sqlite.specs.State.{HasCleanDisk}
+use Rattle.cs_sql.specs.Keeping.{IsAdopted}
+use Rattle.cs_sql.proofs.Whole.{all_back, all_survive, fresh_adopted, front_adopted, ours_adopted}
+use Rattle.cs_sql.proofs.store.SqlStore.adopt.Goals as goal
+
+pub returns-in-Ok-Fresh-clause-survives : goal.returns-in-Ok-Fresh-clause-survives
+returns-in-Ok-Fresh-clause-survives g c =
+    let found = rw c.in-Ok-Fresh.field-0-is at c.in-Ok-Fresh.ensures.found in
+    all_survive g.A.Store (state g.A.Store c.args.conn) (state g.A.Store c.look.new.conn) (λ clean. (found clean).1.now) c.make.result c.look.ensures.survives c.make.ensures.survives
+
+pub returns-in-Ok-Fresh-clause-kept : goal.returns-in-Ok-Fresh-clause-kept
+returns-in-Ok-Fresh-clause-kept g c =
+    let found = rw c.in-Ok-Fresh.field-0-is at c.in-Ok-Fresh.ensures.found in
+    all_back g.A.Store (state g.A.Store c.args.conn) (state g.A.Store c.look.new.conn) (λ clean. (found clean).1.now) c.make.result c.look.ensures.survives c.look.ensures.same c.make.ensures.kept
+
+pub returns-in-Ok-Front-clause-survives : goal.returns-in-Ok-Front-clause-survives
+returns-in-Ok-Front-clause-survives g c =
+    let found = rw c.in-Ok-Front.field-0-is at c.in-Ok-Front.ensures.found in
+    all_survive g.A.Store (state g.A.Store c.args.conn) (state g.A.Store c.look.new.conn) (λ clean. (found clean).1.now) c.extend.result c.look.ensures.survives c.extend.ensures.survives
+
+pub returns-in-Ok-Front-clause-kept : goal.returns-in-Ok-Front-clause-kept
+returns-in-Ok-Front-clause-kept g c =
+    let found = rw c.in-Ok-Front.field-0-is at c.in-Ok-Front.ensures.found in
+    all_back g.A.Store (state g.A.Store c.args.conn) (state g.A.Store c.look.new.conn) (λ clean. (found clean).1.now) c.extend.result c.look.ensures.survives c.look.ensures.same c.extend.ensures.kept
+
+pub returns-in-Ok-Fresh-clause-adopted : goal.returns-in-Ok-Fresh-clause-adopted
+returns-in-Ok-Fresh-clause-adopted g c =
+    let found = rw c.in-Ok-Fresh.field-0-is at c.in-Ok-Fresh.ensures.found in
+    fresh_adopted g.A.Store (state g.A.Store c.args.conn) (state g.A.Store c.look.new.conn) c.make.result (λ clean. (found clean).0) (λ clean. (found clean).1) c.make.ensures.survives c.make.ensures.made c.no_gaps.ensures.new
+
+pub returns-in-Ok-Front-clause-adopted : goal.returns-in-Ok-Front-clause-adopted
+returns-in-Ok-Front-clause-adopted g c =
+    let found = rw c.in-Ok-Front.field-0-is at c.in-Ok-Front.ensures.found in
+    front_adopted g.A.Store (state g.A.Store c.args.conn) (state g.A.Store c.look.new.conn) c.extend.result c.in-Ok-Front.entries (λ clean. (found clean).0.0) (λ clean. (found clean).0.2) (λ clean. (found clean).1) c.extend.ensures.survives c.extend.ensures.made
+
+pub returns-in-Ok-Ours-clause-adopted : goal.returns-in-Ok-Ours-clause-adopted
+returns-in-Ok-Ours-clause-adopted g c =
+    let found = rw c.in-Ok-Ours.field-0-is at c.in-Ok-Ours.ensures.found in
+    subst (λ s. HasCleanDisk (state g.A.Store s.conn) → IsAdopted g.A.Store (state g.A.Store c.args.conn) s) (sym c.over.ensures) (λ clean.
+    let it = found clean in
+    ours_adopted g.A.Store (state g.A.Store c.args.conn) c.look.new.conn c.in-Ok-Ours.entries it.0.0 it.0.1 it.1 (λ db left. g.met.A.Store.settled c.look.new.conn.store db it.1.is_open left))

@@ -1,0 +1,13 @@
+//! A store in SQLite, `SqlStore`: rows, pending changes, values and a log in four tables of a database that any SQLite tool
+//! opens. It meets what any store owes (`cs_store`'s `RowStore`); every commit is one transaction, so a stop leaves what the
+//! store held or the whole commit. `open_memory` makes one in memory, `open_path` opens a file, `adopt` takes a connection
+//! that the caller opened; each judges what it finds, and refuses another's database untouched; `laws` says that what a store
+//! then holds is one. The crate stands on the
+//! statements (`cs_sql_statements`), on the schema (`cs_sql_schema`), on what stores owe (`cs_store`) and on `sqlite`.
+//! Its tests stand in `cs_sql_tests`.
+#![tactic(auto)]
+
+pub mod laws;
+mod store;
+
+pub use store::SqlStore;

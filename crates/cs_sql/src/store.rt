@@ -1,0 +1,300 @@
+//! A store over a connection.
+
+ghost use Rattle.std.specs.Prelude.{◌≡◌, false, IfErr, IfOk, IfSome};
+ghost use Rattle.std.specs.FinMap.{len};
+ghost use Rattle.sqlite.specs.Files.{file_state};
+ghost use Rattle.sqlite.specs.Held.{state};
+ghost use Rattle.sqlite.specs.State.{HasCleanDisk, Survives};
+ghost use Rattle.sqlite.specs.Steps.{over_memory};
+ghost use Rattle.sqlite.specs.WalFiles.{image_at};
+ghost use Rattle.cs_store.specs.Contents.{nothing};
+ghost use Rattle.cs_store.specs.Written.{optional_entry};
+ghost use Rattle.cs_sql_schema.specs.Schemas.{no_schema, front_schema};
+ghost use Rattle.cs_sql_statements.specs.Tables.{contents_in};
+ghost use Rattle.cs_sql_statements.specs.Steps.{IsReady};
+ghost use Rattle.cs_sql_statements.specs.Found.{IsFrontKept, IsLogOf, front_in};
+ghost use Rattle.cs_sql.specs.Keeping.{IsAdopted, IsAt, IsFresh, IsGivenBack, IsMadeOf, IsToldAs, count_with, made_over};
+ghost use Rattle.cs_sql.specs.Opening.{IsOpenedAt};
+
+use cs_sql_schema::{complete, lay_out};
+use cs_sql_statements::{
+    Found, check_store, commit_batch, list_pending, list_rows, look, read_log, read_meta,
+    read_pending, read_row,
+};
+use cs_store::laws::no_gaps;
+use cs_store::{Batch, MetaName, RowStore, StoreFault, StoredBody, StoredEntry};
+use cs_value::Catalog;
+use sqlite::{Alter, Connection, Error, ErrorCode, FileFrom, FileStore, MemStore, Start};
+use std::alloc::Global;
+use std::marker::Model;
+use std::rt::HostRuntime;
+use std::snapshot::Snapshot;
+
+/// A store of rows, pending changes, values and a log in the tables of a connection of `sqlite`. Each commit is one
+/// transaction, whatever the batch. A call of `sqlite` that fails for another reason than want of memory is counted as a
+/// failure of the device. (Profile of this project.)
+#[derive(Drop)]
+pub struct SqlStore<A: Alter> {
+    conn: Connection<A>,
+    /// What the connection held when a commit last succeeded: what it shows where it is still open.
+    last: Snapshot<Connection<A>>,
+    entries: u32,
+    failures: u64,
+    misreads: u64,
+    alloc: Global,
+}
+
+impl<A: Alter> Model for SqlStore<A> {
+    ghost use Rattle.cs_sql.specs.Keeping.{Kept, kept_code, IsSteady};
+
+    ghost Value = { Kept A };
+
+    ghost coded = { kept_code A.code };
+
+    ghost view = { λ s. record { conn = s.conn; last = s.last.value; entries = s.entries; failures = s.failures; misreads = s.misreads } };
+
+    ghost invariant = { λ s. IsSteady A.Store s.conn s.last.value s.entries };
+}
+
+/// What a fault of `sqlite` is told as. One that isn't want of memory is counted.
+fn fault_of(error: &Error, failures: &mut u64) -> StoreFault
+    ensures { IsToldAs result failures.old failures.new }
+{
+    if let Error::SqliteFailure(ErrorCode::OutOfMemory) = error {
+        return StoreFault::Memory;
+    }
+    *failures = failures.saturating_add(1);
+    StoreFault::Device
+}
+
+/// How many entries the log has with the batch's.
+fn entries_with(entries: u32, batch: &Batch) -> Option<u32>
+    ensures { IfSome result (λ count. count ≡ count_with entries (optional_entry batch.now.log)) }
+{
+    match &batch.log {
+        Some(_) => entries.checked_add(1),
+        None => Some(entries),
+    }
+}
+
+impl SqlStore<MemStore> {
+    /// A store in memory that holds nothing. (Profile of this project.)
+    pub fn open_memory(alloc: Global) -> Result<SqlStore<MemStore>, StoreFault>
+        ensures { IfOk result (λ s. IsFresh over_memory s nothing) }
+    {
+        let conn = Connection::open_in_memory(alloc)?;
+        match SqlStore::make(alloc, conn) {
+            Ok(store) => Ok(store),
+            Err((_, fault)) => Err(fault),
+        }
+    }
+}
+
+impl<A: Alter> SqlStore<A> {
+    /// A store over a connection on the store's tables, as the last commit left it.
+    fn over(alloc: Global, conn: Connection<A>, entries: u32) -> SqlStore<A>
+        requires idle { conn.in_transaction ≡ false }
+        requires ready { HasCleanDisk (state A.Store conn) → IsReady (state A.Store conn) }
+        requires counted { HasCleanDisk (state A.Store conn) → entries ≡ len (contents_in (state A.Store conn).now.trees).log }
+        ensures { result ≡ made_over conn entries }
+    {
+        let last = Snapshot::of(&conn);
+        SqlStore {
+            conn,
+            last,
+            entries,
+            failures: 0,
+            misreads: 0,
+            alloc,
+        }
+    }
+
+    /// A store that holds nothing, over a connection to a database that has no table.
+    fn make(
+        alloc: Global,
+        mut conn: Connection<A>,
+    ) -> Result<SqlStore<A>, (Connection<A>, StoreFault)>
+        requires idle { conn.in_transaction ≡ false }
+        requires fresh { HasCleanDisk (state A.Store conn) → IsAt no_schema (state A.Store conn) }
+        ensures made { IfOk result (λ s. HasCleanDisk (state A.Store s.conn) → IsFresh A.Store s nothing) }
+        ensures survives { IfOk result (λ s. Survives (state A.Store conn) (state A.Store s.conn) (IsMadeOf (state A.Store conn).now)) }
+        ensures kept { IfErr result (λ e. IsGivenBack A.Store (state A.Store conn) e.0) }
+    {
+        match lay_out(&mut conn) {
+            Ok(()) => Ok(SqlStore::over(alloc, conn, 0)),
+            Err(error) => Err((conn, fault_of(&error, &mut 0))),
+        }
+    }
+
+    /// A store over a connection to a database that has the store's tables but for `pending`, and so many entries of the log.
+    fn extend(
+        alloc: Global,
+        mut conn: Connection<A>,
+        entries: u32,
+    ) -> Result<SqlStore<A>, (Connection<A>, StoreFault)>
+        requires idle { conn.in_transaction ≡ false }
+        requires front { HasCleanDisk (state A.Store conn) → IsAt front_schema (state A.Store conn) }
+        requires kept { HasCleanDisk (state A.Store conn) → IsFrontKept (state A.Store conn).now.trees }
+        requires log { HasCleanDisk (state A.Store conn) → IsLogOf (front_in (state A.Store conn).now.trees) entries }
+        ensures made { IfOk result (λ s. HasCleanDisk (state A.Store s.conn) → IsFresh A.Store s (front_in (state A.Store conn).now.trees)) }
+        ensures survives { IfOk result (λ s. Survives (state A.Store conn) (state A.Store s.conn) (IsMadeOf (state A.Store conn).now)) }
+        ensures kept { IfErr result (λ e. IsGivenBack A.Store (state A.Store conn) e.0) }
+    {
+        match complete(&mut conn) {
+            Ok(()) => Ok(SqlStore::over(alloc, conn, entries)),
+            Err(error) => Err((conn, fault_of(&error, &mut 0))),
+        }
+    }
+
+    /// A store over a connection that the caller opened and that is in no transaction. It holds what the connection shows; a
+    /// database without a table gets the store's, and one that has all but `pending` gets that. (Profile of this project.)
+    ///
+    /// # Errors
+    ///
+    /// `Memory`, where `sqlite` answered that, and `Device`, where it answered another fault or where the database is another's:
+    /// its schema isn't the store's, rowids aren't apart, or the log's versions have gaps. The connection is given back as it was.
+    pub fn adopt(
+        alloc: Global,
+        mut conn: Connection<A>,
+    ) -> Result<SqlStore<A>, (Connection<A>, StoreFault)>
+        requires idle { conn.in_transaction ≡ false }
+        ensures adopted { IfOk result (λ s. HasCleanDisk (state A.Store s.conn) → IsAdopted A.Store (state A.Store conn) s) }
+        ensures survives { IfOk result (λ s. Survives (state A.Store conn) (state A.Store s.conn) (IsMadeOf (state A.Store conn).now)) }
+        ensures kept { IfErr result (λ e. IsGivenBack A.Store (state A.Store conn) e.0) }
+    {
+        let _ = conn.is_autocommit();
+        no_gaps();
+        match look(&mut conn) {
+            Ok(Found::Fresh) => SqlStore::make(alloc, conn),
+            Ok(Found::Front(entries)) => SqlStore::extend(alloc, conn, entries),
+            Ok(Found::Ours(entries)) => Ok(SqlStore::over(alloc, conn, entries)),
+            Ok(Found::Foreign) => Err((conn, StoreFault::Device)),
+            Err(error) => Err((conn, fault_of(&error, &mut 0))),
+        }
+    }
+
+    /// The connection, as it is. (Profile of this project.)
+    pub fn close(self) -> Connection<A>
+        ensures { result ≡ self.conn }
+    {
+        self.conn
+    }
+}
+
+impl<S: Start> SqlStore<FileStore<FileFrom<S>>> {
+    /// A store in the file at a path, as `sqlite`'s `open_from` opens it and `adopt` takes it. (Profile of this project.)
+    pub fn open_path(
+        rt: &HostRuntime,
+        path: &str,
+        start: S,
+    ) -> Result<SqlStore<FileStore<FileFrom<S>>>, StoreFault>
+        ensures { IfOk result (λ s. HasCleanDisk (file_state s.conn) → IsOpenedAt (image_at S.Start) s) }
+    {
+        match Connection::open_from(rt, path, false, start) {
+            Ok(conn) => match SqlStore::adopt(rt.alloc(), conn) {
+                Ok(store) => Ok(store),
+                Err((_, fault)) => Err(fault),
+            },
+            Err((error, _)) => Err(fault_of(&error, &mut 0)),
+        }
+    }
+}
+
+impl<A: Alter> RowStore for SqlStore<A> {
+    ghost use Rattle.std.specs.Prelude.{refl};
+    ghost use Rattle.std.proofs.Math.Logic.{∥∥₁_map};
+    ghost use Rattle.sqlite.specs.Held.{state};
+    ghost use Rattle.sqlite.specs.State.{HasCleanDisk};
+    ghost use Rattle.cs_sql_statements.specs.Tables.{contents_in};
+    ghost use Rattle.cs_sql.specs.Keeping.{holds, MayLeave};
+
+    ghost contents = { λ s. holds A.Store s };
+
+    ghost honest = { λ s. HasCleanDisk (state A.Store s.conn) };
+
+    ghost failed = { λ s. s.failures };
+
+    ghost may_leave = { λ s. MayLeave A.Store s };
+
+    ghost misreads = { λ s. s.misreads };
+
+    ghost leaves = { λ s clean. ∥∥₁_map (A.Store.survives s.conn.store clean) (λ left. (contents_in left.0, (left.0, left.1, refl))) };
+
+    fn get(&mut self, table: u32, key: &[u8]) -> Result<Option<Vec<u8>>, StoreFault> {
+        match read_row(&mut self.conn, table, key) {
+            Ok(body) => Ok(body),
+            Err(error) => Err(fault_of(&error, &mut self.failures)),
+        }
+    }
+
+    fn list(&mut self, table: u32) -> Result<Vec<StoredBody>, StoreFault> {
+        match list_rows(self.alloc, &mut self.conn, table) {
+            Ok(rows) => Ok(rows),
+            Err(error) => Err(fault_of(&error, &mut self.failures)),
+        }
+    }
+
+    fn pend_get(&mut self, table: u32, key: &[u8]) -> Result<Option<Vec<u8>>, StoreFault> {
+        match read_pending(&mut self.conn, table, key) {
+            Ok(change) => Ok(change),
+            Err(error) => Err(fault_of(&error, &mut self.failures)),
+        }
+    }
+
+    fn pend_list(&mut self, table: u32) -> Result<Vec<StoredBody>, StoreFault> {
+        match list_pending(self.alloc, &mut self.conn, table) {
+            Ok(changes) => Ok(changes),
+            Err(error) => Err(fault_of(&error, &mut self.failures)),
+        }
+    }
+
+    fn meta(&mut self, name: MetaName) -> Result<Option<Vec<u8>>, StoreFault> {
+        match read_meta(&mut self.conn, name.text()) {
+            Ok(value) => Ok(value),
+            Err(error) => Err(fault_of(&error, &mut self.failures)),
+        }
+    }
+
+    fn log_len(&mut self) -> Result<u32, StoreFault> {
+        Ok(self.entries)
+    }
+
+    fn log_get(&mut self, version: u32) -> Result<Option<StoredEntry>, StoreFault> {
+        match read_log(&mut self.conn, version) {
+            Ok(entry) => Ok(entry),
+            Err(error) => Err(fault_of(&error, &mut self.failures)),
+        }
+    }
+
+    fn commit(&mut self, batch: &Batch) -> Result<(), StoreFault> {
+        let Some(entries) = entries_with(self.entries, batch) else {
+            self.failures = self.failures.saturating_add(1);
+            return Err(StoreFault::Device);
+        };
+        match commit_batch(&mut self.conn, batch, self.entries) {
+            Ok(()) => {
+                self.last = Snapshot::of(&self.conn);
+                self.entries = entries;
+                Ok(())
+            }
+            Err(error) => Err(fault_of(&error, &mut self.failures)),
+        }
+    }
+
+    fn misread(&mut self) -> StoreFault {
+        self.failures = self.failures.saturating_add(1);
+        self.misreads = self.misreads.saturating_add(1);
+        StoreFault::Device
+    }
+
+    fn check(&mut self, catalog: &Catalog) -> Result<bool, StoreFault> {
+        match check_store(self.alloc, &mut self.conn, catalog) {
+            Ok(good) => Ok(good),
+            Err(error) => Err(fault_of(&error, &mut self.failures)),
+        }
+    }
+
+    fn failures(&self) -> u64 {
+        self.failures
+    }
+}

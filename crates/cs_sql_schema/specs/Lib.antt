@@ -1,0 +1,3 @@
+pub mod Schemas
+pub mod Judged
+pub mod Making

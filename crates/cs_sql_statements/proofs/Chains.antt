@@ -1,0 +1,114 @@
+-- Steps after one another.
+use Rattle.std.proofs.Common.{◌≡◌, inl, inr, Result, Ok, Err, OnOk, OnErr, ℕ, List, [], ◌∷◌, ◌++◌, ◌+◌, ◌<◌, length, take, get_or, Option, Some, None, IsTrue, refl, sym, ap, subst, ◌∙◌, arith, cond, Bool, true, false}
+use Rattle.std.specs.FinMap.{get, insert, remove, get-insert, get-remove, same_map}
+use Rattle.std.specs.Cmp.{eq_by_cmp_equiv}
+use Rattle.std.specs.Ordering.{eq_by_cmp}
+use Rattle.std.proofs.lemmas.Cmp.{nat_list_cmp_total}
+use Rattle.std.proofs.lemmas.Map.Lookups.{exact_bytes}
+use Rattle.sqlite.specs.State.{State, HasCleanDisk, KeepsCommit, IsUnchanged, IsNotRun, Survives}
+use Rattle.sqlite.specs.Order.{Row}
+use Rattle.sqlite.specs.declared.error.Error.{Error}
+use Rattle.sqlite.proofs.StateLemmas.{survives_then}
+use Rattle.cs_order.specs.Order.{by_bytes}
+use Rattle.cs_store.specs.Contents.{Contents, place_cmp, StorePlace, Bodies, Meta}
+use Rattle.cs_store.specs.Written.{edit_body, edit_meta}
+use Rattle.cs_store.specs.declared.batch.PlaceEdit.{PlaceEdit}
+use Rattle.cs_store.specs.declared.batch.MetaEdit.{MetaEdit}
+use Rattle.std.specs.List.{fold}
+use Rattle.std.proofs.lemmas.List.{take_more}
+use Rattle.std.proofs.lemmas.List.Sums.{fold-append}
+use Rattle.cs_sql_statements.specs.Tables.{contents_in}
+use Rattle.cs_sql_statements.specs.Steps.{Edits, with_edit, with_edits, with_change, with_changes, with_value, with_values}
+use Rattle.cs_sql_statements.proofs.Answers.{place_total, place_exact}
+
+pub removed : (rows : Bodies) (place : StorePlace) → get (remove rows place) place ≡ None
+removed rows place = get-remove place_total rows place place ∙ ap (λ b. cond b None (get rows place)) ((eq_by_cmp_equiv place_total).refl place)
+
+passed : {A : Type 0} (b : Bool) (x y : Option A) → cond b x (cond b None y) ≡ cond b x y
+passed true x y = refl
+passed false x y = refl
+
+-- a row that is removed first and then set
+pub set_anew : (rows : Bodies) (place : StorePlace) (body : List ℕ) → insert (remove rows place) place body ≡ insert rows place body
+set_anew rows place body = same_map place_total place_exact _ _ (λ q.
+    get-insert place_total (remove rows place) place body q ∙ ap (cond (eq_by_cmp place_cmp q place) (Some body)) (get-remove place_total rows place q)
+    ∙ passed (eq_by_cmp place_cmp q place) (Some body) (get rows q) ∙ sym (get-insert place_total rows place body q))
+
+pub meta_removed : (meta : Meta) (name : List ℕ) → get (remove meta name) name ≡ None
+meta_removed meta name = get-remove nat_list_cmp_total meta name name ∙ ap (λ b. cond b None (get meta name)) ((eq_by_cmp_equiv nat_list_cmp_total).refl name)
+
+pub meta_set_anew : (meta : Meta) (name value : List ℕ) → insert (remove meta name) name value ≡ insert meta name value
+meta_set_anew meta name value = same_map nat_list_cmp_total exact_bytes _ _ (λ q.
+    get-insert nat_list_cmp_total (remove meta name) name value q ∙ ap (cond (eq_by_cmp (by_bytes) q name) (Some value)) (get-remove nat_list_cmp_total meta name q)
+    ∙ passed (eq_by_cmp (by_bytes) q name) (Some value) (get meta q) ∙ sym (get-insert nat_list_cmp_total meta name value q))
+
+pub quiet_then : (a b c : State) → Survives a b (λ _. ⊥) → Survives b c (λ _. ⊥) → Survives a c (λ _. ⊥)
+quiet_then a b c p q = survives_then a b c (λ _. ⊥) (λ _. ⊥) (λ _. ⊥) (λ _ db none. none) (λ _ db none. none) p q
+
+-- a step that reads what the steps before it left
+pub then_edits : (a b c : State) (was : Contents) (f : Contents → Contents) → Edits was a b → Edits (f (contents_in b.now.trees)) b c → Edits (f was) a c
+then_edits a b c was f p q = record {
+  inside = q.inside;
+  kept = record { was_open = λ o. p.kept.was_open (q.kept.was_open o); committed = λ o. q.kept.committed o ∙ p.kept.committed (q.kept.was_open o) };
+  stays = λ o. q.stays (p.stays o);
+  contents = λ o. q.contents o ∙ ap f (p.contents (q.kept.was_open o));
+}
+
+pub then_ok : {T E : Type 0} (r : Result T E) (a b c : State) (was : Contents) (f : Contents → Contents) → Edits was a b → OnOk r (Edits (f (contents_in b.now.trees)) b c) → OnOk r (Edits (f was) a c)
+then_ok (Ok x) a b c was f p q = then_edits a b c was f p q
+then_ok (Err e) a b c was f p q = tt
+
+-- one edit more
+pub one_more : (a b c : State) (was : Contents) (edits : List PlaceEdit) (i : ℕ) (edit : PlaceEdit) → i < length edits → edit ≡ get_or edits i edit → Edits (with_edits (take i edits) was) a b
+    → Edits (with_edit edit (contents_in b.now.trees)) b c → Edits (with_edits (take (i + 1) edits) was) a c
+one_more a b c was edits i edit low is p q =
+    let all : take (i + 1) edits ≡ take i edits ++ edit ∷ [] = take_more edits i edit low ∙ ap (λ e. take i edits ++ e ∷ []) (sym is) in
+    let same : with_edit edit (with_edits (take i edits) was) ≡ with_edits (take (i + 1) edits) was =
+    ap (λ (m : Bodies). record was { rows = m }) (sym (ap (fold edit_body was.rows) all ∙ fold-append edit_body was.rows (take i edits) (edit ∷ []))) in
+    subst (λ k. Edits k a c) same (then_edits a b c (with_edits (take i edits) was) (with_edit edit) p q)
+
+-- one edit of pending changes more
+pub one_change_more : (a b c : State) (was : Contents) (edits : List PlaceEdit) (i : ℕ) (edit : PlaceEdit) → i < length edits → edit ≡ get_or edits i edit → Edits (with_changes (take i edits) was) a b
+    → Edits (with_change edit (contents_in b.now.trees)) b c → Edits (with_changes (take (i + 1) edits) was) a c
+one_change_more a b c was edits i edit low is p q =
+    let all : take (i + 1) edits ≡ take i edits ++ edit ∷ [] = take_more edits i edit low ∙ ap (λ e. take i edits ++ e ∷ []) (sym is) in
+    let same : with_change edit (with_changes (take i edits) was) ≡ with_changes (take (i + 1) edits) was =
+    ap (λ (m : Bodies). record was { pending = m }) (sym (ap (fold edit_body was.pending) all ∙ fold-append edit_body was.pending (take i edits) (edit ∷ []))) in
+    subst (λ k. Edits k a c) same (then_edits a b c (with_changes (take i edits) was) (with_change edit) p q)
+
+pub one_value_more : (a b c : State) (was : Contents) (edits : List MetaEdit) (i : ℕ) (edit : MetaEdit) → i < length edits → edit ≡ get_or edits i edit → Edits (with_values (take i edits) was) a b
+    → Edits (with_value edit (contents_in b.now.trees)) b c → Edits (with_values (take (i + 1) edits) was) a c
+one_value_more a b c was edits i edit low is p q =
+    let all : take (i + 1) edits ≡ take i edits ++ edit ∷ [] = take_more edits i edit low ∙ ap (λ e. take i edits ++ e ∷ []) (sym is) in
+    let same : with_value edit (with_values (take i edits) was) ≡ with_values (take (i + 1) edits) was =
+    ap (λ (m : Meta). record was { meta = m }) (sym (ap (fold edit_meta was.meta) all ∙ fold-append edit_meta was.meta (take i edits) (edit ∷ []))) in
+    subst (λ k. Edits k a c) same (then_edits a b c (with_values (take i edits) was) (with_value edit) p q)
+
+-- ---- failures
+
+pub keeps_unchanged : (a b : State) → IsUnchanged a b → KeepsCommit a b
+keeps_unchanged a b h = record { was_open = λ _. h.0.was_open; committed = λ _. h.0.committed_is }
+
+pub keeps_unrun : (a b : State) (sql : List ℕ) (params : Row) (e : Error) → IsNotRun a b sql params e → KeepsCommit a b
+unfolding IsNotRun
+keeps_unrun a b sql params e (inl h) = keeps_unchanged a b h.1
+keeps_unrun a b sql params e (inr h) = record { was_open = h.3.was_open; committed = λ o. (h.3.undone o).1 }
+
+-- ---- the whole commit
+
+-- what a stop may leave of a transaction that began, wrote and was committed
+pub survives_commit : (start probed last end : State) (after : Contents) → Survives start probed (λ _. ⊥) → (HasCleanDisk probed → IsTrue probed.is_open)
+    → Survives probed last (λ _. ⊥) → (HasCleanDisk last → Edits after probed last) → Survives last end (λ db. db ≡ last.now.trees)
+    → (HasCleanDisk probed → IsTrue start.is_open) → Survives start end (λ db. IsTrue start.is_open × (contents_in db ≡ after))
+survives_commit start probed last end after p serves q writes r opened =
+    survives_then start last end (λ _. ⊥) (λ db. db ≡ last.now.trees) (λ db. IsTrue start.is_open × (contents_in db ≡ after)) (λ _ db none. absurd none)
+    (λ clean db is.
+    let late : HasCleanDisk last = omega (arith, r.clean) in
+    let early : HasCleanDisk probed = omega (arith, r.clean, q.clean) in
+    let it = writes late in (opened early, ap contents_in is ∙ it.contents (it.stays (serves early))))
+    (quiet_then start probed last p q) r
+
+-- what holds in any case holds at `Err`
+pub on_err : {T E : Type 0} {P : Type 0} (r : Result T E) → P → OnErr r P
+on_err (Ok x) p = tt
+on_err (Err e) p = p

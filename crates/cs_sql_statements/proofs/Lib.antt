@@ -1,0 +1,12 @@
+pub mod Meanings
+pub mod Keyed
+pub mod Apart
+pub mod Removal
+pub mod Answers
+pub mod Statements
+pub mod Chains
+pub mod Finding
+pub mod Orders
+pub mod Listed
+pub mod Adopting
+pub mod Holding

@@ -1,0 +1,4 @@
+pub mod Tables
+pub mod Steps
+pub mod Found
+pub mod Checked

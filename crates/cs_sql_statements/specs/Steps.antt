@@ -1,0 +1,109 @@
+-- What the steps of a commit leave of a connection, and what a query shows (profile of this project).
+use Rattle.std.specs.Prelude.{◌≡◌, ℤ, ℕ, List, [], ◌∷◌, Option, Some, None, IsTrue, fold}
+use Rattle.std.specs.FinMap.{insert, remove}
+use Rattle.sqlite.specs.Order.{Row, column}
+use Rattle.sqlite.specs.Edit.{id_in}
+use Rattle.sqlite_value.specs.Order.{bytes}
+use Rattle.sqlite.specs.State.{State, KeepsCommit}
+use Rattle.cs_store.specs.Contents.{Contents, LogItem}
+use Rattle.cs_store.specs.Written.{edit_body, edit_meta, with_entry, optional_entry}
+use Rattle.cs_store.specs.declared.batch.PlaceEdit.{PlaceEdit}
+use Rattle.cs_store.specs.declared.batch.MetaEdit.{MetaEdit}
+use Rattle.cs_store.specs.declared.batch.Batch.{Batch}
+use Rattle.cs_sql_schema.specs.Schemas.{store_schema}
+use Rattle.cs_sql_statements.specs.Tables.{IsKept, contents_in, number_of}
+
+-- inside a transaction on the store's tables
+pub record IsInside (s : State) : Type 0 where
+  pub writes : IsTrue s.in_transaction
+  pub kept : IsTrue s.is_open → IsKept s.now
+
+-- the transaction goes on, and now holds this
+pub record Edits (after : Contents) (old new : State) : Type 0 where
+  pub inside : IsInside new
+  pub kept : KeepsCommit old new
+  pub stays : IsTrue old.is_open → IsTrue new.is_open
+  pub contents : IsTrue new.is_open → contents_in new.now.trees ≡ after
+
+-- the contents without the row at a place, and with a row there
+abbrev pub without_row : ℤ → List ℕ → Contents → Contents
+without_row table key c = record c { rows = remove c.rows (table, key) }
+
+abbrev pub with_row : ℤ → List ℕ → List ℕ → Contents → Contents
+with_row table key body c = record c { rows = insert c.rows (table, key) body }
+
+abbrev pub with_edit : PlaceEdit → Contents → Contents
+with_edit edit c = record c { rows = edit_body c.rows edit }
+
+abbrev pub with_edits : List PlaceEdit → Contents → Contents
+with_edits edits c = record c { rows = fold edit_body c.rows edits }
+
+-- the same of pending changes
+abbrev pub without_pending : ℤ → List ℕ → Contents → Contents
+without_pending table key c = record c { pending = remove c.pending (table, key) }
+
+abbrev pub with_pending : ℤ → List ℕ → List ℕ → Contents → Contents
+with_pending table key body c = record c { pending = insert c.pending (table, key) body }
+
+abbrev pub with_change : PlaceEdit → Contents → Contents
+with_change edit c = record c { pending = edit_body c.pending edit }
+
+abbrev pub with_changes : List PlaceEdit → Contents → Contents
+with_changes edits c = record c { pending = fold edit_body c.pending edits }
+
+abbrev pub without_named : List ℕ → Contents → Contents
+without_named name c = record c { meta = remove c.meta name }
+
+abbrev pub with_named : List ℕ → List ℕ → Contents → Contents
+with_named name value c = record c { meta = insert c.meta name value }
+
+abbrev pub with_value : MetaEdit → Contents → Contents
+with_value edit c = record c { meta = edit_meta c.meta edit }
+
+abbrev pub with_values : List MetaEdit → Contents → Contents
+with_values edits c = record c { meta = fold edit_meta c.meta edits }
+
+-- with an entry of the log at this version
+abbrev pub with_log : ℤ → Option LogItem → Contents → Contents
+with_log version entry c = record c { log = with_entry version c.log entry }
+
+abbrev pub with_batch : Batch → ℤ → Contents → Contents
+with_batch batch version c = with_log version (optional_entry batch.log) (with_values batch.meta.items (with_changes batch.pending.items (with_edits batch.rows.items c)))
+
+-- the store's tables and nothing else, with nothing under way
+pub record IsOurs (s : State) : Type 0 where
+  pub schema : s.now.schema ≡ store_schema
+  pub settled : s.committed ≡ s.now
+
+-- between two transactions
+pub record IsReady (s : State) : Type 0 where
+  pub kept : IsKept s.now
+  pub settled : s.committed ≡ s.now
+
+-- the change is committed
+pub record IsWritten (after : Contents) (old new : State) : Type 0 where
+  pub was_open : IsTrue old.is_open
+  pub is_open : IsTrue new.is_open
+  pub ready : IsReady new
+  pub contents : contents_in new.now.trees ≡ after
+
+-- whatever was done, the connection shows what it showed, where it is open
+pub record Stays (old new : State) : Type 0 where
+  pub was_open : IsTrue new.is_open → IsTrue old.is_open
+  pub now : IsTrue new.is_open → new.now ≡ old.now
+  pub committed : IsTrue new.is_open → new.committed ≡ old.committed
+
+-- what the first row of an answer shows, if there is one
+abbrev pub first_read : {X : Type 0} → (Row → X) → List Row → Option X
+first_read reads [] = None
+first_read reads (row ∷ rows) = Some (reads row)
+
+abbrev pub body_read : Row → List ℕ
+body_read row = bytes (column row 0)
+
+abbrev pub item_read : Row → LogItem
+item_read row = record { origin = id_in (column row 0); number = number_of (id_in (column row 1)); body = bytes (column row 2) }
+
+-- a key and a body
+abbrev pub pair_read : Row → List ℕ × List ℕ
+pair_read row = (bytes (column row 0), bytes (column row 1))

@@ -1,0 +1,200 @@
+//! The queries, each a function of its own.
+
+ghost use Rattle.std.specs.Prelude.{◌≡◌, pos, map, false, IsTrue, IfOk, OnOk};
+ghost use Rattle.std.specs.FinMap.{get};
+ghost use Rattle.sqlite.specs.Held.{state};
+ghost use Rattle.sqlite.specs.State.{HasCleanDisk, IsUnchanged, Survives};
+ghost use Rattle.cs_store.specs.Written.{optional_bytes, optional_entry, item_of, pairs_of};
+ghost use Rattle.cs_store.specs.Contents.{IsListing, stored_tables, stored_pending};
+ghost use Rattle.cs_sql_statements.specs.Tables.{contents_in, number_of};
+ghost use Rattle.cs_sql_statements.specs.Steps.{IsReady, Stays, first_read, body_read, item_read, pair_read};
+
+use cs_store::{StoredBody, StoredEntry};
+use sqlite::{Alter, Connection, Error, Row, params};
+use std::alloc::Global;
+
+/// The body that an answer shows, if it has a row.
+fn body_of(rows: &[Row]) -> Result<Option<Vec<u8>>, Error>
+    ensures { IfOk result (λ body. optional_bytes body ≡ first_read body_read rows.now) }
+{
+    match rows.first() {
+        Some(row) => Ok(Some(row.get(0)?)),
+        None => Ok(None),
+    }
+}
+
+/// The number with the same 64 bits that has no sign.
+fn unsigned(number: i64) -> u64
+    ensures { result ≡ number_of number }
+{
+    if number >= 0 {
+        number as u64
+    } else {
+        18_446_744_073_709_551_615 - (-1 - number) as u64
+    }
+}
+
+/// The entry that a row shows.
+fn entry_in(row: &Row) -> Result<StoredEntry, Error>
+    ensures { IfOk result (λ entry. item_of entry ≡ item_read row.now) }
+{
+    Ok(StoredEntry {
+        origin: row.get(0)?,
+        number: unsigned(row.get(1)?),
+        body: row.get(2)?,
+    })
+}
+
+/// The entry that an answer shows, if it has a row.
+fn entry_of(rows: &[Row]) -> Result<Option<StoredEntry>, Error>
+    ensures { IfOk result (λ entry. optional_entry entry ≡ first_read item_read rows.now) }
+{
+    match rows.first() {
+        Some(row) => Ok(Some(entry_in(row)?)),
+        None => Ok(None),
+    }
+}
+
+/// The keys and the bodies that an answer shows.
+fn pairs_in(alloc: Global, rows: &[Row]) -> Result<Vec<StoredBody>, Error>
+    ensures { IfOk result (λ pairs. pairs_of pairs.items ≡ map pair_read rows.now) }
+{
+    let mut pairs = Vec::with_capacity(alloc, rows.len())?;
+    for row in rows {
+        pairs.push(StoredBody {
+            key: row.get(0)?,
+            body: row.get(1)?,
+        })?;
+    }
+    Ok(pairs)
+}
+
+/// Tests that the connection still serves.
+pub(crate) fn probe<S: Alter>(conn: &mut Connection<S>) -> Result<(), Error>
+    requires settled { HasCleanDisk (state S.Store conn.old) → IsTrue (state S.Store conn.old).is_open → (state S.Store conn.old).committed ≡ (state S.Store conn.old).now }
+    ensures mode { conn.old.in_transaction ≡ false → conn.new.in_transaction ≡ false }
+    ensures ok { HasCleanDisk (state S.Store conn.new) → OnOk result (IsUnchanged (state S.Store conn.old) (state S.Store conn.new)) }
+    ensures same { HasCleanDisk (state S.Store conn.new) → Stays (state S.Store conn.old) (state S.Store conn.new) }
+    ensures survives { Survives (state S.Store conn.old) (state S.Store conn.new) (λ _. ⊥) }
+{
+    let _empty = conn.prepare("")?;
+    Ok(())
+}
+
+/// The body of the row at a place.
+pub fn read_row<S: Alter>(
+    conn: &mut Connection<S>,
+    table: u32,
+    key: &[u8],
+) -> Result<Option<Vec<u8>>, Error>
+    requires idle { conn.old.in_transaction ≡ false }
+    requires ready { HasCleanDisk (state S.Store conn.old) → IsTrue (state S.Store conn.old).is_open → IsReady (state S.Store conn.old) }
+    ensures idle { conn.new.in_transaction ≡ false }
+    ensures ok { HasCleanDisk (state S.Store conn.new) → IfOk result (λ body. IsTrue (state S.Store conn.old).is_open × (optional_bytes body ≡ get (contents_in (state S.Store conn.old).now.trees).rows (pos table, key.now))) }
+    ensures same { HasCleanDisk (state S.Store conn.new) → Stays (state S.Store conn.old) (state S.Store conn.new) }
+    ensures survives { Survives (state S.Store conn.old) (state S.Store conn.new) (λ _. ⊥) }
+{
+    probe(conn)?;
+    let rows = conn.query_all(
+        "SELECT body FROM rows WHERE tab = ?1 AND key = ?2",
+        params![table, key],
+    )?;
+    body_of(&rows)
+}
+
+/// The pending change at a place.
+pub fn read_pending<S: Alter>(
+    conn: &mut Connection<S>,
+    table: u32,
+    key: &[u8],
+) -> Result<Option<Vec<u8>>, Error>
+    requires idle { conn.old.in_transaction ≡ false }
+    requires ready { HasCleanDisk (state S.Store conn.old) → IsTrue (state S.Store conn.old).is_open → IsReady (state S.Store conn.old) }
+    ensures idle { conn.new.in_transaction ≡ false }
+    ensures ok { HasCleanDisk (state S.Store conn.new) → IfOk result (λ body. IsTrue (state S.Store conn.old).is_open × (optional_bytes body ≡ get (contents_in (state S.Store conn.old).now.trees).pending (pos table, key.now))) }
+    ensures same { HasCleanDisk (state S.Store conn.new) → Stays (state S.Store conn.old) (state S.Store conn.new) }
+    ensures survives { Survives (state S.Store conn.old) (state S.Store conn.new) (λ _. ⊥) }
+{
+    probe(conn)?;
+    let rows = conn.query_all(
+        "SELECT body FROM pending WHERE tab = ?1 AND key = ?2",
+        params![table, key],
+    )?;
+    body_of(&rows)
+}
+
+/// A value of meta.
+pub fn read_meta<S: Alter>(conn: &mut Connection<S>, name: &str) -> Result<Option<Vec<u8>>, Error>
+    requires idle { conn.old.in_transaction ≡ false }
+    requires ready { HasCleanDisk (state S.Store conn.old) → IsTrue (state S.Store conn.old).is_open → IsReady (state S.Store conn.old) }
+    ensures idle { conn.new.in_transaction ≡ false }
+    ensures ok { HasCleanDisk (state S.Store conn.new) → IfOk result (λ body. IsTrue (state S.Store conn.old).is_open × (optional_bytes body ≡ get (contents_in (state S.Store conn.old).now.trees).meta name.now)) }
+    ensures same { HasCleanDisk (state S.Store conn.new) → Stays (state S.Store conn.old) (state S.Store conn.new) }
+    ensures survives { Survives (state S.Store conn.old) (state S.Store conn.new) (λ _. ⊥) }
+{
+    probe(conn)?;
+    let rows = conn.query_all("SELECT body FROM meta WHERE name = ?1", params![name])?;
+    body_of(&rows)
+}
+
+/// The entry of the log at a version.
+pub fn read_log<S: Alter>(
+    conn: &mut Connection<S>,
+    version: u32,
+) -> Result<Option<StoredEntry>, Error>
+    requires idle { conn.old.in_transaction ≡ false }
+    requires ready { HasCleanDisk (state S.Store conn.old) → IsTrue (state S.Store conn.old).is_open → IsReady (state S.Store conn.old) }
+    ensures idle { conn.new.in_transaction ≡ false }
+    ensures ok { HasCleanDisk (state S.Store conn.new) → IfOk result (λ entry. IsTrue (state S.Store conn.old).is_open × (optional_entry entry ≡ get (contents_in (state S.Store conn.old).now.trees).log (pos version))) }
+    ensures same { HasCleanDisk (state S.Store conn.new) → Stays (state S.Store conn.old) (state S.Store conn.new) }
+    ensures survives { Survives (state S.Store conn.old) (state S.Store conn.new) (λ _. ⊥) }
+{
+    probe(conn)?;
+    let rows = conn.query_all(
+        "SELECT origin, number, body FROM log WHERE version = ?1",
+        params![version],
+    )?;
+    entry_of(&rows)
+}
+
+/// The rows of a table, by ascending bytes of the key.
+pub fn list_rows<S: Alter>(
+    alloc: Global,
+    conn: &mut Connection<S>,
+    table: u32,
+) -> Result<Vec<StoredBody>, Error>
+    requires idle { conn.old.in_transaction ≡ false }
+    requires ready { HasCleanDisk (state S.Store conn.old) → IsTrue (state S.Store conn.old).is_open → IsReady (state S.Store conn.old) }
+    ensures idle { conn.new.in_transaction ≡ false }
+    ensures ok { HasCleanDisk (state S.Store conn.new) → IfOk result (λ pairs. IsTrue (state S.Store conn.old).is_open × IsListing (stored_tables (contents_in (state S.Store conn.old).now.trees) table) (pairs_of pairs.items)) }
+    ensures same { HasCleanDisk (state S.Store conn.new) → Stays (state S.Store conn.old) (state S.Store conn.new) }
+    ensures survives { Survives (state S.Store conn.old) (state S.Store conn.new) (λ _. ⊥) }
+{
+    probe(conn)?;
+    let rows = conn.query_all(
+        "SELECT key, body FROM rows WHERE tab = ?1 ORDER BY key",
+        params![table],
+    )?;
+    pairs_in(alloc, &rows)
+}
+
+/// The pending changes of a table, by ascending bytes of the key.
+pub fn list_pending<S: Alter>(
+    alloc: Global,
+    conn: &mut Connection<S>,
+    table: u32,
+) -> Result<Vec<StoredBody>, Error>
+    requires idle { conn.old.in_transaction ≡ false }
+    requires ready { HasCleanDisk (state S.Store conn.old) → IsTrue (state S.Store conn.old).is_open → IsReady (state S.Store conn.old) }
+    ensures idle { conn.new.in_transaction ≡ false }
+    ensures ok { HasCleanDisk (state S.Store conn.new) → IfOk result (λ pairs. IsTrue (state S.Store conn.old).is_open × IsListing (stored_pending (contents_in (state S.Store conn.old).now.trees) table) (pairs_of pairs.items)) }
+    ensures same { HasCleanDisk (state S.Store conn.new) → Stays (state S.Store conn.old) (state S.Store conn.new) }
+    ensures survives { Survives (state S.Store conn.old) (state S.Store conn.new) (λ _. ⊥) }
+{
+    probe(conn)?;
+    let rows = conn.query_all(
+        "SELECT key, body FROM pending WHERE tab = ?1 ORDER BY key",
+        params![table],
+    )?;
+    pairs_in(alloc, &rows)
+}

@@ -1,0 +1,327 @@
+//! A stop at each call of the file in which a replica's or a hub's store lies. After it the store opens as it was before the
+//! call of the replica or the hub or after it, beside a store in memory that made as many steps; an answer of three entries
+//! leaves none to three of them, in order.
+
+use crate::disks::*;
+use crate::images::image;
+use cs_conflict::{Clash, Guard, Wish};
+use cs_hub::Hub;
+use cs_map_store::MapStore;
+use cs_replica::Replica;
+use cs_store::RowStore;
+use cs_value::{Catalog, Items, Memory, Row, TableDef, Text, Value};
+use cs_wire::Answer;
+use sqlite::Files;
+use std::alloc::Global;
+
+fn tables(alloc: Global) -> Result<Vec<TableDef>, Memory> {
+    let mut tables = Vec::new(alloc);
+    tables.push(TableDef {
+        name: Text::from_string(String::from_str(alloc, "t1")?),
+        key_marks: Items::from_vec(vec![in alloc; true, false]?),
+    })?;
+    Ok(tables)
+}
+
+/// The catalog of `t1(a key, b)`.
+fn catalog(alloc: Global) -> Option<Catalog> {
+    Catalog::new(tables(alloc).ok()?).ok()
+}
+
+/// The row of a number and the text `v1`.
+fn row(alloc: Global, number: i64) -> Result<Row, Memory> {
+    let mut values = Vec::new(alloc);
+    values.push(Value::Int(number))?;
+    values.push(Value::Text(Text::from_string(String::from_str(alloc, "v1")?)))?;
+    Ok(Items::from_vec(values))
+}
+
+/// The answer that replica 7's push 1 was taken, as version 1.
+const ACCEPTED: &[u8] = b"\x11\0\0\0\x07\0\0\0\0\0\0\0\x01\0\0\0\0\0\0\0\x01";
+
+/// Entries of replica 9: the INSERT of (2, 'v1'), of (3, 'v1') and of (4, 'v1').
+const SECOND: &[u8] =
+    b"\0\0\0\0\x09\0\0\0\0\0\0\0\x01\0\0\0\x16\x54\x02\x01\0\x74\x31\0\x12\0\x01\0\0\0\0\0\0\0\x02\x03\x02\x76\x31";
+
+const THIRD: &[u8] =
+    b"\0\0\0\0\x09\0\0\0\0\0\0\0\x02\0\0\0\x16\x54\x02\x01\0\x74\x31\0\x12\0\x01\0\0\0\0\0\0\0\x03\x03\x02\x76\x31";
+
+const FOURTH: &[u8] =
+    b"\0\0\0\0\x09\0\0\0\0\0\0\0\x03\0\0\0\x16\x54\x02\x01\0\x74\x31\0\x12\0\x01\0\0\0\0\0\0\0\x04\x03\x02\x76\x31";
+
+/// The bytes of an answer of entries, of which the first has this version.
+fn entries(alloc: Global, first: u8, parts: &[&[u8]]) -> Result<Vec<u8>, Memory> {
+    let mut bytes = Vec::new(alloc);
+    bytes.extend_from_slice(&[0x14, 0, 0, 0, 0, 0, 0, 0, first, 0, 0, 0])?;
+    bytes.push(u8::try_from(parts.len()).unwrap_or(0))?;
+    for part in parts {
+        bytes.extend_from_slice(part)?;
+    }
+    Ok(bytes)
+}
+
+fn inserts<S: RowStore>(alloc: Global, replica: &mut Replica<S>, number: i64) -> bool {
+    match row(alloc, number) {
+        Ok(row) => replica.insert(alloc, "t1", &row).is_ok(),
+        Err(_) => false,
+    }
+}
+
+fn pushes<S: RowStore>(alloc: Global, replica: &mut Replica<S>) -> bool {
+    replica.make_push(alloc).is_ok()
+}
+
+fn answer<S: RowStore>(alloc: Global, replica: &mut Replica<S>, answer: &Answer<'_>) -> bool {
+    let mut guard = Guard::new(|_clash: &Clash<'_>| -> Wish { Wish::Keep });
+    replica.answer(alloc, answer, &mut guard).is_ok()
+}
+
+/// Whether the answer in these bytes is taken.
+fn answers<S: RowStore>(alloc: Global, replica: &mut Replica<S>, bytes: &[u8]) -> bool {
+    match Answer::decode(bytes) {
+        Ok(decoded) => answer(alloc, replica, &decoded),
+        Err(_) => false,
+    }
+}
+
+fn answers_entries<S: RowStore>(
+    alloc: Global,
+    replica: &mut Replica<S>,
+    first: u8,
+    parts: &[&[u8]],
+) -> bool {
+    match entries(alloc, first, parts) {
+        Ok(bytes) => answers(alloc, replica, bytes.as_slice()),
+        Err(_) => false,
+    }
+}
+
+/// A call of the replica, the first being 0, and whether it succeeded: an edit, a push, its answer, an answer of three entries, and
+/// an edit.
+fn call<S: RowStore>(alloc: Global, replica: &mut Replica<S>, at: usize) -> bool {
+    match at {
+        0 => inserts(alloc, replica, 1),
+        1 => pushes(alloc, replica),
+        2 => answers(alloc, replica, ACCEPTED),
+        3 => answers_entries(alloc, replica, 1, &[SECOND, THIRD, FOURTH]),
+        _ => inserts(alloc, replica, 5),
+    }
+}
+
+/// How many calls of a replica there are.
+const CALLS: usize = 5;
+
+/// The same in commits, of which the three entries are one each.
+fn step<S: RowStore>(alloc: Global, replica: &mut Replica<S>, at: usize) -> bool {
+    match at {
+        0 => inserts(alloc, replica, 1),
+        1 => pushes(alloc, replica),
+        2 => answers(alloc, replica, ACCEPTED),
+        3 => answers_entries(alloc, replica, 1, &[SECOND]),
+        4 => answers_entries(alloc, replica, 2, &[THIRD]),
+        5 => answers_entries(alloc, replica, 3, &[FOURTH]),
+        _ => inserts(alloc, replica, 5),
+    }
+}
+
+/// How many commits there were before a call that comes behind so many calls, the first of which opens the replica; and how many
+/// behind it.
+fn commits_around(calls: usize) -> (usize, usize) {
+    match calls {
+        0 => (0, 1),
+        1 => (1, 2),
+        2 => (2, 3),
+        3 => (3, 4),
+        4 => (4, 7),
+        5 => (7, 8),
+        _ => (8, 8),
+    }
+}
+
+/// What a store in memory shows after so many commits of the replica, the first of which lays it out.
+fn shown_in_memory(alloc: Global, commits: usize) -> Option<Vec<u8>> {
+    let mut store = MapStore::new(alloc);
+    if commits == 0 {
+        return image(alloc, &mut store).ok();
+    }
+    let catalog = catalog(alloc)?;
+    let Ok(mut replica) = Replica::open(alloc, store, &catalog, 7) else {
+        return None;
+    };
+    for at in 0..commits - 1 {
+        if !step(alloc, &mut replica, at) {
+            return None;
+        }
+    }
+    image(alloc, &mut replica.close()).ok()
+}
+
+/// How many calls of the replica succeed one after another.
+fn calls_made<S: RowStore>(alloc: Global, replica: &mut Replica<S>) -> usize {
+    for at in 0..CALLS {
+        if !call(alloc, replica, at) {
+            return at;
+        }
+    }
+    CALLS
+}
+
+/// How many calls succeed over a store in files, and the files then.
+fn made_over(alloc: Global, store: Filed, catalog: &Catalog) -> (usize, Files<Disk>) {
+    match Replica::open(alloc, store, catalog, 7) {
+        Ok(mut replica) => {
+            let made = calls_made(alloc, &mut replica);
+            (made.saturating_add(1), files_behind(replica.close()))
+        }
+        Err((store, _)) => (0, files_behind(store)),
+    }
+}
+
+/// How many calls succeed in new files that stop, and the files then.
+fn stopped(alloc: Global, catalog: &Catalog, calls: u64) -> (usize, Files<Disk>) {
+    match open_new(alloc, calls) {
+        Ok(store) => made_over(alloc, store, catalog),
+        Err(files) => (0, files),
+    }
+}
+
+/// What a store shows in files after a stop.
+fn shown_again(alloc: Global, files: Files<Disk>) -> Option<Vec<u8>> {
+    match open_again(alloc, files) {
+        Ok(mut store) => image(alloc, &mut store).ok(),
+        Err(_) => None,
+    }
+}
+
+/// Whether it is what a store in memory shows after one of these numbers of commits.
+fn is_between(alloc: Global, shown: &[u8], first: usize, last: usize) -> bool {
+    for commits in first..last.saturating_add(1) {
+        if let Some(image) = shown_in_memory(alloc, commits) {
+            if image.as_slice() == shown {
+                return true;
+            }
+        }
+    }
+    false
+}
+
+/// How many calls succeeded before a stop behind so many calls of the file, if the store then shows what it may.
+fn survives(alloc: Global, catalog: &Catalog, calls: u64) -> Option<usize> {
+    let (made, files) = stopped(alloc, catalog, calls);
+    let shown = shown_again(alloc, files)?;
+    let (first, last) = commits_around(made);
+    if is_between(alloc, shown.as_slice(), first, last) {
+        Some(made)
+    } else {
+        None
+    }
+}
+
+/// Whether a replica survives a stop behind each number of calls of the file, until none comes.
+fn survive_all(alloc: Global) -> Option<bool> {
+    let catalog = catalog(alloc)?;
+    for calls in 0..2000 {
+        if survives(alloc, &catalog, calls)? > CALLS {
+            return Some(calls > 10);
+        }
+    }
+    Some(false)
+}
+
+#[test]
+fn a_stop_in_a_call_of_a_replica_leaves_it_made_or_not(rt: HostRuntime) {
+    assert!(rt; survive_all(rt.alloc()) == Some(true));
+}
+
+/// Pushes 1 and 2 of replica 7, of an INSERT of (1, 'v1') and of (2, 'v1').
+const PUSHES: [&[u8]; 2] = [
+    b"\x01\0\0\0\x07\0\0\0\0\0\0\0\x01\0\0\0\0\0\0\0\0\0\0\0\x16\x54\x02\x01\0\x74\x31\0\x12\0\x01\0\0\0\0\0\0\0\x01\x03\x02\x76\x31",
+    b"\x01\0\0\0\x07\0\0\0\0\0\0\0\x02\0\0\0\0\0\0\0\x01\0\0\0\x16\x54\x02\x01\0\x74\x31\0\x12\0\x01\0\0\0\0\0\0\0\x02\x03\x02\x76\x31",
+];
+
+/// Whether the hub takes a push.
+fn takes<S: RowStore>(hub: &mut Hub<S>, push: &[u8]) -> bool {
+    match hub.serve(push) {
+        Ok(answer) => answer.as_slice().first() == Some(&0x11),
+        Err(_) => false,
+    }
+}
+
+/// How many of so many pushes the hub takes one after another.
+fn pushes_taken<S: RowStore>(hub: &mut Hub<S>, pushes: &[&[u8]]) -> usize {
+    let mut taken = 0usize;
+    for push in pushes {
+        if !takes(hub, push) {
+            return taken;
+        }
+        taken = taken.saturating_add(1);
+    }
+    taken
+}
+
+/// What a store in memory shows after so many commits of the hub, the first of which lays it out.
+fn hub_in_memory(alloc: Global, catalog: &Catalog, commits: usize) -> Option<Vec<u8>> {
+    let mut store = MapStore::new(alloc);
+    if commits == 0 {
+        return image(alloc, &mut store).ok();
+    }
+    let Ok(mut hub) = Hub::open(alloc, store, catalog) else {
+        return None;
+    };
+    let pushes = PUSHES.get(..commits - 1)?;
+    if pushes_taken(&mut hub, pushes) != pushes.len() {
+        return None;
+    }
+    image(alloc, &mut hub.close()).ok()
+}
+
+/// How many commits of the hub succeed in new files that stop, and the files then.
+fn hub_stopped(alloc: Global, catalog: &Catalog, calls: u64) -> (usize, Files<Disk>) {
+    let store = match open_new(alloc, calls) {
+        Ok(store) => store,
+        Err(files) => return (0, files),
+    };
+    match Hub::open(alloc, store, catalog) {
+        Ok(mut hub) => {
+            let taken = pushes_taken(&mut hub, &PUSHES);
+            (taken.saturating_add(1), files_behind(hub.close()))
+        }
+        Err((store, _)) => (0, files_behind(store)),
+    }
+}
+
+fn shows_hub(alloc: Global, catalog: &Catalog, shown: &[u8], commits: usize) -> bool {
+    match hub_in_memory(alloc, catalog, commits) {
+        Some(image) => image.as_slice() == shown,
+        None => false,
+    }
+}
+
+/// How many commits of the hub succeeded before a stop, if the store then shows these or one more.
+fn hub_survives(alloc: Global, catalog: &Catalog, calls: u64) -> Option<usize> {
+    let (made, files) = hub_stopped(alloc, catalog, calls);
+    let shown = shown_again(alloc, files)?;
+    let image = shown.as_slice();
+    if shows_hub(alloc, catalog, image, made)
+        || shows_hub(alloc, catalog, image, made.saturating_add(1))
+    {
+        Some(made)
+    } else {
+        None
+    }
+}
+
+fn hub_survives_all(alloc: Global) -> Option<bool> {
+    let catalog = catalog(alloc)?;
+    for calls in 0..2000 {
+        if hub_survives(alloc, &catalog, calls)? > PUSHES.len() {
+            return Some(calls > 10);
+        }
+    }
+    Some(false)
+}
+
+#[test]
+fn a_stop_in_a_push_leaves_it_taken_or_not(rt: HostRuntime) {
+    assert!(rt; hub_survives_all(rt.alloc()) == Some(true));
+}
