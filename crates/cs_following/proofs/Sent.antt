@@ -37,15 +37,6 @@ held_is known all held entry is at =
     sym (same_Some held entry (sym (behind known held) ∙ ap (λ (l : List LogEntry). slice_get l (length known)) (sym is) ∙ at))
 
 module _ {P : Type 0} (picks : P → Clash → Wish → P → Type 0) (tables : List TableDef) (known : List LogEntry) (position : Position) (before : View) (p : P) where
-  early : (cells : ℕ) (fault : NodeFault) → IsReadyFault fault tables position before → IsNotOffered picks tables known position before p cells fault known p
-  early cells Memory is = (refl, refl)
-  early cells Device is = (refl, refl)
-  early cells BadEntry is = is
-  early cells (Stopped conflict) is = is
-  early cells Full is = absurd is
-  early cells Spent is = (is, refl, refl)
-  early cells TooLarge is = (is, refl, refl)
-
   -- a push was made, and not offered
   pub memory_sent : (cells : ℕ) (other : Position) (new : Contents) (learned : List LogEntry) → IsReadied tables position before true other new → learned ≡ known
       → PushesOn picks tables known position before p cells (Err Memory) learned other new p

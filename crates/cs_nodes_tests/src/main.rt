@@ -1,6 +1,8 @@
 //! Tests of nodes (`cs_nodes`, `cs_following`) over the store in memory, by their public calls: what pushes and pulls on one row of cells
 //! are told and leave, threads that push at once, and memory that is refused. They stand in a crate of their own since a crate with
-//! tests is proved twice. Nothing stands on it.
+//! tests is proved twice.
+//! It is a program that does nothing, and no library: what the gate keeps of a library it marks by all ways that crates.txt has down from
+//! it, which are many here.
 #![tactic(auto)]
 
 #[cfg(test)]
@@ -11,3 +13,5 @@ mod memory;
 mod nodes;
 #[cfg(test)]
 mod threads;
+
+fn main() {}
