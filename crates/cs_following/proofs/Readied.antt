@@ -1,6 +1,5 @@
 -- A push that is made ready.
-use Rattle.std.proofs.Common.{◌≡◌, ◌+◌, ◌++◌, ◌∷◌, ℕ, true, List, Option, None, Ok, Err, refl, sym, ap, subst, ◌∙◌, inl, inr}
-use Rattle.std.specs.Prelude.{IfOk, IfErr, IsSome}
+use Rattle.std.proofs.Common.{◌≡◌, ◌+◌, ◌++◌, ◌∷◌, ℕ, true, List, Option, refl, sym, ap, subst, ◌∙◌, inr}
 use Rattle.std.proofs.lemmas.List.{append_cancel_left}
 use Rattle.std.proofs.lemmas.Option.{same_Some}
 use Rattle.cs_value.specs.Catalog.{AreTables}
@@ -16,13 +15,9 @@ use Rattle.cs_store.specs.declared.names.MetaName.TheVariants.{Flight}
 use Rattle.cs_pending.specs.View.{View}
 use Rattle.cs_position.specs.Shows.{ShowsAt, base}
 use Rattle.cs_position.specs.declared.position.Position.{Position}
-use Rattle.cs_pushing.specs.Pushes.{IsPushFault, IsPushMade, grounded, pushed}
-use Rattle.cs_pushing.specs.declared.fault.PushFault.{PushFault}
-use Rattle.cs_pushing.specs.declared.fault.PushFault.TheVariants as push
+use Rattle.cs_pushing.specs.Pushes.{IsPushMade, grounded, pushed}
 use Rattle.cs_wire.specs.Numbers.{eight_bytes}
-use Rattle.cs_following.specs.Faults.{told_of_push}
-use Rattle.cs_following.specs.Pushes.{IsReadied, IsReadyFault}
-use Rattle.cs_following.specs.declared.fault.NodeFault.TheVariants.{Device, Full}
+use Rattle.cs_following.specs.Pushes.{IsReadied}
 
 behind_same : (front a b : List ℕ) → front ++ a ≡ front ++ b → a ≡ b
 behind_same front a b is = append_cancel_left front a b is

@@ -1,5 +1,5 @@
 -- A push that was offered, and what came of it.
-use Rattle.std.proofs.Common.{◌≡◌, ◌++◌, ◌∷◌, ℕ, true, false, List, [], length, Option, Some, None, option_map, Ok, Err, refl, sym, ap, subst, ◌∙◌, inl, inr}
+use Rattle.std.proofs.Common.{◌≡◌, ◌++◌, ◌∷◌, ℕ, true, List, [], length, Option, Some, None, option_map, Ok, Err, refl, sym, ap, subst, ◌∙◌, inl, inr}
 use Rattle.std.specs.Prelude.{pos, slice_get}
 use Rattle.std.specs.FinMap.{empty_of_len, get, get-empty, len}
 use Rattle.std.proofs.lemmas.Option.{same_Some, slice_get-get_or}
@@ -21,11 +21,10 @@ use Rattle.cs_pulling.specs.Pulls.{IsPulledIn}
 use Rattle.cs_pushing.specs.Pushes.{HasNothing, IsPushMadeIn, grounded, pushed}
 use Rattle.cs_taking.specs.Takes.{taken}
 use Rattle.cs_following.specs.Pulls.{IsTakeFault}
-use Rattle.cs_following.specs.Pushes.{IsNotOffered, IsReadied, IsReadyFault, IsSent, IsSentAmong, PushesOn, flight_entry}
-use Rattle.cs_following.specs.Standing.{Begins}
+use Rattle.cs_following.specs.Pushes.{IsReadied, IsSent, IsSentAmong, PushesOn, flight_entry}
 use Rattle.cs_following.specs.declared.fault.NodeFault.{NodeFault}
-use Rattle.cs_following.specs.declared.fault.NodeFault.TheVariants.{Memory, Device, BadEntry, Stopped, Full, Spent, TooLarge}
-use Rattle.cs_following.specs.declared.pushed.NodePush.TheVariants.{Nothing, Accepted, Other}
+use Rattle.cs_following.specs.declared.fault.NodeFault.TheVariants.{Memory, Full}
+use Rattle.cs_following.specs.declared.pushed.NodePush.TheVariants.{Accepted, Other}
 
 -- the entry behind a list
 pub behind : (known : List LogEntry) (held : LogEntry) → slice_get (known ++ held ∷ []) (length known) ≡ Some held
