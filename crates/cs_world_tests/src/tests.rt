@@ -147,3 +147,29 @@ const AT_REST: &[(Option<usize>, &str)] = &[
 fn replicas_at_rest_have_the_same_rows(rt: HostRuntime) {
     assert!(rt; leaves(rt.alloc(), 2, TWO, AT_REST).unwrap_or(false));
 }
+
+/// Two entries, pulled one by one.
+const IN_TURN: &[(Act, Outcome)] = &[
+    (Act::Insert(0, 1, "a"), Outcome::Done),
+    (Act::Push(0), Outcome::Sent(0)),
+    (Act::Deliver(0, &[]), Outcome::Sent(1)),
+    (Act::Deliver(1, &[]), Outcome::Heard(Told::Confirmed(1))),
+    (Act::Insert(0, 2, "b"), Outcome::Done),
+    (Act::Push(0), Outcome::Sent(2)),
+    (Act::Deliver(2, &[]), Outcome::Sent(3)),
+    (Act::Deliver(3, &[]), Outcome::Heard(Told::Confirmed(2))),
+    (Act::Pull(1, 1), Outcome::Sent(4)),
+    (Act::Deliver(4, &[]), Outcome::Sent(5)),
+    (Act::Deliver(5, &[]), Outcome::Heard(Told::Taken(1))),
+    (Act::Pull(1, 1), Outcome::Sent(6)),
+    (Act::Deliver(6, &[]), Outcome::Sent(7)),
+    (Act::Deliver(7, &[]), Outcome::Heard(Told::Taken(1))),
+];
+
+/// The other replica has both.
+const BOTH: &[(Option<usize>, &str)] = &[(Some(1), "row t1 1 t=a\nrow t1 2 t=b\n")];
+
+#[test]
+fn a_pull_goes_on_from_its_version(rt: HostRuntime) {
+    assert!(rt; leaves(rt.alloc(), 2, IN_TURN, BOTH).unwrap_or(false));
+}
