@@ -145,7 +145,9 @@ fn have_bytes(rows: &[RowAtKey], wanted: &[&[u8]]) -> bool {
     if rows.len() != wanted.len() {
         return false;
     }
-    rows.iter().zip(wanted.iter()).all(|(row, bytes)| row.1.as_row().bytes() == *bytes)
+    rows.iter()
+        .zip(wanted.iter())
+        .all(|(row, bytes)| row.1.as_row().bytes() == *bytes)
 }
 
 /// Whether a node shows these rows of t1, and is at a version with so many changes pending.

@@ -2,7 +2,9 @@
 
 ghost use Rattle.std.specs.Prelude.{◌≡◌, IfSome};
 
-use crate::given::{Here, ROW_1, begun, insert_fault, inserts, pulled, pulls, pushed, pushes, shows};
+use crate::given::{
+    Here, ROW_1, begun, insert_fault, inserts, pulled, pulls, pushed, pushes, shows,
+};
 use cs_conflict::Wish;
 use cs_nodes::{NodeFault, NodePush};
 use cs_pending::EditFault;
@@ -21,7 +23,13 @@ fn made<'s>(alloc: Global, spine: &'s Spine, id: u32) -> Option<Here<'s>>
 }
 
 /// Whether the node shows these rows, the first time or the second.
-fn shows_at_last<'s>(alloc: Global, node: &mut Here<'s>, wanted: &[&[u8]], version: u64, pending: u64) -> bool
+fn shows_at_last<'s>(
+    alloc: Global,
+    node: &mut Here<'s>,
+    wanted: &[&[u8]],
+    version: u64,
+    pending: u64,
+) -> bool
     ensures { node.new.pass ≡ node.old.pass }
 {
     match shows(alloc, node, wanted, version, pending) {

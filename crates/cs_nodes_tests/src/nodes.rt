@@ -2,7 +2,9 @@
 
 ghost use Rattle.std.specs.Prelude.{◌≡◌};
 
-use crate::given::{Here, ROW_1, ROW_2, begun, insert_fault, inserts, pulled, pulls, pushed, pushes, shows};
+use crate::given::{
+    Here, ROW_1, ROW_2, begun, insert_fault, inserts, pulled, pulls, pushed, pushes, shows,
+};
 use cs_conflict::Wish;
 use cs_nodes::{NodeFault, NodePush, meet_nodes};
 use cs_pending::EditFault;
@@ -64,7 +66,10 @@ fn is_stopped<'s>(alloc: Global, node: &mut Here<'s>, spine: &'s Spine) -> bool
     requires { node.old.pass.spine ≡ spine.now }
     ensures { node.new.pass.spine ≡ node.old.pass.spine }
 {
-    matches!(&pulled(alloc, node, spine, Wish::Stop), Err(NodeFault::Stopped(_)))
+    matches!(
+        &pulled(alloc, node, spine, Wish::Stop),
+        Err(NodeFault::Stopped(_))
+    )
 }
 
 /// A node that wishes to stop at a conflict is behind until it takes the entry.
@@ -86,7 +91,10 @@ fn is_full<'s>(alloc: Global, node: &mut Here<'s>, spine: &'s Spine) -> bool
     ensures { node.new.pass.spine ≡ node.old.pass.spine }
 {
     let made = inserts(alloc, node, 2, "v2");
-    let full = matches!(&pushed(alloc, node, spine, Wish::Take), Err(NodeFault::Full));
+    let full = matches!(
+        &pushed(alloc, node, spine, Wish::Take),
+        Err(NodeFault::Full)
+    );
     made && full && !node.is_at_rest() && node.pending_len() == 0 && node.version() == 1
 }
 

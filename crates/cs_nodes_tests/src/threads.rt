@@ -34,7 +34,13 @@ fn wait_for<R: Clock>(rt: &R, gate: &AtomicU64) -> bool {
 }
 
 /// The first node inserts a row, and pushes only once the second's push was answered: it finds the second's entry.
-fn runs_first<'s, R: Clock>(rt: &R, alloc: Global, spine: &'s Spine, gates: &Gates, node: Here<'s>) -> bool
+fn runs_first<'s, R: Clock>(
+    rt: &R,
+    alloc: Global,
+    spine: &'s Spine,
+    gates: &Gates,
+    node: Here<'s>,
+) -> bool
     requires { node.pass.spine ≡ spine.now }
 {
     let mut node = node;
@@ -46,7 +52,13 @@ fn runs_first<'s, R: Clock>(rt: &R, alloc: Global, spine: &'s Spine, gates: &Gat
 }
 
 /// The second waits until the first was called, inserts a row, and pushes it.
-fn runs_second<'s, R: Clock>(rt: &R, alloc: Global, spine: &'s Spine, gates: &Gates, node: Here<'s>) -> bool
+fn runs_second<'s, R: Clock>(
+    rt: &R,
+    alloc: Global,
+    spine: &'s Spine,
+    gates: &Gates,
+    node: Here<'s>,
+) -> bool
     requires { node.pass.spine ≡ spine.now }
 {
     let mut node = node;
