@@ -10,4 +10,3 @@ pub mod laws;
 mod putting;
 
 pub use gathering::{Outgoing, gather};
-pub use putting::flag_bytes;

@@ -3,7 +3,7 @@
 //! replica at a position: its rows, its pending changes and these values, and nothing else. The log's rows are not stored: they
 //! are what is left where what is pending is taken back from the rows, and then what is under way.
 //! `number_value`, `id_value`, `flight_value` and `catalog_value` make the values as a store keeps them. `laws` says what a commit
-//! shows whose edits lead to another position. The crate stands on pending changes (`cs_pending`, `cs_outgoing`) and stores
+//! shows whose edits lead to another position. The crate stands on pending changes (`cs_pending`) and stores
 //! (`cs_store`); replicas' steps stand above it.
 //! Its tests stand in `cs_replica_tests`.
 #![tactic(auto)]

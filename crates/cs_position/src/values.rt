@@ -5,8 +5,8 @@ ghost use Rattle.cs_wire.specs.Numbers.{eight_bytes, four_bytes};
 ghost use Rattle.cs_position.specs.Values.{catalog_bytes, flight_bytes};
 
 use cs_change::put_header;
+use cs_marks::flag_bytes;
 use cs_normal::Normal;
-use cs_outgoing::flag_bytes;
 use cs_value::{Catalog, Memory, TableDef};
 use std::alloc::Global;
 
