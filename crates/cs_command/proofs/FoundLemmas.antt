@@ -1,0 +1,91 @@
+-- What a subcommand's matches say, from its parts.
+use Rattle.std.proofs.Common.{◌≡◌, ℕ, Bool, List, [], sym, ap, ap₂, ◌∙◌, cond, codes, true, false, refl}
+use Rattle.std.specs.Prelude.{Option, Some, None, option_map, unwrap_or}
+use Rattle.std.specs.Bool.{Decides}
+use Rattle.std.specs.Str.Parse.{ParsesBool}
+use Rattle.std.proofs.lemmas.Bool.Decides.{same_from_decides}
+use Rattle.std.proofs.lemmas.Slice.Eq.{bytes_eq-Decides}
+use Rattle.std.specs.Str.{bytes_eq}
+use Rattle.clap.specs.Words.{ReadsOne, Row, Text, all_of, first_of, one_of}
+use Rattle.cs_command.specs.CommandLine.{form_of, node_of, node_wanted, number_at, tables_in, tool_by, tool_of_what, wanted_by}
+use Rattle.cs_command.specs.Wanted.{Hub, Node, Run, World}
+use Rattle.cs_tools.specs.declared.tool.Form.TheVariants.{Normal, Sqlite}
+use Rattle.cs_tools.specs.declared.tool.Tool.TheVariants.{ShowBlob, ShowChangeset}
+
+pub both_parts : {B X Y : Type 0} (o : Option B) (f : B → X) (g : B → Y) (x : X) (y : Y)
+    → Some x ≡ option_map f o → Some y ≡ option_map {U = Y} (λ (p : X × Y). p.1) (option_map {U = X × Y} (λ b. (f b, g b)) o)
+    → option_map {U = X × Y} (λ b. (f b, g b)) o ≡ Some (x, y)
+both_parts None f g x y name rows = absurd (cc)
+both_parts {B} {X} {Y} (Some b) f g x y name rows =
+    let a : x ≡ f b = cc in
+    let d : y ≡ g b = cc in
+    let pair : X → Y → X × Y = λ m n. (m, n) in
+    ap Some (ap₂ pair (sym a) (sym d))
+
+-- the table words, where there are some and where there are none
+pub tables_given : (found : Option (Text × List Row)) (name : Text) (rows : List Row) (tables : List Text)
+    → found ≡ Some (name, rows) → Some tables ≡ all_of (codes "TABLE") rows → tables ≡ tables_in found
+tables_given found name rows tables is all =
+    sym (ap tables_in is ∙ ap (λ (t : Option (List Text)). unwrap_or t []) (sym all))
+
+pub no_tables_given : (found : Option (Text × List Row)) (name : Text) (rows : List Row)
+    → found ≡ Some (name, rows) → None ≡ all_of (codes "TABLE") rows → [] ≡ tables_in found
+no_tables_given found name rows is all =
+    sym (ap tables_in is ∙ ap (λ (t : Option (List Text)). unwrap_or t []) (sym all))
+
+decided : (b : Bool) (some other : Text) → Decides b (some ≡ other) → b ≡ bytes_eq some other
+decided b some other decides = same_from_decides b (bytes_eq some other) decides (bytes_eq-Decides some other)
+
+-- a flag is true where its text is "true"
+pub flag_given : (E : Type 0) (text : Option Text) (value : Option Bool) → (text ≡ None → value ≡ None)
+    → ((t : Text) → text ≡ Some t → ReadsOne {T = Bool} {E = E} ParsesBool t value)
+    → unwrap_or value false ≡ bytes_eq (unwrap_or text []) (codes "true")
+flag_given E None value none reads = rw (none refl) refl
+flag_given E (Some t) None none reads =
+    let refused = reads t refl in decided false t (codes "true") ((λ e. absurd (cc)), (λ is. absurd (refused.1.0 is)))
+flag_given E (Some t) (Some true) none reads = decided true t (codes "true") ((λ e. reads t refl), (λ is. refl))
+flag_given E (Some t) (Some false) none reads =
+    let is : t ≡ codes "false" = reads t refl in rw is refl
+
+-- the form that the value of `--sqlite` asks for
+pub form_asked : (E : Type 0) (given : Bool) (text : Option Text) (value : Option Bool) (rows : List Row)
+    → given ≡ unwrap_or value false → text ≡ one_of (codes "sqlite") rows → (text ≡ None → value ≡ None)
+    → ((t : Text) → text ≡ Some t → ReadsOne {T = Bool} {E = E} ParsesBool t value)
+    → cond given Sqlite Normal ≡ form_of rows
+form_asked E given text value rows is found none reads =
+    ap (λ b. cond b Sqlite Normal) (is ∙ flag_given E text value none reads)
+    ∙ ap (λ (t : Option Text). cond (bytes_eq (unwrap_or t []) (codes "true")) Sqlite Normal) found
+
+-- what the word behind `show` asks for
+pub changeset_asked : (what : Text) → true ≡ bytes_eq what (codes "changeset") → Some ShowChangeset ≡ tool_of_what (Some what)
+changeset_asked what is =
+    ap (λ b. cond b (Some ShowChangeset) (cond (bytes_eq what (codes "blob")) (Some ShowBlob) None)) is
+
+not_changeset : (what : Text) → false ≡ bytes_eq what (codes "changeset")
+    → cond (bytes_eq what (codes "blob")) (Some ShowBlob) None ≡ tool_of_what (Some what)
+not_changeset what not =
+    ap (λ b. cond b (Some ShowChangeset) (cond (bytes_eq what (codes "blob")) (Some ShowBlob) None)) not
+
+pub blob_asked : (what : Text) → false ≡ bytes_eq what (codes "changeset") → true ≡ bytes_eq what (codes "blob")
+    → Some ShowBlob ≡ tool_of_what (Some what)
+blob_asked what not is = ap (λ b. cond b (Some ShowBlob) None) is ∙ not_changeset what not
+
+pub nothing_asked : (what : Text) → false ≡ bytes_eq what (codes "changeset") → false ≡ bytes_eq what (codes "blob")
+    → None ≡ tool_of_what (Some what)
+nothing_asked what not neither = ap (λ b. cond b (Some ShowBlob) None) neither ∙ not_changeset what not
+
+-- what `hub` and `node` ask for
+pub hub_asked : (name : Text) (rows : List Row) (file : Option Text) → true ≡ bytes_eq name (codes "hub") → file ≡ first_of (codes "FILE") rows
+    → Some (Hub file) ≡ wanted_by name rows
+hub_asked name rows file is found =
+    let rest = cond (bytes_eq name (codes "world")) (option_map World (number_at (codes "N") rows))
+    (cond (bytes_eq name (codes "node")) (node_wanted rows) (option_map Run (tool_by name rows))) in
+    ap (λ (f : Option Text). Some (Hub f)) found ∙ ap (λ b. cond b (Some (Hub (first_of (codes "FILE") rows))) rest) is
+
+pub node_has_no_file : (rows : List Row) → None ≡ first_of (codes "FILE") rows → None ≡ node_wanted rows
+node_has_no_file rows none = ap (λ (f : Option Text). node_of f (number_at (codes "ID") rows)) none
+
+pub node_found : (rows : List Row) (file : Text) (id : ℕ) → Some file ≡ first_of (codes "FILE") rows → Some id ≡ number_at (codes "ID") rows
+    → Some (Node file id) ≡ node_wanted rows
+node_found rows file id named numbered =
+    ap (λ (f : Option Text). node_of f (Some id)) named ∙ ap (λ (n : Option ℕ). node_of (first_of (codes "FILE") rows) n) numbered

@@ -1,0 +1,4 @@
+pub mod CatalogLemmas
+pub mod CommandLemmas
+pub mod FoundLemmas
+pub mod WordLemmas

@@ -1,0 +1,146 @@
+-- The command line of `sync`, as the parser sees it, and what it asks for.
+use Rattle.std.specs.Prelude.{ℕ, ◌^◌, ◌-◌, List, [], Option, Some, None, true, option_map, option_and_then, unwrap_or, if◌then◌else◌, codes}
+use Rattle.std.specs.Str.{bytes_eq}
+use Rattle.std.specs.Str.Parse.{without_leading_plus}
+use Rattle.clap.specs.Faults.{fault_of}
+use Rattle.clap.specs.Kinds.{Kinds}
+use Rattle.clap.specs.Words.{App, Row, Rule, Text, all_of, first_of, new_app, new_rule, one_of, subcommand_of, with_rule, with_subcommand}
+use Rattle.clap.specs.declared.builder.action.ArgAction.TheVariants.{Append, SetTrue}
+use Rattle.clap.specs.declared.builder.value_parser.ValueParser.TheVariants.{Unsigned}
+use Rattle.cs_tools.specs.declared.tool.Form.{Form}
+use Rattle.cs_tools.specs.declared.tool.Form.TheVariants.{Normal, Sqlite}
+use Rattle.cs_tools.specs.declared.tool.Tool.{Tool}
+use Rattle.cs_tools.specs.declared.tool.Tool.TheVariants.{Combine, Rebase, ShowBlob, ShowChangeset}
+use Rattle.cs_words.specs.Numbers.{small_in}
+use Rattle.cs_command.specs.Wanted.{Wanted, Hub, World, Node, Run}
+
+-- ---- what the parser takes
+
+-- `TABLE...`, which may be left out
+abbrev pub table_rule : Rule
+table_rule = record (new_rule (codes "TABLE")) { action = Some Append }
+
+-- `--file FILE`, which may be left out
+abbrev pub file_option : Rule
+file_option = record (new_rule (codes "FILE")) { long = Some (codes "file") }
+
+abbrev pub hub_app : App
+hub_app = with_rule (with_rule (new_app (codes "hub")) file_option) table_rule
+
+-- `N`, which must be there
+abbrev pub count_rule : Rule
+count_rule = record (new_rule (codes "N")) { required = true; parser = Some (Unsigned 0 (2 ^ 32 - 1)) }
+
+abbrev pub world_app : App
+world_app = with_rule (with_rule (new_app (codes "world")) count_rule) table_rule
+
+-- `FILE`, which must be there
+abbrev pub file_rule : Rule
+file_rule = record (new_rule (codes "FILE")) { required = true }
+
+-- `ID`, which must be there
+abbrev pub id_rule : Rule
+id_rule = record (new_rule (codes "ID")) { required = true; parser = Some (Unsigned 0 (2 ^ 32 - 2)) }
+
+abbrev pub node_app : App
+node_app = with_rule (with_rule (with_rule (new_app (codes "node")) file_rule) id_rule) table_rule
+
+-- `WHAT`, which must be there
+abbrev pub what_rule : Rule
+what_rule = record (new_rule (codes "WHAT")) { required = true }
+
+abbrev pub show_app : App
+show_app = with_rule (new_app (codes "show")) what_rule
+
+-- `--sqlite`, a flag
+abbrev pub sqlite_rule : Rule
+sqlite_rule = record (new_rule (codes "sqlite")) {
+  long = Some (codes "sqlite");
+  action = Some SetTrue;
+}
+
+abbrev pub combine_app : App
+combine_app = with_rule (new_app (codes "combine")) sqlite_rule
+
+abbrev pub rebase_app : App
+rebase_app = with_rule (new_app (codes "rebase")) sqlite_rule
+
+-- the commands that sync, and the tools with them
+abbrev pub syncing_app : App
+syncing_app =
+    with_subcommand (with_subcommand (with_subcommand (new_app (codes "sync")) hub_app.top) node_app.top) world_app.top
+
+abbrev pub sync_app : App
+sync_app =
+    with_subcommand (with_subcommand (with_subcommand syncing_app show_app.top) combine_app.top) rebase_app.top
+
+-- the kinds of which the parser's refusal of a command line may be; none where it takes it
+abbrev pub faults_of : List Text → Kinds
+faults_of words = fault_of sync_app words
+
+-- ---- what is asked for
+
+-- the table words of a subcommand
+abbrev pub tables_in : Option (Text × List Row) → List Text
+tables_in None = []
+tables_in (Some found) = unwrap_or (all_of (codes "TABLE") found.1) []
+
+-- the table words of a whole command line
+abbrev pub table_words_of : List Text → List Text
+table_words_of words = tables_in (subcommand_of sync_app words)
+
+-- a number of 32 bits in decimal digits, behind a plus or not, as the parser's readers of numbers take it
+abbrev pub number_in : Text → Option ℕ
+number_in word = small_in (without_leading_plus word)
+
+-- the number that the word with this id spells
+abbrev pub number_at : Text → List Row → Option ℕ
+number_at id rows = option_and_then number_in (first_of id rows)
+
+abbrev pub node_of : Option Text → Option ℕ → Option Wanted
+node_of (Some file) (Some id) = Some (Node file id)
+node_of _ _ = None
+
+-- what the words of `node` ask for
+abbrev pub node_wanted : List Row → Option Wanted
+node_wanted rows = node_of (first_of (codes "FILE") rows) (number_at (codes "ID") rows)
+
+-- what `show` is to show
+abbrev pub tool_of_what : Option Text → Option Tool
+tool_of_what None = None
+tool_of_what (Some what) =
+    if bytes_eq what (codes "changeset") then Some ShowChangeset
+    else if bytes_eq what (codes "blob") then Some ShowBlob
+    else None
+
+-- the tool that the words of `show` ask for
+abbrev pub shown_tool : List Row → Option Tool
+shown_tool rows = tool_of_what (first_of (codes "WHAT") rows)
+
+-- the form that the words of `combine` or `rebase` ask for: the flag's value is "true" where it was given, else "false"
+abbrev pub form_of : List Row → Form
+form_of rows = if bytes_eq (unwrap_or (one_of (codes "sqlite") rows) []) (codes "true") then Sqlite else Normal
+
+-- the tool that a subcommand and its words ask for
+abbrev pub tool_by : Text → List Row → Option Tool
+tool_by name rows =
+    if bytes_eq name (codes "combine") then Some (Combine (form_of rows))
+    else if bytes_eq name (codes "rebase") then Some (Rebase (form_of rows))
+    else if bytes_eq name (codes "show") then shown_tool rows
+    else None
+
+-- what a subcommand and its words ask for
+abbrev pub wanted_by : Text → List Row → Option Wanted
+wanted_by name rows =
+    if bytes_eq name (codes "hub") then Some (Hub (first_of (codes "FILE") rows))
+    else if bytes_eq name (codes "world") then option_map World (number_at (codes "N") rows)
+    else if bytes_eq name (codes "node") then node_wanted rows
+    else option_map Run (tool_by name rows)
+
+abbrev pub wanted_in : Option (Text × List Row) → Option Wanted
+wanted_in None = None
+wanted_in (Some found) = wanted_by found.0 found.1
+
+-- what a whole command line asks for
+abbrev pub wanted_of : List Text → Option Wanted
+wanted_of words = wanted_in (subcommand_of sync_app words)

@@ -1,0 +1,5 @@
+pub mod CatalogWords
+pub mod CommandLine
+pub mod Laws
+pub mod TableWord
+pub mod Wanted

@@ -1,0 +1,18 @@
+-- What a command line asks for beside its table words, with what is borrowed seen as what it is.
+use Rattle.std.specs.Prelude.{ℕ, List, Option, option_map}
+use Rattle.cs_tools.specs.declared.tool.Tool.{Tool}
+use Rattle.cs_command.specs.declared.asked.Asked.{Asked}
+use Rattle.cs_command.specs.declared.asked.Asked.TheVariants as asked
+
+-- a hub, over a file or not; a world of so many replicas; a replica with this id over a file; or a tool
+pub data Wanted : Type 0 where
+  Hub : Option (List ℕ) → Wanted
+  World : ℕ → Wanted
+  Node : List ℕ → ℕ → Wanted
+  Run : Tool → Wanted
+
+abbrev pub wanted : Asked → Wanted
+wanted (asked.Hub file) = Hub (option_map (λ word. word.now) file)
+wanted (asked.World count) = World count
+wanted (asked.Node file id) = Node file.now id
+wanted (asked.Tool tool) = Run tool

@@ -1,0 +1,122 @@
+//! What a command line asks for.
+
+ghost use Rattle.std.specs.Prelude.{◌≡◌, option_map};
+ghost use Rattle.clap.specs.Words.{found_of, rows_of, subcommand_rows_of};
+ghost use Rattle.cs_command.specs.CommandLine.{form_of, node_wanted, number_at, shown_tool, tool_by, wanted_by, wanted_in};
+ghost use Rattle.cs_command.specs.Wanted.{wanted};
+
+use crate::number::number_in;
+use clap::ArgMatches;
+use cs_tools::{Form, Tool};
+
+/// What a command line asks for, beside its table words. (Profile of this project.)
+#[derive(Clone, Copy, Debug)]
+pub enum Asked<'a> {
+    /// A hub.
+    Hub {
+        /// The file that its rows and its log are in; none, where they are in memory.
+        file: Option<&'a str>,
+    },
+    /// A world in memory.
+    World {
+        /// How many replicas there are.
+        count: u32,
+    },
+    /// A replica over a file.
+    Node {
+        /// The file.
+        file: &'a str,
+        /// The replica's id.
+        id: u32,
+    },
+    /// A tool.
+    Tool(Tool),
+}
+
+/// The number that the word with this id spells.
+fn number_of(found: &ArgMatches<'_>, id: &str) -> Option<u32>
+    ensures { result ≡ number_at id.now (rows_of (found_of found.now)) }
+{
+    number_in(found.get_str(id)?)
+}
+
+/// The replica that the words of `node` ask for.
+fn node_asked<'a>(found: &ArgMatches<'a>) -> Option<Asked<'a>>
+    ensures { option_map wanted result ≡ node_wanted (rows_of (found_of found.now)) }
+{
+    let file = found.get_str("FILE")?;
+    let id = number_of(found, "ID")?;
+    Some(Asked::Node { file, id })
+}
+
+/// The tool that the words of `show` ask for.
+fn shown_tool(show: &ArgMatches<'_>) -> Option<Tool>
+    ensures { result ≡ shown_tool (rows_of (found_of show.now)) }
+{
+    match show.get_str("WHAT") {
+        Some(what) => {
+            if what == "changeset" {
+                Some(Tool::ShowChangeset)
+            } else if what == "blob" {
+                Some(Tool::ShowBlob)
+            } else {
+                None
+            }
+        }
+        None => None,
+    }
+}
+
+/// The form that the words of `combine` or `rebase` ask for.
+fn form_of(found: &ArgMatches<'_>) -> Form
+    ensures { result ≡ form_of (rows_of (found_of found.now)) }
+{
+    if found.get_one("sqlite").unwrap_or(false) {
+        Form::Sqlite
+    } else {
+        Form::Normal
+    }
+}
+
+/// The tool that a subcommand and its words ask for.
+fn tool_asked(name: &str, found: &ArgMatches<'_>) -> Option<Tool>
+    ensures { result ≡ tool_by name.now (rows_of (found_of found.now)) }
+{
+    if name == "combine" {
+        Some(Tool::Combine(form_of(found)))
+    } else if name == "rebase" {
+        Some(Tool::Rebase(form_of(found)))
+    } else if name == "show" {
+        shown_tool(found)
+    } else {
+        None
+    }
+}
+
+/// What a subcommand and its words ask for.
+fn asked_by<'a>(name: &str, found: &ArgMatches<'a>) -> Option<Asked<'a>>
+    ensures { option_map wanted result ≡ wanted_by name.now (rows_of (found_of found.now)) }
+{
+    if name == "hub" {
+        let file = found.get_str("FILE");
+        Some(Asked::Hub { file })
+    } else if name == "world" {
+        let count = number_of(found, "N")?;
+        Some(Asked::World { count })
+    } else if name == "node" {
+        node_asked(found)
+    } else {
+        let tool = tool_asked(name, found)?;
+        Some(Asked::Tool(tool))
+    }
+}
+
+/// What a command line asks for that the parser took.
+pub fn asked_of<'a>(matches: &ArgMatches<'a>) -> Option<Asked<'a>>
+    ensures { option_map wanted result ≡ wanted_in (subcommand_rows_of matches.now) }
+{
+    match matches.subcommand() {
+        Some((name, found)) => asked_by(name, found),
+        None => None,
+    }
+}

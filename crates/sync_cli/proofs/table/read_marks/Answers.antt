@@ -1,6 +1,0 @@
-use Rattle.std.proofs.Common.{rules}
-use Rattle.sync_cli.proofs.WordLemmas.{no_marks}
-use Rattle.sync_cli.proofs.table.read_marks.Goals as goal
-
-pub returns-in_default : goal.returns-in_default
-returns-in_default c = no_marks _ _ _ c.loop-digit-test.true (search rules) c.in_default.ensures
