@@ -1,6 +1,7 @@
 //! What a world shows.
 
 ghost use Rattle.std.specs.Prelude.{◌≡◌, [], None, Some, IfOk, length, slice_get};
+ghost use Rattle.std.specs.Option.{option_copied};
 ghost use Rattle.cs_hub.specs.declared.hub.TheConstants.{MAX_ENTRIES};
 ghost use Rattle.cs_log.specs.Log.{state_of};
 ghost use Rattle.cs_replica.specs.Holding.{Holding as Held};
@@ -11,6 +12,7 @@ ghost use Rattle.cs_world.specs.World.{IsMember, Member, World as Standing};
 use crate::moving::Core;
 use crate::turning::rows_of;
 use crate::world::World;
+use cs_normal::Normal;
 use cs_rows::RowAtKey;
 use cs_store::{RowStore, StoreFault};
 
@@ -75,6 +77,17 @@ impl<S: RowStore> World<S> {
     {
         match self.core.replicas.get(replica) {
             Some(one) => Some(one.pending_len()),
+            None => None,
+        }
+    }
+
+    /// The changes of the push that a replica has under way, if one is; none where there is no replica with this number.
+    pub fn in_flight(&self, replica: usize) -> Option<&Normal>
+        ensures there { (one : Held S) → slice_get self.now.replicas replica ≡ Some one → option_copied result ≡ one.position.flight }
+        ensures none { slice_get self.now.replicas replica ≡ None → result ≡ None }
+    {
+        match self.core.replicas.get(replica) {
+            Some(one) => one.in_flight(),
             None => None,
         }
     }
