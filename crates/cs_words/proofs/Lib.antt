@@ -1,0 +1,5 @@
+pub mod EditLemmas
+pub mod NumberLemmas
+pub mod TextLemmas
+pub mod ValueLemmas
+pub mod WordLemmas
