@@ -22,29 +22,32 @@ marks_found (t ∷ ts) name zero table lt is holds only =
     ap (λ d. d.key_marks) is ∙ sym (ap (λ b. cond b t.key_marks (marks_of ts name)) ((bytes_eq-Decides t.name name).1 (holds t)))
 marks_found (t ∷ ts) name (suc place) table lt is holds only =
     elim (bytes_eq t.name name) as (λ b. bytes_eq t.name name ≡ b → table.key_marks ≡ cond b t.key_marks (marks_of ts name)) [
-      true ↦ λ e.
-        let same : t.name ≡ name = (bytes_eq-Decides t.name name).0 e in
-        let clash : Some (suc place) ≡ Some 0 = only 0 (omega arith) (λ d. same) in
-        let numbers : suc place ≡ 0 = cc in absurd (omega arith)
+      | true ↦ λ e.
+          let same : t.name ≡ name = (bytes_eq-Decides t.name name).0 e in
+          let clash : Some (suc place) ≡ Some 0 = only 0 (omega arith) (λ d. same) in
+          let numbers : suc place ≡ 0 = cc in absurd (omega arith)
       | false ↦ λ e. marks_found ts name place table (omega arith) is holds
-        (λ p less h. let up : Some (suc place) ≡ Some (suc p) = only (suc p) (omega arith) h in
-        let down : suc place ≡ suc p = cc in let same : place ≡ p = omega arith in ap Some same)
+          (λ p less h. let up : Some (suc place) ≡ Some (suc p) = only (suc p) (omega arith) h in
+          let down : suc place ≡ suc p = cc in let same : place ≡ p = omega arith in ap Some same)
     ] refl
 
 pub marks_none : (tables : List TableDef) (name : List ℕ) → All (λ t. t.name ≢ name) tables → [] ≡ marks_of tables name
 marks_none [] name none = refl
 marks_none (t ∷ ts) name none =
     elim (bytes_eq t.name name) as (λ b. bytes_eq t.name name ≡ b → [] ≡ cond b t.key_marks (marks_of ts name)) [
-      true ↦ λ e. absurd (All-head (λ d. d.name ≢ name) t ts none ((bytes_eq-Decides t.name name).0 e))
+      | true ↦ λ e. absurd (All-head (λ d. d.name ≢ name) t ts none ((bytes_eq-Decides t.name name).0 e))
       | false ↦ λ e. marks_none ts name (All-tail (λ d. d.name ≢ name) t ts none)
     ] refl
 
 pub puts_key : (mark : Bool) (word : List ℕ) (value : Value) (key new_key : List Value) (fields new_fields : List Field)
     → mark ≡ true → Some value ≡ value_in word → new_key ≡ key ++ value ∷ [] → new_fields ≡ fields ++ Undefined ∷ []
     → PutsColumn true (column_in mark word) key new_key fields new_fields
-puts_key mark word value key new_key fields new_fields is spells put filled =
-    ((value ∷ [], Undefined),
-    ap (λ m. column_in m word) is ∙ ap (option_map (λ v. (v ∷ [], Undefined))) (sym spells), put, filled)
+puts_key mark word value key new_key fields new_fields is spells put filled = (
+  (value ∷ [], Undefined),
+  ap (λ m. column_in m word) is ∙ ap (option_map (λ v. (v ∷ [], Undefined))) (sym spells),
+  put,
+  filled,
+)
 
 pub puts_field : (mark : Bool) (word : List ℕ) (field : Field) (key : List Value) (fields new_fields : List Field)
     → mark ≡ false → Some field ≡ field_in word → new_fields ≡ fields ++ field ∷ []

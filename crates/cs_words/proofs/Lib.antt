@@ -3,3 +3,4 @@ pub mod NumberLemmas
 pub mod TextLemmas
 pub mod ValueLemmas
 pub mod WordLemmas
+pub mod WishLemmas

@@ -66,8 +66,8 @@ pub signed_is : {E : Type 0} (bs text : List ℕ) (r : Result ℤ E) → text �
 signed_is {E} bs text r same plus h =
     let here : ParsesSigned w64 10 bs r = subst (λ t. ParsesSigned {E = E} w64 10 t r) same h in
     elim (eqb (get_or bs 0 0) 45) as (λ b. eqb (get_or bs 0 0) 45 ≡ b
-        → result_ok r ≡ cond b (negative (number_below (2 ^ 63 + 1) (drop 1 bs))) (positive (number_below (2 ^ 63) bs))) [
-      true ↦ λ e. minus_is bs r (eqb-true _ _ e) here
+    → result_ok r ≡ cond b (negative (number_below (2 ^ 63 + 1) (drop 1 bs))) (positive (number_below (2 ^ 63) bs))) [
+      | true ↦ λ e. minus_is bs r (eqb-true _ _ e) here
       | false ↦ λ e. plain_is bs r plus (λ m. absurd (false≢true (sym e ∙ eq-eqb _ _ m))) here
     ] refl
 
@@ -83,10 +83,11 @@ minus_ascii (c ∷ cs) m d (suc i) = digits_ascii cs d i
 
 -- what is no text spells no number
 pub no_text : (bs : List ℕ) → (IsUtf8 bs → ⊥) → IsNoNumber bs
-no_text bs broken =
-    (λ most. number_none most bs (λ is. broken (IsUtf8-from_ascii bs (digits_ascii bs is.0))),
-    elim (eqb (get_or bs 0 0) 45) as (λ b. eqb (get_or bs 0 0) 45 ≡ b
-        → cond b (negative (number_below (2 ^ 63 + 1) (drop 1 bs))) (positive (number_below (2 ^ 63) bs)) ≡ None) [
-      true ↦ λ e. ap negative (number_none (2 ^ 63 + 1) (drop 1 bs) (λ is. broken (IsUtf8-from_ascii bs (minus_ascii bs (eqb-true _ _ e) is.0))))
-      | false ↦ λ e. ap positive (number_none (2 ^ 63) bs (λ is. broken (IsUtf8-from_ascii bs (digits_ascii bs is.0))))
-    ] refl)
+no_text bs broken = (
+  λ most. number_none most bs (λ is. broken (IsUtf8-from_ascii bs (digits_ascii bs is.0))),
+  elim (eqb (get_or bs 0 0) 45) as (λ b. eqb (get_or bs 0 0) 45 ≡ b
+      → cond b (negative (number_below (2 ^ 63 + 1) (drop 1 bs))) (positive (number_below (2 ^ 63) bs)) ≡ None) [
+        | true ↦ λ e. ap negative (number_none (2 ^ 63 + 1) (drop 1 bs) (λ is. broken (IsUtf8-from_ascii bs (minus_ascii bs (eqb-true _ _ e) is.0))))
+        | false ↦ λ e. ap positive (number_none (2 ^ 63) bs (λ is. broken (IsUtf8-from_ascii bs (digits_ascii bs is.0))))
+      ] refl,
+)

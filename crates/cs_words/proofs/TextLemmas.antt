@@ -53,6 +53,6 @@ text_some word bytes text is utf8 same =
 pub text_none : (word bytes : List ℕ) → Some bytes ≡ unescaped word → (IsUtf8 bytes → ⊥) → None ≡ text_in word
 text_none word bytes is broken =
     elim (is_utf8 bytes) as (λ b. is_utf8 bytes ≡ b → None ≡ cond b (Some bytes) None) [
-      true ↦ λ e. absurd (broken (IsUtf8-from_is_utf8 bytes e))
+      | true ↦ λ e. absurd (broken (IsUtf8-from_is_utf8 bytes e))
       | false ↦ λ e. refl
     ] refl ∙ ap utf8_of is

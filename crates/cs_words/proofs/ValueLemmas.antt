@@ -16,8 +16,8 @@ not_behind [] word never = absurd (never word refl)
 not_behind (x ∷ front) [] never = refl
 not_behind (x ∷ front) (y ∷ word) never =
     elim (eqb y x) as (λ b. eqb y x ≡ b → cond b (behind front word) None ≡ None) [
-      true ↦ λ e. let same : y ≡ x = eqb-true _ _ e in
-        not_behind front word (λ rest h. never rest (ap (λ z. z ∷ word) same ∙ ap (λ l. x ∷ l) h))
+      | true ↦ λ e. let same : y ≡ x = eqb-true _ _ e in
+          not_behind front word (λ rest h. never rest (ap (λ z. z ∷ word) same ∙ ap (λ l. x ∷ l) h))
       | false ↦ λ e. refl
     ] refl
 

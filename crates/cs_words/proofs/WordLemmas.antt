@@ -17,14 +17,14 @@ words_at : (line : List ℕ) (k : ℕ) → before line ≡ k → k < length line
 words_at [] k e lt = absurd (omega arith)
 words_at (x ∷ line) zero e lt =
     elim (eqb x 32) as (λ b. cond (not b) (1 + before line) 0 ≡ 0
-        → cond b ([] ∷ words_in line) (into_first x (words_in line)) ≡ [] ∷ words_in line) [
-      true ↦ λ h. refl
+    → cond b ([] ∷ words_in line) (into_first x (words_in line)) ≡ [] ∷ words_in line) [
+      | true ↦ λ h. refl
       | false ↦ λ h. absurd (omega arith)
     ] e
 words_at (x ∷ line) (suc k) e lt =
     elim (eqb x 32) as (λ b. cond (not b) (1 + before line) 0 ≡ suc k
-        → cond b ([] ∷ words_in line) (into_first x (words_in line)) ≡ (x ∷ take k line) ∷ words_in (drop (suc k) line)) [
-      true ↦ λ h. absurd (omega arith)
+    → cond b ([] ∷ words_in line) (into_first x (words_in line)) ≡ (x ∷ take k line) ∷ words_in (drop (suc k) line)) [
+      | true ↦ λ h. absurd (omega arith)
       | false ↦ λ h. ap (into_first x) (words_at line k (omega arith) (omega arith))
     ] e
 
@@ -32,8 +32,8 @@ words_alone : (line : List ℕ) → length line ≤ before line → words_in lin
 words_alone [] le = refl
 words_alone (x ∷ line) le =
     elim (eqb x 32) as (λ b. suc (length line) ≤ cond (not b) (1 + before line) 0
-        → cond b ([] ∷ words_in line) (into_first x (words_in line)) ≡ (x ∷ line) ∷ []) [
-      true ↦ λ h. absurd (omega arith)
+    → cond b ([] ∷ words_in line) (into_first x (words_in line)) ≡ (x ∷ line) ∷ []) [
+      | true ↦ λ h. absurd (omega arith)
       | false ↦ λ h. ap (into_first x) (words_alone line (omega arith))
     ] le
 
@@ -47,7 +47,7 @@ pub words_split : (line : List ℕ) (at : ℕ) → Some at ≡ position is_space
 words_split line at e =
     let place = place_is _ (before line) (length line) at refl e in
     let rest : take (length line - (at + 1)) (drop (at + 1) line) ≡ drop (suc at) line =
-      take_all (length line - (at + 1)) (drop (at + 1) line) (omega (arith, length-drop (at + 1) line)) ∙ ap (λ n. drop n line) (add-one at) in
+    take_all (length line - (at + 1)) (drop (at + 1) line) (omega (arith, length-drop (at + 1) line)) ∙ ap (λ n. drop n line) (add-one at) in
     words_at line at place.0 place.1 ∙ ap (λ w. take at line ∷ words_in w) (sym rest)
 
 no_place : (b : Bool) (n most : ℕ) → ltb n most ≡ b → None ≡ cond b (Some n) None → most ≤ n
@@ -66,7 +66,7 @@ words_some : (line : List ℕ) → words_in line ≢ []
 words_some [] = λ e. absurd (cc)
 words_some (x ∷ line) =
     elim (eqb x 32) as (λ b. cond b ([] ∷ words_in line) (into_first x (words_in line)) ≢ []) [
-      true ↦ λ e. absurd (cc)
+      | true ↦ λ e. absurd (cc)
       | false ↦ into_some x (words_in line)
     ]
 
