@@ -4,26 +4,20 @@
 //! contract is the headline (`specs/Headline.antt`): over honest stores each event makes its step, each replica's tables are the hub's at its
 //! version with its own changes on top, each pull is the three-way merge, no push conflicts, each counts once, and replicas at rest at one
 //! version have the same rows. `laws` says why: a world that began with nothing stays sound, whatever happens in it, and what is sound has
-//! the headline. `read_event` reads an event from a line of text, `OutcomeText` and `RowText` are what is printed; no clause states these
-//! texts. The crate stands on `cs_hub` and `cs_replica`, whose calls each event makes. Its tests stand in `cs_world_tests`.
+//! the headline. It knows nothing of text. The crate stands on `cs_hub` and `cs_replica`, whose calls each event makes. Its tests stand
+//! in `cs_world_tests`.
 #![tactic(auto)]
 
 mod event;
 pub mod laws;
 mod letter;
-mod line;
 mod moving;
 mod opening;
 mod outcome;
 mod reading;
-mod told;
 mod turning;
-mod values;
-mod words;
 mod world;
 
 pub use event::{Event, WishList};
-pub use line::{LineFault, read_event};
 pub use outcome::Outcome;
-pub use told::{OutcomeText, RowText};
 pub use world::World;

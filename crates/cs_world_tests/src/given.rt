@@ -2,8 +2,9 @@
 
 use cs_conflict::Wish;
 use cs_map_store::MapStore;
+use cs_text::ValueText;
 use cs_value::{Catalog, Edit, Field, Fields, Items, Key, Memory, Row, TableDef, Text, Value};
-use cs_world::{Event, Outcome, RowText, WishList, World};
+use cs_world::{Event, Outcome, WishList, World};
 use std::alloc::Global;
 
 /// An event.
@@ -113,7 +114,7 @@ pub(crate) fn plays(
     Some(true)
 }
 
-/// What is printed of the rows of `t1` that a replica has, or, where none is named, the hub; a line each.
+/// What stands in the rows of `t1` that a replica has, or, where none is named, the hub: each value behind a space, and a line each.
 pub(crate) fn printed_rows(
     alloc: Global,
     world: &mut World<MapStore>,
@@ -123,12 +124,12 @@ pub(crate) fn printed_rows(
         Some(replica) => world.rows(replica, 0).ok()?,
         None => world.hub_rows(0).ok()?,
     };
-    let table = text(alloc, "t1").ok()?;
     let mut lines = String::new(alloc);
     for (_, row) in &listed {
         let row = row.as_row();
-        let table = &table;
-        let line = format!(in alloc; "{}\n", RowText { table, row }).ok()?;
+        let (key, rest) = row.split_first()?;
+        let (value, _) = rest.split_first()?;
+        let line = format!(in alloc; "{} {}\n", ValueText(&key), ValueText(&value)).ok()?;
         lines.push_str(line.as_str()).ok()?;
     }
     Some(lines)

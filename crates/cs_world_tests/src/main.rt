@@ -6,8 +6,6 @@
 #[cfg(test)]
 mod given;
 #[cfg(test)]
-mod scripts;
-#[cfg(test)]
 mod tests;
 
 fn main() {}

@@ -85,7 +85,7 @@ fn made(alloc: Global, replicas: u8, acts: &[(Act, Outcome)]) -> Option<bool> {
     plays(alloc, &mut world, acts)
 }
 
-/// Whether a world of so many replicas has made these acts, and a replica, or the hub, then has the rows that are printed so.
+/// Whether a world of so many replicas has made these acts, and a replica, or the hub, then has these rows.
 fn leaves(
     alloc: Global,
     replicas: u8,
@@ -126,8 +126,8 @@ fn refused_events(rt: HostRuntime) {
 
 /// The hub has the pushed row, the replica its own on top, and a replica that isn't there none.
 const ON_TOP: &[(Option<usize>, &str)] = &[
-    (None, "row t1 1 t=v1\n"),
-    (Some(0), "row t1 1 t=v2\n"),
+    (None, "1 t=v1\n"),
+    (Some(0), "1 t=v2\n"),
     (Some(1), ""),
 ];
 
@@ -138,9 +138,9 @@ fn own_changes_stand_on_top(rt: HostRuntime) {
 
 /// All have the row that the second kept.
 const AT_REST: &[(Option<usize>, &str)] = &[
-    (None, "row t1 1 t=v2\n"),
-    (Some(0), "row t1 1 t=v2\n"),
-    (Some(1), "row t1 1 t=v2\n"),
+    (None, "1 t=v2\n"),
+    (Some(0), "1 t=v2\n"),
+    (Some(1), "1 t=v2\n"),
 ];
 
 #[test]
@@ -167,7 +167,7 @@ const IN_TURN: &[(Act, Outcome)] = &[
 ];
 
 /// The other replica has both.
-const BOTH: &[(Option<usize>, &str)] = &[(Some(1), "row t1 1 t=a\nrow t1 2 t=b\n")];
+const BOTH: &[(Option<usize>, &str)] = &[(Some(1), "1 t=a\n2 t=b\n")];
 
 #[test]
 fn a_pull_goes_on_from_its_version(rt: HostRuntime) {
