@@ -1,13 +1,17 @@
-// A library with one function.
+//! A replica that is worked by lines, over any store, reader and writer: edits, pushes, the hub's answers, and a look at its rows. It stands
+//! on `cs_asks` for what lines ask, on `cs_member` for what each call makes of the replica, and on `cs_text` and `cs_fault_names` for
+//! what is printed. `work_on` opens the replica and does what is asked, and `node_on` reads it first. Each promises how it ends
+//! (`specs/Endings.antt`): which steps were made (`specs/LineStep.antt`, one case a line), that the replica's store holds what they left,
+//! and that their texts are written, each before the next line is worked on; and whatever stops it, what was done stays done.
+//! Its tests stand in `cs_replica_lines_tests`.
 #![tactic(auto)]
 
-ghost use Rattle.std.specs.Prelude.{◌≡◌};
-ghost use Rattle.cs_replica_lines.specs.Echo.{echo_of};
+mod dump;
+mod fault;
+mod node;
+mod reply;
+mod told;
+mod working;
 
-// The `ensures` clause is the contract: what `echo` returns is `echo_of` of its argument, a definition
-// in `specs/Echo.antt`, which a caller's clause can cite too.
-pub fn echo(x: usize) -> usize
-    ensures { result ≡ echo_of x }
-{
-    x
-}
+pub use fault::NodeFault;
+pub use node::{node_on, work_on};
