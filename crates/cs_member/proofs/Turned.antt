@@ -61,7 +61,7 @@ accepted_keeps_id origin number version (Err (fault.Memory count)) position othe
 accepted_keeps_id origin number version (Err (fault.Device count)) position other tells = ap (λ (x : Position). x.id) tells.1
 accepted_keeps_id origin number version (Err (fault.BadEntry count)) position other tells = absurd tells
 
-answer_keeps_id : (tables : List TableDef) (answer : Answer) (result : Result Told AnswerFault) (position : Position) (before : View) (p : List Wish) (other : Position) (new : Contents) (q : List Wish)
+pub answer_keeps_id : (tables : List TableDef) (answer : Answer) (result : Result Told AnswerFault) (position : Position) (before : View) (p : List Wish) (other : Position) (new : Contents) (q : List Wish)
     → Answers IsWished tables answer result position before p other new q → other.id ≡ position.id
 answer_keeps_id tables (told.Short (short.Accepted origin number version)) result position before p other new q answers = accepted_keeps_id origin number version result position other answers.0
 answer_keeps_id tables (told.Short (short.Stale newest)) result position before p other new q answers = ap (λ (x : Position). x.id) answers.1

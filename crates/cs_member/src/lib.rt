@@ -5,6 +5,7 @@
 //! `cs_replica_lines_tests`.
 #![tactic(auto)]
 
+pub mod laws;
 mod turning;
 
 pub use turning::{edit_replica, push_replica, resend_replica, rows_of, tell_replica};

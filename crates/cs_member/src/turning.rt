@@ -1,6 +1,6 @@
 //! What a call makes of a replica.
 
-ghost use Rattle.std.specs.Prelude.{◌≡◌, IfOk};
+ghost use Rattle.std.specs.Prelude.{◌≡◌, ◌<◌, ◌^◌, IfOk};
 ghost use Rattle.cs_member.specs.Member.{AreRowsIn, Hears, IsEditedTo, IsPushedTo, IsResent, Turns};
 ghost use Rattle.cs_value.specs.declared.edit.Edit.TheVariants.{Delete, Insert, Update};
 ghost use Rattle.cs_wire.specs.Requests.{HasShortChangeset, asked_by_owned};
@@ -120,6 +120,13 @@ pub fn resend_replica<S: RowStore>(
     }
 }
 
+/// A replica's version is in range.
+fn version_fits<S: RowStore>(replica: &Replica<S>)
+    ensures { replica.now.position.version < 2 ^ 64 }
+{
+    let _version = replica.version();
+}
+
 /// Tells a replica the hub's answer; at each clash the next of the wishes counts. (Profile of this project.)
 ///
 /// # Errors
@@ -136,7 +143,7 @@ pub fn tell_replica<S: RowStore>(
     let mut picker = Wishes::new(wishes);
     let told = replica.answer(alloc, answer, &mut picker);
     replica.shown();
-    let _version = replica.version();
+    version_fits(replica);
     told
 }
 
