@@ -4,7 +4,6 @@ use Rattle.std.specs.Prelude.{◌≡◌, ◌⊎◌, ◌++◌, ℕ, List, [], ◌
 use Rattle.cs_asks.specs.declared.ask.Ask.{Ask}
 use Rattle.cs_asks.specs.declared.ask.Ask.TheVariants.{Answer, Dump, OnEdit, Pull, Push, Resend}
 use Rattle.cs_conflict.specs.declared.wish.Wish.{Wish}
-use Rattle.cs_fault_names.specs.Names.{store_name, wire_name}
 use Rattle.cs_lines.specs.Lines.{hex_line}
 use Rattle.cs_member.specs.Member.{Hears, IsEditedTo, IsPushedTo, IsResent, Member}
 use Rattle.cs_normal.specs.State.{State}
@@ -22,7 +21,7 @@ use Rattle.cs_wire.specs.Requests.{AsksPull, request_spelling}
 use Rattle.cs_wire.specs.declared.answer.Answer.{Answer as Told_by}
 use Rattle.cs_wire.specs.declared.fault.WireFault.{WireFault}
 use Rattle.cs_wire.specs.declared.request.RequestBuf.{RequestBuf}
-use Rattle.cs_replica_lines.specs.Texts.{edited_text, heard_text, place_text, pushed_text, refused_text, rows_text}
+use Rattle.cs_replica_lines.specs.Texts.{edited_text, heard_text, pushed_text, refused_text, replica_text, rows_text, store_fault_text, wire_fault_text}
 
 -- the text says that memory was refused
 abbrev pub SaysMemory : List ℕ → Type 0
@@ -37,14 +36,14 @@ AreRowLines (table ∷ tables) state text =
 
 -- where the replica stands, and its rows: tables in the catalog's order, rows in the order of their keys' bytes
 abbrev pub IsDumped : List TableDef → Member → List ℕ → Type 0
-IsDumped tables member text = (rows : List ℕ) × AreRowLines tables member.view.tables rows × (text ≡ line (place_text member.position) ++ rows)
+IsDumped tables member text = (rows : List ℕ) × AreRowLines tables member.view.tables rows × (text ≡ line (replica_text member.position) ++ rows)
 
 -- an answer is taken, and what became of it is printed; or the bytes are no answer, and their fault is; or memory was refused
 abbrev pub TakesAnswer : List TableDef → Member → List ℕ → List Wish → List ℕ → Member → Type 0
 TakesAnswer tables before bytes wishes text after =
     ((answer : Told_by) × (result : Result Told AnswerFault) × FitsAnswer answer × (bytes ≡ answer_spelling answer)
     × Hears tables before answer wishes result after × (text ≡ heard_text result after.position.version))
-    ⊎ ((after ≡ before) × (((fault : WireFault) × IsAnswerFault fault bytes × (text ≡ refused_text (wire_name fault))) ⊎ SaysMemory text))
+    ⊎ ((after ≡ before) × (((fault : WireFault) × IsAnswerFault fault bytes × (text ≡ refused_text (wire_fault_text fault))) ⊎ SaysMemory text))
 
 -- one case a line: what it makes of the replica, and its text
 abbrev pub LineStep : List TableDef → Member → Ask → List ℕ → Member → Type 0
@@ -58,7 +57,7 @@ LineStep tables before (Pull limit) text after =
     (after ≡ before) × ((text ≡ hex_line (request_spelling (AsksPull before.position.version limit))) ⊎ SaysMemory text)
 LineStep tables before (Answer bytes wishes) text after = TakesAnswer tables before bytes wishes text after
 LineStep tables before Dump text after =
-    (after ≡ before) × (IsDumped tables before text ⊎ ((fault : StoreFault) × (text ≡ refused_text (store_name fault))))
+    (after ≡ before) × (IsDumped tables before text ⊎ ((fault : StoreFault) × (text ≡ refused_text (store_fault_text fault))))
 
 -- lines, one behind another, each with its text
 abbrev pub LineSteps : List TableDef → Member → List Ask → List (List ℕ) → Member → Type 0

@@ -1,55 +1,54 @@
 -- What is printed of a replica (format of this project).
-use Rattle.std.specs.Prelude.{ℕ, List, [], ◌∷◌, ◌++◌, Option, Some, None, Result, Ok, Err, codes, decimal, min, ◌-◌, ◌^◌}
+use Rattle.std.specs.Prelude.{◌-◌, ◌^◌, ℕ, List, ◌++◌, Option, Some, None, Result, Ok, Err, codes, min}
 use Rattle.std.specs.List.{flat_map}
-use Rattle.cs_fault_names.specs.Names.{answer_count, answer_name, edit_name, push_name}
+use Rattle.std.specs.Fmt.{decimal}
 use Rattle.cs_lines.specs.Lines.{hex_line}
-use Rattle.cs_normal.specs.declared.normal.TableChanges.{TableChanges}
 use Rattle.cs_normal.specs.Normal.{count_of}
+use Rattle.cs_normal.specs.declared.normal.TableChanges.{TableChanges}
 use Rattle.cs_pending.specs.declared.fault.EditFault.{EditFault}
-use Rattle.cs_position.specs.Shows.{flown}
 use Rattle.cs_position.specs.declared.position.Position.{Position}
 use Rattle.cs_pulling.specs.declared.fault.AnswerFault.{AnswerFault}
 use Rattle.cs_pushing.specs.declared.fault.PushFault.{PushFault}
 use Rattle.cs_replica.specs.declared.told.Told.{Told}
-use Rattle.cs_replica.specs.declared.told.Told.TheVariants.{Confirmed, Ignored, Stale, Refused, Taken, Stopped}
-use Rattle.cs_text.specs.Text.{line, name_text, spaced, values_text}
+use Rattle.cs_store.specs.declared.fault.StoreFault.{StoreFault}
+use Rattle.cs_store.specs.declared.fault.StoreFault.TheVariants as store
+use Rattle.cs_text.specs.Text.{line}
+use Rattle.cs_told.specs.Told.{edit_fault_text, fault_text, place_text, push_fault_text, row_text, told_text}
 use Rattle.cs_value.specs.declared.value.Value.{Value}
 use Rattle.cs_wire.specs.Requests.{asked_by_owned, request_spelling}
+use Rattle.cs_wire.specs.declared.fault.WireFault.{WireFault}
+use Rattle.cs_wire.specs.declared.fault.WireFault.TheVariants as wire
 use Rattle.cs_wire.specs.declared.request.RequestBuf.{RequestBuf}
 
--- `ok`
 abbrev pub ok_text : List ℕ
 ok_text = line (codes "ok")
 
--- `refused NAME`
 abbrev pub refused_text : List ℕ → List ℕ
 refused_text name = line (codes "refused " ++ name)
+
+-- the names of faults of bytes that are no answer, and of a store
+abbrev pub wire_fault_text : WireFault → List ℕ
+wire_fault_text wire.Truncated = codes "Truncated"
+wire_fault_text wire.BadTag = codes "BadTag"
+wire_fault_text wire.TooLong = codes "TooLong"
+wire_fault_text wire.BadKind = codes "BadKind"
+
+abbrev pub store_fault_text : StoreFault → List ℕ
+store_fault_text store.Memory = codes "Memory"
+store_fault_text store.Device = codes "Device"
 
 -- ---- of an edit, and of a push
 
 abbrev pub edited_text : Result (Unit {0}) EditFault → List ℕ
 edited_text (Ok done) = ok_text
-edited_text (Err fault) = refused_text (edit_name fault)
+edited_text (Err fault) = refused_text (edit_fault_text fault)
 
 -- the request in lower case hex
 abbrev pub pushed_text : Result RequestBuf PushFault → List ℕ
 pushed_text (Ok request) = hex_line (request_spelling (asked_by_owned request))
-pushed_text (Err fault) = refused_text (push_name fault)
+pushed_text (Err fault) = refused_text (push_fault_text fault)
 
--- ---- of an answer
-
--- what became of it, at the version that the replica is at then
-abbrev pub told_text : Told → ℕ → List ℕ
-told_text (Confirmed newest) version = codes "accepted " ++ decimal newest
-told_text Ignored version = codes "ignored"
-told_text (Stale newest) version = codes "stale " ++ decimal newest
-told_text (Refused code) version = codes "hub refused " ++ decimal code
-told_text (Taken count) version = codes "taken " ++ decimal count ++ codes " version " ++ decimal version
-told_text (Stopped count) version = codes "stopped " ++ decimal count ++ codes " version " ++ decimal version
-
--- `fault NAME after N`
-abbrev pub fault_text : AnswerFault → List ℕ
-fault_text fault = codes "fault " ++ answer_name fault ++ codes " after " ++ decimal (answer_count fault)
+-- ---- of an answer, at a replica that is at this version then
 
 abbrev pub heard_text : Result Told AnswerFault → ℕ → List ℕ
 heard_text (Ok told) version = line (told_text told version)
@@ -57,19 +56,15 @@ heard_text (Err fault) version = line (fault_text fault)
 
 -- ---- of a replica
 
--- how many changes are under way; 2 ^ 64 - 1 where there are more
-abbrev pub flight_count : Position → ℕ
-flight_count position = min (count_of (flown position.flight)) (2 ^ 64 - 1)
+-- how many changes a push has that is under way; 0 where none is
+abbrev pub flight_count : Option (List TableChanges) → ℕ
+flight_count (Some changes) = min (count_of changes) (2 ^ 64 - 1)
+flight_count None = 0
 
--- `replica ID version V pending P flight F`, with numbers of changes
-abbrev pub place_text : Position → List ℕ
-place_text position =
-    codes "replica " ++ decimal position.id ++ codes " version " ++ decimal position.version
-    ++ codes " pending " ++ decimal position.pending ++ codes " flight " ++ decimal (flight_count position)
-
--- `row T VALUES`
-abbrev pub row_text : List ℕ → List Value → List ℕ
-row_text table row = codes "row " ++ name_text table ++ values_text row
+-- `replica ID version V pending P flight F`
+abbrev pub replica_text : Position → List ℕ
+replica_text position =
+    codes "replica " ++ decimal position.id ++ codes " " ++ place_text position.version position.pending (flight_count position.flight)
 
 -- a line for each row of a table, which stands behind the bytes of its key
 abbrev pub rows_text : List ℕ → List (List ℕ × List Value) → List ℕ

@@ -4,17 +4,26 @@ ghost use Rattle.std.specs.Prelude.{◌≡◌, ◌++◌, List, ℕ, IfOk, OnOk, 
 ghost use Rattle.std.specs.Fmt.{WritesOnOk};
 ghost use Rattle.cs_member.specs.Member.{Member, Turns};
 ghost use Rattle.cs_replica_lines.specs.LineStep.{AreRowLines, IsDumped};
-ghost use Rattle.cs_replica_lines.specs.Texts.{flight_count, place_text, rows_text};
+ghost use Rattle.cs_replica_lines.specs.Texts.{flight_count, replica_text, rows_text};
 ghost use Rattle.cs_text.specs.Text.{line};
+ghost use Rattle.cs_told.specs.Told.{row_text};
 
-use crate::told::RowText;
 use cs_member::rows_of;
+use cs_record::RowBuf;
 use cs_replica::Replica;
 use cs_rows::RowAtKey;
 use cs_store::{RowStore, StoreFault};
+use cs_told::{PlaceText, RowText};
 use cs_value::{Catalog, Memory, Text};
 use std::alloc::Global;
 use std::fmt;
+
+fn write_row<W: fmt::Write>(table: &Text, row: &RowBuf, f: &mut fmt::Formatter<W>) -> fmt::Result
+    ensures { WritesOnOk W.write_str_gives f.old result (line (row_text table.now row.now)) f.new }
+{
+    let row = row.as_row();
+    write!(f, "{}\n", RowText { table, row: &row })
+}
 
 /// Rows of the table with this name, a line each.
 #[derive(Clone, Copy)]
@@ -29,9 +38,7 @@ impl fmt::Display for RowsText<'_> {
 
     fn fmt<W: fmt::Write>(&self, f: &mut fmt::Formatter<W>) -> fmt::Result {
         for (_, row) in self.rows {
-            let row = row.as_row();
-            let table = self.table;
-            write!(f, "{}\n", RowText { table, row })?;
+            write_row(self.table, row, f)?;
         }
         Ok(())
     }
@@ -45,23 +52,25 @@ fn lines_of(alloc: Global, table: &Text, rows: &[RowAtKey]) -> Result<String, Me
 }
 
 /// How many changes are under way.
-fn flight_len<S: RowStore>(replica: &Replica<S>) -> u64
-    ensures { result ≡ flight_count replica.now.position }
+fn flight_len<S: RowStore>(replica: &Replica<S>) -> usize
+    ensures { result ≡ flight_count replica.now.position.flight }
 {
     match replica.in_flight() {
-        Some(changes) => changes.len() as u64,
+        Some(changes) => changes.len(),
         None => 0,
     }
 }
 
 /// The line of where a replica stands.
 fn place_of<S: RowStore>(alloc: Global, replica: &Replica<S>, id: u32) -> Result<String, Memory>
-    ensures { IfOk result (λ text. id ≡ replica.now.position.id → string_bytes text ≡ line (place_text replica.now.position)) }
+    ensures { IfOk result (λ text. replica.now.position.id ≡ id → string_bytes text ≡ line (replica_text replica.now.position)) }
 {
-    let version = replica.version();
-    let pending = replica.pending_len();
-    let flight = flight_len(replica);
-    format!(in alloc; "replica {id} version {version} pending {pending} flight {flight}\n")
+    let place = PlaceText {
+        version: replica.version(),
+        pending: replica.pending_len(),
+        flight: flight_len(replica),
+    };
+    format!(in alloc; "replica {id} {place}\n")
 }
 
 /// Puts the lines of the rows of the tables from this one on behind a text.

@@ -6,16 +6,16 @@ ghost use Rattle.cs_wire.specs.Requests.{HasShortChangeset, asked_by_owned, requ
 ghost use Rattle.cs_replica_lines.specs.Steps.{Replies};
 
 use crate::dump::dump_of;
+use crate::names::{store_fault_name, wire_fault_name};
 use crate::reply::Reply;
-use crate::told::{FaultText, ToldText};
 use cs_asks::Ask;
 use cs_conflict::Wish;
-use cs_fault_names::{edit_name, push_name, store_name, wire_name};
 use cs_member::{edit_replica, push_replica, resend_replica, tell_replica};
 use cs_pulling::AnswerFault;
 use cs_pushing::PushFault;
 use cs_replica::{Replica, Told};
 use cs_store::RowStore;
+use cs_told::{FaultText, ToldText, edit_fault_name, push_fault_name};
 use cs_value::{Catalog, Edit, Memory};
 use cs_wire::{Answer, RequestBuf};
 use std::alloc::Global;
@@ -50,21 +50,21 @@ fn asked(alloc: Global, request: &RequestBuf) -> Reply
 fn edit_line<S: RowStore>(alloc: Global, replica: &mut Replica<S>, edit: &Edit) -> Reply {
     match edit_replica(alloc, replica, edit) {
         Ok(()) => Reply::Done,
-        Err(fault) => Reply::Refused(edit_name(fault)),
+        Err(fault) => Reply::Refused(edit_fault_name(fault)),
     }
 }
 
 fn push_line<S: RowStore>(alloc: Global, replica: &mut Replica<S>) -> Result<Reply, Memory> {
     match push_replica(alloc, replica) {
         Ok(request) => Ok(Reply::Hex(spelled(alloc, &request)?)),
-        Err(fault) => Ok(Reply::Refused(push_name(fault))),
+        Err(fault) => Ok(Reply::Refused(push_fault_name(fault))),
     }
 }
 
 fn resend_line<S: RowStore>(alloc: Global, replica: &Replica<S>) -> Reply {
     match resend_replica(alloc, replica) {
         Ok(request) => asked(alloc, &request),
-        Err(fault) => Reply::Refused(push_name(fault)),
+        Err(fault) => Reply::Refused(push_fault_name(fault)),
     }
 }
 
@@ -93,7 +93,7 @@ fn answer_line<S: RowStore>(
 ) -> Result<Reply, Memory> {
     let answer = match Answer::decode(bytes) {
         Ok(answer) => answer,
-        Err(fault) => return Ok(Reply::Refused(wire_name(fault))),
+        Err(fault) => return Ok(Reply::Refused(wire_fault_name(fault))),
     };
     let Ok(mut text) = String::with_capacity(alloc, ROOM) else {
         return Ok(Reply::Refused(MEMORY));
@@ -111,7 +111,7 @@ fn dump_line<S: RowStore>(
 ) -> Reply {
     match dump_of(alloc, replica, catalog, id) {
         Ok(text) => Reply::Text(text),
-        Err(fault) => Reply::Refused(store_name(fault)),
+        Err(fault) => Reply::Refused(store_fault_name(fault)),
     }
 }
 

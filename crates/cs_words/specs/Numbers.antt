@@ -1,5 +1,5 @@
 -- Numbers as words (profile of this project).
-use Rattle.std.specs.Prelude.{ℕ, ◌+◌, ◌^◌, ◌&&◌, nat_le, nat_lt, Bool, true, false, if◌then◌else◌, List, [], ◌∷◌, Option, Some, None, ℤ, pos, neg_ℤ, drop}
+use Rattle.std.specs.Prelude.{◌≡◌, ℕ, ◌+◌, ◌^◌, ◌&&◌, nat_le, nat_lt, Bool, true, false, if◌then◌else◌, List, [], ◌∷◌, Option, Some, None, ℤ, pos, neg_ℤ, drop}
 use Rattle.std.specs.Str.{all_ascii_digits}
 use Rattle.std.specs.Str.Parse.{digits_value, starts_with_minus}
 
@@ -34,3 +34,7 @@ positive None = None
 abbrev pub signed_in : List ℕ → Option ℤ
 signed_in word =
     if starts_with_minus word then negative (number_below (2 ^ 63 + 1) (drop 1 word)) else positive (number_below (2 ^ 63) word)
+
+-- a word that spells no number, of whatever width
+abbrev pub IsNoNumber : List ℕ → Type 0
+IsNoNumber word = ((most : ℕ) → number_below most word ≡ None) × (signed_in word ≡ None)

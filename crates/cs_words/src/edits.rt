@@ -82,12 +82,11 @@ fn read_update(
 fn marks_of<'c>(catalog: &'c Catalog, name: &str) -> &'c [bool]
     ensures { result.now ≡ marks_of catalog.now name.now }
 {
-    for table in catalog.tables() {
-        if table.name.as_str() == name {
-            return table.key_marks.as_slice();
-        }
+    let tables = catalog.tables();
+    match catalog.find(name) {
+        Some(place) => tables[place].key_marks.as_slice(),
+        None => &[],
     }
-    &[]
 }
 
 // The key and the fields that the words spell, column by column.

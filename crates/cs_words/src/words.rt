@@ -1,6 +1,6 @@
 //! The words of a line.
 
-ghost use Rattle.std.specs.Prelude.{◌≡◌, ◌↔◌, ◌<◌, [], ◌∷◌, IsTrue, MatchOption, length};
+ghost use Rattle.std.specs.Prelude.{◌≡◌, ◌↔◌, ◌==◌, [], ◌∷◌, IsTrue, MatchOption, position};
 ghost use Rattle.std.specs.Str.{bytes_eq};
 ghost use Rattle.cs_words.specs.Words.{words_in};
 
@@ -59,8 +59,15 @@ fn split_word(line: &[u8]) -> (&[u8], Option<&[u8]>)
     ensures { MatchOption result.1 (words_in line.now ≡ result.0.now ∷ [])
         (λ rest. words_in line.now ≡ result.0.now ∷ words_in rest.now) }
 {
-    match line.iter().position(|byte| *byte == b' ') {
+    match first_space(line) {
         Some(at) => (&line[..at], Some(&line[at + 1..])),
         None => (line, None),
     }
+}
+
+// Where the first space stands.
+fn first_space(line: &[u8]) -> Option<usize>
+    ensures { result ≡ position (λ byte. byte == 0x20) line.now }
+{
+    line.iter().position(|byte| *byte == b' ')
 }

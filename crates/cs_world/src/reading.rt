@@ -1,16 +1,19 @@
 //! What a world shows.
 
 ghost use Rattle.std.specs.Prelude.{◌≡◌, [], None, Some, IfOk, length, slice_get};
+ghost use Rattle.std.specs.Option.{option_copied};
 ghost use Rattle.cs_hub.specs.declared.hub.TheConstants.{MAX_ENTRIES};
 ghost use Rattle.cs_log.specs.Log.{state_of};
 ghost use Rattle.cs_replica.specs.Holding.{Holding as Held};
 ghost use Rattle.cs_world.specs.Holding.{AreHonest, StandsAt};
-ghost use Rattle.cs_world.specs.Reads.{AreRowsIn, Reads};
+ghost use Rattle.cs_world.specs.Reads.{AreRowsIn, Reads, letter_receiver};
 ghost use Rattle.cs_world.specs.World.{IsMember, Member, World as Standing};
 
+use crate::letter::Letter;
 use crate::moving::Core;
 use crate::turning::rows_of;
 use crate::world::World;
+use cs_normal::Normal;
 use cs_rows::RowAtKey;
 use cs_store::{RowStore, StoreFault};
 
@@ -76,6 +79,27 @@ impl<S: RowStore> World<S> {
         match self.core.replicas.get(replica) {
             Some(one) => Some(one.pending_len()),
             None => None,
+        }
+    }
+
+    /// The changes of the push that a replica has under way, if one is; none where there is no replica with this number.
+    pub fn in_flight(&self, replica: usize) -> Option<&Normal>
+        ensures there { (one : Held S) → slice_get self.now.replicas replica ≡ Some one → option_copied result ≡ one.position.flight }
+        ensures none { slice_get self.now.replicas replica ≡ None → result ≡ None }
+    {
+        match self.core.replicas.get(replica) {
+            Some(one) => one.in_flight(),
+            None => None,
+        }
+    }
+
+    /// The replica to which a message is the hub's answer; none where it is a request, or there is no message with this number.
+    pub fn receiver(&self, message: usize) -> Option<u32>
+        ensures { result ≡ letter_receiver (slice_get self.now.letters message) }
+    {
+        match self.core.letters.get(message) {
+            Some(Letter::Tells { replica, .. }) => Some(*replica),
+            _ => None,
         }
     }
 

@@ -1,0 +1,5 @@
+pub mod Dump
+pub mod Endings
+pub mod Events
+pub mod Played
+pub mod Scripts

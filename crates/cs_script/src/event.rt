@@ -1,0 +1,140 @@
+//! A line of a script, as the event that it names.
+
+ghost use Rattle.std.specs.Prelude.{◌≡◌, IfOk};
+ghost use Rattle.cs_script.specs.Events.{alone, both_in, event_in, event_of, last_in};
+ghost use Rattle.cs_words.specs.Edits.{edit_in};
+ghost use Rattle.cs_words.specs.Numbers.{small_in, unsigned_in};
+ghost use Rattle.cs_words.specs.Wishes.{wishes_in};
+
+use cs_conflict::Wish;
+use cs_value::{Catalog, Items, Memory};
+use cs_words::{Words, is_word, read_edit, read_wishes, small, unsigned};
+use cs_world::{Event, WishList};
+use std::alloc::Global;
+
+/// The event that a line names, without its line feed, if it names one. (Profile of this project.)
+pub fn read_event(alloc: Global, catalog: &Catalog, line: &[u8]) -> Result<Option<Event>, Memory>
+    ensures { IfOk result (λ found. found ≡ event_in catalog.now line.now) }
+{
+    let mut words = Words::new(line);
+    let Some(verb) = words.next() else {
+        return Ok(None);
+    };
+    let Some(number) = words.next() else {
+        return Ok(None);
+    };
+    read_event_of(alloc, catalog, verb, number, &mut words)
+}
+
+// The event that a verb, the number behind it, and the words behind that name.
+fn read_event_of(
+    alloc: Global,
+    catalog: &Catalog,
+    verb: &[u8],
+    number: &[u8],
+    words: &mut Words<'_>,
+) -> Result<Option<Event>, Memory>
+    ensures { IfOk result (λ found. found ≡ event_of catalog.now verb.now number.now words.old) }
+{
+    if is_word(verb, b"edit") {
+        return read_edited(alloc, catalog, number, words);
+    }
+    if is_word(verb, b"push") {
+        return match alone(number, words) {
+            Some(replica) => Ok(Some(Event::MakePush { replica })),
+            None => Ok(None),
+        };
+    }
+    if is_word(verb, b"resend") {
+        return match alone(number, words) {
+            Some(replica) => Ok(Some(Event::Resend { replica })),
+            None => Ok(None),
+        };
+    }
+    if is_word(verb, b"pull") {
+        return Ok(read_asked(number, words));
+    }
+    if is_word(verb, b"deliver") {
+        return read_delivered(alloc, number, words);
+    }
+    if is_word(verb, b"restart") {
+        return match alone(number, words) {
+            Some(replica) => Ok(Some(Event::Restart { replica })),
+            None => Ok(None),
+        };
+    }
+    Ok(None)
+}
+
+// The number of a replica, behind which no word is left.
+fn alone(number: &[u8], words: &Words<'_>) -> Option<u32>
+    ensures { result ≡ alone (small_in number.now) words.now }
+{
+    let replica = small(number)?;
+    if words.is_at_end() {
+        Some(replica)
+    } else {
+        None
+    }
+}
+
+fn read_edited(
+    alloc: Global,
+    catalog: &Catalog,
+    number: &[u8],
+    words: &mut Words<'_>,
+) -> Result<Option<Event>, Memory>
+    ensures { IfOk result (λ found. found ≡ both_in (λ r edit. Event.OnEdit r edit) (small_in number.now) (edit_in catalog.now words.old)) }
+{
+    let Some(replica) = small(number) else {
+        return Ok(None);
+    };
+    match read_edit(alloc, catalog, words)? {
+        Some(edit) => Ok(Some(Event::OnEdit { replica, edit })),
+        None => Ok(None),
+    }
+}
+
+fn read_asked(number: &[u8], words: &mut Words<'_>) -> Option<Event>
+    ensures { result ≡ both_in (λ r limit. Event.AskPull r limit) (small_in number.now) (last_in small_in words.old) }
+{
+    let replica = small(number)?;
+    let limit = small(words.next()?)?;
+    if words.is_at_end() {
+        Some(Event::AskPull { replica, limit })
+    } else {
+        None
+    }
+}
+
+fn read_delivered(
+    alloc: Global,
+    number: &[u8],
+    words: &mut Words<'_>,
+) -> Result<Option<Event>, Memory>
+    ensures { IfOk result (λ found. found ≡ both_in (λ k wishes. Event.Deliver k wishes) (unsigned_in number.now) (last_in wishes_in words.old)) }
+{
+    let Some(message) = unsigned(number) else {
+        return Ok(None);
+    };
+    match last_wishes(alloc, words)? {
+        Some(wishes) => Ok(Some(Event::Deliver {
+            message: message as usize,
+            wishes: WishList::from_vec(wishes.into_vec()),
+        })),
+        None => Ok(None),
+    }
+}
+
+// The wishes that the last word spells, where one word is left.
+fn last_wishes(alloc: Global, words: &mut Words<'_>) -> Result<Option<Items<Wish>>, Memory>
+    ensures { IfOk result (λ found. found ≡ last_in wishes_in words.old) }
+{
+    let Some(word) = words.next() else {
+        return Ok(None);
+    };
+    if !words.is_at_end() {
+        return Ok(None);
+    }
+    read_wishes(alloc, word)
+}

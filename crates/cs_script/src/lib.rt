@@ -1,0 +1,20 @@
+//! Scripts of a world: each line names an event, and what is printed is what each event came to, a line each, and then the hub and the
+//! replicas, each with its rows. `read_event` reads a line, exactly (`specs/Events.antt`). `run_script` carries the promise, end by end
+//! (`specs/Endings.antt`): the script is read whole before any event is made, a line that names none is told by its number and nothing
+//! is written; else what is written is the text of a run, step by step, of a new world in memory, and of the world at its end, which has the
+//! headline of `cs_world`. The crate stands on `cs_world`, on `cs_words` for the words of a line, on `cs_told` and `cs_text` for what is
+//! printed, and on `cs_lines` for its lines. Its tests stand in `cs_script_tests`.
+#![tactic(auto)]
+
+mod dumping;
+mod event;
+mod fault;
+mod outcome;
+mod playing;
+mod reading;
+mod script;
+
+pub use event::read_event;
+pub use fault::ScriptFault;
+pub use outcome::OutcomeText;
+pub use script::run_script;

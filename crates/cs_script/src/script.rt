@@ -1,0 +1,69 @@
+//! A script, from its lines to its text.
+
+ghost use Rattle.std.specs.Prelude.{OnErr, OnOk};
+ghost use Rattle.std.specs.Io.KnownBytes.{Appends};
+ghost use Rattle.cs_lines.specs.Writing.{AppendsFront};
+ghost use Rattle.cs_script.specs.Endings.{EndsScript};
+
+use crate::dumping::push_dump;
+use crate::fault::ScriptFault;
+use crate::playing::play;
+use crate::reading::read_script;
+use cs_lines::{LineInput, LineOutput};
+use cs_value::Catalog;
+use cs_world::{Event, World};
+use std::alloc::Global;
+use std::io;
+
+/// Reads a script whole, makes its events in a new world in memory of so many replicas of these tables, and writes what each came to, a
+/// line each, and then the hub and the replicas, each with its rows. (Profile of this project.)
+///
+/// # Errors
+///
+/// `Line` where a line names no event; `Read`, `Write` and `Memory`. But at `Write` nothing was written. 4,294,967,295 replicas are `Memory`.
+pub fn run_script<R: LineInput, W: LineOutput>(
+    alloc: Global,
+    catalog: &Catalog,
+    count: u32,
+    reader: &mut R,
+    writer: &mut W,
+) -> Result<(), ScriptFault>
+    ensures ends { EndsScript catalog.now count (R.remaining reader.old) (R.remaining reader.new) (R.failed reader.new) (W.failed writer.new)
+        (W.contents writer.old) (W.contents writer.new) result }
+    ensures sent { OnOk result (W.sent writer.new) }
+{
+    let events = read_script(alloc, catalog, reader)?;
+    let text = played_text(alloc, catalog, count, &events)?;
+    match send_text(writer, text.as_str()) {
+        Ok(()) => Ok(()),
+        Err(_) => Err(ScriptFault::Write),
+    }
+}
+
+fn send_text<W: LineOutput>(writer: &mut W, text: &str) -> io::Result<()>
+    ensures written { OnOk result (Appends (W.contents writer.old) (W.contents writer.new) text.now) }
+    ensures sent { OnOk result (W.sent writer.new) }
+    ensures front { OnErr result (AppendsFront (W.contents writer.old) (W.contents writer.new) text.now) }
+    ensures failed { OnErr result (W.failed writer.new) }
+{
+    writer.put(text.as_bytes())?;
+    writer.send()
+}
+
+// The text of a run, and of the world at its end.
+fn played_text(
+    alloc: Global,
+    catalog: &Catalog,
+    count: u32,
+    events: &[Event],
+) -> Result<String, ScriptFault> {
+    if count == u32::MAX {
+        return Err(ScriptFault::Memory);
+    }
+    let mut world = World::in_memory(alloc, catalog, count)?;
+    let mut text = String::new(alloc);
+    play(alloc, &mut world, events, &mut text)?;
+    world.headline();
+    push_dump(alloc, catalog, &mut world, &mut text)?;
+    Ok(text)
+}

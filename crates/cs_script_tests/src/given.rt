@@ -1,0 +1,46 @@
+//! Scripts over one table, `t1(a, b)`, whose first column is the key.
+
+use cs_script::{ScriptFault, run_script};
+use cs_value::{Catalog, Items, TableDef, Text};
+use std::alloc::Global;
+
+fn catalog(alloc: Global) -> Option<Catalog> {
+    let name = Text::from_string(String::from_str(alloc, "t1").ok()?);
+    let key_marks = Items::from_vec(Vec::from_slice(alloc, &[true, false]).ok()?);
+    let mut tables = Vec::new(alloc);
+    tables.push(TableDef { name, key_marks }).ok()?;
+    Catalog::new(tables).ok()
+}
+
+/// Whether this is printed of a script, in a world of so many replicas.
+pub(crate) fn prints(alloc: Global, replicas: u32, script: &str, printed: &str) -> Option<bool> {
+    let catalog = catalog(alloc)?;
+    let mut input = script.as_bytes();
+    let mut output = Vec::new(alloc);
+    match run_script(alloc, &catalog, replicas, &mut input, &mut output) {
+        Ok(()) => Some(output.as_slice() == printed.as_bytes()),
+        Err(_) => None,
+    }
+}
+
+/// Whether the line of a script with this number can't be read, and nothing is printed.
+pub(crate) fn stops_at(alloc: Global, script: &str, line: u64) -> Option<bool> {
+    let catalog = catalog(alloc)?;
+    let mut input = script.as_bytes();
+    let mut output = Vec::new(alloc);
+    match run_script(alloc, &catalog, 1, &mut input, &mut output) {
+        Err(ScriptFault::Line(number)) => Some(number == line && output.is_empty()),
+        _ => Some(false),
+    }
+}
+
+/// Whether so many replicas are too many for any memory, and nothing is printed.
+pub(crate) fn is_too_large(alloc: Global, replicas: u32) -> Option<bool> {
+    let catalog = catalog(alloc)?;
+    let mut input = b"".as_slice();
+    let mut output = Vec::new(alloc);
+    match run_script(alloc, &catalog, replicas, &mut input, &mut output) {
+        Err(ScriptFault::Memory) => Some(output.is_empty()),
+        _ => Some(false),
+    }
+}

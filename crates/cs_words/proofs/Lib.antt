@@ -1,0 +1,6 @@
+pub mod EditLemmas
+pub mod NumberLemmas
+pub mod TextLemmas
+pub mod ValueLemmas
+pub mod WordLemmas
+pub mod WishLemmas
