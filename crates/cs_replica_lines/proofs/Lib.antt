@@ -1,0 +1,3 @@
+mod Printing
+mod Going
+mod Dumping

@@ -1,0 +1,79 @@
+-- How a replica that is worked by lines ends (profile of this project): what was done, what is printed, and what stopped it.
+use Rattle.std.specs.Prelude.{◌≡◌, ◌⊎◌, ⊤, ℕ, List, [], ◌∷◌, ◌++◌, Option, Result, Ok, Err}
+use Rattle.std.specs.Io.KnownBytes.{Appends, Keeps}
+use Rattle.cs_asks.specs.Reading.{AreAllAsks, IsReadFault}
+use Rattle.cs_asks.specs.declared.ask.Ask.{Ask}
+use Rattle.cs_asks.specs.declared.fault.ReadFault.{ReadFault}
+use Rattle.cs_asks.specs.declared.fault.ReadFault.TheVariants as reading
+use Rattle.cs_member.specs.Member.{Member}
+use Rattle.cs_moving.specs.Moved.{IsStoreFault, IsStoreOpened}
+use Rattle.cs_opening.specs.declared.fault.OpenFault.{OpenFault}
+use Rattle.cs_opening.specs.declared.fault.OpenFault.TheVariants as opening
+use Rattle.cs_position.specs.Shows.{ShowsAt}
+use Rattle.cs_store.specs.Contents.{Contents}
+use Rattle.cs_value.specs.declared.catalog.TableDef.{TableDef}
+use Rattle.cs_replica_lines.specs.LineStep.{LineSteps}
+use Rattle.cs_replica_lines.specs.declared.fault.NodeFault.{NodeFault}
+use Rattle.cs_replica_lines.specs.declared.fault.NodeFault.TheVariants.{Line, Memory, Open, Read, Write}
+
+-- faults of a reading and of an opening as a node's; want of memory is told as such alone
+abbrev pub of_reading : ReadFault → NodeFault
+of_reading reading.Memory = Memory
+of_reading reading.Read = Read
+of_reading (reading.Line number) = Line number
+
+abbrev pub of_opening : OpenFault → NodeFault
+of_opening opening.Memory = Memory
+of_opening opening.Damaged = Open opening.Damaged
+of_opening opening.Device = Open opening.Device
+of_opening opening.Mismatch = Open opening.Mismatch
+
+-- texts, one behind another
+abbrev pub printed : List (List ℕ) → List ℕ
+printed [] = []
+printed (text ∷ texts) = text ++ printed texts
+
+-- what is printed where a line's text isn't: the texts before it, and a front of its own where the writer failed
+abbrev pub BreaksOff : NodeFault → Type 0 → Option (List ℕ) → Option (List ℕ) → List ℕ → List ℕ → Type 0
+BreaksOff Memory write_failed old new before text = Appends old new before
+BreaksOff Write write_failed old new before text =
+    (front : List ℕ) × (after : List ℕ) × (text ≡ front ++ after) × Appends old new (before ++ front) × write_failed
+BreaksOff Read write_failed old new before text = ⊥
+BreaksOff (Line number) write_failed old new before text = ⊥
+BreaksOff (Open fault) write_failed old new before text = ⊥
+
+module _ {S : Type 0} (honest : S → Type 0) (contents : S → Contents) (tables : List TableDef) (id : ℕ) where
+  -- where the store is honest in the end, it was opened as the replica with this id, the lines made these steps of it with these texts,
+  -- and it shows what they left
+  pub record Worked (store last : S) (asks : List Ask) (texts : List (List ℕ)) : Type 0 where
+    pub was_honest : honest last → honest store
+    pub worked : honest last → (first : Contents) × (before : Member) × (after : Member)
+        × IsStoreOpened tables id (contents store) first before.position × ShowsAt tables first before.position before.view
+        × LineSteps tables before asks texts after × ShowsAt tables (contents last) after.position after.view
+
+  -- where the store is honest, it holds what it held, and isn't opened for this reason
+  pub record NotOpened (store last : S) (fault : OpenFault) : Type 0 where
+    pub was_honest : honest last → honest store
+    pub same : honest last → contents last ≡ contents store
+    pub refused : honest last → IsStoreFault tables id (contents store) fault
+
+  -- some of the lines were worked, and the text of the last of them isn't printed whole: memory was refused for it, or the writer failed
+  abbrev pub WorkedUpTo : List Ask → S → S → NodeFault → Type 0 → Option (List ℕ) → Option (List ℕ) → Type 0
+  WorkedUpTo asks store last fault write_failed old new =
+      (done : List Ask) × (ask : Ask) × (later : List Ask) × (texts : List (List ℕ)) × (text : List ℕ)
+      × (asks ≡ done ++ ask ∷ later) × Worked store last (done ++ ask ∷ []) (texts ++ text ∷ [])
+      × BreaksOff fault write_failed old new (printed texts) text
+
+  -- all lines were worked and their texts are printed; or the replica isn't opened, and nothing is; or it ended at a line
+  abbrev pub EndsWorking : List Ask → S → S → Type 0 → Option (List ℕ) → Option (List ℕ) → Result ⊤ NodeFault → Type 0
+  EndsWorking asks store last write_failed old new (Ok done) =
+      (texts : List (List ℕ)) × Worked store last asks texts × Appends old new (printed texts)
+  EndsWorking asks store last write_failed old new (Err fault) =
+      ((why : OpenFault) × (fault ≡ of_opening why) × NotOpened store last why × Keeps old new)
+      ⊎ WorkedUpTo asks store last fault write_failed old new
+
+  -- the input was read whole, and its lines were worked so; or it wasn't, and nothing was done
+  abbrev pub EndsNode : Option (List ℕ) → Type 0 → S → S → Type 0 → Option (List ℕ) → Option (List ℕ) → Result ⊤ NodeFault → Type 0
+  EndsNode input read_failed store last write_failed old new result =
+      ((asks : List Ask) × AreAllAsks tables input asks × EndsWorking asks store last write_failed old new result)
+      ⊎ ((why : ReadFault) × IsReadFault tables read_failed input why × (result ≡ Err (of_reading why)) × (last ≡ store) × Keeps old new)

@@ -1,0 +1,111 @@
+//! Where a replica stands, and its rows.
+
+ghost use Rattle.std.specs.Prelude.{◌≡◌, ◌++◌, List, ℕ, IfOk, OnOk, drop, string_bytes};
+ghost use Rattle.std.specs.Fmt.{WritesOnOk};
+ghost use Rattle.cs_member.specs.Member.{Member, Turns};
+ghost use Rattle.cs_replica_lines.specs.LineStep.{AreRowLines, IsDumped};
+ghost use Rattle.cs_replica_lines.specs.Texts.{flight_count, replica_text, rows_text};
+ghost use Rattle.cs_text.specs.Text.{line};
+ghost use Rattle.cs_told.specs.Told.{row_text};
+
+use cs_member::rows_of;
+use cs_record::RowBuf;
+use cs_replica::Replica;
+use cs_rows::RowAtKey;
+use cs_store::{RowStore, StoreFault};
+use cs_told::{PlaceText, RowText};
+use cs_value::{Catalog, Memory, Text};
+use std::alloc::Global;
+use std::fmt;
+
+fn write_row<W: fmt::Write>(table: &Text, row: &RowBuf, f: &mut fmt::Formatter<W>) -> fmt::Result
+    ensures { WritesOnOk W.write_str_gives f.old result (line (row_text table.now row.now)) f.new }
+{
+    let row = row.as_row();
+    write!(f, "{}\n", RowText { table, row: &row })
+}
+
+/// Rows of the table with this name, a line each.
+#[derive(Clone, Copy)]
+struct RowsText<'a> {
+    table: &'a Text,
+    rows: &'a [RowAtKey],
+}
+
+impl fmt::Display for RowsText<'_> {
+    ghost use Rattle.std.specs.Prelude.{Some};
+    ghost output = { λ text. Some (rows_text text.table.now text.rows.now) };
+
+    fn fmt<W: fmt::Write>(&self, f: &mut fmt::Formatter<W>) -> fmt::Result {
+        for (_, row) in self.rows {
+            write_row(self.table, row, f)?;
+        }
+        Ok(())
+    }
+}
+
+/// The lines of rows of the table with this name.
+fn lines_of(alloc: Global, table: &Text, rows: &[RowAtKey]) -> Result<String, Memory>
+    ensures { IfOk result (λ text. string_bytes text ≡ rows_text table.now rows.now) }
+{
+    format!(in alloc; "{}", RowsText { table, rows })
+}
+
+/// How many changes are under way.
+fn flight_len<S: RowStore>(replica: &Replica<S>) -> usize
+    ensures { result ≡ flight_count replica.now.position.flight }
+{
+    match replica.in_flight() {
+        Some(changes) => changes.len(),
+        None => 0,
+    }
+}
+
+/// The line of where a replica stands.
+fn place_of<S: RowStore>(alloc: Global, replica: &Replica<S>, id: u32) -> Result<String, Memory>
+    ensures { IfOk result (λ text. replica.now.position.id ≡ id → string_bytes text ≡ line (replica_text replica.now.position)) }
+{
+    let place = PlaceText {
+        version: replica.version(),
+        pending: replica.pending_len(),
+        flight: flight_len(replica),
+    };
+    format!(in alloc; "replica {id} {place}\n")
+}
+
+/// Puts the lines of the rows of the tables from this one on behind a text.
+fn put_tables<S: RowStore>(
+    alloc: Global,
+    replica: &mut Replica<S>,
+    catalog: &Catalog,
+    table: usize,
+    text: &mut String,
+) -> Result<(), StoreFault>
+    requires { replica.old.catalog ≡ catalog.now }
+    ensures { Turns S.honest S.contents (λ (before : Member) (after : Member). (after ≡ before)
+        × OnOk result ((lines : List ℕ) × AreRowLines (drop table catalog.now) before.view.tables lines × (string_bytes text.new ≡ string_bytes text.old ++ lines))) replica.old replica.new }
+{
+    let Some(def) = catalog.tables().get(table) else {
+        return Ok(());
+    };
+    let rows = rows_of(alloc, replica, table)?;
+    let lines = lines_of(alloc, &def.name, rows.as_slice())?;
+    text.push_str(lines.as_str())?;
+    put_tables(alloc, replica, catalog, table + 1, text)
+}
+
+/// Where a replica stands, and its rows: tables in the catalog's order, rows in the order of their keys' bytes.
+pub(crate) fn dump_of<S: RowStore>(
+    alloc: Global,
+    replica: &mut Replica<S>,
+    catalog: &Catalog,
+    id: u32,
+) -> Result<String, StoreFault>
+    requires { replica.old.catalog ≡ catalog.now }
+    ensures { Turns S.honest S.contents (λ (before : Member) (after : Member). (after ≡ before)
+        × (before.position.id ≡ id → IfOk result (λ text. IsDumped catalog.now before (string_bytes text)))) replica.old replica.new }
+{
+    let mut text = place_of(alloc, replica, id)?;
+    put_tables(alloc, replica, catalog, 0, &mut text)?;
+    Ok(text)
+}
