@@ -7,7 +7,7 @@ use Rattle.std.proofs.lemmas.Bool.Decides.{same_from_decides}
 use Rattle.std.proofs.lemmas.Slice.Eq.{bytes_eq-Decides}
 use Rattle.std.specs.Str.{bytes_eq}
 use Rattle.clap.specs.Words.{ReadsOne, Row, Text, all_of, first_of, one_of}
-use Rattle.cs_command.specs.CommandLine.{form_of, node_of, node_wanted, number_at, tables_in, tool_by, tool_of_what, wanted_by}
+use Rattle.cs_command.specs.CommandLine.{form_of, id_at, node_of, node_wanted, number_at, tables_in, tool_by, tool_of_what, wanted_by}
 use Rattle.cs_command.specs.Wanted.{Hub, Node, Run, World}
 use Rattle.cs_tools.specs.declared.tool.Form.TheVariants.{Normal, Sqlite}
 use Rattle.cs_tools.specs.declared.tool.Tool.TheVariants.{ShowBlob, ShowChangeset}
@@ -83,9 +83,9 @@ hub_asked name rows file is found =
     ap (λ (f : Option Text). Some (Hub f)) found ∙ ap (λ b. cond b (Some (Hub (first_of (codes "FILE") rows))) rest) is
 
 pub node_has_no_file : (rows : List Row) → None ≡ first_of (codes "FILE") rows → None ≡ node_wanted rows
-node_has_no_file rows none = ap (λ (f : Option Text). node_of f (number_at (codes "ID") rows)) none
+node_has_no_file rows none = ap (λ (f : Option Text). node_of f (id_at rows)) none
 
-pub node_found : (rows : List Row) (file : Text) (id : ℕ) → Some file ≡ first_of (codes "FILE") rows → Some id ≡ number_at (codes "ID") rows
+pub node_found : (rows : List Row) (file : Text) (id : ℕ) → Some file ≡ first_of (codes "FILE") rows → Some id ≡ id_at rows
     → Some (Node file id) ≡ node_wanted rows
 node_found rows file id named numbered =
     ap (λ (f : Option Text). node_of f (Some id)) named ∙ ap (λ (n : Option ℕ). node_of (first_of (codes "FILE") rows) n) numbered

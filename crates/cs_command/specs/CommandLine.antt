@@ -1,5 +1,5 @@
 -- The command line of `sync`, as the parser sees it, and what it asks for.
-use Rattle.std.specs.Prelude.{ℕ, ◌^◌, ◌-◌, List, [], Option, Some, None, true, option_map, option_and_then, unwrap_or, if◌then◌else◌, codes}
+use Rattle.std.specs.Prelude.{ℕ, ◌^◌, ◌-◌, nat_lt, List, [], Option, Some, None, true, option_map, option_and_then, unwrap_or, if◌then◌else◌, codes}
 use Rattle.std.specs.Str.{bytes_eq}
 use Rattle.std.specs.Str.Parse.{without_leading_plus}
 use Rattle.clap.specs.Faults.{fault_of}
@@ -97,13 +97,20 @@ number_in word = small_in (without_leading_plus word)
 abbrev pub number_at : Text → List Row → Option ℕ
 number_at id rows = option_and_then number_in (first_of id rows)
 
+-- the id of a replica, which the largest number of 32 bits isn't
+abbrev pub id_among : ℕ → Option ℕ
+id_among number = if nat_lt number (2 ^ 32 - 1) then Some number else None
+
+abbrev pub id_at : List Row → Option ℕ
+id_at rows = option_and_then id_among (number_at (codes "ID") rows)
+
 abbrev pub node_of : Option Text → Option ℕ → Option Wanted
 node_of (Some file) (Some id) = Some (Node file id)
 node_of _ _ = None
 
 -- what the words of `node` ask for
 abbrev pub node_wanted : List Row → Option Wanted
-node_wanted rows = node_of (first_of (codes "FILE") rows) (number_at (codes "ID") rows)
+node_wanted rows = node_of (first_of (codes "FILE") rows) (id_at rows)
 
 -- what `show` is to show
 abbrev pub tool_of_what : Option Text → Option Tool

@@ -1,5 +1,5 @@
 -- What a command line asks for beside its table words, with what is borrowed seen as what it is.
-use Rattle.std.specs.Prelude.{ℕ, List, Option, option_map}
+use Rattle.std.specs.Prelude.{ℕ, ◌<◌, ◌-◌, ◌^◌, ⊤, List, Option, option_map}
 use Rattle.cs_tools.specs.declared.tool.Tool.{Tool}
 use Rattle.cs_command.specs.declared.asked.Asked.{Asked}
 use Rattle.cs_command.specs.declared.asked.Asked.TheVariants as asked
@@ -16,3 +16,10 @@ wanted (asked.Hub file) = Hub (option_map (λ word. word.now) file)
 wanted (asked.World count) = World count
 wanted (asked.Node file id) = Node file.now id
 wanted (asked.Tool tool) = Run tool
+
+-- a replica that is asked for has an id that replicas have
+abbrev pub HasId : Asked → Type 0
+HasId (asked.Node file id) = id < 2 ^ 32 - 1
+HasId (asked.Hub file) = ⊤
+HasId (asked.World count) = ⊤
+HasId (asked.Tool tool) = ⊤

@@ -1,9 +1,9 @@
 //! What a command line asks for.
 
-ghost use Rattle.std.specs.Prelude.{◌≡◌, option_map};
+ghost use Rattle.std.specs.Prelude.{◌≡◌, ◌<◌, ◌-◌, ◌^◌, IfSome, option_map};
 ghost use Rattle.clap.specs.Words.{found_of, rows_of, subcommand_rows_of};
-ghost use Rattle.cs_command.specs.CommandLine.{form_of, node_wanted, number_at, shown_tool, tool_by, wanted_by, wanted_in};
-ghost use Rattle.cs_command.specs.Wanted.{wanted};
+ghost use Rattle.cs_command.specs.CommandLine.{form_of, id_among, id_at, node_wanted, number_at, shown_tool, tool_by, wanted_by, wanted_in};
+ghost use Rattle.cs_command.specs.Wanted.{HasId, wanted};
 
 use crate::number::number_in;
 use clap::ArgMatches;
@@ -40,12 +40,30 @@ fn number_of(found: &ArgMatches<'_>, id: &str) -> Option<u32>
     number_in(found.get_str(id)?)
 }
 
+/// The id of a replica, which the largest number of 32 bits isn't.
+fn id_among(number: u32) -> Option<u32>
+    ensures found { result ≡ id_among number }
+    ensures small { IfSome result (λ id. id < 2 ^ 32 - 1) }
+{
+    if number < u32::MAX { Some(number) } else { None }
+}
+
+/// The id that the words of `node` name.
+fn id_of(found: &ArgMatches<'_>) -> Option<u32>
+    ensures found { result ≡ id_at (rows_of (found_of found.now)) }
+    ensures small { IfSome result (λ id. id < 2 ^ 32 - 1) }
+{
+    let number = number_of(found, "ID")?;
+    id_among(number)
+}
+
 /// The replica that the words of `node` ask for.
 fn node_asked<'a>(found: &ArgMatches<'a>) -> Option<Asked<'a>>
-    ensures { option_map wanted result ≡ node_wanted (rows_of (found_of found.now)) }
+    ensures asked { option_map wanted result ≡ node_wanted (rows_of (found_of found.now)) }
+    ensures id { IfSome result HasId }
 {
     let file = found.get_str("FILE")?;
-    let id = number_of(found, "ID")?;
+    let id = id_of(found)?;
     Some(Asked::Node { file, id })
 }
 
@@ -95,7 +113,8 @@ fn tool_asked(name: &str, found: &ArgMatches<'_>) -> Option<Tool>
 
 /// What a subcommand and its words ask for.
 fn asked_by<'a>(name: &str, found: &ArgMatches<'a>) -> Option<Asked<'a>>
-    ensures { option_map wanted result ≡ wanted_by name.now (rows_of (found_of found.now)) }
+    ensures id { IfSome result HasId }
+    ensures asked { option_map wanted result ≡ wanted_by name.now (rows_of (found_of found.now)) }
 {
     if name == "hub" {
         let file = found.get_str("FILE");
@@ -113,7 +132,10 @@ fn asked_by<'a>(name: &str, found: &ArgMatches<'a>) -> Option<Asked<'a>>
 
 /// What a command line asks for that the parser took.
 pub fn asked_of<'a>(matches: &ArgMatches<'a>) -> Option<Asked<'a>>
-    ensures { option_map wanted result ≡ wanted_in (subcommand_rows_of matches.now) }
+    // A replica that is asked for has an id that replicas have.
+    ensures id { IfSome result HasId }
+
+    ensures asked { option_map wanted result ≡ wanted_in (subcommand_rows_of matches.now) }
 {
     match matches.subcommand() {
         Some((name, found)) => asked_by(name, found),

@@ -4,6 +4,8 @@ use Rattle.std.specs.Io.KnownBytes.{Appends, Keeps}
 use Rattle.clap.specs.Kinds.{IsAmong, Kinds}
 use Rattle.clap.specs.declared.error.kind.ErrorKind.{ErrorKind}
 use Rattle.clap.specs.declared.error.kind.ErrorKind.TheVariants as kind
+use Rattle.cs_command.specs.CatalogWords.{IsCatalogOf, IsFirstRefused}
+use Rattle.cs_command.specs.declared.table.TableFault.{TableFault}
 use Rattle.cs_hub.specs.Serves.{IsSame, Serves}
 use Rattle.cs_hub.specs.declared.hub.TheConstants.{MAX_ENTRIES}
 use Rattle.cs_judging.specs.Hub.{HubState, fresh}
@@ -12,14 +14,13 @@ use Rattle.cs_lines.specs.Reading.{AreAllBefore}
 use Rattle.cs_lines.specs.Served.{AnswersAll, AreAllLines, AreFirstLines}
 use Rattle.cs_lines.specs.Writing.{AppendsBroken}
 use Rattle.cs_lines.specs.declared.serve.TheConstants.{ASKS}
+use Rattle.cs_script.specs.Endings.{EndsScript}
 use Rattle.cs_tools.specs.Endings.{Ends, Owes, Refuses}
-use Rattle.cs_tools.specs.declared.fault.ToolFault.{ToolFault}
-use Rattle.cs_tools.specs.declared.fault.ToolFault.TheVariants as tool
 use Rattle.cs_tools.specs.declared.tool.Tool.{Tool}
 use Rattle.cs_value.specs.declared.catalog.TableDef.{TableDef}
-use Rattle.sync_cli.specs.CatalogWords.{IsCatalogOf, IsFirstRefused}
+use Rattle.sync_cli.specs.Faults.{of_script, of_table, of_tool}
 use Rattle.sync_cli.specs.declared.fault.RunFault.{RunFault}
-use Rattle.sync_cli.specs.declared.fault.RunFault.TheVariants.{CommandLine, Table, Memory, Read, Write, Lines}
+use Rattle.sync_cli.specs.declared.fault.RunFault.TheVariants.{CommandLine, Table, Memory, Read, Write}
 
 -- the status of an end: 0 where all was done, 1 where the input or memory was refused or a read or write failed, 2 where the
 -- command line was refused
@@ -29,47 +30,55 @@ status_of (Err CommandLine) = 2
 status_of (Err (Table word)) = 2
 status_of (Err _) = 1
 
--- a tool's fault as the run's: want of memory and a failed read or write are told as such, whoever meets them
-abbrev pub of_tool : ToolFault → RunFault
-of_tool tool.Memory = Memory
-of_tool tool.Read = Read
-of_tool tool.Write = Write
-of_tool fault = Lines fault
+-- a part of the run's end, with its faults told as these
+abbrev pub told_as : {F : Type 0} → (F → RunFault) → Result ⊤ F → Result ⊤ RunFault
+told_as told (Ok done) = Ok done
+told_as told (Err fault) = Err (told fault)
 
--- the run ends as the tool does
-abbrev pub of_end : Result ⊤ ToolFault → Result ⊤ RunFault
-of_end (Ok done) = Ok done
-of_end (Err fault) = Err (of_tool fault)
+-- a part of the run ended so
+abbrev pub EndsAs : {F : Type 0} → (F → RunFault) → (Result ⊤ F → Type 0) → Result ⊤ RunFault → Type 0
+EndsAs {F} told Ends result = (ended : Result ⊤ F) × (result ≡ told_as told ended) × Ends ended
+
+-- the table words are a catalog, and the run ended so over its tables; or they are refused, and nothing was read or written
+abbrev pub OnTables : List (List ℕ) → (List TableDef → Type 0) → Option (List ℕ) → Option (List ℕ) → Result ⊤ RunFault → Type 0
+OnTables words Ends old new result =
+    ((tables : List TableDef) × IsCatalogOf words tables × Ends tables)
+    ⊎ ((fault : TableFault) × IsFirstRefused fault words × (result ≡ Err (of_table fault)) × Keeps old new)
+
+-- want of memory, before anything was read or written
+abbrev pub LacksMemory : Option (List ℕ) → Option (List ℕ) → Result ⊤ RunFault → Type 0
+LacksMemory old new result = (result ≡ Err Memory) × Keeps old new
 
 -- a tool ended so: it wrote what it owes, or told why it owes nothing, or was broken off
 abbrev pub EndsTool : Tool → Option (List ℕ) → Option (List ℕ) → Type 0 → Type 0 → Option (List ℕ) → Option (List ℕ)
     → Result ⊤ RunFault → Type 0
 EndsTool tool input left read_failed write_failed old new result =
-    (ended : Result ⊤ ToolFault) × (result ≡ of_end ended)
-    × Ends (Owes tool input left) (Refuses tool read_failed input left) write_failed old new ended
+    EndsAs of_tool (Ends (Owes tool input left) (Refuses tool read_failed input left) write_failed old new) result
 
--- `hub` of these table words: a new hub of their tables answered all lines; or there is no such hub, and nothing was read; or it
--- answered all lines before the one at which a read failed, or lines without end, or to a failed write within the last answer
-abbrev pub EndsServing : List (List ℕ) → Option (List ℕ) → Option (List ℕ) → Type 0 → Type 0 → Option (List ℕ) → Option (List ℕ)
+-- a new hub of these tables answered all lines; or it answered all lines before the one at which a read failed, or lines without end, or
+-- to a failed write within the last answer; or memory was refused before it read
+abbrev pub EndsServing : List TableDef → Option (List ℕ) → Option (List ℕ) → Type 0 → Type 0 → Option (List ℕ) → Option (List ℕ)
     → Result ⊤ RunFault → Type 0
-EndsServing words input left read_failed write_failed old new (Ok done) =
-    (tables : List TableDef) × (lines : List (List ℕ)) × (answers : List (List ℕ)) × (end : HubState)
-    × IsCatalogOf words tables × AreAllLines input lines
-    × AnswersAll (Serves MAX_ENTRIES) IsSame (fresh tables) lines answers end
+EndsServing tables input left read_failed write_failed old new (Ok done) =
+    (lines : List (List ℕ)) × (answers : List (List ℕ)) × (end : HubState)
+    × AreAllLines input lines × AnswersAll (Serves MAX_ENTRIES) IsSame (fresh tables) lines answers end
     × Appends old new (flat_map hex_line answers)
-EndsServing words input left read_failed write_failed old new (Err Memory) = Keeps old new
-EndsServing words input left read_failed write_failed old new (Err (Table word)) = IsFirstRefused (Table word) words × Keeps old new
-EndsServing words input left read_failed write_failed old new (Err Read) =
-    (tables : List TableDef) × (lines : List (List ℕ)) × (answers : List (List ℕ)) × (end : HubState)
-    × IsCatalogOf words tables × AreAllBefore input left lines
-    × AnswersAll (Serves MAX_ENTRIES) IsSame (fresh tables) lines answers end
+EndsServing tables input left read_failed write_failed old new (Err Memory) = Keeps old new
+EndsServing tables input left read_failed write_failed old new (Err Read) =
+    (lines : List (List ℕ)) × (answers : List (List ℕ)) × (end : HubState)
+    × AreAllBefore input left lines × AnswersAll (Serves MAX_ENTRIES) IsSame (fresh tables) lines answers end
     × Appends old new (flat_map hex_line answers) × (read_failed ⊎ (length lines ≡ ASKS))
-EndsServing words input left read_failed write_failed old new (Err Write) =
-    (tables : List TableDef) × (lines : List (List ℕ)) × (answers : List (List ℕ)) × (end : HubState)
-    × IsCatalogOf words tables × AreFirstLines input lines
-    × AnswersAll (Serves MAX_ENTRIES) IsSame (fresh tables) lines answers end
+EndsServing tables input left read_failed write_failed old new (Err Write) =
+    (lines : List (List ℕ)) × (answers : List (List ℕ)) × (end : HubState)
+    × AreFirstLines input lines × AnswersAll (Serves MAX_ENTRIES) IsSame (fresh tables) lines answers end
     × AppendsBroken old new answers × write_failed
-EndsServing words input left read_failed write_failed old new (Err _) = ⊥
+EndsServing tables input left read_failed write_failed old new (Err _) = ⊥
+
+-- a world of so many replicas ran the script
+abbrev pub EndsWorld : ℕ → List TableDef → Option (List ℕ) → Option (List ℕ) → Type 0 → Type 0 → Option (List ℕ) → Option (List ℕ)
+    → Result ⊤ RunFault → Type 0
+EndsWorld count tables input left read_failed write_failed old new result =
+    EndsAs of_script (EndsScript tables count input left read_failed write_failed old new) result
 
 -- words that the command line doesn't take: help was asked for and written, or a front of it, where the writer failed; or the
 -- words were refused, for one of the parser's reasons; or memory was

@@ -1,5 +1,3 @@
-pub mod CatalogWords
-pub mod CommandLine
 pub mod Endings
-pub mod Laws
-pub mod TableWord
+pub mod Faults
+pub mod OverFiles

@@ -1,35 +1,59 @@
-//! `hub TABLE...`: requests in hex, answered line by line.
+//! `hub TABLE...` and `hub --file FILE TABLE...`: requests in hex, answered line by line.
 
-ghost use Rattle.std.specs.Prelude.{OnOk, map};
+ghost use Rattle.std.specs.Prelude.{OnOk};
 ghost use Rattle.sync_cli.specs.Endings.{EndsServing};
+ghost use Rattle.sync_cli.specs.OverFiles.{EndsServingFile};
 
 use crate::fault::RunFault;
-use crate::table;
-use cs_hub::Hub;
-use cs_hub::laws::runs_by_log;
-use cs_lines::{LineInput, LineOutput, Stop, serve_lines};
+use cs_hub_lines::{ServingFault, serve_on};
+use cs_lines::{LineInput, LineOutput};
 use cs_map_store::MapStore;
+use cs_sql::SqlStore;
+use cs_store::RowStore;
+use cs_value::Catalog;
+use sqlite::{FileFrom, FileStore, Unknown};
 use std::alloc::Global;
+use std::rt::HostRuntime;
 
-/// Answers each line of the input as a new hub of the tables that the words spell, over a store in memory. (Profile of this project.)
+/// Answers each line of the input as a new hub of these tables, over a store in memory. (Profile of this project.)
 pub fn serve_hub<'w, R: LineInput, W: LineOutput>(
     alloc: Global,
-    table_words: &[&'w str],
+    catalog: &Catalog,
     reader: &mut R,
     writer: &mut W,
 ) -> Result<(), RunFault<'w>>
-    ensures ends { EndsServing (map (λ word. word.now) table_words.now) (R.remaining reader.old)
+    ensures ends { EndsServing catalog.now (R.remaining reader.old)
         (R.remaining reader.new) (R.failed reader.new) (W.failed writer.new) (W.contents writer.old) (W.contents writer.new) result }
     ensures sent { OnOk result (W.sent writer.old → W.sent writer.new) }
 {
-    let catalog = table::catalog(alloc, table_words)?;
-    let Ok(mut hub) = Hub::open(alloc, MapStore::new(alloc), &catalog) else {
-        return Err(RunFault::Memory);
-    };
-    runs_by_log(&hub);
-    match serve_lines(alloc, &mut hub, reader, writer) {
+    let (ended, _) = serve_on(alloc, MapStore::new(alloc), catalog, reader, writer);
+    match ended {
         Ok(()) => Ok(()),
-        Err(Stop::Read) => Err(RunFault::Read),
-        Err(Stop::Write) => Err(RunFault::Write),
+        Err(ServingFault::Read) => Err(RunFault::Read),
+        Err(ServingFault::Write) => Err(RunFault::Write),
+        // A store in memory that holds nothing is opened, but for want of memory.
+        Err(_) => Err(RunFault::Memory),
     }
+}
+
+/// The same over the store in a file, which is made where there is none. (Profile of this project.)
+pub fn serve_file<'w, R: LineInput, W: LineOutput>(
+    rt: &HostRuntime,
+    path: &str,
+    catalog: &Catalog,
+    reader: &mut R,
+    writer: &mut W,
+) -> Result<(), RunFault<'w>>
+    ensures ends { EndsServingFile ⟦<SqlStore<FileStore<FileFrom<Unknown>>> as RowStore>⟧.honest
+        ⟦<SqlStore<FileStore<FileFrom<Unknown>>> as RowStore>⟧.contents ⟦<SqlStore<FileStore<FileFrom<Unknown>>> as RowStore>⟧.failed
+        ⟦<SqlStore<FileStore<FileFrom<Unknown>>> as RowStore>⟧.may_leave ⟦<SqlStore<FileStore<FileFrom<Unknown>>> as RowStore>⟧.misreads
+        catalog.now (R.remaining reader.old) (R.remaining reader.new) (R.failed reader.new) (W.failed writer.new)
+        (W.contents writer.old) (W.contents writer.new) result }
+    ensures sent { OnOk result (W.sent writer.old → W.sent writer.new) }
+{
+    let store = SqlStore::open_path(rt, path, Unknown)?;
+    let (ended, store) = serve_on(rt.alloc(), store, catalog, reader, writer);
+    // Each commit stands in the file's log by now, so a failure here loses nothing.
+    let _ = store.close().close();
+    Ok(ended?)
 }

@@ -1,25 +1,23 @@
-//! The program `sync`: a hub that answers requests line by line, and tools for changesets, all in hex.
+//! The program `sync`: a hub that answers requests line by line, over memory or a file; a replica over a file, worked by lines; worlds that
+//! run scripts; and tools for changesets.
 //!
-//! It stands on `clap` for the command line, on `cs_hub` for the answers, on `cs_lines` for their lines and on `cs_tools` for
-//! the tools, and only wires them. `run` carries the promise, end by end (`specs/Endings.antt`): `hub` gives each line of the input
-//! the answer of a hub of the tables that the command line names, a tool writes what it owes for the lines of the input or
-//! tells their first fault, and the words that are refused are those that name no catalog or that the command line doesn't
-//! take. `tell_end` turns each end into its status.
+//! It stands on `cs_command` for the command line, on `cs_hub_lines`, `cs_asks` and `cs_replica_lines`, `cs_script` and `cs_tools` for what is asked
+//! for, on `cs_map_store` and `cs_sql` for the stores, and only wires them. `run` carries the promise, end by end (`specs/Endings.antt`,
+//! `specs/OverFiles.antt`): what the words ask for was done, over the tables that they spell, or why not; and the words that are refused are
+//! those that name no catalog or that the command line doesn't take. `tell_end` turns each end into its status.
 //!
 //! `run`'s clauses stand over a reader and a writer whose bytes are known, as those of slices and vectors are. Standard
 //! input and output are none such in the toolchain: of `main`, which hands `run` the words, the standard streams and the
-//! allocator, the clauses say which end may come for which words, and nothing of the bytes. What the built program
-//! reads and writes on files and pipes is shown by runs instead: the stored run (`stdin`, `stdout`), and `bench/check_program.sh` and
-//! `bench/check_sessions.sh`, which are its tests.
+//! runtime, the clauses say which end may come for which words, and nothing of the bytes. What the built program
+//! reads and writes on files and pipes is shown by runs instead: the stored run (`stdin`, `stdout`), and `bench/check_program.sh`,
+//! `bench/check_sessions.sh` and `bench/check_files.sh`, which are its tests.
 #![tactic(auto)]
 
-mod command;
 mod fault;
 mod hub;
-mod laws;
+mod node;
 mod run;
 mod status;
-mod table;
 
 use crate::fault::RunFault;
 use crate::status::tell_end;
@@ -43,7 +41,7 @@ fn start(rt: &HostRuntime) -> io::Result<u8> {
     let words: Vec<String> = env::args(rt)?.collect(alloc)?;
     let mut reader = BufReader::new(alloc, rt.reader())?;
     let mut writer = BufWriter::with_capacity(alloc, OUTPUT_BUFFER, io::writer(rt))?;
-    let ended = run::run(alloc, words.as_slice(), &mut reader, &mut writer);
+    let ended = run::run(rt, words.as_slice(), &mut reader, &mut writer);
     Ok(tell_end(&ended, &mut rt.stderr()))
 }
 

@@ -1,25 +1,32 @@
 //! One run of the program, over any reader and writer.
 
-ghost use Rattle.std.specs.Prelude.{◌≡◌, ◌≢◌, [], List, ℕ, None, OnOk, Some, map};
-ghost use Rattle.clap.specs.Words.{kind_of};
-ghost use Rattle.cs_tools.specs.declared.tool.Tool.{Tool as Tools};
-ghost use Rattle.sync_cli.specs.CommandLine.{faults_of, table_words_of, tool_of};
-ghost use Rattle.sync_cli.specs.Endings.{EndsHelping, EndsRefused, EndsServing, EndsTool, EndsUnasked, EndsUntaken};
+ghost use Rattle.std.specs.Prelude.{◌≡◌, ◌≢◌, [], List, ℕ, None, OnOk, Some, map, option_map};
+ghost use Rattle.clap.specs.Words.{kind_of, subcommand_rows_of};
+ghost use Rattle.cs_command.specs.CommandLine.{faults_of, table_words_of, tables_in, wanted_of};
+ghost use Rattle.cs_command.specs.Wanted.{HasId, Wanted, wanted};
+ghost use Rattle.sync_cli.specs.Endings.{EndsHelping, EndsRefused, EndsUnasked, EndsUntaken};
+ghost use Rattle.sync_cli.specs.OverFiles.{EndsAsked, EndsWanted};
 
-use crate::command;
 use crate::fault::RunFault;
-use crate::hub::serve_hub;
-use clap::Error;
+use crate::hub::{serve_file, serve_hub};
+use crate::node::work_file;
 use clap::error::ErrorKind;
+use clap::{ArgMatches, Error};
+use cs_command::{Asked, asked_of, catalog_of, parse};
 use cs_lines::{LineInput, LineOutput};
+use cs_script::run_script;
+use cs_sql::SqlStore;
+use cs_store::RowStore;
 use cs_tools::{run_tool, write_text};
+use sqlite::{FileFrom, FileStore, Unknown};
 use std::alloc::Global;
 use std::convert::AsStr;
+use std::rt::HostRuntime;
 
 /// Runs `sync` on its words, of which the first is the program's name. Where all was done, also where help was asked for, what
 /// was written is sent. (Profile of this project.)
 pub fn run<'w, S: AsStr, R: LineInput, W: LineOutput>(
-    alloc: Global,
+    rt: &HostRuntime,
     words: &'w [S],
     reader: &mut R,
     writer: &mut W,
@@ -32,33 +39,58 @@ pub fn run<'w, S: AsStr, R: LineInput, W: LineOutput>(
         → EndsUntaken (faults_of (map S.text words.entry.now)) (W.failed writer.new)
         (W.contents writer.old) (W.contents writer.new) result }
 
-    // `hub TABLE...`: a hub of these tables answers each line by a line of lower case hex.
-    ensures hub { faults_of (map S.text words.entry.now) ≡ []
-        → (table_words : List (List ℕ)) → table_words_of (map S.text words.entry.now) ≡ Some table_words
-        → EndsServing table_words (R.remaining reader.old) (R.remaining reader.new) (R.failed reader.new) (W.failed writer.new)
-        (W.contents writer.old) (W.contents writer.new) result }
-
-    // `combine`, `rebase` and `show`: the text that the tool owes for the lines of the input, or the first fault of these.
-    ensures tool { (tool : Tools) → faults_of (map S.text words.entry.now) ≡ []
-        → tool_of (map S.text words.entry.now) ≡ Some tool
-        → EndsTool tool (R.remaining reader.old) (R.remaining reader.new) (R.failed reader.new) (W.failed writer.new)
-        (W.contents writer.old) (W.contents writer.new) result }
+    // What the words ask for was done: a hub answered the lines, a world ran the script, a replica was worked by the lines, or a tool wrote
+    // what it owes; or why not.
+    ensures asked { (asked : Wanted) → faults_of (map S.text words.entry.now) ≡ []
+        → wanted_of (map S.text words.entry.now) ≡ Some asked
+        → EndsAsked ⟦<SqlStore<FileStore<FileFrom<Unknown>>> as RowStore>⟧.honest
+        ⟦<SqlStore<FileStore<FileFrom<Unknown>>> as RowStore>⟧.contents ⟦<SqlStore<FileStore<FileFrom<Unknown>>> as RowStore>⟧.failed
+        ⟦<SqlStore<FileStore<FileFrom<Unknown>>> as RowStore>⟧.may_leave ⟦<SqlStore<FileStore<FileFrom<Unknown>>> as RowStore>⟧.misreads
+        asked (table_words_of (map S.text words.entry.now)) (R.remaining reader.old) (R.remaining reader.new)
+        (R.failed reader.new) (W.failed writer.new) (W.contents writer.old) (W.contents writer.new) result }
 
     // Words that the command line takes and that ask for nothing.
-    ensures unasked { faults_of (map S.text words.entry.now) ≡ [] → table_words_of (map S.text words.entry.now) ≡ None
-        → tool_of (map S.text words.entry.now) ≡ None
+    ensures unasked { faults_of (map S.text words.entry.now) ≡ [] → wanted_of (map S.text words.entry.now) ≡ None
         → EndsUnasked (W.contents writer.old) (W.contents writer.new) result }
 {
-    let matches = match command::parse(alloc, words) {
+    let alloc = rt.alloc();
+    let matches = match parse(alloc, words) {
         Ok(matches) => matches,
         Err(error) => return end_untaken(alloc, &error, writer),
     };
-    if let Some(table_words) = command::tables(&matches) {
-        return serve_hub(alloc, table_words, reader, writer);
-    }
-    match command::tool_of(&matches) {
-        Some(tool) => Ok(run_tool(alloc, tool, reader, writer)?),
+    match asked_of(&matches) {
+        Some(asked) => run_asked(rt, &asked, &matches, reader, writer),
         None => Err(RunFault::CommandLine),
+    }
+}
+
+// Does what the words ask for.
+fn run_asked<'w, R: LineInput, W: LineOutput>(
+    rt: &HostRuntime,
+    asked: &Asked<'_>,
+    matches: &ArgMatches<'w>,
+    reader: &mut R,
+    writer: &mut W,
+) -> Result<(), RunFault<'w>>
+    requires id { HasId asked.now }
+    ensures ends { EndsWanted ⟦<SqlStore<FileStore<FileFrom<Unknown>>> as RowStore>⟧.honest
+        ⟦<SqlStore<FileStore<FileFrom<Unknown>>> as RowStore>⟧.contents ⟦<SqlStore<FileStore<FileFrom<Unknown>>> as RowStore>⟧.failed
+        ⟦<SqlStore<FileStore<FileFrom<Unknown>>> as RowStore>⟧.may_leave ⟦<SqlStore<FileStore<FileFrom<Unknown>>> as RowStore>⟧.misreads
+        (wanted asked.now) (tables_in (subcommand_rows_of matches.now)) (R.remaining reader.old) (R.remaining reader.new)
+        (R.failed reader.new) (W.failed writer.new) (W.contents writer.old) (W.contents writer.new) result }
+    ensures sent { OnOk result (W.sent writer.old → W.sent writer.new) }
+{
+    let alloc = rt.alloc();
+    if let Asked::Tool(tool) = asked {
+        return Ok(run_tool(alloc, *tool, reader, writer)?);
+    }
+    let catalog = catalog_of(alloc, matches)?;
+    match asked {
+        Asked::Hub { file: None } => serve_hub(alloc, &catalog, reader, writer),
+        Asked::Hub { file: Some(path) } => serve_file(rt, path, &catalog, reader, writer),
+        Asked::World { count } => Ok(run_script(alloc, &catalog, *count, reader, writer)?),
+        Asked::Node { file, id } => work_file(rt, file, *id, &catalog, reader, writer),
+        Asked::Tool(_) => Err(RunFault::CommandLine),
     }
 }
 

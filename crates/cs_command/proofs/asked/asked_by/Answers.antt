@@ -4,7 +4,7 @@ use Rattle.clap.proofs.WalkLemmas.{first_value-rows}
 use Rattle.cs_command.proofs.FoundLemmas.{hub_asked}
 use Rattle.cs_command.proofs.asked.asked_by.Goals as goal
 
-pub returns-then-eq : goal.returns-then-eq
-returns-then-eq c =
+pub returns-then-eq-clause-asked : goal.returns-then-eq-clause-asked
+returns-then-eq-clause-asked c =
     let inner = found_of c.args.found.now in
     hub_asked c.args.name.now (rows_of inner) _ c.if-eq.ensures (c.get_str-file.ensures ∙ first_value-rows inner (codes "FILE"))

@@ -6,13 +6,13 @@ use Rattle.cs_command.specs.Wanted.{wanted}
 use Rattle.cs_command.proofs.FoundLemmas.{node_found, node_has_no_file}
 use Rattle.cs_command.proofs.asked.node_asked.Goals as goal
 
-pub returns-in_err-file : goal.returns-in_err-file
-returns-in_err-file c =
+pub returns-in_err-file-clause-asked : goal.returns-in_err-file-clause-asked
+returns-in_err-file-clause-asked c =
     let inner = found_of c.args.found.now in
     ap (option_map wanted) c.from_residual.ensures
     ∙ node_has_no_file (rows_of inner) (c.in_err-file.ensures ∙ first_value-rows inner (codes "FILE"))
 
-pub returns : goal.returns
-returns c =
+pub returns-clause-asked : goal.returns-clause-asked
+returns-clause-asked c =
     let inner = found_of c.args.found.now in
-    node_found (rows_of inner) _ _ (c.in_ok-file.ensures ∙ first_value-rows inner (codes "FILE")) c.in_ok-id.ensures
+    node_found (rows_of inner) _ _ (c.in_ok-file.ensures ∙ first_value-rows inner (codes "FILE")) c.in_ok-id.ensures.found

@@ -1,0 +1,57 @@
+-- Faults of what the program wires together, as the run's. Want of memory and a failed read or write are told as such, whoever meets them.
+use Rattle.cs_asks.specs.declared.fault.ReadFault.{ReadFault}
+use Rattle.cs_asks.specs.declared.fault.ReadFault.TheVariants as reading
+use Rattle.cs_command.specs.declared.table.TableFault.{TableFault}
+use Rattle.cs_command.specs.declared.table.TableFault.TheVariants as table
+use Rattle.cs_hub_lines.specs.declared.fault.ServingFault.{ServingFault}
+use Rattle.cs_hub_lines.specs.declared.fault.ServingFault.TheVariants as serving
+use Rattle.cs_opening.specs.declared.fault.OpenFault.TheVariants.{Device}
+use Rattle.cs_replica_lines.specs.declared.fault.NodeFault.{NodeFault}
+use Rattle.cs_replica_lines.specs.declared.fault.NodeFault.TheVariants as node
+use Rattle.cs_script.specs.declared.fault.ScriptFault.{ScriptFault}
+use Rattle.cs_script.specs.declared.fault.ScriptFault.TheVariants as script
+use Rattle.cs_store.specs.declared.fault.StoreFault.{StoreFault}
+use Rattle.cs_store.specs.declared.fault.StoreFault.TheVariants as store
+use Rattle.cs_tools.specs.declared.fault.ToolFault.{ToolFault}
+use Rattle.cs_tools.specs.declared.fault.ToolFault.TheVariants as tool
+use Rattle.sync_cli.specs.declared.fault.RunFault.{RunFault}
+use Rattle.sync_cli.specs.declared.fault.RunFault.TheVariants.{Line, Lines, Memory, Open, Read, Table, Write}
+
+abbrev pub of_table : TableFault → RunFault
+of_table table.Memory = Memory
+of_table (table.Word word) = Table word
+
+abbrev pub of_tool : ToolFault → RunFault
+of_tool tool.Memory = Memory
+of_tool tool.Read = Read
+of_tool tool.Write = Write
+of_tool fault = Lines fault
+
+abbrev pub of_serving : ServingFault → RunFault
+of_serving serving.Memory = Memory
+of_serving serving.Read = Read
+of_serving serving.Write = Write
+of_serving (serving.Open why) = Open why
+
+abbrev pub of_script : ScriptFault → RunFault
+of_script script.Memory = Memory
+of_script script.Read = Read
+of_script script.Write = Write
+of_script (script.Line number) = Line number
+
+abbrev pub of_reading : ReadFault → RunFault
+of_reading reading.Memory = Memory
+of_reading reading.Read = Read
+of_reading (reading.Line number) = Line number
+
+abbrev pub of_node : NodeFault → RunFault
+of_node node.Memory = Memory
+of_node node.Read = Read
+of_node node.Write = Write
+of_node (node.Line number) = Line number
+of_node (node.Open why) = Open why
+
+-- a file that isn't opened
+abbrev pub of_store : StoreFault → RunFault
+of_store store.Memory = Memory
+of_store store.Device = Open Device

@@ -1,0 +1,41 @@
+//! `node FILE ID TABLE...`: a replica over a file, worked by lines.
+
+ghost use Rattle.std.specs.Prelude.{◌<◌, ◌-◌, ◌^◌, OnOk};
+ghost use Rattle.sync_cli.specs.OverFiles.{EndsNodeFile};
+
+use crate::fault::RunFault;
+use cs_asks::read_asks;
+use cs_lines::{LineInput, LineOutput};
+use cs_replica_lines::work_on;
+use cs_sql::SqlStore;
+use cs_store::RowStore;
+use cs_value::Catalog;
+use sqlite::{FileFrom, FileStore, Unknown};
+use std::rt::HostRuntime;
+
+/// Reads the input whole, opens the replica with this id in a file, which is made where there is none, and does what the lines ask. (Profile
+/// of this project.)
+pub fn work_file<'w, R: LineInput, W: LineOutput>(
+    rt: &HostRuntime,
+    path: &str,
+    id: u32,
+    catalog: &Catalog,
+    reader: &mut R,
+    writer: &mut W,
+) -> Result<(), RunFault<'w>>
+    requires { id < 2 ^ 32 - 1 }
+    ensures ends { EndsNodeFile ⟦<SqlStore<FileStore<FileFrom<Unknown>>> as RowStore>⟧.honest
+        ⟦<SqlStore<FileStore<FileFrom<Unknown>>> as RowStore>⟧.contents ⟦<SqlStore<FileStore<FileFrom<Unknown>>> as RowStore>⟧.failed
+        ⟦<SqlStore<FileStore<FileFrom<Unknown>>> as RowStore>⟧.may_leave ⟦<SqlStore<FileStore<FileFrom<Unknown>>> as RowStore>⟧.misreads
+        id catalog.now (R.remaining reader.old) (R.failed reader.new) (W.failed writer.new)
+        (W.contents writer.old) (W.contents writer.new) result }
+    ensures sent { OnOk result (W.sent writer.old → W.sent writer.new) }
+{
+    let alloc = rt.alloc();
+    let asks = read_asks(alloc, catalog, reader)?;
+    let store = SqlStore::open_path(rt, path, Unknown)?;
+    let (ended, store) = work_on(alloc, store, catalog, id, asks.as_slice(), writer);
+    // Each commit stands in the file's log by now, so a failure here loses nothing.
+    let _ = store.close().close();
+    Ok(ended?)
+}
