@@ -1,6 +1,2 @@
-pub mod CatalogLemmas
-pub mod CommandLemmas
 pub mod EndingLemmas
-pub mod FoundLemmas
-pub mod WordLemmas
 pub mod HubLemmas
