@@ -71,14 +71,21 @@ fn place_of(world: &World<MapStore>, replica: usize) -> PlaceText
     ensures flight { (standing : Standing) (member : Member) → StandsAt world.now standing → IsMember standing replica member
         → result.flight ≡ flight_count member.position.flight }
 {
-    let flight = match world.in_flight(replica) {
-        Some(changes) => changes.len(),
-        None => 0,
-    };
     PlaceText {
         version: world.version(replica).unwrap_or(0),
         pending: world.pending_len(replica).unwrap_or(0),
-        flight,
+        flight: flight_of(world, replica),
+    }
+}
+
+// How many changes its push has that is under way.
+fn flight_of(world: &World<MapStore>, replica: usize) -> usize
+    ensures { (standing : Standing) (member : Member) → StandsAt world.now standing → IsMember standing replica member
+        → result ≡ flight_count member.position.flight }
+{
+    match world.in_flight(replica) {
+        Some(changes) => changes.len(),
+        None => 0,
     }
 }
 
