@@ -3,3 +3,4 @@ pub mod Endings
 pub mod Events
 pub mod Played
 pub mod Scripts
+pub mod Turns

@@ -1,12 +1,18 @@
 //! A world, at its end.
 
-use crate::fault::ScriptFault;
+ghost use Rattle.std.specs.Prelude.{◌≡◌, ◌++◌, IfOk, OnOk, string_bytes};
+ghost use Rattle.cs_normal.specs.State.{State};
+ghost use Rattle.cs_script.specs.Dump.{flight_count, rows_text};
+ghost use Rattle.cs_script.specs.Turns.{IsStateOf, PutsDump, PutsReplica, PutsReplicas, PutsRows, StandsAt};
+ghost use Rattle.cs_world.specs.Reads.{AreRowsIn};
+ghost use Rattle.cs_world.specs.World.{IsMember, Member, World as Standing};
+
 use cs_map_store::MapStore;
 use cs_rows::RowAtKey;
 use cs_told::{PlaceText, RowText};
-use cs_value::{Catalog, Text};
+use cs_value::{Catalog, Memory, Text};
 use cs_world::World;
-use std::alloc::Global;
+use std::alloc::{AllocError, Global};
 
 /// Appends the newest version and the hub's rows, and where each replica stands and its rows.
 pub(crate) fn push_dump(
@@ -14,10 +20,25 @@ pub(crate) fn push_dump(
     catalog: &Catalog,
     world: &mut World<MapStore>,
     text: &mut String,
-) -> Result<(), ScriptFault> {
+) -> Result<(), Memory>
+    ensures { OnOk result ((standing : Standing) → StandsAt world.old standing → catalog.now ≡ standing.tables
+        → PutsDump standing (string_bytes text.old) (string_bytes text.new)) }
+{
     let line = format!(in alloc; "hub {}\n", world.newest())?;
     text.push_str(line.as_str())?;
     push_tables(alloc, catalog, world, None, text)?;
+    push_replicas(alloc, catalog, world, text)
+}
+
+fn push_replicas(
+    alloc: Global,
+    catalog: &Catalog,
+    world: &mut World<MapStore>,
+    text: &mut String,
+) -> Result<(), Memory>
+    ensures { OnOk result ((standing : Standing) → StandsAt world.old standing → catalog.now ≡ standing.tables
+        → PutsReplicas catalog.now standing.members (string_bytes text.old) (string_bytes text.new)) }
+{
     for replica in 0..world.replicas() {
         push_replica(alloc, catalog, world, replica, text)?;
     }
@@ -30,22 +51,41 @@ fn push_replica(
     world: &mut World<MapStore>,
     replica: usize,
     text: &mut String,
-) -> Result<(), ScriptFault> {
-    let line = format!(in alloc; "replica {} {}\n", replica, place_of(world, replica))?;
+) -> Result<(), Memory>
+    ensures stands { (standing : Standing) → StandsAt world.old standing → StandsAt world.new standing }
+    ensures put { OnOk result ((standing : Standing) (member : Member) → StandsAt world.old standing → IsMember standing replica member
+        → catalog.now ≡ standing.tables → PutsReplica catalog.now replica member (string_bytes text.old) (string_bytes text.new)) }
+{
+    let place = place_of(world, replica);
+    let line = format!(in alloc; "replica {} {}\n", replica, place)?;
     text.push_str(line.as_str())?;
     push_tables(alloc, catalog, world, Some(replica), text)
 }
 
 // Where a replica stands.
-fn place_of(world: &World<MapStore>, replica: usize) -> PlaceText {
-    let flight = match world.in_flight(replica) {
-        Some(changes) => changes.len(),
-        None => 0,
-    };
+fn place_of(world: &World<MapStore>, replica: usize) -> PlaceText
+    ensures version { (standing : Standing) (member : Member) → StandsAt world.now standing → IsMember standing replica member
+        → result.version ≡ member.position.version }
+    ensures pending { (standing : Standing) (member : Member) → StandsAt world.now standing → IsMember standing replica member
+        → result.pending ≡ member.position.pending }
+    ensures flight { (standing : Standing) (member : Member) → StandsAt world.now standing → IsMember standing replica member
+        → result.flight ≡ flight_count member.position.flight }
+{
     PlaceText {
         version: world.version(replica).unwrap_or(0),
         pending: world.pending_len(replica).unwrap_or(0),
-        flight,
+        flight: flight_of(world, replica),
+    }
+}
+
+// How many changes its push has that is under way.
+fn flight_of(world: &World<MapStore>, replica: usize) -> usize
+    ensures { (standing : Standing) (member : Member) → StandsAt world.now standing → IsMember standing replica member
+        → result ≡ flight_count member.position.flight }
+{
+    match world.in_flight(replica) {
+        Some(changes) => changes.len(),
+        None => 0,
     }
 }
 
@@ -56,8 +96,13 @@ fn push_tables(
     world: &mut World<MapStore>,
     whose: Option<usize>,
     text: &mut String,
-) -> Result<(), ScriptFault> {
-    for (number, table) in catalog.tables().iter().enumerate() {
+) -> Result<(), Memory>
+    ensures stands { (standing : Standing) → StandsAt world.old standing → StandsAt world.new standing }
+    ensures put { OnOk result ((standing : Standing) (state : State) → StandsAt world.old standing → IsStateOf standing whose state
+        → catalog.now ≡ standing.tables → PutsRows catalog.now state (string_bytes text.old) (string_bytes text.new)) }
+{
+    let tables = catalog.tables();
+    for (number, table) in tables.iter().enumerate() {
         let rows = rows_of(world, whose, number)?;
         push_rows(alloc, &table.name, &rows, text)?;
     }
@@ -69,14 +114,18 @@ fn rows_of(
     world: &mut World<MapStore>,
     whose: Option<usize>,
     table: usize,
-) -> Result<Vec<RowAtKey>, ScriptFault> {
+) -> Result<Vec<RowAtKey>, Memory>
+    ensures stands { (standing : Standing) → StandsAt world.old standing → StandsAt world.new standing }
+    ensures listed { IfOk result (λ rows. (standing : Standing) (state : State) → StandsAt world.old standing → IsStateOf standing whose state
+        → AreRowsIn standing.tables state table rows.items) }
+{
     let listed = match whose {
         Some(replica) => world.rows(replica, table),
         None => world.hub_rows(table),
     };
     match listed {
         Ok(rows) => Ok(rows),
-        Err(_) => Err(ScriptFault::Memory),
+        Err(_) => Err(AllocError),
     }
 }
 
@@ -85,7 +134,9 @@ fn push_rows(
     table: &Text,
     rows: &[RowAtKey],
     text: &mut String,
-) -> Result<(), ScriptFault> {
+) -> Result<(), Memory>
+    ensures { OnOk result (string_bytes text.new ≡ string_bytes text.old ++ rows_text table.now rows.now) }
+{
     for (_, row) in rows {
         let row = row.as_row();
         let line = format!(in alloc; "{}\n", RowText { table, row: &row })?;

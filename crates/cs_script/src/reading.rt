@@ -1,7 +1,9 @@
 //! A script, read whole.
 
-ghost use Rattle.std.specs.Prelude.{IfErr, IfOk};
+ghost use Rattle.std.specs.Prelude.{◌<◌, IfErr, IfOk};
+ghost use Rattle.cs_lines.specs.declared.serve.TheConstants.{ASKS as MOST};
 ghost use Rattle.cs_script.specs.Scripts.{IsNoScript, IsScript};
+ghost use Rattle.cs_script.specs.Turns.{IsNoEvent, TakesEvent};
 
 use crate::event::read_event;
 use crate::fault::ScriptFault;
@@ -38,7 +40,11 @@ fn next_event<R: LineInput>(
     reader: &mut R,
     line: &mut Vec<u8>,
     before: u64,
-) -> Result<Option<Event>, ScriptFault> {
+) -> Result<Option<Event>, ScriptFault>
+    requires { before < MOST }
+    ensures ok { IfOk result (λ found. TakesEvent catalog.now found (R.remaining reader.old) (R.remaining reader.new)) }
+    ensures err { IfErr result (IsNoEvent catalog.now (R.failed reader.new) before (R.remaining reader.old) (R.remaining reader.new)) }
+{
     match read_line(reader, line) {
         Ok(LineRead::Whole) => match read_event(alloc, catalog, line)? {
             Some(event) => Ok(Some(event)),

@@ -1,18 +1,18 @@
 //! A script, from its lines to its text.
 
-ghost use Rattle.std.specs.Prelude.{OnErr, OnOk};
+ghost use Rattle.std.specs.Prelude.{IfOk, OnErr, OnOk, string_bytes};
 ghost use Rattle.std.specs.Io.KnownBytes.{Appends};
 ghost use Rattle.cs_lines.specs.Writing.{AppendsFront};
-ghost use Rattle.cs_script.specs.Endings.{EndsScript};
+ghost use Rattle.cs_script.specs.Endings.{EndsScript, IsPlayed};
 
 use crate::dumping::push_dump;
 use crate::fault::ScriptFault;
 use crate::playing::play;
 use crate::reading::read_script;
 use cs_lines::{LineInput, LineOutput};
-use cs_value::Catalog;
+use cs_value::{Catalog, Memory};
 use cs_world::{Event, World};
-use std::alloc::Global;
+use std::alloc::{AllocError, Global};
 use std::io;
 
 /// Reads a script whole, makes its events in a new world in memory of so many replicas of these tables, and writes what each came to, a
@@ -56,14 +56,16 @@ fn played_text(
     catalog: &Catalog,
     count: u32,
     events: &[Event],
-) -> Result<String, ScriptFault> {
+) -> Result<String, Memory>
+    ensures { IfOk result (λ text. IsPlayed catalog.now count events.now (string_bytes text)) }
+{
+    cs_world::laws::sound_has_headline();
     if count == u32::MAX {
-        return Err(ScriptFault::Memory);
+        return Err(AllocError);
     }
     let mut world = World::in_memory(alloc, catalog, count)?;
     let mut text = String::new(alloc);
     play(alloc, &mut world, events, &mut text)?;
-    world.headline();
     push_dump(alloc, catalog, &mut world, &mut text)?;
     Ok(text)
 }
