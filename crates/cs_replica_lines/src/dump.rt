@@ -25,6 +25,19 @@ fn write_row<W: fmt::Write>(table: &Text, row: &RowBuf, f: &mut fmt::Formatter<W
     write!(f, "{}\n", RowText { table, row: &row })
 }
 
+fn write_rows<W: fmt::Write>(
+    table: &Text,
+    rows: &[RowAtKey],
+    f: &mut fmt::Formatter<W>,
+) -> fmt::Result
+    ensures { WritesOnOk W.write_str_gives f.old result (rows_text table.now rows.now) f.new }
+{
+    for stored in rows {
+        write_row(table, &stored.1, f)?;
+    }
+    Ok(())
+}
+
 /// Rows of the table with this name, a line each.
 #[derive(Clone, Copy)]
 struct RowsText<'a> {
@@ -37,10 +50,7 @@ impl fmt::Display for RowsText<'_> {
     ghost output = { λ text. Some (rows_text text.table.now text.rows.now) };
 
     fn fmt<W: fmt::Write>(&self, f: &mut fmt::Formatter<W>) -> fmt::Result {
-        for (_, row) in self.rows {
-            write_row(self.table, row, f)?;
-        }
-        Ok(())
+        write_rows(self.table, self.rows, f)
     }
 }
 

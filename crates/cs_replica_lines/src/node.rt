@@ -47,10 +47,13 @@ fn do_asks<S: RowStore, W: LineOutput>(
     ensures told { TellsAll S.honest S.contents id asks.now result (W.failed writer.new) (W.contents writer.old) (W.contents writer.new) replica.old replica.new }
     ensures sent { OnOk result (W.sent writer.old → W.sent writer.new) }
 {
+    cs_member::laws::hears_keeps_id();
     let mut rest = asks;
     while let Some((ask, more)) = rest.split_first() {
-        do_ask(alloc, replica, catalog, id, ask, writer)?;
-        rest = more;
+        match do_ask(alloc, replica, catalog, id, ask, writer) {
+            Ok(()) => rest = more,
+            Err(fault) => return Err(fault),
+        }
     }
     Ok(())
 }
