@@ -4,3 +4,4 @@ pub mod TextLemmas
 pub mod ValueLemmas
 pub mod WordLemmas
 pub mod WishLemmas
+pub mod WrittenLemmas

@@ -1,19 +1,19 @@
 -- Numbers as words, by what `parse` answers.
-use Rattle.std.proofs.Common.{◌≡◌, ◌≢◌, ℕ, zero, suc, ◌+◌, ◌<◌, ◌≤◌, ◌^◌, Bool, true, false, eqb, ltb, cond, ◌&&◌, List, [], ◌∷◌, length, get_or, drop, refl, subst, sym, ap, ap₂, ◌∙◌, arith, ℤ, pos, neg_ℤ, w64}
-use Rattle.std.specs.Prelude.{Option, Some, None, Result, Ok, Err, IsUtf8}
-use Rattle.std.specs.Result.{OkIff, result_ok}
+use Rattle.std.proofs.Common.{◌≡◌, ◌≢◌, ℕ, zero, suc, ◌+◌, ◌<◌, ◌^◌, Bool, true, false, eqb, cond, ◌&&◌, List, [], ◌∷◌, length, get_or, drop, refl, subst, sym, ap, ◌∙◌, arith, ℤ, w64}
+use Rattle.std.specs.Prelude.{Some, None, Result, Ok, Err, IsUtf8}
+use Rattle.std.specs.Result.{result_ok}
 use Rattle.std.specs.Str.{all_ascii_digits}
 use Rattle.std.specs.Str.Parse.{ParsesSigned, ParsesUnsigned, digits_value}
 use Rattle.std.proofs.lemmas.Str.{IsUtf8-from_ascii}
 use Rattle.std.proofs.lemmas.Str.Parse.{IsNumeralModel, numerals_by_value, parse_plain, parse_signed_minus, parse_signed_plain, tells_all_ascii_digits}
 use Rattle.std.proofs.lemmas.Bool.{false≢true}
-use borrow.Author.Tests.{lt-ltb, ltb-true, eq-eqb, eqb-true, ne_eqb}
-use Rattle.cs_words.specs.Numbers.{IsNoNumber, is_numeral, negative, number_below, positive, signed_in}
+use borrow.Author.Tests.{lt-ltb, ltb-true, eq-eqb, eqb-true}
+use Rattle.cs_words.specs.Numbers.{IsNoNumber, negative, number_below, positive, signed_in}
 
-abbrev Digits : List ℕ → Type 0
+abbrev pub Digits : List ℕ → Type 0
 Digits = λ ds. all_ascii_digits ds ≡ true
 
-own : IsNumeralModel Digits (digits_value 10)
+pub own : IsNumeralModel Digits (digits_value 10)
 own = numerals_by_value Digits tells_all_ascii_digits
 
 passed : (a b : Bool) (v : ℕ) → a ≡ true → b ≡ true → cond (a && b) (Some v) None ≡ Some v
@@ -26,10 +26,10 @@ not_passed true true v never = absurd (never refl refl)
 not_passed true false v never = refl
 not_passed false b v never = refl
 
-abbrev Below : ℕ → List ℕ → Type 0
+abbrev pub Below : ℕ → List ℕ → Type 0
 Below most bs = Digits bs × (0 < length bs) × (digits_value 10 bs < most)
 
-number_some : (most : ℕ) (bs : List ℕ) → Below most bs → number_below most bs ≡ Some (digits_value 10 bs)
+pub number_some : (most : ℕ) (bs : List ℕ) → Below most bs → number_below most bs ≡ Some (digits_value 10 bs)
 number_some most [] is = absurd (omega (arith, is.1))
 number_some most (c ∷ cs) is = passed _ _ _ is.0 (lt-ltb _ _ is.2)
 

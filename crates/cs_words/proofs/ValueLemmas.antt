@@ -1,5 +1,5 @@
 -- What follows a front.
-use Rattle.std.proofs.Common.{◌≡◌, ◌≢◌, ℕ, Bool, true, false, eqb, cond, List, [], ◌∷◌, ◌++◌, refl, sym, ap, ◌∙◌, Bor}
+use Rattle.std.proofs.Common.{◌≡◌, ◌≢◌, ℕ, true, false, eqb, cond, List, [], ◌∷◌, ◌++◌, refl, sym, ap, ◌∙◌, Bor}
 use Rattle.std.specs.Prelude.{Option, Some, None, option_map, MatchOption}
 use borrow.Author.Tests.{eq-eqb, eqb-true}
 use Rattle.cs_value.specs.declared.value.Value.{Value}

@@ -1,5 +1,5 @@
 -- The words of a line (profile of this project).
-use Rattle.std.specs.Prelude.{ℕ, ◌==◌, Bool, if◌then◌else◌, List, [], ◌∷◌, Option, Some, None}
+use Rattle.std.specs.Prelude.{ℕ, ◌==◌, if◌then◌else◌, List, [], ◌∷◌, Option, Some, None}
 
 -- a byte in front of the first word
 abbrev pub into_first : ℕ → List (List ℕ) → List (List ℕ)

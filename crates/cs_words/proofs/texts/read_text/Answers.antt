@@ -1,4 +1,4 @@
-use Rattle.std.proofs.Common.{rules, ◌≡◌, ◌∙◌}
+use Rattle.std.proofs.Common.{rules}
 use Rattle.cs_words.proofs.TextLemmas.{text_none, text_some}
 use Rattle.cs_words.proofs.texts.read_text.Goals as goal
 

@@ -1,7 +1,5 @@
-use Rattle.std.proofs.Common.{rules, ◌≡◌, ◌<◌, ◌≤◌, length, get_or, arith, refl}
-use Rattle.std.specs.Prelude.{Some, None}
-use Rattle.cs_words.specs.Wishes.{letters_in, wish_in}
-use Rattle.cs_words.proofs.WishLemmas.{letters_all, letters_more, letters_none}
+use Rattle.std.proofs.Common.{rules, get_or, refl}
+use Rattle.cs_words.proofs.WishLemmas.{letters_more, letters_none}
 use Rattle.cs_words.proofs.wishes.read_letters.Goals as goal
 
 pub returns-in_default : goal.returns-in_default
