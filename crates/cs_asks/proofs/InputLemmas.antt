@@ -1,7 +1,6 @@
 -- What has been read of an input, line by line.
-use Rattle.std.proofs.Common.{◌≡◌, ℕ, suc, ◌+◌, List, [], ◌∷◌, ◌++◌, length, sym, refl, ap, ◌∙◌, inl, inr, arith}
+use Rattle.std.proofs.Common.{◌≡◌, ℕ, suc, ◌+◌, List, [], ◌∷◌, ◌++◌, length, sym, refl, ap, ◌∙◌, inl, inr}
 use Rattle.std.specs.Prelude.{Option, Some, None}
-use Rattle.std.specs.List.{AllZip}
 use Rattle.std.specs.Io.KnownBytes.{IsAtEnd}
 use Rattle.cs_lines.specs.Lines.{lines_of}
 use Rattle.cs_lines.specs.Laws.{AllTaken, NoneTaken, OneMoreTaken}
@@ -53,14 +52,14 @@ pub read_stopped : OneMoreTaken → (tables : List TableDef) (failed : Type 0) (
 read_stopped more tables failed input left after asks number Memory so_far count stopped = tt
 read_stopped more tables failed input left after asks number Read so_far count stopped =
     (so_far.0, asks, first_taken input left so_far.0 so_far.1, so_far.2, inl stopped)
-read_stopped more tables failed input left after asks number (Line told) so_far count (is, line, took, none) = (
+read_stopped more tables failed input left after asks number (Line told) so_far count stopped = (
   so_far.0,
   asks,
-  line,
-  first_taken input after (so_far.0 ++ line ∷ []) (more input left after so_far.0 line so_far.1 took),
+  stopped.1.0,
+  first_taken input after (so_far.0 ++ stopped.1.0 ∷ []) (more input left after so_far.0 stopped.1.0 so_far.1 stopped.1.1),
   so_far.2,
-  none,
-  is ∙ count ∙ ap (λ n. n + 1) (sym (asked_count tables so_far.0 asks so_far.2)),
+  stopped.1.2,
+  stopped.0 ∙ count ∙ ap (λ n. n + 1) (sym (asked_count tables so_far.0 asks so_far.2)),
 )
 
 pub read_without_end : (tables : List TableDef) (failed : Type 0) (input left : Option (List ℕ)) (asks : List Ask) → AreRead tables input left asks → length asks ≡ ASKS
