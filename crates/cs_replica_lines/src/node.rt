@@ -1,6 +1,7 @@
 //! One run of a node.
 
 ghost use Rattle.std.specs.Prelude.{◌≡◌, ◌<◌, ◌-◌, ◌^◌, OnOk};
+ghost use Rattle.cs_position.specs.Laws.{FitsPosition};
 ghost use Rattle.cs_replica_lines.specs.Endings.{EndsNode, EndsWorking};
 ghost use Rattle.cs_replica_lines.specs.Steps.{Tells, TellsAll};
 
@@ -58,6 +59,14 @@ fn do_asks<S: RowStore, W: LineOutput>(
     Ok(())
 }
 
+/// The numbers of where a replica stands are in range.
+fn position_fits<S: RowStore>(replica: &Replica<S>, id: u32)
+    requires { replica.now.position.id ≡ id }
+    ensures { FitsPosition replica.now.position }
+{
+    let _version = replica.version();
+}
+
 /// Opens the replica with this id over a store and does what lines ask, one behind another; the text of each is printed and sent before the
 /// next is worked on, and what it commits is committed before. An id is at most 4,294,967,294. The store comes back in any case. (Profile
 /// of this project.)
@@ -83,7 +92,7 @@ pub fn work_on<S: RowStore, W: LineOutput>(
     match Replica::open(alloc, store, catalog, id) {
         Ok(mut replica) => {
             replica.shown();
-            let _version = replica.version();
+            position_fits(&replica, id);
             let ended = do_asks(alloc, &mut replica, catalog, id, asks, writer);
             (ended, replica.close())
         }
