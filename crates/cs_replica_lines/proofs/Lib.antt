@@ -1,4 +1,4 @@
 mod Printing
 mod Going
 mod Dumping
-mod Working
+mod Made
