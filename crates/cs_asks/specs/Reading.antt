@@ -3,7 +3,7 @@ use Rattle.std.specs.Prelude.{◌≡◌, ◌⊎◌, ◌+◌, ℕ, List, [], ◌�
 use Rattle.std.specs.List.{AllZip}
 use Rattle.std.specs.Io.KnownBytes.{IsAtEnd, Keeps}
 use Rattle.cs_value.specs.declared.catalog.TableDef.{TableDef}
-use Rattle.cs_lines.specs.Reading.{AreTaken, StaysInLine, TakesLine}
+use Rattle.cs_lines.specs.Reading.{AreTaken, TakesLine}
 use Rattle.cs_lines.specs.Served.{AreAllLines, AreFirstLines}
 use Rattle.cs_lines.specs.declared.serve.TheConstants.{ASKS}
 use Rattle.cs_asks.specs.Asked.{ask_in}

@@ -28,7 +28,7 @@ use Rattle.cs_replica.specs.Answered.{Answers, TellsAccepted}
 use Rattle.cs_replica.specs.Edited.{IsEditedIn, with_pending}
 use Rattle.cs_replica.specs.Holding.{Holding, Shows}
 use Rattle.cs_replica.specs.declared.told.Told.{Told}
-use Rattle.cs_replica.specs.declared.told.Told.TheVariants as heard
+use Rattle.cs_replica.specs.declared.told.Told.TheVariants as what
 use Rattle.cs_store.specs.Contents.{Contents}
 use Rattle.cs_wire.specs.Requests.{asked_by_owned}
 use Rattle.cs_wire.specs.declared.answer.Answer.{Answer}
@@ -51,12 +51,12 @@ many_keeps_id tables first entries (suc count) position view p other end q (told
     many_keeps_id tables first entries count (taken position pending) next between other end q more
 
 accepted_keeps_id : (origin number version : ℕ) (result : Result Told AnswerFault) (position other : Position) → TellsAccepted origin number version result position other → other.id ≡ position.id
-accepted_keeps_id origin number version (Ok (heard.Confirmed newest)) position other tells = ap (λ (x : Position). x.id) tells.2
-accepted_keeps_id origin number version (Ok heard.Ignored) position other tells = ap (λ (x : Position). x.id) tells.1
-accepted_keeps_id origin number version (Ok (heard.Stale newest)) position other tells = absurd tells
-accepted_keeps_id origin number version (Ok (heard.Refused code)) position other tells = absurd tells
-accepted_keeps_id origin number version (Ok (heard.Taken count)) position other tells = absurd tells
-accepted_keeps_id origin number version (Ok (heard.Stopped count)) position other tells = absurd tells
+accepted_keeps_id origin number version (Ok (what.Confirmed newest)) position other tells = ap (λ (x : Position). x.id) tells.2
+accepted_keeps_id origin number version (Ok what.Ignored) position other tells = ap (λ (x : Position). x.id) tells.1
+accepted_keeps_id origin number version (Ok (what.Stale newest)) position other tells = absurd tells
+accepted_keeps_id origin number version (Ok (what.Refused code)) position other tells = absurd tells
+accepted_keeps_id origin number version (Ok (what.Taken count)) position other tells = absurd tells
+accepted_keeps_id origin number version (Ok (what.Stopped count)) position other tells = absurd tells
 accepted_keeps_id origin number version (Err (fault.Memory count)) position other tells = ap (λ (x : Position). x.id) tells.1
 accepted_keeps_id origin number version (Err (fault.Device count)) position other tells = ap (λ (x : Position). x.id) tells.1
 accepted_keeps_id origin number version (Err (fault.BadEntry count)) position other tells = absurd tells
@@ -66,8 +66,8 @@ pub answer_keeps_id : (tables : List TableDef) (answer : Answer) (result : Resul
 answer_keeps_id tables (told.Short (short.Accepted origin number version)) result position before p other new q answers = accepted_keeps_id origin number version result position other answers.0
 answer_keeps_id tables (told.Short (short.Stale newest)) result position before p other new q answers = ap (λ (x : Position). x.id) answers.1
 answer_keeps_id tables (told.Short (short.Refused code)) result position before p other new q answers = ap (λ (x : Position). x.id) answers.1
-answer_keeps_id tables (told.Entries first entries) result position before p other new q (pulled, is, end, between, many, more) =
-    many_keeps_id tables first entries (count_of pulled) position before p other end between many
+answer_keeps_id tables (told.Entries first entries) result position before p other new q (pulled, is, list) =
+    many_keeps_id tables first entries (count_of pulled) position before p other list.0 list.1 list.2
 
 module _ {S : Type 0} (honest : S → Type 0) (contents : S → Contents) (failed : S → ℕ) (may_leave : S → Contents → Type 0) (misreads : S → ℕ) (old new : Holding S) (catalog : new.catalog ≡ old.catalog) where
   -- what is shown by the old tables at this position is shown

@@ -1,5 +1,5 @@
 -- Rows of tables, one table after another.
-use Rattle.std.proofs.Common.{◌≡◌, ◌+◌, ℕ, zero, suc, List, [], ◌∷◌, ◌++◌, refl, sym, ap, ◌∙◌, append_assoc, append-nil, subst, drop, length}
+use Rattle.std.proofs.Common.{◌≡◌, ◌+◌, ℕ, zero, suc, List, [], ◌∷◌, ◌++◌, refl, sym, ap, ◌∙◌, append_assoc, append-nil, subst, drop, length, arith}
 use Rattle.std.specs.Prelude.{Option, Some, None, Result, Ok, Err, IfOk, OnOk, slice_get, Vec}
 use Rattle.std.specs.declared.alloc.Global.{Global}
 use Rattle.cs_member.specs.Member.{AreRowsIn, Member, Turns, member_of}
@@ -13,10 +13,13 @@ use Rattle.cs_value.specs.declared.value.Value.{Value}
 use Rattle.cs_replica_lines.specs.LineStep.{AreRowLines}
 use Rattle.cs_replica_lines.specs.Texts.{rows_text}
 
+drop_suc : {A : Type 0} (xs : List A) (at : ℕ) (x : A) → slice_get xs at ≡ Some x → drop at xs ≡ x ∷ drop (suc at) xs
+drop_suc [] at x there = absurd (cc)
+drop_suc (y ∷ ys) zero x there = let is : y ≡ x = cc in ap (λ z. z ∷ ys) is
+drop_suc (y ∷ ys) (suc at) x there = drop_suc ys at x there
+
 pub drop_next : {A : Type 0} (xs : List A) (at : ℕ) (x : A) → slice_get xs at ≡ Some x → drop at xs ≡ x ∷ drop (at + 1) xs
-drop_next [] at x there = absurd (cc)
-drop_next (y ∷ ys) zero x there = let is : y ≡ x = cc in ap (λ z. z ∷ ys) is
-drop_next (y ∷ ys) (suc at) x there = drop_next ys at x there
+drop_next xs at x there = let next : at + 1 ≡ suc at = omega arith in rw next (drop_suc xs at x there)
 
 pub drop_past : {A : Type 0} (xs : List A) (at : ℕ) → slice_get xs at ≡ None → drop at xs ≡ []
 drop_past [] zero none = refl

@@ -1,3 +1,4 @@
 mod Printing
 mod Going
 mod Dumping
+mod Made

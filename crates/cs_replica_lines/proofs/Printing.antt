@@ -31,6 +31,13 @@ front_behind a b c all done piece rest is before now = (
 pub front_of_first : (a b : Option (List ℕ)) (all piece rest : List ℕ) → all ≡ piece ++ rest → AppendsFront a b piece → AppendsFront a b all
 front_of_first a b all piece rest is now = (now.0, now.1 ++ rest, is ∙ ap (λ l. l ++ rest) now.2 ∙ append_assoc now.0 now.1 rest, now.3)
 
+-- behind what was written, a front of the last piece
+pub front_last : {T E : Type 0} (result : Result T E) (a b c : Option (List ℕ)) (all done piece : List ℕ) → all ≡ done ++ piece
+    → Appends a b done → OnErr result (AppendsFront b c piece) → OnErr result (AppendsFront a c all)
+front_last (Ok x) a b c all done piece is before now = tt
+front_last (Err e) a b c all done piece is before now =
+    front_behind a b c all done piece [] (is ∙ ap (λ l. done ++ l) (sym (append-nil piece))) before now
+
 -- one text more
 pub printed_more : (texts : List (List ℕ)) (text : List ℕ) → printed (texts ++ text ∷ []) ≡ printed texts ++ text
 printed_more [] text = append-nil text

@@ -36,7 +36,7 @@ AreRowLines (table ∷ tables) state text =
 
 -- where the replica stands, and its rows: tables in the catalog's order, rows in the order of their keys' bytes
 abbrev pub IsDumped : List TableDef → Member → List ℕ → Type 0
-IsDumped tables member text = (rows : List ℕ) × AreRowLines tables member.view.tables rows × (text ≡ line (replica_text member.position) ++ rows)
+IsDumped tables member text = (rows : List ℕ) × AreRowLines tables member.view.tables rows × (text ≡ line (replica_text member.position.id member.position) ++ rows)
 
 -- an answer is taken, and what became of it is printed; or the bytes are no answer, and their fault is; or memory was refused
 abbrev pub TakesAnswer : List TableDef → Member → List ℕ → List Wish → List ℕ → Member → Type 0

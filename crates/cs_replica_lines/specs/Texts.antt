@@ -61,10 +61,10 @@ abbrev pub flight_count : Option (List TableChanges) → ℕ
 flight_count (Some changes) = min (count_of changes) (2 ^ 64 - 1)
 flight_count None = 0
 
--- `replica ID version V pending P flight F`
-abbrev pub replica_text : Position → List ℕ
-replica_text position =
-    codes "replica " ++ decimal position.id ++ codes " " ++ place_text position.version position.pending (flight_count position.flight)
+-- `replica ID version V pending P flight F`, of the replica with this id
+abbrev pub replica_text : ℕ → Position → List ℕ
+replica_text id position =
+    codes "replica " ++ decimal id ++ codes " " ++ place_text position.version position.pending (flight_count position.flight)
 
 -- a line for each row of a table, which stands behind the bytes of its key
 abbrev pub rows_text : List ℕ → List (List ℕ × List Value) → List ℕ

@@ -9,7 +9,7 @@ ghost use Rattle.cs_text.specs.Text.{line};
 ghost use Rattle.cs_told.specs.Told.{row_text};
 
 use cs_member::rows_of;
-use cs_record::RowBuf;
+use cs_record::{Row, RowBuf};
 use cs_replica::Replica;
 use cs_rows::RowAtKey;
 use cs_store::{RowStore, StoreFault};
@@ -18,11 +18,38 @@ use cs_value::{Catalog, Memory, Text};
 use std::alloc::Global;
 use std::fmt;
 
-fn write_row<W: fmt::Write>(table: &Text, row: &RowBuf, f: &mut fmt::Formatter<W>) -> fmt::Result
+fn write_row<'a, W: fmt::Write>(
+    table: &'a Text,
+    row: &'a Row<'a>,
+    f: &mut fmt::Formatter<W>,
+) -> fmt::Result
+    ensures { WritesOnOk W.write_str_gives f.old result (line (row_text table.now row.now)) f.new }
+{
+    write!(f, "{}\n", RowText { table, row })
+}
+
+fn write_stored<W: fmt::Write>(
+    table: &Text,
+    row: &RowBuf,
+    f: &mut fmt::Formatter<W>,
+) -> fmt::Result
     ensures { WritesOnOk W.write_str_gives f.old result (line (row_text table.now row.now)) f.new }
 {
     let row = row.as_row();
-    write!(f, "{}\n", RowText { table, row: &row })
+    write_row(table, &row, f)
+}
+
+fn write_rows<W: fmt::Write>(
+    table: &Text,
+    rows: &[RowAtKey],
+    f: &mut fmt::Formatter<W>,
+) -> fmt::Result
+    ensures { WritesOnOk W.write_str_gives f.old result (rows_text table.now rows.now) f.new }
+{
+    for stored in rows {
+        write_stored(table, &stored.1, f)?;
+    }
+    Ok(())
 }
 
 /// Rows of the table with this name, a line each.
@@ -37,10 +64,7 @@ impl fmt::Display for RowsText<'_> {
     ghost output = { λ text. Some (rows_text text.table.now text.rows.now) };
 
     fn fmt<W: fmt::Write>(&self, f: &mut fmt::Formatter<W>) -> fmt::Result {
-        for (_, row) in self.rows {
-            write_row(self.table, row, f)?;
-        }
-        Ok(())
+        write_rows(self.table, self.rows, f)
     }
 }
 
@@ -63,7 +87,7 @@ fn flight_len<S: RowStore>(replica: &Replica<S>) -> usize
 
 /// The line of where a replica stands.
 fn place_of<S: RowStore>(alloc: Global, replica: &Replica<S>, id: u32) -> Result<String, Memory>
-    ensures { IfOk result (λ text. replica.now.position.id ≡ id → string_bytes text ≡ line (replica_text replica.now.position)) }
+    ensures { IfOk result (λ text. string_bytes text ≡ line (replica_text id replica.now.position)) }
 {
     let place = PlaceText {
         version: replica.version(),

@@ -1,6 +1,7 @@
 //! One run of a node.
 
 ghost use Rattle.std.specs.Prelude.{◌≡◌, ◌<◌, ◌-◌, ◌^◌, OnOk};
+ghost use Rattle.cs_position.specs.Laws.{FitsPosition};
 ghost use Rattle.cs_replica_lines.specs.Endings.{EndsNode, EndsWorking};
 ghost use Rattle.cs_replica_lines.specs.Steps.{Tells, TellsAll};
 
@@ -47,12 +48,23 @@ fn do_asks<S: RowStore, W: LineOutput>(
     ensures told { TellsAll S.honest S.contents id asks.now result (W.failed writer.new) (W.contents writer.old) (W.contents writer.new) replica.old replica.new }
     ensures sent { OnOk result (W.sent writer.old → W.sent writer.new) }
 {
+    cs_member::laws::hears_keeps_id();
     let mut rest = asks;
     while let Some((ask, more)) = rest.split_first() {
-        do_ask(alloc, replica, catalog, id, ask, writer)?;
-        rest = more;
+        match do_ask(alloc, replica, catalog, id, ask, writer) {
+            Ok(()) => rest = more,
+            Err(fault) => return Err(fault),
+        }
     }
     Ok(())
+}
+
+/// The numbers of where a replica stands are in range.
+fn position_fits<S: RowStore>(replica: &Replica<S>, id: u32)
+    requires { replica.now.position.id ≡ id }
+    ensures { FitsPosition replica.now.position }
+{
+    let _version = replica.version();
 }
 
 /// Opens the replica with this id over a store and does what lines ask, one behind another; the text of each is printed and sent before the
@@ -80,7 +92,7 @@ pub fn work_on<S: RowStore, W: LineOutput>(
     match Replica::open(alloc, store, catalog, id) {
         Ok(mut replica) => {
             replica.shown();
-            let _version = replica.version();
+            position_fits(&replica, id);
             let ended = do_asks(alloc, &mut replica, catalog, id, asks, writer);
             (ended, replica.close())
         }
@@ -112,3 +124,7 @@ pub fn node_on<S: RowStore, R: LineInput, W: LineOutput>(
         Err(fault) => (Err(NodeFault::from(fault)), store),
     }
 }
+
+fn scratch()
+    ensures { Unit {0} }
+{}

@@ -1,9 +1,14 @@
 //! What a line does.
 
-ghost use Rattle.std.specs.Prelude.{◌≡◌, IfOk};
-ghost use Rattle.cs_asks.specs.declared.ask.Ask.TheVariants as ask;
+ghost use Rattle.std.specs.Prelude.{◌≡◌, ◌⊎◌, ◌++◌, IfOk, OnOk, string_bytes};
+ghost use Rattle.cs_asks.specs.declared.ask.Ask.TheVariants as line;
+ghost use Rattle.cs_lines.specs.Lines.{hex_line};
+ghost use Rattle.cs_member.specs.Member.{Member, Turns};
+ghost use Rattle.cs_replica_lines.specs.LineStep.{LineStep, SaysMemory};
+ghost use Rattle.cs_replica_lines.specs.Replies.{reply_text};
+ghost use Rattle.cs_replica_lines.specs.Texts.{heard_text};
 ghost use Rattle.cs_wire.specs.Requests.{HasShortChangeset, asked_by_owned, request_spelling};
-ghost use Rattle.cs_replica_lines.specs.Steps.{Replies};
+ghost use Rattle.cs_replica_lines.specs.Steps.{Makes, Replies};
 
 use crate::dump::dump_of;
 use crate::names::{store_fault_name, wire_fault_name};
@@ -21,9 +26,6 @@ use cs_wire::{Answer, RequestBuf};
 use std::alloc::Global;
 use std::fmt::Write;
 
-/// The name of want of memory.
-const MEMORY: &str = "Memory";
-
 /// The room of the longest text of an answer; it is taken before the answer is.
 const ROOM: usize = 96;
 
@@ -40,35 +42,44 @@ fn spelled(alloc: Global, request: &RequestBuf) -> Result<Vec<u8>, Memory>
 /// A request in hex, or that memory was refused for it.
 fn asked(alloc: Global, request: &RequestBuf) -> Reply
     requires { HasShortChangeset (asked_by_owned request.now) }
+    ensures { (reply_text result ≡ hex_line (request_spelling (asked_by_owned request.now))) ⊎ SaysMemory (reply_text result) }
 {
     match spelled(alloc, request) {
         Ok(bytes) => Reply::Hex(bytes),
-        Err(_) => Reply::Refused(MEMORY),
+        Err(_) => Reply::Refused("Memory"),
     }
 }
 
-fn edit_line<S: RowStore>(alloc: Global, replica: &mut Replica<S>, edit: &Edit) -> Reply {
+fn edit_line<S: RowStore>(alloc: Global, replica: &mut Replica<S>, edit: &Edit) -> Reply
+    ensures { Turns S.honest S.contents (λ (before : Member) (after : Member). LineStep replica.old.catalog before (line.OnEdit edit.now) (reply_text result) after) replica.old replica.new }
+{
     match edit_replica(alloc, replica, edit) {
         Ok(()) => Reply::Done,
         Err(fault) => Reply::Refused(edit_fault_name(fault)),
     }
 }
 
-fn push_line<S: RowStore>(alloc: Global, replica: &mut Replica<S>) -> Result<Reply, Memory> {
+fn push_line<S: RowStore>(alloc: Global, replica: &mut Replica<S>) -> Result<Reply, Memory>
+    ensures { Makes S.honest S.contents line.Push result replica.old replica.new }
+{
     match push_replica(alloc, replica) {
         Ok(request) => Ok(Reply::Hex(spelled(alloc, &request)?)),
         Err(fault) => Ok(Reply::Refused(push_fault_name(fault))),
     }
 }
 
-fn resend_line<S: RowStore>(alloc: Global, replica: &Replica<S>) -> Reply {
+fn resend_line<S: RowStore>(alloc: Global, replica: &Replica<S>) -> Reply
+    ensures { (before : Member) → before.position ≡ replica.now.position → LineStep replica.now.catalog before line.Resend (reply_text result) before }
+{
     match resend_replica(alloc, replica) {
         Ok(request) => asked(alloc, &request),
         Err(fault) => Reply::Refused(push_fault_name(fault)),
     }
 }
 
-fn pull_line<S: RowStore>(alloc: Global, replica: &Replica<S>, limit: u32) -> Reply {
+fn pull_line<S: RowStore>(alloc: Global, replica: &Replica<S>, limit: u32) -> Reply
+    ensures { (before : Member) → before.position ≡ replica.now.position → LineStep replica.now.catalog before (line.Pull limit) (reply_text result) before }
+{
     let first = replica.version();
     asked(alloc, &RequestBuf::Pull { first, limit })
 }
@@ -78,7 +89,9 @@ fn put_heard(
     told: Result<Told, AnswerFault>,
     version: u64,
     text: &mut String,
-) -> Result<(), Memory> {
+) -> Result<(), Memory>
+    ensures { OnOk result (string_bytes text.new ≡ string_bytes text.old ++ heard_text told version) }
+{
     match told {
         Ok(told) => Ok(write!(text, "{}\n", ToldText { told, version })?),
         Err(fault) => Ok(write!(text, "{}\n", FaultText(fault))?),
@@ -90,13 +103,15 @@ fn answer_line<S: RowStore>(
     replica: &mut Replica<S>,
     bytes: &[u8],
     wishes: &[Wish],
-) -> Result<Reply, Memory> {
+) -> Result<Reply, Memory>
+    ensures { Makes S.honest S.contents (line.Answer bytes.now wishes.now) result replica.old replica.new }
+{
     let answer = match Answer::decode(bytes) {
         Ok(answer) => answer,
         Err(fault) => return Ok(Reply::Refused(wire_fault_name(fault))),
     };
     let Ok(mut text) = String::with_capacity(alloc, ROOM) else {
-        return Ok(Reply::Refused(MEMORY));
+        return Ok(Reply::Refused("Memory"));
     };
     let told = tell_replica(alloc, replica, &answer, wishes);
     put_heard(told, replica.version(), &mut text)?;
@@ -108,7 +123,10 @@ fn dump_line<S: RowStore>(
     replica: &mut Replica<S>,
     catalog: &Catalog,
     id: u32,
-) -> Reply {
+) -> Reply
+    requires { replica.old.catalog ≡ catalog.now }
+    ensures { Turns S.honest S.contents (λ (before : Member) (after : Member). before.position.id ≡ id → LineStep replica.old.catalog before line.Dump (reply_text result) after) replica.old replica.new }
+{
     match dump_of(alloc, replica, catalog, id) {
         Ok(text) => Reply::Text(text),
         Err(fault) => Reply::Refused(store_fault_name(fault)),

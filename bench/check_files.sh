@@ -1,0 +1,267 @@
+#!/usr/bin/env bash
+# Runs the built program `sync` on files: `node FILE ID TABLE..` and `hub --file FILE TABLE..`. What they leave is opened in the `sqlite3`
+# shell, where that can be had, and compared there; a second run goes on where the first ended. Then files that are bad or aren't ours: an
+# empty file, a text, a database of others, fronts of a good file, one with a byte changed at each of 200 drawn places, a directory, a file
+# that can't be read, a device that is full. Each is refused by name, in one line, with nothing written and every byte as it was; or opened as what
+# it holds. No run crashes or takes longer than its time.
+# Usage: bench/check_files.sh PROGRAM
+set -u
+program="$(readlink -f "${1:?usage: bench/check_files.sh PROGRAM}")"
+dir="$(mktemp -d)"
+trap 'chmod -R u+rwx "$dir"; rm -rf "$dir"' EXIT
+chmod 755 "$dir"
+failed=0
+runs=0
+refusal='^sync: (Damaged|Device|Mismatch|Memory)$'
+
+tell() {
+    echo "sync $1: $2" >&2
+    failed=1
+}
+
+# run INPUT WORD..: runs the program on lines. `status`, `written` and `told` are what came.
+run() {
+    local input="$1"
+    shift
+    status=0
+    written="$(printf "$input" | timeout 20 "$program" "$@" 2> "$dir/told")" || status=$?
+    told="$(cat "$dir/told")"
+    runs=$((runs + 1))
+}
+
+# gives NAME OUTPUT INPUT WORD..: the run ends with 0, and prints this and tells nothing.
+gives() {
+    local name="$1" output="$2"
+    shift 2
+    run "$@"
+    [ "$status" -eq 0 ] && [ -z "$told" ] || tell "$name" "ended with $status, told '$told'"
+    [ "$written" = "$(printf "$output")" ] || tell "$name" "printed '$written'"
+}
+
+# refuses NAME TOLD INPUT WORD..: the run ends with 1, prints nothing and tells this.
+refuses() {
+    local name="$1" line="$2"
+    shift 2
+    run "$@"
+    [ "$status" -eq 1 ] && [ -z "$written" ] && [ "$told" = "$line" ] \
+        || tell "$name" "ended with $status, printed '$written', told '$told'"
+}
+
+# What a file and those beside it hold, as one line.
+sum_of() {
+    for part in "$1" "$1-wal" "$1-shm" "$1-journal"; do
+        [ -f "$part" ] && cksum < "$part" || echo none
+    done | tr '\n' ' '
+}
+
+# looks NAME FILE WORD..: on a file that is none of ours, or was damaged, either is refused by name, and then the file is as it was; or it is
+# opened, and a second run shows the same.
+looks() {
+    local name="$1" file="$2" before first
+    shift 2
+    before="$(sum_of "$file")"
+    run "$input" "$@"
+    if [ "$status" -eq 1 ]; then
+        [ -z "$written" ] && [[ "$told" =~ $refusal ]] || tell "$name" "printed '$written', told '$told'"
+        [ "$(sum_of "$file")" = "$before" ] || tell "$name" "was refused, and yet written"
+        refused=$((refused + 1))
+    elif [ "$status" -eq 0 ]; then
+        [ -z "$told" ] || tell "$name" "told '$told'"
+        first="$written"
+        run "$input" "$@"
+        [ "$status" -eq 0 ] && [ "$written" = "$first" ] || tell "$name" "a second run ended with $status and '$written', not '$first'"
+    else
+        tell "$name" "ended with $status, told '$told'"
+    fi
+}
+
+# ---- a node, a second run of it, and one with another id or other tables
+
+insert=54020100743100120001000000000000000103027631
+push="01000000000000000000000001000000000000000000000016$insert"
+node="$dir/node"
+gives 'node, first run' "ok\n$push\naccepted 1\n0200000000000000010000000a\nreplica 0 version 1 pending 0 flight 0\nrow t1 1 t=v1\n" \
+    'edit insert t1 1 t=v1\npush\nanswer 110000000000000000000000010000000000000001 -\npull 10\ndump\n' node "$node" 0 t1:10
+gives 'node, second run' 'replica 0 version 1 pending 0 flight 0\nrow t1 1 t=v1\n' 'dump\n' node "$node" 0 t1:10
+refuses 'node of another id' 'sync: Mismatch' 'dump\n' node "$node" 1 t1:10
+refuses 'node of other tables' 'sync: Mismatch' 'dump\n' node "$node" 0 t1:11
+refuses 'a node as a hub' 'sync: Mismatch' '' hub --file "$node" t1:10
+refuses 'a line that cannot be read' 'sync: line 2' 'edit insert t1 9 t=v9\ndumps\n' node "$node" 1 t1:10
+gives 'node, after refusals' 'ok\nok\nreplica 0 version 1 pending 2 flight 0\nrow t1 2 t=v2\n' \
+    'edit insert t1 2 t=v2\nedit delete t1 1\ndump\n' node "$node" 0 t1:10
+
+# ---- a hub, and a second run that goes on
+
+hub="$dir/hub"
+gives 'hub, first run' '110000000000000000000000010000000000000001\n' "$push\n" hub --file "$hub" t1:10
+gives 'hub, second run' "110000000000000000000000010000000000000001\n1400000000000000000000000100000000000000000000000100000016$insert\n" \
+    "$push\n0200000000000000000000000a\n" hub --file "$hub" t1:10
+refuses 'hub of other tables' 'sync: Mismatch' "$push\n" hub --file "$hub" t1:11
+refuses 'a hub as a node' 'sync: Mismatch' 'dump\n' node "$hub" 0 t1:10
+refuses 'a line that no node reads, before a file that does not open' 'sync: line 1' 'push 1\n' node "$hub" 0 t1:10
+
+# ---- what they left, in the shell
+
+shell="$(command -v sqlite3)" || {
+    command -v apt-get > /dev/null && { apt-get update && apt-get install -y sqlite3; } > "$dir/apt.log" 2>&1
+    shell="$(command -v sqlite3)" || echo "files: the sqlite3 shell can't be had; what was left is not looked at there"
+}
+
+# selects NAME FILE WANTED QUERY: the shell answers this.
+selects() {
+    local found
+    found="$("$shell" -readonly "$2" "$4" 2>&1)"
+    [ "$found" = "$3" ] || tell "$1" "the shell answers '$found', not '$3'"
+}
+
+key1=010000000000000001
+key2=010000000000000002
+if [ -n "$shell" ]; then
+    for file in "$node" "$hub"; do
+        cp "$file" "$dir/copy"
+        [ ! -f "$file-wal" ] || cp "$file-wal" "$dir/copy-wal"
+        selects "$file" "$dir/copy" ok 'PRAGMA integrity_check'
+        rm -f "$dir/copy" "$dir/copy-wal" "$dir/copy-shm"
+    done
+    selects 'the rows of the node' "$node" "0|$(printf %s $key2 | tr a-f A-F)|${key2}03027632" 'SELECT tab, hex(key), hex(body) FROM rows'
+    selects 'the pending changes of the node' "$node" "0|${key1}|1
+0|${key2}|1" 'SELECT tab, hex(key), length(body) > 0 FROM pending ORDER BY key'
+    selects 'the values of the node' "$node" 'catalog|54020100743100
+id|00000000
+number|0000000000000001
+version|0000000000000001' 'SELECT name, hex(body) FROM meta ORDER BY name'
+    selects 'the log of the hub' "$hub" "0|0|1|00$(printf %s $insert | tr a-f A-F)" 'SELECT version, origin, number, hex(body) FROM log'
+    selects 'the rows of the hub' "$hub" "0|${key1}|${key1}03027631" 'SELECT tab, hex(key), hex(body) FROM rows'
+    selects 'the values of the hub' "$hub" 'catalog|54020100743100' 'SELECT name, hex(body) FROM meta'
+fi
+
+# ---- a larger file of each, to be damaged
+
+script=''
+for number in $(seq 1 60); do
+    script="${script}edit insert t1 $number t=some%%20text%%20of%%20row%%20$number\n"
+done
+good="$dir/good"
+run "${script}push\n" node "$good" 0 t1:10
+[ "$status" -eq 0 ] || tell 'a larger node' "ended with $status, told '$told'"
+flight="$(printf '%s\n' "$written" | tail -n 1)"
+run "edit update t1 7 t=changed\nedit delete t1 8\n" node "$good" 0 t1:10
+log="$dir/log"
+run "$flight\n" hub --file "$log" t1:10
+[ "$status" -eq 0 ] || tell 'a larger hub' "ended with $status, told '$told'"
+
+# both NAME FILE MAKER..: as a node and as a hub, each on a file that is made anew.
+both() {
+    local name="$1"
+    shift
+    "$@" "$dir/bad"
+    input='dump\n'
+    looks "node on $name" "$dir/bad" node "$dir/bad" 0 t1:10
+    rm -rf "$dir/bad" "$dir/bad-wal" "$dir/bad-shm" "$dir/bad-journal"
+    "$@" "$dir/bad"
+    input='0200000000000000000000000a\n'
+    looks "hub on $name" "$dir/bad" hub --file "$dir/bad" t1:10
+    rm -rf "$dir/bad" "$dir/bad-wal" "$dir/bad-shm" "$dir/bad-journal"
+}
+
+refused=0
+
+# ---- files of others
+
+make_empty() { : > "$1"; }
+make_text() { printf 'till 1, monday\n%.0s' $(seq 1 500) > "$1"; }
+make_zeros() { head -c 8192 /dev/zero > "$1"; }
+both 'an empty file' make_empty
+both 'a text' make_text
+both 'zeros' make_zeros
+if [ -n "$shell" ]; then
+    make_others() { "$shell" "$1" "CREATE TABLE goods (name TEXT, price INTEGER); INSERT INTO goods VALUES ('tea', 3)" > /dev/null; }
+    make_alike() { "$shell" "$1" "CREATE TABLE rows (tab INTEGER, key BLOB)" > /dev/null; }
+    both 'a database of others' make_others
+    both 'a database with a table of the same name' make_alike
+fi
+
+# ---- fronts of good files
+
+size="$(stat -c %s "$good")"
+for length in 1 15 16 99 100 101 512 1000 4095 4096 4097 8191 8192 $((size / 2)) $((size - 4096)) $((size - 1)); do
+    [ "$length" -gt 0 ] && [ "$length" -lt "$size" ] || continue
+    make_front() { head -c "$length" "$good" > "$1"; }
+    both "a front of $length bytes" make_front
+done
+
+# ---- a byte changed
+
+# The next drawn number below $1.
+draw() {
+    drawn=$(((drawn * 1103515245 + 12345) % 2147483648))
+    place=$((drawn / 8 % $1))
+}
+
+drawn=20261126
+make_changed() {
+    cp "$from" "$1"
+    printf "\\x$(printf %02x "$byte")" | dd of="$1" bs=1 seek="$place" conv=notrunc 2> /dev/null
+}
+for count in $(seq 1 200); do
+    from="$good"
+    [ $((count % 2)) -eq 0 ] || from="$log"
+    draw "$(stat -c %s "$from")"
+    was="$(od -An -tu1 -j "$place" -N 1 "$from" | tr -d ' ')"
+    byte=$(((was + 1 + count % 255) % 256))
+    make_changed "$dir/bad"
+    if [ "$from" = "$good" ]; then
+        input='dump\n'
+        looks "node with byte $place changed to $byte" "$dir/bad" node "$dir/bad" 0 t1:10
+    else
+        input='0200000000000000000000000a\n'
+        looks "hub with byte $place changed to $byte" "$dir/bad" hub --file "$dir/bad" t1:10
+    fi
+    rm -f "$dir/bad" "$dir/bad-wal" "$dir/bad-shm" "$dir/bad-journal"
+done
+
+# ---- what is no file, can't be read, or can't grow
+
+make_folder() { mkdir "$1"; }
+both 'a directory' make_folder
+both 'no file' true
+input='dump\n'
+looks 'node in a folder that is not there' "$dir/none/file" node "$dir/none/file" 0 t1:10
+[ "$status" -eq 1 ] || tell 'node in a folder that is not there' "ended with $status"
+
+# Whoever may read every file is somebody else for this.
+shut="$dir/shut"
+cp "$good" "$shut"
+chmod 000 "$shut"
+before="$(cksum < "$good")"
+as=()
+[ "$(id -u)" -ne 0 ] || as=(setpriv --reuid=65534 --regid=65534 --clear-groups)
+if [ "${#as[@]}" -eq 0 ] || "${as[@]}" test -x "$program" 2> /dev/null; then
+    status=0
+    written="$(printf 'dump\n' | timeout 20 "${as[@]}" "$program" node "$shut" 0 t1:10 2> "$dir/told")" || status=$?
+    told="$(cat "$dir/told")"
+    runs=$((runs + 1))
+    [ "$status" -eq 1 ] && [ -z "$written" ] && [[ "$told" =~ $refusal ]] || tell 'node on a file that cannot be read' "ended with $status, printed '$written', told '$told'"
+    chmod 600 "$shut"
+    [ "$(cksum < "$shut")" = "$before" ] || tell 'node on a file that cannot be read' 'it was written'
+else
+    echo 'files: nobody may run the program, so no file that cannot be read was tried'
+fi
+
+# A device that is full: no file may grow past so many bytes. What was told to be done is there afterwards.
+full="$dir/full"
+status=0
+written="$(trap '' XFSZ; ulimit -f 64; printf "${script}${script}dump\n" | timeout 20 "$program" node "$full" 0 t1:10 2> "$dir/told")" || status=$?
+told="$(cat "$dir/told")"
+runs=$((runs + 1))
+[ "$status" -le 1 ] || tell 'node on a full device' "ended with $status, told '$told'"
+done_there="$(printf '%s\n' "$written" | head -n 60 | grep -c '^ok$')"
+run 'dump\n' node "$full" 0 t1:10
+[ "$status" -eq 0 ] || tell 'node on what was a full device' "ended with $status, told '$told'"
+[ "$(printf '%s\n' "$written" | grep -c '^row ')" -eq "$done_there" ] \
+    || tell 'node on what was a full device' "$done_there edits were done, and it shows $(printf '%s\n' "$written" | grep -c '^row ')"
+
+if [ "$failed" -eq 0 ]; then
+    echo "files: $runs runs as they have to be, $refused of damaged files refused by name"
+fi
+exit "$failed"
