@@ -5,7 +5,6 @@ mod Heard
 mod Keeps
 mod Holds
 mod Wished
-mod Turned
 mod Begun
 mod Moved
 mod Running

@@ -186,7 +186,7 @@ module _ {S : Type 0} (honest : S → Type 0) (contents : S → Contents) (limit
                 m.1,
                 (
                   member_of new t.0,
-                  subst (λ (b : Member). turn world.tables b (member_of new t.0)) before (subst (λ (c : List TableDef). turn c (member_of old m.0.view) (member_of new t.0)) m.2.catalog t.2),
+                  subst (λ (b : Member). turn world.tables b (member_of new t.0)) before (subst (λ (c : List TableDef). turn c (member_of old m.0.view) (member_of new t.0)) m.2.catalog t.3),
                   record { catalog = turns.catalog ∙ m.2.catalog; position = refl; shows = t.1 },
                 ),
               )

@@ -1,14 +1,9 @@
 -- What is read of a world.
-use Rattle.std.proofs.Common.{◌≡◌, ◌∙◌, ◌≤◌, ℕ, List, [], Some, Result, Ok, Err, length, slice_get, slice_set, refl, sym, subst}
-use Rattle.std.specs.Prelude.{IfOk, Vec}
-use Rattle.std.specs.declared.alloc.Global.{Global}
+use Rattle.std.proofs.Common.{◌≡◌, ◌∙◌, ℕ, List, Some, slice_get, slice_set, refl, sym, subst}
 use Rattle.cs_value.specs.declared.catalog.TableDef.{TableDef}
-use Rattle.cs_value.specs.declared.value.Value.{Value}
 use Rattle.cs_hub.specs.Holding as hub
-use Rattle.cs_normal.specs.State.{State}
 use Rattle.cs_pending.specs.View.{View}
 use Rattle.cs_replica.specs.Holding as replica
-use Rattle.cs_rows.specs.Rows.{AreRowsOf}
 use Rattle.cs_store.specs.Contents.{Contents}
 use Rattle.cs_world.specs.Steps as step
 use Rattle.cs_world.specs.Steps.{Step}
@@ -17,17 +12,10 @@ use Rattle.cs_world.specs.declared.event.Event.TheVariants.{Restart}
 use Rattle.cs_world.specs.declared.letter.Letter.{Letter}
 use Rattle.cs_world.specs.declared.outcome.Outcome.TheVariants as told
 use Rattle.cs_world.specs.Holding.{AreHonest, Holding, ShowsWorld, StandsAt}
-use Rattle.cs_world.specs.Reads.{AreRowsIn, Reads}
+use Rattle.cs_world.specs.Reads.{Reads}
 use Rattle.cs_world.specs.Turns.{Turns}
 use Rattle.cs_world.proofs.Found.{set_there}
 use Rattle.cs_world.proofs.Moved.{held, member_there, unturned}
-
-pub rows_in : {E : Type 0} (tables : List TableDef) (state : State) (table : ℕ) (result : Result (Vec (List ℕ × List Value) Global) E)
-    → ((def : TableDef) → slice_get tables table ≡ Some def → IfOk result (λ rows. AreRowsOf (state def.name) rows.items))
-    → (length tables ≤ table → IfOk result (λ rows. rows.items ≡ []))
-    → IfOk result (λ rows. AreRowsIn tables state table rows.items)
-rows_in tables state table (Ok rows) there past = record { there = there; past = past }
-rows_in tables state table (Err fault) there past = tt
 
 module _ {S : Type 0} (honest : S → Type 0) (contents : S → Contents) (limit : ℕ) where
   abbrev all_of : hub.Holding S → List (replica.Holding S) → List Letter → Holding S

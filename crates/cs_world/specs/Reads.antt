@@ -1,19 +1,11 @@
 -- What is read of a world over stores (profile of this project).
-use Rattle.std.specs.Prelude.{◌≡◌, ◌≤◌, ℕ, List, [], Option, Some, None, length, slice_get}
-use Rattle.cs_value.specs.declared.catalog.TableDef.{TableDef}
-use Rattle.cs_value.specs.declared.value.Value.{Value}
-use Rattle.cs_normal.specs.State.{State}
-use Rattle.cs_rows.specs.Rows.{AreRowsOf}
+use Rattle.std.specs.Prelude.{ℕ, Option, Some, None}
+pub use Rattle.cs_member.specs.Member.{AreRowsIn}
 use Rattle.cs_store.specs.Contents.{Contents}
 use Rattle.cs_world.specs.World.{World}
 use Rattle.cs_world.specs.declared.letter.Letter.{Letter}
 use Rattle.cs_world.specs.declared.letter.Letter.TheVariants as letter
 use Rattle.cs_world.specs.Holding.{AreHonest, Holding, StandsAt}
-
--- these are the rows of the table with this number, each behind the bytes of its key; none past the last table
-pub record AreRowsIn (tables : List TableDef) (state : State) (table : ℕ) (rows : List (List ℕ × List Value)) : Type 0 where
-  pub there : (def : TableDef) → slice_get tables table ≡ Some def → AreRowsOf (state def.name) rows
-  pub past : length tables ≤ table → rows ≡ []
 
 -- the replica to which a letter is the hub's answer, if it is one
 abbrev pub letter_receiver : Option Letter → Option ℕ

@@ -1,47 +1,32 @@
 -- What an event does to a world, and what it comes to (profile of this project). The hub's log has at most `limit` entries.
 use Rattle.std.specs.Prelude.{◌≡◌, ◌⊎◌, ◌<◌, ◌^◌, ℕ, List, [], ◌∷◌, length, Option, Some, None, Result, Ok, Err, slice_get}
-use Rattle.cs_value.specs.declared.catalog.TableDef.{TableDef}
 use Rattle.cs_value.specs.declared.edit.Edit.{Edit}
-use Rattle.cs_value.specs.declared.edit.Edit.TheVariants as edit
 use Rattle.cs_store.specs.Contents.{Contents}
 use Rattle.cs_conflict.specs.declared.wish.Wish.{Wish}
 use Rattle.cs_hub.specs.Serves.{ServesIf}
+pub use Rattle.cs_member.specs.Member.{Hears, asked_of, table_of}
 use Rattle.cs_judging.specs.Judged.{hub_of}
 use Rattle.cs_log.specs.declared.entry.LogEntry.{LogEntry}
 use Rattle.cs_normal.specs.declared.normal.TableChanges.{TableChanges}
 use Rattle.cs_opening.specs.declared.fault.OpenFault.{OpenFault}
 use Rattle.cs_opening.specs.declared.fault.OpenFault.TheVariants as opening
-use Rattle.cs_pending.specs.Edits.{Asked as AskedEdit, AskDelete, AskInsert, AskUpdate, IsOfStore, edit as edited_view}
+use Rattle.cs_pending.specs.Edits.{IsOfStore, edit as edited_view}
 use Rattle.cs_pending.specs.View.{View}
 use Rattle.cs_pending.specs.declared.fault.EditFault.{EditFault}
 use Rattle.cs_position.specs.Shows.{ShowsAt}
 use Rattle.cs_pulling.specs.declared.fault.AnswerFault.{AnswerFault}
 use Rattle.cs_pushing.specs.Pushes.{IsPushFault, IsPushMade, IsResendFault, grounded, pushed, request_of}
 use Rattle.cs_pushing.specs.declared.fault.PushFault.{PushFault}
-use Rattle.cs_replica.specs.Answered.{Answers}
 use Rattle.cs_replica.specs.Edited.{with_pending}
 use Rattle.cs_replica.specs.declared.told.Told.{Told}
 use Rattle.cs_wire.specs.Answers.{answer_spelling, FitsAnswer}
 use Rattle.cs_wire.specs.Requests.{Asked, AsksPull, request_spelling}
 use Rattle.cs_wire.specs.declared.answer.Answer.{Answer}
-use Rattle.cs_wishes.specs.Wished.{IsWished}
 use Rattle.cs_world.specs.World.{Asks, IsMember, IsMessage, Member, Sent, Tells, World, with_log, with_member, with_message}
 use Rattle.cs_world.specs.declared.event.Event.{Event}
 use Rattle.cs_world.specs.declared.event.Event.TheVariants.{AskPull, Deliver, MakePush, OnEdit, Resend, Restart}
 use Rattle.cs_world.specs.declared.outcome.Outcome.{Outcome}
 use Rattle.cs_world.specs.declared.outcome.Outcome.TheVariants.{Done, Heard, Memory, NoMessage, NoReplica, NotEdited, NotHeard, NotPushed, NotReloaded, Sent as SentAs}
-
--- the name of the table that an edit is of
-abbrev pub table_of : Edit → List ℕ
-table_of (edit.Insert table row) = table
-table_of (edit.Update table key fields) = table
-table_of (edit.Delete table key) = table
-
--- what it asks
-abbrev pub asked_of : Edit → AskedEdit
-asked_of (edit.Insert table row) = AskInsert row
-asked_of (edit.Update table key fields) = AskUpdate key fields
-asked_of (edit.Delete table key) = AskDelete key
 
 -- the replica that an event or its message goes to
 abbrev pub receiver : Option Sent → Option ℕ
@@ -61,13 +46,6 @@ addressee world (Restart r) = Some r
 abbrev pub heard : Result Told AnswerFault → Outcome
 heard (Ok told) = Heard told
 heard (Err fault) = NotHeard fault
-
--- a replica's answer of the hub, by these wishes: what it makes of the replica, and what is told of that
-pub record Hears (tables : List TableDef) (before : Member) (answer : Answer) (wishes : List Wish) (result : Result Told AnswerFault) (after : Member) : Type 0 where
-  pub left : Contents
-  pub unused : List Wish
-  pub answers : Answers IsWished tables answer result before.position before.view wishes after.position left unused
-  pub shows : ShowsAt tables left after.position after.view
 
 -- one case an event
 pub data Step (limit : ℕ) (old : World) : Event → Outcome → World → Type 0 where

@@ -11,8 +11,8 @@ ghost use Rattle.cs_world.specs.World.{IsMember, Member, World as Standing};
 
 use crate::letter::Letter;
 use crate::moving::Core;
-use crate::turning::rows_of;
 use crate::world::World;
+use cs_member::rows_of;
 use cs_normal::Normal;
 use cs_rows::RowAtKey;
 use cs_store::{RowStore, StoreFault};

@@ -1,101 +1,11 @@
-//! What an event makes of one replica.
+//! A replica that reads its store again.
 
-ghost use Rattle.std.specs.Prelude.{◌≡◌, IfOk};
-ghost use Rattle.cs_world.specs.Steps.{Hears};
-ghost use Rattle.cs_value.specs.declared.edit.Edit.TheVariants.{Delete, Insert, Update};
-ghost use Rattle.cs_wire.specs.Requests.{HasShortChangeset, asked_by_owned};
-ghost use Rattle.cs_pending.specs.View.{View};
-ghost use Rattle.cs_replica.specs.Holding.{Shows};
-ghost use Rattle.cs_world.specs.Reads.{AreRowsIn};
-ghost use Rattle.cs_world.specs.Turns.{IsEditedTo, IsPushedTo, IsReloadedTo, Turns};
+ghost use Rattle.cs_world.specs.Turns.{IsReloadedTo, Turns};
 
-use cs_conflict::Wish;
 use cs_opening::OpenFault;
-use cs_pending::EditFault;
-use cs_pulling::AnswerFault;
-use cs_pushing::PushFault;
-use cs_replica::{Replica, Told};
-use cs_rows::RowAtKey;
-use cs_store::{RowStore, StoreFault};
-use cs_value::{Edit, Fields, Key, Row, Text};
-use cs_wire::{Answer, RequestBuf};
-use cs_wishes::Wishes;
+use cs_replica::Replica;
+use cs_store::RowStore;
 use std::alloc::Global;
-
-/// Puts a row into a replica's table.
-fn insert_into<S: RowStore>(
-    alloc: Global,
-    replica: &mut Replica<S>,
-    table: &Text,
-    row: &Row,
-) -> Result<(), EditFault>
-    ensures { Turns S.honest S.contents (IsEditedTo replica.old.catalog (Insert table.now row.now) result) replica.old replica.new }
-{
-    cs_position::laws::one_position();
-    let edited = replica.insert(alloc, table.as_str(), row);
-    replica.shown();
-    edited
-}
-
-/// Puts fields into a row of a replica's table.
-fn update_in<S: RowStore>(
-    alloc: Global,
-    replica: &mut Replica<S>,
-    table: &Text,
-    key: &Key,
-    fields: &Fields,
-) -> Result<(), EditFault>
-    ensures { Turns S.honest S.contents (IsEditedTo replica.old.catalog (Update table.now key.now fields.now) result) replica.old replica.new }
-{
-    cs_position::laws::one_position();
-    let edited = replica.update(alloc, table.as_str(), key, fields.as_slice());
-    replica.shown();
-    edited
-}
-
-/// Takes a row out of a replica's table.
-fn delete_from<S: RowStore>(
-    alloc: Global,
-    replica: &mut Replica<S>,
-    table: &Text,
-    key: &Key,
-) -> Result<(), EditFault>
-    ensures { Turns S.honest S.contents (IsEditedTo replica.old.catalog (Delete table.now key.now) result) replica.old replica.new }
-{
-    cs_position::laws::one_position();
-    let edited = replica.delete(alloc, table.as_str(), key);
-    replica.shown();
-    edited
-}
-
-/// Edits a replica's row.
-pub(crate) fn edit_replica<S: RowStore>(
-    alloc: Global,
-    replica: &mut Replica<S>,
-    edit: &Edit,
-) -> Result<(), EditFault>
-    ensures { Turns S.honest S.contents (IsEditedTo replica.old.catalog edit.now result) replica.old replica.new }
-{
-    match edit {
-        Edit::Insert { table, row } => insert_into(alloc, replica, table, row),
-        Edit::Update { table, key, fields } => update_in(alloc, replica, table, key, fields),
-        Edit::Delete { table, key } => delete_from(alloc, replica, table, key),
-    }
-}
-
-/// Makes what is pending at a replica a push.
-pub(crate) fn push_replica<S: RowStore>(
-    alloc: Global,
-    replica: &mut Replica<S>,
-) -> Result<RequestBuf, PushFault>
-    ensures pushed { Turns S.honest S.contents (IsPushedTo replica.old.catalog result) replica.old replica.new }
-    ensures short { IfOk result (λ request. HasShortChangeset (asked_by_owned request)) }
-{
-    cs_position::laws::one_position();
-    let pushed = replica.make_push(alloc);
-    replica.shown();
-    pushed
-}
 
 /// Has a replica read its store again.
 pub(crate) fn reload_replica<S: RowStore>(
@@ -105,31 +15,4 @@ pub(crate) fn reload_replica<S: RowStore>(
     ensures { Turns S.honest S.contents (IsReloadedTo result) replica.old replica.new }
 {
     replica.reload(alloc)
-}
-
-/// Tells a replica the hub's answer.
-pub(crate) fn tell_replica<S: RowStore>(
-    alloc: Global,
-    replica: &mut Replica<S>,
-    answer: &Answer<'_>,
-    wishes: &[Wish],
-) -> Result<Told, AnswerFault>
-    ensures { Turns S.honest S.contents (λ before after. Hears replica.old.catalog before answer.now wishes.now result after) replica.old replica.new }
-{
-    let mut picker = Wishes::new(wishes);
-    let told = replica.answer(alloc, answer, &mut picker);
-    replica.shown();
-    told
-}
-
-/// The rows of a replica's table.
-pub(crate) fn rows_of<S: RowStore>(
-    alloc: Global,
-    replica: &mut Replica<S>,
-    table: usize,
-) -> Result<Vec<RowAtKey>, StoreFault>
-    ensures kept { Turns S.honest S.contents (λ before after. after ≡ before) replica.old replica.new }
-    ensures listed { S.honest replica.new.store → (view : View) → Shows S.contents replica.old view → IfOk result (λ rows. AreRowsIn replica.old.catalog view.tables table rows.items) }
-{
-    replica.rows(alloc, table)
 }

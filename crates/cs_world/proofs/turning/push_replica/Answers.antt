@@ -1,7 +1,0 @@
-use Rattle.cs_world.proofs.Turned.{pushed_to}
-use Rattle.cs_world.proofs.turning.push_replica.Goals as goal
-
-pub returns-clause-pushed : goal.returns-clause-pushed
-returns-clause-pushed g c =
-    pushed_to g.S.RowStore.honest g.S.RowStore.contents g.S.RowStore.failed g.S.RowStore.may_leave g.S.RowStore.misreads c.args.replica.now c.make_push-pushed.new.self c.make_push-pushed.ensures.catalog
-    c.one_position.ensures c.shown.ensures c.make_push-pushed.result c.make_push-pushed.ensures.writes c.make_push-pushed.ensures.moved c.make_push-pushed.ensures.refused c.make_push-pushed.ensures.kept
