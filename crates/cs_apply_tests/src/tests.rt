@@ -11,7 +11,6 @@ use cs_record::Row;
 use cs_store::{Batch, PlaceEdit, RowStore, Trip};
 use cs_value::{Catalog, Items, Memory, TableDef, Text};
 use std::alloc::Global;
-use std::test::Fail;
 
 /// The header of `t1(a key, b)`, and that of `t9`.
 const FIRST: &[u8] = &[0x54, 2, 1, 0, 0x74, 0x31, 0];
@@ -52,12 +51,11 @@ fn row(alloc: Global, number: u8, text: &[u8]) -> Result<Vec<u8>, Memory> {
     Ok(out)
 }
 
+/// A change: its operation, and the number and the text of its row.
+type Put<'a> = ([u8; 2], u8, &'a [u8]);
+
 /// The changes of one group.
-fn group(
-    alloc: Global,
-    header: &[u8],
-    changes: &[([u8; 2], u8, &[u8])],
-) -> Result<Vec<u8>, Memory> {
+fn group(alloc: Global, header: &[u8], changes: &[Put<'_>]) -> Result<Vec<u8>, Memory> {
     let mut out = Vec::from_slice(alloc, header)?;
     for (operation, number, text) in changes {
         out.extend_from_slice(operation)?;
@@ -284,67 +282,75 @@ fn try_bytes(alloc: Global, bytes: &[u8]) -> Result<Applied, ApplyFault> {
 }
 
 /// Whether trying the changes of one group as a push tells this.
-fn tries(alloc: Global, changes: &[([u8; 2], u8, &[u8])], expected: &str) -> Result<bool, Memory> {
+fn tries(alloc: Global, changes: &[Put<'_>], expected: &str) -> Result<bool, Memory> {
     let bytes = group(alloc, FIRST, changes)?;
     let mut out = Vec::new(alloc);
     put_outcome(&try_bytes(alloc, &bytes), &mut out)?;
     Ok(out.as_slice() == expected.as_bytes())
 }
 
-#[test]
-fn pushes_are_tried(rt: HostRuntime) -> Result<(), Fail> {
-    let alloc = rt.alloc();
-    let defined: [([u8; 2], u8, &[u8]); 2] = [(DELETE, 1, b"v1"), (INSERT, 2, b"a")];
-    assert!(rt; tries(alloc, &defined, "01- 02=a  0")?);
-    let conflicting: [([u8; 2], u8, &[u8]); 2] = [(INSERT, 2, b"a"), (INSERT, 1, b"z")];
-    assert!(rt; tries(alloc, &conflicting, "Aborted30+1z 1v1")?);
-    Ok(())
-}
+const DEFINED: [Put<'static>; 2] = [(DELETE, 1, b"v1"), (INSERT, 2, b"a")];
 
-/// Whether applying the changes of one group tells this, where the conflicts are answered by these answers in turn.
-fn tells(
-    alloc: Global,
-    header: &[u8],
-    changes: &[([u8; 2], u8, &[u8])],
-    answers: &[Resolution],
-    expected: &str,
-) -> Result<bool, Memory> {
-    let bytes = group(alloc, header, changes)?;
-    Ok(told(alloc, &bytes, answers)?.as_slice() == expected.as_bytes())
-}
+const CONFLICTING: [Put<'static>; 2] = [(INSERT, 2, b"a"), (INSERT, 1, b"z")];
 
 #[test]
-fn worked_rows(rt: HostRuntime) -> Result<(), Fail> {
-    let alloc = rt.alloc();
-    let delete: [([u8; 2], u8, &[u8]); 1] = [(DELETE, 1, b"v2")];
-    assert!(rt; tells(alloc, FIRST, &delete, &[Resolution::Omit], "0 0 1")?);
-    assert!(rt; tells(alloc, FIRST, &delete, &[Resolution::Replace], "01- 1 0 1")?);
-    let missing: [([u8; 2], u8, &[u8]); 1] = [(DELETE, 2, b"x")];
-    assert!(rt;
-        tells(
-            alloc,
-            FIRST,
-            &missing,
-            &[Resolution::Replace],
-            "Misuse20-2x - 2"
-        )?
-    );
-    let twice: [([u8; 2], u8, &[u8]); 2] = [(INSERT, 5, b"a"), (INSERT, 5, b"b")];
-    assert!(rt; tells(alloc, FIRST, &twice, &[Resolution::Replace], "05=b 1 0 3")?);
-    let both: [([u8; 2], u8, &[u8]); 2] = [(DELETE, 1, b"v2"), (INSERT, 1, b"z")];
-    let answers = [Resolution::Omit, Resolution::Abort];
-    assert!(rt; tells(alloc, FIRST, &both, &answers, "Aborted30+1z 1v1 13")?);
-    assert!(rt; tells(alloc, UNKNOWN, &[(INSERT, 1, b"a")], &[], " 1 ")?);
-    Ok(())
+fn pushes_are_tried(rt: HostRuntime) {
+    assert!(rt; tries(rt.alloc(), &DEFINED, "01- 02=a  0").unwrap_or(false));
+    assert!(rt; tries(rt.alloc(), &CONFLICTING, "Aborted30+1z 1v1").unwrap_or(false));
+}
+
+/// The changes of one group, the answers to their conflicts, one after the other, and what is told of applying them.
+type Told<'a> = (&'a [u8], &'a [Put<'a>], &'a [Resolution], &'a str);
+
+/// Whether applying tells this.
+fn tells(alloc: Global, case: &Told<'_>) -> Result<bool, Memory> {
+    let bytes = group(alloc, case.0, case.1)?;
+    Ok(told(alloc, &bytes, case.2)?.as_slice() == case.3.as_bytes())
+}
+
+const OTHER_DELETED: &[Put<'static>] = &[(DELETE, 1, b"v2")];
+
+const WORKED: [Told<'static>; 6] = [
+    (FIRST, OTHER_DELETED, &[Resolution::Omit], "0 0 1"),
+    (FIRST, OTHER_DELETED, &[Resolution::Replace], "01- 1 0 1"),
+    (
+        FIRST,
+        &[(DELETE, 2, b"x")],
+        &[Resolution::Replace],
+        "Misuse20-2x - 2",
+    ),
+    (
+        FIRST,
+        &[(INSERT, 5, b"a"), (INSERT, 5, b"b")],
+        &[Resolution::Replace],
+        "05=b 1 0 3",
+    ),
+    (
+        FIRST,
+        &[(DELETE, 1, b"v2"), (INSERT, 1, b"z")],
+        &[Resolution::Omit, Resolution::Abort],
+        "Aborted30+1z 1v1 13",
+    ),
+    (UNKNOWN, &[(INSERT, 1, b"a")], &[], " 1 "),
+];
+
+#[test]
+fn worked_rows(rt: HostRuntime) {
+    for case in &WORKED {
+        assert!(rt; tells(rt.alloc(), case).unwrap_or(false));
+    }
+}
+
+/// The INSERT of (NULL, 'a') into `t1`.
+const NULL_KEY: &[u8] = &[0x54, 2, 1, 0, 0x74, 0x31, 0, 0x12, 0, 5, 3, 1, b'a'];
+
+fn tells_null_key(alloc: Global) -> Result<bool, Memory> {
+    Ok(told(alloc, NULL_KEY, &[])?.as_slice() == "NullKey ".as_bytes())
 }
 
 #[test]
-fn null_in_a_key(rt: HostRuntime) -> Result<(), Fail> {
-    let alloc = rt.alloc();
-    let mut null = Vec::from_slice(alloc, FIRST)?;
-    null.extend_from_slice(&[0x12, 0, 5, 3, 1, b'a'])?;
-    assert_eq!(rt; told(alloc, &null, &[])?.as_slice(), "NullKey ".as_bytes());
-    Ok(())
+fn null_in_a_key(rt: HostRuntime) {
+    assert!(rt; tells_null_key(rt.alloc()).unwrap_or(false));
 }
 
 /// The integer 1 as a field, and the header of `t2(a key, b, c, d)`.
@@ -482,12 +488,10 @@ const CASES: &[BlobCase<'static>] = &[
 ];
 
 #[test]
-fn blobs_of_answered_conflicts(rt: HostRuntime) -> Result<(), Fail> {
-    let alloc = rt.alloc();
+fn blobs_of_answered_conflicts(rt: HostRuntime) {
     for case in CASES {
-        assert!(rt; leaves_blob(alloc, case).unwrap_or(false));
+        assert!(rt; leaves_blob(rt.alloc(), case).unwrap_or(false));
     }
-    Ok(())
 }
 
 /// The bytes of all rows of `t1`, behind their keys.
@@ -501,15 +505,12 @@ fn image<S: RowStore>(alloc: Global, store: &mut S) -> Result<Vec<u8>, ApplyFaul
 }
 
 /// Three places: a DELETE and an INSERT that meet another row of the one, an INSERT, and a DELETE that finds no row.
-fn changes_of_three(alloc: Global) -> Result<Vec<u8>, Memory> {
-    let changes: [([u8; 2], u8, &[u8]); 4] = [
-        (DELETE, 1, b"v2"),
-        (INSERT, 1, b"z"),
-        (INSERT, 2, b"new"),
-        (DELETE, 3, b"x"),
-    ];
-    group(alloc, FIRST, &changes)
-}
+const THREE: [Put<'static>; 4] = [
+    (DELETE, 1, b"v2"),
+    (INSERT, 1, b"z"),
+    (INSERT, 2, b"new"),
+    (DELETE, 3, b"x"),
+];
 
 /// What applying these bytes gives where DataDiffers and KeyConflict are answered by REPLACE, and NotFound by OMIT.
 fn replaces<S: RowStore>(
@@ -533,24 +534,35 @@ const REPLACED: &[u8] = b"01=z 02=new 10 0";
 /// The one row of `t1`, behind its key.
 const STORED: &[u8] = b"\x01\0\0\0\0\0\0\0\x01\x01\0\0\0\0\0\0\0\x01\x03\x02v1";
 
+/// Whether the one row of the store is as it was.
+fn stays<S: RowStore>(alloc: Global, store: &mut S) -> Result<bool, ApplyFault> {
+    Ok(image(alloc, store)?.as_slice() == STORED)
+}
+
+/// Whether applying the three gives that.
+fn succeeds<S: RowStore>(alloc: Global, store: &mut S, bytes: &[u8]) -> Result<bool, ApplyFault> {
+    Ok(replaces(alloc, store, bytes)?.as_slice() == REPLACED)
+}
+
 /// Whether a refused look-up is told, counts, and leaves the row, and the same call then succeeds.
-fn stays_where_refused(alloc: Global, bytes: &[u8], refused: u64) -> Result<bool, ApplyFault> {
-    let mut trip = Trip::new(store(alloc)?, refused);
-    let is_told = matches!(replaces(alloc, &mut trip, bytes), Err(ApplyFault::Device));
-    let stays = image(alloc, &mut trip.inner)?.as_slice() == STORED;
+fn is_refused(alloc: Global, trip: &mut Trip<MapStore>, bytes: &[u8]) -> Result<bool, ApplyFault> {
+    let is_told = matches!(&replaces(alloc, trip, bytes), Err(ApplyFault::Device));
+    let stays = stays(alloc, &mut trip.inner)?;
     let counts = trip.failures() == 1;
-    let again = replaces(alloc, &mut trip, bytes)?;
-    Ok(is_told && stays && counts && again.as_slice() == REPLACED)
+    Ok(is_told && stays && counts && succeeds(alloc, trip, bytes)?)
+}
+
+/// Whether it is so of the look-up of this number.
+fn stays_where_refused(alloc: Global, refused: u64) -> Result<bool, ApplyFault> {
+    let bytes = group(alloc, FIRST, &THREE)?;
+    is_refused(alloc, &mut Trip::new(store(alloc)?, refused), &bytes)
 }
 
 #[test]
-fn a_look_up_that_the_device_refuses_leaves_everything(rt: HostRuntime) -> Result<(), Fail> {
-    let alloc = rt.alloc();
-    let bytes = changes_of_three(alloc)?;
+fn a_look_up_that_the_device_refuses_leaves_everything(rt: HostRuntime) {
     for refused in 0..3u64 {
-        assert!(rt; stays_where_refused(alloc, &bytes, refused).unwrap_or(false));
+        assert!(rt; stays_where_refused(rt.alloc(), refused).unwrap_or(false));
     }
-    Ok(())
 }
 
 /// Whether the refusal was for memory and left the row, and the same call then succeeds.
@@ -560,14 +572,13 @@ fn stays_without_memory(
     bytes: &[u8],
     fault: &ApplyFault,
 ) -> Result<bool, ApplyFault> {
-    let stays = image(alloc, store)?.as_slice() == STORED;
-    let again = replaces(alloc, store, bytes)?;
-    Ok(matches!(fault, ApplyFault::Memory) && stays && again.as_slice() == REPLACED)
+    let stays = stays(alloc, store)?;
+    Ok(succeeds(alloc, store, bytes)? && matches!(fault, ApplyFault::Memory) && stays)
 }
 
 /// Applies, and once more where that was refused.
 fn replaces_at_last(alloc: Global) -> Result<bool, ApplyFault> {
-    let bytes = changes_of_three(alloc)?;
+    let bytes = group(alloc, FIRST, &THREE)?;
     let mut store = store(alloc)?;
     match replaces(alloc, &mut store, &bytes) {
         Ok(told) => Ok(told.as_slice() == REPLACED),
@@ -578,7 +589,7 @@ fn replaces_at_last(alloc: Global) -> Result<bool, ApplyFault> {
 /// Everything is as it was where memory is refused, and the same call then succeeds. `bench/refuse_tests.sh` refuses each
 /// allocation in turn here; what can't be made, or a read that is refused, is tried again with the rest.
 #[test]
-fn refused_memory_leaves_everything(rt: HostRuntime) -> Result<(), Fail> {
+fn refused_memory_leaves_everything(rt: HostRuntime) {
     let alloc = rt.alloc();
     let kept = match replaces_at_last(alloc) {
         Ok(kept) => kept,
@@ -586,18 +597,19 @@ fn refused_memory_leaves_everything(rt: HostRuntime) -> Result<(), Fail> {
         Err(_) => false,
     };
     assert!(rt; kept);
-    Ok(())
+}
+
+/// Whether the fault is told by this name.
+fn is_named(alloc: Global, fault: &ApplyFault, name: &str) -> bool {
+    match fault.to_string(alloc) {
+        Ok(told) => told.as_str() == name,
+        Err(_) => false,
+    }
 }
 
 #[test]
-fn faults_are_told_by_name(rt: HostRuntime) -> Result<(), Fail> {
-    let alloc = rt.alloc();
-    for (fault, name) in [
-        (ApplyFault::Memory, "Memory"),
-        (ApplyFault::Device, "Device"),
-        (ApplyFault::NullKey, "NullKey"),
-    ] {
-        assert_eq!(rt; fault.to_string(alloc)?.as_str(), name);
-    }
-    Ok(())
+fn faults_are_told_by_name(rt: HostRuntime) {
+    assert!(rt; is_named(rt.alloc(), &ApplyFault::Memory, "Memory"));
+    assert!(rt; is_named(rt.alloc(), &ApplyFault::Device, "Device"));
+    assert!(rt; is_named(rt.alloc(), &ApplyFault::NullKey, "NullKey"));
 }

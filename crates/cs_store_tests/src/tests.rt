@@ -7,7 +7,6 @@ use cs_map_store::MapStore;
 use cs_store::*;
 use cs_value::{Catalog, Items, TableDef, Text};
 use std::alloc::{AllocError, Global};
-use std::test::Fail;
 
 /// A table's number, a key, and the body that is set there, or none.
 type Edit<'a> = (u32, &'a [u8], Option<&'a [u8]>);
@@ -93,23 +92,29 @@ fn edit_of(alloc: Global, edit: &Edit<'_>) -> Result<PlaceEdit, AllocError> {
     })
 }
 
-fn edits_of(alloc: Global, edits: &[Edit<'_>]) -> Result<Vec<PlaceEdit>, AllocError> {
-    let mut made = Vec::new(alloc);
+fn put_edits(
+    alloc: Global,
+    edits: &[Edit<'_>],
+    made: &mut Vec<PlaceEdit>,
+) -> Result<(), AllocError> {
     for edit in edits {
         made.push(edit_of(alloc, edit)?)?;
     }
-    Ok(made)
+    Ok(())
 }
 
-fn meta_of(alloc: Global, named: &[Named<'_>]) -> Result<Vec<MetaEdit>, AllocError> {
-    let mut made = Vec::new(alloc);
+fn put_named(
+    alloc: Global,
+    named: &[Named<'_>],
+    made: &mut Vec<MetaEdit>,
+) -> Result<(), AllocError> {
     for edit in named {
         made.push(MetaEdit {
             name: edit.0,
             value: optional(alloc, edit.1)?,
         })?;
     }
-    Ok(made)
+    Ok(())
 }
 
 fn entry_of(alloc: Global, entry: Option<Entry<'_>>) -> Result<Option<StoredEntry>, AllocError> {
@@ -123,40 +128,40 @@ fn entry_of(alloc: Global, entry: Option<Entry<'_>>) -> Result<Option<StoredEntr
     }))
 }
 
-fn batch(
-    alloc: Global,
-    rows: &[Edit<'_>],
-    pending: &[Edit<'_>],
-    named: &[Named<'_>],
-    log: Option<Entry<'_>>,
-) -> Result<Batch, AllocError> {
-    Ok(Batch {
-        rows: edits_of(alloc, rows)?,
-        pending: edits_of(alloc, pending)?,
-        meta: meta_of(alloc, named)?,
-        log: entry_of(alloc, log)?,
-    })
+fn nothing(alloc: Global) -> Batch {
+    Batch {
+        rows: Vec::new(alloc),
+        pending: Vec::new(alloc),
+        meta: Vec::new(alloc),
+        log: None,
+    }
 }
 
-fn first_batch(alloc: Global) -> Result<Batch, AllocError> {
-    batch(
-        alloc,
-        &FIRST_ROWS,
-        &FIRST_PENDING,
-        &FIRST_META,
-        Some(FIRST_ENTRY),
-    )
+/// What a batch writes: edits of rows, of pending changes and of values, and an entry or none.
+type Spelled<'a> = (
+    &'a [Edit<'a>],
+    &'a [Edit<'a>],
+    &'a [Named<'a>],
+    Option<Entry<'a>>,
+);
+
+fn put_batch(alloc: Global, spelled: &Spelled<'_>, made: &mut Batch) -> Result<(), AllocError> {
+    put_edits(alloc, spelled.0, &mut made.rows)?;
+    put_edits(alloc, spelled.1, &mut made.pending)?;
+    put_named(alloc, spelled.2, &mut made.meta)?;
+    made.log = entry_of(alloc, spelled.3)?;
+    Ok(())
 }
 
-fn next_batch(alloc: Global) -> Result<Batch, AllocError> {
-    batch(
-        alloc,
-        &NEXT_ROWS,
-        &NEXT_PENDING,
-        &NEXT_META,
-        Some(NEXT_ENTRY),
-    )
+fn batch(alloc: Global, spelled: &Spelled<'_>) -> Result<Batch, AllocError> {
+    let mut made = nothing(alloc);
+    put_batch(alloc, spelled, &mut made)?;
+    Ok(made)
 }
+
+const FIRST_BATCH: Spelled<'static> = (&FIRST_ROWS, &FIRST_PENDING, &FIRST_META, Some(FIRST_ENTRY));
+
+const NEXT_BATCH: Spelled<'static> = (&NEXT_ROWS, &NEXT_PENDING, &NEXT_META, Some(NEXT_ENTRY));
 
 /// Writes a body that is listed, if a call for its key found the same.
 fn put_body(
@@ -175,6 +180,16 @@ fn put_body(
     Ok(())
 }
 
+fn put_row<S: RowStore>(
+    image: &mut Vec<u8>,
+    store: &mut S,
+    table: u32,
+    listed: &StoredBody,
+) -> Result<(), StoreFault> {
+    let found = store.get(table, listed.key.as_slice())?;
+    Ok(put_body(image, listed, found)?)
+}
+
 /// The rows of a table, each also got by its key.
 fn put_table<S: RowStore>(
     image: &mut Vec<u8>,
@@ -182,11 +197,20 @@ fn put_table<S: RowStore>(
     table: u32,
 ) -> Result<(), StoreFault> {
     for listed in &store.list(table)? {
-        let found = store.get(table, listed.key.as_slice())?;
-        put_body(image, listed, found)?;
+        put_row(image, store, table, listed)?;
     }
     image.push(b'|')?;
     Ok(())
+}
+
+fn put_change<S: RowStore>(
+    image: &mut Vec<u8>,
+    store: &mut S,
+    table: u32,
+    listed: &StoredBody,
+) -> Result<(), StoreFault> {
+    let found = store.pend_get(table, listed.key.as_slice())?;
+    Ok(put_body(image, listed, found)?)
 }
 
 /// The pending changes of a table, each also got by its key.
@@ -196,8 +220,7 @@ fn put_pending<S: RowStore>(
     table: u32,
 ) -> Result<(), StoreFault> {
     for listed in &store.pend_list(table)? {
-        let found = store.pend_get(table, listed.key.as_slice())?;
-        put_body(image, listed, found)?;
+        put_change(image, store, table, listed)?;
     }
     image.push(b'|')?;
     Ok(())
@@ -262,41 +285,67 @@ fn put_log<S: RowStore>(
     Ok(())
 }
 
+fn put_image<S: RowStore>(
+    image: &mut Vec<u8>,
+    alloc: Global,
+    store: &mut S,
+) -> Result<(), StoreFault> {
+    put_tables(image, store)?;
+    put_meta(image, store)?;
+    put_log(image, alloc, store)
+}
+
 /// All that a store shows, as text.
 fn image<S: RowStore>(alloc: Global, store: &mut S) -> Result<Vec<u8>, StoreFault> {
     let mut image = Vec::new(alloc);
-    put_tables(&mut image, store)?;
-    put_meta(&mut image, store)?;
-    put_log(&mut image, alloc, store)?;
+    put_image(&mut image, alloc, store)?;
     Ok(image)
 }
 
-/// Whether the store shows this once the batch is committed.
-fn shows<S: RowStore>(
-    alloc: Global,
-    store: &mut S,
-    batch: &Batch,
-    shown: &[u8],
-) -> Result<bool, StoreFault> {
-    store.commit(batch)?;
+/// Whether the store shows this.
+fn shows<S: RowStore>(alloc: Global, store: &mut S, shown: &[u8]) -> Result<bool, StoreFault> {
     Ok(image(alloc, store)?.as_slice() == shown)
 }
 
+fn commit_of<S: RowStore>(
+    alloc: Global,
+    store: &mut S,
+    spelled: &Spelled<'_>,
+) -> Result<(), StoreFault> {
+    let batch = batch(alloc, spelled)?;
+    store.commit(&batch)
+}
+
+/// Batches, and what a store shows behind each.
+const COMMITS: [(Spelled<'static>, &[u8]); 3] = [
+    (FIRST_BATCH, FIRST_SHOWN),
+    (NEXT_BATCH, NEXT_SHOWN),
+    ((&[], &[], &[], None), NEXT_SHOWN),
+];
+
 /// Three commits, through a caller that knows no store: whether it shows what was written by hand after each.
 fn shows_commits<S: RowStore>(alloc: Global, store: &mut S) -> Result<bool, StoreFault> {
-    let first = shows(alloc, store, &first_batch(alloc)?, FIRST_SHOWN)?;
-    let next = shows(alloc, store, &next_batch(alloc)?, NEXT_SHOWN)?;
-    let nothing = batch(alloc, &[], &[], &[], None)?;
-    let last = shows(alloc, store, &nothing, NEXT_SHOWN)?;
-    Ok(first && next && last && store.failures() == 0)
+    let mut all = true;
+    for (spelled, shown) in &COMMITS {
+        commit_of(alloc, store, spelled)?;
+        all = shows(alloc, store, shown)? && all;
+    }
+    Ok(all && store.failures() == 0)
+}
+
+fn shows_in_memory(alloc: Global) -> bool {
+    shows_commits(alloc, &mut MapStore::new(alloc)) == Ok(true)
+}
+
+fn shows_through_a_trip(alloc: Global) -> bool {
+    let mut trip = Trip::new(MapStore::new(alloc), u64::MAX);
+    shows_commits(alloc, &mut trip) == Ok(true)
 }
 
 #[test]
 fn stores_show_what_was_committed(rt: HostRuntime) {
-    let alloc = rt.alloc();
-    assert!(rt; shows_commits(alloc, &mut MapStore::new(alloc)).unwrap_or(false));
-    let mut trip = Trip::new(MapStore::new(alloc), u64::MAX);
-    assert!(rt; shows_commits(alloc, &mut trip).unwrap_or(false));
+    assert!(rt; shows_in_memory(rt.alloc()));
+    assert!(rt; shows_through_a_trip(rt.alloc()));
 }
 
 /// A table of two columns, of which the first is the key.
@@ -344,28 +393,28 @@ const BODY: &[u8] = &[
 
 const OTHER_BODY: &[u8] = &[7, 0x54, 2, 1, 0, 0x74, 0x31, 0];
 
-/// A store with this row, this pending change and this entry.
-fn store_of(
-    alloc: Global,
-    row: Edit<'_>,
-    change: Edit<'_>,
-    body: &[u8],
-) -> Result<MapStore, StoreFault> {
-    let mut store = MapStore::new(alloc);
-    let batch = batch(alloc, &[row], &[change], &FIRST_META, Some((7, 1, body)))?;
-    store.commit(&batch)?;
-    Ok(store)
-}
+/// A row, a pending change, the body of an entry, and whether a store that holds these is whole.
+type Held = (Edit<'static>, Edit<'static>, &'static [u8], bool);
 
 /// Whether the store is found whole.
 fn is_found_whole(alloc: Global, store: &mut MapStore) -> Option<bool> {
-    store.check(&catalog(alloc)?).ok()
+    let catalog = catalog(alloc)?;
+    store.check(&catalog).ok()
 }
 
-/// Whether a store with this row, this pending change and this entry is found whole.
-fn is_whole(alloc: Global, row: Edit<'_>, change: Edit<'_>, body: &[u8]) -> Option<bool> {
-    let mut store = store_of(alloc, row, change, body).ok()?;
-    is_found_whole(alloc, &mut store)
+fn empty_is_whole(alloc: Global) -> bool {
+    is_found_whole(alloc, &mut MapStore::new(alloc)) == Some(true)
+}
+
+fn fill(alloc: Global, store: &mut MapStore, held: &Held) -> Result<(), StoreFault> {
+    let entry = Some((7, 1, held.2));
+    commit_of(alloc, store, &(&[held.0], &[held.1], &FIRST_META, entry))
+}
+
+/// Whether a store that holds these is found so.
+fn is_found(alloc: Global, held: &Held) -> bool {
+    let mut store = MapStore::new(alloc);
+    fill(alloc, &mut store, held) == Ok(()) && is_found_whole(alloc, &mut store) == Some(held.3)
 }
 
 /// A row and a pending change of it.
@@ -373,33 +422,29 @@ const WHOLE: Edit<'static> = (0, KEY, Some(ROW));
 
 const CHANGE: Edit<'static> = (0, KEY, Some(INSERT));
 
+/// Stores that are whole; rows, changes and bodies that aren't what their place says.
+const HELD: [Held; 13] = [
+    (WHOLE, CHANGE, BODY, true),
+    (WHOLE, (0, KEY, Some(UPDATE)), &[0], true),
+    ((1, KEY, Some(ROW)), CHANGE, BODY, false),
+    ((0, OTHER_KEY, Some(ROW)), CHANGE, BODY, false),
+    ((0, KEY, Some(LONG_ROW)), CHANGE, BODY, false),
+    ((0, NULL_KEY, Some(NULL_ROW)), CHANGE, BODY, false),
+    ((0, KEY, Some(INSERT)), CHANGE, BODY, false),
+    (WHOLE, (1, KEY, Some(INSERT)), BODY, false),
+    (WHOLE, (0, OTHER_KEY, Some(UPDATE)), BODY, false),
+    (WHOLE, (0, KEY, Some(LONG_INSERT)), BODY, false),
+    (WHOLE, (0, KEY, Some(ROW)), BODY, false),
+    (WHOLE, CHANGE, OTHER_BODY, false),
+    (WHOLE, CHANGE, &[], false),
+];
+
 #[test]
 fn a_store_is_whole_where_all_is_what_its_place_says(rt: HostRuntime) {
-    let alloc = rt.alloc();
-    assert!(rt; is_found_whole(alloc, &mut MapStore::new(alloc)) == Some(true));
-    assert!(rt; is_whole(alloc, WHOLE, CHANGE, BODY) == Some(true));
-    assert!(rt; is_whole(alloc, WHOLE, (0, KEY, Some(UPDATE)), &[0]) == Some(true));
-    let rows: [Edit<'_>; 5] = [
-        (1, KEY, Some(ROW)),
-        (0, OTHER_KEY, Some(ROW)),
-        (0, KEY, Some(LONG_ROW)),
-        (0, NULL_KEY, Some(NULL_ROW)),
-        (0, KEY, Some(INSERT)),
-    ];
-    for wrong in rows {
-        assert!(rt; is_whole(alloc, wrong, CHANGE, BODY) == Some(false));
+    assert!(rt; empty_is_whole(rt.alloc()));
+    for held in &HELD {
+        assert!(rt; is_found(rt.alloc(), held));
     }
-    let changes: [Edit<'_>; 4] = [
-        (1, KEY, Some(INSERT)),
-        (0, OTHER_KEY, Some(UPDATE)),
-        (0, KEY, Some(LONG_INSERT)),
-        (0, KEY, Some(ROW)),
-    ];
-    for wrong in changes {
-        assert!(rt; is_whole(alloc, WHOLE, wrong, BODY) == Some(false));
-    }
-    assert!(rt; is_whole(alloc, WHOLE, CHANGE, OTHER_BODY) == Some(false));
-    assert!(rt; is_whole(alloc, WHOLE, CHANGE, &[]) == Some(false));
 }
 
 /// A call of each kind, by its number.
@@ -425,7 +470,7 @@ fn call<S: RowStore>(
 /// A store that holds what the first batch writes, and whose device refuses the call of this number.
 fn first_trip(alloc: Global, refused: u64) -> Result<Trip<MapStore>, StoreFault> {
     let mut store = MapStore::new(alloc);
-    store.commit(&first_batch(alloc)?)?;
+    commit_of(alloc, &mut store, &FIRST_BATCH)?;
     Ok(Trip::new(store, refused))
 }
 
@@ -445,50 +490,69 @@ fn is_refused<S: RowStore>(
 /// Whether a call of each kind is refused so, leaves everything, and then is made.
 fn leaves_everything(
     alloc: Global,
+    trip: &mut Trip<MapStore>,
+    catalog: &Catalog,
+    next: &Batch,
+    refused: u64,
+) -> Result<bool, StoreFault> {
+    let is_told = is_refused(trip, catalog, next, refused)?;
+    let stays = shows(alloc, &mut trip.inner, FIRST_SHOWN)?;
+    call(trip, catalog, next, refused)?;
+    Ok(is_told && stays && trip.failures() == 1)
+}
+
+/// The same of a store that holds the first batch.
+fn trip_leaves_everything(
+    alloc: Global,
     catalog: &Catalog,
     next: &Batch,
     refused: u64,
 ) -> Result<bool, StoreFault> {
     let mut trip = first_trip(alloc, refused)?;
-    let is_told = is_refused(&mut trip, catalog, next, refused)?;
-    let stays = image(alloc, &mut trip.inner)?.as_slice() == FIRST_SHOWN;
-    call(&mut trip, catalog, next, refused)?;
-    Ok(is_told && stays && trip.failures() == 1)
+    leaves_everything(alloc, &mut trip, catalog, next, refused)
+}
+
+fn refusal_leaves_everything(alloc: Global, refused: u64) -> Option<bool> {
+    let catalog = catalog(alloc)?;
+    let next = batch(alloc, &NEXT_BATCH).ok()?;
+    trip_leaves_everything(alloc, &catalog, &next, refused).ok()
 }
 
 /// Whether the fault prints like this.
-fn prints(alloc: Global, fault: StoreFault, printed: &str) -> Result<bool, AllocError> {
-    Ok(fault.to_string(alloc)?.as_str() == printed)
+fn prints(alloc: Global, fault: StoreFault, printed: &str) -> bool {
+    match fault.to_string(alloc) {
+        Ok(text) => text.as_str() == printed,
+        Err(_) => false,
+    }
 }
 
 #[test]
-fn a_call_that_the_device_refuses_leaves_everything(rt: HostRuntime) -> Result<(), Fail> {
-    let alloc = rt.alloc();
-    let Some(catalog) = catalog(alloc) else {
-        panic!(rt; "the table is a catalog");
-    };
-    let next = next_batch(alloc)?;
+fn a_call_that_the_device_refuses_leaves_everything(rt: HostRuntime) {
     for refused in 0..9u64 {
-        assert!(rt; leaves_everything(alloc, &catalog, &next, refused).unwrap_or(false));
+        assert!(rt; refusal_leaves_everything(rt.alloc(), refused) == Some(true));
     }
-    assert!(rt; prints(alloc, StoreFault::Device, "Device").unwrap_or(false));
-    assert!(rt; prints(alloc, StoreFault::Memory, "Memory").unwrap_or(false));
-    Ok(())
+    assert!(rt; prints(rt.alloc(), StoreFault::Device, "Device"));
+    assert!(rt; prints(rt.alloc(), StoreFault::Memory, "Memory"));
 }
 
 /// Whether a misread is told as the device's, is counted, and takes no call.
-fn counts_a_misread(alloc: Global) -> Result<bool, StoreFault> {
-    let mut trip = first_trip(alloc, 1)?;
+fn counts_a_misread(alloc: Global, trip: &mut Trip<MapStore>) -> bool {
     let is_told = trip.misread() == StoreFault::Device && trip.failures() == 1;
     let is_read = trip.log_len() == Ok(1) && trip.log_len() == Err(StoreFault::Device);
     let is_counted = trip.failures() == 2 && trip.inner.failures() == 1;
-    let stays = image(alloc, &mut trip)?.as_slice() == FIRST_SHOWN;
-    Ok(is_told && is_read && is_counted && stays)
+    is_told && is_read && is_counted && shows(alloc, trip, FIRST_SHOWN) == Ok(true)
+}
+
+fn misread_is_counted(alloc: Global) -> bool {
+    match first_trip(alloc, 1) {
+        Ok(mut trip) => counts_a_misread(alloc, &mut trip),
+        Err(_) => false,
+    }
 }
 
 #[test]
 fn a_misread_counts_and_changes_nothing_else(rt: HostRuntime) {
-    assert!(rt; counts_a_misread(rt.alloc()).unwrap_or(false));
+    assert!(rt; misread_is_counted(rt.alloc()));
 }
 
 /// So many edits of rows, of pending changes and of values, and entries.
@@ -501,50 +565,59 @@ fn written(rows: u64, pending: u64, meta: u64, log: u64) -> Written {
     }
 }
 
-/// Whether the first batch is counted where it is committed, and the next one where it isn't refused.
+/// Whether the first batch is counted where it is committed, the next one where it isn't refused, and what a third one writes.
 fn counts_commits<S: RowStore>(alloc: Global, trip: &mut Trip<S>) -> Result<bool, StoreFault> {
-    let next = next_batch(alloc)?;
     let nothing = trip.written() == written(0, 0, 0, 0);
-    trip.commit(&first_batch(alloc)?)?;
-    let is_refused = trip.commit(&next).is_err();
+    commit_of(alloc, trip, &FIRST_BATCH)?;
+    let is_refused = commit_of(alloc, trip, &NEXT_BATCH) == Err(StoreFault::Device);
     let first = trip.written() == written(8, 4, 3, 1);
-    trip.commit(&next)?;
-    Ok(nothing && is_refused && first)
+    commit_of(alloc, trip, &NEXT_BATCH)?;
+    commit_of(alloc, trip, &(&[], &FIRST_PENDING, &[], None))?;
+    Ok(nothing && is_refused && first && trip.written() == written(13, 11, 5, 2))
 }
 
-/// Whether what two more commits write is counted too.
-fn counts_written(alloc: Global) -> Result<bool, StoreFault> {
-    let mut trip = Trip::new(MapStore::new(alloc), 1);
-    let first = counts_commits(alloc, &mut trip)?;
-    trip.commit(&batch(alloc, &[], &FIRST_PENDING, &[], None)?)?;
-    Ok(first && trip.written() == written(13, 11, 5, 2))
+fn counts_written(alloc: Global) -> bool {
+    counts_commits(alloc, &mut Trip::new(MapStore::new(alloc), 1)) == Ok(true)
 }
 
 #[test]
 fn what_is_written_is_counted_where_a_commit_succeeds(rt: HostRuntime) {
-    assert!(rt; counts_written(rt.alloc()).unwrap_or(false));
+    assert!(rt; counts_written(rt.alloc()));
 }
 
-/// So many edits in two tables, of which each fifth removes.
-fn many_edits(alloc: Global, count: u8, body: &[u8]) -> Result<Vec<PlaceEdit>, AllocError> {
-    let mut made = Vec::new(alloc);
+/// The edit of this number in two tables, of which each fifth removes.
+fn edit_at(alloc: Global, number: u8, body: &[u8]) -> Result<PlaceEdit, AllocError> {
+    let table = if number % 2 == 0 { 0 } else { LAST };
+    let set = if number % 5 == 4 { None } else { Some(body) };
+    edit_of(alloc, &(table, &[number.wrapping_mul(37)], set))
+}
+
+/// So many of them.
+fn put_many(
+    alloc: Global,
+    count: u8,
+    body: &[u8],
+    made: &mut Vec<PlaceEdit>,
+) -> Result<(), AllocError> {
     for number in 0..count {
-        let table = if number % 2 == 0 { 0 } else { LAST };
-        let key = [number.wrapping_mul(37)];
-        let set = if number % 5 == 4 { None } else { Some(body) };
-        made.push(edit_of(alloc, &(table, &key, set))?)?;
+        made.push(edit_at(alloc, number, body)?)?;
     }
-    Ok(made)
+    Ok(())
+}
+
+fn put_many_all(alloc: Global, count: u8, body: &[u8], made: &mut Batch) -> Result<(), AllocError> {
+    put_many(alloc, count, body, &mut made.rows)?;
+    put_many(alloc, count, body, &mut made.pending)?;
+    put_named(alloc, &[(MetaName::Number, Some(body))], &mut made.meta)?;
+    made.log = entry_of(alloc, Some((1, 1, body)))?;
+    Ok(())
 }
 
 /// A batch of so many rows and as many pending changes, with a value and an entry of the log.
 fn many(alloc: Global, count: u8, body: &[u8]) -> Result<Batch, AllocError> {
-    Ok(Batch {
-        rows: many_edits(alloc, count, body)?,
-        pending: many_edits(alloc, count, body)?,
-        meta: meta_of(alloc, &[(MetaName::Number, Some(body))])?,
-        log: entry_of(alloc, Some((1, 1, body)))?,
-    })
+    let mut made = nothing(alloc);
+    put_many_all(alloc, count, body, &mut made)?;
+    Ok(made)
 }
 
 /// A store in memory refuses for want of memory alone, as a caller sees from its clauses.
@@ -554,15 +627,37 @@ fn commit(store: &mut MapStore, batch: &Batch) -> Result<(), StoreFault>
     store.commit(batch)
 }
 
+/// Commits once more: whether the store showed this before that.
+fn commits_again(
+    alloc: Global,
+    store: &mut MapStore,
+    batch: &Batch,
+    before: &[u8],
+) -> Result<bool, StoreFault> {
+    let stays = shows(alloc, store, before)?;
+    store.commit(batch)?;
+    Ok(stays)
+}
+
 /// Commits, and once more where that was refused: whether the refusal was for memory and left what was there.
 fn commits_at_last(alloc: Global, store: &mut MapStore, batch: &Batch) -> Result<bool, StoreFault> {
     let before = image(alloc, store)?;
-    let Err(fault) = commit(store, batch) else {
-        return Ok(true);
-    };
-    let after = image(alloc, store)?;
-    store.commit(batch)?;
-    Ok(fault == StoreFault::Memory && before.as_slice() == after.as_slice())
+    match commit(store, batch) {
+        Ok(()) => Ok(true),
+        Err(StoreFault::Memory) => commits_again(alloc, store, batch, before.as_slice()),
+        Err(StoreFault::Device) => Ok(false),
+    }
+}
+
+/// The same of a batch of so many edits.
+fn commits_many(
+    alloc: Global,
+    store: &mut MapStore,
+    count: u8,
+    body: &[u8],
+) -> Result<bool, StoreFault> {
+    let batch = many(alloc, count, body)?;
+    commits_at_last(alloc, store, &batch)
 }
 
 /// Whether the store holds what both of them left.
@@ -573,11 +668,14 @@ fn holds_both(store: &mut MapStore) -> Result<bool, StoreFault> {
 }
 
 /// Two commits of which one may be refused, and what is shown behind them.
+fn commits_two(alloc: Global, store: &mut MapStore) -> Result<bool, StoreFault> {
+    let first = commits_many(alloc, store, 40, b"first")?;
+    let next = commits_many(alloc, store, 80, b"next")?;
+    Ok(first && next && holds_both(store)?)
+}
+
 fn commits_twice(alloc: Global) -> Result<bool, StoreFault> {
-    let mut store = MapStore::new(alloc);
-    let first = commits_at_last(alloc, &mut store, &many(alloc, 40, b"first")?)?;
-    let next = commits_at_last(alloc, &mut store, &many(alloc, 80, b"next")?)?;
-    Ok(first && next && holds_both(&mut store)?)
+    commits_two(alloc, &mut MapStore::new(alloc))
 }
 
 /// Everything is as it was where memory is refused, and the same call then succeeds. `bench/refuse_tests.sh` refuses each
