@@ -1,9 +1,12 @@
 //! A world, at its end.
 
-ghost use Rattle.std.specs.Prelude.{◌≡◌, ◌++◌, IfOk, OnOk, string_bytes};
+ghost use Rattle.std.specs.Prelude.{◌≡◌, ◌++◌, IfOk, OnOk, codes, string_bytes};
+ghost use Rattle.std.specs.Fmt.{decimal};
 ghost use Rattle.cs_normal.specs.State.{State};
 ghost use Rattle.cs_script.specs.Dump.{flight_count, rows_text};
 ghost use Rattle.cs_script.specs.Turns.{IsStateOf, PutsDump, PutsReplica, PutsReplicas, PutsRows, StandsAt};
+ghost use Rattle.cs_text.specs.Text.{line};
+ghost use Rattle.cs_told.specs.Told.{place_text};
 ghost use Rattle.cs_world.specs.Reads.{AreRowsIn};
 ghost use Rattle.cs_world.specs.World.{IsMember, Member, World as Standing};
 
@@ -24,8 +27,7 @@ pub(crate) fn push_dump(
     ensures { OnOk result ((standing : Standing) → StandsAt world.old standing → catalog.now ≡ standing.tables
         → PutsDump standing (string_bytes text.old) (string_bytes text.new)) }
 {
-    let line = format!(in alloc; "hub {}\n", world.newest())?;
-    text.push_str(line.as_str())?;
+    push_newest(alloc, world.newest(), text)?;
     push_tables(alloc, catalog, world, None, text)?;
     push_replicas(alloc, catalog, world, text)
 }
@@ -57,9 +59,30 @@ fn push_replica(
         → catalog.now ≡ standing.tables → PutsReplica catalog.now replica member (string_bytes text.old) (string_bytes text.new)) }
 {
     let place = place_of(world, replica);
-    let line = format!(in alloc; "replica {} {}\n", replica, place)?;
-    text.push_str(line.as_str())?;
+    push_place(alloc, replica, place, text)?;
     push_tables(alloc, catalog, world, Some(replica), text)
+}
+
+fn push_newest(alloc: Global, newest: u64, text: &mut String) -> Result<(), Memory>
+    ensures { OnOk result (string_bytes text.new ≡ string_bytes text.old ++ line (codes "hub " ++ decimal newest)) }
+{
+    let line = format!(in alloc; "hub {newest}\n")?;
+    text.push_str(line.as_str())?;
+    Ok(())
+}
+
+fn push_place(
+    alloc: Global,
+    replica: usize,
+    place: PlaceText,
+    text: &mut String,
+) -> Result<(), Memory>
+    ensures { OnOk result (string_bytes text.new ≡ string_bytes text.old
+        ++ line (codes "replica " ++ decimal replica ++ codes " " ++ place_text place.version place.pending place.flight)) }
+{
+    let line = format!(in alloc; "replica {replica} {place}\n")?;
+    text.push_str(line.as_str())?;
+    Ok(())
 }
 
 // Where a replica stands.
@@ -119,13 +142,15 @@ fn rows_of(
     ensures listed { IfOk result (λ rows. (standing : Standing) (state : State) → StandsAt world.old standing → IsStateOf standing whose state
         → AreRowsIn standing.tables state table rows.items) }
 {
-    let listed = match whose {
-        Some(replica) => world.rows(replica, table),
-        None => world.hub_rows(table),
-    };
-    match listed {
-        Ok(rows) => Ok(rows),
-        Err(_) => Err(AllocError),
+    match whose {
+        Some(replica) => match world.rows(replica, table) {
+            Ok(rows) => Ok(rows),
+            Err(_) => Err(AllocError),
+        },
+        None => match world.hub_rows(table) {
+            Ok(rows) => Ok(rows),
+            Err(_) => Err(AllocError),
+        },
     }
 }
 
@@ -139,7 +164,7 @@ fn push_rows(
 {
     for (_, row) in rows {
         let row = row.as_row();
-        let line = format!(in alloc; "{}\n", RowText { table, row: &row })?;
+        let line = format!(in alloc; "{}\n", RowText { table, row })?;
         text.push_str(line.as_str())?;
     }
     Ok(())

@@ -44,3 +44,26 @@ pub(crate) fn is_too_large(alloc: Global, replicas: u32) -> Option<bool> {
         _ => Some(false),
     }
 }
+
+/// Whether this is printed of a script, the first time or, where memory was refused, the second. Where memory is told, nothing is printed.
+pub(crate) fn prints_at_last(alloc: Global, replicas: u32, script: &str, printed: &str) -> bool {
+    match plays_once(alloc, replicas, script, printed) {
+        Some(true) => true,
+        Some(false) => false,
+        None => prints(alloc, replicas, script, printed).unwrap_or(false),
+    }
+}
+
+// Whether this is printed of a script; none where memory was refused.
+fn plays_once(alloc: Global, replicas: u32, script: &str, printed: &str) -> Option<bool> {
+    let catalog = catalog(alloc)?;
+    let mut input = script.as_bytes();
+    let mut output = Vec::new(alloc);
+    match run_script(alloc, &catalog, replicas, &mut input, &mut output) {
+        Ok(()) if output.as_slice() == printed.as_bytes() => Some(true),
+        Ok(()) => None,
+        Err(ScriptFault::Memory) if output.is_empty() => None,
+        Err(ScriptFault::Write) => None,
+        Err(_) => Some(false),
+    }
+}

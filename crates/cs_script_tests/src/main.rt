@@ -6,6 +6,8 @@
 #[cfg(test)]
 mod given;
 #[cfg(test)]
+mod memory;
+#[cfg(test)]
 mod rows;
 #[cfg(test)]
 mod tests;

@@ -34,12 +34,12 @@ impl fmt::Display for PlaceText {
 }
 
 /// A row of the table with this name: `row T VALUES`. It stays in its bytes.
-#[derive(Clone, Copy)]
-pub struct RowText<'a> {
+#[derive(Drop)]
+pub struct RowText<'t, 'r> {
     /// The table's name.
-    pub table: &'a Text,
+    pub table: &'t Text,
     /// The row.
-    pub row: &'a Row<'a>,
+    pub row: Row<'r>,
 }
 
 fn write_values<W: fmt::Write>(row: &Row<'_>, f: &mut fmt::Formatter<W>) -> fmt::Result
@@ -53,11 +53,11 @@ fn write_values<W: fmt::Write>(row: &Row<'_>, f: &mut fmt::Formatter<W>) -> fmt:
     Ok(())
 }
 
-impl fmt::Display for RowText<'_> {
-    ghost output = { λ text. Some (row_text text.table.now text.row.now) };
+impl fmt::Display for RowText<'_, '_> {
+    ghost output = { λ text. Some (row_text text.table.now text.row) };
 
     fn fmt<W: fmt::Write>(&self, f: &mut fmt::Formatter<W>) -> fmt::Result {
         write!(f, "row {}", NameText(self.table))?;
-        write_values(self.row, f)
+        write_values(&self.row, f)
     }
 }

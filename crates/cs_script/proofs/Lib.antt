@@ -1,0 +1,4 @@
+pub mod DumpLemmas
+pub mod PlayingLemmas
+pub mod ReadingLemmas
+pub mod WorldLemmas
