@@ -1,13 +1,12 @@
 -- Events, one after another.
-use Rattle.std.proofs.Common.{◌≡◌, ℕ, ◌+◌, ◌<◌, List, [], ◌∷◌, ◌++◌, length, take, get_or, refl, sym, ap, subst, ◌∙◌, append_assoc, append-nil, arith}
-use Rattle.std.specs.Prelude.{Option, Some, None, slice_get}
+use Rattle.std.proofs.Common.{◌≡◌, ℕ, List, [], ◌∷◌, ◌++◌, refl, sym, ap, subst, ◌∙◌, append_assoc, append-nil}
 use Rattle.cs_hub.specs.declared.hub.TheConstants.{MAX_ENTRIES}
 use Rattle.cs_map_store.specs.Slots.{InMemory, held_by, is_honest}
 use Rattle.cs_text.specs.Text.{line}
 use Rattle.cs_world.specs.Holding.{Holding}
 use Rattle.cs_world.specs.Runs.{Runs}
 use Rattle.cs_world.specs.Steps.{Step}
-use Rattle.cs_world.specs.Steps.Step as step
+use Rattle.cs_world.specs.Steps as step
 use Rattle.cs_world.specs.World.{World}
 use Rattle.cs_world.specs.declared.event.Event.{Event}
 use Rattle.cs_world.specs.declared.outcome.Outcome.{Outcome}
@@ -41,9 +40,14 @@ plays_push old between new [] event outcome played plays step =
     (outcome, new, [], made, (refl, refl), ap (λ t. t ++ text) plays.1 ∙ sym (append-nil text))
 plays_push old between new (first ∷ events) event outcome played plays step =
     let further = plays_push plays.1 between new events event outcome plays.2 plays.4 step in
-    let text = line (outcome_text outcome (version_told new event)) in
-    (plays.0, plays.1, plays.2 ++ text, plays.3, further,
-    ap (λ t. t ++ text) plays.5 ∙ append_assoc (line (outcome_text plays.0 (version_told plays.1 first))) plays.2 text)
+    let text = line (outcome_text outcome (version_told new event)) in (
+      plays.0,
+      plays.1,
+      plays.2 ++ text,
+      plays.3,
+      further,
+      ap (λ t. t ++ text) plays.5 ∙ append_assoc (line (outcome_text plays.0 (version_told plays.1 first))) plays.2 text,
+    )
 
 pub plays_none : (world : World) (held : Holding InMemory) (events : List Event) (before after : List ℕ) → events ≡ [] → after ≡ before → StandsAt held world
     → PlaysOnto world events before after held
@@ -58,8 +62,13 @@ pub plays_more : (world : World) (held now : Holding InMemory) (events more : Li
 plays_more world held now events more event before between after is so_far one =
     let turn = one so_far.0 so_far.3 in
     let text = line (outcome_text turn.0 (version_told turn.1 event)) in
-    rw is (turn.1, so_far.1 ++ text, plays_push world so_far.0 turn.1 events event turn.0 so_far.1 so_far.2 turn.2, turn.3,
-    turn.4 ∙ ap (λ t. t ++ text) so_far.4 ∙ append_assoc before so_far.1 text)
+    rw is (
+      turn.1,
+      so_far.1 ++ text,
+      plays_push world so_far.0 turn.1 events event turn.0 so_far.1 so_far.2 turn.2,
+      turn.3,
+      turn.4 ∙ ap (λ t. t ++ text) so_far.4 ∙ append_assoc before so_far.1 text,
+    )
 
 -- an event leaves the tables
 step_tables : (limit : ℕ) (old : World) {event : Event} {outcome : Outcome} {new : World} → Step limit old event outcome new → new.tables ≡ old.tables

@@ -1,14 +1,13 @@
 -- The events of a script, line by line.
-use Rattle.std.proofs.Common.{◌≡◌, ◌≢◌, ℕ, suc, ◌+◌, ◌<◌, List, [], ◌∷◌, ◌++◌, length, sym, refl, ap, ◌∙◌, inl, inr, add-one, arith}
-use Rattle.std.specs.Prelude.{◌⊎◌, Option, Some, None}
+use Rattle.std.proofs.Common.{◌≡◌, ◌≢◌, ℕ, ◌+◌, List, [], ◌∷◌, ◌++◌, length, sym, refl, ap, ◌∙◌, inl, inr, arith}
+use Rattle.std.specs.Prelude.{Option, Some, None}
 use Rattle.std.specs.List.{AllZip}
-use Rattle.std.specs.Io.KnownBytes.{IsAtEnd}
 use Rattle.std.proofs.KnownBytes.{Consumes-nil}
 use Rattle.std.proofs.lemmas.List.Elements.{All-nil}
 use Rattle.cs_lines.specs.Lines.{lines_of}
 use Rattle.cs_lines.specs.Laws.{AllTaken, NoneTaken, OneMoreTaken}
 use Rattle.cs_lines.specs.Served.{AreFirstLines}
-use Rattle.cs_lines.specs.Reading.{AreTaken, StaysInLine, TakesLine}
+use Rattle.cs_lines.specs.Reading.{AreTaken, StaysInLine}
 use Rattle.cs_lines.specs.declared.serve.TheConstants.{ASKS}
 use Rattle.cs_value.specs.declared.catalog.TableDef.{TableDef}
 use Rattle.cs_world.specs.declared.event.Event.{Event}
@@ -65,9 +64,15 @@ not_named more tables failed input left after asked events fault.Memory so_far w
 not_named more tables failed input left after asked events fault.Read so_far why =
     (so_far.lines, events, (left, so_far.taken, why.1), so_far.named, inl why.0)
 not_named more tables failed input left after asked events fault.Write so_far why = why
-not_named more tables failed input left after asked events (fault.Line number) so_far why =
-    (so_far.lines, events, why.0, first_taken input after (so_far.lines ++ why.0 ∷ []) (more input left after so_far.lines why.0 so_far.taken why.1),
-    so_far.named, why.2, why.3 ∙ ap (λ n. n + 1) (sym so_far.count))
+not_named more tables failed input left after asked events (fault.Line number) so_far why = (
+  so_far.lines,
+  events,
+  why.0,
+  first_taken input after (so_far.lines ++ why.0 ∷ []) (more input left after so_far.lines why.0 so_far.taken why.1),
+  so_far.named,
+  why.2,
+  why.3 ∙ ap (λ n. n + 1) (sym so_far.count),
+)
 
 -- nothing is gone of a line
 stays : (left : Option (List ℕ)) → StaysInLine left left

@@ -1,5 +1,5 @@
 -- Steps on the way from lines to a text: no definition that a public clause cites.
-use Rattle.std.specs.Prelude.{◌≡◌, ◌+◌, ℕ, List, [], ◌∷◌, ◌++◌, Option, Some, None}
+use Rattle.std.specs.Prelude.{◌≡◌, ◌+◌, ℕ, List, [], ◌++◌, Option, Some, None}
 use Rattle.std.specs.Io.KnownBytes.{IsAtEnd, Keeps}
 use Rattle.cs_hub.specs.declared.hub.TheConstants.{MAX_ENTRIES}
 use Rattle.cs_lines.specs.Reading.{StaysInLine, TakesLine}

@@ -1,4 +1,4 @@
-use Rattle.std.proofs.Common.{◌≡◌, ◌<◌, length, arith}
+use Rattle.std.proofs.Common.{◌<◌, length, arith}
 use Rattle.cs_script.proofs.DumpLemmas.{puts_replicas_more}
 use Rattle.cs_script.proofs.dumping.push_replicas.Goals as goal
 

@@ -18,7 +18,7 @@ loop-number-preserved c =
     record {
       stands = λ standing stood. c.in_ok-rows.ensures.stands standing (c.loop-number.invariant.stands standing stood);
       put = λ standing state stood is same.
-        let are = c.in_ok-rows.ensures.listed standing state (c.loop-number.invariant.stands standing stood) is in
-        let here_are = subst (λ (ts : List TableDef). AreRowsIn ts state at c.in_ok-rows.rows.items) (sym same) are in
-        puts_rows_at tables at table state _ _ _ c.in_ok-rows.rows.items less here (c.loop-number.invariant.put standing state stood is same) here_are written;
+          let are = c.in_ok-rows.ensures.listed standing state (c.loop-number.invariant.stands standing stood) is in
+          let here_are = subst (λ (ts : List TableDef). AreRowsIn ts state at c.in_ok-rows.rows.items) (sym same) are in
+          puts_rows_at tables at table state _ _ _ c.in_ok-rows.rows.items less here (c.loop-number.invariant.put standing state stood is same) here_are written;
     }

@@ -1,7 +1,7 @@
 use Rattle.std.proofs.lemmas.Result.{err_from_is_err_and}
 use Rattle.std.specs.Prelude.{Some}
 use Rattle.cs_script.specs.Turns.{TakesEvent}
-use Rattle.std.proofs.Common.{subst, rules}
+use Rattle.std.proofs.Common.{subst}
 use Rattle.cs_script.proofs.ReadingLemmas.{named_more, named_none, not_named}
 use Rattle.cs_script.proofs.reading.read_script.Goals as goal
 
@@ -11,7 +11,7 @@ loop-asked-init g c = named_none c.lines_taken.ensures.none c.args.catalog.now (
 pub loop-asked-preserved : goal.loop-asked-preserved
 loop-asked-preserved g c =
     let took : TakesEvent c.args.catalog.now (Some c.in-Some.event) (g.R.Read.remaining c.loop-asked.reader) (g.R.Read.remaining c.next_event.new.reader) =
-      subst (λ found. TakesEvent c.args.catalog.now found (g.R.Read.remaining c.loop-asked.reader) (g.R.Read.remaining c.next_event.new.reader)) c.in-Some.is c.in_ok-event.ensures.ok in
+    subst (λ found. TakesEvent c.args.catalog.now found (g.R.Read.remaining c.loop-asked.reader) (g.R.Read.remaining c.next_event.new.reader)) c.in-Some.is c.in_ok-event.ensures.ok in
     named_more c.lines_taken.ensures.more c.args.catalog.now (g.R.Read.remaining c.args.reader.now) (g.R.Read.remaining c.loop-asked.reader) (g.R.Read.remaining c.next_event.new.reader)
     c.loop-asked.asked c.loop-asked.events.items c.push.new.self.items c.in-Some.event c.in_ok-push-in-Some.ensures.items c.loop-asked.invariant took
 
