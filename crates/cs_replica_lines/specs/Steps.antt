@@ -36,12 +36,13 @@ Prints (Err Read) write_failed old new text = ⊥
 Prints (Err (Line number)) write_failed old new text = ⊥
 Prints (Err (Open fault)) write_failed old new text = ⊥
 
-module _ {S : Type 0} (honest : S → Type 0) (contents : S → Contents) (id : ℕ) where
+module _ {S : Type 0} (honest : S → Type 0) (contents : S → Contents) where
   -- a line's step was made, whatever the replica's id is, and this is its reply
   abbrev pub Makes : Ask → Result Reply AllocError → Holding S → Holding S → Type 0
   Makes ask result old new =
       (text : List ℕ) × Turns honest contents (λ before after. LineStep old.catalog before ask text after) old new × Says result text
 
+module _ {S : Type 0} (honest : S → Type 0) (contents : S → Contents) (id : ℕ) where
   -- a line's step was made, and this is its reply
   abbrev pub Replies : Ask → Result Reply AllocError → Holding S → Holding S → Type 0
   Replies ask result old new = (text : List ℕ) × Turns honest contents (IsStep id old.catalog ask text) old new × Says result text
