@@ -63,7 +63,7 @@ flight_count None = 0
 
 -- `replica ID`, and where it stands
 abbrev pub numbered_text : ℕ → List ℕ → List ℕ
-numbered_text id place = codes "replica " ++ decimal id ++ codes " " ++ place
+numbered_text id place = codes "replica " ++ (decimal id ++ (codes " " ++ place))
 
 -- `replica ID version V pending P flight F`, of the replica with this id
 abbrev pub replica_text : ℕ → Position → List ℕ
