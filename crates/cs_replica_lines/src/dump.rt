@@ -29,11 +29,7 @@ fn write_row<'a, W: fmt::Write>(
     write!(f, "{}\n", RowText { table, row })
 }
 
-fn write_stored<W: fmt::Write>(
-    table: &Text,
-    row: &RowBuf,
-    f: &mut fmt::Formatter<W>,
-) -> fmt::Result
+fn write_stored<W: fmt::Write>(table: &Text, row: &RowBuf, f: &mut fmt::Formatter<W>) -> fmt::Result
     ensures { WritesOnOk W.write_str_gives f.old result (line (row_text table.now row.now)) f.new }
 {
     let row = row.as_row();
@@ -62,6 +58,7 @@ struct RowsText<'a> {
 
 impl fmt::Display for RowsText<'_> {
     ghost use Rattle.std.specs.Prelude.{Some};
+
     ghost output = { λ text. Some (rows_text text.table.now text.rows.now) };
 
     fn fmt<W: fmt::Write>(&self, f: &mut fmt::Formatter<W>) -> fmt::Result {

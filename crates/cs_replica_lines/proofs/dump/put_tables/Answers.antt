@@ -12,9 +12,11 @@ returns-in-Err g c =
 pub loop-table-preserved : goal.loop-table-preserved
 loop-table-preserved g c =
     let less : c.loop-table.table < length c.tables-tables.result.now = grind (arith, common_steps) in
-    let there : slice_get c.args.catalog.now c.loop-table.table ≡ Some c.in-Some.def.now = rw (← c.tables-tables.ensures.same) (get_is c.tables-tables.result.now c.loop-table.table c.in-Some.def.now c.in-Some.def.now less c.in-Some.ensures.lookup.1) in
-    (dumping_on g.S.RowStore.honest g.S.RowStore.contents c.args.catalog.now c.loop-table.table c.in-Some.def.now (string_bytes c.args.text.now) (string_bytes c.loop-table.text) (string_bytes c.put_table.new.text)
-    c.args.replica.now c.loop-table.replica c.put_table.new.replica there c.loop-table.invariant.0 c.in-Ok.ensures, c.in-Ok.ensures.catalog ∙ c.loop-table.invariant.1)
+    let there : slice_get c.args.catalog.now c.loop-table.table ≡ Some c.in-Some.def.now = rw (← c.tables-tables.ensures.same) (get_is c.tables-tables.result.now c.loop-table.table c.in-Some.def.now c.in-Some.def.now less c.in-Some.ensures.lookup.1) in (
+      dumping_on g.S.RowStore.honest g.S.RowStore.contents c.args.catalog.now c.loop-table.table c.in-Some.def.now (string_bytes c.args.text.now) (string_bytes c.loop-table.text) (string_bytes c.put_table.new.text)
+          c.args.replica.now c.loop-table.replica c.put_table.new.replica there c.loop-table.invariant.0 c.in-Ok.ensures,
+      c.in-Ok.ensures.catalog ∙ c.loop-table.invariant.1,
+    )
 
 pub returns : goal.returns
 returns g c =
