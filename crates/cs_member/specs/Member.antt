@@ -1,5 +1,5 @@
 -- What a call makes of a replica as it is shown: where it stands, its rows and its pending changes (profile of this project).
-use Rattle.std.specs.Prelude.{◌≡◌, ◌⊎◌, ◌≤◌, ℕ, List, [], Some, None, Result, Ok, Err, IsSome, length, slice_get}
+use Rattle.std.specs.Prelude.{◌≡◌, ◌⊎◌, ◌≤◌, ℕ, List, [], Some, Result, Ok, Err, IsSome, length, slice_get}
 use Rattle.cs_conflict.specs.declared.wish.Wish.{Wish}
 use Rattle.cs_normal.specs.State.{State}
 use Rattle.cs_normal.specs.declared.normal.TableChanges.{TableChanges}

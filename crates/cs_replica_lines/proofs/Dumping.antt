@@ -1,7 +1,6 @@
 -- Rows of tables, one table after another.
-use Rattle.std.proofs.Common.{◌≡◌, ◌+◌, ℕ, zero, suc, List, [], ◌∷◌, ◌++◌, refl, sym, ap, ◌∙◌, append_assoc, append-nil, subst, drop, length, arith}
-use Rattle.std.specs.Prelude.{Option, Some, None, Result, Ok, Err, IfOk, OnOk, slice_get, Vec}
-use Rattle.std.specs.declared.alloc.Global.{Global}
+use Rattle.std.proofs.Common.{◌≡◌, ◌∙◌, ◌<◌, ◌+◌, ℕ, zero, suc, List, [], ◌∷◌, ◌++◌, get_or, refl, sym, ap, append_assoc, append-nil, subst, drop, length, arith}
+use Rattle.std.specs.Prelude.{Some, None, slice_get}
 use Rattle.cs_member.specs.Member.{AreRowsIn, Member, Turns, member_of}
 use Rattle.cs_normal.specs.State.{State}
 use Rattle.cs_pending.specs.View.{View}
@@ -11,6 +10,7 @@ use Rattle.cs_value.specs.Catalog.{AreTables}
 use Rattle.cs_value.specs.declared.catalog.TableDef.{TableDef}
 use Rattle.cs_value.specs.declared.value.Value.{Value}
 use Rattle.cs_replica_lines.specs.LineStep.{AreRowLines}
+use Rattle.cs_replica_lines.specs.Steps.{PutsTable, PutsTables}
 use Rattle.cs_replica_lines.specs.Texts.{rows_text}
 
 drop_suc : {A : Type 0} (xs : List A) (at : ℕ) (x : A) → slice_get xs at ≡ Some x → drop at xs ≡ x ∷ drop (suc at) xs
@@ -27,51 +27,91 @@ drop_past [] (suc at) none = refl
 drop_past (y ∷ ys) zero none = absurd (cc)
 drop_past (y ∷ ys) (suc at) none = drop_past ys at none
 
--- the lines of the rows of the tables from one on stand behind a text
-abbrev pub PutsLines : List TableDef → ℕ → State → List ℕ → List ℕ → Type 0
-PutsLines tables table state old new = (lines : List ℕ) × AreRowLines (drop table tables) state lines × (new ≡ old ++ lines)
+pub get_is : {A : Type 0} (xs : List A) (at : ℕ) (x d : A) → at < length xs → x ≡ get_or xs at d → slice_get xs at ≡ Some x
+get_is [] at x d less is = absurd (omega (arith, less))
+get_is (y ∷ ys) zero x d less is = ap Some (sym is)
+get_is (y ∷ ys) (suc at) x d less is = get_is ys at x d (omega (arith, less)) is
 
-pub puts_none : (tables : List TableDef) (table : ℕ) (state : State) (text : List ℕ) → slice_get tables table ≡ None → PutsLines tables table state text text
-puts_none tables table state text none =
-    ([], subst (λ (ts : List TableDef). AreRowLines ts state []) (sym (drop_past tables table none)) refl, sym (append-nil text))
-
-pub puts_more : (tables : List TableDef) (table : ℕ) (def : TableDef) (state : State) (rows : List (List ℕ × List Value)) (old mid new : List ℕ)
-    → slice_get tables table ≡ Some def → AreRowsIn tables state table rows → mid ≡ old ++ rows_text def.name rows
-    → PutsLines tables (table + 1) state mid new → PutsLines tables table state old new
-puts_more tables table def state rows old mid new there are put (lines, more, is) = (
-  rows_text def.name rows ++ lines,
-  subst (λ (ts : List TableDef). AreRowLines ts state (rows_text def.name rows ++ lines)) (sym (drop_next tables table def there))
-  (rows, lines, are.there def there, more, refl),
-  is ∙ ap (λ l. l ++ lines) put ∙ append_assoc old (rows_text def.name rows) lines,
-)
+pub drop_all : {A : Type 0} (xs : List A) → drop (length xs) xs ≡ []
+drop_all [] = refl
+drop_all (x ∷ xs) = drop_all xs
 
 module _ {S : Type 0} (honest : S → Type 0) (contents : S → Contents) where
-  pub still_once : (held : Holding S) (P : Member → Type 0) → ((m : Member) → P m) → Turns honest contents (λ (before : Member) (after : Member). (after ≡ before) × P before) held held
-  still_once held P all = record {
-    was_honest = λ h. h;
-    catalog = refl;
-    turned = λ h are fits view shows. (view, shows, fits, (refl, all (member_of held view)));
-  }
-
-  -- something that was kept, of which something is so
-  pub still_so : (old new : Holding S) (P : Member → Type 0) → Turns honest contents (λ before after. after ≡ before) old new → ((m : Member) → P m)
-      → Turns honest contents (λ (before : Member) (after : Member). (after ≡ before) × P before) old new
-  still_so old new P kept all = record {
+  -- a table's lines were put behind a text
+  pub put_one : (tables : List TableDef) (old new : Holding S) (table : ℕ) (def : TableDef) (rows : List (List ℕ × List Value)) (start now : List ℕ)
+      → slice_get old.catalog table ≡ Some def → Turns honest contents (λ before after. after ≡ before) old new
+      → (honest new.store → (view : View) → Shows contents old view → AreRowsIn old.catalog view.tables table rows) → now ≡ start ++ rows_text def.name rows
+      → Turns honest contents (λ (before : Member) (after : Member). (after ≡ before) × PutsTable before.view.tables def.name start now) old new
+  put_one tables old new table def rows start now there kept listed is = record {
     was_honest = kept.was_honest;
     catalog = kept.catalog;
-    turned = λ h are fits view shows. let k = kept.turned h are fits view shows in (k.0, k.1, k.2, (k.3, all (member_of old view)));
+    turned = λ h are fits view shows.
+        let k = kept.turned h are fits view shows in
+        (k.0, k.1, k.2, (k.3, (rows, (listed h view shows).there def there, is)));
   }
 
-  -- twice
-  pub still_twice : (old mid new : Holding S) (Q P : Member → Type 0) → Turns honest contents (λ before after. after ≡ before) old mid
-      → Turns honest contents (λ (before : Member) (after : Member). (after ≡ before) × Q before) mid new
-      → (honest mid.store → (view : View) → Shows contents old view → Q (member_of old view) → P (member_of old view))
-      → Turns honest contents (λ (before : Member) (after : Member). (after ≡ before) × P before) old new
-  still_twice old mid new Q P first rest step = record {
-    was_honest = λ h. first.was_honest (rest.was_honest h);
-    catalog = rest.catalog ∙ first.catalog;
+  -- where the lines of the tables from one on stand behind what was put, those of all stand behind the start
+  abbrev pub PutsRest : List TableDef → ℕ → State → List ℕ → List ℕ → Type 0
+  PutsRest tables table state start now =
+      (rest : List ℕ) → AreRowLines (drop table tables) state rest → (lines : List ℕ) × AreRowLines tables state lines × (start ++ lines ≡ now ++ rest)
+
+  abbrev pub IsDumping : List TableDef → ℕ → List ℕ → List ℕ → Holding S → Holding S → Type 0
+  IsDumping tables table start now old held =
+      Turns honest contents (λ (before : Member) (after : Member). (after ≡ before) × PutsRest tables table before.view.tables start now) old held
+
+  pub dumping_first : (tables : List TableDef) (start : List ℕ) (held : Holding S) → IsDumping tables 0 start start held held
+  dumping_first tables start held = record {
+    was_honest = λ h. h;
+    catalog = refl;
+    turned = λ h are fits view shows. (view, shows, fits, (refl, λ rest lines. (rest, lines, refl)));
+  }
+
+  pub dumping_on : (tables : List TableDef) (table : ℕ) (def : TableDef) (start now next : List ℕ) (old mid new : Holding S)
+      → slice_get tables table ≡ Some def → IsDumping tables table start now old mid
+      → Turns honest contents (λ (before : Member) (after : Member). (after ≡ before) × PutsTable before.view.tables def.name now next) mid new
+      → IsDumping tables (table + 1) start next old new
+  dumping_on tables table def start now next old mid new there some one = record {
+    was_honest = λ h. some.was_honest (one.was_honest h);
+    catalog = one.catalog ∙ some.catalog;
     turned = λ h are fits view shows.
-        let f = first.turned (rest.was_honest h) are fits view shows in
-        let r = rest.turned h (subst AreTables (sym first.catalog) are) f.2 f.0 f.1 in
-        (r.0, r.1, r.2, (r.3.0 ∙ f.3, step (rest.was_honest h) view shows (subst Q f.3 r.3.1)));
+        let s = some.turned (one.was_honest h) are fits view shows in
+        let o = one.turned h (subst AreTables (sym some.catalog) are) s.2 s.0 s.1 in
+        let puts : PutsTable view.tables def.name now next = subst (λ (m : Member). PutsTable m.view.tables def.name now next) s.3.0 o.3.1 in (
+          o.0,
+          o.1,
+          o.2,
+          (
+            o.3.0 ∙ s.3.0,
+            λ rest lines.
+                let text = rows_text def.name puts.0 ++ rest in
+                let whole : AreRowLines (drop table tables) view.tables text = subst (λ (ts : List TableDef). AreRowLines ts view.tables text) (sym (drop_next tables table def there)) (puts.0, rest, puts.1, lines, refl) in
+                let all = s.3.1 text whole in
+                (all.0, all.1, all.2 ∙ sym (append_assoc now (rows_text def.name puts.0) rest) ∙ ap (λ l. l ++ rest) (sym puts.2)),
+          ),
+        );
+  }
+
+  -- none are left
+  pub dumping_last : (tables : List TableDef) (table : ℕ) (start now : List ℕ) (old new : Holding S) → drop table tables ≡ [] → IsDumping tables table start now old new
+      → Turns honest contents (λ (before : Member) (after : Member). (after ≡ before) × PutsTables tables before.view.tables start now) old new
+  dumping_last tables table start now old new none some = record {
+    was_honest = some.was_honest;
+    catalog = some.catalog;
+    turned = λ h are fits view shows.
+        let s = some.turned h are fits view shows in
+        let all = s.3.1 [] (subst (λ (ts : List TableDef). AreRowLines ts view.tables []) (sym none) refl) in
+        (s.0, s.1, s.2, (s.3.0, (all.0, all.1, sym (all.2 ∙ append-nil now))));
+  }
+
+  -- nothing more is known where it ended early
+  pub dumping_failed : (tables : List TableDef) (table : ℕ) (start now : List ℕ) (P Q : Member → Type 0) (old mid new : Holding S) → IsDumping tables table start now old mid
+      → Turns honest contents (λ (before : Member) (after : Member). (after ≡ before) × P before) mid new → ((m : Member) → Q m)
+      → Turns honest contents (λ (before : Member) (after : Member). (after ≡ before) × Q before) old new
+  dumping_failed tables table start now P Q old mid new some one any = record {
+    was_honest = λ h. some.was_honest (one.was_honest h);
+    catalog = one.catalog ∙ some.catalog;
+    turned = λ h are fits view shows.
+        let s = some.turned (one.was_honest h) are fits view shows in
+        let o = one.turned h (subst AreTables (sym some.catalog) are) s.2 s.0 s.1 in
+        (o.0, o.1, o.2, (o.3.0 ∙ s.3.0, any (member_of old view)));
   }

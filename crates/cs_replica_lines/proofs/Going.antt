@@ -1,6 +1,6 @@
 -- From the step of a line to a run.
 use Rattle.std.proofs.Common.{◌≡◌, ℕ, List, [], ◌∷◌, ◌++◌, refl, sym, ap, ◌∙◌, append_assoc, append-nil, subst, inl, inr, length, arith}
-use Rattle.std.specs.Prelude.{⊤, Option, Some, None, Result, Ok, Err}
+use Rattle.std.specs.Prelude.{⊤, Option, Result, Ok, Err}
 use Rattle.std.specs.Io.KnownBytes.{Appends}
 use Rattle.std.proofs.KnownBytes.{Appends-nil}
 use Rattle.cs_asks.specs.declared.ask.Ask.{Ask}
@@ -13,7 +13,6 @@ use Rattle.cs_pending.specs.View.{View}
 use Rattle.cs_pending.specs.declared.fault.EditFault.{EditFault}
 use Rattle.cs_position.specs.Laws.{FitsPosition}
 use Rattle.cs_position.specs.Shows.{ShowsAt}
-use Rattle.cs_position.specs.declared.position.Position.{Position}
 use Rattle.cs_pushing.specs.declared.fault.PushFault.{PushFault}
 use Rattle.cs_replica.specs.Holding.{Holding, Shows}
 use Rattle.cs_store.specs.Contents.{Contents}
@@ -21,9 +20,9 @@ use Rattle.cs_value.specs.Catalog.{AreTables}
 use Rattle.cs_value.specs.declared.catalog.TableDef.{TableDef}
 use Rattle.cs_value.specs.declared.edit.Edit.{Edit}
 use Rattle.cs_wire.specs.declared.request.RequestBuf.{RequestBuf}
-use Rattle.cs_replica_lines.specs.Endings.{BreaksOff, EndsWorking, NotOpened, Worked, printed}
+use Rattle.cs_replica_lines.specs.Endings.{EndsWorking, Worked, printed}
 use Rattle.cs_replica_lines.specs.LineStep.{LineStep, LineSteps, TakesAnswer}
-use Rattle.cs_replica_lines.specs.Steps.{AreSteps, IsStep, Prints, Tells, TellsAll}
+use Rattle.cs_replica_lines.specs.Steps.{AreSteps, IsStep, Tells, TellsAll}
 use Rattle.cs_replica_lines.specs.declared.fault.NodeFault.{NodeFault}
 use Rattle.cs_replica_lines.proofs.Printing.{breaks_off, prints_more}
 

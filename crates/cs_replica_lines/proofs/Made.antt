@@ -1,15 +1,14 @@
 -- What the calls give, as the step of a line.
-use Rattle.std.proofs.Common.{◌≡◌, ◌∙◌, ◌++◌, ℕ, List, [], refl, sym, ap, subst, inl, inr}
-use Rattle.std.specs.Prelude.{◌⊎◌, Option, Some, None, Result, Ok, Err}
+use Rattle.std.proofs.Common.{◌≡◌, ◌∙◌, ℕ, List, refl, ap, inl, inr}
+use Rattle.std.specs.Prelude.{◌⊎◌, Result, Ok, Err}
 use Rattle.cs_asks.specs.declared.ask.Ask.{Ask}
 use Rattle.cs_asks.specs.declared.ask.Ask.TheVariants as line
 use Rattle.cs_conflict.specs.declared.wish.Wish.{Wish}
 use Rattle.cs_lines.specs.Lines.{hex_line}
-use Rattle.cs_member.specs.Member.{Hears, IsEditedTo, IsPushedTo, IsResent, Member, Turns, member_of}
-use Rattle.cs_pending.specs.View.{View}
+use Rattle.cs_member.specs.Member.{Hears, IsPushedTo, IsResent, Member, Turns, member_of}
 use Rattle.cs_pulling.specs.declared.fault.AnswerFault.{AnswerFault}
 use Rattle.cs_pushing.specs.declared.fault.PushFault.{PushFault}
-use Rattle.cs_replica.specs.Holding.{Holding, Shows}
+use Rattle.cs_replica.specs.Holding.{Holding}
 use Rattle.cs_replica.specs.declared.told.Told.{Told}
 use Rattle.cs_store.specs.Contents.{Contents}
 use Rattle.cs_value.specs.declared.catalog.TableDef.{TableDef}
@@ -20,7 +19,7 @@ use Rattle.cs_wire.specs.declared.request.RequestBuf.{RequestBuf}
 use Rattle.std.specs.declared.alloc.AllocError.{AllocError}
 use Rattle.cs_replica_lines.specs.LineStep.{LineStep, SaysMemory}
 use Rattle.cs_replica_lines.specs.Replies.{reply_text}
-use Rattle.cs_replica_lines.specs.Steps.{IsStep, Makes, Replies, Says}
+use Rattle.cs_replica_lines.specs.Steps.{IsStep, Makes, Replies}
 use Rattle.cs_replica_lines.specs.Texts.{heard_text, pushed_text}
 use Rattle.cs_replica_lines.specs.declared.reply.Reply.{Reply}
 

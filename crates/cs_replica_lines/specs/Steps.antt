@@ -6,11 +6,15 @@ use Rattle.cs_asks.specs.declared.ask.Ask.{Ask}
 use Rattle.cs_lines.specs.Writing.{AppendsFront}
 use Rattle.cs_member.specs.Member.{Member, Turns}
 use Rattle.cs_replica.specs.Holding.{Holding}
+use Rattle.cs_normal.specs.State.{State}
+use Rattle.cs_rows.specs.Rows.{AreRowsOf}
 use Rattle.cs_store.specs.Contents.{Contents}
 use Rattle.cs_value.specs.declared.catalog.TableDef.{TableDef}
+use Rattle.cs_value.specs.declared.value.Value.{Value}
 use Rattle.cs_replica_lines.specs.Endings.{BreaksOff, printed}
-use Rattle.cs_replica_lines.specs.LineStep.{LineStep, LineSteps}
+use Rattle.cs_replica_lines.specs.LineStep.{AreRowLines, LineStep, LineSteps}
 use Rattle.cs_replica_lines.specs.Replies.{reply_text}
+use Rattle.cs_replica_lines.specs.Texts.{rows_text}
 use Rattle.cs_replica_lines.specs.declared.fault.NodeFault.{NodeFault}
 use Rattle.cs_replica_lines.specs.declared.fault.NodeFault.TheVariants.{Line, Memory, Open, Read, Write}
 use Rattle.cs_replica_lines.specs.declared.reply.Reply.{Reply}
@@ -36,12 +40,22 @@ Prints (Err Read) write_failed old new text = ⊥
 Prints (Err (Line number)) write_failed old new text = ⊥
 Prints (Err (Open fault)) write_failed old new text = ⊥
 
-module _ {S : Type 0} (honest : S → Type 0) (contents : S → Contents) (id : ℕ) where
+-- the lines of the rows of the table with this name stand behind a text
+abbrev pub PutsTable : State → List ℕ → List ℕ → List ℕ → Type 0
+PutsTable state name old new =
+    (rows : List (List ℕ × List Value)) × AreRowsOf (state name) rows × (new ≡ old ++ rows_text name rows)
+
+-- those of the rows of all tables do
+abbrev pub PutsTables : List TableDef → State → List ℕ → List ℕ → Type 0
+PutsTables tables state old new = (lines : List ℕ) × AreRowLines tables state lines × (new ≡ old ++ lines)
+
+module _ {S : Type 0} (honest : S → Type 0) (contents : S → Contents) where
   -- a line's step was made, whatever the replica's id is, and this is its reply
   abbrev pub Makes : Ask → Result Reply AllocError → Holding S → Holding S → Type 0
   Makes ask result old new =
       (text : List ℕ) × Turns honest contents (λ before after. LineStep old.catalog before ask text after) old new × Says result text
 
+module _ {S : Type 0} (honest : S → Type 0) (contents : S → Contents) (id : ℕ) where
   -- a line's step was made, and this is its reply
   abbrev pub Replies : Ask → Result Reply AllocError → Holding S → Holding S → Type 0
   Replies ask result old new = (text : List ℕ) × Turns honest contents (IsStep id old.catalog ask text) old new × Says result text

@@ -61,10 +61,13 @@ abbrev pub flight_count : Option (List TableChanges) → ℕ
 flight_count (Some changes) = min (count_of changes) (2 ^ 64 - 1)
 flight_count None = 0
 
+-- `replica ID`, and where it stands
+abbrev pub numbered_text : ℕ → List ℕ → List ℕ
+numbered_text id place = codes "replica " ++ (decimal id ++ (codes " " ++ place))
+
 -- `replica ID version V pending P flight F`, of the replica with this id
 abbrev pub replica_text : ℕ → Position → List ℕ
-replica_text id position =
-    codes "replica " ++ decimal id ++ codes " " ++ place_text position.version position.pending (flight_count position.flight)
+replica_text id position = numbered_text id (place_text position.version position.pending (flight_count position.flight))
 
 -- a line for each row of a table, which stands behind the bytes of its key
 abbrev pub rows_text : List ℕ → List (List ℕ × List Value) → List ℕ

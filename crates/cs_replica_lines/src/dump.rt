@@ -1,12 +1,13 @@
 //! Where a replica stands, and its rows.
 
-ghost use Rattle.std.specs.Prelude.{◌≡◌, ◌++◌, List, ℕ, IfOk, OnOk, drop, string_bytes};
+ghost use Rattle.std.specs.Prelude.{◌≡◌, IfOk, OnOk, Some, slice_get, string_bytes};
 ghost use Rattle.std.specs.Fmt.{WritesOnOk};
 ghost use Rattle.cs_member.specs.Member.{Member, Turns};
-ghost use Rattle.cs_replica_lines.specs.LineStep.{AreRowLines, IsDumped};
-ghost use Rattle.cs_replica_lines.specs.Texts.{flight_count, replica_text, rows_text};
+ghost use Rattle.cs_replica_lines.specs.LineStep.{IsDumped};
+ghost use Rattle.cs_replica_lines.specs.Steps.{PutsTable, PutsTables};
+ghost use Rattle.cs_replica_lines.specs.Texts.{flight_count, numbered_text, replica_text, rows_text};
 ghost use Rattle.cs_text.specs.Text.{line};
-ghost use Rattle.cs_told.specs.Told.{row_text};
+ghost use Rattle.cs_told.specs.Told.{place_text, row_text};
 
 use cs_member::rows_of;
 use cs_record::{Row, RowBuf};
@@ -14,7 +15,7 @@ use cs_replica::Replica;
 use cs_rows::RowAtKey;
 use cs_store::{RowStore, StoreFault};
 use cs_told::{PlaceText, RowText};
-use cs_value::{Catalog, Memory, Text};
+use cs_value::{Catalog, Memory, TableDef, Text};
 use std::alloc::Global;
 use std::fmt;
 
@@ -28,11 +29,7 @@ fn write_row<'a, W: fmt::Write>(
     write!(f, "{}\n", RowText { table, row })
 }
 
-fn write_stored<W: fmt::Write>(
-    table: &Text,
-    row: &RowBuf,
-    f: &mut fmt::Formatter<W>,
-) -> fmt::Result
+fn write_stored<W: fmt::Write>(table: &Text, row: &RowBuf, f: &mut fmt::Formatter<W>) -> fmt::Result
     ensures { WritesOnOk W.write_str_gives f.old result (line (row_text table.now row.now)) f.new }
 {
     let row = row.as_row();
@@ -61,6 +58,7 @@ struct RowsText<'a> {
 
 impl fmt::Display for RowsText<'_> {
     ghost use Rattle.std.specs.Prelude.{Some};
+
     ghost output = { λ text. Some (rows_text text.table.now text.rows.now) };
 
     fn fmt<W: fmt::Write>(&self, f: &mut fmt::Formatter<W>) -> fmt::Result {
@@ -85,37 +83,81 @@ fn flight_len<S: RowStore>(replica: &Replica<S>) -> usize
     }
 }
 
+/// Ends a line.
+fn end_line(text: String) -> Result<String, Memory>
+    ensures { IfOk result (λ ended. string_bytes ended ≡ line (string_bytes text)) }
+{
+    let mut text = text;
+    text.push_str("\n")?;
+    Ok(text)
+}
+
+/// The line of the replica with this id, which stands there.
+fn line_of(alloc: Global, id: u32, place: PlaceText) -> Result<String, Memory>
+    ensures { IfOk result (λ text. string_bytes text ≡ line (numbered_text id (place_text place.version place.pending place.flight))) }
+{
+    let text = format!(in alloc; "replica {id} {place}")?;
+    end_line(text)
+}
+
 /// The line of where a replica stands.
 fn place_of<S: RowStore>(alloc: Global, replica: &Replica<S>, id: u32) -> Result<String, Memory>
     ensures { IfOk result (λ text. string_bytes text ≡ line (replica_text id replica.now.position)) }
 {
-    let place = PlaceText {
-        version: replica.version(),
-        pending: replica.pending_len(),
-        flight: flight_len(replica),
-    };
-    format!(in alloc; "replica {id} {place}\n")
+    let version = replica.version();
+    let pending = replica.pending_len();
+    let flight = flight_len(replica);
+    line_of(
+        alloc,
+        id,
+        PlaceText {
+            version,
+            pending,
+            flight,
+        },
+    )
 }
 
-/// Puts the lines of the rows of the tables from this one on behind a text.
+/// Puts the lines of the rows of a table, which has this number, behind a text.
+fn put_table<S: RowStore>(
+    alloc: Global,
+    replica: &mut Replica<S>,
+    def: &TableDef,
+    table: usize,
+    text: &mut String,
+) -> Result<(), StoreFault>
+    requires { slice_get replica.old.catalog table ≡ Some def.now }
+    ensures { Turns S.honest S.contents (λ (before : Member) (after : Member). (after ≡ before)
+        × OnOk result (PutsTable before.view.tables def.now.name (string_bytes text.old) (string_bytes text.new))) replica.old replica.new }
+{
+    let rows = rows_of(alloc, replica, table)?;
+    let lines = lines_of(alloc, &def.name, rows.as_slice())?;
+    text.push_str(lines.as_str())?;
+    Ok(())
+}
+
+/// Puts the lines of the rows of all tables behind a text.
 fn put_tables<S: RowStore>(
     alloc: Global,
     replica: &mut Replica<S>,
     catalog: &Catalog,
-    table: usize,
     text: &mut String,
 ) -> Result<(), StoreFault>
     requires { replica.old.catalog ≡ catalog.now }
     ensures { Turns S.honest S.contents (λ (before : Member) (after : Member). (after ≡ before)
-        × OnOk result ((lines : List ℕ) × AreRowLines (drop table catalog.now) before.view.tables lines × (string_bytes text.new ≡ string_bytes text.old ++ lines))) replica.old replica.new }
+        × OnOk result (PutsTables catalog.now before.view.tables (string_bytes text.old) (string_bytes text.new))) replica.old replica.new }
 {
-    let Some(def) = catalog.tables().get(table) else {
-        return Ok(());
-    };
-    let rows = rows_of(alloc, replica, table)?;
-    let lines = lines_of(alloc, &def.name, rows.as_slice())?;
-    text.push_str(lines.as_str())?;
-    put_tables(alloc, replica, catalog, table + 1, text)
+    let tables = catalog.tables();
+    for table in 0..tables.len() {
+        let Some(def) = tables.get(table) else {
+            return Ok(());
+        };
+        match put_table(alloc, replica, def, table, text) {
+            Ok(()) => {}
+            Err(fault) => return Err(fault),
+        }
+    }
+    Ok(())
 }
 
 /// Where a replica stands, and its rows: tables in the catalog's order, rows in the order of their keys' bytes.
@@ -130,6 +172,6 @@ pub(crate) fn dump_of<S: RowStore>(
         × (before.position.id ≡ id → IfOk result (λ text. IsDumped catalog.now before (string_bytes text)))) replica.old replica.new }
 {
     let mut text = place_of(alloc, replica, id)?;
-    put_tables(alloc, replica, catalog, 0, &mut text)?;
+    put_tables(alloc, replica, catalog, &mut text)?;
     Ok(text)
 }

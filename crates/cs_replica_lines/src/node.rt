@@ -124,7 +124,3 @@ pub fn node_on<S: RowStore, R: LineInput, W: LineOutput>(
         Err(fault) => (Err(NodeFault::from(fault)), store),
     }
 }
-
-fn scratch()
-    ensures { Unit {0} }
-{}

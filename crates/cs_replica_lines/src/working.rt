@@ -85,11 +85,7 @@ fn pull_line<S: RowStore>(alloc: Global, replica: &Replica<S>, limit: u32) -> Re
 }
 
 /// Puts what became of an answer behind a text.
-fn put_heard(
-    told: Result<Told, AnswerFault>,
-    version: u64,
-    text: &mut String,
-) -> Result<(), Memory>
+fn put_heard(told: Result<Told, AnswerFault>, version: u64, text: &mut String) -> Result<(), Memory>
     ensures { OnOk result (string_bytes text.new ≡ string_bytes text.old ++ heard_text told version) }
 {
     match told {

@@ -60,8 +60,10 @@ fn runs_on(
 
 /// A session, a second run of the same node, and one of another on the same files.
 fn goes_on(alloc: Global) -> Option<bool> {
-    let first = "edit insert t1 1 t=v1\npush\nanswer 110000000000000000000000010000000000000001 -\npull 10\ndump\n";
-    let printed = "ok\n0100000000000000000000000100000000000000000000001654020100743100120001000000000000000103027631\naccepted 1\n0200000000000000010000000a\nreplica 0 version 1 pending 0 flight 0\nrow t1 1 t=v1\n";
+    let first =
+        "edit insert t1 1 t=v1\npush\nanswer 110000000000000000000000010000000000000001 -\npull 10\ndump\n";
+    let printed =
+        "ok\n0100000000000000000000000100000000000000000000001654020100743100120001000000000000000103027631\naccepted 1\n0200000000000000010000000a\nreplica 0 version 1 pending 0 flight 0\nrow t1 1 t=v1\n";
     let files = runs_on(alloc, new_files(alloc), 0, first, printed, Ok(()))?;
     let shown = "replica 0 version 1 pending 0 flight 0\nrow t1 1 t=v1\n";
     let files = runs_on(alloc, files, 0, "dump\n", shown, Ok(()))?;

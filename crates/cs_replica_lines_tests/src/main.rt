@@ -5,9 +5,9 @@
 #![tactic(auto)]
 
 #[cfg(test)]
-mod given;
-#[cfg(test)]
 mod files;
+#[cfg(test)]
+mod given;
 #[cfg(test)]
 mod tests;
 

@@ -19,27 +19,71 @@ fn prints(alloc: Global, input: &str, output: &str) -> bool {
 #[test]
 fn refuses_bytes_that_are_no_answer(rt: HostRuntime) {
     let input = "answer 99 -\nanswer 1100 -\nanswer 120000000000000001ff -\n";
-    assert!(rt; prints(rt.alloc(), input, "refused BadTag\nrefused Truncated\nrefused TooLong\n"));
+    assert!(rt;
+        prints(
+            rt.alloc(),
+            input,
+            "refused BadTag\nrefused Truncated\nrefused TooLong\n"
+        )
+    );
 }
 
 #[test]
 fn refuses_forged_entries(rt: HostRuntime) {
-    let deleted = "edit insert t1 1 t=v1\nanswer 14000000000000000000000001000000000900000000000000010000001654020100743100090001000000000000000103027631 -\ndump\n";
-    assert!(rt; prints(rt.alloc(), deleted, "ok\nfault BadEntry after 0\nreplica 0 version 0 pending 1 flight 0\nrow t1 1 t=v1\n"));
-    let second = "answer 14000000000000000000000002000000000900000000000000010000001654020100743100120001000000000000000103027631000000000900000000000000020000000150 -\ndump\n";
-    assert!(rt; prints(rt.alloc(), second, "fault BadEntry after 1\nreplica 0 version 1 pending 0 flight 0\nrow t1 1 t=v1\n"));
-    let accepted = "edit insert t1 1 t=v1\npush\nanswer 110000000000000000000000010000000000000002 -\ndump\n";
-    let told = "ok\n0100000000000000000000000100000000000000000000001654020100743100120001000000000000000103027631\nignored\nreplica 0 version 0 pending 0 flight 1\nrow t1 1 t=v1\n";
+    let deleted =
+        "edit insert t1 1 t=v1\nanswer 14000000000000000000000001000000000900000000000000010000001654020100743100090001000000000000000103027631 -\ndump\n";
+    assert!(rt;
+        prints(
+            rt.alloc(),
+            deleted,
+            "ok\nfault BadEntry after 0\nreplica 0 version 0 pending 1 flight 0\nrow t1 1 t=v1\n"
+        )
+    );
+    let second =
+        "answer 14000000000000000000000002000000000900000000000000010000001654020100743100120001000000000000000103027631000000000900000000000000020000000150 -\ndump\n";
+    assert!(rt;
+        prints(
+            rt.alloc(),
+            second,
+            "fault BadEntry after 1\nreplica 0 version 1 pending 0 flight 0\nrow t1 1 t=v1\n"
+        )
+    );
+    let accepted =
+        "edit insert t1 1 t=v1\npush\nanswer 110000000000000000000000010000000000000002 -\ndump\n";
+    let told =
+        "ok\n0100000000000000000000000100000000000000000000001654020100743100120001000000000000000103027631\nignored\nreplica 0 version 0 pending 0 flight 1\nrow t1 1 t=v1\n";
     assert!(rt; prints(rt.alloc(), accepted, told));
 }
 
 // Another's entry that inserts what stands here otherwise: kept, and stopped at.
 #[test]
 fn answers_clashes_by_wishes(rt: HostRuntime) {
-    let told = "14000000000000000000000001000000000900000000000000010000001654020100743100120001000000000000000103027632";
-    assert!(rt; clashes(rt.alloc(), told, "k", "ok\ntaken 1 version 1\nreplica 0 version 1 pending 1 flight 0\nrow t1 1 t=v1\n"));
-    assert!(rt; clashes(rt.alloc(), told, "t", "ok\ntaken 1 version 1\nreplica 0 version 1 pending 0 flight 0\nrow t1 1 t=v2\n"));
-    assert!(rt; clashes(rt.alloc(), told, "s", "ok\nstopped 0 version 0\nreplica 0 version 0 pending 1 flight 0\nrow t1 1 t=v1\n"));
+    let told =
+        "14000000000000000000000001000000000900000000000000010000001654020100743100120001000000000000000103027632";
+    assert!(rt;
+        clashes(
+            rt.alloc(),
+            told,
+            "k",
+            "ok\ntaken 1 version 1\nreplica 0 version 1 pending 1 flight 0\nrow t1 1 t=v1\n"
+        )
+    );
+    assert!(rt;
+        clashes(
+            rt.alloc(),
+            told,
+            "t",
+            "ok\ntaken 1 version 1\nreplica 0 version 1 pending 0 flight 0\nrow t1 1 t=v2\n"
+        )
+    );
+    assert!(rt;
+        clashes(
+            rt.alloc(),
+            told,
+            "s",
+            "ok\nstopped 0 version 0\nreplica 0 version 0 pending 1 flight 0\nrow t1 1 t=v1\n"
+        )
+    );
 }
 
 fn clashes(alloc: Global, told: &str, wishes: &str, output: &str) -> bool {
@@ -51,17 +95,24 @@ fn clashes(alloc: Global, told: &str, wishes: &str, output: &str) -> bool {
 
 #[test]
 fn tells_what_is_refused(rt: HostRuntime) {
-    let edits = "edit insert t2 1\nedit insert t1 1\nedit insert t1 null 1\nedit update t1 1 t=x\nedit delete t1 1\npush\nresend\n";
-    let names = "refused NoTable\nrefused Width\nrefused NullKey\nrefused Missing\nrefused Missing\nrefused Nothing\nrefused Nothing\n";
+    let edits =
+        "edit insert t2 1\nedit insert t1 1\nedit insert t1 null 1\nedit update t1 1 t=x\nedit delete t1 1\npush\nresend\n";
+    let names =
+        "refused NoTable\nrefused Width\nrefused NullKey\nrefused Missing\nrefused Missing\nrefused Nothing\nrefused Nothing\n";
     assert!(rt; prints(rt.alloc(), edits, names));
-    let pushes = "edit insert t1 1 null\npush\nedit update t1 1 t=x\npush\nresend\nanswer 120000000000000007 -\nanswer 132d -\nedit delete t1 1\ndump\n";
-    let request = "010000000000000000000000010000000000000000000000135402010074310012000100000000000000010500";
+    let pushes =
+        "edit insert t1 1 null\npush\nedit update t1 1 t=x\npush\nresend\nanswer 120000000000000007 -\nanswer 132d -\nedit delete t1 1\ndump\n";
+    let request =
+        "010000000000000000000000010000000000000000000000135402010074310012000100000000000000010500";
     assert!(rt; pushes_told(rt.alloc(), pushes, request).unwrap_or(false));
 }
 
 fn pushes_told(alloc: Global, input: &str, _request: &str) -> Option<bool> {
-    let head = "0100000000000000000000000100000000000000000000001354020100743100120001000000000000000105";
-    let output = format!(in alloc; "ok\n{head}\nok\nrefused InFlight\n{head}\nstale 7\nhub refused 45\nok\nreplica 0 version 0 pending 1 flight 1\n").ok()?;
+    let head =
+        "0100000000000000000000000100000000000000000000001354020100743100120001000000000000000105";
+    let output = format!(in alloc;
+        "ok\n{head}\nok\nrefused InFlight\n{head}\nstale 7\nhub refused 45\nok\nreplica 0 version 0 pending 1 flight 1\n"
+    ).ok()?;
     Some(prints(alloc, input, output.as_str()))
 }
 

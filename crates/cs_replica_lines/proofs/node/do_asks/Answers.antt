@@ -9,8 +9,8 @@ loop-ask-init g c =
 pub loop-ask-preserved : goal.loop-ask-preserved
 loop-ask-preserved g c = (
   going_on g.S.RowStore.honest g.S.RowStore.contents c.args.id c.hears_keeps_id.ensures c.args.asks.now c.loop-ask.rest.now c.in-Some.more.now c.in-Some.ask.now
-  (g.W.LineOutput.failed c.do_ask.new.writer) (g.W.Write.contents c.args.writer.now) (g.W.Write.contents c.loop-ask.writer) (g.W.Write.contents c.do_ask.new.writer)
-  c.args.replica.now c.loop-ask.replica c.do_ask.new.replica c.in-Some.ensures.cases.0 c.loop-ask.invariant.0 c.in-Ok.ensures.told,
+      (g.W.LineOutput.failed c.do_ask.new.writer) (g.W.Write.contents c.args.writer.now) (g.W.Write.contents c.loop-ask.writer) (g.W.Write.contents c.do_ask.new.writer)
+      c.args.replica.now c.loop-ask.replica c.do_ask.new.replica c.in-Some.ensures.cases.0 c.loop-ask.invariant.0 c.in-Ok.ensures.told,
   λ sent. c.in-Ok.ensures.sent,
   c.in-Ok.ensures.told.1.catalog ∙ c.loop-ask.invariant.2,
 )

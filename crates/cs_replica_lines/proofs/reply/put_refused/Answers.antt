@@ -10,11 +10,11 @@ returns-in_err-put-clause-front g c =
 
 pub returns-in_err-put-2-clause-front : goal.returns-in_err-put-2-clause-front
 returns-in_err-put-2-clause-front g c =
-    let now = rw c.as_bytes.ensures at c.in_err-put-2.ensures.front in
+    let now = rw c.as_bytes.ensures.value at c.in_err-put-2.ensures.front in
     on_err _ (front_behind _ _ _ _ (codes "refused ") c.args.name.now (codes "\n") (append_assoc (codes "refused ") c.args.name.now (codes "\n")) c.in_ok-put.ensures.written now)
 
 pub returns-clause-front : goal.returns-clause-front
 returns-clause-front g c =
-    let name = rw c.as_bytes.ensures at c.in_ok-put-2.ensures.written in
+    let name = rw c.as_bytes.ensures.value at c.in_ok-put-2.ensures.written in
     front_last _ _ _ _ _ (codes "refused " ++ c.args.name.now) (codes "\n") refl
     (Appends-trans _ _ _ (codes "refused ") c.args.name.now c.in_ok-put.ensures.written name) c.put-3.ensures.front

@@ -1,0 +1,16 @@
+use Rattle.cs_asks.specs.declared.ask.Ask.TheVariants as line
+use Rattle.cs_replica_lines.proofs.Made.{replies_made, replies_still}
+use Rattle.cs_replica_lines.proofs.working.work_ask.Goals as goal
+
+pub returns-in-Push : goal.returns-in-Push
+returns-in-Push g c =
+    rw c.in-Push.is (replies_made g.S.RowStore.honest g.S.RowStore.contents c.args.id line.Push c.push_line.result c.args.replica.now c.push_line.new.replica c.push_line.ensures)
+
+pub returns-in-Resend : goal.returns-in-Resend
+returns-in-Resend g c =
+    rw c.in-Resend.is (replies_still g.S.RowStore.honest g.S.RowStore.contents c.args.id line.Resend c.resend_line.result c.args.replica.now c.resend_line.ensures)
+
+pub returns-in-Answer : goal.returns-in-Answer
+returns-in-Answer g c =
+    rw c.in-Answer.is (replies_made g.S.RowStore.honest g.S.RowStore.contents c.args.id (line.Answer c.in-Answer.bytes c.in-Answer.wishes) c.answer_line.result c.args.replica.now c.answer_line.new.replica
+    (rw (c.as_slice.ensures, c.as_slice-in-Answer.ensures) at c.answer_line.ensures))
