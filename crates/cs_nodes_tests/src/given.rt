@@ -16,12 +16,16 @@ use std::alloc::Global;
 pub(crate) type Here<'s> = Node<'s, MapStore>;
 
 /// The table t1 of two columns, of which the first is the key.
-fn tables(alloc: Global) -> Result<Vec<TableDef>, Memory> {
-    let mut tables = Vec::new(alloc);
-    tables.push(TableDef {
+fn table(alloc: Global) -> Result<TableDef, Memory> {
+    Ok(TableDef {
         name: Text::from_string(String::from_str(alloc, "t1")?),
         key_marks: Items::from_vec(vec![in alloc; true, false]?),
-    })?;
+    })
+}
+
+fn tables(alloc: Global) -> Result<Vec<TableDef>, Memory> {
+    let mut tables = Vec::new(alloc);
+    tables.push(table(alloc)?)?;
     Ok(tables)
 }
 
@@ -37,13 +41,30 @@ pub(crate) fn begun<'s>(alloc: Global, spine: &'s Spine, id: u32) -> Option<Here
         return None;
     }
     let catalog = catalog(alloc)?;
-    Node::open(alloc, MapStore::new(alloc), &catalog, id, spine).ok()
+    match Node::open(alloc, MapStore::new(alloc), &catalog, id, spine) {
+        Ok(node) => Some(node),
+        Err(_) => None,
+    }
+}
+
+fn text_value(alloc: Global, text: &str) -> Result<Value, Memory> {
+    Ok(Value::Text(Text::from_string(String::from_str(alloc, text)?)))
+}
+
+fn put_values(
+    alloc: Global,
+    number: i64,
+    text: &str,
+    values: &mut Vec<Value>,
+) -> Result<(), Memory> {
+    values.push(Value::Int(number))?;
+    values.push(text_value(alloc, text)?)?;
+    Ok(())
 }
 
 fn row(alloc: Global, number: i64, text: &str) -> Result<Items<Value>, Memory> {
     let mut values = Vec::new(alloc);
-    values.push(Value::Int(number))?;
-    values.push(Value::Text(Text::from_string(String::from_str(alloc, text)?)))?;
+    put_values(alloc, number, text, &mut values)?;
     Ok(Items::from_vec(values))
 }
 

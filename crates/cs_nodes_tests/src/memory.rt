@@ -85,15 +85,36 @@ fn pulls_at_last<'s>(alloc: Global, node: &mut Here<'s>, spine: &'s Spine) -> bo
     }
 }
 
-/// A node that inserts a row and pushes it, and one that pulls it.
+/// A node that inserts a row and pushes it.
+fn pushes_row<'s>(alloc: Global, one: &mut Here<'s>, spine: &'s Spine) -> bool
+    requires { one.old.pass.spine ≡ spine.now }
+    ensures { one.new.pass.spine ≡ one.old.pass.spine }
+{
+    let inserted = inserts_at_last(alloc, one);
+    let told = pushes_at_last(alloc, one, spine);
+    inserted & told & shows_at_last(alloc, one, &[ROW_1], 1, 0)
+}
+
+/// One that pulls it.
+fn pulls_row<'s>(alloc: Global, two: &mut Here<'s>, spine: &'s Spine) -> bool
+    requires { two.old.pass.spine ≡ spine.now }
+{
+    let taken = pulls_at_last(alloc, two, spine);
+    taken & shows_at_last(alloc, two, &[ROW_1], 1, 0)
+}
+
+/// The first pushes it, and a second pulls it.
+fn live_both<'s>(alloc: Global, spine: &'s Spine, one: &mut Here<'s>) -> Option<bool>
+    requires { one.old.pass.spine ≡ spine.now }
+{
+    let mut two = made(alloc, spine, 2)?;
+    let told = pushes_row(alloc, one, spine);
+    Some(told & pulls_row(alloc, &mut two, spine))
+}
+
 fn live_on(alloc: Global, spine: &Spine) -> Option<bool> {
     let mut one = made(alloc, spine, 1)?;
-    let mut two = made(alloc, spine, 2)?;
-    let inserted = inserts_at_last(alloc, &mut one);
-    let told = pushes_at_last(alloc, &mut one, spine);
-    let rows = shows_at_last(alloc, &mut one, &[ROW_1], 1, 0);
-    let taken = pulls_at_last(alloc, &mut two, spine);
-    Some(inserted & told & rows & taken & shows_at_last(alloc, &mut two, &[ROW_1], 1, 0))
+    live_both(alloc, spine, &mut one)
 }
 
 fn live(alloc: Global) -> Option<bool> {

@@ -35,20 +35,71 @@ fn pushes_second<'s>(alloc: Global, node: &mut Here<'s>, spine: &'s Spine) -> bo
     made && other && between && told && shows(alloc, node, &[ROW_1, ROW_2], 2, 0) == Ok(true)
 }
 
-/// Two nodes push in turn, and pull; then they meet, and with a third that pulls all at once.
+/// Whether the nodes don't meet, whichever is asked first.
+fn are_apart<'s>(spine: &'s Spine, one: &Here<'s>, two: &Here<'s>) -> bool
+    requires one { one.now.pass.spine ≡ spine.now }
+    requires two { two.now.pass.spine ≡ spine.now }
+{
+    !meet_nodes(spine, one, two) && !meet_nodes(spine, two, one)
+}
+
+/// Two nodes push in turn, and pull; between they are apart.
+fn take_turns<'s>(alloc: Global, spine: &'s Spine, one: &mut Here<'s>, two: &mut Here<'s>) -> bool
+    requires one { one.old.pass.spine ≡ spine.now }
+    requires two { two.old.pass.spine ≡ spine.now }
+    ensures one { one.new.pass.spine ≡ one.old.pass.spine }
+    ensures two { two.new.pass.spine ≡ two.old.pass.spine }
+{
+    let met = meet_nodes(spine, one, two);
+    let first = pushes_first(alloc, one, spine);
+    let apart = are_apart(spine, one, two);
+    let second = pushes_second(alloc, two, spine);
+    let more = pulls(alloc, one, spine, 1) && pulls(alloc, one, spine, 0);
+    met & first & apart & second & more
+}
+
+/// A third that pulls all at once meets both.
+fn meets_both<'s>(
+    alloc: Global,
+    spine: &'s Spine,
+    late: &mut Here<'s>,
+    one: &Here<'s>,
+    two: &Here<'s>,
+) -> bool
+    requires late { late.old.pass.spine ≡ spine.now }
+    requires one { one.now.pass.spine ≡ spine.now }
+    requires two { two.now.pass.spine ≡ spine.now }
+{
+    let all = pulls(alloc, late, spine, 2);
+    let same = meet_nodes(spine, one, late) && meet_nodes(spine, late, two);
+    all & same & (shows(alloc, late, &[ROW_1, ROW_2], 2, 0) == Ok(true))
+}
+
+fn with_third<'s>(
+    alloc: Global,
+    spine: &'s Spine,
+    one: &mut Here<'s>,
+    two: &mut Here<'s>,
+) -> Option<bool>
+    requires one { one.old.pass.spine ≡ spine.now }
+    requires two { two.old.pass.spine ≡ spine.now }
+{
+    let mut late = begun(alloc, spine, 3)?;
+    let turns = take_turns(alloc, spine, one, two);
+    Some(turns & meets_both(alloc, spine, &mut late, one, two))
+}
+
+fn with_second<'s>(alloc: Global, spine: &'s Spine, one: &mut Here<'s>) -> Option<bool>
+    requires { one.old.pass.spine ≡ spine.now }
+{
+    let mut two = begun(alloc, spine, 2)?;
+    with_third(alloc, spine, one, &mut two)
+}
+
+/// Two nodes push in turn, and pull; then they meet, and with a third that pulls all at once. Each stands in a function of its own.
 fn push_in_turn(alloc: Global, spine: &Spine) -> Option<bool> {
     let mut one = begun(alloc, spine, 1)?;
-    let mut two = begun(alloc, spine, 2)?;
-    let mut late = begun(alloc, spine, 3)?;
-    let met = meet_nodes(spine, &one, &two);
-    let first = pushes_first(alloc, &mut one, spine);
-    let apart = !meet_nodes(spine, &one, &two);
-    let second = pushes_second(alloc, &mut two, spine);
-    let more = pulls(alloc, &mut one, spine, 1) && pulls(alloc, &mut one, spine, 0);
-    let all = pulls(alloc, &mut late, spine, 2);
-    let same = meet_nodes(spine, &one, &late) && meet_nodes(spine, &late, &two);
-    let rows = shows(alloc, &mut late, &[ROW_1, ROW_2], 2, 0) == Ok(true);
-    Some(met & first & apart & second & more & all & same & rows)
+    with_second(alloc, spine, &mut one)
 }
 
 #[test]
@@ -98,14 +149,32 @@ fn is_full<'s>(alloc: Global, node: &mut Here<'s>, spine: &'s Spine) -> bool
     made && full && !node.is_at_rest() && node.pending_len() == 0 && node.version() == 1
 }
 
-/// Two nodes on a row of one cell.
+/// Two nodes on a row of one cell: one fills it, and the other comes to it.
+fn fill_one_cell<'s>(
+    alloc: Global,
+    spine: &'s Spine,
+    one: &mut Here<'s>,
+    two: &mut Here<'s>,
+) -> bool
+    requires one { one.old.pass.spine ≡ spine.now }
+    requires two { two.old.pass.spine ≡ spine.now }
+{
+    let first = pushes_first(alloc, one, spine);
+    let second = stops_then_takes(alloc, two, spine);
+    let met = meet_nodes(spine, one, two);
+    first & second & met & is_full(alloc, one, spine)
+}
+
+fn with_other<'s>(alloc: Global, spine: &'s Spine, one: &mut Here<'s>) -> Option<bool>
+    requires { one.old.pass.spine ≡ spine.now }
+{
+    let mut two = begun(alloc, spine, 2)?;
+    Some(fill_one_cell(alloc, spine, one, &mut two))
+}
+
 fn on_one_cell(alloc: Global, spine: &Spine) -> Option<bool> {
     let mut one = begun(alloc, spine, 1)?;
-    let mut two = begun(alloc, spine, 2)?;
-    let first = pushes_first(alloc, &mut one, spine);
-    let second = stops_then_takes(alloc, &mut two, spine);
-    let met = meet_nodes(spine, &one, &two);
-    Some(first & second & met & is_full(alloc, &mut one, spine))
+    with_other(alloc, spine, &mut one)
 }
 
 #[test]
@@ -123,7 +192,7 @@ fn comes_apart(alloc: Global, spine: &Spine) -> Option<bool> {
     let mut node = begun(alloc, spine, 1)?;
     let first = pushes_first(alloc, &mut node, spine);
     let (replica, pass) = node.parts();
-    Some(first && replica.version() == 1 && pass.len() == 1)
+    Some(first & (replica.version() == 1) & (pass.len() == 1))
 }
 
 #[test]

@@ -69,11 +69,10 @@ fn runs_second<'s, R: Clock>(
     open & made & told & (shows(alloc, &mut node, &[ROW_2], 1, 0) == Ok(true))
 }
 
-/// Both run at once; then a new node pulls the second's entry, and shows its row.
-fn gated<R: Threads + Clock + Sync>(rt: &R, alloc: Global, spine: &Spine) -> Option<bool> {
+/// Both run at once.
+fn run_both<R: Threads + Clock + Sync>(rt: &R, alloc: Global, spine: &Spine) -> Option<bool> {
     let one = begun(alloc, spine, 1)?;
     let two = begun(alloc, spine, 2)?;
-    let mut late = begun(alloc, spine, 3)?;
     let gates = Gates {
         first: AtomicU64::new(0),
         second: AtomicU64::new(0),
@@ -83,8 +82,33 @@ fn gated<R: Threads + Clock + Sync>(rt: &R, alloc: Global, spine: &Spine) -> Opt
         || runs_first(rt, alloc, spine, &gates, one),
         || runs_second(rt, alloc, spine, &gates, two),
     );
-    let pulled = pulls(alloc, &mut late, spine, 1);
-    Some(first & second & pulled & (shows(alloc, &mut late, &[ROW_2], 1, 0) == Ok(true)))
+    Some(first & second)
+}
+
+/// Whether a pull takes one entry, and the second's row is then shown.
+fn pulls_second<'s>(alloc: Global, spine: &'s Spine, late: &mut Here<'s>) -> bool
+    requires { late.old.pass.spine ≡ spine.now }
+{
+    let pulled = pulls(alloc, late, spine, 1);
+    pulled & (shows(alloc, late, &[ROW_2], 1, 0) == Ok(true))
+}
+
+fn run_and_pull<'s, R: Threads + Clock + Sync>(
+    rt: &R,
+    alloc: Global,
+    spine: &'s Spine,
+    late: &mut Here<'s>,
+) -> Option<bool>
+    requires { late.old.pass.spine ≡ spine.now }
+{
+    let both = run_both(rt, alloc, spine)?;
+    Some(both & pulls_second(alloc, spine, late))
+}
+
+/// Both run at once; then a new node pulls the second's entry, and shows its row.
+fn gated<R: Threads + Clock + Sync>(rt: &R, alloc: Global, spine: &Spine) -> Option<bool> {
+    let mut late = begun(alloc, spine, 3)?;
+    run_and_pull(rt, alloc, spine, &mut late)
 }
 
 #[test]
