@@ -74,9 +74,10 @@ def script(draw, replicas):
             lines.append(edit(draw, replica))
         elif kind < 9:
             lines.append("push %d" % replica)
-            sent += 1
+            sent += draw.randrange(3) == 0
         elif kind < 10:
             lines.append("resend %d" % replica)
+            sent += draw.randrange(2)
         elif kind < 12:
             lines.append("pull %d %d" % (replica, draw.choice([1, 2, 4096])))
             sent += 1
@@ -84,7 +85,7 @@ def script(draw, replicas):
             # One of the newest, or any at all.
             newest = sent - draw.randrange(4) if draw.randrange(3) else draw.randrange(sent + 1)
             lines.append("deliver %d %s" % (max(newest, 0), wishes(draw)))
-            sent += draw.randrange(3) % 2
+            sent += draw.randrange(3) == 0
         else:
             lines.append("restart %d" % replica)
     return lines
