@@ -92,7 +92,7 @@ gives 'node, after refusals' 'ok\nok\nreplica 0 version 1 pending 2 flight 0\nro
 
 hub="$dir/hub"
 gives 'hub, first run' '110000000000000000000000010000000000000001\n' "$push\n" hub --file "$hub" t1:10
-gives 'hub, second run' "110000000000000000000000010000000000000001\n1400000000000000000000000100000000000000000000000100000016$insert\n" \
+gives 'hub, second run' "110000000000000000000000010000000000000001\n140000000000000000000000010000000000000000000000000100000016$insert\n" \
     "$push\n0200000000000000000000000a\n" hub --file "$hub" t1:10
 refuses 'hub of other tables' 'sync: Mismatch' "$push\n" hub --file "$hub" t1:11
 refuses 'a hub as a node' 'sync: Mismatch' 'dump\n' node "$hub" 0 t1:10
