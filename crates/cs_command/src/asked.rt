@@ -45,7 +45,11 @@ fn id_among(number: u32) -> Option<u32>
     ensures found { result ≡ id_among number }
     ensures small { IfSome result (λ id. id < 2 ^ 32 - 1) }
 {
-    if number < u32::MAX { Some(number) } else { None }
+    if number < u32::MAX {
+        Some(number)
+    } else {
+        None
+    }
 }
 
 /// The id that the words of `node` name.

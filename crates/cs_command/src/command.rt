@@ -4,8 +4,8 @@ ghost use Rattle.std.specs.Prelude.{◌≡◌, IfOk, IfErr, false, map};
 ghost use Rattle.clap.specs.Words.{app_of, kind_of, rule_of, subcommand_of, subcommand_rows_of, FailsBy};
 ghost use Rattle.cs_command.specs.CommandLine.{combine_app, count_rule, faults_of, file_rule, hub_app, id_rule, node_app, rebase_app, show_app, sqlite_rule, sync_app, syncing_app, table_rule, world_app};
 
-use clap::error::ErrorKind;
 use clap::builder::ValueParser;
+use clap::error::ErrorKind;
 use clap::{Arg, ArgAction, ArgMatches, Command, Error};
 use std::alloc::{AllocError, Global};
 use std::convert::AsStr;
@@ -14,17 +14,17 @@ fn table_words<'a>(alloc: Global) -> Arg<'a>
     ensures rule { rule_of result ≡ table_rule }
     ensures own { result.global ≡ false }
 {
-    Arg::new(alloc, "TABLE")
-        .action(ArgAction::Append)
-        .help("A table as NAME:MARKS, a 1 for a key column and a 0 for another")
+    Arg::new(alloc, "TABLE").action(ArgAction::Append).help(
+        "A table as NAME:MARKS, a 1 for a key column and a 0 for another",
+    )
 }
 
 fn hub_command<'a>(alloc: Global) -> Result<Command<'a>, AllocError>
     ensures { IfOk result (λ command. app_of command ≡ hub_app) }
 {
-    let file = Arg::new(alloc, "FILE")
-        .long("file")
-        .help("The file of SQLite that keeps rows and log, which is made where there is none");
+    let file = Arg::new(alloc, "FILE").long("file").help(
+        "The file of SQLite that keeps rows and log, which is made where there is none",
+    );
     let tables = table_words(alloc);
     Command::new(alloc, "hub")
         .about("Answer requests, one a line in hex, as a hub of these tables")
@@ -59,9 +59,9 @@ fn file_word<'a>(alloc: Global) -> Arg<'a>
     ensures rule { rule_of result ≡ file_rule }
     ensures own { result.global ≡ false }
 {
-    Arg::new(alloc, "FILE")
-        .required(true)
-        .help("The file of SQLite that keeps the replica, which is made where there is none")
+    Arg::new(alloc, "FILE").required(true).help(
+        "The file of SQLite that keeps the replica, which is made where there is none",
+    )
 }
 
 fn id_word<'a>(alloc: Global) -> Arg<'a>

@@ -10,7 +10,7 @@ ghost use Rattle.cs_text.specs.Text.{line};
 ghost use Rattle.cs_told.specs.Told.{place_text, row_text};
 
 use cs_member::rows_of;
-use cs_record::{Row, RowBuf};
+use cs_record::RowBuf;
 use cs_replica::Replica;
 use cs_rows::RowAtKey;
 use cs_store::{RowStore, StoreFault};
@@ -19,21 +19,11 @@ use cs_value::{Catalog, Memory, TableDef, Text};
 use std::alloc::Global;
 use std::fmt;
 
-fn write_row<'a, W: fmt::Write>(
-    table: &'a Text,
-    row: &'a Row<'a>,
-    f: &mut fmt::Formatter<W>,
-) -> fmt::Result
-    ensures { WritesOnOk W.write_str_gives f.old result (line (row_text table.now row.now)) f.new }
-{
-    write!(f, "{}\n", RowText { table, row })
-}
-
 fn write_stored<W: fmt::Write>(table: &Text, row: &RowBuf, f: &mut fmt::Formatter<W>) -> fmt::Result
     ensures { WritesOnOk W.write_str_gives f.old result (line (row_text table.now row.now)) f.new }
 {
     let row = row.as_row();
-    write_row(table, &row, f)
+    write!(f, "{}\n", RowText { table, row })
 }
 
 fn write_rows<W: fmt::Write>(
