@@ -214,12 +214,40 @@ expect 0 "$insert\n" 'table t1 10\ninsert 0 1 t=v1\n' '' show changeset
 expect 0 "$insert\n" 'table t1 10\nchange omit 1 t=v1\n' '' show blob
 expect 1 '54\n' '' 'sync: Truncated at 1\n' show blob
 
+# ---- worlds: a lost answer and an old push that comes again, two pushes on one version, what is refused, and lines that can't be read
+
+# plays N OUTPUT LINE..: the script is played so by a world of N replicas.
+plays() {
+    count=$1
+    shown=$2
+    shift 2
+    expect 0 "$(printf '%s\\n' "$@")" "$shown" '' world "$count" t1:10
+}
+
+plays 1 'ok\nsent 0\nsent 1\nok\nsent 2\nsent 3\ntaken 1 version 1\nsent 4\nignored\nhub 1\nrow t1 1 t=v1\nreplica 0 version 1 pending 1 flight 0\nrow t1 1 t=v2\n' \
+    'edit 0 insert t1 1 t=v1' 'push 0' 'deliver 0 -' 'edit 0 update t1 1 t=v2' 'pull 0 10' 'deliver 2 -' 'deliver 3 -' 'deliver 0 -' 'deliver 4 -'
+plays 2 'ok\nok\nsent 0\nsent 1\nsent 2\nsent 3\naccepted 1\nstale 1\nsent 4\nsent 5\ntaken 1 version 1\nsent 6\nsent 7\naccepted 2\nsent 8\nsent 9\ntaken 1 version 2\nhub 2\nrow t1 1 t=v2\nreplica 0 version 2 pending 0 flight 0\nrow t1 1 t=v2\nreplica 1 version 2 pending 0 flight 0\nrow t1 1 t=v2\n' \
+    'edit 0 insert t1 1 t=v1' 'edit 1 insert t1 1 t=v2' 'push 0' 'push 1' 'deliver 0 -' 'deliver 1 -' 'deliver 2 -' 'deliver 3 -' 'pull 1 10' \
+    'deliver 4 -' 'deliver 5 k' 'push 1' 'deliver 6 -' 'deliver 7 -' 'pull 0 10' 'deliver 8 -' 'deliver 9 -'
+plays 1 'ok\nrefused NoTable\nrefused Width\nrefused NullKey\nrefused Exists\nrefused Missing\nok\nok\nrefused Nothing\nrefused Nothing\nrefused NoMessage\nrefused NoReplica\nhub 0\nreplica 0 version 0 pending 0 flight 0\n' \
+    'edit 0 insert t1 1 t=v1' 'edit 0 insert t9 1' 'edit 0 insert t1 1 2 3' 'edit 0 insert t1 null t=x' 'edit 0 insert t1 1 t=x' 'edit 0 update t1 2 t=x' \
+    'edit 0 update t1 1 t=v1' 'edit 0 delete t1 1' 'push 0' 'resend 0' 'deliver 9 -' 'push 1'
+expect 0 '' 'hub 0\n' '' world 0 t1:10
+expect 1 'edit 0 insert t1 1 t=v1\nnonsense\n' '' 'sync: line 2\n' world 1 t1:10
+expect 1 'push 0\npush 0\nedit 0 update t1 - t=v1\n' '' 'sync: line 3\n' world 1 t1:10
+expect 2 'push 0\n' '' 'sync: table t1:12\n' world 1 t1:12
+for words in 'world' 'world x t1:10' 'world 4294967296 t1:10' 'node' 'node f' 'node f x t1:10' 'node f 4294967295 t1:10' 'hub --file'; do
+    refuses_words $words
+done
+
 # ---- the help: the usage line by the program's own name, whatever it was called by, and a line for each command
 
-help='Offline-first table sync: a hub, and tools for changesets\n\nUsage: sync [COMMAND]\n\nCommands:\n  hub      Answer requests, one a line in hex, as a hub of these tables\n  show     Show the changeset or rebase blob that the first line spells in hex\n  combine  Take the changesets that the lines spell in hex together as one\n  rebase   Rebase the changeset of the first line over the rebase blob of the second, in hex\n  help     Print this message or the help of the given subcommand(s)\n\nOptions:\n  -h, --help  Print help\n'
+help='Offline-first table sync: a hub, replicas, and tools for changesets\n\nUsage: sync [COMMAND]\n\nCommands:\n  hub      Answer requests, one a line in hex, as a hub of these tables\n  node     Edit, push and pull as a replica of these tables, one line a step\n  world    Run a script of a hub of these tables, its replicas and their messages\n  show     Show the changeset or rebase blob that the first line spells in hex\n  combine  Take the changesets that the lines spell in hex together as one\n  rebase   Rebase the changeset of the first line over the rebase blob of the second, in hex\n  help     Print this message or the help of the given subcommand(s)\n\nOptions:\n  -h, --help  Print help\n'
 help_to_combine='Take the changesets that the lines spell in hex together as one\n\nUsage: sync combine [--sqlite]\n\nOptions:\n      --sqlite  Write the column bytes that came in, as SQLite applies them\n  -h, --help    Print help\n'
 expect 0 '07\n' "$help" '' --help
 expect 0 '07\n' "$help_to_combine" '' help combine
+help_to_node='Edit, push and pull as a replica of these tables, one line a step\n\nUsage: sync node <FILE> <ID> [TABLE]...\n\nArguments:\n  <FILE>      The file of SQLite that keeps the replica, which is made where there is none\n  <ID>        The replica'"'"'s id, which no other at its hub has\n  [TABLE]...  A table as NAME:MARKS, a 1 for a key column and a 0 for another\n\nOptions:\n  -h, --help  Print help\n'
+expect 0 '07\n' "$help_to_node" '' node --help
 ln -s "$(realpath "$program")" "$dir/any"
 own="$program"
 program="$dir/any"

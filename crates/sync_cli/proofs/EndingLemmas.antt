@@ -1,12 +1,12 @@
 -- How a run ends, by what came of its parts.
 use Rattle.std.proofs.Common.{◌≡◌, List, ℕ, [], ◌∷◌, inl, inr, refl, subst}
-use Rattle.std.specs.Prelude.{◌⊎◌, ⊤, Option, Result, Ok, Err}
+use Rattle.std.specs.Prelude.{◌⊎◌, ⊤, Option, Result, Ok, Err, OnOk}
 use Rattle.std.specs.Io.KnownBytes.{Keeps}
 use Rattle.std.proofs.KnownBytes.{Keeps-refl}
 use Rattle.clap.specs.Kinds.{IsAmong, Kinds}
 use Rattle.clap.specs.declared.error.kind.ErrorKind.{ErrorKind}
 use Rattle.clap.specs.declared.error.kind.ErrorKind.TheVariants as kind
-use Rattle.sync_cli.specs.Endings.{EndsRefused, EndsUntaken, LacksMemory}
+use Rattle.sync_cli.specs.Endings.{EndsRefused, EndsUntaken, LacksMemory, told_as}
 use Rattle.sync_cli.specs.declared.fault.RunFault.{RunFault}
 use Rattle.sync_cli.specs.declared.fault.RunFault.TheVariants.{CommandLine, Line, Lines, Memory, Open, Read, Table, Write}
 
@@ -48,3 +48,9 @@ not_begun [] why failed old new (Err Read) none (inl memory) ends = absurd ends.
 not_begun [] why failed old new (Err (Line number)) none (inl memory) ends = absurd ends.1
 not_begun [] why failed old new (Err (Open fault)) none (inl memory) ends = absurd ends.1
 not_begun [] why failed old new (Err (Lines fault)) none (inl memory) ends = absurd ends.1
+
+-- what is so where a part of the run was done is so where the run was
+pub done_so : {F : Type 0} (told : F → RunFault) (ended : Result ⊤ F) (result : Result ⊤ RunFault) (P : Type 0)
+    → result ≡ told_as told ended → OnOk ended P → OnOk result P
+done_so told (Ok x) result P is done = rw is done
+done_so told (Err fault) result P is done = rw is tt

@@ -1,17 +1,19 @@
 -- What a hub over a store in memory answers, by its log.
-use Rattle.std.proofs.Common.{◌≡◌, ℕ, List, [], length, arith, refl}
-use Rattle.std.specs.Prelude.{◌⊎◌, Option, Ok, Err, flat_map}
-use Rattle.std.specs.Io.KnownBytes.{Appends}
+use Rattle.std.proofs.Common.{◌≡◌, ℕ, List, [], arith, refl}
+use Rattle.std.specs.Prelude.{⊤, Option, Result, Ok, Err}
 use Rattle.cs_hub.specs.Serves.{IsSame, Serves}
 use Rattle.cs_hub.specs.declared.hub.TheConstants.{MAX_ENTRIES}
-use Rattle.cs_hub_lines.specs.Endings.{AnsweredOver, EndsAnswered, EndsReading, EndsWriting}
+use Rattle.cs_hub_lines.specs.Endings.{AnsweredOver, EndsAnswered, EndsReading, EndsServingOn, EndsWriting}
+use Rattle.cs_hub_lines.specs.declared.fault.ServingFault.{ServingFault}
+use Rattle.cs_hub_lines.specs.declared.fault.ServingFault.TheVariants as serving
 use Rattle.cs_judging.specs.Hub.{HubState, fresh}
 use Rattle.cs_judging.specs.Judged.{hub_of}
 use Rattle.cs_lines.specs.Served.{AnswersAll}
 use Rattle.cs_map_store.specs.Slots.{InMemory, held_by, is_honest, leaves_held, misreads_of}
 use Rattle.cs_store.specs.Contents.{nothing}
 use Rattle.cs_value.specs.declared.catalog.TableDef.{TableDef}
-use Rattle.sync_cli.specs.Endings.{EndsServing}
+use Rattle.sync_cli.specs.Endings.{EndsServing, told_as}
+use Rattle.sync_cli.specs.Faults.{of_memory}
 use Rattle.sync_cli.specs.declared.fault.RunFault.TheVariants.{Read, Write}
 
 -- over a store in memory that held nothing, and of which nothing was misread, lines are answered by the log of a new hub
@@ -24,17 +26,28 @@ by_log tables store last lines answers bare none over =
 -- how a run ends whose lines such a hub answered
 module _ (tables : List TableDef) (store last : InMemory) (input left : Option (List ℕ)) (read_failed write_failed : Type 0) (before after : Option (List ℕ))
     (bare : held_by store ≡ nothing) (none : misreads_of store ≡ 0) where
-  pub all_answered : EndsAnswered is_honest held_by misreads_of leaves_held misreads_of tables store last input before after
+  abbrev Ended : Result ⊤ ServingFault → Type 0
+  Ended ended = EndsServingOn is_honest held_by misreads_of leaves_held misreads_of tables store last input left read_failed write_failed before after ended
+
+  all_answered : EndsAnswered is_honest held_by misreads_of leaves_held misreads_of tables store last input before after
       → EndsServing tables input left read_failed write_failed before after (Ok tt)
   all_answered (lines, answers, all, over, appends) =
       let run = by_log tables store last lines answers bare none over in (lines, answers, run.0, all, run.1, appends)
 
-  pub read_stopped : EndsReading is_honest held_by misreads_of leaves_held misreads_of tables store last input left read_failed before after
+  read_stopped : EndsReading is_honest held_by misreads_of leaves_held misreads_of tables store last input left read_failed before after
       → EndsServing tables input left read_failed write_failed before after (Err Read)
   read_stopped (lines, answers, all, over, appends, why) =
       let run = by_log tables store last lines answers bare none over in (lines, answers, run.0, all, run.1, appends, why)
 
-  pub write_stopped : EndsWriting is_honest held_by misreads_of leaves_held misreads_of tables store last input write_failed before after
+  write_stopped : EndsWriting is_honest held_by misreads_of leaves_held misreads_of tables store last input write_failed before after
       → EndsServing tables input left read_failed write_failed before after (Err Write)
   write_stopped (lines, answers, first, over, broken, failed) =
       let run = by_log tables store last lines answers bare none over in (lines, answers, run.0, first, run.1, broken, failed)
+
+  -- the same by how the hub's run ended
+  pub in_memory : (ended : Result ⊤ ServingFault) → Ended ended → EndsServing tables input left read_failed write_failed before after (told_as of_memory ended)
+  in_memory (Ok done) ends = all_answered ends
+  in_memory (Err serving.Read) ends = read_stopped ends
+  in_memory (Err serving.Write) ends = write_stopped ends
+  in_memory (Err serving.Memory) ends = ends.1
+  in_memory (Err (serving.Open why)) ends = ends.1

@@ -33,6 +33,13 @@ of_serving serving.Read = Read
 of_serving serving.Write = Write
 of_serving (serving.Open why) = Open why
 
+-- of a hub over a store in memory, which is opened but for want of memory
+abbrev pub of_memory : ServingFault → RunFault
+of_memory serving.Read = Read
+of_memory serving.Write = Write
+of_memory serving.Memory = Memory
+of_memory (serving.Open why) = Memory
+
 abbrev pub of_script : ScriptFault → RunFault
 of_script script.Memory = Memory
 of_script script.Read = Read

@@ -27,6 +27,13 @@ module _ {S : Type 0} (honest : S → Type 0) (contents : S → Contents) (faile
   EndsServingFile tables input left read_failed write_failed old new result =
       OverStore (λ store last. EndsAs of_serving (EndsServingOn honest contents failed may_leave misreads tables store last input left read_failed write_failed old new) result) old new result
 
+  -- over a file or not
+  abbrev pub EndsHub : Option (List ℕ) → List TableDef → Option (List ℕ) → Option (List ℕ) → Type 0 → Type 0 → Option (List ℕ) → Option (List ℕ)
+      → Result ⊤ RunFault → Type 0
+  EndsHub None tables input left read_failed write_failed old new result = EndsServing tables input left read_failed write_failed old new result
+  EndsHub (Some path) tables input left read_failed write_failed old new result =
+      EndsServingFile tables input left read_failed write_failed old new result
+
   -- the input was read whole, and the replica with this id was worked by its lines over the store; or it wasn't read, and no store was opened
   abbrev pub EndsNodeFile : ℕ → List TableDef → Option (List ℕ) → Type 0 → Type 0 → Option (List ℕ) → Option (List ℕ)
       → Result ⊤ RunFault → Type 0
@@ -38,10 +45,8 @@ module _ {S : Type 0} (honest : S → Type 0) (contents : S → Contents) (faile
   -- what the command line wants was done over the tables that its words spell
   abbrev pub EndsWanted : Wanted → List (List ℕ) → Option (List ℕ) → Option (List ℕ) → Type 0 → Type 0 → Option (List ℕ) → Option (List ℕ)
       → Result ⊤ RunFault → Type 0
-  EndsWanted (Hub None) words input left read_failed write_failed old new result =
-      OnTables words (λ tables. EndsServing tables input left read_failed write_failed old new result) old new result
-  EndsWanted (Hub (Some path)) words input left read_failed write_failed old new result =
-      OnTables words (λ tables. EndsServingFile tables input left read_failed write_failed old new result) old new result
+  EndsWanted (Hub file) words input left read_failed write_failed old new result =
+      OnTables words (λ tables. EndsHub file tables input left read_failed write_failed old new result) old new result
   EndsWanted (World count) words input left read_failed write_failed old new result =
       OnTables words (λ tables. EndsWorld count tables input left read_failed write_failed old new result) old new result
   EndsWanted (Node path id) words input left read_failed write_failed old new result =

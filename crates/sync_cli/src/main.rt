@@ -18,6 +18,7 @@ mod hub;
 mod node;
 mod run;
 mod status;
+mod world;
 
 use crate::fault::RunFault;
 use crate::status::tell_end;

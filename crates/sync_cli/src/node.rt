@@ -1,12 +1,14 @@
 //! `node FILE ID TABLE...`: a replica over a file, worked by lines.
 
-ghost use Rattle.std.specs.Prelude.{◌<◌, ◌-◌, ◌^◌, OnOk};
+ghost use Rattle.std.specs.Prelude.{◌≡◌, ◌<◌, ◌-◌, ◌^◌, OnOk};
+ghost use Rattle.sync_cli.specs.Endings.{told_as};
+ghost use Rattle.sync_cli.specs.Faults.{of_node};
 ghost use Rattle.sync_cli.specs.OverFiles.{EndsNodeFile};
 
 use crate::fault::RunFault;
 use cs_asks::read_asks;
 use cs_lines::{LineInput, LineOutput};
-use cs_replica_lines::work_on;
+use cs_replica_lines::{NodeFault, work_on};
 use cs_sql::SqlStore;
 use cs_store::RowStore;
 use cs_value::Catalog;
@@ -33,9 +35,22 @@ pub fn work_file<'w, R: LineInput, W: LineOutput>(
 {
     let alloc = rt.alloc();
     let asks = read_asks(alloc, catalog, reader)?;
-    let store = SqlStore::open_path(rt, path, Unknown)?;
+    let store = match SqlStore::open_path(rt, path, Unknown) {
+        Ok(store) => store,
+        Err(fault) => return Err(RunFault::from(fault)),
+    };
     let (ended, store) = work_on(alloc, store, catalog, id, asks.as_slice(), writer);
     // Each commit stands in the file's log by now, so a failure here loses nothing.
     let _ = store.close().close();
-    Ok(ended?)
+    told_of(ended)
+}
+
+// How the run ends where the node ended so.
+fn told_of<'w>(ended: Result<(), NodeFault>) -> Result<(), RunFault<'w>>
+    ensures { result ≡ told_as of_node ended }
+{
+    match ended {
+        Ok(()) => Ok(()),
+        Err(fault) => Err(RunFault::from(fault)),
+    }
 }

@@ -8,13 +8,13 @@ ghost use Rattle.sync_cli.specs.Endings.{EndsHelping, EndsRefused, EndsUnasked, 
 ghost use Rattle.sync_cli.specs.OverFiles.{EndsAsked, EndsWanted};
 
 use crate::fault::RunFault;
-use crate::hub::{serve_file, serve_hub};
+use crate::hub::serve_asked;
 use crate::node::work_file;
+use crate::world::play_script;
 use clap::error::ErrorKind;
 use clap::{ArgMatches, Error};
 use cs_command::{Asked, asked_of, catalog_of, parse};
 use cs_lines::{LineInput, LineOutput};
-use cs_script::run_script;
 use cs_sql::SqlStore;
 use cs_store::RowStore;
 use cs_tools::{run_tool, write_text};
@@ -86,9 +86,8 @@ fn run_asked<'w, R: LineInput, W: LineOutput>(
     }
     let catalog = catalog_of(alloc, matches)?;
     match asked {
-        Asked::Hub { file: None } => serve_hub(alloc, &catalog, reader, writer),
-        Asked::Hub { file: Some(path) } => serve_file(rt, path, &catalog, reader, writer),
-        Asked::World { count } => Ok(run_script(alloc, &catalog, *count, reader, writer)?),
+        Asked::Hub { file } => serve_asked(rt, *file, &catalog, reader, writer),
+        Asked::World { count } => play_script(alloc, *count, &catalog, reader, writer),
         Asked::Node { file, id } => work_file(rt, file, *id, &catalog, reader, writer),
         Asked::Tool(_) => Err(RunFault::CommandLine),
     }
