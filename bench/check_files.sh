@@ -6,6 +6,8 @@
 # it holds. No run crashes or takes longer than its time.
 # Usage: bench/check_files.sh PROGRAM
 set -u
+bench="$(cd "$(dirname "$0")" && pwd)"
+. "$bench/common.sh"
 program="$(readlink -f "${1:?usage: bench/check_files.sh PROGRAM}")"
 dir="$(mktemp -d)"
 trap 'chmod -R u+rwx "$dir"; rm -rf "$dir"' EXIT
@@ -100,10 +102,12 @@ refuses 'a line that no node reads, before a file that does not open' 'sync: lin
 
 # ---- what they left, in the shell
 
-shell="$(command -v sqlite3)" || {
-    command -v apt-get > /dev/null && { apt-get update && apt-get install -y sqlite3; } > "$dir/apt.log" 2>&1
-    shell="$(command -v sqlite3)" || echo "files: the sqlite3 shell can't be had; what was left is not looked at there"
-}
+shell=''
+if need_shell; then
+    shell="$(command -v sqlite3)"
+else
+    echo "files: the sqlite3 shell can't be had; what was left is not looked at there"
+fi
 
 # selects NAME FILE WANTED QUERY: the shell answers this.
 selects() {

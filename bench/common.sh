@@ -23,6 +23,15 @@ need_sqlite() {
     can_build
 }
 
+# The same of the `sqlite3` shell.
+need_shell() {
+    command -v sqlite3 > /dev/null && return 0
+    command -v apt-get > /dev/null || return 1
+    mkdir -p "$out"
+    { apt-get update && apt-get install -y sqlite3; } > "$out/apt_shell.log" 2>&1
+    command -v sqlite3 > /dev/null
+}
+
 # The toolchain's C part, which gives the library its memory (malloc).
 heap_library() {
     local rt
