@@ -1,4 +1,4 @@
-//! A hub over stores in memory, also such that fail, beside answers that were written by hand.
+//! A hub over stores in memory, also such that fail, and over one in SQLite, beside answers that were written by hand.
 
 ghost use Rattle.std.specs.Prelude.{◌≡◌, ◌≤◌, length};
 ghost use Rattle.cs_log.specs.declared.entry.TheConstants.{MAX_CHANGESET};
@@ -10,6 +10,7 @@ use cs_map_store::MapStore;
 use cs_normal::normalise;
 use cs_opening::OpenFault;
 use cs_rows::RowAtKey;
+use cs_sql::SqlStore;
 use cs_store::{RowStore, Trip};
 use cs_value::{Catalog, Items, TableDef, Text};
 use cs_wire::PushHead;
@@ -84,12 +85,17 @@ fn request(alloc: Global, asked: &Asked<'_>) -> Result<Vec<u8>, AllocError> {
 }
 
 /// Whether the hub answers the bytes of a request so.
-fn tells(hub: &mut Hub<Store>, request: &[u8], expected: &[u8]) -> bool {
+fn tells<S: RowStore>(hub: &mut Hub<S>, request: &[u8], expected: &[u8]) -> bool {
     matches!(hub.serve(request), Ok(answer) if answer.as_slice() == expected)
 }
 
 /// Whether the hub answers a request so.
-fn answers(alloc: Global, hub: &mut Hub<Store>, asked: &Asked<'_>, expected: &[u8]) -> bool {
+fn answers<S: RowStore>(
+    alloc: Global,
+    hub: &mut Hub<S>,
+    asked: &Asked<'_>,
+    expected: &[u8],
+) -> bool {
     match request(alloc, asked) {
         Ok(bytes) => tells(hub, &bytes, expected),
         Err(_) => false,
@@ -107,13 +113,19 @@ const ACCEPTED: &[u8] = b"\x11\0\0\0\x07\0\0\0\0\0\0\0\x01\0\0\0\0\0\0\0\x01";
 /// A request, and its answer.
 type Turn = (Asked<'static>, &'static [u8]);
 
+/// Whether a hub answers each turn so.
+fn answers_turns<S: RowStore>(alloc: Global, hub: &mut Hub<S>, session: &[Turn]) -> bool {
+    let mut all = true;
+    for (asked, expected) in session {
+        all = all && answers(alloc, hub, asked, expected);
+    }
+    all
+}
+
 /// Whether a new hub answers a session so.
 fn answers_session(alloc: Global, session: &[Turn]) -> Option<bool> {
     let mut hub = hub_of_t1(alloc)?;
-    let mut all = true;
-    for (asked, expected) in session {
-        all = all && answers(alloc, &mut hub, asked, expected);
-    }
+    let all = answers_turns(alloc, &mut hub, session);
     Some(all && hub.close().failures() == 0)
 }
 
@@ -133,6 +145,18 @@ const SESSION: [Turn; 7] = [
 #[test]
 fn a_session(rt: HostRuntime) {
     assert!(rt; answers_session(rt.alloc(), &SESSION).unwrap_or(false));
+}
+
+/// Whether a new hub over a database in memory answers the session so.
+fn answers_over_sqlite(alloc: Global) -> Option<bool> {
+    let store = SqlStore::open_memory(alloc).ok()?;
+    let mut hub = Hub::open(alloc, store, &catalog_of(alloc, "t1")?).ok()?;
+    Some(answers_turns(alloc, &mut hub, &SESSION))
+}
+
+#[test]
+fn a_session_over_sqlite(rt: HostRuntime) {
+    assert!(rt; answers_over_sqlite(rt.alloc()).unwrap_or(false));
 }
 
 /// Whether a hub's one row is the one of the INSERT, behind its key.

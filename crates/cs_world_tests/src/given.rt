@@ -2,6 +2,7 @@
 
 use cs_conflict::Wish;
 use cs_map_store::MapStore;
+use cs_store::RowStore;
 use cs_text::ValueText;
 use cs_value::{Catalog, Edit, Field, Fields, Items, Key, Memory, Row, TableDef, Text, Value};
 use cs_world::{Event, Outcome, WishList, World};
@@ -100,9 +101,9 @@ pub(crate) fn event(alloc: Global, act: Act) -> Result<Event, Memory> {
 }
 
 /// Whether the world makes each act, one behind another, and each comes to what stands beside it.
-pub(crate) fn plays(
+pub(crate) fn plays<S: RowStore>(
     alloc: Global,
-    world: &mut World<MapStore>,
+    world: &mut World<S>,
     acts: &[(Act, Outcome)],
 ) -> Option<bool> {
     for &(act, outcome) in acts {
@@ -115,9 +116,9 @@ pub(crate) fn plays(
 }
 
 /// What stands in the rows of `t1` that a replica has, or, where none is named, the hub: each value behind a space, and a line each.
-pub(crate) fn printed_rows(
+pub(crate) fn printed_rows<S: RowStore>(
     alloc: Global,
-    world: &mut World<MapStore>,
+    world: &mut World<S>,
     replica: Option<usize>,
 ) -> Option<String> {
     let listed = match replica {
