@@ -5,7 +5,7 @@
 //! lower case hex, and where the run stops early, which lines were answered and which side failed;
 //! `read_line` takes exactly one line off a reader, also where memory runs out in the middle of
 //! it; `write_hex_line` writes bytes as one line without taking memory, and holds nothing of it
-//! back. `LineInput` and `LineOutput` say what a reader and a writer owe for that.
+//! back, and `write_text` a text. `LineInput` and `LineOutput` say what a reader and a writer owe for that.
 //! Its tests stand in `cs_small_tests`.
 #![tactic(auto)]
 
@@ -19,7 +19,7 @@ pub use line::{LineRead, read_line};
 pub use reply::write_hex_line;
 pub use serve::{ASKS, Serve, Stop, serve_lines};
 use std::alloc::AllocError;
-pub use streams::{LineInput, LineOutput, write_whole};
+pub use streams::{LineInput, LineOutput, write_text, write_whole};
 
 /// Memory was refused.
 pub type Memory = AllocError;

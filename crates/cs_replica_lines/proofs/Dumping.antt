@@ -9,9 +9,8 @@ use Rattle.cs_store.specs.Contents.{Contents}
 use Rattle.cs_value.specs.Catalog.{AreTables}
 use Rattle.cs_value.specs.declared.catalog.TableDef.{TableDef}
 use Rattle.cs_value.specs.declared.value.Value.{Value}
-use Rattle.cs_replica_lines.specs.LineStep.{AreRowLines}
-use Rattle.cs_replica_lines.specs.Steps.{PutsTable, PutsTables}
-use Rattle.cs_replica_lines.specs.Texts.{rows_text}
+use Rattle.cs_replica_lines.specs.Steps.{PutsTable}
+use Rattle.cs_told.specs.Dump.{AreRowLines, PutsRows, rows_text}
 
 drop_suc : {A : Type 0} (xs : List A) (at : ℕ) (x : A) → slice_get xs at ≡ Some x → drop at xs ≡ x ∷ drop (suc at) xs
 drop_suc [] at x there = absurd (cc)
@@ -93,7 +92,7 @@ module _ {S : Type 0} (honest : S → Type 0) (contents : S → Contents) where
 
   -- none are left
   pub dumping_last : (tables : List TableDef) (table : ℕ) (start now : List ℕ) (old new : Holding S) → drop table tables ≡ [] → IsDumping tables table start now old new
-      → Turns honest contents (λ (before : Member) (after : Member). (after ≡ before) × PutsTables tables before.view.tables start now) old new
+      → Turns honest contents (λ (before : Member) (after : Member). (after ≡ before) × PutsRows tables before.view.tables start now) old new
   dumping_last tables table start now old new none some = record {
     was_honest = some.was_honest;
     catalog = some.catalog;

@@ -6,33 +6,24 @@ use Rattle.cs_asks.specs.declared.ask.Ask.TheVariants.{Answer, Dump, OnEdit, Pul
 use Rattle.cs_conflict.specs.declared.wish.Wish.{Wish}
 use Rattle.cs_lines.specs.Lines.{hex_line}
 use Rattle.cs_member.specs.Member.{Hears, IsEditedTo, IsPushedTo, IsResent, Member}
-use Rattle.cs_normal.specs.State.{State}
 use Rattle.cs_pending.specs.declared.fault.EditFault.{EditFault}
 use Rattle.cs_pulling.specs.declared.fault.AnswerFault.{AnswerFault}
 use Rattle.cs_pushing.specs.declared.fault.PushFault.{PushFault}
 use Rattle.cs_replica.specs.declared.told.Told.{Told}
-use Rattle.cs_rows.specs.Rows.{AreRowsOf}
 use Rattle.cs_store.specs.declared.fault.StoreFault.{StoreFault}
 use Rattle.cs_text.specs.Text.{line}
+use Rattle.cs_told.specs.Dump.{AreRowLines, replica_text}
 use Rattle.cs_value.specs.declared.catalog.TableDef.{TableDef}
-use Rattle.cs_value.specs.declared.value.Value.{Value}
 use Rattle.cs_wire.specs.Answers.{FitsAnswer, IsAnswerFault, answer_spelling}
 use Rattle.cs_wire.specs.Requests.{AsksPull, request_spelling}
 use Rattle.cs_wire.specs.declared.answer.Answer.{Answer as Told_by}
 use Rattle.cs_wire.specs.declared.fault.WireFault.{WireFault}
 use Rattle.cs_wire.specs.declared.request.RequestBuf.{RequestBuf}
-use Rattle.cs_replica_lines.specs.Texts.{edited_text, heard_text, pushed_text, refused_text, replica_text, rows_text, store_fault_text, wire_fault_text}
+use Rattle.cs_replica_lines.specs.Texts.{edited_text, heard_text, pushed_text, refused_text, store_fault_text, wire_fault_text}
 
 -- the text says that memory was refused
 abbrev pub SaysMemory : List ℕ → Type 0
 SaysMemory text = text ≡ refused_text (codes "Memory")
-
--- the lines of the rows of these tables, in order
-abbrev pub AreRowLines : List TableDef → State → List ℕ → Type 0
-AreRowLines [] state text = text ≡ []
-AreRowLines (table ∷ tables) state text =
-    (rows : List (List ℕ × List Value)) × (rest : List ℕ) × AreRowsOf (state table.name) rows
-    × AreRowLines tables state rest × (text ≡ rows_text table.name rows ++ rest)
 
 -- where the replica stands, and its rows: tables in the catalog's order, rows in the order of their keys' bytes
 abbrev pub IsDumped : List TableDef → Member → List ℕ → Type 0

@@ -9,12 +9,12 @@ use Rattle.cs_replica.specs.Holding.{Holding}
 use Rattle.cs_normal.specs.State.{State}
 use Rattle.cs_rows.specs.Rows.{AreRowsOf}
 use Rattle.cs_store.specs.Contents.{Contents}
+use Rattle.cs_told.specs.Dump.{rows_text}
 use Rattle.cs_value.specs.declared.catalog.TableDef.{TableDef}
 use Rattle.cs_value.specs.declared.value.Value.{Value}
 use Rattle.cs_replica_lines.specs.Endings.{BreaksOff, printed}
-use Rattle.cs_replica_lines.specs.LineStep.{AreRowLines, LineStep, LineSteps}
+use Rattle.cs_replica_lines.specs.LineStep.{LineStep, LineSteps}
 use Rattle.cs_replica_lines.specs.Replies.{reply_text}
-use Rattle.cs_replica_lines.specs.Texts.{rows_text}
 use Rattle.cs_replica_lines.specs.declared.fault.NodeFault.{NodeFault}
 use Rattle.cs_replica_lines.specs.declared.fault.NodeFault.TheVariants.{Line, Memory, Open, Read, Write}
 use Rattle.cs_replica_lines.specs.declared.reply.Reply.{Reply}
@@ -44,10 +44,6 @@ Prints (Err (Open fault)) write_failed old new text = ⊥
 abbrev pub PutsTable : State → List ℕ → List ℕ → List ℕ → Type 0
 PutsTable state name old new =
     (rows : List (List ℕ × List Value)) × AreRowsOf (state name) rows × (new ≡ old ++ rows_text name rows)
-
--- those of the rows of all tables do
-abbrev pub PutsTables : List TableDef → State → List ℕ → List ℕ → Type 0
-PutsTables tables state old new = (lines : List ℕ) × AreRowLines tables state lines × (new ≡ old ++ lines)
 
 module _ {S : Type 0} (honest : S → Type 0) (contents : S → Contents) where
   -- a line's step was made, whatever the replica's id is, and this is its reply

@@ -1,20 +1,14 @@
 -- What is printed of a replica (format of this project).
-use Rattle.std.specs.Prelude.{◌-◌, ◌^◌, ℕ, List, ◌++◌, Option, Some, None, Result, Ok, Err, codes, min}
-use Rattle.std.specs.List.{flat_map}
-use Rattle.std.specs.Fmt.{decimal}
+use Rattle.std.specs.Prelude.{ℕ, List, ◌++◌, Result, Ok, Err, codes}
 use Rattle.cs_lines.specs.Lines.{hex_line}
-use Rattle.cs_normal.specs.Normal.{count_of}
-use Rattle.cs_normal.specs.declared.normal.TableChanges.{TableChanges}
 use Rattle.cs_pending.specs.declared.fault.EditFault.{EditFault}
-use Rattle.cs_position.specs.declared.position.Position.{Position}
 use Rattle.cs_pulling.specs.declared.fault.AnswerFault.{AnswerFault}
 use Rattle.cs_pushing.specs.declared.fault.PushFault.{PushFault}
 use Rattle.cs_replica.specs.declared.told.Told.{Told}
 use Rattle.cs_store.specs.declared.fault.StoreFault.{StoreFault}
 use Rattle.cs_store.specs.declared.fault.StoreFault.TheVariants as store
 use Rattle.cs_text.specs.Text.{line}
-use Rattle.cs_told.specs.Told.{edit_fault_text, fault_text, place_text, push_fault_text, row_text, told_text}
-use Rattle.cs_value.specs.declared.value.Value.{Value}
+use Rattle.cs_told.specs.Told.{edit_fault_text, fault_text, push_fault_text, told_text}
 use Rattle.cs_wire.specs.Requests.{asked_by_owned, request_spelling}
 use Rattle.cs_wire.specs.declared.fault.WireFault.{WireFault}
 use Rattle.cs_wire.specs.declared.fault.WireFault.TheVariants as wire
@@ -53,22 +47,3 @@ pushed_text (Err fault) = refused_text (push_fault_text fault)
 abbrev pub heard_text : Result Told AnswerFault → ℕ → List ℕ
 heard_text (Ok told) version = line (told_text told version)
 heard_text (Err fault) version = line (fault_text fault)
-
--- ---- of a replica
-
--- how many changes a push has that is under way; 0 where none is
-abbrev pub flight_count : Option (List TableChanges) → ℕ
-flight_count (Some changes) = min (count_of changes) (2 ^ 64 - 1)
-flight_count None = 0
-
--- `replica ID`, and where it stands
-abbrev pub numbered_text : ℕ → List ℕ → List ℕ
-numbered_text id place = codes "replica " ++ (decimal id ++ (codes " " ++ place))
-
--- `replica ID version V pending P flight F`, of the replica with this id
-abbrev pub replica_text : ℕ → Position → List ℕ
-replica_text id position = numbered_text id (place_text position.version position.pending (flight_count position.flight))
-
--- a line for each row of a table, which stands behind the bytes of its key
-abbrev pub rows_text : List ℕ → List (List ℕ × List Value) → List ℕ
-rows_text table rows = flat_map (λ row. line (row_text table row.1)) rows

@@ -1,60 +1,20 @@
 //! Where a replica stands, and its rows.
 
 ghost use Rattle.std.specs.Prelude.{◌≡◌, IfOk, OnOk, Some, slice_get, string_bytes};
-ghost use Rattle.std.specs.Fmt.{WritesOnOk};
 ghost use Rattle.cs_member.specs.Member.{Member, Turns};
 ghost use Rattle.cs_replica_lines.specs.LineStep.{IsDumped};
-ghost use Rattle.cs_replica_lines.specs.Steps.{PutsTable, PutsTables};
-ghost use Rattle.cs_replica_lines.specs.Texts.{flight_count, numbered_text, replica_text, rows_text};
+ghost use Rattle.cs_replica_lines.specs.Steps.{PutsTable};
 ghost use Rattle.cs_text.specs.Text.{line};
-ghost use Rattle.cs_told.specs.Told.{place_text, row_text};
+ghost use Rattle.cs_told.specs.Dump.{PutsRows, flight_count, numbered_text, replica_text, rows_text};
+ghost use Rattle.cs_told.specs.Told.{place_text};
 
 use cs_member::rows_of;
-use cs_record::RowBuf;
 use cs_replica::Replica;
 use cs_rows::RowAtKey;
 use cs_store::{RowStore, StoreFault};
-use cs_told::{PlaceText, RowText};
+use cs_told::{PlaceText, ReplicaText, RowsText};
 use cs_value::{Catalog, Memory, TableDef, Text};
 use std::alloc::Global;
-use std::fmt;
-
-fn write_stored<W: fmt::Write>(table: &Text, row: &RowBuf, f: &mut fmt::Formatter<W>) -> fmt::Result
-    ensures { WritesOnOk W.write_str_gives f.old result (line (row_text table.now row.now)) f.new }
-{
-    let row = row.as_row();
-    write!(f, "{}\n", RowText { table, row })
-}
-
-fn write_rows<W: fmt::Write>(
-    table: &Text,
-    rows: &[RowAtKey],
-    f: &mut fmt::Formatter<W>,
-) -> fmt::Result
-    ensures { WritesOnOk W.write_str_gives f.old result (rows_text table.now rows.now) f.new }
-{
-    for stored in rows {
-        write_stored(table, &stored.1, f)?;
-    }
-    Ok(())
-}
-
-/// Rows of the table with this name, a line each.
-#[derive(Clone, Copy)]
-struct RowsText<'a> {
-    table: &'a Text,
-    rows: &'a [RowAtKey],
-}
-
-impl fmt::Display for RowsText<'_> {
-    ghost use Rattle.std.specs.Prelude.{Some};
-
-    ghost output = { λ text. Some (rows_text text.table.now text.rows.now) };
-
-    fn fmt<W: fmt::Write>(&self, f: &mut fmt::Formatter<W>) -> fmt::Result {
-        write_rows(self.table, self.rows, f)
-    }
-}
 
 /// The lines of rows of the table with this name.
 fn lines_of(alloc: Global, table: &Text, rows: &[RowAtKey]) -> Result<String, Memory>
@@ -73,21 +33,12 @@ fn flight_len<S: RowStore>(replica: &Replica<S>) -> usize
     }
 }
 
-/// Ends a line.
-fn end_line(text: String) -> Result<String, Memory>
-    ensures { IfOk result (λ ended. string_bytes ended ≡ line (string_bytes text)) }
-{
-    let mut text = text;
-    text.push_str("\n")?;
-    Ok(text)
-}
-
 /// The line of the replica with this id, which stands there.
 fn line_of(alloc: Global, id: u32, place: PlaceText) -> Result<String, Memory>
     ensures { IfOk result (λ text. string_bytes text ≡ line (numbered_text id (place_text place.version place.pending place.flight))) }
 {
-    let text = format!(in alloc; "replica {id} {place}")?;
-    end_line(text)
+    let id = id as u64;
+    format!(in alloc; "{}\n", ReplicaText { id, place })
 }
 
 /// The line of where a replica stands.
@@ -135,7 +86,7 @@ fn put_tables<S: RowStore>(
 ) -> Result<(), StoreFault>
     requires { replica.old.catalog ≡ catalog.now }
     ensures { Turns S.honest S.contents (λ (before : Member) (after : Member). (after ≡ before)
-        × OnOk result (PutsTables catalog.now before.view.tables (string_bytes text.old) (string_bytes text.new))) replica.old replica.new }
+        × OnOk result (PutsRows catalog.now before.view.tables (string_bytes text.old) (string_bytes text.new))) replica.old replica.new }
 {
     let tables = catalog.tables();
     for table in 0..tables.len() {

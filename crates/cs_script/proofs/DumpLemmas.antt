@@ -14,8 +14,9 @@ use Rattle.cs_text.specs.Text.{line}
 use Rattle.cs_told.specs.Told.{place_text}
 use Rattle.cs_world.specs.Reads.{AreRowsIn}
 use Rattle.cs_world.specs.World.{Member, World}
-use Rattle.cs_script.specs.Dump.{AreReplicaLines, AreRowLines, flight_count, replica_text, rows_text}
-use Rattle.cs_script.specs.Turns.{PutsDump, PutsReplica, PutsReplicas, PutsRows}
+use Rattle.cs_script.specs.Dump.{AreReplicaLines}
+use Rattle.cs_script.specs.Turns.{PutsDump, PutsReplica, PutsReplicas}
+use Rattle.cs_told.specs.Dump.{AreRowLines, PutsRows, flight_count, numbered_text, replica_text, rows_text}
 
 rows_push : (tables : List TableDef) (table : TableDef) (state : State) (text : List ℕ) (rows : List (List ℕ × List Value))
     → AreRowLines tables state text → AreRowsOf (state table.name) rows
@@ -125,16 +126,15 @@ on_ok (Err e) P Q f p = tt
 
 -- where a replica stands
 title_is : (r version pending flight : ℕ) (position : Position) → version ≡ position.version → pending ≡ position.pending → flight ≡ flight_count position.flight
-    → codes "replica " ++ decimal r ++ codes " " ++ place_text version pending flight ≡ replica_text r position
+    → numbered_text r (place_text version pending flight) ≡ replica_text r position
 title_is r version pending flight position e f g =
-    let title = codes "replica " ++ decimal r ++ codes " " in
-    ap (λ n. title ++ place_text n pending flight) e ∙ ap (λ n. title ++ place_text position.version n flight) f
-    ∙ ap (λ n. title ++ place_text position.version position.pending n) g
+    ap (λ n. numbered_text r (place_text n pending flight)) e ∙ ap (λ n. numbered_text r (place_text position.version n flight)) f
+    ∙ ap (λ n. numbered_text r (place_text position.version position.pending n)) g
 
 -- and its rows
 pub puts_replica : (tables : List TableDef) (r version pending flight : ℕ) (member : Member) (before title after : List ℕ)
     → version ≡ member.position.version → pending ≡ member.position.pending → flight ≡ flight_count member.position.flight
-    → title ≡ before ++ line (codes "replica " ++ decimal r ++ codes " " ++ place_text version pending flight)
+    → title ≡ before ++ line (numbered_text r (place_text version pending flight))
     → PutsRows tables member.view.tables title after → PutsReplica tables r member before after
 puts_replica tables r version pending flight member before title after e f g is rows =
     let same = title_is r version pending flight member.position e f g in

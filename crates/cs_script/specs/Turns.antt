@@ -7,13 +7,14 @@ use Rattle.cs_log.specs.Log.{state_of}
 use Rattle.cs_map_store.specs.Slots.{InMemory, held_by, is_honest}
 use Rattle.cs_normal.specs.State.{State}
 use Rattle.cs_text.specs.Text.{line}
+use Rattle.cs_told.specs.Dump.{AreRowLines, replica_text}
 use Rattle.cs_value.specs.declared.catalog.TableDef.{TableDef}
 use Rattle.cs_world.specs.Holding.{Holding, StandsAt as StandsAtOver}
 use Rattle.cs_world.specs.Steps.{Step}
 use Rattle.cs_world.specs.World.{IsMember, Member, World}
 use Rattle.cs_world.specs.declared.event.Event.{Event}
 use Rattle.cs_world.specs.declared.outcome.Outcome.{Outcome}
-use Rattle.cs_script.specs.Dump.{AreReplicaLines, AreRowLines, IsDump, replica_text}
+use Rattle.cs_script.specs.Dump.{AreReplicaLines, IsDump}
 use Rattle.cs_script.specs.Events.{event_in}
 use Rattle.cs_script.specs.Played.{Plays, outcome_text, version_told}
 use Rattle.cs_script.specs.declared.fault.ScriptFault.{ScriptFault}
@@ -51,10 +52,6 @@ PlaysOnto old events before after held =
 abbrev pub IsStateOf : World → Option ℕ → State → Type 0
 IsStateOf world None state = state ≡ state_of world.log
 IsStateOf world (Some r) state = (member : Member) × IsMember world r member × (state ≡ member.view.tables)
-
--- the rows of tables stand behind a text
-abbrev pub PutsRows : List TableDef → State → List ℕ → List ℕ → Type 0
-PutsRows tables state before after = (rows : List ℕ) × AreRowLines tables state rows × (after ≡ before ++ rows)
 
 -- a replica stands behind a text
 abbrev pub PutsReplica : List TableDef → ℕ → Member → List ℕ → List ℕ → Type 0

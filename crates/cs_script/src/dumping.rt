@@ -3,16 +3,16 @@
 ghost use Rattle.std.specs.Prelude.{◌≡◌, ◌++◌, IfOk, OnOk, codes, string_bytes};
 ghost use Rattle.std.specs.Fmt.{decimal};
 ghost use Rattle.cs_normal.specs.State.{State};
-ghost use Rattle.cs_script.specs.Dump.{flight_count, rows_text};
-ghost use Rattle.cs_script.specs.Turns.{IsStateOf, PutsDump, PutsReplica, PutsReplicas, PutsRows, StandsAt};
+ghost use Rattle.cs_script.specs.Turns.{IsStateOf, PutsDump, PutsReplica, PutsReplicas, StandsAt};
 ghost use Rattle.cs_text.specs.Text.{line};
+ghost use Rattle.cs_told.specs.Dump.{PutsRows, flight_count, numbered_text, rows_text};
 ghost use Rattle.cs_told.specs.Told.{place_text};
 ghost use Rattle.cs_world.specs.Reads.{AreRowsIn};
 ghost use Rattle.cs_world.specs.World.{IsMember, Member, World as Standing};
 
 use cs_map_store::MapStore;
 use cs_rows::RowAtKey;
-use cs_told::{PlaceText, RowText};
+use cs_told::{PlaceText, ReplicaText, RowsText};
 use cs_value::{Catalog, Memory, Text};
 use cs_world::World;
 use std::alloc::{AllocError, Global};
@@ -78,9 +78,10 @@ fn push_place(
     text: &mut String,
 ) -> Result<(), Memory>
     ensures { OnOk result (string_bytes text.new ≡ string_bytes text.old
-        ++ line (codes "replica " ++ decimal replica ++ codes " " ++ place_text place.version place.pending place.flight)) }
+        ++ line (numbered_text replica (place_text place.version place.pending place.flight))) }
 {
-    let line = format!(in alloc; "replica {replica} {place}\n")?;
+    let id = replica as u64;
+    let line = format!(in alloc; "{}\n", ReplicaText { id, place })?;
     text.push_str(line.as_str())?;
     Ok(())
 }
@@ -162,10 +163,7 @@ fn push_rows(
 ) -> Result<(), Memory>
     ensures { OnOk result (string_bytes text.new ≡ string_bytes text.old ++ rows_text table.now rows.now) }
 {
-    for (_, row) in rows {
-        let row = row.as_row();
-        let line = format!(in alloc; "{}\n", RowText { table, row })?;
-        text.push_str(line.as_str())?;
-    }
+    let lines = format!(in alloc; "{}", RowsText { table, rows })?;
+    text.push_str(lines.as_str())?;
     Ok(())
 }

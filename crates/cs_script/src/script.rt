@@ -1,19 +1,16 @@
 //! A script, from its lines to its text.
 
-ghost use Rattle.std.specs.Prelude.{IfOk, OnErr, OnOk, string_bytes};
-ghost use Rattle.std.specs.Io.KnownBytes.{Appends};
-ghost use Rattle.cs_lines.specs.Writing.{AppendsFront};
+ghost use Rattle.std.specs.Prelude.{IfOk, string_bytes};
 ghost use Rattle.cs_script.specs.Endings.{EndsScript, IsPlayed};
 
 use crate::dumping::push_dump;
 use crate::fault::ScriptFault;
 use crate::playing::play;
 use crate::reading::read_script;
-use cs_lines::{LineInput, LineOutput};
+use cs_lines::{LineInput, LineOutput, write_text};
 use cs_value::{Catalog, Memory};
 use cs_world::{Event, World};
 use std::alloc::{AllocError, Global};
-use std::io;
 
 /// Reads a script whole, makes its events in a new world in memory of so many replicas of these tables, and writes what each came to, a
 /// line each, and then the hub and the replicas, each with its rows. (Profile of this project.)
@@ -34,20 +31,10 @@ pub fn run_script<R: LineInput, W: LineOutput>(
 {
     let events = read_script(alloc, catalog, reader)?;
     let text = played_text(alloc, catalog, count, &events)?;
-    match send_text(writer, text.as_str()) {
+    match write_text(writer, text.as_str()) {
         Ok(()) => Ok(()),
         Err(_) => Err(ScriptFault::Write),
     }
-}
-
-fn send_text<W: LineOutput>(writer: &mut W, text: &str) -> io::Result<()>
-    ensures written { OnOk result (Appends (W.contents writer.old) (W.contents writer.new) text.now) }
-    ensures sent { OnOk result (W.sent writer.new) }
-    ensures front { OnErr result (AppendsFront (W.contents writer.old) (W.contents writer.new) text.now) }
-    ensures failed { OnErr result (W.failed writer.new) }
-{
-    writer.put(text.as_bytes())?;
-    writer.send()
 }
 
 // The text of a run, and of the world at its end.

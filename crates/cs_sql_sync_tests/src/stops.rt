@@ -277,12 +277,7 @@ fn hub_in_memory(alloc: Global, catalog: &Catalog, commits: usize) -> Option<Vec
 }
 
 /// How many commits of the hub succeed in new files that stop, and the files then.
-fn hub_stopped(
-    alloc: Global,
-    catalog: &Catalog,
-    file: File,
-    calls: u64,
-) -> (usize, Files<Disk>) {
+fn hub_stopped(alloc: Global, catalog: &Catalog, file: File, calls: u64) -> (usize, Files<Disk>) {
     let store = match open_new(alloc, file, calls) {
         Ok(store) => store,
         Err(files) => return (0, files),

@@ -3,9 +3,12 @@
 ghost use Rattle.std.specs.Prelude.{Some};
 ghost use Rattle.std.specs.Fmt.{WritesOnOk};
 ghost use Rattle.cs_text.specs.Text.{values_text};
+ghost use Rattle.cs_text.specs.Text.{line};
+ghost use Rattle.cs_told.specs.Dump.{numbered_text, rows_text};
 ghost use Rattle.cs_told.specs.Told.{place_text, row_text};
 
-use cs_record::Row;
+use cs_record::{Row, RowBuf};
+use cs_rows::RowAtKey;
 use cs_text::{NameText, ValueText};
 use cs_value::Text;
 use std::fmt;
@@ -30,6 +33,23 @@ impl fmt::Display for PlaceText {
             "version {} pending {} flight {}",
             self.version, self.pending, self.flight
         )
+    }
+}
+
+/// Where the replica with this id stands: `replica ID version V pending P flight F`.
+#[derive(Clone, Copy)]
+pub struct ReplicaText {
+    /// The replica's id.
+    pub id: u64,
+    /// Where it stands.
+    pub place: PlaceText,
+}
+
+impl fmt::Display for ReplicaText {
+    ghost output = { λ text. Some (numbered_text text.id (place_text text.place.version text.place.pending text.place.flight)) };
+
+    fn fmt<W: fmt::Write>(&self, f: &mut fmt::Formatter<W>) -> fmt::Result {
+        write!(f, "replica {} {}", self.id, self.place)
     }
 }
 
@@ -59,5 +79,42 @@ impl fmt::Display for RowText<'_, '_> {
     fn fmt<W: fmt::Write>(&self, f: &mut fmt::Formatter<W>) -> fmt::Result {
         write!(f, "row {}", NameText(self.table))?;
         write_values(&self.row, f)
+    }
+}
+
+/// Rows of the table with this name, each behind the bytes of its key: a line for each, `row T VALUES`.
+#[derive(Clone, Copy)]
+pub struct RowsText<'a> {
+    /// The table's name.
+    pub table: &'a Text,
+    /// The rows.
+    pub rows: &'a [RowAtKey],
+}
+
+fn write_stored<W: fmt::Write>(table: &Text, row: &RowBuf, f: &mut fmt::Formatter<W>) -> fmt::Result
+    ensures { WritesOnOk W.write_str_gives f.old result (line (row_text table.now row.now)) f.new }
+{
+    let row = row.as_row();
+    write!(f, "{}\n", RowText { table, row })
+}
+
+fn write_rows<W: fmt::Write>(
+    table: &Text,
+    rows: &[RowAtKey],
+    f: &mut fmt::Formatter<W>,
+) -> fmt::Result
+    ensures { WritesOnOk W.write_str_gives f.old result (rows_text table.now rows.now) f.new }
+{
+    for stored in rows {
+        write_stored(table, &stored.1, f)?;
+    }
+    Ok(())
+}
+
+impl fmt::Display for RowsText<'_> {
+    ghost output = { λ text. Some (rows_text text.table.now text.rows.now) };
+
+    fn fmt<W: fmt::Write>(&self, f: &mut fmt::Formatter<W>) -> fmt::Result {
+        write_rows(self.table, self.rows, f)
     }
 }

@@ -19,5 +19,4 @@ mod tool;
 mod written;
 
 pub use fault::ToolFault;
-pub use output::write_text;
 pub use tool::{Form, Tool, run_tool};

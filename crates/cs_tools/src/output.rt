@@ -1,25 +1,11 @@
 //! What a tool owes, on the output.
 
-ghost use Rattle.std.specs.Prelude.{◌≡◌, Err, IsOkAnd, OnErr, OnOk};
-ghost use Rattle.std.specs.Io.KnownBytes.{Appends};
+ghost use Rattle.std.specs.Prelude.{◌≡◌, Err, IsOkAnd, OnOk};
 ghost use Rattle.cs_lines.specs.Lines.{hex_line};
-ghost use Rattle.cs_lines.specs.Writing.{AppendsFront};
 ghost use Rattle.cs_tools.specs.Endings.{Ends};
 
 use crate::fault::ToolFault;
-use cs_lines::{LineOutput, write_hex_line};
-use std::io;
-
-/// Writes a text and sends it. Where a write or flush fails, the writer holds a front of it.
-pub fn write_text<W: LineOutput>(writer: &mut W, text: &str) -> io::Result<()>
-    ensures written { OnOk result (Appends (W.contents writer.old) (W.contents writer.new) text.now) }
-    ensures sent { OnOk result (W.sent writer.new) }
-    ensures front { OnErr result (AppendsFront (W.contents writer.old) (W.contents writer.new) text.now) }
-    ensures failed { OnErr result (W.failed writer.new) }
-{
-    writer.put(text.as_bytes())?;
-    writer.send()
-}
+use cs_lines::{LineOutput, write_hex_line, write_text};
 
 /// Writes the text that is owed, or tells why there is none.
 pub fn end_with_text<W: LineOutput>(

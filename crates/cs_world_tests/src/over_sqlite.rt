@@ -20,7 +20,11 @@ fn world(alloc: Global, replicas: usize) -> Option<World<SqlStore<MemStore>>> {
 }
 
 /// Whether these have these rows: a replica, or, where none is named, the hub.
-fn has<S: RowStore>(alloc: Global, world: &mut World<S>, whose: &[(Option<usize>, &str)]) -> Option<bool> {
+fn has<S: RowStore>(
+    alloc: Global,
+    world: &mut World<S>,
+    whose: &[(Option<usize>, &str)],
+) -> Option<bool> {
     for &(replica, rows) in whose {
         if printed_rows(alloc, world, replica)?.as_str() != rows {
             return Some(false);

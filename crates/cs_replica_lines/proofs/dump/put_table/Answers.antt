@@ -1,6 +1,6 @@
 use Rattle.std.proofs.Common.{◌++◌, ◌∙◌, ap}
 use Rattle.std.specs.Prelude.{string_bytes}
-use Rattle.cs_replica_lines.specs.Texts.{rows_text}
+use Rattle.cs_told.specs.Dump.{rows_text}
 use Rattle.cs_replica_lines.proofs.Dumping.{put_one}
 use Rattle.cs_replica_lines.proofs.dump.put_table.Goals as goal
 

@@ -2,7 +2,8 @@
 use Rattle.std.proofs.Common.{◌≡◌, take}
 use Rattle.std.specs.Prelude.{string_bytes}
 use Rattle.cs_normal.specs.State.{State}
-use Rattle.cs_script.specs.Turns.{IsStateOf, PutsRows, StandsAt}
+use Rattle.cs_script.specs.Turns.{IsStateOf, StandsAt}
+use Rattle.cs_told.specs.Dump.{PutsRows}
 use Rattle.cs_world.specs.World.{World}
 use Rattle.cs_script.proofs.dumping.push_tables.Given as goal
 
