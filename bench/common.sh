@@ -99,6 +99,7 @@ build_rattle() {
     mkdir -p "$out"
     work="$(mktemp -d)"
     mkdir -p "$work/crates/$name/src"
+    cp "$bench/../HANDLES" "$work/"
     for crate_below in $(crates_below "$@"); do
         cp -r "$bench/../crates/$crate_below" "$work/crates/"
         grep "^$crate_below:" "$bench/../crates.txt" >> "$work/crates.txt"

@@ -1,8 +1,9 @@
 #!/bin/sh
 # Times a store in a file beside the same statements through SQLite's library from C, in one run, each on a file of its own in one folder, with
 # full syncs: 10,000 commits of a row and a pending change, 10,000 of a row and an entry of the log, by C with WAL and with the rollback journal;
-# 10,000 reads of a row; and a replica with 1,000,000 rows that is opened, beside reading these rows by C. It isn't in `.ci/run`.
-# Usage: bench/sql_speed.sh [FOLDER]
+# 10,000 reads of a row; and a replica with 1,000,000 rows that is opened, beside reading these rows by C. With PROGRAM, the built program
+# `sync`, also how long a hub on a file takes for 4,096 pushes, and a second run of it for a pull of 4,000 entries. It isn't in `.ci/run`.
+# Usage: bench/sql_speed.sh [FOLDER [PROGRAM]]
 # The files are made in the folder, which lies on the disk that is asked about.
 set -eu
 bench="$(cd "$(dirname "$0")" && pwd)"
@@ -40,3 +41,15 @@ awk '
         against("get", "C", best["wal get"])
         against("open", "reading by C, 1,000,000 rows", best["wal read"])
     }' "$out/sql_times"
+
+[ -n "${2:-}" ] || exit 0
+python3 "$bench/measure.py" input "$out/hub_requests"
+head -n 4096 "$out/hub_requests" > "$out/hub_pushes"
+echo 02000000000000000000000fa0 > "$out/hub_pull"
+for requests in hub_pushes hub_pull; do
+    start="$(date +%s%N)"
+    "$2" hub --file "$folder/hub" t1:10 < "$out/$requests" > "$out/hub_answers"
+    end="$(date +%s%N)"
+    [ "$(wc -l < "$out/hub_answers")" -eq "$(wc -l < "$out/$requests")" ] || { echo "WRONG: fewer answers than requests"; exit 1; }
+    echo "$requests, $(wc -l < "$out/$requests") of them on a file: $(((end - start) / 1000000)) ms in all"
+done
