@@ -1,1 +1,5 @@
 mod Turned
+mod OneEdit
+mod EditCan
+mod OnePush
+mod OneAnswer
