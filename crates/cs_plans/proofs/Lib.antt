@@ -1,0 +1,3 @@
+pub mod Onward
+pub mod Paired
+pub mod Ended

@@ -1,6 +1,6 @@
 -- Plans with the ids of their nodes: no definition that a public clause cites.
 use Rattle.std.specs.Prelude.{◌≡◌, ℕ, List, Some, map, slice_get}
-use Rattle.cs_plans.specs.declared.ending.Job.{Job}
+use Rattle.cs_plans.specs.declared.job.Job.{Job}
 use Rattle.cs_plans.specs.declared.plan.Step.{Step}
 
 -- these plans in their order, each with its place

@@ -1,10 +1,11 @@
 //! Nodes that run their plans, each in a thread of its own, and their ends.
 
-ghost use Rattle.std.specs.Prelude.{◌≡◌, ◌≢◌, ◌≤◌, ◌<◌, ◌-◌, ◌^◌, ◌↔◌, [], All, IfOk, IsErrOf, Ok, map, vec_capacity, vec_len};
+ghost use Rattle.std.specs.Prelude.{◌≡◌, ◌≢◌, ◌≤◌, ◌<◌, ◌^◌, ◌↔◌, [], All, IfOk, IsErrOf, Ok, map, vec_capacity, vec_len};
 ghost use Rattle.cs_plans.specs.Ends.{AreEnds, IsEnd};
-ghost use Rattle.cs_plans.specs.Jobs.{AreJobsOf};
 
 use crate::fault::RunFault;
+use crate::job::Job;
+use crate::pairing::make_jobs;
 use crate::plan::{Plan, Port, Stepped};
 use crate::running::run_plan;
 use crate::stepping::Held;
@@ -22,46 +23,6 @@ pub struct NodeEnd<'s> {
     pub node: Node<'s, MapStore>,
     /// What the plan's calls came to, in order.
     pub steps: Vec<Stepped>,
-}
-
-/// A plan, with the id of its node and its port.
-#[derive(Drop)]
-pub(crate) struct Job<P> {
-    id: u32,
-    plan: Plan,
-    port: P,
-    ghost small: { id < 2 ^ 32 - 1 },
-}
-
-impl<P> Job<P> {
-    fn new(id: u32, plan: Plan, port: P) -> Job<P>
-        requires { id < 2 ^ 32 - 1 }
-        ensures id { result.id ≡ id }
-        ensures plan { result.plan ≡ plan }
-    {
-        Job { id, plan, port }
-    }
-}
-
-/// Each plan with its place, as the id of its node, and the port at that place.
-fn make_jobs<P: Drop>(
-    alloc: Global,
-    ports: Vec<P>,
-    plans: Vec<Plan>,
-) -> Result<Vec<Job<P>>, Memory>
-    requires even { vec_len ports ≡ vec_len plans }
-    requires count { vec_len plans < 2 ^ 32 }
-    ensures { IfOk result (λ jobs. AreJobsOf plans.items jobs.items) }
-{
-    let mut jobs = Vec::with_capacity(alloc, plans.len())?;
-    let mut ports = ports.into_iter();
-    'plans: for plan in plans {
-        let Some(port) = ports.next() else {
-            unreachable!()
-        };
-        jobs.push_reserved(Job::new(jobs.len() as u32, plan, port));
-    }
-    Ok(jobs)
 }
 
 /// A new node runs a plan.
@@ -89,7 +50,7 @@ fn all_ends<'s>(
 ) -> Result<Vec<NodeEnd<'s>>, Memory>
     requires none { ends.items ≡ [] }
     requires room { vec_len results ≤ vec_capacity ends }
-    ensures { IfOk result (λ all. map (λ end. Ok end) all.items ≡ results.items) }
+    ensures { IfOk result (λ all. map (λ end. Ok end) all.items ≡ results.entry.items) }
 {
     'results: for result in results {
         ends.push_reserved(result?);
@@ -113,7 +74,8 @@ fn run_even<'s, R: Threads + Sync, P: Port + Send + Drop>(
     let ends = Vec::with_capacity(alloc, plans.len())?;
     let jobs = make_jobs(alloc, ports, plans)?;
     let results = thread::map_vec(rt, jobs, &|job| run_job(alloc, catalog, spine, job))?;
-    all_ends(ends, results)
+    let all = all_ends(ends, results)?;
+    Ok(all)
 }
 
 /// Runs each plan in a thread of its own, on a new node over a store in memory, whose id is the plan's place, from 0 on; all nodes are of

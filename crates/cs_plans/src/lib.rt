@@ -7,6 +7,8 @@
 
 mod ending;
 mod fault;
+mod job;
+mod pairing;
 mod plan;
 mod running;
 mod stepping;
