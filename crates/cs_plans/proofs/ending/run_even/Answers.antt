@@ -1,4 +1,4 @@
-use Rattle.std.proofs.Common.{◌≡◌, Ok, length, get_or, subst, sym, ◌∙◌, arith}
+use Rattle.std.proofs.Common.{rules, ◌≡◌, Ok, length, get_or, subst, sym, ◌∙◌, arith}
 use Rattle.std.specs.Prelude.{IfOk, Result}
 use Rattle.std.specs.Fork.{GivesJob}
 use Rattle.std.specs.declared.alloc.AllocError.{AllocError}
@@ -19,5 +19,5 @@ returns g c =
     let got : get_or c.in_ok-results.results.items i (Ok end) ≡ Ok end = get_or_from_slice_get c.in_ok-results.results.items i (Ok end) (Ok end) came in
     let whole : Result NodeEnd AllocError = Ok end in
     let said : IfOk whole (λ (one : NodeEnd). IsEnd c.args.catalog.now c.args.spine.now e.1.job.id e.1.job.plan one) =
-    subst (λ (r : Result NodeEnd AllocError). IfOk r (λ (one : NodeEnd). IsEnd c.args.catalog.now c.args.spine.now e.1.job.id e.1.job.plan one)) got e.1.call.met in
+    (let met = e.1.call.met in rw (← got) (search rules)) in
     subst (λ (j : Job g.row.P.Denot). IsEnd c.args.catalog.now c.args.spine.now j.id j.plan end) same said)
