@@ -7,7 +7,7 @@ use Rattle.cs_following.specs.Pushes.{IsAtRest, PushesOn}
 use Rattle.cs_following.specs.Standing.{Begins}
 use Rattle.cs_following.specs.declared.fault.NodeFault.{NodeFault}
 use Rattle.cs_following.specs.declared.pushed.NodePush.{NodePush}
-use Rattle.cs_following.specs.declared.pushed.NodePush.TheVariants.{Nothing, Behind, Accepted, Other}
+use Rattle.cs_following.specs.declared.pushed.NodePush.TheVariants.{Nothing, Behind}
 use Rattle.cs_log.specs.declared.entry.LogEntry.{LogEntry}
 use Rattle.cs_opening.specs.Fresh.{first_position}
 use Rattle.cs_pending.specs.Edits.{IsOfStore, edit}
@@ -41,13 +41,6 @@ pub record IsMark (old new : NodeAt) (mark : Mark) : Type 0 where
   pub known : mark.known ≡ length new.known
   pub version : mark.version ≡ new.position.version
   pub made : IsTrue mark.made ↔ (old.position.number ≢ new.position.number)
-
--- a push was offered, and the entry of its cell taken
-abbrev pub HasTakenEntry : NodePush → Type 0
-HasTakenEntry Nothing = ⊥
-HasTakenEntry Behind = ⊥
-HasTakenEntry (Accepted version) = Unit {0}
-HasTakenEntry (Other version) = Unit {0}
 
 -- `left` is what the store holds then; the row has so many cells
 module _ (tables : List TableDef) (cells : ℕ) where

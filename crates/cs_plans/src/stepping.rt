@@ -1,8 +1,9 @@
 //! One call of a plan.
 
-ghost use Rattle.std.specs.Prelude.{◌≡◌, ◌↔◌, IsTrue, length};
+ghost use Rattle.std.specs.Prelude.{◌≡◌, ◌&&◌, length, not};
 ghost use Rattle.cs_plans.specs.Ends.{Turns};
-ghost use Rattle.cs_plans.specs.Runs.{HasTakenEntry, RunsStep};
+ghost use Rattle.cs_plans.specs.Marks.{is_taken};
+ghost use Rattle.cs_plans.specs.Runs.{RunsStep};
 ghost use Rattle.cs_plans.specs.declared.plan.Step.TheVariants.{Edit as Edits, Pull, Push};
 
 use crate::plan::{Mark, Step, StepOutcome, Stepped};
@@ -66,12 +67,19 @@ fn run_pull<'s>(
 
 /// Whether a push was offered, and the entry of its cell taken.
 fn has_taken(told: NodePush) -> bool
-    ensures { IsTrue result ↔ HasTakenEntry told }
+    ensures { result ≡ is_taken told }
 {
     match told {
         NodePush::Nothing | NodePush::Behind => false,
         NodePush::Accepted(_) | NodePush::Other(_) => true,
     }
+}
+
+/// Whether a call made a push, which is there behind it: one is, and none was under way before.
+fn is_made(was_under_way: bool, is_there: bool) -> bool
+    ensures { result ≡ (not was_under_way && is_there) }
+{
+    !was_under_way && is_there
 }
 
 fn run_push<'s>(
@@ -89,11 +97,11 @@ fn run_push<'s>(
     node.stands();
     match pushed {
         Ok(told) => {
-            let made = !was_under_way && has_taken(told);
+            let made = is_made(was_under_way, has_taken(told));
             stepped(node, StepOutcome::Pushed(told), made)
         }
         Err(fault) => {
-            let made = !was_under_way && node.is_under_way();
+            let made = is_made(was_under_way, node.is_under_way());
             stepped(node, StepOutcome::Failed(fault), made)
         }
     }
