@@ -57,8 +57,7 @@ turned_to old new step one outcome made same of begins tells does = record {
   catalog = same;
   spine = of;
   turned = λ view shows.
-      let d = does view shows in
-      (
+      let d = does view shows in (
         d.next,
         d.shows,
         record {
@@ -151,7 +150,7 @@ pull_turns old new wishes picker unused result one same of begins tells by pulls
       shows = shown.1;
       makes = pull_makes old.replica.catalog old.pass.spine.cap wishes result (node_at old view) (node_at new shown.0) (held_by new.replica.store) (unused, pulled);
       number = unmade false old.replica.position.number new.replica.position.number refl
-      (pull_number IsWished old.replica.catalog new.pass.known result old.replica.position view picker new.replica.position (held_by new.replica.store) unused p);
+          (pull_number IsWished old.replica.catalog new.pass.known result old.replica.position view picker new.replica.position (held_by new.replica.store) unused p);
     })
 
 -- ---- a push
@@ -200,6 +199,6 @@ push_turns old new cells wishes picker unused was flies result one same of row b
       next = shown.0;
       shows = shown.1;
       makes = push_makes old.replica.catalog old.pass.spine.cap wishes result (node_at old view) (node_at new shown.0) (held_by new.replica.store)
-      (record { unused = unused; pushes = pushed; nothing = nothing; behind = behind });
+          (record { unused = unused; pushes = pushed; nothing = nothing; behind = behind });
       number = push_number old.replica.catalog old.pass.known old.replica.position view picker cells.cap was flies result new.pass.known new.replica.position (held_by new.replica.store) unused before after p;
     })

@@ -2,9 +2,7 @@
 
 ghost use Rattle.std.specs.Prelude.{◌≡◌, ◌≤◌, All, IfOk, IfSome, vec_len};
 
-use crate::given::{
-    Here, ROW_1, ROW_2, ROW_3, catalog, idle, insert_and_push, pulled, shows,
-};
+use crate::given::{Here, ROW_1, ROW_2, ROW_3, catalog, idle, insert_and_push, pulled, shows};
 use cs_nodes::meet_nodes;
 use cs_plans::{NodeEnd, Plan, Port, RunFault, run_nodes};
 use cs_spine::Spine;
