@@ -1,6 +1,6 @@
 //! A node.
 
-ghost use Rattle.std.specs.Prelude.{◌≡◌, ◌⊎◌, ◌≤◌, ◌<◌, ◌+◌, ◌-◌, ◌^◌, ◌↔◌, [], Err, IfErr, IfOk, IsOk, IsTrue, MatchResult, Ok, OnErr, OnOk, Some, length, slice_get};
+ghost use Rattle.std.specs.Prelude.{◌≡◌, ◌⊎◌, ◌≤◌, ◌<◌, ◌+◌, ◌-◌, ◌^◌, ◌↔◌, [], Err, IfErr, IfOk, IsOk, IsSome, IsTrue, MatchResult, Ok, OnErr, OnOk, Some, length, slice_get};
 ghost use Rattle.cs_pending.specs.Calls.{ReadsStore, WritesStore};
 ghost use Rattle.cs_pending.specs.Edits.{IsOfStore, edit as edit_of};
 ghost use Rattle.cs_opening.specs.Fresh.{first_position};
@@ -119,6 +119,13 @@ impl<'s, S: RowStore> Node<'s, S> {
         ensures { result ≡ self.now.replica.position.pending }
     {
         self.replica.pending_len()
+    }
+
+    /// Whether a push is under way. It takes no memory.
+    pub fn is_under_way(&self) -> bool
+        ensures { IsTrue result ↔ IsSome self.now.replica.position.flight }
+    {
+        self.replica.in_flight().is_some()
     }
 
     /// Whether nothing is pending and no push is under way. It takes no memory.

@@ -1,0 +1,4 @@
+pub mod Runs
+pub mod Ends
+pub mod Jobs
+pub mod Marks

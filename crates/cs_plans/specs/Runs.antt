@@ -1,0 +1,86 @@
+-- What a plan makes of a node (profile of this project).
+use Rattle.std.specs.Prelude.{◌≡◌, ◌≢◌, ◌⊎◌, ◌<◌, ◌↔◌, ℕ, IsTrue, List, [], ◌∷◌, length, Result, Ok, Err}
+use Rattle.cs_conflict.specs.declared.wish.Wish.{Wish}
+use Rattle.cs_following.specs.Edits.{asked_of_edit, table_of_edit}
+use Rattle.cs_following.specs.Pulls.{PullsAll}
+use Rattle.cs_following.specs.Pushes.{IsAtRest, PushesOn}
+use Rattle.cs_following.specs.Standing.{Begins}
+use Rattle.cs_following.specs.declared.fault.NodeFault.{NodeFault}
+use Rattle.cs_following.specs.declared.pushed.NodePush.{NodePush}
+use Rattle.cs_following.specs.declared.pushed.NodePush.TheVariants.{Nothing, Behind}
+use Rattle.cs_log.specs.declared.entry.LogEntry.{LogEntry}
+use Rattle.cs_opening.specs.Fresh.{first_position}
+use Rattle.cs_pending.specs.Edits.{IsOfStore, edit}
+use Rattle.cs_pending.specs.Laws.{empty_view}
+use Rattle.cs_pending.specs.View.{View}
+use Rattle.cs_position.specs.Shows.{ShowsAt}
+use Rattle.cs_position.specs.declared.position.Position.{Position}
+use Rattle.cs_replica.specs.Edited.{with_pending}
+use Rattle.cs_store.specs.Contents.{Contents}
+use Rattle.cs_value.specs.declared.catalog.TableDef.{TableDef}
+use Rattle.cs_wishes.specs.Wished.{IsWished}
+use Rattle.cs_plans.specs.declared.plan.Mark.{Mark}
+use Rattle.cs_plans.specs.declared.plan.Step.{Step}
+use Rattle.cs_plans.specs.declared.plan.Step.TheVariants.{Edit, Pull, Push}
+use Rattle.cs_plans.specs.declared.plan.StepOutcome.{StepOutcome}
+use Rattle.cs_plans.specs.declared.plan.StepOutcome.TheVariants.{Edited, NotEdited, Pulled, Pushed, Failed}
+use Rattle.cs_plans.specs.declared.plan.Stepped.{Stepped}
+
+-- a node: the entries that its pass knows, where its replica stands, and its rows and pending changes
+pub record NodeAt : Type 0 where
+  pub known : List LogEntry
+  pub position : Position
+  pub view : View
+
+-- one to which nothing has happened
+abbrev pub first_node : ℕ → NodeAt
+first_node id = record { known = []; position = first_position id; view = empty_view }
+
+-- how a node stands after a call, beside how it stood before
+pub record IsMark (old new : NodeAt) (mark : Mark) : Type 0 where
+  pub known : mark.known ≡ length new.known
+  pub version : mark.version ≡ new.position.version
+  pub made : IsTrue mark.made ↔ (old.position.number ≢ new.position.number)
+
+-- `left` is what the store holds then; the row has so many cells
+module _ (tables : List TableDef) (cells : ℕ) where
+  -- a pull by these wishes: so many entries, or why no more
+  abbrev pub Pulls : List Wish → Result ℕ NodeFault → NodeAt → NodeAt → Contents → Type 0
+  Pulls wishes result old new left =
+      (unused : List Wish) × PullsAll IsWished tables new.known result old.position old.view wishes new.position left unused
+
+  -- a push by these wishes; that there is nothing to push is told first, and then that entries are known which weren't taken
+  pub record Pushes (wishes : List Wish) (result : Result NodePush NodeFault) (old new : NodeAt) (left : Contents) : Type 0 where
+    pub unused : List Wish
+    pub pushes : PushesOn IsWished tables old.known old.position old.view wishes cells result new.known new.position left unused
+    pub nothing : IsAtRest old.position → result ≡ Ok Nothing
+    pub behind : (IsAtRest old.position → ⊥) → old.position.version < length old.known → result ≡ Ok Behind
+
+  -- what a call makes of a node, and what it comes to
+  abbrev pub Makes : Step → StepOutcome → NodeAt → NodeAt → Contents → Type 0
+  Makes (Edit asked) Edited old new left =
+      (edit tables (table_of_edit asked) (asked_of_edit asked) old.view ≡ Ok new.view)
+      × (new.position ≡ with_pending old.position new.position.pending) × (new.known ≡ old.known)
+  Makes (Edit asked) (NotEdited fault) old new left =
+      (IsOfStore fault ⊎ (edit tables (table_of_edit asked) (asked_of_edit asked) old.view ≡ Err fault)) × (new ≡ old)
+  Makes (Pull wishes) (Pulled count) old new left = Pulls wishes (Ok count) old new left
+  Makes (Pull wishes) (Failed fault) old new left = Pulls wishes (Err fault) old new left
+  Makes (Push wishes) (Pushed told) old new left = Pushes wishes (Ok told) old new left
+  Makes (Push wishes) (Failed fault) old new left = Pushes wishes (Err fault) old new left
+  Makes _ _ old new left = ⊥
+
+  -- one call: what was known begins what is known then, and the store shows the node as it then stands
+  pub record RunsStep (step : Step) (stepped : Stepped) (old new : NodeAt) : Type 0 where
+    pub begins : Begins old.known new.known
+    pub left : Contents
+    pub shows : ShowsAt tables left new.position new.view
+    pub makes : Makes step stepped.outcome old new left
+    pub marked : IsMark old new stepped.mark
+
+  -- a plan's calls one behind another, with what each came to
+  abbrev pub Runs : List Step → List Stepped → NodeAt → NodeAt → Type 0
+  Runs [] [] old new = new ≡ old
+  Runs (step ∷ steps) (one ∷ more) old new =
+      (between : NodeAt) × RunsStep step one old between × Runs steps more between new
+  Runs [] (one ∷ more) old new = ⊥
+  Runs (step ∷ steps) [] old new = ⊥
