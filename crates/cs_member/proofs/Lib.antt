@@ -1,1 +1,4 @@
 mod Turned
+mod OneEdit
+mod OnePush
+mod OneAnswer

@@ -23,7 +23,7 @@ use Rattle.cs_value.specs.declared.catalog.TableDef.{TableDef}
 use Rattle.cs_value.specs.declared.edit.Edit.{Edit}
 use Rattle.cs_value.specs.declared.edit.Edit.TheVariants as edit
 use Rattle.cs_value.specs.declared.value.Value.{Value}
-use Rattle.cs_wire.specs.Requests.{asked_by_owned}
+use Rattle.cs_wire.specs.Requests.{Asked, asked_by_owned}
 use Rattle.cs_wire.specs.declared.answer.Answer.{Answer}
 use Rattle.cs_wire.specs.declared.request.RequestBuf.{RequestBuf}
 use Rattle.cs_wishes.specs.Wished.{IsWished}
@@ -68,18 +68,30 @@ IsEditedTo tables asked (Err fault) before after =
 
 -- ---- a push
 
--- what was pending is under way, and this is its request; or not, and this is why
-abbrev pub IsPushedTo : List TableDef → Result RequestBuf PushFault → Member → Member → Type 0
-IsPushedTo tables (Ok request) before after =
+-- what was pending is under way, and this is asked for it; or not, and this is why
+abbrev pub IsPushAsked : List TableDef → Result Asked PushFault → Member → Member → Type 0
+IsPushAsked tables (Ok asked) before after =
     (changes : List TableChanges) × (left : Contents)
     × (after ≡ record { position = pushed before.position changes; view = grounded before.view })
-    × IsPushMade tables before.position before.view left changes × (asked_by_owned request ≡ request_of (pushed before.position changes) changes)
-IsPushedTo tables (Err fault) before after = (after ≡ before) × IsPushFault fault tables before.position before.view
+    × IsPushMade tables before.position before.view left changes × (asked ≡ request_of (pushed before.position changes) changes)
+IsPushAsked tables (Err fault) before after = (after ≡ before) × IsPushFault fault tables before.position before.view
 
--- the request of the push under way once more; or there is none, and this is why
+-- the push under way is asked for once more; or there is none, and this is why
+abbrev pub IsAskedAgain : Result Asked PushFault → Position → Type 0
+IsAskedAgain (Ok asked) position = IsSome position.flight × (asked ≡ request_of position (flown position.flight))
+IsAskedAgain (Err fault) position = IsResendFault fault position
+
+-- what a result asks
+abbrev pub asked_in : Result RequestBuf PushFault → Result Asked PushFault
+asked_in (Ok request) = Ok (asked_by_owned request)
+asked_in (Err fault) = Err fault
+
+-- the same of the request that a call gives
+abbrev pub IsPushedTo : List TableDef → Result RequestBuf PushFault → Member → Member → Type 0
+IsPushedTo tables result before after = IsPushAsked tables (asked_in result) before after
+
 abbrev pub IsResent : Result RequestBuf PushFault → Position → Type 0
-IsResent (Ok request) position = IsSome position.flight × (asked_by_owned request ≡ request_of position (flown position.flight))
-IsResent (Err fault) position = IsResendFault fault position
+IsResent result position = IsAskedAgain (asked_in result) position
 
 -- ---- an answer
 

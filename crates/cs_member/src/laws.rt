@@ -1,8 +1,49 @@
 //! The laws of a replica as it is shown, each the contract of a function that does nothing.
 
-ghost use Rattle.cs_member.specs.Laws.{HearsKeepsId};
+ghost use Rattle.cs_member.specs.Laws.{HearsKeepsId, OneEdited, OneHeard, OnePushed, OneResent};
+ghost use Rattle.cs_replica.specs.Laws.{OneAnswered};
+
+use cs_conflict::Picker;
+use cs_wishes::Wishes;
 
 /// Whatever is told, a replica has the id that it had.
 pub fn hears_keeps_id()
     ensures { HearsKeepsId }
 {}
+
+/// But for faults of the store an edit has one result, and leaves one replica.
+pub fn one_edited()
+    ensures { OneEdited }
+{
+    cs_taking::laws::one_contents();
+}
+
+/// But for want of memory and a device that fails a push asks one thing or has one fault, and leaves one replica.
+pub fn one_pushed()
+    ensures { OnePushed }
+{
+    cs_outgoing::laws::one_pending();
+    cs_pushing::laws::one_push();
+}
+
+/// But for want of memory the push under way asks one thing once more, or there is none.
+pub fn one_resent()
+    ensures { OneResent }
+{}
+
+/// What a picker answers an answer with, of which there is one.
+fn one_answered_by<P: Picker>(_picker: &P)
+    ensures { OneAnswered P.picks }
+{
+    cs_replica::laws::one_answered::<P>();
+}
+
+/// But for want of memory and a device that fails an answer that is heard by a list of wishes has one result, and leaves one replica.
+pub fn one_heard()
+    ensures { OneHeard }
+{
+    cs_pending::laws::one_view();
+    cs_taking::laws::one_contents();
+    let wishes = Wishes::new(&[]);
+    one_answered_by(&wishes);
+}

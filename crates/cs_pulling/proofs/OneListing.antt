@@ -218,6 +218,6 @@ module _ {P : Type 0} (picks : P → Clash → Wish → P → Type 0) (laws : Li
         (result.0, j.positions, held, result.1)
 
 pub one_list : {P : Type 0} (picks : P → Clash → Wish → P → Type 0) → ListLaws picks → OneList picks
-one_list picks laws tables first entries old new later position here there before some other p q r are once shows of so (end, between, many, shown, ends) (last, among, others, showed, stays) =
+one_list picks laws tables first entries old new later position here there before seen some other p q r are once shows sees of so (end, between, many, shown, ends) (last, among, others, showed, stays) =
     all_one picks laws once tables are first entries some other of so here there end last between among q r new later shown showed ends stays
-    (joined picks laws once tables are first entries some other of so here there end last between among q r ends stays (count_of some) (count_of other) position old before before p shows shows many others)
+    (joined picks laws once tables are first entries some other of so here there end last between among q r ends stays (count_of some) (count_of other) position old before seen p shows sees many others)

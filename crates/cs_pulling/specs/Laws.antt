@@ -127,18 +127,19 @@ module _ {P : Type 0} (picks : P → Clash → Wish → P → Type 0) where
       ⊎ ((fault : PullFault) × (q : P) × IsOfEntry fault × IsPullFault picks tables position index entry before p q fault)
 
   -- by a picker that answers each clash once, a list has one result, and leaves one position, one thing in the store, and one state of
-  -- the picker
+  -- the picker, whichever view of the store is meant
   abbrev pub OneList : Type 0
   OneList =
-      (tables : List TableDef) (first : ℕ) (entries : List ToldEntry) (old new last : Contents) (position here there : Position) (before : View)
+      (tables : List TableDef) (first : ℕ) (entries : List ToldEntry) (old new last : Contents) (position here there : Position) (before seen : View)
       (some other : Result Pulled AnswerFault) (p q r : P)
       → AreTables tables
       → PicksOnce picks
       → ShowsAt tables old position before
+      → ShowsAt tables old position seen
       → IsOfList some
       → IsOfList other
       → PullsList picks tables first entries some position before p here new q
-      → PullsList picks tables first entries other position before p there last r
+      → PullsList picks tables first entries other position seen p there last r
       → (some ≡ other) × (here ≡ there) × (new ≡ last) × (q ≡ r)
 
   -- and there is one: a list of entries in bytes has a result, and there is a store that holds what is left

@@ -5,6 +5,7 @@ use Rattle.cs_value.specs.declared.catalog.TableDef.{TableDef}
 use Rattle.cs_store.specs.Contents.{Contents}
 use Rattle.cs_conflict.specs.declared.clash.Clash.{Clash}
 use Rattle.cs_conflict.specs.declared.wish.Wish.{Wish}
+use Rattle.cs_pending.specs.Laws.{OneView}
 use Rattle.cs_pending.specs.View.{View}
 use Rattle.cs_position.specs.Shows.{ShowsAt}
 use Rattle.cs_position.specs.declared.position.Position.{Position}
@@ -24,12 +25,14 @@ use Rattle.cs_replica.specs.declared.told.Told.TheVariants.{Confirmed, Ignored, 
 counted : (tables : List TableDef) (position : Position) (left : Contents) (view : View) → ShowsAt tables left position view → ShowsAt tables left (record position { pending = len left.pending }) view
 counted tables position left view shows = subst (λ (n : ℕ). ShowsAt tables left (record position { pending = n }) view) shows.counted shows
 
--- what keeps the rows leaves one thing at one position
-module _ (contents : OneContents) {P : Type 0} (tables : List TableDef) (before : View) (new last : Contents) (here there : Position) (p q r : P) where
-  kept_once : here ≡ there → KeepsRows tables before p here new q → KeepsRows tables before p there last r → (new ≡ last) × (q ≡ r)
-  kept_once same (shows, asked) (shown, still) =
-      let at_here = subst (λ (x : Position). ShowsAt tables last x before) (sym same) shown in (
-        contents tables here new last before before (counted tables here new before shows) (counted tables here last before at_here) (λ name key. refl) (λ table key inside. refl),
+-- what keeps the rows that a store shows leaves one thing at one position
+module _ (contents : OneContents) (view : OneView) {P : Type 0} (tables : List TableDef) (old : Contents) (position : Position) (before seen : View) (shows : ShowsAt tables old position before) (sees : ShowsAt tables old position seen)
+    (new last : Contents) (here there : Position) (p q r : P) where
+  kept_once : here ≡ there → KeepsRows tables before p here new q → KeepsRows tables seen p there last r → (new ≡ last) × (q ≡ r)
+  kept_once same (is, asked) (so, still) =
+      let alike = view tables old before seen shows.rows sees.rows in
+      let at_here = subst (λ (x : Position). ShowsAt tables last x seen) (sym same) so in (
+        contents tables here new last before seen (counted tables here new before is) (counted tables here last seen at_here) alike.0 alike.1,
         asked ∙ sym still,
       )
 
@@ -70,18 +73,18 @@ of_list (Err (Memory count)) of = of
 of_list (Err (Device count)) of = of
 of_list (Err (BadEntry count)) of = tt
 
-pub one_answered : OneContents → {P : Type 0} (picks : P → Clash → Wish → P → Type 0) → OneList picks → OneAnswered picks
-one_answered contents picks law tables (Short (short.Accepted origin number version)) old new last position here there before some other p q r are once shows of so (told, keeps) (says, stays) =
+pub one_answered : OneContents → OneView → {P : Type 0} (picks : P → Clash → Wish → P → Type 0) → OneList picks → OneAnswered picks
+one_answered contents view picks law tables (Short (short.Accepted origin number version)) old new last position here there before seen some other p q r are once shows sees of so (told, keeps) (says, stays) =
     let same = accepted_once origin number version position here there some other of so told says in
-    let kept = kept_once contents tables before new last here there p q r same.1 keeps stays in
+    let kept = kept_once contents view tables old position before seen shows sees new last here there p q r same.1 keeps stays in
     (same.0, same.1, kept.0, kept.1)
-one_answered contents picks law tables (Short (short.Stale newest)) old new last position here there before some other p q r are once shows of so (told, moved, keeps) (says, stood, stays) =
-    let kept = kept_once contents tables before new last here there p q r (moved ∙ sym stood) keeps stays in
+one_answered contents view picks law tables (Short (short.Stale newest)) old new last position here there before seen some other p q r are once shows sees of so (told, moved, keeps) (says, stood, stays) =
+    let kept = kept_once contents view tables old position before seen shows sees new last here there p q r (moved ∙ sym stood) keeps stays in
     (told ∙ sym says, moved ∙ sym stood, kept.0, kept.1)
-one_answered contents picks law tables (Short (short.Refused code)) old new last position here there before some other p q r are once shows of so (told, moved, keeps) (says, stood, stays) =
-    let kept = kept_once contents tables before new last here there p q r (moved ∙ sym stood) keeps stays in
+one_answered contents view picks law tables (Short (short.Refused code)) old new last position here there before seen some other p q r are once shows sees of so (told, moved, keeps) (says, stood, stays) =
+    let kept = kept_once contents view tables old position before seen shows sees new last here there p q r (moved ∙ sym stood) keeps stays in
     (told ∙ sym says, moved ∙ sym stood, kept.0, kept.1)
-one_answered contents picks law tables (Entries first entries) old new last position here there before some other p q r are once shows of so (result, told, pulls) (outcome, says, took) =
-    let one = law tables first entries old new last position here there before result outcome p q r are once shows
+one_answered contents view picks law tables (Entries first entries) old new last position here there before seen some other p q r are once shows sees of so (result, told, pulls) (outcome, says, took) =
+    let one = law tables first entries old new last position here there before seen result outcome p q r are once shows sees
     (of_list result (subst (λ (x : Result Told AnswerFault). IsOfAnswer x) told of)) (of_list outcome (subst (λ (x : Result Told AnswerFault). IsOfAnswer x) says so)) pulls took in
     (told ∙ ap told_of one.0 ∙ sym says, one.1, one.2, one.3)

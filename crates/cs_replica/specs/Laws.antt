@@ -108,18 +108,19 @@ IsOfAnswer (Err (Device count)) = ⊥
 IsOfAnswer (Err (BadEntry count)) = Unit {0}
 
 -- by a picker that answers each clash once, an answer of the hub has one result, and leaves one position, one thing in the store, and
--- one state of the picker
+-- one state of the picker, whichever view of the store is meant
 abbrev pub OneAnswered : {P : Type 0} → (P → Clash → Wish → P → Type 0) → Type 0
 OneAnswered {P} picks =
-    (tables : List TableDef) (answer : Answer) (old new last : Contents) (position here there : Position) (before : View)
+    (tables : List TableDef) (answer : Answer) (old new last : Contents) (position here there : Position) (before seen : View)
     (some other : Result Told AnswerFault) (p q r : P)
     → AreTables tables
     → PicksOnce picks
     → ShowsAt tables old position before
+    → ShowsAt tables old position seen
     → IsOfAnswer some
     → IsOfAnswer other
     → Answers picks tables answer some position before p here new q
-    → Answers picks tables answer other position before p there last r
+    → Answers picks tables answer other position seen p there last r
     → (some ≡ other) × (here ≡ there) × (new ≡ last) × (q ≡ r)
 
 -- the bodies of its entries are bytes

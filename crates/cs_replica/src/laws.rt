@@ -49,6 +49,7 @@ pub fn equal_at_rest()
 pub fn one_answered<P: Picker>()
     ensures { OneAnswered P.picks }
 {
+    cs_pending::laws::one_view();
     cs_taking::laws::one_contents();
     cs_pulling::laws::one_list::<P>();
 }
