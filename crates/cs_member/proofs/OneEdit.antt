@@ -1,6 +1,6 @@
 -- An edit of the same replica has one result, and leaves the same replica.
 use Rattle.std.proofs.Common.{◌≡◌, ◌∙◌, ◌<◌, ℕ, suc, Bool, true, false, not, List, [], ◌∷◌, length, Option, Some, None, Result, Ok, Err, refl, sym, ap, subst, inl, inr, arith}
-use Rattle.std.specs.Prelude.{◌⊎◌, ⊥, Contains, if◌then◌else◌}
+use Rattle.std.specs.Prelude.{◌⊎◌, Contains, if◌then◌else◌}
 use Rattle.std.specs.FinMap.{len}
 use Rattle.std.specs.Str.{bytes_eq}
 use Rattle.cs_change.specs.Action.{action_any}

@@ -1,5 +1,5 @@
 -- The laws of a replica as it is shown: what is told it leaves its id, and each step of it has one result.
-use Rattle.std.specs.Prelude.{◌≡◌, ⊥, List, Result, Ok, Err}
+use Rattle.std.specs.Prelude.{◌≡◌, List, Result, Ok, Err}
 use Rattle.cs_conflict.specs.declared.wish.Wish.{Wish}
 use Rattle.cs_pending.specs.Edits.{IsOfStore}
 use Rattle.cs_pending.specs.declared.fault.EditFault.{EditFault}

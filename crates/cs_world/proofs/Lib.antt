@@ -5,6 +5,8 @@ mod Heard
 mod Keeps
 mod Holds
 mod Wished
+mod Came
+mod Coming
 mod Begun
 mod Moved
 mod Running

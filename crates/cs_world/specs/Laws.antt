@@ -1,5 +1,6 @@
 -- The laws of worlds.
 use Rattle.std.specs.Prelude.{◌≡◌, ◌<◌, ◌^◌, ℕ, List}
+use Rattle.std.specs.List.{AllByRecursion}
 use Rattle.cs_value.specs.Catalog.{AreTables}
 use Rattle.cs_value.specs.declared.catalog.TableDef.{TableDef}
 use Rattle.cs_hub.specs.Serves.{ServesIf}
@@ -16,7 +17,8 @@ use Rattle.cs_wire.specs.declared.answer.Answer.{Answer}
 use Rattle.cs_wishes.specs.Wished.{IsWished}
 use Rattle.cs_world.specs.Headline.{Headline, IsGood}
 use Rattle.cs_world.specs.Sound.{IsSound}
-use Rattle.cs_world.specs.Steps.{Step}
+use Rattle.cs_world.specs.Same.{IsRefused, IsSameWorld}
+use Rattle.cs_world.specs.Steps.{Step, Steps}
 use Rattle.cs_world.specs.World.{Asks, IsMember, IsMessage, Member, World, first_world}
 use Rattle.cs_world.specs.declared.event.Event.{Event}
 use Rattle.cs_world.specs.declared.outcome.Outcome.{Outcome}
@@ -63,3 +65,36 @@ AnswersFit =
     → IsMessage world k (Asks r asked)
     → ServesIf (Unit {0}) limit (hub_of world.tables world.log) (request_spelling asked) bytes (hub_of world.tables log)
     → (answer : Answer) × FitsAnswer answer × (bytes ≡ answer_spelling answer)
+
+-- ---- one outcome an event
+
+-- in the same world an event has one outcome, and leaves the same world: but for refusals
+abbrev pub OneStep : Type 0
+OneStep =
+    (limit : ℕ) (old its new last : World) (event : Event) (some other : Outcome)
+    → IsSound limit old
+    → IsSound limit its
+    → IsSameWorld old its
+    → (IsRefused some new → ⊥)
+    → (IsRefused other last → ⊥)
+    → Step limit old event some new
+    → Step limit its event other last
+    → (some ≡ other) × IsSameWorld new last
+
+-- none of the outcomes is a refusal in the world after all
+abbrev pub NoneRefused : List Outcome → World → Type 0
+NoneRefused outcomes world = AllByRecursion (λ (outcome : Outcome). IsRefused outcome world → ⊥) outcomes
+
+-- so events one after another have one list of outcomes, where none is a refusal
+abbrev pub OneRun : Type 0
+OneRun =
+    (limit : ℕ) (old its new last : World) (events : List Event) (some other : List Outcome)
+    → limit < 2 ^ 32
+    → IsSound limit old
+    → IsSound limit its
+    → IsSameWorld old its
+    → NoneRefused some new
+    → NoneRefused other last
+    → Steps limit old events some new
+    → Steps limit its events other last
+    → (some ≡ other) × IsSameWorld new last

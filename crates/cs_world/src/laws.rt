@@ -1,6 +1,6 @@
 //! The laws of worlds, each the contract of a function that does nothing.
 
-ghost use Rattle.cs_world.specs.Laws.{AnswersFit, FirstIsSound, SoundHasHeadline, StepsAreSound, WishesPickOnce};
+ghost use Rattle.cs_world.specs.Laws.{AnswersFit, FirstIsSound, OneRun, OneStep, SoundHasHeadline, StepsAreSound, WishesPickOnce};
 
 use cs_wishes::Wishes;
 
@@ -67,4 +67,24 @@ pub fn answers_fit()
     cs_wire::laws::one_request();
     cs_wire::laws::one_told_answer();
     cs_wire::laws::told_are_read();
+}
+
+/// In a sound world an event has one outcome, and leaves one world: but where memory was refused or a device failed.
+pub fn one_step()
+    ensures { OneStep }
+{
+    cs_hub::laws::one_service();
+    cs_member::laws::one_edited();
+    cs_member::laws::one_pushed();
+    cs_member::laws::one_resent();
+    cs_member::laws::one_heard();
+    cs_wire::laws::one_told_answer();
+}
+
+/// In a sound world events one after another have one list of outcomes, and leave one world, where none is a refusal.
+pub fn one_run()
+    ensures { OneRun }
+{
+    one_step();
+    steps_are_sound();
 }
