@@ -161,7 +161,7 @@ module _ (laws : Below) (tables : List TableDef) (are : AreTables tables) (befor
   )
   line_once (Pull limit) some other one last not no (still, inl is) (stays, inr memory) = absurd (no (inl memory))
   line_once (Pull limit) some other one last not no (still, inr memory) went = absurd (not (inl memory))
-  line_once (Answer bytes wishes) some other one last not no goes went = taken_once _ _ some other one last not no goes went
+  line_once (Answer bytes wishes) some other one last not no goes went = taken_once bytes wishes some other one last not no goes went
   line_once Dump some other one last not no (still, inl dumped) (stays, inl looked) = (dumped_once some other dumped looked, stays_same tables before its one last still stays same)
   line_once Dump some other one last not no (still, inl dumped) (stays, inr (fault, so)) = absurd (store_tells fault other so no)
   line_once Dump some other one last not no (still, inr (fault, is)) went = absurd (store_tells fault some is not)
@@ -187,7 +187,7 @@ module _ (tables : List TableDef) (before after : Member) (shown : IsShown table
   shown_after Push text (Err fault, (still, why), says) = still_shown still
   shown_after Resend text (still, says) = still_shown still
   shown_after (Pull limit) text (still, says) = still_shown still
-  shown_after (Answer bytes wishes) text goes = taken_shown _ _ text goes
+  shown_after (Answer bytes wishes) text goes = taken_shown bytes wishes text goes
   shown_after Dump text (still, says) = still_shown still
 
 pub one_line_run : OneLineStep → OneLineRun

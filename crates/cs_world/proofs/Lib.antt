@@ -7,6 +7,7 @@ mod Holds
 mod Wished
 mod Came
 mod Coming
+mod Exists
 mod Begun
 mod Moved
 mod Running

@@ -1,7 +1,9 @@
 //! The laws of worlds, each the contract of a function that does nothing.
 
-ghost use Rattle.cs_world.specs.Laws.{AnswersFit, FirstIsSound, OneRun, OneStep, SoundHasHeadline, StepsAreSound, WishesPickOnce};
+ghost use Rattle.cs_replica.specs.Laws.{AnswerHasResult};
+ghost use Rattle.cs_world.specs.Laws.{AnswersFit, AskHasStep, DeliverHasStep, FirstIsSound, OneRun, OneStep, ResendHasStep, RestartHasStep, SoundHasHeadline, StepsAreSound, WishesPickOnce};
 
+use cs_conflict::Picker;
 use cs_wishes::Wishes;
 
 /// A world in which nothing has happened is sound.
@@ -87,4 +89,39 @@ pub fn one_run()
 {
     one_step();
     steps_are_sound();
+}
+
+/// A push that is to be sent once more has an outcome that is no refusal.
+pub fn resend_has_step()
+    ensures { ResendHasStep }
+{}
+
+/// So has a question for entries.
+pub fn ask_has_step()
+    ensures { AskHasStep }
+{}
+
+/// So has a store that is read again.
+pub fn restart_has_step()
+    ensures { RestartHasStep }
+{}
+
+/// An answer has a result by such a picker.
+fn answer_has_result_by<P: Picker>(_picker: &P)
+    ensures { AnswerHasResult P.picks P.is_ready }
+{
+    cs_replica::laws::answer_has_result::<P>();
+}
+
+/// So has, in a sound world, a message that arrives.
+pub fn deliver_has_step()
+    ensures { DeliverHasStep }
+{
+    answers_fit();
+    cs_conflict::laws::guarded_is_lawful();
+    cs_judging::laws::push_has_answer();
+    cs_normal::laws::normal_is_taken();
+    cs_normal::laws::normal_again();
+    let wishes = Wishes::new(&[]);
+    answer_has_result_by(&wishes);
 }
