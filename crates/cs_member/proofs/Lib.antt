@@ -1,4 +1,5 @@
 mod Turned
 mod OneEdit
+mod EditCan
 mod OnePush
 mod OneAnswer

@@ -30,7 +30,7 @@ by_found : (here : Bool) (first table : TableDef) (behind : Option TableDef) (P 
 by_found true first table behind P e is later = is cc
 by_found false first table behind P e is later = later e
 
-named_inside : (name : List ℕ) (tables : List TableDef) (table : TableDef) → named name tables ≡ Some table → Contains tables table
+pub named_inside : (name : List ℕ) (tables : List TableDef) (table : TableDef) → named name tables ≡ Some table → Contains tables table
 unfolding named
 named_inside name [] table e = absurd cc
 named_inside name (first ∷ tables) table e =

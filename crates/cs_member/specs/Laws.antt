@@ -1,16 +1,21 @@
 -- The laws of a replica as it is shown: what is told it leaves its id, and each step of it has one result.
 use Rattle.std.specs.Prelude.{◌≡◌, List, Result, Ok, Err}
+use Rattle.std.specs.List.{AllByRecursion}
 use Rattle.cs_conflict.specs.declared.wish.Wish.{Wish}
 use Rattle.cs_pending.specs.Edits.{IsOfStore}
 use Rattle.cs_pending.specs.declared.fault.EditFault.{EditFault}
 use Rattle.cs_pulling.specs.declared.fault.AnswerFault.{AnswerFault}
 use Rattle.cs_pushing.specs.Laws.{IsOfPush}
 use Rattle.cs_pushing.specs.declared.fault.PushFault.{PushFault}
+use Rattle.cs_record.specs.Spelling.{Fits}
 use Rattle.cs_replica.specs.Laws.{IsOfAnswer}
 use Rattle.cs_replica.specs.declared.told.Told.{Told}
 use Rattle.cs_value.specs.Catalog.{AreTables}
 use Rattle.cs_value.specs.declared.catalog.TableDef.{TableDef}
 use Rattle.cs_value.specs.declared.edit.Edit.{Edit}
+use Rattle.cs_value.specs.declared.edit.Edit.TheVariants as edit
+use Rattle.cs_value.specs.declared.value.Field.TheVariants.{Is}
+use Rattle.cs_value.specs.declared.value.Value.{Value}
 use Rattle.cs_wire.specs.Requests.{Asked}
 use Rattle.cs_wire.specs.declared.answer.Answer.{Answer}
 use Rattle.cs_member.specs.Member.{Hears, IsAskedAgain, IsEditedTo, IsPushAsked, Member}
@@ -40,6 +45,21 @@ OneEdited =
     → IsEditedTo tables asked some before one
     → IsEditedTo tables asked other its last
     → (some ≡ other) × IsSameMember tables one last
+
+-- the values that it has have spellings
+abbrev pub IsInRange : Edit → Type 0
+IsInRange (edit.Insert table row) = AllByRecursion (λ (value : Value). Fits (Is value)) row
+IsInRange (edit.Update table key fields) = AllByRecursion Fits fields
+IsInRange (edit.Delete table key) = Unit {0}
+
+-- there is one: an edit of a replica that some store shows has a result, and some store shows what it leaves
+abbrev pub EditHasResult : Type 0
+EditHasResult =
+    (tables : List TableDef) (asked : Edit) (before : Member)
+    → AreTables tables
+    → IsInRange asked
+    → IsShown tables before
+    → (result : Result (Unit {0}) EditFault) × (after : Member) × IsOfEdit result × IsEditedTo tables asked result before after
 
 -- ---- a push
 

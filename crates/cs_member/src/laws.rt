@@ -1,6 +1,6 @@
 //! The laws of a replica as it is shown, each the contract of a function that does nothing.
 
-ghost use Rattle.cs_member.specs.Laws.{HearsKeepsId, OneEdited, OneHeard, OnePushed, OneResent};
+ghost use Rattle.cs_member.specs.Laws.{EditHasResult, HearsKeepsId, OneEdited, OneHeard, OnePushed, OneResent};
 ghost use Rattle.cs_replica.specs.Laws.{OneAnswered};
 
 use cs_conflict::Picker;
@@ -16,6 +16,16 @@ pub fn one_edited()
     ensures { OneEdited }
 {
     cs_taking::laws::one_contents();
+}
+
+/// An edit of a replica that some store shows has a result, and some store shows what it leaves.
+pub fn edit_has_result()
+    ensures { EditHasResult }
+{
+    cs_value::laws::catalogs();
+    cs_normal::laws::one_key_stands();
+    cs_normal::laws::set_columns_fit();
+    cs_change::laws::net_takes();
 }
 
 /// But for want of memory and a device that fails a push asks one thing or has one fault, and leaves one replica.

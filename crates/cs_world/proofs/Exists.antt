@@ -6,7 +6,7 @@ use Rattle.cs_conflict.specs.Laws.{GuardedIsLawful}
 use Rattle.cs_conflict.specs.Wishes.{guarded}
 use Rattle.cs_conflict.specs.declared.clash.Clash.{Clash}
 use Rattle.cs_conflict.specs.declared.wish.Wish.{Wish}
-use Rattle.cs_hub.specs.Refusals.{refusal_code}
+use Rattle.cs_hub.specs.Refusals.{refusal_code, refusal_of_hub}
 use Rattle.cs_hub.specs.Serves.{Outcome as Taking, Serves, or_refusal, push_answer, refused}
 use Rattle.cs_hub.specs.declared.refusal.Refusal.TheVariants.{ByHub}
 use Rattle.cs_judging.specs.Hub.{HubState, entries_from}
@@ -35,6 +35,7 @@ use Rattle.cs_store.specs.Contents.{Contents}
 use Rattle.cs_taking.specs.Laws.{AnswersLawfully}
 use Rattle.cs_value.specs.declared.catalog.TableDef.{TableDef}
 use Rattle.cs_wire.specs.Answers.{answer_spelling}
+use Rattle.cs_wire.specs.Entries.{ToldEntry}
 use Rattle.cs_wire.specs.Requests.{Asked, AsksPull, AsksPush, FitsRequest, request_spelling}
 use Rattle.cs_wire.specs.Told.{told_entry}
 use Rattle.cs_wire.specs.declared.answer.Answer.{Answer}
@@ -133,23 +134,28 @@ pub record Served (limit : ℕ) (world : World) (asked : Asked) : Type 0 where
   pub serves : Serves limit (hub_of world.tables world.log) (request_spelling asked) bytes (hub_of world.tables log)
   pub well : bytes ≡ answer_spelling (Short (Refused device_code)) → ⊥
 
-refusal_well : (fault : HubFault) → (fault ≡ hub.Device → ⊥) → refused (ByHub fault) ≡ answer_spelling (Short (Refused device_code)) → ⊥
-refusal_well hub.Memory not is = cc
-refusal_well hub.Ahead not is = cc
-refusal_well (hub.Conflict conflict) not is = cc
-refusal_well hub.Empty not is = cc
-refusal_well hub.Full not is = cc
+same_first : (x y : ℕ) (xs ys : List ℕ) → x ∷ xs ≡ y ∷ ys → x ≡ y
+same_first x y xs ys is = cc
+
+same_code : (x a y b : ℕ) → x ∷ a ∷ [] ≡ y ∷ b ∷ [] → a ≡ b
+same_code x a y b is = cc
+
+-- no code of a hub's refusal but one is that of a failed device
+refusal_well : (fault : HubFault) → (fault ≡ hub.Device → ⊥) → answer_spelling (Short (Refused (refusal_code (refusal_of_hub fault)))) ≡ answer_spelling (Short (Refused device_code)) → ⊥
+refusal_well hub.Memory not is = let codes = same_code 19 1 19 44 is in omega (arith, codes)
+refusal_well hub.Ahead not is = let codes = same_code 19 40 19 44 is in omega (arith, codes)
+refusal_well (hub.Conflict conflict) not is = let codes = same_code 19 41 19 44 is in omega (arith, codes)
+refusal_well hub.Empty not is = let codes = same_code 19 42 19 44 is in omega (arith, codes)
+refusal_well hub.Full not is = let codes = same_code 19 43 19 44 is in omega (arith, codes)
 refusal_well hub.Device not is = not refl
 
 push_well : (head : PushHead) (outcome : Result Pushed HubFault) → (outcome ≡ Err hub.Device → ⊥) → answer_spelling (push_answer head (or_refusal outcome)) ≡ answer_spelling (Short (Refused device_code)) → ⊥
-push_well head (Ok (pushed.Accepted version)) not is = cc
-push_well head (Ok (pushed.Stale newest)) not is = cc
-push_well head (Err hub.Memory) not is = cc
-push_well head (Err hub.Ahead) not is = cc
-push_well head (Err (hub.Conflict conflict)) not is = cc
-push_well head (Err hub.Empty) not is = cc
-push_well head (Err hub.Full) not is = cc
-push_well head (Err hub.Device) not is = not refl
+push_well head (Ok (pushed.Accepted version)) not is = let tags = same_first 17 19 _ _ is in omega (arith, tags)
+push_well head (Ok (pushed.Stale newest)) not is = let tags = same_first 18 19 _ _ is in omega (arith, tags)
+push_well head (Err fault) not is = refusal_well fault (λ e. not (ap (λ (f : HubFault). Err f) e)) is
+
+entries_well : (first : ℕ) (entries : List ToldEntry) → answer_spelling (Entries first entries) ≡ answer_spelling (Short (Refused device_code)) → ⊥
+entries_well first entries is = let tags = same_first 20 19 _ _ is in omega (arith, tags)
 
 -- what an answer leaves is shown
 shown_view : (tables : List TableDef) (answer : Answer) (result : Result Told AnswerFault) (position : Position) (before : View) (p : List Wish) (other : Position) (new : Contents) (q : List Wish)
@@ -210,7 +216,7 @@ module _ (laws : Below) (limit : ℕ) (small : limit < 2 ^ 32) (world : World) (
           bytes = answer_spelling (Entries first (map told_entry (entries_from first count world.log)));
           log = world.log;
           serves = (Ok (AsksPull first count), (fits, refl), (inr (within, refl), refl));
-          well = λ e. cc;
+          well = entries_well first (map told_entry (entries_from first count world.log));
         }
       ]
 
