@@ -18,10 +18,13 @@ use Rattle.cs_judging.specs.declared.fault.HubFault.TheVariants as hub
 use Rattle.cs_judging.specs.declared.push.Pushed.{Pushed}
 use Rattle.cs_judging.specs.declared.push.Pushed.TheVariants as pushed
 use Rattle.cs_log.specs.declared.entry.LogEntry.{LogEntry}
+use Rattle.cs_member.specs.Laws.{EditHasResult, IsInRange, IsOfEdit}
+use Rattle.cs_member.specs.Member.{IsEditedTo}
 use Rattle.cs_normal.specs.Laws.{NormalAgain, NormalIsTaken}
 use Rattle.cs_normal.specs.Normal.{groups_of}
 use Rattle.cs_normal.specs.declared.normal.TableChanges.{TableChanges}
 use Rattle.cs_pending.specs.View.{View}
+use Rattle.cs_pending.specs.declared.fault.EditFault.{EditFault}
 use Rattle.cs_position.specs.Shows.{ShowsAt}
 use Rattle.cs_position.specs.declared.position.Position.{Position}
 use Rattle.cs_pulling.specs.declared.fault.AnswerFault.{AnswerFault}
@@ -29,11 +32,13 @@ use Rattle.cs_pulling.specs.declared.fault.AnswerFault.TheVariants as hearing
 use Rattle.cs_pushing.specs.Pushes.{request_of}
 use Rattle.cs_pushing.specs.declared.fault.PushFault.TheVariants as pushing
 use Rattle.cs_replica.specs.Answered.{Answers}
+use Rattle.cs_replica.specs.Edited.{with_pending}
 use Rattle.cs_replica.specs.Laws.{AnswerHasResult, IsInBytes, IsOfAnswer}
 use Rattle.cs_replica.specs.declared.told.Told.{Told}
 use Rattle.cs_store.specs.Contents.{Contents}
 use Rattle.cs_taking.specs.Laws.{AnswersLawfully}
 use Rattle.cs_value.specs.declared.catalog.TableDef.{TableDef}
+use Rattle.cs_value.specs.declared.edit.Edit.{Edit}
 use Rattle.cs_wire.specs.Answers.{answer_spelling}
 use Rattle.cs_wire.specs.Entries.{ToldEntry}
 use Rattle.cs_wire.specs.Requests.{Asked, AsksPull, AsksPush, FitsRequest, request_spelling}
@@ -44,14 +49,14 @@ use Rattle.cs_wire.specs.declared.push_head.PushHead.{PushHead}
 use Rattle.cs_wire.specs.declared.short_answer.ShortAnswer.TheVariants as short
 use Rattle.cs_wire.specs.declared.short_answer.ShortAnswer.TheVariants.{Refused}
 use Rattle.cs_wishes.specs.Wished.{IsWished, next_wish, wishes_left}
-use Rattle.cs_world.specs.Laws.{AnswersFit, AskHasStep, DeliverHasStep, HasStep, ResendHasStep, RestartHasStep}
+use Rattle.cs_world.specs.Laws.{AnswersFit, AskHasStep, DeliverHasStep, EditHasStep, HasStep, ResendHasStep, RestartHasStep}
 use Rattle.cs_world.specs.Same.{IsRefused, device_code}
 use Rattle.cs_world.specs.Sound.{IsPlaced, IsSound, IsTrueAsked, IsTruePush}
 use Rattle.cs_world.specs.Steps as step
 use Rattle.cs_world.specs.Steps.{Step, addressee, heard}
 use Rattle.cs_world.specs.World.{Asks, IsMember, IsMessage, Member, Sent, Tells, World, with_log, with_member, with_message}
 use Rattle.cs_world.specs.declared.event.Event.{Event}
-use Rattle.cs_world.specs.declared.event.Event.TheVariants.{AskPull, Deliver, Resend, Restart}
+use Rattle.cs_world.specs.declared.event.Event.TheVariants.{AskPull, Deliver, OnEdit, Resend, Restart}
 use Rattle.cs_world.specs.declared.outcome.Outcome.{Outcome}
 use Rattle.cs_world.specs.declared.outcome.Outcome.TheVariants as told
 use Rattle.cs_world.proofs.Found.{added}
@@ -81,6 +86,28 @@ asks_nothing_failed r q asked is = cc
 module _ (limit : ℕ) (world : World) where
   no_replica : (event : Event) (r : ℕ) → addressee world event ≡ Some r → slice_get world.members r ≡ None → HasStep limit world event
   no_replica event r to none = (told.NoReplica, world, λ no. no, step.no_replica to none)
+
+  -- ---- an edit
+
+  edit_there : (r : ℕ) (asked : Edit) (before after : Member) (result : Result (Unit {0}) EditFault) → IsMember world r before → IsOfEdit result → IsEditedTo world.tables asked result before after → HasStep limit world (OnEdit r asked)
+  edit_there r asked before after (Ok done) was of (count, next, left, is, made, shows) = (
+    told.Done,
+    with_member world r (record { position = with_pending before.position count; view = next }),
+    λ no. no,
+    step.edits {left = left} count was made shows,
+  )
+  edit_there r asked before after (Err fault) was of (still, inl store) = absurd (of store)
+  edit_there r asked before after (Err fault) was of (still, inr refused) = (told.NotEdited fault, world, of, step.edits_not was (inr refused))
+
+  pub edit_exists : EditHasResult → IsSound limit world → (r : ℕ) (asked : Edit) → IsInRange asked → HasStep limit world (OnEdit r asked)
+  edit_exists law s r asked ranged =
+      elim (there_or_not (slice_get world.members r)) [
+        | inl none ↦ no_replica (OnEdit r asked) r refl none
+        | inr (before, was) ↦
+            let p = s.placed r before was in
+            let all = law world.tables asked before s.tables ranged (record { contents = p.contents; shows = p.shown }) in
+            edit_there r asked before all.1 all.0 was all.2 all.3
+      ]
 
   -- ---- a push once more
 
@@ -276,6 +303,9 @@ module _ (laws : Below) (limit : ℕ) (small : limit < 2 ^ 32) (world : World) (
         | inl none ↦ (told.NoMessage, world, λ no. no, step.no_message none)
         | inr (message, there) ↦ message_exists k wishes message there in_bytes
       ]
+
+pub edit_has_step : EditHasResult → EditHasStep
+edit_has_step law limit r asked world s ranged = edit_exists limit world law s r asked ranged
 
 pub resend_has_step : ResendHasStep
 resend_has_step limit r world = resend_exists limit world r

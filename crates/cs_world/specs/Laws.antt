@@ -3,10 +3,12 @@ use Rattle.std.specs.Prelude.{◌≡◌, ◌<◌, ◌^◌, ℕ, List}
 use Rattle.std.specs.List.{AllByRecursion}
 use Rattle.cs_value.specs.Catalog.{AreTables}
 use Rattle.cs_value.specs.declared.catalog.TableDef.{TableDef}
+use Rattle.cs_value.specs.declared.edit.Edit.{Edit}
 use Rattle.cs_conflict.specs.declared.wish.Wish.{Wish}
 use Rattle.cs_hub.specs.Serves.{ServesIf}
 use Rattle.cs_judging.specs.Judged.{hub_of}
 use Rattle.cs_log.specs.declared.entry.LogEntry.{LogEntry}
+use Rattle.cs_member.specs.Laws.{IsInRange}
 use Rattle.cs_opening.specs.Fresh.{first_position}
 use Rattle.cs_pending.specs.Laws.{empty_view}
 use Rattle.cs_position.specs.Shows.{ShowsAt}
@@ -23,7 +25,7 @@ use Rattle.cs_world.specs.Same.{IsRefused, IsSameWorld}
 use Rattle.cs_world.specs.Steps.{Step, Steps}
 use Rattle.cs_world.specs.World.{Asks, IsMember, IsMessage, Member, Tells, World, first_world}
 use Rattle.cs_world.specs.declared.event.Event.{Event}
-use Rattle.cs_world.specs.declared.event.Event.TheVariants.{AskPull, Deliver, Resend, Restart}
+use Rattle.cs_world.specs.declared.event.Event.TheVariants.{AskPull, Deliver, OnEdit, Resend, Restart}
 use Rattle.cs_world.specs.declared.outcome.Outcome.{Outcome}
 
 -- a replica to which nothing has happened, shown by some store
@@ -108,7 +110,11 @@ OneRun =
 abbrev pub HasStep : ℕ → World → Event → Type 0
 HasStep limit old event = (outcome : Outcome) × (new : World) × (IsRefused outcome new → ⊥) × Step limit old event outcome new
 
--- a push that is to be sent once more has one
+-- in a sound world an edit has one; its values have spellings
+abbrev pub EditHasStep : Type 0
+EditHasStep = (limit r : ℕ) (asked : Edit) (world : World) → IsSound limit world → IsInRange asked → HasStep limit world (OnEdit r asked)
+
+-- and a push that is to be sent once more
 abbrev pub ResendHasStep : Type 0
 ResendHasStep = (limit r : ℕ) (world : World) → HasStep limit world (Resend r)
 

@@ -1,7 +1,7 @@
 //! The laws of worlds, each the contract of a function that does nothing.
 
 ghost use Rattle.cs_replica.specs.Laws.{AnswerHasResult};
-ghost use Rattle.cs_world.specs.Laws.{AnswersFit, AskHasStep, DeliverHasStep, FirstIsSound, OneRun, OneStep, ResendHasStep, RestartHasStep, SoundHasHeadline, StepsAreSound, WishesPickOnce};
+ghost use Rattle.cs_world.specs.Laws.{AnswersFit, AskHasStep, DeliverHasStep, EditHasStep, FirstIsSound, OneRun, OneStep, ResendHasStep, RestartHasStep, SoundHasHeadline, StepsAreSound, WishesPickOnce};
 
 use cs_conflict::Picker;
 use cs_wishes::Wishes;
@@ -91,7 +91,14 @@ pub fn one_run()
     steps_are_sound();
 }
 
-/// A push that is to be sent once more has an outcome that is no refusal.
+/// In a sound world an edit has an outcome that is no refusal.
+pub fn edit_has_step()
+    ensures { EditHasStep }
+{
+    cs_member::laws::edit_has_result();
+}
+
+/// So has a push that is to be sent once more.
 pub fn resend_has_step()
     ensures { ResendHasStep }
 {}
