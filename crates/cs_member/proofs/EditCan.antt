@@ -27,8 +27,6 @@ use Rattle.cs_pending.specs.Steps.{not_not, through}
 use Rattle.cs_pending.specs.View.{View, direct_net, edited, middle, put_at, settled}
 use Rattle.cs_pending.specs.declared.fault.EditFault.{EditFault}
 use Rattle.cs_pending.specs.declared.fault.EditFault.TheVariants.{KeyColumn, NoTable, NullKey, Width}
-use Rattle.cs_pending.specs.declared.wanted.Wanted.{Wanted}
-use Rattle.cs_pending.specs.declared.wanted.Wanted.TheVariants.{Delete, Insert, Update}
 use Rattle.cs_position.specs.Shows.{ShowsAt, changes_at, flown}
 use Rattle.cs_position.specs.Values.{value_of}
 use Rattle.cs_position.specs.declared.position.Position.{Position}
@@ -220,36 +218,36 @@ module _ (tables : List TableDef) (law : Catalogs tables) (set_fits : SetColumns
   row_of row (other, among, named, is) =
       subst (λ (t : TableDef). IsRowOf t key row) (one_table law.one tables other table law.are among inside named) is
 
-  updated_row : (fields : List Field) (row : List Value) → IsWantedAt table key (Update fields) → IsRowOf table key row → IsRowOf table key (set_columns fields row)
-  updated_row fields row wanted is =
-      let kept : marked table.key_marks (set_columns fields row) ≡ marked table.key_marks row = set_keeps table.key_marks fields row wanted.2 in
+  updated_row : (fields : List Field) (row : List Value) → length fields ≡ length table.key_marks → AllByRecursion Fits fields → keeps_key table.key_marks fields ≡ true → IsRowOf table key row → IsRowOf table key (set_columns fields row)
+  updated_row fields row wide ranged keeps is =
+      let kept : marked table.key_marks (set_columns fields row) ≡ marked table.key_marks row = set_keeps table.key_marks fields row keeps in
       record {
-        fits = (set_wide fields row ∙ is.fits.0, set_fits fields row wanted.1 is.fits.1);
+        fits = (set_wide fields row ∙ is.fits.0, set_fits fields row ranged is.fits.1);
         set = ap (list_all is_set) kept ∙ is.set;
         keyed = is.keyed ∙ ap key_bytes (sym kept);
       }
 
-  left_stands : (wanted : Wanted) (stood mine : Place) → IsWantedAt table key wanted → MayStandAt tables table.name key stood → after_edit wanted stood ≡ Ok mine → MayStandAt tables table.name key mine
-  left_stands (Insert row) None mine is stands e =
+  left_stands : (asked : Asked) (stood mine : Place) → IsWantedAt table key (wanted_of asked) → MayStandAt tables table.name key stood → after_edit (wanted_of asked) stood ≡ Ok mine → MayStandAt tables table.name key mine
+  left_stands (AskInsert row) None mine is stands e =
       subst (λ (p : Place). MayStandAt tables table.name key p) (let f : Some row ≡ mine = cc in f) (table, inside, refl, is)
-  left_stands (Insert row) (Some other) mine is stands e = absurd cc
-  left_stands (Update fields) None mine is stands e = absurd cc
-  left_stands (Update fields) (Some row) mine is stands e =
-      subst (λ (p : Place). MayStandAt tables table.name key p) (let f : Some (set_columns fields row) ≡ mine = cc in f) (table, inside, refl, updated_row fields row is (row_of row stands))
-  left_stands Delete None mine is stands e = absurd cc
-  left_stands Delete (Some row) mine is stands e = subst (λ (p : Place). MayStandAt tables table.name key p) (let f : None ≡ mine = cc in f) tt
+  left_stands (AskInsert row) (Some other) mine is stands e = absurd cc
+  left_stands (AskUpdate of fields) None mine is stands e = absurd cc
+  left_stands (AskUpdate of fields) (Some row) mine is stands e =
+      subst (λ (p : Place). MayStandAt tables table.name key p) (let f : Some (set_columns fields row) ≡ mine = cc in f) (table, inside, refl, updated_row fields row is.0 is.1 is.2 (row_of row stands))
+  left_stands (AskDelete of) None mine is stands e = absurd cc
+  left_stands (AskDelete of) (Some row) mine is stands e = subst (λ (p : Place). MayStandAt tables table.name key p) (let f : None ≡ mine = cc in f) tt
 
 -- no fault of a place is one of the store
-place_fault : (wanted : Wanted) (stood : Place) (fault : EditFault) → after_edit wanted stood ≡ Err fault → IsOfStore fault → ⊥
-place_fault (Insert row) None fault e store = absurd cc
-place_fault (Insert row) (Some other) fault e (inl store) = cc
-place_fault (Insert row) (Some other) fault e (inr store) = cc
-place_fault (Update fields) None fault e (inl store) = cc
-place_fault (Update fields) None fault e (inr store) = cc
-place_fault (Update fields) (Some row) fault e store = absurd cc
-place_fault Delete None fault e (inl store) = cc
-place_fault Delete None fault e (inr store) = cc
-place_fault Delete (Some row) fault e store = absurd cc
+place_fault : (asked : Asked) (stood : Place) (fault : EditFault) → after_edit (wanted_of asked) stood ≡ Err fault → IsOfStore fault → ⊥
+place_fault (AskInsert row) None fault e store = absurd cc
+place_fault (AskInsert row) (Some other) fault e (inl store) = cc
+place_fault (AskInsert row) (Some other) fault e (inr store) = cc
+place_fault (AskUpdate key fields) None fault e (inl store) = cc
+place_fault (AskUpdate key fields) None fault e (inr store) = cc
+place_fault (AskUpdate key fields) (Some row) fault e store = absurd cc
+place_fault (AskDelete key) None fault e (inl store) = cc
+place_fault (AskDelete key) None fault e (inr store) = cc
+place_fault (AskDelete key) (Some row) fault e store = absurd cc
 
 no_table : IsOfStore NoTable → ⊥
 no_table (inl e) = cc
@@ -294,14 +292,14 @@ module _ (tables : List TableDef) (law : Catalogs tables) (set_fits : SetColumns
   if_ends false some other one two = two refl
 
   module _ (table : TableDef) (inside : Contains tables table) where
-    left_ends : (key : List ℕ) (wanted : Wanted) → IsWantedAt table key wanted → (left : Result Place EditFault) → after_edit wanted (view.tables table.name key) ≡ left → CanEnd (left_in table key view left)
-    left_ends key wanted is (Ok mine) e =
+    left_ends : (key : List ℕ) (asked : Asked) → IsWantedAt table key (wanted_of asked) → (left : Result Place EditFault) → after_edit (wanted_of asked) (view.tables table.name key) ≡ left → CanEnd (left_in table key view left)
+    left_ends key asked is (Ok mine) e =
         edited_shown tables law old position view shows table inside key mine
-        (left_stands tables law set_fits table key inside wanted (view.tables table.name key) mine is (shows.rows.sound.after_state table.name key) e)
-    left_ends key wanted is (Err fault) e = place_fault wanted (view.tables table.name key) fault e
+        (left_stands tables law set_fits table key inside asked (view.tables table.name key) mine is (shows.rows.sound.after_state table.name key) e)
+    left_ends key asked is (Err fault) e = place_fault asked (view.tables table.name key) fault e
 
-    at_ends : (key : List ℕ) (wanted : Wanted) → IsWantedAt table key wanted → CanEnd (edit_at table key wanted view)
-    at_ends key wanted is = left_ends key wanted is (after_edit wanted (view.tables table.name key)) refl
+    at_ends : (key : List ℕ) (asked : Asked) → IsWantedAt table key (wanted_of asked) → CanEnd (edit_at table key (wanted_of asked) view)
+    at_ends key asked is = left_ends key asked is (after_edit (wanted_of asked) (view.tables table.name key)) refl
 
     abbrev in_place : Asked → Result View EditFault
     in_place asked = edit_at table (key_bytes (asked_key table asked)) (wanted_of asked) view
@@ -317,7 +315,7 @@ module _ (tables : List TableDef) (law : Catalogs tables) (set_fits : SetColumns
         if_ends (not (has_widths table asked)) (Err Width) (with_set_key asked) (λ t. no_width)
         (λ w. if_ends (not (has_set_key table asked)) (Err NullKey) (with_kept_key asked) (λ t. no_key)
         (λ s. if_ends (not (leaves_key table asked)) (Err KeyColumn) (in_place asked) (λ t. no_column)
-        (λ k. at_ends (key_bytes (asked_key table asked)) (wanted_of asked)
+        (λ k. at_ends (key_bytes (asked_key table asked)) asked
         (wanted_there table asked ranged (not_not (has_widths table asked) w) (not_not (has_set_key table asked) s) (not_not (leaves_key table asked) k)))))
 
   found_ends : (asked : Asked) (found : Option TableDef) → ((table : TableDef) → found ≡ Some table → Contains tables table) → AreInRange asked → CanEnd (edit_found found asked view)

@@ -10,7 +10,6 @@ use Rattle.cs_pending.specs.Edits.{Asked, IsOfStore, after_edit, asked_key, edit
 use Rattle.cs_pending.specs.View.{View, direct_net, edited, middle, put_at, settled, undo}
 use Rattle.cs_pending.specs.declared.fault.EditFault.{EditFault}
 use Rattle.cs_pending.specs.declared.fault.EditFault.TheVariants.{KeyColumn, NoTable, NullKey, Width}
-use Rattle.cs_pending.specs.declared.wanted.Wanted.{Wanted}
 use Rattle.cs_position.specs.Shows.{ShowsAt}
 use Rattle.cs_position.specs.declared.position.Position.{Position}
 use Rattle.cs_replica.specs.Edited.{with_pending}
@@ -92,10 +91,10 @@ module _ (tables : List TableDef) where
     left_alike table key (Ok mine) inside = edited_alike table key mine inside
     left_alike table key (Err fault) inside = refl
 
-    at_alike : (table : TableDef) (key : List ℕ) (wanted : Wanted) → Contains tables table → EndAlike (edit_at table key wanted view) (edit_at table key wanted seen)
-    at_alike table key wanted inside =
-        subst (λ (row : Place). EndAlike (edit_at table key wanted view) (left_in table key seen (after_edit wanted row))) (sym (one.rows table.name key))
-        (left_alike table key (after_edit wanted (view.tables table.name key)) inside)
+    at_alike : (table : TableDef) (key : List ℕ) (asked : Asked) → Contains tables table → EndAlike (edit_at table key (wanted_of asked) view) (edit_at table key (wanted_of asked) seen)
+    at_alike table key asked inside =
+        subst (λ (row : Place). EndAlike (edit_at table key (wanted_of asked) view) (left_in table key seen (after_edit (wanted_of asked) row))) (sym (one.rows table.name key))
+        (left_alike table key (after_edit (wanted_of asked) (view.tables table.name key)) inside)
 
     -- ---- the tests before that
 
@@ -110,7 +109,7 @@ module _ (tables : List TableDef) where
         if_alike (not (has_widths table asked)) (Err Width) (Err Width) (keyed table asked view) (keyed table asked seen) refl
         (if_alike (not (has_set_key table asked)) (Err NullKey) (Err NullKey) (kept table asked view) (kept table asked seen) refl
         (if_alike (not (leaves_key table asked)) (Err KeyColumn) (Err KeyColumn) (edit_at table (key_bytes (asked_key table asked)) (wanted_of asked) view) (edit_at table (key_bytes (asked_key table asked)) (wanted_of asked) seen) refl
-        (at_alike table (key_bytes (asked_key table asked)) (wanted_of asked) inside)))
+        (at_alike table (key_bytes (asked_key table asked)) asked inside)))
 
     found_alike : (asked : Asked) (found : Option TableDef) → ((table : TableDef) → found ≡ Some table → Contains tables table) → EndAlike (edit_found found asked view) (edit_found found asked seen)
     found_alike asked None inside = refl
