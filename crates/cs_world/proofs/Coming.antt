@@ -119,23 +119,23 @@ turned_same world other r member its same alike = record {
 
 module _ (laws : Below) (limit : ℕ) (old : World) (ms : List Member) where
   -- the same world, but for its replicas
-  abbrev its : World
-  its = record old { members = ms }
+  abbrev twin : World
+  twin = record old { members = ms }
 
-  module _ (s : IsSound limit old) (t : IsSound limit its) (same : IsSameWorld old its) where
+  module _ (s : IsSound limit old) (t : IsSound limit twin) (same : IsSameWorld old twin) where
     -- some store shows a replica
     shown_there : (world : World) → IsSound limit world → (r : ℕ) (member : Member) → IsMember world r member → IsShown world.tables member
     shown_there world sound r member was = let p = sound.placed r member was in record { contents = p.contents; shows = p.shown }
 
     -- ---- a replica's own steps
 
-    edited_once : (r : ℕ) (asked : Edit) (some other : Outcome) (new last : World) → (IsRefused some new → ⊥) → (IsRefused other last → ⊥) → Edited limit old r asked some new → Edited limit its r asked other last → (some ≡ other) × IsSameWorld new last
-    edited_once r asked some other new last not no one two =
+    edited_once : (r : ℕ) (asked : Edit) (some other : Outcome) (new last : World) → (IsRefused some new → ⊥) → (IsRefused other last → ⊥) → Edited limit old r asked some new → Edited limit twin r asked other last → (some ≡ other) × IsSameWorld new last
+    edited_once r asked some other new last not never one two =
         let all =
         laws.edited old.tables asked one.result two.result one.before two.before one.after two.after (same.members r one.before two.before one.was two.was)
-        (edit_tells one.result new (not_as some (edit_outcome one.result) new one.outcome_is not)) (edit_tells two.result last (not_as other (edit_outcome two.result) last two.outcome_is no)) one.goes two.goes in (
+        (edit_tells one.result new (not_as some (edit_outcome one.result) new one.outcome_is not)) (edit_tells two.result last (not_as other (edit_outcome two.result) last two.outcome_is never)) one.goes two.goes in (
           one.outcome_is ∙ (ap edit_outcome all.0 ∙ sym two.outcome_is),
-          same_as (with_member old r one.after) (with_member its r two.after) new last one.new_is two.new_is (turned_same old its r one.after two.after same all.1),
+          same_as (with_member old r one.after) (with_member twin r two.after) new last one.new_is two.new_is (turned_same old twin r one.after two.after same all.1),
         )
 
     asked_same : (world other : World) (r : ℕ) (some one : Result Asked PushFault) → some ≡ one → IsSameWorld world other → IsSameWorld (with_asked world r some) (with_asked other r one)
@@ -146,50 +146,50 @@ module _ (laws : Below) (limit : ℕ) (old : World) (ms : List Member) where
         asks (Ok asked) = sent_same world other (Asks r asked) alike
         asks (Err fault) = alike
 
-    pushed_once : (r : ℕ) (some other : Outcome) (new last : World) → (IsRefused some new → ⊥) → (IsRefused other last → ⊥) → Pushed limit old r some new → Pushed limit its r other last → (some ≡ other) × IsSameWorld new last
-    pushed_once r some other new last not no one two =
+    pushed_once : (r : ℕ) (some other : Outcome) (new last : World) → (IsRefused some new → ⊥) → (IsRefused other last → ⊥) → Pushed limit old r some new → Pushed limit twin r other last → (some ≡ other) × IsSameWorld new last
+    pushed_once r some other new last not never one two =
         let all =
         laws.pushed old.tables one.result two.result one.before two.before one.after two.after s.tables (same.members r one.before two.before one.was two.was)
         (push_tells (length old.messages) one.result new (not_as some (ask_outcome (length old.messages) one.result) new one.outcome_is not))
-        (push_tells (length old.messages) two.result last (not_as other (ask_outcome (length old.messages) two.result) last two.outcome_is no)) one.goes two.goes in (
+        (push_tells (length old.messages) two.result last (not_as other (ask_outcome (length old.messages) two.result) last two.outcome_is never)) one.goes two.goes in (
           one.outcome_is ∙ (ap (ask_outcome (length old.messages)) all.0 ∙ sym two.outcome_is),
-          same_as (with_asked (with_member old r one.after) r one.result) (with_asked (with_member its r two.after) r two.result) new last one.new_is two.new_is
-              (asked_same (with_member old r one.after) (with_member its r two.after) r one.result two.result all.0 (turned_same old its r one.after two.after same all.1)),
+          same_as (with_asked (with_member old r one.after) r one.result) (with_asked (with_member twin r two.after) r two.result) new last one.new_is two.new_is
+              (asked_same (with_member old r one.after) (with_member twin r two.after) r one.result two.result all.0 (turned_same old twin r one.after two.after same all.1)),
         )
 
-    asked_again_once : (r : ℕ) (some other : Outcome) (new last : World) → (IsRefused some new → ⊥) → (IsRefused other last → ⊥) → AskedOnceMore limit old r some new → AskedOnceMore limit its r other last
+    asked_again_once : (r : ℕ) (some other : Outcome) (new last : World) → (IsRefused some new → ⊥) → (IsRefused other last → ⊥) → AskedOnceMore limit old r some new → AskedOnceMore limit twin r other last
         → (some ≡ other) × IsSameWorld new last
-    asked_again_once r some other new last not no one two =
+    asked_again_once r some other new last not never one two =
         let results : one.result ≡ two.result =
         laws.resent old.tables one.result two.result one.before two.before (shown_there old s r one.before one.was) (same.members r one.before two.before one.was two.was)
         (push_tells (length old.messages) one.result new (not_as some (ask_outcome (length old.messages) one.result) new one.outcome_is not))
-        (push_tells (length old.messages) two.result last (not_as other (ask_outcome (length old.messages) two.result) last two.outcome_is no)) one.goes two.goes in (
+        (push_tells (length old.messages) two.result last (not_as other (ask_outcome (length old.messages) two.result) last two.outcome_is never)) one.goes two.goes in (
           one.outcome_is ∙ (ap (ask_outcome (length old.messages)) results ∙ sym two.outcome_is),
-          same_as (with_asked old r one.result) (with_asked its r two.result) new last one.new_is two.new_is (asked_same old its r one.result two.result results same),
+          same_as (with_asked old r one.result) (with_asked twin r two.result) new last one.new_is two.new_is (asked_same old twin r one.result two.result results same),
         )
 
-    asked_from_once : (r count : ℕ) (some other : Outcome) (new last : World) → AskedFrom limit old r count some new → AskedFrom limit its r count other last → (some ≡ other) × IsSameWorld new last
+    asked_from_once : (r count : ℕ) (some other : Outcome) (new last : World) → AskedFrom limit old r count some new → AskedFrom limit twin r count other last → (some ≡ other) × IsSameWorld new last
     asked_from_once r count some other new last one two =
         let alike = same.members r one.before two.before one.was two.was in
         let versions : two.before.position.version ≡ one.before.position.version = ap (λ (p : Position). p.version) alike.position in
-        let there : last ≡ with_message its (Asks r (AsksPull one.before.position.version count)) = two.new_is ∙ ap (λ (v : ℕ). with_message its (Asks r (AsksPull v count))) versions in (
+        let there : last ≡ with_message twin (Asks r (AsksPull one.before.position.version count)) = two.new_is ∙ ap (λ (v : ℕ). with_message twin (Asks r (AsksPull v count))) versions in (
           one.outcome_is ∙ sym two.outcome_is,
-          same_as (with_message old (Asks r (AsksPull one.before.position.version count))) (with_message its (Asks r (AsksPull one.before.position.version count))) new last one.new_is there
-              (sent_same old its (Asks r (AsksPull one.before.position.version count)) same),
+          same_as (with_message old (Asks r (AsksPull one.before.position.version count))) (with_message twin (Asks r (AsksPull one.before.position.version count))) new last one.new_is there
+              (sent_same old twin (Asks r (AsksPull one.before.position.version count)) same),
         )
 
-    read_once : (r : ℕ) (some other : Outcome) (new last : World) → (IsRefused some new → ⊥) → (IsRefused other last → ⊥) → Reread limit old r some new → Reread limit its r other last → (some ≡ other) × IsSameWorld new last
-    read_once r some other new last not no one two = (
+    read_once : (r : ℕ) (some other : Outcome) (new last : World) → (IsRefused some new → ⊥) → (IsRefused other last → ⊥) → Reread limit old r some new → Reread limit twin r other last → (some ≡ other) × IsSameWorld new last
+    read_once r some other new last not never one two = (
       one.outcome_is
           ∙ (read_tells one.result new one.goes (not_as some (read_outcome one.result) new one.outcome_is not)
-          ∙ (sym (read_tells two.result last two.goes (not_as other (read_outcome two.result) last two.outcome_is no)) ∙ sym two.outcome_is)),
-      same_as old its new last one.new_is two.new_is same,
+          ∙ (sym (read_tells two.result last two.goes (not_as other (read_outcome two.result) last two.outcome_is never)) ∙ sym two.outcome_is)),
+      same_as old twin new last one.new_is two.new_is same,
     )
 
     -- ---- a message arrives
 
-    missed_once : (k : ℕ) (some other : Outcome) (new last : World) → Missed limit old k some new → Missed limit its k other last → (some ≡ other) × IsSameWorld new last
-    missed_once k some other new last one two = (one.outcome_is ∙ sym two.outcome_is, same_as old its new last one.new_is two.new_is same)
+    missed_once : (k : ℕ) (some other : Outcome) (new last : World) → Missed limit old k some new → Missed limit twin k other last → (some ≡ other) × IsSameWorld new last
+    missed_once k some other new last one two = (one.outcome_is ∙ sym two.outcome_is, same_as old twin new last one.new_is two.new_is same)
 
     never_missed : (k : ℕ) (message : Sent) → slice_get old.messages k ≡ None → IsMessage old k message → ⊥
     never_missed k message none there = let is : None ≡ Some message = sym none ∙ there in absurd cc
@@ -211,77 +211,81 @@ module _ (laws : Below) (limit : ℕ) (old : World) (ms : List Member) where
         let told_so : answer ≡ Short (Refused device_code) = one_answer answer (Short (Refused device_code)) fits (omega arith) is in
         absurd (not (r, subst (λ (a : Answer). slice_get (world.messages ++ Tells r answer ∷ []) (length world.messages) ≡ Some (Tells r a)) told_so (added world.messages (Tells r answer))))
 
-    answered_alike : (k : ℕ) (some other : Outcome) (new last : World) → (IsRefused some new → ⊥) → (IsRefused other last → ⊥) → (one : Answered limit old k some new) (two : Answered limit its k other last)
+    answered_alike : (k : ℕ) (some other : Outcome) (new last : World) → (IsRefused some new → ⊥) → (IsRefused other last → ⊥) → (one : Answered limit old k some new) (two : Answered limit twin k other last)
         → two.r ≡ one.r → two.asked ≡ one.asked → (some ≡ other) × IsSameWorld new last
-    answered_alike k some other new last not no one two to what =
+    answered_alike k some other new last not never one two to what =
         let after_one = with_message (with_log old one.log) (Tells one.r one.answer) in
-        let after_two = with_message (with_log its two.log) (Tells two.r two.answer) in
+        let after_two = with_message (with_log twin two.log) (Tells two.r two.answer) in
         let first =
         by_log one.r one.asked one.answer one.log old one.fits
         (λ refused. not (subst (λ (w : World). IsRefused some w) (sym one.new_is) (subst (λ (o : Outcome). IsRefused o after_one) (sym one.outcome_is) refused))) one.goes in
         let second =
-        by_log two.r two.asked two.answer two.log its two.fits
-        (λ refused. no (subst (λ (w : World). IsRefused other w) (sym two.new_is) (subst (λ (o : Outcome). IsRefused o after_two) (sym two.outcome_is) refused))) two.goes in
+        by_log two.r two.asked two.answer two.log twin two.fits
+        (λ refused. never (subst (λ (w : World). IsRefused other w) (sym two.new_is) (subst (λ (o : Outcome). IsRefused o after_two) (sym two.outcome_is) refused))) two.goes in
         let second_of = subst (λ (a : Asked). Serves limit (hub_of old.tables old.log) (request_spelling a) (answer_spelling two.answer) (hub_of old.tables two.log)) what second in
         let both =
         laws.service limit (hub_of old.tables old.log) (hub_of old.tables one.log) (hub_of old.tables two.log) (request_spelling one.asked) (answer_spelling one.answer) (answer_spelling two.answer) s.tables first second_of in
         let answers : one.answer ≡ two.answer = one_answer one.answer two.answer one.fits two.fits both.0 in
         let logs : one.log ≡ two.log = ap (λ (h : HubState). h.log) both.1 in
-        let there : last ≡ with_message (with_log its one.log) (Tells one.r one.answer) =
+        let there : last ≡ with_message (with_log twin one.log) (Tells one.r one.answer) =
         two.new_is
-        ∙ (ap (λ (l : List LogEntry). with_message (with_log its l) (Tells two.r two.answer)) (sym logs)
-        ∙ (ap (λ (a : Answer). with_message (with_log its one.log) (Tells two.r a)) (sym answers)
-        ∙ ap (λ (q : ℕ). with_message (with_log its one.log) (Tells q one.answer)) to)) in (
+        ∙ (ap (λ (l : List LogEntry). with_message (with_log twin l) (Tells two.r two.answer)) (sym logs)
+        ∙ (ap (λ (a : Answer). with_message (with_log twin one.log) (Tells two.r a)) (sym answers)
+        ∙ ap (λ (q : ℕ). with_message (with_log twin one.log) (Tells q one.answer)) to)) in (
           one.outcome_is ∙ sym two.outcome_is,
-          same_as after_one (with_message (with_log its one.log) (Tells one.r one.answer)) new last one.new_is there
-              (sent_same (with_log old one.log) (with_log its one.log) (Tells one.r one.answer) (logged_same old its one.log same)),
+          same_as after_one (with_message (with_log twin one.log) (Tells one.r one.answer)) new last one.new_is there
+              (sent_same (with_log old one.log) (with_log twin one.log) (Tells one.r one.answer) (logged_same old twin one.log same)),
         )
 
-    answered_once : (k : ℕ) (some other : Outcome) (new last : World) → (IsRefused some new → ⊥) → (IsRefused other last → ⊥) → Answered limit old k some new → Answered limit its k other last → (some ≡ other) × IsSameWorld new last
-    answered_once k some other new last not no one two =
+    answered_once : (k : ℕ) (some other : Outcome) (new last : World) → (IsRefused some new → ⊥) → (IsRefused other last → ⊥) → Answered limit old k some new → Answered limit twin k other last → (some ≡ other) × IsSameWorld new last
+    answered_once k some other new last not never one two =
         let is : Some (Asks two.r two.asked) ≡ Some (Asks one.r one.asked) = sym two.there ∙ one.there in
-        answered_alike k some other new last not no one two cc cc
+        let to : two.r ≡ one.r = cc in
+        let what : two.asked ≡ one.asked = cc in
+        answered_alike k some other new last not never one two to what
 
-    heard_alike : (k : ℕ) (wishes : List Wish) (some other : Outcome) (new last : World) → (IsRefused some new → ⊥) → (IsRefused other last → ⊥) → (one : HeardOf limit old k wishes some new) (two : HeardOf limit its k wishes other last)
+    heard_alike : (k : ℕ) (wishes : List Wish) (some other : Outcome) (new last : World) → (IsRefused some new → ⊥) → (IsRefused other last → ⊥) → (one : HeardOf limit old k wishes some new) (two : HeardOf limit twin k wishes other last)
         → two.r ≡ one.r → two.answer ≡ one.answer → (some ≡ other) × IsSameWorld new last
-    heard_alike k wishes some other new last not no one two to what =
-        let was = subst (λ (q : ℕ). IsMember its q two.before) to two.was in
+    heard_alike k wishes some other new last not never one two to what =
+        let was = subst (λ (q : ℕ). IsMember twin q two.before) to two.was in
         let goes = subst (λ (a : Answer). step.Hears old.tables two.before a wishes two.result two.after) what two.goes in
         let all =
         laws.heard old.tables one.answer wishes one.result two.result one.before two.before one.after two.after s.tables
-        (shown_there old s one.r one.before one.was) (shown_there its t one.r two.before was) (same.members one.r one.before two.before one.was was)
-        (answer_tells one.result new (not_as some (heard one.result) new one.outcome_is not)) (answer_tells two.result last (not_as other (heard two.result) last two.outcome_is no)) one.goes goes in
-        let there : last ≡ with_member its one.r two.after = two.new_is ∙ ap (λ (q : ℕ). with_member its q two.after) to in (
+        (shown_there old s one.r one.before one.was) (shown_there twin t one.r two.before was) (same.members one.r one.before two.before one.was was)
+        (answer_tells one.result new (not_as some (heard one.result) new one.outcome_is not)) (answer_tells two.result last (not_as other (heard two.result) last two.outcome_is never)) one.goes goes in
+        let there : last ≡ with_member twin one.r two.after = two.new_is ∙ ap (λ (q : ℕ). with_member twin q two.after) to in (
           one.outcome_is ∙ (ap heard all.0 ∙ sym two.outcome_is),
-          same_as (with_member old one.r one.after) (with_member its one.r two.after) new last one.new_is there (turned_same old its one.r one.after two.after same all.1),
+          same_as (with_member old one.r one.after) (with_member twin one.r two.after) new last one.new_is there (turned_same old twin one.r one.after two.after same all.1),
         )
 
-    heard_once : (k : ℕ) (wishes : List Wish) (some other : Outcome) (new last : World) → (IsRefused some new → ⊥) → (IsRefused other last → ⊥) → HeardOf limit old k wishes some new → HeardOf limit its k wishes other last
+    heard_once : (k : ℕ) (wishes : List Wish) (some other : Outcome) (new last : World) → (IsRefused some new → ⊥) → (IsRefused other last → ⊥) → HeardOf limit old k wishes some new → HeardOf limit twin k wishes other last
         → (some ≡ other) × IsSameWorld new last
-    heard_once k wishes some other new last not no one two =
+    heard_once k wishes some other new last not never one two =
         let is : Some (Tells two.r two.answer) ≡ Some (Tells one.r one.answer) = sym two.there ∙ one.there in
-        heard_alike k wishes some other new last not no one two cc cc
+        let to : two.r ≡ one.r = cc in
+        let what : two.answer ≡ one.answer = cc in
+        heard_alike k wishes some other new last not never one two to what
 
     -- ---- each event
 
-    came_once : (event : Event) (some other : Outcome) (new last : World) → (IsRefused some new → ⊥) → (IsRefused other last → ⊥) → Came limit old event some new → Came limit its event other last → (some ≡ other) × IsSameWorld new last
-    came_once (OnEdit r asked) some other new last not no one two = edited_once r asked some other new last not no one two
-    came_once (MakePush r) some other new last not no one two = pushed_once r some other new last not no one two
-    came_once (Resend r) some other new last not no one two = asked_again_once r some other new last not no one two
-    came_once (AskPull r count) some other new last not no one two = asked_from_once r count some other new last one two
-    came_once (Restart r) some other new last not no one two = read_once r some other new last not no one two
-    came_once (Deliver k wishes) some other new last not no (inl one) (inl two) = missed_once k some other new last one two
-    came_once (Deliver k wishes) some other new last not no (inl one) (inr (inl two)) = absurd (never_missed k (Asks two.r two.asked) one.none two.there)
-    came_once (Deliver k wishes) some other new last not no (inl one) (inr (inr two)) = absurd (never_missed k (Tells two.r two.answer) one.none two.there)
-    came_once (Deliver k wishes) some other new last not no (inr (inl one)) (inl two) = absurd (never_missed k (Asks one.r one.asked) two.none one.there)
-    came_once (Deliver k wishes) some other new last not no (inr (inl one)) (inr (inl two)) = answered_once k some other new last not no one two
-    came_once (Deliver k wishes) some other new last not no (inr (inl one)) (inr (inr two)) = absurd (never_both k one.r two.r one.asked two.answer one.there two.there)
-    came_once (Deliver k wishes) some other new last not no (inr (inr one)) (inl two) = absurd (never_missed k (Tells one.r one.answer) two.none one.there)
-    came_once (Deliver k wishes) some other new last not no (inr (inr one)) (inr (inl two)) = absurd (never_both k two.r one.r two.asked one.answer two.there one.there)
-    came_once (Deliver k wishes) some other new last not no (inr (inr one)) (inr (inr two)) = heard_once k wishes some other new last not no one two
+    came_once : (event : Event) (some other : Outcome) (new last : World) → (IsRefused some new → ⊥) → (IsRefused other last → ⊥) → Came limit old event some new → Came limit twin event other last → (some ≡ other) × IsSameWorld new last
+    came_once (OnEdit r asked) some other new last not never one two = edited_once r asked some other new last not never one two
+    came_once (MakePush r) some other new last not never one two = pushed_once r some other new last not never one two
+    came_once (Resend r) some other new last not never one two = asked_again_once r some other new last not never one two
+    came_once (AskPull r count) some other new last not never one two = asked_from_once r count some other new last one two
+    came_once (Restart r) some other new last not never one two = read_once r some other new last not never one two
+    came_once (Deliver k wishes) some other new last not never (inl one) (inl two) = missed_once k some other new last one two
+    came_once (Deliver k wishes) some other new last not never (inl one) (inr (inl two)) = absurd (never_missed k (Asks two.r two.asked) one.none two.there)
+    came_once (Deliver k wishes) some other new last not never (inl one) (inr (inr two)) = absurd (never_missed k (Tells two.r two.answer) one.none two.there)
+    came_once (Deliver k wishes) some other new last not never (inr (inl one)) (inl two) = absurd (never_missed k (Asks one.r one.asked) two.none one.there)
+    came_once (Deliver k wishes) some other new last not never (inr (inl one)) (inr (inl two)) = answered_once k some other new last not never one two
+    came_once (Deliver k wishes) some other new last not never (inr (inl one)) (inr (inr two)) = absurd (never_both k one.r two.r one.asked two.answer one.there two.there)
+    came_once (Deliver k wishes) some other new last not never (inr (inr one)) (inl two) = absurd (never_missed k (Tells one.r one.answer) two.none one.there)
+    came_once (Deliver k wishes) some other new last not never (inr (inr one)) (inr (inl two)) = absurd (never_both k two.r one.r two.asked one.answer two.there one.there)
+    came_once (Deliver k wishes) some other new last not never (inr (inr one)) (inr (inr two)) = heard_once k wishes some other new last not never one two
 
     -- whom it is for doesn't change with the replicas
-    to_same : (event : Event) → addressee its event ≡ addressee old event
+    to_same : (event : Event) → addressee twin event ≡ addressee old event
     to_same (OnEdit r asked) = refl
     to_same (MakePush r) = refl
     to_same (Resend r) = refl
@@ -289,15 +293,15 @@ module _ (laws : Below) (limit : ℕ) (old : World) (ms : List Member) where
     to_same (Deliver k wishes) = refl
     to_same (Restart r) = refl
 
-    comes_once : (event : Event) (some other : Outcome) (new last : World) → (IsRefused some new → ⊥) → (IsRefused other last → ⊥) → Comes limit old event some new → Comes limit its event other last → (some ≡ other) × IsSameWorld new last
-    comes_once event some other new last not no (inl memory) two = absurd (not_as some told.Memory new memory not tt)
-    comes_once event some other new last not no (inr one) (inl memory) = absurd (not_as other told.Memory last memory no tt)
-    comes_once event some other new last not no (inr (inl one)) (inr (inl two)) = (one.outcome_is ∙ sym two.outcome_is, same_as old its new last one.new_is two.new_is same)
-    comes_once event some other new last not no (inr (inl one)) (inr (inr two)) =
-        absurd (has_replica limit its event other last one.r two (to_same event ∙ one.to) (none_there old.members ms one.r same.count one.none))
-    comes_once event some other new last not no (inr (inr one)) (inr (inl two)) =
+    comes_once : (event : Event) (some other : Outcome) (new last : World) → (IsRefused some new → ⊥) → (IsRefused other last → ⊥) → Comes limit old event some new → Comes limit twin event other last → (some ≡ other) × IsSameWorld new last
+    comes_once event some other new last not never (inl memory) two = absurd (not_as some told.Memory new memory not tt)
+    comes_once event some other new last not never (inr one) (inl memory) = absurd (not_as other told.Memory last memory never tt)
+    comes_once event some other new last not never (inr (inl one)) (inr (inl two)) = (one.outcome_is ∙ sym two.outcome_is, same_as old twin new last one.new_is two.new_is same)
+    comes_once event some other new last not never (inr (inl one)) (inr (inr two)) =
+        absurd (has_replica limit twin event other last one.r two (to_same event ∙ one.to) (none_there old.members ms one.r same.count one.none))
+    comes_once event some other new last not never (inr (inr one)) (inr (inl two)) =
         absurd (has_replica limit old event some new two.r one (sym (to_same event) ∙ two.to) (none_there ms old.members two.r (sym same.count) two.none))
-    comes_once event some other new last not no (inr (inr one)) (inr (inr two)) = came_once event some other new last not no one two
+    comes_once event some other new last not never (inr (inr one)) (inr (inr two)) = came_once event some other new last not never one two
 
 -- the same world is the one, but for its replicas
 its_is : (old its : World) → IsSameWorld old its → its ≡ record old { members = its.members }
@@ -307,16 +311,16 @@ its_is old its same =
     ∙ ap (λ (ms : List Sent). record its { tables = old.tables; log = old.log; messages = ms }) same.messages)
 
 pub one_step : Below → OneStep
-one_step laws limit old its new last event some other s t same not no one two =
+one_step laws limit old its new last event some other s t same not never one two =
     let is = its_is old its same in
-    comes_once laws limit old its.members s (subst (IsSound limit) is t) (subst (IsSameWorld old) is same) event some other new last not no
+    comes_once laws limit old its.members s (subst (IsSound limit) is t) (subst (IsSameWorld old) is same) event some other new last not never
     (came limit old one) (came limit (record old { members = its.members }) (subst (λ (w : World). Step limit w event other last) is two))
 
 -- ---- events one after another
 
 -- a message stays
 step_keeps : (limit : ℕ) (old new : World) (event : Event) (outcome : Outcome) (k : ℕ) (message : Sent) → Step limit old event outcome new → IsMessage old k message → IsMessage new k message
-step_keeps limit old new event outcome k message step there = keeps step there
+step_keeps limit old new event outcome k message one there = keeps one there
   where
     keeps : {event : Event} {outcome : Outcome} {new : World} → Step limit old event outcome new → IsMessage old k message → IsMessage new k message
     keeps (step.edits count was made shows) there = there
@@ -355,15 +359,15 @@ refused_on limit old new events outcomes (told.NotReloaded fault) steps refused 
 refused_on limit old new events outcomes told.Memory steps refused = refused
 
 pub one_run : OneStep → StepsAreSound → OneRun
-one_run law keeps limit old its new last [] [] [] small s t same not no is so = (refl, same_as old its new last is so same)
-one_run law keeps limit old its new last (event ∷ events) (some ∷ more) (other ∷ others) small s t same (not, nots) (no, nos) (between, one, rest) (among, two, later) =
+one_run law keeps limit old its new last [] [] [] small s t same not never is so = (refl, same_as old its new last is so same)
+one_run law keeps limit old its new last (event ∷ events) (some ∷ more) (other ∷ others) small s t same (not, nots) (never, nos) (between, one, rest) (among, two, later) =
     let first =
     law limit old its between among event some other s t same
-    (λ refused. not (refused_on limit between new events more some rest refused)) (λ refused. no (refused_on limit among last events others other later refused)) one two in
+    (λ refused. not (refused_on limit between new events more some rest refused)) (λ refused. never (refused_on limit among last events others other later refused)) one two in
     let all =
     one_run law keeps limit between among new last events more others small (keeps limit old between event some small s one).0 (keeps limit its among event other small t two).0 first.1 nots nos rest later in
     (ap (λ (o : Outcome). o ∷ more) first.0 ∙ ap (λ (os : List Outcome). other ∷ os) all.0, all.1)
-one_run law keeps limit old its new last [] (some ∷ more) others small s t same not no is so = absurd is
-one_run law keeps limit old its new last [] [] (other ∷ others) small s t same not no is so = absurd so
-one_run law keeps limit old its new last (event ∷ events) [] others small s t same not no is so = absurd is
-one_run law keeps limit old its new last (event ∷ events) (some ∷ more) [] small s t same not no is so = absurd so
+one_run law keeps limit old its new last [] (some ∷ more) others small s t same not never is so = absurd is
+one_run law keeps limit old its new last [] [] (other ∷ others) small s t same not never is so = absurd so
+one_run law keeps limit old its new last (event ∷ events) [] others small s t same not never is so = absurd is
+one_run law keeps limit old its new last (event ∷ events) (some ∷ more) [] small s t same not never is so = absurd so

@@ -7,8 +7,7 @@ use Rattle.cs_conflict.specs.Wishes.{guarded}
 use Rattle.cs_conflict.specs.declared.clash.Clash.{Clash}
 use Rattle.cs_conflict.specs.declared.wish.Wish.{Wish}
 use Rattle.cs_hub.specs.Refusals.{refusal_code, refusal_of_hub}
-use Rattle.cs_hub.specs.Serves.{Outcome as Taking, Serves, or_refusal, push_answer, refused}
-use Rattle.cs_hub.specs.declared.refusal.Refusal.TheVariants.{ByHub}
+use Rattle.cs_hub.specs.Serves.{Serves, or_refusal, push_answer, refused}
 use Rattle.cs_judging.specs.Hub.{HubState, entries_from}
 use Rattle.cs_judging.specs.Judged.{hub_of}
 use Rattle.cs_judging.specs.Laws.{PushHasAnswer}
@@ -85,7 +84,7 @@ asks_nothing_failed r q asked is = cc
 
 module _ (limit : ℕ) (world : World) where
   no_replica : (event : Event) (r : ℕ) → addressee world event ≡ Some r → slice_get world.members r ≡ None → HasStep limit world event
-  no_replica event r to none = (told.NoReplica, world, λ no. no, step.no_replica to none)
+  no_replica event r to none = (told.NoReplica, world, λ is. is, step.no_replica to none)
 
   -- ---- an edit
 
@@ -93,7 +92,7 @@ module _ (limit : ℕ) (world : World) where
   edit_there r asked before after (Ok done) was of (count, next, left, is, made, shows) = (
     told.Done,
     with_member world r (record { position = with_pending before.position count; view = next }),
-    λ no. no,
+    λ is. is,
     step.edits {left = left} count was made shows,
   )
   edit_there r asked before after (Err fault) was of (still, inl store) = absurd (of store)
@@ -149,7 +148,7 @@ module _ (limit : ℕ) (world : World) where
   restart_exists r =
       elim (there_or_not (slice_get world.members r)) [
         | inl none ↦ no_replica (Restart r) r refl none
-        | inr (before, was) ↦ (told.Done, world, λ no. no, step.restarts was)
+        | inr (before, was) ↦ (told.Done, world, λ is. is, step.restarts was)
       ]
 
 -- ---- a request is served
@@ -234,7 +233,7 @@ module _ (laws : Below) (limit : ℕ) (small : limit < 2 ^ 32) (world : World) (
   pull_served first count fits =
       elim (cases_lt (length world.log) first) [
         | inl above ↦ record {
-          bytes = refused (ByHub hub.Ahead);
+          bytes = refused (refusal_of_hub hub.Ahead);
           log = world.log;
           serves = (Ok (AsksPull first count), (fits, refl), (inl (above, refl), refl));
           well = refusal_well hub.Ahead (λ e. cc);
@@ -270,10 +269,10 @@ module _ (laws : Below) (limit : ℕ) (small : limit < 2 ^ 32) (world : World) (
       (guarded (next_wish p) clash.conflict.kind clash.covers, wishes_left p, record { is = refl; left = refl }, tt, laws.lawful (next_wish p) clash)
 
   heard_well : (result : Result Told AnswerFault) (new : World) → IsOfAnswer result → IsRefused (heard result) new → ⊥
-  heard_well (Ok what) new of no = no
-  heard_well (Err (hearing.Memory count)) new of no = of
-  heard_well (Err (hearing.Device count)) new of no = of
-  heard_well (Err (hearing.BadEntry count)) new of no = no tt
+  heard_well (Ok what) new of is = is
+  heard_well (Err (hearing.Memory count)) new of is = of
+  heard_well (Err (hearing.Device count)) new of is = of
+  heard_well (Err (hearing.BadEntry count)) new of is = is tt
 
   hear_there : (k r : ℕ) (wishes : List Wish) (answer : Answer) → IsMessage world k (Tells r answer) → IsInBytes answer → (before : Member) → IsMember world r before → HasStep limit world (Deliver k wishes)
   hear_there k r wishes answer there in_bytes before was =
@@ -300,7 +299,7 @@ module _ (laws : Below) (limit : ℕ) (small : limit < 2 ^ 32) (world : World) (
   pub deliver_exists : (k : ℕ) (wishes : List Wish) → ((r : ℕ) (answer : Answer) → IsMessage world k (Tells r answer) → IsInBytes answer) → HasStep limit world (Deliver k wishes)
   deliver_exists k wishes in_bytes =
       elim (there_or_not (slice_get world.messages k)) [
-        | inl none ↦ (told.NoMessage, world, λ no. no, step.no_message none)
+        | inl none ↦ (told.NoMessage, world, λ is. is, step.no_message none)
         | inr (message, there) ↦ message_exists k wishes message there in_bytes
       ]
 
