@@ -2,3 +2,4 @@ mod Printing
 mod Going
 mod Dumping
 mod Made
+mod OneLine

@@ -8,6 +8,7 @@
 
 mod dump;
 mod fault;
+pub mod laws;
 mod names;
 mod node;
 mod reply;

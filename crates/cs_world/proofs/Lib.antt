@@ -5,6 +5,9 @@ mod Heard
 mod Keeps
 mod Holds
 mod Wished
+mod Came
+mod Coming
+mod Exists
 mod Begun
 mod Moved
 mod Running

@@ -1,13 +1,18 @@
 -- The laws of worlds.
 use Rattle.std.specs.Prelude.{◌≡◌, ◌<◌, ◌^◌, ℕ, List}
+use Rattle.std.specs.List.{AllByRecursion}
 use Rattle.cs_value.specs.Catalog.{AreTables}
 use Rattle.cs_value.specs.declared.catalog.TableDef.{TableDef}
+use Rattle.cs_value.specs.declared.edit.Edit.{Edit}
+use Rattle.cs_conflict.specs.declared.wish.Wish.{Wish}
 use Rattle.cs_hub.specs.Serves.{ServesIf}
 use Rattle.cs_judging.specs.Judged.{hub_of}
 use Rattle.cs_log.specs.declared.entry.LogEntry.{LogEntry}
+use Rattle.cs_member.specs.Laws.{IsInRange}
 use Rattle.cs_opening.specs.Fresh.{first_position}
 use Rattle.cs_pending.specs.Laws.{empty_view}
 use Rattle.cs_position.specs.Shows.{ShowsAt}
+use Rattle.cs_replica.specs.Laws.{IsInBytes}
 use Rattle.cs_store.specs.Contents.{Contents}
 use Rattle.cs_taking.specs.Laws.{PicksOnce}
 use Rattle.cs_wire.specs.Answers.{FitsAnswer, answer_spelling}
@@ -16,9 +21,11 @@ use Rattle.cs_wire.specs.declared.answer.Answer.{Answer}
 use Rattle.cs_wishes.specs.Wished.{IsWished}
 use Rattle.cs_world.specs.Headline.{Headline, IsGood}
 use Rattle.cs_world.specs.Sound.{IsSound}
-use Rattle.cs_world.specs.Steps.{Step}
-use Rattle.cs_world.specs.World.{Asks, IsMember, IsMessage, Member, World, first_world}
+use Rattle.cs_world.specs.Same.{IsRefused, IsSameWorld}
+use Rattle.cs_world.specs.Steps.{Step, Steps}
+use Rattle.cs_world.specs.World.{Asks, IsMember, IsMessage, Member, Tells, World, first_world}
 use Rattle.cs_world.specs.declared.event.Event.{Event}
+use Rattle.cs_world.specs.declared.event.Event.TheVariants.{AskPull, Deliver, OnEdit, Resend, Restart}
 use Rattle.cs_world.specs.declared.outcome.Outcome.{Outcome}
 
 -- a replica to which nothing has happened, shown by some store
@@ -63,3 +70,67 @@ AnswersFit =
     → IsMessage world k (Asks r asked)
     → ServesIf (Unit {0}) limit (hub_of world.tables world.log) (request_spelling asked) bytes (hub_of world.tables log)
     → (answer : Answer) × FitsAnswer answer × (bytes ≡ answer_spelling answer)
+
+-- ---- one outcome an event
+
+-- in the same world an event has one outcome, and leaves the same world: but for refusals
+abbrev pub OneStep : Type 0
+OneStep =
+    (limit : ℕ) (old its new last : World) (event : Event) (some other : Outcome)
+    → IsSound limit old
+    → IsSound limit its
+    → IsSameWorld old its
+    → (IsRefused some new → ⊥)
+    → (IsRefused other last → ⊥)
+    → Step limit old event some new
+    → Step limit its event other last
+    → (some ≡ other) × IsSameWorld new last
+
+-- none of the outcomes is a refusal in the world after all
+abbrev pub NoneRefused : List Outcome → World → Type 0
+NoneRefused outcomes world = AllByRecursion (λ (outcome : Outcome). IsRefused outcome world → ⊥) outcomes
+
+-- so events one after another have one list of outcomes, where none is a refusal
+abbrev pub OneRun : Type 0
+OneRun =
+    (limit : ℕ) (old its new last : World) (events : List Event) (some other : List Outcome)
+    → limit < 2 ^ 32
+    → IsSound limit old
+    → IsSound limit its
+    → IsSameWorld old its
+    → NoneRefused some new
+    → NoneRefused other last
+    → Steps limit old events some new
+    → Steps limit its events other last
+    → (some ≡ other) × IsSameWorld new last
+
+-- ---- an outcome for each event
+
+-- the event has an outcome that is no refusal
+abbrev pub HasStep : ℕ → World → Event → Type 0
+HasStep limit old event = (outcome : Outcome) × (new : World) × (IsRefused outcome new → ⊥) × Step limit old event outcome new
+
+-- in a sound world an edit has one; its values have spellings
+abbrev pub EditHasStep : Type 0
+EditHasStep = (limit r : ℕ) (asked : Edit) (world : World) → IsSound limit world → IsInRange asked → HasStep limit world (OnEdit r asked)
+
+-- and a push that is to be sent once more
+abbrev pub ResendHasStep : Type 0
+ResendHasStep = (limit r : ℕ) (world : World) → HasStep limit world (Resend r)
+
+-- and a question for entries
+abbrev pub AskHasStep : Type 0
+AskHasStep = (limit r count : ℕ) (world : World) → count < 2 ^ 32 → HasStep limit world (AskPull r count)
+
+-- and a store that is read again
+abbrev pub RestartHasStep : Type 0
+RestartHasStep = (limit r : ℕ) (world : World) → HasStep limit world (Restart r)
+
+-- and, in a sound world, a message that arrives, or none; of entries that are told the bodies are bytes
+abbrev pub DeliverHasStep : Type 0
+DeliverHasStep =
+    (limit k : ℕ) (wishes : List Wish) (world : World)
+    → limit < 2 ^ 32
+    → IsSound limit world
+    → ((r : ℕ) (answer : Answer) → IsMessage world k (Tells r answer) → IsInBytes answer)
+    → HasStep limit world (Deliver k wishes)

@@ -1,6 +1,7 @@
 pub mod World
 pub mod Steps
 pub mod Sound
+pub mod Same
 pub mod Headline
 pub mod Laws
 pub mod Short

@@ -1,7 +1,9 @@
 //! The laws of worlds, each the contract of a function that does nothing.
 
-ghost use Rattle.cs_world.specs.Laws.{AnswersFit, FirstIsSound, SoundHasHeadline, StepsAreSound, WishesPickOnce};
+ghost use Rattle.cs_replica.specs.Laws.{AnswerHasResult};
+ghost use Rattle.cs_world.specs.Laws.{AnswersFit, AskHasStep, DeliverHasStep, EditHasStep, FirstIsSound, OneRun, OneStep, ResendHasStep, RestartHasStep, SoundHasHeadline, StepsAreSound, WishesPickOnce};
 
+use cs_conflict::Picker;
 use cs_wishes::Wishes;
 
 /// A world in which nothing has happened is sound.
@@ -67,4 +69,66 @@ pub fn answers_fit()
     cs_wire::laws::one_request();
     cs_wire::laws::one_told_answer();
     cs_wire::laws::told_are_read();
+}
+
+/// In a sound world an event has one outcome, and leaves one world: but where memory was refused or a device failed.
+pub fn one_step()
+    ensures { OneStep }
+{
+    cs_hub::laws::one_service();
+    cs_member::laws::one_edited();
+    cs_member::laws::one_pushed();
+    cs_member::laws::one_resent();
+    cs_member::laws::one_heard();
+    cs_wire::laws::one_told_answer();
+}
+
+/// In a sound world events one after another have one list of outcomes, and leave one world, where none is a refusal.
+pub fn one_run()
+    ensures { OneRun }
+{
+    one_step();
+    steps_are_sound();
+}
+
+/// In a sound world an edit has an outcome that is no refusal.
+pub fn edit_has_step()
+    ensures { EditHasStep }
+{
+    cs_member::laws::edit_has_result();
+}
+
+/// So has a push that is to be sent once more.
+pub fn resend_has_step()
+    ensures { ResendHasStep }
+{}
+
+/// So has a question for entries.
+pub fn ask_has_step()
+    ensures { AskHasStep }
+{}
+
+/// So has a store that is read again.
+pub fn restart_has_step()
+    ensures { RestartHasStep }
+{}
+
+/// An answer has a result by such a picker.
+fn answer_has_result_by<P: Picker>(_picker: &P)
+    ensures { AnswerHasResult P.picks P.is_ready }
+{
+    cs_replica::laws::answer_has_result::<P>();
+}
+
+/// So has, in a sound world, a message that arrives.
+pub fn deliver_has_step()
+    ensures { DeliverHasStep }
+{
+    answers_fit();
+    cs_conflict::laws::guarded_is_lawful();
+    cs_judging::laws::push_has_answer();
+    cs_normal::laws::normal_is_taken();
+    cs_normal::laws::normal_again();
+    let wishes = Wishes::new(&[]);
+    answer_has_result_by(&wishes);
 }

@@ -1,0 +1,49 @@
+-- The laws of lines: each has one text, and leaves one replica.
+use Rattle.std.specs.Prelude.{◌≡◌, ◌⊎◌, ℕ, List, Err, codes}
+use Rattle.std.specs.List.{AllByRecursion}
+use Rattle.cs_asks.specs.declared.ask.Ask.{Ask}
+use Rattle.cs_member.specs.Member.{Member}
+use Rattle.cs_member.specs.Same.{IsSameMember, IsShown}
+use Rattle.cs_pulling.specs.declared.fault.AnswerFault.{AnswerFault}
+use Rattle.cs_replica.specs.Laws.{IsOfAnswer}
+use Rattle.cs_text.specs.Text.{line}
+use Rattle.cs_told.specs.Told.{fault_text}
+use Rattle.cs_value.specs.Catalog.{AreTables}
+use Rattle.cs_value.specs.declared.catalog.TableDef.{TableDef}
+use Rattle.cs_replica_lines.specs.LineStep.{LineStep, LineSteps, SaysMemory}
+use Rattle.cs_replica_lines.specs.Texts.{refused_text}
+
+-- the text says nothing of its line: that memory was refused or a device failed, of an answer behind so many entries
+abbrev pub SaysRefused : List ℕ → Type 0
+SaysRefused text =
+    SaysMemory text
+    ⊎ ((text ≡ refused_text (codes "Device"))
+    ⊎ ((fault : AnswerFault) × (IsOfAnswer (Err fault) → ⊥) × (text ≡ line (fault_text fault))))
+
+-- a line has one text at the same replica, and leaves the same replica: but where its text says nothing of it
+abbrev pub OneLineStep : Type 0
+OneLineStep =
+    (tables : List TableDef) (ask : Ask) (some other : List ℕ) (before its one last : Member)
+    → AreTables tables
+    → IsShown tables before
+    → IsShown tables its
+    → IsSameMember tables before its
+    → (SaysRefused some → ⊥)
+    → (SaysRefused other → ⊥)
+    → LineStep tables before ask some one
+    → LineStep tables its ask other last
+    → (some ≡ other) × IsSameMember tables one last
+
+-- so do lines one behind another, where no text says nothing
+abbrev pub OneLineRun : Type 0
+OneLineRun =
+    (tables : List TableDef) (asks : List Ask) (some other : List (List ℕ)) (before its one last : Member)
+    → AreTables tables
+    → IsShown tables before
+    → IsShown tables its
+    → IsSameMember tables before its
+    → AllByRecursion (λ (text : List ℕ). SaysRefused text → ⊥) some
+    → AllByRecursion (λ (text : List ℕ). SaysRefused text → ⊥) other
+    → LineSteps tables before asks some one
+    → LineSteps tables its asks other last
+    → (some ≡ other) × IsSameMember tables one last
