@@ -1,6 +1,6 @@
 -- From the step of a call to the run of a plan.
 use Rattle.std.proofs.Common.{◌≡◌, ◌++◌, ℕ, List, [], ◌∷◌, length, refl, sym, subst, ◌∙◌, append-nil, append_assoc, arith}
-use Rattle.cs_map_store.specs.Slots.{InMemory, held_by}
+use Rattle.cs_map_store.specs.Slots.{InMemory}
 use Rattle.cs_nodes.specs.Nodes.{NodeState}
 use Rattle.cs_spine.specs.Known.{SpineCells}
 use Rattle.cs_value.specs.declared.catalog.TableDef.{TableDef}

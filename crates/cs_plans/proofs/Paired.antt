@@ -1,11 +1,9 @@
 -- Lists that grow as others are taken.
-use Rattle.std.proofs.Common.{◌≡◌, ◌+◌, ◌++◌, ℕ, zero, suc, List, [], ◌∷◌, Some, length, map, refl, sym, ap, subst, ◌∙◌, arith, append_assoc, append-nil}
+use Rattle.std.proofs.Common.{◌≡◌, ◌+◌, ◌++◌, ℕ, zero, suc, List, [], ◌∷◌, Some, length, map, sym, ap, subst, ◌∙◌, arith, append_assoc, append-nil}
 use Rattle.std.specs.Prelude.{slice_get}
 use Rattle.std.proofs.lemmas.List.{map-append}
 use Rattle.std.proofs.lemmas.Option.{same_Some}
-use Rattle.cs_plans.specs.Jobs.{AreJobsOf}
 use Rattle.cs_plans.specs.declared.job.Job.{Job}
-use Rattle.cs_plans.specs.declared.plan.Step.{Step}
 
 -- the one that is taken from the one list goes behind the other
 pub taken_more : {A B : Type 0} (f : A → B) (all : List B) (done others : List A) (one : A) (rest more : List B)

@@ -1,6 +1,5 @@
 use Rattle.std.proofs.Common.{rules, ◌≡◌, Ok, length, get_or, subst, sym, ◌∙◌, arith}
 use Rattle.std.specs.Prelude.{IfOk, Result}
-use Rattle.std.specs.Fork.{GivesJob}
 use Rattle.std.specs.declared.alloc.AllocError.{AllocError}
 use Rattle.std.proofs.lemmas.Option.{get_or_from_slice_get, slice_get_within}
 use Rattle.cs_plans.specs.Ends.{IsEnd}

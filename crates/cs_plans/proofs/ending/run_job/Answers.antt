@@ -1,4 +1,3 @@
-use Rattle.std.proofs.Common.{refl}
 use Rattle.cs_plans.proofs.Ended.{ended}
 use Rattle.cs_plans.proofs.ending.run_job.Goals as goal
 

@@ -1,4 +1,4 @@
-use Rattle.std.proofs.Common.{◌≡◌, ◌∷◌, length, sym, ap, ◌∙◌, arith}
+use Rattle.std.proofs.Common.{◌∷◌, length, sym, ap, ◌∙◌, arith}
 use Rattle.std.specs.Vec.Iter.{into_iter_items}
 use Rattle.cs_plans.proofs.Paired.{ids_more, taken_all, taken_more}
 use Rattle.cs_plans.proofs.pairing.make_jobs.Goals as goal

@@ -1,4 +1,4 @@
-use Rattle.std.proofs.Common.{◌≡◌, ◌+◌, ◌≤◌, ◌∷◌, List, length, subst, vec_capacity, vec_len, ◌∙◌, arith}
+use Rattle.std.proofs.Common.{◌+◌, ◌≤◌, ◌∷◌, List, length, subst, vec_capacity, vec_len, ◌∙◌, arith}
 use Rattle.cs_plans.specs.declared.plan.Step.{Step}
 use Rattle.cs_plans.proofs.Onward.{Running, ran, running_on}
 use Rattle.cs_plans.proofs.running.run_plan.Goals as goal
