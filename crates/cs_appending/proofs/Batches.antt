@@ -1,5 +1,5 @@
--- A commit of an entry that was tried.
-use Rattle.std.proofs.Common.{◌≡◌, ℕ, List, Option, Some, None, IsSome, Ok, Err, refl, sym, subst}
+-- An entry that was tried, and its commit.
+use Rattle.std.proofs.Common.{◌≡◌, ℕ, List, Option, Some, None, IsSome, Result, Ok, Err, refl, sym, subst}
 use Rattle.cs_value.specs.Key.{Place}
 use Rattle.cs_value.specs.Catalog.{AreTables}
 use Rattle.cs_value.specs.declared.catalog.TableDef.{TableDef}
@@ -16,11 +16,11 @@ use Rattle.cs_store.specs.declared.batch.Batch.{Batch}
 use Rattle.cs_store.specs.declared.batch.PlaceEdit.{PlaceEdit}
 use Rattle.cs_store.specs.declared.fault.StoreFault.{StoreFault}
 use Rattle.cs_store.specs.declared.fault.StoreFault.TheVariants as stored
-use Rattle.cs_pending.specs.Calls.{WritesStore}
-use Rattle.cs_pending.specs.Storing.{WasRead, committed, not_committed, then_not_written, then_written}
+use Rattle.cs_pending.specs.Calls.{ReadsStore, WritesStore}
+use Rattle.cs_pending.specs.Storing.{WasRead, committed, not_committed, same_err, then_not_written, then_written}
 use Rattle.cs_log_store.specs.Laws.{AppendShows}
 use Rattle.cs_log_store.specs.Shows.{ShowsSomeLog}
-use Rattle.cs_appending.specs.Appended.{IsAppendFault, IsAppendedIn}
+use Rattle.cs_appending.specs.Appended.{AppendsEntry, IsAppendFault, IsAppendedIn}
 use Rattle.cs_appending.specs.Steps.{IsBatchOf, IsNotTried, IsTried}
 use Rattle.cs_appending.specs.declared.fault.AppendFault.{AppendFault}
 use Rattle.cs_appending.specs.declared.fault.AppendFault.TheVariants.{Memory, Conflict as OnConflict, Device}
@@ -65,35 +65,82 @@ pub was_device : (fault : StoreFault) (told : AppendFault) → (fault ≡ stored
 was_device stored.Memory told is at = absurd (let m = is.0 refl in cc)
 was_device stored.Device told is at = refl
 
-module _ {S : Type 0} (honest : S → Type 0) (contents : S → Contents) (failed : S → ℕ) (may_leave : S → Contents → Type 0) (misreads : S → ℕ)
-    (opening : List TableDef) (entry : LogEntry) (are : AreTables opening) (fits : IsEntryOf opening entry) (law : AppendShows) (old mid new : S) (edits : List PlaceEdit) (batch : Batch) (is : IsBatchOf entry edits batch)
-    (tries : honest mid → (before : State) → Holds opening (contents old) before → IsTried opening (entry_changes entry) (contents old) before edits)
-    (read : WasRead honest contents failed may_leave misreads ((before : State) × Holds opening (contents old) before) old mid) where
-  -- what is written leaves the entry appended, by what the store held when the entry was tried
-  written : honest mid → IsAppendedIn opening entry (contents mid) (after_batch batch (contents mid))
-  written h = appended_in opening entry are fits law (contents mid) edits batch
-      (λ before holds. subst (λ (was : Contents). Holds opening was before → IsTried opening (entry_changes entry) was before edits) (sym (read.same h)) (tries h before) holds) is
+module _ {S : Type 0} (honest : S → Type 0) (contents : S → Contents) (failed : S → ℕ) (may_leave : S → Contents → Type 0) (misreads : S → ℕ) (opening : List TableDef) (entry : LogEntry) where
+  -- whoever shows a log holds rows of its tables
+  pub holds_rows : (old : S) → ShowsSomeLog opening (contents old) → (before : State) × Holds opening (contents old) before
+  holds_rows old (log, shows) = (state_of log, shows.rows)
 
-  abbrev Before : Contents → Type 0
-  Before = IsAppendedIn opening entry (contents mid)
+  -- a commit of a batch that appends the entry
+  pub wrote : (old new : S) (batch : Batch) (result : Result (Unit {0}) StoreFault) → (honest old → AppendsEntry opening entry (contents old) batch)
+      → Commits honest contents failed may_leave misreads (after_batch batch (contents old)) old new result
+      → WritesStore honest contents failed may_leave misreads stored.Device (ShowsSomeLog opening (contents old)) (IsAppendedIn opening entry (contents old)) old new result
+  wrote old new batch (Ok t) tried commits =
+      committed honest contents failed may_leave misreads stored.Device (ShowsSomeLog opening (contents old)) (IsAppendedIn opening entry (contents old)) (after_batch batch (contents old)) old new t t tried commits
+  wrote old new batch (Err fault) tried commits =
+      not_committed honest contents failed may_leave misreads fault (ShowsSomeLog opening (contents old)) (IsAppendedIn opening entry (contents old)) (after_batch batch (contents old)) old new tried commits
 
-  abbrev After : Contents → Type 0
-  After = IsAppendedIn opening entry (contents old)
+  module _ (old mid new : S) (read : WasRead honest contents failed may_leave misreads (ShowsSomeLog opening (contents old)) old mid) where
+    -- what was tried on what the store held is tried on what it holds
+    pub still : (batch : Batch) → (honest mid → AppendsEntry opening entry (contents old) batch) → honest mid → AppendsEntry opening entry (contents mid) batch
+    still batch tried h = subst (λ (was : Contents). AppendsEntry opening entry was batch) (sym (read.same h)) (tried h)
 
-  since : honest mid → (c : Contents) → Before c → After c
-  since h c i = subst (λ (was : Contents). IsAppendedIn opening entry was c) (read.same h) i
+    there : honest mid → ShowsSomeLog opening (contents old) → ShowsSomeLog opening (contents mid)
+    there h shows = subst (ShowsSomeLog opening) (sym (read.same h)) shows
 
-  can_be_read : ShowsSomeLog opening (contents old) → (before : State) × Holds opening (contents old) before
-  can_be_read (log, shows) = (state_of log, shows.rows)
+    since : honest mid → (c : Contents) → IsAppendedIn opening entry (contents mid) c → IsAppendedIn opening entry (contents old) c
+    since h c i = subst (λ (was : Contents). IsAppendedIn opening entry was c) (read.same h) i
 
-  pub wrote : {T U : Type 0} (t : T) (u : U) → Commits honest contents failed may_leave misreads (after_batch batch (contents mid)) mid new (Ok t)
-      → WritesStore honest contents failed may_leave misreads Device (ShowsSomeLog opening (contents old)) After old new (Ok u)
-  wrote t u commits =
-      then_written honest contents failed may_leave misreads Before After ((before : State) × Holds opening (contents old) before) (Unit {0}) (ShowsSomeLog opening (contents old)) old mid new can_be_read (λ h r. tt) since read
-      stored.Device Device t u (committed honest contents failed may_leave misreads stored.Device (Unit {0}) Before _ mid new t t written commits)
+    abbrev Writes : {T E : Type 0} → E → S → Result T E → Type 0
+    Writes device from result =
+        WritesStore honest contents failed may_leave misreads device (ShowsSomeLog opening (contents from)) (IsAppendedIn opening entry (contents from)) from new result
 
-  pub wrote_not : {T U : Type 0} (fault : StoreFault) (told : AppendFault) → (told ≡ Device → fault ≡ stored.Device) → Commits honest contents failed may_leave misreads {T = T} (after_batch batch (contents mid)) mid new (Err fault)
-      → WritesStore honest contents failed may_leave misreads {T = U} Device (ShowsSomeLog opening (contents old)) After old new (Err told)
-  wrote_not {T} fault told was commits =
-      then_not_written honest contents failed may_leave misreads Before After ((before : State) × Holds opening (contents old) before) (Unit {0}) (ShowsSomeLog opening (contents old)) old mid new can_be_read (λ h r. tt) since read
-      {T = T} stored.Device fault Device told was (not_committed honest contents failed may_leave misreads {U = T} fault (Unit {0}) Before _ mid new written commits)
+    pub then_wrote : {T U : Type 0} (t : T) (u : U) → Writes stored.Device mid (Ok t) → Writes Device old (Ok u)
+    then_wrote t u writes =
+        then_written honest contents failed may_leave misreads (IsAppendedIn opening entry (contents mid)) (IsAppendedIn opening entry (contents old)) (ShowsSomeLog opening (contents old)) (ShowsSomeLog opening (contents mid)) (ShowsSomeLog opening (contents old))
+        old mid new (λ r. r) there since read stored.Device Device t u writes
+
+    pub then_wrote_not : {T U : Type 0} (fault : StoreFault) (told : AppendFault) → (told ≡ Device → fault ≡ stored.Device) → Writes {T = T} stored.Device mid (Err fault) → Writes {T = U} Device old (Err told)
+    then_wrote_not {T} {U} fault told was writes =
+        then_not_written honest contents failed may_leave misreads (IsAppendedIn opening entry (contents mid)) (IsAppendedIn opening entry (contents old)) (ShowsSomeLog opening (contents old)) (ShowsSomeLog opening (contents mid)) (ShowsSomeLog opening (contents old))
+        old mid new (λ r. r) there since read {T = T} {U = U} stored.Device fault Device told was writes
+
+  -- ---- what was tried, told by the log that was shown
+
+  -- reads of rows of the tables are reads of a log
+  pub as_log_read : {T U : Type 0} (old new : S) (t : T) (u : U) → ReadsStore honest contents failed may_leave misreads Device ((before : State) × Holds opening (contents old) before) old new (Ok t)
+      → ReadsStore honest contents failed may_leave misreads Device (ShowsSomeLog opening (contents old)) old new (Ok u)
+  as_log_read old new t u reads = record {
+    was_honest = reads.was_honest;
+    same = reads.same;
+    crash = reads.crash;
+    kept = reads.kept;
+    later = reads.later;
+    cause = λ e. absurd cc;
+    as_read = λ h r. reads.as_read h (holds_rows old r);
+  }
+
+  pub as_log_refused : {T U : Type 0} (old new : S) (fault : AppendFault) → ReadsStore honest contents failed may_leave misreads {T = T} Device ((before : State) × Holds opening (contents old) before) old new (Err fault)
+      → ReadsStore honest contents failed may_leave misreads {T = U} Device (ShowsSomeLog opening (contents old)) old new (Err fault)
+  as_log_refused old new fault reads = record {
+    was_honest = reads.was_honest;
+    same = reads.same;
+    crash = reads.crash;
+    kept = tt;
+    later = reads.later;
+    cause = λ e. reads.cause (same_err fault Device e);
+    as_read = λ h r. reads.as_read h (holds_rows old r);
+  }
+
+  -- the same after a call of it that went well, where memory is told then
+  pub as_log_want : {T U : Type 0} (old new : S) (t : T) (result : Result U AppendFault) → (result ≡ Err Memory) → ReadsStore honest contents failed may_leave misreads Device ((before : State) × Holds opening (contents old) before) old new (Ok t)
+      → ReadsStore honest contents failed may_leave misreads Device (ShowsSomeLog opening (contents old)) old new result
+  as_log_want old new t (Ok u) is reads = absurd (let e = is in cc)
+  as_log_want old new t (Err fault) is reads = record {
+    was_honest = reads.was_honest;
+    same = reads.same;
+    crash = reads.crash;
+    kept = tt;
+    later = reads.later;
+    cause = λ e. absurd (let m = is in let d = e in cc);
+    as_read = λ h r. reads.as_read h (holds_rows old r);
+  }

@@ -11,6 +11,8 @@ use Rattle.cs_conflict.specs.declared.conflict.Conflict.{Conflict}
 use Rattle.cs_conflict.specs.declared.conflict.Resolution.{Resolution}
 use Rattle.cs_conflict.specs.declared.conflict.Resolution.TheVariants.{Abort}
 use Rattle.cs_store.specs.Contents.{Contents}
+use Rattle.cs_store.specs.Written.{after_batch}
+use Rattle.cs_store.specs.declared.batch.Batch.{Batch}
 use Rattle.cs_apply.specs.Calls.{IsStoppedAt}
 use Rattle.cs_log_store.specs.Shows.{ShowsLog}
 use Rattle.cs_appending.specs.declared.fault.AppendFault.{AppendFault}
@@ -30,6 +32,10 @@ abbrev pub IsAppendedIn : List TableDef → LogEntry → Contents → Contents �
 IsAppendedIn opening entry old new =
     (log : List LogEntry) → ShowsLog opening old log
     → IsNextEntry opening log entry × ShowsLog opening new (log ++ entry ∷ [])
+
+-- a commit of the batch leaves contents in which the entry is appended
+abbrev pub AppendsEntry : List TableDef → LogEntry → Contents → Batch → Type 0
+AppendsEntry opening entry contents batch = IsAppendedIn opening entry contents (after_batch batch contents)
 
 -- why it isn't: it isn't defined behind the log, and this is the first conflict; Memory and Device may come before
 abbrev pub IsAppendFault : List TableDef → List LogEntry → LogEntry → AppendFault → Type 0

@@ -12,16 +12,17 @@ ghost use Rattle.cs_apply.specs.Laws.{AlwaysAborts};
 ghost use Rattle.cs_store.specs.States.{Holds};
 ghost use Rattle.cs_pending.specs.Calls.{ReadsStore, WritesStore};
 ghost use Rattle.cs_log_store.specs.Shows.{ShowsLog, ShowsSomeLog};
-ghost use Rattle.cs_appending.specs.Appended.{IsAppendFault, IsAppendedIn};
+ghost use Rattle.cs_appending.specs.Appended.{AppendsEntry, IsAppendFault, IsAppendedIn};
 ghost use Rattle.cs_appending.specs.Steps.{IsBatchOf, IsNotTried, IsTried};
 ghost use Rattle.cs_appending.specs.declared.fault.AppendFault.TheVariants.{Device};
+ghost use Rattle.cs_store.specs.declared.fault.StoreFault.TheVariants as stored;
 
 use crate::fault::AppendFault;
 use cs_apply::{ApplyFault, apply};
 use cs_conflict::{Conflict, Resolution};
 use cs_log::{Body, LogEntry, put_body};
 use cs_normal::Normal;
-use cs_store::{Batch, PlaceEdit, RowStore, StoredEntry};
+use cs_store::{Batch, PlaceEdit, RowStore, StoreFault, StoredEntry};
 use cs_value::{Catalog, Memory};
 use std::alloc::Global;
 
@@ -110,6 +111,60 @@ fn batch_of(alloc: Global, entry: &LogEntry, edits: Vec<PlaceEdit>) -> Result<Ba
     })
 }
 
+/// Tries an entry on the rows of a hub's store, and answers the batch by which it is appended to the log. The store is only read.
+/// (Profile of this project.)
+///
+/// # Errors
+///
+/// `Conflict` where a change isn't defined on the rows, with the first that isn't; `Memory` and `Device`.
+pub fn try_entry<S: RowStore>(
+    alloc: Global,
+    store: &mut S,
+    catalog: &Catalog,
+    entry: &LogEntry,
+) -> Result<Batch, AppendFault>
+    requires fits { IsEntryOf catalog.now entry.now }
+
+    // The store is only read.
+    ensures reads { ReadsStore S.honest S.contents S.failed S.may_leave S.misreads Device
+        (ShowsSomeLog catalog.now (S.contents store.old)) store.old store.new result }
+
+    // A commit of the batch appends the entry; what is told instead holds of the log that the store shows.
+    ensures tried { S.honest store.new → IfOk result (λ batch. AppendsEntry catalog.now entry.now (S.contents store.old) batch) }
+    ensures refused { S.honest store.new → (log : List Entry) → ShowsLog catalog.now (S.contents store.old) log
+        → IfErr result (IsAppendFault catalog.now log entry.now) }
+{
+    cs_log_store::laws::append_shows();
+    let _tables = catalog.tables();
+    let edits = match try_changes(alloc, store, catalog, changes_of(entry)) {
+        Ok(edits) => edits,
+        Err(fault) => return Err(fault),
+    };
+    let batch = batch_of(alloc, entry, edits)?;
+    Ok(batch)
+}
+
+/// Appends an entry that was tried on what the store holds, by a commit of the batch. The tables and the entry name what is appended.
+/// (Profile of this project.)
+///
+/// # Errors
+///
+/// `Memory` and `Device`. Nothing has changed then.
+pub fn append_tried<S: RowStore>(
+    store: &mut S,
+    _catalog: &Catalog,
+    _entry: &LogEntry,
+    batch: &Batch,
+) -> Result<(), StoreFault>
+    requires tried { S.honest store.old → AppendsEntry _catalog.now _entry.now (S.contents store.old) batch.now }
+
+    // The entry is appended, in one commit; at `Err` nothing has changed.
+    ensures writes { WritesStore S.honest S.contents S.failed S.may_leave S.misreads stored.Device
+        (ShowsSomeLog _catalog.now (S.contents store.old)) (IsAppendedIn _catalog.now _entry.now (S.contents store.old)) store.old store.new result }
+{
+    store.commit(batch)
+}
+
 /// Appends an entry to the log of a hub's store, where each of its changes is defined on the rows: the entry and what it makes of the
 /// rows are one commit. (Profile of this project.)
 ///
@@ -132,14 +187,11 @@ pub fn append<S: RowStore>(
     ensures refused { S.honest store.new → (log : List Entry) → ShowsLog catalog.now (S.contents store.old) log
         → IfErr result (IsAppendFault catalog.now log entry.now) }
 {
-    cs_log_store::laws::append_shows();
-    let _tables = catalog.tables();
-    let edits = match try_changes(alloc, store, catalog, changes_of(entry)) {
-        Ok(edits) => edits,
+    let batch = match try_entry(alloc, store, catalog, entry) {
+        Ok(batch) => batch,
         Err(fault) => return Err(fault),
     };
-    let batch = batch_of(alloc, entry, edits)?;
-    match store.commit(&batch) {
+    match append_tried(store, catalog, entry, &batch) {
         Ok(()) => Ok(()),
         Err(fault) => Err(AppendFault::from(fault)),
     }

@@ -1,6 +1,6 @@
-//! Appending an entry to a hub's log over its store. `append` tries the entry's changeset on the rows, as SQLite applies one with a handler that
-//! always aborts, and commits the entry and what it makes of the rows, in one batch; where a change conflicts, nothing is written, and
-//! the first one that does is told with the row that it met. `laws` says that there is one such conflict, and none where the entry can
+//! Appending an entry to a hub's log over its store. `try_entry` tries the entry's changeset on the rows, as SQLite applies one with a handler
+//! that always aborts, and answers the batch of the entry and of what it makes of the rows; `append_tried` commits that, and `append` does
+//! both. Where a change conflicts, nothing is written, and the first one that does is told with the row that it met. `laws` says that there is one such conflict, and none where the entry can
 //! be appended. The crate stands on what stores show of a hub (`cs_log_store`) and on applying (`cs_apply`).
 #![tactic(auto)]
 
@@ -8,5 +8,5 @@ mod appending;
 mod fault;
 pub mod laws;
 
-pub use appending::append;
+pub use appending::{append, append_tried, try_entry};
 pub use fault::AppendFault;

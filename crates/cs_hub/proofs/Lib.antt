@@ -7,3 +7,5 @@ pub mod Stored
 pub mod Taken
 pub mod Answered
 pub mod Shown
+pub mod Again
+pub mod Looked

@@ -106,6 +106,11 @@ has_form tables bytes groups changes (fits, spelled) normal = record {
   form = normal;
 }
 
+-- a push by its normal form
+pub to_bytes : (limit : ℕ) (head : PushHead) (bytes : List ℕ) (opening : List TableDef) (log : List LogEntry) (new : HubState) (changes : List TableChanges) (told : Result Pushed HubFault) (outcome : Outcome) → outcome ≡ or_refusal told → HasForm opening bytes changes
+    → Pushes limit (hub_of opening log) (push_of head changes) told new → TakesBytes limit (hub_of opening log) head bytes outcome new
+to_bytes limit head bytes opening log new changes told outcome is has pushes = inr (has.groups, has.spells.fits, has.spells.spelled, inr (changes, has.form, (told, pushes, is)))
+
 module _ (device_failed : Type 0) (limit : ℕ) (head : PushHead) (bytes : List ℕ) where
   -- a refusal on the way is the outcome
   told_as : (old new : HubState) (outcome : Outcome) (told : Refusal) → IsErr outcome → IsErrAnd outcome (λ e. e ≡ told) → TakesBytesIf device_failed limit old head bytes (Err told) new → TakesBytesIf device_failed limit old head bytes outcome new
@@ -114,12 +119,12 @@ module _ (device_failed : Type 0) (limit : ℕ) (head : PushHead) (bytes : List 
       subst (λ (r : Refusal). TakesBytesIf device_failed limit old head bytes (Err r) new) (sym and) taken
 
   -- the bytes spell no changeset
-  unread_at : (old : HubState) (fault : CodecFault) → ReadsChangeset bytes (Err fault) → TakesBytesIf device_failed limit old head bytes (Err (refusal_of_codec fault)) old
+  pub unread_at : (old : HubState) (fault : CodecFault) → ReadsChangeset bytes (Err fault) → TakesBytesIf device_failed limit old head bytes (Err (refusal_of_codec fault)) old
   unread_at old codec.Memory wrong = refl
   unread_at old (codec.At fault offset) wrong = inl (fault, offset, wrong, refl, refl)
 
   -- the changeset has no normal form
-  unformed_at : (opening : List TableDef) (log : List LogEntry) (groups : List Group) (fault : Unfit) → Spells bytes groups → IsUnfit fault opening groups
+  pub unformed_at : (opening : List TableDef) (log : List LogEntry) (groups : List Group) (fault : Unfit) → Spells bytes groups → IsUnfit fault opening groups
       → TakesBytesIf device_failed limit (hub_of opening log) head bytes (Err (refusal_of_unfit fault)) (hub_of opening log)
   unformed_at opening log groups unfit.Memory spells wrong = refl
   unformed_at opening log groups unfit.UnknownTable spells wrong = inr (groups, spells.fits, spells.spelled, inl (unfit.UnknownTable, (λ is. cc), wrong, refl, refl))
@@ -143,7 +148,7 @@ module _ (device_failed : Type 0) (limit : ℕ) (head : PushHead) (bytes : List 
 
     by_form : (next : List LogEntry) (changes : List TableChanges) (told : Result Pushed HubFault) (outcome : Outcome) → outcome ≡ or_refusal told → HasForm opening bytes changes
         → Pushes limit (hub_of opening log) (push_of head changes) told (hub_of opening next) → TakesBytes limit (hub_of opening log) head bytes outcome (hub_of opening next)
-    by_form next changes told outcome is has pushes = inr (has.groups, has.spells.fits, has.spells.spelled, inr (changes, has.form, (told, pushes, is)))
+    by_form next changes told outcome is has pushes = to_bytes limit head bytes opening log (hub_of opening next) changes told outcome is has pushes
 
     -- the hub took the push
     pub taken : (contents : Contents) (count : ℕ) (changes : List TableChanges) (pushed : Pushed) → HasForm opening bytes changes → IsPushedOf limit opening log (push_of head changes) contents count (Ok pushed) → Taken contents count (Ok pushed)

@@ -1,5 +1,5 @@
 -- The laws of what a hub answers.
-use Rattle.std.specs.Prelude.{◌≡◌, ◌<◌, ◌-◌, ◌^◌, ℕ, List, [], length}
+use Rattle.std.specs.Prelude.{◌≡◌, ◌<◌, ◌-◌, ◌^◌, ℕ, List, [], ◌∷◌, ◌++◌, length}
 use Rattle.cs_varint.specs.Bytes.{AreBytes}
 use Rattle.cs_value.specs.Catalog.{AreTables}
 use Rattle.cs_value.specs.declared.catalog.TableDef.{TableDef}
@@ -33,6 +33,21 @@ OneService =
     → Serves limit old request answer new
     → Serves limit old request other last
     → (answer ≡ other) × (new ≡ last)
+
+-- what a hub answered it answers again, and then stays as it is
+abbrev pub ServedAgain : Type 0
+ServedAgain =
+    (limit : ℕ) (old new : HubState) (request answer : List ℕ)
+    → Serves limit old request answer new
+    → Serves limit new request answer new
+
+-- a request of which a hub makes the entry behind its log is answered without another entry where the log goes on
+abbrev pub AppendsAtEnd : Type 0
+AppendsAtEnd =
+    (limit : ℕ) (opening : List TableDef) (log more : List LogEntry) (entry held : LogEntry) (request answer other : List ℕ) (new : HubState)
+    → Serves limit (hub_of opening log) request answer (hub_of opening (log ++ entry ∷ []))
+    → Serves limit (hub_of opening (log ++ held ∷ more)) request other new
+    → new ≡ hub_of opening (log ++ held ∷ more)
 
 -- lines that a new hub answers, none refused for want of memory, have one list of answers, and leave one hub
 abbrev pub OneHubRun : ℕ → Type 0

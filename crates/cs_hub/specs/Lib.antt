@@ -2,6 +2,8 @@ pub mod Refusals
 pub mod Serves
 pub mod Holding
 pub mod Calls
+pub mod Follows
+pub mod Judges
 pub mod Steps
 pub mod Laws
 pub mod Opened

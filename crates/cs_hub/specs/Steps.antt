@@ -1,21 +1,29 @@
 -- What the code has found on its way: no definition that a public clause cites.
-use Rattle.std.specs.Prelude.{◌≡◌, ◌≢◌, ◌⊎◌, ℕ, List, length, Result, Ok, Err, Option, Some, None}
+use Rattle.std.specs.Prelude.{◌≡◌, ◌≢◌, ◌⊎◌, ◌+◌, ◌<◌, ◌≤◌, ℕ, List, length, Result, Ok, Err, Option, Some, None}
 use Rattle.cs_value.specs.declared.catalog.TableDef.{TableDef}
+use Rattle.cs_log.specs.Stored.{IsEntryOf}
 use Rattle.cs_log.specs.declared.entry.LogEntry.{LogEntry}
 use Rattle.cs_store.specs.Contents.{Contents}
 use Rattle.cs_log_store.specs.Shows.{ShowsLog}
-use Rattle.cs_judging.specs.Hub.{HubState}
+use Rattle.cs_judging.specs.Hub.{HubState, with_entry}
 use Rattle.cs_judging.specs.Judged.{hub_of}
 use Rattle.cs_judging.specs.Pushes.{Push, PushesIf}
 use Rattle.cs_judging.specs.declared.fault.HubFault.{HubFault}
 use Rattle.cs_judging.specs.declared.fault.HubFault.TheVariants.{Device}
+use Rattle.cs_judging.specs.declared.push.Judgement.{Judgement}
+use Rattle.cs_judging.specs.declared.push.Judgement.TheVariants as judged
 use Rattle.cs_judging.specs.declared.push.Pushed.{Pushed}
+use Rattle.cs_judging.specs.declared.push.Pushed.TheVariants.{Accepted}
 use Rattle.cs_wire.specs.Requests.{Asked}
 use Rattle.cs_wire.specs.declared.answer.Answer.TheVariants.{Short}
 use Rattle.cs_wire.specs.declared.fault.WireFault.{WireFault}
 use Rattle.cs_wire.specs.declared.push_head.PushHead.{PushHead}
 use Rattle.cs_wire.specs.declared.short_answer.ShortAnswer.{ShortAnswer}
+use Rattle.cs_hub.specs.Follows.{FitsBehind}
 use Rattle.cs_hub.specs.Serves.{AnswersAsked, Outcome, TakesBytes, push_answer, refused}
+use Rattle.cs_hub.specs.declared.judged.Judged.{Judged}
+use Rattle.cs_hub.specs.declared.judged.Judged.TheVariants.{Reply, Append}
+use Rattle.cs_hub.specs.declared.refusal.Refusal.{Refusal}
 use Rattle.cs_hub.specs.declared.refusal.Refusal.TheVariants.{Memory, ByHub}
 
 -- contents show a log of so many entries after these
@@ -52,3 +60,33 @@ AnswersAskedIf device_failed limit old asked answer new =
 abbrev pub IsAnsweredOf : Type 0 → ℕ → List TableDef → List LogEntry → Result Asked WireFault → List ℕ → Contents → ℕ → Type 0
 IsAnsweredOf device_failed limit opening log asked answer new count =
     (next : List LogEntry) × AnswersAskedIf device_failed limit (hub_of opening log) asked answer (hub_of opening next) × Leads opening new count next
+
+-- ---- a request that is judged
+
+-- what is to become of the bytes of a push: it is told so, and the hub stays as it is; or it is accepted behind the newest version, once
+-- the entry is appended
+abbrev pub JudgesBytes : Type 0 → ℕ → HubState → PushHead → List ℕ → Result Judgement Refusal → Type 0
+JudgesBytes device_failed limit old head changeset (Ok (judged.Told pushed)) = TakesBytes limit old head changeset (Ok pushed) old
+JudgesBytes device_failed limit old head changeset (Ok (judged.Append entry batch)) =
+    TakesBytes limit old head changeset (Ok (Accepted (head.base + 1))) (with_entry old entry)
+JudgesBytes device_failed limit old head changeset (Err refusal) = TakesBytesIf device_failed limit old head changeset (Err refusal) old
+
+-- what is to be appended is an entry of the tables, and was pushed at the newest version; there is room for it
+abbrev pub IsEntryToAppend : List TableDef → ℕ → ℕ → PushHead → Judgement → Type 0
+IsEntryToAppend opening limit count head (judged.Told pushed) = Unit {0}
+IsEntryToAppend opening limit count head (judged.Append entry batch) = IsEntryOf opening entry × (head.base ≡ count) × (count < limit)
+
+-- what is asked is to be answered so
+abbrev pub IsJudgedAs : Type 0 → ℕ → List TableDef → List LogEntry → Result Asked WireFault → Judged → Type 0
+IsJudgedAs device_failed limit opening log asked (Reply answer) =
+    AnswersAskedIf device_failed limit (hub_of opening log) asked answer.items (hub_of opening log)
+IsJudgedAs device_failed limit opening log asked (Append entry reply) =
+    FitsBehind opening log entry × AnswersAsked limit (hub_of opening log) asked reply.items (with_entry (hub_of opening log) entry)
+
+-- a store was only read, whatever was told
+pub record LooksAt {S : Type 0} (honest : S → Type 0) (contents : S → Contents) (failed : S → ℕ) (may_leave : S → Contents → Type 0) (misreads : S → ℕ) (readable : Type 0) (old new : S) : Type 0 where
+  pub was_honest : honest new → honest old
+  pub same : honest new → contents new ≡ contents old
+  pub crash : honest new → (left : Contents) → may_leave new left → may_leave old left
+  pub later : failed old ≤ failed new
+  pub as_read : honest new → readable → misreads new ≡ misreads old

@@ -1,6 +1,7 @@
 //! The hub over any store, and what it answers.
 
-ghost use Rattle.std.specs.Prelude.{◌≡◌, ◌≤◌, [], List, Some, IfErr, IfOk, MatchResult, OnErr, Ok, Err, length, slice_get};
+ghost use Rattle.std.specs.Prelude.{◌≡◌, ◌↔◌, ◌+◌, ◌≤◌, ◌∷◌, ◌++◌, [], List, Some, IfErr, IfOk, IsErrOf, MatchResult, OnErr, OnOk, Ok, Err, length, min, slice_get};
+ghost use Rattle.cs_appending.specs.Appended.{IsAppendedIn};
 ghost use Rattle.cs_log.specs.Log.{state_of};
 ghost use Rattle.cs_log.specs.declared.entry.LogEntry.{LogEntry as Entry};
 ghost use Rattle.cs_log.specs.declared.entry.TheConstants.{MAX_CHANGESET};
@@ -18,13 +19,22 @@ ghost use Rattle.cs_judging.specs.Judged.{IsSameOrAppended};
 ghost use Rattle.cs_judging.specs.Pushes.{Push};
 ghost use Rattle.cs_judging.specs.declared.fault.HubFault.TheVariants.{Device};
 ghost use Rattle.cs_hub.specs.Calls.{AnswersHub, IsEntriesFault, ServesStore, StaysHub};
+ghost use Rattle.cs_hub.specs.Follows.{FitsBehind, IsFollowFault};
 ghost use Rattle.cs_hub.specs.Holding.{Shows, ShowsSome};
+ghost use Rattle.cs_hub.specs.Judges.{HasRoom, IsJudged, ReadsHub};
+ghost use Rattle.cs_hub.specs.declared.follow_fault.FollowFault.TheVariants as follow;
+ghost use Rattle.cs_hub.specs.declared.follow_fault.FollowFault.TheVariants.{Full};
+ghost use Rattle.cs_store.specs.Calls.{MoreFailures};
 ghost use Rattle.cs_hub.specs.Opened.{Opens};
 ghost use Rattle.cs_hub.specs.Steps.{IsPushedOf};
 
+use crate::follow_fault::FollowFault;
+use crate::judged::Judged;
+use crate::judging::{is_entry_of, judge_told};
 use crate::refusal::Refusal;
 use crate::serving::{pull_at, push_told, refuse};
 use crate::taking::push_counted;
+use cs_appending::append;
 use cs_judging::{HubFault, Pushed};
 use cs_log::LogEntry;
 use cs_log_opening::open_log;
@@ -241,6 +251,93 @@ impl<S: RowStore> Hub<S> {
                 head,
                 changeset,
             ),
+        }
+    }
+
+    /// Judges the bytes of a request: the answer that `serve` would give, were its limit the smaller of this one and `MAX_ENTRIES`; or
+    /// the entry that it would append, with the answer that it would give then. The store is only read, and a device that fails is told
+    /// as a refusal. (Profile of this project.)
+    ///
+    /// # Errors
+    ///
+    /// `Memory` where memory was refused.
+    pub fn judge(&mut self, limit: u32, request: &[u8]) -> Result<Judged, Memory>
+        // What is told is the answer to the request by the log that the store shows.
+        ensures judged { S.honest self.new.store → (log : List Entry) → Shows S.contents self.old log
+            → IfOk result (IsJudged (MoreFailures (S.failed self.old.store) (S.failed self.new.store)) (min limit MAX_ENTRIES) self.old.catalog log request.now) }
+        ensures room { IfOk result (HasRoom self.old.newest (min limit MAX_ENTRIES)) }
+
+        // The store is only read, and the hub stays as it is.
+        ensures reads { ReadsHub S.honest S.contents S.failed S.may_leave S.misreads self.old self.new }
+    {
+        let limit = limit.min(MAX_ENTRIES);
+        match Request::decode(request) {
+            Err(fault) => {
+                let answer = refuse(self.alloc, &Refusal::NoRequest(fault))?;
+                Ok(Judged::Reply(answer))
+            }
+            Ok(
+                Request::Pull {
+                    first,
+                    limit: count,
+                },
+            ) => {
+                let answer = pull_at(
+                    self.alloc,
+                    &mut self.store,
+                    &self.catalog,
+                    self.newest,
+                    first,
+                    count,
+                )?;
+                Ok(Judged::Reply(answer))
+            }
+            Ok(Request::Push { head, changeset }) => judge_told(
+                self.alloc,
+                &mut self.store,
+                &self.catalog,
+                self.newest,
+                limit,
+                head,
+                changeset,
+            ),
+        }
+    }
+
+    /// Appends an entry that others decided, where it fits behind the log: it is one of the tables, no larger than one may be, and
+    /// each of its changes is defined on the newest tables. The entry and what it makes of the rows are one commit. (Profile of this
+    /// project.)
+    ///
+    /// # Errors
+    ///
+    /// `Full` where the log has `MAX_ENTRIES`; `Undefined` where the entry doesn't fit; `Memory` and `Device`. Nothing has changed then.
+    pub fn follow(&mut self, entry: &LogEntry) -> Result<(), FollowFault>
+        // The store then shows the log with the entry; what is told instead holds of the log that it shows.
+        ensures followed { S.honest self.new.store → (log : List Entry) → Shows S.contents self.old log
+            → OnOk result (FitsBehind self.old.catalog log entry.now × Shows S.contents self.new (log ++ entry.now ∷ [])) }
+        ensures refused { S.honest self.new.store → (log : List Entry) → Shows S.contents self.old log
+            → IfErr result (IsFollowFault self.old.catalog log entry.now) }
+        ensures full { IsErrOf result Full ↔ (MAX_ENTRIES ≤ self.old.newest) }
+
+        // The entry is appended, in one commit.
+        ensures writes { WritesStore S.honest S.contents S.failed S.may_leave S.misreads follow.Device (ShowsSome S.contents self.old)
+            (IsAppendedIn self.old.catalog entry.now (S.contents self.old.store)) self.old.store self.new.store result }
+        ensures catalog { self.new.catalog ≡ self.old.catalog }
+        ensures counted { OnOk result (self.new.newest ≡ self.old.newest + 1) }
+        ensures kept { OnErr result (self.new.newest ≡ self.old.newest) }
+    {
+        if self.newest >= MAX_ENTRIES {
+            return Err(FollowFault::Full);
+        }
+        if !is_entry_of(self.alloc, &self.catalog, entry)? {
+            return Err(FollowFault::Undefined);
+        }
+        match append(self.alloc, &mut self.store, &self.catalog, entry) {
+            Ok(()) => {
+                self.newest += 1;
+                Ok(())
+            }
+            Err(fault) => Err(FollowFault::from(fault)),
         }
     }
 

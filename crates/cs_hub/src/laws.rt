@@ -1,7 +1,7 @@
 //! The laws of what a hub answers, each the contract of a function that does nothing.
 
 ghost use Rattle.std.specs.Prelude.{◌≡◌};
-ghost use Rattle.cs_hub.specs.Laws.{OneHubRun, OneService, OpenedShows, RequestHasAnswer, RunsByLog};
+ghost use Rattle.cs_hub.specs.Laws.{AppendsAtEnd, OneHubRun, OneService, OpenedShows, RequestHasAnswer, RunsByLog, ServedAgain};
 ghost use Rattle.cs_hub.specs.declared.hub.TheConstants.{MAX_ENTRIES};
 
 use crate::hub::Hub;
@@ -44,6 +44,18 @@ pub fn one_service()
     no_fault_where_fit();
     one_unfit();
     one_normal_form();
+}
+
+/// What a hub answered it answers again, also a push that it appended, and then stays as it is.
+pub fn served_again()
+    ensures { ServedAgain }
+{}
+
+/// A push that would be appended behind a log is told without another entry where the log goes on: it stands there, or is stale.
+pub fn appends_at_end()
+    ensures { AppendsAtEnd }
+{
+    one_request();
 }
 
 /// The lines that a new hub answers have one list of answers, up to want of memory.

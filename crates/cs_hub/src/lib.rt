@@ -6,11 +6,16 @@
 //! `cs_log_reading`) and requests and answers as bytes (`cs_wire`). Its tests stand in `cs_hub_tests`.
 #![tactic(auto)]
 
+mod follow_fault;
 mod hub;
+mod judged;
+mod judging;
 pub mod laws;
 mod refusal;
 mod serve;
 mod serving;
 mod taking;
 
+pub use follow_fault::FollowFault;
 pub use hub::{Hub, MAX_ENTRIES};
+pub use judged::Judged;

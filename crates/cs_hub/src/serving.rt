@@ -9,7 +9,7 @@ ghost use Rattle.cs_judging.specs.Judged.{ShowsLogOf};
 ghost use Rattle.cs_wire.specs.Requests.{AsksPull, AsksPush};
 ghost use Rattle.cs_hub.specs.Calls.{ServesStore};
 ghost use Rattle.cs_hub.specs.Serves.{refused};
-ghost use Rattle.cs_hub.specs.Steps.{IsAnsweredOf, TellsOutcome};
+ghost use Rattle.cs_hub.specs.Steps.{IsAnsweredOf, LooksAt, TellsOutcome};
 
 use crate::hub::MAX_ENTRIES;
 use crate::refusal::Refusal;
@@ -41,6 +41,7 @@ pub(crate) fn pull_at<S: RowStore>(
 ) -> Result<Vec<u8>, Memory>
     ensures serves { ServesStore S.honest S.contents S.failed S.may_leave S.misreads catalog.now
         (ShowsLogOf catalog.now newest (S.contents store.old)) store.old store.new result }
+    ensures looks { LooksAt S.honest S.contents S.failed S.may_leave S.misreads (ShowsLogOf catalog.now newest (S.contents store.old)) store.old store.new }
     ensures answered { S.honest store.new → (log : List Entry) → ShowsLog catalog.now (S.contents store.old) log → newest ≡ length log
         → IfOk result (λ bytes. IsAnsweredOf (MoreFailures (S.failed store.old) (S.failed store.new)) MAX_ENTRIES catalog.now log (Ok (AsksPull first limit)) bytes.items (S.contents store.new) newest) }
 {
@@ -56,7 +57,7 @@ pub(crate) fn pull_at<S: RowStore>(
 }
 
 /// The answer that tells what became of a push, but of want of memory.
-fn answer_to(head: PushHead, taken: &Result<Pushed, Refusal>) -> Option<ShortAnswer>
+pub(crate) fn answer_to(head: PushHead, taken: &Result<Pushed, Refusal>) -> Option<ShortAnswer>
     ensures { TellsOutcome head taken.now result }
 {
     match taken {

@@ -1,17 +1,18 @@
 -- Which row of the table of pushes decides, where the base is the newest version and there is room.
-use Rattle.std.proofs.Common.{◌≡◌, ◌≢◌, ℕ, ◌+◌, ◌<◌, List, [], ◌∷◌, ◌++◌, length, inl, inr, Result, Ok, Err, refl, sym, subst, ◌∙◌, arith}
+use Rattle.std.proofs.Common.{◌≡◌, ◌≢◌, ℕ, ◌+◌, ◌<◌, List, [], length, inl, inr, Result, Ok, Err, refl, sym, subst, ◌∙◌, arith}
 use Rattle.std.proofs.lemmas.Option.{slice_get_within}
 use Rattle.cs_value.specs.declared.catalog.TableDef.{TableDef}
 use Rattle.cs_conflict.specs.declared.conflict.Conflict.{Conflict}
 use Rattle.cs_normal.specs.Normal.{IsNormalChangeset}
 use Rattle.cs_log.specs.declared.entry.LogEntry.{LogEntry}
 use Rattle.cs_store.specs.Contents.{Contents}
+use Rattle.cs_store.specs.declared.batch.Batch.{Batch}
 use Rattle.cs_log_store.specs.Shows.{ShowsLog}
-use Rattle.cs_appending.specs.Appended.{IsAppendFault, IsAppendedIn}
+use Rattle.cs_appending.specs.Appended.{AppendsEntry, IsAppendFault}
 use Rattle.cs_appending.specs.declared.fault.AppendFault.{AppendFault}
 use Rattle.cs_appending.specs.declared.fault.AppendFault.TheVariants as append
 use Rattle.cs_judging.specs.Hub.{HubState, with_entry}
-use Rattle.cs_judging.specs.Judged.{IsPushedIn, ShowsLogOf, hub_of}
+use Rattle.cs_judging.specs.Judged.{IsJudgement, hub_of}
 use Rattle.cs_judging.specs.Pushes.{CanFollow, Case, IsRepeat, Push, Pushes, PushesIf, TellsConflict, entry_of_push}
 use Rattle.cs_judging.specs.declared.fault.HubFault.{HubFault}
 use Rattle.cs_judging.specs.declared.fault.HubFault.TheVariants.{Memory, Conflict as OnConflict, Device}
@@ -25,7 +26,7 @@ abbrev LastCase : HubState → Push → Result Pushed HubFault → HubState → 
 LastCase old push answer new =
     Case (CanFollow old push) ((answer ≡ Ok (Accepted (push.head.base + 1))) × (new ≡ with_entry old (entry_of_push push))) (TellsConflict old push answer × (new ≡ old))
 
-module _ (limit : ℕ) (opening : List TableDef) (push : Push) (old after : Contents) (some : push.changes ≢ []) where
+module _ (limit : ℕ) (opening : List TableDef) (push : Push) (some : push.changes ≢ []) where
   -- the base is the newest version, and there is room
   abbrev IsNewest : List LogEntry → Type 0
   IsNewest log = (push.head.base ≡ length log) × (length log < limit)
@@ -34,21 +35,16 @@ module _ (limit : ℕ) (opening : List TableDef) (push : Push) (old after : Cont
   of_newest log new answer (newest, room) below =
       inr (some, inr (λ above. omega (arith, above, newest), inr (λ is. omega (arith, repeat_below log push is, newest), inr (λ late. omega (arith, late, newest), inr (λ many. omega (arith, many, room), below)))))
 
-  -- logs that are shown are as long as one
-  newest_of : (count : ℕ) (log : List LogEntry) → ShowsLogOf opening count old → ShowsLog opening old log → push.head.base ≡ count → count < limit → IsNewest log
-  newest_of count log shown shows base room =
-      let same : count ≡ length log = shown.2 ∙ sym shown.1.entries.counted ∙ shows.entries.counted in
-      (base ∙ same, omega (arith, same, room))
+  newest_of : (count : ℕ) (log : List LogEntry) → push.head.base ≡ count → count < limit → count ≡ length log → IsNewest log
+  newest_of count log base room same = (base ∙ same, omega (arith, same, room))
 
-  -- it was appended
-  pub accepted : (count : ℕ) → push.head.base ≡ count → count < limit → IsAppendedIn opening (entry_of_push push) old after
-      → ShowsLogOf opening count old → IsPushedIn limit opening push old after (Ok (Accepted (push.head.base + 1)))
-  accepted count base room appended shown log shows =
-      let is = appended log shows in
-      let longer = log ++ entry_of_push push ∷ [] in
-      (longer, of_newest log (hub_of opening longer) (Ok (Accepted (push.head.base + 1))) (newest_of count log shown shows base room) (inl (is.0.defined, (refl, refl))), is.1)
+  -- it is to be appended
+  pub to_append : (count : ℕ) (contents : Contents) (batch : Batch) (log : List LogEntry) → push.head.base ≡ count → count < limit → AppendsEntry opening (entry_of_push push) contents batch → ShowsLog opening contents log → count ≡ length log
+      → Pushes limit (hub_of opening log) push (Ok (Accepted (push.head.base + 1))) (with_entry (hub_of opening log) (entry_of_push push))
+  to_append count contents batch log base room appends shows same =
+      of_newest log (with_entry (hub_of opening log) (entry_of_push push)) (Ok (Accepted (push.head.base + 1))) (newest_of count log base room same) (inl ((appends log shows).0.defined, (refl, refl)))
 
-  -- or it wasn't, for a fault that is told
+  -- or it isn't, for a fault that is told
   pub record IsTold (fault : AppendFault) (told : HubFault) : Type 0 where
     pub memory : fault ≡ append.Memory → told ≡ Memory
     pub device : fault ≡ append.Device → told ≡ Device
@@ -65,8 +61,6 @@ module _ (limit : ℕ) (opening : List TableDef) (push : Push) (old after : Cont
       (of_newest log (hub_of opening log) (Err (OnConflict shown)) newest
       (inr ((λ follows. not.0 (record { normal = normal; defined = follows })), ((shown, not.1, refl), refl))))
 
-  pub refused : (count : ℕ) (fault : AppendFault) (told : HubFault) → push.head.base ≡ count → count < limit → IsNormalChangeset push.changes → IsTold fault told
-      → ((log : List LogEntry) → ShowsLog opening old log → IsAppendFault opening log (entry_of_push push) fault) → after ≡ old
-      → ShowsLogOf opening count old → IsPushedIn limit opening push old after (Err told)
-  refused count fault told base room normal is faults same shown log shows =
-      (log, refused_by log fault told normal (newest_of count log shown shows base room) is (faults log shows), subst (λ (c : Contents). ShowsLog opening c log) (sym same) shows)
+  pub refused : (count : ℕ) (log : List LogEntry) (fault : AppendFault) (told : HubFault) → push.head.base ≡ count → count < limit → count ≡ length log → IsNormalChangeset push.changes → IsTold fault told
+      → IsAppendFault opening log (entry_of_push push) fault → IsJudgement limit (hub_of opening log) push (Err told)
+  refused count log fault told base room same normal is not = refused_by log fault told normal (newest_of count log base room same) is not

@@ -1,14 +1,17 @@
 -- A push over the store of a hub. (Profile of this project.)
-use Rattle.std.specs.Prelude.{◌≡◌, ◌⊎◌, ℕ, List, length, Result}
+use Rattle.std.specs.Prelude.{◌≡◌, ◌⊎◌, ◌+◌, ◌<◌, ℕ, List, length, Result, Ok, Err}
 use Rattle.cs_value.specs.declared.catalog.TableDef.{TableDef}
 use Rattle.cs_log.specs.declared.entry.LogEntry.{LogEntry}
 use Rattle.cs_store.specs.Contents.{Contents}
 use Rattle.cs_log_store.specs.Shows.{ShowsLog}
-use Rattle.cs_appending.specs.Appended.{IsAppendedIn}
-use Rattle.cs_judging.specs.Hub.{HubState}
-use Rattle.cs_judging.specs.Pushes.{Push, PushesIf, entry_of_push}
+use Rattle.cs_appending.specs.Appended.{AppendsEntry, IsAppendedIn}
+use Rattle.cs_judging.specs.Hub.{HubState, with_entry}
+use Rattle.cs_judging.specs.Pushes.{Push, Pushes, PushesIf, entry_of_push}
 use Rattle.cs_judging.specs.declared.fault.HubFault.{HubFault}
+use Rattle.cs_judging.specs.declared.push.Judgement.{Judgement}
+use Rattle.cs_judging.specs.declared.push.Judgement.TheVariants.{Told, Append}
 use Rattle.cs_judging.specs.declared.push.Pushed.{Pushed}
+use Rattle.cs_judging.specs.declared.push.Pushed.TheVariants.{Accepted}
 
 -- the store shows a log of so many entries
 abbrev pub ShowsLogOf : List TableDef → ℕ → Contents → Type 0
@@ -27,3 +30,21 @@ IsPushedIn limit opening push old new result =
 -- contents are as they were, or the push was appended
 abbrev pub IsSameOrAppended : List TableDef → Push → Contents → Contents → Type 0
 IsSameOrAppended opening push old new = (new ≡ old) ⊎ IsAppendedIn opening (entry_of_push push) old new
+
+-- ---- a push that is judged, and not yet taken
+
+-- its answer: it is told so, and the hub stays as it is; or it is accepted behind the newest version, once the entry is appended
+abbrev pub IsJudgement : ℕ → HubState → Push → Result Judgement HubFault → Type 0
+IsJudgement limit old push (Ok (Told pushed)) = Pushes limit old push (Ok pushed) old
+IsJudgement limit old push (Ok (Append entry batch)) = Pushes limit old push (Ok (Accepted (push.head.base + 1))) (with_entry old entry)
+IsJudgement limit old push (Err fault) = PushesIf limit old push (Err fault) old
+
+-- what is to be appended behind so many entries is the entry that the push becomes, which was made on the tables there; there is room
+abbrev pub IsOfPush : ℕ → ℕ → Push → Judgement → Type 0
+IsOfPush limit count push (Told pushed) = Unit {0}
+IsOfPush limit count push (Append entry batch) = (entry ≡ entry_of_push push) × (push.head.base ≡ count) × (count < limit)
+
+-- a commit of its batch appends it
+abbrev pub CanBeAppended : List TableDef → Contents → Judgement → Type 0
+CanBeAppended opening contents (Told pushed) = Unit {0}
+CanBeAppended opening contents (Append entry batch) = AppendsEntry opening entry contents batch

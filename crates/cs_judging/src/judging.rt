@@ -1,18 +1,20 @@
 //! A push, judged by the log and the rows of a hub's store.
 
-ghost use Rattle.std.specs.Prelude.{◌≡◌, ◌<◌, ◌≤◌, ◌≢◌, [], Ok, length};
+ghost use Rattle.std.specs.Prelude.{◌≡◌, ◌<◌, ◌≤◌, ◌≢◌, [], IfOk, List, Ok, length};
 ghost use Rattle.cs_log.specs.Entry.{entry_changes};
 ghost use Rattle.cs_log.specs.Stored.{IsEntryOf};
+ghost use Rattle.cs_log.specs.declared.entry.LogEntry.{LogEntry as Entry};
 ghost use Rattle.cs_log.specs.declared.entry.TheConstants.{MAX_CHANGESET};
+ghost use Rattle.cs_log_store.specs.Shows.{ShowsLog};
 ghost use Rattle.cs_normal.specs.Normal.{FitsCatalog, normal_spelling};
 ghost use Rattle.cs_pending.specs.Calls.{ReadsStore, WritesStore};
-ghost use Rattle.cs_judging.specs.Judged.{IsPushedIn, IsSameOrAppended, ShowsLogOf};
+ghost use Rattle.cs_judging.specs.Judged.{CanBeAppended, IsJudgement, IsOfPush, IsPushedIn, IsSameOrAppended, ShowsLogOf, hub_of};
 ghost use Rattle.cs_judging.specs.Pushes.{Push, entry_of_push};
 ghost use Rattle.cs_judging.specs.declared.fault.HubFault.TheVariants.{Device};
 
 use crate::fault::HubFault;
-use crate::push::Pushed;
-use cs_appending::append;
+use crate::push::{Judgement, Pushed};
+use cs_appending::{append_tried, try_entry};
 use cs_log::{Body, LogEntry};
 use cs_log_reading::has_entry;
 use cs_normal::Normal;
@@ -21,7 +23,7 @@ use cs_value::Catalog;
 use cs_wire::PushHead;
 use std::alloc::Global;
 
-/// The answer to a push whose base is below the newest version: it is the entry there, or another is.
+/// The judgement of a push whose base is below the newest version: it is the entry there, or another is.
 fn recall<S: RowStore>(
     alloc: Global,
     store: &mut S,
@@ -30,31 +32,86 @@ fn recall<S: RowStore>(
     limit: u32,
     head: PushHead,
     entry: &LogEntry,
-) -> Result<Pushed, HubFault>
+) -> Result<Judgement, HubFault>
     requires fits { IsEntryOf catalog.now entry.now }
     requires of { entry.now ≡ entry_of_push (record { head = head; changes = entry_changes entry.now }) }
     requires some { entry_changes entry.now ≢ [] }
     requires below { head.base < newest }
     ensures reads { ReadsStore S.honest S.contents S.failed S.may_leave S.misreads Device
         (ShowsLogOf catalog.now newest (S.contents store.old)) store.old store.new result }
-    ensures answered { S.honest store.new → ShowsLogOf catalog.now newest (S.contents store.old)
-        → IsPushedIn limit catalog.now (record { head = head; changes = entry_changes entry.now }) (S.contents store.old) (S.contents store.new) result }
+    ensures of { IfOk result (IsOfPush limit newest (record { head = head; changes = entry_changes entry.now })) }
+    ensures appends { S.honest store.new → IfOk result (CanBeAppended catalog.now (S.contents store.old)) }
+    ensures judged { S.honest store.new → (log : List Entry) → ShowsLog catalog.now (S.contents store.old) log → newest ≡ length log
+        → IsJudgement limit (hub_of catalog.now log) (record { head = head; changes = entry_changes entry.now }) result }
 {
     match has_entry(alloc, store, catalog, head.base as u32, entry) {
-        Ok(true) => Ok(Pushed::Accepted(head.base + 1)),
-        Ok(false) => Ok(Pushed::Stale(newest as u64)),
+        Ok(true) => Ok(Judgement::Told(Pushed::Accepted(head.base + 1))),
+        Ok(false) => Ok(Judgement::Told(Pushed::Stale(newest as u64))),
         Err(fault) => Err(HubFault::from(fault)),
     }
 }
 
-/// Takes a push: a changeset that the replica `head.origin` made as its push `head.number` on the tables of the version `head.base`. The
-/// log of the store has `newest` entries, and may have `limit`. The first case that fits holds: no change; a base above the newest version;
-/// below it, the same push again or another one; a full log; a change that isn't defined on the tables; else the push is appended.
-/// (Profile of this project.)
+/// Judges a push: a changeset that the replica `head.origin` made as its push `head.number` on the tables of the version `head.base`.
+/// The log of the store has `newest` entries, and may have `limit`. The first case that fits holds: no change; a base above the newest
+/// version; below it, the same push again or another one; a full log; a change that isn't defined on the tables; else the push is to be
+/// appended. The store is only read. (Profile of this project.)
 ///
 /// # Errors
 ///
-/// `Empty`, `Ahead`, `Full` and `Conflict` in these cases; `Memory` and `Device`. Nothing has changed then.
+/// `Empty`, `Ahead`, `Full` and `Conflict` in these cases; `Memory` and `Device`.
+pub fn judge_at<S: RowStore>(
+    alloc: Global,
+    store: &mut S,
+    catalog: &Catalog,
+    newest: u32,
+    limit: u32,
+    head: PushHead,
+    changes: Normal,
+) -> Result<Judgement, HubFault>
+    requires fits { FitsCatalog catalog.now changes }
+    requires size { length (normal_spelling changes) ≤ MAX_CHANGESET }
+
+    // The store is only read.
+    ensures reads { ReadsStore S.honest S.contents S.failed S.may_leave S.misreads Device
+        (ShowsLogOf catalog.now newest (S.contents store.old)) store.old store.new result }
+
+    // What is to be appended is the push, behind the newest version, and the batch appends it.
+    ensures of { IfOk result (IsOfPush limit newest (record { head = head; changes = changes })) }
+    ensures appends { S.honest store.new → IfOk result (CanBeAppended catalog.now (S.contents store.old)) }
+
+    // What is told is the answer to the push by the log that the store shows, and what is to be appended leads to the log after it.
+    ensures judged { S.honest store.new → (log : List Entry) → ShowsLog catalog.now (S.contents store.old) log → newest ≡ length log
+        → IsJudgement limit (hub_of catalog.now log) (record { head = head; changes = changes }) result }
+{
+    let _tables = catalog.tables();
+    if changes.tables().is_empty() {
+        return Err(HubFault::Empty);
+    }
+    if head.base > newest as u64 {
+        return Err(HubFault::Ahead);
+    }
+    let entry = LogEntry {
+        origin: head.origin,
+        number: head.number,
+        body: Body::Changes(changes),
+    };
+    if head.base < newest as u64 {
+        return recall(alloc, store, catalog, newest, limit, head, &entry);
+    }
+    if newest >= limit {
+        return Err(HubFault::Full);
+    }
+    match try_entry(alloc, store, catalog, &entry) {
+        Ok(batch) => Ok(Judgement::Append { entry, batch }),
+        Err(fault) => Err(HubFault::from(fault)),
+    }
+}
+
+/// Takes a push: it is judged (`judge_at`), and appended where it is to be. (Profile of this project.)
+///
+/// # Errors
+///
+/// `Empty`, `Ahead`, `Full` and `Conflict` as it is judged; `Memory` and `Device`. Nothing has changed then.
 pub fn push_at<S: RowStore>(
     alloc: Global,
     store: &mut S,
@@ -76,26 +133,14 @@ pub fn push_at<S: RowStore>(
     ensures answered { S.honest store.new → ShowsLogOf catalog.now newest (S.contents store.old)
         → IsPushedIn limit catalog.now (record { head = head; changes = changes }) (S.contents store.old) (S.contents store.new) result }
 {
-    let _tables = catalog.tables();
-    if changes.tables().is_empty() {
-        return Err(HubFault::Empty);
-    }
-    if head.base > newest as u64 {
-        return Err(HubFault::Ahead);
-    }
-    let entry = LogEntry {
-        origin: head.origin,
-        number: head.number,
-        body: Body::Changes(changes),
-    };
-    if head.base < newest as u64 {
-        return recall(alloc, store, catalog, newest, limit, head, &entry);
-    }
-    if newest >= limit {
-        return Err(HubFault::Full);
-    }
-    match append(alloc, store, catalog, &entry) {
-        Ok(()) => Ok(Pushed::Accepted(head.base + 1)),
-        Err(fault) => Err(HubFault::from(fault)),
+    match judge_at(alloc, store, catalog, newest, limit, head, changes) {
+        Ok(Judgement::Told(pushed)) => Ok(pushed),
+        Ok(Judgement::Append { entry, batch }) => {
+            match append_tried(store, catalog, &entry, &batch) {
+                Ok(()) => Ok(Pushed::Accepted(newest as u64 + 1)),
+                Err(fault) => Err(HubFault::from(fault)),
+            }
+        }
+        Err(fault) => Err(fault),
     }
 }

@@ -1,5 +1,8 @@
 //! What the hub makes of pushes.
 
+use cs_log::LogEntry;
+use cs_store::Batch;
+
 /// What the hub made of a push that it read. (Profile of this project.)
 #[derive(Clone, Copy, Debug, PartialEq, Eq)]
 pub enum Pushed {
@@ -7,4 +10,13 @@ pub enum Pushed {
     Accepted(u64),
     /// Another push stands at its base; the log has so many entries.
     Stale(u64),
+}
+
+/// What is to be made of a push that was judged. (Profile of this project.)
+#[derive(Drop)]
+pub enum Judgement {
+    /// It is told so, and nothing changes.
+    Told(Pushed),
+    /// It is to be appended as this entry, by a commit of this batch.
+    Append { entry: LogEntry, batch: Batch },
 }

@@ -1,15 +1,18 @@
-use Rattle.std.proofs.Common.{arith, rules}
-use Rattle.cs_judging.proofs.Decided.{accepted, refused}
+use Rattle.std.proofs.Common.{Ok, subst}
+use Rattle.cs_pending.specs.Storing.{went_well}
+use Rattle.cs_judging.specs.Judged.{IsJudgement, IsOfPush, hub_of}
+use Rattle.cs_judging.specs.Pushes.{Push}
+use Rattle.cs_judging.specs.declared.push.Judgement.{Judgement}
+use Rattle.cs_judging.proofs.Committed.{appended, since}
 use Rattle.cs_judging.proofs.judging.push_at.Goals as goal
 
 pub returns-in-Ok-clause-answered : goal.returns-in-Ok-clause-answered
 returns-in-Ok-clause-answered g c = λ honest.
-    accepted c.args.limit c.args.catalog.now (record { head = c.args.head; changes = c.args.changes }) _ _ (search rules) c.args.newest
-    (omega (arith, c.if-head-newest.false, c.if-head-newest-2.false)) (omega (arith, c.if-newest-limit.false)) (c.in-Ok.ensures.writes.ok honest)
-
-pub returns-clause-answered : goal.returns-clause-answered
-returns-clause-answered g c = λ honest.
-    refused c.args.limit c.args.catalog.now (record { head = c.args.head; changes = c.args.changes }) _ _ (search rules) c.args.newest c.in-Err.fault c.from.result
-    (omega (arith, c.if-head-newest.false, c.if-head-newest-2.false)) (omega (arith, c.if-newest-limit.false)) c.tables.ensures.normal
-    (record { memory = c.from.ensures.0; device = c.from.ensures.1; conflict = c.from.ensures.2 })
-    (c.in-Err.ensures.refused honest) (c.in-Err.ensures.writes.err honest)
+    let push : Push = record { head = c.args.head; changes = c.args.changes } in
+    let was = c.in-Ok.ensures.writes.was_honest honest in
+    let of = subst (IsOfPush c.args.limit c.args.newest push) c.in-Ok-Append.field-0-is c.in-Ok-Append.ensures.of in
+    let read = went_well g.S.RowStore.honest g.S.RowStore.contents g.S.RowStore.failed g.S.RowStore.may_leave g.S.RowStore.misreads _ _ _ _ _ c.in-Ok-Append.ensures.reads in
+    appended c.args.limit c.args.catalog.now push c.args.newest (g.S.RowStore.contents c.args.store.now) (g.S.RowStore.contents c.append_tried.new.store) c.in-Ok-Append.entry of.1
+    (λ log shows same. subst (λ (j : Judgement). IsJudgement c.args.limit (hub_of c.args.catalog.now log) push (Ok j)) c.in-Ok-Append.field-0-is (c.in-Ok-Append.ensures.judged was log shows same))
+    (since g.S.RowStore.honest g.S.RowStore.contents g.S.RowStore.failed g.S.RowStore.may_leave g.S.RowStore.misreads c.args.catalog.now push c.args.newest c.in-Ok-Append.entry of.0
+    c.args.store.now c.judge_at.new.store c.append_tried.new.store read was (g.S.RowStore.contents c.append_tried.new.store) (c.in-Ok.ensures.writes.ok honest))

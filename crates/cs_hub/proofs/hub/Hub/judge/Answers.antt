@@ -1,0 +1,26 @@
+use Rattle.std.proofs.Common.{Err, Ok, min}
+use Rattle.cs_wire.specs.Requests.{AsksPull, AsksPush}
+use Rattle.cs_hub.specs.declared.hub.TheConstants.{MAX_ENTRIES}
+use Rattle.cs_hub.specs.declared.judged.Judged.TheVariants.{Reply}
+use Rattle.cs_hub.proofs.Answered.{read_as}
+use Rattle.cs_hub.proofs.Looked.{asked_so, each_so, no_request_so, pulled_so}
+use Rattle.cs_hub.proofs.hub.Hub.judge.Goals as goal
+
+pub returns-in_ok-answer-in-Err-clause-judged : goal.returns-in_ok-answer-in-Err-clause-judged
+returns-in_ok-answer-in-Err-clause-judged g c = λ honest log shows.
+    asked_so _ (min c.args.limit MAX_ENTRIES) _ log c.args.request.now (Err c.in-Err.fault) (Reply c.in_ok-answer-in-Err.answer) ((c.decode.ensures.fault c.in-Err.fault).0 c.in-Err.is)
+    (no_request_so _ (min c.args.limit MAX_ENTRIES) _ log c.in-Err.fault c.in_ok-answer-in-Err.answer c.in_ok-answer-in-Err.ensures)
+
+pub returns-in_ok-answer-in-Ok-Pull-clause-judged : goal.returns-in_ok-answer-in-Ok-Pull-clause-judged
+returns-in_ok-answer-in-Ok-Pull-clause-judged g c =
+    rw (← c.self.view_is)
+    (λ honest log shows.
+    asked_so _ (min c.args.limit MAX_ENTRIES) _ log c.args.request.now (Ok (AsksPull c.in-Ok-Pull.first c.in-Ok-Pull.count)) (Reply c.in_ok-answer-in-Ok-Pull.answer) (read_as _ _ _ c.in-Ok-Pull.field-0-is c.in-Ok-Pull.ensures.found)
+    (pulled_so _ (min c.args.limit MAX_ENTRIES) _ log c.in-Ok-Pull.first c.in-Ok-Pull.count c.in_ok-answer-in-Ok-Pull.answer MAX_ENTRIES (g.S.RowStore.contents c.pull_at.new.store) c.self.inside.newest (c.in_ok-answer-in-Ok-Pull.ensures.answered honest log shows.0 shows.1)))
+
+pub returns-in-Ok-Push-clause-judged : goal.returns-in-Ok-Push-clause-judged
+returns-in-Ok-Push-clause-judged g c =
+    rw (← c.self.view_is)
+    (λ honest log shows.
+    each_so _ c.min-limit.result _ log c.args.request.now (Ok (AsksPush c.in-Ok-Push.head c.in-Ok-Push.changeset.now)) _ c.judge_told.result c.min-limit.ensures
+    (read_as _ _ _ c.in-Ok-Push.field-0-is c.in-Ok-Push.ensures.found) (c.judge_told.ensures.judged honest log shows.0 shows.1))

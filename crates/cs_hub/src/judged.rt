@@ -1,0 +1,12 @@
+//! A request that was judged.
+
+use cs_log::LogEntry;
+
+/// What a request is to be answered. (Profile of this project.)
+#[derive(Drop)]
+pub enum Judged {
+    /// These bytes; nothing changes.
+    Reply(Vec<u8>),
+    /// The entry is to be appended, and then it is this reply.
+    Append { entry: LogEntry, reply: Vec<u8> },
+}

@@ -1,0 +1,124 @@
+-- A push that was judged, and then taken.
+use Rattle.std.proofs.Common.{◌≡◌, ◌+◌, ℕ, List, ◌∷◌, [], ◌++◌, length, inl, inr, Result, Ok, Err, refl, sym, subst, ◌∙◌}
+use Rattle.cs_value.specs.declared.catalog.TableDef.{TableDef}
+use Rattle.cs_log.specs.declared.entry.LogEntry.{LogEntry}
+use Rattle.cs_store.specs.Contents.{Contents}
+use Rattle.cs_store.specs.declared.batch.Batch.{Batch}
+use Rattle.cs_store.specs.declared.fault.StoreFault.{StoreFault}
+use Rattle.cs_store.specs.declared.fault.StoreFault.TheVariants as stored
+use Rattle.cs_pending.specs.Calls.{ReadsStore, WritesStore}
+use Rattle.cs_pending.specs.Storing.{WasRead, same_err, then_not_written, then_written}
+use Rattle.cs_log_store.specs.Shows.{ShowsLog, ShowsSomeLog}
+use Rattle.cs_appending.specs.Appended.{AppendsEntry, IsAppendedIn}
+use Rattle.cs_judging.specs.Hub.{with_entry}
+use Rattle.cs_judging.specs.Judged.{IsJudgement, IsPushedIn, IsSameOrAppended, ShowsLogOf, hub_of}
+use Rattle.cs_judging.specs.Pushes.{Push, Pushes, PushesIf, entry_of_push}
+use Rattle.cs_judging.specs.declared.fault.HubFault.{HubFault}
+use Rattle.cs_judging.specs.declared.fault.HubFault.TheVariants.{Memory, Device}
+use Rattle.cs_judging.specs.declared.push.Judgement.{Judgement}
+use Rattle.cs_judging.specs.declared.push.Judgement.TheVariants.{Told}
+use Rattle.cs_judging.specs.declared.push.Pushed.{Pushed}
+use Rattle.cs_judging.specs.declared.push.Pushed.TheVariants.{Accepted}
+
+-- ---- the store
+
+module _ {S : Type 0} (honest : S → Type 0) (contents : S → Contents) (failed : S → ℕ) (may_leave : S → Contents → Type 0) (misreads : S → ℕ) (opening : List TableDef) (push : Push) (count : ℕ) where
+  abbrev Readable : S → Type 0
+  Readable old = ShowsLogOf opening count (contents old)
+
+  abbrev Writes : {T E : Type 0} → E → S → S → Result T E → Type 0
+  Writes device old new result =
+      WritesStore honest contents failed may_leave misreads device (Readable old) (IsSameOrAppended opening push (contents old)) old new result
+
+  -- it was told, and nothing was written
+  pub told_well : {T U : Type 0} (old new : S) (t : T) (u : U) → ReadsStore honest contents failed may_leave misreads Device (Readable old) old new (Ok t) → Writes Device old new (Ok u)
+  told_well old new t u reads = record {
+    was_honest = reads.was_honest;
+    ok = λ h. inl (reads.same h);
+    err = λ h. tt;
+    durable = λ h left l. inr (reads.crash h left l, reads.same h);
+    crash = λ h left l. inl (reads.crash h left l);
+    kept = reads.kept;
+    later = reads.later;
+    cause = λ e. absurd cc;
+    as_read = reads.as_read;
+  }
+
+  pub refused_well : {T U : Type 0} (old new : S) (fault : HubFault) → ReadsStore honest contents failed may_leave misreads {T = T} Device (Readable old) old new (Err fault) → Writes {T = U} Device old new (Err fault)
+  refused_well old new fault reads = record {
+    was_honest = reads.was_honest;
+    ok = λ h. tt;
+    err = λ h. reads.same h;
+    durable = λ h. tt;
+    crash = λ h left l. inl (reads.crash h left l);
+    kept = tt;
+    later = reads.later;
+    cause = λ e. reads.cause (same_err fault Device e);
+    as_read = reads.as_read;
+  }
+
+  module _ (entry : LogEntry) (of : entry ≡ entry_of_push push) (old mid new : S) (read : WasRead honest contents failed may_leave misreads (Readable old) old mid) where
+    -- what was tried on what the store held is tried on what it holds
+    pub still : (batch : Batch) → (honest mid → AppendsEntry opening entry (contents old) batch) → honest mid → AppendsEntry opening entry (contents mid) batch
+    still batch tried h = subst (λ (was : Contents). AppendsEntry opening entry was batch) (sym (read.same h)) (tried h)
+
+    there : honest mid → Readable old → ShowsSomeLog opening (contents mid)
+    there h shown = (shown.0, subst (λ (c : Contents). ShowsLog opening c shown.0) (sym (read.same h)) shown.1)
+
+    pub since : honest mid → (c : Contents) → IsAppendedIn opening entry (contents mid) c → IsAppendedIn opening entry (contents old) c
+    since h c i = subst (λ (was : Contents). IsAppendedIn opening entry was c) (read.same h) i
+
+    as_push : honest mid → (c : Contents) → IsAppendedIn opening entry (contents mid) c → IsSameOrAppended opening push (contents old) c
+    as_push h c i = inr (subst (λ (e : LogEntry). IsAppendedIn opening e (contents old) c) of (since h c i))
+
+    abbrev Appends : {T : Type 0} → Result T StoreFault → Type 0
+    Appends result = WritesStore honest contents failed may_leave misreads stored.Device (ShowsSomeLog opening (contents mid)) (IsAppendedIn opening entry (contents mid)) mid new result
+
+    pub then_wrote : {T U : Type 0} (t : T) (u : U) → Appends (Ok t) → Writes Device old new (Ok u)
+    then_wrote t u writes =
+        then_written honest contents failed may_leave misreads (IsAppendedIn opening entry (contents mid)) (IsSameOrAppended opening push (contents old)) (Readable old) (ShowsSomeLog opening (contents mid)) (Readable old)
+        old mid new (λ r. r) there as_push read stored.Device Device t u writes
+
+    pub then_wrote_not : {T U : Type 0} (fault : StoreFault) (told : HubFault) → (told ≡ Device → fault ≡ stored.Device) → Appends {T = T} (Err fault) → Writes {T = U} Device old new (Err told)
+    then_wrote_not {T} {U} fault told was writes =
+        then_not_written honest contents failed may_leave misreads (IsAppendedIn opening entry (contents mid)) (IsSameOrAppended opening push (contents old)) (Readable old) (ShowsSomeLog opening (contents mid)) (Readable old)
+        old mid new (λ r. r) there as_push read {T = T} {U = U} stored.Device fault Device told was writes
+
+-- a fault of a store is told as itself
+pub was_device : (fault : StoreFault) (told : HubFault) → (fault ≡ stored.Memory → told ≡ Memory) × (fault ≡ stored.Device → told ≡ Device) → told ≡ Device → fault ≡ stored.Device
+was_device stored.Memory told is at = absurd (let m = is.0 refl in cc)
+was_device stored.Device told is at = refl
+
+-- ---- the answer
+
+module _ (limit : ℕ) (opening : List TableDef) (push : Push) (count : ℕ) (old new : Contents) where
+  -- a log that is shown has so many entries
+  counted : ShowsLogOf opening count old → (log : List LogEntry) → ShowsLog opening old log → count ≡ length log
+  counted shown log shows = shown.2 ∙ sym shown.1.entries.counted ∙ shows.entries.counted
+
+  pub told : (pushed : Pushed) → new ≡ old → ((log : List LogEntry) → ShowsLog opening old log → count ≡ length log → Pushes limit (hub_of opening log) push (Ok pushed) (hub_of opening log))
+      → ShowsLogOf opening count old → IsPushedIn limit opening push old new (Ok pushed)
+  told pushed same judged shown log shows =
+      (log, judged log shows (counted shown log shows), subst (λ (c : Contents). ShowsLog opening c log) (sym same) shows)
+
+  pub refused : (fault : HubFault) → new ≡ old → ((log : List LogEntry) → ShowsLog opening old log → count ≡ length log → PushesIf limit (hub_of opening log) push (Err fault) (hub_of opening log))
+      → ShowsLogOf opening count old → IsPushedIn limit opening push old new (Err fault)
+  refused fault same judged shown log shows =
+      (log, judged log shows (counted shown log shows), subst (λ (c : Contents). ShowsLog opening c log) (sym same) shows)
+
+  pub appended : (entry : LogEntry) → push.head.base ≡ count
+      → ((log : List LogEntry) → ShowsLog opening old log → count ≡ length log → Pushes limit (hub_of opening log) push (Ok (Accepted (push.head.base + 1))) (with_entry (hub_of opening log) entry))
+      → IsAppendedIn opening entry old new → ShowsLogOf opening count old → IsPushedIn limit opening push old new (Ok (Accepted (count + 1)))
+  appended entry base judged is shown log shows = (
+    log ++ entry ∷ [],
+    subst (λ (n : ℕ). Pushes limit (hub_of opening log) push (Ok (Accepted (n + 1))) (with_entry (hub_of opening log) entry)) base (judged log shows (counted shown log shows)),
+    (is log shows).1,
+  )
+
+  -- the store failed
+  pub failed_so : (fault : StoreFault) (told : HubFault) → (fault ≡ stored.Memory → told ≡ Memory) × (fault ≡ stored.Device → told ≡ Device) → new ≡ old
+      → ShowsLogOf opening count old → IsPushedIn limit opening push old new (Err told)
+  failed_so stored.Memory told is same shown log shows =
+      (log, subst (λ (f : HubFault). PushesIf limit (hub_of opening log) push (Err f) (hub_of opening log)) (sym (is.0 refl)) refl, subst (λ (c : Contents). ShowsLog opening c log) (sym same) shows)
+  failed_so stored.Device told is same shown log shows =
+      (log, subst (λ (f : HubFault). PushesIf limit (hub_of opening log) push (Err f) (hub_of opening log)) (sym (is.1 refl)) refl, subst (λ (c : Contents). ShowsLog opening c log) (sym same) shows)
