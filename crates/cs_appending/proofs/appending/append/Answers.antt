@@ -5,9 +5,9 @@ use Rattle.cs_appending.proofs.appending.append.Goals as goal
 pub append_tried-requires : goal.append_tried-requires
 append_tried-requires g c = record {
   tried = still g.S.RowStore.honest g.S.RowStore.contents g.S.RowStore.failed g.S.RowStore.may_leave g.S.RowStore.misreads c.args.catalog.now c.args.entry.now
-    c.args.store.now c.try_entry.new.store c.try_entry.new.store
-    (went_well g.S.RowStore.honest g.S.RowStore.contents g.S.RowStore.failed g.S.RowStore.may_leave g.S.RowStore.misreads _ _ _ _ _ c.in-Ok.ensures.reads)
-    c.in-Ok.batch c.in-Ok.ensures.tried;
+      c.args.store.now c.try_entry.new.store c.try_entry.new.store
+      (went_well g.S.RowStore.honest g.S.RowStore.contents g.S.RowStore.failed g.S.RowStore.may_leave g.S.RowStore.misreads _ _ _ _ _ c.in-Ok.ensures.reads)
+      c.in-Ok.batch c.in-Ok.ensures.tried;
 }
 
 pub returns-in-Ok-append_tried-clause-writes : goal.returns-in-Ok-append_tried-clause-writes
