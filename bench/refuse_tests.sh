@@ -3,9 +3,9 @@
 # commits twice to the one in memory, that of `apply` applies a changeset, that of the rebaser rebases one, that of pending changes
 # edits rows, that of pulls takes an entry and an answer, that of replicas opens one, edits it, pushes and is told, that of a hub's log opens
 # it, appends to it and tells it, that of the log that threads share makes one, offers and sees, that of nodes makes two, edits, pushes
-# and pulls, that of worlds makes one and lets things happen in it, and that of scripts plays one. Where
+# and pulls, that of books asks two a push and a pull, that of worlds makes one and lets things happen in it, and that of scripts plays one. Where
 # that is refused, the test looks whether everything is as it was, and makes the same call again. Each run has to pass.
-# Usage: bench/refuse_tests.sh store|apply|rebaser|pending|pulling|replica|log_store|spine|nodes|world|script [TESTS]
+# Usage: bench/refuse_tests.sh store|apply|rebaser|pending|pulling|replica|log_store|spine|nodes|books|world|script [TESTS]
 # TESTS is the program of its tests, as `rt test` leaves it (crates/cs_store_tests/out/cs_store_tests_tests and so on); where none
 # is given, it is proved and built.
 set -eu
@@ -26,6 +26,7 @@ case "$tested" in
     log_store) least=100; module=memory ;;
     spine) least=40; module=memory ;;
     nodes) least=100; module=memory ;;
+    books) least=50; module=memory ;;
     world) least=300; module=memory ;;
     script) least=200; module=memory ;;
     *) echo "no such test of $tested" >&2; exit 1 ;;

@@ -1,0 +1,3 @@
+pub mod Goes
+pub mod Told
+pub mod Once

@@ -1,0 +1,13 @@
+use Rattle.std.proofs.Common.{◌-◌}
+use Rattle.cs_hub.specs.declared.hub.TheConstants.{MAX_ENTRIES}
+use Rattle.cs_books.specs.Books.{IsLater}
+use Rattle.cs_books.proofs.book.Book.catch_up.Given as goal
+
+-- what was taken so far
+abbrev pub invariant-entries : goal.invariant-entries
+invariant-entries g l = record {
+  later : IsLater g.S.RowStore.honest g.S.RowStore.contents g.S.RowStore.failed g.S.RowStore.may_leave g.S.RowStore.misreads l.fn.self l.self;
+}
+
+abbrev pub decreases-entries : goal.decreases-entries
+decreases-entries g l = MAX_ENTRIES - l.self.hub.newest

@@ -1,0 +1,41 @@
+-- A book: a hub over a store, and what its thread knows of a row of cells (profile of this project).
+use Rattle.std.specs.Prelude.{◌≡◌, ◌≤◌, ◌⊎◌, ℕ, length, min, take}
+use Rattle.cs_store.specs.Contents.{Contents}
+use Rattle.cs_log_store.specs.Shows.{ShowsLog}
+use Rattle.cs_spine.specs.Known.{Known, SpineCells}
+use Rattle.cs_following.specs.Standing.{Begins}
+use Rattle.cs_hub.specs.Holding.{Holding, Shows}
+use Rattle.cs_hub.specs.declared.hub.TheConstants.{MAX_ENTRIES}
+
+-- the row of cells, the hub, and the pass
+pub record BookState (S : Type 0) : Type 0 where
+  pub row : SpineCells
+  pub hub : Holding S
+  pub pass : Known
+
+-- the most entries that it takes: one a cell, and no more than a hub has
+abbrev pub most_cells : SpineCells → ℕ
+most_cells row = min row.cap MAX_ENTRIES
+
+-- the pass is of the row, and knows no more entries than a hub has; the hub has taken no more than it knows; and where its store is
+-- honest, it shows the first of these, as many as it has taken
+pub record IsBook {S : Type 0} (honest : S → Type 0) (contents : S → Contents) (book : BookState S) : Type 0 where
+  pub of : book.pass.spine ≡ book.row
+  pub few : length book.pass.known ≤ MAX_ENTRIES
+  pub within : book.hub.newest ≤ length book.pass.known
+  pub shows : honest book.hub.store → Shows contents book.hub (take book.hub.newest book.pass.known)
+
+-- the book has gone on: it is of the same row and the same tables; it knows what it knew, and maybe more; and it has taken what it had
+-- taken, and maybe more, each entry in a commit of its own
+pub record IsLater {S : Type 0} (honest : S → Type 0) (contents : S → Contents) (failed : S → ℕ) (may_leave : S → Contents → Type 0) (misreads : S → ℕ) (old new : BookState S) : Type 0 where
+  pub row : new.row ≡ old.row
+  pub catalog : new.hub.catalog ≡ old.hub.catalog
+  pub begins : Begins old.pass.known new.pass.known
+  pub onwards : old.hub.newest ≤ new.hub.newest
+  pub was_honest : honest new.hub.store → honest old.hub.store
+  -- a stop leaves what it could leave before, or a log that was shown between: the first of the entries that are known
+  pub crash : honest new.hub.store → (left : Contents) → may_leave new.hub.store left
+      → may_leave old.hub.store left ⊎ ((version : ℕ) × (version ≤ length new.pass.known) × ShowsLog new.hub.catalog left (take version new.pass.known))
+  pub later : failed old.hub.store ≤ failed new.hub.store
+  -- nothing that can be read is told to be no such thing
+  pub as_read : honest new.hub.store → misreads new.hub.store ≡ misreads old.hub.store

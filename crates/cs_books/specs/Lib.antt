@@ -1,0 +1,4 @@
+pub mod Books
+pub mod Answers
+pub mod Laws
+pub mod Steps
