@@ -115,59 +115,59 @@ module _ (laws : Below) (tables : List TableDef) (are : AreTables tables) (befor
   heard_once : (bytes : List ℕ) (wishes : List Wish) (some other : List ℕ) (one last : Member) (answer : Told_by) (result outcome : Result Told AnswerFault) → (SaysRefused some → ⊥) → (SaysRefused other → ⊥)
       → Hears tables before answer wishes result one → some ≡ heard_text result one.position.version → Hears tables its answer wishes outcome last → other ≡ heard_text outcome last.position.version
       → (some ≡ other) × IsSameMember tables one last
-  heard_once bytes wishes some other one last answer result outcome not no hears is again so =
+  heard_once bytes wishes some other one last answer result outcome not never hears is again so =
       let all =
       laws.heard tables answer wishes result outcome before its one last are shown sees same
-      (answer_tells result one.position.version some is not) (answer_tells outcome last.position.version other so no) hears again in
+      (answer_tells result one.position.version some is not) (answer_tells outcome last.position.version other so never) hears again in
       let versions : last.position.version ≡ one.position.version = ap (λ (p : Position). p.version) all.1.position in
       (is ∙ (heard_alike result outcome one.position.version last.position.version all.0 versions ∙ sym so), all.1)
 
   taken_once : (bytes : List ℕ) (wishes : List Wish) (some other : List ℕ) (one last : Member) → (SaysRefused some → ⊥) → (SaysRefused other → ⊥) → TakesAnswer tables before bytes wishes some one → TakesAnswer tables its bytes wishes other last
       → (some ≡ other) × IsSameMember tables one last
-  taken_once bytes wishes some other one last not no (inl (answer, result, fits, spelled, hears, is)) (inl (told, outcome, suits, spells, again, so)) =
+  taken_once bytes wishes some other one last not never (inl (answer, result, fits, spelled, hears, is)) (inl (told, outcome, suits, spells, again, so)) =
       let both : Ok answer ≡ Ok told = laws.answer bytes (Ok answer) (Ok told) (fits, spelled) (suits, spells) in
       let answers : told ≡ answer = (let e = sym both in cc) in
-      heard_once bytes wishes some other one last answer result outcome not no hears is (subst (λ (a : Told_by). Hears tables its a wishes outcome last) answers again) so
-  taken_once bytes wishes some other one last not no (inl (answer, result, fits, spelled, hears, is)) (inr (stays, inl (fault, wrong, so))) =
+      heard_once bytes wishes some other one last answer result outcome not never hears is (subst (λ (a : Told_by). Hears tables its a wishes outcome last) answers again) so
+  taken_once bytes wishes some other one last not never (inl (answer, result, fits, spelled, hears, is)) (inr (stays, inl (fault, wrong, so))) =
       let both : Ok answer ≡ Err fault = laws.answer bytes (Ok answer) (Err fault) (fits, spelled) wrong in
       absurd cc
-  taken_once bytes wishes some other one last not no (inl (answer, result, fits, spelled, hears, is)) (inr (stays, inr memory)) = absurd (no (inl memory))
-  taken_once bytes wishes some other one last not no (inr (still, inl (fault, wrong, is))) (inl (told, outcome, suits, spells, again, so)) =
+  taken_once bytes wishes some other one last not never (inl (answer, result, fits, spelled, hears, is)) (inr (stays, inr memory)) = absurd (never (inl memory))
+  taken_once bytes wishes some other one last not never (inr (still, inl (fault, wrong, is))) (inl (told, outcome, suits, spells, again, so)) =
       let both : Err fault ≡ Ok told = laws.answer bytes (Err fault) (Ok told) wrong (suits, spells) in
       absurd cc
-  taken_once bytes wishes some other one last not no (inr (still, inl (fault, wrong, is))) (inr (stays, inl (why, bad, so))) =
+  taken_once bytes wishes some other one last not never (inr (still, inl (fault, wrong, is))) (inr (stays, inl (why, bad, so))) =
       let both : Err fault ≡ Err why = laws.answer bytes (Err fault) (Err why) wrong bad in
       let faults : fault ≡ why = cc in
       (is ∙ (ap (λ (f : WireFault). refused_text (wire_fault_text f)) faults ∙ sym so), stays_same tables before its one last still stays same)
-  taken_once bytes wishes some other one last not no (inr (still, inl (fault, wrong, is))) (inr (stays, inr memory)) = absurd (no (inl memory))
-  taken_once bytes wishes some other one last not no (inr (still, inr memory)) taken = absurd (not (inl memory))
+  taken_once bytes wishes some other one last not never (inr (still, inl (fault, wrong, is))) (inr (stays, inr memory)) = absurd (never (inl memory))
+  taken_once bytes wishes some other one last not never (inr (still, inr memory)) taken = absurd (not (inl memory))
 
   pub line_once : (ask : Ask) (some other : List ℕ) (one last : Member) → (SaysRefused some → ⊥) → (SaysRefused other → ⊥) → LineStep tables before ask some one → LineStep tables its ask other last
       → (some ≡ other) × IsSameMember tables one last
-  line_once (OnEdit asked) some other one last not no (result, goes, is) (outcome, went, so) =
-      let all = laws.edited tables asked result outcome before its one last same (edit_tells result some is not) (edit_tells outcome other so no) goes went in
+  line_once (OnEdit asked) some other one last not never (result, goes, is) (outcome, went, so) =
+      let all = laws.edited tables asked result outcome before its one last same (edit_tells result some is not) (edit_tells outcome other so never) goes went in
       (is ∙ (ap edited_text all.0 ∙ sym so), all.1)
-  line_once Push some other one last not no (result, goes, is) (outcome, went, so) =
-      let all = laws.pushed tables (asked_in result) (asked_in outcome) before its one last are same (push_tells result some is not) (push_tells outcome other so no) goes went in
+  line_once Push some other one last not never (result, goes, is) (outcome, went, so) =
+      let all = laws.pushed tables (asked_in result) (asked_in outcome) before its one last are same (push_tells result some is not) (push_tells outcome other so never) goes went in
       (is ∙ (pushed_alike result outcome all.0 ∙ sym so), all.1)
-  line_once Resend some other one last not no (still, inl (result, goes, is)) (stays, inl (outcome, went, so)) =
-      let results = laws.resent tables (asked_in result) (asked_in outcome) before its shown same (push_tells result some is not) (push_tells outcome other so no) goes went in
+  line_once Resend some other one last not never (still, inl (result, goes, is)) (stays, inl (outcome, went, so)) =
+      let results = laws.resent tables (asked_in result) (asked_in outcome) before its shown same (push_tells result some is not) (push_tells outcome other so never) goes went in
       (is ∙ (pushed_alike result outcome results ∙ sym so), stays_same tables before its one last still stays same)
-  line_once Resend some other one last not no (still, inl goes) (stays, inr memory) = absurd (no (inl memory))
-  line_once Resend some other one last not no (still, inr memory) went = absurd (not (inl memory))
-  line_once (Pull limit) some other one last not no (still, inl is) (stays, inl so) = (
+  line_once Resend some other one last not never (still, inl goes) (stays, inr memory) = absurd (never (inl memory))
+  line_once Resend some other one last not never (still, inr memory) went = absurd (not (inl memory))
+  line_once (Pull limit) some other one last not never (still, inl is) (stays, inl so) = (
     is ∙ (ap (λ (p : Position). hex_line (request_spelling (AsksPull p.version limit))) (sym same.position) ∙ sym so),
     stays_same tables before its one last still stays same,
   )
-  line_once (Pull limit) some other one last not no (still, inl is) (stays, inr memory) = absurd (no (inl memory))
-  line_once (Pull limit) some other one last not no (still, inr memory) went = absurd (not (inl memory))
-  line_once (Answer bytes wishes) some other one last not no goes went = taken_once bytes wishes some other one last not no goes went
-  line_once Dump some other one last not no (still, inl dumped) (stays, inl looked) = (dumped_once some other dumped looked, stays_same tables before its one last still stays same)
-  line_once Dump some other one last not no (still, inl dumped) (stays, inr (fault, so)) = absurd (store_tells fault other so no)
-  line_once Dump some other one last not no (still, inr (fault, is)) went = absurd (store_tells fault some is not)
+  line_once (Pull limit) some other one last not never (still, inl is) (stays, inr memory) = absurd (never (inl memory))
+  line_once (Pull limit) some other one last not never (still, inr memory) went = absurd (not (inl memory))
+  line_once (Answer bytes wishes) some other one last not never goes went = taken_once bytes wishes some other one last not never goes went
+  line_once Dump some other one last not never (still, inl dumped) (stays, inl looked) = (dumped_once some other dumped looked, stays_same tables before its one last still stays same)
+  line_once Dump some other one last not never (still, inl dumped) (stays, inr (fault, so)) = absurd (store_tells fault other so never)
+  line_once Dump some other one last not never (still, inr (fault, is)) went = absurd (store_tells fault some is not)
 
 pub one_line_step : Below → OneLineStep
-one_line_step laws tables ask some other before its one last are shown sees same not no goes went = line_once laws tables are before its shown sees same ask some other one last not no goes went
+one_line_step laws tables ask some other before its one last are shown sees same not never goes went = line_once laws tables are before its shown sees same ask some other one last not never goes went
 
 -- ---- lines one behind another
 
@@ -191,13 +191,13 @@ module _ (tables : List TableDef) (before after : Member) (shown : IsShown table
   shown_after Dump text (still, says) = still_shown still
 
 pub one_line_run : OneLineStep → OneLineRun
-one_line_run law tables [] [] [] before its one last are shown sees same not no is so = (refl, stays_same tables before its one last is so same)
-one_line_run law tables (ask ∷ asks) (some ∷ more) (other ∷ others) before its one last are shown sees same (not, nots) (no, nos) (between, goes, on) (among, went, further) =
-    let first = law tables ask some other before its between among are shown sees same not no goes went in
+one_line_run law tables [] [] [] before its one last are shown sees same not never is so = (refl, stays_same tables before its one last is so same)
+one_line_run law tables (ask ∷ asks) (some ∷ more) (other ∷ others) before its one last are shown sees same (not, nots) (never, nos) (between, goes, on) (among, went, further) =
+    let first = law tables ask some other before its between among are shown sees same not never goes went in
     let all =
     one_line_run law tables asks more others between among one last are (shown_after tables before between shown ask some goes) (shown_after tables its among sees ask other went) first.1 nots nos on further in
     (ap (λ (t : List ℕ). t ∷ more) first.0 ∙ ap (λ (ts : List (List ℕ)). other ∷ ts) all.0, all.1)
-one_line_run law tables [] (some ∷ more) others before its one last are shown sees same not no is so = absurd is
-one_line_run law tables [] [] (other ∷ others) before its one last are shown sees same not no is so = absurd so
-one_line_run law tables (ask ∷ asks) [] others before its one last are shown sees same not no is so = absurd is
-one_line_run law tables (ask ∷ asks) (some ∷ more) [] before its one last are shown sees same not no is so = absurd so
+one_line_run law tables [] (some ∷ more) others before its one last are shown sees same not never is so = absurd is
+one_line_run law tables [] [] (other ∷ others) before its one last are shown sees same not never is so = absurd so
+one_line_run law tables (ask ∷ asks) [] others before its one last are shown sees same not never is so = absurd is
+one_line_run law tables (ask ∷ asks) (some ∷ more) [] before its one last are shown sees same not never is so = absurd so
