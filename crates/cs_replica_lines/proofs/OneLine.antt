@@ -31,8 +31,9 @@ use Rattle.cs_wire.specs.declared.answer.Answer.{Answer as Told_by}
 use Rattle.cs_wire.specs.declared.fault.WireFault.{WireFault}
 use Rattle.cs_wire.specs.declared.request.RequestBuf.{RequestBuf}
 use Rattle.cs_replica_lines.specs.Laws.{OneLineRun, OneLineStep, SaysRefused}
-use Rattle.cs_replica_lines.specs.LineStep.{AreRowLines, IsDumped, LineStep, LineSteps, TakesAnswer}
-use Rattle.cs_replica_lines.specs.Texts.{edited_text, heard_text, pushed_text, refused_text, replica_text, rows_text, store_fault_text, wire_fault_text}
+use Rattle.cs_told.specs.Dump.{AreRowLines, replica_text, rows_text}
+use Rattle.cs_replica_lines.specs.LineStep.{IsDumped, LineStep, LineSteps, TakesAnswer}
+use Rattle.cs_replica_lines.specs.Texts.{edited_text, heard_text, pushed_text, refused_text, store_fault_text, wire_fault_text}
 
 -- the laws below
 pub record Below : Type 0 where
