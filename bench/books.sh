@@ -1,7 +1,6 @@
 #!/bin/sh
 # Times requests by 1, 2, 4 and 8 threads that each have a book of their own on one row of cells, beside the same requests of one hub under
-# a lock, in one run: 4,000 pushes of ten rows each, and 40,000 pulls of ten entries each of a log of 4,000 (of books with the time in which a new
-# one takes that log). It isn't in `.ci/run`.
+# a lock, in one run: 4,000 pushes of ten rows each, and 200,000 pulls of ten entries each of a log of 4,000. It isn't in `.ci/run`.
 # Usage: bench/books.sh
 set -eu
 bench="$(cd "$(dirname "$0")" && pwd)"
