@@ -1,6 +1,6 @@
 //! A script, from its lines to its text.
 
-ghost use Rattle.std.specs.Prelude.{IfOk, string_bytes};
+ghost use Rattle.std.specs.Prelude.{IfOk, OnOk, string_bytes};
 ghost use Rattle.cs_script.specs.Endings.{EndsScript, IsPlayed};
 
 use crate::dumping::push_dump;

@@ -31,27 +31,11 @@ fn adopted(alloc: Global, conn: Connection<FileStore<Disk>>) -> Result<Filed, Fi
     }
 }
 
-/// The files of a database.
-#[derive(Clone, Copy)]
-pub(crate) enum File {
-    Log,
-    Database,
-}
-
-/// Files in memory, of which this one stops after so many calls.
-fn stopping(alloc: Global, file: File, calls: u64) -> Files<Disk> {
-    let (log, db) = match file {
-        File::Log => (calls, u64::MAX),
-        File::Database => (u64::MAX, calls),
-    };
-    let log = Fuse::new(Memory::new(alloc), log);
-    let db = Fuse::new(Memory::new(alloc), db);
-    Files { log, db }
-}
-
-/// A store in new files, of which this one stops after so many calls, or the files again.
-pub(crate) fn open_new(alloc: Global, file: File, calls: u64) -> Result<Filed, Files<Disk>> {
-    match Connection::open_files(alloc, stopping(alloc, file, calls), Options::new(7)) {
+/// A store in new files, of which the log stops after so many calls, or the files again.
+pub(crate) fn open_new(alloc: Global, calls: u64) -> Result<Filed, Files<Disk>> {
+    let log = Fuse::new(Memory::new(alloc), calls);
+    let db = Fuse::new(Memory::new(alloc), u64::MAX);
+    match Connection::open_files(alloc, Files { log, db }, Options::new(7)) {
         Ok(conn) => adopted(alloc, conn),
         Err((_, left)) => Err(left.into_files()),
     }

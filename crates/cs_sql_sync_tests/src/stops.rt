@@ -178,8 +178,8 @@ fn made_over(alloc: Global, store: Filed, catalog: &Catalog) -> (usize, Files<Di
 }
 
 /// How many calls succeed in new files that stop, and the files then.
-fn stopped(alloc: Global, catalog: &Catalog, file: File, calls: u64) -> (usize, Files<Disk>) {
-    match open_new(alloc, file, calls) {
+fn stopped(alloc: Global, catalog: &Catalog, calls: u64) -> (usize, Files<Disk>) {
+    match open_new(alloc, calls) {
         Ok(store) => made_over(alloc, store, catalog),
         Err(files) => (0, files),
     }
@@ -206,8 +206,8 @@ fn is_between(alloc: Global, shown: &[u8], first: usize, last: usize) -> bool {
 }
 
 /// How many calls succeeded before a stop behind so many calls of the file, if the store then shows what it may.
-fn survives(alloc: Global, catalog: &Catalog, file: File, calls: u64) -> Option<usize> {
-    let (made, files) = stopped(alloc, catalog, file, calls);
+fn survives(alloc: Global, catalog: &Catalog, calls: u64) -> Option<usize> {
+    let (made, files) = stopped(alloc, catalog, calls);
     let shown = shown_again(alloc, files)?;
     let (first, last) = commits_around(made);
     if is_between(alloc, shown.as_slice(), first, last) {
@@ -217,12 +217,12 @@ fn survives(alloc: Global, catalog: &Catalog, file: File, calls: u64) -> Option<
     }
 }
 
-/// Whether a replica survives a stop behind each number of calls of the file, until none comes: more than so many.
-fn survive_all(alloc: Global, file: File, least: u64) -> Option<bool> {
+/// Whether a replica survives a stop behind each number of calls of the file, until none comes.
+fn survive_all(alloc: Global) -> Option<bool> {
     let catalog = catalog(alloc)?;
     for calls in 0..2000 {
-        if survives(alloc, &catalog, file, calls)? > CALLS {
-            return Some(calls > least);
+        if survives(alloc, &catalog, calls)? > CALLS {
+            return Some(calls > 10);
         }
     }
     Some(false)
@@ -230,8 +230,7 @@ fn survive_all(alloc: Global, file: File, least: u64) -> Option<bool> {
 
 #[test]
 fn a_stop_in_a_call_of_a_replica_leaves_it_made_or_not(rt: HostRuntime) {
-    assert!(rt; survive_all(rt.alloc(), File::Log, 10) == Some(true));
-    assert!(rt; survive_all(rt.alloc(), File::Database, 0) == Some(true));
+    assert!(rt; survive_all(rt.alloc()) == Some(true));
 }
 
 /// Pushes 1 and 2 of replica 7, of an INSERT of (1, 'v1') and of (2, 'v1').
@@ -277,8 +276,8 @@ fn hub_in_memory(alloc: Global, catalog: &Catalog, commits: usize) -> Option<Vec
 }
 
 /// How many commits of the hub succeed in new files that stop, and the files then.
-fn hub_stopped(alloc: Global, catalog: &Catalog, file: File, calls: u64) -> (usize, Files<Disk>) {
-    let store = match open_new(alloc, file, calls) {
+fn hub_stopped(alloc: Global, catalog: &Catalog, calls: u64) -> (usize, Files<Disk>) {
+    let store = match open_new(alloc, calls) {
         Ok(store) => store,
         Err(files) => return (0, files),
     };
@@ -299,8 +298,8 @@ fn shows_hub(alloc: Global, catalog: &Catalog, shown: &[u8], commits: usize) -> 
 }
 
 /// How many commits of the hub succeeded before a stop, if the store then shows these or one more.
-fn hub_survives(alloc: Global, catalog: &Catalog, file: File, calls: u64) -> Option<usize> {
-    let (made, files) = hub_stopped(alloc, catalog, file, calls);
+fn hub_survives(alloc: Global, catalog: &Catalog, calls: u64) -> Option<usize> {
+    let (made, files) = hub_stopped(alloc, catalog, calls);
     let shown = shown_again(alloc, files)?;
     let image = shown.as_slice();
     if shows_hub(alloc, catalog, image, made)
@@ -312,11 +311,11 @@ fn hub_survives(alloc: Global, catalog: &Catalog, file: File, calls: u64) -> Opt
     }
 }
 
-fn hub_survives_all(alloc: Global, file: File, least: u64) -> Option<bool> {
+fn hub_survives_all(alloc: Global) -> Option<bool> {
     let catalog = catalog(alloc)?;
     for calls in 0..2000 {
-        if hub_survives(alloc, &catalog, file, calls)? > PUSHES.len() {
-            return Some(calls > least);
+        if hub_survives(alloc, &catalog, calls)? > PUSHES.len() {
+            return Some(calls > 10);
         }
     }
     Some(false)
@@ -324,6 +323,5 @@ fn hub_survives_all(alloc: Global, file: File, least: u64) -> Option<bool> {
 
 #[test]
 fn a_stop_in_a_push_leaves_it_taken_or_not(rt: HostRuntime) {
-    assert!(rt; hub_survives_all(rt.alloc(), File::Log, 10) == Some(true));
-    assert!(rt; hub_survives_all(rt.alloc(), File::Database, 0) == Some(true));
+    assert!(rt; hub_survives_all(rt.alloc()) == Some(true));
 }
