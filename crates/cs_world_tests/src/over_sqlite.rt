@@ -7,7 +7,7 @@ use crate::again::refused_in;
 use crate::given::{plays, printed_rows, world_over};
 use crate::tests::{LOST, STOPPED};
 use cs_sql::SqlStore;
-use cs_store::RowStore;
+use cs_store::{RowStore, StoreFault};
 use cs_world::World;
 use std::alloc::Global;
 
@@ -74,25 +74,25 @@ fn asked_of<S: RowStore + Drop>(alloc: Global, hub: S, one: S, other: S, asks: A
     }
 }
 
-/// Three databases in memory, or none. What handles one is dear to prove, so this does nothing else.
-fn over_three(alloc: Global, asks: Asks) -> Option<bool> {
-    let hub = SqlStore::open_memory(alloc).ok()?;
-    let one = SqlStore::open_memory(alloc).ok()?;
-    let other = SqlStore::open_memory(alloc).ok()?;
-    asked_of(alloc, hub, one, other, asks)
+/// The same over three databases in memory. What handles one is dear to prove, so this does nothing else.
+fn over_three(alloc: Global, asks: Asks) -> Result<Option<bool>, StoreFault> {
+    let hub = SqlStore::open_memory(alloc)?;
+    let one = SqlStore::open_memory(alloc)?;
+    let other = SqlStore::open_memory(alloc)?;
+    Ok(asked_of(alloc, hub, one, other, asks))
 }
 
 #[test]
 fn lost_answers_over_sqlite(rt: HostRuntime) {
-    assert!(rt; over_three(rt.alloc(), Asks::Lost).unwrap_or(false));
+    assert!(rt; matches!(over_three(rt.alloc(), Asks::Lost), Ok(Some(true))));
 }
 
 #[test]
 fn a_clash_is_stopped_over_sqlite(rt: HostRuntime) {
-    assert!(rt; over_three(rt.alloc(), Asks::Stopped).unwrap_or(false));
+    assert!(rt; matches!(over_three(rt.alloc(), Asks::Stopped), Ok(Some(true))));
 }
 
 #[test]
 fn replicas_at_rest_over_sqlite(rt: HostRuntime) {
-    assert!(rt; over_three(rt.alloc(), Asks::AtRest).unwrap_or(false));
+    assert!(rt; matches!(over_three(rt.alloc(), Asks::AtRest), Ok(Some(true))));
 }
