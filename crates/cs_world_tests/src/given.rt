@@ -1,7 +1,11 @@
 //! Events of a world of one table, `t1(a, b)`, whose first column is the key, and what they come to.
 
+ghost use Rattle.std.specs.Prelude.{◌≡◌, ◌∷◌, [], IfOk};
+ghost use Rattle.cs_store.specs.Contents.{nothing};
+
 use cs_conflict::Wish;
 use cs_map_store::MapStore;
+use cs_opening::OpenFault;
 use cs_store::RowStore;
 use cs_text::ValueText;
 use cs_value::{Catalog, Edit, Field, Fields, Items, Key, Memory, Row, TableDef, Text, Value};
@@ -40,6 +44,46 @@ pub(crate) fn catalog(alloc: Global) -> Option<Catalog> {
 pub(crate) fn world(alloc: Global, replicas: u8) -> Option<World<MapStore>> {
     let catalog = catalog(alloc)?;
     World::in_memory(alloc, &catalog, u32::from(replicas)).ok()
+}
+
+fn two_of<T: Drop>(alloc: Global, one: T, other: T) -> Result<Vec<T>, Memory>
+    ensures { IfOk result (λ all. all.items ≡ one ∷ other ∷ []) }
+{
+    let mut all = Vec::new(alloc);
+    all.push(one)?;
+    all.push(other)?;
+    Ok(all)
+}
+
+/// A world of two replicas over these stores, each of which holds nothing.
+fn opened<S: RowStore + Drop>(
+    alloc: Global,
+    catalog: &Catalog,
+    hub: S,
+    one: S,
+    other: S,
+) -> Result<World<S>, OpenFault>
+    requires hub { S.contents hub ≡ nothing }
+    requires one { S.contents one ≡ nothing }
+    requires other { S.contents other ≡ nothing }
+{
+    let stores = two_of(alloc, one, other)?;
+    World::new(alloc, catalog, hub, stores)
+}
+
+/// The same of `t1`.
+pub(crate) fn world_over<S: RowStore + Drop>(
+    alloc: Global,
+    hub: S,
+    one: S,
+    other: S,
+) -> Option<World<S>>
+    requires hub { S.contents hub ≡ nothing }
+    requires one { S.contents one ≡ nothing }
+    requires other { S.contents other ≡ nothing }
+{
+    let catalog = catalog(alloc)?;
+    opened(alloc, &catalog, hub, one, other).ok()
 }
 
 fn row(alloc: Global, key: i64, value: &str) -> Result<Row, Memory> {

@@ -8,7 +8,7 @@ use cs_world::Outcome;
 use std::alloc::Global;
 
 /// An answer that was lost, and an old push that comes again.
-const LOST: &[(Act, Outcome)] = &[
+pub(crate) const LOST: &[(Act, Outcome)] = &[
     (Act::Insert(0, 1, "v1"), Outcome::Done),
     (Act::Push(0), Outcome::Sent(0)),
     (Act::Deliver(0, &[]), Outcome::Sent(1)),
@@ -45,7 +45,7 @@ const TWO: &[(Act, Outcome)] = &[
 ];
 
 /// The third clash is stopped: nothing was taken.
-const STOPPED: &[(Act, Outcome)] = &[
+pub(crate) const STOPPED: &[(Act, Outcome)] = &[
     (Act::Insert(0, 1, "a"), Outcome::Done),
     (Act::Insert(0, 2, "b"), Outcome::Done),
     (Act::Insert(0, 3, "c"), Outcome::Done),
