@@ -31,10 +31,35 @@ fn adopted(alloc: Global, conn: Connection<FileStore<Disk>>) -> Result<Filed, Fi
     }
 }
 
-/// A store in new files, of which the log stops after so many calls, or the files again.
-pub(crate) fn open_new(alloc: Global, calls: u64) -> Result<Filed, Files<Disk>> {
-    let log = Fuse::new(Memory::new(alloc), calls);
-    let db = Fuse::new(Memory::new(alloc), u64::MAX);
+/// How many calls are made of the files before the stop.
+#[derive(Clone, Copy)]
+pub(crate) struct Calls {
+    pub(crate) log: u64,
+    pub(crate) db: u64,
+}
+
+impl Calls {
+    /// The log stops.
+    pub(crate) fn of_log(calls: u64) -> Calls {
+        Calls {
+            log: calls,
+            db: u64::MAX,
+        }
+    }
+
+    /// The database's own file does.
+    pub(crate) fn of_db(calls: u64) -> Calls {
+        Calls {
+            log: u64::MAX,
+            db: calls,
+        }
+    }
+}
+
+/// A store in new files, which stop after so many calls, or the files again.
+pub(crate) fn open_new(alloc: Global, calls: Calls) -> Result<Filed, Files<Disk>> {
+    let log = Fuse::new(Memory::new(alloc), calls.log);
+    let db = Fuse::new(Memory::new(alloc), calls.db);
     match Connection::open_files(alloc, Files { log, db }, Options::new(7)) {
         Ok(conn) => adopted(alloc, conn),
         Err((_, left)) => Err(left.into_files()),

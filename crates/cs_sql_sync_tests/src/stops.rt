@@ -178,7 +178,7 @@ fn made_over(alloc: Global, store: Filed, catalog: &Catalog) -> (usize, Files<Di
 }
 
 /// How many calls succeed in new files that stop, and the files then.
-fn stopped(alloc: Global, catalog: &Catalog, calls: u64) -> (usize, Files<Disk>) {
+fn stopped(alloc: Global, catalog: &Catalog, calls: Calls) -> (usize, Files<Disk>) {
     match open_new(alloc, calls) {
         Ok(store) => made_over(alloc, store, catalog),
         Err(files) => (0, files),
@@ -205,8 +205,8 @@ fn is_between(alloc: Global, shown: &[u8], first: usize, last: usize) -> bool {
     false
 }
 
-/// How many calls succeeded before a stop behind so many calls of the file, if the store then shows what it may.
-fn survives(alloc: Global, catalog: &Catalog, calls: u64) -> Option<usize> {
+/// How many calls succeeded before a stop behind so many calls of a file, if the store then shows what it may.
+fn survives(alloc: Global, catalog: &Catalog, calls: Calls) -> Option<usize> {
     let (made, files) = stopped(alloc, catalog, calls);
     let shown = shown_again(alloc, files)?;
     let (first, last) = commits_around(made);
@@ -217,12 +217,23 @@ fn survives(alloc: Global, catalog: &Catalog, calls: u64) -> Option<usize> {
     }
 }
 
-/// Whether a replica survives a stop behind each number of calls of the file, until none comes.
+/// Whether a replica survives a stop behind each number of calls of the log, until none comes.
 fn survive_all(alloc: Global) -> Option<bool> {
     let catalog = catalog(alloc)?;
     for calls in 0..2000 {
-        if survives(alloc, &catalog, calls)? > CALLS {
+        if survives(alloc, &catalog, Calls::of_log(calls))? > CALLS {
             return Some(calls > 10);
+        }
+    }
+    Some(false)
+}
+
+/// The same of the database's own file.
+fn survive_all_in_db(alloc: Global) -> Option<bool> {
+    let catalog = catalog(alloc)?;
+    for calls in 0..2000 {
+        if survives(alloc, &catalog, Calls::of_db(calls))? > CALLS {
+            return Some(calls > 1);
         }
     }
     Some(false)
@@ -231,6 +242,7 @@ fn survive_all(alloc: Global) -> Option<bool> {
 #[test]
 fn a_stop_in_a_call_of_a_replica_leaves_it_made_or_not(rt: HostRuntime) {
     assert!(rt; survive_all(rt.alloc()) == Some(true));
+    assert!(rt; survive_all_in_db(rt.alloc()) == Some(true));
 }
 
 /// Pushes 1 and 2 of replica 7, of an INSERT of (1, 'v1') and of (2, 'v1').
@@ -276,7 +288,7 @@ fn hub_in_memory(alloc: Global, catalog: &Catalog, commits: usize) -> Option<Vec
 }
 
 /// How many commits of the hub succeed in new files that stop, and the files then.
-fn hub_stopped(alloc: Global, catalog: &Catalog, calls: u64) -> (usize, Files<Disk>) {
+fn hub_stopped(alloc: Global, catalog: &Catalog, calls: Calls) -> (usize, Files<Disk>) {
     let store = match open_new(alloc, calls) {
         Ok(store) => store,
         Err(files) => return (0, files),
@@ -298,7 +310,7 @@ fn shows_hub(alloc: Global, catalog: &Catalog, shown: &[u8], commits: usize) -> 
 }
 
 /// How many commits of the hub succeeded before a stop, if the store then shows these or one more.
-fn hub_survives(alloc: Global, catalog: &Catalog, calls: u64) -> Option<usize> {
+fn hub_survives(alloc: Global, catalog: &Catalog, calls: Calls) -> Option<usize> {
     let (made, files) = hub_stopped(alloc, catalog, calls);
     let shown = shown_again(alloc, files)?;
     let image = shown.as_slice();
@@ -314,8 +326,18 @@ fn hub_survives(alloc: Global, catalog: &Catalog, calls: u64) -> Option<usize> {
 fn hub_survives_all(alloc: Global) -> Option<bool> {
     let catalog = catalog(alloc)?;
     for calls in 0..2000 {
-        if hub_survives(alloc, &catalog, calls)? > PUSHES.len() {
+        if hub_survives(alloc, &catalog, Calls::of_log(calls))? > PUSHES.len() {
             return Some(calls > 10);
+        }
+    }
+    Some(false)
+}
+
+fn hub_survives_all_in_db(alloc: Global) -> Option<bool> {
+    let catalog = catalog(alloc)?;
+    for calls in 0..2000 {
+        if hub_survives(alloc, &catalog, Calls::of_db(calls))? > PUSHES.len() {
+            return Some(calls > 1);
         }
     }
     Some(false)
@@ -324,4 +346,5 @@ fn hub_survives_all(alloc: Global) -> Option<bool> {
 #[test]
 fn a_stop_in_a_push_leaves_it_taken_or_not(rt: HostRuntime) {
     assert!(rt; hub_survives_all(rt.alloc()) == Some(true));
+    assert!(rt; hub_survives_all_in_db(rt.alloc()) == Some(true));
 }
