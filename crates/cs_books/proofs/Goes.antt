@@ -16,8 +16,6 @@ use Rattle.cs_hub.specs.Follows.{FitsBehind}
 use Rattle.cs_hub.specs.Holding.{Holding, Shows, ShowsSome}
 use Rattle.cs_hub.specs.Judges.{ReadsHub}
 use Rattle.cs_hub.specs.declared.hub.TheConstants.{MAX_ENTRIES}
-use Rattle.cs_hub.specs.declared.follow_fault.FollowFault.{FollowFault}
-use Rattle.cs_hub.specs.declared.follow_fault.FollowFault.TheVariants.{Device}
 use Rattle.cs_books.specs.Answers.{HasTaken, IsStuckAt}
 use Rattle.cs_books.specs.Books.{BookState, IsBook, IsLater}
 
@@ -160,8 +158,8 @@ module _ {S : Type 0} (honest : S → Type 0) (contents : S → Contents) (faile
     abbrev Front : List LogEntry
     Front = take book.hub.newest book.pass.known
 
-    abbrev Writes : Result (Unit {0}) FollowFault → Type 0
-    Writes result = WritesStore honest contents failed may_leave misreads Device (ShowsSome contents book.hub) (IsAppendedIn book.hub.catalog entry (contents book.hub.store)) book.hub.store hub.store result
+    abbrev Writes : {F : Type 0} → F → Result (Unit {0}) F → Type 0
+    Writes device result = WritesStore honest contents failed may_leave misreads device (ShowsSome contents book.hub) (IsAppendedIn book.hub.catalog entry (contents book.hub.store)) book.hub.store hub.store result
 
     between : honest book.hub.store → (left : Contents) → IsAppendedIn book.hub.catalog entry (contents book.hub.store) left → Between After left
     between h left appended =
@@ -177,8 +175,8 @@ module _ {S : Type 0} (honest : S → Type 0) (contents : S → Contents) (faile
     left_so h left (inl l) = inl l
     left_so h left (inr appended) = inr (between h left appended)
 
-    pub takes : (result : Result (Unit {0}) FollowFault) → Writes result → book.hub.newest ≤ hub.newest → Later book After
-    takes result writes onwards = record {
+    pub takes : {F : Type 0} (device : F) (result : Result (Unit {0}) F) → Writes device result → book.hub.newest ≤ hub.newest → Later book After
+    takes device result writes onwards = record {
       row = refl;
       catalog = catalog;
       begins = same_begins book.pass.known;
@@ -200,18 +198,24 @@ module _ {S : Type 0} (honest : S → Type 0) (contents : S → Contents) (faile
           subst (λ (l : List LogEntry). Shows contents hub l) (sym (ap (λ (n : ℕ). take n book.pass.known) counted ∙ next_taken book.pass.known book.hub.newest entry here)) (shows h (is.shows (was_honest h)));
     }
 
-    onwards_of : (result : Result (Unit {0}) FollowFault) → OnOk result (hub.newest ≡ book.hub.newest + 1) → OnErr result (hub.newest ≡ book.hub.newest) → book.hub.newest ≤ hub.newest
+    onwards_of : {F : Type 0} (result : Result (Unit {0}) F) → OnOk result (hub.newest ≡ book.hub.newest + 1) → OnErr result (hub.newest ≡ book.hub.newest) → book.hub.newest ≤ hub.newest
     onwards_of (Ok t) counted kept = omega (arith, counted)
     onwards_of (Err fault) counted kept = omega (arith, kept)
 
     -- whatever came of it
-    pub goes_on : (result : Result (Unit {0}) FollowFault) → Writes result → OnOk result (hub.newest ≡ book.hub.newest + 1) → OnErr result (hub.newest ≡ book.hub.newest) → Later book After
-    goes_on result writes counted kept = takes result writes (onwards_of result counted kept)
+    pub goes_on : {F : Type 0} (device : F) (result : Result (Unit {0}) F) → Writes device result → OnOk result (hub.newest ≡ book.hub.newest + 1) → OnErr result (hub.newest ≡ book.hub.newest) → Later book After
+    goes_on device result writes counted kept = takes device result writes (onwards_of result counted kept)
 
-    pub book_again : (result : Result (Unit {0}) FollowFault) → Writes result → OnOk result (hub.newest ≡ book.hub.newest + 1) → OnErr result (hub.newest ≡ book.hub.newest)
-        → (honest hub.store → (log : List LogEntry) → Shows contents book.hub log → OnOk result (FitsBehind book.hub.catalog log entry × Shows contents hub (log ++ entry ∷ []))) → IsBook honest contents After
-    book_again (Ok t) writes counted kept followed = taken_book counted writes.was_honest (λ h shows. (followed h Front shows).1)
-    book_again (Err fault) writes counted kept followed = same_book book is hub catalog kept writes.was_honest writes.err
+    pub book_again : {F : Type 0} (device : F) (result : Result (Unit {0}) F) → Writes device result → OnOk result (hub.newest ≡ book.hub.newest + 1) → OnErr result (hub.newest ≡ book.hub.newest)
+        → (honest hub.store → (log : List LogEntry) → Shows contents book.hub log → OnOk result (Shows contents hub (log ++ entry ∷ []))) → IsBook honest contents After
+    book_again device (Ok t) writes counted kept shows_more = taken_book counted writes.was_honest (λ h shows. shows_more h Front shows)
+    book_again device (Err fault) writes counted kept shows_more = same_book book is hub catalog kept writes.was_honest writes.err
+
+    -- what follows shows the longer log
+    pub shown_of : {F : Type 0} (result : Result (Unit {0}) F) → (honest hub.store → (log : List LogEntry) → Shows contents book.hub log → OnOk result (FitsBehind book.hub.catalog log entry × Shows contents hub (log ++ entry ∷ [])))
+        → honest hub.store → (log : List LogEntry) → Shows contents book.hub log → OnOk result (Shows contents hub (log ++ entry ∷ []))
+    shown_of (Ok t) followed h log shows = (followed h log shows).1
+    shown_of (Err fault) followed h log shows = tt
 
     -- or it is stuck there
     pub stuck : hub.newest ≡ book.hub.newest → honest book.hub.store → (FitsBehind book.hub.catalog Front entry → ⊥) → IsStuckAt hub.catalog book.pass.known hub.newest

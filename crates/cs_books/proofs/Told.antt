@@ -5,6 +5,7 @@ use Rattle.std.specs.Prelude.{IfOk}
 use Rattle.cs_value.specs.declared.catalog.TableDef.{TableDef}
 use Rattle.cs_log.specs.declared.entry.LogEntry.{LogEntry}
 use Rattle.cs_store.specs.Calls.{MoreFailures}
+use Rattle.cs_store.specs.declared.batch.Batch.{Batch}
 use Rattle.cs_judging.specs.Hub.{HubState}
 use Rattle.cs_judging.specs.Judged.{hub_of}
 use Rattle.cs_following.specs.Standing.{Begins}
@@ -64,7 +65,7 @@ module _ (device_failed : Type 0) (limit : ℕ) (tables : List TableDef) (known 
 pub judged_later : (some other : Type 0) (limit : ℕ) (tables : List TableDef) (known : List LogEntry) (request : List ℕ) (told : Judged) → (some → other) → IsJudged some limit tables known request told → IsJudged other limit tables known request told
 judged_later some other limit tables known request (Reply answer) on (inl serves) = inl serves
 judged_later some other limit tables known request (Reply answer) on (inr (failed, told, same)) = inr (on failed, told, same)
-judged_later some other limit tables known request (Append entry reply) on is = is
+judged_later some other limit tables known request (Append entry batch reply) on is = is
 
 -- the entry of a push was set, and taken
 pub set_mine : ServedAgain → (limit : ℕ) (tables : List TableDef) (before known : List LogEntry) (entry held : LogEntry) (taken : ℕ) (request reply answer : List ℕ)
@@ -115,9 +116,9 @@ replies failed old mid new request answer less row pass catalog newest level fro
     (subst (λ (n : ℕ). AnswersOn device (most_cells mid.row) mid.hub.catalog mid.pass.known n request answer.items) (sym newest) here)))
 
 -- nothing is to be appended behind another entry
-pub cant_append : {S : Type 0} → AppendsAtEnd → (old mid : BookState S) (request : List ℕ) (device_failed : Type 0) (entry : LogEntry) (reply : Vec ℕ Global) → CameLater (most_cells old.row) old.hub.catalog old.pass.known request
-    → mid.row ≡ old.row → mid.hub.catalog ≡ old.hub.catalog → Begins old.pass.known mid.pass.known → IsJudged device_failed (most_cells mid.row) mid.hub.catalog mid.pass.known request (Append entry reply) → ⊥
-cant_append law old mid request device_failed entry reply came row catalog begins judged =
+pub cant_append : {S : Type 0} → AppendsAtEnd → (old mid : BookState S) (request : List ℕ) (device_failed : Type 0) (entry : LogEntry) (batch : Batch) (reply : Vec ℕ Global) → CameLater (most_cells old.row) old.hub.catalog old.pass.known request
+    → mid.row ≡ old.row → mid.hub.catalog ≡ old.hub.catalog → Begins old.pass.known mid.pass.known → IsJudged device_failed (most_cells mid.row) mid.hub.catalog mid.pass.known request (Append entry batch reply) → ⊥
+cant_append law old mid request device_failed entry batch reply came row catalog begins judged =
     let known = mid.pass.known in
     let longer = known ++ entry ∷ [] in
     none_later law (most_cells old.row) old.hub.catalog old.pass.known known request reply.items entry came begins

@@ -1,8 +1,9 @@
 //! A book.
 
-ghost use Rattle.std.specs.Prelude.{◌≡◌, ◌≢◌, ◌⊎◌, ◌↔◌, ◌<◌, ◌≤◌, ◌+◌, ◌∷◌, ◌++◌, [], Err, IfOk, IsFalse, IsTrue, OnErr, OnOk, length, vec_capacity, vec_len};
+ghost use Rattle.std.specs.Prelude.{◌≡◌, ◌≢◌, ◌⊎◌, ◌↔◌, ◌<◌, ◌≤◌, ◌+◌, ◌∷◌, ◌++◌, [], Err, IfOk, IsFalse, IsTrue, OnErr, OnOk, Some, length, slice_get, vec_capacity, vec_len};
+ghost use Rattle.cs_appending.specs.Appended.{AppendsEntry};
 ghost use Rattle.cs_following.specs.Standing.{Begins};
-ghost use Rattle.cs_hub.specs.Judges.{HasRoom, IsJudged, ReadsHub};
+ghost use Rattle.cs_hub.specs.Judges.{AppendsJudged, HasRoom, IsJudged, ReadsHub};
 ghost use Rattle.cs_hub.specs.Serves.{Serves};
 ghost use Rattle.cs_hub.specs.declared.follow_fault.FollowFault.TheVariants.{Device, Full, Undefined};
 ghost use Rattle.cs_hub.specs.declared.hub.TheConstants.{MAX_ENTRIES as MOST};
@@ -11,6 +12,7 @@ ghost use Rattle.cs_log.specs.declared.entry.LogEntry.{LogEntry as Entry};
 ghost use Rattle.cs_spine.specs.declared.spine.Offered.TheVariants.{Mine};
 ghost use Rattle.cs_store.specs.Calls.{MoreFailures};
 ghost use Rattle.cs_store.specs.Contents.{nothing};
+ghost use Rattle.cs_store.specs.declared.fault.StoreFault.TheVariants as stored;
 ghost use Rattle.cs_books.specs.Answers.{AnswersOn, HasTaken, IsStuckAt};
 ghost use Rattle.cs_books.specs.Books.{IsLater, most_cells};
 ghost use Rattle.cs_books.specs.Steps.{CameLater, Halts};
@@ -20,7 +22,7 @@ use cs_hub::{FollowFault, Hub, Judged, MAX_ENTRIES};
 use cs_log::LogEntry;
 use cs_opening::OpenFault;
 use cs_spine::{OfferFault, Offered, Pass, Spine};
-use cs_store::RowStore;
+use cs_store::{Batch, RowStore, StoreFault};
 use cs_value::{Catalog, Memory};
 use cs_wire::SHORT;
 use std::alloc::{AllocError, Global};
@@ -172,6 +174,7 @@ impl<'s, S: RowStore> Book<'s, S> {
         ensures reads { ReadsHub S.honest S.contents S.failed S.may_leave S.misreads self.old.hub self.new.hub }
         ensures same_reads { S.honest self.new.hub.store → S.misreads self.new.hub.store ≡ S.misreads self.old.hub.store }
         ensures room { IfOk result (HasRoom (length self.old.pass.known) (most_cells self.old.row)) }
+        ensures appends { S.honest self.new.hub.store → IfOk result (AppendsJudged self.new.hub.catalog (S.contents self.new.hub.store)) }
         ensures judged { S.honest self.new.hub.store → IfOk result (IsJudged (MoreFailures (S.failed self.old.hub.store) (S.failed self.new.hub.store))
             (most_cells self.old.row) self.old.hub.catalog self.old.pass.known request.now) }
     {
@@ -196,9 +199,32 @@ impl<'s, S: RowStore> Book<'s, S> {
         }
     }
 
+    /// Takes the next entry that it knows, which it has judged, by the batch that came with it.
+    fn take_judged(&mut self, entry: &LogEntry, batch: &Batch) -> Result<(), StoreFault>
+        requires known { slice_get self.old.pass.known self.old.hub.newest ≡ Some entry.now }
+        requires tried { S.honest self.old.hub.store → AppendsEntry self.old.hub.catalog entry.now (S.contents self.old.hub.store) batch.now }
+        ensures later { IsLater S.honest S.contents S.failed S.may_leave S.misreads self.old self.new }
+        ensures pass { self.new.pass ≡ self.old.pass }
+        ensures taken { OnOk result (self.new.hub.newest ≡ self.old.hub.newest + 1) }
+        ensures front { S.honest self.new.hub.store → HasTaken self.new.hub.catalog self.new.pass.known self.new.hub.newest }
+        ensures device { result ≡ Err stored.Device → MoreFailures (S.failed self.old.hub.store) (S.failed self.new.hub.store) }
+    {
+        match self.hub.append_judged(entry, batch) {
+            Ok(()) => Ok(()),
+            Err(fault) => Err(fault),
+        }
+    }
+
     /// Takes the entry that it has set, and answers so.
-    fn settle(&mut self, reply: Vec<u8>, room: Vec<u8>) -> Result<Vec<u8>, Memory>
-        requires known { self.old.hub.newest < length self.old.pass.known }
+    fn settle(
+        &mut self,
+        entry: &LogEntry,
+        batch: &Batch,
+        reply: Vec<u8>,
+        room: Vec<u8>,
+    ) -> Result<Vec<u8>, Memory>
+        requires known { slice_get self.old.pass.known self.old.hub.newest ≡ Some entry.now }
+        requires tried { S.honest self.old.hub.store → AppendsEntry self.old.hub.catalog entry.now (S.contents self.old.hub.store) batch.now }
         requires room { vec_len room + SHORT ≤ vec_capacity room }
         requires empty { room.items ≡ [] }
         ensures later { IsLater S.honest S.contents S.failed S.may_leave S.misreads self.old self.new }
@@ -207,9 +233,10 @@ impl<'s, S: RowStore> Book<'s, S> {
         ensures settled { IfOk result (λ answer. S.honest self.new.hub.store → ((answer.items ≡ reply.items) × (self.new.hub.newest ≡ self.old.hub.newest + 1))
             ⊎ Halts (MoreFailures (S.failed self.old.hub.store) (S.failed self.new.hub.store)) self.new.hub.catalog self.new.pass.known self.new.hub.newest answer.items) }
     {
-        match self.take_next() {
+        match self.take_judged(entry, batch) {
             Ok(()) => Ok(reply),
-            Err(fault) => refuse(fault, room),
+            Err(StoreFault::Memory) => Err(AllocError),
+            Err(StoreFault::Device) => refuse(FollowFault::Device, room),
         }
     }
 
@@ -240,11 +267,13 @@ impl<'s, S: RowStore> Book<'s, S> {
         &mut self,
         request: &[u8],
         entry: &LogEntry,
+        batch: &Batch,
         reply: Vec<u8>,
         room: Vec<u8>,
     ) -> Result<Vec<u8>, Memory>
         requires level { self.old.hub.newest ≡ length self.old.pass.known }
         requires more { length self.old.pass.known < most_cells self.old.row }
+        requires tried { S.honest self.old.hub.store → AppendsEntry self.old.hub.catalog entry.now (S.contents self.old.hub.store) batch.now }
         requires room { vec_len room + SHORT ≤ vec_capacity room }
         requires empty { room.items ≡ [] }
         requires judged { S.honest self.old.hub.store → Serves (most_cells self.old.row) (hub_of self.old.hub.catalog self.old.pass.known) request.now reply.items
@@ -256,7 +285,7 @@ impl<'s, S: RowStore> Book<'s, S> {
     {
         cs_hub::laws::served_again();
         match self.offer(entry)? {
-            Offered::Mine => self.settle(reply, room),
+            Offered::Mine => self.settle(entry, batch, reply, room),
             Offered::Other => self.answer_later(request, room),
         }
     }
@@ -285,7 +314,11 @@ impl<'s, S: RowStore> Book<'s, S> {
         }
         match self.judge(request)? {
             Judged::Reply(answer) => Ok(answer),
-            Judged::Append { entry, reply } => self.send(request, &entry, reply, room),
+            Judged::Append {
+                entry,
+                batch,
+                reply,
+            } => self.send(request, &entry, &batch, reply, room),
         }
     }
 }

@@ -16,6 +16,7 @@ use Rattle.cs_normal.specs.NormalFormOf.{IsUnfit}
 use Rattle.cs_normal.specs.declared.normal.TableChanges.{TableChanges}
 use Rattle.cs_normal.specs.declared.unfit.Unfit.{Unfit}
 use Rattle.cs_store.specs.Contents.{Contents}
+use Rattle.cs_store.specs.declared.batch.Batch.{Batch}
 use Rattle.cs_pending.specs.Calls.{ReadsStore}
 use Rattle.cs_pending.specs.Storing.{err_is}
 use Rattle.cs_log_store.specs.Shows.{ShowsLog}
@@ -124,10 +125,10 @@ module _ (device_failed : Type 0) (limit : ℕ) (opening : List TableDef) (log :
       → JudgesBytes device_failed limit (hub_of opening log) head changeset (Err refusal) → As (Ok (AsksPush head changeset)) (Reply bytes)
   not_so head changeset refusal bytes some is takes = by_outcome device_failed limit (hub_of opening log) head changeset (Err refusal) bytes.items some is takes
 
-  pub appended_so : (head : PushHead) (changeset : List ℕ) (contents : Contents) (count : ℕ) (judgement : Judgement) (entry : LogEntry) (batch : _) (reply : Vec ℕ Global)
+  pub appended_so : (head : PushHead) (changeset : List ℕ) (contents : Contents) (count : ℕ) (judgement : Judgement) (entry : LogEntry) (batch : Batch) (reply : Vec ℕ Global)
       → judgement ≡ judged.Append entry batch → reply.items ≡ answer_spelling (Short (Accepted head.origin head.number (count + 1)))
       → ShowsLog opening contents log → IsEntryToAppend opening limit count head judgement → CanBeAppended opening contents judgement
-      → JudgesBytes device_failed limit (hub_of opening log) head changeset (Ok judgement) → As (Ok (AsksPush head changeset)) (Append entry reply)
+      → JudgesBytes device_failed limit (hub_of opening log) head changeset (Ok judgement) → As (Ok (AsksPush head changeset)) (Append entry batch reply)
   appended_so head changeset contents count judgement entry batch reply is_it is shows of appends takes =
       let e = subst (IsEntryToAppend opening limit count head) is_it of in
       let a = subst (CanBeAppended opening contents) is_it appends in
@@ -151,7 +152,7 @@ module _ (device_failed : Type 0) (limit : ℕ) (opening : List TableDef) (log :
   pub asked_so : (request : List ℕ) (asked : Result Asked WireFault) (told : Judged) → ReadsRequest request asked → As asked told → IsJudged device_failed limit opening log request told
   asked_so request asked (Reply bytes) reads (inl right) = inl (asked, reads, right)
   asked_so request asked (Reply bytes) reads (inr broken) = inr broken
-  asked_so request asked (Append entry reply) reads is = (is.0, (asked, reads, is.1))
+  asked_so request asked (Append entry batch reply) reads is = (is.0, (asked, reads, is.1))
 
   pub each_so : {E : Type 0} (request : List ℕ) (asked : Result Asked WireFault) (least : ℕ) (result : Result Judged E) → limit ≡ least → ReadsRequest request asked → IfOk result (As asked)
       → IfOk result (IsJudged device_failed least opening log request)

@@ -3,6 +3,7 @@ use Rattle.std.specs.Prelude.{◌≡◌, ◌<◌, ◌≤◌, ℕ, List, ◌∷�
 use Rattle.cs_value.specs.declared.catalog.TableDef.{TableDef}
 use Rattle.cs_log.specs.declared.entry.LogEntry.{LogEntry}
 use Rattle.cs_store.specs.Contents.{Contents}
+use Rattle.cs_appending.specs.Appended.{AppendsEntry}
 use Rattle.cs_judging.specs.Judged.{hub_of}
 use Rattle.cs_hub.specs.Follows.{FitsBehind}
 use Rattle.cs_hub.specs.Holding.{Holding, Shows}
@@ -15,13 +16,18 @@ use Rattle.cs_hub.specs.declared.judged.Judged.TheVariants.{Reply, Append}
 abbrev pub IsJudged : Type 0 → ℕ → List TableDef → List LogEntry → List ℕ → Judged → Type 0
 IsJudged device_failed limit opening log request (Reply answer) =
     ServesIf device_failed limit (hub_of opening log) request answer.items (hub_of opening log)
-IsJudged device_failed limit opening log request (Append entry reply) =
+IsJudged device_failed limit opening log request (Append entry batch reply) =
     FitsBehind opening log entry × Serves limit (hub_of opening log) request reply.items (hub_of opening (log ++ entry ∷ []))
 
 -- where an entry is to be appended behind so many, there is room for it
 abbrev pub HasRoom : ℕ → ℕ → Judged → Type 0
 HasRoom count limit (Reply answer) = Unit {0}
-HasRoom count limit (Append entry reply) = count < limit
+HasRoom count limit (Append entry batch reply) = count < limit
+
+-- and a commit of its batch to these contents appends it
+abbrev pub AppendsJudged : List TableDef → Contents → Judged → Type 0
+AppendsJudged opening contents (Reply answer) = Unit {0}
+AppendsJudged opening contents (Append entry batch reply) = AppendsEntry opening entry contents batch
 
 -- the hub's store was only read, whatever was told, and the hub is as it was
 pub record ReadsHub {S : Type 0} (honest : S → Type 0) (contents : S → Contents) (failed : S → ℕ) (may_leave : S → Contents → Type 0) (misreads : S → ℕ) (old new : Holding S) : Type 0 where

@@ -80,7 +80,7 @@ IsEntryToAppend opening limit count head (judged.Append entry batch) = IsEntryOf
 abbrev pub IsJudgedAs : Type 0 → ℕ → List TableDef → List LogEntry → Result Asked WireFault → Judged → Type 0
 IsJudgedAs device_failed limit opening log asked (Reply answer) =
     AnswersAskedIf device_failed limit (hub_of opening log) asked answer.items (hub_of opening log)
-IsJudgedAs device_failed limit opening log asked (Append entry reply) =
+IsJudgedAs device_failed limit opening log asked (Append entry batch reply) =
     FitsBehind opening log entry × AnswersAsked limit (hub_of opening log) asked reply.items (with_entry (hub_of opening log) entry)
 
 -- a store was only read, whatever was told

@@ -1,7 +1,7 @@
 //! The hub over any store, and what it answers.
 
-ghost use Rattle.std.specs.Prelude.{◌≡◌, ◌↔◌, ◌+◌, ◌≤◌, ◌∷◌, ◌++◌, [], List, Some, IfErr, IfOk, IsErrOf, MatchResult, OnErr, OnOk, Ok, Err, length, min, slice_get};
-ghost use Rattle.cs_appending.specs.Appended.{IsAppendedIn};
+ghost use Rattle.std.specs.Prelude.{◌≡◌, ◌↔◌, ◌+◌, ◌<◌, ◌≤◌, ◌∷◌, ◌++◌, [], List, Some, IfErr, IfOk, IsErrOf, MatchResult, OnErr, OnOk, Ok, Err, length, min, slice_get};
+ghost use Rattle.cs_appending.specs.Appended.{AppendsEntry, IsAppendedIn};
 ghost use Rattle.cs_log.specs.Log.{state_of};
 ghost use Rattle.cs_log.specs.declared.entry.LogEntry.{LogEntry as Entry};
 ghost use Rattle.cs_log.specs.declared.entry.TheConstants.{MAX_CHANGESET};
@@ -21,7 +21,7 @@ ghost use Rattle.cs_judging.specs.declared.fault.HubFault.TheVariants.{Device};
 ghost use Rattle.cs_hub.specs.Calls.{AnswersHub, IsEntriesFault, ServesStore, StaysHub};
 ghost use Rattle.cs_hub.specs.Follows.{FitsBehind, IsFollowFault};
 ghost use Rattle.cs_hub.specs.Holding.{Shows, ShowsSome};
-ghost use Rattle.cs_hub.specs.Judges.{HasRoom, IsJudged, ReadsHub};
+ghost use Rattle.cs_hub.specs.Judges.{AppendsJudged, HasRoom, IsJudged, ReadsHub};
 ghost use Rattle.cs_hub.specs.declared.follow_fault.FollowFault.TheVariants as follow;
 ghost use Rattle.cs_hub.specs.declared.follow_fault.FollowFault.TheVariants.{Full};
 ghost use Rattle.cs_store.specs.Calls.{MoreFailures};
@@ -34,7 +34,7 @@ use crate::judging::{is_entry_of, judge_told};
 use crate::refusal::Refusal;
 use crate::serving::{pull_at, push_told, refuse};
 use crate::taking::push_counted;
-use cs_appending::append;
+use cs_appending::{append, append_tried};
 use cs_judging::{HubFault, Pushed};
 use cs_log::LogEntry;
 use cs_log_opening::open_log;
@@ -42,7 +42,7 @@ use cs_log_reading::entries_at;
 use cs_normal::Normal;
 use cs_opening::OpenFault;
 use cs_rows::{RowAtKey, rows_of};
-use cs_store::{RowStore, StoreFault};
+use cs_store::{Batch, RowStore, StoreFault};
 use cs_value::{Catalog, Memory, TableDef};
 use cs_wire::{PushHead, Request};
 use std::alloc::Global;
@@ -267,6 +267,9 @@ impl<S: RowStore> Hub<S> {
             → IfOk result (IsJudged (MoreFailures (S.failed self.old.store) (S.failed self.new.store)) (min limit MAX_ENTRIES) self.old.catalog log request.now) }
         ensures room { IfOk result (HasRoom self.old.newest (min limit MAX_ENTRIES)) }
 
+        // What is to be appended is, by a commit of the batch to what the store holds.
+        ensures appends { S.honest self.new.store → IfOk result (AppendsJudged self.new.catalog (S.contents self.new.store)) }
+
         // The store is only read, and the hub stays as it is.
         ensures reads { ReadsHub S.honest S.contents S.failed S.may_leave S.misreads self.old self.new }
     {
@@ -338,6 +341,34 @@ impl<S: RowStore> Hub<S> {
                 Ok(())
             }
             Err(fault) => Err(FollowFault::from(fault)),
+        }
+    }
+
+    /// Appends the entry of a push that was judged (`judge`), by a commit of the batch that came with it; the store still holds what it
+    /// held then. (Profile of this project.)
+    ///
+    /// # Errors
+    ///
+    /// `Memory` and `Device`. Nothing has changed then.
+    pub fn append_judged(&mut self, entry: &LogEntry, batch: &Batch) -> Result<(), StoreFault>
+        requires room { self.old.newest < MAX_ENTRIES }
+        requires tried { S.honest self.old.store → AppendsEntry self.old.catalog entry.now (S.contents self.old.store) batch.now }
+
+        // The store then shows the log with the entry, which was appended in one commit.
+        ensures appended { S.honest self.new.store → (log : List Entry) → Shows S.contents self.old log
+            → OnOk result (Shows S.contents self.new (log ++ entry.now ∷ [])) }
+        ensures writes { WritesStore S.honest S.contents S.failed S.may_leave S.misreads stored.Device (ShowsSome S.contents self.old)
+            (IsAppendedIn self.old.catalog entry.now (S.contents self.old.store)) self.old.store self.new.store result }
+        ensures catalog { self.new.catalog ≡ self.old.catalog }
+        ensures counted { OnOk result (self.new.newest ≡ self.old.newest + 1) }
+        ensures kept { OnErr result (self.new.newest ≡ self.old.newest) }
+    {
+        match append_tried(&mut self.store, &self.catalog, entry, batch) {
+            Ok(()) => {
+                self.newest += 1;
+                Ok(())
+            }
+            Err(fault) => Err(fault),
         }
     }
 

@@ -1,12 +1,17 @@
 //! A request that was judged.
 
 use cs_log::LogEntry;
+use cs_store::Batch;
 
 /// What a request is to be answered. (Profile of this project.)
 #[derive(Drop)]
 pub enum Judged {
     /// These bytes; nothing changes.
     Reply(Vec<u8>),
-    /// The entry is to be appended, and then it is this reply.
-    Append { entry: LogEntry, reply: Vec<u8> },
+    /// The entry is to be appended, by a commit of this batch, and then it is this reply.
+    Append {
+        entry: LogEntry,
+        batch: Batch,
+        reply: Vec<u8>,
+    },
 }

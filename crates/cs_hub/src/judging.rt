@@ -11,7 +11,7 @@ ghost use Rattle.cs_judging.specs.Judged.{CanBeAppended, ShowsLogOf, hub_of};
 ghost use Rattle.cs_judging.specs.declared.fault.HubFault.TheVariants.{Device};
 ghost use Rattle.cs_wire.specs.Requests.{AsksPush};
 ghost use Rattle.cs_wire.specs.Answers.{answer_spelling};
-ghost use Rattle.cs_hub.specs.Judges.{HasRoom};
+ghost use Rattle.cs_hub.specs.Judges.{AppendsJudged, HasRoom};
 ghost use Rattle.cs_hub.specs.Serves.{push_answer};
 ghost use Rattle.cs_hub.specs.Steps.{IsEntryToAppend, IsJudgedAs, JudgesBytes, LooksAt};
 ghost use Rattle.cs_hub.specs.declared.refusal.Refusal.TheVariants.{ByHub, Memory};
@@ -100,15 +100,20 @@ pub(crate) fn judge_told<S: RowStore>(
     requires { length changeset.now ≤ MAX_CHANGESET }
     ensures looks { LooksAt S.honest S.contents S.failed S.may_leave S.misreads (ShowsLogOf catalog.now newest (S.contents store.old)) store.old store.new }
     ensures room { IfOk result (HasRoom newest limit) }
+    ensures appends { S.honest store.new → IfOk result (AppendsJudged catalog.now (S.contents store.old)) }
     ensures judged { S.honest store.new → (log : List Entry) → ShowsLog catalog.now (S.contents store.old) log → newest ≡ length log
         → IfOk result (IsJudgedAs (MoreFailures (S.failed store.old) (S.failed store.new)) limit catalog.now log (Ok (AsksPush head changeset.now))) }
 {
     let room = Vec::with_capacity(alloc, SHORT)?;
     match judge_bytes(alloc, store, catalog, newest, limit, head, changeset) {
-        Ok(Judgement::Append { entry, .. }) => {
+        Ok(Judgement::Append { entry, batch }) => {
             let mut reply = room;
             ShortAnswer::accepted(head, newest as u64 + 1).put(&mut reply);
-            Ok(Judged::Append { entry, reply })
+            Ok(Judged::Append {
+                entry,
+                batch,
+                reply,
+            })
         }
         Ok(Judgement::Told(pushed)) => Ok(Judged::Reply(tell(head, &Ok(pushed), room)?)),
         Err(refusal) => Ok(Judged::Reply(tell(head, &Err(refusal), room)?)),

@@ -19,7 +19,7 @@ returns-in-Append-clause-served g c =
     if_ok c.refuse-in-Append.result _ _
     (λ answer told h.
     let was = c.judge.ensures.reads.was_honest h in
-    absurd (cant_append c.appends_at_end.ensures c.args.self.now c.catch_up.new.self c.args.request.now device c.in-Append.entry c.in-Append.reply (c.requires.later (c.catch_up.ensures.later.was_honest was))
+    absurd (cant_append c.appends_at_end.ensures c.args.self.now c.catch_up.new.self c.args.request.now device c.in-Append.entry c.in-Append.batch c.in-Append.reply (c.requires.later (c.catch_up.ensures.later.was_honest was))
     c.catch_up.ensures.later.row c.catch_up.ensures.later.catalog c.catch_up.ensures.later.begins
     (subst (λ (j : Judged). IsJudged device (most_cells c.catch_up.new.self.row) c.catch_up.new.self.hub.catalog c.catch_up.new.self.pass.known c.args.request.now j) c.in-Append.is (c.in_ok-answer.ensures.judged h))))
     c.refuse-in-Append.ensures

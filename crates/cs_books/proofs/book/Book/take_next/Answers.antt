@@ -1,6 +1,7 @@
 use Rattle.std.proofs.Common.{◌≡◌, Some, slice_get}
 use Rattle.cs_books.specs.Books.{BookState}
-use Rattle.cs_books.proofs.Goes.{book_again, goes_on, has_taken}
+use Rattle.cs_hub.specs.declared.follow_fault.FollowFault.TheVariants.{Device}
+use Rattle.cs_books.proofs.Goes.{book_again, goes_on, has_taken, shown_of}
 use Rattle.cs_books.proofs.book.Book.take_next.Goals as goal
 
 pub invariant_of-self : goal.invariant_of-self
@@ -8,7 +9,9 @@ invariant_of-self g c =
     let here : slice_get c.self.inside.pass.known c.self.inside.hub.newest ≡ Some c.entry-entry.result.now = rw c.newest.ensures at c.entry-entry.ensures in
     let book : BookState g.row.S.Denot = record { row = c.self.inside.spine.now; hub = c.self.inside.hub; pass = c.self.inside.pass } in
     book_again g.S.RowStore.honest g.S.RowStore.contents g.S.RowStore.failed g.S.RowStore.may_leave g.S.RowStore.misreads book c.self.invariant c.entry-entry.result.now here c.follow.new.self c.follow.ensures.catalog
-    c.follow.result c.follow.ensures.writes c.follow.ensures.counted c.follow.ensures.kept c.follow.ensures.followed
+    Device c.follow.result c.follow.ensures.writes c.follow.ensures.counted c.follow.ensures.kept
+    (shown_of g.S.RowStore.honest g.S.RowStore.contents g.S.RowStore.failed g.S.RowStore.may_leave g.S.RowStore.misreads book c.self.invariant c.entry-entry.result.now here c.follow.new.self c.follow.ensures.catalog
+    c.follow.result c.follow.ensures.followed)
 
 pub returns-clause-later : goal.returns-clause-later
 returns-clause-later g c =
@@ -16,7 +19,7 @@ returns-clause-later g c =
     let book : BookState g.row.S.Denot = record { row = c.self.inside.spine.now; hub = c.self.inside.hub; pass = c.self.inside.pass } in
     rw (← c.self.view_is)
     (goes_on g.S.RowStore.honest g.S.RowStore.contents g.S.RowStore.failed g.S.RowStore.may_leave g.S.RowStore.misreads book c.self.invariant c.entry-entry.result.now here c.follow.new.self c.follow.ensures.catalog
-    c.follow.result c.follow.ensures.writes c.follow.ensures.counted c.follow.ensures.kept)
+    Device c.follow.result c.follow.ensures.writes c.follow.ensures.counted c.follow.ensures.kept)
 
 pub returns-clause-front : goal.returns-clause-front
 returns-clause-front g c =
@@ -24,4 +27,6 @@ returns-clause-front g c =
     let book : BookState g.row.S.Denot = record { row = c.self.inside.spine.now; hub = c.self.inside.hub; pass = c.self.inside.pass } in
     has_taken g.S.RowStore.honest g.S.RowStore.contents g.S.RowStore.failed g.S.RowStore.may_leave g.S.RowStore.misreads (record { row = c.self.inside.spine.now; hub = c.follow.new.self; pass = c.self.inside.pass })
     (book_again g.S.RowStore.honest g.S.RowStore.contents g.S.RowStore.failed g.S.RowStore.may_leave g.S.RowStore.misreads book c.self.invariant c.entry-entry.result.now here c.follow.new.self c.follow.ensures.catalog
-    c.follow.result c.follow.ensures.writes c.follow.ensures.counted c.follow.ensures.kept c.follow.ensures.followed)
+    Device c.follow.result c.follow.ensures.writes c.follow.ensures.counted c.follow.ensures.kept
+    (shown_of g.S.RowStore.honest g.S.RowStore.contents g.S.RowStore.failed g.S.RowStore.may_leave g.S.RowStore.misreads book c.self.invariant c.entry-entry.result.now here c.follow.new.self c.follow.ensures.catalog
+    c.follow.result c.follow.ensures.followed))
