@@ -4,4 +4,5 @@ pub mod Readied
 pub mod Sent
 pub mod Meeting
 pub mod OneKnown
+pub mod OneSent
 pub mod KnownSome

@@ -19,11 +19,12 @@ use Rattle.cs_position.specs.Shows.{ShowsAt}
 use Rattle.cs_position.specs.declared.position.Position.{Position}
 use Rattle.cs_pulling.specs.Pulls.{IsPulledIn}
 use Rattle.cs_pushing.specs.Pushes.{HasNothing, IsPushMadeIn, grounded, pushed}
+use Rattle.cs_replica.specs.Flight.{flight_entry}
 use Rattle.cs_taking.specs.Takes.{taken}
 use Rattle.cs_following.specs.Pulls.{IsTakeFault}
-use Rattle.cs_following.specs.Pushes.{IsReadied, IsSent, IsSentAmong, PushesOn, flight_entry}
+use Rattle.cs_following.specs.Pushes.{IsNotOffered, IsReadied, IsReadyFault, IsSent, IsSentAmong, PushesOn}
 use Rattle.cs_following.specs.declared.fault.NodeFault.{NodeFault}
-use Rattle.cs_following.specs.declared.fault.NodeFault.TheVariants.{Memory, Full}
+use Rattle.cs_following.specs.declared.fault.NodeFault.TheVariants.{BadEntry, Device, Full, Memory, Spent, Stopped, TooLarge}
 use Rattle.cs_following.specs.declared.pushed.NodePush.TheVariants.{Accepted, Other}
 
 -- the entry behind a list
@@ -43,20 +44,39 @@ module _ {P : Type 0} (picks : P → Clash → Wish → P → Type 0) (tables : 
     view = view;
     held = inr ready;
     shows = shows;
-    told = inl (same, refl);
+    told = inl (tt, same, refl);
   }
 
-  pub full_sent : (cells : ℕ) (other : Position) (new : Contents) (learned : List LogEntry) → IsReadied tables position before true other new → length known ≡ cells → learned ≡ known
+  pub full_sent : (cells : ℕ) (other : Position) (new : Contents) (learned : List LogEntry) → IsReadied tables position before true other new → position.version ≡ length known → length known ≡ cells → learned ≡ known
       → PushesOn picks tables known position before p cells (Err Full) learned other new p
-  full_sent cells other new learned (view, shows, ready) full same = record {
+  full_sent cells other new learned (view, shows, ready) at_end full same = record {
     view = view;
     held = inr ready;
     shows = shows;
-    told = inl (full, same, refl);
+    told = inl ((at_end, full, ready), same, refl);
   }
 
+  -- none was made
+  pub not_made : (cells : ℕ) (fault : NodeFault) (other : Position) (new : Contents) → position.version ≡ length known → other ≡ position → IsReadyFault fault tables position before → ShowsAt tables new other before
+      → PushesOn picks tables known position before p cells (Err fault) known other new p
+  not_made cells fault other new at_end same is shows = record {
+    view = before;
+    held = inl (same, refl);
+    shows = shows;
+    told = inl (why fault is, refl, refl);
+  }
+    where
+      why : (fault : NodeFault) → IsReadyFault fault tables position before → IsNotOffered picks tables known position before p cells fault other before
+      why Memory is = tt
+      why Device is = tt
+      why Spent is = record { at_end = at_end; fault_is = is; position_is = same; view_is = refl }
+      why TooLarge is = record { at_end = at_end; fault_is = is; position_is = same; view_is = refl }
+      why BadEntry is = absurd is
+      why (Stopped conflict) is = absurd is
+      why Full is = absurd is
+
   module _ (cells : ℕ) (ready : Position) (mid : Contents) (readied : IsReadied tables position before true ready mid) (learned : List LogEntry) (held : LogEntry) (holds : learned ≡ known ++ held ∷ [])
-      (entry : LogEntry) (at : slice_get learned (length known) ≡ Some entry) (q : P) where
+      (entry : LogEntry) (at : slice_get learned (length known) ≡ Some entry) (at_end : position.version ≡ length known) (q : P) where
     it_holds : learned ≡ known ++ entry ∷ []
     it_holds = holds ∙ ap (λ (e : LogEntry). known ++ e ∷ []) (sym (held_is known learned held entry holds at))
 
@@ -69,11 +89,11 @@ module _ {P : Type 0} (picks : P → Clash → Wish → P → Type 0) (tables : 
           view = readied.0;
           held = inr readied.2;
           shows = subst (λ (c : Contents). ShowsAt tables c ready readied.0) (sym same) readied.1;
-          told = inr (record { entry = entry; holds = it_holds; told = told readied.0 readied.1 });
+          told = inr (record { at_end = at_end; readied = readied.2; entry = entry; holds = it_holds; told = told readied.0 readied.1 });
         })
 
     -- it was
-    module _ (other : Position) (new : Contents) (mine : LogEntry) (flight : flight_entry ready ≡ Some mine) (at_end : position.version ≡ length known)
+    module _ (other : Position) (new : Contents) (mine : LogEntry) (flight : flight_entry ready ≡ Some mine)
         (defined : IsDefinedOn tables (entry_changes mine) (tables_at known position.version))
         (pulled : IsPulledIn picks tables ready entry p q mid new) (moved : other ≡ taken ready other.pending) (counted : other.pending ≡ len new.pending) where
       is_sent : IsSent picks tables known position before p entry mine learned other new q

@@ -15,9 +15,10 @@ use Rattle.cs_position.specs.declared.position.Position.{Position}
 use Rattle.cs_replica.specs.Holding.{Holding}
 use Rattle.cs_taking.specs.Laws.{AnswersLawfully, PicksOnce}
 use Rattle.cs_following.specs.Pulls.{PullsAll}
-use Rattle.cs_following.specs.Pushes.{IsAtRest}
+use Rattle.cs_following.specs.Pushes.{IsAtRest, PushesOn}
 use Rattle.cs_following.specs.Standing.{Begins, StandsIn, StandsWhereHonest}
 use Rattle.cs_following.specs.declared.fault.NodeFault.{NodeFault}
+use Rattle.cs_following.specs.declared.pushed.NodePush.{NodePush}
 use Rattle.cs_following.specs.declared.fault.NodeFault.TheVariants.{Memory, Device, BadEntry, Stopped, Full, Spent, TooLarge}
 
 -- a replica at version 0 with no row and nothing pending or under way stands on whatever is known
@@ -100,3 +101,26 @@ module _ {P : Type 0} (picks : P → Clash → Wish → P → Type 0) where
       → is_ready p
       → (result : Result ℕ NodeFault) × (other : Position) × (new : Contents) × (q : P) × IsOfEntries result
       × PullsAll picks tables known result position before p other new q
+
+-- ---- pushes
+
+-- a result that says something of the push and of the cells
+abbrev pub IsOfOffer : Result NodePush NodeFault → Type 0
+IsOfOffer (Ok told) = Unit {0}
+IsOfOffer (Err fault) = IsOfEntries (Err fault)
+
+-- by a picker that answers each clash once, a push has one outcome, given what is known as it ends: of the cell that it is offered for,
+-- its entry. It leaves one position, one thing in the store, and one state of the picker
+abbrev pub OneKnownPush : {P : Type 0} → (P → Clash → Wish → P → Type 0) → Type 0
+OneKnownPush {P} picks =
+    (tables : List TableDef) (known learned : List LogEntry) (cells : ℕ) (old new last : Contents) (position here there : Position) (before : View)
+    (some other : Result NodePush NodeFault) (p q r : P)
+    → AreTables tables
+    → AreNormal learned
+    → PicksOnce picks
+    → ShowsAt tables old position before
+    → IsOfOffer some
+    → IsOfOffer other
+    → PushesOn picks tables known position before p cells some learned here new q
+    → PushesOn picks tables known position before p cells other learned there last r
+    → (some ≡ other) × (here ≡ there) × (new ≡ last) × (q ≡ r)

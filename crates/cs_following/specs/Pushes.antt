@@ -1,12 +1,11 @@
 -- How a replica pushes through a row of cells that are set once (profile of this project).
-use Rattle.std.specs.Prelude.{◌≡◌, ◌≢◌, ◌⊎◌, ◌<◌, ℕ, Bool, true, false, List, [], ◌∷◌, ◌++◌, length, Option, Some, None, IsSome, Result, Ok, Err}
+use Rattle.std.specs.Prelude.{◌≡◌, ◌≢◌, ◌⊎◌, ◌<◌, ℕ, Bool, true, false, List, [], ◌∷◌, ◌++◌, length, Some, None, IsSome, Result, Ok, Err}
 use Rattle.cs_value.specs.Catalog.{AreTables}
 use Rattle.cs_value.specs.declared.catalog.TableDef.{TableDef}
 use Rattle.cs_normal.specs.State.{IsDefinedOn}
 use Rattle.cs_normal.specs.declared.normal.TableChanges.{TableChanges}
 use Rattle.cs_log.specs.Entry.{entry_changes}
 use Rattle.cs_log.specs.Log.{tables_at}
-use Rattle.cs_log.specs.declared.body.Body.TheVariants.{Changes}
 use Rattle.cs_log.specs.declared.entry.LogEntry.{LogEntry}
 use Rattle.cs_store.specs.Contents.{Contents}
 use Rattle.cs_conflict.specs.declared.clash.Clash.{Clash}
@@ -17,6 +16,7 @@ use Rattle.cs_position.specs.declared.position.Position.{Position}
 use Rattle.cs_pulling.specs.Pulls.{PullsOne}
 use Rattle.cs_pushing.specs.Pushes.{HasNothing, IsPushFault, IsPushMade, grounded, pushed}
 use Rattle.cs_pushing.specs.declared.fault.PushFault.TheVariants as push
+use Rattle.cs_replica.specs.Flight.{flight_entry}
 use Rattle.cs_taking.specs.Takes.{taken}
 use Rattle.cs_following.specs.Pulls.{IsTakeFault}
 use Rattle.cs_following.specs.declared.fault.NodeFault.{NodeFault}
@@ -29,15 +29,6 @@ use Rattle.cs_following.specs.declared.pushed.NodePush.TheVariants.{Nothing, Beh
 -- nothing is pending and no push is under way
 abbrev pub IsAtRest : Position → Type 0
 IsAtRest position = (position.flight ≡ None) × (position.pending ≡ 0)
-
--- the entry that changes under way would be
-abbrev pub entry_under_way : ℕ → ℕ → Option (List TableChanges) → Option LogEntry
-entry_under_way id number None = None
-entry_under_way id number (Some changes) = Some (record { origin = id; number = number; body = Changes changes })
-
--- the push that is under way, as the entry that it would be
-abbrev pub flight_entry : Position → Option LogEntry
-flight_entry position = entry_under_way position.id position.number position.flight
 
 -- a push is under way: it was so before, or it was made of what is pending
 abbrev pub IsReady : List TableDef → Position → View → Position → View → Type 0
@@ -99,28 +90,38 @@ module _ {P : Type 0} (picks : P → Clash → Wish → P → Type 0) (tables : 
   abbrev pub IsHeld : Position → View → Type 0
   IsHeld ready view = ((ready ≡ position) × (view ≡ before)) ⊎ IsReady tables position before ready view
 
-  -- a push that failed after the cell was known: its entry wasn't pulled
+  -- a push that failed after it was offered: the entry of the cell wasn't pulled
   pub record IsNotTaken (fault : NodeFault) (learned : List LogEntry) (ready : Position) (view : View) (q : P) : Type 0 where
+    pub at_end : position.version ≡ length known
+    pub readied : IsReady tables position before ready view
     pub entry : LogEntry
     pub holds : learned ≡ known ++ entry ∷ []
     pub told : IsTakeFault picks tables fault ready entry view p q
 
-  -- or before
-  abbrev pub IsNotOffered : ℕ → NodeFault → List LogEntry → P → Type 0
-  IsNotOffered cells Memory learned q = (learned ≡ known) × (q ≡ p)
-  IsNotOffered cells Device learned q = (learned ≡ known) × (q ≡ p)
-  IsNotOffered cells BadEntry learned q = ⊥
-  IsNotOffered cells (Stopped conflict) learned q = ⊥
-  IsNotOffered cells Full learned q = (length known ≡ cells) × (learned ≡ known) × (q ≡ p)
-  IsNotOffered cells Spent learned q = IsPushFault push.Spent tables position before × (learned ≡ known) × (q ≡ p)
-  IsNotOffered cells TooLarge learned q = IsPushFault push.TooLarge tables position before × (learned ≡ known) × (q ≡ p)
+  -- no push is made of what is pending behind all that is known, and this is why
+  pub record IsNotMade (fault : _) (ready : Position) (view : View) : Type 0 where
+    pub at_end : position.version ≡ length known
+    pub fault_is : IsPushFault fault tables position before
+    pub position_is : ready ≡ position
+    pub view_is : view ≡ before
+
+  -- or before: where no cell is left, a push is under way
+  abbrev pub IsNotOffered : ℕ → NodeFault → Position → View → Type 0
+  IsNotOffered cells Memory ready view = Unit {0}
+  IsNotOffered cells Device ready view = Unit {0}
+  IsNotOffered cells BadEntry ready view = ⊥
+  IsNotOffered cells (Stopped conflict) ready view = ⊥
+  IsNotOffered cells Full ready view =
+      (position.version ≡ length known) × (length known ≡ cells) × IsReady tables position before ready view
+  IsNotOffered cells Spent ready view = IsNotMade push.Spent ready view
+  IsNotOffered cells TooLarge ready view = IsNotMade push.TooLarge ready view
 
   -- what is left of a push that failed: the last step, or both, stay out
   pub record IsNotPushed (cells : ℕ) (fault : NodeFault) (learned : List LogEntry) (other : Position) (new : Contents) (q : P) : Type 0 where
     pub view : View
     pub held : IsHeld other view
     pub shows : ShowsAt tables new other view
-    pub told : IsNotOffered cells fault learned q ⊎ IsNotTaken fault learned other view q
+    pub told : (IsNotOffered cells fault other view × (learned ≡ known) × (q ≡ p)) ⊎ IsNotTaken fault learned other view q
 
   -- what became of a push on a row of so many cells
   abbrev pub PushesOn : ℕ → Result NodePush NodeFault → List LogEntry → Position → Contents → P → Type 0

@@ -1,6 +1,6 @@
 //! The laws of replicas that stand on what is known, each the contract of a function that does nothing.
 
-ghost use Rattle.cs_following.specs.Laws.{EqualWhereMet, FreshStands, KnownPullHasResult, OneKnownPull, StandsWider};
+ghost use Rattle.cs_following.specs.Laws.{EqualWhereMet, FreshStands, KnownPullHasResult, OneKnownPull, OneKnownPush, StandsWider};
 
 use cs_conflict::Picker;
 use cs_store::RowStore;
@@ -44,4 +44,17 @@ pub fn known_pull_has_result<P: Picker>()
     ensures { KnownPullHasResult P.picks P.is_ready }
 {
     cs_pulling::laws::pulled_or_refused::<P>();
+}
+
+/// Where a picker has one answer to each clash, a push has one outcome, given the entry of the cell that it is offered for, and leaves one
+/// position, one thing in the store, and one state of the picker.
+pub fn one_known_push<P: Picker>()
+    ensures { OneKnownPush P.picks }
+{
+    cs_pending::laws::one_view();
+    cs_taking::laws::one_contents();
+    cs_taking::laws::one_stop_taking::<P>();
+    cs_pulling::laws::one_pull::<P>();
+    cs_pulling::laws::one_pull_fault::<P>();
+    cs_pushing::laws::one_push();
 }

@@ -21,7 +21,7 @@ pub use editing::edit_row;
 pub use fault::NodeFault;
 pub use pulling::pull_known;
 pub use pushed::NodePush;
-pub use readying::{flight_entry, is_at_rest};
+pub use readying::is_at_rest;
 pub use rows::rows_of;
 pub use seeing::see_all;
 pub use sending::push_known;

@@ -11,17 +11,18 @@ ghost use Rattle.cs_pulling.specs.Calls.{WritesInTurn};
 ghost use Rattle.cs_pushing.specs.Pushes.{IsPushMadeIn};
 ghost use Rattle.cs_replica.specs.Holding.{Shows};
 ghost use Rattle.cs_following.specs.Faults.{told_of_push};
-ghost use Rattle.cs_following.specs.Pushes.{IsAtRest, IsReadied, IsReadyFault, flight_entry as entry_of};
+ghost use Rattle.cs_following.specs.Pushes.{IsAtRest, IsReadied, IsReadyFault};
+ghost use Rattle.cs_replica.specs.Flight.{flight_entry as entry_of};
 ghost use Rattle.cs_following.specs.Standing.{StandsWhereHonest};
 ghost use Rattle.cs_value.specs.Catalog.{AreTables};
-ghost use Rattle.cs_following.specs.declared.fault.NodeFault.TheVariants.{Memory, BadEntry, Device, Full};
+ghost use Rattle.cs_following.specs.declared.fault.NodeFault.TheVariants.{Device, Full};
 
 use crate::fault::{NodeFault, push_fault};
-use cs_log::{Body, LogEntry};
+use cs_log::LogEntry;
 use cs_pushing::PushFault;
 use cs_replica::Replica;
 use cs_store::RowStore;
-use cs_wire::RequestBuf;
+use cs_value::Memory;
 use std::alloc::Global;
 
 /// Whether nothing is pending and no push is under way. It takes no memory. (Profile of this project.)
@@ -31,42 +32,24 @@ pub fn is_at_rest<S: RowStore>(replica: &Replica<S>) -> bool
     replica.in_flight().is_none() && replica.pending_len() == 0
 }
 
-/// The push that is under way, as the entry that it would be; `None` where none is. (Profile of this project.)
-///
-/// # Errors
-///
-/// `Memory`; `TooLarge` where it has more bytes than a push may have, which no push of an honest store has.
-pub fn flight_entry<S: RowStore>(
+/// The push that is under way, as the entry that it would be; `None` where none is.
+pub(crate) fn flight_entry<S: RowStore>(
     alloc: Global,
     replica: &Replica<S>,
-) -> Result<Option<LogEntry>, NodeFault>
+) -> Result<Option<LogEntry>, Memory>
     ensures entry { IfOk result (λ entry. entry ≡ entry_of replica.now.position) }
 
     // It is defined on the tables at the version of what the replica stands on.
     ensures defined { (known : List Entry) → StandsWhereHonest S.honest S.contents known replica.now → S.honest replica.now.store
         → IfOk result (λ found. IfSome found (λ entry. IsDefinedOn replica.now.catalog (entry_changes entry) (tables_at known replica.now.position.version))) }
-    ensures refused { S.honest replica.now.store → IfErr result (λ fault. fault ≡ Memory) }
-    ensures device { (result ≢ Err Device) × (result ≢ Err Full) × (result ≢ Err BadEntry) }
 {
     cs_replica::laws::flight_fits();
     cs_normal::laws::defined_is_applied();
     replica.shown();
-    let Some(changes) = replica.in_flight() else {
+    if replica.in_flight().is_none() {
         return Ok(None);
-    };
-    let request = match replica.resend(alloc) {
-        Ok(request) => request,
-        Err(fault) => return Err(push_fault(fault)),
-    };
-    let RequestBuf::Push { head, .. } = request else {
-        return Ok(None);
-    };
-    let changes = changes.copy(alloc)?;
-    Ok(Some(LogEntry {
-        origin: head.origin,
-        number: head.number,
-        body: Body::Changes(changes),
-    }))
+    }
+    replica.flight_entry(alloc)
 }
 
 /// What is told where no push was made: that there is nothing to push, or the fault.

@@ -66,7 +66,7 @@ fn send<'s, S: RowStore, P: Picker>(
     replica.shown();
     let found = match flight_entry(alloc, replica) {
         Ok(found) => found,
-        Err(fault) => return Err(fault),
+        Err(_) => return Err(NodeFault::Memory),
     };
     let Some(mine) = found else {
         return Ok(NodePush::Nothing);

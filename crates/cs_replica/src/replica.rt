@@ -22,6 +22,7 @@ ghost use Rattle.cs_pulling.specs.Pulls.{IsPullFault, IsPulledIn};
 ghost use Rattle.cs_pulling.specs.declared.fault.PullFault.TheVariants as pull;
 ghost use Rattle.cs_replica.specs.Answered.{Answers, IsAnsweredAmong, IsDone, SaysDevice};
 ghost use Rattle.cs_replica.specs.Edited.{IsEditedIn, with_pending};
+ghost use Rattle.cs_replica.specs.Flight.{flight_entry};
 ghost use Rattle.cs_replica.specs.Holding.{Shows};
 ghost use Rattle.cs_replica.specs.Opened.{Opens, Reopens};
 
@@ -31,7 +32,7 @@ use crate::opening::reopen_at;
 use crate::showing::{gather_at, rows_at};
 use crate::told::Told;
 use cs_conflict::Picker;
-use cs_log::LogEntry;
+use cs_log::{Body, LogEntry};
 use cs_moving::open_store;
 use cs_normal::Normal;
 use cs_opening::OpenFault;
@@ -42,7 +43,7 @@ use cs_pulling::{AnswerFault, PullFault, take_entry};
 use cs_pushing::{PushFault, make_push, resend};
 use cs_rows::RowAtKey;
 use cs_store::{RowStore, StoreFault};
-use cs_value::{Catalog, Field, Key, Row};
+use cs_value::{Catalog, Field, Key, Memory, Row};
 use cs_wire::{Answer, RequestBuf};
 use std::alloc::Global;
 use std::marker::Model;
@@ -311,6 +312,27 @@ impl<S: RowStore> Replica<S> {
         ensures refused { IfErr result (λ fault. IsResendFault fault self.now.position) }
     {
         resend(alloc, &self.position)
+    }
+
+    /// The push that is under way, as the entry of the log that it would be; `None` where none is. (Profile of this project.)
+    ///
+    /// # Errors
+    ///
+    /// `Memory`.
+    pub fn flight_entry(&self, alloc: Global) -> Result<Option<LogEntry>, Memory>
+        ensures { IfOk result (λ entry. entry ≡ flight_entry self.now.position) }
+    {
+        match &self.position.flight {
+            Some(changes) => {
+                let changes = changes.copy(alloc)?;
+                Ok(Some(LogEntry {
+                    origin: self.position.id,
+                    number: self.position.number,
+                    body: Body::Changes(changes),
+                }))
+            }
+            None => Ok(None),
+        }
     }
 
     /// Takes the entry of the hub's log that is told at an index: where it is the push that is under way, that is confirmed; of

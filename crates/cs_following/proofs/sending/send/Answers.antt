@@ -8,15 +8,16 @@ use Rattle.cs_log.specs.declared.entry.LogEntry.{LogEntry}
 use Rattle.cs_pending.specs.View.{View}
 use Rattle.cs_position.specs.Shows.{ShowsAt}
 use Rattle.cs_pulling.specs.Pulls.{IsPulledIn}
+use Rattle.cs_replica.specs.Flight.{flight_entry}
 use Rattle.cs_spine.specs.Known.{Known}
 use Rattle.cs_spine.specs.declared.fault.OfferFault.{OfferFault}
 use Rattle.cs_spine.specs.declared.spine.Offered.TheVariants.{Mine, Other}
 use Rattle.cs_following.specs.InTurn.{one_failed, one_more, turned_early, turned_on, all_well}
 use Rattle.cs_following.specs.Pulls.{IsTakeFault}
-use Rattle.cs_following.specs.Pushes.{IsReadied, flight_entry}
+use Rattle.cs_following.specs.Pushes.{IsReadied}
 use Rattle.cs_following.specs.declared.fault.NodeFault.{NodeFault}
 use Rattle.cs_following.specs.declared.fault.NodeFault.TheVariants.{Device, BadEntry}
-use Rattle.cs_following.proofs.Sent.{full_sent, made_leaves, memory_sent, mine_sent, other_sent, stopped_sent, taken_leaves}
+use Rattle.cs_following.proofs.Sent.{full_sent, made_leaves, memory_sent, mine_sent, not_made, other_sent, stopped_sent, taken_leaves}
 use Rattle.cs_following.proofs.Stood.{stands_longer}
 use Rattle.cs_following.proofs.sending.send.Goals as goal
 
@@ -33,7 +34,7 @@ returns-then-not-ready-clause-writes g c =
 pub returns-in-Err-flight_entry-clause-writes : goal.returns-in-Err-flight_entry-clause-writes
 returns-in-Err-flight_entry-clause-writes g c =
     turned_early g.S.RowStore.honest g.S.RowStore.contents g.S.RowStore.failed g.S.RowStore.may_leave g.S.RowStore.misreads _ _ _ c.args.replica.now.store c.make_ready.new.replica.store (made_leaves g.P.Picker.picks c.args.replica.now.catalog c.args.replica.now.position (g.S.RowStore.contents c.args.replica.now.store) c.args.picker.now)
-    _ _ c.in-Ok.ensures.writes _ _ (λ d. d) (λ t. absurd (c.in-Err-flight_entry.ensures.device.0 (let e : c.in-Err-flight_entry.fault ≡ Device = (let i = t in cc) in ap (λ (f : NodeFault). Err f) e)))
+    _ _ c.in-Ok.ensures.writes _ _ (λ d. d) (λ t. absurd (let i = t in cc))
 
 pub returns-in_default-clause-writes : goal.returns-in_default-clause-writes
 returns-in_default-clause-writes g c =
@@ -54,7 +55,7 @@ pub returns-in-Err-Full-clause-pushed : goal.returns-in-Err-Full-clause-pushed
 returns-in-Err-Full-clause-pushed g c = λ h stands before shows.
     let s = stands (c.in-Ok.ensures.writes.was_honest h) in
     let ready = subst (λ (b : Bool). IsReadied c.args.replica.now.catalog c.args.replica.now.position before b c.make_ready.new.replica.position (g.S.RowStore.contents c.make_ready.new.replica.store)) c.if-not-ready.false (c.in-Ok.ensures.readied h s.2.of_catalog before shows) in
-    full_sent g.P.Picker.picks c.args.replica.now.catalog c.args.pass.now.known c.args.replica.now.position before c.args.picker.now c.args.spine.now.cap c.make_ready.new.replica.position (g.S.RowStore.contents c.make_ready.new.replica.store) c.offer.new.pass.known ready (c.in-Err-Full.ensures.full.0 (ap (λ (f : OfferFault). Err f) c.in-Err-Full.field-0-is)) (ap (λ (k : Known). k.known) c.in-Err-Full.ensures.refused)
+    full_sent g.P.Picker.picks c.args.replica.now.catalog c.args.pass.now.known c.args.replica.now.position before c.args.picker.now c.args.spine.now.cap c.make_ready.new.replica.position (g.S.RowStore.contents c.make_ready.new.replica.store) c.offer.new.pass.known ready c.requires.level (c.in-Err-Full.ensures.full.0 (ap (λ (f : OfferFault). Err f) c.in-Err-Full.field-0-is)) (ap (λ (k : Known). k.known) c.in-Err-Full.ensures.refused)
 
 pub returns-in-Err-Memory-clause-pushed : goal.returns-in-Err-Memory-clause-pushed
 returns-in-Err-Memory-clause-pushed g c = λ h stands before shows.
@@ -69,7 +70,7 @@ returns-in-Err-take_standing-clause-pushed g c = λ h stands before shows.
     let ready = subst (λ (b : Bool). IsReadied c.args.replica.now.catalog c.args.replica.now.position before b c.make_ready.new.replica.position (g.S.RowStore.contents c.make_ready.new.replica.store)) c.if-not-ready.false (c.in-Ok.ensures.readied h' s.2.of_catalog before shows) in
     let held = c.in-Ok-offer.ensures.learned in
     let at : slice_get c.offer.new.pass.known (length c.args.pass.now.known) ≡ Some c.entry.result.now = rw c.len-at.ensures.len at c.entry.ensures in
-    stopped_sent g.P.Picker.picks c.args.replica.now.catalog c.args.pass.now.known c.args.replica.now.position before c.args.picker.now c.args.spine.now.cap c.make_ready.new.replica.position (g.S.RowStore.contents c.make_ready.new.replica.store) ready c.offer.new.pass.known held.0 held.1 c.entry.result.now at c.take_standing.new.picker
+    stopped_sent g.P.Picker.picks c.args.replica.now.catalog c.args.pass.now.known c.args.replica.now.position before c.args.picker.now c.args.spine.now.cap c.make_ready.new.replica.position (g.S.RowStore.contents c.make_ready.new.replica.store) ready c.offer.new.pass.known held.0 held.1 c.entry.result.now at c.requires.level c.take_standing.new.picker
     c.in-Err-take_standing.fault c.take_standing.new.replica.position (g.S.RowStore.contents c.take_standing.new.replica.store) (c.in-Err-take_standing.ensures.writes.err h) c.in-Err-take_standing.ensures.kept
     (subst (λ (t : List TableDef). (view : View) → ShowsAt t (g.S.RowStore.contents c.make_ready.new.replica.store) c.make_ready.new.replica.position view → IsTakeFault g.P.Picker.picks t c.in-Err-take_standing.fault c.make_ready.new.replica.position c.entry.result.now view c.args.picker.now c.take_standing.new.picker)
     c.make_ready.ensures.catalog (c.in-Err-take_standing.ensures.refused h))
@@ -107,8 +108,8 @@ returns-in-Mine-clause-pushed g c = λ h stands before shows.
     (subst (λ (t : List TableDef). IsDefinedOn t (entry_changes c.in-Some.mine) (tables_at c.args.pass.now.known c.make_ready.new.replica.position.version)) c.make_ready.ensures.catalog
     (subst (λ (o : Option LogEntry). IfSome o (λ entry. IsDefinedOn c.make_ready.new.replica.catalog (entry_changes entry) (tables_at c.args.pass.now.known c.make_ready.new.replica.position.version))) c.in-Some.is
     (c.in-Ok-flight_entry.ensures.defined c.args.pass.now.known (c.in-Ok.ensures.stands c.args.pass.now.known stands) h'))) in
-    rw c.version.ensures (mine_sent g.P.Picker.picks c.args.replica.now.catalog c.args.pass.now.known c.args.replica.now.position before c.args.picker.now c.args.spine.now.cap c.make_ready.new.replica.position (g.S.RowStore.contents c.make_ready.new.replica.store) ready c.offer.new.pass.known held.0 held.1 c.entry.result.now at c.take_standing.new.picker
-    c.take_standing.new.replica.position (g.S.RowStore.contents c.take_standing.new.replica.store) c.in-Some.mine flight c.requires.level defined
+    rw c.version.ensures (mine_sent g.P.Picker.picks c.args.replica.now.catalog c.args.pass.now.known c.args.replica.now.position before c.args.picker.now c.args.spine.now.cap c.make_ready.new.replica.position (g.S.RowStore.contents c.make_ready.new.replica.store) ready c.offer.new.pass.known held.0 held.1 c.entry.result.now at c.requires.level c.take_standing.new.picker
+    c.take_standing.new.replica.position (g.S.RowStore.contents c.take_standing.new.replica.store) c.in-Some.mine flight defined
     (subst (λ (t : List TableDef). IsPulledIn g.P.Picker.picks t c.make_ready.new.replica.position c.entry.result.now c.args.picker.now c.take_standing.new.picker (g.S.RowStore.contents c.make_ready.new.replica.store) (g.S.RowStore.contents c.take_standing.new.replica.store)) c.make_ready.ensures.catalog (c.in-Ok-take_standing.ensures.writes.ok h))
     c.in-Ok-take_standing.ensures.moved (c.in-Ok-take_standing.ensures.counted h (ready.0, subst (λ (t : List TableDef). ShowsAt t (g.S.RowStore.contents c.make_ready.new.replica.store) c.make_ready.new.replica.position ready.0) (sym c.make_ready.ensures.catalog) shown))
     (held.2.0 c.in-Mine.is))
@@ -127,8 +128,8 @@ returns-clause-pushed g c = λ h stands before shows.
     (subst (λ (t : List TableDef). IsDefinedOn t (entry_changes c.in-Some.mine) (tables_at c.args.pass.now.known c.make_ready.new.replica.position.version)) c.make_ready.ensures.catalog
     (subst (λ (o : Option LogEntry). IfSome o (λ entry. IsDefinedOn c.make_ready.new.replica.catalog (entry_changes entry) (tables_at c.args.pass.now.known c.make_ready.new.replica.position.version))) c.in-Some.is
     (c.in-Ok-flight_entry.ensures.defined c.args.pass.now.known (c.in-Ok.ensures.stands c.args.pass.now.known stands) h'))) in
-    rw c.version-in-Other.ensures (other_sent g.P.Picker.picks c.args.replica.now.catalog c.args.pass.now.known c.args.replica.now.position before c.args.picker.now c.args.spine.now.cap c.make_ready.new.replica.position (g.S.RowStore.contents c.make_ready.new.replica.store) ready c.offer.new.pass.known held.0 held.1 c.entry.result.now at c.take_standing.new.picker
-    c.take_standing.new.replica.position (g.S.RowStore.contents c.take_standing.new.replica.store) c.in-Some.mine flight c.requires.level defined
+    rw c.version-in-Other.ensures (other_sent g.P.Picker.picks c.args.replica.now.catalog c.args.pass.now.known c.args.replica.now.position before c.args.picker.now c.args.spine.now.cap c.make_ready.new.replica.position (g.S.RowStore.contents c.make_ready.new.replica.store) ready c.offer.new.pass.known held.0 held.1 c.entry.result.now at c.requires.level c.take_standing.new.picker
+    c.take_standing.new.replica.position (g.S.RowStore.contents c.take_standing.new.replica.store) c.in-Some.mine flight defined
     (subst (λ (t : List TableDef). IsPulledIn g.P.Picker.picks t c.make_ready.new.replica.position c.entry.result.now c.args.picker.now c.take_standing.new.picker (g.S.RowStore.contents c.make_ready.new.replica.store) (g.S.RowStore.contents c.take_standing.new.replica.store)) c.make_ready.ensures.catalog (c.in-Ok-take_standing.ensures.writes.ok h))
     c.in-Ok-take_standing.ensures.moved (c.in-Ok-take_standing.ensures.counted h (ready.0, subst (λ (t : List TableDef). ShowsAt t (g.S.RowStore.contents c.make_ready.new.replica.store) c.make_ready.new.replica.position ready.0) (sym c.make_ready.ensures.catalog) shown))
     (λ same. let mine : c.in-Ok-offer.offered ≡ Mine = held.2.1 same in let other : c.in-Ok-offer.offered ≡ Other = c.in-Other.is in cc))
@@ -182,3 +183,11 @@ returns-clause-writes g c =
     (subst (λ (t : List TableDef). IsPulledIn g.P.Picker.picks t c.make_ready.new.replica.position c.entry.result.now c.args.picker.now c.take_standing.new.picker (g.S.RowStore.contents c.make_ready.new.replica.store) left) c.make_ready.ensures.catalog pulled))
     (turned_on g.S.RowStore.honest g.S.RowStore.contents g.S.RowStore.failed g.S.RowStore.may_leave g.S.RowStore.misreads _ _ _ c.args.replica.now.store c.make_ready.new.replica.store (made_leaves g.P.Picker.picks c.args.replica.now.catalog c.args.replica.now.position (g.S.RowStore.contents c.args.replica.now.store) c.args.picker.now) _ _ c.in-Ok.ensures.writes (ap (λ (b : Bool). Ok b) c.if-not-ready.false))
     Device c.in-Ok-take_standing.field-0 c.in-Ok-take_standing.ensures.writes)
+
+pub returns-in-Err-clause-pushed : goal.returns-in-Err-clause-pushed
+returns-in-Err-clause-pushed g c = λ h stands before shows.
+    let told = c.in-Err.ensures.refused h before shows in
+    let tables : c.make_ready.new.replica.catalog ≡ c.args.replica.now.catalog = c.make_ready.ensures.catalog in
+    not_made g.P.Picker.picks c.args.replica.now.catalog c.args.pass.now.known c.args.replica.now.position before c.args.picker.now c.args.spine.now.cap c.in-Err.fault c.make_ready.new.replica.position
+    (g.S.RowStore.contents c.make_ready.new.replica.store) c.requires.level c.in-Err.ensures.kept told.0
+    (subst (λ (t : List TableDef). ShowsAt t (g.S.RowStore.contents c.make_ready.new.replica.store) c.make_ready.new.replica.position before) tables told.1)
