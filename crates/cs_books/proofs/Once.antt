@@ -4,14 +4,13 @@ use Rattle.std.proofs.Math.Seq.{take-length}
 use Rattle.std.proofs.lemmas.List.Elements.{All-get_or}
 use Rattle.std.proofs.lemmas.Option.{get_or_from_slice_get, slice_get_within}
 use Rattle.std.specs.Prelude.{All}
-use Rattle.cs_value.specs.Catalog.{AreTables}
 use Rattle.cs_value.specs.declared.catalog.TableDef.{TableDef}
 use Rattle.cs_log.specs.Log.{IsLog}
 use Rattle.cs_log.specs.Stored.{IsEntryOf}
 use Rattle.cs_log.specs.declared.entry.LogEntry.{LogEntry}
 use Rattle.cs_judging.specs.Judged.{hub_of}
 use Rattle.cs_hub.specs.Laws.{OneService}
-use Rattle.cs_books.specs.Answers.{AnswersKnown, HasTaken, IsStuckAt}
+use Rattle.cs_books.specs.Answers.{HasTaken, IsStuckAt}
 use Rattle.cs_books.specs.Laws.{OneKnownAnswer}
 
 -- all that was taken fits, so nothing is stuck there

@@ -1,16 +1,14 @@
 -- What a book tells.
-use Rattle.std.proofs.Common.{Vec, ◌≡◌, ◌⊎◌, ℕ, ◌+◌, ◌-◌, ◌^◌, ◌≤◌, List, [], ◌∷◌, ◌++◌, length, min, Result, Ok, Err, inl, inr, refl, sym, ap, subst, ◌∙◌, arith, append_assoc, length-append}
+use Rattle.std.proofs.Common.{Vec, ◌≡◌, ◌⊎◌, ℕ, ◌+◌, ◌≤◌, List, [], ◌∷◌, ◌++◌, length, min, Result, Ok, Err, inl, inr, sym, ap, subst, ◌∙◌, arith, append_assoc, length-append}
 use Rattle.std.specs.Global.{Global}
 use Rattle.std.specs.Prelude.{IfOk}
 use Rattle.cs_value.specs.declared.catalog.TableDef.{TableDef}
 use Rattle.cs_log.specs.declared.entry.LogEntry.{LogEntry}
 use Rattle.cs_store.specs.Calls.{MoreFailures}
-use Rattle.cs_store.specs.declared.batch.Batch.{Batch}
-use Rattle.cs_judging.specs.Hub.{HubState}
 use Rattle.cs_judging.specs.Judged.{hub_of}
 use Rattle.cs_following.specs.Standing.{Begins}
 use Rattle.cs_hub.specs.Judges.{IsJudged}
-use Rattle.cs_hub.specs.Laws.{AppendsAtEnd, ServedAgain}
+use Rattle.cs_hub.specs.Laws.{ServedAgain, StaleBehindAnother}
 use Rattle.cs_hub.specs.Serves.{Serves}
 use Rattle.cs_hub.specs.declared.follow_fault.FollowFault.{FollowFault}
 use Rattle.cs_hub.specs.declared.follow_fault.FollowFault.TheVariants.{Device, Undefined}
@@ -18,6 +16,9 @@ use Rattle.cs_hub.specs.declared.judged.Judged.{Judged}
 use Rattle.cs_hub.specs.declared.judged.Judged.TheVariants.{Reply, Append}
 use Rattle.cs_books.specs.Answers.{AnswersAll, AnswersOn, HasTaken, IsStuckAt, device_answer, stuck_answer}
 use Rattle.cs_hub.specs.declared.hub.TheConstants.{MAX_ENTRIES}
+use Rattle.cs_wire.specs.Answers.{answer_spelling}
+use Rattle.cs_wire.specs.declared.answer.Answer.TheVariants.{Short}
+use Rattle.cs_wire.specs.declared.short_answer.ShortAnswer.TheVariants.{Stale}
 use Rattle.cs_spine.specs.Known.{Known, SpineCells}
 use Rattle.cs_books.specs.Books.{BookState, most_cells}
 use Rattle.cs_books.specs.Steps.{CameLater, Halts}
@@ -81,17 +82,6 @@ set_mine again limit tables before known entry held taken request reply answer j
           (subst (λ (a : List ℕ). Serves limit (hub_of tables (before ++ entry ∷ [])) request a (hub_of tables (before ++ entry ∷ []))) (sym told) served);
     }
 
--- behind another entry nothing is appended for it
-pub none_later : AppendsAtEnd → (limit : ℕ) (tables : List TableDef) (known longer : List LogEntry) (request reply : List ℕ) (entry : LogEntry) → CameLater limit tables known request → Begins known longer
-    → Serves limit (hub_of tables longer) request reply (hub_of tables (longer ++ entry ∷ [])) → ⊥
-none_later law limit tables known longer request reply entry came (more, is) serves =
-    let long : longer ≡ came.before ++ came.held ∷ more = is ∙ ap (λ (l : List LogEntry). l ++ more) came.learned ∙ append_assoc came.before (came.held ∷ []) more in
-    let served = subst (λ (l : List LogEntry). Serves limit (hub_of tables l) request reply (hub_of tables (longer ++ entry ∷ []))) long serves in
-    let same : hub_of tables (longer ++ entry ∷ []) ≡ hub_of tables (came.before ++ came.held ∷ more) =
-    (law limit tables came.before more came.entry came.held request came.reply reply (hub_of tables (longer ++ entry ∷ [])) came.judged served) in
-    let count : length (longer ++ entry ∷ []) ≡ length longer = ap (λ (h : HubState). length h.log) same ∙ ap length (sym long) in
-    omega (arith, count, length-append longer (entry ∷ []))
-
 -- a request that was judged by all that is known, within the cells
 pub judged_here : {E : Type 0} (result : Result Judged E) (device_failed : Type 0) (limit : ℕ) (row : SpineCells) (tables : List TableDef) (known : List LogEntry) (request : List ℕ) → limit ≡ most_cells row
     → IfOk result (IsJudged device_failed (min limit MAX_ENTRIES) tables known request) → IfOk result (IsJudged device_failed (most_cells row) tables known request)
@@ -115,15 +105,24 @@ replies failed old mid new request answer less row pass catalog newest level fro
     (subst (λ (k : List LogEntry). AnswersOn device (most_cells mid.row) mid.hub.catalog k new.hub.newest request answer.items) (sym known)
     (subst (λ (n : ℕ). AnswersOn device (most_cells mid.row) mid.hub.catalog mid.pass.known n request answer.items) (sym newest) here)))
 
--- nothing is to be appended behind another entry
-pub cant_append : {S : Type 0} → AppendsAtEnd → (old mid : BookState S) (request : List ℕ) (device_failed : Type 0) (entry : LogEntry) (batch : Batch) (reply : Vec ℕ Global) → CameLater (most_cells old.row) old.hub.catalog old.pass.known request
-    → mid.row ≡ old.row → mid.hub.catalog ≡ old.hub.catalog → Begins old.pass.known mid.pass.known → IsJudged device_failed (most_cells mid.row) mid.hub.catalog mid.pass.known request (Append entry batch reply) → ⊥
-cant_append law old mid request device_failed entry batch reply came row catalog begins judged =
-    let known = mid.pass.known in
-    let longer = known ++ entry ∷ [] in
-    none_later law (most_cells old.row) old.hub.catalog old.pass.known known request reply.items entry came begins
-    (subst (λ (r : SpineCells). Serves (most_cells r) (hub_of old.hub.catalog known) request reply.items (hub_of old.hub.catalog longer)) row
-    (subst (λ (t : List TableDef). Serves (most_cells mid.row) (hub_of t known) request reply.items (hub_of t longer)) catalog judged.1))
+-- what was to be appended is stale behind another entry
+pub stale_later : {S : Type 0} → StaleBehindAnother → (old new : BookState S) (request answer : List ℕ) → CameLater (most_cells old.row) old.hub.catalog old.pass.known request
+    → new.row ≡ old.row → new.hub.catalog ≡ old.hub.catalog → Begins old.pass.known new.pass.known → new.hub.newest ≡ length new.pass.known → HasTaken new.hub.catalog new.pass.known new.hub.newest
+    → answer ≡ answer_spelling (Short (Stale new.hub.newest)) → AnswersAll (most_cells new.row) new.hub.catalog new.pass.known new.hub.newest request answer
+stale_later law old new request answer came row catalog (more, is) level front told =
+    let known = new.pass.known in
+    let limit = most_cells old.row in
+    let long : known ≡ came.before ++ came.held ∷ more = is ∙ ap (λ (l : List LogEntry). l ++ more) came.learned ∙ append_assoc came.before (came.held ∷ []) more in
+    let here = subst (λ (l : List LogEntry). Serves limit (hub_of old.hub.catalog l) request (answer_spelling (Short (Stale (length l)))) (hub_of old.hub.catalog l)) (sym long)
+    (law limit old.hub.catalog came.before more came.entry came.held request came.reply came.judged came.another) in
+    let count : answer ≡ answer_spelling (Short (Stale (length known))) = told ∙ ap (λ (n : ℕ). answer_spelling (Short (Stale n))) level in
+    record {
+      level = level;
+      front = front;
+      serves = subst (λ (r : SpineCells). Serves (most_cells r) (hub_of new.hub.catalog known) request answer (hub_of new.hub.catalog known)) (sym row)
+          (subst (λ (t : List TableDef). Serves limit (hub_of t known) request answer (hub_of t known)) (sym catalog)
+          (subst (λ (a : List ℕ). Serves limit (hub_of old.hub.catalog known) request a (hub_of old.hub.catalog known)) (sym count) here));
+    }
 
 -- the entry of a push was set, and was to be taken
 pub sent : {S : Type 0} (failed : S → ℕ) → ServedAgain → (old mid new : BookState S) (entry held : LogEntry) (request reply answer : List ℕ) → mid.row ≡ old.row → mid.hub ≡ old.hub

@@ -1,5 +1,5 @@
 -- What single steps of a book come to: no definition that a public clause cites.
-use Rattle.std.specs.Prelude.{◌≡◌, ◌⊎◌, ℕ, List, [], ◌∷◌, ◌++◌}
+use Rattle.std.specs.Prelude.{◌≡◌, ◌≢◌, ◌⊎◌, ℕ, List, [], ◌∷◌, ◌++◌}
 use Rattle.cs_value.specs.declared.catalog.TableDef.{TableDef}
 use Rattle.cs_log.specs.declared.entry.LogEntry.{LogEntry}
 use Rattle.cs_judging.specs.Judged.{hub_of}
@@ -19,3 +19,4 @@ pub record CameLater (limit : ℕ) (tables : List TableDef) (known : List LogEnt
   pub reply : List ℕ
   pub judged : Serves limit (hub_of tables before) request reply (hub_of tables (before ++ entry ∷ []))
   pub learned : known ≡ before ++ held ∷ []
+  pub another : held ≢ entry

@@ -24,7 +24,7 @@ use cs_opening::OpenFault;
 use cs_spine::{OfferFault, Offered, Pass, Spine};
 use cs_store::{Batch, RowStore, StoreFault};
 use cs_value::{Catalog, Memory};
-use cs_wire::SHORT;
+use cs_wire::{SHORT, ShortAnswer};
 use std::alloc::{AllocError, Global};
 use std::marker::Model;
 
@@ -240,26 +240,25 @@ impl<'s, S: RowStore> Book<'s, S> {
         }
     }
 
-    /// Takes what came into the cell before a push that was to be appended, and answers that as a hub does then.
-    fn answer_later(&mut self, request: &[u8], room: Vec<u8>) -> Result<Vec<u8>, Memory>
+    /// Takes what came into the cell before a push that was to be appended: it is stale then. The request is named for the clauses.
+    fn answer_later(&mut self, _request: &[u8], room: Vec<u8>) -> Result<Vec<u8>, Memory>
         requires room { vec_len room + SHORT ≤ vec_capacity room }
         requires empty { room.items ≡ [] }
-        requires later { S.honest self.old.hub.store → CameLater (most_cells self.old.row) self.old.hub.catalog self.old.pass.known request.now }
+        requires later { S.honest self.old.hub.store → CameLater (most_cells self.old.row) self.old.hub.catalog self.old.pass.known _request.now }
         ensures later { IsLater S.honest S.contents S.failed S.may_leave S.misreads self.old self.new }
         ensures served { IfOk result (λ answer. S.honest self.new.hub.store
             → AnswersOn (MoreFailures (S.failed self.old.hub.store) (S.failed self.new.hub.store)) (most_cells self.new.row) self.new.hub.catalog
-            self.new.pass.known self.new.hub.newest request.now answer.items) }
+            self.new.pass.known self.new.hub.newest _request.now answer.items) }
     {
-        cs_hub::laws::appends_at_end();
+        cs_hub::laws::stale_behind_another();
         match self.catch_up() {
             Ok(()) => {}
             Err(fault) => return refuse(fault, room),
         }
-        match self.judge(request)? {
-            Judged::Reply(answer) => Ok(answer),
-            // Behind another entry nothing is appended for it: only a store that isn't honest leads here.
-            Judged::Append { .. } => refuse(FollowFault::Device, room),
-        }
+        let mut answer = room;
+        let newest = self.hub.newest();
+        ShortAnswer::Stale { newest }.put(&mut answer);
+        Ok(answer)
     }
 
     /// Offers the entry of a push for the next cell, takes what that cell holds, and answers.

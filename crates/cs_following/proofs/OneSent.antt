@@ -23,7 +23,7 @@ use Rattle.cs_position.specs.Shows.{ShowsAt}
 use Rattle.cs_position.specs.declared.position.Position.{Position}
 use Rattle.cs_pulling.specs.Pulls.{PullsOne}
 use Rattle.cs_pushing.specs.Laws.{IsOfPush, NoFaultWhereMade, OnePush, OnePushFault}
-use Rattle.cs_pushing.specs.Pushes.{HasNothing, IsPushFault, IsPushMade, grounded, pushed}
+use Rattle.cs_pushing.specs.Pushes.{HasNothing, IsPushFault, pushed}
 use Rattle.cs_pushing.specs.declared.fault.PushFault.{PushFault}
 use Rattle.cs_pushing.specs.declared.fault.PushFault.TheVariants as push
 use Rattle.cs_replica.specs.Flight.{flight_entry}
@@ -31,7 +31,7 @@ use Rattle.cs_taking.specs.Laws.{PicksOnce}
 use Rattle.cs_taking.specs.Takes.{taken}
 use Rattle.cs_following.specs.Laws.{AreNormal, IsOfEntries, IsOfOffer, OneKnownPush}
 use Rattle.cs_following.specs.Pulls.{IsTakeFault}
-use Rattle.cs_following.specs.Pushes.{IsAtRest, IsNotMade, IsNotOffered, IsNotPushed, IsNotTaken, IsReady, IsSent, PushesOn}
+use Rattle.cs_following.specs.Pushes.{IsAtRest, IsNotMade, IsNotOffered, IsNotTaken, IsReady, IsSent, PushesOn}
 use Rattle.cs_following.specs.declared.fault.NodeFault.{NodeFault}
 use Rattle.cs_following.specs.declared.fault.NodeFault.TheVariants.{Memory, Device, BadEntry, Stopped, Full, Spent, TooLarge}
 use Rattle.cs_following.specs.declared.pushed.NodePush.{NodePush}
@@ -184,14 +184,17 @@ module _ {P : Type 0} (picks : P → Clash → Wish → P → Type 0) (laws : Pu
   unmade_kind : (fault : PushFault) (told : NodeFault) (other : Position) (new : Contents) (q : P) (view : View) → told_of fault ≡ Err told → IsOfPush fault → position.flight ≡ None → ShowsAt tables new other view
       → IsNotMade picks tables known position before p fault other view → learned ≡ known → q ≡ p → Kind (Err told) other new q
   unmade_kind fault told other new q view is of none shown_then why same asked =
-      inl ((same, why.position_is, subst (λ (x : Position). ShowsAt tables new x before) why.position_is (subst (λ (v : View). ShowsAt tables new other v) why.view_is shown_then), asked), inr (record {
-        fault = fault;
-        told = sym is;
-        of = of;
-        is = why.fault_is;
-        none = none;
-        rest_or_level = inr why.at_end;
-      }))
+      inl (
+        (same, why.position_is, subst (λ (x : Position). ShowsAt tables new x before) why.position_is (subst (λ (v : View). ShowsAt tables new other v) why.view_is shown_then), asked),
+        inr (record {
+          fault = fault;
+          told = sym is;
+          of = of;
+          is = why.fault_is;
+          none = none;
+          rest_or_level = inr why.at_end;
+        }),
+      )
 
   stuck_kind : (fault : NodeFault) (other : Position) (new : Contents) (q : P) (view : View) → IsOfEntries (Err fault) → ShowsAt tables new other view → IsNotTaken picks tables known position before p fault learned other view q → Kind (Err fault) other new q
   stuck_kind fault other new q view of shown_then is = inr (inr (inr (record { fault = fault; told = refl; of = of; view = view; shown_then = shown_then; not_taken = is })))
@@ -214,14 +217,17 @@ module _ {P : Type 0} (picks : P → Clash → Wish → P → Type 0) (laws : Pu
 
   kind_of : (result : Result NodePush NodeFault) (other : Position) (new : Contents) (q : P) → IsOfOffer result → PushesOn picks tables known position before p cells result learned other new q → Kind result other new q
   kind_of (Ok Nothing) other new q of (none, has, same, still, s, asked) =
-      inl ((same, still, s, asked), inr (record {
-        fault = push.Nothing;
-        told = refl;
-        of = (λ e. cc, λ e. cc);
-        is = has;
-        none = none;
-        rest_or_level = inl (none, none_counted tables new position before s has);
-      }))
+      inl (
+        (same, still, s, asked),
+        inr (record {
+          fault = push.Nothing;
+          told = refl;
+          of = (λ e. cc, λ e. cc);
+          is = has;
+          none = none;
+          rest_or_level = inl (none, none_counted tables new position before s has);
+        }),
+      )
   kind_of (Ok Behind) other new q of (busy, late, same, still, s, asked) = inl ((same, still, s, asked), inl (record { told = refl; busy = busy; behind_known = late }))
   kind_of (Ok (Accepted version)) other new q of (is, (entry, sent)) =
       inr (inr (inl (record { entry = entry; mine = entry; sent = sent; told = inl (ap (λ (n : ℕ). Ok (Accepted n)) is, refl) })))
@@ -245,9 +251,9 @@ module _ {P : Type 0} (picks : P → Clash → Wish → P → Type 0) (laws : Pu
       let same = one_held known learned d.entry s.not_taken.entry d.sent.holds s.not_taken.holds in
       let store = shown d.sent.ready d.sent.view d.sent.readied in
       let told : IsTakeFault picks tables s.fault d.sent.ready d.entry d.sent.view p r =
-          subst (λ (x : Position). IsTakeFault picks tables s.fault x d.entry d.sent.view p r) both.0
-          (subst (λ (v : View). IsTakeFault picks tables s.fault there d.entry v p r) both.1
-          (subst (λ (e : LogEntry). IsTakeFault picks tables s.fault there e s.view p r) same s.not_taken.told)) in
+      subst (λ (x : Position). IsTakeFault picks tables s.fault x d.entry d.sent.view p r) both.0
+      (subst (λ (v : View). IsTakeFault picks tables s.fault there d.entry v p r) both.1
+      (subst (λ (e : LogEntry). IsTakeFault picks tables s.fault there e s.view p r) same s.not_taken.told)) in
       let fault = as_pull_fault picks laws.pulls once tables are learned normal d.sent.ready store.0 d.sent.view d.sent.view store.1 store.1 s.fault d.entry p r s.of told in
       laws.pulls.no_fault tables d.sent.ready d.entry d.sent.view d.sent.after fault.0 p q r once fault.1 d.sent.pulls fault.2
 
@@ -278,12 +284,11 @@ module _ {P : Type 0} (picks : P → Clash → Wish → P → Type 0) (laws : Pu
       let same = one_held known learned s.not_taken.entry t.not_taken.entry s.not_taken.holds t.not_taken.holds in
       let entry = s.not_taken.entry in
       let told : IsTakeFault picks tables t.fault here entry s.view p r =
-          subst (λ (x : Position). IsTakeFault picks tables t.fault x entry s.view p r) both.0
-          (subst (λ (v : View). IsTakeFault picks tables t.fault there entry v p r) both.1
-          (subst (λ (e : LogEntry). IsTakeFault picks tables t.fault there e t.view p r) same t.not_taken.told)) in
+      subst (λ (x : Position). IsTakeFault picks tables t.fault x entry s.view p r) both.0
+      (subst (λ (v : View). IsTakeFault picks tables t.fault there entry v p r) both.1
+      (subst (λ (e : LogEntry). IsTakeFault picks tables t.fault there e t.view p r) same t.not_taken.told)) in
       let fault = as_pull_fault picks laws.pulls once tables are learned normal here new s.view s.view s.shown_then s.shown_then s.fault entry p q s.of s.not_taken.told in
-      let also = fault.3 t.fault r t.of told in
-      (
+      let also = fault.3 t.fault r t.of told in (
         s.told ∙ ap (λ (f : NodeFault). Err f) (also.0 also.1) ∙ sym t.told,
         sym both.0,
         one_store here there new last s.view t.view both.0 both.1 s.shown_then t.shown_then,
@@ -307,19 +312,19 @@ module _ {P : Type 0} (picks : P → Clash → Wish → P → Type 0) (laws : Pu
       let same = one_held known learned entry e.entry d.sent.holds e.sent.holds in
       let store = shown ready view d.sent.readied in
       let pulls : PullsOne picks tables ready entry view p e.sent.after r =
-          subst (λ (x : Position). PullsOne picks tables x entry view p e.sent.after r) both.0
-          (subst (λ (v : View). PullsOne picks tables e.sent.ready entry v p e.sent.after r) both.1
-          (subst (λ (x : LogEntry). PullsOne picks tables e.sent.ready x e.sent.view p e.sent.after r) same e.sent.pulls)) in
+      subst (λ (x : Position). PullsOne picks tables x entry view p e.sent.after r) both.0
+      (subst (λ (v : View). PullsOne picks tables e.sent.ready entry v p e.sent.after r) both.1
+      (subst (λ (x : LogEntry). PullsOne picks tables e.sent.ready x e.sent.view p e.sent.after r) same e.sent.pulls)) in
       let here_in : slice_get learned (length known) ≡ Some entry = ap (λ (l : List LogEntry). slice_get l (length known)) d.sent.holds ∙ behind known entry in
       let pulled = laws.pulls.pull tables store.0 ready entry view view d.sent.after e.sent.after p q r are (normal (length known) entry here_in) once store.1 store.1 d.sent.pulls pulls in
       let here_is : here ≡ taken ready (len new.pending) = d.sent.version ∙ ap (taken ready) d.sent.shows.counted in
       let there_is : there ≡ taken ready (len last.pending) = e.sent.version ∙ ap (λ (x : Position). taken x there.pending) both.0 ∙ ap (taken ready) e.sent.shows.counted in
       let held = laws.pulls.contents tables (taken ready 0) new last d.sent.after e.sent.after (subst (λ (x : Position). ShowsAt tables new x d.sent.after) here_is d.sent.shows)
-          (subst (λ (x : Position). ShowsAt tables last x e.sent.after) there_is e.sent.shows) pulled.0 pulled.1 in
+      (subst (λ (x : Position). ShowsAt tables last x e.sent.after) there_is e.sent.shows) pulled.0 pulled.1 in
       let at : here ≡ there = here_is ∙ ap (λ (c : Contents). taken ready (len c.pending)) held ∙ sym there_is in
       let mine : e.mine ≡ d.mine = same_Some e.mine d.mine (sym e.sent.flight ∙ ap (λ (x : Position). flight_entry x) both.0 ∙ d.sent.flight) in
       let told : ((other ≡ Ok (Accepted there.version)) × (e.mine ≡ entry)) ⊎ ((other ≡ Ok (Other there.version)) × (e.mine ≢ entry)) =
-          subst (λ (x : LogEntry). ((other ≡ Ok (Accepted there.version)) × (e.mine ≡ x)) ⊎ ((other ≡ Ok (Other there.version)) × (e.mine ≢ x))) same e.told in
+      subst (λ (x : LogEntry). ((other ≡ Ok (Accepted there.version)) × (e.mine ≡ x)) ⊎ ((other ≡ Ok (Other there.version)) × (e.mine ≢ x))) same e.told in
       (one_told some other here.version there.version entry d.mine e.mine (ap (λ (x : Position). x.version) at) mine d.told told, at, held, pulled.2)
 
   -- ---- so there is one

@@ -1,22 +1,24 @@
 -- A request that is answered again, by the hub after it, or by one whose log goes on otherwise.
-use Rattle.std.proofs.Common.{◌≡◌, ℕ, ◌+◌, ◌<◌, List, [], ◌∷◌, ◌++◌, length, Some, Result, Ok, Err, slice_get, inl, inr, refl, sym, ap, subst, ◌∙◌, arith, length-append}
-use Rattle.std.proofs.lemmas.Option.{slice_get_within}
+use Rattle.std.proofs.Common.{◌≡◌, ◌≢◌, ℕ, ◌<◌, List, [], ◌∷◌, ◌++◌, length, Some, Result, Ok, Err, slice_get, inl, inr, refl, sym, ap, subst, ◌∙◌, arith, length-append}
+use Rattle.std.proofs.lemmas.Option.{same_Some, slice_get_within}
 use Rattle.cs_value.specs.declared.catalog.TableDef.{TableDef}
 use Rattle.cs_change.specs.declared.group.Group.{Group}
 use Rattle.cs_log.specs.declared.entry.LogEntry.{LogEntry}
 use Rattle.cs_normal.specs.NormalFormOf.{IsNormalFormOf}
-use Rattle.cs_normal.specs.declared.normal.TableChanges.{TableChanges}
 use Rattle.cs_judging.specs.Hub.{HubState, with_entry}
 use Rattle.cs_judging.specs.Judged.{hub_of}
 use Rattle.cs_judging.specs.Pushes.{IsRepeat, Push, Pushes, entry_of_push}
 use Rattle.cs_judging.specs.declared.fault.HubFault.{HubFault}
 use Rattle.cs_judging.specs.declared.push.Pushed.{Pushed}
-use Rattle.cs_wire.specs.Laws.{OneRequest}
+use Rattle.cs_judging.specs.declared.push.Pushed.TheVariants as pushed
+use Rattle.cs_wire.specs.Answers.{answer_spelling}
 use Rattle.cs_wire.specs.Requests.{Asked, AsksPush, AsksPull}
+use Rattle.cs_wire.specs.declared.answer.Answer.TheVariants.{Short}
 use Rattle.cs_wire.specs.declared.fault.WireFault.{WireFault}
 use Rattle.cs_wire.specs.declared.push_head.PushHead.{PushHead}
-use Rattle.cs_hub.specs.Laws.{AppendsAtEnd, ServedAgain}
-use Rattle.cs_hub.specs.Serves.{AnswersAsked, Outcome, TakesBytes, TakesGroups, TakesNormal}
+use Rattle.cs_wire.specs.declared.short_answer.ShortAnswer.TheVariants.{Stale}
+use Rattle.cs_hub.specs.Laws.{ServedAgain, StaleBehindAnother}
+use Rattle.cs_hub.specs.Serves.{AnswersAsked, Outcome, TakesBytes, TakesGroups}
 
 at_end : (before rest : List LogEntry) (entry : LogEntry) → slice_get (before ++ entry ∷ rest) (length before) ≡ Some entry
 at_end [] rest entry = refl
@@ -88,21 +90,7 @@ asked_again limit old new (Ok (AsksPush head changeset)) answer (outcome, p, a) 
 pub served_again : ServedAgain
 served_again limit old new request answer (asked, reads, answers) = (asked, reads, asked_again limit old new asked answer answers)
 
--- ---- where the log goes on
-
-data IsTaken (old : HubState) (head : PushHead) (new : HubState) : Type 0 where
-  stays_so : new ≡ old → IsTaken old head new
-  grows_at : head.base ≡ length old.log → IsTaken old head new
-
-taken_of : (old new : HubState) (push : Push) → IsLeft old push new → IsTaken old push.head new
-taken_of old new push (stays same) = stays_so same
-taken_of old new push (grows is) = grows_at is.last
-
-taken_bytes : (limit : ℕ) (old new : HubState) (head : PushHead) (changeset : List ℕ) (outcome : Outcome) → TakesBytes limit old head changeset outcome new → IsTaken old head new
-taken_bytes limit old new head changeset outcome (inl (f, at, w, a, s)) = stays_so s
-taken_bytes limit old new head changeset outcome (inr (groups, fits, is, inl (f, m, u, a, s))) = stays_so s
-taken_bytes limit old new head changeset outcome (inr (groups, fits, is, inr (changes, form, (told, p, o)))) =
-    taken_of old new (record { head = head; changes = changes }) (left limit old new (record { head = head; changes = changes }) told p)
+-- ---- where another entry came
 
 -- a log that is longer is another
 longer : (opening : List TableDef) (log : List LogEntry) (entry : LogEntry) → hub_of opening (log ++ entry ∷ []) ≡ hub_of opening log → ⊥
@@ -110,28 +98,60 @@ longer opening log entry same =
     let count : length (log ++ entry ∷ []) ≡ length log = ap (λ (h : HubState). length h.log) same in
     omega (arith, count, length-append log (entry ∷ []))
 
-module _ (opening : List TableDef) (log more : List LogEntry) (entry held : LogEntry) where
+module _ (limit : ℕ) (opening : List TableDef) (log more : List LogEntry) (entry held : LogEntry) (another : held ≢ entry) where
+  abbrev Before : HubState
+  Before = hub_of opening log
+
   abbrev Long : HubState
   Long = hub_of opening (log ++ held ∷ more)
 
-  base_of : (head : PushHead) → IsTaken (hub_of opening log) head (hub_of opening (log ++ entry ∷ [])) → head.base ≡ length log
-  base_of head (stays_so same) = absurd (longer opening log entry same)
-  base_of head (grows_at last) = last
+  abbrev With : HubState
+  With = hub_of opening (log ++ entry ∷ [])
 
-  stays_long : (head : PushHead) (new : HubState) → head.base ≡ length log → IsTaken Long head new → new ≡ Long
-  stays_long head new last (stays_so same) = same
-  stays_long head new last (grows_at other) =
-      absurd (let count : head.base ≡ length (log ++ held ∷ more) = other in omega (arith, last, count, length-append log (held ∷ more)))
+  last_is : (other : LogEntry) → With ≡ with_entry Before other → entry ≡ other
+  last_is other same =
+      same_Some entry other (sym (at_end log [] entry) ∙ ap (λ (h : HubState). slice_get h.log (length log)) same ∙ at_end log [] other)
 
-  stays_asked : (limit : ℕ) (asked : Result Asked WireFault) (answer other : List ℕ) (new : HubState) → AnswersAsked limit (hub_of opening log) asked answer (hub_of opening (log ++ entry ∷ []))
-      → AnswersAsked limit Long asked other new → new ≡ Long
-  stays_asked limit (Err fault) answer other new p (a, s) = s
-  stays_asked limit (Ok (AsksPull first count)) answer other new p (a, s) = s
-  stays_asked limit (Ok (AsksPush head changeset)) answer other new (outcome, p, a) (o, q, b) =
-      stays_long head new (base_of head (taken_bytes limit (hub_of opening log) (hub_of opening (log ++ entry ∷ [])) head changeset outcome p)) (taken_bytes limit Long new head changeset o q)
+  not_there : (push : Push) → push.head.base ≡ length log → entry ≡ entry_of_push push → IsRepeat (log ++ held ∷ more) push → ⊥
+  not_there push last is repeat =
+      another (same_Some held entry (sym (at_end log more held) ∙ ap (λ (n : ℕ). slice_get (log ++ held ∷ more) n) (sym last) ∙ repeat ∙ ap (λ (e : LogEntry). Some e) (sym is)))
 
-pub appends_at_end : OneRequest → AppendsAtEnd
-appends_at_end one limit opening log more entry held request answer other new (asked, reads, answers) (again, reads', answers') =
-    let same : asked ≡ again = one request asked again reads reads' in
-    stays_asked opening log more entry held limit again answer other new
-    (subst (λ (a : Result Asked WireFault). AnswersAsked limit (hub_of opening log) a answer (hub_of opening (log ++ entry ∷ []))) same answers) answers'
+  within_long : (push : Push) → push.head.base ≡ length log → push.head.base < length (log ++ held ∷ more)
+  within_long push last = omega (arith, last, length-append log (held ∷ more))
+
+  abbrev AsStale : Push → Type 0
+  AsStale push = Pushes limit Long push (Ok (pushed.Stale (length (log ++ held ∷ more)))) Long
+
+  stale_at : (push : Push) → (push.changes ≡ [] → ⊥) → push.head.base ≡ length log → entry ≡ entry_of_push push → AsStale push
+  stale_at push some last is =
+      let within = within_long push last in
+      inr (some, inr (λ above. omega (arith, above, within), inr (not_there push last is, inl (within, (refl, refl)))))
+
+  stale_push : (push : Push) (told : Result Pushed HubFault) → Pushes limit Before push told With → AsStale push
+  stale_push push told (inl (g, (a, s))) = absurd (longer opening log entry s)
+  stale_push push told (inr (g, inl (h, (a, s)))) = absurd (longer opening log entry s)
+  stale_push push told (inr (g, inr (h, inl (i, (a, s))))) = absurd (longer opening log entry s)
+  stale_push push told (inr (g, inr (h, inr (i, inl (j, (a, s)))))) = absurd (longer opening log entry s)
+  stale_push push told (inr (g, inr (h, inr (i, inr (j, inl (k, (a, s))))))) = absurd (longer opening log entry s)
+  stale_push push told (inr (g, inr (h, inr (i, inr (j, inr (k, inl (l, (a, s)))))))) =
+      stale_at push g (omega (arith, h, j)) (last_is (entry_of_push push) s)
+  stale_push push told (inr (g, inr (h, inr (i, inr (j, inr (k, inr (l, (c, s)))))))) = absurd (longer opening log entry s)
+
+  abbrev TakesStale : PushHead → List ℕ → Type 0
+  TakesStale head changeset = TakesBytes limit Long head changeset (Ok (pushed.Stale (length (log ++ held ∷ more)))) Long
+
+  stale_bytes : (head : PushHead) (changeset : List ℕ) (outcome : Outcome) → TakesBytes limit Before head changeset outcome With → TakesStale head changeset
+  stale_bytes head changeset outcome (inl (f, at, w, a, s)) = absurd (longer opening log entry s)
+  stale_bytes head changeset outcome (inr (groups, fits, is, inl (f, m, u, a, s))) = absurd (longer opening log entry s)
+  stale_bytes head changeset outcome (inr (groups, fits, is, inr (changes, form, (told, p, o)))) =
+      inr (groups, fits, is, inr (changes, form, (Ok (pushed.Stale (length (log ++ held ∷ more))), stale_push (record { head = head; changes = changes }) told p, refl)))
+
+  pub stale_asked : (asked : Result Asked WireFault) (answer : List ℕ) → AnswersAsked limit Before asked answer With
+      → AnswersAsked limit Long asked (answer_spelling (Short (Stale (length (log ++ held ∷ more))))) Long
+  stale_asked (Err fault) answer (a, s) = absurd (longer opening log entry s)
+  stale_asked (Ok (AsksPull first count)) answer (a, s) = absurd (longer opening log entry s)
+  stale_asked (Ok (AsksPush head changeset)) answer (outcome, p, a) = (Ok (pushed.Stale (length (log ++ held ∷ more))), stale_bytes head changeset outcome p, refl)
+
+pub stale_behind_another : StaleBehindAnother
+stale_behind_another limit opening log more entry held request answer (asked, reads, answers) another =
+    (asked, reads, stale_asked limit opening log more entry held another asked answer answers)

@@ -1,5 +1,5 @@
 -- What is answered, by the log that was shown.
-use Rattle.std.proofs.Common.{Vec, ◌≡◌, ◌≢◌, ◌+◌, ◌-◌, ◌<◌, ◌≤◌, ℕ, List, length, map, take, drop, Option, Some, None, Result, Ok, Err, inl, inr, refl, sym, ap, subst, ◌∙◌, arith, min}
+use Rattle.std.proofs.Common.{Vec, ◌≡◌, ◌≢◌, ◌-◌, ◌<◌, ◌≤◌, ℕ, List, length, map, take, drop, Some, Result, Ok, Err, inl, inr, refl, sym, ap, subst, ◌∙◌, min}
 use Rattle.std.specs.Global.{Global}
 use Rattle.std.specs.Prelude.{IfOk, OnErr}
 use Rattle.std.proofs.lemmas.List.{length-drop, take_min}
@@ -9,13 +9,11 @@ use Rattle.cs_store.specs.Calls.{MoreFailures}
 use Rattle.cs_store.specs.Contents.{Contents}
 use Rattle.cs_log_store.specs.Shows.{ShowsLog}
 use Rattle.cs_judging.specs.Hub.{entries_from}
-use Rattle.cs_judging.specs.Judged.{ShowsLogOf, hub_of}
+use Rattle.cs_judging.specs.Judged.{ShowsLogOf}
 use Rattle.cs_judging.specs.declared.fault.HubFault.TheVariants as hub
-use Rattle.cs_judging.specs.declared.push.Pushed.TheVariants as pushed
 use Rattle.cs_wire.specs.Answers.{answer_spelling}
 use Rattle.cs_wire.specs.Requests.{Asked, AsksPull, AsksPush, FitsRequest, ReadsRequest, asked_by, request_spelling}
 use Rattle.cs_wire.specs.Told.{told_entry}
-use Rattle.cs_wire.specs.declared.answer.Answer.{Answer}
 use Rattle.cs_wire.specs.declared.answer.Answer.TheVariants.{Entries, Short}
 use Rattle.cs_wire.specs.declared.fault.WireFault.{WireFault}
 use Rattle.cs_wire.specs.declared.push_head.PushHead.{PushHead}
@@ -24,7 +22,7 @@ use Rattle.cs_wire.specs.declared.short_answer.ShortAnswer.{ShortAnswer}
 use Rattle.cs_hub.specs.Calls.{AnswersHub, ServesStore, StaysHub}
 use Rattle.cs_hub.specs.Holding.{Holding}
 use Rattle.cs_hub.specs.Serves.{Outcome, push_answer, refused}
-use Rattle.cs_hub.specs.Steps.{AnswersAskedIf, IsAnsweredOf, IsTakenOf, TellsOutcome}
+use Rattle.cs_hub.specs.Steps.{IsAnsweredOf, IsTakenOf, TellsOutcome}
 use Rattle.cs_hub.specs.declared.refusal.Refusal.TheVariants.{ByHub, Memory, NoChangeset, NoForm, NoRequest}
 
 -- so many entries, cut where the log ends

@@ -1,5 +1,5 @@
 -- Each request has an answer.
-use Rattle.std.proofs.Common.{◌≡◌, inl, inr, ℕ, ◌≤◌, ◌<◌, List, [], ◌∷◌, length, map, Result, Ok, Err, refl, subst}
+use Rattle.std.proofs.Common.{inl, inr, ℕ, List, [], ◌∷◌, length, map, Result, Ok, Err, refl, subst}
 use Rattle.std.proofs.lemmas.Bool.{cases_lt}
 use Rattle.cs_change.specs.Spelling.{FitsChangeset}
 use Rattle.cs_change.specs.declared.group.Group.{Group}

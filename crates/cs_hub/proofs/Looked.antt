@@ -1,5 +1,5 @@
 -- A request that is judged, with nothing changed.
-use Rattle.std.proofs.Common.{Vec, ◌≡◌, ◌≢◌, ◌+◌, ◌≤◌, ℕ, List, [], ◌∷◌, ◌++◌, length, Result, Ok, Err, inl, inr, refl, sym, ap, subst, ◌∙◌, arith}
+use Rattle.std.proofs.Common.{Vec, ◌≡◌, ◌≢◌, ◌+◌, ◌≤◌, ℕ, List, length, Result, Ok, Err, inl, inr, refl, sym, ap, subst, ◌∙◌, arith}
 use Rattle.std.specs.Global.{Global}
 use Rattle.std.specs.Prelude.{IfOk}
 use Rattle.std.specs.Result.{IsErr, IsErrAnd}
@@ -22,7 +22,7 @@ use Rattle.cs_pending.specs.Storing.{err_is}
 use Rattle.cs_log_store.specs.Shows.{ShowsLog}
 use Rattle.cs_judging.specs.Hub.{HubState, with_entry}
 use Rattle.cs_judging.specs.Judged.{CanBeAppended, IsJudgement, IsOfPush, ShowsLogOf, hub_of}
-use Rattle.cs_judging.specs.Pushes.{Push, Pushes, PushesIf}
+use Rattle.cs_judging.specs.Pushes.{Pushes}
 use Rattle.cs_judging.specs.declared.fault.HubFault.{HubFault}
 use Rattle.cs_judging.specs.declared.fault.HubFault.TheVariants as hub
 use Rattle.cs_judging.specs.declared.push.Judgement.{Judgement}
@@ -35,11 +35,10 @@ use Rattle.cs_wire.specs.declared.answer.Answer.TheVariants.{Short}
 use Rattle.cs_wire.specs.declared.fault.WireFault.{WireFault}
 use Rattle.cs_wire.specs.declared.push_head.PushHead.{PushHead}
 use Rattle.cs_wire.specs.declared.short_answer.ShortAnswer.TheVariants.{Accepted}
-use Rattle.cs_hub.specs.Follows.{FitsBehind}
 use Rattle.cs_hub.specs.Holding.{Holding}
 use Rattle.cs_hub.specs.Judges.{IsJudged, ReadsHub}
 use Rattle.cs_hub.specs.Refusals.{refusal_of_codec, refusal_of_hub, refusal_of_unfit}
-use Rattle.cs_hub.specs.Serves.{AnswersAsked, Outcome, TakesBytes, push_answer, refused}
+use Rattle.cs_hub.specs.Serves.{Outcome, TakesBytes, push_answer, refused}
 use Rattle.cs_hub.specs.Steps.{AnswersAskedIf, IsAnsweredOf, IsEntryToAppend, IsJudgedAs, JudgesBytes, LooksAt, TakesBytesIf}
 use Rattle.cs_hub.specs.declared.judged.Judged.{Judged}
 use Rattle.cs_hub.specs.declared.judged.Judged.TheVariants.{Reply, Append}

@@ -1,12 +1,8 @@
 -- What is opened shows the log that the store showed.
-use Rattle.std.proofs.Common.{◌≡◌, ℕ, List, [], inl, inr, ap, sym, subst, ◌∙◌}
-use Rattle.cs_value.specs.Catalog.{AreTables}
-use Rattle.cs_value.specs.declared.catalog.TableDef.{TableDef}
-use Rattle.cs_log.specs.declared.entry.LogEntry.{LogEntry}
-use Rattle.cs_store.specs.Contents.{Contents, nothing}
+use Rattle.std.proofs.Common.{inl, inr, sym, subst, ◌∙◌}
+use Rattle.cs_store.specs.Contents.{Contents}
 use Rattle.cs_log_store.specs.Shows.{ShowsLog}
 use Rattle.cs_log_opening.specs.Laws.{HubIsOpened}
-use Rattle.cs_log_opening.specs.Opens.{IsHubAt}
 use Rattle.cs_hub.specs.Laws.{OpenedShows}
 
 pub opened_shows : HubIsOpened → OpenedShows

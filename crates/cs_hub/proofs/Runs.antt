@@ -1,6 +1,6 @@
 -- Lines that are answered over a store that doesn't fail are answered by the log that it shows.
-use Rattle.std.proofs.Common.{◌≡◌, ℕ, ◌+◌, ◌-◌, ◌<◌, ◌^◌, inl, inr, List, [], ◌∷◌, length, refl, sym, ap, subst, ◌∙◌, arith}
-use Rattle.std.specs.Prelude.{Result, Ok, Err, min}
+use Rattle.std.proofs.Common.{◌≡◌, ℕ, ◌-◌, ◌<◌, ◌^◌, inl, inr, List, [], ◌∷◌, refl, sym, ap, subst, ◌∙◌, arith}
+use Rattle.std.specs.Prelude.{Result, Ok, Err}
 use Rattle.hex.specs.Hex.{decode_of}
 use Rattle.hex.specs.declared.error.FromHexError.{FromHexError}
 use Rattle.cs_value.specs.declared.catalog.TableDef.{TableDef}
@@ -13,7 +13,7 @@ use Rattle.cs_judging.specs.Judged.{hub_of}
 use Rattle.cs_hub.specs.Calls.{AnswersHub, StaysHub}
 use Rattle.cs_hub.specs.Holding.{Holding, Shows}
 use Rattle.cs_hub.specs.Laws.{RunsByLog}
-use Rattle.cs_hub.specs.Serves.{IsSame, Serves, ServesIf}
+use Rattle.cs_hub.specs.Serves.{IsSame, Serves}
 
 no_more : (old new : ℕ) → new ≡ old → old < 2 ^ 64 - 1 → MoreFailures old new → ⊥
 no_more old new same few more = omega (arith, same, few, more)

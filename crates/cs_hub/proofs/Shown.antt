@@ -1,5 +1,5 @@
 -- The rows of a log, as rows that a store shows with nothing pending.
-use Rattle.std.proofs.Common.{◌≡◌, ℕ, List, length, take, Some, None, refl, sym, ap, subst, ◌∙◌, arith}
+use Rattle.std.proofs.Common.{◌≡◌, List, length, Some, None, refl, sym, ap, subst, ◌∙◌, arith}
 use Rattle.std.specs.FinMap.{get, get-empty}
 use Rattle.std.proofs.lemmas.List.{take_all}
 use Rattle.cs_value.specs.Catalog.{AreTables}

@@ -1,5 +1,5 @@
 -- What serving a request leaves of the store.
-use Rattle.std.proofs.Common.{Vec, ◌≡◌, ◌⊎◌, ℕ, List, ◌∷◌, Result, Ok, Err, inl, inr, refl, sym, ap, ◌∙◌, arith}
+use Rattle.std.proofs.Common.{Vec, ◌≡◌, ℕ, List, ◌∷◌, Result, Ok, Err, inl, inr, refl, sym, ◌∙◌, arith}
 use Rattle.std.specs.Global.{Global}
 use Rattle.std.specs.Prelude.{OnErr}
 use Rattle.cs_value.specs.declared.catalog.TableDef.{TableDef}
@@ -11,10 +11,9 @@ use Rattle.cs_judging.specs.Pushes.{Push, entry_of_push}
 use Rattle.cs_judging.specs.declared.fault.HubFault.{HubFault}
 use Rattle.cs_judging.specs.declared.fault.HubFault.TheVariants as hub
 use Rattle.cs_judging.specs.declared.push.Pushed.{Pushed}
-use Rattle.cs_judging.specs.declared.push.Pushed.TheVariants as pushed
 use Rattle.cs_wire.specs.Answers.{answer_spelling}
 use Rattle.cs_wire.specs.declared.push_head.PushHead.{PushHead}
-use Rattle.cs_hub.specs.Calls.{IsSameOrGrown, SaysAccepted, ServesStore}
+use Rattle.cs_hub.specs.Calls.{IsSameOrGrown, ServesStore}
 use Rattle.cs_hub.specs.Refusals.{refusal_of_hub}
 use Rattle.cs_hub.specs.Serves.{Outcome, push_answer}
 use Rattle.cs_hub.specs.declared.refusal.Refusal.{Refusal}

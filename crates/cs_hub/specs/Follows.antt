@@ -1,5 +1,5 @@
 -- An entry that others decided, behind a hub's log. (Profile of this project.)
-use Rattle.std.specs.Prelude.{◌≤◌, ℕ, List, length}
+use Rattle.std.specs.Prelude.{◌≤◌, List, length}
 use Rattle.cs_value.specs.declared.catalog.TableDef.{TableDef}
 use Rattle.cs_log.specs.Log.{IsNextEntry}
 use Rattle.cs_log.specs.Stored.{IsEntryOf}

@@ -1,5 +1,5 @@
 -- The laws of what a hub answers.
-use Rattle.std.specs.Prelude.{◌≡◌, ◌<◌, ◌-◌, ◌^◌, ℕ, List, [], ◌∷◌, ◌++◌, length}
+use Rattle.std.specs.Prelude.{◌≡◌, ◌≢◌, ◌<◌, ◌-◌, ◌^◌, ℕ, List, [], ◌∷◌, ◌++◌, length}
 use Rattle.cs_varint.specs.Bytes.{AreBytes}
 use Rattle.cs_value.specs.Catalog.{AreTables}
 use Rattle.cs_value.specs.declared.catalog.TableDef.{TableDef}
@@ -15,6 +15,9 @@ use Rattle.cs_judging.specs.Laws.{IsOfHub}
 use Rattle.cs_hub.specs.Calls.{AnswersHub, StaysHub}
 use Rattle.cs_hub.specs.Holding.{Holding, Shows}
 use Rattle.cs_hub.specs.Serves.{IsSame, Serves}
+use Rattle.cs_wire.specs.Answers.{answer_spelling}
+use Rattle.cs_wire.specs.declared.answer.Answer.TheVariants.{Short}
+use Rattle.cs_wire.specs.declared.short_answer.ShortAnswer.TheVariants.{Stale}
 
 -- what is opened shows the log that the store showed, or no entry where it held nothing
 abbrev pub OpenedShows : Type 0
@@ -41,13 +44,14 @@ ServedAgain =
     → Serves limit old request answer new
     → Serves limit new request answer new
 
--- a request of which a hub makes the entry behind its log is answered without another entry where the log goes on
-abbrev pub AppendsAtEnd : Type 0
-AppendsAtEnd =
-    (limit : ℕ) (opening : List TableDef) (log more : List LogEntry) (entry held : LogEntry) (request answer other : List ℕ) (new : HubState)
+-- a request of which a hub would make the entry behind its log is told to be stale where another came there
+abbrev pub StaleBehindAnother : Type 0
+StaleBehindAnother =
+    (limit : ℕ) (opening : List TableDef) (log more : List LogEntry) (entry held : LogEntry) (request answer : List ℕ)
     → Serves limit (hub_of opening log) request answer (hub_of opening (log ++ entry ∷ []))
-    → Serves limit (hub_of opening (log ++ held ∷ more)) request other new
-    → new ≡ hub_of opening (log ++ held ∷ more)
+    → held ≢ entry
+    → Serves limit (hub_of opening (log ++ held ∷ more)) request (answer_spelling (Short (Stale (length (log ++ held ∷ more)))))
+    (hub_of opening (log ++ held ∷ more))
 
 -- lines that a new hub answers, none refused for want of memory, have one list of answers, and leave one hub
 abbrev pub OneHubRun : ℕ → Type 0

@@ -16,7 +16,7 @@ use Rattle.cs_judging.specs.declared.push.Pushed.{Pushed}
 use Rattle.cs_judging.specs.declared.push.Pushed.TheVariants as pushed
 use Rattle.cs_hub.specs.Refusals.{refusal_of_hub, refusal_code}
 use Rattle.cs_hub.specs.declared.refusal.Refusal.{Refusal}
-use Rattle.cs_hub.specs.declared.refusal.Refusal.TheVariants.{Memory, NoRequest, NoChangeset, NoForm, ByHub}
+use Rattle.cs_hub.specs.declared.refusal.Refusal.TheVariants.{NoRequest, NoChangeset, NoForm, ByHub}
 use Rattle.cs_wire.specs.Answers.{answer_spelling}
 use Rattle.cs_wire.specs.Requests.{Asked, AsksPush, AsksPull, ReadsRequest}
 use Rattle.cs_wire.specs.Told.{told_entry}

@@ -1,7 +1,7 @@
 //! The laws of what a hub answers, each the contract of a function that does nothing.
 
 ghost use Rattle.std.specs.Prelude.{◌≡◌};
-ghost use Rattle.cs_hub.specs.Laws.{AppendsAtEnd, OneHubRun, OneService, OpenedShows, RequestHasAnswer, RunsByLog, ServedAgain};
+ghost use Rattle.cs_hub.specs.Laws.{OneHubRun, OneService, OpenedShows, RequestHasAnswer, RunsByLog, ServedAgain, StaleBehindAnother};
 ghost use Rattle.cs_hub.specs.declared.hub.TheConstants.{MAX_ENTRIES};
 
 use crate::hub::Hub;
@@ -51,12 +51,10 @@ pub fn served_again()
     ensures { ServedAgain }
 {}
 
-/// A push that would be appended behind a log is told without another entry where the log goes on: it stands there, or is stale.
-pub fn appends_at_end()
-    ensures { AppendsAtEnd }
-{
-    one_request();
-}
+/// A push that would be appended behind a log is stale where another entry came there.
+pub fn stale_behind_another()
+    ensures { StaleBehindAnother }
+{}
 
 /// The lines that a new hub answers have one list of answers, up to want of memory.
 pub fn one_run()

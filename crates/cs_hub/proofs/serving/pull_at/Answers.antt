@@ -1,4 +1,4 @@
-use Rattle.std.proofs.Common.{List, ◌∙◌, ◌-◌, ℕ, ap, arith, length, min, subst, sym}
+use Rattle.std.proofs.Common.{◌∙◌, ◌-◌, ℕ, ap, arith, min, subst, sym}
 use Rattle.cs_store.specs.Calls.{MoreFailures}
 use Rattle.cs_store.specs.Contents.{Contents}
 use Rattle.cs_log_store.specs.Shows.{ShowsLog}
