@@ -1,5 +1,5 @@
 -- What contents show as pending has an answer.
-use Rattle.std.proofs.Common.{◌≡◌, ◌≢◌, ◌<◌, ◌≤◌, ◌+◌, ◌++◌, ◌&&◌, ◌⊎◌, inl, inr, ℕ, Bool, true, false, cond, List, [], ◌∷◌, map, length, Some, T, refl, sym, ap, subst, ◌∙◌}
+use Rattle.std.proofs.Common.{◌≡◌, ◌+◌, ◌++◌, ◌&&◌, inl, inr, ℕ, Bool, true, false, cond, List, [], ◌∷◌, map, length, Some, T, refl, sym, subst, ◌∙◌}
 use Rattle.std.specs.Prelude.{ℤ, pos, IsUtf8}
 use Rattle.std.specs.FinMap.{entries, entries_sorted, find, get-entries, is_sorted}
 use Rattle.std.specs.FinMap.Entries.{below_all}
@@ -17,10 +17,9 @@ use Rattle.cs_normal.specs.Laws.{CatalogIsApart, FittingIsNormal}
 use Rattle.cs_normal.specs.Normal.{normal_spelling}
 use Rattle.cs_normal.specs.declared.normal.TableChanges.{TableChanges}
 use Rattle.cs_order.specs.Order.{by_bytes}
-use Rattle.cs_store.specs.Contents.{Bodies, Contents, IsListing, StorePlace, place_cmp, stored_pending}
+use Rattle.cs_store.specs.Contents.{Contents, IsListing, StorePlace, place_cmp, stored_pending}
 use Rattle.cs_pending.specs.OnePlace.{contained}
-use Rattle.cs_pending.specs.Shows.{ShowsRows}
-use Rattle.cs_pending.specs.View.{Changed, View}
+use Rattle.cs_pending.specs.View.{Changed}
 use Rattle.cs_outgoing.specs.Outgoing.{IsOutgoing, IsPendingOf, PendingIsOutgoing}
 use Rattle.cs_outgoing.specs.Steps.{ArePut, listing_spelling}
 use Rattle.cs_outgoing.specs.declared.gathering.Outgoing.{Outgoing}

@@ -1,36 +1,33 @@
 -- A push can be made, or has a fault.
-use Rattle.std.proofs.Common.{◌≡◌, ◌≢◌, ◌<◌, ◌≤◌, ◌+◌, ◌⊎◌, inl, inr, ℕ, zero, suc, Bool, cond, List, [], Option, Some, None, option_map, length, refl, sym, ap, ap₂, ◌∙◌, arith}
-use Rattle.std.specs.Prelude.{IsUtf8, pos}
-use Rattle.std.specs.FinMap.{empty, get, get-empty, get-insert, insert, len, len-empty}
-use Rattle.std.specs.List.{AllByRecursion}
-use Rattle.std.specs.Ordering.{eq_by_cmp}
+use Rattle.std.proofs.Common.{◌≡◌, ◌≢◌, ◌<◌, ◌≤◌, ◌+◌, ◌⊎◌, inl, inr, ℕ, zero, suc, cond, List, Option, Some, None, length, refl, sym, ap, ◌∙◌, arith}
+use Rattle.std.specs.Prelude.{pos}
+use Rattle.std.specs.FinMap.{empty, get, get-empty, get-insert, insert, len-empty}
 use Rattle.std.proofs.lemmas.Bool.{cases_lt}
 use Rattle.std.proofs.lemmas.Cmp.{nat_list_cmp_total}
 use Rattle.cs_apply.specs.Spots.{by_test, key_is}
 use Rattle.cs_log.specs.declared.entry.TheConstants.{MAX_CHANGESET}
 use Rattle.cs_normal.specs.Normal.{normal_spelling}
 use Rattle.cs_normal.specs.declared.normal.TableChanges.{TableChanges}
-use Rattle.cs_order.specs.Order.{by_bytes, same_bytes}
+use Rattle.cs_order.specs.Order.{same_bytes}
 use Rattle.cs_outgoing.specs.Outgoing.{IsOutgoing, IsPendingOf, PendingIsOutgoing}
 use Rattle.cs_outgoing.specs.declared.gathering.Outgoing.{Outgoing}
 use Rattle.cs_outgoing.specs.declared.gathering.Outgoing.TheVariants as outgoing
 use Rattle.cs_pending.specs.View.{View}
-use Rattle.cs_position.specs.Shows.{ShowsAt, base}
+use Rattle.cs_position.specs.Shows.{ShowsAt}
 use Rattle.cs_position.specs.Values.{flight_bytes, value_of}
 use Rattle.cs_position.specs.declared.position.Position.{Position}
 use Rattle.cs_position.specs.declared.position.TheConstants.{LAST_NUMBER}
 use Rattle.cs_pushing.specs.Laws.{IsOfPush, MadeOrPushFault}
-use Rattle.cs_pushing.specs.Pushes.{HasNothing, IsPushFault, IsPushMade, grounded, pushed}
+use Rattle.cs_pushing.specs.Pushes.{IsPushFault, IsPushMade, grounded, pushed}
 use Rattle.cs_pushing.specs.declared.fault.PushFault.{PushFault}
 use Rattle.cs_pushing.specs.declared.fault.PushFault.TheVariants.{InFlight, Nothing, Spent, TooLarge}
 use Rattle.cs_pushing.proofs.Confirmed.{sound_nothing}
 use Rattle.cs_pushing.proofs.Counted.{nothing_there, something_there}
 use Rattle.cs_pushing.proofs.Pushed.{log_rows_stay, under_way}
-use Rattle.cs_store.specs.Contents.{Bodies, Contents, Meta, meta_value, name_text, place_cmp}
+use Rattle.cs_store.specs.Contents.{Contents, Meta, meta_value, name_text, place_cmp}
 use Rattle.cs_store.specs.Whole.{IsName}
 use Rattle.cs_store.specs.declared.names.MetaName.{MetaName}
 use Rattle.cs_store.specs.declared.names.MetaName.TheVariants.{Id, Version, Number, Flight, Pending, Catalog}
-use Rattle.cs_value.specs.Catalog.{AreTables}
 use Rattle.cs_value.specs.declared.catalog.TableDef.{TableDef}
 use Rattle.cs_wire.specs.Numbers.{eight_bytes}
 

@@ -1,11 +1,10 @@
 -- An event has an outcome that is no refusal.
-use Rattle.std.proofs.Common.{◌≡◌, ◌≢◌, ◌∙◌, ◌++◌, ◌<◌, ◌≤◌, ◌^◌, ◌+◌, ℕ, List, [], ◌∷◌, map, Option, Some, None, Result, Ok, Err, length, slice_get, refl, sym, ap, subst, inl, inr, arith}
+use Rattle.std.proofs.Common.{◌≡◌, ◌∙◌, ◌++◌, ◌<◌, ◌^◌, ◌+◌, ℕ, List, [], ◌∷◌, map, Option, Some, None, Result, Ok, Err, length, slice_get, refl, sym, ap, subst, inl, inr, arith}
 use Rattle.std.specs.Prelude.{◌⊎◌, IsUtf8}
 use Rattle.std.specs.List.{AllByRecursion}
 use Rattle.std.proofs.lemmas.Bool.{cases_lt}
 use Rattle.cs_conflict.specs.Laws.{GuardedIsLawful}
 use Rattle.cs_conflict.specs.Wishes.{guarded}
-use Rattle.cs_conflict.specs.declared.clash.Clash.{Clash}
 use Rattle.cs_conflict.specs.declared.wish.Wish.{Wish}
 use Rattle.cs_hub.specs.Refusals.{refusal_code, refusal_of_hub}
 use Rattle.cs_hub.specs.Serves.{Serves, or_refusal, push_answer, refused}
@@ -53,13 +52,12 @@ use Rattle.cs_wire.specs.declared.short_answer.ShortAnswer.TheVariants.{Refused}
 use Rattle.cs_wishes.specs.Wished.{IsWished, next_wish, wishes_left}
 use Rattle.cs_world.specs.Laws.{AnswersFit, AskHasStep, DeliverHasStep, EditHasStep, HasStep, PushHasStep, ResendHasStep, RestartHasStep}
 use Rattle.cs_world.specs.Same.{IsRefused, device_code}
-use Rattle.cs_world.specs.Sound.{IsPlaced, IsSound, IsTrueAsked, IsTruePush}
+use Rattle.cs_world.specs.Sound.{IsSound, IsTrueAsked, IsTruePush}
 use Rattle.cs_world.specs.Steps as step
-use Rattle.cs_world.specs.Steps.{Step, addressee, heard}
+use Rattle.cs_world.specs.Steps.{addressee, heard}
 use Rattle.cs_world.specs.World.{Asks, IsMember, IsMessage, Member, Sent, Tells, World, with_log, with_member, with_message}
 use Rattle.cs_world.specs.declared.event.Event.{Event}
 use Rattle.cs_world.specs.declared.event.Event.TheVariants.{AskPull, Deliver, MakePush, OnEdit, Resend, Restart}
-use Rattle.cs_world.specs.declared.outcome.Outcome.{Outcome}
 use Rattle.cs_world.specs.declared.outcome.Outcome.TheVariants as told
 use Rattle.cs_world.proofs.Found.{added}
 

@@ -1,5 +1,5 @@
 -- Entries that a replica of a sound world pulls are merges over the log's tables.
-use Rattle.std.proofs.Common.{◌≡◌, ◌<◌, ◌^◌, ◌+◌, ◌∙◌, ℕ, zero, suc, List, Option, Some, None, Result, Ok, Err, slice_get, slice_set, refl, sym, ap, subst, inl, inr}
+use Rattle.std.proofs.Common.{◌≡◌, ◌<◌, ◌^◌, ◌+◌, ◌∙◌, ℕ, zero, suc, List, Some, None, Result, Ok, Err, slice_get, slice_set, refl, sym, ap, subst, inl, inr}
 use Rattle.std.specs.Prelude.{◌⊎◌}
 use Rattle.cs_value.specs.Key.{Place}
 use Rattle.cs_apply.specs.Tasks.{tasks}
@@ -8,7 +8,6 @@ use Rattle.cs_conflict.specs.declared.wish.Wish.{Wish}
 use Rattle.cs_log.specs.Entry.{entry_changes}
 use Rattle.cs_log.specs.Log.{tables_at}
 use Rattle.cs_log.specs.declared.entry.LogEntry.{LogEntry}
-use Rattle.cs_member.specs.Same.{IsSameView}
 use Rattle.cs_normal.specs.Normal.{groups_of}
 use Rattle.cs_normal.specs.State.{State}
 use Rattle.cs_pending.specs.Laws.{OneView}
@@ -36,7 +35,7 @@ use Rattle.cs_world.specs.Merges.{IsConfirmed, IsMerged, PullEntries, PullsAsMer
 use Rattle.cs_world.specs.Sound.{ArePartOf, IsSound}
 use Rattle.cs_world.specs.Steps as step
 use Rattle.cs_world.specs.Steps.{Hears, Step, heard, receiver}
-use Rattle.cs_world.specs.World.{Asks, IsMember, IsMessage, Member, Sent, Tells, World, with_member}
+use Rattle.cs_world.specs.World.{Asks, IsMember, IsMessage, Member, Tells, World}
 use Rattle.cs_world.specs.declared.event.Event.{Event}
 use Rattle.cs_world.specs.declared.event.Event.TheVariants.{Deliver}
 use Rattle.cs_world.specs.declared.outcome.Outcome.{Outcome}
