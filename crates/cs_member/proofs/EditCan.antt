@@ -1,6 +1,6 @@
 -- An edit of a replica that some store shows has a result that says something of it, and some store shows what it leaves.
-use Rattle.std.proofs.Common.{◌≡◌, ◌∙◌, ◌≤◌, ◌<◌, ◌&&◌, ℕ, suc, Bool, true, false, not, cond, List, [], ◌∷◌, length, Option, Some, None, option_map, Result, Ok, Err, slice_get, refl, sym, ap, ap₂, subst, inl, inr, arith}
-use Rattle.std.specs.Prelude.{◌⊎◌, Contains, if◌then◌else◌, nat_eq, pos}
+use Rattle.std.proofs.Common.{◌≡◌, ◌∙◌, ◌&&◌, ℕ, suc, Bool, true, false, not, cond, List, [], ◌∷◌, length, Option, Some, None, option_map, Result, Ok, Err, slice_get, refl, sym, ap, ap₂, subst, inl, inr, arith}
+use Rattle.std.specs.Prelude.{Contains, if◌then◌else◌, nat_eq, pos}
 use Rattle.std.specs.Cmp.{Equal-is, IsTotalOrder}
 use Rattle.std.specs.Cmp.Lexicographic.{slice_cmp}
 use Rattle.std.specs.FinMap.{IsAntisymmetric, get, get-insert, get-remove, len}
@@ -14,7 +14,6 @@ use Rattle.cs_apply.specs.NormalTasks.{one_table}
 use Rattle.cs_apply.specs.Spots.{both_true, by_test, key_is, key_refl, same_spot}
 use Rattle.cs_change.specs.Columns.{set_columns}
 use Rattle.cs_change.specs.Spelling.{change_spelling}
-use Rattle.cs_change.specs.declared.change.Change.{Change}
 use Rattle.cs_keyed.specs.Changes.{key_bytes}
 use Rattle.cs_normal.specs.Laws.{SetColumnsFit}
 use Rattle.cs_normal.specs.State.{IsRowOf, MayStandAt, State}
@@ -24,7 +23,7 @@ use Rattle.cs_pending.specs.OnePlace.{by_spot, tests_agree}
 use Rattle.cs_pending.specs.Settled.{Catalogs, middle_put, settled_fits, settled_sound}
 use Rattle.cs_pending.specs.Shows.{IsElsewhere, IsSoundOf}
 use Rattle.cs_pending.specs.Steps.{not_not, through}
-use Rattle.cs_pending.specs.View.{View, direct_net, edited, middle, put_at, settled}
+use Rattle.cs_pending.specs.View.{View, direct_net, edited, middle, settled}
 use Rattle.cs_pending.specs.declared.fault.EditFault.{EditFault}
 use Rattle.cs_pending.specs.declared.fault.EditFault.TheVariants.{KeyColumn, NoTable, NullKey, Width}
 use Rattle.cs_position.specs.Shows.{ShowsAt, changes_at, flown}
@@ -38,7 +37,6 @@ use Rattle.cs_store.specs.declared.names.MetaName.{MetaName}
 use Rattle.cs_store.specs.declared.names.MetaName.TheVariants.{Catalog, Flight, Id, Number, Pending, Version}
 use Rattle.cs_value.specs.Catalog.{AreTables, is_set, marked}
 use Rattle.cs_value.specs.Key.{Place}
-use Rattle.cs_value.specs.Laws.{OnePlaceOfName}
 use Rattle.cs_value.specs.Same.{same_place}
 use Rattle.cs_value.specs.declared.catalog.TableDef.{TableDef}
 use Rattle.cs_value.specs.declared.edit.Edit.{Edit}

@@ -3,3 +3,4 @@ mod OneEdit
 mod EditCan
 mod OnePush
 mod OneAnswer
+mod PushCan

@@ -1,15 +1,15 @@
 -- An edit of the same replica has one result, and leaves the same replica.
-use Rattle.std.proofs.Common.{◌≡◌, ◌∙◌, ◌<◌, ℕ, suc, Bool, true, false, not, List, [], ◌∷◌, length, Option, Some, None, Result, Ok, Err, refl, sym, ap, subst, inl, inr, arith}
-use Rattle.std.specs.Prelude.{◌⊎◌, Contains, if◌then◌else◌}
+use Rattle.std.proofs.Common.{◌≡◌, ◌∙◌, ℕ, suc, Bool, true, false, not, List, [], ◌∷◌, Option, Some, None, Result, Ok, Err, refl, sym, ap, subst, inl, inr, arith}
+use Rattle.std.specs.Prelude.{Contains, if◌then◌else◌}
 use Rattle.std.specs.FinMap.{len}
 use Rattle.std.specs.Str.{bytes_eq}
 use Rattle.cs_change.specs.Action.{action_any}
 use Rattle.cs_change.specs.declared.change.Change.{Change}
 use Rattle.cs_keyed.specs.Changes.{key_bytes}
-use Rattle.cs_pending.specs.Edits.{Asked, IsOfStore, after_edit, asked_key, edit, edit_at, edit_found, edit_table, has_set_key, has_widths, leaves_key, left_in, named, wanted_of}
+use Rattle.cs_pending.specs.Edits.{Asked, after_edit, asked_key, edit, edit_at, edit_found, edit_table, has_set_key, has_widths, leaves_key, left_in, named, wanted_of}
 use Rattle.cs_pending.specs.View.{View, direct_net, edited, middle, put_at, settled, undo}
 use Rattle.cs_pending.specs.declared.fault.EditFault.{EditFault}
-use Rattle.cs_pending.specs.declared.fault.EditFault.TheVariants.{KeyColumn, NoTable, NullKey, Width}
+use Rattle.cs_pending.specs.declared.fault.EditFault.TheVariants.{KeyColumn, NullKey, Width}
 use Rattle.cs_position.specs.Shows.{ShowsAt}
 use Rattle.cs_position.specs.declared.position.Position.{Position}
 use Rattle.cs_replica.specs.Edited.{with_pending}
@@ -18,7 +18,6 @@ use Rattle.cs_taking.specs.Laws.{OneContents}
 use Rattle.cs_value.specs.Key.{Place}
 use Rattle.cs_value.specs.Same.{same_place}
 use Rattle.cs_value.specs.declared.catalog.TableDef.{TableDef}
-use Rattle.cs_value.specs.declared.edit.Edit.{Edit}
 use Rattle.cs_member.specs.Laws.{OneEdited}
 use Rattle.cs_member.specs.Member.{Member, asked_of, table_of}
 use Rattle.cs_member.specs.Same.{IsSameMember, IsSameView}

@@ -1,5 +1,5 @@
 -- A push of the same replica asks the same, or has one fault, and leaves the same replica.
-use Rattle.std.proofs.Common.{◌≡◌, ◌∙◌, ◌≤◌, List, [], Option, Some, None, Result, Ok, Err, length, refl, sym, ap, subst, arith}
+use Rattle.std.proofs.Common.{◌≡◌, ◌∙◌, ◌≤◌, List, [], Option, None, Result, Ok, Err, length, refl, sym, ap, subst, arith}
 use Rattle.std.specs.Prelude.{IsSome}
 use Rattle.cs_log.specs.declared.entry.TheConstants.{MAX_CHANGESET}
 use Rattle.cs_normal.specs.Normal.{normal_spelling}

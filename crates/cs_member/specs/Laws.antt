@@ -1,5 +1,5 @@
 -- The laws of a replica as it is shown: what is told it leaves its id, and each step of it has one result.
-use Rattle.std.specs.Prelude.{◌≡◌, List, Result, Ok, Err}
+use Rattle.std.specs.Prelude.{◌≡◌, List, Result, Ok, Err, IsUtf8}
 use Rattle.std.specs.List.{AllByRecursion}
 use Rattle.cs_conflict.specs.declared.wish.Wish.{Wish}
 use Rattle.cs_pending.specs.Edits.{IsOfStore}
@@ -79,6 +79,16 @@ OnePushed =
     → IsPushAsked tables some before one
     → IsPushAsked tables other its last
     → (some ≡ other) × IsSameMember tables one last
+
+-- there is one: a push of a replica that some store shows has a result, and some store shows what it leaves; the names of the tables are
+-- text
+abbrev pub PushHasResult : Type 0
+PushHasResult =
+    (tables : List TableDef) (before : Member)
+    → AreTables tables
+    → AllByRecursion (λ table. IsUtf8 table.name) tables
+    → IsShown tables before
+    → (result : Result Asked PushFault) × (after : Member) × IsOfPushed result × IsPushAsked tables result before after
 
 -- and once more it asks one thing, or there is none under way
 abbrev pub OneResent : Type 0

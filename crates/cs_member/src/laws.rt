@@ -1,6 +1,6 @@
 //! The laws of a replica as it is shown, each the contract of a function that does nothing.
 
-ghost use Rattle.cs_member.specs.Laws.{EditHasResult, HearsKeepsId, OneEdited, OneHeard, OnePushed, OneResent};
+ghost use Rattle.cs_member.specs.Laws.{EditHasResult, HearsKeepsId, OneEdited, OneHeard, OnePushed, OneResent, PushHasResult};
 ghost use Rattle.cs_replica.specs.Laws.{OneAnswered};
 
 use cs_conflict::Picker;
@@ -34,6 +34,13 @@ pub fn one_pushed()
 {
     cs_outgoing::laws::one_pending();
     cs_pushing::laws::one_push();
+}
+
+/// A push of a replica that some store shows has a result, and some store shows what it leaves.
+pub fn push_has_result()
+    ensures { PushHasResult }
+{
+    cs_pushing::laws::made_or_push_fault();
 }
 
 /// But for want of memory the push under way asks one thing once more, or there is none.

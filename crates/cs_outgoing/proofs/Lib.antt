@@ -1,3 +1,4 @@
 pub mod Listed
 pub mod Gathered
 pub mod Answered
+pub mod Exists

@@ -1,11 +1,14 @@
 -- What is pending, as one changeset (profile of this project).
-use Rattle.std.specs.Prelude.{◌≡◌, ◌≢◌, ◌<◌, ◌≤◌, ℕ, List, [], length, Contains}
+use Rattle.std.specs.Prelude.{◌≡◌, ◌≢◌, ◌<◌, ◌≤◌, ℕ, List, [], length, Contains, IsUtf8}
+use Rattle.std.specs.List.{AllByRecursion}
 use Rattle.cs_value.specs.Catalog.{AreTables}
 use Rattle.cs_value.specs.declared.catalog.TableDef.{TableDef}
 use Rattle.cs_normal.specs.Normal.{FitsCatalog, IsNormalChangeset, change_of, normal_spelling}
 use Rattle.cs_normal.specs.declared.normal.TableChanges.{TableChanges}
 use Rattle.cs_log.specs.declared.entry.TheConstants.{MAX_CHANGESET}
-use Rattle.cs_pending.specs.View.{Changed}
+use Rattle.cs_pending.specs.Shows.{ShowsRows}
+use Rattle.cs_pending.specs.View.{Changed, View}
+use Rattle.cs_store.specs.Contents.{Contents}
 use Rattle.cs_outgoing.specs.declared.gathering.Outgoing.{Outgoing}
 use Rattle.cs_outgoing.specs.declared.gathering.Outgoing.TheVariants.{Nothing, TooLarge, Changes}
 
@@ -31,3 +34,12 @@ OnePending =
     → IsPendingOf tables pending some
     → IsPendingOf tables pending other
     → some ≡ other
+
+-- there is an answer: of what some contents show as pending, where the names of the tables are text
+abbrev pub PendingIsOutgoing : Type 0
+PendingIsOutgoing =
+    (tables : List TableDef) (contents : Contents) (view : View)
+    → AreTables tables
+    → AllByRecursion (λ table. IsUtf8 table.name) tables
+    → ShowsRows tables contents view
+    → (outgoing : Outgoing) × IsOutgoing tables view.pending outgoing

@@ -2,3 +2,4 @@ pub mod Confirmed
 pub mod Cleared
 pub mod Counted
 pub mod Pushed
+pub mod Exists

@@ -1,7 +1,9 @@
 -- The laws of pushes.
-use Rattle.std.specs.Prelude.{◌≡◌, ◌≢◌, List}
+use Rattle.std.specs.Prelude.{◌≡◌, ◌≢◌, ◌⊎◌, List, IsUtf8}
+use Rattle.std.specs.List.{AllByRecursion}
 use Rattle.cs_normal.specs.declared.normal.TableChanges.{TableChanges}
 use Rattle.cs_pending.specs.View.{View}
+use Rattle.cs_position.specs.Shows.{ShowsAt}
 use Rattle.cs_position.specs.declared.position.Position.{Position}
 use Rattle.cs_pushing.specs.Pushes.{IsPushFault, IsPushMade}
 use Rattle.cs_pushing.specs.declared.fault.PushFault.{PushFault}
@@ -42,3 +44,13 @@ NoFaultWhereMade =
     → IsOfPush fault
     → IsPushFault fault tables position before
     → ⊥
+
+-- a push of a replica that some contents show can be made, or has a fault; the names of the tables are text
+abbrev pub MadeOrPushFault : Type 0
+MadeOrPushFault =
+    (tables : List TableDef) (contents : Contents) (position : Position) (before : View)
+    → AreTables tables
+    → AllByRecursion (λ table. IsUtf8 table.name) tables
+    → ShowsAt tables contents position before
+    → ((changes : List TableChanges) × (new : Contents) × IsPushMade tables position before new changes)
+    ⊎ ((fault : PushFault) × IsOfPush fault × IsPushFault fault tables position before)

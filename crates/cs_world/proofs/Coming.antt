@@ -1,6 +1,5 @@
 -- In the same world an event has one outcome, and leaves the same world.
-use Rattle.std.proofs.Common.{◌≡◌, ◌≢◌, ◌∙◌, ◌++◌, ◌<◌, ◌^◌, ℕ, zero, suc, List, [], ◌∷◌, Option, Some, None, Result, Ok, Err, length, slice_get, slice_set, refl, sym, ap, subst, inl, inr, arith}
-use Rattle.std.specs.Prelude.{◌⊎◌}
+use Rattle.std.proofs.Common.{◌≡◌, ◌∙◌, ◌++◌, ℕ, zero, suc, List, [], ◌∷◌, Some, None, Result, Ok, Err, length, slice_get, refl, sym, ap, subst, inl, inr, arith}
 use Rattle.cs_conflict.specs.declared.wish.Wish.{Wish}
 use Rattle.cs_hub.specs.Laws.{OneService}
 use Rattle.cs_hub.specs.Serves.{Serves, ServesIf}
@@ -25,9 +24,9 @@ use Rattle.cs_wire.specs.Requests.{Asked, AsksPull, request_spelling}
 use Rattle.cs_wire.specs.declared.answer.Answer.{Answer}
 use Rattle.cs_wire.specs.declared.answer.Answer.TheVariants.{Short}
 use Rattle.cs_wire.specs.declared.short_answer.ShortAnswer.TheVariants.{Refused}
-use Rattle.cs_world.specs.Laws.{NoneRefused, OneRun, OneStep, StepsAreSound}
+use Rattle.cs_world.specs.Laws.{OneRun, OneStep, StepsAreSound}
 use Rattle.cs_world.specs.Same.{IsRefused, IsSameWorld, device_code}
-use Rattle.cs_world.specs.Sound.{IsPlaced, IsSound}
+use Rattle.cs_world.specs.Sound.{IsSound}
 use Rattle.cs_world.specs.Steps as step
 use Rattle.cs_world.specs.Steps.{Step, Steps, addressee, heard}
 use Rattle.cs_world.specs.World.{Asks, IsMember, IsMessage, Member, Sent, Tells, World, with_log, with_member, with_message}
@@ -35,7 +34,7 @@ use Rattle.cs_world.specs.declared.event.Event.{Event}
 use Rattle.cs_world.specs.declared.event.Event.TheVariants.{AskPull, Deliver, MakePush, OnEdit, Resend, Restart}
 use Rattle.cs_world.specs.declared.outcome.Outcome.{Outcome}
 use Rattle.cs_world.specs.declared.outcome.Outcome.TheVariants as told
-use Rattle.cs_world.proofs.Came.{Answered, AskedFrom, AskedOnceMore, Came, Comes, Edited, HeardOf, IsRead, Lacks, Missed, Pushed, Reread, ask_outcome, came, edit_outcome, has_replica, read_outcome, with_asked}
+use Rattle.cs_world.proofs.Came.{Answered, AskedFrom, AskedOnceMore, Came, Comes, Edited, HeardOf, IsRead, Missed, Pushed, Reread, ask_outcome, came, edit_outcome, has_replica, read_outcome, with_asked}
 use Rattle.cs_world.proofs.Found.{added, set_at, set_length, still}
 
 -- the laws below

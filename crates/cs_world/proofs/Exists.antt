@@ -1,10 +1,10 @@
 -- An event has an outcome that is no refusal.
-use Rattle.std.proofs.Common.{◌≡◌, ◌≢◌, ◌∙◌, ◌++◌, ◌<◌, ◌≤◌, ◌^◌, ◌+◌, ℕ, List, [], ◌∷◌, map, Option, Some, None, Result, Ok, Err, length, slice_get, refl, sym, ap, subst, inl, inr, arith}
-use Rattle.std.specs.Prelude.{◌⊎◌}
+use Rattle.std.proofs.Common.{◌≡◌, ◌∙◌, ◌++◌, ◌<◌, ◌^◌, ◌+◌, ℕ, List, [], ◌∷◌, map, Option, Some, None, Result, Ok, Err, length, slice_get, refl, sym, ap, subst, inl, inr, arith}
+use Rattle.std.specs.Prelude.{◌⊎◌, IsUtf8}
+use Rattle.std.specs.List.{AllByRecursion}
 use Rattle.std.proofs.lemmas.Bool.{cases_lt}
 use Rattle.cs_conflict.specs.Laws.{GuardedIsLawful}
 use Rattle.cs_conflict.specs.Wishes.{guarded}
-use Rattle.cs_conflict.specs.declared.clash.Clash.{Clash}
 use Rattle.cs_conflict.specs.declared.wish.Wish.{Wish}
 use Rattle.cs_hub.specs.Refusals.{refusal_code, refusal_of_hub}
 use Rattle.cs_hub.specs.Serves.{Serves, or_refusal, push_answer, refused}
@@ -17,8 +17,8 @@ use Rattle.cs_judging.specs.declared.fault.HubFault.TheVariants as hub
 use Rattle.cs_judging.specs.declared.push.Pushed.{Pushed}
 use Rattle.cs_judging.specs.declared.push.Pushed.TheVariants as pushed
 use Rattle.cs_log.specs.declared.entry.LogEntry.{LogEntry}
-use Rattle.cs_member.specs.Laws.{EditHasResult, IsInRange, IsOfEdit}
-use Rattle.cs_member.specs.Member.{IsEditedTo}
+use Rattle.cs_member.specs.Laws.{EditHasResult, IsInRange, IsOfEdit, IsOfPushed, PushHasResult}
+use Rattle.cs_member.specs.Member.{IsEditedTo, IsPushAsked}
 use Rattle.cs_normal.specs.Laws.{NormalAgain, NormalIsTaken}
 use Rattle.cs_normal.specs.Normal.{groups_of}
 use Rattle.cs_normal.specs.declared.normal.TableChanges.{TableChanges}
@@ -28,7 +28,9 @@ use Rattle.cs_position.specs.Shows.{ShowsAt}
 use Rattle.cs_position.specs.declared.position.Position.{Position}
 use Rattle.cs_pulling.specs.declared.fault.AnswerFault.{AnswerFault}
 use Rattle.cs_pulling.specs.declared.fault.AnswerFault.TheVariants as hearing
-use Rattle.cs_pushing.specs.Pushes.{request_of}
+use Rattle.cs_pushing.specs.Laws.{IsOfPush}
+use Rattle.cs_pushing.specs.Pushes.{grounded, pushed as pushed_position, request_of}
+use Rattle.cs_pushing.specs.declared.fault.PushFault.{PushFault}
 use Rattle.cs_pushing.specs.declared.fault.PushFault.TheVariants as pushing
 use Rattle.cs_replica.specs.Answered.{Answers}
 use Rattle.cs_replica.specs.Edited.{with_pending}
@@ -48,15 +50,14 @@ use Rattle.cs_wire.specs.declared.push_head.PushHead.{PushHead}
 use Rattle.cs_wire.specs.declared.short_answer.ShortAnswer.TheVariants as short
 use Rattle.cs_wire.specs.declared.short_answer.ShortAnswer.TheVariants.{Refused}
 use Rattle.cs_wishes.specs.Wished.{IsWished, next_wish, wishes_left}
-use Rattle.cs_world.specs.Laws.{AnswersFit, AskHasStep, DeliverHasStep, EditHasStep, HasStep, ResendHasStep, RestartHasStep}
+use Rattle.cs_world.specs.Laws.{AnswersFit, AskHasStep, DeliverHasStep, EditHasStep, HasStep, PushHasStep, ResendHasStep, RestartHasStep}
 use Rattle.cs_world.specs.Same.{IsRefused, device_code}
-use Rattle.cs_world.specs.Sound.{IsPlaced, IsSound, IsTrueAsked, IsTruePush}
+use Rattle.cs_world.specs.Sound.{IsSound, IsTrueAsked, IsTruePush}
 use Rattle.cs_world.specs.Steps as step
-use Rattle.cs_world.specs.Steps.{Step, addressee, heard}
+use Rattle.cs_world.specs.Steps.{addressee, heard}
 use Rattle.cs_world.specs.World.{Asks, IsMember, IsMessage, Member, Sent, Tells, World, with_log, with_member, with_message}
 use Rattle.cs_world.specs.declared.event.Event.{Event}
-use Rattle.cs_world.specs.declared.event.Event.TheVariants.{AskPull, Deliver, OnEdit, Resend, Restart}
-use Rattle.cs_world.specs.declared.outcome.Outcome.{Outcome}
+use Rattle.cs_world.specs.declared.event.Event.TheVariants.{AskPull, Deliver, MakePush, OnEdit, Resend, Restart}
 use Rattle.cs_world.specs.declared.outcome.Outcome.TheVariants as told
 use Rattle.cs_world.proofs.Found.{added}
 
@@ -106,6 +107,33 @@ module _ (limit : ℕ) (world : World) where
             let p = s.placed r before was in
             let all = law world.tables asked before s.tables ranged (record { contents = p.contents; shows = p.shown }) in
             edit_there r asked before all.1 all.0 was all.2 all.3
+      ]
+
+  -- ---- a push
+
+  push_says : (fault : PushFault) → IsOfPush fault → IsRefused (told.NotPushed fault) world → ⊥
+  push_says fault of (inl is) = of.0 is
+  push_says fault of (inr is) = of.1 is
+
+  push_there : (r : ℕ) (before after : Member) (result : Result Asked PushFault) → IsMember world r before → IsOfPushed result → IsPushAsked world.tables result before after → HasStep limit world (MakePush r)
+  push_there r before after (Ok asked) was of (changes, left, is, made, asks) =
+      let position : Position = pushed_position before.position changes in
+      let new : World = with_member world r (record { position = position; view = grounded before.view }) in (
+        told.Sent (length world.messages),
+        with_message new (Asks r (request_of position changes)),
+        not_sent new (Asks r (request_of position changes)) (λ q. asks_nothing_failed r q (request_of position changes)),
+        step.pushes {left = left} was made,
+      )
+  push_there r before after (Err fault) was of (still, refused) = (told.NotPushed fault, world, push_says fault of, step.pushes_not {before = before} was refused)
+
+  pub push_exists : PushHasResult → IsSound limit world → AllByRecursion (λ table. IsUtf8 table.name) world.tables → (r : ℕ) → HasStep limit world (MakePush r)
+  push_exists law s named r =
+      elim (there_or_not (slice_get world.members r)) [
+        | inl none ↦ no_replica (MakePush r) r refl none
+        | inr (before, was) ↦
+            let p = s.placed r before was in
+            let all = law world.tables before s.tables named (record { contents = p.contents; shows = p.shown }) in
+            push_there r before all.1 all.0 was all.2 all.3
       ]
 
   -- ---- a push once more
@@ -305,6 +333,9 @@ module _ (laws : Below) (limit : ℕ) (small : limit < 2 ^ 32) (world : World) (
 
 pub edit_has_step : EditHasResult → EditHasStep
 edit_has_step law limit r asked world s ranged = edit_exists limit world law s r asked ranged
+
+pub push_has_step : PushHasResult → PushHasStep
+push_has_step law limit r world s named = push_exists limit world law s named r
 
 pub resend_has_step : ResendHasStep
 resend_has_step limit r world = resend_exists limit world r

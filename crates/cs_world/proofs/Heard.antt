@@ -130,7 +130,7 @@ module _ (laws : Below) (limit : ℕ) (small : limit < 2 ^ 32) (world : World) (
         let e = part at.at told at.there in
         (e.0, subst (λ (v : ℕ). slice_get world.log v ≡ Some e.0) (sym at.place) e.1, e.2)
 
-    read_there : (version : ℕ) (told : ToldEntry) (entry : LogEntry) → IsToldAt first entries version told → IsReadAs world.tables told entry → slice_get world.log version ≡ Some entry
+    pub read_there : (version : ℕ) (told : ToldEntry) (entry : LogEntry) → IsToldAt first entries version told → IsReadAs world.tables told entry → slice_get world.log version ≡ Some entry
     read_there version told entry at read =
         let e = told_there version told at in
         let own = reads_itself e.0 (stored_at version e.0 e.1) in

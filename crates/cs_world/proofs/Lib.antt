@@ -2,6 +2,7 @@ mod Found
 mod Goes
 mod Served
 mod Heard
+mod Merging
 mod Keeps
 mod Holds
 mod Wished

@@ -1,5 +1,5 @@
 -- The laws of worlds.
-use Rattle.std.specs.Prelude.{◌≡◌, ◌<◌, ◌^◌, ℕ, List}
+use Rattle.std.specs.Prelude.{◌≡◌, ◌<◌, ◌^◌, ℕ, List, IsUtf8}
 use Rattle.std.specs.List.{AllByRecursion}
 use Rattle.cs_value.specs.Catalog.{AreTables}
 use Rattle.cs_value.specs.declared.catalog.TableDef.{TableDef}
@@ -17,15 +17,18 @@ use Rattle.cs_store.specs.Contents.{Contents}
 use Rattle.cs_taking.specs.Laws.{PicksOnce}
 use Rattle.cs_wire.specs.Answers.{FitsAnswer, answer_spelling}
 use Rattle.cs_wire.specs.Requests.{Asked, request_spelling}
+use Rattle.cs_wire.specs.Entries.{ToldEntry}
 use Rattle.cs_wire.specs.declared.answer.Answer.{Answer}
+use Rattle.cs_wire.specs.declared.answer.Answer.TheVariants.{Entries}
 use Rattle.cs_wishes.specs.Wished.{IsWished}
 use Rattle.cs_world.specs.Headline.{Headline, IsGood}
+use Rattle.cs_world.specs.Merges.{PullsAsMerges, count_in}
 use Rattle.cs_world.specs.Sound.{IsSound}
 use Rattle.cs_world.specs.Same.{IsRefused, IsSameWorld}
 use Rattle.cs_world.specs.Steps.{Step, Steps}
 use Rattle.cs_world.specs.World.{Asks, IsMember, IsMessage, Member, Tells, World, first_world}
 use Rattle.cs_world.specs.declared.event.Event.{Event}
-use Rattle.cs_world.specs.declared.event.Event.TheVariants.{AskPull, Deliver, OnEdit, Resend, Restart}
+use Rattle.cs_world.specs.declared.event.Event.TheVariants.{AskPull, Deliver, MakePush, OnEdit, Resend, Restart}
 use Rattle.cs_world.specs.declared.outcome.Outcome.{Outcome}
 
 -- a replica to which nothing has happened, shown by some store
@@ -71,6 +74,19 @@ AnswersFit =
     → ServesIf (Unit {0}) limit (hub_of world.tables world.log) (request_spelling asked) bytes (hub_of world.tables log)
     → (answer : Answer) × FitsAnswer answer × (bytes ≡ answer_spelling answer)
 
+-- in a sound world entries that reach a replica are pulled, as many as the outcome tells, each as the three-way merge of the log's tables at
+-- the replica's version, its own rows, and the log's tables at the next version
+abbrev pub PullsMerge : Type 0
+PullsMerge =
+    (limit k r first : ℕ) (entries : List ToldEntry) (wishes : List Wish) (outcome : Outcome) (old new : World) (before after : Member)
+    → limit < 2 ^ 32
+    → IsSound limit old
+    → IsMessage old k (Tells r (Entries first entries))
+    → IsMember old r before
+    → IsMember new r after
+    → Step limit old (Deliver k wishes) outcome new
+    → PullsAsMerges old (count_in outcome) wishes before after
+
 -- ---- one outcome an event
 
 -- in the same world an event has one outcome, and leaves the same world: but for refusals
@@ -113,6 +129,14 @@ HasStep limit old event = (outcome : Outcome) × (new : World) × (IsRefused out
 -- in a sound world an edit has one; its values have spellings
 abbrev pub EditHasStep : Type 0
 EditHasStep = (limit r : ℕ) (asked : Edit) (world : World) → IsSound limit world → IsInRange asked → HasStep limit world (OnEdit r asked)
+
+-- and a push; the names of the tables are text
+abbrev pub PushHasStep : Type 0
+PushHasStep =
+    (limit r : ℕ) (world : World)
+    → IsSound limit world
+    → AllByRecursion (λ table. IsUtf8 table.name) world.tables
+    → HasStep limit world (MakePush r)
 
 -- and a push that is to be sent once more
 abbrev pub ResendHasStep : Type 0

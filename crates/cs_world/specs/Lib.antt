@@ -3,6 +3,7 @@ pub mod Steps
 pub mod Sound
 pub mod Same
 pub mod Headline
+pub mod Merges
 pub mod Laws
 pub mod Short
 pub mod Holding

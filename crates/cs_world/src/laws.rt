@@ -1,7 +1,7 @@
 //! The laws of worlds, each the contract of a function that does nothing.
 
 ghost use Rattle.cs_replica.specs.Laws.{AnswerHasResult};
-ghost use Rattle.cs_world.specs.Laws.{AnswersFit, AskHasStep, DeliverHasStep, EditHasStep, FirstIsSound, OneRun, OneStep, ResendHasStep, RestartHasStep, SoundHasHeadline, StepsAreSound, WishesPickOnce};
+ghost use Rattle.cs_world.specs.Laws.{AnswersFit, AskHasStep, DeliverHasStep, EditHasStep, FirstIsSound, OneRun, OneStep, PullsMerge, PushHasStep, ResendHasStep, RestartHasStep, SoundHasHeadline, StepsAreSound, WishesPickOnce};
 
 use cs_conflict::Picker;
 use cs_wishes::Wishes;
@@ -71,6 +71,23 @@ pub fn answers_fit()
     cs_wire::laws::told_are_read();
 }
 
+/// In a sound world each entry that is pulled is the three-way merge of the log's tables at the replica's version, its own rows, and the
+/// log's tables at the next version.
+pub fn pulls_merge()
+    ensures { PullsMerge }
+{
+    cs_normal::laws::normal_is_taken();
+    cs_normal::laws::normal_again();
+    cs_log::laws::one_body();
+    cs_pending::laws::one_view();
+    cs_taking::laws::one_contents();
+    cs_pulling::laws::one_read();
+    let wishes = Wishes::new(&[]);
+    cs_pulling::laws::pulled_leads(&wishes);
+    cs_replica::laws::steps_stand();
+    cs_replica::laws::flight_fits();
+}
+
 /// In a sound world an event has one outcome, and leaves one world: but where memory was refused or a device failed.
 pub fn one_step()
     ensures { OneStep }
@@ -96,6 +113,13 @@ pub fn edit_has_step()
     ensures { EditHasStep }
 {
     cs_member::laws::edit_has_result();
+}
+
+/// So has a push.
+pub fn push_has_step()
+    ensures { PushHasStep }
+{
+    cs_member::laws::push_has_result();
 }
 
 /// So has a push that is to be sent once more.

@@ -1,0 +1,181 @@
+-- Entries that a replica of a sound world pulls are merges over the log's tables.
+use Rattle.std.proofs.Common.{◌≡◌, ◌<◌, ◌^◌, ◌+◌, ◌∙◌, ℕ, zero, suc, List, Some, None, Result, Ok, Err, slice_get, slice_set, refl, sym, ap, subst, inl, inr}
+use Rattle.std.specs.Prelude.{◌⊎◌}
+use Rattle.cs_value.specs.Key.{Place}
+use Rattle.cs_apply.specs.Tasks.{tasks}
+use Rattle.cs_change.specs.Net.{net}
+use Rattle.cs_conflict.specs.declared.wish.Wish.{Wish}
+use Rattle.cs_log.specs.Entry.{entry_changes}
+use Rattle.cs_log.specs.Log.{tables_at}
+use Rattle.cs_log.specs.declared.entry.LogEntry.{LogEntry}
+use Rattle.cs_normal.specs.Normal.{groups_of}
+use Rattle.cs_normal.specs.State.{State}
+use Rattle.cs_pending.specs.Laws.{OneView}
+use Rattle.cs_pending.specs.Nets.{undo_none}
+use Rattle.cs_pending.specs.View.{View, middle}
+use Rattle.cs_position.specs.Shows.{ShowsAt, base}
+use Rattle.cs_position.specs.declared.position.Position.{Position}
+use Rattle.cs_pulling.specs.Listed.{PullsMany, count_of}
+use Rattle.cs_pulling.specs.Pulls.{IsOwn, PullsOne}
+use Rattle.cs_pulling.specs.declared.fault.AnswerFault.{AnswerFault}
+use Rattle.cs_pulling.specs.declared.fault.AnswerFault.TheVariants as fault
+use Rattle.cs_pulling.specs.declared.listing.Pulled.{Pulled}
+use Rattle.cs_pulling.specs.declared.listing.Pulled.TheVariants as pulled
+use Rattle.cs_replica.specs.Answered.{told_of}
+use Rattle.cs_replica.specs.Stands.{StandsOn}
+use Rattle.cs_replica.specs.declared.told.Told.{Told}
+use Rattle.cs_store.specs.Contents.{Contents}
+use Rattle.cs_taking.specs.Takes.{IsTaken, TakeAll, taken}
+use Rattle.cs_wire.specs.Entries.{ToldEntry}
+use Rattle.cs_wire.specs.declared.answer.Answer.{Answer}
+use Rattle.cs_wire.specs.declared.answer.Answer.TheVariants.{Entries}
+use Rattle.cs_wishes.specs.Wished.{IsWished}
+use Rattle.cs_world.specs.Laws.{PullsMerge}
+use Rattle.cs_world.specs.Merges.{IsConfirmed, IsMerged, PullEntries, PullsAsMerges, PullsEntry, count_in}
+use Rattle.cs_world.specs.Sound.{ArePartOf, IsSound}
+use Rattle.cs_world.specs.Steps as step
+use Rattle.cs_world.specs.Steps.{Hears, Step, heard, receiver}
+use Rattle.cs_world.specs.World.{Asks, IsMember, IsMessage, Member, Tells, World}
+use Rattle.cs_world.specs.declared.event.Event.{Event}
+use Rattle.cs_world.specs.declared.event.Event.TheVariants.{Deliver}
+use Rattle.cs_world.specs.declared.outcome.Outcome.{Outcome}
+use Rattle.cs_world.proofs.Found.{set_there}
+use Rattle.cs_world.proofs.Heard as answers
+
+-- the laws below
+pub record Below : Type 0 where
+  pub answers : answers.Below
+  pub view : OneView
+
+module _ (laws : Below) (limit : ℕ) (small : limit < 2 ^ 32) (world : World) (s : IsSound limit world) where
+  -- ---- one entry
+
+  module _ (position : Position) (entry : LogEntry) (before after : View) (wishes unused : List Wish) (stood : StandsOn world.log position before) (pending : ℕ) (stands : StandsOn world.log (taken position pending) after) where
+    log_is : (name key : List ℕ) → base position.flight before name key ≡ tables_at world.log position.version name key
+    log_is name key = stood.on_tables name key
+
+    next_is : (name key : List ℕ) → middle after name key ≡ tables_at world.log (position.version + 1) name key
+    next_is name key = sym (undo_none (middle after name key)) ∙ stands.on_tables name key
+
+    merged : IsTaken IsWished world.tables position.flight (entry_changes entry) before after wishes unused → IsMerged world position.version entry before after wishes unused
+    merged t =
+        let all = tasks world.tables (groups_of (entry_changes entry)) in
+        let over : TakeAll IsWished (tables_at world.log position.version) before.tables (middle after) after.tables all wishes unused =
+        subst (λ (log : State). TakeAll IsWished log before.tables (middle after) after.tables all wishes unused) (λ i n k. log_is n k i) t.takes in
+        record {
+          merges = subst (λ (theirs : State). TakeAll IsWished (tables_at world.log position.version) before.tables theirs after.tables all wishes unused) (λ i n k. next_is n k i) over;
+          others = t.others;
+        }
+
+    pulls_so : PullsOne IsWished world.tables position entry before wishes after unused
+        → IsConfirmed position entry before after wishes unused ⊎ ((IsOwn position entry → ⊥) × IsMerged world position.version entry before after wishes unused)
+    pulls_so (room, inl (own, rows, asked)) = inl (record { own = own; rows = rows; unasked = asked })
+    pulls_so (room, inr (others, t)) = inr (others, merged t)
+
+    pulls_entry : (left : Contents) → slice_get world.log position.version ≡ Some entry → PullsOne IsWished world.tables position entry before wishes after unused → ShowsAt world.tables left (taken position pending) after
+        → PullsEntry world position before after wishes unused
+    pulls_entry left there pulls shows = record {
+      entry = entry;
+      there = there;
+      pulled = pulls_so pulls;
+      pending = λ table key inside. shows.rows.sound.net_of table key inside ∙ ap (λ (b : Place). net table.key_marks b (after.tables table.name key)) (next_is table.name key);
+    }
+
+  -- ---- one behind another
+
+  module _ (first : ℕ) (entries : List ToldEntry) (part : ArePartOf world.log first entries) where
+    pull_entries : (count : ℕ) (contents : Contents) (position : Position) (view : View) (p : List Wish) (other : Position) (end : View) (q : List Wish)
+        → ShowsAt world.tables contents position view → StandsOn world.log position view
+        → PullsMany IsWished world.tables first entries count position view p other end q
+        → PullEntries world count position view p other end q
+    unfolding PullsMany
+    pull_entries zero contents position view p other end q shows stands (here, still, none) = (here, still, none)
+    pull_entries (suc count) contents position view p other end q shows stands (told, entry, pending, left, next, between, at, read, pulls, shown, more) =
+        let there = answers.read_there laws.answers limit small world s first entries part position.version told entry at read in
+        let applied = laws.answers.leads world.tables contents position entry view next p between s.tables shows pulls in
+        let stood = laws.answers.entry world.tables world.log entry position (taken position pending) view next s.log there refl applied stands in (
+          pending,
+          next,
+          between,
+          pulls_entry position entry view next p between stands pending stood left there pulls shown,
+          pull_entries count left (taken position pending) next between other end q shown stood more,
+        )
+
+  -- ---- an answer
+
+  counted : (list : Result Pulled AnswerFault) → count_of list ≡ count_in (heard (told_of list))
+  counted (Ok (pulled.Taken count)) = refl
+  counted (Ok (pulled.Stopped count)) = refl
+  counted (Err (fault.Memory count)) = refl
+  counted (Err (fault.Device count)) = refl
+  counted (Err (fault.BadEntry count)) = refl
+
+  module _ (k r first : ℕ) (entries : List ToldEntry) (wishes : List Wish) (before after : Member) (said : IsMessage world k (Tells r (Entries first entries))) (was : IsMember world r before) where
+    hears_so : (result : Result Told AnswerFault) → Hears world.tables before (Entries first entries) wishes result after → PullsAsMerges world (count_in (heard result)) wishes before after
+    hears_so result hears =
+        let p = s.placed r before was in
+        let list = hears.answers in
+        let pulls = list.2 in
+        let count : count_of list.0 ≡ count_in (heard result) = counted list.0 ∙ ap (λ (x : Result Told AnswerFault). count_in (heard x)) (sym list.1) in
+        let all = pull_entries first entries (s.true k (Tells r (Entries first entries)) said) (count_of list.0) p.contents before.position before.view wishes after.position pulls.0 pulls.1 p.shown p.stands pulls.2 in
+        let one = laws.view world.tables hears.left pulls.0 after.view pulls.3.rows hears.shows.rows in
+        record {
+          end = pulls.0;
+          unused = pulls.1;
+          pulls = subst (λ (n : ℕ). PullEntries world n before.position before.view wishes after.position pulls.0 pulls.1) count all;
+          same = record { rows = one.0; pending = one.1 };
+        }
+
+    -- where memory was refused nothing was pulled
+    nothing_so : after ≡ before → PullsAsMerges world 0 wishes before after
+    nothing_so same = record {
+      end = before.view;
+      unused = wishes;
+      pulls = (ap (λ (m : Member). m.position) same, refl, refl);
+      same = record { rows = λ n k. ap (λ (m : Member). m.view.tables n k) same; pending = λ table key inside. ap (λ (m : Member). m.view.pending table.name key) same };
+    }
+
+    step_so : {event : Event} {outcome : Outcome} {new : World} → Step limit world event outcome new → event ≡ Deliver k wishes → IsMember new r after → PullsAsMerges world (count_in outcome) wishes before after
+    step_so (step.edits count its made shows) is now = absurd (let no = is in cc)
+    step_so (step.edits_not its why) is now = absurd (let no = is in cc)
+    step_so (step.pushes its made) is now = absurd (let no = is in cc)
+    step_so (step.pushes_not its why) is now = absurd (let no = is in cc)
+    step_so (step.resends its flight) is now = absurd (let no = is in cc)
+    step_so (step.resends_not its why) is now = absurd (let no = is in cc)
+    step_so (step.asks few its) is now = absurd (let no = is in cc)
+    step_so (step.restarts its) is now = absurd (let no = is in cc)
+    step_so (step.restarts_not its why) is now = absurd (let no = is in cc)
+    step_so (step.serves {k = j} {r = q} {asked = asked} answer there fits serves) is now =
+        let same : j ≡ k = (let e = is in cc) in
+        let at : slice_get world.messages k ≡ Some (Asks q asked) = subst (λ (i : ℕ). slice_get world.messages i ≡ Some (Asks q asked)) same there in
+        absurd (let no = sym at ∙ said in cc)
+    step_so (step.hears {k = j} {r = q} {wishes = its} {answer = answer} {before = mine} {after = next} {result = result} there there_was hears) is now =
+        let same : j ≡ k = (let e = is in cc) in
+        let by : its ≡ wishes = (let e = is in cc) in
+        let at : slice_get world.messages k ≡ Some (Tells q answer) = subst (λ (i : ℕ). slice_get world.messages i ≡ Some (Tells q answer)) same there in
+        let both : Some (Tells q answer) ≡ Some (Tells r (Entries first entries)) = sym at ∙ said in
+        let to : q ≡ r = (let e = both in cc) in
+        let what : answer ≡ Entries first entries = (let e = both in cc) in
+        let mine_at : slice_get world.members r ≡ Some mine = subst (λ (i : ℕ). slice_get world.members i ≡ Some mine) to there_was in
+        let mine_is : mine ≡ before = (let e = sym mine_at ∙ was in cc) in
+        let now_at : slice_get (slice_set world.members r next) r ≡ Some after = subst (λ (i : ℕ). slice_get (slice_set world.members i next) r ≡ Some after) to now in
+        let next_is : next ≡ after = (let e = sym (set_there world.members r next before was) ∙ now_at in cc) in
+        hears_so result
+        (subst (λ (m : Member). Hears world.tables before (Entries first entries) wishes result m) next_is
+        (subst (λ (m : Member). Hears world.tables m (Entries first entries) wishes result next) mine_is
+        (subst (λ (ws : List Wish). Hears world.tables mine (Entries first entries) ws result next) by
+        (subst (λ (a : Answer). Hears world.tables mine a its result next) what hears))))
+    step_so (step.no_replica {r = q} to none) is now =
+        absurd (let no : Some q ≡ Some r = sym to ∙ ap (λ (e : Event). step.addressee world e) is ∙ ap receiver said in
+        let same : q ≡ r = (let e = no in cc) in
+        let at : slice_get world.members r ≡ None = subst (λ (i : ℕ). slice_get world.members i ≡ None) same none in
+        let bad = sym at ∙ was in cc)
+    step_so (step.no_message {k = j} none) is now =
+        let same : j ≡ k = (let e = is in cc) in
+        let at : slice_get world.messages k ≡ None = subst (λ (i : ℕ). slice_get world.messages i ≡ None) same none in
+        absurd (let no = sym at ∙ said in cc)
+    step_so step.no_memory is now = nothing_so (let e = sym now ∙ was in cc)
+
+pub pulls_merge : Below → PullsMerge
+pulls_merge laws limit k r first entries wishes outcome old new before after small s said was now step =
+    step_so laws limit small old s k r first entries wishes before after said was step refl now

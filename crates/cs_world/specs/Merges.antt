@@ -1,0 +1,89 @@
+-- How a replica pulls the entries of the log: each is merged with its own rows over the log's tables (profile of this project).
+use Rattle.std.specs.Prelude.{◌≡◌, ◌⊎◌, ◌+◌, ℕ, zero, suc, List, Some, None, Contains, slice_get}
+use Rattle.cs_value.specs.declared.catalog.TableDef.{TableDef}
+use Rattle.cs_apply.specs.Tasks.{tasks}
+use Rattle.cs_change.specs.Action.{action_any}
+use Rattle.cs_change.specs.Net.{net}
+use Rattle.cs_conflict.specs.declared.wish.Wish.{Wish}
+use Rattle.cs_log.specs.Entry.{entry_changes}
+use Rattle.cs_log.specs.Log.{tables_at}
+use Rattle.cs_log.specs.declared.entry.LogEntry.{LogEntry}
+use Rattle.cs_member.specs.Same.{IsSameView}
+use Rattle.cs_normal.specs.Normal.{change_of, groups_of}
+use Rattle.cs_pending.specs.View.{View}
+use Rattle.cs_position.specs.declared.position.Position.{Position}
+use Rattle.cs_pulling.specs.Pulls.{IsOwn}
+use Rattle.cs_pulling.specs.declared.fault.AnswerFault.{AnswerFault}
+use Rattle.cs_pulling.specs.declared.fault.AnswerFault.TheVariants as fault
+use Rattle.cs_replica.specs.declared.told.Told.{Told}
+use Rattle.cs_replica.specs.declared.told.Told.TheVariants as what
+use Rattle.cs_taking.specs.Takes.{TakeAll, taken}
+use Rattle.cs_wishes.specs.Wished.{IsWished}
+use Rattle.cs_world.specs.World.{Member, World}
+use Rattle.cs_world.specs.declared.outcome.Outcome.{Outcome}
+use Rattle.cs_world.specs.declared.outcome.Outcome.TheVariants.{Done, Heard, Memory, NoMessage, NoReplica, NotEdited, NotHeard, NotPushed, NotReloaded, Sent}
+
+-- at each place of the entry at a version, in order, the own row has become the three-way merge, by its wish, of the log's row at the
+-- version, the own row, and the log's row at the next version; each other own row is as it was
+pub record IsMerged (world : World) (version : ℕ) (entry : LogEntry) (before after : View) (wishes unused : List Wish) : Type 0 where
+  pub merges : TakeAll IsWished (tables_at world.log version) before.tables (tables_at world.log (version + 1)) after.tables
+      (tasks world.tables (groups_of (entry_changes entry))) wishes unused
+  pub others : (name key : List ℕ) → change_of name key (entry_changes entry) ≡ None → after.tables name key ≡ before.tables name key
+
+-- the entry is the push that was under way: the own rows are as they were, and no wish is used
+pub record IsConfirmed (position : Position) (entry : LogEntry) (before after : View) (wishes unused : List Wish) : Type 0 where
+  pub own : IsOwn position entry
+  pub rows : after ≡ before
+  pub unasked : unused ≡ wishes
+
+-- the log's entry at the replica's version was pulled: it is the replica's own, or was merged; what is pending then is the net change
+-- from the log's tables at the next version to the own rows
+pub record PullsEntry (world : World) (position : Position) (before after : View) (wishes unused : List Wish) : Type 0 where
+  pub entry : LogEntry
+  pub there : slice_get world.log position.version ≡ Some entry
+  pub pulled : IsConfirmed position entry before after wishes unused
+      ⊎ ((IsOwn position entry → ⊥) × IsMerged world position.version entry before after wishes unused)
+  pub pending : (table : TableDef) (key : List ℕ) → Contains world.tables table
+      → action_any (after.pending table.name key) ≡ net table.key_marks (tables_at world.log (position.version + 1) table.name key) (after.tables table.name key)
+
+-- so many entries were, one behind another
+abbrev pub PullEntries : World → ℕ → Position → View → List Wish → Position → View → List Wish → Type 0
+PullEntries world zero position before wishes other after unused = (other ≡ position) × (after ≡ before) × (unused ≡ wishes)
+PullEntries world (suc count) position before wishes other after unused =
+    (pending : ℕ) × (next : View) × (between : List Wish)
+    × PullsEntry world position before next wishes between
+    × PullEntries world count (taken position pending) next between other after unused
+
+-- so many make the one replica of the other
+pub record PullsAsMerges (world : World) (count : ℕ) (wishes : List Wish) (before after : Member) : Type 0 where
+  pub end : View
+  pub unused : List Wish
+  pub pulls : PullEntries world count before.position before.view wishes after.position end unused
+  pub same : IsSameView world.tables end after.view
+
+-- ---- how many entries an outcome tells
+
+abbrev pub count_in_fault : AnswerFault → ℕ
+count_in_fault (fault.Memory count) = count
+count_in_fault (fault.Device count) = count
+count_in_fault (fault.BadEntry count) = count
+
+abbrev pub count_in_told : Told → ℕ
+count_in_told (what.Confirmed version) = 0
+count_in_told what.Ignored = 0
+count_in_told (what.Stale newest) = 0
+count_in_told (what.Refused code) = 0
+count_in_told (what.Taken count) = count
+count_in_told (what.Stopped count) = count
+
+abbrev pub count_in : Outcome → ℕ
+count_in Done = 0
+count_in (Sent number) = 0
+count_in (Heard told) = count_in_told told
+count_in NoReplica = 0
+count_in NoMessage = 0
+count_in (NotEdited why) = 0
+count_in (NotPushed why) = 0
+count_in (NotHeard why) = count_in_fault why
+count_in (NotReloaded why) = 0
+count_in Memory = 0
