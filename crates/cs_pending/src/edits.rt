@@ -15,18 +15,49 @@ ghost use Rattle.cs_pending.specs.declared.fault.EditFault.TheVariants.{Device};
 
 use crate::editing::edit_place;
 use crate::fault::EditFault;
+use crate::places::{record_with_room, row_with_room};
 use crate::wanted::Wanted;
 use cs_record::{RecordBuf, RowBuf};
 use cs_store::RowStore;
 use cs_value::{Catalog, Field, Key, Memory, Row, Value};
 use std::alloc::Global;
 
+/// At most how many bytes a value takes. It says how much room to take, and is no part of a result.
+fn size_of_value(value: &Value) -> usize {
+    match value {
+        Value::Text(text) => text.as_str().len().saturating_add(10),
+        Value::Blob(blob) => blob.as_slice().len().saturating_add(10),
+        _ => 9,
+    }
+}
+
+/// At most how many bytes values take.
+fn size_of_values(values: &[Value]) -> usize {
+    let mut size = 0usize;
+    for value in values {
+        size = size.saturating_add(size_of_value(value));
+    }
+    size
+}
+
+/// At most how many bytes fields take.
+fn size_of_fields(fields: &[Field]) -> usize {
+    let mut size = 0usize;
+    for field in fields {
+        size = size.saturating_add(match field {
+            Field::Undefined => 1,
+            Field::Is(value) => size_of_value(value),
+        });
+    }
+    size
+}
+
 /// Values as a row that owns its bytes.
 fn own_row(alloc: Global, values: &[Value]) -> Result<RowBuf, Memory>
     ensures row { IfOk result (λ row. row ≡ values.now) }
     ensures fits { IfOk result (λ row. AllByRecursion (λ v. Fits (Is v)) row) }
 {
-    let mut row = RowBuf::new(alloc);
+    let mut row = row_with_room(alloc, size_of_values(values))?;
     for value in values {
         row.push_value(value)?;
     }
@@ -40,7 +71,7 @@ fn own_fields(alloc: Global, fields: &[Field]) -> Result<RecordBuf, Memory>
     ensures fields { IfOk result (λ made. made ≡ fields.now) }
     ensures fits { IfOk result (λ made. AllByRecursion Fits made) }
 {
-    let mut made = RecordBuf::new(alloc);
+    let mut made = record_with_room(alloc, size_of_fields(fields))?;
     for field in fields {
         made.push_field(field)?;
     }

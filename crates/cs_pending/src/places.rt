@@ -1,6 +1,6 @@
 //! Rows or none, in their bytes: what a change is taken back to, and how a row and a change are stored.
 
-ghost use Rattle.std.specs.Prelude.{◌≡◌, Some, option_map, IfOk};
+ghost use Rattle.std.specs.Prelude.{◌≡◌, [], Some, option_map, IfOk};
 ghost use Rattle.std.specs.Option.{option_copied};
 ghost use Rattle.cs_value.specs.Same.{same_place};
 ghost use Rattle.cs_record.specs.Spelling.{row_bytes};
@@ -11,7 +11,7 @@ ghost use Rattle.cs_pending.specs.View.{direct_net, undo};
 
 use cs_change::{Change, ChangesBuf, Scratch, put_set_columns};
 use cs_group::net_into;
-use cs_record::{Row, RowBuf};
+use cs_record::{RecordBuf, Row, RowBuf};
 use cs_value::{Memory, TableDef};
 use std::alloc::Global;
 
@@ -32,6 +32,32 @@ pub fn copied(alloc: Global, row: Option<&Row<'_>>) -> Result<Option<RowBuf>, Me
     match row {
         None => Ok(None),
         Some(row) => Ok(Some(RowBuf::of_row(alloc, row)?)),
+    }
+}
+
+/// A row without a value, with room for so many bytes.
+pub(crate) fn row_with_room(alloc: Global, bytes: usize) -> Result<RowBuf, Memory>
+    ensures { IfOk result (λ row. row ≡ []) }
+{
+    cs_record::laws::rows();
+    let room = Vec::with_capacity(alloc, bytes)?;
+    Ok(RowBuf::from_vec(room))
+}
+
+/// A record without a field, with room for so many bytes.
+pub(crate) fn record_with_room(alloc: Global, bytes: usize) -> Result<RecordBuf, Memory>
+    ensures { IfOk result (λ made. made ≡ []) }
+{
+    cs_record::laws::records();
+    let room = Vec::with_capacity(alloc, bytes)?;
+    Ok(RecordBuf::from_vec(room))
+}
+
+/// How many bytes a row or none takes. It says how much room to take, and is no part of a result.
+fn size_of_row(row: Option<&Row<'_>>) -> usize {
+    match row {
+        None => 0,
+        Some(row) => row.bytes().len(),
     }
 }
 
@@ -78,6 +104,22 @@ pub(crate) fn row_body(alloc: Global, row: Option<&Row<'_>>) -> Result<Option<Ve
     }
 }
 
+/// What the net change of two rows or none is made in, with room for it.
+fn scratch_for(
+    alloc: Global,
+    base: Option<&Row<'_>>,
+    mine: Option<&Row<'_>>,
+) -> Result<Scratch, Memory> {
+    match (base, mine) {
+        (Some(old), Some(new)) => Ok(Scratch {
+            old_fields: record_with_room(alloc, old.bytes().len())?,
+            new_fields: record_with_room(alloc, new.bytes().len())?,
+            row: RowBuf::new(alloc),
+        }),
+        _ => Ok(Scratch::new(alloc)),
+    }
+}
+
 /// The bytes of the net change of two rows or none, if there is one. It is not indirect.
 pub(crate) fn net_body(
     alloc: Global,
@@ -88,8 +130,11 @@ pub(crate) fn net_body(
     ensures { IfOk result (λ body. optional_bytes body
         ≡ option_map change_spelling (direct_net table.now (option_copied base.entry) (option_copied mine.entry))) }
 {
-    let mut scratch = Scratch::new(alloc);
-    let mut changes = ChangesBuf::new(alloc);
+    let mut scratch = scratch_for(alloc, base, mine)?;
+    let room = size_of_row(base)
+        .saturating_add(size_of_row(mine))
+        .saturating_add(2);
+    let mut changes = ChangesBuf::with_capacity(alloc, 1, room)?;
     net_into(
         table.key_marks.as_slice(),
         base,

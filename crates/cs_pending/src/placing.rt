@@ -1,10 +1,12 @@
 //! What stands at a place, and stood there before what is pending.
 
-ghost use Rattle.std.specs.Prelude.{◌≡◌, Option, Some, option_map, IfOk, IfSome, length, slice_get};
+ghost use Rattle.std.specs.Prelude.{◌≡◌, List, Option, Some, option_map, IfOk, IfSome, length, slice_get};
 ghost use Rattle.std.specs.Option.{option_copied};
 ghost use Rattle.cs_value.specs.Key.{Place};
+ghost use Rattle.cs_value.specs.declared.value.Value.{Value};
+ghost use Rattle.cs_record.specs.Spelling.{row_bytes};
 ghost use Rattle.cs_change.specs.Action.{action_any};
-ghost use Rattle.cs_change.specs.Spelling.{change_spelling, FitsChange};
+ghost use Rattle.cs_change.specs.Spelling.{change_spelling, FitsChange, FitsRow};
 ghost use Rattle.cs_change.specs.declared.change.Change.{Change as OneChange};
 ghost use Rattle.cs_store.specs.Contents.{stored_pending, stored_tables};
 ghost use Rattle.cs_store.specs.States.{IsStored};
@@ -31,9 +33,20 @@ pub struct Standing {
     pub base: Option<RowBuf>,
 }
 
+/// The row of so many values that the whole of the bytes spells, if they spell one. It takes no memory.
+fn spelled_row(bytes: Vec<u8>, columns: usize) -> Option<RowBuf>
+    ensures found { IfSome result (λ row. FitsRow columns row × (bytes.items ≡ row_bytes row)) }
+    ensures only { (row : List Value) → FitsRow columns row → bytes.items ≡ row_bytes row → result ≡ Some row }
+{
+    cs_record::laws::rows();
+    if whole_row(bytes.as_slice(), columns).is_none() {
+        return None;
+    }
+    Some(RowBuf::from_vec(bytes))
+}
+
 /// The row or none that the store has at a place. What is no row of the table is told to the store.
 fn own_at<S: RowStore>(
-    alloc: Global,
     store: &mut S,
     table: &TableDef,
     number: u32,
@@ -47,10 +60,10 @@ fn own_at<S: RowStore>(
     let Some(bytes) = store.get(number, key)? else {
         return Ok(None);
     };
-    let Some(row) = whole_row(bytes.as_slice(), table.key_marks.as_slice().len()) else {
+    let Some(row) = spelled_row(bytes, table.key_marks.as_slice().len()) else {
         return Err(store.misread());
     };
-    Ok(Some(RowBuf::of_row(alloc, &row)?))
+    Ok(Some(row))
 }
 
 /// The row or none before what is pending at a place where this stands. What is no change of the table is told to the store.
@@ -103,7 +116,7 @@ pub fn standing_at<S: RowStore>(
     cs_normal::laws::one_key_stands();
     cs_change::laws::net_takes();
     let _tables = catalog.tables();
-    let mine = match own_at(alloc, store, table, number, key) {
+    let mine = match own_at(store, table, number, key) {
         Ok(mine) => mine,
         Err(fault) => return Err(fault),
     };

@@ -6,6 +6,7 @@ ghost use Rattle.cs_pending.specs.Edits.{after_edit};
 ghost use Rattle.cs_pending.specs.declared.fault.EditFault.TheVariants.{Memory};
 
 use crate::fault::EditFault;
+use crate::places::row_with_room;
 use cs_change::put_set_columns;
 use cs_record::{Record, Row, RowBuf};
 use std::alloc::Global;
@@ -35,7 +36,9 @@ pub(crate) fn left_by(
         (Wanted::Insert(_), Some(_)) => Err(EditFault::Exists),
         (_, None) => Err(EditFault::Missing),
         (Wanted::Update(fields), Some(row)) => {
-            let mut updated = RowBuf::new(alloc);
+            // At most what both take.
+            let room = fields.bytes().len().saturating_add(row.bytes().len());
+            let mut updated = row_with_room(alloc, room)?;
             put_set_columns(fields, row, &mut updated)?;
             Ok(Some(updated))
         }
