@@ -1,7 +1,7 @@
 //! The rows of a `MapStore`, and its pending changes: leaves whose places rise, none of them empty. A commit makes the leaves
 //! that it changes anew before it changes any, and then puts them in, which takes no memory.
 
-ghost use Rattle.std.specs.Prelude.{◌≡◌, false, ◌≤◌, ◌<◌, ◌+◌, List, ◌++◌, T, pos, length, take, drop, fold, map, filter, option_map, Some, IfOk, IfSome, OnOk, MatchBool};
+ghost use Rattle.std.specs.Prelude.{◌≡◌, false, ◌≤◌, ◌<◌, ◌+◌, ◌⊎◌, List, ◌++◌, T, pos, length, take, drop, fold, map, filter, option_map, Some, IfOk, IfSome, OnOk, MatchBool};
 ghost use Rattle.std.specs.List.{All};
 ghost use Rattle.std.specs.Ordering.{int_eq, is_gt};
 ghost use Rattle.std.specs.FinMap.{get, is_sorted};
@@ -143,10 +143,24 @@ fn edits_in(leaves: &[Leaf], at: usize, edits: &[&PlaceEdit]) -> usize
     count
 }
 
-/// The leaves that edits change, as they are after them.
+/// Where to begin to look for the leaves of edits whose places rise: at `near`, or where that leaf begins above the first of
+/// them, at the first leaf.
+fn begin_at(leaves: &[Leaf], near: usize, edits: &[&PlaceEdit]) -> usize
+    requires full { All (λ leaf. 0 < length leaf) leaves.now }
+    ensures { (result ≡ 0) ⊎ ReachLeaf leaves.now result (edits_behind edits.now) }
+{
+    if near < leaves.len() && 0 < edits.len() && !is_before(leaves, near, edits[0]) {
+        near
+    } else {
+        0
+    }
+}
+
+/// The leaves that edits change, as they are after them. The one at `near` is looked at first.
 fn patches_of(
     alloc: Global,
     leaves: &[Leaf],
+    near: usize,
     edits: &[&PlaceEdit],
 ) -> Result<Vec<Patch>, AllocError>
     requires some { 0 < length leaves.now }
@@ -157,7 +171,7 @@ fn patches_of(
 {
     let mut patches = Vec::new(alloc);
     let mut start = 0;
-    let mut from = 0;
+    let mut from = begin_at(leaves, near, edits);
     while start < edits.len() {
         let at = leaf_of(leaves, from, edits[start]);
         let end = start + edits_in(leaves, at, &edits[start..]);
@@ -186,8 +200,13 @@ fn pieces_of(alloc: Global, leaf: &Leaf) -> Result<Vec<Leaf>, AllocError>
     Ok(pieces)
 }
 
-/// What edits whose places rise make of the leaves. It changes none.
-fn stage(alloc: Global, leaves: &[Leaf], edits: &[&PlaceEdit]) -> Result<Staged, AllocError>
+/// What edits whose places rise make of the leaves. It changes none. The leaf at `near` is looked at first.
+fn stage(
+    alloc: Global,
+    leaves: &[Leaf],
+    near: usize,
+    edits: &[&PlaceEdit],
+) -> Result<Staged, AllocError>
     requires leaves { AreLeaves leaves.now }
     requires rise { Rise (edits_behind edits.now) }
     ensures can { IfOk result (λ staged. CanBePut staged leaves.now) }
@@ -197,13 +216,15 @@ fn stage(alloc: Global, leaves: &[Leaf], edits: &[&PlaceEdit]) -> Result<Staged,
         let all = merged(alloc, &Leaf::new(alloc), edits)?;
         return Ok(Staged::Anew(pieces_of(alloc, &all)?));
     }
-    Ok(Staged::Patches(patches_of(alloc, leaves, edits)?))
+    Ok(Staged::Patches(patches_of(alloc, leaves, near, edits)?))
 }
 
-/// What edits in any order make of the leaves. It changes none.
+/// What edits in any order make of the leaves. It changes none. The leaf of the first place is looked for near where the last
+/// look-up ended.
 pub fn stage_edits(
     alloc: Global,
     leaves: &[Leaf],
+    near: Near,
     edits: &[PlaceEdit],
 ) -> Result<Staged, AllocError>
     requires { AreLeaves leaves.now }
@@ -215,7 +236,7 @@ pub fn stage_edits(
         return Ok(Staged::Patches(Vec::new(alloc)));
     }
     let sorted = in_order(alloc, edits)?;
-    let staged = stage(alloc, leaves, sorted.as_slice())?;
+    let staged = stage(alloc, leaves, near.leaf, sorted.as_slice())?;
     Ok(staged)
 }
 
