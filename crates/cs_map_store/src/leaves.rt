@@ -252,14 +252,17 @@ fn has_empty(patches: &[Patch]) -> bool
     false
 }
 
-/// Whether a leaf is to be cut.
-fn has_large(patches: &[Patch]) -> bool {
+/// From which place up to which leaves are to be cut: none, where the one is above the other.
+fn large_between(patches: &[Patch]) -> (usize, usize) {
+    let mut from = usize::MAX;
+    let mut to = 0;
     for patch in patches {
         if patch.leaf.len() >= 2 * LEAF {
-            return true;
+            from = from.min(patch.at);
+            to = to.max(patch.at.saturating_add(1));
         }
     }
-    false
+    (from, to)
 }
 
 /// Puts leaves in the places of others.
@@ -286,14 +289,19 @@ fn cut_leaf(alloc: Global, leaves: &mut Vec<Leaf>, at: usize) -> Result<(), Allo
     Ok(())
 }
 
-/// Cuts the leaves that have too many rows, the last first. Where memory is refused the rest stay as they are.
-fn cut_leaves(alloc: Global, leaves: &mut Vec<Leaf>) -> Result<(), AllocError>
+/// Cuts the leaves from one place up to another that have too many rows, the last first. Where memory is refused the rest stay
+/// as they are.
+fn cut_leaves(
+    alloc: Global,
+    leaves: &mut Vec<Leaf>,
+    from: usize,
+    to: usize,
+) -> Result<(), AllocError>
     ensures same { flat leaves.new.items ≡ flat leaves.old.items }
     ensures full { All (λ leaf. 0 < length leaf) leaves.old.items → All (λ leaf. 0 < length leaf) leaves.new.items }
 {
-    let count = leaves.len();
-    for done in 0..count {
-        cut_leaf(alloc, leaves, count - 1 - done)?;
+    for done in 0..to.saturating_sub(from) {
+        cut_leaf(alloc, leaves, to - 1 - done)?;
     }
     Ok(())
 }
@@ -306,8 +314,8 @@ fn drop_empty(leaves: &mut Vec<Leaf>)
     leaves.retain(|leaf| leaf.len() > 0);
 }
 
-/// Puts leaves in the places of others, and takes out those that have no row left.
-fn put_patches(leaves: &mut Vec<Leaf>, patches: Vec<Patch>)
+/// Puts leaves in the places of others, and takes out those that have no row left. It answers whether there were such.
+fn put_patches(leaves: &mut Vec<Leaf>, patches: Vec<Patch>) -> bool
     requires places { ArePatches (length leaves.old.items) patches.items }
     requires full { All (λ leaf. 0 < length leaf) leaves.old.items }
     ensures same { flat leaves.new.items ≡ flat (patched leaves.old.items patches.items) }
@@ -318,9 +326,10 @@ fn put_patches(leaves: &mut Vec<Leaf>, patches: Vec<Patch>)
     if empty {
         drop_empty(leaves);
     }
+    empty
 }
 
-/// Puts in what is staged. Where there is no memory to cut a leaf, it stays as it is until a later commit.
+/// Puts in what is staged. Where there is no memory to cut a leaf, it stays as it is until a later commit changes it.
 pub fn put_staged(alloc: Global, leaves: &mut Vec<Leaf>, staged: Staged)
     requires can { CanBePut staged leaves.old.items }
     requires full { All (λ leaf. 0 < length leaf) leaves.old.items }
@@ -330,11 +339,12 @@ pub fn put_staged(alloc: Global, leaves: &mut Vec<Leaf>, staged: Staged)
     match staged {
         Staged::Anew(made) => *leaves = made,
         Staged::Patches(patches) => {
-            let large = has_large(patches.as_slice());
-            put_patches(leaves, patches);
-            if large {
-                let _ = cut_leaves(alloc, leaves);
+            let (mut from, to) = large_between(patches.as_slice());
+            if put_patches(leaves, patches) {
+                // Leaves behind those that went stand further to the front now.
+                from = 0;
             }
+            let _ = cut_leaves(alloc, leaves, from, to);
         }
     }
 }
