@@ -1,7 +1,7 @@
 //! The rows of a `MapStore`, and its pending changes: leaves whose places rise, none of them empty. A commit makes the leaves
 //! that it changes anew before it changes any, and then puts them in, which takes no memory.
 
-ghost use Rattle.std.specs.Prelude.{◌≡◌, false, ◌≤◌, ◌<◌, ◌+◌, List, ◌++◌, T, pos, length, take, drop, fold, map, filter, option_map, Some, IfOk, IfSome, OnOk, MatchBool};
+ghost use Rattle.std.specs.Prelude.{◌≡◌, false, ◌≤◌, ◌<◌, ◌+◌, ◌⊎◌, List, ◌++◌, T, pos, length, take, drop, fold, map, filter, option_map, Some, IfOk, IfSome, OnOk, MatchBool};
 ghost use Rattle.std.specs.List.{All};
 ghost use Rattle.std.specs.Ordering.{int_eq, is_gt};
 ghost use Rattle.std.specs.FinMap.{get, is_sorted};
@@ -143,10 +143,24 @@ fn edits_in(leaves: &[Leaf], at: usize, edits: &[&PlaceEdit]) -> usize
     count
 }
 
-/// The leaves that edits change, as they are after them.
+/// Where to begin to look for the leaves of edits whose places rise: at `near`, or where that leaf begins above the first of
+/// them, at the first leaf.
+fn begin_at(leaves: &[Leaf], near: usize, edits: &[&PlaceEdit]) -> usize
+    requires full { All (λ leaf. 0 < length leaf) leaves.now }
+    ensures { (result ≡ 0) ⊎ ReachLeaf leaves.now result (edits_behind edits.now) }
+{
+    if near < leaves.len() && 0 < edits.len() && !is_before(leaves, near, edits[0]) {
+        near
+    } else {
+        0
+    }
+}
+
+/// The leaves that edits change, as they are after them. The one at `near` is looked at first.
 fn patches_of(
     alloc: Global,
     leaves: &[Leaf],
+    near: usize,
     edits: &[&PlaceEdit],
 ) -> Result<Vec<Patch>, AllocError>
     requires some { 0 < length leaves.now }
@@ -157,7 +171,7 @@ fn patches_of(
 {
     let mut patches = Vec::new(alloc);
     let mut start = 0;
-    let mut from = 0;
+    let mut from = begin_at(leaves, near, edits);
     while start < edits.len() {
         let at = leaf_of(leaves, from, edits[start]);
         let end = start + edits_in(leaves, at, &edits[start..]);
@@ -186,8 +200,13 @@ fn pieces_of(alloc: Global, leaf: &Leaf) -> Result<Vec<Leaf>, AllocError>
     Ok(pieces)
 }
 
-/// What edits whose places rise make of the leaves. It changes none.
-fn stage(alloc: Global, leaves: &[Leaf], edits: &[&PlaceEdit]) -> Result<Staged, AllocError>
+/// What edits whose places rise make of the leaves. It changes none. The leaf at `near` is looked at first.
+fn stage(
+    alloc: Global,
+    leaves: &[Leaf],
+    near: usize,
+    edits: &[&PlaceEdit],
+) -> Result<Staged, AllocError>
     requires leaves { AreLeaves leaves.now }
     requires rise { Rise (edits_behind edits.now) }
     ensures can { IfOk result (λ staged. CanBePut staged leaves.now) }
@@ -197,13 +216,15 @@ fn stage(alloc: Global, leaves: &[Leaf], edits: &[&PlaceEdit]) -> Result<Staged,
         let all = merged(alloc, &Leaf::new(alloc), edits)?;
         return Ok(Staged::Anew(pieces_of(alloc, &all)?));
     }
-    Ok(Staged::Patches(patches_of(alloc, leaves, edits)?))
+    Ok(Staged::Patches(patches_of(alloc, leaves, near, edits)?))
 }
 
-/// What edits in any order make of the leaves. It changes none.
+/// What edits in any order make of the leaves. It changes none. The leaf of the first place is looked for near where the last
+/// look-up ended.
 pub fn stage_edits(
     alloc: Global,
     leaves: &[Leaf],
+    near: Near,
     edits: &[PlaceEdit],
 ) -> Result<Staged, AllocError>
     requires { AreLeaves leaves.now }
@@ -215,7 +236,7 @@ pub fn stage_edits(
         return Ok(Staged::Patches(Vec::new(alloc)));
     }
     let sorted = in_order(alloc, edits)?;
-    let staged = stage(alloc, leaves, sorted.as_slice())?;
+    let staged = stage(alloc, leaves, near.leaf, sorted.as_slice())?;
     Ok(staged)
 }
 
@@ -231,14 +252,17 @@ fn has_empty(patches: &[Patch]) -> bool
     false
 }
 
-/// Whether a leaf is to be cut.
-fn has_large(patches: &[Patch]) -> bool {
+/// From which place up to which leaves are to be cut: none, where the one is above the other.
+fn large_between(patches: &[Patch]) -> (usize, usize) {
+    let mut from = usize::MAX;
+    let mut to = 0;
     for patch in patches {
         if patch.leaf.len() >= 2 * LEAF {
-            return true;
+            from = from.min(patch.at);
+            to = to.max(patch.at.saturating_add(1));
         }
     }
-    false
+    (from, to)
 }
 
 /// Puts leaves in the places of others.
@@ -265,14 +289,19 @@ fn cut_leaf(alloc: Global, leaves: &mut Vec<Leaf>, at: usize) -> Result<(), Allo
     Ok(())
 }
 
-/// Cuts the leaves that have too many rows, the last first. Where memory is refused the rest stay as they are.
-fn cut_leaves(alloc: Global, leaves: &mut Vec<Leaf>) -> Result<(), AllocError>
+/// Cuts the leaves from one place up to another that have too many rows, the last first. Where memory is refused the rest stay
+/// as they are.
+fn cut_leaves(
+    alloc: Global,
+    leaves: &mut Vec<Leaf>,
+    from: usize,
+    to: usize,
+) -> Result<(), AllocError>
     ensures same { flat leaves.new.items ≡ flat leaves.old.items }
     ensures full { All (λ leaf. 0 < length leaf) leaves.old.items → All (λ leaf. 0 < length leaf) leaves.new.items }
 {
-    let count = leaves.len();
-    for done in 0..count {
-        cut_leaf(alloc, leaves, count - 1 - done)?;
+    for done in 0..to.saturating_sub(from) {
+        cut_leaf(alloc, leaves, to - 1 - done)?;
     }
     Ok(())
 }
@@ -285,8 +314,8 @@ fn drop_empty(leaves: &mut Vec<Leaf>)
     leaves.retain(|leaf| leaf.len() > 0);
 }
 
-/// Puts leaves in the places of others, and takes out those that have no row left.
-fn put_patches(leaves: &mut Vec<Leaf>, patches: Vec<Patch>)
+/// Puts leaves in the places of others, and takes out those that have no row left. It answers whether there were such.
+fn put_patches(leaves: &mut Vec<Leaf>, patches: Vec<Patch>) -> bool
     requires places { ArePatches (length leaves.old.items) patches.items }
     requires full { All (λ leaf. 0 < length leaf) leaves.old.items }
     ensures same { flat leaves.new.items ≡ flat (patched leaves.old.items patches.items) }
@@ -297,9 +326,10 @@ fn put_patches(leaves: &mut Vec<Leaf>, patches: Vec<Patch>)
     if empty {
         drop_empty(leaves);
     }
+    empty
 }
 
-/// Puts in what is staged. Where there is no memory to cut a leaf, it stays as it is until a later commit.
+/// Puts in what is staged. Where there is no memory to cut a leaf, it stays as it is until a later commit changes it.
 pub fn put_staged(alloc: Global, leaves: &mut Vec<Leaf>, staged: Staged)
     requires can { CanBePut staged leaves.old.items }
     requires full { All (λ leaf. 0 < length leaf) leaves.old.items }
@@ -309,11 +339,12 @@ pub fn put_staged(alloc: Global, leaves: &mut Vec<Leaf>, staged: Staged)
     match staged {
         Staged::Anew(made) => *leaves = made,
         Staged::Patches(patches) => {
-            let large = has_large(patches.as_slice());
-            put_patches(leaves, patches);
-            if large {
-                let _ = cut_leaves(alloc, leaves);
+            let (mut from, to) = large_between(patches.as_slice());
+            if put_patches(leaves, patches) {
+                // Leaves behind those that went stand further to the front now.
+                from = 0;
             }
+            let _ = cut_leaves(alloc, leaves, from, to);
         }
     }
 }

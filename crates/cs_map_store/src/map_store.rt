@@ -125,10 +125,12 @@ fn write_rest(
     Ok(())
 }
 
-/// Takes all the memory that the batch needs, and then writes it.
+/// Takes all the memory that the batch needs, and then writes it. Leaves are looked for near where the last look-ups ended.
 fn write(
     alloc: Global,
     shelves: &mut Shelves,
+    near: Near,
+    near_pending: Near,
     slots: &mut Slots,
     log: &mut Vec<StoredEntry>,
     batch: &Batch,
@@ -141,8 +143,13 @@ fn write(
     ensures given_back { OnErr result (vec_capacity log.new ≡ vec_capacity log.old) }
     ensures kept { IsKept shelves.new slots.new log.new }
 {
-    let rows = stage_edits(alloc, shelves.rows.as_slice(), batch.rows.as_slice())?;
-    let pending = stage_edits(alloc, shelves.pending.as_slice(), batch.pending.as_slice())?;
+    let rows = stage_edits(alloc, shelves.rows.as_slice(), near, batch.rows.as_slice())?;
+    let pending = stage_edits(
+        alloc,
+        shelves.pending.as_slice(),
+        near_pending,
+        batch.pending.as_slice(),
+    )?;
     write_rest(alloc, slots, log, batch)?;
     put_staged(alloc, &mut shelves.rows, rows);
     put_staged(alloc, &mut shelves.pending, pending);
@@ -250,6 +257,8 @@ impl RowStore for MapStore {
         write(
             self.alloc,
             &mut self.shelves,
+            self.near,
+            self.near_pending,
             &mut self.slots,
             &mut self.log,
             batch,
