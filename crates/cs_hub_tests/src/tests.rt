@@ -4,7 +4,7 @@ ghost use Rattle.std.specs.Prelude.{◌≡◌, ◌≤◌, length};
 ghost use Rattle.cs_log.specs.declared.entry.TheConstants.{MAX_CHANGESET};
 
 use cs_changeset::read;
-use cs_hub::Hub;
+use cs_hub::{Hub, Judged, MAX_ENTRIES};
 use cs_judging::{HubFault, Pushed};
 use cs_map_store::MapStore;
 use cs_normal::normalise;
@@ -145,6 +145,61 @@ const SESSION: [Turn; 7] = [
 #[test]
 fn a_session(rt: HostRuntime) {
     assert!(rt; answers_session(rt.alloc(), &SESSION).unwrap_or(false));
+}
+
+/// Whether a request is judged to be appended, is by what came with that, and is told so.
+fn judges_and_appends<S: RowStore>(hub: &mut Hub<S>, request: &[u8]) -> Result<bool, AllocError> {
+    match hub.judge(MAX_ENTRIES, request)? {
+        Judged::Append {
+            entry,
+            batch,
+            reply,
+        } => match hub.append_judged(&entry, &batch) {
+            Ok(()) => Ok(reply.as_slice() == ACCEPTED),
+            Err(_) => Ok(false),
+        },
+        Judged::Reply(_) => Ok(false),
+    }
+}
+
+/// Whether a request is judged to be answered so, with nothing appended.
+fn judges_as<S: RowStore>(
+    hub: &mut Hub<S>,
+    request: &[u8],
+    expected: &[u8],
+) -> Result<bool, AllocError> {
+    match hub.judge(MAX_ENTRIES, request)? {
+        Judged::Reply(answer) => Ok(answer.as_slice() == expected),
+        Judged::Append { .. } => Ok(false),
+    }
+}
+
+/// Whether a hub takes the first entry of another's log.
+fn follows_first<S: RowStore, T: RowStore>(
+    hub: &mut Hub<S>,
+    other: &mut Hub<T>,
+) -> Result<bool, HubFault> {
+    let entries = other.entries(0, 1)?;
+    match entries.first() {
+        Some(entry) => Ok(hub.follow(entry).is_ok()),
+        None => Ok(false),
+    }
+}
+
+/// Whether a push is judged, appended and followed by a second hub, which then tells its entry.
+fn is_judged_and_followed(alloc: Global) -> Option<bool> {
+    let mut hub = hub_of_t1(alloc)?;
+    let mut second = hub_of_t1(alloc)?;
+    let first = request(alloc, &FIRST).ok()?;
+    let appended = judges_and_appends(&mut hub, &first) == Ok(true) && hub.newest() == 1;
+    let again = judges_as(&mut hub, &first, ACCEPTED) == Ok(true) && hub.newest() == 1;
+    let followed = follows_first(&mut second, &mut hub).unwrap_or(false) && second.newest() == 1;
+    Some(appended && again && followed && tells(&mut second, &PULL, ONE_ENTRY))
+}
+
+#[test]
+fn a_push_is_judged_and_followed(rt: HostRuntime) {
+    assert!(rt; is_judged_and_followed(rt.alloc()).unwrap_or(false));
 }
 
 /// Whether a new hub over such a store answers the session so.

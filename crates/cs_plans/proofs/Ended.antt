@@ -11,7 +11,7 @@ use Rattle.cs_spine.specs.Known.{SpineCells}
 use Rattle.cs_value.specs.declared.catalog.TableDef.{TableDef}
 use Rattle.cs_plans.specs.Ends.{AreEnds, IsEnd, node_at}
 use Rattle.cs_plans.specs.Jobs.{AreJobsOf}
-use Rattle.cs_plans.specs.Runs.{NodeAt, Runs, first_node}
+use Rattle.cs_plans.specs.Runs.{NodeAt, RunsPlan, first_node}
 use Rattle.cs_plans.specs.declared.ending.NodeEnd.{NodeEnd}
 use Rattle.cs_plans.specs.declared.job.Job.{Job}
 use Rattle.cs_plans.specs.declared.plan.Step.{Step}
@@ -27,12 +27,12 @@ pub ended : (tables : List TableDef) (cells : SpineCells) (id : ℕ) (plan : Lis
     → TurnsBy plan end.steps.items start end.node → IsEnd tables cells id plan end
 ended tables cells id plan end start tabled of none first shows turns =
     let t = turns.turned empty_view shows in
-    let named : Runs tables start.pass.spine.cap plan end.steps.items (node_at start empty_view) (node_at end.node t.0) =
-    subst (λ (ts : List TableDef). Runs ts start.pass.spine.cap plan end.steps.items (node_at start empty_view) (node_at end.node t.0)) tabled t.2 in
-    let celled : Runs tables cells.cap plan end.steps.items (node_at start empty_view) (node_at end.node t.0) =
-    subst (λ (s : SpineCells). Runs tables s.cap plan end.steps.items (node_at start empty_view) (node_at end.node t.0)) of named in
-    let runs : Runs tables cells.cap plan end.steps.items (first_node id) (node_at end.node t.0) =
-    subst (λ (n : NodeAt). Runs tables cells.cap plan end.steps.items n (node_at end.node t.0)) (fresh id start none first) celled in
+    let named : RunsPlan tables start.pass.spine.cap plan end.steps.items (node_at start empty_view) (node_at end.node t.0) =
+    subst (λ (ts : List TableDef). RunsPlan ts start.pass.spine.cap plan end.steps.items (node_at start empty_view) (node_at end.node t.0)) tabled t.2 in
+    let celled : RunsPlan tables cells.cap plan end.steps.items (node_at start empty_view) (node_at end.node t.0) =
+    subst (λ (s : SpineCells). RunsPlan tables s.cap plan end.steps.items (node_at start empty_view) (node_at end.node t.0)) of named in
+    let runs : RunsPlan tables cells.cap plan end.steps.items (first_node id) (node_at end.node t.0) =
+    subst (λ (n : NodeAt). RunsPlan tables cells.cap plan end.steps.items n (node_at end.node t.0)) (fresh id start none first) celled in
     record {
       catalog = turns.catalog ∙ tabled;
       spine = turns.spine ∙ of;

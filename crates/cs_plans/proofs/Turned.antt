@@ -24,9 +24,9 @@ use Rattle.cs_store.specs.Contents.{Contents}
 use Rattle.cs_value.specs.declared.catalog.TableDef.{TableDef}
 use Rattle.cs_value.specs.declared.edit.Edit.{Edit as Edits}
 use Rattle.cs_wishes.specs.Wished.{IsWished}
-use Rattle.cs_plans.specs.Ends.{Turns, node_at}
+use Rattle.cs_plans.specs.Ends.{TurnsNode, node_at}
 use Rattle.cs_plans.specs.Marks.{is_taken}
-use Rattle.cs_plans.specs.Runs.{Makes, NodeAt, Pulls, Pushes, RunsStep}
+use Rattle.cs_plans.specs.Runs.{ComesTo, NodeAt, PullsBy, PushesBy, RunsStep}
 use Rattle.cs_plans.specs.declared.plan.Step.{Step}
 use Rattle.cs_plans.specs.declared.plan.Step.TheVariants.{Edit, Pull, Push}
 use Rattle.cs_plans.specs.declared.plan.StepOutcome.{StepOutcome}
@@ -45,14 +45,14 @@ pub record Tells (old new : NodeState InMemory) (one : Stepped) (outcome : StepO
 pub record MakesOf (old new : NodeState InMemory) (step : Step) (outcome : StepOutcome) (made : Bool) (view : View) : Type 0 where
   pub next : View
   pub shows : Shows held_by new.replica next
-  pub makes : Makes old.replica.catalog old.pass.spine.cap step outcome (node_at old view) (node_at new next) (held_by new.replica.store)
+  pub makes : ComesTo old.replica.catalog old.pass.spine.cap step outcome (node_at old view) (node_at new next) (held_by new.replica.store)
   pub number : IsTrue made ↔ (old.replica.position.number ≢ new.replica.position.number)
 
 -- a call that makes something of whatever the node showed
 pub turned_to : (old new : NodeState InMemory) (step : Step) (one : Stepped) (outcome : StepOutcome) (made : Bool) → new.replica.catalog ≡ old.replica.catalog → new.pass.spine ≡ old.pass.spine
     → Begins old.pass.known new.pass.known → Tells old new one outcome made
     → ((view : View) → Shows held_by old.replica view → MakesOf old new step outcome made view)
-    → Turns (λ tables cells. RunsStep tables cells step one) old new
+    → TurnsNode (λ tables cells. RunsStep tables cells step one) old new
 turned_to old new step one outcome made same of begins tells does = record {
   catalog = same;
   spine = of;
@@ -64,7 +64,7 @@ turned_to old new step one outcome made same of begins tells does = record {
           begins = begins;
           left = held_by new.replica.store;
           shows = subst (λ (ts : List TableDef). ShowsAt ts (held_by new.replica.store) new.replica.position d.next) same d.shows;
-          makes = subst (λ (o : StepOutcome). Makes old.replica.catalog old.pass.spine.cap step o (node_at old view) (node_at new d.next) (held_by new.replica.store)) (sym tells.outcome_is) d.makes;
+          makes = subst (λ (o : StepOutcome). ComesTo old.replica.catalog old.pass.spine.cap step o (node_at old view) (node_at new d.next) (held_by new.replica.store)) (sym tells.outcome_is) d.makes;
           marked = record {
             known = tells.known_is;
             version = tells.version_is;
@@ -83,7 +83,7 @@ pub edit_made : (old new : NodeState InMemory) (asked : Edits) (one : Stepped) �
     → IsEditedIn old.replica.catalog old.replica.position (table_of_edit asked) (asked_of_edit asked) (held_by old.replica.store) (held_by new.replica.store)
     → new.replica.position ≡ with_pending old.replica.position new.replica.position.pending
     → ((view : View) × Shows held_by new.replica view)
-    → Turns (λ tables cells. RunsStep tables cells (Edit asked) one) old new
+    → TurnsNode (λ tables cells. RunsStep tables cells (Edit asked) one) old new
 edit_made old new asked one same kept tells edits moved shown =
     turned_to old new (Edit asked) one Edited false same (ap (λ (p : Known). p.spine) kept) (begins_same old new kept) tells (λ view shows.
     let e = edits view shows in
@@ -105,7 +105,7 @@ pub edit_refused : (old new : NodeState InMemory) (asked : Edits) (fault : EditF
     → held_by new.replica.store ≡ held_by old.replica.store
     → new.replica.position ≡ old.replica.position
     → ((view : View) → Shows held_by old.replica view → IsOfStore fault ⊎ (edit old.replica.catalog (table_of_edit asked) (asked_of_edit asked) view ≡ Err fault))
-    → Turns (λ tables cells. RunsStep tables cells (Edit asked) one) old new
+    → TurnsNode (λ tables cells. RunsStep tables cells (Edit asked) one) old new
 edit_refused old new asked fault one same kept tells holds stays refused =
     turned_to old new (Edit asked) one (NotEdited fault) false same (ap (λ (p : Known). p.spine) kept) (begins_same old new kept) tells (λ view shows.
     let held : ShowsAt old.replica.catalog (held_by new.replica.store) old.replica.position view =
@@ -128,8 +128,8 @@ abbrev pub pull_outcome : Result ℕ NodeFault → StepOutcome
 pull_outcome (Ok count) = Pulled count
 pull_outcome (Err fault) = Failed fault
 
-pull_makes : (tables : List TableDef) (cells : ℕ) (wishes : List Wish) (result : Result ℕ NodeFault) (old new : NodeAt) (left : Contents) → Pulls tables cells wishes result old new left
-    → Makes tables cells (Pull wishes) (pull_outcome result) old new left
+pull_makes : (tables : List TableDef) (cells : ℕ) (wishes : List Wish) (result : Result ℕ NodeFault) (old new : NodeAt) (left : Contents) → PullsBy tables cells wishes result old new left
+    → ComesTo tables cells (Pull wishes) (pull_outcome result) old new left
 pull_makes tables cells wishes (Ok count) old new left h = h
 pull_makes tables cells wishes (Err fault) old new left h = h
 
@@ -139,7 +139,7 @@ pub pull_turns : (old new : NodeState InMemory) (wishes picker unused : List Wis
     → ((view : View) → Shows held_by old.replica view
     → PullsAll IsWished old.replica.catalog new.pass.known result old.replica.position view picker new.replica.position (held_by new.replica.store) unused)
     → ((view : View) × Shows held_by new.replica view)
-    → Turns (λ tables cells. RunsStep tables cells (Pull wishes) one) old new
+    → TurnsNode (λ tables cells. RunsStep tables cells (Pull wishes) one) old new
 pull_turns old new wishes picker unused result one same of begins tells by pulls shown =
     turned_to old new (Pull wishes) one (pull_outcome result) false same of begins tells (λ view shows.
     let p = pulls view shows in
@@ -159,8 +159,8 @@ abbrev pub push_outcome : Result NodePush NodeFault → StepOutcome
 push_outcome (Ok told) = Pushed told
 push_outcome (Err fault) = Failed fault
 
-push_makes : (tables : List TableDef) (cells : ℕ) (wishes : List Wish) (result : Result NodePush NodeFault) (old new : NodeAt) (left : Contents) → Pushes tables cells wishes result old new left
-    → Makes tables cells (Push wishes) (push_outcome result) old new left
+push_makes : (tables : List TableDef) (cells : ℕ) (wishes : List Wish) (result : Result NodePush NodeFault) (old new : NodeAt) (left : Contents) → PushesBy tables cells wishes result old new left
+    → ComesTo tables cells (Push wishes) (push_outcome result) old new left
 push_makes tables cells wishes (Ok told) old new left h = h
 push_makes tables cells wishes (Err fault) old new left h = h
 
@@ -187,7 +187,7 @@ pub push_turns : (old new : NodeState InMemory) (cells : SpineCells) (wishes pic
     → (IsAtRest old.replica.position → result ≡ Ok Nothing)
     → ((IsAtRest old.replica.position → ⊥) → old.replica.position.version < length old.pass.known → result ≡ Ok Behind)
     → ((view : View) × Shows held_by new.replica view)
-    → Turns (λ tables cells. RunsStep tables cells (Push wishes) one) old new
+    → TurnsNode (λ tables cells. RunsStep tables cells (Push wishes) one) old new
 push_turns old new cells wishes picker unused was flies result one same of row begins tells by before after pushes nothing behind shown =
     turned_to old new (Push wishes) one (push_outcome result) (not was && is_there result flies) same of begins tells (λ view shows.
     let p = pushes view shows in

@@ -8,14 +8,14 @@ use Rattle.cs_spine.specs.Known.{SpineCells}
 use Rattle.cs_value.specs.declared.catalog.TableDef.{TableDef}
 use Rattle.cs_plans.specs.declared.ending.NodeEnd.{NodeEnd}
 use Rattle.cs_plans.specs.declared.plan.Step.{Step}
-use Rattle.cs_plans.specs.Runs.{NodeAt, Runs, first_node}
+use Rattle.cs_plans.specs.Runs.{NodeAt, RunsPlan, first_node}
 
 -- the node, where its store shows these rows and pending changes
 abbrev pub node_at : NodeState InMemory → View → NodeAt
 node_at node view = record { known = node.pass.known; position = node.replica.position; view = view }
 
 -- a node keeps its tables and its row of cells, and what it showed has made this step
-pub record Turns (step : List TableDef → ℕ → NodeAt → NodeAt → Type 0) (old new : NodeState InMemory) : Type 0 where
+pub record TurnsNode (step : List TableDef → ℕ → NodeAt → NodeAt → Type 0) (old new : NodeState InMemory) : Type 0 where
   pub catalog : new.replica.catalog ≡ old.replica.catalog
   pub spine : new.pass.spine ≡ old.pass.spine
   pub turned : (view : View) → Shows held_by old.replica view
@@ -28,7 +28,7 @@ module _ (tables : List TableDef) (cells : SpineCells) where
     pub spine : end.node.pass.spine ≡ cells
     pub view : View
     pub shows : Shows held_by end.node.replica view
-    pub runs : Runs tables cells.cap plan end.steps.items (first_node id) (node_at end.node view)
+    pub runs : RunsPlan tables cells.cap plan end.steps.items (first_node id) (node_at end.node view)
     pub counted : length end.steps.items ≡ length plan
 
   -- an end for each plan, in their order; the id of a node is the place of its plan

@@ -45,42 +45,42 @@ pub record IsMark (old new : NodeAt) (mark : Mark) : Type 0 where
 -- `left` is what the store holds then; the row has so many cells
 module _ (tables : List TableDef) (cells : ℕ) where
   -- a pull by these wishes: so many entries, or why no more
-  abbrev pub Pulls : List Wish → Result ℕ NodeFault → NodeAt → NodeAt → Contents → Type 0
-  Pulls wishes result old new left =
+  abbrev pub PullsBy : List Wish → Result ℕ NodeFault → NodeAt → NodeAt → Contents → Type 0
+  PullsBy wishes result old new left =
       (unused : List Wish) × PullsAll IsWished tables new.known result old.position old.view wishes new.position left unused
 
   -- a push by these wishes; that there is nothing to push is told first, and then that entries are known which weren't taken
-  pub record Pushes (wishes : List Wish) (result : Result NodePush NodeFault) (old new : NodeAt) (left : Contents) : Type 0 where
+  pub record PushesBy (wishes : List Wish) (result : Result NodePush NodeFault) (old new : NodeAt) (left : Contents) : Type 0 where
     pub unused : List Wish
     pub pushes : PushesOn IsWished tables old.known old.position old.view wishes cells result new.known new.position left unused
     pub nothing : IsAtRest old.position → result ≡ Ok Nothing
     pub behind : (IsAtRest old.position → ⊥) → old.position.version < length old.known → result ≡ Ok Behind
 
   -- what a call makes of a node, and what it comes to
-  abbrev pub Makes : Step → StepOutcome → NodeAt → NodeAt → Contents → Type 0
-  Makes (Edit asked) Edited old new left =
+  abbrev pub ComesTo : Step → StepOutcome → NodeAt → NodeAt → Contents → Type 0
+  ComesTo (Edit asked) Edited old new left =
       (edit tables (table_of_edit asked) (asked_of_edit asked) old.view ≡ Ok new.view)
       × (new.position ≡ with_pending old.position new.position.pending) × (new.known ≡ old.known)
-  Makes (Edit asked) (NotEdited fault) old new left =
+  ComesTo (Edit asked) (NotEdited fault) old new left =
       (IsOfStore fault ⊎ (edit tables (table_of_edit asked) (asked_of_edit asked) old.view ≡ Err fault)) × (new ≡ old)
-  Makes (Pull wishes) (Pulled count) old new left = Pulls wishes (Ok count) old new left
-  Makes (Pull wishes) (Failed fault) old new left = Pulls wishes (Err fault) old new left
-  Makes (Push wishes) (Pushed told) old new left = Pushes wishes (Ok told) old new left
-  Makes (Push wishes) (Failed fault) old new left = Pushes wishes (Err fault) old new left
-  Makes _ _ old new left = ⊥
+  ComesTo (Pull wishes) (Pulled count) old new left = PullsBy wishes (Ok count) old new left
+  ComesTo (Pull wishes) (Failed fault) old new left = PullsBy wishes (Err fault) old new left
+  ComesTo (Push wishes) (Pushed told) old new left = PushesBy wishes (Ok told) old new left
+  ComesTo (Push wishes) (Failed fault) old new left = PushesBy wishes (Err fault) old new left
+  ComesTo _ _ old new left = ⊥
 
   -- one call: what was known begins what is known then, and the store shows the node as it then stands
   pub record RunsStep (step : Step) (stepped : Stepped) (old new : NodeAt) : Type 0 where
     pub begins : Begins old.known new.known
     pub left : Contents
     pub shows : ShowsAt tables left new.position new.view
-    pub makes : Makes step stepped.outcome old new left
+    pub makes : ComesTo step stepped.outcome old new left
     pub marked : IsMark old new stepped.mark
 
   -- a plan's calls one behind another, with what each came to
-  abbrev pub Runs : List Step → List Stepped → NodeAt → NodeAt → Type 0
-  Runs [] [] old new = new ≡ old
-  Runs (step ∷ steps) (one ∷ more) old new =
-      (between : NodeAt) × RunsStep step one old between × Runs steps more between new
-  Runs [] (one ∷ more) old new = ⊥
-  Runs (step ∷ steps) [] old new = ⊥
+  abbrev pub RunsPlan : List Step → List Stepped → NodeAt → NodeAt → Type 0
+  RunsPlan [] [] old new = new ≡ old
+  RunsPlan (step ∷ steps) (one ∷ more) old new =
+      (between : NodeAt) × RunsStep step one old between × RunsPlan steps more between new
+  RunsPlan [] (one ∷ more) old new = ⊥
+  RunsPlan (step ∷ steps) [] old new = ⊥

@@ -1,8 +1,8 @@
 //! A plan, call by call.
 
 ghost use Rattle.std.specs.Prelude.{◌≡◌, IfOk};
-ghost use Rattle.cs_plans.specs.Ends.{Turns};
-ghost use Rattle.cs_plans.specs.Runs.{Runs};
+ghost use Rattle.cs_plans.specs.Ends.{TurnsNode};
+ghost use Rattle.cs_plans.specs.Runs.{RunsPlan};
 
 use crate::plan::{Plan, Port, Stepped};
 use crate::stepping::{Held, run_step};
@@ -23,7 +23,7 @@ pub(crate) fn run_plan<'s, P: Port>(
     port: &mut P,
 ) -> Result<Vec<Stepped>, Memory>
     requires { node.old.pass.spine ≡ spine.now }
-    ensures { IfOk result (λ steps. Turns (λ tables cells. Runs tables cells plan.now steps.items) node.old node.new) }
+    ensures { IfOk result (λ steps. TurnsNode (λ tables cells. RunsPlan tables cells plan.now steps.items) node.old node.new) }
 {
     let mut rest = plan.as_slice();
     let mut steps = Vec::with_capacity(alloc, rest.len())?;

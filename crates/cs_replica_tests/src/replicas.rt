@@ -1,6 +1,7 @@
 //! A replica of one table, what is asked of it, and what it shows.
 
 use cs_conflict::{Clash, Guard, Wish};
+use cs_log::Body;
 use cs_map_store::MapStore;
 use cs_opening::OpenFault;
 use cs_outgoing::Outgoing;
@@ -181,12 +182,24 @@ fn has_first_under_way(alloc: Global, replica: &Replica<Store>) -> Result<bool, 
     Ok(bytes.as_slice() == &PUSH_1[CHANGES..])
 }
 
+/// Whether it would be the first push of replica 7 in the log.
+fn would_be_first(alloc: Global, replica: &Replica<Store>) -> Result<bool, AllocError> {
+    let Some(entry) = replica.flight_entry(alloc)? else {
+        return Ok(false);
+    };
+    let Body::Changes(changes) = &entry.body;
+    let mut bytes = Vec::new(alloc);
+    changes.encode(&mut bytes)?;
+    Ok(entry.origin == 7 && entry.number == 1 && bytes.as_slice() == &PUSH_1[CHANGES..])
+}
+
 /// Whether a replica shows both rows at version 0, the first of them pushed and the second pending.
 pub(crate) fn shows_both(alloc: Global, replica: &mut Replica<Store>) -> bool {
     is_at(replica, 0, 1)
         && has_both_rows(alloc, replica) == Ok(true)
         && has_second_pending(alloc, replica) == Ok(true)
         && has_first_under_way(alloc, replica) == Ok(true)
+        && would_be_first(alloc, replica) == Ok(true)
 }
 
 /// The store of a replica that shows that.
