@@ -106,7 +106,7 @@ module _ (laws : Below) (limit : ℕ) (small : limit < 2 ^ 32) (world : World) (
 
   -- ---- entries
 
-  stored_at : (at : ℕ) (entry : LogEntry) → slice_get world.log at ≡ Some entry → IsStoredEntry world.tables entry
+  pub stored_at : (at : ℕ) (entry : LogEntry) → slice_get world.log at ≡ Some entry → IsStoredEntry world.tables entry
   stored_at at entry there = all_at (IsStoredEntry world.tables) world.log at entry s.entries there
 
   -- an entry of the log is read as it was told

@@ -1,14 +1,21 @@
 -- Entries that a replica of a sound world pulls are merges over the log's tables.
-use Rattle.std.proofs.Common.{◌≡◌, ◌<◌, ◌^◌, ◌+◌, ◌∙◌, ℕ, zero, suc, List, Some, None, Result, Ok, Err, slice_get, slice_set, refl, sym, ap, subst, inl, inr}
+use Rattle.std.proofs.Common.{◌≡◌, ◌<◌, ◌^◌, ◌+◌, ◌∙◌, ℕ, zero, suc, List, [], ◌∷◌, Option, Some, None, Result, Ok, Err, slice_get, slice_set, refl, sym, ap, subst, inl, inr}
 use Rattle.std.specs.Prelude.{◌⊎◌}
 use Rattle.cs_value.specs.Key.{Place}
-use Rattle.cs_apply.specs.Tasks.{tasks}
+use Rattle.cs_apply.specs.NormalTasks.{found_at, found_is, of_one, tasks_are}
+use Rattle.cs_apply.specs.Spots.{by_test, same_spot, spot_is}
+use Rattle.cs_apply.specs.Tasks.{Task, tasks}
+use Rattle.cs_change.specs.Action.{action_any, after_any}
 use Rattle.cs_change.specs.Net.{net}
+use Rattle.cs_change.specs.declared.change.Change.{Change}
+use Rattle.cs_conflict.specs.Wishes.{resolution_of}
+use Rattle.cs_conflict.specs.declared.conflict.Resolution.{Resolution}
+use Rattle.cs_conflict.specs.declared.conflict.Resolution.TheVariants.{Omit}
 use Rattle.cs_conflict.specs.declared.wish.Wish.{Wish}
 use Rattle.cs_log.specs.Entry.{entry_changes}
 use Rattle.cs_log.specs.Log.{tables_at}
 use Rattle.cs_log.specs.declared.entry.LogEntry.{LogEntry}
-use Rattle.cs_normal.specs.Normal.{groups_of}
+use Rattle.cs_normal.specs.Normal.{change_of, groups_of}
 use Rattle.cs_normal.specs.State.{State}
 use Rattle.cs_pending.specs.Laws.{OneView}
 use Rattle.cs_pending.specs.Nets.{undo_none}
@@ -21,6 +28,7 @@ use Rattle.cs_pulling.specs.declared.fault.AnswerFault.{AnswerFault}
 use Rattle.cs_pulling.specs.declared.fault.AnswerFault.TheVariants as fault
 use Rattle.cs_pulling.specs.declared.listing.Pulled.{Pulled}
 use Rattle.cs_pulling.specs.declared.listing.Pulled.TheVariants as pulled
+use Rattle.cs_rebaser.specs.Merge.{MergesOneSide, merge}
 use Rattle.cs_replica.specs.Answered.{told_of}
 use Rattle.cs_replica.specs.Stands.{StandsOn}
 use Rattle.cs_replica.specs.declared.told.Told.{Told}
@@ -46,16 +54,63 @@ use Rattle.cs_world.proofs.Heard as answers
 pub record Below : Type 0 where
   pub answers : answers.Below
   pub view : OneView
+  pub side : MergesOneSide
+
+-- at a change's place the own row is the merge
+merged_at : (log own theirs left : State) (all : List Task) (p q : List Wish) → TakeAll IsWished log own theirs left all p q → (name key : List ℕ) (change : Change) → found_at (name, key) all ≡ Some change
+    → (answer : Resolution) × (left name key ≡ merge answer (log name key) (own name key) (theirs name key))
+unfolding TakeAll found_at
+merged_at log own theirs left [] p q takes name key change found = absurd (let no = found in cc)
+merged_at log own theirs left (t ∷ ts) p q (wish, between, going, asks, is, more) name key change found =
+    by_test (same_spot (name, key) (t.name, t.key)) _
+    (λ same. let at = spot_is (name, key) (t.name, t.key) same in (
+      resolution_of wish,
+      subst (λ (n : List ℕ). left n key ≡ merge (resolution_of wish) (log n key) (own n key) (theirs n key)) (sym at.0)
+          (subst (λ (k : List ℕ). left t.name k ≡ merge (resolution_of wish) (log t.name k) (own t.name k) (theirs t.name k)) (sym at.1) is),
+    ))
+    (λ other. merged_at log own theirs left ts between q more name key change (rw other at found))
 
 module _ (laws : Below) (limit : ℕ) (small : limit < 2 ^ 32) (world : World) (s : IsSound limit world) where
   -- ---- one entry
 
-  module _ (position : Position) (entry : LogEntry) (before after : View) (wishes unused : List Wish) (stood : StandsOn world.log position before) (pending : ℕ) (stands : StandsOn world.log (taken position pending) after) where
+  module _ (position : Position) (entry : LogEntry) (before after : View) (wishes unused : List Wish) (stood : StandsOn world.log position before) (pending : ℕ) (stands : StandsOn world.log (taken position pending) after)
+      (there : slice_get world.log position.version ≡ Some entry) where
     log_is : (name key : List ℕ) → base position.flight before name key ≡ tables_at world.log position.version name key
     log_is name key = stood.on_tables name key
 
     next_is : (name key : List ℕ) → middle after name key ≡ tables_at world.log (position.version + 1) name key
     next_is name key = sym (undo_none (middle after name key)) ∙ stands.on_tables name key
+
+    -- where the entry has no change the log's row stays
+    log_stays : IsTaken IsWished world.tables position.flight (entry_changes entry) before after wishes unused → (name key : List ℕ) → change_of name key (entry_changes entry) ≡ None
+        → tables_at world.log (position.version + 1) name key ≡ tables_at world.log position.version name key
+    log_stays t name key none =
+        let left : Some (base position.flight before name key) ≡ Some (middle after name key) =
+        ap (λ (c : Option Change). after_any (action_any c) (base position.flight before name key)) (sym none) ∙ t.applied.1 name key in
+        let same : base position.flight before name key ≡ middle after name key = (let e = left in cc) in
+        sym (next_is name key) ∙ (sym same ∙ log_is name key)
+
+    each_merged : IsTaken IsWished world.tables position.flight (entry_changes entry) before after wishes unused
+        → TakeAll IsWished (tables_at world.log position.version) before.tables (middle after) after.tables (tasks world.tables (groups_of (entry_changes entry))) wishes unused → (name key : List ℕ) → (answer : Resolution)
+        × (after.tables name key ≡ merge answer (tables_at world.log position.version name key) (before.tables name key) (tables_at world.log (position.version + 1) name key))
+    each_merged t over name key = by_change (change_of name key (entry_changes entry)) refl
+      where
+        by_change : (found : Option Change) → change_of name key (entry_changes entry) ≡ found → (answer : Resolution)
+            × (after.tables name key ≡ merge answer (tables_at world.log position.version name key) (before.tables name key) (tables_at world.log (position.version + 1) name key))
+        by_change None is = (
+          Omit,
+          t.others name key is
+              ∙ sym (ap (λ (theirs : Place). merge Omit (tables_at world.log position.version name key) (before.tables name key) theirs) (log_stays t name key is)
+              ∙ (laws.side Omit (tables_at world.log position.version name key) (before.tables name key)).1),
+        )
+        by_change (Some change) is =
+            let stored = answers.stored_at laws.answers limit small world s position.version entry there in
+            let changes = entry_changes entry in
+            let found : found_at (name, key) (tasks world.tables (groups_of changes)) ≡ Some change =
+            ap (λ (all : List Task). found_at (name, key) all) (tasks_are world.tables changes (of_one world.tables changes stored.0.changes.1) stored.0.changes.0)
+            ∙ found_is world.tables name key changes stored.0.changes.0 ∙ is in
+            let at = merged_at (tables_at world.log position.version) before.tables (middle after) after.tables (tasks world.tables (groups_of changes)) wishes unused over name key change found in
+            (at.0, at.1 ∙ ap (λ (theirs : Place). merge at.0 (tables_at world.log position.version name key) (before.tables name key) theirs) (next_is name key))
 
     merged : IsTaken IsWished world.tables position.flight (entry_changes entry) before after wishes unused → IsMerged world position.version entry before after wishes unused
     merged t =
@@ -63,7 +118,8 @@ module _ (laws : Below) (limit : ℕ) (small : limit < 2 ^ 32) (world : World) (
         let over : TakeAll IsWished (tables_at world.log position.version) before.tables (middle after) after.tables all wishes unused =
         subst (λ (log : State). TakeAll IsWished log before.tables (middle after) after.tables all wishes unused) (λ i n k. log_is n k i) t.takes in
         record {
-          merges = subst (λ (theirs : State). TakeAll IsWished (tables_at world.log position.version) before.tables theirs after.tables all wishes unused) (λ i n k. next_is n k i) over;
+          each = each_merged t over;
+          by_wishes = subst (λ (theirs : State). TakeAll IsWished (tables_at world.log position.version) before.tables theirs after.tables all wishes unused) (λ i n k. next_is n k i) over;
           others = t.others;
         }
 
@@ -72,9 +128,9 @@ module _ (laws : Below) (limit : ℕ) (small : limit < 2 ^ 32) (world : World) (
     pulls_so (room, inl (own, rows, asked)) = inl (record { own = own; rows = rows; unasked = asked })
     pulls_so (room, inr (others, t)) = inr (others, merged t)
 
-    pulls_entry : (left : Contents) → slice_get world.log position.version ≡ Some entry → PullsOne IsWished world.tables position entry before wishes after unused → ShowsAt world.tables left (taken position pending) after
+    pulls_entry : (left : Contents) → PullsOne IsWished world.tables position entry before wishes after unused → ShowsAt world.tables left (taken position pending) after
         → PullsEntry world position before after wishes unused
-    pulls_entry left there pulls shows = record {
+    pulls_entry left pulls shows = record {
       entry = entry;
       there = there;
       pulled = pulls_so pulls;
@@ -97,7 +153,7 @@ module _ (laws : Below) (limit : ℕ) (small : limit < 2 ^ 32) (world : World) (
           pending,
           next,
           between,
-          pulls_entry position entry view next p between stands pending stood left there pulls shown,
+          pulls_entry position entry view next p between stands pending stood there left pulls shown,
           pull_entries count left (taken position pending) next between other end q shown stood more,
         )
 

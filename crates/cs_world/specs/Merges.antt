@@ -4,6 +4,7 @@ use Rattle.cs_value.specs.declared.catalog.TableDef.{TableDef}
 use Rattle.cs_apply.specs.Tasks.{tasks}
 use Rattle.cs_change.specs.Action.{action_any}
 use Rattle.cs_change.specs.Net.{net}
+use Rattle.cs_conflict.specs.declared.conflict.Resolution.{Resolution}
 use Rattle.cs_conflict.specs.declared.wish.Wish.{Wish}
 use Rattle.cs_log.specs.Entry.{entry_changes}
 use Rattle.cs_log.specs.Log.{tables_at}
@@ -15,6 +16,7 @@ use Rattle.cs_position.specs.declared.position.Position.{Position}
 use Rattle.cs_pulling.specs.Pulls.{IsOwn}
 use Rattle.cs_pulling.specs.declared.fault.AnswerFault.{AnswerFault}
 use Rattle.cs_pulling.specs.declared.fault.AnswerFault.TheVariants as fault
+use Rattle.cs_rebaser.specs.Merge.{merge}
 use Rattle.cs_replica.specs.declared.told.Told.{Told}
 use Rattle.cs_replica.specs.declared.told.Told.TheVariants as what
 use Rattle.cs_taking.specs.Takes.{TakeAll, taken}
@@ -23,10 +25,12 @@ use Rattle.cs_world.specs.World.{Member, World}
 use Rattle.cs_world.specs.declared.outcome.Outcome.{Outcome}
 use Rattle.cs_world.specs.declared.outcome.Outcome.TheVariants.{Done, Heard, Memory, NoMessage, NoReplica, NotEdited, NotHeard, NotPushed, NotReloaded, Sent}
 
--- at each place of the entry at a version, in order, the own row has become the three-way merge, by its wish, of the log's row at the
--- version, the own row, and the log's row at the next version; each other own row is as it was
+-- at each place the own row has become the three-way merge of the log's row at the version, the own row, and the log's row at the next
+-- version; at the places of the entry at that version, in order, by the wishes for its conflicts; each other own row is as it was
 pub record IsMerged (world : World) (version : ℕ) (entry : LogEntry) (before after : View) (wishes unused : List Wish) : Type 0 where
-  pub merges : TakeAll IsWished (tables_at world.log version) before.tables (tables_at world.log (version + 1)) after.tables
+  pub each : (name key : List ℕ) → (answer : Resolution)
+      × (after.tables name key ≡ merge answer (tables_at world.log version name key) (before.tables name key) (tables_at world.log (version + 1) name key))
+  pub by_wishes : TakeAll IsWished (tables_at world.log version) before.tables (tables_at world.log (version + 1)) after.tables
       (tasks world.tables (groups_of (entry_changes entry))) wishes unused
   pub others : (name key : List ℕ) → change_of name key (entry_changes entry) ≡ None → after.tables name key ≡ before.tables name key
 

@@ -84,6 +84,7 @@ pub fn pulls_merge()
     cs_pulling::laws::one_read();
     let wishes = Wishes::new(&[]);
     cs_pulling::laws::pulled_leads(&wishes);
+    cs_rebaser::laws::merge_alike();
     cs_replica::laws::steps_stand();
     cs_replica::laws::flight_fits();
 }

@@ -16,4 +16,5 @@ returns c =
         rows = c.one_contents.ensures.log_rows;
       };
       view = c.one_view.ensures.one;
+      side = c.merge_alike.ensures.one_side;
     })
