@@ -18,6 +18,9 @@ use std::alloc::{AllocError, Global};
 /// A leaf that comes to have twice as many rows is cut into leaves of so many.
 const LEAF: usize = 32;
 
+/// So many leaves further a look-up looks at most before it halves all that are left.
+const NEARBY: usize = 64;
+
 /// Rows and pending changes, in leaves of their own.
 #[derive(Drop)]
 pub struct Shelves {
@@ -57,7 +60,7 @@ fn is_before(leaves: &[Leaf], at: usize, edit: &PlaceEdit) -> bool
     begins_above(leaves, at, edit.table, edit.key.as_slice())
 }
 
-/// A leaf that begins above a place, which the leaf at `from` doesn't: the next, or where that doesn't either, the end.
+/// A leaf that begins above a place, which the leaf at `from` doesn't: one near that, or where none does, the end.
 #[inline(always)]
 fn limit(leaves: &[Leaf], from: usize, table: u32, key: &[u8]) -> usize
     requires in_bounds { from < length leaves.now }
@@ -65,25 +68,28 @@ fn limit(leaves: &[Leaf], from: usize, table: u32, key: &[u8]) -> usize
     ensures bound { (from < result) × (result ≤ length leaves.now) }
     ensures next { BeginsBehind leaves.now result (pos table, key.now) }
 {
-    let next = from + 1;
-    if next < leaves.len() && begins_above(leaves, next, table, key) {
-        next
-    } else {
-        leaves.len()
+    let mut step = 1;
+    while step <= NEARBY && step < leaves.len() - from {
+        if begins_above(leaves, from + step, table, key) {
+            return from + step;
+        }
+        step *= 8;
     }
+    leaves.len()
 }
 
-/// The leaf in which a place stands or would stand, not before `from`, which is looked at first.
-fn leaf_for(leaves: &[Leaf], from: usize, table: u32, key: &[u8]) -> usize
-    requires in_bounds { from < length leaves.now }
+/// The leaf in which a place stands or would stand, not before `from`, and before `to`.
+fn leaf_between(leaves: &[Leaf], from: usize, to: usize, table: u32, key: &[u8]) -> usize
+    requires bound { (from < to) × (to ≤ length leaves.now) }
     requires full { All (λ leaf. 0 < length leaf) leaves.now }
     requires begins { BeginsBy leaves.now from (pos table, key.now) }
+    requires next { BeginsBehind leaves.now to (pos table, key.now) }
     ensures bound { (from ≤ result) × (result < length leaves.now) }
     ensures begins { BeginsBy leaves.now result (pos table, key.now) }
     ensures next { BeginsBehind leaves.now (result + 1) (pos table, key.now) }
 {
     let mut low = from;
-    let mut high = limit(leaves, from, table, key);
+    let mut high = to;
     while high - low > 1 {
         let middle = low + (high - low) / 2;
         if begins_above(leaves, middle, table, key) {
@@ -93,6 +99,19 @@ fn leaf_for(leaves: &[Leaf], from: usize, table: u32, key: &[u8]) -> usize
         }
     }
     low
+}
+
+/// The leaf in which a place stands or would stand, not before `from`, near which it is looked for first.
+fn leaf_for(leaves: &[Leaf], from: usize, table: u32, key: &[u8]) -> usize
+    requires in_bounds { from < length leaves.now }
+    requires full { All (λ leaf. 0 < length leaf) leaves.now }
+    requires begins { BeginsBy leaves.now from (pos table, key.now) }
+    ensures bound { (from ≤ result) × (result < length leaves.now) }
+    ensures begins { BeginsBy leaves.now result (pos table, key.now) }
+    ensures next { BeginsBehind leaves.now (result + 1) (pos table, key.now) }
+{
+    let to = limit(leaves, from, table, key);
+    leaf_between(leaves, from, to, table, key)
 }
 
 /// The leaf in which a place stands or would stand. The one at `near` is looked at first.
@@ -106,7 +125,7 @@ fn leaf_near(leaves: &[Leaf], near: usize, table: u32, key: &[u8]) -> usize
     if near < leaves.len() && !begins_above(leaves, near, table, key) {
         leaf_for(leaves, near, table, key)
     } else {
-        leaf_for(leaves, 0, table, key)
+        leaf_between(leaves, 0, leaves.len(), table, key)
     }
 }
 

@@ -1,6 +1,6 @@
 use Rattle.std.proofs.Common.{◌-◌, ◌≤◌, ◌<◌, pos, length}
 use Rattle.cs_map_store.specs.Leaves.{BeginsBy, BeginsBehind}
-use Rattle.cs_map_store.proofs.leaves.leaf_for.Given as goal
+use Rattle.cs_map_store.proofs.leaves.leaf_between.Given as goal
 
 abbrev pub invariant-loop-high : goal.invariant-loop-high
 invariant-loop-high l = record {
