@@ -38,7 +38,7 @@ use Rattle.cs_wire.specs.Entries.{ToldEntry}
 use Rattle.cs_wire.specs.declared.answer.Answer.{Answer}
 use Rattle.cs_wire.specs.declared.answer.Answer.TheVariants.{Entries}
 use Rattle.cs_wishes.specs.Wished.{IsWished}
-use Rattle.cs_world.specs.Laws.{PullsMerge}
+use Rattle.cs_world.specs.Laws.{EventsMerge, PullsMerge, StepsAreSound}
 use Rattle.cs_world.specs.Merges.{IsConfirmed, IsMerged, PullEntries, PullsAsMerges, PullsEntry, count_in}
 use Rattle.cs_world.specs.Sound.{ArePartOf, IsSound}
 use Rattle.cs_world.specs.Steps as step
@@ -235,3 +235,14 @@ module _ (laws : Below) (limit : ℕ) (small : limit < 2 ^ 32) (world : World) (
 pub pulls_merge : Below → PullsMerge
 pulls_merge laws limit k r first entries wishes outcome old new before after small s said was now step =
     step_so laws limit small old s k r first entries wishes before after said was step refl now
+
+-- ---- events one behind another
+
+pub events_merge : PullsMerge → StepsAreSound → EventsMerge
+events_merge pulls sound limit world [] outcomes small is = tt
+events_merge pulls sound limit world (event ∷ events) [] small is = tt
+events_merge pulls sound limit world (event ∷ events) (outcome ∷ outcomes) small is = λ between step. (
+  λ k r first entries wishes before after same said was now.
+      pulls limit k r first entries wishes outcome world between before after small is said was now (subst (λ (e : Event). Step limit world e outcome between) same step),
+  events_merge pulls sound limit between events outcomes small (sound limit world between event outcome small is step).0,
+)

@@ -22,7 +22,7 @@ use Rattle.cs_wire.specs.declared.answer.Answer.{Answer}
 use Rattle.cs_wire.specs.declared.answer.Answer.TheVariants.{Entries}
 use Rattle.cs_wishes.specs.Wished.{IsWished}
 use Rattle.cs_world.specs.Headline.{Headline, IsGood}
-use Rattle.cs_world.specs.Merges.{PullsAsMerges, count_in}
+use Rattle.cs_world.specs.Merges.{EachMerges, PullsAsMerges, count_in}
 use Rattle.cs_world.specs.Sound.{IsSound}
 use Rattle.cs_world.specs.Same.{IsRefused, IsSameWorld}
 use Rattle.cs_world.specs.Steps.{Step, Steps}
@@ -86,6 +86,14 @@ PullsMerge =
     → IsMember new r after
     → Step limit old (Deliver k wishes) outcome new
     → PullsAsMerges old (count_in outcome) wishes before after
+
+-- and so each event does that makes its step behind others
+abbrev pub EventsMerge : Type 0
+EventsMerge =
+    (limit : ℕ) (world : World) (events : List Event) (outcomes : List Outcome)
+    → limit < 2 ^ 32
+    → IsSound limit world
+    → EachMerges limit world events outcomes
 
 -- ---- one outcome an event
 

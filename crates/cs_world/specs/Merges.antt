@@ -1,5 +1,5 @@
 -- How a replica pulls the entries of the log: each is merged with its own rows over the log's tables (profile of this project).
-use Rattle.std.specs.Prelude.{◌≡◌, ◌⊎◌, ◌+◌, ℕ, zero, suc, List, Some, None, Contains, slice_get}
+use Rattle.std.specs.Prelude.{◌≡◌, ◌⊎◌, ◌+◌, ℕ, zero, suc, List, [], ◌∷◌, Some, None, Contains, slice_get}
 use Rattle.cs_value.specs.declared.catalog.TableDef.{TableDef}
 use Rattle.cs_apply.specs.Tasks.{tasks}
 use Rattle.cs_change.specs.Action.{action_any}
@@ -21,7 +21,12 @@ use Rattle.cs_replica.specs.declared.told.Told.{Told}
 use Rattle.cs_replica.specs.declared.told.Told.TheVariants as what
 use Rattle.cs_taking.specs.Takes.{TakeAll, taken}
 use Rattle.cs_wishes.specs.Wished.{IsWished}
-use Rattle.cs_world.specs.World.{Member, World}
+use Rattle.cs_wire.specs.Entries.{ToldEntry}
+use Rattle.cs_wire.specs.declared.answer.Answer.TheVariants.{Entries}
+use Rattle.cs_world.specs.Steps.{Step}
+use Rattle.cs_world.specs.World.{IsMember, IsMessage, Member, Tells, World}
+use Rattle.cs_world.specs.declared.event.Event.{Event}
+use Rattle.cs_world.specs.declared.event.Event.TheVariants.{Deliver}
 use Rattle.cs_world.specs.declared.outcome.Outcome.{Outcome}
 use Rattle.cs_world.specs.declared.outcome.Outcome.TheVariants.{Done, Heard, Memory, NoMessage, NoReplica, NotEdited, NotHeard, NotPushed, NotReloaded, Sent}
 
@@ -91,3 +96,23 @@ count_in (NotPushed why) = 0
 count_in (NotHeard why) = count_in_fault why
 count_in (NotReloaded why) = 0
 count_in Memory = 0
+
+-- ---- each event
+
+-- where the event hands entries to a replica, these are pulled as merges of the log's tables with its own rows
+abbrev pub StepMerges : World → Event → Outcome → World → Type 0
+StepMerges old event outcome new =
+    (k r first : ℕ) (entries : List ToldEntry) (wishes : List Wish) (before after : Member)
+    → event ≡ Deliver k wishes
+    → IsMessage old k (Tells r (Entries first entries))
+    → IsMember old r before
+    → IsMember new r after
+    → PullsAsMerges old (count_in outcome) wishes before after
+
+-- so does each of the events, where they make their steps one behind another
+abbrev pub EachMerges : ℕ → World → List Event → List Outcome → Type 0
+EachMerges limit old [] outcomes = Unit {0}
+EachMerges limit old (event ∷ events) [] = Unit {0}
+EachMerges limit old (event ∷ events) (outcome ∷ outcomes) =
+    (between : World) → Step limit old event outcome between
+    → StepMerges old event outcome between × EachMerges limit between events outcomes

@@ -4,6 +4,7 @@ use Rattle.cs_value.specs.declared.catalog.TableDef.{TableDef}
 use Rattle.cs_store.specs.Contents.{Contents}
 use Rattle.cs_world.specs.Headline.{Headline, IsGood}
 use Rattle.cs_world.specs.Laws.{IsFirstMember}
+use Rattle.cs_world.specs.Merges.{EachMerges}
 use Rattle.cs_world.specs.Steps.{Steps}
 use Rattle.cs_world.specs.World.{IsMember, Member, World, first_world}
 use Rattle.cs_world.specs.declared.event.Event.{Event}
@@ -35,3 +36,8 @@ module _ {S : Type 0} (honest : S → Type 0) (contents : S → Contents) where
       → (members : List Member) × (length members ≡ count)
       × ((r : ℕ) (member : Member) → IsMember (first_world tables members) r member → IsFirstMember tables r member)
       × StandsAt honest contents limit held (first_world tables members)
+
+  -- each of the events pulls as merges, from the world at which it stood on
+  abbrev pub RunMerges : ℕ → Holding S → List Event → List Outcome → Type 0
+  RunMerges limit old events outcomes =
+      (world : World) → StandsAt honest contents limit old world → EachMerges limit world events outcomes

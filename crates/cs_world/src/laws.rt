@@ -1,7 +1,7 @@
 //! The laws of worlds, each the contract of a function that does nothing.
 
 ghost use Rattle.cs_replica.specs.Laws.{AnswerHasResult};
-ghost use Rattle.cs_world.specs.Laws.{AnswersFit, AskHasStep, DeliverHasStep, EditHasStep, FirstIsSound, OneRun, OneStep, PullsMerge, PushHasStep, ResendHasStep, RestartHasStep, SoundHasHeadline, StepsAreSound, WishesPickOnce};
+ghost use Rattle.cs_world.specs.Laws.{AnswersFit, AskHasStep, DeliverHasStep, EditHasStep, EventsMerge, FirstIsSound, OneRun, OneStep, PullsMerge, PushHasStep, ResendHasStep, RestartHasStep, SoundHasHeadline, StepsAreSound, WishesPickOnce};
 
 use cs_conflict::Picker;
 use cs_wishes::Wishes;
@@ -114,6 +114,14 @@ pub fn edit_has_step()
     ensures { EditHasStep }
 {
     cs_member::laws::edit_has_result();
+}
+
+/// So does each event that makes its step behind others.
+pub fn events_merge()
+    ensures { EventsMerge }
+{
+    pulls_merge();
+    steps_are_sound();
 }
 
 /// So has a push.

@@ -3,7 +3,7 @@
 ghost use Rattle.std.specs.Prelude.{◌≡◌, ◌<◌, ◌-◌, ◌^◌, [], ◌∷◌, All, IfOk, OnErr, length};
 ghost use Rattle.cs_hub.specs.declared.hub.TheConstants.{MAX_ENTRIES};
 ghost use Rattle.cs_store.specs.Contents.{nothing};
-ghost use Rattle.cs_world.specs.Runs.{HasHeadline, IsNew, Runs};
+ghost use Rattle.cs_world.specs.Runs.{HasHeadline, IsNew, RunMerges, Runs};
 
 use crate::event::Event;
 use crate::moving::Core;
@@ -123,11 +123,16 @@ impl<S: RowStore> World<S> {
         // The steps of the events are made, with these outcomes.
         ensures ran { IfOk result (λ outcomes. Runs S.honest S.contents MAX_ENTRIES self.old events.now outcomes.items self.new) }
 
+        // Each pull is the three-way merge of the log's tables at the replica's version, its own, and the log's at the next.
+        ensures merges { IfOk result (λ outcomes. RunMerges S.honest S.contents MAX_ENTRIES self.old events.now outcomes.items) }
+
         // Each replica's tables are the hub's at its version with its own changes on top, no push conflicts, each counts once, and replicas
         // at rest at one version have the same rows.
         ensures headline { HasHeadline S.honest S.contents MAX_ENTRIES self.new }
         ensures refused { OnErr result (self.new ≡ self.old) }
     {
+        crate::laws::events_merge();
+        cs_hub::laws::most_entries();
         self.headline();
         let mut outcomes = Vec::with_capacity(self.core.alloc, events.len())?;
         let mut rest = events;

@@ -17,3 +17,7 @@ loop-event-preserved g c =
 pub returns-clause-ran : goal.returns-clause-ran
 returns-clause-ran g c =
     ran g.S.RowStore.honest g.S.RowStore.contents MAX_ENTRIES c.args.self.now c.args.events.now c.loop-event.self c.loop-event.rest.now c.loop-event.outcomes.items c.in_default.ensures.cases c.loop-event.invariant.running
+
+pub returns-clause-merges : goal.returns-clause-merges
+returns-clause-merges g c = λ world stands.
+    c.events_merge.ensures MAX_ENTRIES world c.args.events.now c.loop-event.outcomes.items (omega (arith, c.most_entries.ensures)) stands.1
