@@ -9,21 +9,21 @@ use cs_record::Row;
 use std::alloc::Global;
 
 /// Texts of the columns of t2.
-const B0: [u8; 4] = [3, 2, 0x62, 0x30];
+const B_0: [u8; 4] = [3, 2, 0x62, 0x30];
 
-const B1: [u8; 4] = [3, 2, 0x62, 0x31];
+const B_1: [u8; 4] = [3, 2, 0x62, 0x31];
 
-const B2: [u8; 4] = [3, 2, 0x62, 0x32];
+const B_2: [u8; 4] = [3, 2, 0x62, 0x32];
 
-const C0: [u8; 4] = [3, 2, 0x63, 0x30];
+const C_0: [u8; 4] = [3, 2, 0x63, 0x30];
 
-const C1: [u8; 4] = [3, 2, 0x63, 0x31];
+const C_1: [u8; 4] = [3, 2, 0x63, 0x31];
 
-const C2: [u8; 4] = [3, 2, 0x63, 0x32];
+const C_2: [u8; 4] = [3, 2, 0x63, 0x32];
 
-const D0: [u8; 4] = [3, 2, 0x64, 0x30];
+const D_0: [u8; 4] = [3, 2, 0x64, 0x30];
 
-const D1: [u8; 4] = [3, 2, 0x64, 0x31];
+const D_1: [u8; 4] = [3, 2, 0x64, 0x31];
 
 /// Texts of one letter.
 const A: [u8; 3] = [3, 1, 0x61];
@@ -118,66 +118,70 @@ fn both_insert_a_row(rt: HostRuntime) {
 /// Both sides change the columns of a row.
 const CHANGED: [Case; 5] = [
     Case {
-        base: &[&H2, &INSERT, &K1, &B0, &C0, &D0],
+        base: &[&H2, &INSERT, &K1, &B_0, &C_0, &D_0],
         edits: &[Edit::Update("t2", 1, &[Some("b1"), None, None])],
-        entry: &[&H2, &UPDATE, &K1, &B0, &C0, &NONE, &NONE, &B2, &C2, &NONE],
+        entry: &[
+            &H2, &UPDATE, &K1, &B_0, &C_0, &NONE, &NONE, &B_2, &C_2, &NONE,
+        ],
         wishes: &[Wish::Keep],
         kinds: [1, 0, 0, 0],
         shown: Shown {
             table: 1,
-            rows: &[&K1, &B2, &C2, &D0],
+            rows: &[&K1, &B_2, &C_2, &D_0],
             pending: &[],
             count: 0,
             flight: &[],
         },
     },
     Case {
-        base: &[&H2, &INSERT, &K1, &B0, &C0, &D0],
+        base: &[&H2, &INSERT, &K1, &B_0, &C_0, &D_0],
         edits: &[Edit::Update("t2", 1, &[Some("b1"), None, Some("d1")])],
         entry: &[
-            &H2, &UPDATE, &K1, &B0, &NONE, &NONE, &NONE, &B2, &NONE, &NONE,
+            &H2, &UPDATE, &K1, &B_0, &NONE, &NONE, &NONE, &B_2, &NONE, &NONE,
         ],
         wishes: &[Wish::Keep],
         kinds: [1, 0, 0, 0],
         shown: Shown {
             table: 1,
-            rows: &[&K1, &B1, &C0, &D1],
-            pending: &[&H2, &UPDATE, &K1, &B2, &NONE, &D0, &NONE, &B1, &NONE, &D1],
-            count: 1,
-            flight: &[],
-        },
-    },
-    Case {
-        base: &[&H2, &INSERT, &K1, &B0, &C0, &D0],
-        edits: &[Edit::Update("t2", 1, &[Some("b1"), None, Some("d1")])],
-        entry: &[
-            &H2, &UPDATE, &K1, &B0, &NONE, &NONE, &NONE, &B2, &NONE, &NONE,
-        ],
-        wishes: &[Wish::Take],
-        kinds: [1, 0, 0, 0],
-        shown: Shown {
-            table: 1,
-            rows: &[&K1, &B2, &C0, &D1],
+            rows: &[&K1, &B_1, &C_0, &D_1],
             pending: &[
-                &H2, &UPDATE, &K1, &NONE, &NONE, &D0, &NONE, &NONE, &NONE, &D1,
+                &H2, &UPDATE, &K1, &B_2, &NONE, &D_0, &NONE, &B_1, &NONE, &D_1,
             ],
             count: 1,
             flight: &[],
         },
     },
     Case {
-        base: &[&H2, &INSERT, &K1, &B0, &C0, &D0],
+        base: &[&H2, &INSERT, &K1, &B_0, &C_0, &D_0],
+        edits: &[Edit::Update("t2", 1, &[Some("b1"), None, Some("d1")])],
+        entry: &[
+            &H2, &UPDATE, &K1, &B_0, &NONE, &NONE, &NONE, &B_2, &NONE, &NONE,
+        ],
+        wishes: &[Wish::Take],
+        kinds: [1, 0, 0, 0],
+        shown: Shown {
+            table: 1,
+            rows: &[&K1, &B_2, &C_0, &D_1],
+            pending: &[
+                &H2, &UPDATE, &K1, &NONE, &NONE, &D_0, &NONE, &NONE, &NONE, &D_1,
+            ],
+            count: 1,
+            flight: &[],
+        },
+    },
+    Case {
+        base: &[&H2, &INSERT, &K1, &B_0, &C_0, &D_0],
         edits: &[Edit::Update("t2", 1, &[None, None, Some("d1")])],
         entry: &[
-            &H2, &UPDATE, &K1, &B0, &NONE, &NONE, &NONE, &B2, &NONE, &NONE,
+            &H2, &UPDATE, &K1, &B_0, &NONE, &NONE, &NONE, &B_2, &NONE, &NONE,
         ],
         wishes: &[],
         kinds: [0, 0, 0, 0],
         shown: Shown {
             table: 1,
-            rows: &[&K1, &B2, &C0, &D1],
+            rows: &[&K1, &B_2, &C_0, &D_1],
             pending: &[
-                &H2, &UPDATE, &K1, &NONE, &NONE, &D0, &NONE, &NONE, &NONE, &D1,
+                &H2, &UPDATE, &K1, &NONE, &NONE, &D_0, &NONE, &NONE, &NONE, &D_1,
             ],
             count: 1,
             flight: &[],
