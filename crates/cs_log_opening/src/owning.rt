@@ -18,19 +18,19 @@ use std::alloc::Global;
 fn hub_owner_of(
     alloc: Global,
     catalog: &Catalog,
-    own: &Option<Vec<u8>>,
+    stored_id: &Option<Vec<u8>>,
     tables: &Option<Vec<u8>>,
 ) -> Result<Owner, Memory>
-    ensures { IfOk result (IsHubOwner catalog.now (optional_bytes own.now) (optional_bytes tables.now)) }
+    ensures { IfOk result (IsHubOwner catalog.now (optional_bytes stored_id.now) (optional_bytes tables.now)) }
 {
-    if !reads_id(own) {
+    if !reads_id(stored_id) {
         return Ok(Owner::Unreadable);
     }
     if !reads_tables(alloc, tables)? {
         return Ok(Owner::Unreadable);
     }
     // A store with an id is a replica's.
-    if own.is_some() {
+    if stored_id.is_some() {
         return Ok(Owner::Other);
     }
     let wanted = catalog_value(alloc, catalog)?;
@@ -54,9 +54,9 @@ pub(crate) fn owner_of_hub_store<S: RowStore>(
     ensures told { S.honest store.new → IfOk result (IsHubOwner catalog.now
         (meta_value (S.contents store.old) named.Id) (meta_value (S.contents store.old) named.Catalog)) }
 {
-    let own = store.meta(MetaName::Id)?;
+    let stored_id = store.meta(MetaName::Id)?;
     let tables = store.meta(MetaName::Catalog)?;
-    match hub_owner_of(alloc, catalog, &own, &tables) {
+    match hub_owner_of(alloc, catalog, &stored_id, &tables) {
         Ok(owner) => Ok(owner),
         Err(fault) => Err(StoreFault::from(fault)),
     }

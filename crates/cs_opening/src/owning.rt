@@ -52,7 +52,7 @@ pub fn is_value(value: &Option<Vec<u8>>, bytes: &[u8]) -> bool
 {
     match value {
         None => false,
-        Some(own) => own.as_slice() == bytes,
+        Some(stored) => stored.as_slice() == bytes,
     }
 }
 
@@ -61,19 +61,19 @@ fn owner_of(
     alloc: Global,
     catalog: &Catalog,
     id: u32,
-    own: &Option<Vec<u8>>,
+    stored_id: &Option<Vec<u8>>,
     tables: &Option<Vec<u8>>,
 ) -> Result<Owner, Memory>
-    ensures { IfOk result (IsOwner catalog.now id (optional_bytes own.now) (optional_bytes tables.now)) }
+    ensures { IfOk result (IsOwner catalog.now id (optional_bytes stored_id.now) (optional_bytes tables.now)) }
 {
-    if !reads_id(own) {
+    if !reads_id(stored_id) {
         return Ok(Owner::Unreadable);
     }
     if !reads_tables(alloc, tables)? {
         return Ok(Owner::Unreadable);
     }
     let wanted = id_value(alloc, id)?;
-    if !is_value(own, wanted.as_slice()) {
+    if !is_value(stored_id, wanted.as_slice()) {
         return Ok(Owner::Other);
     }
     let wanted = catalog_value(alloc, catalog)?;
@@ -98,9 +98,9 @@ pub(crate) fn owner_of_store<S: RowStore>(
     ensures told { S.honest store.new → IfOk result (IsOwner catalog.now id
         (meta_value (S.contents store.old) named.Id) (meta_value (S.contents store.old) named.Catalog)) }
 {
-    let own = store.meta(MetaName::Id)?;
+    let stored_id = store.meta(MetaName::Id)?;
     let tables = store.meta(MetaName::Catalog)?;
-    match owner_of(alloc, catalog, id, &own, &tables) {
+    match owner_of(alloc, catalog, id, &stored_id, &tables) {
         Ok(owner) => Ok(owner),
         Err(fault) => Err(StoreFault::from(fault)),
     }

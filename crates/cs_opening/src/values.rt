@@ -99,12 +99,12 @@ pub(crate) fn flight_in(
     ensures only { (changes : List TableChanges) → IsFlightValue catalog.now number bytes.now changes
         → IfOk result (λ read. read ≡ Some changes) }
 {
-    let Some((own, changeset)) = split_u64(bytes) else {
+    let Some((stored, changeset)) = split_u64(bytes) else {
         return Ok(None);
     };
-    in_range(own);
+    in_range(stored);
     in_range(number);
-    if own != number {
+    if stored != number {
         return Ok(None);
     }
     // The kind of a body that has changes.
