@@ -1,11 +1,13 @@
 -- What has been read of an input, line by line.
-use Rattle.std.proofs.Common.{◌≡◌, ℕ, suc, ◌+◌, List, [], ◌∷◌, ◌++◌, length, sym, refl, ap, ◌∙◌, inl, inr}
+use Rattle.std.proofs.Common.{◌≡◌, ◌≢◌, ℕ, suc, ◌+◌, List, [], ◌∷◌, ◌++◌, length, sym, refl, ap, ◌∙◌, inl, inr}
+use Rattle.std.proofs.KnownBytes.{Consumes-nil}
+use Rattle.std.proofs.lemmas.List.Elements.{All-nil}
 use Rattle.std.specs.Prelude.{Option, Some, None}
 use Rattle.std.specs.Io.KnownBytes.{IsAtEnd}
 use Rattle.cs_lines.specs.Lines.{lines_of}
 use Rattle.cs_lines.specs.Laws.{AllTaken, NoneTaken, OneMoreTaken}
 use Rattle.cs_lines.specs.Served.{AreFirstLines}
-use Rattle.cs_lines.specs.Reading.{AreTaken}
+use Rattle.cs_lines.specs.Reading.{AreTaken, StaysInLine}
 use Rattle.cs_lines.specs.declared.serve.TheConstants.{ASKS}
 use Rattle.cs_value.specs.declared.catalog.TableDef.{TableDef}
 use Rattle.cs_asks.specs.Asked.{ask_in}
@@ -48,10 +50,10 @@ pub read_all : AllTaken → (tables : List TableDef) (input left : Option (List 
 read_all all tables input left asks so_far end = (so_far.0, all input left so_far.0 so_far.1 end, so_far.2)
 
 pub read_stopped : OneMoreTaken → (tables : List TableDef) (failed : Type 0) (input left after : Option (List ℕ)) (asks : List Ask) (number : ℕ) (fault : ReadFault)
-    → AreRead tables input left asks → number ≡ length asks + 1 → IsNotTaken tables number failed left after fault → IsReadFault tables failed input fault
+    → AreRead tables input left asks → number ≡ length asks + 1 → IsNotTaken tables number failed left after fault → IsReadFault tables failed input after fault
 read_stopped more tables failed input left after asks number Memory so_far count stopped = tt
 read_stopped more tables failed input left after asks number Read so_far count stopped =
-    (so_far.0, asks, first_taken input left so_far.0 so_far.1, so_far.2, inl stopped)
+    (so_far.0, asks, (left, so_far.1, stopped.1), so_far.2, inl stopped.0)
 read_stopped more tables failed input left after asks number (Line told) so_far count stopped = (
   so_far.0,
   asks,
@@ -62,7 +64,11 @@ read_stopped more tables failed input left after asks number (Line told) so_far 
   stopped.0 ∙ count ∙ ap (λ n. n + 1) (sym (asked_count tables so_far.0 asks so_far.2)),
 )
 
+-- nothing is gone of a line
+stays : (left : Option (List ℕ)) → StaysInLine left left
+stays left = ([], Consumes-nil left, All-nil (λ x. x ≢ 10))
+
 pub read_without_end : (tables : List TableDef) (failed : Type 0) (input left : Option (List ℕ)) (asks : List Ask) → AreRead tables input left asks → length asks ≡ ASKS
-    → IsReadFault tables failed input Read
+    → IsReadFault tables failed input left Read
 read_without_end tables failed input left asks so_far many =
-    (so_far.0, asks, first_taken input left so_far.0 so_far.1, so_far.2, inr (asked_count tables so_far.0 asks so_far.2 ∙ many))
+    (so_far.0, asks, (left, so_far.1, stays left), so_far.2, inr (asked_count tables so_far.0 asks so_far.2 ∙ many))

@@ -3,7 +3,7 @@ use Rattle.std.specs.Prelude.{◌≡◌, ◌⊎◌, ◌+◌, ℕ, List, [], ◌�
 use Rattle.std.specs.List.{AllZip}
 use Rattle.std.specs.Io.KnownBytes.{IsAtEnd, Keeps}
 use Rattle.cs_value.specs.declared.catalog.TableDef.{TableDef}
-use Rattle.cs_lines.specs.Reading.{AreTaken, TakesLine}
+use Rattle.cs_lines.specs.Reading.{AreAllBefore, AreTaken, StaysInLine, TakesLine}
 use Rattle.cs_lines.specs.Served.{AreAllLines, AreFirstLines}
 use Rattle.cs_lines.specs.declared.serve.TheConstants.{ASKS}
 use Rattle.cs_asks.specs.Asked.{ask_in}
@@ -19,14 +19,14 @@ AreAsked tables lines asks = AllZip (λ line ask. ask_in tables line ≡ Some as
 abbrev pub AreAllAsks : List TableDef → Option (List ℕ) → List Ask → Type 0
 AreAllAsks tables input asks = (lines : List (List ℕ)) × AreAllLines input lines × AreAsked tables lines asks
 
--- why the input isn't read: want of memory; a failed read, or lines without end; or the line with this number, from 1 on, is the
--- first that can't be read
-abbrev pub IsReadFault : List TableDef → Type 0 → Option (List ℕ) → ReadFault → Type 0
-IsReadFault tables read_failed input Memory = Unit {0}
-IsReadFault tables read_failed input Read =
-    (lines : List (List ℕ)) × (asks : List Ask) × AreFirstLines input lines × AreAsked tables lines asks
+-- why the input isn't read, of which this is left: want of memory; a failed read, or lines without end, where each line before
+-- could be read; or the line with this number, from 1 on, is the first that can't be read
+abbrev pub IsReadFault : List TableDef → Type 0 → Option (List ℕ) → Option (List ℕ) → ReadFault → Type 0
+IsReadFault tables read_failed input left Memory = Unit {0}
+IsReadFault tables read_failed input left Read =
+    (lines : List (List ℕ)) × (asks : List Ask) × AreAllBefore input left lines × AreAsked tables lines asks
     × (read_failed ⊎ (length lines ≡ ASKS))
-IsReadFault tables read_failed input (Line number) =
+IsReadFault tables read_failed input left (Line number) =
     (lines : List (List ℕ)) × (asks : List Ask) × (line : List ℕ)
     × AreFirstLines input (lines ++ line ∷ []) × AreAsked tables lines asks
     × (ask_in tables line ≡ None) × (number ≡ length lines + 1)
@@ -41,7 +41,7 @@ TakesAsk tables (Some ask) old new = (line : List ℕ) × TakesLine [] old new l
 -- why no ask was taken where there is a next line: want of memory, a failed read, or the line, which has this number, can't be read
 abbrev pub IsNotTaken : List TableDef → ℕ → Type 0 → Option (List ℕ) → Option (List ℕ) → ReadFault → Type 0
 IsNotTaken tables number read_failed old new Memory = Unit {0}
-IsNotTaken tables number read_failed old new Read = read_failed
+IsNotTaken tables number read_failed old new Read = read_failed × StaysInLine old new
 IsNotTaken tables number read_failed old new (Line told) =
     (told ≡ number) × ((line : List ℕ) × TakesLine [] old new line × (ask_in tables line ≡ None))
 

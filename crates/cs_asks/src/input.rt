@@ -20,7 +20,7 @@ pub fn read_asks<R: LineInput>(
     reader: &mut R,
 ) -> Result<Vec<Ask>, ReadFault>
     ensures read { IfOk result (λ asks. AreAllAsks catalog.now (R.remaining reader.old) asks.items) }
-    ensures refused { IfErr result (IsReadFault catalog.now (R.failed reader.new) (R.remaining reader.old)) }
+    ensures refused { IfErr result (IsReadFault catalog.now (R.failed reader.new) (R.remaining reader.old) (R.remaining reader.new)) }
 {
     cs_lines::laws::lines_taken();
     let mut line = Vec::new(alloc);

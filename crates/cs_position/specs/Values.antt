@@ -5,6 +5,8 @@ use Rattle.cs_value.specs.declared.catalog.TableDef.{TableDef}
 use Rattle.cs_change.specs.Spelling.{flag_byte, header_spelling}
 use Rattle.cs_normal.specs.Normal.{normal_spelling}
 use Rattle.cs_normal.specs.declared.normal.TableChanges.{TableChanges}
+use Rattle.cs_store.specs.Written.{optional_bytes}
+use Rattle.cs_store.specs.declared.batch.MetaEdit.{MetaEdit}
 use Rattle.cs_store.specs.declared.names.MetaName.{MetaName}
 use Rattle.cs_store.specs.declared.names.MetaName.TheVariants.{Id, Version, Number, Flight, Pending, Catalog}
 use Rattle.cs_wire.specs.Numbers.{eight_bytes, four_bytes}
@@ -26,3 +28,10 @@ value_of tables position Number = Some (eight_bytes position.number)
 value_of tables position Flight = option_map (flight_bytes position.number) position.flight
 value_of tables position Pending = None
 value_of tables position Catalog = Some (catalog_bytes tables)
+
+-- an edit of a value
+abbrev pub ValuePart : Type 0
+ValuePart = MetaName × Option (List ℕ)
+
+abbrev pub value_part : MetaEdit → ValuePart
+value_part edit = (edit.name, optional_bytes edit.value)

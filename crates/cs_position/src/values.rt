@@ -34,7 +34,7 @@ pub fn flight_value(alloc: Global, number: u64, changes: &Normal) -> Result<Vec<
 }
 
 /// Appends the headers of tables.
-fn put_headers(alloc: Global, tables: &[TableDef], out: &mut Vec<u8>) -> Result<(), Memory>
+fn put_table_headers(alloc: Global, tables: &[TableDef], out: &mut Vec<u8>) -> Result<(), Memory>
     ensures { OnOk result (out.new.items ≡ out.old.items ++ catalog_bytes tables.now) }
 {
     for table in tables {
@@ -49,6 +49,6 @@ pub fn catalog_value(alloc: Global, catalog: &Catalog) -> Result<Vec<u8>, Memory
     ensures { IfOk result (λ value. value.items ≡ catalog_bytes catalog.now) }
 {
     let mut value = Vec::new(alloc);
-    put_headers(alloc, catalog.tables(), &mut value)?;
+    put_table_headers(alloc, catalog.tables(), &mut value)?;
     Ok(value)
 }

@@ -14,7 +14,8 @@ use Rattle.cs_position.specs.Laws.{CommitShows}
 use Rattle.cs_position.specs.Shows.{IsUnderWay, changes_at}
 use Rattle.cs_position.specs.Values.{value_of}
 use Rattle.cs_position.specs.declared.position.Position.{Position}
-use Rattle.cs_pushing.specs.Batches.{ValuePart, WritesValues, confirm_values, place_part, value_part}
+use Rattle.cs_position.specs.Values.{ValuePart, value_part}
+use Rattle.cs_pushing.specs.Batches.{WritesValues, confirm_values, place_part}
 use Rattle.cs_pushing.specs.Pushes.{IsConfirmedIn, confirmed}
 use Rattle.cs_store.specs.Contents.{Bodies, Contents, name_text}
 use Rattle.cs_store.specs.Laws.{value_after}

@@ -3,12 +3,10 @@ use Rattle.std.specs.Prelude.{◌≡◌, ◌+◌, ℕ, List, [], ◌∷◌, ◌+
 use Rattle.std.specs.Map.{keys_of}
 use Rattle.cs_normal.specs.Normal.{changes_in}
 use Rattle.cs_normal.specs.declared.normal.TableChanges.{TableChanges}
-use Rattle.cs_position.specs.Values.{flight_bytes}
+use Rattle.cs_position.specs.Values.{ValuePart, flight_bytes, value_part}
 use Rattle.cs_store.specs.Written.{optional_bytes}
 use Rattle.cs_store.specs.declared.batch.Batch.{Batch}
-use Rattle.cs_store.specs.declared.batch.MetaEdit.{MetaEdit}
 use Rattle.cs_store.specs.declared.batch.PlaceEdit.{PlaceEdit}
-use Rattle.cs_store.specs.declared.names.MetaName.{MetaName}
 use Rattle.cs_store.specs.declared.names.MetaName.TheVariants.{Flight, Number, Version}
 use Rattle.cs_value.specs.declared.catalog.TableDef.{TableDef}
 use Rattle.cs_wire.specs.Numbers.{eight_bytes}
@@ -19,13 +17,6 @@ PlacePart = ℕ × (List ℕ × Option (List ℕ))
 
 abbrev pub place_part : PlaceEdit → PlacePart
 place_part edit = (edit.table, (edit.key.items, optional_bytes edit.body))
-
--- an edit of a value
-abbrev pub ValuePart : Type 0
-ValuePart = MetaName × Option (List ℕ)
-
-abbrev pub value_part : MetaEdit → ValuePart
-value_part edit = (edit.name, optional_bytes edit.value)
 
 -- a place of a table is cleared
 abbrev pub clears : ℕ → List ℕ → PlacePart

@@ -73,7 +73,7 @@ module _ {S : Type 0} (honest : S → Type 0) (contents : S → Contents) (table
       ⊎ WorkedUpTo asks store last fault write_failed old new
 
   -- the input was read whole, and its lines were worked so; or it wasn't, and nothing was done
-  abbrev pub EndsNode : Option (List ℕ) → Type 0 → S → S → Type 0 → Option (List ℕ) → Option (List ℕ) → Result ⊤ NodeFault → Type 0
-  EndsNode input read_failed store last write_failed old new result =
+  abbrev pub EndsNode : Option (List ℕ) → Option (List ℕ) → Type 0 → S → S → Type 0 → Option (List ℕ) → Option (List ℕ) → Result ⊤ NodeFault → Type 0
+  EndsNode input left read_failed store last write_failed old new result =
       ((asks : List Ask) × AreAllAsks tables input asks × EndsWorking asks store last write_failed old new result)
-      ⊎ ((why : ReadFault) × IsReadFault tables read_failed input why × (result ≡ Err (of_reading why)) × (last ≡ store) × Keeps old new)
+      ⊎ ((why : ReadFault) × IsReadFault tables read_failed input left why × (result ≡ Err (of_reading why)) × (last ≡ store) × Keeps old new)

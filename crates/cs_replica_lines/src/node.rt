@@ -115,7 +115,7 @@ pub fn node_on<S: RowStore, R: LineInput, W: LineOutput>(
     writer: &mut W,
 ) -> (Result<(), NodeFault>, S)
     requires { id < 2 ^ 32 - 1 }
-    ensures ends { EndsNode S.honest S.contents catalog.now id (R.remaining reader.old) (R.failed reader.new) store result.1
+    ensures ends { EndsNode S.honest S.contents catalog.now id (R.remaining reader.old) (R.remaining reader.new) (R.failed reader.new) store result.1
         (W.failed writer.new) (W.contents writer.old) (W.contents writer.new) result.0 }
     ensures sent { OnOk result.0 (W.sent writer.old → W.sent writer.new) }
 {

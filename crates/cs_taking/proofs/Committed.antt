@@ -22,7 +22,8 @@ use Rattle.cs_store.specs.declared.batch.MetaEdit.{MetaEdit}
 use Rattle.cs_store.specs.declared.batch.PlaceEdit.{PlaceEdit}
 use Rattle.cs_store.specs.declared.names.MetaName.{MetaName}
 use Rattle.cs_store.specs.declared.names.MetaName.TheVariants.{Id, Version, Number, Flight, Pending, Catalog}
-use Rattle.cs_taking.specs.Steps.{IsCommitted, ValuePart, WritesAll, next_values, value_part}
+use Rattle.cs_position.specs.Values.{ValuePart, value_part}
+use Rattle.cs_taking.specs.Steps.{IsCommitted, WritesAll, next_values}
 use Rattle.cs_taking.specs.Takes.{taken}
 use Rattle.cs_value.specs.Facts.{same_place-Decides}
 use Rattle.cs_value.specs.Key.{Place}

@@ -17,16 +17,14 @@ use Rattle.cs_conflict.specs.declared.wish.Wish.TheVariants.{Stop}
 use Rattle.cs_apply.specs.NormalTasks.{AreElsewhere, HaveOwnPlaces}
 use Rattle.cs_apply.specs.Tasks.{Task}
 use Rattle.cs_store.specs.Contents.{Contents}
-use Rattle.cs_store.specs.Written.{optional_bytes}
 use Rattle.cs_store.specs.declared.batch.Batch.{Batch}
-use Rattle.cs_store.specs.declared.batch.MetaEdit.{MetaEdit}
-use Rattle.cs_store.specs.declared.names.MetaName.{MetaName}
 use Rattle.cs_store.specs.declared.names.MetaName.TheVariants.{Flight, Version}
 use Rattle.cs_wire.specs.Numbers.{eight_bytes}
 use Rattle.cs_pending.specs.Settling.{Settles}
 use Rattle.cs_pending.specs.View.{View, direct_net, middle}
 use Rattle.cs_pending.specs.declared.settling.Settling.{Settling}
 use Rattle.cs_position.specs.Shows.{ShowsAt, base, flown}
+use Rattle.cs_position.specs.Values.{ValuePart, value_part}
 use Rattle.cs_position.specs.declared.position.Position.{Position}
 use Rattle.cs_taking.specs.Takes.{IsClashOf, TakeAll, taken}
 use Rattle.cs_taking.specs.declared.site.Site.{Site}
@@ -133,13 +131,6 @@ pub record IsDecided {P : Type 0} (picks : P → Clash → Wish → P → Type 0
   pub elsewhere : (name key : List ℕ) → AreElsewhere (name, key) ts → IsStill view end name key
 
 -- ---- the commit
-
--- an edit of a value
-abbrev pub ValuePart : Type 0
-ValuePart = MetaName × Option (List ℕ)
-
-abbrev pub value_part : MetaEdit → ValuePart
-value_part edit = (edit.name, optional_bytes edit.value)
 
 -- the values where a version is the next and nothing is under way
 abbrev pub next_values : ℕ → List ValuePart

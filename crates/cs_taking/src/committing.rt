@@ -7,7 +7,8 @@ ghost use Rattle.cs_pending.specs.Calls.{WritesStore};
 ghost use Rattle.cs_pending.specs.Settling.{IsWithin, Settles};
 ghost use Rattle.cs_pending.specs.View.{View};
 ghost use Rattle.cs_position.specs.Shows.{ShowsAt, ShowsSomeAt};
-ghost use Rattle.cs_taking.specs.Steps.{IsCommitted, WritesAll, next_values, value_part};
+ghost use Rattle.cs_position.specs.Values.{value_part};
+ghost use Rattle.cs_taking.specs.Steps.{IsCommitted, WritesAll, next_values};
 
 use cs_pending::Settling;
 use cs_position::{Position, number_value};

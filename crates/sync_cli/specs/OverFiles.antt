@@ -35,12 +35,12 @@ module _ {S : Type 0} (honest : S → Type 0) (contents : S → Contents) (faile
       EndsServingFile tables input left read_failed write_failed old new result
 
   -- the input was read whole, and the replica with this id was worked by its lines over the store; or it wasn't read, and no store was opened
-  abbrev pub EndsNodeFile : ℕ → List TableDef → Option (List ℕ) → Type 0 → Type 0 → Option (List ℕ) → Option (List ℕ)
+  abbrev pub EndsNodeFile : ℕ → List TableDef → Option (List ℕ) → Option (List ℕ) → Type 0 → Type 0 → Option (List ℕ) → Option (List ℕ)
       → Result ⊤ RunFault → Type 0
-  EndsNodeFile id tables input read_failed write_failed old new result =
+  EndsNodeFile id tables input left read_failed write_failed old new result =
       ((asks : List Ask) × AreAllAsks tables input asks
       × OverStore (λ store last. EndsAs of_node (EndsWorking honest contents tables id asks store last write_failed old new) result) old new result)
-      ⊎ ((why : ReadFault) × IsReadFault tables read_failed input why × (result ≡ Err (of_reading why)) × Keeps old new)
+      ⊎ ((why : ReadFault) × IsReadFault tables read_failed input left why × (result ≡ Err (of_reading why)) × Keeps old new)
 
   -- what the command line wants was done over the tables that its words spell
   abbrev pub EndsWanted : Wanted → List (List ℕ) → Option (List ℕ) → Option (List ℕ) → Type 0 → Type 0 → Option (List ℕ) → Option (List ℕ)
@@ -50,7 +50,7 @@ module _ {S : Type 0} (honest : S → Type 0) (contents : S → Contents) (faile
   EndsWanted (World count) words input left read_failed write_failed old new result =
       OnTables words (λ tables. EndsWorld count tables input left read_failed write_failed old new result) old new result
   EndsWanted (Node path id) words input left read_failed write_failed old new result =
-      OnTables words (λ tables. EndsNodeFile id tables input read_failed write_failed old new result) old new result
+      OnTables words (λ tables. EndsNodeFile id tables input left read_failed write_failed old new result) old new result
   EndsWanted (Run tool) words input left read_failed write_failed old new result =
       EndsTool tool input left read_failed write_failed old new result
 

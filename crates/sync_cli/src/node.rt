@@ -29,7 +29,7 @@ pub fn work_file<'w, R: LineInput, W: LineOutput>(
     ensures ends { EndsNodeFile ⟦<SqlStore<FileStore<FileFrom<Unknown>>> as RowStore>⟧.honest
         ⟦<SqlStore<FileStore<FileFrom<Unknown>>> as RowStore>⟧.contents ⟦<SqlStore<FileStore<FileFrom<Unknown>>> as RowStore>⟧.failed
         ⟦<SqlStore<FileStore<FileFrom<Unknown>>> as RowStore>⟧.may_leave ⟦<SqlStore<FileStore<FileFrom<Unknown>>> as RowStore>⟧.misreads
-        id catalog.now (R.remaining reader.old) (R.failed reader.new) (W.failed writer.new)
+        id catalog.now (R.remaining reader.old) (R.remaining reader.new) (R.failed reader.new) (W.failed writer.new)
         (W.contents writer.old) (W.contents writer.new) result }
     ensures sent { OnOk result (W.sent writer.old → W.sent writer.new) }
 {
