@@ -58,6 +58,7 @@ expect 1 "$turned\n$other_order\n" '' 'sync: KeyOrder\n' rebase --sqlite
 # 2: the command line was refused, and nothing was read or written.
 expect 2 "$pushed\n" '' 'sync: command line\n'
 expect 2 "$pushed\n" '' 'sync: command line\n' frob
+expect 2 "$pushed\n" '' 'sync: command line\n' "$(printf '\377')"
 expect 2 "$pushed\n" '' 'sync: command line\n' hub --frob
 expect 2 "$insert\n" '' 'sync: command line\n' combine t1:10
 expect 2 "$insert\n" '' 'sync: command line\n' show

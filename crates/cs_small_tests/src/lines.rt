@@ -111,6 +111,43 @@ impl Write for Narrow {
     }
 }
 
+// A writer that takes a byte at a time, and is interrupted before each.
+#[derive(Drop)]
+struct Interrupted {
+    next: bool,
+    taken: Vec<u8>,
+}
+
+impl Write for Interrupted {
+    fn write(&mut self, buf: &[u8]) -> io::Result<usize> {
+        self.next = !self.next;
+        if self.next {
+            return Err(io::Error::from(io::ErrorKind::Interrupted));
+        }
+        let Some(byte) = buf.first() else {
+            return Ok(0);
+        };
+        match self.taken.push(*byte) {
+            Ok(()) => Ok(1),
+            Err(_) => Err(io::Error::from(io::ErrorKind::OutOfMemory)),
+        }
+    }
+
+    fn flush(&mut self) -> io::Result<()> {
+        Ok(())
+    }
+}
+
+#[test]
+fn goes_on_where_interrupted(rt: HostRuntime) {
+    let mut output = Interrupted {
+        next: false,
+        taken: Vec::new(rt.alloc()),
+    };
+    assert!(rt; write_whole(&mut output, b"0aff").is_ok());
+    assert!(rt; output.taken.as_slice() == b"0aff");
+}
+
 impl LineOutput for Narrow {
     ghost sent = { λ _. Unit {0} };
 

@@ -54,10 +54,10 @@ impl Spine {
     ///
     /// # Errors
     ///
-    /// `TooMany` exactly above `MAX_CELLS`; `Memory` where memory was refused.
+    /// `TooMany` exactly above 4,096 cells, which is `MAX_CELLS`; `Memory` where memory was refused.
     pub fn new(alloc: Global, cap: usize) -> Result<Spine, SpineFault>
         ensures cap { IfOk result (λ spine. spine.cap ≡ cap) }
-        ensures many { IsErrOf result SpineFault.TooMany ↔ (MAX_CELLS < cap) }
+        ensures many { IsErrOf result SpineFault.TooMany ↔ (4096 < cap) }
     {
         if cap > MAX_CELLS {
             return Err(SpineFault::TooMany);

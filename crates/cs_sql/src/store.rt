@@ -267,9 +267,9 @@ impl<A: Alter> RowStore for SqlStore<A> {
     }
 
     fn commit(&mut self, batch: &Batch) -> Result<(), StoreFault> {
+        // A log has no more entries than there are versions.
         let Some(entries) = entries_with(self.entries, batch) else {
-            self.failures = self.failures.saturating_add(1);
-            return Err(StoreFault::Device);
+            return Err(StoreFault::Memory);
         };
         match commit_batch(&mut self.conn, batch, self.entries) {
             Ok(()) => {

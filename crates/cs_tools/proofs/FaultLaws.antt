@@ -319,11 +319,11 @@ one_shown IsFault once input left next some other (inr first) (inl failure) = in
 one_shown IsFault once input left next some other (inr first) (inr second) =
     inr (inr (one_bad_next IsFault once input left next some other first second))
 
-one_combining : Below → (form : Form) (input : List ℕ) (some other : ToolFault) → RefusesToCombine form ⊤ (Some input) some
-    → RefusesToCombine form ⊤ (Some input) other → IsOfNoLine some ⊎ IsOfNoLine other ⊎ (some ≡ other)
-one_combining laws form input some other (inl failure) second = inl (of_no_line _ some failure)
-one_combining laws form input some other (inr first) (inl failure) = inr (inl (of_no_line _ other failure))
-one_combining laws form input some other (inr first) (inr second) =
+one_combining : Below → (form : Form) (input : List ℕ) (left next : Option (List ℕ)) (some other : ToolFault) → RefusesToCombine form ⊤ (Some input) left some
+    → RefusesToCombine form ⊤ (Some input) next other → IsOfNoLine some ⊎ IsOfNoLine other ⊎ (some ≡ other)
+one_combining laws form input left next some other (inl failure) second = inl (of_no_line _ some failure)
+one_combining laws form input left next some other (inr first) (inl failure) = inr (inl (of_no_line _ other failure))
+one_combining laws form input left next some other (inr first) (inr second) =
     let same = second.1 ∙ sym first.1 in
     inr (inr (one_to_combine laws form first.0 some other first.2 (subst (λ (l : List (List ℕ)). HasFaultToCombine form l other) same second.2)))
 
@@ -336,7 +336,7 @@ one_rebasing laws form input left next some other (inr first) (inr second) =
     inr (inr (one_of_first laws form input left next some other first second))
 
 pub one_fault : Below → OneFault
-one_fault laws (Combine form) input left next some other first second = one_combining laws form input some other first second
+one_fault laws (Combine form) input left next some other first second = one_combining laws form input left next some other first second
 one_fault laws (Rebase form) input left next some other first second =
     one_rebasing laws form input left next some other (in_order form ⊤ (Some input) left some first) (in_order form ⊤ (Some input) next other second)
 one_fault laws ShowChangeset input left next some other first second =
@@ -344,10 +344,10 @@ one_fault laws ShowChangeset input left next some other first second =
 one_fault laws ShowBlob input left next some other first second =
     one_shown IsBlobFault laws.blobs.fault input left next some other first second
 
-none_combining : Below → (form : Form) (input text : List ℕ) (left : Option (List ℕ)) (why : ToolFault)
-    → Owes (Combine form) (Some input) left text → RefusesToCombine form ⊤ (Some input) why → IsOfNoLine why
-none_combining laws form input text left why owed (inl failure) = of_no_line _ why failure
-none_combining laws form input text left why owed (inr has) =
+none_combining : Below → (form : Form) (input text : List ℕ) (left next : Option (List ℕ)) (why : ToolFault)
+    → Owes (Combine form) (Some input) left text → RefusesToCombine form ⊤ (Some input) next why → IsOfNoLine why
+none_combining laws form input text left next why owed (inl failure) = of_no_line _ why failure
+none_combining laws form input text left next why owed (inr has) =
     let same = has.1 ∙ sym owed.2 in
     absurd (none_to_combine laws form owed.0 owed.1 why owed.3 (subst (λ (l : List (List ℕ)). HasFaultToCombine form l why) same has.2))
 
@@ -365,7 +365,7 @@ none_showing Fits spelling IsFault right input line left next thing why takes sp
     absurd (not_bad_next Fits spelling IsFault right input line left next thing why takes spells bad)
 
 pub no_fault_where_owed : Below → NoFaultWhereOwed
-no_fault_where_owed laws (Combine form) input text left next why owed refused = none_combining laws form input text left why owed refused
+no_fault_where_owed laws (Combine form) input text left next why owed refused = none_combining laws form input text left next why owed refused
 no_fault_where_owed laws (Rebase form) input text left next why owed refused =
     none_rebasing laws form input text left next why owed (in_order form ⊤ (Some input) next why refused)
 no_fault_where_owed laws ShowChangeset input text left next why owed refused =

@@ -1,9 +1,11 @@
 -- What has been read of an input, line by line.
-use Rattle.std.proofs.Common.{◌≡◌, ℕ, zero, suc, ◌+◌, ◌<◌, List, [], ◌∷◌, ◌++◌, length, take, get_or, sym, refl, ap, subst, ◌∙◌, inl, inr, arith}
+use Rattle.std.proofs.Common.{◌≡◌, ◌≢◌, ℕ, zero, suc, ◌+◌, ◌<◌, List, [], ◌∷◌, ◌++◌, length, take, get_or, sym, refl, ap, subst, ◌∙◌, inl, inr, arith}
 use Rattle.std.specs.Prelude.{◌⊎◌, Option, Some, None, Ok, Err, Result, IfOk}
 use Rattle.std.specs.Global.{Vec}
 use Rattle.std.specs.List.{AllZip, AllByRecursion}
 use Rattle.std.specs.Io.KnownBytes.{IsAtEnd, Keeps}
+use Rattle.std.proofs.KnownBytes.{Consumes-nil}
+use Rattle.std.proofs.lemmas.List.Elements.{All-nil}
 use Rattle.std.proofs.lemmas.List.{take_more}
 use Rattle.hex.specs.Hex.{decode_pairs}
 use Rattle.cs_blob.specs.Spelling.{FitsBlob, blob_spelling}
@@ -62,18 +64,18 @@ first_taken : (input left : Option (List ℕ)) (lines : List (List ℕ)) → Are
 first_taken None left lines taken = tt
 first_taken (Some input) left lines taken = (lines_of taken.0, taken.2)
 
-pub read_in_memory : (failed : Type 0) (input left : Option (List ℕ)) (inputs now : List (Vec ℕ)) → now ≡ inputs → AreRead input left inputs
-    → AreReadUpTo failed input now (Some Memory)
-read_in_memory failed input left inputs now is so_far =
+pub read_in_memory : (failed : Type 0) (input left after : Option (List ℕ)) (inputs now : List (Vec ℕ)) → now ≡ inputs → AreRead input left inputs
+    → AreReadUpTo failed input after now (Some Memory)
+read_in_memory failed input left after inputs now is so_far =
     rw is (so_far.0, so_far.2, (first_taken input left so_far.0 so_far.1, inl (inl refl)))
 
 pub read_stopped : OneMoreTaken → (failed : Type 0) (input left after : Option (List ℕ)) (inputs : List (Vec ℕ)) (told : ToolFault)
     → AreRead input left inputs → IsNotTaken (TakesLine [] left after) (failed × StaysInLine left after) told
-    → AreReadUpTo failed input inputs (Some told)
+    → AreReadUpTo failed input after inputs (Some told)
 read_stopped more failed input left after inputs told so_far (inl (inl memory)) =
     (so_far.0, so_far.2, (first_taken input left so_far.0 so_far.1, inl (inl memory)))
 read_stopped more failed input left after inputs told so_far (inl (inr read)) =
-    (so_far.0, so_far.2, (first_taken input left so_far.0 so_far.1, inl (inr (read.0, inl read.1.0))))
+    (so_far.0, so_far.2, (first_taken input left so_far.0 so_far.1, inl (inr (read.0, ((left, so_far.1, read.1.1), inl read.1.0)))))
 read_stopped more failed input left after inputs told so_far (inr bad) =
     let further = first_taken input after (so_far.0 ++ bad.0 ∷ []) (more input left after so_far.0 bad.0 so_far.1 bad.1) in
     (so_far.0, so_far.2, (first_taken input left so_far.0 so_far.1, inr (bad.0, further, bad.2, bad.3)))
@@ -84,11 +86,15 @@ zip_length R [] (b ∷ ys) all = absurd all
 zip_length R (a ∷ xs) [] all = absurd all
 zip_length R (a ∷ xs) (b ∷ ys) all = ap suc (zip_length R xs ys all.1)
 
+-- nothing is gone of a line
+stays : (left : Option (List ℕ)) → StaysInLine left left
+stays left = ([], Consumes-nil left, All-nil (λ x. x ≢ 10))
+
 pub read_without_end : (failed : Type 0) (input left : Option (List ℕ)) (inputs : List (Vec ℕ)) → AreRead input left inputs
-    → length inputs ≡ ASKS → AreReadUpTo failed input inputs (Some Read)
+    → length inputs ≡ ASKS → AreReadUpTo failed input left inputs (Some Read)
 read_without_end failed input left inputs so_far many =
     let all : length so_far.0 ≡ ASKS = zip_length (λ line (held : Vec ℕ). IsHexOf line held.items) so_far.0 inputs so_far.2 ∙ many in
-    (so_far.0, so_far.2, (first_taken input left so_far.0 so_far.1, inl (inr (refl, inr all))))
+    (so_far.0, so_far.2, (first_taken input left so_far.0 so_far.1, inl (inr (refl, ((left, so_far.1, stays left), inr all)))))
 
 -- the changesets fit, and are those of the first inputs
 pub record AreFirst (inputs : List (Vec ℕ)) (at : ℕ) (changesets : List (List Group)) : Type 0 where

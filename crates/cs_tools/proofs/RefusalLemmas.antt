@@ -28,23 +28,23 @@ use Rattle.cs_tools.proofs.InputLemmas.{all_behind, bad_last, bad_lines, bad_mor
 -- ---- all lines
 
 -- one of the lines that were read spells no changeset
-pub refuses_input : (form : Form) (failed : Type 0) (input : Option (List ℕ)) (inputs : List (Vec ℕ)) (ended : Option ToolFault)
-    (told : ToolFault) → AreReadUpTo failed input inputs ended → (told ≡ Memory) ⊎ HasBadInput told inputs
-    → RefusesToCombine form failed input told
-refuses_input form failed input inputs ended told read (inl memory) = inl (inl memory)
-refuses_input form failed input inputs None told read (inr bad) =
+pub refuses_input : (form : Form) (failed : Type 0) (input left : Option (List ℕ)) (inputs : List (Vec ℕ)) (ended : Option ToolFault)
+    (told : ToolFault) → AreReadUpTo failed input left inputs ended → (told ≡ Memory) ⊎ HasBadInput told inputs
+    → RefusesToCombine form failed input left told
+refuses_input form failed input left inputs ended told read (inl memory) = inl (inl memory)
+refuses_input form failed input left inputs None told read (inr bad) =
     inr (read.0, read.2, inl (bad_lines read.0 inputs told read.1 bad))
-refuses_input form failed input inputs (Some why) told read (inr bad) =
+refuses_input form failed input left inputs (Some why) told read (inr bad) =
     let all = all_behind input read.0 read.2.0 in
     inr (read.0 ++ all.0, all.1, inl (bad_more read.0 all.0 told (bad_lines read.0 inputs told read.1 bad)))
 
 -- they spell changesets, and the next line isn't read
-pub refuses_line : (form : Form) (failed : Type 0) (input : Option (List ℕ)) (inputs : List (Vec ℕ)) (changesets : List (List Group))
-    (told : ToolFault) → AreReadUpTo failed input inputs (Some told) → SpellAll inputs changesets → RefusesToCombine form failed input told
-refuses_line form failed input inputs changesets told (lines, hex, (first, inl (inl memory))) spell = inl (inl memory)
-refuses_line form failed input inputs changesets told (lines, hex, (first, inl (inr read))) spell =
-    inl (inr (read.0, (lines, changesets, first, spelled_lines lines inputs changesets hex spell, read.1)))
-refuses_line form failed input inputs changesets told (lines, hex, (first, inr bad)) spell =
+pub refuses_line : (form : Form) (failed : Type 0) (input left : Option (List ℕ)) (inputs : List (Vec ℕ)) (changesets : List (List Group))
+    (told : ToolFault) → AreReadUpTo failed input left inputs (Some told) → SpellAll inputs changesets → RefusesToCombine form failed input left told
+refuses_line form failed input left inputs changesets told (lines, hex, (first, inl (inl memory))) spell = inl (inl memory)
+refuses_line form failed input left inputs changesets told (lines, hex, (first, inl (inr read))) spell =
+    inl (inr (read.0, (lines, changesets, read.1.0, spelled_lines lines inputs changesets hex spell, read.1.1)))
+refuses_line form failed input left inputs changesets told (lines, hex, (first, inr bad)) spell =
     let front = lines ++ bad.0 ∷ [] in
     let all = all_behind input front bad.1 in
     let last = bad_last lines changesets bad.0 told (spelled_lines lines inputs changesets hex spell) (inl (bad.2, bad.3)) in
@@ -58,22 +58,22 @@ not_combined changesets (combining.Headers fault) is = inr (combining.Headers fa
 not_combined changesets (combining.Unfit fault) is = inr (combining.Unfit fault, is, (λ same. cc), refl)
 
 -- all lines spell changesets, which can't be taken together
-pub refuses_together : (form : Form) (failed : Type 0) (input : Option (List ℕ)) (inputs : List (Vec ℕ)) (changesets : List (List Group))
-    (fault : CombineFault) → AreReadUpTo failed input inputs None → SpellAll inputs changesets → HasCombineFault fault changesets
-    → RefusesToCombine form failed input (of_combine fault)
-refuses_together form failed input inputs changesets fault read spell is =
+pub refuses_together : (form : Form) (failed : Type 0) (input left : Option (List ℕ)) (inputs : List (Vec ℕ)) (changesets : List (List Group))
+    (fault : CombineFault) → AreReadUpTo failed input left inputs None → SpellAll inputs changesets → HasCombineFault fault changesets
+    → RefusesToCombine form failed input left (of_combine fault)
+refuses_together form failed input left inputs changesets fault read spell is =
     elim (not_combined changesets fault is) [
       | inl memory ↦ inl (inl memory)
       | inr not ↦ inr (read.0, read.2, inr (inl (changesets, spelled_lines read.0 inputs changesets read.1 spell, not)))
     ]
 
 -- what they are together can't be written in the form
-pub refuses_form : (form : Form) (failed : Type 0) (input : Option (List ℕ)) (inputs : List (Vec ℕ)) (changesets : List (List Group))
-    (both : List TableChanges) (told : ToolFault) → AreReadUpTo failed input inputs None → SpellAll inputs changesets
+pub refuses_form : (form : Form) (failed : Type 0) (input left : Option (List ℕ)) (inputs : List (Vec ℕ)) (changesets : List (List Group))
+    (both : List TableChanges) (told : ToolFault) → AreReadUpTo failed input left inputs None → SpellAll inputs changesets
     → IsCombined changesets both → (told ≡ Memory) ⊎ IsNotWritten form (flat_map heads_of changesets) told
-    → RefusesToCombine form failed input told
-refuses_form form failed input inputs changesets both told read spell combined (inl memory) = inl (inl memory)
-refuses_form form failed input inputs changesets both told read spell combined (inr not) =
+    → RefusesToCombine form failed input left told
+refuses_form form failed input left inputs changesets both told read spell combined (inl memory) = inl (inl memory)
+refuses_form form failed input left inputs changesets both told read spell combined (inr not) =
     inr (read.0, read.2, inr (inr (changesets, both, spelled_lines read.0 inputs changesets read.1 spell, combined, not)))
 
 -- ---- two lines

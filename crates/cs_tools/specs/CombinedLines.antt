@@ -3,7 +3,8 @@
 use Rattle.std.specs.Prelude.{◌≡◌, ◌≢◌, ◌⊎◌, ℕ, List, [], ◌∷◌, length, Option}
 use Rattle.std.specs.List.{AllZip, flat_map}
 use Rattle.cs_lines.specs.Lines.{hex_line}
-use Rattle.cs_lines.specs.Served.{AreAllLines, AreFirstLines}
+use Rattle.cs_lines.specs.Reading.{AreAllBefore}
+use Rattle.cs_lines.specs.Served.{AreAllLines}
 use Rattle.cs_lines.specs.declared.serve.TheConstants.{ASKS}
 use Rattle.cs_changeset.specs.Reading.{IsChangesetFault}
 use Rattle.cs_change.specs.declared.group.Group.{Group}
@@ -58,14 +59,14 @@ HasFaultToCombine form lines told =
     ⊎ ((changesets : List (List Group)) × (both : List TableChanges) × SpellChangesets lines changesets
     × IsCombined changesets both × IsNotWritten form (flat_map heads_of changesets) told)
 
--- each of the first lines spells a changeset, and behind them a read failed, or there are lines without end
-abbrev pub FailsToRead : Type 0 → Option (List ℕ) → Type 0
-FailsToRead read_failed input =
-    (lines : List (List ℕ)) × (changesets : List (List Group)) × AreFirstLines input lines × SpellChangesets lines changesets
+-- a read failed, or there are lines without end, and each line before spells a changeset
+abbrev pub FailsToRead : Type 0 → Option (List ℕ) → Option (List ℕ) → Type 0
+FailsToRead read_failed input left =
+    (lines : List (List ℕ)) × (changesets : List (List Group)) × AreAllBefore input left lines × SpellChangesets lines changesets
     × (read_failed ⊎ (length lines ≡ ASKS))
 
 -- why `combine` writes nothing
-abbrev pub RefusesToCombine : Form → Type 0 → Option (List ℕ) → ToolFault → Type 0
-RefusesToCombine form read_failed input told =
-    IsFailure (FailsToRead read_failed input) told
+abbrev pub RefusesToCombine : Form → Type 0 → Option (List ℕ) → Option (List ℕ) → ToolFault → Type 0
+RefusesToCombine form read_failed input left told =
+    IsFailure (FailsToRead read_failed input left) told
     ⊎ ((lines : List (List ℕ)) × AreAllLines input lines × HasFaultToCombine form lines told)

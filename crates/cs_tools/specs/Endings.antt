@@ -21,7 +21,7 @@ Owes ShowBlob input left text = ShowsBlob input left text
 
 -- why it owes none
 abbrev pub Refuses : Tool → Type 0 → Option (List ℕ) → Option (List ℕ) → ToolFault → Type 0
-Refuses (Combine form) read_failed input left told = RefusesToCombine form read_failed input told
+Refuses (Combine form) read_failed input left told = RefusesToCombine form read_failed input left told
 Refuses (Rebase form) read_failed input left told = RefusesToRebase form read_failed input left told
 Refuses ShowChangeset read_failed input left told = RefusesToShow IsChangesetFault read_failed input left told
 Refuses ShowBlob read_failed input left told = RefusesToShow IsBlobFault read_failed input left told

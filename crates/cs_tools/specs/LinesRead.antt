@@ -5,7 +5,7 @@ use Rattle.std.specs.List.{AllZip}
 use Rattle.std.specs.Io.KnownBytes.{IsAtEnd, Keeps}
 use Rattle.cs_change.specs.Spelling.{FitsChangeset, changeset_spelling}
 use Rattle.cs_change.specs.declared.group.Group.{Group}
-use Rattle.cs_lines.specs.Reading.{AreTaken, TakesLine}
+use Rattle.cs_lines.specs.Reading.{AreAllBefore, AreTaken, TakesLine}
 use Rattle.cs_lines.specs.Served.{AreAllLines, AreFirstLines}
 use Rattle.cs_lines.specs.declared.serve.TheConstants.{ASKS}
 use Rattle.cs_changeset.specs.Reading.{IsChangesetFault}
@@ -40,19 +40,19 @@ abbrev pub SpellAll : List (Vec ℕ) → List (List Group) → Type 0
 SpellAll inputs changesets =
     AllZip (λ bytes groups. Spells FitsChangeset changeset_spelling bytes.items groups) inputs changesets
 
--- these are the first lines of the input, and why no more are read: there are none; or want of memory, a failed read, or lines
--- without end; or the next line is no hex
-abbrev pub EndsReading : Type 0 → Option (List ℕ) → List (List ℕ) → Option ToolFault → Type 0
-EndsReading read_failed input lines None = AreAllLines input lines
-EndsReading read_failed input lines (Some told) =
+-- these are the first lines of the input, of which this is left, and why no more are read: there are none; or want of memory; or a
+-- failed read, or lines without end, where these are all lines before; or the next line is no hex
+abbrev pub EndsReading : Type 0 → Option (List ℕ) → Option (List ℕ) → List (List ℕ) → Option ToolFault → Type 0
+EndsReading read_failed input left lines None = AreAllLines input lines
+EndsReading read_failed input left lines (Some told) =
     AreFirstLines input lines
-    × (IsFailure (read_failed ⊎ (length lines ≡ ASKS)) told
+    × (IsFailure (AreAllBefore input left lines × (read_failed ⊎ (length lines ≡ ASKS))) told
     ⊎ ((line : List ℕ) × AreFirstLines input (lines ++ line ∷ []) × IsNoHex line × (told ≡ BadHex)))
 
 -- the lines that were read are these bytes in hex
-abbrev pub AreReadUpTo : Type 0 → Option (List ℕ) → List (Vec ℕ) → Option ToolFault → Type 0
-AreReadUpTo read_failed input inputs ended =
-    (lines : List (List ℕ)) × AreHexOf lines inputs × EndsReading read_failed input lines ended
+abbrev pub AreReadUpTo : Type 0 → Option (List ℕ) → Option (List ℕ) → List (Vec ℕ) → Option ToolFault → Type 0
+AreReadUpTo read_failed input left inputs ended =
+    (lines : List (List ℕ)) × AreHexOf lines inputs × EndsReading read_failed input left lines ended
 
 -- the first of the bytes that spell no changeset have this fault
 abbrev pub HasBadInput : ToolFault → List (Vec ℕ) → Type 0

@@ -63,7 +63,7 @@ fn combined_bytes<R: LineInput>(
 ) -> Result<Vec<u8>, ToolFault>
     ensures ok { IfOk result (λ bytes. (lines : List (List ℕ))
         × AreAllLines (R.remaining reader.old) lines × SpellsCombined form lines bytes.items) }
-    ensures err { IfErr result (RefusesToCombine form (R.failed reader.new) (R.remaining reader.old)) }
+    ensures err { IfErr result (RefusesToCombine form (R.failed reader.new) (R.remaining reader.old) (R.remaining reader.new)) }
 {
     let (inputs, ended) = all_bytes(alloc, reader);
     // The changesets in front of a line that can't be read are judged before it.
@@ -83,7 +83,7 @@ pub fn combine_lines<R: LineInput, W: LineOutput>(
     writer: &mut W,
 ) -> Result<(), ToolFault>
     ensures ends { Ends (CombinesAll form (R.remaining reader.old))
-        (RefusesToCombine form (R.failed reader.new) (R.remaining reader.old))
+        (RefusesToCombine form (R.failed reader.new) (R.remaining reader.old) (R.remaining reader.new))
         (W.failed writer.new) (W.contents writer.old) (W.contents writer.new) result }
     ensures sent { OnOk result (W.sent writer.new) }
 {

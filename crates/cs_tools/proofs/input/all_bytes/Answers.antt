@@ -18,7 +18,7 @@ loop-asked-preserved g c =
 pub returns-then-is_err : goal.returns-then-is_err
 returns-then-is_err g c =
     let same : c.push.new.self.items ≡ c.loop-asked.inputs.items = grind (arith, common_steps) in
-    read_in_memory _ _ (g.R.Read.remaining c.loop-asked.reader) c.loop-asked.inputs.items _ same c.loop-asked.invariant.0
+    read_in_memory _ _ (g.R.Read.remaining c.loop-asked.reader) _ c.loop-asked.inputs.items _ same c.loop-asked.invariant.0
 
 pub returns-in-Err : goal.returns-in-Err
 returns-in-Err g c = read_stopped c.lines_taken.ensures.more _ _ _ _ _ _ c.loop-asked.invariant.0 c.in-Err.ensures.err
