@@ -1,11 +1,11 @@
 -- An entry that is appended to the log that a store shows (profile of this project).
-use Rattle.std.specs.Prelude.{◌≡◌, List, [], ◌∷◌, ◌++◌}
+use Rattle.std.specs.Prelude.{◌≡◌, List, length, [], ◌∷◌, ◌++◌}
 use Rattle.cs_value.specs.declared.catalog.TableDef.{TableDef}
 use Rattle.cs_normal.specs.Normal.{groups_of}
 use Rattle.cs_normal.specs.State.{State}
 use Rattle.cs_normal.specs.declared.normal.TableChanges.{TableChanges}
 use Rattle.cs_log.specs.Entry.{entry_changes}
-use Rattle.cs_log.specs.Log.{IsNextEntry, state_of}
+use Rattle.cs_log.specs.Log.{IsNextEntry, catalog_at, state_of}
 use Rattle.cs_log.specs.declared.entry.LogEntry.{LogEntry}
 use Rattle.cs_conflict.specs.declared.conflict.Conflict.{Conflict}
 use Rattle.cs_conflict.specs.declared.conflict.Resolution.{Resolution}
@@ -41,5 +41,5 @@ AppendsEntry opening entry contents batch = IsAppendedIn opening entry contents 
 abbrev pub IsAppendFault : List TableDef → List LogEntry → LogEntry → AppendFault → Type 0
 IsAppendFault opening log entry Memory = Unit {0}
 IsAppendFault opening log entry (OnConflict conflict) =
-    (IsNextEntry opening log entry → ⊥) × IsFirstConflict opening (entry_changes entry) (state_of log) conflict
+    (IsNextEntry opening log entry → ⊥) × IsFirstConflict (catalog_at opening log (length log)) (entry_changes entry) (state_of log) conflict
 IsAppendFault opening log entry Device = Unit {0}

@@ -4,7 +4,7 @@ use Rattle.cs_value.specs.Catalog.{AreTables}
 use Rattle.cs_value.specs.declared.catalog.TableDef.{TableDef}
 use Rattle.cs_normal.specs.State.{IsDefinedOn}
 use Rattle.cs_log.specs.Entry.{entry_changes}
-use Rattle.cs_log.specs.Log.{IsLog, tables_at}
+use Rattle.cs_log.specs.Log.{IsLog, catalog_at, tables_at}
 use Rattle.cs_log.specs.declared.entry.LogEntry.{LogEntry}
 use Rattle.cs_store.specs.Contents.{Contents}
 use Rattle.cs_pending.specs.View.{View}
@@ -32,4 +32,4 @@ StandsWhereHonest honest contents known held =
 pub record IsBadAt (tables : List TableDef) (known : List LogEntry) (version : _) : Type 0 where
   pub entry : LogEntry
   pub here : slice_get known version ≡ Some entry
-  pub undefined : IsDefinedOn tables (entry_changes entry) (tables_at known version) → ⊥
+  pub undefined : IsDefinedOn (catalog_at tables known version) (entry_changes entry) (tables_at known version) → ⊥

@@ -25,7 +25,8 @@ use Rattle.cs_judging.specs.declared.push.Pushed.TheVariants as pushed
 use Rattle.cs_wire.specs.declared.push_head.PushHead.{PushHead}
 use Rattle.cs_hub.specs.Refusals.{refusal_of_codec, refusal_of_hub, refusal_of_unfit}
 use Rattle.cs_hub.specs.Serves.{Outcome, TakesBytes, or_refusal}
-use Rattle.cs_hub.specs.Steps.{IsPushedOf, IsTakenOf, TakesBytesIf}
+use Rattle.cs_hub.specs.PushedOf.{IsPushedOf}
+use Rattle.cs_hub.specs.Steps.{IsTakenOf, TakesBytesIf}
 use Rattle.cs_hub.specs.declared.hub.TheConstants.{MAX_ENTRIES}
 use Rattle.cs_hub.specs.declared.refusal.Refusal.{Refusal}
 use Rattle.cs_hub.specs.declared.refusal.Refusal.TheVariants.{ByHub}

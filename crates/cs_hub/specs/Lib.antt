@@ -3,6 +3,7 @@ pub mod Serves
 pub mod Holding
 pub mod Calls
 pub mod Follows
+pub mod PushedOf
 pub mod Judges
 pub mod Steps
 pub mod Laws

@@ -1,18 +1,14 @@
 -- What the code has found on its way: no definition that a public clause cites.
-use Rattle.std.specs.Prelude.{◌≡◌, ◌≢◌, ◌⊎◌, ◌+◌, ◌<◌, ◌≤◌, ℕ, List, length, Result, Ok, Err, Option, Some, None}
+use Rattle.std.specs.Prelude.{◌≡◌, ◌≢◌, ◌⊎◌, ◌+◌, ◌<◌, ◌≤◌, ℕ, List, Result, Ok, Err, Option, Some, None}
 use Rattle.cs_value.specs.declared.catalog.TableDef.{TableDef}
 use Rattle.cs_log.specs.Stored.{IsEntryOf}
 use Rattle.cs_log.specs.declared.entry.LogEntry.{LogEntry}
 use Rattle.cs_store.specs.Contents.{Contents}
-use Rattle.cs_log_store.specs.Shows.{ShowsLog}
 use Rattle.cs_judging.specs.Hub.{HubState, with_entry}
 use Rattle.cs_judging.specs.Judged.{hub_of}
-use Rattle.cs_judging.specs.Pushes.{Push, PushesIf}
-use Rattle.cs_judging.specs.declared.fault.HubFault.{HubFault}
 use Rattle.cs_judging.specs.declared.fault.HubFault.TheVariants.{Device}
 use Rattle.cs_judging.specs.declared.push.Judgement.{Judgement}
 use Rattle.cs_judging.specs.declared.push.Judgement.TheVariants as judged
-use Rattle.cs_judging.specs.declared.push.Pushed.{Pushed}
 use Rattle.cs_judging.specs.declared.push.Pushed.TheVariants.{Accepted}
 use Rattle.cs_wire.specs.Requests.{Asked}
 use Rattle.cs_wire.specs.declared.answer.Answer.TheVariants.{Short}
@@ -20,20 +16,12 @@ use Rattle.cs_wire.specs.declared.fault.WireFault.{WireFault}
 use Rattle.cs_wire.specs.declared.push_head.PushHead.{PushHead}
 use Rattle.cs_wire.specs.declared.short_answer.ShortAnswer.{ShortAnswer}
 use Rattle.cs_hub.specs.Follows.{FitsBehind}
+use Rattle.cs_hub.specs.PushedOf.{Leads}
 use Rattle.cs_hub.specs.Serves.{AnswersAsked, Outcome, TakesBytes, push_answer, refused}
 use Rattle.cs_hub.specs.declared.judged.Judged.{Judged}
 use Rattle.cs_hub.specs.declared.judged.Judged.TheVariants.{Reply, Append}
 use Rattle.cs_hub.specs.declared.refusal.Refusal.{Refusal}
 use Rattle.cs_hub.specs.declared.refusal.Refusal.TheVariants.{Memory, ByHub}
-
--- contents show a log of so many entries after these
-abbrev pub Leads : List TableDef → Contents → ℕ → List LogEntry → Type 0
-Leads opening new count next = ShowsLog opening new next × (count ≡ length next)
-
--- the answer to a push by the log that was shown, and the log after it
-abbrev pub IsPushedOf : ℕ → List TableDef → List LogEntry → Push → Contents → ℕ → Result Pushed HubFault → Type 0
-IsPushedOf limit opening log push new count result =
-    (next : List LogEntry) × PushesIf limit (hub_of opening log) push result (hub_of opening next) × Leads opening new count next
 
 -- what becomes of the bytes of a push, or want of memory or a failed device, which change nothing
 abbrev pub TakesBytesIf : Type 0 → ℕ → HubState → PushHead → List ℕ → Outcome → HubState → Type 0

@@ -26,7 +26,7 @@ ghost use Rattle.cs_hub.specs.declared.follow_fault.FollowFault.TheVariants as f
 ghost use Rattle.cs_hub.specs.declared.follow_fault.FollowFault.TheVariants.{Full};
 ghost use Rattle.cs_store.specs.Calls.{MoreFailures};
 ghost use Rattle.cs_hub.specs.Opened.{Opens};
-ghost use Rattle.cs_hub.specs.Steps.{IsPushedOf};
+ghost use Rattle.cs_hub.specs.PushedOf.{IsPushedOf};
 
 use crate::follow_fault::FollowFault;
 use crate::judged::Judged;

@@ -12,7 +12,8 @@ ghost use Rattle.cs_judging.specs.Pushes.{Push};
 ghost use Rattle.cs_judging.specs.declared.fault.HubFault.TheVariants.{Device};
 ghost use Rattle.cs_judging.specs.declared.push.Pushed.TheVariants.{Accepted};
 ghost use Rattle.cs_hub.specs.Calls.{IsSameOrGrown};
-ghost use Rattle.cs_hub.specs.Steps.{IsPushedOf, IsTakenOf};
+ghost use Rattle.cs_hub.specs.PushedOf.{IsPushedOf};
+ghost use Rattle.cs_hub.specs.Steps.{IsTakenOf};
 ghost use Rattle.cs_hub.specs.declared.refusal.Refusal.TheVariants.{ByHub};
 
 use crate::hub::MAX_ENTRIES;

@@ -1,10 +1,10 @@
 -- The laws of stores that show a hub's log.
-use Rattle.std.specs.Prelude.{◌≡◌, List, [], ◌∷◌, ◌++◌, Some}
+use Rattle.std.specs.Prelude.{◌≡◌, List, length, [], ◌∷◌, ◌++◌, Some}
 use Rattle.cs_value.specs.Catalog.{AreTables}
 use Rattle.cs_value.specs.declared.catalog.TableDef.{TableDef}
 use Rattle.cs_normal.specs.State.{State, IsApplied}
 use Rattle.cs_log.specs.Entry.{entry_changes}
-use Rattle.cs_log.specs.Log.{IsNextEntry, state_of}
+use Rattle.cs_log.specs.Log.{IsNextEntry, catalog_at, state_of}
 use Rattle.cs_log.specs.Stored.{IsEntryOf}
 use Rattle.cs_log.specs.declared.entry.LogEntry.{LogEntry}
 use Rattle.cs_store.specs.Contents.{Contents}
@@ -27,8 +27,8 @@ pub record IsEntryBatch (opening : List TableDef) (contents : Contents) (log : L
   pub next : IsNextEntry opening log entry
   pub fits : IsEntryOf opening entry
   pub after : State
-  pub applied : IsApplied opening (entry_changes entry) (state_of log) after
-  pub edits : AreEdits opening contents batch.rows.items after
+  pub applied : IsApplied (catalog_at opening log (length log)) (entry_changes entry) (state_of log) after
+  pub edits : AreEdits (catalog_at opening log (length log)) contents batch.rows.items after
   pub no_pending : batch.pending.items ≡ []
   pub no_meta : batch.meta.items ≡ []
   pub item : optional_entry batch.log ≡ Some (item_of_entry entry)

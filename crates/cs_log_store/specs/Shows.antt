@@ -2,7 +2,7 @@
 use Rattle.std.specs.Prelude.{◌≡◌, ◌≢◌, ℕ, pos, List, length, All, option_map, Option, Some, None, slice_get}
 use Rattle.std.specs.FinMap.{empty, get}
 use Rattle.cs_value.specs.declared.catalog.TableDef.{TableDef}
-use Rattle.cs_log.specs.Log.{IsLog, state_of}
+use Rattle.cs_log.specs.Log.{IsLog, catalog_at, state_of}
 use Rattle.cs_log.specs.Stored.{IsEntryOf, stored_body}
 use Rattle.cs_log.specs.declared.entry.LogEntry.{LogEntry}
 use Rattle.cs_store.specs.Contents.{Contents, LogItem, StorePlace, log_count, log_entry, meta_value, name_text}
@@ -40,7 +40,7 @@ pub record HasHubValues (opening : List TableDef) (contents : Contents) : Type 0
 pub record ShowsLog (opening : List TableDef) (contents : Contents) (log : List LogEntry) : Type 0 where
   pub is_log : IsLog opening log
   pub fit : All (IsEntryOf opening) log
-  pub rows : Holds opening contents (state_of log)
+  pub rows : Holds (catalog_at opening log (length log)) contents (state_of log)
   pub elsewhere : (place : StorePlace) → IsElsewhere opening place → get contents.rows place ≡ None
   pub pending : contents.pending ≡ empty
   pub values : HasHubValues opening contents
