@@ -262,6 +262,7 @@ impl<'s, S: RowStore> Book<'s, S> {
     }
 
     /// Offers the entry of a push for the next cell, takes what that cell holds, and answers.
+    // Six parameters: the book and the request, the entry, batch and reply as their variant has them, and the room of a short answer.
     fn send(
         &mut self,
         request: &[u8],

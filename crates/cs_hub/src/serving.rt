@@ -31,6 +31,7 @@ pub(crate) fn refuse(alloc: Global, refusal: &Refusal) -> Result<Vec<u8>, Memory
 }
 
 /// The answer to a Pull. A device that fails is told by its code.
+// Six parameters: the hub's four fields, of which it lends the store alone as `&mut`, and the request's two numbers.
 pub(crate) fn pull_at<S: RowStore>(
     alloc: Global,
     store: &mut S,
@@ -69,6 +70,7 @@ pub(crate) fn answer_to(head: PushHead, taken: &Result<Pushed, Refusal>) -> Opti
 }
 
 /// The answer to a Push. Its room is taken before anything changes.
+// Six parameters: the hub's four fields, of which it lends the store and the count as `&mut`, and the push's head and changeset.
 pub(crate) fn push_told<S: RowStore>(
     alloc: Global,
     store: &mut S,

@@ -43,6 +43,7 @@ fn count_after(newest: u32, told: &Result<Pushed, HubFault>) -> u32
 }
 
 /// Takes a push, and counts the entry that it may have become.
+// Six parameters: the hub's four fields, of which it lends the store and the count as `&mut`, and the push's head and changes.
 pub(crate) fn push_counted<S: RowStore>(
     alloc: Global,
     store: &mut S,
@@ -66,6 +67,7 @@ pub(crate) fn push_counted<S: RowStore>(
 }
 
 /// Takes a push by the bytes of its changeset.
+// Six parameters: those of `push_told`, which hands them on.
 pub(crate) fn take_at<S: RowStore>(
     alloc: Global,
     store: &mut S,

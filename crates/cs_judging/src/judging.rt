@@ -24,6 +24,7 @@ use cs_wire::PushHead;
 use std::alloc::Global;
 
 /// The judgement of a push whose base is below the newest version: it is the entry there, or another is.
+// Seven parameters: what `judge_at` was lent of the hub, the limit (named for the clauses), the push's head, and the entry that it would be.
 fn recall<S: RowStore>(
     alloc: Global,
     store: &mut S,
@@ -59,6 +60,8 @@ fn recall<S: RowStore>(
 /// # Errors
 ///
 /// `Empty`, `Ahead`, `Full` and `Conflict` in these cases; `Memory` and `Device`.
+// Seven parameters: what a hub, a type of the crate above, lends of itself (allocator, store, tables, count), the limit, and the push: its
+// head as it was told, its changes in normal form.
 pub fn judge_at<S: RowStore>(
     alloc: Global,
     store: &mut S,
@@ -112,6 +115,7 @@ pub fn judge_at<S: RowStore>(
 /// # Errors
 ///
 /// `Empty`, `Ahead`, `Full` and `Conflict` as it is judged; `Memory` and `Device`. Nothing has changed then.
+// Seven parameters: those of `judge_at`, by which it judges.
 pub fn push_at<S: RowStore>(
     alloc: Global,
     store: &mut S,

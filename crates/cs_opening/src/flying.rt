@@ -21,6 +21,7 @@ use cs_value::{Catalog, TableDef};
 use std::alloc::Global;
 
 /// Whether a change leads to what stood at its place before what is pending.
+// Eight parameters: allocator, store and catalog, the catalog's table with its number, the push's key and change, and the room written into.
 fn leads_before<S: RowStore>(
     alloc: Global,
     store: &mut S,
@@ -49,6 +50,7 @@ fn leads_before<S: RowStore>(
 }
 
 /// Whether the changes of a table lead to what stood at their places before what is pending.
+// Seven parameters: allocator, store and catalog, the catalog's table with its number, the push's changes of it, and the room written into.
 fn all_lead_before<S: RowStore>(
     alloc: Global,
     store: &mut S,

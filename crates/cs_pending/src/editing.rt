@@ -22,6 +22,8 @@ use std::alloc::Global;
 
 /// Leaves another row or none at a place, in one commit. It answers how many changes are pending then. The place is told by its
 /// table, the table's number and its key; and what stood there, what is to stand there, and the count go with it.
+// Nine parameters: allocator and store, the catalog for the clauses, the place in three parts, what was just read there and what was made
+// of it, and the count.
 fn put_place<S: RowStore>(
     alloc: Global,
     store: &mut S,
@@ -72,6 +74,7 @@ fn put_place<S: RowStore>(
 
 /// Makes an edit at a place. It answers how many changes are pending then. The place is told by its table, the table's number and
 /// its key; and what is wanted, and the count go with it.
+// Eight parameters: allocator, store and catalog, the place in three parts, of which the caller made the key, what is wanted, and the count.
 pub(crate) fn edit_place<S: RowStore>(
     alloc: Global,
     store: &mut S,

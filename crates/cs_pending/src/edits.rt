@@ -151,6 +151,7 @@ fn are_kept(marks: &[bool], fields: &[Field]) -> bool
 /// Inserts a row into the table of a name, where `pending` changes are pending: one row and one pending change are written, in one
 /// commit. It answers how many changes are pending then. The first fault that holds is told: `NoTable`, `Width`, `NullKey`,
 /// `Exists`. (Profile of this project; what a session would record, by SQLite's "Session Extension".)
+// Six parameters: the allocator, a replica's store, catalog and count, which it lends apart, and the edit by a table's name and a row.
 pub fn insert_row<S: RowStore>(
     alloc: Global,
     store: &mut S,
@@ -201,6 +202,7 @@ pub fn insert_row<S: RowStore>(
 /// Puts fields into the row with a key, in the table of a name, where `pending` changes are pending. A field that is undefined stays
 /// as it is. It answers how many changes are pending then; fields that change nothing write nothing. The first fault that
 /// holds is told: `NoTable`, `Width` (of key or fields), `NullKey`, `KeyColumn`, `Missing`. (Profile of this project.)
+// Seven parameters: those of `insert_row`, with a key and fields in place of the row.
 pub fn update_row<S: RowStore>(
     alloc: Global,
     store: &mut S,
@@ -255,6 +257,7 @@ pub fn update_row<S: RowStore>(
 
 /// Takes away the row with a key, in the table of a name, where `pending` changes are pending. It answers how many changes are
 /// pending then. The first fault that holds is told: `NoTable`, `Width`, `NullKey`, `Missing`. (Profile of this project.)
+// Six parameters: those of `insert_row`, with a key in place of the row.
 pub fn delete_row<S: RowStore>(
     alloc: Global,
     store: &mut S,

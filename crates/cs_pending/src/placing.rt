@@ -67,6 +67,7 @@ fn own_at<S: RowStore>(
 }
 
 /// The row or none before what is pending at a place where this stands. What is no change of the table is told to the store.
+// Six parameters: allocator and store, the place in three parts (table, number, key), and the row or none that was read there.
 fn base_at<S: RowStore>(
     alloc: Global,
     store: &mut S,
@@ -95,6 +96,8 @@ fn base_at<S: RowStore>(
 /// What stands at the place of a table, by the table's number in the catalog and the bytes of the key, and what stood there before
 /// what is pending. What the store has there that is no row or no change of the table is told to the store. (Profile of this
 /// project.)
+// Six parameters: allocator and store, the catalog for the clauses, and the place in three parts: the table stands in the catalog, and the
+// store is asked by its number and the key.
 pub fn standing_at<S: RowStore>(
     alloc: Global,
     store: &mut S,

@@ -53,6 +53,7 @@ fn push_edit(
 }
 
 /// Appends the edit of a row, where another row or none stood.
+// Six parameters: the list written into and its allocator, the place in two parts, and its two rows, each lent or none.
 fn push_row(
     edits: &mut Vec<PlaceEdit>,
     alloc: Global,
@@ -72,6 +73,8 @@ fn push_row(
 }
 
 /// Appends the edit of a pending change, where one was pending or is. It answers whether one is.
+// Eight parameters: the list written into and its allocator, the place in three parts, whether a change was pending there, and the rows
+// `base` and `mine`, each lent or none.
 fn push_pending(
     edits: &mut Vec<PlaceEdit>,
     alloc: Global,
@@ -128,6 +131,8 @@ impl Settling {
     /// A place settled, by its table's number in the catalog and the bytes of its key: there stands `mine`, and what is pending is
     /// the net change from `base` to it. What stood there before this is `before`. A row or a pending change that stays as it
     /// is has no edit. An `Err` may leave a part of it there.
+    // Eight parameters: the edits and their allocator, the place in three parts, what stood there, and the rows `base` and `mine`, each lent
+    // from where its caller keeps it.
     pub fn settle(
         &mut self,
         alloc: Global,

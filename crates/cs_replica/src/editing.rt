@@ -16,6 +16,7 @@ use cs_value::{Catalog, Field, Key, Row};
 use std::alloc::Global;
 
 /// Inserts a row into the table of a name.
+// Six parameters: the allocator, the replica's three fields, which it lends apart, and the edit by a table's name and a row.
 pub(crate) fn insert_at<S: RowStore>(
     alloc: Global,
     store: &mut S,
@@ -45,6 +46,7 @@ pub(crate) fn insert_at<S: RowStore>(
 }
 
 /// Puts fields into the row with a key, in the table of a name.
+// Seven parameters: those of `insert_at`, with a key and fields in place of the row.
 pub(crate) fn update_at<S: RowStore>(
     alloc: Global,
     store: &mut S,
@@ -75,6 +77,7 @@ pub(crate) fn update_at<S: RowStore>(
 }
 
 /// Takes away the row with a key, in the table of a name.
+// Six parameters: those of `insert_at`, with a key in place of the row.
 pub(crate) fn delete_at<S: RowStore>(
     alloc: Global,
     store: &mut S,

@@ -16,6 +16,7 @@ use cs_value::Catalog;
 use std::alloc::Global;
 
 /// Does what a line asks, and prints its text and sends it.
+// Six parameters: the allocator, the replica, its tables and id, which no call of it gives, what is asked, and the output.
 fn do_ask<S: RowStore, W: LineOutput>(
     alloc: Global,
     replica: &mut Replica<S>,
@@ -36,6 +37,7 @@ fn do_ask<S: RowStore, W: LineOutput>(
 }
 
 /// Does what lines ask, one behind another.
+// Six parameters: those of `do_ask`, with all that is asked.
 fn do_asks<S: RowStore, W: LineOutput>(
     alloc: Global,
     replica: &mut Replica<S>,
@@ -75,6 +77,7 @@ fn position_fits<S: RowStore>(replica: &Replica<S>, id: u32)
 ///
 /// `Open` and `Memory` where the replica isn't opened: then nothing is printed, and the store holds what it held. `Write`, and `Memory` for a
 /// text, at a line: what was done stays done, the line's own step too.
+// Six parameters: the four that a replica is opened by, what is asked, and the output.
 pub fn work_on<S: RowStore, W: LineOutput>(
     alloc: Global,
     store: S,
@@ -106,6 +109,7 @@ pub fn work_on<S: RowStore, W: LineOutput>(
 ///
 /// `Line` tells the first line that can't be read, from 1 on, and `Read` that the reader failed or was asked too often: then, and where memory
 /// is refused for the lines, the store wasn't touched and nothing is printed. Else those of `work_on`.
+// Six parameters: the four that a replica is opened by, the input and the output.
 pub fn node_on<S: RowStore, R: LineInput, W: LineOutput>(
     alloc: Global,
     store: S,

@@ -22,6 +22,7 @@ use cs_value::Catalog;
 use std::alloc::Global;
 
 /// Takes an entry that fits the tables, where there is a next version. It answers how many changes are pending then.
+// Six parameters: the allocator, the replica's store, catalog and position, which it lends apart, the entry's changes, and the picker.
 fn take_at<S: RowStore, P: Picker>(
     alloc: Global,
     store: &mut S,
@@ -75,6 +76,7 @@ fn take_at<S: RowStore, P: Picker>(
 ///
 /// `BadEntry` where the entry isn't defined on the log's rows, before the picker is asked, or where there is no next version;
 /// `Stopped` where the picker stops; `Memory` and `Device`. Nothing has changed then.
+// Six parameters: those of `take_at`, with the position to be moved.
 pub fn take_changes<S: RowStore, P: Picker>(
     alloc: Global,
     store: &mut S,

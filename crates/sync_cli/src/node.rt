@@ -17,6 +17,7 @@ use std::rt::HostRuntime;
 
 /// Reads the input whole, opens the replica with this id in a file, which is made where there is none, and does what the lines ask. (Profile
 /// of this project.)
+// Six parameters: the runtime, what the words name (file, id, tables), read apart, and the input and the output.
 pub fn work_file<'w, R: LineInput, W: LineOutput>(
     rt: &HostRuntime,
     path: &str,
