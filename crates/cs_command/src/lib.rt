@@ -4,6 +4,7 @@
 //! one definition of the command line gives, and no others (`specs/CommandLine.antt`, `sync_app`); `asked_of` that what is taken asks for what
 //! that definition says (`wanted_in`); `catalog_of` that table words are the catalog that they spell, or which word is refused first
 //! (`specs/CatalogWords.antt`). `laws` say that these are one, and what some command lines ask for, by computation.
+//! Its tests are runs of the built program: `bench/check_program.sh` and `bench/check_sessions.sh`.
 #![tactic(auto)]
 
 mod asked;

@@ -6,6 +6,7 @@
 //! own `apply`, `cs_ffi_combine` several changesets as one, `cs_ffi_invert` the inverse of one, and `cs_ffi_rebase` a
 //! local changeset over a rebase blob. Each tells the first fault, where it is one of the bytes its offset too, and reads
 //! nothing but the bytes that it is handed.
+//! Its tests are calls from C (`bench/check_ffi.sh`), also beside SQLite's own library (`bench/check_sqlite.sh`).
 #![tactic(auto)]
 
 mod answer;

@@ -3,6 +3,7 @@
 //! `gather_keys` write the keys of changes, which `KeysBuilder` puts together; `lend_form` gives the normal form of one change;
 //! `KeyedChanges` keeps changes behind their keys, searched, compared and spelled exactly. `laws` says that the bytes of keys
 //! tell the keys apart.
+//! Its tests stand in `cs_normal_tests`.
 #![tactic(auto)]
 
 mod builder;
