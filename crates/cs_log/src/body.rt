@@ -15,7 +15,7 @@ use cs_normal::{Normal, normalise};
 use cs_value::{Catalog, Memory};
 use std::alloc::Global;
 
-/// The kind of a body that has changes. (Profile of this project.)
+/// The kind of a body that has changes: the first byte of what an entry does, as a log is stored. (Profile of this project.)
 const CHANGES: u8 = 0;
 
 /// What an entry of the log does. (Profile of this project.)

@@ -7,7 +7,8 @@ use crate::fault::WireFault;
 use crate::numbers::{split_u32, split_u64};
 use std::marker::Model;
 
-/// The kind of an entry that does a changeset. There is no other. (Profile of this project.)
+/// The kind of an entry that does a changeset, which is that of a log's body with changes as it stands there (`Body::kind` of `cs_log`).
+/// There is no other. (Profile of this project.)
 const CHANGESET: u8 = 0;
 
 /// An entry of an answer: the kind of what it does, whose push it was, the number that its replica gave it, and the bytes of
