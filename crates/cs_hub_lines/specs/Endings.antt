@@ -79,7 +79,7 @@ module _ {S : Type 0} (honest : S → Type 0) (contents : S → Contents) (faile
       (lines : List (List ℕ)) × (answers : List (List ℕ)) × AreFirstLines input lines
       × AnsweredOver store last lines answers × AppendsBroken old new answers × write_failed
 
-  -- or the hub wasn't opened, and nothing was read or written
+  -- or the hub wasn't opened, and nothing was written
   abbrev pub EndsServingOn : S → S → Option (List ℕ) → Option (List ℕ) → Type 0 → Type 0 → Option (List ℕ) → Option (List ℕ)
       → Result ⊤ ServingFault → Type 0
   EndsServingOn store last input left read_failed write_failed old new (Ok done) = EndsAnswered store last input old new

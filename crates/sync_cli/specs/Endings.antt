@@ -39,13 +39,13 @@ told_as told (Err fault) = Err (told fault)
 abbrev pub EndsAs : {F : Type 0} → (F → RunFault) → (Result ⊤ F → Type 0) → Result ⊤ RunFault → Type 0
 EndsAs {F} told Ends result = (ended : Result ⊤ F) × (result ≡ told_as told ended) × Ends ended
 
--- the table words are a catalog, and the run ended so over its tables; or they are refused, and nothing was read or written
+-- the table words are a catalog, and the run ended so over its tables; or they are refused, and nothing was written
 abbrev pub OnTables : List (List ℕ) → (List TableDef → Type 0) → Option (List ℕ) → Option (List ℕ) → Result ⊤ RunFault → Type 0
 OnTables words Ends old new result =
     ((tables : List TableDef) × IsCatalogOf words tables × Ends tables)
     ⊎ ((fault : TableFault) × IsFirstRefused fault words × (result ≡ Err (of_table fault)) × Keeps old new)
 
--- want of memory, before anything was read or written
+-- want of memory, before anything was written
 abbrev pub LacksMemory : Option (List ℕ) → Option (List ℕ) → Result ⊤ RunFault → Type 0
 LacksMemory old new result = (result ≡ Err Memory) × Keeps old new
 
