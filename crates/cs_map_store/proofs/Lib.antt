@@ -5,6 +5,7 @@ pub mod Changing
 pub mod Holding
 pub mod Filled
 pub mod Editing
+pub mod Fronts
 pub mod Packing
 pub mod Leafing
 pub mod Ordered

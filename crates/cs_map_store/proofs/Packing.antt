@@ -1,11 +1,11 @@
 -- Entries that stand in bytes.
-use Rattle.std.proofs.Common.{◌≡◌, ℕ, suc, ◌+◌, ◌-◌, ◌<◌, ◌≤◌, List, [], ◌∷◌, ◌++◌, refl, sym, ap, ◌∙◌, length, get_or, take, drop, arith, length-append}
+use Rattle.std.proofs.Common.{◌≡◌, ℕ, suc, ◌+◌, ◌-◌, ◌<◌, ◌≤◌, List, [], ◌∷◌, ◌++◌, refl, sym, ap, subst, ◌∙◌, length, get_or, take, drop, arith, length-append}
 use Rattle.std.specs.Prelude.{pos}
 use Rattle.std.specs.List.{All, slice_range}
 use Rattle.std.proofs.lemmas.List.{take_all, length-drop, drop-append-le, take-append-le, map-append, take_more, get_or-drop, append_assoc}
 use Rattle.std.proofs.Math.Seq.{drop-append_seam, take-add}
 use Rattle.std.proofs.lemmas.List.Edits.{length-between}
-use Rattle.cs_map_store.specs.Entries.{Entry, IsSpotIn, entry_at, entries_at, nth, no_entry}
+use Rattle.cs_map_store.specs.Entries.{Entry, IsHeadOf, IsSpotIn, entry_at, entries_at, nth, no_entry}
 use Rattle.cs_map_store.specs.declared.leaf.Spot.{Spot}
 use Rattle.cs_map_store.proofs.Leafing.{drop_drop}
 
@@ -16,13 +16,20 @@ slice_kept a b s e within bound =
 all_tail : {X : Type 0} (P : X → Type 0) (x : X) (xs : List X) → All P (x ∷ xs) → All P xs
 all_tail P x xs h = λ k d less. h (suc k) d (omega (arith, less))
 
-entries_kept : (bytes more : List ℕ) (spots : List Spot) → All (IsSpotIn (length bytes)) spots → entries_at (bytes ++ more) spots ≡ entries_at bytes spots
+-- bytes behind them change nothing for a spot
+pub spots_kept : (bytes more : List ℕ) (spots : List Spot) → All (IsSpotIn bytes) spots → All (IsSpotIn (bytes ++ more)) spots
+spots_kept bytes more spots within = λ k d l.
+    let h = within k d l in
+    let key = slice_kept bytes more (get_or spots k d).key (get_or spots k d).row h.0 (omega (arith, h.1, h.2)) in
+    (h.0, h.1, omega (arith, h.2, length-append bytes more), subst (IsHeadOf (get_or spots k d).head) (sym key) h.3)
+
+entries_kept : (bytes more : List ℕ) (spots : List Spot) → All (IsSpotIn bytes) spots → entries_at (bytes ++ more) spots ≡ entries_at bytes spots
 entries_kept bytes more [] within = refl
 entries_kept bytes more (s ∷ spots) within =
     let here = within 0 s (omega arith) in
     let key = slice_kept bytes more s.key s.row here.0 (omega (arith, here.1, here.2)) in
     let row = slice_kept bytes more s.row s.end here.1 here.2 in
-    let rest = entries_kept bytes more spots (all_tail (IsSpotIn (length bytes)) s spots within) in
+    let rest = entries_kept bytes more spots (all_tail (IsSpotIn bytes) s spots within) in
     λ i. ((pos s.table, key i), row i) ∷ rest i
 
 last_part : (bytes part : List ℕ) → slice_range (bytes ++ part) (length bytes) (length (bytes ++ part)) ≡ part
@@ -30,14 +37,14 @@ last_part bytes part =
     ap (take (length (bytes ++ part) - length bytes)) (drop-append_seam bytes part) ∙ take_all (length (bytes ++ part) - length bytes) part (omega (arith, length-append bytes part))
 
 -- a row more
-pub entries_more : (bytes key row new : List ℕ) (spots now : List Spot) (spot : Spot) → All (IsSpotIn (length bytes)) spots → new ≡ (bytes ++ key) ++ row
+pub entries_more : (bytes key row new : List ℕ) (spots now : List Spot) (spot : Spot) → All (IsSpotIn bytes) spots → new ≡ (bytes ++ key) ++ row
     → spot.key ≡ length bytes → spot.row ≡ length (bytes ++ key) → spot.end ≡ length new → now ≡ spots ++ spot ∷ []
     → entries_at new now ≡ entries_at bytes spots ++ ((pos spot.table, key), row) ∷ []
 entries_more bytes key row new spots now spot within grown begins middle ends is =
     let long : length (bytes ++ key) ≡ length bytes + length key = length-append bytes key in
     let its_key : slice_range new spot.key spot.row ≡ key = (λ i. slice_range (grown i) (begins i) (middle i)) ∙ slice_kept (bytes ++ key) row (length bytes) (length (bytes ++ key)) (omega (arith, long)) (omega arith) ∙ last_part bytes key in
     let its_row : slice_range new spot.row spot.end ≡ row = (λ i. slice_range (grown i) (middle i) (ends i)) ∙ ap (λ (n : List ℕ). slice_range ((bytes ++ key) ++ row) (length (bytes ++ key)) (length n)) grown ∙ last_part (bytes ++ key) row in
-    let wide : All (IsSpotIn (length (bytes ++ key))) spots = λ k d l. let h = within k d l in (h.0, h.1, omega (arith, long, h.2)) in
+    let wide : All (IsSpotIn (bytes ++ key)) spots = spots_kept bytes key spots within in
     ap (entries_at new) is ∙ map-append (entry_at new) spots (spot ∷ [])
     ∙ (λ i. entries_at (grown i) spots ++ ((pos spot.table, its_key i), its_row i) ∷ [])
     ∙ ap (λ (es : List Entry). es ++ ((pos spot.table, key), row) ∷ []) (entries_kept (bytes ++ key) row spots wide ∙ entries_kept bytes key spots within)
@@ -51,7 +58,7 @@ slice_parts xs a b c less more =
     ∙ ap (λ (zs : List ℕ). slice_range xs a b ++ take (c - b) zs) (sym (drop_drop a (b - a) xs) ∙ ap (λ k. drop k xs) (sym m))
 
 -- a row more, copied from other bytes
-pub entries_copied : (bytes source new : List ℕ) (spots now : List Spot) (old spot : Spot) → All (IsSpotIn (length bytes)) spots → IsSpotIn (length source) old → new ≡ bytes ++ slice_range source old.key old.end
+pub entries_copied : (bytes source new : List ℕ) (spots now : List Spot) (old spot : Spot) → All (IsSpotIn bytes) spots → IsSpotIn source old → new ≡ bytes ++ slice_range source old.key old.end
     → spot.table ≡ old.table → spot.key ≡ length bytes → spot.row ≡ length bytes + (old.row - old.key) → spot.end ≡ length new → now ≡ spots ++ spot ∷ []
     → entries_at new now ≡ entries_at bytes spots ++ entry_at source old ∷ []
 entries_copied bytes source new spots now old spot within its grown table begins middle ends is =

@@ -1,6 +1,7 @@
 -- Bodies as a leaf of a `MapStore` has them: entries, that stand at spots of one list of bytes.
 use Rattle.std.specs.Prelude.{◌≡◌, ◌⊎◌, ◌≤◌, ◌-◌, ℕ, true, false, pos, map, length, slice_range, slice_index_or, List, []}
 use Rattle.std.specs.Ordering.{is_lt}
+use Rattle.cs_order.specs.Steps.Packed.{AreBytes, head_of}
 use Rattle.cs_store.specs.Contents.{StorePlace, place_cmp}
 use Rattle.cs_map_store.specs.declared.leaf.Spot.{Spot}
 
@@ -8,8 +9,13 @@ use Rattle.cs_map_store.specs.declared.leaf.Spot.{Spot}
 abbrev pub Entry : Type 0
 Entry = StorePlace × List ℕ
 
-abbrev pub IsSpotIn : ℕ → Spot → Type 0
-IsSpotIn long s = (s.key ≤ s.row) × (s.row ≤ s.end) × (s.end ≤ long)
+-- the number that the first 16 bytes of a key spell, with a zero for each that is missing
+abbrev pub IsHeadOf : ℕ → List ℕ → Type 0
+IsHeadOf head key = (head ≡ head_of 16 key) × AreBytes key
+
+-- a key with this head and a row stand there in the bytes
+abbrev pub IsSpotIn : List ℕ → Spot → Type 0
+IsSpotIn bytes s = (s.key ≤ s.row) × (s.row ≤ s.end) × (s.end ≤ length bytes) × IsHeadOf s.head (slice_range bytes s.key s.row)
 
 abbrev pub entry_at : List ℕ → Spot → Entry
 entry_at bytes s = ((pos s.table, slice_range bytes s.key s.row), slice_range bytes s.row s.end)

@@ -5,13 +5,61 @@ ghost use Rattle.std.specs.List.{All};
 ghost use Rattle.cs_store.specs.Contents.{place_cmp};
 ghost use Rattle.cs_map_store.specs.Entries.{IsSpotIn, IsPlaceFor, entries_at, entry_at, nth};
 
+use crate::heads::{compare_keys, head};
+use cs_store::PlaceEdit;
 use std::alloc::{AllocError, Global};
 use std::cmp::Ordering;
 use std::marker::Model;
 
-/// Where a row stands in its leaf's bytes: its key up to `row`, and behind it the row up to `end`.
+/// A place that is looked for or written, with the head of its key, so that most comparisons are of numbers. Contracts see the
+/// place alone.
+#[derive(Drop)]
+pub struct Place<'a> {
+    table: u32,
+    key: &'a [u8],
+    head: u128,
+}
+
+impl<'a> Model for Place<'a> {
+    ghost use Rattle.std.specs.Prelude.{pos};
+    ghost use Rattle.cs_store.specs.Contents.{StorePlace};
+    ghost use Rattle.cs_map_store.specs.Entries.{IsHeadOf};
+
+    ghost Value = { StorePlace };
+
+    ghost view = { λ place. (pos place.table, place.key.now) };
+
+    ghost invariant = { λ place. IsHeadOf place.head place.key.now };
+}
+
+impl<'a> Place<'a> {
+    ghost use Rattle.std.specs.Prelude.{◌≡◌, pos};
+    ghost use Rattle.cs_store.specs.Written.{store_place};
+
+    /// The place of a table's number and the bytes of a key.
+    #[inline(always)]
+    pub fn new(table: u32, key: &'a [u8]) -> Place<'a>
+        ensures { result ≡ (pos table, key.now) }
+    {
+        Place {
+            table,
+            key,
+            head: head(key),
+        }
+    }
+
+    /// The place of an edit.
+    pub fn of_edit(edit: &'a PlaceEdit) -> Place<'a>
+        ensures { result ≡ store_place edit.now }
+    {
+        Place::new(edit.table, edit.key.as_slice())
+    }
+}
+
+/// Where a row stands in its leaf's bytes: its key up to `row`, and behind it the row up to `end`. The head is the key's.
 #[derive(Clone, Copy)]
 struct Spot {
+    head: u128,
     table: u32,
     key: usize,
     row: usize,
@@ -34,7 +82,7 @@ impl Model for Leaf {
 
     ghost view = { λ leaf. entries_at leaf.bytes.items leaf.spots.items };
 
-    ghost invariant = { λ leaf. All (IsSpotIn (length leaf.bytes.items)) leaf.spots.items };
+    ghost invariant = { λ leaf. All (IsSpotIn leaf.bytes.items) leaf.spots.items };
 }
 
 /// Appends a row.
@@ -42,21 +90,21 @@ impl Model for Leaf {
 fn put(
     bytes: &mut Vec<u8>,
     spots: &mut Vec<Spot>,
-    table: u32,
-    key: &[u8],
+    place: &Place,
     row: &[u8],
 ) -> Result<(), AllocError>
-    requires { All (IsSpotIn (length bytes.old.items)) spots.old.items }
-    ensures within { All (IsSpotIn (length bytes.new.items)) spots.new.items }
+    requires { All (IsSpotIn bytes.old.items) spots.old.items }
+    ensures within { All (IsSpotIn bytes.new.items) spots.new.items }
     ensures ok { OnOk result (entries_at bytes.new.items spots.new.items
-        ≡ entries_at bytes.old.items spots.old.items ++ ((pos table, key.now), row.now) ∷ []) }
+        ≡ entries_at bytes.old.items spots.old.items ++ (place.now, row.now) ∷ []) }
 {
     let start = bytes.len();
-    bytes.extend_from_slice(key)?;
+    bytes.extend_from_slice(place.key)?;
     let middle = bytes.len();
     bytes.extend_from_slice(row)?;
     spots.push(Spot {
-        table,
+        head: place.head,
+        table: place.table,
         key: start,
         row: middle,
         end: bytes.len(),
@@ -72,15 +120,16 @@ fn put_copy(
     source: &[u8],
     spot: Spot,
 ) -> Result<(), AllocError>
-    requires within { All (IsSpotIn (length bytes.old.items)) spots.old.items }
-    requires spot { IsSpotIn (length source.now) spot }
-    ensures within { All (IsSpotIn (length bytes.new.items)) spots.new.items }
+    requires within { All (IsSpotIn bytes.old.items) spots.old.items }
+    requires spot { IsSpotIn source.now spot }
+    ensures within { All (IsSpotIn bytes.new.items) spots.new.items }
     ensures ok { OnOk result (entries_at bytes.new.items spots.new.items
         ≡ entries_at bytes.old.items spots.old.items ++ entry_at source.now spot ∷ []) }
 {
     let start = bytes.len();
     bytes.extend_from_slice(&source[spot.key..spot.end])?;
     spots.push(Spot {
+        head: spot.head,
         table: spot.table,
         key: start,
         row: start + (spot.row - spot.key),
@@ -162,25 +211,27 @@ impl Leaf {
 
     /// Compares the place there with another.
     #[inline(always)]
-    pub fn compare(&self, at: usize, table: u32, key: &[u8]) -> Ordering
+    pub fn compare(&self, at: usize, place: &Place) -> Ordering
         requires { at < length self.now }
-        ensures { result ≡ place_cmp (nth self.now at).0 (pos table, key.now) }
+        ensures { result ≡ place_cmp (nth self.now at).0 place.now }
     {
-        self.table(at)
-            .cmp(&table)
-            .then_with(|| self.key(at).cmp(key))
+        let spot = self.spots[at];
+        match spot.table.cmp(&place.table) {
+            Ordering::Equal => compare_keys(spot.head, self.key(at), place.head, place.key),
+            apart => apart,
+        }
     }
 
     /// Between which two positions a place stands or would stand, not before `from`, in steps that double.
     #[inline(always)]
-    fn reach(&self, from: usize, table: u32, key: &[u8]) -> (usize, usize)
+    fn reach(&self, from: usize, place: &Place) -> (usize, usize)
         requires { from ≤ length self.now }
         ensures order { (from ≤ result.0) × (result.0 ≤ result.1) × (result.1 ≤ length self.now) }
-        ensures between { IsPlaceBetween self.now from result.0 result.1 (pos table, key.now) }
+        ensures between { IsPlaceBetween self.now from result.0 result.1 place.now }
     {
         let mut low = from;
         let mut high = from;
-        while high < self.len() && self.compare(high, table, key).is_lt() {
+        while high < self.len() && self.compare(high, place).is_lt() {
             low = high + 1;
             high = low.saturating_add(high - from).min(self.len());
         }
@@ -189,16 +240,16 @@ impl Leaf {
 
     /// Where a place stands or would stand of which this is known, in halves.
     #[inline(always)]
-    fn settle(&self, from: usize, reached: (usize, usize), table: u32, key: &[u8]) -> usize
+    fn settle(&self, from: usize, reached: (usize, usize), place: &Place) -> usize
         requires order { (from ≤ reached.0) × (reached.0 ≤ reached.1) × (reached.1 ≤ length self.now) }
-        requires between { IsPlaceBetween self.now from reached.0 reached.1 (pos table, key.now) }
+        requires between { IsPlaceBetween self.now from reached.0 reached.1 place.now }
         ensures bound { (from ≤ result) × (result ≤ length self.now) }
-        ensures found { IsPlaceFor self.now from result (pos table, key.now) }
+        ensures found { IsPlaceFor self.now from result place.now }
     {
         let (mut low, mut high) = reached;
         while low < high {
             let middle = low + (high - low) / 2;
-            if self.compare(middle, table, key).is_lt() {
+            if self.compare(middle, place).is_lt() {
                 low = middle + 1;
             } else {
                 high = middle;
@@ -208,33 +259,33 @@ impl Leaf {
     }
 
     /// Where a place stands or would stand, not before `from`. It takes the logarithm of the way from there.
-    pub fn search(&self, from: usize, table: u32, key: &[u8]) -> usize
+    pub fn search(&self, from: usize, place: &Place) -> usize
         requires { from ≤ length self.now }
         ensures bound { (from ≤ result) × (result ≤ length self.now) }
-        ensures found { IsPlaceFor self.now from result (pos table, key.now) }
+        ensures found { IsPlaceFor self.now from result place.now }
     {
-        let reached = self.reach(from, table, key);
-        self.settle(from, reached, table, key)
+        let reached = self.reach(from, place);
+        self.settle(from, reached, place)
     }
 
     /// Where a place stands or would stand. It is looked for from `near` on first.
-    pub fn search_near(&self, near: usize, table: u32, key: &[u8]) -> usize
+    pub fn search_near(&self, near: usize, place: &Place) -> usize
         ensures bound { result ≤ length self.now }
-        ensures found { IsPlaceFor self.now 0 result (pos table, key.now) }
+        ensures found { IsPlaceFor self.now 0 result place.now }
     {
-        if 0 < near && near <= self.len() && self.compare(near - 1, table, key).is_lt() {
-            self.search(near, table, key)
+        if 0 < near && near <= self.len() && self.compare(near - 1, place).is_lt() {
+            self.search(near, place)
         } else {
-            self.settle(0, (0, self.len()), table, key)
+            self.settle(0, (0, self.len()), place)
         }
     }
 
     /// Appends a row.
     #[inline(always)]
-    pub fn push(&mut self, table: u32, key: &[u8], row: &[u8]) -> Result<(), AllocError>
-        ensures { OnOk result (self.new ≡ self.old ++ ((pos table, key.now), row.now) ∷ []) }
+    pub fn push(&mut self, place: &Place, row: &[u8]) -> Result<(), AllocError>
+        ensures { OnOk result (self.new ≡ self.old ++ (place.now, row.now) ∷ []) }
     {
-        put(&mut self.bytes, &mut self.spots, table, key, row)
+        put(&mut self.bytes, &mut self.spots, place, row)
     }
 
     /// Appends the row there of a leaf.

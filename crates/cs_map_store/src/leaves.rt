@@ -10,7 +10,7 @@ ghost use Rattle.cs_store.specs.Written.{edit_body, optional_bytes, pairs_of};
 ghost use Rattle.cs_map_store.specs.Leaves.{AreBefore, AreLeaves, ArePatches, BeginsBy, BeginsBehind, CanBePut, Entry, ReachLeaf, Rise, after_staged, store_place, edited, edits_behind, first_place, flat, in_table, patched, bodies_in};
 
 use crate::edits::in_order;
-use crate::leaf::Leaf;
+use crate::leaf::{Leaf, Place};
 use crate::merging::merged;
 use cs_store::{PlaceEdit, StoredBody};
 use std::alloc::{AllocError, Global};
@@ -43,12 +43,12 @@ pub enum Staged {
 }
 
 /// Whether a leaf begins above a place.
-fn begins_above(leaves: &[Leaf], at: usize, table: u32, key: &[u8]) -> bool
+fn begins_above(leaves: &[Leaf], at: usize, place: &Place) -> bool
     requires in_bounds { at < length leaves.now }
     requires full { All (λ leaf. 0 < length leaf) leaves.now }
-    ensures { result ≡ is_gt (place_cmp (first_place leaves.now at) (pos table, key.now)) }
+    ensures { result ≡ is_gt (place_cmp (first_place leaves.now at) place.now) }
 {
-    leaves[at].compare(0, table, key).is_gt()
+    leaves[at].compare(0, place).is_gt()
 }
 
 /// Whether a leaf begins above the place of an edit.
@@ -57,20 +57,20 @@ fn is_before(leaves: &[Leaf], at: usize, edit: &PlaceEdit) -> bool
     requires full { All (λ leaf. 0 < length leaf) leaves.now }
     ensures { result ≡ is_gt (place_cmp (first_place leaves.now at) (store_place edit.now)) }
 {
-    begins_above(leaves, at, edit.table, edit.key.as_slice())
+    begins_above(leaves, at, &Place::of_edit(edit))
 }
 
 /// A leaf that begins above a place, which the leaf at `from` doesn't: one near that, or where none does, the end.
 #[inline(always)]
-fn limit(leaves: &[Leaf], from: usize, table: u32, key: &[u8]) -> usize
+fn limit(leaves: &[Leaf], from: usize, place: &Place) -> usize
     requires in_bounds { from < length leaves.now }
     requires full { All (λ leaf. 0 < length leaf) leaves.now }
     ensures bound { (from < result) × (result ≤ length leaves.now) }
-    ensures next { BeginsBehind leaves.now result (pos table, key.now) }
+    ensures next { BeginsBehind leaves.now result place.now }
 {
     let mut step = 1;
     while step <= NEARBY && step < leaves.len() - from {
-        if begins_above(leaves, from + step, table, key) {
+        if begins_above(leaves, from + step, place) {
             return from + step;
         }
         step *= 8;
@@ -79,20 +79,20 @@ fn limit(leaves: &[Leaf], from: usize, table: u32, key: &[u8]) -> usize
 }
 
 /// The leaf in which a place stands or would stand, not before `from`, and before `to`.
-fn leaf_between(leaves: &[Leaf], from: usize, to: usize, table: u32, key: &[u8]) -> usize
+fn leaf_between(leaves: &[Leaf], from: usize, to: usize, place: &Place) -> usize
     requires bound { (from < to) × (to ≤ length leaves.now) }
     requires full { All (λ leaf. 0 < length leaf) leaves.now }
-    requires begins { BeginsBy leaves.now from (pos table, key.now) }
-    requires next { BeginsBehind leaves.now to (pos table, key.now) }
+    requires begins { BeginsBy leaves.now from place.now }
+    requires next { BeginsBehind leaves.now to place.now }
     ensures bound { (from ≤ result) × (result < length leaves.now) }
-    ensures begins { BeginsBy leaves.now result (pos table, key.now) }
-    ensures next { BeginsBehind leaves.now (result + 1) (pos table, key.now) }
+    ensures begins { BeginsBy leaves.now result place.now }
+    ensures next { BeginsBehind leaves.now (result + 1) place.now }
 {
     let mut low = from;
     let mut high = to;
     while high - low > 1 {
         let middle = low + (high - low) / 2;
-        if begins_above(leaves, middle, table, key) {
+        if begins_above(leaves, middle, place) {
             high = middle;
         } else {
             low = middle;
@@ -102,30 +102,30 @@ fn leaf_between(leaves: &[Leaf], from: usize, to: usize, table: u32, key: &[u8])
 }
 
 /// The leaf in which a place stands or would stand, not before `from`, near which it is looked for first.
-fn leaf_for(leaves: &[Leaf], from: usize, table: u32, key: &[u8]) -> usize
+fn leaf_for(leaves: &[Leaf], from: usize, place: &Place) -> usize
     requires in_bounds { from < length leaves.now }
     requires full { All (λ leaf. 0 < length leaf) leaves.now }
-    requires begins { BeginsBy leaves.now from (pos table, key.now) }
+    requires begins { BeginsBy leaves.now from place.now }
     ensures bound { (from ≤ result) × (result < length leaves.now) }
-    ensures begins { BeginsBy leaves.now result (pos table, key.now) }
-    ensures next { BeginsBehind leaves.now (result + 1) (pos table, key.now) }
+    ensures begins { BeginsBy leaves.now result place.now }
+    ensures next { BeginsBehind leaves.now (result + 1) place.now }
 {
-    let to = limit(leaves, from, table, key);
-    leaf_between(leaves, from, to, table, key)
+    let to = limit(leaves, from, place);
+    leaf_between(leaves, from, to, place)
 }
 
 /// The leaf in which a place stands or would stand. The one at `near` is looked at first.
-fn leaf_near(leaves: &[Leaf], near: usize, table: u32, key: &[u8]) -> usize
+fn leaf_near(leaves: &[Leaf], near: usize, place: &Place) -> usize
     requires some { 0 < length leaves.now }
     requires full { All (λ leaf. 0 < length leaf) leaves.now }
     ensures bound { result < length leaves.now }
-    ensures begins { BeginsBy leaves.now result (pos table, key.now) }
-    ensures next { BeginsBehind leaves.now (result + 1) (pos table, key.now) }
+    ensures begins { BeginsBy leaves.now result place.now }
+    ensures next { BeginsBehind leaves.now (result + 1) place.now }
 {
-    if near < leaves.len() && !begins_above(leaves, near, table, key) {
-        leaf_for(leaves, near, table, key)
+    if near < leaves.len() && !begins_above(leaves, near, place) {
+        leaf_for(leaves, near, place)
     } else {
-        leaf_between(leaves, 0, leaves.len(), table, key)
+        leaf_between(leaves, 0, leaves.len(), place)
     }
 }
 
@@ -138,7 +138,7 @@ fn leaf_of(leaves: &[Leaf], from: usize, edit: &PlaceEdit) -> usize
     ensures begins { BeginsBy leaves.now result (store_place edit.now) }
     ensures next { BeginsBehind leaves.now (result + 1) (store_place edit.now) }
 {
-    leaf_for(leaves, from, edit.table, edit.key.as_slice())
+    leaf_for(leaves, from, &Place::of_edit(edit))
 }
 
 /// How many edits fall into a leaf, of which the first does.
@@ -394,15 +394,15 @@ impl Near {
 
 /// The row there, if it is that of a place.
 #[inline(always)]
-fn row_if_at<'a>(leaves: &'a [Leaf], at: Near, table: u32, key: &[u8]) -> Option<&'a [u8]>
+fn row_if_at<'a>(leaves: &'a [Leaf], at: Near, place: &Place) -> Option<&'a [u8]>
     requires { AreLeaves leaves.now }
-    ensures { IfSome result (λ row. get (bodies_in leaves.now) (pos table, key.now) ≡ Some row.now) }
+    ensures { IfSome result (λ row. get (bodies_in leaves.now) place.now ≡ Some row.now) }
 {
     if at.leaf >= leaves.len() {
         return None;
     }
     let leaf = &leaves[at.leaf];
-    if at.row < leaf.len() && leaf.compare(at.row, table, key).is_eq() {
+    if at.row < leaf.len() && leaf.compare(at.row, place).is_eq() {
         Some(leaf.row(at.row))
     } else {
         None
@@ -410,35 +410,32 @@ fn row_if_at<'a>(leaves: &'a [Leaf], at: Near, table: u32, key: &[u8]) -> Option
 }
 
 /// The row at a place, if it is the one there or the one behind it.
-fn row_beside<'a>(leaves: &'a [Leaf], near: &mut Near, table: u32, key: &[u8]) -> Option<&'a [u8]>
+fn row_beside<'a>(leaves: &'a [Leaf], near: &mut Near, place: &Place) -> Option<&'a [u8]>
     requires { AreLeaves leaves.now }
-    ensures { IfSome result (λ row. get (bodies_in leaves.now) (pos table, key.now) ≡ Some row.now) }
+    ensures { IfSome result (λ row. get (bodies_in leaves.now) place.now ≡ Some row.now) }
 {
     let next = near.next();
-    if let Some(row) = row_if_at(leaves, *near, table, key) {
+    if let Some(row) = row_if_at(leaves, *near, place) {
         *near = next;
         return Some(row);
     }
-    let row = row_if_at(leaves, next, table, key)?;
+    let row = row_if_at(leaves, next, place)?;
     *near = next.next();
     Some(row)
 }
 
 /// The row at a place, if there is one.
-fn row_at<'a>(leaves: &'a [Leaf], near: &mut Near, table: u32, key: &[u8]) -> Option<&'a [u8]>
+fn row_at<'a>(leaves: &'a [Leaf], near: &mut Near, place: &Place) -> Option<&'a [u8]>
     requires leaves { AreLeaves leaves.now }
     requires some { 0 < length leaves.now }
-    ensures { option_map (λ row. row.now) result ≡ get (bodies_in leaves.now) (pos table, key.now) }
+    ensures { option_map (λ row. row.now) result ≡ get (bodies_in leaves.now) place.now }
 {
-    let place = leaf_near(leaves, near.leaf, table, key);
-    let leaf = &leaves[place];
-    let from = if place == near.leaf { near.row } else { 0 };
-    let at = leaf.search_near(from, table, key);
-    *near = Near {
-        leaf: place,
-        row: at,
-    };
-    if at < leaf.len() && leaf.compare(at, table, key).is_eq() {
+    let its = leaf_near(leaves, near.leaf, place);
+    let leaf = &leaves[its];
+    let from = if its == near.leaf { near.row } else { 0 };
+    let at = leaf.search_near(from, place);
+    *near = Near { leaf: its, row: at };
+    if at < leaf.len() && leaf.compare(at, place).is_eq() {
         near.row = at + 1;
         Some(leaf.row(at))
     } else {
@@ -451,19 +448,18 @@ pub fn find_row(
     alloc: Global,
     leaves: &[Leaf],
     near: &mut Near,
-    table: u32,
-    key: &[u8],
+    place: &Place,
 ) -> Result<Option<Vec<u8>>, AllocError>
     requires { AreLeaves leaves.now }
-    ensures { IfOk result (λ row. optional_bytes row ≡ get (bodies_in leaves.now) (pos table, key.now)) }
+    ensures { IfOk result (λ row. optional_bytes row ≡ get (bodies_in leaves.now) place.now) }
 {
-    if let Some(row) = row_beside(leaves, near, table, key) {
+    if let Some(row) = row_beside(leaves, near, place) {
         return Ok(Some(Vec::from_slice(alloc, row)?));
     }
     if leaves.is_empty() {
         return Ok(None);
     }
-    match row_at(leaves, near, table, key) {
+    match row_at(leaves, near, place) {
         Some(row) => Ok(Some(Vec::from_slice(alloc, row)?)),
         None => Ok(None),
     }

@@ -8,6 +8,7 @@
 
 mod checking;
 mod edits;
+mod heads;
 mod leaf;
 mod leaves;
 mod log;

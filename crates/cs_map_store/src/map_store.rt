@@ -7,6 +7,7 @@ ghost use Rattle.cs_map_store.specs.Slots.{HasOwnNames, held_in, log_of, meta_of
 ghost use Rattle.cs_map_store.specs.Steps.{HasSlots, IsEmptyOnlyAt, IsKept, step_keys};
 
 use crate::checking::{Shelf, all_hold, check_leaves, check_log};
+use crate::leaf::Place;
 use crate::leaves::{Near, Shelves, find_row, list_rows, put_staged, stage_edits};
 use crate::log::{append, copied_entry, make_room, read_log};
 use crate::slots::{
@@ -20,7 +21,8 @@ use std::marker::Model;
 
 /// A store in memory. Contracts see what it holds, and the count of its misreads. Of its calls `misread` alone raises the
 /// count and tells `Device`, and a stop leaves what it holds. Its rows lie in leaves, in order, each packed into one list of
-/// bytes, and so do its pending changes. A look-up begins where the last one ended; where its place isn't near, it halves the
+/// bytes, and so do its pending changes; beside where a row stands, the first 16 bytes of its key are kept as a number, and bytes
+/// are compared only where those are equal. A look-up begins where the last one ended; where its place isn't near, it halves the
 /// leaves and then one leaf. A commit makes each leaf anew that its edits fall into, so a commit of one row or of one pending
 /// change costs the logarithm of those that are there, but for a walk over the list of leaves where one is cut or goes. Its
 /// log has at most 4,294,967,295 entries; a commit of one more answers `Memory`. (Profile of this project.)
@@ -184,7 +186,8 @@ impl RowStore for MapStore {
         ensures count { self.new.misreads ≡ self.old.misreads }
     {
         let leaves = self.shelves.rows.as_slice();
-        let row = find_row(self.alloc, leaves, &mut self.near, table, key)?;
+        let place = Place::new(table, key);
+        let row = find_row(self.alloc, leaves, &mut self.near, &place)?;
         Ok(row)
     }
 
@@ -205,7 +208,8 @@ impl RowStore for MapStore {
         ensures count { self.new.misreads ≡ self.old.misreads }
     {
         let leaves = self.shelves.pending.as_slice();
-        let change = find_row(self.alloc, leaves, &mut self.near_pending, table, key)?;
+        let place = Place::new(table, key);
+        let change = find_row(self.alloc, leaves, &mut self.near_pending, &place)?;
         Ok(change)
     }
 

@@ -6,29 +6,29 @@ ghost use Rattle.cs_store.specs.Contents.{place_cmp};
 ghost use Rattle.cs_store.specs.Written.{optional_bytes};
 ghost use Rattle.cs_map_store.specs.Leaves.{IsBehind, IsMerged, Rise, store_place, edited, edits_behind, written};
 
-use crate::leaf::Leaf;
+use crate::leaf::{Leaf, Place};
 use cs_store::PlaceEdit;
 use std::alloc::{AllocError, Global};
 use std::cmp::Ordering;
 
-/// Where a leaf goes on behind the place of an edit, which stands or would stand at `at`.
-fn behind(leaf: &Leaf, at: usize, edit: &PlaceEdit) -> usize
+/// Where a leaf goes on behind a place, which stands or would stand at `at`.
+fn behind(leaf: &Leaf, at: usize, place: &Place) -> usize
     requires { at ≤ length leaf.now }
-    ensures { IsBehind leaf.now at (store_place edit.now) result }
+    ensures { IsBehind leaf.now at place.now result }
 {
-    if at < leaf.len() && leaf.compare(at, edit.table, edit.key.as_slice()) == Ordering::Equal {
+    if at < leaf.len() && leaf.compare(at, place) == Ordering::Equal {
         at + 1
     } else {
         at
     }
 }
 
-/// Appends the row that an edit sets, if it sets one.
-fn push_edit(merged: &mut Leaf, edit: &PlaceEdit) -> Result<(), AllocError>
-    ensures { OnOk result (merged.new ≡ merged.old ++ written (store_place edit.now) (optional_bytes edit.now.body)) }
+/// Appends the row that an edit sets at its place, if it sets one.
+fn push_edit(merged: &mut Leaf, place: &Place, body: &Option<Vec<u8>>) -> Result<(), AllocError>
+    ensures { OnOk result (merged.new ≡ merged.old ++ written place.now (optional_bytes body.now)) }
 {
-    match &edit.body {
-        Some(row) => merged.push(edit.table, edit.key.as_slice(), row.as_slice()),
+    match body {
+        Some(row) => merged.push(place, row.as_slice()),
         None => Ok(()),
     }
 }
@@ -45,10 +45,11 @@ fn merge_edit(
     ensures bound { IfOk result (λ next. next ≤ length leaf.now) }
     ensures merged { IfOk result (λ next. IsMerged leaf.now from edit.now next merged.old merged.new) }
 {
-    let at = leaf.search(from, edit.table, edit.key.as_slice());
+    let place = Place::of_edit(edit);
+    let at = leaf.search(from, &place);
     merged.push_rows(leaf, from, at)?;
-    push_edit(merged, edit)?;
-    Ok(behind(leaf, at, edit))
+    push_edit(merged, &place, &edit.body)?;
+    Ok(behind(leaf, at, &place))
 }
 
 /// The rows of a leaf after edits, in memory of their own.

@@ -7,6 +7,6 @@ pub returns-clause-ok : goal.returns-clause-ok
 returns-clause-ok c =
     let old = c.args.spot in
     let new = c.extend_from_slice.new.self.items in
-    let spot : Spot = record { table = old.table; key = c.len-start.result; row = c.len-start.result + (old.row - old.key); end = c.len.result } in
+    let spot : Spot = record { head = old.head; table = old.table; key = c.len-start.result; row = c.len-start.result + (old.row - old.key); end = c.len.result } in
     entries_copied c.args.bytes.now.items c.args.source.now new c.args.spots.now.items c.push.new.self.items old spot c.requires.within c.requires.spot c.in_ok-extend_from_slice.ensures.items
     refl (omega arith) (omega arith) (omega arith) c.in_ok-push.ensures.items

@@ -1,4 +1,4 @@
-use Rattle.std.proofs.Common.{◌-◌, ◌≤◌, ◌<◌, pos, length}
+use Rattle.std.proofs.Common.{◌-◌, ◌≤◌, ◌<◌, length}
 use Rattle.cs_map_store.specs.Leaves.{BeginsBy, BeginsBehind}
 use Rattle.cs_map_store.proofs.leaves.leaf_between.Given as goal
 
@@ -7,8 +7,8 @@ invariant-loop-high l = record {
   from : l.from ≤ l.low;
   order : l.low < l.high;
   within : l.high ≤ length l.leaves;
-  begins : BeginsBy l.leaves l.low (pos l.table, l.key);
-  next : BeginsBehind l.leaves l.high (pos l.table, l.key);
+  begins : BeginsBy l.leaves l.low l.place;
+  next : BeginsBehind l.leaves l.high l.place;
 }
 
 abbrev pub decreases-loop-high : goal.decreases-loop-high

@@ -1,5 +1,4 @@
 use Rattle.std.proofs.Common.{◌≡◌, ◌<◌, ap, sym, subst, arith, length, List, [], Some, ◌∙◌}
-use Rattle.std.specs.Prelude.{pos}
 use Rattle.std.specs.declared.cmp.Ordering.TheVariants.{Equal}
 use Rattle.std.proofs.lemmas.List.{get_or_default}
 use Rattle.cs_store.specs.Contents.{StorePlace, place_cmp}
@@ -14,7 +13,7 @@ returns-then-is_eq c =
     let leaves = c.args.leaves.now in
     let at = c.args.at.leaf in
     let row = c.args.at.row in
-    let p : StorePlace = (pos c.args.table, c.args.key.now) in
+    let p : StorePlace = c.args.place.now in
     let leaf = c.index-leaves-at.result in
     let less : at < length leaves = omega (arith, c.if-at-leaves.false) in
     let its : leaf ≡ nth_leaf leaves at = c.index-leaves-at.is ∙ get_or_default leaves at leaf [] less in

@@ -1,11 +1,16 @@
-use Rattle.std.proofs.Common.{ℕ, List, subst}
-use Rattle.std.specs.Prelude.{pos}
+use Rattle.std.proofs.Common.{◌≡◌, ◌++◌, subst}
+use Rattle.cs_store.specs.Contents.{StorePlace}
+use Rattle.cs_store.specs.Written.{optional_bytes}
 use Rattle.cs_map_store.specs.Entries.{IsPlaceFor}
+use Rattle.cs_map_store.specs.Leaves.{IsBehind, written}
 use Rattle.cs_map_store.proofs.Editing.{merged_edit}
 use Rattle.cs_map_store.proofs.merging.merge_edit.Goals as goal
 
 pub returns-clause-merged : goal.returns-clause-merged
 returns-clause-merged c =
-    merged_edit c.args.leaf.now c.args.merged.now c.push_rows.new.self c.push_edit.new.merged c.args.from c.search-at.result c.behind.result c.args.edit.now c.search-at.ensures.bound.0 c.search-at.ensures.bound.1
-    c.requires.sorted (subst (λ (key : List ℕ). IsPlaceFor c.args.leaf.now c.args.from c.search-at.result (pos c.args.edit.now.table, key)) c.as_slice.ensures.value c.search-at.ensures.found)
-    c.behind.ensures c.in_ok-push_rows.ensures c.in_ok-push_edit.ensures
+    let is = c.of_edit-place.ensures in
+    let at = c.search-at.result in
+    merged_edit c.args.leaf.now c.args.merged.now c.push_rows.new.self c.push_edit.new.merged c.args.from at c.behind.result c.args.edit.now c.search-at.ensures.bound.0 c.search-at.ensures.bound.1
+    c.requires.sorted (subst (IsPlaceFor c.args.leaf.now c.args.from at) is c.search-at.ensures.found)
+    (subst (λ (p : StorePlace). IsBehind c.args.leaf.now at p c.behind.result) is c.behind.ensures) c.in_ok-push_rows.ensures
+    (subst (λ (p : StorePlace). c.push_edit.new.merged ≡ c.push_rows.new.self ++ written p (optional_bytes c.args.edit.now.body)) is c.in_ok-push_edit.ensures)

@@ -1,4 +1,4 @@
-use Rattle.std.proofs.Common.{◌≡◌, ◌-◌, ◌≤◌, ◌⊎◌, true, pos, length}
+use Rattle.std.proofs.Common.{◌≡◌, ◌-◌, ◌≤◌, ◌⊎◌, true, length}
 use Rattle.std.specs.Ordering.{is_lt}
 use Rattle.cs_store.specs.Contents.{place_cmp}
 use Rattle.cs_map_store.specs.Entries.{nth}
@@ -9,7 +9,7 @@ invariant-loop-high l = record {
   from : l.from ≤ l.low;
   order : l.low ≤ l.high;
   within : l.high ≤ length l.self;
-  below : (l.low ≡ l.from) ⊎ (is_lt (place_cmp (nth l.self (l.low - 1)).0 (pos l.table, l.key)) ≡ true);
+  below : (l.low ≡ l.from) ⊎ (is_lt (place_cmp (nth l.self (l.low - 1)).0 l.place) ≡ true);
 }
 
 abbrev pub decreases-loop-high : goal.decreases-loop-high

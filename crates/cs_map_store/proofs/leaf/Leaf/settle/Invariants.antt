@@ -1,4 +1,4 @@
-use Rattle.std.proofs.Common.{◌-◌, ◌≤◌, pos, length}
+use Rattle.std.proofs.Common.{◌-◌, ◌≤◌, length}
 use Rattle.cs_map_store.specs.Entries.{IsPlaceBetween}
 use Rattle.cs_map_store.proofs.leaf.Leaf.settle.Given as goal
 
@@ -7,7 +7,7 @@ invariant-loop-low l = record {
   from : l.from ≤ l.low;
   within : l.high ≤ length l.self;
   order : l.low ≤ l.high;
-  between : IsPlaceBetween l.self l.from l.low l.high (pos l.table, l.key);
+  between : IsPlaceBetween l.self l.from l.low l.high l.place;
 }
 
 abbrev pub decreases-loop-low : goal.decreases-loop-low
