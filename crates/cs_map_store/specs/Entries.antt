@@ -1,7 +1,7 @@
 -- Bodies as a leaf of a `MapStore` has them: entries, that stand at spots of one list of bytes.
 use Rattle.std.specs.Prelude.{◌≡◌, ◌⊎◌, ◌≤◌, ◌-◌, ℕ, true, false, pos, map, length, slice_range, slice_index_or, List, []}
 use Rattle.std.specs.Ordering.{is_lt}
-use Rattle.cs_order.specs.Steps.Packed.{AreBytes, head_of}
+use Rattle.cs_order.specs.Heads.{AreBytes, head_of}
 use Rattle.cs_store.specs.Contents.{StorePlace, place_cmp}
 use Rattle.cs_map_store.specs.declared.leaf.Spot.{Spot}
 
