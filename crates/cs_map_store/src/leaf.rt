@@ -11,6 +11,9 @@ use std::alloc::{AllocError, Global};
 use std::cmp::Ordering;
 use std::marker::Model;
 
+/// So many times the memory that is wanted is too much.
+const WASTE: usize = 4;
+
 /// A place that is looked for or written, with the head of its key, so that most comparisons are of numbers. Contracts see the
 /// place alone.
 #[derive(Drop)]
@@ -153,23 +156,35 @@ impl Leaf {
         }
     }
 
-    /// No row, with room for so many in so many bytes.
-    pub fn with_capacity(alloc: Global, rows: usize, bytes: usize) -> Result<Leaf, AllocError>
-        ensures { IfOk result (λ leaf. leaf ≡ []) }
-    {
-        Ok(Leaf {
-            bytes: Vec::with_capacity(alloc, bytes)?,
-            spots: Vec::with_capacity(alloc, rows)?,
-        })
-    }
-
-    /// No row, with room for those of another leaf and some more.
-    pub fn with_room_for(alloc: Global, leaf: &Leaf, more: usize) -> Result<Leaf, AllocError>
+    /// No row, with room for those of another leaf and some more. It takes the memory of a spare leaf, unless that is much more
+    /// than is wanted, so that a large leaf's memory doesn't come to a small one.
+    pub fn with_room_for(
+        alloc: Global,
+        spare: Leaf,
+        leaf: &Leaf,
+        more: usize,
+    ) -> Result<Leaf, AllocError>
         ensures { IfOk result (λ leaf. leaf ≡ []) }
     {
         let rows = leaf.spots.len().saturating_add(more);
         let each = leaf.bytes.len() / leaf.spots.len().max(1) + 1;
-        Leaf::with_capacity(alloc, rows, rows.saturating_mul(each))
+        let bytes = rows.saturating_mul(each);
+        let mut room = spare;
+        if room.bytes.capacity() / WASTE > bytes || room.spots.capacity() / WASTE > rows {
+            room = Leaf::new(alloc);
+        }
+        room.clear();
+        room.bytes.reserve(bytes)?;
+        room.spots.reserve(rows)?;
+        Ok(room)
+    }
+
+    /// Takes all rows out, and keeps the memory.
+    fn clear(&mut self)
+        ensures { self.new ≡ [] }
+    {
+        self.spots.clear();
+        self.bytes.clear();
     }
 
     /// How many rows there are.

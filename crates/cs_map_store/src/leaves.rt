@@ -14,6 +14,7 @@ use crate::leaf::{Leaf, Place};
 use crate::merging::merged;
 use cs_store::{PlaceEdit, StoredBody};
 use std::alloc::{AllocError, Global};
+use std::mem;
 
 /// A leaf that comes to have twice as many rows is cut into leaves of so many.
 const LEAF: usize = 32;
@@ -21,11 +22,14 @@ const LEAF: usize = 32;
 /// So many leaves further a look-up looks at most before it halves all that are left.
 const NEARBY: usize = 64;
 
-/// Rows and pending changes, in leaves of their own.
+/// Rows and pending changes, in leaves of their own; and of each the leaf that was replaced last, in whose memory the next
+/// commit makes one.
 #[derive(Drop)]
 pub struct Shelves {
     pub rows: Vec<Leaf>,
     pub pending: Vec<Leaf>,
+    pub spare_rows: Leaf,
+    pub spare_pending: Leaf,
 }
 
 /// A leaf that is to stand in the place of another.
@@ -175,9 +179,11 @@ fn begin_at(leaves: &[Leaf], near: usize, edits: &[&PlaceEdit]) -> usize
     }
 }
 
-/// The leaves that edits change, as they are after them. The one at `near` is looked at first.
+/// The leaves that edits change, as they are after them, the first of them in the memory of a spare leaf. The one at `near` is
+/// looked at first.
 fn patches_of(
     alloc: Global,
+    spare: Leaf,
     leaves: &[Leaf],
     near: usize,
     edits: &[&PlaceEdit],
@@ -189,12 +195,14 @@ fn patches_of(
     ensures made { IfOk result (λ patches. flat (patched leaves.now patches.items) ≡ fold edited (flat leaves.now) (edits_behind edits.now)) }
 {
     let mut patches = Vec::new(alloc);
+    let mut spare = spare;
     let mut start = 0;
     let mut from = begin_at(leaves, near, edits);
     while start < edits.len() {
         let at = leaf_of(leaves, from, edits[start]);
         let end = start + edits_in(leaves, at, &edits[start..]);
-        let leaf = merged(alloc, &leaves[at], &edits[start..end])?;
+        let memory = mem::replace(&mut spare, Leaf::new(alloc));
+        let leaf = merged(alloc, memory, &leaves[at], &edits[start..end])?;
         patches.push(Patch { at, leaf })?;
         start = end;
         from = at + 1;
@@ -222,6 +230,7 @@ fn pieces_of(alloc: Global, leaf: &Leaf) -> Result<Vec<Leaf>, AllocError>
 /// What edits whose places rise make of the leaves. It changes none. The leaf at `near` is looked at first.
 fn stage(
     alloc: Global,
+    spare: Leaf,
     leaves: &[Leaf],
     near: usize,
     edits: &[&PlaceEdit],
@@ -232,16 +241,17 @@ fn stage(
     ensures made { IfOk result (λ staged. flat (after_staged staged leaves.now) ≡ fold edited (flat leaves.now) (edits_behind edits.now)) }
 {
     if leaves.is_empty() {
-        let all = merged(alloc, &Leaf::new(alloc), edits)?;
+        let all = merged(alloc, spare, &Leaf::new(alloc), edits)?;
         return Ok(Staged::Anew(pieces_of(alloc, &all)?));
     }
-    Ok(Staged::Patches(patches_of(alloc, leaves, near, edits)?))
+    Ok(Staged::Patches(patches_of(alloc, spare, leaves, near, edits)?))
 }
 
 /// What edits in any order make of the leaves. It changes none. The leaf of the first place is looked for near where the last
-/// look-up ended.
+/// look-up ended. What has to be made is made in the memory of the spare leaf first, which is taken where there are edits.
 pub fn stage_edits(
     alloc: Global,
+    spare: &mut Leaf,
     leaves: &[Leaf],
     near: Near,
     edits: &[PlaceEdit],
@@ -255,7 +265,8 @@ pub fn stage_edits(
         return Ok(Staged::Patches(Vec::new(alloc)));
     }
     let sorted = in_order(alloc, edits)?;
-    let staged = stage(alloc, leaves, near.leaf, sorted.as_slice())?;
+    let memory = mem::replace(spare, Leaf::new(alloc));
+    let staged = stage(alloc, memory, leaves, near.leaf, sorted.as_slice())?;
     Ok(staged)
 }
 
@@ -284,14 +295,14 @@ fn large_between(patches: &[Patch]) -> (usize, usize) {
     (from, to)
 }
 
-/// Puts leaves in the places of others.
-fn write_patches(leaves: &mut Vec<Leaf>, patches: Vec<Patch>)
+/// Puts leaves in the places of others, of which the last is spare then.
+fn write_patches(leaves: &mut Vec<Leaf>, patches: Vec<Patch>, spare: &mut Leaf)
     requires { ArePatches (length leaves.old.items) patches.items }
     ensures { leaves.new.items ≡ patched leaves.old.items patches.items }
 {
     for patch in patches {
         let Patch { at, leaf } = patch;
-        leaves[at] = leaf;
+        *spare = mem::replace(&mut leaves[at], leaf);
     }
 }
 
@@ -334,22 +345,22 @@ fn drop_empty(leaves: &mut Vec<Leaf>)
 }
 
 /// Puts leaves in the places of others, and takes out those that have no row left. It answers whether there were such.
-fn put_patches(leaves: &mut Vec<Leaf>, patches: Vec<Patch>) -> bool
+fn put_patches(leaves: &mut Vec<Leaf>, patches: Vec<Patch>, spare: &mut Leaf) -> bool
     requires places { ArePatches (length leaves.old.items) patches.items }
     requires full { All (λ leaf. 0 < length leaf) leaves.old.items }
     ensures same { flat leaves.new.items ≡ flat (patched leaves.old.items patches.items) }
     ensures full { All (λ leaf. 0 < length leaf) leaves.new.items }
 {
     let empty = has_empty(patches.as_slice());
-    write_patches(leaves, patches);
+    write_patches(leaves, patches, spare);
     if empty {
         drop_empty(leaves);
     }
     empty
 }
 
-/// Puts in what is staged. Where there is no memory to cut a leaf, it stays as it is until a later commit changes it.
-pub fn put_staged(alloc: Global, leaves: &mut Vec<Leaf>, staged: Staged)
+/// Puts in what is staged, and keeps a leaf that was replaced as the spare one. Where there is no memory to cut a leaf, it stays as it is until a later commit changes it.
+pub fn put_staged(alloc: Global, leaves: &mut Vec<Leaf>, staged: Staged, spare: &mut Leaf)
     requires can { CanBePut staged leaves.old.items }
     requires full { All (λ leaf. 0 < length leaf) leaves.old.items }
     ensures same { flat leaves.new.items ≡ flat (after_staged staged leaves.old.items) }
@@ -359,7 +370,7 @@ pub fn put_staged(alloc: Global, leaves: &mut Vec<Leaf>, staged: Staged)
         Staged::Anew(made) => *leaves = made,
         Staged::Patches(patches) => {
             let (mut from, to) = large_between(patches.as_slice());
-            if put_patches(leaves, patches) {
+            if put_patches(leaves, patches, spare) {
                 // Leaves behind those that went stand further to the front now.
                 from = 0;
             }

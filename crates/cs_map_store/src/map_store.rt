@@ -7,7 +7,7 @@ ghost use Rattle.cs_map_store.specs.Slots.{HasOwnNames, held_in, log_of, meta_of
 ghost use Rattle.cs_map_store.specs.Steps.{HasSlots, IsEmptyOnlyAt, IsKept, step_keys};
 
 use crate::checking::{Shelf, all_hold, check_leaves, check_log};
-use crate::leaf::Place;
+use crate::leaf::{Leaf, Place};
 use crate::leaves::{Near, Shelves, find_row, list_rows, put_staged, stage_edits};
 use crate::log::{append, copied_entry, make_room, read_log};
 use crate::slots::{
@@ -21,11 +21,12 @@ use std::marker::Model;
 
 /// A store in memory. Contracts see what it holds, and the count of its misreads. Of its calls `misread` alone raises the
 /// count and tells `Device`, and a stop leaves what it holds. Its rows lie in leaves, in order, each packed into one list of
-/// bytes, and so do its pending changes; beside where a row stands, the first 16 bytes of its key are kept as a number, and bytes
-/// are compared only where those are equal. A look-up begins where the last one ended; where its place isn't near, it halves the
-/// leaves and then one leaf. A commit makes each leaf anew that its edits fall into, so a commit of one row or of one pending
-/// change costs the logarithm of those that are there, but for a walk over the list of leaves where one is cut or goes. Its
-/// log has at most 4,294,967,295 entries; a commit of one more answers `Memory`. (Profile of this project.)
+/// bytes, and so do its pending changes. Beside where a row stands, the first 16 bytes of its key are kept as a number, and
+/// bytes are compared only where these numbers are equal. A look-up begins where the last one ended; where its place isn't
+/// near, it halves the leaves and then one leaf. A commit makes each leaf anew that its edits fall into, the first of them in
+/// the memory of the leaf that was replaced last, so a commit of one row or of one pending change costs the logarithm of those
+/// that are there, but for a walk over the list of leaves where one is cut or goes. Its log has at most 4,294,967,295 entries; a
+/// commit of one more answers `Memory`. (Profile of this project.)
 #[derive(Drop)]
 pub struct MapStore {
     alloc: Global,
@@ -67,6 +68,8 @@ impl MapStore {
             shelves: Shelves {
                 rows: Vec::new(alloc),
                 pending: Vec::new(alloc),
+                spare_rows: Leaf::new(alloc),
+                spare_pending: Leaf::new(alloc),
             },
             slots: BTreeMap::new(alloc),
             log: Vec::new(alloc),
@@ -145,16 +148,28 @@ fn write(
     ensures given_back { OnErr result (vec_capacity log.new ≡ vec_capacity log.old) }
     ensures kept { IsKept shelves.new slots.new log.new }
 {
-    let rows = stage_edits(alloc, shelves.rows.as_slice(), near, batch.rows.as_slice())?;
+    let rows = stage_edits(
+        alloc,
+        &mut shelves.spare_rows,
+        shelves.rows.as_slice(),
+        near,
+        batch.rows.as_slice(),
+    )?;
     let pending = stage_edits(
         alloc,
+        &mut shelves.spare_pending,
         shelves.pending.as_slice(),
         near_pending,
         batch.pending.as_slice(),
     )?;
     write_rest(alloc, slots, log, batch)?;
-    put_staged(alloc, &mut shelves.rows, rows);
-    put_staged(alloc, &mut shelves.pending, pending);
+    put_staged(alloc, &mut shelves.rows, rows, &mut shelves.spare_rows);
+    put_staged(
+        alloc,
+        &mut shelves.pending,
+        pending,
+        &mut shelves.spare_pending,
+    );
     Ok(())
 }
 

@@ -52,13 +52,18 @@ fn merge_edit(
     Ok(behind(leaf, at, &place))
 }
 
-/// The rows of a leaf after edits, in memory of their own.
-pub fn merged(alloc: Global, leaf: &Leaf, edits: &[&PlaceEdit]) -> Result<Leaf, AllocError>
+/// The rows of a leaf after edits, in the memory of a spare leaf or in memory of their own.
+pub fn merged(
+    alloc: Global,
+    spare: Leaf,
+    leaf: &Leaf,
+    edits: &[&PlaceEdit],
+) -> Result<Leaf, AllocError>
     requires sorted { T (is_sorted place_cmp leaf.now) }
     requires rise { Rise (edits_behind edits.now) }
     ensures { IfOk result (λ merged. merged ≡ fold edited leaf.now (edits_behind edits.now)) }
 {
-    let mut merged = Leaf::with_room_for(alloc, leaf, edits.len())?;
+    let mut merged = Leaf::with_room_for(alloc, spare, leaf, edits.len())?;
     let mut from = 0;
     for edit in edits {
         from = merge_edit(&mut merged, leaf, from, *edit)?;
