@@ -26,11 +26,11 @@ none_passes p (x ∷ xs) none zero within = by_test (p x) _ (λ e. (let none' = 
 none_passes p (x ∷ xs) none (suc k) within =
     by_test (p x) _ (λ e. (let none' = simp e at none in cc)) (λ e. none_passes p xs (simp e at none) k (omega (arith, within)))
 
-same_self : (x : List ℕ) → same_bytes x x ≡ true
+pub same_self : (x : List ℕ) → same_bytes x x ≡ true
 same_self x = (eq_by_cmp_equiv nat_list_cmp_total).refl x
 
 -- a name that is there has a place
-has_place : (names : Keys) (name : List ℕ) → Contains names name → places_of names name ≡ [] → ⊥
+pub has_place : (names : Keys) (name : List ℕ) → Contains names name → places_of names name ≡ [] → ⊥
 has_place names name (k, within, is) none =
     let here : key_at names k ≡ name = get_or_default names k [] name within ∙ is in
     let at : get_or (places names) k 0 ≡ k = omega (arith, get_or-range_with_len 0 (length names) k 0 within) in
