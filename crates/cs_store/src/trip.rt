@@ -224,7 +224,7 @@ impl<S: RowStore> RowStore for Trip<S> {
     }
 
     fn failures(&self) -> u64 {
-        let own = if self.passes.is_none() { 1 } else { 0 };
-        self.inner.failures().saturating_add(own)
+        let tripped = if self.passes.is_none() { 1 } else { 0 };
+        self.inner.failures().saturating_add(tripped)
     }
 }
