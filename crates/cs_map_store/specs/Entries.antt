@@ -1,5 +1,6 @@
 -- Bodies as a leaf of a `MapStore` has them: entries, that stand at spots of one list of bytes.
-use Rattle.std.specs.Prelude.{◌≡◌, ◌⊎◌, ◌≤◌, ◌-◌, ℕ, true, false, pos, map, length, slice_range, slice_index_or, List, []}
+use Rattle.std.specs.Prelude.{◌≡◌, ◌⊎◌, ◌≤◌, ◌-◌, ℕ, true, false, pos, map, length, slice_range, slice_index_or, List, [], ◌∷◌}
+use Rattle.std.specs.List.{All}
 use Rattle.std.specs.Ordering.{is_lt}
 use Rattle.cs_order.specs.Heads.{AreBytes, head_of}
 use Rattle.cs_store.specs.Contents.{StorePlace, place_cmp}
@@ -16,6 +17,15 @@ IsHeadOf head key = (head ≡ head_of 16 key) × AreBytes key
 -- a key with this head and a row stand there in the bytes
 abbrev pub IsSpotIn : List ℕ → Spot → Type 0
 IsSpotIn bytes s = (s.key ≤ s.row) × (s.row ≤ s.end) × (s.end ≤ length bytes) × IsHeadOf s.head (slice_range bytes s.key s.row)
+
+-- keys and rows stand from one place on up to another, one behind the other
+abbrev pub StandIn : ℕ → ℕ → List Spot → Type 0
+StandIn from to [] = from ≤ to
+StandIn from to (s ∷ spots) = (from ≤ s.key) × (s.key ≤ s.end) × StandIn s.end to spots
+
+-- what a leaf keeps of its bytes and its spots
+abbrev pub IsPacked : List ℕ → List Spot → Type 0
+IsPacked bytes spots = All (IsSpotIn bytes) spots × StandIn 0 (length bytes) spots
 
 abbrev pub entry_at : List ℕ → Spot → Entry
 entry_at bytes s = ((pos s.table, slice_range bytes s.key s.row), slice_range bytes s.row s.end)

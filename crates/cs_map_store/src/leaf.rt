@@ -3,7 +3,7 @@
 ghost use Rattle.std.specs.Prelude.{◌≡◌, ◌<◌, ◌≤◌, ◌++◌, ◌∷◌, [], pos, length, slice_range, IfOk, OnOk};
 ghost use Rattle.std.specs.List.{All};
 ghost use Rattle.cs_store.specs.Contents.{place_cmp};
-ghost use Rattle.cs_map_store.specs.Entries.{IsSpotIn, IsPlaceFor, entries_at, entry_at, nth};
+ghost use Rattle.cs_map_store.specs.Entries.{IsPacked, IsPlaceFor, IsSpotIn, StandIn, entries_at, nth};
 
 use crate::heads::{compare_keys, head};
 use cs_store::PlaceEdit;
@@ -77,15 +77,14 @@ pub struct Leaf {
 }
 
 impl Model for Leaf {
-    ghost use Rattle.std.specs.Prelude.{List, length};
-    ghost use Rattle.std.specs.List.{All};
-    ghost use Rattle.cs_map_store.specs.Entries.{Entry, IsSpotIn, entries_at};
+    ghost use Rattle.std.specs.Prelude.{List};
+    ghost use Rattle.cs_map_store.specs.Entries.{Entry, IsPacked, entries_at};
 
     ghost Value = { List Entry };
 
     ghost view = { λ leaf. entries_at leaf.bytes.items leaf.spots.items };
 
-    ghost invariant = { λ leaf. All (IsSpotIn leaf.bytes.items) leaf.spots.items };
+    ghost invariant = { λ leaf. IsPacked leaf.bytes.items leaf.spots.items };
 }
 
 /// Appends a row.
@@ -96,8 +95,8 @@ fn put(
     place: &Place,
     row: &[u8],
 ) -> Result<(), AllocError>
-    requires { All (IsSpotIn bytes.old.items) spots.old.items }
-    ensures within { All (IsSpotIn bytes.new.items) spots.new.items }
+    requires { IsPacked bytes.old.items spots.old.items }
+    ensures packed { IsPacked bytes.new.items spots.new.items }
     ensures ok { OnOk result (entries_at bytes.new.items spots.new.items
         ≡ entries_at bytes.old.items spots.old.items ++ (place.now, row.now) ∷ []) }
 {
@@ -115,29 +114,36 @@ fn put(
     Ok(())
 }
 
-/// Appends a row that stands in other bytes.
-#[inline(always)]
-fn put_copy(
+/// Appends rows that stand in other bytes, one behind the other.
+fn put_rows(
     bytes: &mut Vec<u8>,
     spots: &mut Vec<Spot>,
     source: &[u8],
-    spot: Spot,
+    rows: &[Spot],
 ) -> Result<(), AllocError>
-    requires within { All (IsSpotIn bytes.old.items) spots.old.items }
-    requires spot { IsSpotIn source.now spot }
-    ensures within { All (IsSpotIn bytes.new.items) spots.new.items }
+    requires packed { IsPacked bytes.old.items spots.old.items }
+    requires rows { All (IsSpotIn source.now) rows.now }
+    requires stand { StandIn 0 (length source.now) rows.now }
+    ensures packed { IsPacked bytes.new.items spots.new.items }
     ensures ok { OnOk result (entries_at bytes.new.items spots.new.items
-        ≡ entries_at bytes.old.items spots.old.items ++ entry_at source.now spot ∷ []) }
+        ≡ entries_at bytes.old.items spots.old.items ++ entries_at source.now rows.now) }
 {
-    let start = bytes.len();
-    bytes.extend_from_slice(&source[spot.key..spot.end])?;
-    spots.push(Spot {
-        head: spot.head,
-        table: spot.table,
-        key: start,
-        row: start + (spot.row - spot.key),
-        end: bytes.len(),
-    })?;
+    if rows.is_empty() {
+        return Ok(());
+    }
+    let from = rows[0].key;
+    let last = rows[rows.len() - 1];
+    let to = bytes.len();
+    bytes.extend_from_slice(&source[from..last.end])?;
+    for row in rows {
+        spots.push(Spot {
+            head: row.head,
+            table: row.table,
+            key: to + (row.key - from),
+            row: to + (row.row - from),
+            end: to + (row.end - from),
+        })?;
+    }
     Ok(())
 }
 
@@ -303,29 +309,17 @@ impl Leaf {
         put(&mut self.bytes, &mut self.spots, place, row)
     }
 
-    /// Appends the row there of a leaf.
-    #[inline(always)]
-    fn push_from(&mut self, leaf: &Leaf, at: usize) -> Result<(), AllocError>
-        requires { at < length leaf.now }
-        ensures { OnOk result (self.new ≡ self.old ++ nth leaf.now at ∷ []) }
-    {
-        let spot = leaf.spots[at];
-        put_copy(
-            &mut self.bytes,
-            &mut self.spots,
-            leaf.bytes.as_slice(),
-            spot,
-        )
-    }
-
     /// Appends the rows of a leaf from one place up to another.
     pub fn push_rows(&mut self, leaf: &Leaf, from: usize, to: usize) -> Result<(), AllocError>
         requires { (from ≤ to) × (to ≤ length leaf.now) }
         ensures { OnOk result (self.new ≡ self.old ++ slice_range leaf.now from to) }
     {
-        for at in from..to {
-            self.push_from(leaf, at)?;
-        }
+        put_rows(
+            &mut self.bytes,
+            &mut self.spots,
+            leaf.bytes.as_slice(),
+            &leaf.spots.as_slice()[from..to],
+        )?;
         Ok(())
     }
 }
