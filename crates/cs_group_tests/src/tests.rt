@@ -354,6 +354,94 @@ fn as_read_together(rt: HostRuntime) {
     assert!(rt; combines_none(alloc));
 }
 
+/// The last characters of the names of ten tables, in order and turned.
+const TABLES: &[u8] = b"0123456789";
+
+const TURNED: &[u8] = b"9876543210";
+
+/// Changes of a table, without a header: an INSERT of the row with this key, and an UPDATE of that with key 1.
+const INSERT_1_V1: &[u8] = b"\x12\0\x01\0\0\0\0\0\0\0\x01\x03\x02v1";
+
+const INSERT_1_V2: &[u8] = b"\x12\0\x01\0\0\0\0\0\0\0\x01\x03\x02v2";
+
+const INSERT_2_V1: &[u8] = b"\x12\0\x01\0\0\0\0\0\0\0\x02\x03\x02v1";
+
+const UPDATE_1_V1_V2: &[u8] = b"\x17\0\x01\0\0\0\0\0\0\0\x01\x03\x02v1\0\x03\x02v2";
+
+/// Puts a group for each of these tables, with these changes.
+fn put_groups(tables: &[u8], changes: &[u8], out: &mut Vec<u8>) -> Result<(), Memory> {
+    for table in tables {
+        out.extend_from_slice(b"\x54\x02\x01\0t")?;
+        out.push(*table)?;
+        out.push(0)?;
+        out.extend_from_slice(changes)?;
+    }
+    Ok(())
+}
+
+/// Two rows of each table, in two groups between which the other tables' stand.
+fn inserted_in_turn(alloc: Global) -> Result<Vec<u8>, Memory> {
+    let mut bytes = Vec::new(alloc);
+    put_groups(TABLES, INSERT_1_V1, &mut bytes)?;
+    put_groups(TABLES, INSERT_2_V1, &mut bytes)?;
+    Ok(bytes)
+}
+
+/// One row of each table updated, the last table first.
+fn updated_in_turn(alloc: Global) -> Result<Vec<u8>, Memory> {
+    let mut bytes = Vec::new(alloc);
+    put_groups(TURNED, UPDATE_1_V1_V2, &mut bytes)?;
+    Ok(bytes)
+}
+
+/// What both are together: one group a table.
+fn one_group_each(alloc: Global) -> Result<Vec<u8>, Memory> {
+    let mut changes = Vec::new(alloc);
+    changes.extend_from_slice(INSERT_1_V2)?;
+    changes.extend_from_slice(INSERT_2_V1)?;
+    let mut bytes = Vec::new(alloc);
+    put_groups(TABLES, changes.as_slice(), &mut bytes)?;
+    Ok(bytes)
+}
+
+/// Whether groups of many tables in turn come to one group a table. `HEADER` is that of another table.
+fn are_in_turn(alloc: Global) -> Option<bool> {
+    let Ok(inserted) = inserted_in_turn(alloc) else {
+        return None;
+    };
+    let Ok(updated) = updated_in_turn(alloc) else {
+        return None;
+    };
+    let Ok(expected) = one_group_each(alloc) else {
+        return None;
+    };
+    match combined(alloc, inserted.as_slice(), HEADER, updated.as_slice())? {
+        Ok(both) => Some(is_spelled(alloc, &both, expected.as_slice())),
+        Err(_) => None,
+    }
+}
+
+/// Whether a key that comes twice is told, the second time in a later group of its table.
+fn is_twice_told(alloc: Global) -> Option<bool> {
+    let Ok(mut inserted) = inserted_in_turn(alloc) else {
+        return None;
+    };
+    if put_groups(b"3", INSERT_2_V1, &mut inserted).is_err() {
+        return None;
+    }
+    match combined(alloc, HEADER, inserted.as_slice(), HEADER)? {
+        Ok(_) => Some(false),
+        Err(fault) => Some(fault == CombineFault::Unfit(Unfit::KeyTwice)),
+    }
+}
+
+#[test]
+fn many_tables_in_turn(rt: HostRuntime) {
+    let alloc = rt.alloc();
+    assert!(rt; are_in_turn(alloc).unwrap_or(false));
+    assert!(rt; is_twice_told(alloc).unwrap_or(false));
+}
+
 /// Whether the normal form of this changeset, by its own headers, is spelled as it is.
 fn is_so_alone(alloc: Global, bytes: &[u8]) -> Option<bool> {
     let Ok(changeset) = read(alloc, bytes) else {
