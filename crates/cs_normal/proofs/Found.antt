@@ -1,5 +1,5 @@
 -- Headers have a catalog or a fault; a changeset has a normal form by a catalog's tables, or a fault.
-use Rattle.std.proofs.Common.{◌≡◌, ℕ, ◌<◌, Bool, true, false, List, [], ◌∷◌, ◌++◌, length, map, refl, sym, subst, ap, ◌∙◌, arith, inl, inr, append-nil, append_assoc}
+use Rattle.std.proofs.Common.{◌≡◌, Bool, true, List, [], ◌∷◌, ◌++◌, map, refl, sym, subst, inl, inr, append-nil, append_assoc}
 use Rattle.std.specs.Prelude.{◌≢◌, ◌⊎◌}
 use Rattle.std.specs.Cmp.{eq_by_cmp_equiv}
 use Rattle.std.specs.List.{AllByRecursion, Contains, IsDistinct, list_all, list_any}
@@ -18,7 +18,7 @@ use Rattle.cs_change.specs.Spelling.{marks_of}
 use Rattle.cs_change.specs.declared.change.Change.{Change}
 use Rattle.cs_change.specs.declared.group.Group.{Group}
 use Rattle.cs_order.specs.Order.{same_bytes}
-use Rattle.cs_normal.specs.Headers.{tables_of_headers, AreTwoShapes, HasTwoShapes, HaveCatalog, CatalogOrHeaderFault}
+use Rattle.cs_normal.specs.Headers.{tables_of_headers, AreTwoShapes, HasTwoShapes, CatalogOrHeaderFault}
 use Rattle.cs_normal.specs.Laws.{FitHasForm, FormOrUnfit}
 use Rattle.cs_keyed.specs.NormalForm.{has_key, change_bytes, AreKeyed}
 use Rattle.cs_normal.specs.UnfitChanges.{HasFirstUnfitChange}
