@@ -359,7 +359,8 @@ fn put_patches(leaves: &mut Vec<Leaf>, patches: Vec<Patch>, spare: &mut Leaf) ->
     empty
 }
 
-/// Puts in what is staged, and keeps a leaf that was replaced as the spare one. Where there is no memory to cut a leaf, it stays as it is until a later commit changes it.
+/// Puts in what is staged, and keeps a leaf that was replaced as the spare one. Where there is no memory to cut a leaf, it stays
+/// as it is until a later commit changes it.
 pub fn put_staged(alloc: Global, leaves: &mut Vec<Leaf>, staged: Staged, spare: &mut Leaf)
     requires can { CanBePut staged leaves.old.items }
     requires full { All (λ leaf. 0 < length leaf) leaves.old.items }
