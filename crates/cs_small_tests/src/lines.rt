@@ -145,7 +145,7 @@ fn goes_on_where_interrupted(rt: HostRuntime) {
         taken: Vec::new(rt.alloc()),
     };
     assert!(rt; write_whole(&mut output, b"0aff").is_ok());
-    assert!(rt; output.taken.as_slice() == b"0aff");
+    assert!(rt; output.taken.as_slice() == b"0aff".as_slice());
 }
 
 impl LineOutput for Narrow {
