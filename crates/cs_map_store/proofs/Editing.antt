@@ -1,7 +1,7 @@
 -- What an edit makes of entries whose places rise.
 use Rattle.std.proofs.Common.{◌≡◌, ℕ, zero, suc, ◌+◌, ◌-◌, ◌<◌, ◌≤◌, ◌⊎◌, Bool, true, false, cond, not, ◌&&◌, List, [], ◌∷◌, ◌++◌, Option, Some, None, refl, sym, ap, subst, ◌∙◌, T, length, get_or, take, drop, fold, arith, ⊎_elim}
 use Rattle.std.proofs.Math.Dec.{ltb}
-use borrow.Author.Tests.{ltb-true, ltb-false}
+use borrow.Author.Tests.{ltb-true, ltb-false, lt-ltb}
 use Rattle.std.specs.declared.cmp.Ordering.{Ordering}
 use Rattle.std.specs.declared.cmp.Ordering.TheVariants.{Less, Equal, Greater}
 use Rattle.std.specs.Ordering.{is_eq, is_lt, is_gt, eq_by_cmp, ordering_reverse}
@@ -285,3 +285,26 @@ merged_edit es before between after from at next edit le within s found behind r
           ∙ ap (λ (zs : List Entry). run ++ zs) (put_at es at next p w within s found.1 behind) ∙ sym (append_assoc run (written p w) (drop next es));
       below = λ q l. below_append run (written p w) q (below_less run p q l low) (written_below p q w l);
     }
+
+-- what an edit makes of entries, where its place stands or would stand at `at`
+pub edited_at : (es : List Entry) (at next : ℕ) (w : PlaceEdit) (p : StorePlace) → p ≡ store_place w → at ≤ length es → T (is_sorted place_cmp es) → IsPlaceFor es 0 at p → IsBehind es at p next
+    → edited es w ≡ take at es ++ (written p (optional_bytes w.body) ++ drop next es)
+edited_at es at next w p its within s found behind =
+    let n : at - 0 ≡ at = omega arith in
+    let low : AreBelow (take at es) p = subst (λ k. AreBelow (take k es) p) n (run_below es 0 at p (omega arith) within s found) in
+    ap (λ (q : StorePlace). put_row es q (optional_bytes w.body)) (sym its)
+    ∙ ap (λ (zs : List Entry). put_row zs p (optional_bytes w.body)) (sym (take-append-drop at es)) ∙ put_behind (take at es) (drop at es) p (optional_bytes w.body) low
+    ∙ ap (λ (zs : List Entry). take at es ++ zs) (put_at es at next p (optional_bytes w.body) within s found.1 behind)
+
+-- whether something is there tells where entries go on
+pub goes_on : (es : List Entry) (at next : ℕ) (p : StorePlace) → IsBehind es at p next → (ltb at next ≡ true → at < length es) × (cond (ltb at next) (at + 1) at ≡ next)
+goes_on es at next p behind = ⊎_elim there gone behind
+  where
+    there : (next ≡ at + 1) × (at < length es) × (place_cmp (nth es at).0 p ≡ Equal) → (ltb at next ≡ true → at < length es) × (cond (ltb at next) (at + 1) at ≡ next)
+    there h = (λ _. h.1, ap (λ b. cond b (at + 1) at) (lt-ltb at next (omega (arith, h.0))) ∙ sym h.0)
+
+    gone : (next ≡ at) × ((at ≡ length es) ⊎ (is_eq (place_cmp (nth es at).0 p) ≡ false)) → (ltb at next ≡ true → at < length es) × (cond (ltb at next) (at + 1) at ≡ next)
+    gone h = (
+      λ e. absurd (let l = ltb-true at next e in omega (arith, h.0, l)),
+      elim (ltb at next) as (λ b. ltb at next ≡ b → cond b (at + 1) at ≡ next) [ true ↦ λ e. absurd (let l = ltb-true at next e in omega (arith, h.0, l)) | false ↦ λ e. sym h.0 ] refl,
+    )

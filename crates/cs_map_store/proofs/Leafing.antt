@@ -21,7 +21,7 @@ use Rattle.std.proofs.lemmas.Iterator.{items_from_drains}
 use Rattle.std.proofs.lemmas.Iterator.Adapters.{YieldsList-from_vec}
 use Rattle.cs_store.specs.Contents.{StorePlace, place_cmp}
 use Rattle.cs_map_store.specs.Entries.{Entry, no_entry, nth, IsPlaceFor}
-use Rattle.cs_map_store.specs.Leaves.{AreBefore, AreBelow, AreLeaves, BeginsBehind, BeginsBy, ReachLeaf, store_place, edited, edits_behind, first_place, flat, in_table, nth_leaf, bodies_in, Rise, Follow, IsMerged, patched, ArePatches}
+use Rattle.cs_map_store.specs.Leaves.{AreBefore, AreBelow, AreLeaves, BeginsBehind, BeginsBy, ReachLeaf, store_place, edited, edits_behind, first_place, flat, in_table, nth_leaf, bodies_in, Rise, Follow, IsMerged, after_change, patched, ArePatches}
 use Rattle.cs_map_store.specs.declared.leaves.Patch.{Patch}
 use Rattle.cs_store.specs.declared.batch.PlaceEdit.{PlaceEdit}
 use Rattle.cs_map_store.proofs.Maps.{place_total, place_exact}
@@ -253,11 +253,11 @@ length_set (l ∷ ls) (suc at) leaf = ap suc (length_set ls at leaf)
 
 pub length_patched : (patches : List Patch) (leaves : List (List Entry)) → length (patched leaves patches) ≡ length leaves
 length_patched [] leaves = refl
-length_patched (p ∷ ps) leaves = length_patched ps (slice_set leaves p.at p.leaf) ∙ length_set leaves p.at p.leaf
+length_patched (p ∷ ps) leaves = length_patched ps (slice_set leaves p.at (after_change p.change)) ∙ length_set leaves p.at (after_change p.change)
 
-pub patched_push : (patches : List Patch) (leaves : List (List Entry)) (p : Patch) → patched leaves (patches ++ p ∷ []) ≡ slice_set (patched leaves patches) p.at p.leaf
+pub patched_push : (patches : List Patch) (leaves : List (List Entry)) (p : Patch) → patched leaves (patches ++ p ∷ []) ≡ slice_set (patched leaves patches) p.at (after_change p.change)
 patched_push [] leaves p = refl
-patched_push (q ∷ qs) leaves p = patched_push qs (slice_set leaves q.at q.leaf) p
+patched_push (q ∷ qs) leaves p = patched_push qs (slice_set leaves q.at (after_change q.change)) p
 
 pub drop_drop : {X : Type 0} (n m : ℕ) (xs : List X) → drop (n + m) xs ≡ drop m (drop n xs)
 drop_drop {X = X} zero m xs = let k : zero + m ≡ m = omega arith in ap (λ j. drop j xs) k
@@ -273,7 +273,7 @@ later now leaves from at le same =
     let n : at ≡ from + (at - from) = omega (arith, le) in
     ap (λ k. drop k now) n ∙ drop_drop from (at - from) now ∙ ap (drop (at - from)) same ∙ sym (drop_drop from (at - from) leaves) ∙ ap (λ k. drop k leaves) (sym n)
 
-nth_later : (now leaves : List (List Entry)) (from at : ℕ) → from ≤ at → drop from now ≡ drop from leaves → nth_leaf now at ≡ nth_leaf leaves at
+pub nth_later : (now leaves : List (List Entry)) (from at : ℕ) → from ≤ at → drop from now ≡ drop from leaves → nth_leaf now at ≡ nth_leaf leaves at
 nth_later now leaves from at le same =
     let n : at + 0 ≡ at = omega arith in
     ap (λ k. nth_leaf now k) (sym n) ∙ sym (get_or-drop at now 0 []) ∙ ap (λ (ls : List (List Entry)). get_or ls 0 []) (later now leaves from at le same) ∙ get_or-drop at leaves 0 [] ∙ ap (λ k. nth_leaf leaves k) n
@@ -340,6 +340,11 @@ patch_more leaves now from at (suc n) w ws vs made end are long sorted same le l
     ∙ ap (fold edited (flat now)) (sym first) in
     (one, ap (λ (es : List Entry). fold edited es (drop (suc n) ws)) one ∙ sym (fold_both (flat now) (take (suc n) ws) (drop (suc n) ws)) ∙ ap (fold edited (flat now)) (take-append-drop (suc n) ws) ∙ was)
 
+-- the edit that comes next
+pub next_edit : (edits : List (Bor PlaceEdit)) (start : ℕ) (edit : Bor PlaceEdit) → start < length edits → edit ≡ get_or edits start edit → drop start (edits_behind edits) ≡ edit.now ∷ edits_behind (drop (start + 1) edits)
+next_edit edits start edit less is =
+    sym (behind_drop edits start) ∙ ap edits_behind (drop_more edits start edit less) ∙ ap (λ (e : Bor PlaceEdit). e.now ∷ edits_behind (drop (start + 1) edits)) (sym is)
+
 -- where the next edit's leaf may be looked for
 pub reach_begins : (leaves : List (List Entry)) (from : ℕ) (ws vs : List PlaceEdit) (w : PlaceEdit) → 0 < length leaves → ws ≡ w ∷ vs → (from ≡ 0) ⊎ ReachLeaf leaves from ws → (from < length leaves) × BeginsBy leaves from (store_place w)
 reach_begins leaves from ws vs w some is = λ h. ⊎_elim (λ e. (omega (arith, e, some), inl e)) (λ r. let reach : ReachLeaf leaves from (w ∷ vs) = subst (ReachLeaf leaves from) is r in (reach.0, inr reach.1)) h
@@ -360,9 +365,9 @@ full_set (l ∷ ls) zero leaf full some (suc k) d h = full (suc k) d h
 full_set (l ∷ ls) (suc at) leaf full some zero d h = full 0 d (omega arith)
 full_set (l ∷ ls) (suc at) leaf full some (suc k) d h = full_set ls at leaf (λ j e m. full (suc j) e (omega (arith, m))) some k d (omega (arith, h))
 
-pub full_patched : (patches : List Patch) (leaves : List (List Entry)) → All (λ leaf. 0 < length leaf) leaves → All (λ (patch : Patch). 0 < length patch.leaf) patches → All (λ leaf. 0 < length leaf) (patched leaves patches)
+pub full_patched : (patches : List Patch) (leaves : List (List Entry)) → All (λ leaf. 0 < length leaf) leaves → All (λ (patch : Patch). 0 < length (after_change patch.change)) patches → All (λ leaf. 0 < length leaf) (patched leaves patches)
 full_patched [] leaves full some = full
-full_patched (p ∷ ps) leaves full some = full_patched ps (slice_set leaves p.at p.leaf) (full_set leaves p.at p.leaf full (some 0 p (omega arith))) (λ k d h. some (suc k) d (omega (arith, h)))
+full_patched (p ∷ ps) leaves full some = full_patched ps (slice_set leaves p.at (after_change p.change)) (full_set leaves p.at (after_change p.change) full (some 0 p (omega arith))) (λ k d h. some (suc k) d (omega (arith, h)))
 
 pub in_table_append : (t : ℤ) (xs ys : List Entry) → in_table t (xs ++ ys) ≡ in_table t xs ++ in_table t ys
 in_table_append t [] ys = refl
@@ -372,11 +377,15 @@ in_table_append t (x ∷ xs) ys = elim (int_eq x.0.0 t) as (λ b. map (λ (e : E
       | false ↦ in_table_append t xs ys
     ]
 
+pub all_first : {X : Type 0} (P : X → Type 0) (x : X) (xs : List X) → P x → All P xs → All P (x ∷ xs)
+all_first P x xs one each zero d less = one
+all_first P x xs one each (suc k) d less = each k d (omega (arith, less))
+
 pub patches_left : (leaves : List (List Entry)) (patches rest : List Patch) (patch : Patch) (end : List (List Entry)) → patches ≡ patch ∷ rest → ArePatches (length leaves) patches → patched leaves patches ≡ end
-    → ArePatches (length (slice_set leaves patch.at patch.leaf)) rest × (patched (slice_set leaves patch.at patch.leaf) rest ≡ end)
+    → ArePatches (length (slice_set leaves patch.at (after_change patch.change))) rest × (patched (slice_set leaves patch.at (after_change patch.change)) rest ≡ end)
 patches_left leaves patches rest patch end is are was =
     let all : ArePatches (length leaves) (patch ∷ rest) = subst (ArePatches (length leaves)) is are in
-    (λ k d h. let l = length_set leaves patch.at patch.leaf in let m : (get_or rest k d).at < length leaves = all (suc k) d (omega (arith, h)) in omega (arith, l, m), ap (patched leaves) (sym is) ∙ was)
+    (λ k d h. let l = length_set leaves patch.at (after_change patch.change) in let m : (get_or rest k d).at < length leaves = all (suc k) d (omega (arith, h)) in omega (arith, l, m), ap (patched leaves) (sym is) ∙ was)
 
 map_same : {X : Type 0} (xs : List X) → map (λ x. x) xs ≡ xs
 map_same [] = refl

@@ -8,5 +8,6 @@ pub mod Editing
 pub mod Fronts
 pub mod Packing
 pub mod Leafing
+pub mod Taking
 pub mod Ordered
 pub mod Checks

@@ -1,10 +1,15 @@
 -- Bodies as a leaf of a `MapStore` has them: entries, that stand at spots of one list of bytes.
-use Rattle.std.specs.Prelude.{◌≡◌, ◌⊎◌, ◌≤◌, ◌-◌, ℕ, true, false, pos, map, length, slice_range, slice_index_or, List, [], ◌∷◌}
-use Rattle.std.specs.List.{All}
+use Rattle.std.specs.declared.alloc.Global.{Global}
+use Rattle.std.specs.Prelude.{Vec, ◌≡◌, ◌⊎◌, ◌≤◌, ◌<◌, ◌-◌, ℕ, Bool, true, false, pos, map, length, slice_range, slice_index_or, slice_set, List, [], ◌∷◌, Option, Some, None}
+use Rattle.std.specs.List.{All, insert, remove}
+use Rattle.std.specs.Vec.{vec_len, vec_capacity}
 use Rattle.std.specs.Ordering.{is_lt}
 use Rattle.cs_order.specs.Heads.{AreBytes, head_of}
 use Rattle.cs_store.specs.Contents.{StorePlace, place_cmp}
+use Rattle.cs_map_store.specs.declared.leaf.Front.{Front}
 use Rattle.cs_map_store.specs.declared.leaf.Spot.{Spot}
+use Rattle.cs_map_store.specs.declared.leaf.Step.{Step}
+use Rattle.cs_map_store.specs.declared.leaf.Step.TheVariants.{Set, Add, Remove, Stay}
 
 -- a place, and the bytes of its row
 abbrev pub Entry : Type 0
@@ -18,14 +23,14 @@ IsHeadOf head key = (head ≡ head_of 16 key) × AreBytes key
 abbrev pub IsSpotIn : List ℕ → Spot → Type 0
 IsSpotIn bytes s = (s.key ≤ s.row) × (s.row ≤ s.end) × (s.end ≤ length bytes) × IsHeadOf s.head (slice_range bytes s.key s.row)
 
--- keys and rows stand from one place on up to another, one behind the other
-abbrev pub StandIn : ℕ → ℕ → List Spot → Type 0
-StandIn from to [] = from ≤ to
-StandIn from to (s ∷ spots) = (from ≤ s.key) × (s.key ≤ s.end) × StandIn s.end to spots
+-- the head and the table of the first spot, or zeros
+abbrev pub IsFrontOf : Front → List Spot → Type 0
+IsFrontOf front [] = (front.head ≡ 0) × (front.table ≡ 0)
+IsFrontOf front (s ∷ spots) = (front.head ≡ s.head) × (front.table ≡ s.table)
 
 -- what a leaf keeps of its bytes and its spots
-abbrev pub IsPacked : List ℕ → List Spot → Type 0
-IsPacked bytes spots = All (IsSpotIn bytes) spots × StandIn 0 (length bytes) spots
+abbrev pub IsPacked : Front → List ℕ → List Spot → Type 0
+IsPacked front bytes spots = All (IsSpotIn bytes) spots × IsFrontOf front spots
 
 abbrev pub entry_at : List ℕ → Spot → Entry
 entry_at bytes s = ((pos s.table, slice_range bytes s.key s.row), slice_range bytes s.row s.end)
@@ -50,3 +55,42 @@ IsPlaceBetween es from low high place =
 -- where a place stands or would stand among entries in order, not before `from`
 abbrev pub IsPlaceFor : List Entry → ℕ → ℕ → StorePlace → Type 0
 IsPlaceFor es from at place = IsPlaceBetween es from at at place
+
+-- what is written at a place
+abbrev pub written : StorePlace → Option (List ℕ) → List Entry
+written place None = []
+written place (Some row) = (place, row) ∷ []
+
+-- ---- an edit in place
+
+-- spots after a step at a position
+abbrev pub stepped : List Spot → ℕ → Step → List Spot
+stepped spots at (Set s) = slice_set spots at s
+stepped spots at (Add s) = insert spots at s
+stepped spots at Remove = remove spots at
+stepped spots at Stay = spots
+
+-- a step can be made at a position of so many
+abbrev pub IsStepAt : ℕ → ℕ → Step → Type 0
+IsStepAt count at (Set s) = at < count
+IsStepAt count at (Add s) = at ≤ count
+IsStepAt count at Remove = at < count
+IsStepAt count at Stay = Unit {0}
+
+-- what it sets or adds stands in the bytes
+abbrev pub IsStepIn : List ℕ → Step → Type 0
+IsStepIn bytes (Set s) = IsSpotIn bytes s
+IsStepIn bytes (Add s) = IsSpotIn bytes s
+IsStepIn bytes _ = Unit {0}
+
+-- it takes no memory
+abbrev pub HasRoomFor : Vec Spot Global → Step → Type 0
+HasRoomFor spots (Add s) = vec_len spots < vec_capacity spots
+HasRoomFor spots _ = Unit {0}
+
+-- the step that sets a row at a place, or with none removes what is there
+abbrev pub IsStepFor : StorePlace → Option (List ℕ) → Bool → List ℕ → Step → Type 0
+IsStepFor place body is_there bytes (Set s) = (is_there ≡ true) × IsSpotIn bytes s × (written place body ≡ entry_at bytes s ∷ [])
+IsStepFor place body is_there bytes (Add s) = (is_there ≡ false) × IsSpotIn bytes s × (written place body ≡ entry_at bytes s ∷ [])
+IsStepFor place body is_there bytes Remove = (is_there ≡ true) × (written place body ≡ [])
+IsStepFor place body is_there bytes Stay = (is_there ≡ false) × (written place body ≡ [])

@@ -7,13 +7,15 @@ use Rattle.std.specs.declared.cmp.Ordering.TheVariants.{Less, Equal}
 use Rattle.std.specs.FinMap.{from_sorted, is_sorted}
 use Rattle.std.specs.FinMap.Entries.{put, where_key}
 use Rattle.cs_store.specs.Contents.{StorePlace, Bodies, place_cmp}
-pub use Rattle.cs_map_store.specs.Entries.{Entry, nth}
+pub use Rattle.cs_map_store.specs.Entries.{Entry, nth, written}
 use Rattle.cs_store.specs.Written.{optional_bytes}
 pub use Rattle.cs_store.specs.Written.{store_place}
 use Rattle.cs_store.specs.declared.batch.PlaceEdit.{PlaceEdit}
+use Rattle.cs_map_store.specs.declared.leaves.Change.{Change}
+use Rattle.cs_map_store.specs.declared.leaves.Change.TheVariants.{Anew, InPlace}
 use Rattle.cs_map_store.specs.declared.leaves.Patch.{Patch}
 use Rattle.cs_map_store.specs.declared.leaves.Staged.{Staged}
-use Rattle.cs_map_store.specs.declared.leaves.Staged.TheVariants.{Patches, Anew}
+use Rattle.cs_map_store.specs.declared.leaves.Staged.TheVariants.{Patches, Fresh}
 
 -- the entries of all leaves
 abbrev pub flat : List (List Entry) → List Entry
@@ -79,11 +81,6 @@ IsBehind es at place next =
     ((next ≡ at + 1) × (at < length es) × (place_cmp (nth es at).0 place ≡ Equal))
     ⊎ ((next ≡ at) × ((at ≡ length es) ⊎ (is_eq (place_cmp (nth es at).0 place) ≡ false)))
 
--- what is written at a place
-abbrev pub written : StorePlace → Option (List ℕ) → List Entry
-written place None = []
-written place (Some row) = (place, row) ∷ []
-
 -- an edit is merged into the entries from one on, up to the next: behind those that are below its place
 pub record IsMerged (es : List Entry) (from : ℕ) (edit : PlaceEdit) (next : ℕ) (before after : List Entry) : Type 0 where
   pub more : List Entry
@@ -116,23 +113,59 @@ pub record AreLeaves (leaves : List (List Entry)) : Type 0 where
 
 -- ---- a commit
 
--- leaves after some are put in the places of others
+-- what a leaf becomes by a change
+abbrev pub after_change : Change → List Entry
+after_change (Anew leaf) = leaf
+after_change (InPlace amendment) = amendment.1
+
+-- leaves after some are changed
 abbrev pub patched : List (List Entry) → List Patch → List (List Entry)
 patched leaves [] = leaves
-patched leaves (patch ∷ patches) = patched (slice_set leaves patch.at patch.leaf) patches
+patched leaves (patch ∷ patches) = patched (slice_set leaves patch.at (after_change patch.change)) patches
 
 abbrev pub ArePatches : ℕ → List Patch → Type 0
 ArePatches count = All (λ patch. patch.at < count)
 
+-- leaves out of which a change took the one there, if it did
+abbrev pub left_by : List (List Entry) → ℕ → Change → List (List Entry)
+left_by leaves at (Anew leaf) = leaves
+left_by leaves at (InPlace amendment) = slice_set leaves at []
+
+-- what a change took is this leaf
+abbrev pub IsOf : List Entry → Change → Type 0
+IsOf leaf (Anew made) = Unit {0}
+IsOf leaf (InPlace amendment) = amendment.0 ≡ leaf
+
+-- leaves into which what a patch took is put back
+abbrev pub put_back : List (List Entry) → ℕ → Change → List (List Entry)
+put_back leaves at (Anew leaf) = leaves
+put_back leaves at (InPlace amendment) = slice_set leaves at amendment.0
+
+abbrev pub undone : List (List Entry) → Patch → List (List Entry)
+undone leaves patch = put_back leaves patch.at patch.change
+
+-- leaves into which what patches took is put back, the last first
+abbrev pub restored : List (List Entry) → List Patch → List (List Entry)
+restored leaves [] = leaves
+restored leaves (patch ∷ patches) = undone (restored leaves patches) patch
+
 -- what is staged makes of the leaves: others in their places, or new ones
 abbrev pub after_staged : Staged → List (List Entry) → List (List Entry)
 after_staged (Patches patches) leaves = patched leaves patches.items
-after_staged (Anew made) leaves = made.items
+after_staged (Fresh made) leaves = made.items
 
--- what is staged can be put in: each patch is for a leaf that is there, and no new leaf is empty
+-- the leaves without what is staged
+abbrev pub before_staged : Staged → List (List Entry) → List (List Entry)
+before_staged (Patches patches) leaves = restored leaves patches.items
+before_staged (Fresh made) leaves = leaves
+
+-- what is staged can be put in: each patch is for a leaf that is there, and unless one leaves a leaf without a row, or for new
+-- leaves at once, no leaf is empty then
 abbrev pub CanBePut : Staged → List (List Entry) → Type 0
-CanBePut (Patches patches) leaves = ArePatches (length leaves) patches.items
-CanBePut (Anew made) leaves = All (λ leaf. 0 < length leaf) made.items
+CanBePut (Patches patches) leaves =
+    ArePatches (length leaves) patches.items
+    × (All (λ patch. 0 < length (after_change patch.change)) patches.items → All (λ leaf. 0 < length leaf) (patched leaves patches.items))
+CanBePut (Fresh made) leaves = All (λ leaf. 0 < length leaf) made.items
 
 -- the keys and the rows of a table
 abbrev pub in_table : ℤ → List Entry → List (List ℕ × List ℕ)

@@ -1,16 +1,17 @@
-//! The rows of a `MapStore`, and its pending changes: leaves whose places rise, none of them empty. A commit makes the leaves
-//! that it changes anew before it changes any, and then puts them in, which takes no memory.
+//! The rows of a `MapStore`, and its pending changes: leaves whose places rise, none of them empty. A commit first prepares what
+//! it makes of each leaf, for which it takes all the memory that it needs, and then makes it or takes it back, which takes none.
+//! A leaf that gets one edit is amended in place, one that gets more is made anew.
 
-ghost use Rattle.std.specs.Prelude.{◌≡◌, false, ◌≤◌, ◌<◌, ◌+◌, ◌⊎◌, List, ◌++◌, T, pos, length, take, drop, fold, map, filter, option_map, Some, IfOk, IfSome, OnOk, MatchBool};
+ghost use Rattle.std.specs.Prelude.{◌≡◌, false, ◌≤◌, ◌<◌, ◌+◌, ◌⊎◌, List, [], ◌++◌, T, pos, length, take, drop, fold, map, filter, option_map, Some, IfOk, IfSome, OnOk, OnErr, MatchBool};
 ghost use Rattle.std.specs.List.{All};
 ghost use Rattle.std.specs.Ordering.{int_eq, is_gt};
 ghost use Rattle.std.specs.FinMap.{get, is_sorted};
 ghost use Rattle.cs_store.specs.Contents.{IsListing, place_cmp};
 ghost use Rattle.cs_store.specs.Written.{edit_body, optional_bytes, pairs_of};
-ghost use Rattle.cs_map_store.specs.Leaves.{AreBefore, AreLeaves, ArePatches, BeginsBy, BeginsBehind, CanBePut, Entry, ReachLeaf, Rise, after_staged, store_place, edited, edits_behind, first_place, flat, in_table, patched, bodies_in};
+ghost use Rattle.cs_map_store.specs.Leaves.{AreBefore, AreLeaves, ArePatches, BeginsBy, BeginsBehind, CanBePut, Entry, IsOf, ReachLeaf, Rise, after_change, after_staged, before_staged, store_place, edited, edits_behind, first_place, flat, in_table, left_by, nth_leaf, patched, restored, undone, bodies_in};
 
 use crate::edits::in_order;
-use crate::leaf::{Leaf, Place};
+use crate::leaf::{Amendment, Leaf, Place};
 use crate::merging::merged;
 use cs_store::{PlaceEdit, StoredBody};
 use std::alloc::{AllocError, Global};
@@ -22,43 +23,45 @@ const LEAF: usize = 32;
 /// So many leaves further a look-up looks at most before it halves all that are left.
 const NEARBY: usize = 64;
 
-/// Rows and pending changes, in leaves of their own; and of each the leaf that was replaced last, in whose memory the next
-/// commit makes one.
+/// Rows and pending changes, in leaves of their own.
 #[derive(Drop)]
 pub struct Shelves {
     pub rows: Vec<Leaf>,
     pub pending: Vec<Leaf>,
-    pub spare_rows: Leaf,
-    pub spare_pending: Leaf,
 }
 
-/// A leaf that is to stand in the place of another.
+/// What a leaf is to become: another, or with one edit made in it. What is to be amended is taken out of the leaves meanwhile.
+#[derive(Drop)]
+pub enum Change {
+    Anew(Leaf),
+    InPlace(Amendment),
+}
+
+/// A change of one of the leaves.
 #[derive(Drop)]
 pub struct Patch {
     at: usize,
-    leaf: Leaf,
+    change: Change,
 }
 
 /// What a commit is to make of the leaves.
 #[derive(Drop)]
 pub enum Staged {
     Patches(Vec<Patch>),
-    Anew(Vec<Leaf>),
+    Fresh(Vec<Leaf>),
 }
 
 /// Whether a leaf begins above a place.
 fn begins_above(leaves: &[Leaf], at: usize, place: &Place) -> bool
     requires in_bounds { at < length leaves.now }
-    requires full { All (λ leaf. 0 < length leaf) leaves.now }
     ensures { result ≡ is_gt (place_cmp (first_place leaves.now at) place.now) }
 {
-    leaves[at].compare(0, place).is_gt()
+    leaves[at].compare_first(place).is_gt()
 }
 
 /// Whether a leaf begins above the place of an edit.
 fn is_before(leaves: &[Leaf], at: usize, edit: &PlaceEdit) -> bool
     requires in_bounds { at < length leaves.now }
-    requires full { All (λ leaf. 0 < length leaf) leaves.now }
     ensures { result ≡ is_gt (place_cmp (first_place leaves.now at) (store_place edit.now)) }
 {
     begins_above(leaves, at, &Place::of_edit(edit))
@@ -68,7 +71,6 @@ fn is_before(leaves: &[Leaf], at: usize, edit: &PlaceEdit) -> bool
 #[inline(always)]
 fn limit(leaves: &[Leaf], from: usize, place: &Place) -> usize
     requires in_bounds { from < length leaves.now }
-    requires full { All (λ leaf. 0 < length leaf) leaves.now }
     ensures bound { (from < result) × (result ≤ length leaves.now) }
     ensures next { BeginsBehind leaves.now result place.now }
 {
@@ -85,7 +87,6 @@ fn limit(leaves: &[Leaf], from: usize, place: &Place) -> usize
 /// The leaf in which a place stands or would stand, not before `from`, and before `to`.
 fn leaf_between(leaves: &[Leaf], from: usize, to: usize, place: &Place) -> usize
     requires bound { (from < to) × (to ≤ length leaves.now) }
-    requires full { All (λ leaf. 0 < length leaf) leaves.now }
     requires begins { BeginsBy leaves.now from place.now }
     requires next { BeginsBehind leaves.now to place.now }
     ensures bound { (from ≤ result) × (result < length leaves.now) }
@@ -108,7 +109,6 @@ fn leaf_between(leaves: &[Leaf], from: usize, to: usize, place: &Place) -> usize
 /// The leaf in which a place stands or would stand, not before `from`, near which it is looked for first.
 fn leaf_for(leaves: &[Leaf], from: usize, place: &Place) -> usize
     requires in_bounds { from < length leaves.now }
-    requires full { All (λ leaf. 0 < length leaf) leaves.now }
     requires begins { BeginsBy leaves.now from place.now }
     ensures bound { (from ≤ result) × (result < length leaves.now) }
     ensures begins { BeginsBy leaves.now result place.now }
@@ -121,7 +121,6 @@ fn leaf_for(leaves: &[Leaf], from: usize, place: &Place) -> usize
 /// The leaf in which a place stands or would stand. The one at `near` is looked at first.
 fn leaf_near(leaves: &[Leaf], near: usize, place: &Place) -> usize
     requires some { 0 < length leaves.now }
-    requires full { All (λ leaf. 0 < length leaf) leaves.now }
     ensures bound { result < length leaves.now }
     ensures begins { BeginsBy leaves.now result place.now }
     ensures next { BeginsBehind leaves.now (result + 1) place.now }
@@ -136,7 +135,6 @@ fn leaf_near(leaves: &[Leaf], near: usize, place: &Place) -> usize
 /// The leaf in which the place of an edit stands or would stand, not before `from`.
 fn leaf_of(leaves: &[Leaf], from: usize, edit: &PlaceEdit) -> usize
     requires in_bounds { from < length leaves.now }
-    requires full { All (λ leaf. 0 < length leaf) leaves.now }
     requires begins { BeginsBy leaves.now from (store_place edit.now) }
     ensures bound { (from ≤ result) × (result < length leaves.now) }
     ensures begins { BeginsBy leaves.now result (store_place edit.now) }
@@ -148,7 +146,6 @@ fn leaf_of(leaves: &[Leaf], from: usize, edit: &PlaceEdit) -> usize
 /// How many edits fall into a leaf, of which the first does.
 fn edits_in(leaves: &[Leaf], at: usize, edits: &[&PlaceEdit]) -> usize
     requires in_bounds { at < length leaves.now }
-    requires full { All (λ leaf. 0 < length leaf) leaves.now }
     requires some { 0 < length edits.now }
     requires first { AreBefore leaves.now (at + 1) (take 1 (edits_behind edits.now)) }
     ensures bound { (0 < result) × (result ≤ length edits.now) }
@@ -169,7 +166,6 @@ fn edits_in(leaves: &[Leaf], at: usize, edits: &[&PlaceEdit]) -> usize
 /// Where to begin to look for the leaves of edits whose places rise: at `near`, or where that leaf begins above the first of
 /// them, at the first leaf.
 fn begin_at(leaves: &[Leaf], near: usize, edits: &[&PlaceEdit]) -> usize
-    requires full { All (λ leaf. 0 < length leaf) leaves.now }
     ensures { (result ≡ 0) ⊎ ReachLeaf leaves.now result (edits_behind edits.now) }
 {
     if near < leaves.len() && 0 < edits.len() && !is_before(leaves, near, edits[0]) {
@@ -179,35 +175,64 @@ fn begin_at(leaves: &[Leaf], near: usize, edits: &[&PlaceEdit]) -> usize
     }
 }
 
-/// The leaves that edits change, as they are after them, the first of them in the memory of a spare leaf. The one at `near` is
-/// looked at first.
-fn patches_of(
+/// Prepares what edits make of the leaf there. At `Err` nothing has changed.
+fn stage_leaf(
     alloc: Global,
-    spare: Leaf,
-    leaves: &[Leaf],
+    leaves: &mut Vec<Leaf>,
+    at: usize,
+    edits: &[&PlaceEdit],
+) -> Result<Change, AllocError>
+    requires in_bounds { at < length leaves.old.items }
+    requires sorted { T (is_sorted place_cmp (nth_leaf leaves.old.items at)) }
+    requires rise { Rise (edits_behind edits.now) }
+    ensures left { IfOk result (λ change. leaves.new.items ≡ left_by leaves.old.items at change) }
+    ensures before { IfOk result (λ change. IsOf (nth_leaf leaves.old.items at) change) }
+    ensures made { IfOk result (λ change. after_change change ≡ fold edited (nth_leaf leaves.old.items at) (edits_behind edits.now)) }
+    ensures err { OnErr result (leaves.new.items ≡ leaves.old.items) }
+{
+    if edits.len() != 1 || !leaves[at].is_tidy() {
+        return Ok(Change::Anew(merged(alloc, &leaves[at], edits)?));
+    }
+    let leaf = mem::replace(&mut leaves[at], Leaf::new(alloc));
+    match leaf.amend(edits[0]) {
+        Ok(amendment) => Ok(Change::InPlace(amendment)),
+        Err(leaf) => {
+            leaves[at] = leaf;
+            Err(AllocError)
+        }
+    }
+}
+
+/// Prepares what edits make of the leaves, and adds it to the patches. At `Err` some of it may be prepared. The leaf at `near`
+/// is looked at first.
+fn stage_patches(
+    alloc: Global,
+    leaves: &mut Vec<Leaf>,
     near: usize,
     edits: &[&PlaceEdit],
-) -> Result<Vec<Patch>, AllocError>
-    requires some { 0 < length leaves.now }
-    requires leaves { AreLeaves leaves.now }
+    patches: &mut Vec<Patch>,
+) -> Result<(), AllocError>
+    requires some { 0 < length leaves.old.items }
+    requires leaves { AreLeaves leaves.old.items }
     requires rise { Rise (edits_behind edits.now) }
-    ensures places { IfOk result (λ patches. ArePatches (length leaves.now) patches.items) }
-    ensures made { IfOk result (λ patches. flat (patched leaves.now patches.items) ≡ fold edited (flat leaves.now) (edits_behind edits.now)) }
+    requires none { patches.old.items ≡ [] }
+    ensures places { ArePatches (length leaves.new.items) patches.new.items }
+    ensures restored { restored leaves.new.items patches.new.items ≡ leaves.old.items }
+    ensures same { patched leaves.new.items patches.new.items ≡ patched leaves.old.items patches.new.items }
+    ensures made { OnOk result (flat (patched leaves.old.items patches.new.items) ≡ fold edited (flat leaves.old.items) (edits_behind edits.now)) }
 {
-    let mut patches = Vec::new(alloc);
-    let mut spare = spare;
     let mut start = 0;
-    let mut from = begin_at(leaves, near, edits);
+    let mut from = begin_at(leaves.as_slice(), near, edits);
     while start < edits.len() {
-        let at = leaf_of(leaves, from, edits[start]);
-        let end = start + edits_in(leaves, at, &edits[start..]);
-        let memory = mem::replace(&mut spare, Leaf::new(alloc));
-        let leaf = merged(alloc, memory, &leaves[at], &edits[start..end])?;
-        patches.push(Patch { at, leaf })?;
+        let at = leaf_of(leaves.as_slice(), from, edits[start]);
+        let end = start + edits_in(leaves.as_slice(), at, &edits[start..]);
+        patches.reserve(1)?;
+        let change = stage_leaf(alloc, leaves, at, &edits[start..end])?;
+        patches.push_reserved(Patch { at, change });
         start = end;
         from = at + 1;
     }
-    Ok(patches)
+    Ok(())
 }
 
 /// The rows of a leaf, in leaves of at most so many.
@@ -227,83 +252,139 @@ fn pieces_of(alloc: Global, leaf: &Leaf) -> Result<Vec<Leaf>, AllocError>
     Ok(pieces)
 }
 
-/// What edits whose places rise make of the leaves. It changes none. The leaf at `near` is looked at first.
+/// Takes back what is prepared for a leaf.
+fn undo(leaves: &mut Vec<Leaf>, patch: Patch)
+    requires { patch.at < length leaves.old.items }
+    ensures { leaves.new.items ≡ undone leaves.old.items patch }
+{
+    let Patch { at, change } = patch;
+    if let Change::InPlace(amendment) = change {
+        leaves[at] = amendment.leave();
+    }
+}
+
+/// Takes back all that is prepared, the last first.
+fn undo_all(leaves: &mut Vec<Leaf>, patches: Vec<Patch>)
+    requires { ArePatches (length leaves.old.items) patches.items }
+    ensures { leaves.new.items ≡ restored leaves.old.items patches.items }
+{
+    let mut patches = patches;
+    while let Some(patch) = patches.pop() {
+        undo(leaves, patch);
+    }
+}
+
+/// Prepares what edits whose places rise make of the leaves. At `Err` nothing has changed. The leaf at `near` is looked at first.
 fn stage(
     alloc: Global,
-    spare: Leaf,
-    leaves: &[Leaf],
+    leaves: &mut Vec<Leaf>,
     near: usize,
     edits: &[&PlaceEdit],
 ) -> Result<Staged, AllocError>
-    requires leaves { AreLeaves leaves.now }
+    requires leaves { AreLeaves leaves.old.items }
     requires rise { Rise (edits_behind edits.now) }
-    ensures can { IfOk result (λ staged. CanBePut staged leaves.now) }
-    ensures made { IfOk result (λ staged. flat (after_staged staged leaves.now) ≡ fold edited (flat leaves.now) (edits_behind edits.now)) }
+    ensures can { IfOk result (λ staged. CanBePut staged leaves.new.items) }
+    ensures before { IfOk result (λ staged. before_staged staged leaves.new.items ≡ leaves.old.items) }
+    ensures made { IfOk result (λ staged. flat (after_staged staged leaves.new.items) ≡ fold edited (flat leaves.old.items) (edits_behind edits.now)) }
+    ensures err { OnErr result (leaves.new.items ≡ leaves.old.items) }
 {
     if leaves.is_empty() {
-        let all = merged(alloc, spare, &Leaf::new(alloc), edits)?;
-        return Ok(Staged::Anew(pieces_of(alloc, &all)?));
+        let all = merged(alloc, &Leaf::new(alloc), edits)?;
+        return Ok(Staged::Fresh(pieces_of(alloc, &all)?));
     }
-    Ok(Staged::Patches(patches_of(alloc, spare, leaves, near, edits)?))
+    let mut patches = Vec::new(alloc);
+    if let Err(e) = stage_patches(alloc, leaves, near, edits, &mut patches) {
+        undo_all(leaves, patches);
+        return Err(e);
+    }
+    Ok(Staged::Patches(patches))
 }
 
-/// What edits in any order make of the leaves. It changes none. The leaf of the first place is looked for near where the last
-/// look-up ended. What has to be made is made in the memory of the spare leaf first, which is taken where there are edits.
+/// Prepares what edits in any order make of the leaves. At `Err` nothing has changed. The leaf of the first place is looked for
+/// near where the last look-up ended.
 pub fn stage_edits(
     alloc: Global,
-    spare: &mut Leaf,
-    leaves: &[Leaf],
+    leaves: &mut Vec<Leaf>,
     near: Near,
     edits: &[PlaceEdit],
 ) -> Result<Staged, AllocError>
-    requires { AreLeaves leaves.now }
-    ensures can { IfOk result (λ staged. CanBePut staged leaves.now) }
-    ensures rise { IfOk result (λ staged. T (is_sorted place_cmp (flat (after_staged staged leaves.now)))) }
-    ensures made { IfOk result (λ staged. bodies_in (after_staged staged leaves.now) ≡ fold edit_body (bodies_in leaves.now) edits.now) }
+    requires { AreLeaves leaves.old.items }
+    ensures can { IfOk result (λ staged. CanBePut staged leaves.new.items) }
+    ensures before { IfOk result (λ staged. before_staged staged leaves.new.items ≡ leaves.old.items) }
+    ensures rise { IfOk result (λ staged. T (is_sorted place_cmp (flat (after_staged staged leaves.new.items)))) }
+    ensures made { IfOk result (λ staged. bodies_in (after_staged staged leaves.new.items) ≡ fold edit_body (bodies_in leaves.old.items) edits.now) }
+    ensures err { OnErr result (leaves.new.items ≡ leaves.old.items) }
 {
     if edits.is_empty() {
         return Ok(Staged::Patches(Vec::new(alloc)));
     }
     let sorted = in_order(alloc, edits)?;
-    let memory = mem::replace(spare, Leaf::new(alloc));
-    let staged = stage(alloc, memory, leaves, near.leaf, sorted.as_slice())?;
+    let staged = stage(alloc, leaves, near.leaf, sorted.as_slice())?;
     Ok(staged)
 }
 
-/// Whether a leaf is to go, since it has no row left.
-fn has_empty(patches: &[Patch]) -> bool
-    ensures { result ≡ false → All (λ patch. 0 < length patch.leaf) patches.now }
+/// Takes back what is prepared.
+pub fn take_back(leaves: &mut Vec<Leaf>, staged: Staged)
+    requires { CanBePut staged leaves.old.items }
+    ensures { leaves.new.items ≡ before_staged staged leaves.old.items }
 {
-    for patch in patches {
-        if patch.leaf.len() == 0 {
-            return true;
-        }
+    if let Staged::Patches(patches) = staged {
+        undo_all(leaves, patches);
     }
-    false
 }
 
-/// From which place up to which leaves are to be cut: none, where the one is above the other.
-fn large_between(patches: &[Patch]) -> (usize, usize) {
-    let mut from = usize::MAX;
-    let mut to = 0;
-    for patch in patches {
-        if patch.leaf.len() >= 2 * LEAF {
-            from = from.min(patch.at);
-            to = to.max(patch.at.saturating_add(1));
-        }
-    }
-    (from, to)
+/// Which leaves were changed in a way that asks for more: whether one has no row left, and from which place up to which some have
+/// too many; none, where the one is above the other.
+#[derive(Clone, Copy)]
+struct Uneven {
+    has_empty: bool,
+    from: usize,
+    to: usize,
 }
 
-/// Puts leaves in the places of others, of which the last is spare then.
-fn write_patches(leaves: &mut Vec<Leaf>, patches: Vec<Patch>, spare: &mut Leaf)
+impl Uneven {
+    /// Notes a leaf of so many rows.
+    fn note(&mut self, at: usize, rows: usize)
+        ensures { self.new.has_empty ≡ false → (self.old.has_empty ≡ false) × (0 < rows) }
+    {
+        if rows == 0 {
+            self.has_empty = true;
+        }
+        if rows >= 2 * LEAF {
+            self.from = self.from.min(at);
+            self.to = self.to.max(at.saturating_add(1));
+        }
+    }
+}
+
+/// What a leaf becomes.
+fn changed(change: Change) -> Leaf
+    ensures { result ≡ after_change change }
+{
+    match change {
+        Change::Anew(leaf) => leaf,
+        Change::InPlace(amendment) => amendment.make(),
+    }
+}
+
+/// Makes what is prepared.
+fn write_patches(leaves: &mut Vec<Leaf>, patches: Vec<Patch>) -> Uneven
     requires { ArePatches (length leaves.old.items) patches.items }
-    ensures { leaves.new.items ≡ patched leaves.old.items patches.items }
+    ensures made { leaves.new.items ≡ patched leaves.old.items patches.items }
+    ensures full { result.has_empty ≡ false → All (λ patch. 0 < length (after_change patch.change)) patches.items }
 {
+    let mut uneven = Uneven {
+        has_empty: false,
+        from: usize::MAX,
+        to: 0,
+    };
     for patch in patches {
-        let Patch { at, leaf } = patch;
-        *spare = mem::replace(&mut leaves[at], leaf);
+        let Patch { at, change } = patch;
+        let leaf = changed(change);
+        uneven.note(at, leaf.len());
+        leaves[at] = leaf;
     }
+    uneven
 }
 
 /// Cuts the leaf there, if it has too many rows.
@@ -344,38 +425,23 @@ fn drop_empty(leaves: &mut Vec<Leaf>)
     leaves.retain(|leaf| leaf.len() > 0);
 }
 
-/// Puts leaves in the places of others, and takes out those that have no row left. It answers whether there were such.
-fn put_patches(leaves: &mut Vec<Leaf>, patches: Vec<Patch>, spare: &mut Leaf) -> bool
-    requires places { ArePatches (length leaves.old.items) patches.items }
-    requires full { All (λ leaf. 0 < length leaf) leaves.old.items }
-    ensures same { flat leaves.new.items ≡ flat (patched leaves.old.items patches.items) }
-    ensures full { All (λ leaf. 0 < length leaf) leaves.new.items }
-{
-    let empty = has_empty(patches.as_slice());
-    write_patches(leaves, patches, spare);
-    if empty {
-        drop_empty(leaves);
-    }
-    empty
-}
-
-/// Puts in what is staged, and keeps a leaf that was replaced as the spare one. Where there is no memory to cut a leaf, it stays
-/// as it is until a later commit changes it.
-pub fn put_staged(alloc: Global, leaves: &mut Vec<Leaf>, staged: Staged, spare: &mut Leaf)
-    requires can { CanBePut staged leaves.old.items }
-    requires full { All (λ leaf. 0 < length leaf) leaves.old.items }
+/// Makes what is prepared. Where there is no memory to cut a leaf, it stays as it is until a later commit changes it.
+pub fn put_staged(alloc: Global, leaves: &mut Vec<Leaf>, staged: Staged)
+    requires { CanBePut staged leaves.old.items }
     ensures same { flat leaves.new.items ≡ flat (after_staged staged leaves.old.items) }
     ensures full { All (λ leaf. 0 < length leaf) leaves.new.items }
 {
     match staged {
-        Staged::Anew(made) => *leaves = made,
+        Staged::Fresh(made) => *leaves = made,
         Staged::Patches(patches) => {
-            let (mut from, to) = large_between(patches.as_slice());
-            if put_patches(leaves, patches, spare) {
+            let uneven = write_patches(leaves, patches);
+            let mut from = uneven.from;
+            if uneven.has_empty {
+                drop_empty(leaves);
                 // Leaves behind those that went stand further to the front now.
                 from = 0;
             }
-            let _ = cut_leaves(alloc, leaves, from, to);
+            let _ = cut_leaves(alloc, leaves, from, uneven.to);
         }
     }
 }

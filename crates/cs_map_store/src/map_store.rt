@@ -7,8 +7,8 @@ ghost use Rattle.cs_map_store.specs.Slots.{HasOwnNames, held_in, log_of, meta_of
 ghost use Rattle.cs_map_store.specs.Steps.{HasSlots, IsEmptyOnlyAt, IsKept, step_keys};
 
 use crate::checking::{Shelf, all_hold, check_leaves, check_log};
-use crate::leaf::{Leaf, Place};
-use crate::leaves::{Near, Shelves, find_row, list_rows, put_staged, stage_edits};
+use crate::leaf::Place;
+use crate::leaves::{Near, Shelves, find_row, list_rows, put_staged, stage_edits, take_back};
 use crate::log::{append, copied_entry, make_room, read_log};
 use crate::slots::{
     SlotKey, Slots, Step, make_slots, read_slot, steps_of, sweep_steps, write_steps,
@@ -23,10 +23,10 @@ use std::marker::Model;
 /// count and tells `Device`, and a stop leaves what it holds. Its rows lie in leaves, in order, each packed into one list of
 /// bytes, and so do its pending changes. Beside where a row stands, the first 16 bytes of its key are kept as a number, and
 /// bytes are compared only where these numbers are equal. A look-up begins where the last one ended; where its place isn't
-/// near, it halves the leaves and then one leaf. A commit makes each leaf anew that its edits fall into, the first of them in
-/// the memory of the leaf that was replaced last, so a commit of one row or of one pending change costs the logarithm of those
-/// that are there, but for a walk over the list of leaves where one is cut or goes. Its log has at most 4,294,967,295 entries; a
-/// commit of one more answers `Memory`. (Profile of this project.)
+/// near, it halves the leaves and then one leaf. A commit of one row or of one pending change amends its leaf in place, so it
+/// costs the logarithm of those that are there, but for a walk over the list of leaves where one is cut or goes; a leaf that
+/// gets several edits at once, or half of whose bytes are of rows that are gone, is made anew. Its log has at most
+/// 4,294,967,295 entries; a commit of one more answers `Memory`. (Profile of this project.)
 #[derive(Drop)]
 pub struct MapStore {
     alloc: Global,
@@ -68,8 +68,6 @@ impl MapStore {
             shelves: Shelves {
                 rows: Vec::new(alloc),
                 pending: Vec::new(alloc),
-                spare_rows: Leaf::new(alloc),
-                spare_pending: Leaf::new(alloc),
             },
             slots: BTreeMap::new(alloc),
             log: Vec::new(alloc),
@@ -149,28 +147,22 @@ fn write(
     ensures given_back { OnErr result (vec_capacity log.new ≡ vec_capacity log.old) }
     ensures kept { IsKept shelves.new slots.new log.new }
 {
-    let rows = stage_edits(
-        alloc,
-        &mut shelves.spare_rows,
-        shelves.rows.as_slice(),
-        near,
-        batch.rows.as_slice(),
-    )?;
-    let pending = stage_edits(
-        alloc,
-        &mut shelves.spare_pending,
-        shelves.pending.as_slice(),
-        near_pending,
-        batch.pending.as_slice(),
-    )?;
-    write_rest(alloc, slots, log, batch)?;
-    put_staged(alloc, &mut shelves.rows, rows, &mut shelves.spare_rows);
-    put_staged(
-        alloc,
-        &mut shelves.pending,
-        pending,
-        &mut shelves.spare_pending,
-    );
+    let rows = stage_edits(alloc, &mut shelves.rows, near, batch.rows.as_slice())?;
+    let changes = batch.pending.as_slice();
+    let pending = match stage_edits(alloc, &mut shelves.pending, near_pending, changes) {
+        Ok(pending) => pending,
+        Err(e) => {
+            take_back(&mut shelves.rows, rows);
+            return Err(e);
+        }
+    };
+    if let Err(e) = write_rest(alloc, slots, log, batch) {
+        take_back(&mut shelves.rows, rows);
+        take_back(&mut shelves.pending, pending);
+        return Err(e);
+    }
+    put_staged(alloc, &mut shelves.rows, rows);
+    put_staged(alloc, &mut shelves.pending, pending);
     Ok(())
 }
 

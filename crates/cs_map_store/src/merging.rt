@@ -4,24 +4,11 @@ ghost use Rattle.std.specs.Prelude.{◌≡◌, ◌≤◌, ◌<◌, ◌++◌, T, 
 ghost use Rattle.std.specs.FinMap.{is_sorted};
 ghost use Rattle.cs_store.specs.Contents.{place_cmp};
 ghost use Rattle.cs_store.specs.Written.{optional_bytes};
-ghost use Rattle.cs_map_store.specs.Leaves.{IsBehind, IsMerged, Rise, store_place, edited, edits_behind, written};
+ghost use Rattle.cs_map_store.specs.Leaves.{IsMerged, Rise, store_place, edited, edits_behind, written};
 
 use crate::leaf::{Leaf, Place};
 use cs_store::PlaceEdit;
 use std::alloc::{AllocError, Global};
-use std::cmp::Ordering;
-
-/// Where a leaf goes on behind a place, which stands or would stand at `at`.
-fn behind(leaf: &Leaf, at: usize, place: &Place) -> usize
-    requires { at ≤ length leaf.now }
-    ensures { IsBehind leaf.now at place.now result }
-{
-    if at < leaf.len() && leaf.compare(at, place) == Ordering::Equal {
-        at + 1
-    } else {
-        at
-    }
-}
 
 /// Appends the row that an edit sets at its place, if it sets one.
 fn push_edit(merged: &mut Leaf, place: &Place, body: &Option<Vec<u8>>) -> Result<(), AllocError>
@@ -49,21 +36,16 @@ fn merge_edit(
     let at = leaf.search(from, &place);
     merged.push_rows(leaf, from, at)?;
     push_edit(merged, &place, &edit.body)?;
-    Ok(behind(leaf, at, &place))
+    Ok(leaf.behind(at, &place))
 }
 
-/// The rows of a leaf after edits, in the memory of a spare leaf or in memory of their own.
-pub fn merged(
-    alloc: Global,
-    spare: Leaf,
-    leaf: &Leaf,
-    edits: &[&PlaceEdit],
-) -> Result<Leaf, AllocError>
+/// The rows of a leaf after edits, in memory of their own.
+pub fn merged(alloc: Global, leaf: &Leaf, edits: &[&PlaceEdit]) -> Result<Leaf, AllocError>
     requires sorted { T (is_sorted place_cmp leaf.now) }
     requires rise { Rise (edits_behind edits.now) }
     ensures { IfOk result (λ merged. merged ≡ fold edited leaf.now (edits_behind edits.now)) }
 {
-    let mut merged = Leaf::with_room_for(alloc, spare, leaf, edits.len())?;
+    let mut merged = Leaf::with_room_for(alloc, leaf, edits.len())?;
     let mut from = 0;
     for edit in edits {
         from = merge_edit(&mut merged, leaf, from, *edit)?;

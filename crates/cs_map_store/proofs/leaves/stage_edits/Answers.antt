@@ -7,16 +7,16 @@ use Rattle.cs_map_store.proofs.leaves.stage_edits.Goals as goal
 
 pub returns-clause-rise : goal.returns-clause-rise
 returns-clause-rise c =
-    let leaves = c.args.leaves.now in
-    let made = after_staged c.in_ok-staged.staged leaves in
+    let leaves = c.args.leaves.now.items in
+    let made = after_staged c.in_ok-staged.staged c.stage.new.leaves.items in
     let merged : flat made ≡ fold edited (flat leaves) (edits_behind c.in_ok-sorted.sorted.items) =
     subst (λ (edits : List (Bor PlaceEdit)). flat made ≡ fold edited (flat leaves) (edits_behind edits)) c.as_slice.ensures.value c.in_ok-staged.ensures.made in
     still_rises leaves made (edits_behind c.in_ok-sorted.sorted.items) c.requires.rise merged
 
 pub returns-clause-made : goal.returns-clause-made
 returns-clause-made c =
-    let leaves = c.args.leaves.now in
-    let made = after_staged c.in_ok-staged.staged leaves in
+    let leaves = c.args.leaves.now.items in
+    let made = after_staged c.in_ok-staged.staged c.stage.new.leaves.items in
     let merged : flat made ≡ fold edited (flat leaves) (edits_behind c.in_ok-sorted.sorted.items) =
     subst (λ (edits : List (Bor PlaceEdit)). flat made ≡ fold edited (flat leaves) (edits_behind edits)) c.as_slice.ensures.value c.in_ok-staged.ensures.made in
     bodies_after leaves made (edits_behind c.in_ok-sorted.sorted.items) c.args.edits.now c.requires.rise c.in_ok-sorted.ensures.same merged
