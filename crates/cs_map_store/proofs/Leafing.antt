@@ -345,6 +345,12 @@ pub next_edit : (edits : List (Bor PlaceEdit)) (start : ℕ) (edit : Bor PlaceEd
 next_edit edits start edit less is =
     sym (behind_drop edits start) ∙ ap edits_behind (drop_more edits start edit less) ∙ ap (λ (e : Bor PlaceEdit). e.now ∷ edits_behind (drop (start + 1) edits)) (sym is)
 
+-- a list of one
+pub only_one : {X : Type 0} (xs : List X) (x : X) → 0 < length xs → length xs < 2 → x ≡ get_or xs 0 x → x ∷ [] ≡ xs
+only_one [] x some few is = absurd (omega (arith, some))
+only_one (y ∷ []) x some few is = ap (λ z. z ∷ []) is
+only_one (y ∷ z ∷ xs) x some few is = absurd (omega (arith, few))
+
 -- where the next edit's leaf may be looked for
 pub reach_begins : (leaves : List (List Entry)) (from : ℕ) (ws vs : List PlaceEdit) (w : PlaceEdit) → 0 < length leaves → ws ≡ w ∷ vs → (from ≡ 0) ⊎ ReachLeaf leaves from ws → (from < length leaves) × BeginsBy leaves from (store_place w)
 reach_begins leaves from ws vs w some is = λ h. ⊎_elim (λ e. (omega (arith, e, some), inl e)) (λ r. let reach : ReachLeaf leaves from (w ∷ vs) = subst (ReachLeaf leaves from) is r in (reach.0, inr reach.1)) h

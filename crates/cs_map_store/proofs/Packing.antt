@@ -1,5 +1,5 @@
 -- Entries that stand in bytes.
-use Rattle.std.proofs.Common.{◌≡◌, ℕ, Bool, true, false, cond, Option, Some, None, zero, suc, ◌+◌, ◌-◌, ◌<◌, ◌≤◌, List, [], ◌∷◌, ◌++◌, refl, sym, ap, subst, ◌∙◌, length, get_or, take, drop, map, arith, length-append}
+use Rattle.std.proofs.Common.{◌≡◌, ℕ, Bool, true, cond, Option, zero, suc, ◌+◌, ◌-◌, ◌<◌, ◌≤◌, List, [], ◌∷◌, ◌++◌, refl, sym, ap, subst, ◌∙◌, length, get_or, take, drop, map, arith, length-append}
 use Rattle.std.specs.Prelude.{pos, slice_set}
 use Rattle.std.specs.List.{All, insert, remove, slice_range}
 use Rattle.std.specs.Ordering.{int_cmp, nat_cmp, ordering_then}

@@ -1,5 +1,5 @@
 -- Leaves out of which some are taken to be amended.
-use Rattle.std.proofs.Common.{◌≡◌, ℕ, zero, suc, ◌+◌, ◌<◌, ◌≤◌, inl, inr, true, false, List, [], ◌∷◌, ◌++◌, refl, sym, ap, subst, ◌∙◌, length, get_or, drop, arith, ⊎_elim}
+use Rattle.std.proofs.Common.{◌≡◌, ℕ, zero, suc, ◌+◌, ◌<◌, ◌≤◌, inl, inr, true, false, List, [], ◌∷◌, ◌++◌, refl, sym, ap, subst, ◌∙◌, length, drop, arith, ⊎_elim}
 use Rattle.std.specs.Prelude.{slice_set, ◌⊎◌}
 use Rattle.std.proofs.Math.Dec.{eqb}
 use borrow.Author.Tests.{eqb-true, eqb-false}

@@ -15,7 +15,7 @@ use crate::leaf::{Amendment, Leaf, Place};
 use crate::merging::merged;
 use cs_store::{PlaceEdit, StoredBody};
 use std::alloc::{AllocError, Global};
-use std::mem;
+use std::{mem, slice};
 
 /// A leaf that comes to have twice as many rows is cut into leaves of so many.
 const LEAF: usize = 32;
@@ -292,7 +292,7 @@ fn stage(
         let all = merged(alloc, &Leaf::new(alloc), edits)?;
         return Ok(Staged::Fresh(pieces_of(alloc, &all)?));
     }
-    let mut patches = Vec::new(alloc);
+    let mut patches = Vec::with_capacity(alloc, 1)?;
     if let Err(e) = stage_patches(alloc, leaves, near, edits, &mut patches) {
         undo_all(leaves, patches);
         return Err(e);
@@ -315,12 +315,18 @@ pub fn stage_edits(
     ensures made { IfOk result (λ staged. bodies_in (after_staged staged leaves.new.items) ≡ fold edit_body (bodies_in leaves.old.items) edits.now) }
     ensures err { OnErr result (leaves.new.items ≡ leaves.old.items) }
 {
-    if edits.is_empty() {
-        return Ok(Staged::Patches(Vec::new(alloc)));
+    match edits {
+        [] => Ok(Staged::Patches(Vec::new(alloc))),
+        [edit] => {
+            let staged = stage(alloc, leaves, near.leaf, slice::from_ref(&edit))?;
+            Ok(staged)
+        }
+        _ => {
+            let sorted = in_order(alloc, edits)?;
+            let staged = stage(alloc, leaves, near.leaf, sorted.as_slice())?;
+            Ok(staged)
+        }
     }
-    let sorted = in_order(alloc, edits)?;
-    let staged = stage(alloc, leaves, near.leaf, sorted.as_slice())?;
-    Ok(staged)
 }
 
 /// Takes back what is prepared.

@@ -1,22 +1,31 @@
-use Rattle.std.proofs.Common.{◌≡◌, List, fold, subst}
+use Rattle.std.proofs.Common.{◌≡◌, List, fold, ap, refl, subst, arith, ◌∙◌}
 use Rattle.std.specs.Borrow.{Bor}
 use Rattle.cs_store.specs.declared.batch.PlaceEdit.{PlaceEdit}
 use Rattle.cs_map_store.specs.Leaves.{after_staged, edited, edits_behind, flat}
 use Rattle.cs_map_store.proofs.Holding.{bodies_after, still_rises}
+use Rattle.cs_map_store.proofs.Leafing.{only_one}
 use Rattle.cs_map_store.proofs.leaves.stage_edits.Goals as goal
 
-pub returns-clause-rise : goal.returns-clause-rise
-returns-clause-rise c =
-    let leaves = c.args.leaves.now.items in
-    let made = after_staged c.in_ok-staged.staged c.stage.new.leaves.items in
-    let merged : flat made ≡ fold edited (flat leaves) (edits_behind c.in_ok-sorted.sorted.items) =
-    subst (λ (edits : List (Bor PlaceEdit)). flat made ≡ fold edited (flat leaves) (edits_behind edits)) c.as_slice.ensures.value c.in_ok-staged.ensures.made in
-    still_rises leaves made (edits_behind c.in_ok-sorted.sorted.items) c.requires.rise merged
+pub returns-in_ok-staged-in-len1-clause-rise : goal.returns-in_ok-staged-in-len1-clause-rise
+returns-in_ok-staged-in-len1-clause-rise c =
+    still_rises c.args.leaves.now.items (after_staged c.in_ok-staged-in-len1.staged c.stage.new.leaves.items) (edits_behind c.from_ref.result.now) c.requires.rise c.in_ok-staged-in-len1.ensures.made
 
-pub returns-clause-made : goal.returns-clause-made
-returns-clause-made c =
+pub returns-in_ok-staged-in-len1-clause-made : goal.returns-in_ok-staged-in-len1-clause-made
+returns-in_ok-staged-in-len1-clause-made c =
+    let edits = c.args.edits.now in
+    let one : edits_behind c.from_ref.result.now ≡ edits = ap edits_behind c.from_ref.ensures.value ∙ only_one edits c.edit-item.result (omega (arith, c.in-len1.len_at_least)) (omega (arith, c.in-len1.len_below)) c.edit-item.is in
+    bodies_after c.args.leaves.now.items (after_staged c.in_ok-staged-in-len1.staged c.stage.new.leaves.items) edits edits c.requires.rise (λ bodies. refl)
+    (c.in_ok-staged-in-len1.ensures.made ∙ ap (fold edited (flat c.args.leaves.now.items)) one)
+
+pub returns-in_ok-staged-in_default-clause-rise : goal.returns-in_ok-staged-in_default-clause-rise
+returns-in_ok-staged-in_default-clause-rise c =
+    still_rises c.args.leaves.now.items (after_staged c.in_ok-staged-in_default.staged c.stage-in_default.new.leaves.items) (edits_behind c.as_slice.result.now) c.requires.rise c.in_ok-staged-in_default.ensures.made
+
+pub returns-in_ok-staged-in_default-clause-made : goal.returns-in_ok-staged-in_default-clause-made
+returns-in_ok-staged-in_default-clause-made c =
     let leaves = c.args.leaves.now.items in
-    let made = after_staged c.in_ok-staged.staged c.stage.new.leaves.items in
-    let merged : flat made ≡ fold edited (flat leaves) (edits_behind c.in_ok-sorted.sorted.items) =
-    subst (λ (edits : List (Bor PlaceEdit)). flat made ≡ fold edited (flat leaves) (edits_behind edits)) c.as_slice.ensures.value c.in_ok-staged.ensures.made in
-    bodies_after leaves made (edits_behind c.in_ok-sorted.sorted.items) c.args.edits.now c.requires.rise c.in_ok-sorted.ensures.same merged
+    let sorted = c.in_ok-sorted-in_default.sorted.items in
+    let made = after_staged c.in_ok-staged-in_default.staged c.stage-in_default.new.leaves.items in
+    let merged : flat made ≡ fold edited (flat leaves) (edits_behind sorted) =
+    subst (λ (edits : List (Bor PlaceEdit)). flat made ≡ fold edited (flat leaves) (edits_behind edits)) c.as_slice.ensures.value c.in_ok-staged-in_default.ensures.made in
+    bodies_after leaves made (edits_behind sorted) c.args.edits.now c.requires.rise c.in_ok-sorted-in_default.ensures.same merged
