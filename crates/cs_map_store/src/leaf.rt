@@ -385,13 +385,15 @@ impl Leaf {
         } = self;
         let mut bytes = bytes;
         let mut spots = spots;
+        let held = bytes.len();
         let step = step_of(&mut bytes, &mut spots, &place, is_there, &edit.body);
+        let added = bytes.len().saturating_sub(held);
         let Ok(step) = step else {
             return Err(Leaf {
                 front,
                 bytes,
                 spots,
-                waste,
+                waste: waste.saturating_add(added),
             });
         };
         Ok(Amendment {
@@ -399,6 +401,7 @@ impl Leaf {
             bytes,
             spots,
             waste,
+            added,
             at,
             step,
         })
@@ -442,13 +445,14 @@ fn step_of(
 }
 
 /// A leaf and an edit of it that is prepared: neither to make it nor to leave it takes memory. Contracts see the rows before it
-/// and after it.
+/// and after it. `added` is how many bytes were appended for it, which are waste where it is left.
 #[derive(Drop)]
 pub struct Amendment {
     front: Front,
     bytes: Vec<u8>,
     spots: Vec<Spot>,
     waste: usize,
+    added: usize,
     at: usize,
     step: Step,
 }
@@ -474,13 +478,14 @@ impl Amendment {
             bytes,
             spots,
             waste,
+            added,
             ..
         } = self;
         Leaf {
             front,
             bytes,
             spots,
-            waste,
+            waste: waste.saturating_add(added),
         }
     }
 
