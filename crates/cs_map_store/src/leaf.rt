@@ -1,4 +1,4 @@
-//! Bodies of a `MapStore` that stand side by side, packed into one list of bytes.
+//! Bodies of a `MapStore` that follow one another, over one list of bytes, and an edit of them in place.
 
 ghost use Rattle.std.specs.Prelude.{◌≡◌, ◌++◌, ◌∷◌, ℕ, List, [], length, IfOk, OnOk};
 ghost use Rattle.std.specs.List.{All};
