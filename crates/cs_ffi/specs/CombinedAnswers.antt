@@ -127,9 +127,9 @@ IsCombineRefusal lengths inputs answer =
     ⊎ ((sum lengths ≡ length inputs) × IsPartRefusal lengths inputs answer)
     ⊎ ((changesets : List (List Group)) × ArePartsOf lengths inputs changesets × NotCombined changesets answer)
 
--- the bytes of the changesets taken together, or why there are none
-abbrev pub GivesCombined : List ℕ → List ℕ → Result (Vec ℕ) Answer → Type 0
-GivesCombined lengths inputs (Ok bytes) = SpellCombined lengths inputs bytes.items
+-- the changesets taken together, or why they can't be
+abbrev pub GivesCombined : List ℕ → List ℕ → Result (List TableChanges) Answer → Type 0
+GivesCombined lengths inputs (Ok both) = SpellCombined lengths inputs (normal_spelling both)
 GivesCombined lengths inputs (Err answer) = IsCombineRefusal lengths inputs answer
 
 -- the answer: the changesets taken together are handed over, or it is told why they can't be
@@ -154,9 +154,9 @@ abbrev pub IsAloneRefusal : List ℕ → Answer → Type 0
 IsAloneRefusal input answer =
     IsRefusal input answer ⊎ ((groups : List Group) × Spell input groups × NotCombined (groups ∷ []) answer)
 
--- the bytes of the inverse, or why there are none
-abbrev pub GivesInverse : List ℕ → Result (Vec ℕ) Answer → Type 0
-GivesInverse input (Ok bytes) = SpellInverse input bytes.items
+-- the inverse, or why there is none
+abbrev pub GivesInverse : List ℕ → Result (List TableChanges) Answer → Type 0
+GivesInverse input (Ok inverse) = SpellInverse input (normal_spelling inverse)
 GivesInverse input (Err answer) = IsAloneRefusal input answer
 
 -- the answer: the inverse is handed over, or it is told why there is none

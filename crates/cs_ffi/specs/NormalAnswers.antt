@@ -111,9 +111,9 @@ GivesForm tables input (Ok normal) = (groups : List Group) × Spell input groups
     × (length (normal_spelling normal) ≤ length (changeset_spelling groups))
 GivesForm tables input (Err answer) = IsFormRefusal tables input answer
 
--- the bytes of the normal form, or why there is none
-abbrev pub GivesNormal : List ℕ → List ℕ → Result (Vec ℕ) Answer → Type 0
-GivesNormal declared input (Ok bytes) = SpellNormal declared input bytes.items
+-- the normal form by the declared tables, or why there is none
+abbrev pub GivesNormal : List ℕ → List ℕ → Result (List TableChanges) Answer → Type 0
+GivesNormal declared input (Ok normal) = SpellNormal declared input (normal_spelling normal)
 GivesNormal declared input (Err answer) = IsNormalRefusal declared input answer
 
 -- the answer: the normal form is handed over, or it is told why there is none

@@ -112,9 +112,9 @@ abbrev pub ReadsBehind : ℕ → List ℕ → Result (List BlobGroup) Answer →
 ReadsBehind before bytes (Ok blob) = SpellBlob bytes blob
 ReadsBehind before bytes (Err answer) = IsBlobRefusal before bytes answer
 
--- the bytes of the rebased changeset, or why there are none
-abbrev pub GivesRebased : List ℕ → List ℕ → Result (Vec ℕ) Answer → Type 0
-GivesRebased local bytes (Ok made) = SpellRebased local bytes made.items
+-- the rebased changeset, or why there is none
+abbrev pub GivesRebased : List ℕ → List ℕ → Result (List TableChanges) Answer → Type 0
+GivesRebased local bytes (Ok made) = SpellRebased local bytes (normal_spelling made)
 GivesRebased local bytes (Err answer) = IsRebaseRefusal local bytes answer
 
 -- the answer: the rebased changeset is handed over, or it is told why there is none

@@ -9,9 +9,10 @@ ghost use Rattle.cs_ffi.specs.NormalAnswers.{TellsNoFault};
 ghost use Rattle.cs_ffi.specs.CombinedAnswers.{AnswersCombined, AnswersInverse, AreFitInputs, FindsAll, FindsPart, GivesCombined, GivesInverse, ArePartsOf, IsFitAlone, ReadsAll, ReadsPart, wrong_lengths};
 
 use crate::answer::Answer;
-use crate::reading::hand_over;
+use crate::reading::hand_over_normal;
 use cs_changeset::{Changeset, CodecFault, read};
 use cs_group::{combine, invert, normalise_alone};
+use cs_normal::Normal;
 use cs_normal::laws::no_fault_where_fit;
 use std::alloc::Global;
 
@@ -72,8 +73,8 @@ fn read_all<'a>(
     Ok(changesets)
 }
 
-/// The spelling of the changesets that the inputs spell, taken together.
-fn combined_bytes(alloc: Global, inputs: &[u8], lengths: &[usize]) -> Result<Vec<u8>, Answer>
+/// The changesets that the inputs spell, taken together.
+fn read_combined(alloc: Global, inputs: &[u8], lengths: &[usize]) -> Result<Normal, Answer>
     ensures gives { GivesCombined lengths.now inputs.now result }
     ensures lengths { sum lengths.now ≢ length inputs.now → IsErrAnd result (λ answer. answer ≡ wrong_lengths) }
     ensures fit { AreFitInputs lengths.now inputs.now → IfErr result (λ answer. answer ≡ no_memory) }
@@ -84,14 +85,11 @@ fn combined_bytes(alloc: Global, inputs: &[u8], lengths: &[usize]) -> Result<Vec
         return Err(Answer::wrong_lengths());
     }
     let changesets = read_all(alloc, inputs, lengths)?;
-    let both = combine(alloc, &changesets)?;
-    let mut bytes = Vec::new(alloc);
-    both.encode(&mut bytes)?;
-    Ok(bytes)
+    Ok(combine(alloc, &changesets)?)
 }
 
-/// The spelling of the inverse of the changeset that the input spells.
-fn inverse_bytes(alloc: Global, input: &[u8]) -> Result<Vec<u8>, Answer>
+/// The inverse of the changeset that the input spells.
+fn read_inverse(alloc: Global, input: &[u8]) -> Result<Normal, Answer>
     ensures gives { GivesInverse input.now result }
     ensures told { (fault : Fault) (offset : ℕ) → IsChangesetFault fault offset input.now
         → IsErrAnd result (TellsFault fault offset) }
@@ -101,9 +99,7 @@ fn inverse_bytes(alloc: Global, input: &[u8]) -> Result<Vec<u8>, Answer>
     no_fault_where_fit();
     let changeset = read_part(alloc, input, 0)?;
     let alone = normalise_alone(alloc, &changeset)?;
-    let mut bytes = Vec::new(alloc);
-    invert(alloc, &alone)?.encode(&mut bytes)?;
-    Ok(bytes)
+    Ok(invert(alloc, &alone)?)
 }
 
 /// Takes changesets together as one and writes that, in normal form, into the caller's memory. Where it has no room
@@ -118,8 +114,8 @@ pub fn write_combined(alloc: Global, inputs: &[u8], lengths: &[usize], output: &
     // What can be taken together is, or memory is wanting.
     ensures fit { AreFitInputs lengths.now inputs.now → TellsNoFault result }
 {
-    match combined_bytes(alloc, inputs, lengths) {
-        Ok(bytes) => hand_over(&bytes, output),
+    match read_combined(alloc, inputs, lengths) {
+        Ok(both) => hand_over_normal(alloc, &both, output),
         Err(answer) => answer,
     }
 }
@@ -137,8 +133,8 @@ pub fn write_inverse(alloc: Global, input: &[u8], output: &mut [u8]) -> Answer
     // What has a normal form by its own tables is taken back, or memory is wanting.
     ensures fit { IsFitAlone input.now → TellsNoFault result }
 {
-    match inverse_bytes(alloc, input) {
-        Ok(bytes) => hand_over(&bytes, output),
+    match read_inverse(alloc, input) {
+        Ok(inverse) => hand_over_normal(alloc, &inverse, output),
         Err(answer) => answer,
     }
 }

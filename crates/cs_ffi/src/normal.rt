@@ -3,7 +3,7 @@
 ghost use Rattle.cs_ffi.specs.NormalAnswers.{AnswersNormal, GivesForm, GivesNormal, GivesTables, IsFitInput, ReadsDeclaring, TellsNoFault};
 
 use crate::answer::Answer;
-use crate::reading::hand_over;
+use crate::reading::hand_over_normal;
 use cs_changeset::laws::changesets;
 use cs_changeset::{Changeset, CodecFault, read};
 use cs_normal::laws::no_fault_where_fit;
@@ -50,16 +50,13 @@ pub(crate) fn read_form(alloc: Global, catalog: &Catalog, input: &[u8]) -> Resul
     }
 }
 
-/// The spelling of the normal form of the changeset that the input spells.
-fn normal_bytes(alloc: Global, declared: &[u8], input: &[u8]) -> Result<Vec<u8>, Answer>
+/// The normal form of the changeset that the input spells, by the declared tables.
+fn read_normal(alloc: Global, declared: &[u8], input: &[u8]) -> Result<Normal, Answer>
     ensures { GivesNormal declared.now input.now result }
 {
     let declaring = read_declaring(alloc, declared)?;
     let catalog = catalog_alone(alloc, &declaring)?;
-    let normal = read_form(alloc, &catalog, input)?;
-    let mut bytes = Vec::new(alloc);
-    normal.encode(&mut bytes)?;
-    Ok(bytes)
+    read_form(alloc, &catalog, input)
 }
 
 /// Brings a changeset into normal form by the tables that the headers of another declare, and writes it into the
@@ -74,8 +71,8 @@ pub fn write_normal(alloc: Global, declared: &[u8], input: &[u8], output: &mut [
     // What fits has no fault: laws, for the proof.
     changesets();
     no_fault_where_fit();
-    match normal_bytes(alloc, declared, input) {
-        Ok(bytes) => hand_over(&bytes, output),
+    match read_normal(alloc, declared, input) {
+        Ok(normal) => hand_over_normal(alloc, &normal, output),
         Err(answer) => answer,
     }
 }

@@ -5,11 +5,13 @@ ghost use Rattle.cs_change.specs.Spelling.{changeset_spelling};
 ghost use Rattle.cs_change.specs.declared.group.Group.{Group as GroupRead};
 ghost use Rattle.cs_changeset.specs.Reading.{IsChangesetFault};
 ghost use Rattle.cs_changeset.specs.declared.fault.Fault.{Fault};
-ghost use Rattle.cs_ffi.specs.Answers.{AnswersAgain, AnswersCount, change_count, IsHanded, Spell, TellsCount, TellsFault};
+ghost use Rattle.cs_normal.specs.Normal.{normal_spelling};
+ghost use Rattle.cs_ffi.specs.Answers.{AnswersAgain, AnswersCount, change_count, Hands, IsHanded, no_memory, Spell, TellsCount, TellsFault};
 ghost use Rattle.cs_ffi.specs.Answers.{read as read_of};
 
 use crate::answer::Answer;
 use cs_changeset::{Change, Group, read};
+use cs_normal::Normal;
 use std::alloc::Global;
 
 /// How many changes the groups have.
@@ -50,6 +52,17 @@ pub fn hand_over(bytes: &[u8], output: &mut [u8]) -> Answer
         output[..bytes.len()].copy_from_slice(bytes);
     }
     Answer::read(bytes.len())
+}
+
+/// Writes a changeset in normal form to the front of the caller's memory if it has room there, and answers how many bytes it is;
+/// or memory is wanting, and nothing is written.
+pub fn hand_over_normal(alloc: Global, normal: &Normal, output: &mut [u8]) -> Answer
+    ensures { Hands (λ bytes. bytes ≡ normal_spelling normal.now) (λ answer. answer ≡ no_memory) output.old output.new result }
+{
+    match normal.encode_to_slice(alloc, output) {
+        Ok(count) => Answer::read(count),
+        Err(_) => Answer::no_memory(),
+    }
 }
 
 /// Reads a changeset and writes it again into the caller's memory. Where it has no room there, nothing is written, and

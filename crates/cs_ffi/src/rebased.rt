@@ -9,7 +9,7 @@ ghost use Rattle.cs_ffi.specs.RebasedAnswers.{AnswersRebased, CanRebase, GivesRe
 
 use crate::answer::Answer;
 use crate::combined::read_part;
-use crate::reading::hand_over;
+use crate::reading::hand_over_normal;
 use cs_blob::laws::blobs;
 use cs_blob::{Blob, CodecFault, read};
 use cs_changeset::laws::changesets;
@@ -43,8 +43,8 @@ fn read_behind(alloc: Global, blob: &[u8], before: usize) -> Result<Blob<'_>, An
     }
 }
 
-/// The spelling of the local changeset, in normal form, over the blob.
-fn rebased_bytes(alloc: Global, local: &[u8], blob: &[u8]) -> Result<Vec<u8>, Answer>
+/// The local changeset, in normal form, over the blob.
+fn read_rebased(alloc: Global, local: &[u8], blob: &[u8]) -> Result<Normal, Answer>
     ensures { GivesRebased local.now blob.now result }
 {
     let alone = read_alone(alloc, local)?;
@@ -53,10 +53,7 @@ fn rebased_bytes(alloc: Global, local: &[u8], blob: &[u8]) -> Result<Vec<u8>, An
         Ok(rebaser) => rebaser,
         Err((_entries, fault)) => return Err(Answer::from(fault)),
     };
-    let rebased = rebaser.rebase(alloc, &alone)?;
-    let mut bytes = Vec::new(alloc);
-    rebased.encode(&mut bytes)?;
-    Ok(bytes)
+    Ok(rebaser.rebase(alloc, &alone)?)
 }
 
 /// Rebases a local changeset over a blob and writes that, in normal form, into the caller's memory. Where it has no room
@@ -77,8 +74,8 @@ pub fn write_rebased(alloc: Global, local: &[u8], blob: &[u8], output: &mut [u8]
     no_fault_where_fit();
     blobs();
     no_wrong_shape();
-    match rebased_bytes(alloc, local, blob) {
-        Ok(bytes) => hand_over(&bytes, output),
+    match read_rebased(alloc, local, blob) {
+        Ok(rebased) => hand_over_normal(alloc, &rebased, output),
         Err(answer) => answer,
     }
 }

@@ -236,14 +236,38 @@ fn is_copied(alloc: Global, normal: &Normal) -> Result<bool, Memory> {
     Ok(normal.copy(alloc)?.same(normal))
 }
 
-/// Whether they stand in the catalog's order, fit it, and are copied.
+/// So many bytes that are 7.
+fn sevens(alloc: Global, len: usize) -> Result<Vec<u8>, Memory> {
+    Ok(vec![in alloc; 7; len]?)
+}
+
+/// Whether it is written to the front of a slice that is two bytes longer than its spelling, where these two stay, and not
+/// into one that is a byte shorter.
+fn is_put(alloc: Global, normal: &Normal) -> Result<bool, Memory> {
+    let mut spelled = Vec::new(alloc);
+    normal.encode(&mut spelled)?;
+    let len = spelled.len();
+    spelled.extend_from_slice(&[7, 7])?;
+    let mut long = sevens(alloc, spelled.len())?;
+    let mut short = sevens(alloc, len.saturating_sub(1))?;
+    let untouched = sevens(alloc, short.len())?;
+    let told = normal.encode_to_slice(alloc, long.as_mut_slice())?;
+    let lacking = normal.encode_to_slice(alloc, short.as_mut_slice())?;
+    Ok(told == len
+        && lacking == len
+        && long.as_slice() == spelled.as_slice()
+        && short.as_slice() == untouched.as_slice())
+}
+
+/// Whether they stand in the catalog's order, fit it, are copied and written.
 fn stands_in_order(alloc: Global) -> Option<bool> {
     let catalog = catalog(alloc)?;
     let normal = normal_inserts(alloc, &catalog, OF_TWO)?;
     Some(
         is_written(alloc, &normal, &[FIRST, ONE_V1, TWO_V1, SECOND, ONE_V1])
             && normal.fits(&catalog)
-            && is_copied(alloc, &normal).unwrap_or(false),
+            && is_copied(alloc, &normal).unwrap_or(false)
+            && is_put(alloc, &normal).unwrap_or(false),
     )
 }
 

@@ -1,15 +1,14 @@
 -- A field or a record stands at the front of bytes, or a fault.
-use Rattle.std.proofs.Common.{◌≡◌, ℕ, zero, suc, ◌+◌, ◌-◌, ◌<◌, ◌≤◌, ◌^◌, List, [], ◌∷◌, ◌++◌, length, take, drop, get_or, refl, sym, ap, ◌∙◌, append_assoc, arith, inl, inr, subst, true, false}
-use Rattle.std.specs.Prelude.{◌⊎◌, IsUtf8}
-use Rattle.std.specs.List.{AllByRecursion}
+use Rattle.std.proofs.Common.{◌≡◌, ℕ, zero, suc, ◌+◌, ◌-◌, ◌<◌, ◌≤◌, ◌^◌, List, [], ◌∷◌, ◌++◌, length, take, drop, refl, sym, ap, ◌∙◌, append_assoc, arith, inl, inr}
+use Rattle.std.specs.Prelude.{◌⊎◌}
 use Rattle.std.specs.Str.{is_utf8}
 use Rattle.std.proofs.lemmas.Bool.{cases_lt, cases_Bool}
-use Rattle.std.proofs.lemmas.List.{length-append, length-take-le, length-drop, take-append-drop, take_all}
+use Rattle.std.proofs.lemmas.List.{length-take-le, take-append-drop, take_all}
 use Rattle.std.proofs.lemmas.Str.{IsUtf8-from_is_utf8, is_utf8-from_IsUtf8}
 use Rattle.cs_varint.specs.Bytes.{AreBytes, bytes_rest}
 use Rattle.cs_varint.specs.Laws.{VarintLaws}
 use Rattle.cs_varint.specs.Varint.{spelling, IsTooLong}
-use Rattle.cs_value.specs.declared.value.Value.TheVariants.{Null, Int, Text, Blob}
+use Rattle.cs_value.specs.declared.value.Value.TheVariants.{Null, Text, Blob}
 use Rattle.cs_value.specs.declared.value.Field.{Field}
 use Rattle.cs_value.specs.declared.value.Field.TheVariants.{Undefined, Is}
 use Rattle.cs_record.specs.Spelling.{counted, field, record_of, Fits}

@@ -4,7 +4,7 @@ use Rattle.std.proofs.lemmas.Result.{err_from_is_err_and}
 use Rattle.cs_group.specs.Combined.{HasCombineFault}
 use Rattle.cs_ffi.proofs.Fit.{fault_is_memory}
 use Rattle.cs_ffi.proofs.Parts.{cut_adds_up}
-use Rattle.cs_ffi.proofs.combined.combined_bytes.Goals as goal
+use Rattle.cs_ffi.proofs.combined.read_combined.Goals as goal
 
 pub returns-then-not-add_up-clause-fit : goal.returns-then-not-add_up-clause-fit
 returns-then-not-add_up-clause-fit c = λ given.

@@ -1,7 +1,7 @@
 use Rattle.std.proofs.Common.{inr}
 use Rattle.std.proofs.lemmas.Result.{err_from_is_err_and}
 use Rattle.cs_ffi.specs.NormalAnswers.{Declare}
-use Rattle.cs_ffi.proofs.normal.normal_bytes.Goals as goal
+use Rattle.cs_ffi.proofs.normal.read_normal.Goals as goal
 
 pub returns-in_err-normal : goal.returns-in_err-normal
 returns-in_err-normal c =

@@ -3,7 +3,7 @@ use Rattle.std.proofs.lemmas.Result.{err_from_is_err_and}
 use Rattle.cs_blob.specs.declared.blob.BlobGroup.{BlobGroup}
 use Rattle.cs_rebaser.specs.Faults.{IsRebaseFault}
 use Rattle.cs_ffi.specs.RebasedAnswers.{NotConfigured, NotRebased, rebase_answer}
-use Rattle.cs_ffi.proofs.rebased.rebased_bytes.Goals as goal
+use Rattle.cs_ffi.proofs.rebased.read_rebased.Goals as goal
 
 pub returns-in_err-entries : goal.returns-in_err-entries
 returns-in_err-entries c =

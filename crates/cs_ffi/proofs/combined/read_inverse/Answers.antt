@@ -3,7 +3,7 @@ use Rattle.std.proofs.lemmas.Result.{err_from_is_err_and}
 use Rattle.cs_group.specs.Combined.{HasCombineFault}
 use Rattle.cs_ffi.specs.Answers.{TellsFault}
 use Rattle.cs_ffi.proofs.Fit.{fault_is_memory}
-use Rattle.cs_ffi.proofs.combined.inverse_bytes.Goals as goal
+use Rattle.cs_ffi.proofs.combined.read_inverse.Goals as goal
 
 pub returns-in_err-changeset-clause-told : goal.returns-in_err-changeset-clause-told
 returns-in_err-changeset-clause-told c = λ fault offset is.
