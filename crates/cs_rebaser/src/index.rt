@@ -2,6 +2,7 @@
 
 ghost use Rattle.std.specs.Prelude.{◌<◌, length, slice_get, ◌≡◌, None, Some, IfOk, IfErr, MatchOption};
 ghost use Rattle.cs_changeset.specs.Reading.{HasNoZero};
+ghost use Rattle.cs_keyed.specs.NormalForm.{HaveSameKeys};
 ghost use Rattle.cs_blob.specs.Spelling.{FitsBlob};
 ghost use Rattle.cs_rebaser.specs.Faults.{IsConfigureFault};
 ghost use Rattle.cs_rebaser.specs.Rebased.{entry_at, placed, placed_in, HasEachOnce};
@@ -31,8 +32,8 @@ pub(crate) enum Index {
 pub(crate) enum Sought<'b, 'a> {
     /// Nowhere: there is none.
     Nowhere,
-    /// In the table's group, by their keys.
-    InGroup(&'b BlobGroup<'a>, &'b GroupOrder),
+    /// In the table's group, by their keys; and the marks up to the last key column.
+    InGroup(&'b BlobGroup<'a>, &'b GroupOrder, &'b [bool]),
     /// Among the entries of all groups, by their places.
     AmongAll(&'b PlaceIndex),
 }
@@ -90,7 +91,10 @@ pub(crate) fn sought_in<'b, 'a>(
         Index::ByPlaces(places) => Sought::AmongAll(places),
         Index::ByKeys(orders) => match place_named(groups, name) {
             None => Sought::Nowhere,
-            Some(at) => Sought::InGroup(&groups[at], &orders[at]),
+            Some(at) => {
+                let order = &orders[at];
+                Sought::InGroup(&groups[at], order, key_front(order.marks.as_slice()))
+            }
         },
     }
 }
@@ -100,14 +104,15 @@ pub(crate) fn sought_in<'b, 'a>(
 fn entry_in_group<'b, 'a>(
     group: &'b BlobGroup<'a>,
     order: &GroupOrder,
+    front: &[bool],
     key: &[u8],
     finger: &mut Finger,
 ) -> Result<Option<&'b Entry<'a>>, Memory>
-    requires { IsOrderOf group.now order.now }
+    requires ordered { IsOrderOf group.now order.now }
+    requires front { HaveSameKeys front.now order.now.marks }
     ensures { IfOk result (λ found. MatchOption found (entry_at (group.now.name, key.now) (placed_in group.now) ≡ None)
         (λ entry. entry_at (group.now.name, key.now) (placed_in group.now) ≡ Some entry.now)) }
 {
-    let marks = key_front(order.marks.as_slice());
     let entries = group.entries.as_slice();
     let mut low = 0;
     let mut high = order.order.len();
@@ -117,7 +122,7 @@ fn entry_in_group<'b, 'a>(
         let step = next_step;
         next_step = step.saturating_mul(2).saturating_add(1);
         let entry = &entries[order.order[at]];
-        let compared = compare_key(marks, &entry.fields, key, &mut finger.room)?;
+        let compared = compare_key(front, &entry.fields, key, &mut finger.room)?;
         match compared {
             Ordering::Less => {
                 low = at + 1;
@@ -153,7 +158,7 @@ pub(crate) fn entry_sought<'b, 'a>(
 {
     match sought {
         Sought::Nowhere => Ok(None),
-        Sought::InGroup(group, order) => entry_in_group(*group, *order, key, finger),
+        Sought::InGroup(group, order, front) => entry_in_group(*group, *order, *front, key, finger),
         Sought::AmongAll(index) => {
             put_place(name, key, &mut finger.room)?;
             Ok(entry_in(*index, groups, finger.room.as_slice(), &mut finger.near))

@@ -26,10 +26,10 @@ fn lend_key<'a>(marks: &[bool], fields: &Record<'a>) -> Option<&'a [u8]>
 {
     let mut marks = marks;
     let mut rest = fields.again();
-    while let (Some((mark, more_marks)), Some((column, more))) = (
-        marks.split_first(),
-        rest.split_first(),
-    ) {
+    while let Some((mark, more_marks)) = marks.split_first() {
+        let Some((column, more)) = rest.split_first() else {
+            break;
+        };
         if !*mark || !defined(&column) {
             return None;
         }

@@ -18,7 +18,7 @@ loop-low-init c =
       high = omega (arith, c.len-high.ensures);
       at = λ some. (omega arith, omega (arith, some, c.min-at.ensures, c.saturating_sub.ensures));
       below = λ j e before got. absurd (omega (arith, before));
-      above = past_end (in_order group order) c.args.key.now _ (omega (arith, c.len-high.ensures, long_as group order c.requires));
+      above = past_end (in_order group order) c.args.key.now _ (omega (arith, c.len-high.ensures, long_as group order c.requires.ordered));
     }
 
 pub loop-low-preserved-in-Less : goal.loop-low-preserved-in-Less
@@ -32,12 +32,12 @@ loop-low-preserved-in-Less c =
     let less : at < length order.order.items = omega (arith, (i.at c.loop-low-test.true).1, i.high) in
     let place_is : slice_index_or order.order.items at 0 ≡ c.index.result.now = get_or_default order.order.items at 0 c.index.result.now less ∙ sym c.index.ensures in
     let here : entry ≡ get_or group.entries (slice_index_or order.order.items at 0) entry = rw (place_is, ← c.as_slice-entries.ensures) c.index-entries-index.is in
-    let told : by_bytes (entry_key (marks_of group.marks) entry) key ≡ Less = told_of _ _ (marks_of group.marks) entry key _ _ c.key_front-marks.ensures (c.as_slice.ensures ∙ c.requires.marks) c.in_ok-compared.ensures c.in-Less.is in
+    let told : by_bytes (entry_key (marks_of group.marks) entry) key ≡ Less = told_of _ _ (marks_of group.marks) entry key _ _ c.requires.front c.requires.ordered.marks c.in_ok-compared.ensures c.in-Less.is in
     record {
       within = omega (arith, i.at c.loop-low-test.true);
       high = i.high;
       at = c.at_from_low-at.ensures;
-      below = below_more (in_order group order) key (entry_key (marks_of group.marks) entry) at c.requires.rising (omega (arith, less, long_as group order c.requires)) (key_there_is group order at entry c.requires less here) told;
+      below = below_more (in_order group order) key (entry_key (marks_of group.marks) entry) at c.requires.ordered.rising (omega (arith, less, long_as group order c.requires.ordered)) (key_there_is group order at entry c.requires.ordered less here) told;
       above = i.above;
     }
 
@@ -52,20 +52,20 @@ loop-low-preserved c =
     let less : at < length order.order.items = omega (arith, (i.at c.loop-low-test.true).1, i.high) in
     let place_is : slice_index_or order.order.items at 0 ≡ c.index.result.now = get_or_default order.order.items at 0 c.index.result.now less ∙ sym c.index.ensures in
     let here : entry ≡ get_or group.entries (slice_index_or order.order.items at 0) entry = rw (place_is, ← c.as_slice-entries.ensures) c.index-entries-index.is in
-    let told : by_bytes (entry_key (marks_of group.marks) entry) key ≡ Greater = told_of _ _ (marks_of group.marks) entry key _ _ c.key_front-marks.ensures (c.as_slice.ensures ∙ c.requires.marks) c.in_ok-compared.ensures c.in-Greater.is in
+    let told : by_bytes (entry_key (marks_of group.marks) entry) key ≡ Greater = told_of _ _ (marks_of group.marks) entry key _ _ c.requires.front c.requires.ordered.marks c.in_ok-compared.ensures c.in-Greater.is in
     record {
       within = omega (arith, i.at c.loop-low-test.true);
       high = omega (arith, (i.at c.loop-low-test.true).1, i.high);
       at = c.at_from_high-at.ensures;
       below = i.below;
-      above = above_there (in_order group order) key (entry_key (marks_of group.marks) entry) at (key_there_is group order at entry c.requires less here) told;
+      above = above_there (in_order group order) key (entry_key (marks_of group.marks) entry) at (key_there_is group order at entry c.requires.ordered less here) told;
     }
 
 pub returns : goal.returns
 returns c =
     let i = c.loop-low.invariant in
     let met : c.loop-low.low ≡ c.loop-low.high = omega (arith, c.loop-low-test.false, i.within) in
-    entry_missing c.args.group.now c.args.order.now c.args.key.now c.loop-low.high c.requires (rw met at i.below) i.above
+    entry_missing c.args.group.now c.args.order.now c.args.key.now c.loop-low.high c.requires.ordered (rw met at i.below) i.above
 
 pub returns-in-Equal : goal.returns-in-Equal
 returns-in-Equal c =
@@ -78,5 +78,5 @@ returns-in-Equal c =
     let less : at < length order.order.items = omega (arith, (i.at c.loop-low-test.true).1, i.high) in
     let place_is : slice_index_or order.order.items at 0 ≡ c.index.result.now = get_or_default order.order.items at 0 c.index.result.now less ∙ sym c.index.ensures in
     let here : entry ≡ get_or group.entries (slice_index_or order.order.items at 0) entry = rw (place_is, ← c.as_slice-entries.ensures) c.index-entries-index.is in
-    let told : by_bytes (entry_key (marks_of group.marks) entry) key ≡ Equal = told_of _ _ (marks_of group.marks) entry key _ _ c.key_front-marks.ensures (c.as_slice.ensures ∙ c.requires.marks) c.in_ok-compared.ensures c.in-Equal.is in
-    entry_found group order at entry key c.requires less here told
+    let told : by_bytes (entry_key (marks_of group.marks) entry) key ≡ Equal = told_of _ _ (marks_of group.marks) entry key _ _ c.requires.front c.requires.ordered.marks c.in_ok-compared.ensures c.in-Equal.is in
+    entry_found group order at entry key c.requires.ordered less here told

@@ -7,8 +7,8 @@ use Rattle.cs_rebaser.specs.declared.index.Index.TheVariants.{ByKeys}
 use Rattle.cs_rebaser.proofs.Apart.{as_many_orders, none_named, one_named, order_there}
 use Rattle.cs_rebaser.proofs.index.sought_in.Goals as goal
 
-pub index-requires : goal.index-requires
-index-requires c =
+pub index-order-requires : goal.index-order-requires
+index-order-requires c =
     let is : IsIndex c.args.groups.now (ByKeys c.in-ByKeys.orders) = rw c.in-ByKeys.is at c.requires in
     omega (arith, c.in-ByKeys.orders.ok.0, as_many_orders c.args.groups.now c.in-ByKeys.orders.items is.1, c.in-Some.ensures.0)
 
@@ -23,6 +23,6 @@ returns-in-Some c =
     let group = c.index-groups-at.result in
     let is : IsIndex groups (ByKeys c.in-ByKeys.orders) = rw c.in-ByKeys.is at c.requires in
     let named : first_named c.args.name.now groups ≡ Some group = c.in-Some.ensures.1 ∙ slice_get-get_or groups at group c.in-Some.ensures.0 ∙ ap (λ (g : BlobGroup). Some g) (sym c.index-groups-at.is) in
-    let there = order_there groups orders at group c.index.result.now is.1 c.in-Some.ensures.0 in
-    let first : IsOrderOf group (get_or orders at c.index.result.now) = subst (λ (g : BlobGroup). IsOrderOf g (get_or orders at c.index.result.now)) (sym c.index-groups-at.is) there in
-    (subst (λ (o : GroupOrder). IsOrderOf group o) (sym c.index.ensures) first, one_named c.args.name.now groups group is.0 named)
+    let there = order_there groups orders at group c.index-order.result.now is.1 c.in-Some.ensures.0 in
+    let first : IsOrderOf group (get_or orders at c.index-order.result.now) = subst (λ (g : BlobGroup). IsOrderOf g (get_or orders at c.index-order.result.now)) (sym c.index-groups-at.is) there in
+    (subst (λ (o : GroupOrder). IsOrderOf group o) (sym c.index-order.ensures) first, rw c.as_slice.ensures at c.key_front.ensures, one_named c.args.name.now groups group is.0 named)
