@@ -19,6 +19,9 @@ const H1: [u8; 7] = [0x54, 2, 1, 0, 0x74, 0x31, 0];
 /// The header of the table t2.
 const H2: [u8; 9] = [0x54, 4, 1, 0, 0, 0, 0x74, 0x32, 0];
 
+/// The header of the table t3, whose key is its second column.
+const H3: [u8; 7] = [0x54, 2, 0, 1, 0x74, 0x33, 0];
+
 /// The header of a table t1 with a third column.
 const WIDE_H1: [u8; 8] = [0x54, 3, 1, 0, 0, 0x74, 0x31, 0];
 
@@ -258,7 +261,7 @@ fn one_change_over_one_entry(rt: HostRuntime) {
 }
 
 /// Entries at other places than the changes.
-const OTHER_PLACES: [Case; 3] = [
+const OTHER_PLACES: [Case; 4] = [
     // An entry of another key, and one of another table of another shape.
     (
         &[&H1, &DELETE, &K1, &V1],
@@ -281,6 +284,12 @@ const OTHER_PLACES: [Case; 3] = [
         &[&H1, &DELETE, &K1, &V1, &DELETE, &K2, &V2],
         &[&H1, &OMIT, &K2, &V9, &H2, &H1, &OMIT, &K1, &B2],
         &[&H1, &DELETE, &K1, &B2, &DELETE, &K2, &V9],
+    ),
+    // A key behind another column, its entries in no order.
+    (
+        &[&H3, &DELETE, &V1, &K1, &DELETE, &V2, &K2],
+        &[&H3, &OMIT, &V9, &K2, &OMIT, &B2, &K1],
+        &[&H3, &DELETE, &B2, &K1, &DELETE, &V9, &K2],
     ),
     // Of two tables one is left.
     (
