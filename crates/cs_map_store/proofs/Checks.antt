@@ -19,11 +19,11 @@ use Rattle.cs_store.specs.declared.batch.StoredEntry.{StoredEntry}
 use Rattle.cs_store.specs.Contents.{Bodies, LogItem, Meta, StorePlace, place_cmp, name_text}
 use Rattle.cs_store.specs.Written.{edit_meta, item_of, optional_bytes}
 use Rattle.cs_store.specs.Whole.{AtTable, IsName, IsWhole, StoresBody, StoresChange, StoresRow}
-use Rattle.cs_map_store.specs.Entries.{Entry}
+use Rattle.cs_leaf.specs.Entries.{Entry}
 use Rattle.cs_map_store.specs.Leaves.{bodies_in, flat}
 use Rattle.cs_map_store.specs.Slots.{HasOwnNames, SlotKey, Slot, held_in, log_of, meta_of, numbered, shown}
 use Rattle.cs_map_store.proofs.Maps.{place_total, place_exact, get-with_meta}
-use Rattle.cs_map_store.proofs.Editing.{first, second}
+use Rattle.cs_map_store.proofs.Rising.{first, second}
 use Rattle.cs_map_store.proofs.Numbered.{log_has}
 
 -- ---- what a loop over a list has found

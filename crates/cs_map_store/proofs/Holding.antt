@@ -3,12 +3,13 @@ use Rattle.std.proofs.Common.{◌≡◌, ℕ, Bool, true, cond, List, [], ◌∷
 use Rattle.std.specs.Prelude.{pos}
 use Rattle.std.specs.List.{All}
 use Rattle.std.specs.FinMap.{get, empty, get-empty, same_map, is_sorted, from_sorted, get-from_sorted, entries-from_sorted}
-use Rattle.cs_map_store.specs.Entries.{Entry}
-use Rattle.cs_map_store.specs.Leaves.{AreLeaves, edited, flat, in_table, bodies_in}
+use Rattle.cs_leaf.specs.Entries.{Entry}
+use Rattle.cs_leaf.specs.Edits.{edited}
+use Rattle.cs_map_store.specs.Leaves.{AreLeaves, flat, in_table, bodies_in}
 use Rattle.cs_store.specs.declared.batch.PlaceEdit.{PlaceEdit}
 use Rattle.cs_store.specs.declared.batch.MetaEdit.{MetaEdit}
 use Rattle.cs_store.specs.declared.batch.StoredEntry.{StoredEntry}
-use Rattle.cs_map_store.proofs.Editing.{rows_edited, sorted_edits}
+use Rattle.cs_leaf.specs.Laws.{EditsAreOfMaps, EditsKeepOrder}
 use Rattle.std.proofs.lemmas.Cmp.{nat_list_cmp_total}
 use Rattle.std.proofs.lemmas.Map.Lookups.{exact_bytes}
 use Rattle.cs_store.specs.Contents.{Bodies, place_cmp, nothing, IsListing}
@@ -54,12 +55,12 @@ pub entry_added : (old new : List StoredEntry) (entry : Option StoredEntry) (it 
 entry_added old new entry it b is new_is done = ap log_of (new_is ∙ ap (λ (t : Bool). cond t (old ++ it ∷ []) old) done) ∙ log_push old it ∙ sym (ap (λ (e : Option StoredEntry). appended (log_of old) (optional_entry e)) is)
 
 -- the bodies of leaves after edits that were put in order
-pub bodies_after : (leaves made : List (List Entry)) (edits all : List PlaceEdit) → T (is_sorted place_cmp (flat leaves)) → ((bodies : Bodies) → fold edit_body bodies edits ≡ fold edit_body bodies all)
+pub bodies_after : (leaves made : List (List Entry)) (edits all : List PlaceEdit) → EditsAreOfMaps → T (is_sorted place_cmp (flat leaves)) → ((bodies : Bodies) → fold edit_body bodies edits ≡ fold edit_body bodies all)
     → flat made ≡ fold edited (flat leaves) edits → bodies_in made ≡ fold edit_body (bodies_in leaves) all
-bodies_after leaves made edits all sorted order merged = ap from_sorted merged ∙ rows_edited edits (flat leaves) sorted ∙ order (bodies_in leaves)
+bodies_after leaves made edits all rows_edited sorted order merged = ap from_sorted merged ∙ rows_edited edits (flat leaves) sorted ∙ order (bodies_in leaves)
 
-pub still_rises : (leaves made : List (List Entry)) (edits : List PlaceEdit) → T (is_sorted place_cmp (flat leaves)) → flat made ≡ fold edited (flat leaves) edits → T (is_sorted place_cmp (flat made))
-still_rises leaves made edits sorted merged = subst (λ (es : List Entry). T (is_sorted place_cmp es)) (sym merged) (sorted_edits edits (flat leaves) sorted)
+pub still_rises : (leaves made : List (List Entry)) (edits : List PlaceEdit) → EditsKeepOrder → T (is_sorted place_cmp (flat leaves)) → flat made ≡ fold edited (flat leaves) edits → T (is_sorted place_cmp (flat made))
+still_rises leaves made edits sorted_edits sorted merged = subst (λ (es : List Entry). T (is_sorted place_cmp es)) (sym merged) (sorted_edits edits (flat leaves) sorted)
 
 -- leaves that are put in
 pub put_in : (made ends : List (List Entry)) → T (is_sorted place_cmp (flat made)) → flat ends ≡ flat made → All (λ leaf. 0 < length leaf) ends → AreLeaves ends

@@ -12,7 +12,8 @@ use Rattle.cs_store.specs.declared.batch.MetaEdit.{MetaEdit}
 use Rattle.cs_store.specs.declared.batch.StoredEntry.{StoredEntry}
 use Rattle.cs_store.specs.Contents.{Contents, StorePlace, Bodies, Meta, Log, LogItem, contents_code, name_text, nothing}
 use Rattle.cs_store.specs.Written.{item_of, optional_bytes, with_body}
-use Rattle.cs_map_store.specs.Leaves.{Entry, bodies_in}
+use Rattle.cs_leaf.specs.Entries.{Entry}
+use Rattle.cs_map_store.specs.Leaves.{bodies_in}
 
 abbrev pub SlotKey : Type 0
 SlotKey = ℕ × Vec ℕ Global

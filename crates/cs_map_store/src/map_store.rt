@@ -7,12 +7,12 @@ ghost use Rattle.cs_map_store.specs.Slots.{HasOwnNames, held_in, log_of, meta_of
 ghost use Rattle.cs_map_store.specs.Steps.{HasSlots, IsEmptyOnlyAt, IsKept, step_keys};
 
 use crate::checking::{Shelf, all_hold, check_leaves, check_log};
-use crate::leaf::Place;
 use crate::leaves::{Near, Shelves, find_row, list_rows, put_staged, stage_edits, take_back};
 use crate::log::{append, copied_entry, make_room, read_log};
 use crate::slots::{
     SlotKey, Slots, Step, make_slots, read_slot, steps_of, sweep_steps, write_steps,
 };
+use cs_leaf::Place;
 use cs_store::{Batch, MetaName, RowStore, StoreFault, StoredBody, StoredEntry};
 use cs_value::Catalog;
 use std::alloc::{AllocError, Global};
@@ -25,8 +25,9 @@ use std::marker::Model;
 /// bytes are compared only where these numbers are equal. A look-up begins where the last one ended; where its place isn't
 /// near, it halves the leaves and then one leaf. A commit of one row or of one pending change amends its leaf in place, so it
 /// costs the logarithm of those that are there, but for a walk over the list of leaves where one is cut or goes; a leaf that
-/// gets several edits at once, or half of whose bytes are of rows that are gone, is made anew. Its log has at most
-/// 4,294,967,295 entries; a commit of one more answers `Memory`. (Profile of this project.)
+/// gets several edits at once, or half of whose bytes would come to be of rows that are gone, is made anew, so no leaf's bytes
+/// are more than twice those of its rows. Its log has at most 4,294,967,295 entries; a commit of one more answers `Memory`.
+/// (Profile of this project.)
 #[derive(Drop)]
 pub struct MapStore {
     alloc: Global,

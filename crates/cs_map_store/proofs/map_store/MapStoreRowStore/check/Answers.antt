@@ -4,7 +4,7 @@ use Rattle.std.specs.List.{AllByRecursion}
 use Rattle.cs_store.specs.declared.batch.StoredEntry.{StoredEntry}
 use Rattle.cs_store.specs.Whole.{IsWhole, StoresBody}
 use Rattle.cs_map_store.specs.Checked.{IsGood}
-use Rattle.cs_map_store.specs.Entries.{Entry}
+use Rattle.cs_leaf.specs.Entries.{Entry}
 use Rattle.cs_map_store.specs.Leaves.{flat}
 use Rattle.cs_map_store.specs.Slots.{InMemory}
 use Rattle.cs_map_store.specs.declared.checking.Shelf.TheVariants.{Rows, Pending}

@@ -1,6 +1,6 @@
 use Rattle.std.proofs.Common.{subst, ◌∙◌, ap, List}
 use Rattle.std.specs.Prelude.{pos}
-use Rattle.cs_map_store.specs.Entries.{Entry}
+use Rattle.cs_leaf.specs.Entries.{Entry}
 use Rattle.cs_map_store.specs.Leaves.{flat, in_table}
 use Rattle.cs_map_store.specs.Slots.{InMemory}
 use Rattle.cs_store.specs.Contents.{IsListing, stored_tables}
