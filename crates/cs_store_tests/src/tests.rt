@@ -588,15 +588,17 @@ fn what_is_written_is_counted_where_a_commit_succeeds(rt: HostRuntime) {
 /// Rows are so many of its first bytes.
 const TEXT: &[u8] = b"abcdefghijklmnop";
 
+const KEYS: [&[u8]; 5] = [b"0", b"1", b"2", b"3", b"4"];
+
 /// The edit of this number at one of five keys: a row of another length than the one before it, and of each seven none.
 fn edit_among_few(alloc: Global, number: usize) -> Result<PlaceEdit, AllocError> {
-    let key = number % 5;
+    let text = TEXT;
     let row = if number % 7 == 6 {
         None
     } else {
-        Some(&TEXT[..number % 17])
+        Some(&text[..number % 17])
     };
-    edit_of(alloc, &(0, &b"01234"[key..key + 1], row))
+    edit_of(alloc, &(0, KEYS[number % 5], row))
 }
 
 fn one_among_few(alloc: Global, number: usize) -> Result<Batch, AllocError> {
