@@ -1,6 +1,6 @@
 //! Bodies that follow one another, over one list of bytes, and an edit of them in place.
 
-ghost use Rattle.std.specs.Prelude.{◌≡◌, ◌+◌, ◌++◌, ◌∷◌, ℕ, List, [], length, IfOk, OnOk, OnErr};
+ghost use Rattle.std.specs.Prelude.{◌≡◌, ◌≤◌, ◌+◌, ◌*◌, ◌++◌, ◌∷◌, ℕ, List, [], length, IfOk, IfSome, OnOk, OnErr};
 ghost use Rattle.std.specs.List.{All};
 ghost use Rattle.cs_store.specs.Written.{optional_bytes};
 ghost use Rattle.cs_leaf.specs.Entries.{HasRoomFor, IsFrontOf, IsPacked, IsSpotIn, IsSpotEditAt, IsSpotEditFor, bytes_of, entries_at, entry_at, size_of, spots_after, written};
@@ -424,11 +424,10 @@ impl Leaf {
         let Ok(spot_edit) = spot_edit else {
             return Err(given_back(front, bytes, spots, used, Why::NoMemory));
         };
-        let used_after = used - gone + (bytes.len() - held);
-        if bytes.len() - used_after > used_after {
+        let Some(used_after) = used_if_tight(used, gone, held, bytes.len()) else {
             bytes.truncate(held);
             return Err(given_back(front, bytes, spots, used, Why::TooLoose));
-        }
+        };
         Ok(Amendment {
             front,
             bytes,
@@ -454,6 +453,21 @@ pub enum Why {
 pub struct Unamended {
     pub leaf: Leaf,
     pub why: Why,
+}
+
+/// How many bytes rows take once so many of `used` are gone and those behind `held` have come, where that is at least half of all
+/// that there are then.
+fn used_if_tight(used: usize, gone: usize, held: usize, len: usize) -> Option<usize>
+    requires { (gone ≤ used) × (used ≤ held) × (held ≤ len) }
+    ensures counted { IfSome result (λ after. after + gone + held ≡ used + len) }
+    ensures tight { IfSome result (λ after. (after ≤ len) × (len ≤ 2 * after)) }
+{
+    let after = used - gone + (len - held);
+    if len - after > after {
+        None
+    } else {
+        Some(after)
+    }
 }
 
 /// The leaf of these parts, and why no edit of it was prepared.

@@ -1,4 +1,4 @@
-use Rattle.std.proofs.Common.{◌≡◌, ◌+◌, ◌-◌, ◌<◌, ◌++◌, true, List, take, drop, length, ap, sym, subst, ◌∙◌, arith}
+use Rattle.std.proofs.Common.{◌≡◌, ◌+◌, ◌<◌, ◌++◌, true, List, take, drop, length, ap, sym, subst, ◌∙◌, arith}
 use Rattle.std.proofs.Math.Dec.{ltb}
 use Rattle.std.proofs.lemmas.List.{length-map}
 use Rattle.cs_store.specs.Written.{optional_bytes}
@@ -36,7 +36,7 @@ invariant_of-result c =
       stands.1,
       c.in-Ok.ensures.room,
       tight_after es (entries_at bytes (spots_after spots at c.in-Ok.spot_edit)) was.used gone (length was.bytes.items) (bytes_of (written p body)) (length bytes)
-          (was.used - gone + (c.len.result - c.len-held.result)) tight c.size_if-gone.ensures.bound rows grown (omega (arith, held, grown)) (omega (arith, held, grown)),
+          c.in-Some.used_after tight c.size_if-gone.ensures.bound rows grown (omega (arith, held, grown)) (omega (arith, held, grown)),
     )
 
 pub returns-clause-after : goal.returns-clause-after
