@@ -250,8 +250,8 @@ impl Leaf {
         }
     }
 
-    /// Compares the first place with another; where there is none, an empty key of table 0. It reads no list unless the heads are
-    /// equal.
+    /// Compares the first place with another; where there is none, an empty key of table 0. It reads no list unless the heads
+    /// are equal.
     #[inline(always)]
     pub fn compare_first(&self, place: &Place) -> Ordering
         ensures { result ≡ place_cmp (nth self.now 0).0 place.now }
@@ -455,8 +455,8 @@ pub struct Unamended {
     pub why: Why,
 }
 
-/// How many bytes rows take once so many of `used` are gone and those behind `held` have come, where that is at least half of all
-/// that there are then.
+/// How many bytes rows take once so many of `used` are gone and those behind `held` have come, where that is at least half of
+/// all that there are then.
 fn used_if_tight(used: usize, gone: usize, held: usize, len: usize) -> Option<usize>
     requires { (gone ≤ used) × (used ≤ held) × (held ≤ len) }
     ensures counted { IfSome result (λ after. after + gone + held ≡ used + len) }
@@ -486,8 +486,8 @@ fn given_back(front: Front, bytes: Vec<u8>, spots: Vec<Spot>, used: usize, why: 
     }
 }
 
-/// What an edit does to the spots at its place: it sets the row that is there, adds one, removes the one that is there, or finds
-/// none to remove.
+/// What an edit does to the spots at its place: it sets the row that is there, adds one, removes the one that is there, or
+/// finds none to remove.
 #[derive(Clone, Copy)]
 enum SpotEdit {
     Set(Spot),

@@ -25,7 +25,7 @@ use Rattle.cs_map_store.proofs.Checks.{own_empty}
 
 -- ---- a new store
 
-no_bodies : bodies_in [] ≡ empty
+pub no_bodies : bodies_in [] ≡ empty
 no_bodies = same_map place_total place_exact _ _ (λ q. get-from_sorted place_cmp [] q tt ∙ sym (get-empty place_cmp q))
 
 no_meta : meta_of (shown []) ≡ empty
@@ -35,8 +35,8 @@ no_log : log_of [] ≡ empty
 unfolding log_of
 no_log = refl
 
-pub new_holds : (rows pending : List (List Entry)) (es : List (SlotKey × Slot)) (xs : List StoredEntry) → rows ≡ [] → pending ≡ [] → es ≡ [] → xs ≡ [] → held_in rows pending es xs ≡ nothing
-new_holds rows pending es xs r p e x = (λ i. held_in (r i) (p i) (e i) (x i)) ∙ (λ i. record { rows = no_bodies i; pending = no_bodies i; meta = no_meta i; log = no_log i })
+pub new_holds : (rows pending : Bodies) (es : List (SlotKey × Slot)) (xs : List StoredEntry) → rows ≡ empty → pending ≡ empty → es ≡ [] → xs ≡ [] → held_in rows pending es xs ≡ nothing
+new_holds rows pending es xs r p e x = (λ i. held_in (r i) (p i) (e i) (x i)) ∙ (λ i. record { rows = empty; pending = empty; meta = no_meta i; log = no_log i })
 
 -- ---- reads
 
@@ -70,13 +70,11 @@ pub meta_after : (es ms ns : List (SlotKey × Slot)) (steps : List Step) (edits 
     → meta_of (shown ns) ≡ fold edit_meta (meta_of (shown es)) edits
 meta_after es ms ns steps edits slots copies wrote = ap meta_of (wrote ∙ (λ i. fold write_to (slots i) (copies i))) ∙ meta_after_meta (shown es) edits
 
-pub held_after : (rows made_rows end_rows pending made_pending end_pending : List (List Entry)) (es ns : List (SlotKey × Slot)) (xs zs : List StoredEntry) (batch : Batch)
-    → bodies_in made_rows ≡ fold edit_body (bodies_in rows) batch.rows.items → flat end_rows ≡ flat made_rows
-    → bodies_in made_pending ≡ fold edit_body (bodies_in pending) batch.pending.items → flat end_pending ≡ flat made_pending
+pub held_after : (rows made_rows pending made_pending : Bodies) (es ns : List (SlotKey × Slot)) (xs zs : List StoredEntry) (batch : Batch)
+    → made_rows ≡ fold edit_body rows batch.rows.items → made_pending ≡ fold edit_body pending batch.pending.items
     → meta_of (shown ns) ≡ fold edit_meta (meta_of (shown es)) batch.meta.items → log_of zs ≡ appended (log_of xs) (optional_entry batch.log)
-    → held_in end_rows end_pending ns zs ≡ after_batch batch (held_in rows pending es xs)
-held_after rows made_rows end_rows pending made_pending end_pending es ns xs zs batch r put_rows p put_pending m l =
-    λ i. record { rows = (ap from_sorted put_rows ∙ r) i; pending = (ap from_sorted put_pending ∙ p) i; meta = m i; log = l i }
+    → held_in made_rows made_pending ns zs ≡ after_batch batch (held_in rows pending es xs)
+held_after rows made_rows pending made_pending es ns xs zs batch r p m l = λ i. record { rows = r i; pending = p i; meta = m i; log = l i }
 
 pub no_leaves : AreLeaves []
 no_leaves = record { full = λ k d h. absurd (omega (arith, h)); rise = tt }

@@ -1,5 +1,7 @@
 -- Bodies as a `MapStore` keeps them: leaves of entries, whose places rise through all leaves together.
 use Rattle.std.specs.Prelude.{not, ℤ, filter, ◌≡◌, ◌⊎◌, ◌<◌, ℕ, Bool, true, false, T, map, length, slice_index_or, slice_set, List, [], ◌∷◌, ◌++◌}
+use Rattle.std.specs.Coded.{Coded, coded×, coded_list, coded_ℕ, coded_ℤ}
+use Rattle.std.specs.FinMap as finite
 use Rattle.std.specs.List.{All}
 use Rattle.std.specs.Ordering.{int_eq, is_eq, is_lt, is_gt}
 use Rattle.std.specs.FinMap.{from_sorted, is_sorted}
@@ -22,6 +24,9 @@ nth_leaf leaves at = slice_index_or leaves at []
 -- the first place of a leaf that has one
 abbrev pub first_place : List (List Entry) → ℕ → StorePlace
 first_place leaves at = (nth (nth_leaf leaves at) 0).0
+
+abbrev pub bodies_code : Coded Bodies
+bodies_code = finite.code {R = place_cmp} (coded× coded_ℤ (coded_list coded_ℕ)) (coded_list coded_ℕ)
 
 abbrev pub bodies_in : List (List Entry) → Bodies
 bodies_in leaves = from_sorted (flat leaves)
@@ -101,6 +106,12 @@ CanBePut (Patches patches) leaves =
     ArePatches (length leaves) patches.items
     × (All (λ patch. 0 < length patch.change.1) patches.items → All (λ leaf. 0 < length leaf) (patched leaves patches.items))
 CanBePut (Fresh made) leaves = All (λ leaf. 0 < length leaf) made.items
+
+-- what is staged can be put in or left: either way places rise
+pub record CanBeMade (staged : Staged) (leaves : List (List Entry)) : Type 0 where
+  pub can : CanBePut staged leaves
+  pub before : AreLeaves (before_staged staged leaves)
+  pub rise : T (is_sorted place_cmp (flat (after_staged staged leaves)))
 
 -- the keys and the rows of a table
 abbrev pub in_table : ℤ → List Entry → List (List ℕ × List ℕ)

@@ -1,5 +1,6 @@
-//! The rows of a `MapStore`, and its pending changes: leaves whose places rise, none of them empty. A commit first prepares what
-//! it makes of each leaf, for which it takes all the memory that it needs, and then makes it or takes it back, which takes none.
+//! The rows of a `MapStore`, and its pending changes: leaves whose places rise, none of them empty. A commit first prepares
+//! what it makes of each leaf, for which it takes all the memory that it needs, and then makes it or takes it back, which takes
+//! none.
 
 ghost use Rattle.std.specs.Prelude.{◌≡◌, false, ◌≤◌, ◌<◌, ◌+◌, ◌⊎◌, List, [], ◌++◌, T, pos, length, take, drop, fold, map, filter, slice_set, option_map, Some, IfOk, IfSome, OnOk, OnErr, MatchBool};
 ghost use Rattle.std.specs.List.{All};
@@ -21,13 +22,6 @@ const LEAF: usize = 32;
 
 /// So many leaves further a look-up looks at most before it halves all that are left.
 const NEARBY: usize = 64;
-
-/// Rows and pending changes, in leaves of their own.
-#[derive(Drop)]
-pub struct Shelves {
-    pub rows: Vec<Leaf>,
-    pub pending: Vec<Leaf>,
-}
 
 /// A change of one of the leaves, which is taken out of them meanwhile.
 #[derive(Drop)]
