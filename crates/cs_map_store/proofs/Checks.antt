@@ -19,11 +19,11 @@ use Rattle.cs_store.specs.declared.batch.StoredEntry.{StoredEntry}
 use Rattle.cs_store.specs.Contents.{Bodies, LogItem, Meta, StorePlace, place_cmp, name_text}
 use Rattle.cs_store.specs.Written.{edit_meta, item_of, optional_bytes}
 use Rattle.cs_store.specs.Whole.{AtTable, IsName, IsWhole, StoresBody, StoresChange, StoresRow}
-use Rattle.cs_map_store.specs.Entries.{Entry}
+use Rattle.cs_leaf.specs.Entries.{Entry}
 use Rattle.cs_map_store.specs.Leaves.{bodies_in, flat}
 use Rattle.cs_map_store.specs.Slots.{HasOwnNames, SlotKey, Slot, held_in, log_of, meta_of, numbered, shown}
 use Rattle.cs_map_store.proofs.Maps.{place_total, place_exact, get-with_meta}
-use Rattle.cs_map_store.proofs.Editing.{first, second}
+use Rattle.cs_map_store.proofs.Rising.{first, second}
 use Rattle.cs_map_store.proofs.Numbered.{log_has}
 
 -- ---- what a loop over a list has found
@@ -193,16 +193,14 @@ all_three true true false p q r = absurd cc
 all_three true false c p q r = absurd cc
 all_three false b c p q r = absurd cc
 
-pub whole_is : (tables : List TableDef) (rows pending : List (List Entry)) (es : List (SlotKey × Slot)) (xs : List StoredEntry) (a b c : Bool)
-    → T (is_sorted place_cmp (flat rows)) → T (is_sorted place_cmp (flat pending)) → HasOwnNames (meta_of (shown es))
-    → (IsTrue a ↔ AllByRecursion (λ e. AtTable StoresRow tables e.0 e.1) (flat rows)) → (IsTrue b ↔ AllByRecursion (λ e. AtTable StoresChange tables e.0 e.1) (flat pending))
+pub whole_is : (tables : List TableDef) (rows pending : Bodies) (es : List (SlotKey × Slot)) (xs : List StoredEntry) (a b c : Bool) → HasOwnNames (meta_of (shown es))
+    → (IsTrue a ↔ ((place : StorePlace) (body : List ℕ) → get rows place ≡ Some body → AtTable StoresRow tables place body))
+    → (IsTrue b ↔ ((place : StorePlace) (body : List ℕ) → get pending place ≡ Some body → AtTable StoresChange tables place body))
     → (IsTrue c ↔ AllByRecursion (λ x. StoresBody tables x.body.items) xs)
     → IsTrue (a && (b && c)) ↔ IsWhole tables (held_in rows pending es xs)
 unfolding HasOwnNames
-whole_is tables rows pending es xs a b c sr sp own ra pb lc =
-    let r = leaves_hold (AtTable StoresRow tables) rows sr in
-    let p = leaves_hold (AtTable StoresChange tables) pending sp in
+whole_is tables rows pending es xs a b c own ra pb lc =
     let l = log_holds (StoresBody tables) xs in (
-      λ all. let each = three a b c all in record { rows = r.0 (ra.0 each.0); pending = p.0 (pb.0 each.1); entries = l.0 (lc.0 each.2); names = own },
-      λ whole. all_three a b c (ra.1 (r.1 whole.rows)) (pb.1 (p.1 whole.pending)) (lc.1 (l.1 whole.entries)),
+      λ all. let each = three a b c all in record { rows = ra.0 each.0; pending = pb.0 each.1; entries = l.0 (lc.0 each.2); names = own },
+      λ whole. all_three a b c (ra.1 whole.rows) (pb.1 whole.pending) (lc.1 (l.1 whole.entries)),
     )

@@ -3,12 +3,13 @@ use Rattle.std.proofs.Common.{◌≡◌, ℕ, Bool, true, cond, List, [], ◌∷
 use Rattle.std.specs.Prelude.{pos}
 use Rattle.std.specs.List.{All}
 use Rattle.std.specs.FinMap.{get, empty, get-empty, same_map, is_sorted, from_sorted, get-from_sorted, entries-from_sorted}
-use Rattle.cs_map_store.specs.Entries.{Entry}
-use Rattle.cs_map_store.specs.Leaves.{AreLeaves, edited, flat, in_table, bodies_in}
+use Rattle.cs_leaf.specs.Entries.{Entry}
+use Rattle.cs_leaf.specs.Edits.{edited}
+use Rattle.cs_map_store.specs.Leaves.{AreLeaves, flat, in_table, bodies_in}
 use Rattle.cs_store.specs.declared.batch.PlaceEdit.{PlaceEdit}
 use Rattle.cs_store.specs.declared.batch.MetaEdit.{MetaEdit}
 use Rattle.cs_store.specs.declared.batch.StoredEntry.{StoredEntry}
-use Rattle.cs_map_store.proofs.Editing.{rows_edited, sorted_edits}
+use Rattle.cs_leaf.specs.Laws.{EditsAreOfMaps, EditsKeepOrder}
 use Rattle.std.proofs.lemmas.Cmp.{nat_list_cmp_total}
 use Rattle.std.proofs.lemmas.Map.Lookups.{exact_bytes}
 use Rattle.cs_store.specs.Contents.{Bodies, place_cmp, nothing, IsListing}
@@ -24,7 +25,7 @@ use Rattle.cs_map_store.proofs.Checks.{own_empty}
 
 -- ---- a new store
 
-no_bodies : bodies_in [] ≡ empty
+pub no_bodies : bodies_in [] ≡ empty
 no_bodies = same_map place_total place_exact _ _ (λ q. get-from_sorted place_cmp [] q tt ∙ sym (get-empty place_cmp q))
 
 no_meta : meta_of (shown []) ≡ empty
@@ -34,8 +35,8 @@ no_log : log_of [] ≡ empty
 unfolding log_of
 no_log = refl
 
-pub new_holds : (rows pending : List (List Entry)) (es : List (SlotKey × Slot)) (xs : List StoredEntry) → rows ≡ [] → pending ≡ [] → es ≡ [] → xs ≡ [] → held_in rows pending es xs ≡ nothing
-new_holds rows pending es xs r p e x = (λ i. held_in (r i) (p i) (e i) (x i)) ∙ (λ i. record { rows = no_bodies i; pending = no_bodies i; meta = no_meta i; log = no_log i })
+pub new_holds : (rows pending : Bodies) (es : List (SlotKey × Slot)) (xs : List StoredEntry) → rows ≡ empty → pending ≡ empty → es ≡ [] → xs ≡ [] → held_in rows pending es xs ≡ nothing
+new_holds rows pending es xs r p e x = (λ i. held_in (r i) (p i) (e i) (x i)) ∙ (λ i. record { rows = empty; pending = empty; meta = no_meta i; log = no_log i })
 
 -- ---- reads
 
@@ -54,12 +55,12 @@ pub entry_added : (old new : List StoredEntry) (entry : Option StoredEntry) (it 
 entry_added old new entry it b is new_is done = ap log_of (new_is ∙ ap (λ (t : Bool). cond t (old ++ it ∷ []) old) done) ∙ log_push old it ∙ sym (ap (λ (e : Option StoredEntry). appended (log_of old) (optional_entry e)) is)
 
 -- the bodies of leaves after edits that were put in order
-pub bodies_after : (leaves made : List (List Entry)) (edits all : List PlaceEdit) → T (is_sorted place_cmp (flat leaves)) → ((bodies : Bodies) → fold edit_body bodies edits ≡ fold edit_body bodies all)
+pub bodies_after : (leaves made : List (List Entry)) (edits all : List PlaceEdit) → EditsAreOfMaps → T (is_sorted place_cmp (flat leaves)) → ((bodies : Bodies) → fold edit_body bodies edits ≡ fold edit_body bodies all)
     → flat made ≡ fold edited (flat leaves) edits → bodies_in made ≡ fold edit_body (bodies_in leaves) all
-bodies_after leaves made edits all sorted order merged = ap from_sorted merged ∙ rows_edited edits (flat leaves) sorted ∙ order (bodies_in leaves)
+bodies_after leaves made edits all rows_edited sorted order merged = ap from_sorted merged ∙ rows_edited edits (flat leaves) sorted ∙ order (bodies_in leaves)
 
-pub still_rises : (leaves made : List (List Entry)) (edits : List PlaceEdit) → T (is_sorted place_cmp (flat leaves)) → flat made ≡ fold edited (flat leaves) edits → T (is_sorted place_cmp (flat made))
-still_rises leaves made edits sorted merged = subst (λ (es : List Entry). T (is_sorted place_cmp es)) (sym merged) (sorted_edits edits (flat leaves) sorted)
+pub still_rises : (leaves made : List (List Entry)) (edits : List PlaceEdit) → EditsKeepOrder → T (is_sorted place_cmp (flat leaves)) → flat made ≡ fold edited (flat leaves) edits → T (is_sorted place_cmp (flat made))
+still_rises leaves made edits sorted_edits sorted merged = subst (λ (es : List Entry). T (is_sorted place_cmp es)) (sym merged) (sorted_edits edits (flat leaves) sorted)
 
 -- leaves that are put in
 pub put_in : (made ends : List (List Entry)) → T (is_sorted place_cmp (flat made)) → flat ends ≡ flat made → All (λ leaf. 0 < length leaf) ends → AreLeaves ends
@@ -69,13 +70,11 @@ pub meta_after : (es ms ns : List (SlotKey × Slot)) (steps : List Step) (edits 
     → meta_of (shown ns) ≡ fold edit_meta (meta_of (shown es)) edits
 meta_after es ms ns steps edits slots copies wrote = ap meta_of (wrote ∙ (λ i. fold write_to (slots i) (copies i))) ∙ meta_after_meta (shown es) edits
 
-pub held_after : (rows made_rows end_rows pending made_pending end_pending : List (List Entry)) (es ns : List (SlotKey × Slot)) (xs zs : List StoredEntry) (batch : Batch)
-    → bodies_in made_rows ≡ fold edit_body (bodies_in rows) batch.rows.items → flat end_rows ≡ flat made_rows
-    → bodies_in made_pending ≡ fold edit_body (bodies_in pending) batch.pending.items → flat end_pending ≡ flat made_pending
+pub held_after : (rows made_rows pending made_pending : Bodies) (es ns : List (SlotKey × Slot)) (xs zs : List StoredEntry) (batch : Batch)
+    → made_rows ≡ fold edit_body rows batch.rows.items → made_pending ≡ fold edit_body pending batch.pending.items
     → meta_of (shown ns) ≡ fold edit_meta (meta_of (shown es)) batch.meta.items → log_of zs ≡ appended (log_of xs) (optional_entry batch.log)
-    → held_in end_rows end_pending ns zs ≡ after_batch batch (held_in rows pending es xs)
-held_after rows made_rows end_rows pending made_pending end_pending es ns xs zs batch r put_rows p put_pending m l =
-    λ i. record { rows = (ap from_sorted put_rows ∙ r) i; pending = (ap from_sorted put_pending ∙ p) i; meta = m i; log = l i }
+    → held_in made_rows made_pending ns zs ≡ after_batch batch (held_in rows pending es xs)
+held_after rows made_rows pending made_pending es ns xs zs batch r p m l = λ i. record { rows = r i; pending = p i; meta = m i; log = l i }
 
 pub no_leaves : AreLeaves []
 no_leaves = record { full = λ k d h. absurd (omega (arith, h)); rise = tt }

@@ -8,10 +8,10 @@ use borrow.Author.Tests.{ltb-true, ltb-false, lt-ltb}
 use Rattle.std.specs.declared.cmp.Ordering.{Ordering}
 use Rattle.std.specs.declared.cmp.Ordering.TheVariants.{Less, Equal, Greater}
 use Rattle.std.specs.List.{All, slice_range, splice}
-use Rattle.std.specs.Ordering.{int_eq, is_eq, is_lt, eq_by_cmp, ordering_reverse}
+use Rattle.std.specs.Ordering.{int_eq, is_eq, eq_by_cmp, ordering_reverse}
 use Rattle.std.specs.FinMap.{get, find, is_sorted, get-from_sorted}
 use Rattle.std.specs.FinMap.Entries.{below_all}
-use Rattle.std.proofs.lemmas.List.{append-nil, append_assoc, take-append-drop, drop_more, length-drop, get_or-drop, drop_all, take_all}
+use Rattle.std.proofs.lemmas.List.{append-nil, append_assoc, take-append-drop, drop_more, length-drop, get_or-drop, take_all}
 use Rattle.std.proofs.lemmas.List.Elements.{All-push, All-append, All-take, All-drop}
 use Rattle.std.proofs.lemmas.List.Edits.{length-between}
 use Rattle.std.specs.declared.vec.IntoIter.{IntoIter}
@@ -20,12 +20,14 @@ use Rattle.std.specs.Vec.Iter.{into_iter_items, into_iter_len, into_iter_steps}
 use Rattle.std.proofs.lemmas.Iterator.{items_from_drains}
 use Rattle.std.proofs.lemmas.Iterator.Adapters.{YieldsList-from_vec}
 use Rattle.cs_store.specs.Contents.{StorePlace, place_cmp}
-use Rattle.cs_map_store.specs.Entries.{Entry, no_entry, nth, IsPlaceFor}
-use Rattle.cs_map_store.specs.Leaves.{AreBefore, AreBelow, AreLeaves, BeginsBehind, BeginsBy, ReachLeaf, store_place, edited, edits_behind, first_place, flat, in_table, nth_leaf, bodies_in, Rise, Follow, IsMerged, after_change, patched, ArePatches}
+use Rattle.cs_leaf.specs.Entries.{Entry, no_entry, nth}
+use Rattle.cs_leaf.specs.Edits.{AreBelow, AreEditsAbove, AreEditsBelow, store_place, edited, edits_behind, Rise, Follow}
+use Rattle.cs_map_store.specs.Leaves.{AreBefore, AreLeaves, BeginsBehind, BeginsBy, ReachLeaf, first_place, flat, in_table, nth_leaf, bodies_in, patched, ArePatches}
 use Rattle.cs_map_store.specs.declared.leaves.Patch.{Patch}
 use Rattle.cs_store.specs.declared.batch.PlaceEdit.{PlaceEdit}
+use Rattle.cs_leaf.specs.Laws.{EditsBeforeKeep, EditsBehindKeep}
 use Rattle.cs_map_store.proofs.Maps.{place_total, place_exact}
-use Rattle.cs_map_store.proofs.Editing.{first, second, both, less, is_less, BelowEdits, EditsBelow, fold_behind, fold_before, below_split, sorted_back, sorted_front, below_most, below_less, above_less, run_below, above_head, not_both}
+use Rattle.cs_map_store.proofs.Rising.{first, second, both, less, is_less, below_split, sorted_back, sorted_front, below_most, below_less, above_less}
 
 pub flat_append : (xs ys : List (List Entry)) → flat (xs ++ ys) ≡ flat xs ++ flat ys
 flat_append [] ys = refl
@@ -49,19 +51,6 @@ pieces_more pieces all leaf made piece from to less within so_far full none is g
       ap flat grown ∙ flat_append pieces (piece ∷ []) ∙ (λ i. so_far i ++ (append-nil piece ∙ its) i) ∙ sym (take_slice leaf from (to - from)) ∙ ap (λ k. take k leaf) n,
       subst (All (λ piece. 0 < length piece)) (sym grown) (All-push (λ piece. 0 < length piece) pieces piece full (let l = ap length its in let k = length-between leaf from to within in omega (arith, l, k, less))),
     )
-
--- ---- a merge, edit by edit
-
-follow_below : (more : List Entry) (p : StorePlace) (ws : List PlaceEdit) → ((q : StorePlace) → place_cmp p q ≡ Less → AreBelow more q) → Follow p ws → BelowEdits more ws
-follow_below more p [] low h = tt
-follow_below more p (w ∷ ws) low h = (low (store_place w) h.0, follow_below more p ws low h.1)
-
-pub merge_more : (before after leaf : List Entry) (from next : ℕ) (w : PlaceEdit) (ws all : List PlaceEdit) (end : List Entry) → Rise (w ∷ ws) → IsMerged leaf from w next before after
-    → before ++ fold edited (drop from leaf) (w ∷ ws) ≡ end → after ++ fold edited (drop next leaf) ws ≡ end
-merge_more before after leaf from next w ws all end rise m was =
-    ap (λ (zs : List Entry). zs ++ fold edited (drop next leaf) ws) m.pushed ∙ append_assoc before m.more (fold edited (drop next leaf) ws)
-    ∙ ap (λ (zs : List Entry). before ++ zs) (sym (fold_behind ws m.more (drop next leaf) (follow_below m.more (store_place w) ws m.below rise.0)))
-    ∙ ap (λ (zs : List Entry). before ++ fold edited zs ws) (sym m.same) ∙ was
 
 pub rise_back : (us ws : List PlaceEdit) → Rise (us ++ ws) → Rise ws
 rise_back [] ws h = h
@@ -179,31 +168,6 @@ pub leaf_sorted : (leaves : List (List Entry)) (at : ℕ) → T (is_sorted place
 leaf_sorted leaves at s less = sorted_front (nth_leaf leaves at) (flat (drop (at + 1) leaves))
     (sorted_back (flat (take at leaves)) (nth_leaf leaves at ++ flat (drop (at + 1) leaves)) (subst (λ zs. T (is_sorted place_cmp zs)) (flat_split leaves at less) s))
 
-from_place : (leaf : List Entry) (at : ℕ) (p : StorePlace) → at ≤ length leaf → T (is_sorted place_cmp leaf) → IsPlaceFor leaf 0 at p → find place_cmp p leaf ≡ find place_cmp p (drop at leaf)
-from_place leaf at p within s found =
-    let n : at - 0 ≡ at = omega arith in
-    let low : AreBelow (take at leaf) p = subst (λ k. AreBelow (take k leaf) p) n (run_below leaf 0 at p (omega arith) within s found) in
-    ap (find place_cmp p) (sym (take-append-drop at leaf)) ∙ find_behind (take at leaf) (drop at leaf) p low
-
-pub find_there : (leaf : List Entry) (at : ℕ) (p : StorePlace) → at < length leaf → T (is_sorted place_cmp leaf) → IsPlaceFor leaf 0 at p → place_cmp (nth leaf at).0 p ≡ Equal → find place_cmp p leaf ≡ Some (nth leaf at).1
-find_there leaf at p less s found e =
-    from_place leaf at p (omega (arith, less)) s found ∙ ap (find place_cmp p) (drop_more leaf at no_entry less)
-    ∙ ap (λ b. cond b (Some (nth leaf at).1) (find place_cmp p (drop (at + 1) leaf))) (ap (eq_by_cmp place_cmp p) (place_exact (nth leaf at).0 p e) ∙ (eq_by_cmp_equiv place_total).refl p)
-
-pub find_nothing : (leaf : List Entry) (at : ℕ) (p : StorePlace) → at ≤ length leaf → T (is_sorted place_cmp leaf) → IsPlaceFor leaf 0 at p → (at < length leaf → is_eq (place_cmp (nth leaf at).0 p) ≡ false) → find place_cmp p leaf ≡ None
-find_nothing leaf at p within s found apart = from_place leaf at p within s found ∙ elim (ltb at (length leaf)) as (λ b. ltb at (length leaf) ≡ b → find place_cmp p (drop at leaf) ≡ None) [
-  | false ↦ λ e. ap (find place_cmp p) (drop_all at leaf (ltb-false at (length leaf) e))
-  | true ↦ λ e. above (ltb-true at (length leaf) e)
-] refl
-  where
-    above : at < length leaf → find place_cmp p (drop at leaf) ≡ None
-    above less =
-        let here : drop at leaf ≡ nth leaf at ∷ drop (at + 1) leaf = drop_more leaf at no_entry less in
-        let cut : T (is_sorted place_cmp (drop at leaf)) = sorted_back (take at leaf) (drop at leaf) (subst (λ zs. T (is_sorted place_cmp zs)) (sym (take-append-drop at leaf)) s) in
-        let notless : is_lt (place_cmp (nth leaf at).0 p) ≡ false = ⊎_elim (λ e. absurd (omega (arith, e, less))) (λ h. h) found.1 in
-        ap (find place_cmp p) here ∙ find_above (nth leaf at ∷ drop (at + 1) leaf) p
-        (above_head (nth leaf at) (drop (at + 1) leaf) p (subst (λ zs. T (is_sorted place_cmp zs)) here cut) (not_both _ notless (apart less)))
-
 -- an entry of the place of a row is its row
 pub find_met : (leaves : List (List Entry)) (at row : ℕ) (p : StorePlace) → T (is_sorted place_cmp (flat leaves)) → at < length leaves → row < length (nth_leaf leaves at) → place_cmp (nth (nth_leaf leaves at) row).0 p ≡ Equal → get (bodies_in leaves) p ≡ Some (nth (nth_leaf leaves at) row).1
 find_met leaves at row p s less within e =
@@ -253,11 +217,11 @@ length_set (l ∷ ls) (suc at) leaf = ap suc (length_set ls at leaf)
 
 pub length_patched : (patches : List Patch) (leaves : List (List Entry)) → length (patched leaves patches) ≡ length leaves
 length_patched [] leaves = refl
-length_patched (p ∷ ps) leaves = length_patched ps (slice_set leaves p.at (after_change p.change)) ∙ length_set leaves p.at (after_change p.change)
+length_patched (p ∷ ps) leaves = length_patched ps (slice_set leaves p.at p.change.1) ∙ length_set leaves p.at p.change.1
 
-pub patched_push : (patches : List Patch) (leaves : List (List Entry)) (p : Patch) → patched leaves (patches ++ p ∷ []) ≡ slice_set (patched leaves patches) p.at (after_change p.change)
+pub patched_push : (patches : List Patch) (leaves : List (List Entry)) (p : Patch) → patched leaves (patches ++ p ∷ []) ≡ slice_set (patched leaves patches) p.at p.change.1
 patched_push [] leaves p = refl
-patched_push (q ∷ qs) leaves p = patched_push qs (slice_set leaves q.at (after_change q.change)) p
+patched_push (q ∷ qs) leaves p = patched_push qs (slice_set leaves q.at q.change.1) p
 
 pub drop_drop : {X : Type 0} (n m : ℕ) (xs : List X) → drop (n + m) xs ≡ drop m (drop n xs)
 drop_drop {X = X} zero m xs = let k : zero + m ≡ m = omega arith in ap (λ j. drop j xs) k
@@ -278,7 +242,7 @@ nth_later now leaves from at le same =
     let n : at + 0 ≡ at = omega arith in
     ap (λ k. nth_leaf now k) (sym n) ∙ sym (get_or-drop at now 0 []) ∙ ap (λ (ls : List (List Entry)). get_or ls 0 []) (later now leaves from at le same) ∙ get_or-drop at leaves 0 [] ∙ ap (λ k. nth_leaf leaves k) n
 
-below_edits : (es : List Entry) (p : StorePlace) (ws : List PlaceEdit) → AreBelow es p → Follow p ws → BelowEdits es ws
+below_edits : (es : List Entry) (p : StorePlace) (ws : List PlaceEdit) → AreBelow es p → Follow p ws → AreEditsAbove es ws
 below_edits es p [] low h = tt
 below_edits es p (w ∷ ws) low h = (below_less es p (store_place w) h.0 low, below_edits es p ws low h.1)
 
@@ -288,8 +252,8 @@ fold_both es (u ∷ us) ws = fold_both (edited es u) us ws
 
 -- the edits that fall into one leaf change it alone
 pub patch_leaf : (leaves now : List (List Entry)) (from at : ℕ) (w : PlaceEdit) (ws : List PlaceEdit) → AreLeaves leaves → length now ≡ length leaves → T (is_sorted place_cmp (flat now)) → drop from now ≡ drop from leaves → from ≤ at → at < length leaves
-    → BeginsBy leaves at (store_place w) → AreBefore leaves (at + 1) (w ∷ ws) → Rise (w ∷ ws) → flat (slice_set now at (fold edited (nth_leaf leaves at) (w ∷ ws))) ≡ fold edited (flat now) (w ∷ ws)
-patch_leaf leaves now from at w ws are long sorted same le less by before rise =
+    → BeginsBy leaves at (store_place w) → AreBefore leaves (at + 1) (w ∷ ws) → Rise (w ∷ ws) → EditsBehindKeep → EditsBeforeKeep → flat (slice_set now at (fold edited (nth_leaf leaves at) (w ∷ ws))) ≡ fold edited (flat now) (w ∷ ws)
+patch_leaf leaves now from at w ws are long sorted same le less by before rise fold_behind fold_before =
     flat_set now at made there
     ∙ ap (λ (zs : List Entry). front ++ zs) (sym (fold_before (w ∷ ws) leaf back (edits_below (w ∷ ws) before)))
     ∙ sym (fold_behind (w ∷ ws) front (leaf ++ back) (low, below_edits front (store_place w) ws low rise.0))
@@ -320,7 +284,7 @@ patch_leaf leaves now from at w ws are long sorted same le less by before rise =
     is_next : nth_leaf now (at + 1) ≡ nth_leaf leaves (at + 1)
     is_next = nth_later now leaves from (at + 1) (omega (arith, le)) same
 
-    edits_below : (vs : List PlaceEdit) → AreBefore leaves (at + 1) vs → EditsBelow vs back
+    edits_below : (vs : List PlaceEdit) → AreBefore leaves (at + 1) vs → AreEditsBelow vs back
     edits_below [] h = tt
     edits_below (v ∷ vs) h = (
       leaves_behind now (at + 1) (store_place v) (omega (arith, there)) (λ more. subst (λ (l : List Entry). 0 < length l) (sym is_next) (are.full (at + 1) [] (omega (arith, more, long)))) sorted
@@ -329,14 +293,14 @@ patch_leaf leaves now from at w ws are long sorted same le less by before rise =
     )
 
 pub patch_more : (leaves now : List (List Entry)) (from at count : ℕ) (w : PlaceEdit) (ws vs : List PlaceEdit) (made : List Entry) (end : List Entry) → AreLeaves leaves → length now ≡ length leaves → T (is_sorted place_cmp (flat now)) → drop from now ≡ drop from leaves
-    → from ≤ at → at < length leaves → BeginsBy leaves at (store_place w) → ws ≡ w ∷ vs → 0 < count → AreBefore leaves (at + 1) (take count ws) → Rise ws → made ≡ fold edited (nth_leaf leaves at) (take count ws) → fold edited (flat now) ws ≡ end
+    → from ≤ at → at < length leaves → BeginsBy leaves at (store_place w) → ws ≡ w ∷ vs → 0 < count → AreBefore leaves (at + 1) (take count ws) → Rise ws → EditsBehindKeep → EditsBeforeKeep → made ≡ fold edited (nth_leaf leaves at) (take count ws) → fold edited (flat now) ws ≡ end
     → (flat (slice_set now at made) ≡ fold edited (flat now) (take count ws)) × (fold edited (flat (slice_set now at made)) (drop count ws) ≡ end)
-patch_more leaves now from at zero w ws vs made end are long sorted same le less by is some before rise makes was = absurd (omega (arith, some))
-patch_more leaves now from at (suc n) w ws vs made end are long sorted same le less by is some before rise makes was =
+patch_more leaves now from at zero w ws vs made end are long sorted same le less by is some before rise behind_keep before_keep makes was = absurd (omega (arith, some))
+patch_more leaves now from at (suc n) w ws vs made end are long sorted same le less by is some before rise behind_keep before_keep makes was =
     let first : take (suc n) ws ≡ w ∷ take n vs = ap (take (suc n)) is in
     let one : flat (slice_set now at made) ≡ fold edited (flat now) (take (suc n) ws) =
     ap (λ (m : List Entry). flat (slice_set now at m)) (makes ∙ ap (fold edited (nth_leaf leaves at)) first)
-    ∙ patch_leaf leaves now from at w (take n vs) are long sorted same le less by (subst (AreBefore leaves (at + 1)) first before) (subst Rise first (rise_take ws (suc n) rise))
+    ∙ patch_leaf leaves now from at w (take n vs) are long sorted same le less by (subst (AreBefore leaves (at + 1)) first before) (subst Rise first (rise_take ws (suc n) rise)) behind_keep before_keep
     ∙ ap (fold edited (flat now)) (sym first) in
     (one, ap (λ (es : List Entry). fold edited es (drop (suc n) ws)) one ∙ sym (fold_both (flat now) (take (suc n) ws) (drop (suc n) ws)) ∙ ap (fold edited (flat now)) (take-append-drop (suc n) ws) ∙ was)
 
@@ -371,9 +335,9 @@ full_set (l ∷ ls) zero leaf full some (suc k) d h = full (suc k) d h
 full_set (l ∷ ls) (suc at) leaf full some zero d h = full 0 d (omega arith)
 full_set (l ∷ ls) (suc at) leaf full some (suc k) d h = full_set ls at leaf (λ j e m. full (suc j) e (omega (arith, m))) some k d (omega (arith, h))
 
-pub full_patched : (patches : List Patch) (leaves : List (List Entry)) → All (λ leaf. 0 < length leaf) leaves → All (λ (patch : Patch). 0 < length (after_change patch.change)) patches → All (λ leaf. 0 < length leaf) (patched leaves patches)
+pub full_patched : (patches : List Patch) (leaves : List (List Entry)) → All (λ leaf. 0 < length leaf) leaves → All (λ (patch : Patch). 0 < length patch.change.1) patches → All (λ leaf. 0 < length leaf) (patched leaves patches)
 full_patched [] leaves full some = full
-full_patched (p ∷ ps) leaves full some = full_patched ps (slice_set leaves p.at (after_change p.change)) (full_set leaves p.at (after_change p.change) full (some 0 p (omega arith))) (λ k d h. some (suc k) d (omega (arith, h)))
+full_patched (p ∷ ps) leaves full some = full_patched ps (slice_set leaves p.at p.change.1) (full_set leaves p.at p.change.1 full (some 0 p (omega arith))) (λ k d h. some (suc k) d (omega (arith, h)))
 
 pub in_table_append : (t : ℤ) (xs ys : List Entry) → in_table t (xs ++ ys) ≡ in_table t xs ++ in_table t ys
 in_table_append t [] ys = refl
@@ -388,10 +352,10 @@ all_first P x xs one each zero d less = one
 all_first P x xs one each (suc k) d less = each k d (omega (arith, less))
 
 pub patches_left : (leaves : List (List Entry)) (patches rest : List Patch) (patch : Patch) (end : List (List Entry)) → patches ≡ patch ∷ rest → ArePatches (length leaves) patches → patched leaves patches ≡ end
-    → ArePatches (length (slice_set leaves patch.at (after_change patch.change))) rest × (patched (slice_set leaves patch.at (after_change patch.change)) rest ≡ end)
+    → ArePatches (length (slice_set leaves patch.at patch.change.1)) rest × (patched (slice_set leaves patch.at patch.change.1) rest ≡ end)
 patches_left leaves patches rest patch end is are was =
     let all : ArePatches (length leaves) (patch ∷ rest) = subst (ArePatches (length leaves)) is are in
-    (λ k d h. let l = length_set leaves patch.at (after_change patch.change) in let m : (get_or rest k d).at < length leaves = all (suc k) d (omega (arith, h)) in omega (arith, l, m), ap (patched leaves) (sym is) ∙ was)
+    (λ k d h. let l = length_set leaves patch.at patch.change.1 in let m : (get_or rest k d).at < length leaves = all (suc k) d (omega (arith, h)) in omega (arith, l, m), ap (patched leaves) (sym is) ∙ was)
 
 map_same : {X : Type 0} (xs : List X) → map (λ x. x) xs ≡ xs
 map_same [] = refl

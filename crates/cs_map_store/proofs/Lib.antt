@@ -4,9 +4,7 @@ pub mod Numbered
 pub mod Changing
 pub mod Holding
 pub mod Filled
-pub mod Editing
-pub mod Fronts
-pub mod Packing
+pub mod Rising
 pub mod Leafing
 pub mod Taking
 pub mod Ordered

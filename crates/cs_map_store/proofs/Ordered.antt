@@ -9,7 +9,8 @@ use Rattle.std.specs.FinMap.{get, same_map}
 use Rattle.std.proofs.lemmas.List.{append_assoc, append-nil, take_more, map-append}
 use Rattle.cs_store.specs.Contents.{StorePlace, Bodies, place_cmp}
 use Rattle.cs_store.specs.Written.{optional_bytes, edit_body}
-use Rattle.cs_map_store.specs.Leaves.{DontFall, Follow, Rise, store_place, edits_behind, is_last_of}
+use Rattle.cs_leaf.specs.Edits.{Follow, Rise, store_place, edits_behind}
+use Rattle.cs_map_store.specs.Leaves.{DontFall, is_last_of}
 use Rattle.cs_store.specs.declared.batch.PlaceEdit.{PlaceEdit}
 use Rattle.cs_map_store.proofs.Maps.{place_total, place_exact, get-with_body}
 use Rattle.cs_map_store.proofs.Leafing.{behind_take}

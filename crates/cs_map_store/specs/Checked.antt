@@ -2,7 +2,7 @@
 use Rattle.std.specs.Prelude.{List}
 use Rattle.cs_value.specs.declared.catalog.TableDef.{TableDef}
 use Rattle.cs_store.specs.Whole.{AtTable, StoresChange, StoresRow}
-use Rattle.cs_map_store.specs.Entries.{Entry}
+use Rattle.cs_leaf.specs.Entries.{Entry}
 use Rattle.cs_map_store.specs.declared.checking.Shelf.{Shelf}
 use Rattle.cs_map_store.specs.declared.checking.Shelf.TheVariants.{Rows, Pending}
 

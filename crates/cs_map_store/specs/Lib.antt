@@ -1,5 +1,4 @@
 pub mod Slots
 pub mod Steps
-pub mod Entries
 pub mod Leaves
 pub mod Checked

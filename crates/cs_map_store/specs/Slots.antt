@@ -12,7 +12,6 @@ use Rattle.cs_store.specs.declared.batch.MetaEdit.{MetaEdit}
 use Rattle.cs_store.specs.declared.batch.StoredEntry.{StoredEntry}
 use Rattle.cs_store.specs.Contents.{Contents, StorePlace, Bodies, Meta, Log, LogItem, contents_code, name_text, nothing}
 use Rattle.cs_store.specs.Written.{item_of, optional_bytes, with_body}
-use Rattle.cs_map_store.specs.Leaves.{Entry, bodies_in}
 
 abbrev pub SlotKey : Type 0
 SlotKey = ℕ × Vec ℕ Global
@@ -65,10 +64,10 @@ numbered n (entry ∷ entries) = (pos n, item_of entry) ∷ numbered (n + 1) ent
 unfoldable pub log_of : List StoredEntry → Log
 log_of entries = from_entries (numbered 0 entries)
 
--- what leaves of rows, leaves of pending changes, a map of slots and a list of entries hold
-abbrev pub held_in : List (List Entry) → List (List Entry) → List (SlotKey × Slot) → List StoredEntry → Contents
+-- what rows, pending changes, a map of slots and a list of entries hold
+abbrev pub held_in : Bodies → Bodies → List (SlotKey × Slot) → List StoredEntry → Contents
 held_in rows pending slots log =
-    record { rows = bodies_in rows; pending = bodies_in pending; meta = meta_of (shown slots); log = log_of log }
+    record { rows = rows; pending = pending; meta = meta_of (shown slots); log = log_of log }
 
 -- a store in memory: what it holds, and how often what it gave was told to be no such thing
 pub record InMemory : Type 0 where

@@ -4,10 +4,8 @@ use Rattle.std.specs.Prelude.{Vec, ◌≡◌, ◌<◌, ◌^◌, Bool, true, fals
 use Rattle.std.specs.List.{All, list_any}
 use Rattle.std.specs.BTreeMap.{BTreeMap, get, is_at}
 use Rattle.cs_map_store.specs.declared.slots.Step.{Step}
-use Rattle.cs_map_store.specs.declared.leaves.Shelves.{Shelves}
 use Rattle.cs_store.specs.declared.batch.StoredEntry.{StoredEntry}
 use Rattle.cs_store.specs.Written.{optional_bytes}
-use Rattle.cs_map_store.specs.Leaves.{AreLeaves}
 use Rattle.cs_map_store.specs.Slots.{SlotKey, Slot, HasOwnNames, key_cmp, meta_of, place_of, shown, Write}
 
 abbrev pub step_write : Step → Write
@@ -37,11 +35,8 @@ abbrev pub left_empty : Slot → SlotKey → List SlotKey → List SlotKey
 left_empty None k ks = k ∷ ks
 left_empty (Some v) k ks = ks
 
--- what a `MapStore` keeps: rows and pending changes in order, versions in reach of a `u32`, a value in each slot, and no
--- slot but for names
-pub record IsKept (shelves : Shelves) (slots : BTreeMap SlotKey Slot) (log : Vec StoredEntry Global) : Type 0 where
-  pub rows : AreLeaves shelves.rows.items
-  pub pending : AreLeaves shelves.pending.items
+-- what a `MapStore` keeps: versions in reach of a `u32`, a value in each slot, and no slot but for names
+pub record IsKept (slots : BTreeMap SlotKey Slot) (log : Vec StoredEntry Global) : Type 0 where
   pub bound : length log.items < 2 ^ 32
   pub filled : IsEmptyOnlyAt [] slots
   pub names : HasOwnNames (meta_of (shown slots.entries))

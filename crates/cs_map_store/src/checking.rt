@@ -3,11 +3,11 @@
 ghost use Rattle.std.specs.Prelude.{◌≡◌, ◌<◌, ◌↔◌, ◌&&◌, length, IfOk, IsTrue};
 ghost use Rattle.std.specs.List.{AllByRecursion};
 ghost use Rattle.cs_store.specs.Whole.{StoresBody};
-ghost use Rattle.cs_map_store.specs.Entries.{nth};
+ghost use Rattle.cs_leaf.specs.Entries.{nth};
 ghost use Rattle.cs_map_store.specs.Leaves.{flat};
 ghost use Rattle.cs_map_store.specs.Checked.{IsGood};
 
-use crate::leaf::Leaf;
+use cs_leaf::Leaf;
 use cs_store::{StoredEntry, is_body, is_change, is_row};
 use cs_value::Catalog;
 use std::alloc::{AllocError, Global};

@@ -3,7 +3,8 @@
 ghost use Rattle.std.specs.Prelude.{◌≡◌, ◌<◌, true, length, drop, fold, IfOk, OnOk};
 ghost use Rattle.cs_store.specs.Contents.{Bodies, place_cmp};
 ghost use Rattle.cs_store.specs.Written.{edit_body};
-ghost use Rattle.cs_map_store.specs.Leaves.{DontFall, Rise, store_place, edits_behind, is_last_of};
+ghost use Rattle.cs_leaf.specs.Edits.{Rise, store_place, edits_behind};
+ghost use Rattle.cs_map_store.specs.Leaves.{DontFall, is_last_of};
 
 use cs_store::PlaceEdit;
 use std::alloc::{AllocError, Global};

@@ -1,18 +1,18 @@
-//! The rows of a `MapStore`, and its pending changes: leaves whose places rise, none of them empty. A commit first prepares what
-//! it makes of each leaf, for which it takes all the memory that it needs, and then makes it or takes it back, which takes none.
-//! A leaf that gets one edit is amended in place, one that gets more is made anew.
+//! The rows of a `MapStore`, and its pending changes: leaves whose places rise, none of them empty. A commit first prepares
+//! what it makes of each leaf, for which it takes all the memory that it needs, and then makes it or takes it back, which takes
+//! none.
 
-ghost use Rattle.std.specs.Prelude.{◌≡◌, false, ◌≤◌, ◌<◌, ◌+◌, ◌⊎◌, List, [], ◌++◌, T, pos, length, take, drop, fold, map, filter, option_map, Some, IfOk, IfSome, OnOk, OnErr, MatchBool};
+ghost use Rattle.std.specs.Prelude.{◌≡◌, false, ◌≤◌, ◌<◌, ◌+◌, ◌⊎◌, List, [], ◌++◌, T, pos, length, take, drop, fold, map, filter, slice_set, option_map, Some, IfOk, IfSome, OnOk, OnErr, MatchBool};
 ghost use Rattle.std.specs.List.{All};
 ghost use Rattle.std.specs.Ordering.{int_eq, is_gt};
 ghost use Rattle.std.specs.FinMap.{get, is_sorted};
+ghost use Rattle.cs_leaf.specs.Edits.{Rise, edited, edits_behind, store_place};
 ghost use Rattle.cs_store.specs.Contents.{IsListing, place_cmp};
 ghost use Rattle.cs_store.specs.Written.{edit_body, optional_bytes, pairs_of};
-ghost use Rattle.cs_map_store.specs.Leaves.{AreBefore, AreLeaves, ArePatches, BeginsBy, BeginsBehind, CanBePut, Entry, IsOf, ReachLeaf, Rise, after_change, after_staged, before_staged, store_place, edited, edits_behind, first_place, flat, in_table, left_by, nth_leaf, patched, restored, undone, bodies_in};
+ghost use Rattle.cs_map_store.specs.Leaves.{AreBefore, AreLeaves, ArePatches, BeginsBy, BeginsBehind, CanBePut, ReachLeaf, after_staged, before_staged, first_place, flat, in_table, nth_leaf, patched, restored, undone, bodies_in};
 
 use crate::edits::in_order;
-use crate::leaf::{Amendment, Leaf, Place};
-use crate::merging::merged;
+use cs_leaf::{Change, Leaf, Place, laws, merged};
 use cs_store::{PlaceEdit, StoredBody};
 use std::alloc::{AllocError, Global};
 use std::{mem, slice};
@@ -23,21 +23,7 @@ const LEAF: usize = 32;
 /// So many leaves further a look-up looks at most before it halves all that are left.
 const NEARBY: usize = 64;
 
-/// Rows and pending changes, in leaves of their own.
-#[derive(Drop)]
-pub struct Shelves {
-    pub rows: Vec<Leaf>,
-    pub pending: Vec<Leaf>,
-}
-
-/// What a leaf is to become: another, or with one edit made in it. What is to be amended is taken out of the leaves meanwhile.
-#[derive(Drop)]
-pub enum Change {
-    Anew(Leaf),
-    InPlace(Amendment),
-}
-
-/// A change of one of the leaves.
+/// A change of one of the leaves, which is taken out of them meanwhile.
 #[derive(Drop)]
 pub struct Patch {
     at: usize,
@@ -175,7 +161,7 @@ fn begin_at(leaves: &[Leaf], near: usize, edits: &[&PlaceEdit]) -> usize
     }
 }
 
-/// Prepares what edits make of the leaf there. At `Err` nothing has changed.
+/// Takes the leaf there out, and prepares what edits make of it. At `Err` nothing has changed.
 fn stage_leaf(
     alloc: Global,
     leaves: &mut Vec<Leaf>,
@@ -185,17 +171,14 @@ fn stage_leaf(
     requires in_bounds { at < length leaves.old.items }
     requires sorted { T (is_sorted place_cmp (nth_leaf leaves.old.items at)) }
     requires rise { Rise (edits_behind edits.now) }
-    ensures left { IfOk result (λ change. leaves.new.items ≡ left_by leaves.old.items at change) }
-    ensures before { IfOk result (λ change. IsOf (nth_leaf leaves.old.items at) change) }
-    ensures made { IfOk result (λ change. after_change change ≡ fold edited (nth_leaf leaves.old.items at) (edits_behind edits.now)) }
+    ensures left { IfOk result (λ change. leaves.new.items ≡ slice_set leaves.old.items at []) }
+    ensures before { IfOk result (λ change. change.0 ≡ nth_leaf leaves.old.items at) }
+    ensures made { IfOk result (λ change. change.1 ≡ fold edited (nth_leaf leaves.old.items at) (edits_behind edits.now)) }
     ensures err { OnErr result (leaves.new.items ≡ leaves.old.items) }
 {
-    if edits.len() != 1 || !leaves[at].is_tidy() {
-        return Ok(Change::Anew(merged(alloc, &leaves[at], edits)?));
-    }
     let leaf = mem::replace(&mut leaves[at], Leaf::new(alloc));
-    match leaf.amend(edits[0]) {
-        Ok(amendment) => Ok(Change::InPlace(amendment)),
+    match cs_leaf::stage(alloc, leaf, edits) {
+        Ok(change) => Ok(change),
         Err(leaf) => {
             leaves[at] = leaf;
             Err(AllocError)
@@ -223,6 +206,7 @@ fn stage_patches(
 {
     let mut start = 0;
     let mut from = begin_at(leaves.as_slice(), near, edits);
+    laws::edited_entries();
     while start < edits.len() {
         let at = leaf_of(leaves.as_slice(), from, edits[start]);
         let end = start + edits_in(leaves.as_slice(), at, &edits[start..]);
@@ -258,9 +242,7 @@ fn undo(leaves: &mut Vec<Leaf>, patch: Patch)
     ensures { leaves.new.items ≡ undone leaves.old.items patch }
 {
     let Patch { at, change } = patch;
-    if let Change::InPlace(amendment) = change {
-        leaves[at] = amendment.leave();
-    }
+    leaves[at] = change.leave();
 }
 
 /// Takes back all that is prepared, the last first.
@@ -315,6 +297,7 @@ pub fn stage_edits(
     ensures made { IfOk result (λ staged. bodies_in (after_staged staged leaves.new.items) ≡ fold edit_body (bodies_in leaves.old.items) edits.now) }
     ensures err { OnErr result (leaves.new.items ≡ leaves.old.items) }
 {
+    laws::edited_entries();
     match edits {
         [] => Ok(Staged::Patches(Vec::new(alloc))),
         [edit] => {
@@ -363,21 +346,11 @@ impl Uneven {
     }
 }
 
-/// What a leaf becomes.
-fn changed(change: Change) -> Leaf
-    ensures { result ≡ after_change change }
-{
-    match change {
-        Change::Anew(leaf) => leaf,
-        Change::InPlace(amendment) => amendment.make(),
-    }
-}
-
 /// Makes what is prepared.
 fn write_patches(leaves: &mut Vec<Leaf>, patches: Vec<Patch>) -> Uneven
     requires { ArePatches (length leaves.old.items) patches.items }
     ensures made { leaves.new.items ≡ patched leaves.old.items patches.items }
-    ensures full { result.has_empty ≡ false → All (λ patch. 0 < length (after_change patch.change)) patches.items }
+    ensures full { result.has_empty ≡ false → All (λ patch. 0 < length patch.change.1) patches.items }
 {
     let mut uneven = Uneven {
         has_empty: false,
@@ -386,7 +359,7 @@ fn write_patches(leaves: &mut Vec<Leaf>, patches: Vec<Patch>) -> Uneven
     };
     for patch in patches {
         let Patch { at, change } = patch;
-        let leaf = changed(change);
+        let leaf = change.make();
         uneven.note(at, leaf.len());
         leaves[at] = leaf;
     }
@@ -515,16 +488,13 @@ fn row_at<'a>(leaves: &'a [Leaf], near: &mut Near, place: &Place) -> Option<&'a 
     ensures { option_map (λ row. row.now) result ≡ get (bodies_in leaves.now) place.now }
 {
     let its = leaf_near(leaves, near.leaf, place);
-    let leaf = &leaves[its];
     let from = if its == near.leaf { near.row } else { 0 };
-    let at = leaf.search_near(from, place);
-    *near = Near { leaf: its, row: at };
-    if at < leaf.len() && leaf.compare(at, place).is_eq() {
-        near.row = at + 1;
-        Some(leaf.row(at))
-    } else {
-        None
-    }
+    let (row, next) = leaves[its].look_up(from, place);
+    *near = Near {
+        leaf: its,
+        row: next,
+    };
+    row
 }
 
 /// The row at a place, if there is one. It is looked for near where the last one was.

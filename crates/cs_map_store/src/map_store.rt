@@ -6,13 +6,14 @@ ghost use Rattle.cs_store.specs.Written.{after_batch, appended, edit_meta, optio
 ghost use Rattle.cs_map_store.specs.Slots.{HasOwnNames, held_in, log_of, meta_of, shown};
 ghost use Rattle.cs_map_store.specs.Steps.{HasSlots, IsEmptyOnlyAt, IsKept, step_keys};
 
-use crate::checking::{Shelf, all_hold, check_leaves, check_log};
-use crate::leaf::Place;
-use crate::leaves::{Near, Shelves, find_row, list_rows, put_staged, stage_edits, take_back};
+use crate::checking::{Shelf, all_hold, check_log};
+use crate::leaves::Near;
 use crate::log::{append, copied_entry, make_room, read_log};
+use crate::shelves::{Leaves, Shelves};
 use crate::slots::{
     SlotKey, Slots, Step, make_slots, read_slot, steps_of, sweep_steps, write_steps,
 };
+use cs_leaf::Place;
 use cs_store::{Batch, MetaName, RowStore, StoreFault, StoredBody, StoredEntry};
 use cs_value::Catalog;
 use std::alloc::{AllocError, Global};
@@ -25,8 +26,9 @@ use std::marker::Model;
 /// bytes are compared only where these numbers are equal. A look-up begins where the last one ended; where its place isn't
 /// near, it halves the leaves and then one leaf. A commit of one row or of one pending change amends its leaf in place, so it
 /// costs the logarithm of those that are there, but for a walk over the list of leaves where one is cut or goes; a leaf that
-/// gets several edits at once, or half of whose bytes are of rows that are gone, is made anew. Its log has at most
-/// 4,294,967,295 entries; a commit of one more answers `Memory`. (Profile of this project.)
+/// gets several edits at once, or half of whose bytes would come to be of rows that are gone, is made anew, so no leaf's bytes
+/// are more than twice those of its rows. Its log has at most 4,294,967,295 entries; a commit of one more answers `Memory`.
+/// (Profile of this project.)
 #[derive(Drop)]
 pub struct MapStore {
     alloc: Global,
@@ -47,12 +49,12 @@ impl Model for MapStore {
     ghost coded = { in_memory_code };
 
     ghost view = { λ store. record {
-      held = held_in store.shelves.rows.items store.shelves.pending.items store.slots.entries store.log.items;
+      held = held_in store.shelves.rows store.shelves.pending store.slots.entries store.log.items;
       misreads = store.misreads;
     } };
 
     // Each slot has a value, so what was taken for a refused commit is given back.
-    ghost invariant = { λ store. IsKept store.shelves store.slots store.log };
+    ghost invariant = { λ store. IsKept store.slots store.log };
 }
 
 impl MapStore {
@@ -66,8 +68,8 @@ impl MapStore {
         MapStore {
             alloc,
             shelves: Shelves {
-                rows: Vec::new(alloc),
-                pending: Vec::new(alloc),
+                rows: Leaves::new(alloc),
+                pending: Leaves::new(alloc),
             },
             slots: BTreeMap::new(alloc),
             log: Vec::new(alloc),
@@ -139,30 +141,30 @@ fn write(
     log: &mut Vec<StoredEntry>,
     batch: &Batch,
 ) -> Result<(), AllocError>
-    requires { IsKept shelves.old slots.old log.old }
-    ensures ok { OnOk result (held_in shelves.new.rows.items shelves.new.pending.items slots.new.entries log.new.items
-        ≡ after_batch batch.now (held_in shelves.old.rows.items shelves.old.pending.items slots.old.entries log.old.items)) }
-    ensures err { OnErr result (held_in shelves.new.rows.items shelves.new.pending.items slots.new.entries log.new.items
-        ≡ held_in shelves.old.rows.items shelves.old.pending.items slots.old.entries log.old.items) }
+    requires { IsKept slots.old log.old }
+    ensures ok { OnOk result (held_in shelves.new.rows shelves.new.pending slots.new.entries log.new.items
+        ≡ after_batch batch.now (held_in shelves.old.rows shelves.old.pending slots.old.entries log.old.items)) }
+    ensures err { OnErr result (held_in shelves.new.rows shelves.new.pending slots.new.entries log.new.items
+        ≡ held_in shelves.old.rows shelves.old.pending slots.old.entries log.old.items) }
     ensures given_back { OnErr result (vec_capacity log.new ≡ vec_capacity log.old) }
-    ensures kept { IsKept shelves.new slots.new log.new }
+    ensures kept { IsKept slots.new log.new }
 {
-    let rows = stage_edits(alloc, &mut shelves.rows, near, batch.rows.as_slice())?;
+    let rows = shelves.rows.stage(alloc, near, batch.rows.as_slice())?;
     let changes = batch.pending.as_slice();
-    let pending = match stage_edits(alloc, &mut shelves.pending, near_pending, changes) {
+    let pending = match shelves.pending.stage(alloc, near_pending, changes) {
         Ok(pending) => pending,
         Err(e) => {
-            take_back(&mut shelves.rows, rows);
+            shelves.rows = rows.leave();
             return Err(e);
         }
     };
     if let Err(e) = write_rest(alloc, slots, log, batch) {
-        take_back(&mut shelves.rows, rows);
-        take_back(&mut shelves.pending, pending);
+        shelves.rows = rows.leave();
+        shelves.pending = pending.leave();
         return Err(e);
     }
-    put_staged(alloc, &mut shelves.rows, rows);
-    put_staged(alloc, &mut shelves.pending, pending);
+    shelves.rows = rows.make(alloc);
+    shelves.pending = pending.make(alloc);
     Ok(())
 }
 
@@ -193,9 +195,8 @@ impl RowStore for MapStore {
         ensures memory { IfErr result (λ fault. fault ≡ Memory) }
         ensures count { self.new.misreads ≡ self.old.misreads }
     {
-        let leaves = self.shelves.rows.as_slice();
         let place = Place::new(table, key);
-        let row = find_row(self.alloc, leaves, &mut self.near, &place)?;
+        let row = self.shelves.rows.find(self.alloc, &mut self.near, &place)?;
         Ok(row)
     }
 
@@ -205,7 +206,7 @@ impl RowStore for MapStore {
         ensures memory { IfErr result (λ fault. fault ≡ Memory) }
         ensures count { self.new.misreads ≡ self.old.misreads }
     {
-        let rows = list_rows(self.alloc, self.shelves.rows.as_slice(), table)?;
+        let rows = self.shelves.rows.list(self.alloc, table)?;
         Ok(rows)
     }
 
@@ -215,9 +216,9 @@ impl RowStore for MapStore {
         ensures memory { IfErr result (λ fault. fault ≡ Memory) }
         ensures count { self.new.misreads ≡ self.old.misreads }
     {
-        let leaves = self.shelves.pending.as_slice();
         let place = Place::new(table, key);
-        let change = find_row(self.alloc, leaves, &mut self.near_pending, &place)?;
+        let pending = &self.shelves.pending;
+        let change = pending.find(self.alloc, &mut self.near_pending, &place)?;
         Ok(change)
     }
 
@@ -227,7 +228,7 @@ impl RowStore for MapStore {
         ensures memory { IfErr result (λ fault. fault ≡ Memory) }
         ensures count { self.new.misreads ≡ self.old.misreads }
     {
-        let changes = list_rows(self.alloc, self.shelves.pending.as_slice(), table)?;
+        let changes = self.shelves.pending.list(self.alloc, table)?;
         Ok(changes)
     }
 
@@ -294,18 +295,11 @@ impl RowStore for MapStore {
         ensures count { self.new.misreads ≡ self.old.misreads }
     {
         // Values have no names but ours, by the type's invariant.
-        let rows = check_leaves(
-            self.alloc,
-            catalog,
-            Shelf::Rows,
-            self.shelves.rows.as_slice(),
-        )?;
-        let pending = check_leaves(
-            self.alloc,
-            catalog,
-            Shelf::Pending,
-            self.shelves.pending.as_slice(),
-        )?;
+        let rows = self.shelves.rows.check(self.alloc, catalog, Shelf::Rows)?;
+        let pending = self
+            .shelves
+            .pending
+            .check(self.alloc, catalog, Shelf::Pending)?;
         let entries = check_log(self.alloc, catalog, self.log.as_slice())?;
         let whole = all_hold(rows, pending, entries);
         Ok(whole)

@@ -585,6 +585,53 @@ fn what_is_written_is_counted_where_a_commit_succeeds(rt: HostRuntime) {
     assert!(rt; counts_written(rt.alloc()));
 }
 
+/// Rows are so many of its first bytes.
+const TEXT: &[u8] = b"abcdefghijklmnop";
+
+const KEYS: [&[u8]; 5] = [b"0", b"1", b"2", b"3", b"4"];
+
+/// The edit of this number at one of five keys: a row of another length than the one before it, and of each seven none.
+fn edit_among_few(alloc: Global, number: usize) -> Result<PlaceEdit, AllocError> {
+    let text = TEXT;
+    let row = if number % 7 == 6 {
+        None
+    } else {
+        Some(&text[..number % 17])
+    };
+    edit_of(alloc, &(0, KEYS[number % 5], row))
+}
+
+fn one_among_few(alloc: Global, number: usize) -> Result<Batch, AllocError> {
+    let mut made = nothing(alloc);
+    made.rows.push(edit_among_few(alloc, number)?)?;
+    Ok(made)
+}
+
+fn edit_few_often(alloc: Global, store: &mut MapStore) -> Result<(), StoreFault> {
+    for number in 0..4_000 {
+        let batch = one_among_few(alloc, number)?;
+        store.commit(&batch)?;
+    }
+    Ok(())
+}
+
+/// Whether the store then shows the last edit of each key, of which that of the second removes.
+fn keeps_the_last(alloc: Global) -> Result<bool, StoreFault> {
+    let mut store = MapStore::new(alloc);
+    edit_few_often(alloc, &mut store)?;
+    shows(
+        alloc,
+        &mut store,
+        b"0=;2=ab;3=abc;4=abcd;||||||||||......||",
+    )
+}
+
+/// A commit of one row is made in place until too many bytes would be of rows that are gone, and the leaf is made anew then.
+#[test]
+fn many_edits_of_few_keys_leave_the_last_of_each(rt: HostRuntime) {
+    assert!(rt; keeps_the_last(rt.alloc()) == Ok(true));
+}
+
 /// The edit of this number in two tables, of which each fifth removes.
 fn edit_at(alloc: Global, number: u8, body: &[u8]) -> Result<PlaceEdit, AllocError> {
     let table = if number % 2 == 0 { 0 } else { LAST };

@@ -1,7 +1,8 @@
 use Rattle.std.proofs.Common.{◌≡◌, ◌+◌, ◌∷◌, ◌∙◌, not, drop, ap, sym, arith}
 use Rattle.std.specs.Ordering.{is_eq}
 use Rattle.std.proofs.lemmas.List.{drop_more, length-map}
-use Rattle.cs_map_store.specs.Leaves.{edits_behind, is_last_of}
+use Rattle.cs_leaf.specs.Edits.{edits_behind}
+use Rattle.cs_map_store.specs.Leaves.{is_last_of}
 use Rattle.cs_map_store.proofs.Leafing.{behind_drop}
 use Rattle.cs_map_store.proofs.Ordered.{last_none}
 use Rattle.cs_map_store.proofs.edits.is_last.Goals as goal

@@ -1,7 +1,8 @@
 use Rattle.std.proofs.Common.{◌≡◌, ◌+◌, ◌∷◌, [], ◌++◌, ◌∙◌, List, true, false, take, drop, fold, ap, sym, subst, arith}
 use Rattle.std.proofs.lemmas.List.{drop_more, length-map, map-append}
 use Rattle.cs_store.specs.Written.{edit_body}
-use Rattle.cs_map_store.specs.Leaves.{Rise, edits_behind, is_last_of}
+use Rattle.cs_leaf.specs.Edits.{Rise, edits_behind}
+use Rattle.cs_map_store.specs.Leaves.{is_last_of}
 use Rattle.cs_store.specs.declared.batch.PlaceEdit.{PlaceEdit}
 use Rattle.cs_map_store.proofs.Leafing.{behind_drop}
 use Rattle.cs_map_store.proofs.Ordered.{fall_tail, head_at, keep_last, keep_same, skip_rise, skip_same}

@@ -1,7 +1,8 @@
 use Rattle.std.proofs.Common.{◌≡◌, ◌++◌, take, drop, fold}
 use Rattle.cs_store.specs.Contents.{Bodies}
 use Rattle.cs_store.specs.Written.{edit_body}
-use Rattle.cs_map_store.specs.Leaves.{DontFall, Rise, edits_behind}
+use Rattle.cs_leaf.specs.Edits.{Rise, edits_behind}
+use Rattle.cs_map_store.specs.Leaves.{DontFall}
 use Rattle.cs_map_store.proofs.edits.last_of_each.Given as goal
 
 abbrev pub invariant-loop-at : goal.invariant-loop-at

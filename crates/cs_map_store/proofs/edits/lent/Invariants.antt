@@ -1,5 +1,5 @@
 use Rattle.std.proofs.Common.{◌≡◌, take}
-use Rattle.cs_map_store.specs.Leaves.{edits_behind}
+use Rattle.cs_leaf.specs.Edits.{edits_behind}
 use Rattle.cs_map_store.proofs.edits.lent.Given as goal
 
 abbrev pub invariant-loop-edit : goal.invariant-loop-edit

@@ -1,5 +1,5 @@
 use Rattle.std.proofs.Common.{◌-◌, ◌∙◌, arith, sym}
-use Rattle.cs_map_store.specs.Leaves.{edits_behind}
+use Rattle.cs_leaf.specs.Edits.{edits_behind}
 use Rattle.cs_map_store.proofs.Ordered.{first_rises, less_if, rise_more}
 use Rattle.cs_map_store.proofs.edits.rise.Goals as goal
 

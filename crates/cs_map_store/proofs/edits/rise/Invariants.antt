@@ -1,5 +1,5 @@
 use Rattle.std.proofs.Common.{take}
-use Rattle.cs_map_store.specs.Leaves.{Rise, edits_behind}
+use Rattle.cs_leaf.specs.Edits.{Rise, edits_behind}
 use Rattle.cs_map_store.proofs.edits.rise.Given as goal
 
 abbrev pub invariant-loop-at : goal.invariant-loop-at

@@ -1,7 +1,7 @@
 use Rattle.std.proofs.Common.{◌≡◌, ◌<◌, List, length, rules, filter, ap, ◌∙◌}
 use Rattle.std.specs.Prelude.{nat_lt}
 use Rattle.std.proofs.lemmas.Fn.{filter_same, All-from_retain}
-use Rattle.cs_map_store.specs.Entries.{Entry}
+use Rattle.cs_leaf.specs.Entries.{Entry}
 use Rattle.cs_map_store.specs.Leaves.{flat}
 use Rattle.cs_map_store.proofs.Leafing.{flat_filter}
 use Rattle.cs_map_store.proofs.leaves.drop_empty.Goals as goal

@@ -1,6 +1,7 @@
 use Rattle.std.proofs.Common.{◌≡◌, ◌+◌, ◌∷◌, [], ◌++◌, take, drop, ap, sym, subst, ◌∙◌, arith, inr}
 use Rattle.std.proofs.lemmas.List.{drop_more, take_more, map-append}
-use Rattle.cs_map_store.specs.Leaves.{AreBefore, ReachLeaf, edits_behind}
+use Rattle.cs_leaf.specs.Edits.{edits_behind}
+use Rattle.cs_map_store.specs.Leaves.{AreBefore, ReachLeaf}
 use Rattle.cs_map_store.proofs.Leafing.{before_none, before_push, behind_drop, behind_take}
 use Rattle.cs_map_store.proofs.leaves.edits_in.Goals as goal
 

@@ -1,5 +1,6 @@
 use Rattle.std.proofs.Common.{◌-◌, ◌+◌, ◌≤◌, ◌<◌, length, take}
-use Rattle.cs_map_store.specs.Leaves.{AreBefore, edits_behind}
+use Rattle.cs_leaf.specs.Edits.{edits_behind}
+use Rattle.cs_map_store.specs.Leaves.{AreBefore}
 use Rattle.cs_map_store.proofs.leaves.edits_in.Given as goal
 
 abbrev pub invariant-loop-count : goal.invariant-loop-count

@@ -1,7 +1,7 @@
 use Rattle.std.proofs.Common.{◌≡◌, ◌++◌, [], ◌+◌, List, ℕ, take, ap, sym, ◌∙◌}
 use Rattle.std.specs.Prelude.{pos}
 use Rattle.std.proofs.lemmas.List.{take_more, append-nil}
-use Rattle.cs_map_store.specs.Entries.{Entry}
+use Rattle.cs_leaf.specs.Entries.{Entry}
 use Rattle.cs_map_store.specs.Leaves.{flat, in_table}
 use Rattle.cs_map_store.proofs.Leafing.{flat_append, in_table_append}
 use Rattle.cs_map_store.proofs.leaves.list_rows.Goals as goal

@@ -1,6 +1,6 @@
 use Rattle.std.proofs.Common.{◌<◌, List, length, sym, subst}
 use Rattle.std.specs.List.{All}
-use Rattle.cs_map_store.specs.Entries.{Entry}
+use Rattle.cs_leaf.specs.Entries.{Entry}
 use Rattle.cs_map_store.proofs.Leafing.{full_patched}
 use Rattle.cs_map_store.proofs.leaves.stage.Goals as goal
 

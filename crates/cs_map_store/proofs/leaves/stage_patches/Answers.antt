@@ -3,13 +3,13 @@ use Rattle.std.specs.FinMap.{is_sorted}
 use Rattle.std.proofs.lemmas.List.{length-drop}
 use Rattle.std.proofs.lemmas.List.Elements.{All-push}
 use Rattle.cs_store.specs.Contents.{place_cmp}
-use Rattle.cs_map_store.specs.Entries.{Entry}
-use Rattle.cs_map_store.specs.Leaves.{AreBefore, ArePatches, BeginsBy, ReachLeaf, Rise, after_change, edited, edits_behind, flat, nth_leaf, patched, store_place}
+use Rattle.cs_leaf.specs.Entries.{Entry}
+use Rattle.cs_leaf.specs.Edits.{Rise, edited, edits_behind, store_place}
+use Rattle.cs_map_store.specs.Leaves.{AreBefore, ArePatches, BeginsBy, ReachLeaf, flat, nth_leaf, patched}
 use Rattle.cs_store.specs.declared.batch.PlaceEdit.{PlaceEdit}
 use Rattle.cs_map_store.specs.declared.leaves.Patch.{Patch}
-use Rattle.cs_map_store.proofs.Editing.{sorted_edits}
-use Rattle.cs_map_store.proofs.Leafing.{behind_drop, behind_take, next_edit, reach_begins, leaf_sorted, rise_drop, rise_take, patch_more, length_patched, patched_push, drop_set, drop_drop, later, nth_later, rest_of}
-use Rattle.cs_map_store.proofs.Taking.{before_same, begins_back, begins_same, behind_left, length_left, patched_more, reach_same, restored_more}
+use Rattle.cs_map_store.proofs.Leafing.{behind_drop, behind_take, next_edit, reach_begins, leaf_sorted, rise_drop, rise_take, patch_more, length_patched, patched_push, drop_set, drop_drop, length_set, later, nth_later, rest_of}
+use Rattle.cs_map_store.proofs.Taking.{before_same, begins_back, begins_same, patched_more, reach_same, restored_more}
 use Rattle.cs_map_store.proofs.leaves.stage_patches.Goals as goal
 
 pub leaf_of-at-requires-clause-in_bounds : goal.leaf_of-at-requires-clause-in_bounds
@@ -65,7 +65,7 @@ loop-start-preserved c =
     let count = c.edits_in.result in
     let was = c.loop-start.invariant in
     let change = c.in_ok-change.change in
-    let made = after_change change in
+    let made = change.1 in
     let old = c.loop-start.patches.items in
     let new = c.push_reserved.new.self.items in
     let so_far = patched leaves old in
@@ -92,20 +92,20 @@ loop-start-preserved c =
     (subst (λ (ls : List (List Entry)). BeginsBy ls at (store_place c.index-edits-start.result.now)) here c.leaf_of-at.ensures.begins) in
     let rise : Rise ws = rise_drop (edits_behind edits) start c.requires.rise in
     let more = patch_more leaves so_far from at count c.index-edits-start.result.now ws (edits_behind (drop (start + 1) edits)) made _ c.requires.leaves (length_patched old leaves) was.sorted was.rest
-    bound.0 less begins is c.edits_in.ensures.bound.0 before rise makes was.made in
+    bound.0 less begins is c.edits_in.ensures.bound.0 before rise c.edited_entries.ensures.behind c.edited_entries.ensures.before makes was.made in
     let grown : new ≡ old ++ patch ∷ [] = c.push_reserved.ensures.items ∙ ap (λ (ps : List Patch). ps ++ patch ∷ []) c.reserve.ensures.items in
     let put = ap (patched leaves) grown ∙ patched_push old leaves patch in
     let rest : drop (start + count) (edits_behind edits) ≡ drop count ws = drop_drop start count (edits_behind edits) in
     let left = c.in_ok-change.ensures.left in
     record {
       within = omega (arith, c.edits_in.ensures.bound.1, ap length (rest_of edits start), length-drop start edits, was.within);
-      long = ap length left ∙ length_left now at change ∙ was.long;
+      long = ap length left ∙ length_set now at [] ∙ was.long;
       places = subst (ArePatches (length leaves)) (sym grown) (All-push (λ (p : Patch). p.at < length leaves) old patch was.places less);
-      behind = ap (drop (at + 1)) left ∙ behind_left now at change ∙ later now leaves from (at + 1) le was.behind;
-      restored = restored_more leaves now next old new at change there left c.in_ok-change.ensures.before grown was.restored;
-      same = patched_more leaves now next old new at change left grown was.same (λ ls. patched_push old ls patch);
+      behind = ap (drop (at + 1)) left ∙ drop_set now at [] ∙ later now leaves from (at + 1) le was.behind;
+      restored = restored_more leaves now next old new patch there left c.in_ok-change.ensures.before grown was.restored;
+      same = patched_more leaves now next old new patch left grown was.same;
       rest = ap (drop (at + 1)) put ∙ drop_set so_far at made ∙ later so_far leaves from (at + 1) le was.rest;
-      sorted = subst (λ (es : List Entry). T (is_sorted place_cmp es)) (sym (ap flat put ∙ more.0)) (sorted_edits (take count ws) (flat so_far) was.sorted);
+      sorted = subst (λ (es : List Entry). T (is_sorted place_cmp es)) (sym (ap flat put ∙ more.0)) (c.edited_entries.ensures.order (take count ws) (flat so_far) was.sorted);
       reach = inr (subst (ReachLeaf leaves (at + 1)) (sym rest) behind);
       made = (λ i. fold edited (flat (put i)) (rest i)) ∙ more.1;
     }

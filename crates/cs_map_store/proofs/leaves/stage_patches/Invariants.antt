@@ -1,7 +1,8 @@
 use Rattle.std.proofs.Common.{◌≡◌, ◌-◌, ◌≤◌, ◌⊎◌, T, length, drop, fold}
 use Rattle.std.specs.FinMap.{is_sorted}
 use Rattle.cs_store.specs.Contents.{place_cmp}
-use Rattle.cs_map_store.specs.Leaves.{ArePatches, ReachLeaf, edited, edits_behind, flat, patched, restored}
+use Rattle.cs_leaf.specs.Edits.{edited, edits_behind}
+use Rattle.cs_map_store.specs.Leaves.{ArePatches, ReachLeaf, flat, patched, restored}
 use Rattle.cs_map_store.proofs.leaves.stage_patches.Given as goal
 
 abbrev pub invariant-loop-start : goal.invariant-loop-start

@@ -1,0 +1,101 @@
+//! What edits make of a leaf, prepared to be made or left.
+
+ghost use Rattle.std.specs.Prelude.{◌≡◌, T, fold, IfOk, IfErr};
+ghost use Rattle.std.specs.FinMap.{is_sorted};
+ghost use Rattle.cs_store.specs.Contents.{place_cmp};
+ghost use Rattle.cs_leaf.specs.Edits.{Rise, edited, edits_behind};
+
+use crate::leaf::{Amendment, Leaf, Why};
+use crate::merging::merged;
+use cs_store::PlaceEdit;
+use std::alloc::Global;
+use std::marker::Model;
+
+/// How a leaf is changed: with one edit made in it, or for another in its place.
+#[derive(Drop)]
+enum Way {
+    InPlace(Amendment),
+    Anew { old: Leaf, new: Leaf },
+}
+
+/// A leaf, and what edits make of it: neither to make that nor to leave it takes memory. Contracts see the rows before it and
+/// after it.
+#[derive(Drop)]
+pub struct Change {
+    way: Way,
+}
+
+impl Model for Change {
+    ghost use Rattle.std.specs.Prelude.{List};
+    ghost use Rattle.cs_leaf.specs.Entries.{Entry};
+    ghost use Rattle.cs_leaf.specs.Changes.{ends_of};
+
+    ghost Value = { List Entry × List Entry };
+
+    ghost view = { λ change. ends_of change.way };
+}
+
+impl Change {
+    ghost use Rattle.std.specs.Prelude.{◌≡◌};
+
+    /// The leaf without the edits.
+    pub fn leave(self) -> Leaf
+        ensures { result ≡ self.0 }
+    {
+        let Change { way } = self;
+        match way {
+            Way::InPlace(amendment) => amendment.leave(),
+            Way::Anew { old, .. } => old,
+        }
+    }
+
+    /// The leaf with the edits.
+    pub fn make(self) -> Leaf
+        ensures { result ≡ self.1 }
+    {
+        let Change { way } = self;
+        match way {
+            Way::InPlace(amendment) => amendment.make(),
+            Way::Anew { new, .. } => new,
+        }
+    }
+}
+
+/// Prepares another leaf in the place of this one.
+fn stage_anew(alloc: Global, leaf: Leaf, edits: &[&PlaceEdit]) -> Result<Change, Leaf>
+    requires sorted { T (is_sorted place_cmp leaf) }
+    requires rise { Rise (edits_behind edits.now) }
+    ensures before { IfOk result (λ change. change.0 ≡ leaf) }
+    ensures after { IfOk result (λ change. change.1 ≡ fold edited leaf (edits_behind edits.now)) }
+    ensures err { IfErr result (λ kept. kept ≡ leaf) }
+{
+    match merged(alloc, &leaf, edits) {
+        Ok(new) => Ok(Change {
+            way: Way::Anew { old: leaf, new },
+        }),
+        Err(_) => Err(leaf),
+    }
+}
+
+/// Prepares what edits whose places rise make of a leaf. A single one is made in place, unless rows that are gone would come to
+/// take more than half of the bytes. Where memory is refused, the leaf comes back.
+pub fn stage(alloc: Global, leaf: Leaf, edits: &[&PlaceEdit]) -> Result<Change, Leaf>
+    requires sorted { T (is_sorted place_cmp leaf) }
+    requires rise { Rise (edits_behind edits.now) }
+    ensures before { IfOk result (λ change. change.0 ≡ leaf) }
+    ensures after { IfOk result (λ change. change.1 ≡ fold edited leaf (edits_behind edits.now)) }
+    ensures err { IfErr result (λ kept. kept ≡ leaf) }
+{
+    if edits.len() != 1 {
+        return stage_anew(alloc, leaf, edits);
+    }
+    match leaf.amend(edits[0]) {
+        Ok(amendment) => Ok(Change {
+            way: Way::InPlace(amendment),
+        }),
+        Err(unamended) => match unamended.why {
+            Why::NoMemory => Err(unamended.leaf),
+            Why::TooLoose => stage_anew(alloc, unamended.leaf, edits),
+        },
+    }
+}

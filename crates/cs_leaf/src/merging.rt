@@ -1,0 +1,56 @@
+//! Edits that are merged into rows.
+
+ghost use Rattle.std.specs.Prelude.{◌≡◌, ◌≤◌, ◌<◌, ◌++◌, T, length, drop, fold, IfOk, OnOk};
+ghost use Rattle.std.specs.FinMap.{is_sorted};
+ghost use Rattle.cs_store.specs.Contents.{place_cmp};
+ghost use Rattle.cs_store.specs.Written.{optional_bytes};
+ghost use Rattle.cs_leaf.specs.Edits.{IsMerged, Rise, store_place, edited, edits_behind};
+ghost use Rattle.cs_leaf.specs.Entries.{written};
+
+use crate::leaf::{Leaf, Place};
+use cs_store::PlaceEdit;
+use std::alloc::{AllocError, Global};
+
+/// Appends the row that an edit sets at its place, if it sets one.
+fn push_edit(merged: &mut Leaf, place: &Place, body: &Option<Vec<u8>>) -> Result<(), AllocError>
+    ensures { OnOk result (merged.new ≡ merged.old ++ written place.now (optional_bytes body.now)) }
+{
+    match body {
+        Some(row) => merged.push(place, row.as_slice()),
+        None => Ok(()),
+    }
+}
+
+/// Appends the rows of a leaf before an edit, from one place on, and then the edit's row, and answers where the leaf goes on.
+fn merge_edit(
+    merged: &mut Leaf,
+    leaf: &Leaf,
+    from: usize,
+    edit: &PlaceEdit,
+) -> Result<usize, AllocError>
+    requires from { from ≤ length leaf.now }
+    requires sorted { T (is_sorted place_cmp leaf.now) }
+    ensures bound { IfOk result (λ next. next ≤ length leaf.now) }
+    ensures merged { IfOk result (λ next. IsMerged leaf.now from edit.now next merged.old merged.new) }
+{
+    let place = Place::of_edit(edit);
+    let at = leaf.search(from, &place);
+    merged.push_rows(leaf, from, at)?;
+    push_edit(merged, &place, &edit.body)?;
+    Ok(leaf.behind(at, &place))
+}
+
+/// The rows of a leaf after edits, in memory of their own.
+pub fn merged(alloc: Global, leaf: &Leaf, edits: &[&PlaceEdit]) -> Result<Leaf, AllocError>
+    requires sorted { T (is_sorted place_cmp leaf.now) }
+    requires rise { Rise (edits_behind edits.now) }
+    ensures { IfOk result (λ merged. merged ≡ fold edited leaf.now (edits_behind edits.now)) }
+{
+    let mut merged = Leaf::with_room_for(alloc, leaf, edits.len())?;
+    let mut from = 0;
+    for edit in edits {
+        from = merge_edit(&mut merged, leaf, from, *edit)?;
+    }
+    merged.push_rows(leaf, from, leaf.len())?;
+    Ok(merged)
+}

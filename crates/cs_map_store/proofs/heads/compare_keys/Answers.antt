@@ -1,8 +1,0 @@
-use Rattle.std.proofs.Common.{◌∙◌}
-use Rattle.cs_map_store.proofs.Fronts.{heads_decide}
-use Rattle.cs_map_store.proofs.heads.compare_keys.Goals as goal
-
-pub returns-in_default : goal.returns-in_default
-returns-in_default c =
-    let it = c.cmp.ensures in
-    it ∙ heads_decide c.args.key.now c.args.other.now c.args.head c.args.other_head c.requires.key c.requires.other (λ e. c.in_default.not-Equal (it ∙ e))
