@@ -253,10 +253,12 @@ fn is_put(alloc: Global, normal: &Normal) -> Result<bool, Memory> {
     let untouched = sevens(alloc, short.len())?;
     let told = normal.encode_to_slice(alloc, long.as_mut_slice())?;
     let lacking = normal.encode_to_slice(alloc, short.as_mut_slice())?;
-    Ok(told == len
-        && lacking == len
-        && long.as_slice() == spelled.as_slice()
-        && short.as_slice() == untouched.as_slice())
+    Ok(
+        told == len
+            && lacking == len
+            && long.as_slice() == spelled.as_slice()
+            && short.as_slice() == untouched.as_slice(),
+    )
 }
 
 /// Whether they stand in the catalog's order, fit it, are copied and written.
