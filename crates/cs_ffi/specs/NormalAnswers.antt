@@ -1,6 +1,5 @@
 -- What the library answers where it brings a changeset into normal form (profile of this project).
 use Rattle.std.specs.Prelude.{◌≡◌, ℕ, ◌≤◌, ◌⊎◌, List, [], ◌∷◌, length, Result, Ok, Err}
-use Rattle.std.specs.Global.{Vec}
 use Rattle.cs_value.specs.declared.catalog.TableDef.{TableDef}
 use Rattle.cs_change.specs.declared.group.Group.{Group}
 use Rattle.cs_change.specs.Spelling.{changeset_spelling, FitsChangeset}

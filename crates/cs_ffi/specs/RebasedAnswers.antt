@@ -1,7 +1,6 @@
 -- What the library answers where it rebases a changeset over a blob (profile of this project over SQLite's "Session
 -- Extension", rebasing changesets).
 use Rattle.std.specs.Prelude.{◌≡◌, ℕ, ◌+◌, ◌⊎◌, List, [], ◌∷◌, length, Result, Ok, Err}
-use Rattle.std.specs.Global.{Vec}
 use Rattle.cs_change.specs.declared.group.Group.{Group}
 use Rattle.cs_changeset.specs.declared.fault.Fault.{Fault}
 use Rattle.cs_normal.specs.Normal.{normal_spelling}

@@ -6,7 +6,7 @@ use crate::answer::Answer;
 use crate::reading::hand_over_normal;
 use cs_changeset::laws::changesets;
 use cs_changeset::{Changeset, CodecFault, read};
-use cs_normal::laws::no_fault_where_fit;
+use cs_normal::laws::{no_fault_where_fit, normal_is_taken};
 use cs_normal::{Normal, catalog_of, normalise};
 use cs_value::Catalog;
 use std::alloc::Global;
@@ -54,6 +54,8 @@ pub(crate) fn read_form(alloc: Global, catalog: &Catalog, input: &[u8]) -> Resul
 fn read_normal(alloc: Global, declared: &[u8], input: &[u8]) -> Result<Normal, Answer>
     ensures { GivesNormal declared.now input.now result }
 {
+    // The reader takes what is in normal form: a law, for the proof.
+    normal_is_taken();
     let declaring = read_declaring(alloc, declared)?;
     let catalog = catalog_alone(alloc, &declaring)?;
     read_form(alloc, &catalog, input)

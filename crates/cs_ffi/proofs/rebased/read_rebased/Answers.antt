@@ -20,11 +20,11 @@ returns-in-Err c =
     } in
     inr (c.in_ok-alone.alone, c.in_ok-alone.ensures, inr (c.in_ok-entries.entries, c.in_ok-entries.ensures, inl not))
 
-pub returns-in_err-rebased : goal.returns-in_err-rebased
-returns-in_err-rebased c =
-    let out = err_from_is_err_and c.from_residual-in_err-rebased.result c.from_residual-in_err-rebased.ensures.1 in
-    let fault = c.in_err-rebased.field-0.0 in
-    let told = subst (λ (b : List BlobGroup). IsRebaseFault fault b c.in_ok-alone.alone) c.in-Ok.ensures.configured c.in_err-rebased.ensures.fault in
+pub returns-in_err-rebase : goal.returns-in_err-rebase
+returns-in_err-rebase c =
+    let out = err_from_is_err_and c.from_residual-in_err-rebase.result c.from_residual-in_err-rebase.ensures.1 in
+    let fault = c.in_err-rebase.field-0.0 in
+    let told = subst (λ (b : List BlobGroup). IsRebaseFault fault b c.in_ok-alone.alone) c.in-Ok.ensures.configured c.in_err-rebase.ensures.fault in
     let not : NotRebased c.in_ok-entries.entries c.in_ok-alone.alone (rebase_answer fault) =
     record {
       once = c.in-Ok.ensures.once;
