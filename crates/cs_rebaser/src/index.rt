@@ -1,6 +1,6 @@
 //! How the entries of a blob are found.
 
-ghost use Rattle.std.specs.Prelude.{◌<◌, length, slice_get, ◌≡◌, None, Some, IfOk, IfErr, MatchOption};
+ghost use Rattle.std.specs.Prelude.{◌≡◌, ◌<◌, length, slice_get, None, Some, IfOk, IfErr, MatchOption};
 ghost use Rattle.cs_changeset.specs.Reading.{HasNoZero};
 ghost use Rattle.cs_keyed.specs.NormalForm.{HaveSameKeys};
 ghost use Rattle.cs_blob.specs.Spelling.{FitsBlob};
