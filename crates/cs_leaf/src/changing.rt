@@ -39,6 +39,7 @@ impl Change {
     ghost use Rattle.std.specs.Prelude.{◌≡◌};
 
     /// The leaf without the edits.
+    #[inline(always)]
     pub fn leave(self) -> Leaf
         ensures { result ≡ self.0 }
     {
@@ -50,6 +51,7 @@ impl Change {
     }
 
     /// The leaf with the edits.
+    #[inline(always)]
     pub fn make(self) -> Leaf
         ensures { result ≡ self.1 }
     {
@@ -79,6 +81,7 @@ fn stage_anew(alloc: Global, leaf: Leaf, edits: &[&PlaceEdit]) -> Result<Change,
 
 /// Prepares what edits whose places rise make of a leaf. A single one is made in place, unless rows that are gone would come to
 /// take more than half of the bytes. Where memory is refused, the leaf comes back.
+#[inline(always)]
 pub fn stage(alloc: Global, leaf: Leaf, edits: &[&PlaceEdit]) -> Result<Change, Leaf>
     requires sorted { T (is_sorted place_cmp leaf) }
     requires rise { Rise (edits_behind edits.now) }

@@ -15,6 +15,7 @@ fn rest_of(key: &[u8]) -> &[u8]
 }
 
 /// The number that the first 16 bytes spell, with a zero for each that is missing.
+#[inline(always)]
 pub fn head(key: &[u8]) -> u128
     ensures { IsHeadOf result key.now }
 {

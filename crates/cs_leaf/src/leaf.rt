@@ -49,6 +49,7 @@ impl<'a> Place<'a> {
     }
 
     /// The place of an edit.
+    #[inline(always)]
     pub fn of_edit(edit: &'a PlaceEdit) -> Place<'a>
         ensures { result ≡ store_place edit.now }
     {
@@ -164,6 +165,7 @@ impl Leaf {
     ghost use Rattle.cs_leaf.specs.Edits.{IsBehind, edited};
 
     /// No row.
+    #[inline(always)]
     pub fn new(alloc: Global) -> Leaf
         ensures { result ≡ [] }
     {
@@ -338,6 +340,7 @@ impl Leaf {
     }
 
     /// Where the leaf goes on behind a place, which stands or would stand at `at`.
+    #[inline(always)]
     pub(crate) fn behind(&self, at: usize, place: &Place) -> usize
         requires { at ≤ length self.now }
         ensures { IsBehind self.now at place.now result }
@@ -351,6 +354,7 @@ impl Leaf {
 
     /// The row at a place, if there is one, and where a look-up of a place behind it may begin. It is looked for from `near` on
     /// first.
+    #[inline(always)]
     pub fn look_up(&self, near: usize, place: &Place) -> (Option<&[u8]>, usize)
         requires { T (is_sorted place_cmp self.now) }
         ensures { option_map (λ row. row.now) result.0 ≡ find place_cmp place.now self.now }
@@ -387,6 +391,7 @@ impl Leaf {
     }
 
     /// How many bytes the row there takes with its key, where there is one.
+    #[inline(always)]
     fn size_if(&self, is_there: bool, at: usize) -> usize
         requires { is_there ≡ true → at < length self.now }
         ensures value { result ≡ (if is_there then size_of (nth self.now at) else 0) }
@@ -401,6 +406,7 @@ impl Leaf {
 
     /// Prepares an edit of this leaf in place. It takes all the memory that the edit needs. Where that is refused, or rows that
     /// are gone would come to take more than half of the bytes, the leaf comes back.
+    #[inline(always)]
     pub(crate) fn amend(self, edit: &PlaceEdit) -> Result<Amendment, Unamended>
         requires { T (is_sorted place_cmp self) }
         ensures before { IfOk result (λ amendment. amendment.0 ≡ self) }
@@ -457,6 +463,7 @@ pub struct Unamended {
 
 /// How many bytes rows take once so many of `used` are gone and those behind `held` have come, where that is at least half of
 /// all that there are then.
+#[inline(always)]
 fn used_if_tight(used: usize, gone: usize, held: usize, len: usize) -> Option<usize>
     requires { (gone ≤ used) × (used ≤ held) × (held ≤ len) }
     ensures counted { IfSome result (λ after. after + gone + held ≡ used + len) }
@@ -498,6 +505,7 @@ enum SpotEdit {
 
 /// Takes the memory that an edit needs, appends the bytes of its row, and answers what is to be done at its place. At `Err`
 /// nothing has changed.
+#[inline(always)]
 fn spot_edit_of(
     bytes: &mut Vec<u8>,
     spots: &mut Vec<Spot>,
@@ -553,6 +561,7 @@ impl Model for Amendment {
 
 impl Amendment {
     /// The leaf without the edit.
+    #[inline(always)]
     pub fn leave(self) -> Leaf
         ensures { result ≡ self.0 }
     {
@@ -575,6 +584,7 @@ impl Amendment {
     }
 
     /// The leaf with the edit.
+    #[inline(always)]
     pub fn make(self) -> Leaf
         ensures { result ≡ self.1 }
     {
@@ -598,6 +608,7 @@ impl Amendment {
 }
 
 /// Makes an edit of spots.
+#[inline(always)]
 fn edit_spots(spots: &mut Vec<Spot>, at: usize, spot_edit: SpotEdit)
     requires at { IsSpotEditAt (length spots.old.items) at spot_edit }
     requires room { HasRoomFor spots.old spot_edit }

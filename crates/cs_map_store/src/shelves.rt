@@ -76,6 +76,7 @@ impl Leaves {
 
     /// Takes all bodies out, and prepares what edits in any order make of them. At `Err` nothing has changed. The leaf of the
     /// first place is looked for near where the last look-up ended.
+    #[inline(always)]
     pub fn stage(
         &mut self,
         alloc: Global,
@@ -97,6 +98,7 @@ impl Leaves {
     }
 
     /// The body at a place, if there is one. It is looked for near where the last one was.
+    #[inline(always)]
     pub fn find(
         &self,
         alloc: Global,
