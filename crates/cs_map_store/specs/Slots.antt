@@ -1,4 +1,5 @@
--- What a `MapStore` holds: rows and pending changes in leaves, values of meta in a map of slots under `meta_table`, and the log as a list.
+-- What a `MapStore` holds: rows and pending changes in leaves, values of meta in a map of slots under `meta_table`, and the
+-- log as a list.
 -- A slot with no value shows as one that is not there, so that room can be made before anything changes.
 use Rattle.std.specs.declared.alloc.Global.{Global}
 use Rattle.std.specs.Prelude.{Vec, ◌≡◌, Some, refl, ℕ, zero, suc, ℤ, pos, negsuc, ◌+◌, map, filter, List, [], ◌∷◌, Option}
