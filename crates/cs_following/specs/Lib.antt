@@ -5,3 +5,6 @@ pub mod Pulls
 pub mod Pushes
 pub mod InTurn
 pub mod Laws
+pub use Rattle.cs_replica.specs.Edited
+pub use Rattle.cs_replica.specs.Holding
+pub use Rattle.cs_pulling.specs.Calls

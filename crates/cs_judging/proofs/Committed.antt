@@ -8,7 +8,7 @@ use Rattle.cs_store.specs.declared.fault.StoreFault.{StoreFault}
 use Rattle.cs_store.specs.declared.fault.StoreFault.TheVariants as stored
 use Rattle.cs_pending.specs.Calls.{ReadsStore, WritesStore}
 use Rattle.cs_pending.specs.Storing.{WasRead, same_err, then_not_written, then_written}
-use Rattle.cs_log_store.specs.Shows.{ShowsLog, ShowsSomeLog}
+use Rattle.cs_appending.specs.Shows.{ShowsLog, ShowsSomeLog}
 use Rattle.cs_appending.specs.Appended.{AppendsEntry, IsAppendedIn}
 use Rattle.cs_judging.specs.Hub.{with_entry}
 use Rattle.cs_judging.specs.Judged.{IsJudgement, IsPushedIn, IsSameOrAppended, ShowsLogOf, hub_of}

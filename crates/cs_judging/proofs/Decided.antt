@@ -7,7 +7,7 @@ use Rattle.cs_normal.specs.Normal.{IsNormalChangeset}
 use Rattle.cs_log.specs.declared.entry.LogEntry.{LogEntry}
 use Rattle.cs_store.specs.Contents.{Contents}
 use Rattle.cs_store.specs.declared.batch.Batch.{Batch}
-use Rattle.cs_log_store.specs.Shows.{ShowsLog}
+use Rattle.cs_appending.specs.Shows.{ShowsLog}
 use Rattle.cs_appending.specs.Appended.{AppendsEntry, IsAppendFault}
 use Rattle.cs_appending.specs.declared.fault.AppendFault.{AppendFault}
 use Rattle.cs_appending.specs.declared.fault.AppendFault.TheVariants as append

@@ -3,7 +3,7 @@ use Rattle.std.specs.Prelude.{◌≡◌, ◌⊎◌, ◌+◌, ◌<◌, ℕ, List,
 use Rattle.cs_value.specs.declared.catalog.TableDef.{TableDef}
 use Rattle.cs_log.specs.declared.entry.LogEntry.{LogEntry}
 use Rattle.cs_store.specs.Contents.{Contents}
-use Rattle.cs_log_store.specs.Shows.{ShowsLog}
+use Rattle.cs_appending.specs.Shows.{ShowsLog}
 use Rattle.cs_appending.specs.Appended.{AppendsEntry, IsAppendedIn}
 use Rattle.cs_judging.specs.Hub.{HubState, with_entry}
 use Rattle.cs_judging.specs.Pushes.{Push, Pushes, PushesIf, entry_of_push}

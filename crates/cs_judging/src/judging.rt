@@ -5,7 +5,7 @@ ghost use Rattle.cs_log.specs.Entry.{entry_changes};
 ghost use Rattle.cs_log.specs.Stored.{IsEntryOf};
 ghost use Rattle.cs_log.specs.declared.entry.LogEntry.{LogEntry as Entry};
 ghost use Rattle.cs_log.specs.declared.entry.TheConstants.{MAX_CHANGESET};
-ghost use Rattle.cs_log_store.specs.Shows.{ShowsLog};
+ghost use Rattle.cs_appending.specs.Shows.{ShowsLog};
 ghost use Rattle.cs_normal.specs.Normal.{FitsCatalog, normal_spelling};
 ghost use Rattle.cs_pending.specs.Calls.{ReadsStore, WritesStore};
 ghost use Rattle.cs_judging.specs.Judged.{CanBeAppended, IsJudgement, IsOfPush, IsPushedIn, IsSameOrAppended, ShowsLogOf, hub_of};

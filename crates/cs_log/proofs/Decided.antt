@@ -10,9 +10,9 @@ use Rattle.cs_value.specs.Key.{Place}
 use Rattle.cs_value.specs.declared.catalog.TableDef.{TableDef}
 use Rattle.cs_change.specs.Action.{action_any, after_any}
 use Rattle.cs_change.specs.declared.change.Change.{Change}
-use Rattle.cs_order.specs.Order.{by_bytes, same_bytes}
-use Rattle.cs_order.specs.Facts.{same_is}
-use Rattle.cs_keyed.specs.Changes.{Changes, change_at}
+use Rattle.cs_normal.specs.Order.{by_bytes, same_bytes}
+use Rattle.cs_normal.specs.Facts.{same_is}
+use Rattle.cs_normal.specs.Changes.{Changes, change_at}
 use Rattle.cs_normal.specs.Normal.{FitsCatalog, IsOfTable, change_of, changes_in}
 use Rattle.cs_normal.specs.State.{State, left_at}
 use Rattle.cs_normal.specs.declared.normal.TableChanges.{TableChanges}

@@ -2,3 +2,4 @@ pub mod Entry
 pub mod Laws
 pub mod Log
 pub mod Stored
+pub use Rattle.cs_normal.specs.State

@@ -9,7 +9,7 @@ ghost use Rattle.cs_pending.specs.View.{View};
 ghost use Rattle.cs_store.specs.Contents.{nothing};
 ghost use Rattle.cs_pending.specs.declared.fault.EditFault.TheVariants as editing;
 ghost use Rattle.cs_position.specs.Shows.{ShowsSomeAt};
-ghost use Rattle.cs_pulling.specs.Calls.{WritesInTurn};
+ghost use Rattle.cs_following.specs.Calls.{WritesInTurn};
 ghost use Rattle.cs_replica.specs.Edited.{IsEditedIn, with_pending};
 ghost use Rattle.cs_replica.specs.Holding.{Shows};
 ghost use Rattle.cs_rows.specs.Rows.{AreRowsOf};

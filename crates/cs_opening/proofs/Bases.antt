@@ -20,7 +20,7 @@ use Rattle.cs_keyed.specs.Changes.{key_bytes}
 use Rattle.cs_keyed.specs.NormalForm.{change_bytes, change_key, has_key, marked_fields}
 use Rattle.cs_normal.specs.Laws.{SetColumnsFit}
 use Rattle.cs_normal.specs.State.{IsRowOf, MayStandAt}
-use Rattle.cs_apply.specs.NormalTasks.{normal_key, one_table}
+use Rattle.cs_pending.specs.NormalTasks.{normal_key, one_table}
 use Rattle.cs_pending.specs.Settled.{Catalogs}
 use Rattle.cs_pending.specs.View.{undo}
 

@@ -18,7 +18,7 @@ use Rattle.cs_value.specs.declared.catalog.TableDef.{TableDef}
 use Rattle.cs_order.specs.Order.{by_bytes}
 use Rattle.cs_store.specs.Contents.{Contents, IsListing, StorePlace, place_cmp, stored_pending}
 use Rattle.cs_store.specs.Whole.{AtTable, StoresChange}
-use Rattle.cs_apply.specs.Spots.{by_test}
+use Rattle.cs_pending.specs.Spots.{by_test}
 use Rattle.cs_opening.specs.Steps.{AreListed}
 
 place_total : IsTotalOrder place_cmp

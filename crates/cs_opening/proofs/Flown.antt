@@ -18,9 +18,9 @@ use Rattle.cs_normal.specs.Normal.{FitsCatalog, IsNormalChangeset, change_of}
 use Rattle.cs_normal.specs.State.{IsStateOf, MayStandAt}
 use Rattle.cs_normal.specs.declared.normal.TableChanges.{TableChanges}
 use Rattle.cs_order.specs.Order.{same_bytes}
-use Rattle.cs_apply.specs.NormalTasks.{IsOfOne, are_apart, bytes_stay, each_found, entries_in, found_is, keyed_task, keyed_tasks, normal_key, number_of, of_one, one_table, spot_of, found_at, table_tasks}
-use Rattle.cs_apply.specs.Spots.{by_test, key_is, name_is}
-use Rattle.cs_apply.specs.Tasks.{Task}
+use Rattle.cs_pending.specs.NormalTasks.{IsOfOne, are_apart, bytes_stay, each_found, entries_in, found_is, keyed_task, keyed_tasks, normal_key, number_of, of_one, one_table, spot_of, found_at, table_tasks}
+use Rattle.cs_pending.specs.Spots.{by_test, key_is, name_is}
+use Rattle.cs_pending.specs.Tasks.{Task}
 use Rattle.cs_pending.specs.Nets.{undo_none}
 use Rattle.cs_pending.specs.Settled.{Catalogs}
 use Rattle.cs_pending.specs.Shows.{IsSoundOf}

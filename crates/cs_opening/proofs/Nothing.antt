@@ -22,7 +22,7 @@ use Rattle.cs_store.specs.declared.batch.PlaceEdit.{PlaceEdit}
 use Rattle.cs_store.specs.declared.batch.StoredEntry.{StoredEntry}
 use Rattle.cs_store.specs.declared.names.MetaName.{MetaName}
 use Rattle.cs_store.specs.declared.names.MetaName.TheVariants.{Id, Version, Number, Flight, Pending, Catalog}
-use Rattle.cs_apply.specs.Spots.{by_test, name_is, name_not}
+use Rattle.cs_pending.specs.Spots.{by_test, name_is, name_not}
 use Rattle.cs_pending.specs.Shows.{IsSoundOf}
 use Rattle.cs_pending.specs.View.{undo, middle}
 use Rattle.cs_position.specs.Shows.{changes_at}

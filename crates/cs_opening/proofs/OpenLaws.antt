@@ -14,7 +14,7 @@ use Rattle.cs_store.specs.declared.names.MetaName.{MetaName}
 use Rattle.cs_store.specs.declared.names.MetaName.TheVariants as named
 use Rattle.cs_wire.specs.Numbers.{eight_bytes, four_bytes}
 use Rattle.cs_wire.specs.OneSpelling.{four_length}
-use Rattle.cs_apply.specs.Spots.{by_test, key_is}
+use Rattle.cs_pending.specs.Spots.{by_test, key_is}
 use Rattle.cs_pending.specs.View.{View}
 use Rattle.cs_position.specs.Laws.{OnePosition}
 use Rattle.cs_position.specs.Shows.{ShowsAt, ShowsSomeAt}

@@ -16,7 +16,7 @@ use Rattle.cs_normal.specs.State.{MayStandAt}
 use Rattle.cs_store.specs.Contents.{Contents, stored_pending, stored_tables}
 use Rattle.cs_store.specs.States.{IsStored}
 use Rattle.cs_store.specs.Whole.{IsWhole, StoresRow, StoresChange}
-use Rattle.cs_apply.specs.Spots.{by_test, name_is, name_not}
+use Rattle.cs_pending.specs.Spots.{by_test, name_is, name_not}
 use Rattle.cs_pending.specs.Nets.{undo_none}
 use Rattle.cs_pending.specs.OnePlace.{contained}
 use Rattle.cs_pending.specs.Settled.{Catalogs}

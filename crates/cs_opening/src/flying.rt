@@ -2,7 +2,7 @@
 
 ghost use Rattle.std.specs.Prelude.{◌≡◌, ◌↔◌, Some, IfOk, IsTrue, slice_get};
 ghost use Rattle.std.specs.List.{AllByRecursion};
-ghost use Rattle.cs_apply.specs.NormalTasks.{IsOfOne};
+ghost use Rattle.cs_pending.specs.NormalTasks.{IsOfOne};
 ghost use Rattle.cs_normal.specs.Normal.{FitsCatalog};
 ghost use Rattle.cs_store.specs.declared.fault.StoreFault.TheVariants.{Device};
 ghost use Rattle.cs_pending.specs.Calls.{ReadsStore};

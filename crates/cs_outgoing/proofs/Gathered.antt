@@ -20,8 +20,8 @@ use Rattle.cs_normal.specs.State.{IsRowOf, MayStandAt, OneKeyStands}
 use Rattle.cs_normal.specs.declared.normal.TableChanges.{TableChanges}
 use Rattle.cs_store.specs.Contents.{Contents, IsListing, stored_pending}
 use Rattle.cs_value.specs.Laws.{OnePlaceOfName}
-use Rattle.cs_apply.specs.NormalTasks.{one_table}
-use Rattle.cs_apply.specs.Spots.{name_other, name_refl}
+use Rattle.cs_pending.specs.NormalTasks.{one_table}
+use Rattle.cs_pending.specs.Spots.{name_other, name_refl}
 use Rattle.cs_pending.specs.Shows.{ShowsRows}
 use Rattle.cs_pending.specs.View.{View, middle}
 use Rattle.cs_outgoing.specs.Outgoing.{IsPendingOf}

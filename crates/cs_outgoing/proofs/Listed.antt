@@ -13,7 +13,7 @@ use Rattle.cs_order.specs.Order.{by_bytes, same_bytes}
 use Rattle.cs_change.specs.Spelling.{change_spelling}
 use Rattle.cs_change.specs.declared.change.Change.{Change}
 use Rattle.cs_keyed.specs.Changes.{Changes, change_at}
-use Rattle.cs_apply.specs.Spots.{by_test, key_is, key_refl}
+use Rattle.cs_pending.specs.Spots.{by_test, key_is, key_refl}
 
 abbrev pub Listing : Type 0
 Listing = List (List ℕ × List ℕ)

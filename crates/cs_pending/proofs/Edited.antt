@@ -12,7 +12,7 @@ use Rattle.cs_value.specs.declared.value.Field.{Field}
 use Rattle.cs_value.specs.declared.value.Field.TheVariants.{Undefined, Is}
 use Rattle.cs_record.specs.Spelling.{Fits}
 use Rattle.cs_change.specs.Columns.{set_columns, field_or}
-use Rattle.cs_keyed.specs.Changes.{key_bytes}
+use Rattle.cs_normal.specs.Changes.{key_bytes}
 use Rattle.cs_normal.specs.State.{IsRowOf, MayStandAt}
 use Rattle.std.specs.FinMap.{len}
 use Rattle.std.specs.Prelude.{fold}

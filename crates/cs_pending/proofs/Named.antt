@@ -10,7 +10,7 @@ use Rattle.cs_value.specs.Catalog.{AreTables, is_set, key_of, marked}
 use Rattle.cs_value.specs.Laws.{OnePlaceOfName}
 use Rattle.cs_value.specs.declared.catalog.TableDef.{TableDef}
 use Rattle.cs_value.specs.declared.value.Value.{Value}
-use Rattle.cs_keyed.specs.Changes.{key_bytes}
+use Rattle.cs_normal.specs.Changes.{key_bytes}
 use Rattle.cs_store.specs.Contents.{Contents}
 use Rattle.cs_apply.specs.NormalTasks.{one_table}
 use Rattle.cs_apply.specs.Spots.{by_test, both_true, name_is, name_other, name_refl}

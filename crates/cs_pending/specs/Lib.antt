@@ -10,3 +10,6 @@ pub mod OnePlace
 pub mod Nets
 pub mod Settled
 pub mod Steps
+pub use Rattle.cs_apply.specs.Spots
+pub use Rattle.cs_apply.specs.NormalTasks
+pub use Rattle.cs_apply.specs.Tasks

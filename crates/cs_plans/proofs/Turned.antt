@@ -17,8 +17,8 @@ use Rattle.cs_pending.specs.View.{View}
 use Rattle.cs_pending.specs.declared.fault.EditFault.{EditFault}
 use Rattle.cs_position.specs.Shows.{ShowsAt}
 use Rattle.cs_position.specs.declared.position.Position.{Position}
-use Rattle.cs_replica.specs.Edited.{IsEditedIn, with_pending}
-use Rattle.cs_replica.specs.Holding.{Shows}
+use Rattle.cs_following.specs.Edited.{IsEditedIn, with_pending}
+use Rattle.cs_following.specs.Holding.{Shows}
 use Rattle.cs_spine.specs.Known.{Known, SpineCells}
 use Rattle.cs_store.specs.Contents.{Contents}
 use Rattle.cs_value.specs.declared.catalog.TableDef.{TableDef}

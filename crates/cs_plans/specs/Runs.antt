@@ -15,7 +15,7 @@ use Rattle.cs_pending.specs.Laws.{empty_view}
 use Rattle.cs_pending.specs.View.{View}
 use Rattle.cs_position.specs.Shows.{ShowsAt}
 use Rattle.cs_position.specs.declared.position.Position.{Position}
-use Rattle.cs_replica.specs.Edited.{with_pending}
+use Rattle.cs_following.specs.Edited.{with_pending}
 use Rattle.cs_store.specs.Contents.{Contents}
 use Rattle.cs_value.specs.declared.catalog.TableDef.{TableDef}
 use Rattle.cs_wishes.specs.Wished.{IsWished}

@@ -2,7 +2,7 @@
 use Rattle.std.proofs.Common.{◌≡◌, ◌≢◌, ◌⊎◌, inl, inr, ℕ, true, List, [], Option, None, sym, ap, subst, ◌∙◌}
 use Rattle.std.specs.FinMap.{get, len}
 use Rattle.cs_order.specs.Order.{same_bytes}
-use Rattle.cs_apply.specs.Spots.{by_test, key_is, key_refl}
+use Rattle.cs_pending.specs.Spots.{by_test, key_is, key_refl}
 use Rattle.cs_value.specs.declared.catalog.TableDef.{TableDef}
 use Rattle.cs_store.specs.Contents.{Contents, name_text}
 use Rattle.cs_store.specs.Laws.{KeepsOtherNames, KeepsOtherPending, KeepsOtherRows, WritesMeta, value_after}

@@ -6,3 +6,4 @@ pub mod Accepted
 pub mod Answered
 pub mod Stands
 pub mod Laws
+pub use Rattle.cs_moving.specs.Moved

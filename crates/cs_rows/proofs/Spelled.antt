@@ -8,7 +8,7 @@ use Rattle.std.specs.Ordering.{is_eq, is_lt}
 use Rattle.std.proofs.lemmas.List.{map-append, take_more}
 use Rattle.std.proofs.lemmas.Option.{same_Some}
 use Rattle.cs_order.specs.Order.{by_bytes}
-use Rattle.cs_apply.specs.Spots.{all_both}
+use Rattle.cs_pending.specs.Spots.{all_both}
 use Rattle.cs_change.specs.Spelling.{FitsRow}
 use Rattle.cs_record.specs.Laws.{OneSpelledRow}
 use Rattle.cs_record.specs.Spelling.{row_bytes}
@@ -21,7 +21,7 @@ use Rattle.cs_value.specs.Catalog.{AreTables}
 use Rattle.cs_value.specs.Laws.{OnePlaceOfName}
 use Rattle.cs_value.specs.declared.catalog.TableDef.{TableDef}
 use Rattle.cs_normal.specs.State.{MayStandAt}
-use Rattle.cs_apply.specs.NormalTasks.{one_table}
+use Rattle.cs_pending.specs.NormalTasks.{one_table}
 use Rattle.cs_pending.specs.OnePlace.{contained}
 use Rattle.cs_pending.specs.Shows.{ShowsRows}
 use Rattle.cs_pending.specs.View.{View}

@@ -8,7 +8,7 @@ use Rattle.std.specs.declared.cmp.Ordering.{Ordering}
 use Rattle.std.specs.declared.cmp.Ordering.TheVariants.{Less, Equal, Greater}
 use Rattle.std.proofs.lemmas.Option.{same_Some}
 use Rattle.cs_order.specs.Order.{by_bytes, same_bytes}
-use Rattle.cs_apply.specs.Spots.{by_test, key_is, key_refl}
+use Rattle.cs_pending.specs.Spots.{by_test, key_is, key_refl}
 
 abbrev pub Listing : Type 0
 Listing = List (List ℕ × List ℕ)

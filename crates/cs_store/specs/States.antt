@@ -7,7 +7,7 @@ use Rattle.cs_change.specs.Spelling.{FitsRow}
 use Rattle.cs_value.specs.declared.catalog.TableDef.{TableDef}
 use Rattle.cs_record.specs.Spelling.{row_bytes}
 use Rattle.cs_order.specs.Order.{by_bytes}
-use Rattle.cs_normal.specs.State.{State, IsStateOf}
+use Rattle.cs_log.specs.State.{State, IsStateOf}
 use Rattle.cs_store.specs.Contents.{Contents, stored_tables}
 use Rattle.cs_store.specs.Written.{optional_bytes}
 use Rattle.cs_store.specs.Laws.{row_after}

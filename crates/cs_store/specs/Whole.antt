@@ -7,7 +7,7 @@ use Rattle.cs_record.specs.Spelling.{row_bytes}
 use Rattle.cs_change.specs.Spelling.{FitsChange, change_spelling}
 use Rattle.cs_change.specs.declared.change.Change.{Change}
 use Rattle.cs_keyed.specs.NormalForm.{change_bytes, has_key}
-use Rattle.cs_normal.specs.State.{IsRowOf}
+use Rattle.cs_log.specs.State.{IsRowOf}
 use Rattle.cs_log.specs.Stored.{FitsBody, stored_body}
 use Rattle.cs_log.specs.declared.body.Body.{Body}
 use Rattle.cs_store.specs.Contents.{Contents, LogItem, StorePlace, name_text}

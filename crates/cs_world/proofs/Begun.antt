@@ -6,7 +6,7 @@ use Rattle.std.proofs.lemmas.List.{length-map}
 use Rattle.cs_value.specs.Catalog.{AreTables}
 use Rattle.cs_value.specs.declared.catalog.TableDef.{TableDef}
 use Rattle.cs_hub.specs.Holding as hub
-use Rattle.cs_moving.specs.Moved.{IsStoreOpened}
+use Rattle.cs_replica.specs.Moved.{IsStoreOpened}
 use Rattle.cs_opening.specs.Fresh.{IsFirst, first_position}
 use Rattle.cs_order.specs.Order.{by_bytes}
 use Rattle.cs_pending.specs.Laws.{empty_view}

@@ -1,7 +1,7 @@
 use Rattle.std.proofs.Common.{List, refl, subst, sym}
 use Rattle.std.specs.List.{AllByRecursion}
 use Rattle.cs_normal.specs.declared.normal.TableChanges.{TableChanges}
-use Rattle.cs_apply.specs.NormalTasks.{IsOfOne}
+use Rattle.cs_pending.specs.NormalTasks.{IsOfOne}
 use Rattle.cs_pending.specs.Shows.{ShowsRows}
 use Rattle.cs_store.specs.Contents.{Contents}
 use Rattle.cs_opening.specs.Steps.{FlightLeads}

@@ -1,7 +1,7 @@
 use Rattle.std.proofs.Common.{List, subst, sym}
 use Rattle.std.specs.List.{AllByRecursion}
 use Rattle.cs_normal.specs.declared.normal.TableChanges.{TableChanges}
-use Rattle.cs_apply.specs.NormalTasks.{IsOfOne, of_one}
+use Rattle.cs_pending.specs.NormalTasks.{IsOfOne, of_one}
 use Rattle.cs_opening.proofs.flying.flight_leads.Goals as goal
 
 pub tables_lead_before-requires : goal.tables_lead_before-requires
