@@ -1,5 +1,5 @@
 -- What an edit makes of entries whose places rise.
-use Rattle.std.proofs.Common.{◌≡◌, ℕ, zero, suc, ◌+◌, ◌-◌, ◌<◌, ◌≤◌, ◌⊎◌, Bool, true, false, cond, not, ◌&&◌, List, [], ◌∷◌, ◌++◌, Option, Some, None, refl, sym, ap, subst, ◌∙◌, T, length, get_or, take, drop, fold, arith, ⊎_elim}
+use Rattle.std.proofs.Common.{◌≡◌, ℕ, zero, suc, ◌+◌, ◌-◌, ◌<◌, ◌≤◌, ◌⊎◌, inl, inr, Bool, true, false, cond, not, ◌&&◌, List, [], ◌∷◌, ◌++◌, Option, Some, None, refl, sym, ap, subst, ◌∙◌, T, length, get_or, take, drop, fold, arith, ⊎_elim}
 use Rattle.std.proofs.Math.Dec.{ltb}
 use borrow.Author.Tests.{ltb-true, ltb-false, lt-ltb}
 use Rattle.std.specs.declared.cmp.Ordering.{Ordering}
@@ -109,6 +109,19 @@ below_nth : (x : StorePlace) (ys : List Entry) (n : ℕ) (d : Entry) → n < len
 below_nth x [] n d h b = absurd (omega (arith, h))
 below_nth x (y ∷ ys) zero d h b = less _ (first _ _ b)
 below_nth x (y ∷ ys) (suc n) d h b = below_nth x ys n d (omega (arith, h)) (second _ _ b)
+
+rises_at : (es : List Entry) (k : ℕ) (d : Entry) → suc k < length es → T (is_sorted place_cmp es) → place_cmp (get_or es k d).0 (get_or es (suc k) d).0 ≡ Less
+rises_at [] k d h s = absurd (omega (arith, h))
+rises_at (e ∷ es) zero d h s = below_nth e.0 es 0 d (omega (arith, h)) (first _ _ s)
+rises_at (e ∷ es) (suc k) d h s = rises_at es k d (omega (arith, h)) (second _ _ s)
+
+-- a place stands where it is met
+pub stands_at : (es : List Entry) (at : ℕ) (p : StorePlace) → at < length es → T (is_sorted place_cmp es) → place_cmp (nth es at).0 p ≡ Equal → IsPlaceFor es 0 at p
+stands_at es zero p h s e = (inl refl, inr (ap is_lt e))
+stands_at es (suc k) p h s e =
+    let n : suc k - 1 ≡ k = omega arith in
+    let less : place_cmp (nth es (suc k - 1)).0 p ≡ Less = ap (λ j. place_cmp (nth es j).0 p) n ∙ ap (place_cmp (nth es k).0) (sym (place_exact (nth es (suc k)).0 p e)) ∙ rises_at es k no_entry h s in
+    (inr (ap is_lt less), inr (ap is_lt e))
 
 below_up_to : (ys : List Entry) (n : ℕ) (d : Entry) (p : StorePlace) → n < length ys → T (is_sorted place_cmp ys) → place_cmp (get_or ys n d).0 p ≡ Less → AreBelow (take (suc n) ys) p
 below_up_to [] n d p h s l = absurd (omega (arith, h))

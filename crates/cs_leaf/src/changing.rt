@@ -3,13 +3,14 @@
 ghost use Rattle.std.specs.Prelude.{◌≡◌, T, fold, IfOk, IfErr};
 ghost use Rattle.std.specs.FinMap.{is_sorted};
 ghost use Rattle.cs_store.specs.Contents.{place_cmp};
-ghost use Rattle.cs_leaf.specs.Edits.{Rise, edited, edits_behind};
+ghost use Rattle.cs_leaf.specs.Edits.{Rise, edited, edits_behind, store_place};
 
-use crate::leaf::{Amendment, Leaf, Why};
+use crate::leaf::{Amendment, Leaf, Place, Why};
 use crate::merging::merged;
 use cs_store::PlaceEdit;
 use std::alloc::Global;
 use std::marker::Model;
+use std::slice;
 
 /// How a leaf is changed: with one edit made in it, or for another in its place.
 #[derive(Drop)]
@@ -79,6 +80,33 @@ fn stage_anew(alloc: Global, leaf: Leaf, edits: &[&PlaceEdit]) -> Result<Change,
     }
 }
 
+/// Prepares what an edit makes of a leaf, whose place is looked for from `near` on first. It is made in place, unless rows that
+/// are gone would come to take more than half of the bytes. Where memory is refused, the leaf comes back.
+#[inline(always)]
+pub fn stage_one(
+    alloc: Global,
+    leaf: Leaf,
+    near: usize,
+    place: &Place,
+    edit: &PlaceEdit,
+) -> Result<Change, Leaf>
+    requires sorted { T (is_sorted place_cmp leaf) }
+    requires place { place.now ≡ store_place edit.now }
+    ensures before { IfOk result (λ change. change.0 ≡ leaf) }
+    ensures after { IfOk result (λ change. change.1 ≡ edited leaf edit.now) }
+    ensures err { IfErr result (λ kept. kept ≡ leaf) }
+{
+    match leaf.amend(near, place, edit) {
+        Ok(amendment) => Ok(Change {
+            way: Way::InPlace(amendment),
+        }),
+        Err(unamended) => match unamended.why {
+            Why::NoMemory => Err(unamended.leaf),
+            Why::TooLoose => stage_anew(alloc, unamended.leaf, slice::from_ref(&edit)),
+        },
+    }
+}
+
 /// Prepares what edits whose places rise make of a leaf. A single one is made in place, unless rows that are gone would come to
 /// take more than half of the bytes. Where memory is refused, the leaf comes back.
 #[inline(always)]
@@ -92,13 +120,6 @@ pub fn stage(alloc: Global, leaf: Leaf, edits: &[&PlaceEdit]) -> Result<Change, 
     if edits.len() != 1 {
         return stage_anew(alloc, leaf, edits);
     }
-    match leaf.amend(edits[0]) {
-        Ok(amendment) => Ok(Change {
-            way: Way::InPlace(amendment),
-        }),
-        Err(unamended) => match unamended.why {
-            Why::NoMemory => Err(unamended.leaf),
-            Why::TooLoose => stage_anew(alloc, unamended.leaf, edits),
-        },
-    }
+    let place = Place::of_edit(edits[0]);
+    stage_one(alloc, leaf, 0, &place, edits[0])
 }

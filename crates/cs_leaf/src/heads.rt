@@ -22,7 +22,10 @@ pub fn head(key: &[u8]) -> u128
     cs_order::head(key) as u128 * 0x1_0000_0000_0000_0000 + cs_order::head(rest_of(key)) as u128
 }
 
-/// Compares keys that have these heads. It looks at the bytes only where the heads are equal.
+/// How many bytes of a key are in its head.
+const HEAD: usize = 16;
+
+/// Compares keys that have these heads. It looks at the bytes only where the heads are equal, and a key goes on behind its head.
 #[inline(always)]
 pub fn compare_keys(head: u128, key: &[u8], other_head: u128, other: &[u8]) -> Ordering
     requires key { IsHeadOf head key.now }
@@ -30,6 +33,8 @@ pub fn compare_keys(head: u128, key: &[u8], other_head: u128, other: &[u8]) -> O
     ensures { result ≡ by_bytes key.now other.now }
 {
     match head.cmp(&other_head) {
+        // Both keys are in their heads, so they differ by zeros at the end, if at all.
+        Ordering::Equal if key.len() <= HEAD && other.len() <= HEAD => key.len().cmp(&other.len()),
         Ordering::Equal => key.cmp(other),
         apart => apart,
     }

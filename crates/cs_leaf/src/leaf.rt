@@ -162,7 +162,7 @@ impl Leaf {
     ghost use Rattle.std.specs.FinMap.{find, is_sorted};
     ghost use Rattle.cs_store.specs.Contents.{place_cmp};
     ghost use Rattle.cs_leaf.specs.Entries.{IsPlaceFor, IsPlaceBetween, bytes_of, nth, size_of};
-    ghost use Rattle.cs_leaf.specs.Edits.{IsBehind, edited};
+    ghost use Rattle.cs_leaf.specs.Edits.{IsBehind, edited, store_place};
 
     /// No row.
     #[inline(always)]
@@ -177,12 +177,11 @@ impl Leaf {
         }
     }
 
-    /// No row, with room for those of another leaf and some more.
-    pub(crate) fn with_room_for(alloc: Global, leaf: &Leaf, more: usize) -> Result<Leaf, AllocError>
+    /// No row, with room for so many that are like those of another leaf.
+    pub fn with_room(alloc: Global, like: &Leaf, rows: usize) -> Result<Leaf, AllocError>
         ensures { IfOk result (λ leaf. leaf ≡ []) }
     {
-        let rows = leaf.spots.len().saturating_add(more);
-        let each = (leaf.used / leaf.spots.len().max(1)).saturating_add(1);
+        let each = (like.used / like.spots.len().max(1)).saturating_add(1);
         Ok(Leaf {
             front: front_of(&[]),
             bytes: Vec::with_capacity(alloc, rows.saturating_mul(each))?,
@@ -260,7 +259,9 @@ impl Leaf {
     {
         match self.front.table.cmp(&place.table) {
             Ordering::Equal => match self.front.head.cmp(&place.head) {
-                Ordering::Equal => self.first_key().cmp(place.key),
+                Ordering::Equal => {
+                    compare_keys(self.front.head, self.first_key(), place.head, place.key)
+                }
                 apart => apart,
             },
             apart => apart,
@@ -328,14 +329,19 @@ impl Leaf {
     }
 
     /// Where a place stands or would stand. It is looked for from `near` on first.
+    #[inline(always)]
     fn search_near(&self, near: usize, place: &Place) -> usize
+        requires { T (is_sorted place_cmp self.now) }
         ensures bound { result ≤ length self.now }
         ensures found { IsPlaceFor self.now 0 result place.now }
     {
-        if 0 < near && near <= self.len() && self.compare(near - 1, place).is_lt() {
-            self.search(near, place)
-        } else {
-            self.settle(0, (0, self.len()), place)
+        if near == 0 || self.len() < near {
+            return self.settle(0, (0, self.len()), place);
+        }
+        match self.compare(near - 1, place) {
+            Ordering::Less => self.search(near, place),
+            Ordering::Equal => near - 1,
+            Ordering::Greater => self.settle(0, (0, near - 1), place),
         }
     }
 
@@ -404,18 +410,24 @@ impl Leaf {
         }
     }
 
-    /// Prepares an edit of this leaf in place. It takes all the memory that the edit needs. Where that is refused, or rows that
-    /// are gone would come to take more than half of the bytes, the leaf comes back.
+    /// Prepares an edit of this leaf in place, whose place is looked for from `near` on first. It takes all the memory that the
+    /// edit needs. Where that is refused, or rows that are gone would come to take more than half of the bytes, the leaf comes
+    /// back.
     #[inline(always)]
-    pub(crate) fn amend(self, edit: &PlaceEdit) -> Result<Amendment, Unamended>
-        requires { T (is_sorted place_cmp self) }
+    pub(crate) fn amend(
+        self,
+        near: usize,
+        place: &Place,
+        edit: &PlaceEdit,
+    ) -> Result<Amendment, Unamended>
+        requires sorted { T (is_sorted place_cmp self) }
+        requires place { place.now ≡ store_place edit.now }
         ensures before { IfOk result (λ amendment. amendment.0 ≡ self) }
         ensures after { IfOk result (λ amendment. amendment.1 ≡ edited self edit.now) }
         ensures err { IfErr result (λ unamended. unamended.leaf ≡ self) }
     {
-        let place = Place::of_edit(edit);
-        let at = self.search_near(0, &place);
-        let is_there = self.behind(at, &place) > at;
+        let at = self.search_near(near, place);
+        let is_there = self.behind(at, place) > at;
         let gone = self.size_if(is_there, at);
         let Leaf {
             front,
@@ -426,7 +438,7 @@ impl Leaf {
         let mut bytes = bytes;
         let mut spots = spots;
         let held = bytes.len();
-        let spot_edit = spot_edit_of(&mut bytes, &mut spots, &place, is_there, &edit.body);
+        let spot_edit = spot_edit_of(&mut bytes, &mut spots, place, is_there, &edit.body);
         let Ok(spot_edit) = spot_edit else {
             return Err(given_back(front, bytes, spots, used, Why::NoMemory));
         };

@@ -12,6 +12,6 @@ pub mod laws;
 mod leaf;
 mod merging;
 
-pub use changing::{Change, stage};
+pub use changing::{Change, stage, stage_one};
 pub use leaf::{Leaf, Place};
 pub use merging::merged;

@@ -46,7 +46,7 @@ pub fn merged(alloc: Global, leaf: &Leaf, edits: &[&PlaceEdit]) -> Result<Leaf, 
     requires rise { Rise (edits_behind edits.now) }
     ensures { IfOk result (λ merged. merged ≡ fold edited leaf.now (edits_behind edits.now)) }
 {
-    let mut merged = Leaf::with_room_for(alloc, leaf, edits.len())?;
+    let mut merged = Leaf::with_room(alloc, leaf, leaf.len().saturating_add(edits.len()))?;
     let mut from = 0;
     for edit in edits {
         from = merge_edit(&mut merged, leaf, from, *edit)?;

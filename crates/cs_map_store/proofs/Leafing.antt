@@ -292,6 +292,13 @@ patch_leaf leaves now from at w ws are long sorted same le less by before rise f
       edits_below vs h.1,
     )
 
+-- a single edit
+pub patch_one : (leaves : List (List Entry)) (at : ℕ) (w : PlaceEdit) (p : StorePlace) (made : List Entry) → AreLeaves leaves → at < length leaves → p ≡ store_place w → BeginsBy leaves at p → BeginsBehind leaves (at + 1) p
+    → EditsBehindKeep → EditsBeforeKeep → made ≡ edited (nth_leaf leaves at) w → flat (slice_set leaves at made) ≡ edited (flat leaves) w
+patch_one leaves at w p made are less is by behind behind_keep before_keep makes =
+    ap (λ (m : List Entry). flat (slice_set leaves at m)) makes
+    ∙ patch_leaf leaves leaves 0 at w [] are refl are.rise refl (omega arith) less (subst (BeginsBy leaves at) is by) (subst (BeginsBehind leaves (at + 1)) is behind, tt) (tt, tt) behind_keep before_keep
+
 pub patch_more : (leaves now : List (List Entry)) (from at count : ℕ) (w : PlaceEdit) (ws vs : List PlaceEdit) (made : List Entry) (end : List Entry) → AreLeaves leaves → length now ≡ length leaves → T (is_sorted place_cmp (flat now)) → drop from now ≡ drop from leaves
     → from ≤ at → at < length leaves → BeginsBy leaves at (store_place w) → ws ≡ w ∷ vs → 0 < count → AreBefore leaves (at + 1) (take count ws) → Rise ws → EditsBehindKeep → EditsBeforeKeep → made ≡ fold edited (nth_leaf leaves at) (take count ws) → fold edited (flat now) ws ≡ end
     → (flat (slice_set now at made) ≡ fold edited (flat now) (take count ws)) × (fold edited (flat (slice_set now at made)) (drop count ws) ≡ end)

@@ -2,7 +2,7 @@
 //! what it makes of each leaf, for which it takes all the memory that it needs, and then makes it or takes it back, which takes
 //! none.
 
-ghost use Rattle.std.specs.Prelude.{◌≡◌, false, ◌≤◌, ◌<◌, ◌+◌, ◌⊎◌, List, [], ◌++◌, T, pos, length, take, drop, fold, map, filter, slice_set, option_map, Some, IfOk, IfSome, OnOk, OnErr, MatchBool};
+ghost use Rattle.std.specs.Prelude.{◌≡◌, false, ◌≤◌, ◌<◌, ◌+◌, ◌⊎◌, List, [], ◌++◌, ◌∷◌, T, pos, length, take, drop, fold, map, filter, slice_set, option_map, Some, IfOk, IfSome, OnOk, OnErr, MatchBool};
 ghost use Rattle.std.specs.List.{All};
 ghost use Rattle.std.specs.Ordering.{int_eq, is_gt};
 ghost use Rattle.std.specs.FinMap.{get, is_sorted};
@@ -15,7 +15,7 @@ use crate::edits::in_order;
 use cs_leaf::{Change, Leaf, Place, laws, merged};
 use cs_store::{PlaceEdit, StoredBody};
 use std::alloc::{AllocError, Global};
-use std::{mem, slice};
+use std::mem;
 
 /// A leaf that comes to have twice as many rows is cut into leaves of so many.
 const LEAF: usize = 32;
@@ -33,6 +33,7 @@ pub struct Patch {
 /// What a commit is to make of the leaves.
 #[derive(Drop)]
 pub enum Staged {
+    One(Patch),
     Patches(Vec<Patch>),
     Fresh(Vec<Leaf>),
 }
@@ -186,6 +187,36 @@ fn stage_leaf(
     }
 }
 
+/// Takes the leaf of an edit's place out, and prepares what the edit makes of it. At `Err` nothing has changed. It is looked for
+/// near where the last look-up ended.
+fn stage_one(
+    alloc: Global,
+    leaves: &mut Vec<Leaf>,
+    near: Near,
+    edit: &PlaceEdit,
+) -> Result<Patch, AllocError>
+    requires some { 0 < length leaves.old.items }
+    requires leaves { AreLeaves leaves.old.items }
+    ensures place { IfOk result (λ patch. patch.at < length leaves.new.items) }
+    ensures restored { IfOk result (λ patch. undone leaves.new.items patch ≡ leaves.old.items) }
+    ensures same { IfOk result (λ patch. patched leaves.new.items (patch ∷ []) ≡ patched leaves.old.items (patch ∷ [])) }
+    ensures made { IfOk result (λ patch. flat (patched leaves.old.items (patch ∷ [])) ≡ edited (flat leaves.old.items) edit.now) }
+    ensures err { OnErr result (leaves.new.items ≡ leaves.old.items) }
+{
+    laws::edited_entries();
+    let place = Place::of_edit(edit);
+    let at = leaf_near(leaves.as_slice(), near.leaf, &place);
+    let row = if at == near.leaf { near.row } else { 0 };
+    let leaf = mem::replace(&mut leaves[at], Leaf::new(alloc));
+    match cs_leaf::stage_one(alloc, leaf, row, &place, edit) {
+        Ok(change) => Ok(Patch { at, change }),
+        Err(leaf) => {
+            leaves[at] = leaf;
+            Err(AllocError)
+        }
+    }
+}
+
 /// Prepares what edits make of the leaves, and adds it to the patches. At `Err` some of it may be prepared. The leaf at `near`
 /// is looked at first.
 fn stage_patches(
@@ -228,7 +259,7 @@ fn pieces_of(alloc: Global, leaf: &Leaf) -> Result<Vec<Leaf>, AllocError>
     let mut from = 0;
     while from < leaf.len() {
         let to = from.saturating_add(LEAF).min(leaf.len());
-        let mut piece = Leaf::new(alloc);
+        let mut piece = Leaf::with_room(alloc, leaf, to - from)?;
         piece.push_rows(leaf, from, to)?;
         pieces.push(piece)?;
         from = to;
@@ -300,10 +331,7 @@ pub fn stage_edits(
     laws::edited_entries();
     match edits {
         [] => Ok(Staged::Patches(Vec::new(alloc))),
-        [edit] => {
-            let staged = stage(alloc, leaves, near.leaf, slice::from_ref(&edit))?;
-            Ok(staged)
-        }
+        [edit] if !leaves.is_empty() => Ok(Staged::One(stage_one(alloc, leaves, near, edit)?)),
         _ => {
             let sorted = in_order(alloc, edits)?;
             let staged = stage(alloc, leaves, near.leaf, sorted.as_slice())?;
@@ -317,8 +345,10 @@ pub fn take_back(leaves: &mut Vec<Leaf>, staged: Staged)
     requires { CanBePut staged leaves.old.items }
     ensures { leaves.new.items ≡ before_staged staged leaves.old.items }
 {
-    if let Staged::Patches(patches) = staged {
-        undo_all(leaves, patches);
+    match staged {
+        Staged::One(patch) => undo(leaves, patch),
+        Staged::Patches(patches) => undo_all(leaves, patches),
+        Staged::Fresh(_) => {}
     }
 }
 
@@ -332,6 +362,17 @@ struct Uneven {
 }
 
 impl Uneven {
+    /// No leaf.
+    fn none() -> Uneven
+        ensures { result.has_empty ≡ false }
+    {
+        Uneven {
+            has_empty: false,
+            from: usize::MAX,
+            to: 0,
+        }
+    }
+
     /// Notes a leaf of so many rows.
     fn note(&mut self, at: usize, rows: usize)
         ensures { self.new.has_empty ≡ false → (self.old.has_empty ≡ false) × (0 < rows) }
@@ -346,17 +387,27 @@ impl Uneven {
     }
 }
 
+/// Makes what is prepared of one leaf.
+fn write_patch(leaves: &mut Vec<Leaf>, patch: Patch) -> Uneven
+    requires { patch.at < length leaves.old.items }
+    ensures made { leaves.new.items ≡ patched leaves.old.items (patch ∷ []) }
+    ensures full { result.has_empty ≡ false → 0 < length patch.change.1 }
+{
+    let mut uneven = Uneven::none();
+    let Patch { at, change } = patch;
+    let leaf = change.make();
+    uneven.note(at, leaf.len());
+    leaves[at] = leaf;
+    uneven
+}
+
 /// Makes what is prepared.
 fn write_patches(leaves: &mut Vec<Leaf>, patches: Vec<Patch>) -> Uneven
     requires { ArePatches (length leaves.old.items) patches.items }
     ensures made { leaves.new.items ≡ patched leaves.old.items patches.items }
     ensures full { result.has_empty ≡ false → All (λ patch. 0 < length patch.change.1) patches.items }
 {
-    let mut uneven = Uneven {
-        has_empty: false,
-        from: usize::MAX,
-        to: 0,
-    };
+    let mut uneven = Uneven::none();
     for patch in patches {
         let Patch { at, change } = patch;
         let leaf = change.make();
@@ -404,6 +455,21 @@ fn drop_empty(leaves: &mut Vec<Leaf>)
     leaves.retain(|leaf| leaf.len() > 0);
 }
 
+/// Takes out the leaves that have no row, and cuts those that have too many, so far as there is memory.
+fn even_out(alloc: Global, leaves: &mut Vec<Leaf>, uneven: Uneven)
+    ensures same { flat leaves.new.items ≡ flat leaves.old.items }
+    ensures full { (uneven.has_empty ≡ false → All (λ leaf. 0 < length leaf) leaves.old.items)
+        → All (λ leaf. 0 < length leaf) leaves.new.items }
+{
+    let mut from = uneven.from;
+    if uneven.has_empty {
+        drop_empty(leaves);
+        // Leaves behind those that went stand further to the front now.
+        from = 0;
+    }
+    let _ = cut_leaves(alloc, leaves, from, uneven.to);
+}
+
 /// Makes what is prepared. Where there is no memory to cut a leaf, it stays as it is until a later commit changes it.
 pub fn put_staged(alloc: Global, leaves: &mut Vec<Leaf>, staged: Staged)
     requires { CanBePut staged leaves.old.items }
@@ -412,15 +478,13 @@ pub fn put_staged(alloc: Global, leaves: &mut Vec<Leaf>, staged: Staged)
 {
     match staged {
         Staged::Fresh(made) => *leaves = made,
+        Staged::One(patch) => {
+            let uneven = write_patch(leaves, patch);
+            even_out(alloc, leaves, uneven);
+        }
         Staged::Patches(patches) => {
             let uneven = write_patches(leaves, patches);
-            let mut from = uneven.from;
-            if uneven.has_empty {
-                drop_empty(leaves);
-                // Leaves behind those that went stand further to the front now.
-                from = 0;
-            }
-            let _ = cut_leaves(alloc, leaves, from, uneven.to);
+            even_out(alloc, leaves, uneven);
         }
     }
 }

@@ -1,32 +1,26 @@
-use Rattle.std.proofs.Common.{◌≡◌, List, fold, ap, refl, subst, arith, ◌∙◌}
+use Rattle.std.proofs.Common.{◌≡◌, [], ◌∷◌, List, fold, ap, subst, ◌∙◌}
 use Rattle.std.specs.Borrow.{Bor}
 use Rattle.cs_store.specs.declared.batch.PlaceEdit.{PlaceEdit}
 use Rattle.cs_leaf.specs.Edits.{edited, edits_behind}
-use Rattle.cs_map_store.specs.Leaves.{after_staged, flat}
+use Rattle.cs_map_store.specs.Leaves.{after_staged, flat, patched}
 use Rattle.cs_map_store.proofs.Holding.{bodies_after, still_rises}
-use Rattle.cs_map_store.proofs.Leafing.{only_one}
 use Rattle.cs_map_store.proofs.leaves.stage_edits.Goals as goal
 
-pub returns-in_ok-staged-in-len1-clause-rise : goal.returns-in_ok-staged-in-len1-clause-rise
-returns-in_ok-staged-in-len1-clause-rise c =
-    still_rises c.args.leaves.now.items (after_staged c.in_ok-staged-in-len1.staged c.stage.new.leaves.items) (edits_behind c.from_ref.result.now) c.edited_entries.ensures.order c.requires.rise c.in_ok-staged-in-len1.ensures.made
-
-pub returns-in_ok-staged-in-len1-clause-made : goal.returns-in_ok-staged-in-len1-clause-made
-returns-in_ok-staged-in-len1-clause-made c =
-    let edits = c.args.edits.now in
-    let one : edits_behind c.from_ref.result.now ≡ edits = ap edits_behind c.from_ref.ensures.value ∙ only_one edits c.edit-item.result (omega (arith, c.in-len1.len_at_least)) (omega (arith, c.in-len1.len_below)) c.edit-item.is in
-    bodies_after c.args.leaves.now.items (after_staged c.in_ok-staged-in-len1.staged c.stage.new.leaves.items) edits edits c.edited_entries.ensures.maps c.requires.rise (λ bodies. refl)
-    (c.in_ok-staged-in-len1.ensures.made ∙ ap (fold edited (flat c.args.leaves.now.items)) one)
+pub returns-in_ok-stage_one-in-len1-clause-rise : goal.returns-in_ok-stage_one-in-len1-clause-rise
+returns-in_ok-stage_one-in-len1-clause-rise c =
+    let patch = c.in_ok-stage_one-in-len1.field-0 in
+    let its = c.in_ok-stage_one-in-len1.ensures in
+    still_rises c.args.leaves.now.items (patched c.stage_one.new.leaves.items (patch ∷ [])) (c.edit-item.result ∷ []) c.edited_entries.ensures.order c.requires.rise (ap flat its.same ∙ its.made)
 
 pub returns-in_ok-staged-in_default-clause-rise : goal.returns-in_ok-staged-in_default-clause-rise
 returns-in_ok-staged-in_default-clause-rise c =
-    still_rises c.args.leaves.now.items (after_staged c.in_ok-staged-in_default.staged c.stage-in_default.new.leaves.items) (edits_behind c.as_slice.result.now) c.edited_entries.ensures.order c.requires.rise c.in_ok-staged-in_default.ensures.made
+    still_rises c.args.leaves.now.items (after_staged c.in_ok-staged-in_default.staged c.stage.new.leaves.items) (edits_behind c.as_slice.result.now) c.edited_entries.ensures.order c.requires.rise c.in_ok-staged-in_default.ensures.made
 
 pub returns-in_ok-staged-in_default-clause-made : goal.returns-in_ok-staged-in_default-clause-made
 returns-in_ok-staged-in_default-clause-made c =
     let leaves = c.args.leaves.now.items in
     let sorted = c.in_ok-sorted-in_default.sorted.items in
-    let made = after_staged c.in_ok-staged-in_default.staged c.stage-in_default.new.leaves.items in
+    let made = after_staged c.in_ok-staged-in_default.staged c.stage.new.leaves.items in
     let merged : flat made ≡ fold edited (flat leaves) (edits_behind sorted) =
     subst (λ (edits : List (Bor PlaceEdit)). flat made ≡ fold edited (flat leaves) (edits_behind edits)) c.as_slice.ensures.value c.in_ok-staged-in_default.ensures.made in
     bodies_after leaves made (edits_behind sorted) c.args.edits.now c.edited_entries.ensures.maps c.requires.rise c.in_ok-sorted-in_default.ensures.same merged

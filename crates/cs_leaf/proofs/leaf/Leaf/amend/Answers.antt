@@ -13,7 +13,7 @@ invariant_of-result c =
     let its = c.spot_edit_of-spot_edit.ensures in
     let es : List Entry = c.args.self in
     let at = c.search_near-at.result in
-    let p = c.of_edit-place.result in
+    let p = c.args.place.now in
     let body = optional_bytes c.args.edit.now.body in
     let is_there = ltb at c.behind.result in
     let gone = c.size_if-gone.result in
@@ -45,7 +45,7 @@ returns-clause-after c =
     let its = c.spot_edit_of-spot_edit.ensures in
     let es : List Entry = c.args.self in
     let at = c.search_near-at.result in
-    let p = c.of_edit-place.result in
+    let p = c.args.place.now in
     let body = optional_bytes c.args.edit.now.body in
     let bytes = c.spot_edit_of-spot_edit.new.bytes.items in
     let spots = c.spot_edit_of-spot_edit.new.spots.items in
@@ -54,4 +54,4 @@ returns-clause-after c =
     let on = goes_on es at c.behind.result p c.behind.ensures in
     entries_after bytes spots at p body (ltb at c.behind.result) c.in-Ok.spot_edit es kept (λ e. let l = on.0 e in omega (arith, l, long)) c.in-Ok.ensures.spot_edit
     ∙ ap (λ k. take at es ++ (written p body ++ drop k es)) on.1
-    ∙ sym (edited_at es at c.behind.result c.args.edit.now p c.of_edit-place.ensures c.search_near-at.ensures.bound c.requires c.search_near-at.ensures.found c.behind.ensures)
+    ∙ sym (edited_at es at c.behind.result c.args.edit.now p c.requires.place c.search_near-at.ensures.bound c.requires.sorted c.search_near-at.ensures.found c.behind.ensures)
