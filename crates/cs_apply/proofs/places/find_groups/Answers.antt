@@ -1,0 +1,79 @@
+use Rattle.std.proofs.Common.{◌≡◌, ◌<◌, length, refl, sym, ap, ◌∙◌, arith}
+use Rattle.cs_apply.proofs.Numbering.{has_first, members_within}
+use Rattle.cs_apply.proofs.Placing.{started, one_more}
+use Rattle.cs_apply.proofs.places.find_groups.Goals as goal
+
+pub loop-number-init : goal.loop-number-init
+loop-number-init g c = (
+  λ honest. honest,
+  λ honest. refl,
+  λ honest left may. may,
+  refl,
+  started c.args.tasks.now.places c.args.groups.now c.requires.groups c.args.tasks.now.changes.items _ c.in_ok-places.places
+      c.in_ok-places.ensures.empty.0 c.in_ok-places.ensures.empty.1 c.in_ok-places.ensures.empty.2
+      (c.in_ok-places.ensures.numbers.0 ∙ omega (arith, c.len.ensures, c.requires.changes)) c.in_ok-places.ensures.numbers.1,
+  λ honest before holds. refl,
+)
+
+pub bounds-group-0 : goal.bounds-group-0
+bounds-group-0 g c =
+    let less : c.loop-number.number < length c.args.groups.now = omega (arith, c.loop-number-test.true, c.len-number-end.ensures) in
+    let some = has_first c.args.tasks.now.places c.args.groups.now c.requires.groups c.loop-number.number less in
+    let is = ap length c.group-group.ensures in
+    omega (arith, some, is)
+
+pub find_slot-requires-clause-within : goal.find_slot-requires-clause-within
+find_slot-requires-clause-within g c =
+    let less : c.loop-number.number < length c.args.groups.now = omega (arith, c.loop-number-test.true, c.len-number-end.ensures) in
+    let some = has_first c.args.tasks.now.places c.args.groups.now c.requires.groups c.loop-number.number less in
+    rw c.group-group.ensures (members_within c.args.tasks.now.places c.args.groups.now c.requires.groups c.loop-number.number less 0 0 some)
+
+pub returns-in_err-slot-clause-read_rightly : goal.returns-in_err-slot-clause-read_rightly
+returns-in_err-slot-clause-read_rightly g c = λ honest before holds.
+    let was = c.find_slot.ensures.reads.was_honest honest in
+    c.find_slot.ensures.read_rightly honest before (rw (c.loop-number.invariant.1 was) holds) ∙ c.loop-number.invariant.5 was before holds
+
+pub put_place-requires-clause-some : goal.put_place-requires-clause-some
+put_place-requires-clause-some g c =
+    let less : c.loop-number.number < length c.args.groups.now = omega (arith, c.loop-number-test.true, c.len-number-end.ensures) in
+    rw c.group-group.ensures (has_first c.args.tasks.now.places c.args.groups.now c.requires.groups c.loop-number.number less)
+
+pub put_place-requires-clause-numbered : goal.put_place-requires-clause-numbered
+put_place-requires-clause-numbered g c =
+    let less : c.loop-number.number < length c.args.groups.now = omega (arith, c.loop-number-test.true, c.len-number-end.ensures) in
+    rw (c.group-group.ensures, c.loop-number.invariant.4.numbers) (members_within c.args.tasks.now.places c.args.groups.now c.requires.groups c.loop-number.number less)
+
+pub put_place-requires-clause-within : goal.put_place-requires-clause-within
+put_place-requires-clause-within g c =
+    let less : c.loop-number.number < length c.args.groups.now = omega (arith, c.loop-number-test.true, c.len-number-end.ensures) in
+    rw (c.group-group.ensures, c.as_slice.ensures.value, c.requires.changes) (members_within c.args.tasks.now.places c.args.groups.now c.requires.groups c.loop-number.number less)
+
+pub returns-in_err-put_place-clause-read_rightly : goal.returns-in_err-put_place-clause-read_rightly
+returns-in_err-put_place-clause-read_rightly g c = λ honest before holds.
+    let was = c.find_slot.ensures.reads.was_honest honest in
+    c.find_slot.ensures.read_rightly honest before (rw (c.loop-number.invariant.1 was) holds) ∙ c.loop-number.invariant.5 was before holds
+
+pub loop-number-preserved : goal.loop-number-preserved
+loop-number-preserved g c =
+    let reads = c.find_slot.ensures.reads in
+    let less : c.loop-number.number < length c.args.groups.now = omega (arith, c.loop-number-test.true, c.len-number-end.ensures) in
+    let is = c.group-group.ensures in (
+      (λ honest. c.loop-number.invariant.0 (reads.was_honest honest)),
+      (λ honest. reads.same honest ∙ c.loop-number.invariant.1 (reads.was_honest honest)),
+      (λ honest left may. c.loop-number.invariant.2 (reads.was_honest honest) left (reads.crash honest left may)),
+      c.in_ok-slot.ensures.reads.kept ∙ c.loop-number.invariant.3,
+      one_more c.args.tasks.now.places c.args.groups.now c.requires.groups c.args.tasks.now.changes.items _ _
+          (λ slot seen honest. seen (reads.was_honest honest))
+          c.loop-number.number c.in_ok-slot.slot c.loop-number.places c.put_place.new.places less c.loop-number.invariant.4
+          (rw is at c.in_ok-slot.ensures.slot)
+          (λ honest before holds. c.in_ok-slot.ensures.found honest before (rw (c.loop-number.invariant.1 (reads.was_honest honest)) holds))
+          (rw (is, c.as_slice.ensures.value) at c.in_ok-put_place.ensures),
+      (λ honest before holds.
+          c.in_ok-slot.ensures.read_rightly honest before (rw (c.loop-number.invariant.1 (reads.was_honest honest)) holds)
+          ∙ c.loop-number.invariant.5 (reads.was_honest honest) before holds),
+    )
+
+pub returns-clause-found : goal.returns-clause-found
+returns-clause-found g c =
+    let end : c.loop-number.number ≡ length c.args.groups.now = omega (arith, c.loop-number-test.false, c.len-number-end.ensures) in
+    rw (sym end) c.loop-number.invariant.4

@@ -1,0 +1,99 @@
+-- What is found at the places of changes: which of them are made at once, and which wait.
+use Rattle.std.specs.Prelude.{◌≡◌, ◌≢◌, ◌<◌, ◌≤◌, ◌⊎◌, ℕ, true, List, [], ◌∷◌, ◌++◌, length, map, take, Option, Some, None, option_map, slice_get, slice_index_or}
+use Rattle.std.specs.List.{AllByRecursion, Contains}
+use Rattle.cs_change.specs.declared.change.Change.{Change}
+use Rattle.cs_order.specs.Order.{Keys}
+use Rattle.cs_store.specs.declared.batch.PlaceEdit.{PlaceEdit}
+use Rattle.cs_apply.specs.Edited.{plain, plain_list, edit_for}
+use Rattle.cs_apply.specs.Found.{AreSlots, IsNumbering, heads}
+use Rattle.cs_apply.specs.Meeting.{blank, IsMadeBy}
+use Rattle.cs_apply.specs.Woven.{weave, unmade, IsWaiting, count_waiting, made_edits, waits_of, not_waiting}
+use Rattle.cs_apply.specs.declared.places.Places.{Places}
+use Rattle.cs_apply.specs.declared.slots.Slot.{Slot}
+
+-- the first of a group
+abbrev pub first_of : List ℕ → ℕ
+first_of group = slice_index_or group 0 0
+
+-- the place of a change is made by it, or waits as the slot of the change's number
+abbrev pub IsTurn : List (Option Slot) → Change → ℕ → Option ℕ → Type 0
+IsTurn held change place None = (next : Slot) × (slice_get held place ≡ Some (Some next)) × IsMadeBy change next
+IsTurn held change place (Some number) = IsWaiting held place number
+
+-- the places in order and those that wait: what comes of each change, where these are the numbers of their places
+pub record ArePlaces (changes : List Change) (numbers : List ℕ) (read : Slot → Type 0) (places : Places) : Type 0 where
+  pub held : List (Option Slot)
+  pub counted : count_waiting held ≡ length places.slots.items
+  pub made : map plain places.made.items ≡ made_edits held
+  pub waits : places.waits.items ≡ waits_of held
+  pub as_read : AllByRecursion read (weave (unmade held) places.slots.items)
+  pub long : (length places.numbers.items ≡ length changes) × (length numbers ≡ length changes)
+  -- each change makes its place, or waits
+  pub turns : (at : ℕ) (some : Change) → at < length changes
+      → IsTurn held (slice_index_or changes at some) (slice_index_or numbers at 0) (slice_index_or places.numbers.items at None)
+  -- one that makes its place is alone there
+  pub alone : (i j : ℕ) → i < length changes → j < length changes → i ≢ j → slice_index_or places.numbers.items i None ≡ None
+      → slice_index_or numbers i 0 ≢ slice_index_or numbers j 0
+  -- each place that is made is made by a change
+  pub covered : (place : ℕ) (next : Slot) → slice_get held place ≡ Some (Some next)
+      → (at : ℕ) × (at < length changes) × (slice_index_or places.numbers.items at None ≡ None) × (slice_index_or numbers at 0 ≡ place)
+
+-- what has come of the changes of one place
+abbrev pub IsDone : List (Option Slot) → List Change → List (Option ℕ) → ℕ → List ℕ → Type 0
+IsDone held changes numbers place group =
+    ((at : ℕ) × (next : Slot) × (group ≡ at ∷ []) × (slice_get held place ≡ Some (Some next))
+    × ((some : Change) → IsMadeBy (slice_index_or changes at some) next) × (slice_index_or numbers at None ≡ None))
+    ⊎ ((number : ℕ) × IsWaiting held place number
+    × ((at : ℕ) → Contains group at → slice_index_or numbers at None ≡ Some number))
+
+-- the same, as far as so many of the groups
+pub record ArePlacesSoFar (keys : Keys) (groups : List (List ℕ)) (changes : List Change) (read : Slot → Type 0) (count : ℕ) (places : Places) : Type 0 where
+  pub held : List (Option Slot)
+  pub long : length held ≡ count
+  pub counted : count_waiting held ≡ length places.slots.items
+  pub made : map plain places.made.items ≡ made_edits held
+  pub waits : places.waits.items ≡ waits_of held
+  pub as_read : AllByRecursion read (weave (unmade held) places.slots.items)
+  pub slots : AreSlots (heads keys (map first_of (take count groups))) (weave (unmade held) places.slots.items)
+  pub numbers : length places.numbers.items ≡ length keys
+  pub done : (place : ℕ) → place < count → IsDone held changes places.numbers.items place (slice_index_or groups place [])
+  pub later : (place at : ℕ) → count ≤ place → place < length groups → Contains (slice_index_or groups place []) at
+      → slice_index_or places.numbers.items at None ≡ None
+
+-- one more place is made by the only change of its group
+pub record IsPutMade (changes : List Change) (group : List ℕ) (slot : Slot) (old new : Places) : Type 0 where
+  pub next : Slot
+  pub blank_is : slot ≡ blank next
+  pub single : length group ≡ 1
+  pub by : (some : Change) → IsMadeBy (slice_index_or changes (first_of group) some) next
+  pub made : map plain new.made.items ≡ map plain old.made.items ++ plain_list (edit_for next)
+  pub waits : new.waits.items ≡ old.waits.items ++ map not_waiting (plain_list (edit_for next))
+  pub slots : new.slots.items ≡ old.slots.items
+  pub numbers : new.numbers.items ≡ old.numbers.items
+
+-- or it waits
+pub record IsPutWaiting (group : List ℕ) (slot : Slot) (old new : Places) : Type 0 where
+  pub made : map plain new.made.items ≡ map plain old.made.items
+  pub waits : new.waits.items ≡ old.waits.items ++ true ∷ []
+  pub slots : new.slots.items ≡ old.slots.items ++ slot ∷ []
+  pub numbers : length new.numbers.items ≡ length old.numbers.items
+  pub given : (at : ℕ) → Contains group at → slice_index_or new.numbers.items at None ≡ Some (length old.slots.items)
+  pub kept : (at : ℕ) → (Contains group at → ⊥) → slice_index_or new.numbers.items at None ≡ slice_index_or old.numbers.items at None
+
+abbrev pub IsPut : List Change → List ℕ → Slot → Places → Places → Type 0
+IsPut changes group slot old new = IsPutMade changes group slot old new ⊎ IsPutWaiting group slot old new
+
+-- the edit, if there is one, is behind the others
+pub record HasEdit (edit : Option PlaceEdit) (old new : Places) : Type 0 where
+  pub made : map plain new.made.items ≡ map plain old.made.items ++ plain_list (option_map plain edit)
+  pub waits : new.waits.items ≡ old.waits.items ++ map not_waiting (plain_list (option_map plain edit))
+  pub slots : new.slots.items ≡ old.slots.items
+  pub numbers : new.numbers.items ≡ old.numbers.items
+
+-- the places of keys, with what comes of the change of each
+pub record ArePlacesFound (keys : Keys) (changes : List Change) (read : Slot → Type 0) (places : Places) : Type 0 where
+  pub firsts : List ℕ
+  pub numbers : List ℕ
+  pub numbering : IsNumbering keys firsts numbers
+  pub found : ArePlaces changes numbers read places
+  pub slots : AreSlots (heads keys firsts) (weave (unmade found.held) places.slots.items)
