@@ -22,6 +22,41 @@ pub(crate) struct Numbered<'a> {
     pub(crate) numbers: Vec<usize>,
 }
 
+impl<'a> Numbered<'a> {
+    ghost use Rattle.std.specs.Prelude.{◌≡◌, [], IfOk};
+
+    /// No change, with room for so many.
+    fn with_capacity(alloc: Global, room: usize) -> Result<Numbered<'a>, Memory>
+        ensures changes { IfOk result (λ lent. lent.changes.items ≡ []) }
+        ensures numbers { IfOk result (λ lent. lent.numbers.items ≡ []) }
+    {
+        Ok(Numbered {
+            changes: Vec::with_capacity(alloc, room)?,
+            numbers: Vec::with_capacity(alloc, room)?,
+        })
+    }
+}
+
+/// How many changes the table has in these groups. It says how much room to take, and is no part of a result.
+fn count_in(table: &TableDef, groups: &[Group<'_>]) -> usize {
+    let mut count = 0usize;
+    for group in groups {
+        if group.name.as_str() == table.name.as_str() {
+            count = count.saturating_add(group.changes.as_slice().len());
+        }
+    }
+    count
+}
+
+/// The same over all changesets.
+fn count_read(table: &TableDef, changesets: &[Changeset<'_>]) -> usize {
+    let mut count = 0usize;
+    for changeset in changesets {
+        count = count.saturating_add(count_in(table, changeset.as_slice()));
+    }
+    count
+}
+
 /// Lends the table's changes of one more changeset, which has this number.
 fn lend_numbered<'a>(
     table: &TableDef,
@@ -50,10 +85,7 @@ fn lend_read<'a>(
     ensures numbers { IfOk result (λ lent. lent.numbers.items
         ≡ numbers_from 1 (read_each table.now.name changesets.now)) }
 {
-    let mut lent = Numbered {
-        changes: Vec::new(alloc),
-        numbers: Vec::new(alloc),
-    };
+    let mut lent = Numbered::with_capacity(alloc, count_read(table, changesets))?;
     for (index, changeset) in changesets.iter().enumerate() {
         lend_numbered(table, index + 1, changeset.as_slice(), &mut lent)?;
     }
@@ -102,10 +134,7 @@ fn lend_places<'a>(
     ensures numbers { IfOk result (λ lent. lent.numbers.items
         ≡ flat_map (numbers_at (numbered_behind groups.now)) places.now) }
 {
-    let mut lent = Numbered {
-        changes: Vec::new(alloc),
-        numbers: Vec::new(alloc),
-    };
+    let mut lent = Numbered::with_capacity(alloc, places.len())?;
     for place in places {
         lend_at(groups, *place, &mut lent)?;
     }

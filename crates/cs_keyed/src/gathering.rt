@@ -13,6 +13,9 @@ use cs_order::Keys;
 use cs_value::Memory;
 use std::alloc::Global;
 
+/// How many bytes the key of one number has.
+const NUMBER: usize = 9;
+
 /// The keys of the changes before the first one without a key, and whether these are all.
 pub fn gather_keys(
     alloc: Global,
@@ -23,7 +26,9 @@ pub fn gather_keys(
     ensures whole { IfOk result (λ found. found.1 ≡ all_keyed marks.now changes.now) }
 {
     let front = key_front(marks);
-    let mut keys = KeysBuilder::with_capacity(alloc, changes.len(), 0)?;
+    // Keys of a number are the most common ones; more room is taken where keys are longer.
+    let room = changes.len().saturating_mul(NUMBER);
+    let mut keys = KeysBuilder::with_capacity(alloc, changes.len(), room)?;
     let mut at = 0;
     while at < changes.len() {
         if !keys.push_of(front, &changes[at])? {

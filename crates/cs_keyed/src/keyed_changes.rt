@@ -2,11 +2,8 @@
 
 ghost use Rattle.std.specs.Prelude.{◌≡◌, ◌++◌, ◌∷◌, [], OnErr, OnOk, length};
 ghost use Rattle.cs_keyed.specs.Keyed.{beside};
-ghost use Rattle.cs_keyed.specs.NormalForm.{normal_form};
-ghost use Rattle.cs_keyed.specs.Prepared.{kept};
 
-use crate::one_form::push_form;
-use cs_change::{Change, ChangesBuf, Scratch};
+use cs_change::{Change, ChangesBuf};
 use cs_order::Keys;
 use cs_value::Memory;
 use std::alloc::{AllocError, Global};
@@ -47,39 +44,6 @@ fn put_both(
     Ok(())
 }
 
-/// Appends a key and the normal form of a change, if one is left. An `Err` leaves nothing.
-// Six parameters: the change with its key and its table's key columns, and the room and the two lists that are written into.
-#[inline(always)]
-fn put_form(
-    keys: &mut Keys,
-    changes: &mut ChangesBuf,
-    marks: &[bool],
-    key: &[u8],
-    change: &Change<'_>,
-    scratch: &mut Scratch,
-) -> Result<(), Memory>
-    requires { length keys.old ≡ length changes.old }
-    ensures as_many { length keys.new ≡ length changes.new }
-    ensures pushed { OnOk result (beside keys.new changes.new
-        ≡ beside keys.old changes.old ++ kept ((key.now, normal_form marks.now change.now) ∷ [])) }
-    ensures err { OnErr result (beside keys.new changes.new ≡ []) }
-{
-    let before = changes.len();
-    let Ok(_) = push_form(marks, change, scratch, changes) else {
-        keys.clear();
-        changes.clear();
-        return Err(AllocError);
-    };
-    if changes.len() > before {
-        let Ok(_) = keys.push(key) else {
-            keys.clear();
-            changes.clear();
-            return Err(AllocError);
-        };
-    }
-    Ok(())
-}
-
 impl Model for KeyedChanges {
     ghost use Rattle.std.specs.Prelude.{List, ℕ};
     ghost use Rattle.cs_change.specs.declared.change.Change.{Change as One};
@@ -96,8 +60,6 @@ impl KeyedChanges {
     ghost use Rattle.std.specs.List.{flat_map};
     ghost use Rattle.cs_change.specs.Spelling.{change_spelling};
     ghost use Rattle.cs_keyed.specs.Changes.{IsOrdered, change_at};
-    ghost use Rattle.cs_keyed.specs.NormalForm.{normal_form};
-    ghost use Rattle.cs_keyed.specs.Prepared.{kept};
     ghost use Rattle.cs_keyed.specs.Keyed.{beside};
 
     /// These changes behind these keys.
@@ -123,19 +85,6 @@ impl KeyedChanges {
         ensures { result ≡ [] }
     {
         KeyedChanges::from_parts(Keys::new(alloc), ChangesBuf::new(alloc))
-    }
-
-    /// No change, with room for all of these behind as many keys.
-    pub fn with_room_for(
-        alloc: Global,
-        keys: &Keys,
-        changes: &[Change<'_>],
-    ) -> Result<KeyedChanges, Memory>
-        ensures { IfOk result (λ made. made ≡ []) }
-    {
-        let keys = Keys::with_room_for(alloc, keys)?;
-        let changes = ChangesBuf::with_room_for(alloc, changes)?;
-        Ok(KeyedChanges::from_parts(keys, changes))
     }
 
     /// The same changes behind their keys, in memory of their own.
@@ -211,29 +160,6 @@ impl KeyedChanges {
         ensures err { OnErr result (self.new ≡ []) }
     {
         put_both(&mut self.keys, &mut self.changes, key, change)
-    }
-
-    /// Appends the normal form of a change behind the bytes of its key, if one is left. An `Err` leaves no change.
-    #[inline(always)]
-    pub fn push_form(
-        &mut self,
-        marks: &[bool],
-        key: &[u8],
-        change: &Change<'_>,
-        scratch: &mut Scratch,
-    ) -> Result<(), Memory>
-        ensures ok { OnOk result (self.new
-            ≡ self.old ++ kept ((key.now, normal_form marks.now change.now) ∷ [])) }
-        ensures err { OnErr result (self.new ≡ []) }
-    {
-        put_form(
-            &mut self.keys,
-            &mut self.changes,
-            marks,
-            key,
-            change,
-            scratch,
-        )
     }
 
     /// Whether there is none.

@@ -12,6 +12,7 @@ mod key_bytes;
 mod key_of_change;
 mod keyed_changes;
 mod one_form;
+mod picking;
 
 pub use builder::KeysBuilder;
 pub use gathering::{gather_all_keys, gather_keys};
@@ -22,3 +23,4 @@ pub use keyed_changes::KeyedChanges;
 pub mod laws;
 
 pub use one_form::{all_normal, lend_form};
+pub use picking::pick_form;

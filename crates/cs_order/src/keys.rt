@@ -8,6 +8,7 @@ ghost use Rattle.cs_order.specs.Steps.Rising.{ascend};
 use crate::Memory;
 use crate::comparing::same_bytes;
 use crate::distinct::distinct_order;
+use crate::grouping::{Groups, group_keys};
 use std::alloc::{AllocError, Global};
 use std::cmp::Ordering;
 use std::marker::Model;
@@ -77,7 +78,7 @@ impl Keys {
     ghost use Rattle.std.specs.Prelude.{◌≡◌, ◌↔◌, IsTrue, ◌++◌, ◌∷◌, [], ◌<◌, length, IfOk, MatchOption, OnOk, OnErr, slice_index_or};
     ghost use Rattle.std.specs.List.{All, Contains};
     ghost use Rattle.std.specs.List.Sorted.{IsStrictlySortedBy};
-    ghost use Rattle.cs_order.specs.Groups.{HasTwins, IsDistinctOrder};
+    ghost use Rattle.cs_order.specs.Groups.{HasTwins, IsDistinctOrder, IsGrouping};
     ghost use Rattle.cs_order.specs.Order.{by_bytes, key_at, keys_behind};
     ghost use Rattle.cs_order.specs.Spots.{IsSpotIn, keys_in};
 
@@ -87,6 +88,15 @@ impl Keys {
         ensures { result ≡ keys_in bytes.items spots.items }
     {
         Keys { bytes, spots }
+    }
+
+    /// The bytes, and where each key stands in them. It takes no memory.
+    pub(crate) fn into_parts(self) -> (Vec<u8>, Vec<(usize, usize)>)
+        ensures keys { keys_in result.0.items result.1.items ≡ self }
+        ensures within { All (IsSpotIn (length result.0.items)) result.1.items }
+    {
+        let Keys { bytes, spots } = self;
+        (bytes, spots)
     }
 
     /// No key.
@@ -211,6 +221,14 @@ impl Keys {
     {
         let slices = self.slices(alloc)?;
         distinct_order(alloc, slices.as_slice())
+    }
+
+    /// The places of the keys, those of one key together and rising, in the order of the keys.
+    pub fn group(&self, alloc: Global) -> Result<Groups, Memory>
+        ensures { IfOk result (λ groups. IsGrouping self.now groups) }
+    {
+        let slices = self.slices(alloc)?;
+        group_keys(alloc, slices.as_slice())
     }
 
     /// All keys, lent.
