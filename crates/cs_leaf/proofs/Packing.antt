@@ -1,5 +1,5 @@
 -- Entries that stand in bytes.
-use Rattle.std.proofs.Common.{◌≡◌, ℕ, Bool, true, false, cond, Option, zero, suc, ◌+◌, ◌-◌, ◌<◌, ◌≤◌, ◌*◌, List, [], ◌∷◌, ◌++◌, refl, sym, ap, subst, ◌∙◌, length, get_or, take, drop, map, arith, length-append}
+use Rattle.std.proofs.Common.{◌≡◌, ℕ, Bool, true, false, cond, Option, zero, suc, ◌+◌, ◌-◌, ◌<◌, ◌≤◌, ◌*◌, ◌⊎◌, inl, inr, List, [], ◌∷◌, ◌++◌, refl, sym, ap, subst, ◌∙◌, length, get_or, take, drop, map, arith, length-append}
 use Rattle.std.specs.Prelude.{pos, slice_set}
 use Rattle.std.specs.List.{All, insert, remove, slice_range}
 use Rattle.std.specs.Ordering.{int_cmp, nat_cmp, ordering_then}
@@ -137,6 +137,17 @@ tight_after es after used gone held more len used_after was less bytes long is b
     (omega (arith, was.0, less, bytes, long, is), omega (arith, was.0, was.1, less, long, is), bound)
 
 -- ---- the first spot
+
+-- it stays where spots are edited behind it
+pub front_stays : (front : Front) (spots : List Spot) (at : ℕ) (spot_edit : SpotEdit) → IsFrontOf front spots → IsSpotEditAt (length spots) at spot_edit → (at ≡ 0) ⊎ IsFrontOf front (spots_after spots at spot_edit)
+front_stays front spots zero spot_edit is fits = inl refl
+front_stays front [] (suc at) (Set s) is fits = absurd (omega (arith, fits))
+front_stays front (x ∷ xs) (suc at) (Set s) is fits = inr is
+front_stays front [] (suc at) (Add s) is fits = absurd (omega (arith, fits))
+front_stays front (x ∷ xs) (suc at) (Add s) is fits = inr is
+front_stays front [] (suc at) Remove is fits = absurd (omega (arith, fits))
+front_stays front (x ∷ xs) (suc at) Remove is fits = inr is
+front_stays front spots (suc at) Stay is fits = inr is
 
 -- the first entry's place and its head are the front's
 pub front_tells : (front : Front) (bytes : List ℕ) (spots : List Spot) → All (IsSpotIn bytes) spots → IsFrontOf front spots → (pos front.table ≡ (nth (entries_at bytes spots) 0).0.0) × IsHeadOf front.head (nth (entries_at bytes spots) 0).0.1

@@ -1,6 +1,6 @@
 //! Bodies that follow one another, over one list of bytes, and an edit of them in place.
 
-ghost use Rattle.std.specs.Prelude.{◌≡◌, ◌≤◌, ◌+◌, ◌*◌, ◌++◌, ◌∷◌, ℕ, List, [], length, IfOk, IfSome, OnOk, OnErr};
+ghost use Rattle.std.specs.Prelude.{◌≡◌, ◌⊎◌, ◌≤◌, ◌+◌, ◌*◌, ◌++◌, ◌∷◌, ℕ, List, [], length, IfOk, IfSome, OnOk, OnErr};
 ghost use Rattle.std.specs.List.{All};
 ghost use Rattle.cs_store.specs.Written.{optional_bytes};
 ghost use Rattle.cs_leaf.specs.Entries.{HasRoomFor, IsFrontOf, IsPacked, IsSpotIn, IsSpotEditAt, IsSpotEditFor, bytes_of, entries_at, entry_at, size_of, spots_after, written};
@@ -110,6 +110,42 @@ fn front_of(spots: &[Spot]) -> Front
     }
 }
 
+/// One more than the largest number of 64 bits.
+const WORD: u128 = 0x1_0000_0000_0000_0000;
+
+/// One more than the largest number of 32 bits.
+const HALF: u128 = 0x1_0000_0000;
+
+/// How many of `count` that are spread evenly over `all` fall into `part`, nearly.
+#[inline(always)]
+fn share_of_words(count: usize, part: usize, all: usize) -> usize {
+    part / (all / count.max(1)).max(1)
+}
+
+/// How many of `count` that are spread evenly over `all` fall into `part`, nearly. Their first bits are enough, and numbers of 64
+/// bits are divided much faster.
+#[inline(always)]
+fn share(count: usize, part: u128, all: u128) -> usize {
+    let part = part.min(all);
+    if all < WORD {
+        share_of_words(count, part as usize, all as usize)
+    } else if all < WORD * HALF {
+        share_of_words(count, (part / HALF) as usize, (all / HALF) as usize)
+    } else {
+        share_of_words(count, (part / WORD) as usize, (all / WORD) as usize)
+    }
+}
+
+/// Where the first of some rows stands after an edit of them at a position, and before it stood there. Behind the first it stays,
+/// and is not read.
+#[inline(always)]
+fn front_after(front: Front, spots: &[Spot], at: usize) -> Front
+    requires { (at ≡ 0) ⊎ IsFrontOf front spots.now }
+    ensures { IsFrontOf result spots.now }
+{
+    if at == 0 { front_of(spots) } else { front }
+}
+
 /// Appends the bytes of a row, and answers where they stand. At `Err` nothing has changed.
 #[inline(always)]
 fn add_row(bytes: &mut Vec<u8>, place: &Place, row: &[u8]) -> Result<Spot, AllocError>
@@ -158,8 +194,9 @@ fn put(
 }
 
 impl Leaf {
-    ghost use Rattle.std.specs.Prelude.{◌≡◌, ◌<◌, ◌≤◌, ◌++◌, ◌∷◌, true, [], T, pos, length, slice_range, if◌then◌else◌, option_map, IfOk, IfErr, OnOk};
+    ghost use Rattle.std.specs.Prelude.{◌≡◌, ◌<◌, ◌≤◌, ◌++◌, ◌∷◌, true, false, [], T, pos, length, slice_range, if◌then◌else◌, option_map, IfOk, IfErr, OnOk};
     ghost use Rattle.std.specs.FinMap.{find, is_sorted};
+    ghost use Rattle.std.specs.Ordering.{is_lt};
     ghost use Rattle.cs_store.specs.Contents.{place_cmp};
     ghost use Rattle.cs_leaf.specs.Entries.{IsPlaceFor, IsPlaceBetween, bytes_of, nth, size_of};
     ghost use Rattle.cs_leaf.specs.Edits.{IsBehind, edited, store_place};
@@ -298,6 +335,27 @@ impl Leaf {
         (low, high)
     }
 
+    /// Between which two positions a place stands or would stand, not behind `to`, in steps that double.
+    #[inline(always)]
+    fn reach_back(&self, to: usize, place: &Place) -> (usize, usize)
+        requires to { to < length self.now }
+        requires behind { is_lt (place_cmp (nth self.now to).0 place.now) ≡ false }
+        ensures order { (result.0 ≤ result.1) × (result.1 ≤ length self.now) }
+        ensures between { IsPlaceBetween self.now 0 result.0 result.1 place.now }
+    {
+        let mut high = to;
+        let mut step = 1;
+        while step <= high {
+            let low = high - step;
+            if self.compare(low, place).is_lt() {
+                return (low + 1, high);
+            }
+            high = low;
+            step = step.saturating_mul(2);
+        }
+        (0, high)
+    }
+
     /// Where a place stands or would stand of which this is known, in halves.
     #[inline(always)]
     fn settle(&self, from: usize, reached: (usize, usize), place: &Place) -> usize
@@ -341,7 +399,10 @@ impl Leaf {
         match self.compare(near - 1, place) {
             Ordering::Less => self.search(near, place),
             Ordering::Equal => near - 1,
-            Ordering::Greater => self.settle(0, (0, near - 1), place),
+            Ordering::Greater => {
+                let reached = self.reach_back(near - 1, place);
+                self.settle(0, reached, place)
+            }
         }
     }
 
@@ -371,6 +432,18 @@ impl Leaf {
         } else {
             (None, at)
         }
+    }
+
+    /// How many of `count` are before a place, nearly, if they are spread evenly between the first place here and that of another
+    /// leaf; none, where these are not of its table. It says where to begin to look, and is no part of a result.
+    #[inline(always)]
+    pub fn share_before(&self, other: &Leaf, count: usize, place: &Place) -> Option<usize> {
+        if self.front.table != place.table || other.front.table != place.table {
+            return None;
+        }
+        let all = other.front.head.saturating_sub(self.front.head);
+        let part = place.head.saturating_sub(self.front.head);
+        Some(share(count, part, all))
     }
 
     /// Appends a row. At `Err` nothing has changed.
@@ -601,6 +674,7 @@ impl Amendment {
         ensures { result ≡ self.1 }
     {
         let Amendment {
+            front,
             bytes,
             spots,
             used_after,
@@ -611,7 +685,7 @@ impl Amendment {
         let mut spots = spots;
         edit_spots(&mut spots, at, spot_edit);
         Leaf {
-            front: front_of(spots.as_slice()),
+            front: front_after(front, spots.as_slice(), at),
             bytes,
             spots,
             used: used_after,

@@ -2,7 +2,7 @@
 //! what it makes of each leaf, for which it takes all the memory that it needs, and then makes it or takes it back, which takes
 //! none.
 
-ghost use Rattle.std.specs.Prelude.{◌≡◌, false, ◌≤◌, ◌<◌, ◌+◌, ◌⊎◌, List, [], ◌++◌, ◌∷◌, T, pos, length, take, drop, fold, map, filter, slice_set, option_map, Some, IfOk, IfSome, OnOk, OnErr, MatchBool};
+ghost use Rattle.std.specs.Prelude.{◌≡◌, true, false, ◌≤◌, ◌<◌, ◌+◌, ◌⊎◌, List, [], ◌++◌, ◌∷◌, T, pos, length, take, drop, fold, map, filter, slice_set, option_map, Some, IfOk, IfSome, OnOk, OnErr, MatchBool};
 ghost use Rattle.std.specs.List.{All};
 ghost use Rattle.std.specs.Ordering.{int_eq, is_gt};
 ghost use Rattle.std.specs.FinMap.{get, is_sorted};
@@ -105,6 +105,61 @@ fn leaf_for(leaves: &[Leaf], from: usize, place: &Place) -> usize
     leaf_between(leaves, from, to, place)
 }
 
+/// A leaf before one that begins above a place, which doesn't: one near that, or where each does, the first.
+#[inline(always)]
+fn limit_back(leaves: &[Leaf], to: usize, place: &Place) -> usize
+    requires some { 0 < to }
+    requires in_bounds { to < length leaves.now }
+    ensures bound { result < to }
+    ensures begins { BeginsBy leaves.now result place.now }
+{
+    let mut step = 1;
+    while step <= NEARBY && step < to {
+        if !begins_above(leaves, to - step, place) {
+            return to - step;
+        }
+        step *= 8;
+    }
+    0
+}
+
+/// The leaf in which a place stands or would stand. It is looked for on both sides of `at`.
+fn leaf_about(leaves: &[Leaf], at: usize, place: &Place) -> usize
+    requires in_bounds { at < length leaves.now }
+    ensures bound { result < length leaves.now }
+    ensures begins { BeginsBy leaves.now result place.now }
+    ensures next { BeginsBehind leaves.now (result + 1) place.now }
+{
+    if at == 0 || !begins_above(leaves, at, place) {
+        return leaf_for(leaves, at, place);
+    }
+    let from = limit_back(leaves, at, place);
+    leaf_between(leaves, from, at, place)
+}
+
+/// Whether a place stands or would stand in the leaf there or in the next.
+#[inline(always)]
+fn is_about(leaves: &[Leaf], at: usize, place: &Place) -> bool
+    ensures { result ≡ true → (at < length leaves.now) × BeginsBy leaves.now at place.now }
+{
+    at < leaves.len()
+        && !begins_above(leaves, at, place)
+        && (leaves.len() - at <= 2 || begins_above(leaves, at + 2, place))
+}
+
+/// The leaf in which a place would stand if keys were spread evenly; none, where leaves are of several tables.
+#[inline(always)]
+fn guess_leaf(leaves: &[Leaf], place: &Place) -> Option<usize>
+    requires some { 0 < length leaves.now }
+    ensures { IfSome result (λ at. at < length leaves.now) }
+{
+    let last = leaves.len() - 1;
+    match leaves[0].share_before(&leaves[last], last, place) {
+        Some(before) => Some(before.min(last)),
+        None => None,
+    }
+}
+
 /// The leaf in which a place stands or would stand. The one at `near` is looked at first.
 fn leaf_near(leaves: &[Leaf], near: usize, place: &Place) -> usize
     requires some { 0 < length leaves.now }
@@ -112,10 +167,12 @@ fn leaf_near(leaves: &[Leaf], near: usize, place: &Place) -> usize
     ensures begins { BeginsBy leaves.now result place.now }
     ensures next { BeginsBehind leaves.now (result + 1) place.now }
 {
-    if near < leaves.len() && !begins_above(leaves, near, place) {
-        leaf_for(leaves, near, place)
-    } else {
-        leaf_between(leaves, 0, leaves.len(), place)
+    if is_about(leaves, near, place) {
+        return leaf_for(leaves, near, place);
+    }
+    match guess_leaf(leaves, place) {
+        Some(at) => leaf_about(leaves, at, place),
+        None => leaf_between(leaves, 0, leaves.len(), place),
     }
 }
 
@@ -545,6 +602,21 @@ fn row_beside<'a>(leaves: &'a [Leaf], near: &mut Near, place: &Place) -> Option<
     Some(row)
 }
 
+/// Near which position to look for a place in its leaf.
+#[inline(always)]
+fn guess_in(leaves: &[Leaf], at: usize, place: &Place) -> usize
+    requires { at < length leaves.now }
+{
+    if at + 1 >= leaves.len() {
+        return 0;
+    }
+    let leaf = &leaves[at];
+    match leaf.share_before(&leaves[at + 1], leaf.len(), place) {
+        Some(before) => before.saturating_add(1),
+        None => 0,
+    }
+}
+
 /// The row at a place, if there is one.
 fn row_at<'a>(leaves: &'a [Leaf], near: &mut Near, place: &Place) -> Option<&'a [u8]>
     requires leaves { AreLeaves leaves.now }
@@ -552,7 +624,11 @@ fn row_at<'a>(leaves: &'a [Leaf], near: &mut Near, place: &Place) -> Option<&'a 
     ensures { option_map (λ row. row.now) result ≡ get (bodies_in leaves.now) place.now }
 {
     let its = leaf_near(leaves, near.leaf, place);
-    let from = if its == near.leaf { near.row } else { 0 };
+    let from = if its == near.leaf {
+        near.row
+    } else {
+        guess_in(leaves, its, place)
+    };
     let (row, next) = leaves[its].look_up(from, place);
     *near = Near {
         leaf: its,

@@ -30,16 +30,16 @@ fn put_place<S: RowStore>(
     catalog: &Catalog,
     table: &TableDef,
     number: u32,
-    key: &[u8],
+    key: Vec<u8>,
     before: &Standing,
-    mine: &Option<RowBuf>,
+    mine: Option<RowBuf>,
     pending: u64,
 ) -> Result<u64, StoreFault>
     requires there { slice_get catalog.now number ≡ Some table.now }
     ensures writes { WritesStore S.honest S.contents S.failed S.may_leave S.misreads stored.Device (ShowsSome catalog.now (S.contents store.old))
-        (IsPutIn catalog.now table.now key.now before.now mine.now (S.contents store.old)) store.old store.new result }
+        (IsPutIn catalog.now table.now key.items before.now mine (S.contents store.old)) store.old store.new result }
     ensures counted { S.honest store.new → (view : View) → ShowsRows catalog.now (S.contents store.old) view
-        → MaySettle catalog.now view table.now key.now before.now mine.now
+        → MaySettle catalog.now view table.now key.items before.now mine
         → pending ≡ len (S.contents store.old).pending → IfOk result (λ count. count ≡ len (S.contents store.new).pending) }
 {
     cs_value::laws::catalogs();
@@ -49,16 +49,7 @@ fn put_place<S: RowStore>(
     let _tables = catalog.tables();
     let mut settling = Settling::new(alloc, pending);
     let base = lent(&before.base);
-    let row = lent(mine);
-    settling.settle(
-        alloc,
-        table,
-        number,
-        key,
-        before,
-        base.as_ref(),
-        row.as_ref(),
-    )?;
+    settling.settle_own(alloc, table, number, key, before, base.as_ref(), mine)?;
     let count = settling.count;
     let batch = Batch {
         rows: settling.rows,
@@ -81,22 +72,22 @@ pub(crate) fn edit_place<S: RowStore>(
     catalog: &Catalog,
     table: &TableDef,
     number: u32,
-    key: &[u8],
+    key: Vec<u8>,
     wanted: &Wanted<'_>,
     pending: u64,
 ) -> Result<u64, EditFault>
     requires there { slice_get catalog.now number ≡ Some table.now }
-    requires wanted { IsWantedAt table.now key.now wanted.now }
+    requires wanted { IsWantedAt table.now key.items wanted.now }
     ensures writes { WritesStore S.honest S.contents S.failed S.may_leave S.misreads Device (ShowsSome catalog.now (S.contents store.old))
-        (IsChangedBy catalog.now (Leads (edit_at table.now key.now wanted.now)) (S.contents store.old)) store.old store.new result }
+        (IsChangedBy catalog.now (Leads (edit_at table.now key.items wanted.now)) (S.contents store.old)) store.old store.new result }
     ensures refused { S.honest store.new → (view : View) → ShowsRows catalog.now (S.contents store.old) view
-        → IfErr result (λ fault. IsOfStore fault ⊎ (edit_at table.now key.now wanted.now view ≡ Err fault)) }
+        → IfErr result (λ fault. IsOfStore fault ⊎ (edit_at table.now key.items wanted.now view ≡ Err fault)) }
     ensures counted { S.honest store.new → ShowsSome catalog.now (S.contents store.old)
         → pending ≡ len (S.contents store.old).pending → IfOk result (λ count. count ≡ len (S.contents store.new).pending) }
 {
     cs_value::laws::catalogs();
     let _tables = catalog.tables();
-    let before = match standing_at(alloc, store, catalog, table, number, key) {
+    let before = match standing_at(alloc, store, catalog, table, number, key.as_slice()) {
         Ok(before) => before,
         Err(fault) => return Err(EditFault::from(fault)),
     };
@@ -110,7 +101,7 @@ pub(crate) fn edit_place<S: RowStore>(
         return Ok(pending);
     }
     match put_place(
-        alloc, store, catalog, table, number, key, &before, &mine, pending,
+        alloc, store, catalog, table, number, key, &before, mine, pending,
     ) {
         Ok(count) => Ok(count),
         Err(fault) => Err(EditFault::from(fault)),

@@ -104,6 +104,16 @@ pub(crate) fn row_body(alloc: Global, row: Option<&Row<'_>>) -> Result<Option<Ve
     }
 }
 
+/// The bytes of a row or none, which it gives away.
+pub(crate) fn own_body(row: Option<RowBuf>) -> Option<Vec<u8>>
+    ensures { optional_bytes result ≡ option_map row_bytes row }
+{
+    match row {
+        None => None,
+        Some(row) => Some(row.into_vec()),
+    }
+}
+
 /// What the net change of two rows or none is made in, with room for it.
 fn scratch_for(
     alloc: Global,

@@ -14,9 +14,9 @@ ghost use Rattle.cs_pending.specs.Placing.{StandsIn};
 ghost use Rattle.cs_pending.specs.Settling.{IsPushed, IsWithin, Settles, recount};
 ghost use Rattle.cs_pending.specs.View.{View, direct_net, settled};
 
-use crate::places::{are_same, lent, net_body, row_body};
+use crate::places::{are_same, lent, net_body, own_body, row_body};
 use crate::placing::Standing;
-use cs_record::Row;
+use cs_record::{Row, RowBuf};
 use cs_store::PlaceEdit;
 use cs_value::{Memory, TableDef};
 use std::alloc::{AllocError, Global};
@@ -70,6 +70,31 @@ fn push_row(
     }
     let body = row_body(alloc, mine)?;
     push_edit(edits, alloc, number, key, body)
+}
+
+/// Appends the edit of a row, whose bytes become the edit's, where another row or none stood.
+// Five parameters: the list written into, the place in two parts, and its two rows, of which the new one is given away.
+fn push_own_row(
+    edits: &mut Vec<PlaceEdit>,
+    number: u32,
+    key: Vec<u8>,
+    stood: Option<&Row<'_>>,
+    mine: Option<RowBuf>,
+) -> Result<(), Memory>
+    ensures { OnOk result (IsPushed (not (same_place (option_copied stood.entry) mine))
+        number key.items (option_map row_bytes mine) edits.old.items edits.new.items) }
+{
+    let row = lent(&mine);
+    if are_same(stood, row.as_ref()) {
+        return Ok(());
+    }
+    let body = own_body(mine);
+    edits.push(PlaceEdit {
+        table: number,
+        key,
+        body,
+    })?;
+    Ok(())
 }
 
 /// Appends the edit of a pending change, where one was pending or is. It answers whether one is.
@@ -172,6 +197,52 @@ impl Settling {
             base,
             mine,
         )?;
+        self.count = counted(self.count, was, is)?;
+        Ok(())
+    }
+
+    /// As `settle`, of a row and a key that are given away, and become those of the row's edit.
+    // Eight parameters: those of `settle`.
+    pub(crate) fn settle_own(
+        &mut self,
+        alloc: Global,
+        table: &TableDef,
+        number: u32,
+        key: Vec<u8>,
+        before: &Standing,
+        base: Option<&Row<'_>>,
+        mine: Option<RowBuf>,
+    ) -> Result<(), Memory>
+        ensures within { (tables : List Table) → number < length tables → IsWithin tables self.old → OnOk result (IsWithin tables self.new) }
+        ensures settled { (tables : List Table) (contents : Contents) (begun : ℕ) (view : View)
+            → AreTables tables
+            → slice_get tables number ≡ Some table.now
+            → MayStandAt tables table.now.name key.items (option_copied base.entry)
+            → MayStandAt tables table.now.name key.items mine
+            → StandsIn view table.now key.items before.now
+            → Settles tables contents begun self.old view
+            → OnOk result (Settles tables contents begun self.new
+            (settled table.now key.items (option_copied base.entry) mine view)) }
+    {
+        cs_value::laws::catalogs();
+        cs_normal::laws::one_key_stands();
+        cs_change::laws::net_takes();
+        cs_store::laws::commits();
+        let stood = lent(&before.mine);
+        let stood_base = lent(&before.base);
+        let was = !are_same(stood_base.as_ref(), stood.as_ref());
+        let row = lent(&mine);
+        let is = push_pending(
+            &mut self.pending,
+            alloc,
+            table,
+            number,
+            key.as_slice(),
+            was,
+            base,
+            row.as_ref(),
+        )?;
+        push_own_row(&mut self.rows, number, key, stood.as_ref(), mine)?;
         self.count = counted(self.count, was, is)?;
         Ok(())
     }

@@ -1,10 +1,10 @@
-use Rattle.std.proofs.Common.{List, drop, take, sym, subst}
+use Rattle.std.proofs.Common.{◌≡◌, ◌⊎◌, List, drop, take, sym, subst, ◌∙◌}
 use Rattle.std.proofs.lemmas.List.{take-append-drop}
 use Rattle.std.specs.List.{All}
 use Rattle.std.specs.Prelude.{length}
 use Rattle.cs_leaf.specs.Entries.{IsFrontOf, IsSpotIn, IsTight, entries_at}
 use Rattle.cs_leaf.specs.declared.leaf.Spot.{Spot}
-use Rattle.cs_leaf.proofs.Packing.{spots_kept, spots_still_in}
+use Rattle.cs_leaf.proofs.Packing.{front_stays, spots_kept, spots_still_in}
 use Rattle.cs_leaf.proofs.leaf.Amendment.make.Goals as goal
 
 pub invariant_of-result : goal.invariant_of-result
@@ -15,6 +15,12 @@ invariant_of-result c =
     let held = c.self.inside.held in
     let within : All (IsSpotIn bytes) spots = spots_kept (take held bytes) (drop held bytes) bytes spots was.0.0 (sym (take-append-drop held bytes)) in (
       subst (All (IsSpotIn bytes)) (sym c.edit_spots.ensures) (spots_still_in bytes spots c.self.inside.at c.self.inside.spot_edit within was.1),
-      subst (IsFrontOf c.front_of.result) c.as_slice.ensures.value c.front_of.ensures,
+      subst (IsFrontOf c.front_after.result) c.as_slice.ensures.value c.front_after.ensures,
       subst (λ (all : List Spot). IsTight c.self.inside.used_after (length bytes) (entries_at bytes all)) (sym c.edit_spots.ensures) was.4,
     )
+
+pub front_after-requires : goal.front_after-requires
+front_after-requires c =
+    let was = c.self.inside in
+    subst (λ (spots : List Spot). (was.at ≡ 0) ⊎ IsFrontOf was.front spots) (sym (c.as_slice.ensures.value ∙ c.edit_spots.ensures))
+    (front_stays was.front was.spots.items was.at was.spot_edit c.self.invariant.0.1 c.self.invariant.2)
