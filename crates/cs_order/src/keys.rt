@@ -7,8 +7,9 @@ ghost use Rattle.cs_order.specs.Steps.Rising.{ascend};
 
 use crate::Memory;
 use crate::comparing::same_bytes;
-use crate::distinct::distinct_order;
-use crate::grouping::{Groups, group_keys};
+use crate::distinct::distinct_lent;
+use crate::grouping::{Groups, group_lent};
+use crate::lent::LentKeys;
 use std::alloc::{AllocError, Global};
 use std::cmp::Ordering;
 use std::marker::Model;
@@ -219,16 +220,21 @@ impl Keys {
     pub fn distinct_order(&self, alloc: Global) -> Result<Option<Vec<usize>>, Memory>
         ensures { IfOk result (λ found. MatchOption found (HasTwins self.now) (λ order. IsDistinctOrder self.now order.items)) }
     {
-        let slices = self.slices(alloc)?;
-        distinct_order(alloc, slices.as_slice())
+        distinct_lent(alloc, &self.lend())
     }
 
     /// The places of the keys, those of one key together and rising, in the order of the keys.
     pub fn group(&self, alloc: Global) -> Result<Groups, Memory>
         ensures { IfOk result (λ groups. IsGrouping self.now groups) }
     {
-        let slices = self.slices(alloc)?;
-        group_keys(alloc, slices.as_slice())
+        group_lent(alloc, &self.lend())
+    }
+
+    /// The keys where they stand.
+    fn lend(&self) -> LentKeys<'_>
+        ensures { result ≡ self.now }
+    {
+        LentKeys::of_spots(self.bytes.as_slice(), self.spots.as_slice())
     }
 
     /// All keys, lent.
