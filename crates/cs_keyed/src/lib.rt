@@ -1,8 +1,8 @@
 //! Changes of one table behind the bytes of their keys, all in bytes: what normal forms are made of. It stands on changes as
 //! read (`cs_change`), records (`cs_record`), values (`cs_value`) and the order of keys (`cs_order`). `put_key` and
-//! `gather_keys` write the keys of changes, which `KeysBuilder` puts together; `lend_form` gives the normal form of one change;
-//! `KeyedChanges` keeps changes behind their keys, searched, compared and spelled exactly. `laws` says that the bytes of keys
-//! tell the keys apart.
+//! `gather_keys` write the keys of changes, which `KeysBuilder` puts together; `lend_form` gives the normal form of one change,
+//! and `pick_form` puts it behind others; `KeyedChanges` keeps changes behind their keys, searched, compared and spelled exactly.
+//! `laws` says that the bytes of keys tell the keys apart.
 //! Its tests stand in `cs_normal_tests`.
 #![tactic(auto)]
 
