@@ -99,6 +99,8 @@ fn read_inverse(alloc: Global, input: &[u8]) -> Result<Normal, Answer>
     no_fault_where_fit();
     let changeset = read_part(alloc, input, 0)?;
     let alone = normalise_alone(alloc, &changeset)?;
+    // Its memory is taken again for the inverse.
+    drop(changeset);
     Ok(invert(alloc, &alone)?)
 }
 
