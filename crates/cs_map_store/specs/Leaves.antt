@@ -11,7 +11,7 @@ use Rattle.cs_store.specs.declared.batch.PlaceEdit.{PlaceEdit}
 use Rattle.cs_leaf.specs.Entries.{Entry, nth}
 use Rattle.cs_map_store.specs.declared.leaves.Patch.{Patch}
 use Rattle.cs_map_store.specs.declared.leaves.Staged.{Staged}
-use Rattle.cs_map_store.specs.declared.leaves.Staged.TheVariants.{One, Patches, Fresh}
+use Rattle.cs_map_store.specs.declared.leaves.Staged.TheVariants.{Patches, Fresh}
 
 -- the entries of all leaves
 abbrev pub flat : List (List Entry) → List Entry
@@ -89,24 +89,19 @@ abbrev pub restored : List (List Entry) → List Patch → List (List Entry)
 restored leaves [] = leaves
 restored leaves (patch ∷ patches) = undone (restored leaves patches) patch
 
--- what is staged makes of the leaves: another in its place, or several, or new ones
+-- what is staged makes of the leaves: others in their places, or new ones
 abbrev pub after_staged : Staged → List (List Entry) → List (List Entry)
-after_staged (One patch) leaves = patched leaves (patch ∷ [])
 after_staged (Patches patches) leaves = patched leaves patches.items
 after_staged (Fresh made) leaves = made.items
 
 -- the leaves without what is staged
 abbrev pub before_staged : Staged → List (List Entry) → List (List Entry)
-before_staged (One patch) leaves = undone leaves patch
 before_staged (Patches patches) leaves = restored leaves patches.items
 before_staged (Fresh made) leaves = leaves
 
 -- what is staged can be put in: each patch is for a leaf that is there, and unless one leaves a leaf without a row, or for new
 -- leaves at once, no leaf is empty then
 abbrev pub CanBePut : Staged → List (List Entry) → Type 0
-CanBePut (One patch) leaves =
-    (patch.at < length leaves)
-    × (0 < length patch.change.1 → All (λ leaf. 0 < length leaf) (patched leaves (patch ∷ [])))
 CanBePut (Patches patches) leaves =
     ArePatches (length leaves) patches.items
     × (All (λ patch. 0 < length patch.change.1) patches.items → All (λ leaf. 0 < length leaf) (patched leaves patches.items))

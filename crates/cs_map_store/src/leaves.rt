@@ -33,7 +33,6 @@ pub struct Patch {
 /// What a commit is to make of the leaves.
 #[derive(Drop)]
 pub enum Staged {
-    One(Patch),
     Patches(Vec<Patch>),
     Fresh(Vec<Leaf>),
 }
@@ -244,6 +243,25 @@ fn stage_leaf(
     }
 }
 
+/// Near which position to look for a place in its leaf: where the last look-up ended, if that was there, or else where it would be
+/// if keys were spread evenly.
+#[inline(always)]
+fn row_near(leaves: &[Leaf], at: usize, near: Near, place: &Place) -> usize
+    requires { at < length leaves.now }
+{
+    if at == near.leaf {
+        return near.row;
+    }
+    if at + 1 >= leaves.len() {
+        return 0;
+    }
+    let leaf = &leaves[at];
+    match leaf.share_before(&leaves[at + 1], leaf.len(), place) {
+        Some(before) => before.saturating_add(1),
+        None => 0,
+    }
+}
+
 /// Takes the leaf of an edit's place out, and prepares what the edit makes of it. At `Err` nothing has changed. It is looked for
 /// near where the last look-up ended.
 fn stage_one(
@@ -263,7 +281,7 @@ fn stage_one(
     laws::edited_entries();
     let place = Place::of_edit(edit);
     let at = leaf_near(leaves.as_slice(), near.leaf, &place);
-    let row = if at == near.leaf { near.row } else { 0 };
+    let row = row_near(leaves.as_slice(), at, near, &place);
     let leaf = mem::replace(&mut leaves[at], Leaf::new(alloc));
     match cs_leaf::stage_one(alloc, leaf, row, &place, edit) {
         Ok(change) => Ok(Patch { at, change }),
@@ -370,6 +388,27 @@ fn stage(
     Ok(Staged::Patches(patches))
 }
 
+/// Prepares what an edit makes of the leaves. At `Err` nothing has changed. It is looked for near where the last look-up ended.
+fn stage_single(
+    alloc: Global,
+    leaves: &mut Vec<Leaf>,
+    near: Near,
+    edit: &PlaceEdit,
+) -> Result<Staged, AllocError>
+    requires some { 0 < length leaves.old.items }
+    requires leaves { AreLeaves leaves.old.items }
+    ensures can { IfOk result (λ staged. CanBePut staged leaves.new.items) }
+    ensures before { IfOk result (λ staged. before_staged staged leaves.new.items ≡ leaves.old.items) }
+    ensures made { IfOk result (λ staged. flat (after_staged staged leaves.new.items) ≡ edited (flat leaves.old.items) edit.now) }
+    ensures err { OnErr result (leaves.new.items ≡ leaves.old.items) }
+{
+    // A list is moved faster than what it holds.
+    let mut patches = Vec::with_capacity(alloc, 1)?;
+    let patch = stage_one(alloc, leaves, near, edit)?;
+    patches.push_reserved(patch);
+    Ok(Staged::Patches(patches))
+}
+
 /// Prepares what edits in any order make of the leaves. At `Err` nothing has changed. The leaf of the first place is looked for
 /// near where the last look-up ended.
 pub fn stage_edits(
@@ -388,7 +427,10 @@ pub fn stage_edits(
     laws::edited_entries();
     match edits {
         [] => Ok(Staged::Patches(Vec::new(alloc))),
-        [edit] if !leaves.is_empty() => Ok(Staged::One(stage_one(alloc, leaves, near, edit)?)),
+        [edit] if !leaves.is_empty() => {
+            let staged = stage_single(alloc, leaves, near, edit)?;
+            Ok(staged)
+        }
         _ => {
             let sorted = in_order(alloc, edits)?;
             let staged = stage(alloc, leaves, near.leaf, sorted.as_slice())?;
@@ -402,10 +444,8 @@ pub fn take_back(leaves: &mut Vec<Leaf>, staged: Staged)
     requires { CanBePut staged leaves.old.items }
     ensures { leaves.new.items ≡ before_staged staged leaves.old.items }
 {
-    match staged {
-        Staged::One(patch) => undo(leaves, patch),
-        Staged::Patches(patches) => undo_all(leaves, patches),
-        Staged::Fresh(_) => {}
+    if let Staged::Patches(patches) = staged {
+        undo_all(leaves, patches);
     }
 }
 
@@ -442,20 +482,6 @@ impl Uneven {
             self.to = self.to.max(at.saturating_add(1));
         }
     }
-}
-
-/// Makes what is prepared of one leaf.
-fn write_patch(leaves: &mut Vec<Leaf>, patch: Patch) -> Uneven
-    requires { patch.at < length leaves.old.items }
-    ensures made { leaves.new.items ≡ patched leaves.old.items (patch ∷ []) }
-    ensures full { result.has_empty ≡ false → 0 < length patch.change.1 }
-{
-    let mut uneven = Uneven::none();
-    let Patch { at, change } = patch;
-    let leaf = change.make();
-    uneven.note(at, leaf.len());
-    leaves[at] = leaf;
-    uneven
 }
 
 /// Makes what is prepared.
@@ -535,10 +561,6 @@ pub fn put_staged(alloc: Global, leaves: &mut Vec<Leaf>, staged: Staged)
 {
     match staged {
         Staged::Fresh(made) => *leaves = made,
-        Staged::One(patch) => {
-            let uneven = write_patch(leaves, patch);
-            even_out(alloc, leaves, uneven);
-        }
         Staged::Patches(patches) => {
             let uneven = write_patches(leaves, patches);
             even_out(alloc, leaves, uneven);
@@ -602,21 +624,6 @@ fn row_beside<'a>(leaves: &'a [Leaf], near: &mut Near, place: &Place) -> Option<
     Some(row)
 }
 
-/// Near which position to look for a place in its leaf.
-#[inline(always)]
-fn guess_in(leaves: &[Leaf], at: usize, place: &Place) -> usize
-    requires { at < length leaves.now }
-{
-    if at + 1 >= leaves.len() {
-        return 0;
-    }
-    let leaf = &leaves[at];
-    match leaf.share_before(&leaves[at + 1], leaf.len(), place) {
-        Some(before) => before.saturating_add(1),
-        None => 0,
-    }
-}
-
 /// The row at a place, if there is one.
 fn row_at<'a>(leaves: &'a [Leaf], near: &mut Near, place: &Place) -> Option<&'a [u8]>
     requires leaves { AreLeaves leaves.now }
@@ -624,11 +631,7 @@ fn row_at<'a>(leaves: &'a [Leaf], near: &mut Near, place: &Place) -> Option<&'a 
     ensures { option_map (λ row. row.now) result ≡ get (bodies_in leaves.now) place.now }
 {
     let its = leaf_near(leaves, near.leaf, place);
-    let from = if its == near.leaf {
-        near.row
-    } else {
-        guess_in(leaves, its, place)
-    };
+    let from = row_near(leaves, its, *near, place);
     let (row, next) = leaves[its].look_up(from, place);
     *near = Near {
         leaf: its,

@@ -1,16 +1,14 @@
-use Rattle.std.proofs.Common.{◌≡◌, [], ◌∷◌, List, fold, ap, subst, ◌∙◌}
+use Rattle.std.proofs.Common.{◌≡◌, [], ◌∷◌, List, fold, subst}
 use Rattle.std.specs.Borrow.{Bor}
 use Rattle.cs_store.specs.declared.batch.PlaceEdit.{PlaceEdit}
 use Rattle.cs_leaf.specs.Edits.{edited, edits_behind}
-use Rattle.cs_map_store.specs.Leaves.{after_staged, flat, patched}
+use Rattle.cs_map_store.specs.Leaves.{after_staged, flat}
 use Rattle.cs_map_store.proofs.Holding.{bodies_after, still_rises}
 use Rattle.cs_map_store.proofs.leaves.stage_edits.Goals as goal
 
-pub returns-in_ok-stage_one-in-len1-clause-rise : goal.returns-in_ok-stage_one-in-len1-clause-rise
-returns-in_ok-stage_one-in-len1-clause-rise c =
-    let patch = c.in_ok-stage_one-in-len1.field-0 in
-    let its = c.in_ok-stage_one-in-len1.ensures in
-    still_rises c.args.leaves.now.items (patched c.stage_one.new.leaves.items (patch ∷ [])) (c.edit-item.result ∷ []) c.edited_entries.ensures.order c.requires.rise (ap flat its.same ∙ its.made)
+pub returns-in_ok-staged-in-len1-clause-rise : goal.returns-in_ok-staged-in-len1-clause-rise
+returns-in_ok-staged-in-len1-clause-rise c =
+    still_rises c.args.leaves.now.items (after_staged c.in_ok-staged-in-len1.staged c.stage_single.new.leaves.items) (c.edit-item.result ∷ []) c.edited_entries.ensures.order c.requires.rise c.in_ok-staged-in-len1.ensures.made
 
 pub returns-in_ok-staged-in_default-clause-rise : goal.returns-in_ok-staged-in_default-clause-rise
 returns-in_ok-staged-in_default-clause-rise c =
