@@ -1,7 +1,7 @@
 -- From the mask of one load to the bytes that are ASCII.
-use Rattle.std.proofs.Common.{◌≡◌, ℕ, zero, suc, ◌%◌, ◌^◌, ◌<◌, ◌≤◌, leb, cond, not, List, [], ◌∷◌, map, length, take, get_or, replicate, w8, refl, ap, ◌∙◌, arith, leb-false, inl, inr}
+use Rattle.std.proofs.Common.{◌≡◌, ℕ, zero, suc, ◌+◌, ◌-◌, ◌%◌, ◌^◌, ◌<◌, ◌≤◌, leb, cond, not, List, [], ◌∷◌, map, length, take, drop, get_or, replicate, w8, refl, ap, ◌∙◌, arith, leb-false, inl, inr}
 use Rattle.std.proofs.lemmas.Bool.{cases_lt}
-use Rattle.std.proofs.lemmas.List.{get_or-take, get_or_past}
+use Rattle.std.proofs.lemmas.List.{get_or-drop, get_or-take, get_or_past}
 use Rattle.std.proofs.lemmas.Simd.{bitmask_splat, length-chunk, none_from_empty_mask, run_in_chunk_fails, run_in_chunk_le, trailing_mask_l}
 use Rattle.std.specs.List.{prefix_len}
 use lib.Count.{count_trailing_zeros}
@@ -55,4 +55,14 @@ ascii_text text bytes front is narrow fits at =
           let there : get_or text at 0 ≡ get_or bytes at 0 = ap (λ l. get_or l at 0) is ∙ get_or-take (length text) bytes at 0 within in
           omega (arith, there, narrow at (omega arith))
       | inr past ↦ omega (arith, get_or_past text at 0 (omega arith))
+    ]
+
+-- ASCII bytes at the front, and behind them more
+pub both_narrow : (bytes : List ℕ) (front more : ℕ) → ((at : ℕ) → at < front → get_or bytes at 0 < 128) → ((at : ℕ) → at < more → get_or (drop front bytes) at 0 < 128) → (at : ℕ) → at < front + more → get_or bytes at 0 < 128
+both_narrow bytes front more narrow behind at within =
+    elim (cases_lt at front) [
+      | inl low ↦ narrow at low
+      | inr high ↦
+          let there : get_or (drop front bytes) (at - front) 0 ≡ get_or bytes at 0 = get_or-drop front bytes (at - front) 0 ∙ ap (λ i. get_or bytes i 0) (omega arith) in
+          omega (arith, there, behind (at - front) (omega arith))
     ]
