@@ -101,7 +101,7 @@ fn read_inverse(alloc: Global, input: &[u8]) -> Result<Normal, Answer>
     let alone = normalise_alone(alloc, &changeset)?;
     // Its memory is taken again for the inverse.
     drop(changeset);
-    Ok(invert(alloc, &alone)?)
+    Ok(invert(alloc, alone)?)
 }
 
 /// Takes changesets together as one and writes that, in normal form, into the caller's memory. Where it has no room

@@ -197,7 +197,7 @@ fn whole_lives(rt: HostRuntime) {
 /// Whether the inverse of the change is that.
 fn is_inverse(alloc: Global, change: &[u8], want: &[u8]) -> Option<bool> {
     let changeset = normal_of(alloc, &catalog(alloc)?, change)?;
-    match invert(alloc, &changeset) {
+    match invert(alloc, changeset) {
         Ok(inverse) => Some(is_spelled(alloc, &inverse, want)),
         Err(_) => None,
     }

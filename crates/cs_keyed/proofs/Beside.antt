@@ -79,3 +79,11 @@ pub within : (entries : Changes) (at : ℕ) (change : Change) → Some change �
 within [] at change some = cc
 within (e ∷ entries) zero change some = omega arith
 within (e ∷ entries) (suc at) change some = omega (arith, within entries at change some)
+
+-- ---- what is kept inside
+
+pub keys_inside : (keys : List (List ℕ)) (changes : List Change) (entries : Changes) → length keys ≡ length changes → beside keys changes ≡ entries → keys ≡ keys_of entries
+keys_inside keys changes entries same is = sym (beside_keys keys changes same) ∙ ap (λ (es : Changes). keys_of es) is
+
+pub values_inside : (keys : List (List ℕ)) (changes : List Change) (entries : Changes) → length keys ≡ length changes → beside keys changes ≡ entries → changes ≡ values_of entries
+values_inside keys changes entries same is = sym (beside_values keys changes same) ∙ ap (λ (es : Changes). values_of es) is

@@ -55,10 +55,11 @@ impl Model for KeyedChanges {
 }
 
 impl KeyedChanges {
-    ghost use Rattle.std.specs.Prelude.{◌≡◌, ◌↔◌, ◌++◌, ◌∷◌, ◌<◌, [], length, IsTrue, IfOk, OnErr, OnOk, MatchOption, None, Some, slice_get, slice_index_or};
+    ghost use Rattle.std.specs.Prelude.{◌≡◌, ◌↔◌, ◌++◌, ◌∷◌, ◌<◌, [], length, IsTrue, IfOk, OnErr, OnOk, MatchOption, None, Some, slice_get, slice_index_or, slice_set};
     ghost use Rattle.std.specs.Map.{keys_of, values_of};
     ghost use Rattle.std.specs.List.{flat_map};
-    ghost use Rattle.cs_change.specs.Spelling.{change_spelling};
+    ghost use Rattle.cs_change.specs.Spelling.{HasLength, change_spelling};
+    ghost use Rattle.cs_change.specs.declared.change.Change.{Change as One};
     ghost use Rattle.cs_keyed.specs.Changes.{IsOrdered, change_at};
     ghost use Rattle.cs_keyed.specs.Keyed.{beside};
 
@@ -160,6 +161,19 @@ impl KeyedChanges {
         ensures err { OnErr result (self.new ≡ []) }
     {
         put_both(&mut self.keys, &mut self.changes, key, change)
+    }
+
+    /// Puts the change that another list has there in the place of the one at the index, which has as many bytes; the keys
+    /// stay. It takes no memory.
+    #[inline(always)]
+    pub fn replace_at(&mut self, index: usize, other: &ChangesBuf, at: usize)
+        requires { (change : One) × (slice_get other.now at ≡ Some change)
+            × HasLength (values_of self.old) index (length (change_spelling change)) }
+        ensures keys { keys_of self.new ≡ keys_of self.old }
+        ensures changes { (change : One) → slice_get other.now at ≡ Some change
+            → values_of self.new ≡ slice_set (values_of self.old) index change }
+    {
+        self.changes.replace_at(index, other, at);
     }
 
     /// Whether there is none.

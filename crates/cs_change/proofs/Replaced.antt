@@ -1,0 +1,90 @@
+-- A change put in the place of one that has as many bytes.
+use Rattle.std.proofs.Common.{◌≡◌, ℕ, ◌+◌, ◌<◌, ◌≤◌, List, [], ◌∷◌, ◌++◌, length, take, drop, get_or, set, refl, sym, ap, ◌∙◌, arith, length-append, Some, zero, suc}
+use Rattle.std.specs.Prelude.{slice_get}
+use Rattle.std.specs.List.{AllByRecursion}
+use Rattle.std.proofs.Math.Seq.{take-append_seam, drop-append_seam}
+use Rattle.std.proofs.lemmas.Option.{slice_get_within, slice_get-get_or}
+use Rattle.std.proofs.lemmas.List.{drop-drop}
+use Rattle.cs_change.specs.declared.change.Change.{Change}
+use Rattle.cs_change.specs.declared.place.Place.{Place}
+use Rattle.cs_change.specs.Spelling.{change_spelling, changes_spelling, HasLength}
+use Rattle.cs_change.specs.Held.{IsInRange, split_of, IsChangeIn, ArePlaces, AreHeld}
+use Rattle.cs_change.proofs.Packed.{IsAt, at_place, length_places}
+
+fits_set : (changes : List Change) (index : ℕ) (change : Change) → AllByRecursion IsInRange changes → IsInRange change → AllByRecursion IsInRange (set changes index change)
+fits_set [] index change all one = tt
+fits_set (c ∷ cs) zero change all one = (one, all.1)
+fits_set (c ∷ cs) (suc index) change all one = (all.0, fits_set cs index change all.1 one)
+
+-- the others stay where they are
+places_set : (changes : List Change) (places : List Place) (at index : ℕ) (here change : Change) (was now : Place)
+    → ArePlaces at changes places → slice_get changes index ≡ Some here → slice_get places index ≡ Some was
+    → length (change_spelling here) ≡ length (change_spelling change) → now.start ≡ was.start → now.split ≡ split_of change
+    → ArePlaces at (set changes index change) (set places index now)
+places_set [] places at index here change was now stand got place long start split = absurd (cc)
+places_set (c ∷ cs) [] at index here change was now stand got place long start split = absurd stand
+places_set (c ∷ cs) (p ∷ ps) at zero here change was now stand got place long start split =
+    let one : c ≡ here = cc in
+    let same : p ≡ was = cc in
+    let size : length (change_spelling c) ≡ length (change_spelling change) = ap (λ (x : Change). length (change_spelling x)) one ∙ long in
+    ((start ∙ ap (λ (x : Place). x.start) (sym same) ∙ stand.0.0, split), rw (← size) stand.1)
+places_set (c ∷ cs) (p ∷ ps) at (suc index) here change was now stand got place long start split =
+    (stand.0, places_set cs ps (at + length (change_spelling c)) index here change was now stand.1 got place long start split)
+
+-- the bytes of the change there, overwritten
+overwritten : (before here new after : List ℕ) (start : ℕ) → start ≡ length before → length here ≡ length new → take start (before ++ (here ++ after)) ++ (new ++ drop (start + length new) (before ++ (here ++ after))) ≡ before ++ (new ++ after)
+overwritten before here new after start begins long =
+    let front : take start (before ++ (here ++ after)) ≡ before = rw begins (take-append_seam before (here ++ after)) in
+    let tail : drop start (before ++ (here ++ after)) ≡ here ++ after = rw begins (drop-append_seam before (here ++ after)) in
+    let behind : drop (length new) (here ++ after) ≡ after = rw (← long) (drop-append_seam here after) in
+    let rest : drop (start + length new) (before ++ (here ++ after)) ≡ after = sym (drop-drop (length new) start (before ++ (here ++ after))) ∙ ap (λ (t : List ℕ). drop (length new) t) tail ∙ behind in
+    rw (front, rest) refl
+
+-- what stands there
+pub place_there : (bytes : List ℕ) (places : List Place) (changes : List Change) (index : ℕ) (here : Change) → AreHeld bytes places changes → slice_get changes index ≡ Some here → (place : Place) → place ≡ get_or places index place → (slice_get places index ≡ Some place) × IsAt changes 0 place (slice_get places (suc index)) index
+place_there bytes places changes index here held got place is =
+    let within : index < length places = omega (arith, slice_get_within changes index here got, length_places changes places 0 held.2) in
+    let at : slice_get places index ≡ Some place = slice_get-get_or places index place within ∙ ap (λ (p : Place). Some p) (sym is) in
+    (at, at_place changes places 0 index place held.0 held.2 at)
+
+pub same_there : (changes : List Change) (index : ℕ) (here found : Change) → slice_get changes index ≡ Some here → slice_get changes index ≡ Some found → found ≡ here
+same_there changes index here found got is = cc
+
+-- where the change there begins, and that it has room
+pub has_room : (bytes : List ℕ) (places : List Place) (changes : List Change) (index size : ℕ) → AreHeld bytes places changes → HasLength changes index size
+    → (index < length places) × ((place : Place) → place ≡ get_or places index place → place.start + size ≤ length bytes)
+has_room bytes places changes index size held (here, got, long) = (
+  omega (arith, slice_get_within changes index here got, length_places changes places 0 held.2),
+  λ place is.
+      let at = (place_there bytes places changes index here held got place is).1 in
+      let before = changes_spelling at.before in
+      let change = change_spelling at.change in
+      let after = changes_spelling at.after in
+      let same : length change ≡ size = ap (λ (c : Change). length (change_spelling c)) (same_there changes index here at.change got at.there) ∙ long in
+      omega (arith, at.stands.0, ap length held.1, ap length at.parts, length-append before (change ++ after), length-append change after, same),
+)
+
+pub held_set : (bytes new spelled : List ℕ) (places : List Place) (changes : List Change) (index start split : ℕ) (change : Change) (was : Place) → AreHeld bytes places changes → HasLength changes index (length spelled) → IsChangeIn spelled split change
+    → was ≡ get_or places index was → start ≡ was.start → new ≡ take start bytes ++ (spelled ++ drop (start + length spelled) bytes)
+    → AreHeld new (set places index (record { start = start; split = split })) (set changes index change)
+held_set bytes new spelled places changes index start split change was held (here, got, long) is read begins written =
+    let found = place_there bytes places changes index here held got was read in
+    let at = found.1 in
+    let before = changes_spelling at.before in
+    let old = change_spelling at.change in
+    let after = changes_spelling at.after in
+    let now : Place = record { start = start; split = split } in
+    let same : length old ≡ length spelled = ap (λ (c : Change). length (change_spelling c)) (same_there changes index here at.change got at.there) ∙ long in
+    let size_same : length (change_spelling here) ≡ length (change_spelling change) = long ∙ ap length (sym is.1) in
+    let whole : bytes ≡ before ++ (old ++ after) = sym held.1 ∙ at.parts in
+    let first : start ≡ length before = omega (arith, begins, at.stands.0) in
+    let made : new ≡ before ++ (spelled ++ after) = written ∙ ap (λ (t : List ℕ). take start t ++ (spelled ++ drop (start + length spelled) t)) whole ∙ overwritten before old spelled after start first same in (
+      fits_set changes index change held.0 is.0,
+      at.other change ∙ ap (λ (t : List ℕ). before ++ (t ++ after)) is.1 ∙ sym made,
+      places_set changes places 0 index here change was now held.2 got found.0 size_same begins (sym is.2),
+    )
+
+-- as long as the change that these bytes spell
+pub as_long : (changes others : List Change) (index at split : ℕ) (spelled : List ℕ) (change found : Change) → slice_get others at ≡ Some change → slice_get others at ≡ Some found → IsChangeIn spelled split found → HasLength changes index (length (change_spelling change)) → HasLength changes index (length spelled)
+as_long changes others index at split spelled change found one other is (here, got, long) =
+    (here, got, long ∙ ap (λ (c : Change). length (change_spelling c)) (same_there others at found change other one) ∙ ap length is.1)
