@@ -1,12 +1,9 @@
 -- A change that is alone at its place, as it meets what the store has there.
-use Rattle.std.specs.Prelude.{◌≡◌, None, Some, option_map}
+use Rattle.std.specs.Prelude.{◌≡◌, None, Some}
 use Rattle.cs_change.specs.Action.{action, after}
 use Rattle.cs_change.specs.declared.change.Change.{Change}
 use Rattle.cs_conflict.specs.Conflict.{kind}
-use Rattle.cs_apply.specs.Edited.{plain, edit_for}
 use Rattle.cs_apply.specs.Slots.{standing}
-use Rattle.cs_apply.specs.declared.meeting.Met.{Met}
-use Rattle.cs_apply.specs.declared.meeting.Met.TheVariants.{Made, Waits}
 use Rattle.cs_apply.specs.declared.slots.Slot.{Slot}
 
 -- the slot as the store has its place
@@ -17,9 +14,3 @@ blank slot = record { table = slot.table; keyed = slot.keyed; left = None }
 abbrev pub IsMadeBy : Change → Slot → Type 0
 IsMadeBy change next =
     (kind (action change) next.keyed.1 ≡ None) × (after (action change) next.keyed.1 ≡ Some (standing next))
-
--- it is made, and the edit is that of what it leaves; or the slot waits
-abbrev pub IsMet : Change → Slot → Met → Type 0
-IsMet change slot (Made edit) =
-    (next : Slot) × (slot ≡ blank next) × IsMadeBy change next × (option_map plain edit ≡ edit_for next)
-IsMet change slot (Waits same) = same ≡ slot

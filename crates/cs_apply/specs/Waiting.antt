@@ -1,10 +1,9 @@
 -- What is found at the places of changes: which of them are made at once, and which wait.
-use Rattle.std.specs.Prelude.{◌≡◌, ◌≢◌, ◌<◌, ◌≤◌, ◌⊎◌, ℕ, true, List, [], ◌∷◌, ◌++◌, length, map, take, Option, Some, None, option_map, slice_get, slice_index_or}
+use Rattle.std.specs.Prelude.{◌≡◌, ◌≢◌, ◌<◌, ◌≤◌, ◌⊎◌, ℕ, true, List, [], ◌∷◌, ◌++◌, length, map, take, Option, Some, None, slice_get, slice_index_or}
 use Rattle.std.specs.List.{AllByRecursion, Contains}
 use Rattle.cs_change.specs.declared.change.Change.{Change}
 use Rattle.cs_order.specs.Order.{Keys}
-use Rattle.cs_store.specs.declared.batch.PlaceEdit.{PlaceEdit}
-use Rattle.cs_apply.specs.Edited.{plain, plain_list, edit_for}
+use Rattle.cs_apply.specs.Edited.{Plain, plain, plain_list, edit_for}
 use Rattle.cs_apply.specs.Found.{AreSlots, IsNumbering, heads}
 use Rattle.cs_apply.specs.Meeting.{blank, IsMadeBy}
 use Rattle.cs_apply.specs.Woven.{weave, unmade, IsWaiting, count_waiting, made_edits, waits_of, not_waiting}
@@ -84,11 +83,18 @@ abbrev pub IsPut : List Change → List ℕ → Slot → Places → Places → T
 IsPut changes group slot old new = IsPutMade changes group slot old new ⊎ IsPutWaiting group slot old new
 
 -- the edit, if there is one, is behind the others
-pub record HasEdit (edit : Option PlaceEdit) (old new : Places) : Type 0 where
-  pub made : map plain new.made.items ≡ map plain old.made.items ++ plain_list (option_map plain edit)
-  pub waits : new.waits.items ≡ old.waits.items ++ map not_waiting (plain_list (option_map plain edit))
+pub record HasEdit (edit : Option Plain) (old new : Places) : Type 0 where
+  pub made : map plain new.made.items ≡ map plain old.made.items ++ plain_list edit
+  pub waits : new.waits.items ≡ old.waits.items ++ map not_waiting (plain_list edit)
   pub slots : new.slots.items ≡ old.slots.items
   pub numbers : new.numbers.items ≡ old.numbers.items
+
+-- a change is made at a place that the store has as this slot, and the edit of what it leaves is behind the others
+pub record IsMadeAt (change : Change) (slot : Slot) (old new : Places) : Type 0 where
+  pub next : Slot
+  pub blank_is : slot ≡ blank next
+  pub by : IsMadeBy change next
+  pub edit : HasEdit (edit_for next) old new
 
 -- the places of keys, with what comes of the change of each
 pub record ArePlacesFound (keys : Keys) (changes : List Change) (read : Slot → Type 0) (places : Places) : Type 0 where

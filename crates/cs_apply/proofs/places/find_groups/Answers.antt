@@ -1,4 +1,5 @@
 use Rattle.std.proofs.Common.{◌≡◌, ◌<◌, length, refl, sym, ap, ◌∙◌, arith}
+use Rattle.cs_apply.specs.Slots.{slot_at}
 use Rattle.cs_apply.proofs.Numbering.{has_first, members_within}
 use Rattle.cs_apply.proofs.Placing.{started, one_more}
 use Rattle.cs_apply.proofs.places.find_groups.Goals as goal
@@ -22,16 +23,16 @@ bounds-group-0 g c =
     let is = ap length c.group-group.ensures in
     omega (arith, some, is)
 
-pub find_slot-requires-clause-within : goal.find_slot-requires-clause-within
-find_slot-requires-clause-within g c =
+pub find_stored-requires-clause-within : goal.find_stored-requires-clause-within
+find_stored-requires-clause-within g c =
     let less : c.loop-number.number < length c.args.groups.now = omega (arith, c.loop-number-test.true, c.len-number-end.ensures) in
     let some = has_first c.args.tasks.now.places c.args.groups.now c.requires.groups c.loop-number.number less in
     rw c.group-group.ensures (members_within c.args.tasks.now.places c.args.groups.now c.requires.groups c.loop-number.number less 0 0 some)
 
-pub returns-in_err-slot-clause-read_rightly : goal.returns-in_err-slot-clause-read_rightly
-returns-in_err-slot-clause-read_rightly g c = λ honest before holds.
-    let was = c.find_slot.ensures.reads.was_honest honest in
-    c.find_slot.ensures.read_rightly honest before (rw (c.loop-number.invariant.1 was) holds) ∙ c.loop-number.invariant.5 was before holds
+pub returns-in_err-stored-clause-read_rightly : goal.returns-in_err-stored-clause-read_rightly
+returns-in_err-stored-clause-read_rightly g c = λ honest before holds.
+    let was = c.find_stored.ensures.reads.was_honest honest in
+    c.find_stored.ensures.read_rightly honest before (rw (c.loop-number.invariant.1 was) holds) ∙ c.loop-number.invariant.5 was before holds
 
 pub put_place-requires-clause-some : goal.put_place-requires-clause-some
 put_place-requires-clause-some g c =
@@ -50,26 +51,26 @@ put_place-requires-clause-within g c =
 
 pub returns-in_err-put_place-clause-read_rightly : goal.returns-in_err-put_place-clause-read_rightly
 returns-in_err-put_place-clause-read_rightly g c = λ honest before holds.
-    let was = c.find_slot.ensures.reads.was_honest honest in
-    c.find_slot.ensures.read_rightly honest before (rw (c.loop-number.invariant.1 was) holds) ∙ c.loop-number.invariant.5 was before holds
+    let was = c.find_stored.ensures.reads.was_honest honest in
+    c.find_stored.ensures.read_rightly honest before (rw (c.loop-number.invariant.1 was) holds) ∙ c.loop-number.invariant.5 was before holds
 
 pub loop-number-preserved : goal.loop-number-preserved
 loop-number-preserved g c =
-    let reads = c.find_slot.ensures.reads in
+    let reads = c.find_stored.ensures.reads in
     let less : c.loop-number.number < length c.args.groups.now = omega (arith, c.loop-number-test.true, c.len-number-end.ensures) in
     let is = c.group-group.ensures in (
       (λ honest. c.loop-number.invariant.0 (reads.was_honest honest)),
       (λ honest. reads.same honest ∙ c.loop-number.invariant.1 (reads.was_honest honest)),
       (λ honest left may. c.loop-number.invariant.2 (reads.was_honest honest) left (reads.crash honest left may)),
-      c.in_ok-slot.ensures.reads.kept ∙ c.loop-number.invariant.3,
+      c.in_ok-stored.ensures.reads.kept ∙ c.loop-number.invariant.3,
       one_more c.args.tasks.now.places c.args.groups.now c.requires.groups c.args.tasks.now.changes.items _ _
           (λ slot seen honest. seen (reads.was_honest honest))
-          c.loop-number.number c.in_ok-slot.slot c.loop-number.places c.put_place.new.places less c.loop-number.invariant.4
-          (rw is at c.in_ok-slot.ensures.slot)
-          (λ honest before holds. c.in_ok-slot.ensures.found honest before (rw (c.loop-number.invariant.1 (reads.was_honest honest)) holds))
+          c.loop-number.number (slot_at c.in_ok-stored.stored) c.loop-number.places c.put_place.new.places less c.loop-number.invariant.4
+          (rw is at c.in_ok-stored.ensures.slot)
+          (λ honest before holds. c.in_ok-stored.ensures.found honest before (rw (c.loop-number.invariant.1 (reads.was_honest honest)) holds))
           (rw (is, c.as_slice.ensures.value) at c.in_ok-put_place.ensures),
       (λ honest before holds.
-          c.in_ok-slot.ensures.read_rightly honest before (rw (c.loop-number.invariant.1 (reads.was_honest honest)) holds)
+          c.in_ok-stored.ensures.read_rightly honest before (rw (c.loop-number.invariant.1 (reads.was_honest honest)) holds)
           ∙ c.loop-number.invariant.5 (reads.was_honest honest) before holds),
     )
 

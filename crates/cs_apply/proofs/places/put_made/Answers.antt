@@ -3,9 +3,9 @@ use Rattle.std.specs.Option.{is_some}
 use Rattle.cs_value.specs.Key.{Place}
 use Rattle.cs_change.specs.Action.{action}
 use Rattle.cs_conflict.specs.Conflict.{kind}
-use Rattle.cs_apply.specs.Slots.{left_or}
+use Rattle.cs_apply.specs.Slots.{left_or, slot_at}
 use Rattle.cs_apply.specs.declared.slots.Slot.{Slot}
-use Rattle.cs_apply.proofs.meeting.meet.Goals as goal
+use Rattle.cs_apply.proofs.places.put_made.Goals as goal
 
 is_none : {X : Type 0} (o : Option X) → false ≡ is_some o → o ≡ None
 is_none None e = refl
@@ -16,15 +16,15 @@ with_left slot left = record { table = slot.table; keyed = slot.keyed; left = le
 
 pub returns : goal.returns
 returns c =
-    let slot = c.args.slot in
+    let slot = slot_at c.args.stored.now in
     let change = action c.args.change.now in
     let first = c.as_ref.ensures.value ∙ c.row-row.ensures in
     let again = c.as_ref-2.ensures.value ∙ c.row-row.ensures in
     let quiet : kind change slot.keyed.1 ≡ None = sym (rw first at c.kind_of.ensures) ∙ is_none c.kind_of.result c.if-is_some.ensures in
     let end = (c.kind_tells.ensures change slot.keyed.1).0 quiet in
-    let left = rw again at c.in_ok-left.ensures ∙ (sym (c.made_as_replaced.ensures change slot.keyed.1 quiet) ∙ end.1) in (
-      record { table = slot.table; keyed = slot.keyed; left = c.in_ok-left.left },
-      ap (with_left slot) c.requires,
-      (quiet, end.1 ∙ ap (λ l. Some (left_or slot.keyed.1 l)) (sym left)),
-      c.edit_of.ensures,
-    )
+    let left = rw again at c.in_ok-left.ensures ∙ (sym (c.made_as_replaced.ensures change slot.keyed.1 quiet) ∙ end.1) in record {
+      next = with_left slot c.in_ok-left.left;
+      blank_is = refl;
+      by = (quiet, end.1 ∙ ap (λ l. Some (left_or slot.keyed.1 l)) (sym left));
+      edit = c.in_ok-put_left.ensures;
+    }
