@@ -4,7 +4,7 @@ ghost use Rattle.std.specs.Prelude.{◌≡◌, ◌++◌, ◌∷◌, [], length, 
 ghost use Rattle.std.specs.List.{All};
 ghost use Rattle.cs_order.specs.Spots.{IsSpotIn, keys_in};
 ghost use Rattle.cs_keyed.specs.Changes.{key_bytes};
-ghost use Rattle.cs_keyed.specs.NormalForm.{has_key, marked_fields};
+ghost use Rattle.cs_keyed.specs.NormalForm.{change_bytes, has_key, marked_fields};
 ghost use Rattle.cs_keyed.specs.Steps.Forms.{key_if_set};
 
 use crate::key_of_change::{put_key, put_record_key};
@@ -98,10 +98,44 @@ fn put_behind(
     Ok(())
 }
 
+/// Appends these bytes and behind them the key of a change, as one key, and tells whether none of the key's values is NULL.
+/// An `Err` leaves no key.
+#[inline(always)]
+fn put_of_behind(
+    bytes: &mut Vec<u8>,
+    spots: &mut Vec<(usize, usize)>,
+    front: &[u8],
+    marks: &[bool],
+    change: &Change<'_>,
+) -> Result<bool, Memory>
+    requires { All (IsSpotIn (length bytes.old.items)) spots.old.items }
+    ensures within { All (IsSpotIn (length bytes.new.items)) spots.new.items }
+    ensures ok { OnOk result (keys_in bytes.new.items spots.new.items
+        ≡ keys_in bytes.old.items spots.old.items ++ (front.now ++ change_bytes marks.now change.now) ∷ []) }
+    ensures whole { IfOk result (λ whole. whole ≡ has_key marks.now change.now) }
+    ensures err { OnErr result (keys_in bytes.new.items spots.new.items ≡ []) }
+{
+    cs_order::laws::packed_keys();
+    let start = bytes.len();
+    let Ok(_) = bytes.extend_from_slice(front) else {
+        spots.clear();
+        return Err(AllocError);
+    };
+    let Ok(whole) = put_key(marks, change, bytes) else {
+        spots.clear();
+        return Err(AllocError);
+    };
+    let Ok(_) = spots.push((start, bytes.len())) else {
+        spots.clear();
+        return Err(AllocError);
+    };
+    Ok(whole)
+}
+
 impl KeysBuilder {
     ghost use Rattle.std.specs.Prelude.{◌≡◌, ◌++◌, ◌∷◌, [], length, IfOk, OnOk, OnErr};
     ghost use Rattle.cs_keyed.specs.Changes.{key_bytes};
-    ghost use Rattle.cs_keyed.specs.NormalForm.{has_key, marked_fields};
+    ghost use Rattle.cs_keyed.specs.NormalForm.{change_bytes, has_key, marked_fields};
     ghost use Rattle.cs_keyed.specs.Steps.Forms.{key_if_set};
 
     /// No key, with room for so many keys in so many bytes.
@@ -151,5 +185,21 @@ impl KeysBuilder {
         ensures err { OnErr result (self.new ≡ []) }
     {
         put_behind(&mut self.bytes, &mut self.spots, front, marks, fields)
+    }
+
+    /// Appends these bytes and behind them the bytes of the key of a change, as one key, and tells whether none of the key's
+    /// values is NULL. An `Err` leaves no key.
+    #[inline(always)]
+    pub fn push_of_behind(
+        &mut self,
+        front: &[u8],
+        marks: &[bool],
+        change: &Change<'_>,
+    ) -> Result<bool, Memory>
+        ensures ok { OnOk result (self.new ≡ self.old ++ (front.now ++ change_bytes marks.now change.now) ∷ []) }
+        ensures whole { IfOk result (λ whole. whole ≡ has_key marks.now change.now) }
+        ensures err { OnErr result (self.new ≡ []) }
+    {
+        put_of_behind(&mut self.bytes, &mut self.spots, front, marks, change)
     }
 }
