@@ -9,8 +9,8 @@ ghost use Rattle.cs_change.specs.Spelling.{change_spelling};
 ghost use Rattle.cs_store.specs.Written.{optional_bytes};
 ghost use Rattle.cs_pending.specs.View.{direct_net, undo};
 
-use cs_change::{Change, ChangesBuf, Scratch, put_set_columns};
-use cs_group::net_into;
+use cs_change::{Change, Scratch, put_set_columns, spell_change};
+use cs_group::net_change;
 use cs_record::{RecordBuf, Row, RowBuf};
 use cs_value::{Memory, TableDef};
 use std::alloc::Global;
@@ -51,14 +51,6 @@ pub(crate) fn record_with_room(alloc: Global, bytes: usize) -> Result<RecordBuf,
     cs_record::laws::records();
     let room = Vec::with_capacity(alloc, bytes)?;
     Ok(RecordBuf::from_vec(room))
-}
-
-/// How many bytes a row or none takes. It says how much room to take, and is no part of a result.
-fn size_of_row(row: Option<&Row<'_>>) -> usize {
-    match row {
-        None => 0,
-        Some(row) => row.bytes().len(),
-    }
 }
 
 /// Whether it is the same row, or none twice.
@@ -141,19 +133,8 @@ pub(crate) fn net_body(
         ≡ option_map change_spelling (direct_net table.now (option_copied base.entry) (option_copied mine.entry))) }
 {
     let mut scratch = scratch_for(alloc, base, mine)?;
-    let room = size_of_row(base)
-        .saturating_add(size_of_row(mine))
-        .saturating_add(2);
-    let mut changes = ChangesBuf::with_capacity(alloc, 1, room)?;
-    net_into(
-        table.key_marks.as_slice(),
-        base,
-        mine,
-        &mut scratch,
-        &mut changes,
-    )?;
-    if changes.len() == 0 {
+    let Some(change) = net_change(table.key_marks.as_slice(), base, mine, &mut scratch)? else {
         return Ok(None);
-    }
-    Ok(Some(Vec::from_slice(alloc, changes.spelling())?))
+    };
+    Ok(Some(spell_change(alloc, &change)?))
 }
