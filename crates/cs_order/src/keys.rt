@@ -6,7 +6,7 @@ ghost use Rattle.cs_order.specs.Spots.{IsSpotIn, keys_in};
 ghost use Rattle.cs_order.specs.Steps.Rising.{ascend};
 
 use crate::Memory;
-use crate::comparing::same_bytes;
+use crate::comparing::{compare_bytes, same_bytes};
 use crate::distinct::distinct_lent;
 use crate::grouping::{Groups, group_lent};
 use crate::lent::LentKeys;
@@ -66,7 +66,7 @@ fn spots_rise(bytes: &[u8], spots: &[(usize, usize)]) -> bool
     let mut rest = rest;
     while let Some((next, more)) = rest.split_first() {
         let key = &bytes[next.0..next.1];
-        if last.cmp(key) != Ordering::Less {
+        if compare_bytes(last, key) != Ordering::Less {
             return false;
         }
         last = key;
@@ -207,7 +207,7 @@ impl Keys {
         let mut high = self.len();
         while low < high {
             let middle = low + (high - low) / 2;
-            match self.get(middle).cmp(key) {
+            match compare_bytes(self.get(middle), key) {
                 Ordering::Less => low = middle + 1,
                 Ordering::Greater => high = middle,
                 Ordering::Equal => return Some(middle),

@@ -19,8 +19,8 @@ pub loop-next-preserved : goal.loop-next-preserved
 unfolding ascend_from
 loop-next-preserved c =
     let parts = c.in-Some-split_first.ensures.cases.0 in
-    let less : is_lt c.cmp.result ≡ true = told_less c.cmp.result c.if-ne.ensures in
+    let less : is_lt c.compare_bytes.result ≡ true = told_less c.compare_bytes.result c.if-ne.ensures in
     record {
       within = All-tail (IsSpotIn (length c.args.bytes.now)) c.in-Some-split_first.next.now c.in-Some-split_first.more.now (rw parts at c.loop-next.invariant.within);
-      left = rw (← c.cmp.ensures, less) at (rw parts at c.loop-next.invariant.left);
+      left = rw (← c.compare_bytes.ensures, less) at (rw parts at c.loop-next.invariant.left);
     }

@@ -16,7 +16,7 @@ loop-low-preserved-in-Less c =
     record {
       within = omega (arith, c.loop-low-test.true);
       high = i.high;
-      below = below_more c.args.self.now c.args.key.now c.get.result.now _ c.requires (omega (arith, c.loop-low-test.true, i.high)) c.get.ensures (sym c.cmp.ensures ∙ c.in-Less.is);
+      below = below_more c.args.self.now c.args.key.now c.get.result.now _ c.requires (omega (arith, c.loop-low-test.true, i.high)) c.get.ensures (sym c.compare_bytes.ensures ∙ c.in-Less.is);
       above = i.above;
     }
 
@@ -27,12 +27,12 @@ loop-low-preserved c =
       within = omega (arith, c.loop-low-test.true);
       high = omega (arith, c.loop-low-test.true, i.high);
       below = i.below;
-      above = above_more c.args.self.now c.args.key.now c.get.result.now _ c.requires c.get.ensures (sym c.cmp.ensures ∙ c.in-Greater.is);
+      above = above_more c.args.self.now c.args.key.now c.get.result.now _ c.requires c.get.ensures (sym c.compare_bytes.ensures ∙ c.in-Greater.is);
     }
 
 pub returns-in-Equal : goal.returns-in-Equal
 returns-in-Equal c =
-    (omega (arith, c.loop-low-test.true, c.loop-low.invariant.high), found c.args.self.now c.args.key.now c.get.result.now _ c.get.ensures (sym c.cmp.ensures ∙ c.in-Equal.is))
+    (omega (arith, c.loop-low-test.true, c.loop-low.invariant.high), found c.args.self.now c.args.key.now c.get.result.now _ c.get.ensures (sym c.compare_bytes.ensures ∙ c.in-Equal.is))
 
 pub returns : goal.returns
 returns c =
