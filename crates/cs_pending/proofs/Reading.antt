@@ -19,9 +19,9 @@ use Rattle.cs_pending.specs.OnePlace.{contained}
 use Rattle.cs_pending.specs.Settled.{Catalogs}
 
 -- where none is pending, what stands there stood before
-pub none_there : (stored : Option (List ℕ)) (change : Option Change) (base mine : Place) → stored ≡ None → stored ≡ option_map change_spelling change → base ≡ mine → base ≡ undo (action_any change) mine
-none_there stored None base mine none is same = same ∙ sym (undo_none mine)
-none_there stored (Some change) base mine none is same = absurd (let no = sym none ∙ is in cc)
+pub none_there : (stored : Option (List ℕ)) (change : Option Change) (mine : Place) → stored ≡ None → stored ≡ option_map change_spelling change → mine ≡ undo (action_any change) mine
+none_there stored None mine none is = sym (undo_none mine)
+none_there stored (Some change) mine none is = absurd (let no = sym none ∙ is in cc)
 
 -- ---- of a view
 

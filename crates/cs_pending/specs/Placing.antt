@@ -1,5 +1,5 @@
 -- What stands at a place, and stood there before what is pending.
-use Rattle.std.specs.Prelude.{◌≡◌, ℕ, Bool, List, Option, option_map, IfSome}
+use Rattle.std.specs.Prelude.{◌≡◌, ℕ, Bool, List, Option, Some, None, option_map, IfSome}
 use Rattle.cs_value.specs.Key.{Place}
 use Rattle.cs_value.specs.declared.catalog.TableDef.{TableDef}
 use Rattle.cs_change.specs.Spelling.{change_spelling, FitsChange}
@@ -9,6 +9,7 @@ use Rattle.cs_store.specs.States.{IsStored}
 use Rattle.cs_normal.specs.State.{MayStandAt}
 use Rattle.cs_pending.specs.View.{View, middle, settled}
 use Rattle.cs_pending.specs.Shows.{ShowsRows, SameRest}
+use Rattle.cs_pending.specs.declared.placing.Found.{Found}
 use Rattle.cs_pending.specs.declared.placing.Standing.{Standing}
 
 -- the bytes of a row with so many columns, or none
@@ -41,3 +42,19 @@ IsPutIn tables table key before mine old new =
     SameRest tables old new
     × ((view : View) → ShowsRows tables old view → MaySettle tables view table key before mine
     → ShowsRows tables new (settled table key (middle view table.name key) mine view))
+
+-- ---- as it is found
+
+-- what stood before: where nothing is pending, what stands there now
+abbrev pub base_found : Place → Option Place → Place
+base_found mine None = mine
+base_found mine (Some base) = base
+
+abbrev pub standing_of : Place → Place → Standing
+standing_of mine base = record {
+  mine = mine;
+  base = base;
+}
+
+abbrev pub standing_found : Found → Standing
+standing_found found = standing_of found.mine (base_found found.mine found.undone)

@@ -5,14 +5,14 @@ ghost use Rattle.std.specs.FinMap.{len};
 ghost use Rattle.cs_store.specs.declared.fault.StoreFault.TheVariants as stored;
 ghost use Rattle.cs_pending.specs.Calls.{WritesStore};
 ghost use Rattle.cs_pending.specs.Edits.{IsChangedBy, IsOfStore, IsWantedAt, Leads, edit_at};
-ghost use Rattle.cs_pending.specs.Placing.{IsPutIn, MaySettle};
+ghost use Rattle.cs_pending.specs.Placing.{IsPutIn, MaySettle, standing_found};
 ghost use Rattle.cs_pending.specs.Shows.{ShowsRows, ShowsSome};
 ghost use Rattle.cs_pending.specs.View.{View};
 ghost use Rattle.cs_pending.specs.declared.fault.EditFault.TheVariants.{Device};
 
 use crate::fault::EditFault;
 use crate::places::{are_same, lent};
-use crate::placing::{Standing, standing_at};
+use crate::placing::{Found, found_at};
 use crate::settling::Settling;
 use crate::wanted::{Wanted, left_by};
 use cs_record::RowBuf;
@@ -31,15 +31,15 @@ fn put_place<S: RowStore>(
     table: &TableDef,
     number: u32,
     key: Vec<u8>,
-    before: &Standing,
+    before: &Found,
     mine: Option<RowBuf>,
     pending: u64,
 ) -> Result<u64, StoreFault>
     requires there { slice_get catalog.now number ≡ Some table.now }
     ensures writes { WritesStore S.honest S.contents S.failed S.may_leave S.misreads stored.Device (ShowsSome catalog.now (S.contents store.old))
-        (IsPutIn catalog.now table.now key.items before.now mine (S.contents store.old)) store.old store.new result }
+        (IsPutIn catalog.now table.now key.items (standing_found before.now) mine (S.contents store.old)) store.old store.new result }
     ensures counted { S.honest store.new → (view : View) → ShowsRows catalog.now (S.contents store.old) view
-        → MaySettle catalog.now view table.now key.items before.now mine
+        → MaySettle catalog.now view table.now key.items (standing_found before.now) mine
         → pending ≡ len (S.contents store.old).pending → IfOk result (λ count. count ≡ len (S.contents store.new).pending) }
 {
     cs_value::laws::catalogs();
@@ -48,8 +48,17 @@ fn put_place<S: RowStore>(
     cs_store::laws::commits();
     let _tables = catalog.tables();
     let mut settling = Settling::new(alloc, pending);
-    let base = lent(&before.base);
-    settling.settle_own(alloc, table, number, key, before, base.as_ref(), mine)?;
+    let stood = before.mine();
+    let base = before.base();
+    settling.settle_own(
+        alloc,
+        table,
+        number,
+        key,
+        stood.as_ref(),
+        base.as_ref(),
+        mine,
+    )?;
     let count = settling.count;
     let batch = Batch {
         rows: settling.rows,
@@ -87,11 +96,11 @@ pub(crate) fn edit_place<S: RowStore>(
 {
     cs_value::laws::catalogs();
     let _tables = catalog.tables();
-    let before = match standing_at(alloc, store, catalog, table, number, key.as_slice()) {
+    let before = match found_at(alloc, store, catalog, table, number, key.as_slice()) {
         Ok(before) => before,
         Err(fault) => return Err(EditFault::from(fault)),
     };
-    let stood = lent(&before.mine);
+    let stood = before.mine();
     let mine = match left_by(alloc, wanted, stood.as_ref()) {
         Ok(mine) => mine,
         Err(fault) => return Err(fault),

@@ -10,7 +10,7 @@ ghost use Rattle.cs_change.specs.Spelling.{change_spelling};
 ghost use Rattle.cs_normal.specs.State.{MayStandAt};
 ghost use Rattle.cs_store.specs.Written.{optional_bytes};
 ghost use Rattle.cs_store.specs.Contents.{Contents};
-ghost use Rattle.cs_pending.specs.Placing.{StandsIn};
+ghost use Rattle.cs_pending.specs.Placing.{StandsIn, standing_of};
 ghost use Rattle.cs_pending.specs.Settling.{IsPushed, IsWithin, Settles, recount};
 ghost use Rattle.cs_pending.specs.View.{View, direct_net, settled};
 
@@ -201,15 +201,16 @@ impl Settling {
         Ok(())
     }
 
-    /// As `settle`, of a row and a key that are given away, and become those of the row's edit.
-    // Eight parameters: those of `settle`.
+    /// As `settle`, of a row and a key that are given away, and become those of the row's edit, where `stood` stood, and what is
+    /// pending led to it from `base` too.
+    // Eight parameters: those of `settle`, with the row or none that stood there.
     pub(crate) fn settle_own(
         &mut self,
         alloc: Global,
         table: &TableDef,
         number: u32,
         key: Vec<u8>,
-        before: &Standing,
+        stood: Option<&Row<'_>>,
         base: Option<&Row<'_>>,
         mine: Option<RowBuf>,
     ) -> Result<(), Memory>
@@ -219,7 +220,7 @@ impl Settling {
             → slice_get tables number ≡ Some table.now
             → MayStandAt tables table.now.name key.items (option_copied base.entry)
             → MayStandAt tables table.now.name key.items mine
-            → StandsIn view table.now key.items before.now
+            → StandsIn view table.now key.items (standing_of (option_copied stood.entry) (option_copied base.entry))
             → Settles tables contents begun self.old view
             → OnOk result (Settles tables contents begun self.new
             (settled table.now key.items (option_copied base.entry) mine view)) }
@@ -228,9 +229,7 @@ impl Settling {
         cs_normal::laws::one_key_stands();
         cs_change::laws::net_takes();
         cs_store::laws::commits();
-        let stood = lent(&before.mine);
-        let stood_base = lent(&before.base);
-        let was = !are_same(stood_base.as_ref(), stood.as_ref());
+        let was = !are_same(base, stood);
         let row = lent(&mine);
         let is = push_pending(
             &mut self.pending,
@@ -242,7 +241,7 @@ impl Settling {
             base,
             row.as_ref(),
         )?;
-        push_own_row(&mut self.rows, number, key, stood.as_ref(), mine)?;
+        push_own_row(&mut self.rows, number, key, stood, mine)?;
         self.count = counted(self.count, was, is)?;
         Ok(())
     }
