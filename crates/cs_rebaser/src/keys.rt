@@ -11,7 +11,7 @@ ghost use Rattle.cs_rebaser.specs.Rebased.{entry_key};
 use cs_blob::Entry;
 use cs_group::defined;
 use cs_keyed::{KeysBuilder, put_record_key};
-use cs_order::Keys;
+use cs_order::{Keys, compare_bytes};
 use cs_record::Record;
 use cs_value::Memory;
 use std::alloc::Global;
@@ -52,11 +52,11 @@ pub(crate) fn compare_key(
     ensures { IfOk result (λ compared. compared ≡ by_bytes (key_bytes (marked_fields marks.now fields.now)) key.now) }
 {
     if let Some(lent) = lend_key(marks, fields) {
-        return Ok(lent.cmp(key));
+        return Ok(compare_bytes(lent, key));
     }
     room.clear();
     put_record_key(marks, fields, room)?;
-    Ok(room.as_slice().cmp(key))
+    Ok(compare_bytes(room.as_slice(), key))
 }
 
 /// The keys of entries, lent; `None` where one has to be put together.
@@ -104,7 +104,7 @@ fn keys_ascend(keys: &[&[u8]]) -> bool
     let mut last: &[u8] = *first;
     let mut rest = rest;
     while let Some((next, more)) = rest.split_first() {
-        if last.cmp(*next) != Ordering::Less {
+        if compare_bytes(last, *next) != Ordering::Less {
             return false;
         }
         last = *next;
