@@ -6,6 +6,7 @@ ghost use Rattle.cs_store.specs.Written.{edit_body};
 ghost use Rattle.cs_leaf.specs.Edits.{Rise, store_place, edits_behind};
 ghost use Rattle.cs_map_store.specs.Leaves.{DontFall, is_last_of};
 
+use cs_order::compare_bytes;
 use cs_store::PlaceEdit;
 use std::alloc::{AllocError, Global};
 use std::cmp::Ordering;
@@ -16,7 +17,7 @@ fn compare(some: &PlaceEdit, other: &PlaceEdit) -> Ordering
 {
     some.table
         .cmp(&other.table)
-        .then_with(|| some.key.as_slice().cmp(other.key.as_slice()))
+        .then_with(|| compare_bytes(some.key.as_slice(), other.key.as_slice()))
 }
 
 /// Whether no edit of the same place follows the one there.
