@@ -15,9 +15,10 @@ use std::cmp::Ordering;
 fn compare(some: &PlaceEdit, other: &PlaceEdit) -> Ordering
     ensures { result ≡ place_cmp (store_place some.now) (store_place other.now) }
 {
-    some.table
-        .cmp(&other.table)
-        .then_with(|| compare_bytes(some.key.as_slice(), other.key.as_slice()))
+    some.table.cmp(&other.table).then_with(|| compare_bytes(
+        some.key.as_slice(),
+        other.key.as_slice(),
+    ))
 }
 
 /// Whether no edit of the same place follows the one there.
