@@ -4,8 +4,9 @@ use Rattle.std.specs.Prelude.{pos, slice_set}
 use Rattle.std.specs.List.{All, insert, remove, slice_range}
 use Rattle.std.specs.Ordering.{int_cmp, nat_cmp, ordering_then}
 use Rattle.std.specs.declared.cmp.Ordering.TheVariants.{Equal}
-use Rattle.std.proofs.lemmas.List.{take_all, take-append-drop, take-map, drop-map, length-drop, drop-append-le, take-append-le, map-append, take_more, drop_more, get_or-drop, append_assoc}
-use Rattle.std.proofs.Math.Seq.{drop-append_seam}
+use Rattle.std.proofs.lemmas.List.{length-take-le, take_all, take-append-drop, take-map, drop-map, length-drop, drop-append-le, take-append-le, map-append, take_more, drop_more, get_or-drop, append_assoc}
+use Rattle.std.proofs.lemmas.List.Folds.{drop_split}
+use Rattle.std.proofs.Math.Seq.{drop-append_seam, take-append-add}
 use Rattle.std.proofs.lemmas.List.Elements.{All-push, All-append, All-take, All-drop}
 use Rattle.cs_order.specs.Order.{by_bytes}
 use Rattle.cs_store.specs.Contents.{StorePlace, place_cmp}
@@ -73,6 +74,25 @@ module _ (bytes key row new : List ℕ) (spot : Spot) (grown : new ≡ (bytes ++
 
   pub row_entry : entry_at new spot ≡ ((pos spot.table, key), row)
   row_entry = λ i. ((pos spot.table, its_key i), its_row i)
+
+slice_joined : (bytes : List ℕ) (start middle end : ℕ) → start ≤ middle → middle ≤ end → end ≤ length bytes → slice_range bytes start end ≡ slice_range bytes start middle ++ slice_range bytes middle end
+slice_joined bytes start middle end first second bound =
+    let part = slice_range bytes start middle in
+    let long : length part ≡ middle - start = length-take-le (middle - start) (drop start bytes) (omega (arith, length-drop start bytes)) in
+    let all : end - start ≡ length part + (end - middle) = omega (arith, long) in
+    (λ i. take (all i) (drop_split bytes start middle first i)) ∙ take-append-add part (drop middle bytes) (end - middle)
+
+-- the spot of a row that is copied from other bytes
+pub copied_entry : (bytes source new : List ℕ) (spot copied : Spot) → IsSpotIn source spot → new ≡ bytes ++ slice_range source spot.key spot.end → copied.key ≡ length bytes → copied.row ≡ length bytes + (spot.row - spot.key)
+    → copied.end ≡ length new → copied.table ≡ spot.table → entry_at new copied ≡ entry_at source spot
+copied_entry bytes source new spot copied there grown begins middle ends table =
+    let key = slice_range source spot.key spot.row in
+    let row = slice_range source spot.row spot.end in
+    let parts = slice_joined source spot.key spot.row spot.end there.0 there.1 there.2 in
+    let all : new ≡ (bytes ++ key) ++ row = grown ∙ ap (λ part. bytes ++ part) parts ∙ sym (append_assoc bytes key row) in
+    let long : length key ≡ spot.row - spot.key = length-take-le (spot.row - spot.key) (drop spot.key source) (omega (arith, length-drop spot.key source, there.1, there.2)) in
+    let within : copied.row ≡ length (bytes ++ key) = omega (arith, middle, long, length-append bytes key) in
+    row_entry bytes key row new copied all begins within ends ∙ ap (λ t. ((pos t, key), row)) table
 
 -- a spot more
 pub spots_pushed : (new : List ℕ) (spots now : List Spot) (spot : Spot) → All (IsSpotIn new) spots → IsSpotIn new spot → now ≡ spots ++ spot ∷ [] → All (IsSpotIn new) now

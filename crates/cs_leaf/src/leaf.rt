@@ -193,6 +193,50 @@ fn put(
     Ok(())
 }
 
+/// Appends the bytes of a row that stands in others, and answers where they stand. At `Err` nothing has changed.
+#[inline(always)]
+fn add_copy(bytes: &mut Vec<u8>, source: &[u8], spot: Spot) -> Result<Spot, AllocError>
+    requires { IsSpotIn source.now spot }
+    ensures behind { (more : List ℕ) × (bytes.new.items ≡ bytes.old.items ++ more) }
+    ensures spot { IfOk result (λ copied. IsSpotIn bytes.new.items copied) }
+    ensures entry { IfOk result (λ copied. entry_at bytes.new.items copied ≡ entry_at source.now spot) }
+    ensures len { OnOk result (length bytes.new.items ≡ length bytes.old.items + size_of (entry_at source.now spot)) }
+    ensures err { OnErr result (bytes.new.items ≡ bytes.old.items) }
+{
+    let start = bytes.len();
+    bytes.extend_from_slice(&source[spot.key..spot.end])?;
+    Ok(Spot {
+        head: spot.head,
+        table: spot.table,
+        key: start,
+        row: start + (spot.row - spot.key),
+        end: bytes.len(),
+    })
+}
+
+/// Appends a row that stands in other bytes. At `Err` nothing has changed.
+#[inline(always)]
+fn put_copy(
+    bytes: &mut Vec<u8>,
+    spots: &mut Vec<Spot>,
+    source: &[u8],
+    spot: Spot,
+) -> Result<(), AllocError>
+    requires held { All (IsSpotIn bytes.old.items) spots.old.items }
+    requires there { IsSpotIn source.now spot }
+    ensures within { All (IsSpotIn bytes.new.items) spots.new.items }
+    ensures ok { OnOk result (entries_at bytes.new.items spots.new.items
+        ≡ entries_at bytes.old.items spots.old.items ++ entry_at source.now spot ∷ []) }
+    ensures len { OnOk result (length bytes.new.items ≡ length bytes.old.items + size_of (entry_at source.now spot)) }
+    ensures same_bytes { OnErr result (bytes.new.items ≡ bytes.old.items) }
+    ensures same_spots { OnErr result (spots.new.items ≡ spots.old.items) }
+{
+    spots.reserve(1)?;
+    let copied = add_copy(bytes, source, spot)?;
+    spots.push_reserved(copied);
+    Ok(())
+}
+
 impl Leaf {
     ghost use Rattle.std.specs.Prelude.{◌≡◌, ◌<◌, ◌≤◌, ◌++◌, ◌∷◌, true, false, [], T, pos, length, slice_range, if◌then◌else◌, option_map, IfOk, IfErr, OnOk};
     ghost use Rattle.std.specs.FinMap.{find, is_sorted};
@@ -302,20 +346,6 @@ impl Leaf {
                 apart => apart,
             },
             apart => apart,
-        }
-    }
-
-    /// The place there.
-    #[inline(always)]
-    fn place(&self, at: usize) -> Place<'_>
-        requires { at < length self.now }
-        ensures { result ≡ (nth self.now at).0 }
-    {
-        let spot = self.spots[at];
-        Place {
-            table: spot.table,
-            key: self.key(at),
-            head: spot.head,
         }
     }
 
@@ -458,13 +488,31 @@ impl Leaf {
         Ok(())
     }
 
+    /// Appends the row that a leaf has there. At `Err` nothing has changed.
+    #[inline(always)]
+    fn push_copy(&mut self, leaf: &Leaf, at: usize) -> Result<(), AllocError>
+        requires { at < length leaf.now }
+        ensures { OnOk result (self.new ≡ self.old ++ nth leaf.now at ∷ []) }
+    {
+        let held = self.bytes.len();
+        put_copy(
+            &mut self.bytes,
+            &mut self.spots,
+            leaf.bytes.as_slice(),
+            leaf.spots[at],
+        )?;
+        self.front = front_of(self.spots.as_slice());
+        self.used += self.bytes.len() - held;
+        Ok(())
+    }
+
     /// Appends the rows of a leaf from one place up to another.
     pub fn push_rows(&mut self, leaf: &Leaf, from: usize, to: usize) -> Result<(), AllocError>
         requires { (from ≤ to) × (to ≤ length leaf.now) }
         ensures { OnOk result (self.new ≡ self.old ++ slice_range leaf.now from to) }
     {
         for at in from..to {
-            self.push(&leaf.place(at), leaf.row(at))?;
+            self.push_copy(leaf, at)?;
         }
         Ok(())
     }
