@@ -1,14 +1,18 @@
 -- A change put in the place of one that has as many bytes.
-use Rattle.std.proofs.Common.{◌≡◌, ℕ, ◌+◌, ◌<◌, ◌≤◌, List, [], ◌∷◌, ◌++◌, length, take, drop, get_or, set, refl, sym, ap, ◌∙◌, arith, length-append, Some, zero, suc}
+use Rattle.std.proofs.Common.{◌≡◌, ℕ, ◌+◌, ◌<◌, ◌≤◌, List, [], ◌∷◌, ◌++◌, length, take, drop, get_or, set, refl, sym, ap, subst, ◌∙◌, arith, length-append, Some, zero, suc}
 use Rattle.std.specs.Prelude.{slice_get}
 use Rattle.std.specs.List.{AllByRecursion}
 use Rattle.std.proofs.Math.Seq.{take-append_seam, drop-append_seam}
 use Rattle.std.proofs.lemmas.Option.{slice_get_within, slice_get-get_or}
-use Rattle.std.proofs.lemmas.List.{drop-drop}
+use Rattle.std.proofs.lemmas.List.{drop-drop, get_or_at, set_at}
+use Rattle.cs_record.specs.Spelling.{record_of, row_bytes}
 use Rattle.cs_change.specs.declared.change.Change.{Change}
+use Rattle.cs_change.specs.declared.change.Change.TheVariants.{Insert, Delete, Update}
 use Rattle.cs_change.specs.declared.place.Place.{Place}
-use Rattle.cs_change.specs.Spelling.{change_spelling, changes_spelling, HasLength}
-use Rattle.cs_change.specs.Held.{IsInRange, split_of, IsChangeIn, ArePlaces, AreHeld}
+use Rattle.cs_change.specs.Spelling.{insert_byte, delete_byte, update_byte, flag_byte, change_spelling, changes_spelling, HasLength}
+use Rattle.cs_change.specs.Listed.{one_there}
+use Rattle.cs_change.specs.Then.{turned}
+use Rattle.cs_change.specs.Held.{IsInRange, split_of, IsChangeIn, ArePlaces, AreHeld, turned_byte}
 use Rattle.cs_change.proofs.Packed.{IsAt, at_place, length_places}
 
 fits_set : (changes : List Change) (index : ℕ) (change : Change) → AllByRecursion IsInRange changes → IsInRange change → AllByRecursion IsInRange (set changes index change)
@@ -88,3 +92,70 @@ held_set bytes new spelled places changes index start split change was held (her
 pub as_long : (changes others : List Change) (index at split : ℕ) (spelled : List ℕ) (change found : Change) → slice_get others at ≡ Some change → slice_get others at ≡ Some found → IsChangeIn spelled split found → HasLength changes index (length (change_spelling change)) → HasLength changes index (length spelled)
 as_long changes others index at split spelled change found one other is (here, got, long) =
     (here, got, long ∙ ap (λ (c : Change). length (change_spelling c)) (same_there others at found change other one) ∙ ap length is.1)
+
+-- ---- an INSERT turned to a DELETE, or the other way round
+
+turned_length : (change : Change) → length (change_spelling change) ≡ length (change_spelling (turned change))
+turned_length (Insert flag row) = refl
+turned_length (Delete flag row) = refl
+turned_length (Update flag old new) = refl
+
+turned_split : (change : Change) → split_of change ≡ split_of (turned change)
+turned_split (Insert flag row) = refl
+turned_split (Delete flag row) = refl
+turned_split (Update flag old new) = refl
+
+turned_fits : (change : Change) → IsInRange change → IsInRange (turned change)
+turned_fits (Insert flag row) fits = fits
+turned_fits (Delete flag row) fits = fits
+turned_fits (Update flag old new) fits = fits
+
+first_turned : (before rest : List ℕ) (first start : ℕ) → start ≡ length before → set (before ++ first ∷ rest) start (turned_byte (get_or (before ++ first ∷ rest) start 0)) ≡ before ++ turned_byte first ∷ rest
+first_turned before rest first start begins =
+    ap (λ (b : ℕ). set (before ++ first ∷ rest) start (turned_byte b)) (get_or_at before first rest 0 start (sym begins)) ∙ set_at before first rest (turned_byte first) start (sym begins)
+
+turned_bytes : (before after : List ℕ) (change : Change) (start : ℕ) → start ≡ length before → set (before ++ (change_spelling change ++ after)) start (turned_byte (get_or (before ++ (change_spelling change ++ after)) start 0)) ≡ before ++ (change_spelling (turned change) ++ after)
+turned_bytes before after (Insert flag row) start begins = first_turned before (flag_byte flag ∷ row_bytes row ++ after) insert_byte start begins
+turned_bytes before after (Delete flag row) start begins = first_turned before (flag_byte flag ∷ row_bytes row ++ after) delete_byte start begins
+turned_bytes before after (Update flag old new) start begins = first_turned before (flag_byte flag ∷ (record_of old ++ record_of new) ++ after) update_byte start begins
+
+-- the places stay
+same_places : (changes : List Change) (places : List Place) (at index : ℕ) (change : Change) → ArePlaces at changes places → slice_get changes index ≡ Some change → ArePlaces at (set changes index (turned change)) places
+same_places [] places at index change stand got = absurd (cc)
+same_places (c ∷ cs) [] at index change stand got = absurd stand
+same_places (c ∷ cs) (p ∷ ps) at zero change stand got =
+    let one : c ≡ change = cc in
+    let size : length (change_spelling c) ≡ length (change_spelling (turned change)) = turned_length c ∙ ap (λ (x : Change). length (change_spelling (turned x))) one in
+    ((stand.0.0, stand.0.1 ∙ turned_split c ∙ ap (λ (x : Change). split_of (turned x)) one), rw (← size) stand.1)
+same_places (c ∷ cs) (p ∷ ps) at (suc index) change stand got =
+    (stand.0, same_places cs ps (at + length (change_spelling c)) index change stand.1 got)
+
+takes_bytes : (change : Change) → 0 < length (change_spelling change)
+takes_bytes (Insert flag row) = omega arith
+takes_bytes (Delete flag row) = omega arith
+takes_bytes (Update flag old new) = omega arith
+
+-- a place is there
+pub begins_within : (bytes : List ℕ) (places : List Place) (changes : List Change) (index : ℕ) → AreHeld bytes places changes → index < length changes
+    → (index < length places) × ((place : Place) → place ≡ get_or places index place → place.start < length bytes)
+begins_within bytes places changes index held within =
+    let here = one_there changes index within in
+    let room = has_room bytes places changes index (length (change_spelling here.0)) held (here.0, here.1, refl) in
+    (room.0, λ place is. omega (arith, room.1 place is, takes_bytes here.0))
+
+pub held_turned : (bytes new : List ℕ) (places : List Place) (changes : List Change) (index start : ℕ) (change : Change) (was : Place) → AreHeld bytes places changes → slice_get changes index ≡ Some change
+    → was ≡ get_or places index was → start ≡ was.start → new ≡ set bytes start (turned_byte (get_or bytes start 0))
+    → AreHeld new places (set changes index (turned change))
+held_turned bytes new places changes index start change was held got read begins written =
+    let found = place_there bytes places changes index change held got was read in
+    let at = found.1 in
+    let before = changes_spelling at.before in
+    let after = changes_spelling at.after in
+    let same = same_there changes index change at.change got at.there in
+    let whole : bytes ≡ before ++ (change_spelling at.change ++ after) = sym held.1 ∙ at.parts in
+    let first : start ≡ length before = omega (arith, begins, at.stands.0) in
+    let made : new ≡ before ++ (change_spelling (turned at.change) ++ after) = written ∙ ap (λ (t : List ℕ). set t start (turned_byte (get_or t start 0))) whole ∙ turned_bytes before after at.change start first in (
+      fits_set changes index (turned change) held.0 (subst (λ (x : Change). IsInRange (turned x)) same (turned_fits at.change at.fits)),
+      at.other (turned change) ∙ ap (λ (x : Change). before ++ (change_spelling (turned x) ++ after)) (sym same) ∙ sym made,
+      same_places changes places 0 index change held.2 got,
+    )

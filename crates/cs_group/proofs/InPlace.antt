@@ -1,5 +1,5 @@
 -- Changes whose inverses are put in their places.
-use Rattle.std.proofs.Common.{◌≡◌, ℕ, ◌+◌, ◌<◌, ◌≤◌, Bool, List, [], ◌∷◌, ◌++◌, length, map, take, drop, get_or, set, refl, sym, ap, ◌∙◌, arith, length-append, append-nil, Some, zero, suc}
+use Rattle.std.proofs.Common.{◌≡◌, ℕ, ◌+◌, ◌<◌, ◌≤◌, Bool, true, false, List, [], ◌∷◌, ◌++◌, length, map, take, drop, get_or, set, refl, sym, ap, subst, ◌∙◌, arith, length-append, append-nil, Some, zero, suc}
 use Rattle.std.specs.Prelude.{slice_get}
 use Rattle.std.specs.List.{AllByRecursion}
 use Rattle.std.specs.Map.{keys_of, values_of}
@@ -12,8 +12,8 @@ use Rattle.cs_value.specs.declared.value.Field.{Field}
 use Rattle.cs_record.specs.Spelling.{record_of}
 use Rattle.cs_change.specs.Action.{action}
 use Rattle.cs_change.specs.Normal.{IsNormal, NormalUpdate, no_column, key_column, unmodified, modified}
-use Rattle.cs_change.specs.Listed.{listed}
-use Rattle.cs_change.specs.Then.{inverse, inverse_old_fields, inverse_new_fields}
+use Rattle.cs_change.specs.Listed.{one_there}
+use Rattle.cs_change.specs.Then.{inverse, inverse_old_fields, inverse_new_fields, turned}
 use Rattle.cs_change.specs.declared.change.Change.{Change}
 use Rattle.cs_change.specs.declared.change.Change.TheVariants.{Insert, Delete, Update}
 use Rattle.cs_keyed.specs.Changes.{Changes, IsEntry}
@@ -21,7 +21,7 @@ use Rattle.cs_keyed.specs.Keyed.{beside}
 use Rattle.cs_normal.specs.Normal.{IsNormalChangeset}
 use Rattle.cs_normal.specs.declared.normal.TableChanges.{TableChanges}
 use Rattle.cs_group.specs.Inverse.{inverse_change, inverse_changes}
-use Rattle.cs_group.specs.Steps.Inverting.{KeepsLength}
+use Rattle.cs_group.specs.Steps.Inverting.{IsMadeOf, KeepsLength}
 use Rattle.cs_group.proofs.Inverses.{beside_inverse}
 
 -- ---- the inverse has as many bytes
@@ -60,15 +60,10 @@ not_reached f [] (suc at) = refl
 not_reached f (x ∷ xs) zero = refl
 not_reached f (x ∷ xs) (suc at) = not_reached f xs at
 
-pub some_there : {X : Type 0} (xs : List X) (at : ℕ) → at < length xs → (x : X) × (slice_get xs at ≡ Some x)
-some_there [] at within = absurd (omega (arith, within))
-some_there (x ∷ xs) zero within = (x, refl)
-some_there (x ∷ xs) (suc at) within = some_there xs at (omega (arith, within))
-
 -- it has a place among those that are written over
 pub still_within : {X : Type 0} (f : X → X) (xs ys : List X) (at : ℕ) → at < length xs → ys ≡ map f (take at xs) ++ drop at xs → at < length ys
 still_within f xs ys at within so_far =
-    let there = some_there xs at within in
+    let there = one_there xs at within in
     let here : slice_get ys at ≡ Some there.0 = ap (λ zs. slice_get zs at) so_far ∙ not_reached f xs at ∙ there.1 in
     slice_get_within ys at there.0 here
 
@@ -89,7 +84,7 @@ one_set f xs ys at x now within so_far is made =
 
 pub one_more : {X : Type 0} (f : X → X) (xs ys now : List X) (at : ℕ) → at < length xs → ys ≡ map f (take at xs) ++ drop at xs → ((x : X) → slice_get ys at ≡ Some x → now ≡ set ys at (f x)) → now ≡ map f (take (at + 1) xs) ++ drop (at + 1) xs
 one_more f xs ys now at within so_far step =
-    let there = some_there xs at within in
+    let there = one_there xs at within in
     let here : slice_get ys at ≡ Some there.0 = ap (λ zs. slice_get zs at) so_far ∙ not_reached f xs at ∙ there.1 in
     step there.0 here ∙ map_over_more f xs ys at there.0 within so_far (sym (get_or_from_slice_get ys at there.0 there.0 here))
 
@@ -99,8 +94,14 @@ all_at P (y ∷ xs) zero x all got = (let same : y ≡ x = cc in rw same at all.
 all_at P (y ∷ xs) (suc at) x all got = all_at P xs at x all.1 got
 
 -- the inverse that was made alone
-pub made : (values inverse : List Change) (at : ℕ) (change : Change) → slice_get values at ≡ Some change → inverse ≡ map inverse_change (listed (slice_get values at)) → slice_get inverse 0 ≡ Some (inverse_change change)
-made values inverse at change got is = ap (λ (cs : List Change). slice_get cs 0) (is ∙ ap (λ o. map inverse_change (listed o)) got)
+pub when_made : (change : Change) (made : Bool) (inverse : List Change) → made ≡ true → IsMadeOf change made inverse → slice_get inverse 0 ≡ Some (inverse_change change)
+when_made change made inverse is alone =
+    let here : inverse ≡ inverse_change change ∷ [] = subst (λ (b : Bool). IsMadeOf change b inverse) is alone in
+    ap (λ (cs : List Change). slice_get cs 0) here
+
+-- the change is to be turned
+pub when_turned : (change : Change) (made : Bool) (inverse : List Change) → made ≡ false → IsMadeOf change made inverse → turned change ≡ inverse_change change
+when_turned change made inverse is alone = sym (subst (λ (b : Bool). IsMadeOf change b inverse) is alone)
 
 -- ---- keys and inverses, side by side
 

@@ -1,5 +1,5 @@
 -- Keys and changes, side by side.
-use Rattle.std.proofs.Common.{◌≡◌, ◌∙◌, ℕ, ◌<◌, ◌≤◌, List, [], ◌∷◌, ◌++◌, length, refl, sym, ap, arith, length-append, append-nil, Option, Some, None, zero, suc}
+use Rattle.std.proofs.Common.{◌≡◌, ◌∙◌, ℕ, ◌<◌, ◌≤◌, List, [], ◌∷◌, ◌++◌, length, refl, sym, ap, arith, length-append, length-set, append-nil, set, Option, Some, None, zero, suc}
 use Rattle.std.specs.Prelude.{slice_get, slice_index_or}
 use Rattle.std.specs.List.{flat_map}
 use Rattle.std.specs.Map.{keys_of, values_of}
@@ -87,3 +87,15 @@ keys_inside keys changes entries same is = sym (beside_keys keys changes same) �
 
 pub values_inside : (keys : List (List ℕ)) (changes : List Change) (entries : Changes) → length keys ≡ length changes → beside keys changes ≡ entries → changes ≡ values_of entries
 values_inside keys changes entries same is = sym (beside_values keys changes same) ∙ ap (λ (es : Changes). values_of es) is
+
+-- as many keys as changes, where one of them is another
+pub as_many_set : (keys : List (List ℕ)) (changes now : List Change) (index : ℕ) (change : Change) → length keys ≡ length changes → now ≡ set changes index change → length keys ≡ length now
+as_many_set keys changes now index change same is = same ∙ sym (length-set changes index change) ∙ ap length (sym is)
+
+pub keys_stay : (keys : List (List ℕ)) (changes now : List Change) (entries : Changes) → length keys ≡ length changes → beside keys changes ≡ entries → length keys ≡ length now → keys_of (beside keys now) ≡ keys_of entries
+keys_stay keys changes now entries same is many = beside_keys keys now many ∙ keys_inside keys changes entries same is
+
+pub values_set : (keys : List (List ℕ)) (changes now : List Change) (entries : Changes) (index : ℕ) (change : Change) → length keys ≡ length changes → beside keys changes ≡ entries → now ≡ set changes index change → values_of (beside keys now) ≡ set (values_of entries) index change
+values_set keys changes now entries index change same is set_there =
+    beside_values keys now (as_many_set keys changes now index change same set_there) ∙ set_there
+    ∙ ap (λ (cs : List Change). set cs index change) (values_inside keys changes entries same is)

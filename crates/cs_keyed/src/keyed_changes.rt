@@ -59,6 +59,7 @@ impl KeyedChanges {
     ghost use Rattle.std.specs.Map.{keys_of, values_of};
     ghost use Rattle.std.specs.List.{flat_map};
     ghost use Rattle.cs_change.specs.Spelling.{HasLength, change_spelling};
+    ghost use Rattle.cs_change.specs.Then.{turned};
     ghost use Rattle.cs_change.specs.declared.change.Change.{Change as One};
     ghost use Rattle.cs_keyed.specs.Changes.{IsOrdered, change_at};
     ghost use Rattle.cs_keyed.specs.Keyed.{beside};
@@ -174,6 +175,18 @@ impl KeyedChanges {
             → values_of self.new ≡ slice_set (values_of self.old) index change }
     {
         self.changes.replace_at(index, other, at);
+    }
+
+    /// Makes a DELETE of the INSERT at the index, and an INSERT of the DELETE, of the same row and with the same flag; an
+    /// UPDATE and the keys stay. It takes no memory.
+    #[inline(always)]
+    pub fn turn_at(&mut self, index: usize)
+        requires { index < length (values_of self.old) }
+        ensures keys { keys_of self.new ≡ keys_of self.old }
+        ensures changes { (change : One) → slice_get (values_of self.old) index ≡ Some change
+            → values_of self.new ≡ slice_set (values_of self.old) index (turned change) }
+    {
+        self.changes.turn_at(index);
     }
 
     /// Whether there is none.
