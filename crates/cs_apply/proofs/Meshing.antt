@@ -22,3 +22,8 @@ pub made_is : (held : List (Option Slot)) → count_waiting held ≡ 0 → made_
 made_is [] count = refl
 made_is (Some made ∷ held) count = ap (λ more. plain_list (edit_for made) ++ more) (made_is held count)
 made_is (None ∷ held) count = absurd (omega (arith, count))
+
+-- there is none
+pub no_slots : (slots : List Slot) → length slots ≡ 0 → slots ≡ []
+no_slots [] none = refl
+no_slots (s ∷ slots) none = absurd (omega (arith, none))

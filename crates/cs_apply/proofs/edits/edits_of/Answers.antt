@@ -1,15 +1,10 @@
-use Rattle.std.proofs.Common.{◌≡◌, ◌++◌, ◌∷◌, List, [], eqb-true, length, map, append-nil, refl, sym, ap, ◌∙◌, arith}
+use Rattle.std.proofs.Common.{◌≡◌, ◌++◌, [], eqb-true, length, map, append-nil, refl, sym, ap, ◌∙◌, arith}
 use Rattle.std.proofs.lemmas.List.{drop_all}
 use Rattle.std.specs.Vec.Iter.{into_iter_items}
 use Rattle.cs_apply.specs.Edited.{plain, edits_for}
 use Rattle.cs_apply.specs.Woven.{weave, mesh}
-use Rattle.cs_apply.proofs.Meshing.{mesh_is, made_is}
-use Rattle.cs_apply.specs.declared.slots.Slot.{Slot}
+use Rattle.cs_apply.proofs.Meshing.{mesh_is, made_is, no_slots}
 use Rattle.cs_apply.proofs.edits.edits_of.Goals as goal
-
-no_slots : (slots : List Slot) → length slots ≡ 0 → slots ≡ []
-no_slots [] none = refl
-no_slots (s ∷ slots) none = absurd (omega (arith, none))
 
 pub returns-then-is_empty : goal.returns-then-is_empty
 returns-then-is_empty c = λ held made waits count.
