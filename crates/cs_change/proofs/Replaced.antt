@@ -1,18 +1,20 @@
 -- A change put in the place of one that has as many bytes.
-use Rattle.std.proofs.Common.{◌≡◌, ℕ, ◌+◌, ◌<◌, ◌≤◌, List, [], ◌∷◌, ◌++◌, length, take, drop, get_or, set, refl, sym, ap, subst, ◌∙◌, arith, length-append, Some, zero, suc}
+use Rattle.std.proofs.Common.{◌≡◌, ℕ, ◌+◌, ◌<◌, ◌≤◌, Bool, List, [], ◌∷◌, ◌++◌, length, take, drop, get_or, set, refl, sym, ap, subst, ◌∙◌, arith, length-append, Some, zero, suc}
 use Rattle.std.specs.Prelude.{slice_get}
 use Rattle.std.specs.List.{AllByRecursion}
 use Rattle.std.proofs.Math.Seq.{take-append_seam, drop-append_seam}
 use Rattle.std.proofs.lemmas.Option.{slice_get_within, slice_get-get_or}
-use Rattle.std.proofs.lemmas.List.{drop-drop, get_or_at, set_at}
+use Rattle.std.proofs.lemmas.List.{append_assoc, drop-drop, drop_at, get_or_at, length-take-le, set_at, take_at}
+use Rattle.cs_value.specs.declared.value.Field.{Field}
 use Rattle.cs_record.specs.Spelling.{record_of, row_bytes}
+use Rattle.cs_record.specs.Spelled.{SpellsRecord}
 use Rattle.cs_change.specs.declared.change.Change.{Change}
 use Rattle.cs_change.specs.declared.change.Change.TheVariants.{Insert, Delete, Update}
 use Rattle.cs_change.specs.declared.place.Place.{Place}
 use Rattle.cs_change.specs.Spelling.{insert_byte, delete_byte, update_byte, flag_byte, change_spelling, changes_spelling, HasLength}
 use Rattle.cs_change.specs.Listed.{one_there}
 use Rattle.cs_change.specs.Then.{turned}
-use Rattle.cs_change.specs.Held.{IsInRange, split_of, IsChangeIn, ArePlaces, AreHeld, turned_byte}
+use Rattle.cs_change.specs.Held.{IsInRange, split_of, IsChangeIn, ArePlaces, AreHeld, overwritten, turned_byte}
 use Rattle.cs_change.proofs.Packed.{IsAt, at_place, length_places}
 
 fits_set : (changes : List Change) (index : ℕ) (change : Change) → AllByRecursion IsInRange changes → IsInRange change → AllByRecursion IsInRange (set changes index change)
@@ -36,13 +38,32 @@ places_set (c ∷ cs) (p ∷ ps) at (suc index) here change was now stand got pl
     (stand.0, places_set cs ps (at + length (change_spelling c)) index here change was now stand.1 got place long start split)
 
 -- the bytes of the change there, overwritten
-overwritten : (before here new after : List ℕ) (start : ℕ) → start ≡ length before → length here ≡ length new → take start (before ++ (here ++ after)) ++ (new ++ drop (start + length new) (before ++ (here ++ after))) ≡ before ++ (new ++ after)
-overwritten before here new after start begins long =
+written_over : (before here new after : List ℕ) (start : ℕ) → start ≡ length before → length here ≡ length new → overwritten (before ++ (here ++ after)) start new ≡ before ++ (new ++ after)
+written_over before here new after start begins long =
     let front : take start (before ++ (here ++ after)) ≡ before = rw begins (take-append_seam before (here ++ after)) in
     let tail : drop start (before ++ (here ++ after)) ≡ here ++ after = rw begins (drop-append_seam before (here ++ after)) in
     let behind : drop (length new) (here ++ after) ≡ after = rw (← long) (drop-append_seam here after) in
     let rest : drop (start + length new) (before ++ (here ++ after)) ≡ after = sym (drop-drop (length new) start (before ++ (here ++ after))) ∙ ap (λ (t : List ℕ). drop (length new) t) tail ∙ behind in
     rw (front, rest) refl
+
+-- one part behind another
+pub both_written : (bytes one two : List ℕ) (at behind : ℕ) → behind ≡ at + length one → at + length one ≤ length bytes → overwritten (overwritten bytes at one) behind two ≡ overwritten bytes at (one ++ two)
+both_written bytes one two at behind is room =
+    let front = take at bytes ++ one in
+    let rest = drop (at + length one) bytes in
+    let once : overwritten bytes at one ≡ front ++ rest = sym (append_assoc (take at bytes) one rest) in
+    let long : length front ≡ behind = omega (arith, is, length-append (take at bytes) one, length-take-le at bytes (omega (arith, room))) in
+    let kept : take behind (front ++ rest) ≡ front = take_at front rest behind long in
+    let tail : drop behind (front ++ rest) ≡ rest = drop_at front rest behind long in
+    let sum : at + length one + length two ≡ at + length (one ++ two) = omega (arith, length-append one two) in
+    let after : drop (behind + length two) (front ++ rest) ≡ drop (at + length (one ++ two)) bytes =
+    sym (drop-drop (length two) behind (front ++ rest)) ∙ ap (λ (t : List ℕ). drop (length two) t) tail
+    ∙ drop-drop (length two) (at + length one) bytes ∙ ap (λ (n : ℕ). drop n bytes) sum in
+    ap (λ (t : List ℕ). overwritten t behind two) once
+    ∙ ap (λ (t : List ℕ). t ++ (two ++ drop (behind + length two) (front ++ rest))) kept
+    ∙ ap (λ (t : List ℕ). front ++ (two ++ t)) after
+    ∙ append_assoc (take at bytes) one (two ++ drop (at + length (one ++ two)) bytes)
+    ∙ ap (λ (t : List ℕ). take at bytes ++ t) (sym (append_assoc one two (drop (at + length (one ++ two)) bytes)))
 
 -- what stands there
 pub place_there : (bytes : List ℕ) (places : List Place) (changes : List Change) (index : ℕ) (here : Change) → AreHeld bytes places changes → slice_get changes index ≡ Some here → (place : Place) → place ≡ get_or places index place → (slice_get places index ≡ Some place) × IsAt changes 0 place (slice_get places (suc index)) index
@@ -69,7 +90,7 @@ has_room bytes places changes index size held (here, got, long) = (
 )
 
 pub held_set : (bytes new spelled : List ℕ) (places : List Place) (changes : List Change) (index start split : ℕ) (change : Change) (was : Place) → AreHeld bytes places changes → HasLength changes index (length spelled) → IsChangeIn spelled split change
-    → was ≡ get_or places index was → start ≡ was.start → new ≡ take start bytes ++ (spelled ++ drop (start + length spelled) bytes)
+    → was ≡ get_or places index was → start ≡ was.start → new ≡ overwritten bytes start spelled
     → AreHeld new (set places index (record { start = start; split = split })) (set changes index change)
 held_set bytes new spelled places changes index start split change was held (here, got, long) is read begins written =
     let found = place_there bytes places changes index here held got was read in
@@ -82,16 +103,16 @@ held_set bytes new spelled places changes index start split change was held (her
     let size_same : length (change_spelling here) ≡ length (change_spelling change) = long ∙ ap length (sym is.1) in
     let whole : bytes ≡ before ++ (old ++ after) = sym held.1 ∙ at.parts in
     let first : start ≡ length before = omega (arith, begins, at.stands.0) in
-    let made : new ≡ before ++ (spelled ++ after) = written ∙ ap (λ (t : List ℕ). take start t ++ (spelled ++ drop (start + length spelled) t)) whole ∙ overwritten before old spelled after start first same in (
+    let made : new ≡ before ++ (spelled ++ after) = written ∙ ap (λ (t : List ℕ). overwritten t start spelled) whole ∙ written_over before old spelled after start first same in (
       fits_set changes index change held.0 is.0,
       at.other change ∙ ap (λ (t : List ℕ). before ++ (t ++ after)) is.1 ∙ sym made,
       places_set changes places 0 index here change was now held.2 got found.0 size_same begins (sym is.2),
     )
 
--- as long as the change that these bytes spell
-pub as_long : (changes others : List Change) (index at split : ℕ) (spelled : List ℕ) (change found : Change) → slice_get others at ≡ Some change → slice_get others at ≡ Some found → IsChangeIn spelled split found → HasLength changes index (length (change_spelling change)) → HasLength changes index (length spelled)
-as_long changes others index at split spelled change found one other is (here, got, long) =
-    (here, got, long ∙ ap (λ (c : Change). length (change_spelling c)) (same_there others at found change other one) ∙ ap length is.1)
+-- the bytes of two records spell an update
+pub update_in : (flag : Bool) (old new : List Field) (olds news : List ℕ) → SpellsRecord olds old → SpellsRecord news new → IsChangeIn (update_byte ∷ flag_byte flag ∷ (olds ++ news)) (2 + length olds) (Update flag old new)
+update_in flag old new olds news is_old is_new =
+    ((is_old.0, is_new.0), ap (λ (t : List ℕ). update_byte ∷ flag_byte flag ∷ (t ++ record_of new)) is_old.1 ∙ ap (λ (t : List ℕ). update_byte ∷ flag_byte flag ∷ (olds ++ t)) is_new.1, ap (λ (t : List ℕ). 2 + length t) is_old.1)
 
 -- ---- an INSERT turned to a DELETE, or the other way round
 

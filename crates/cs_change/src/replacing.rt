@@ -1,40 +1,53 @@
-//! A change put in the place of one that has as many bytes, or turned there.
+//! An update put in the place of a change that has as many bytes, and a change turned where it stands.
 
-ghost use Rattle.std.specs.Prelude.{◌≡◌, ◌+◌, ◌<◌, ◌≤◌, ◌++◌, List, Some, drop, length, slice_get, slice_index, slice_set, take};
-ghost use Rattle.cs_change.specs.Held.{AreHeld, IsChangeIn, turned_byte};
-ghost use Rattle.cs_change.specs.Spelling.{HasLength};
+ghost use Rattle.std.specs.Prelude.{◌≡◌, ◌+◌, ◌<◌, ◌≤◌, ◌++◌, ◌∷◌, List, Some, length, slice_get, slice_index, slice_set};
+ghost use Rattle.cs_change.specs.Held.{AreHeld, IsChangeIn, overwritten, turned_byte};
+ghost use Rattle.cs_change.specs.Spelling.{HasLength, flag_byte, update_byte};
 ghost use Rattle.cs_change.specs.Then.{turned};
 ghost use Rattle.cs_change.specs.declared.change.Change.{Change as One};
 
-use crate::first_bytes::{DELETE, INSERT};
+use crate::first_bytes::{DELETE, INSERT, UPDATE};
 use crate::place::Place;
 
 /// Writes these bytes over as many that stand there.
 #[inline(always)]
 fn write_over(bytes: &mut [u8], at: usize, written: &[u8])
     requires { at + length written.now ≤ length bytes.old }
-    ensures { bytes.new ≡ take at bytes.old ++ (written.now ++ drop (at + length written.now) bytes.old) }
+    ensures { bytes.new ≡ overwritten bytes.old at written.now }
 {
     bytes[at..at + written.len()].copy_from_slice(written);
 }
 
-/// Puts the change that these bytes spell in the place of the one there.
+/// Writes an update with these records over as many bytes.
+#[inline(always)]
+fn write_update(bytes: &mut [u8], at: usize, flag: bool, old: &[u8], new: &[u8])
+    requires { at + (2 + length old.now + length new.now) ≤ length bytes.old }
+    ensures { bytes.new ≡ overwritten bytes.old at (update_byte ∷ flag_byte flag ∷ (old.now ++ new.now)) }
+{
+    write_over(bytes, at, &[UPDATE, u8::from(flag)]);
+    write_over(bytes, at + 2, old);
+    write_over(bytes, at + 2 + old.len(), new);
+}
+
+/// Puts the update with the records that these bytes spell in the place of the change there.
 #[inline(always)]
 pub(crate) fn put_over(
     bytes: &mut Vec<u8>,
     places: &mut Vec<Place>,
     index: usize,
-    spelled: &[u8],
-    split: usize,
+    flag: bool,
+    old: &[u8],
+    new: &[u8],
 )
     requires { (changes : List One) × AreHeld bytes.old.items places.old.items changes
-        × HasLength changes index (length spelled.now) }
+        × HasLength changes index (2 + length old.now + length new.now) }
     ensures { (changes : List One) (change : One) → AreHeld bytes.old.items places.old.items changes
-        → IsChangeIn spelled.now split change
+        → IsChangeIn (update_byte ∷ flag_byte flag ∷ (old.now ++ new.now)) (2 + length old.now) change
         → AreHeld bytes.new.items places.new.items (slice_set changes index change) }
 {
     let start = places[index].start;
-    write_over(bytes.as_mut_slice(), start, spelled);
+    let split = 2 + old.len();
+    write_update(bytes.as_mut_slice(), start, flag, old, new);
     places[index] = Place { start, split };
 }
 

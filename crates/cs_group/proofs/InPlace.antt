@@ -1,5 +1,5 @@
 -- Changes whose inverses are put in their places.
-use Rattle.std.proofs.Common.{◌≡◌, ℕ, ◌+◌, ◌<◌, ◌≤◌, Bool, true, false, List, [], ◌∷◌, ◌++◌, length, map, take, drop, get_or, set, refl, sym, ap, subst, ◌∙◌, arith, length-append, append-nil, Some, zero, suc}
+use Rattle.std.proofs.Common.{◌≡◌, ℕ, ◌+◌, ◌<◌, ◌≤◌, Bool, List, [], ◌∷◌, ◌++◌, length, map, take, drop, get_or, set, refl, sym, ap, ◌∙◌, arith, length-append, append-nil, Option, Some, None, zero, suc}
 use Rattle.std.specs.Prelude.{slice_get}
 use Rattle.std.specs.List.{AllByRecursion}
 use Rattle.std.specs.Map.{keys_of, values_of}
@@ -21,7 +21,7 @@ use Rattle.cs_keyed.specs.Keyed.{beside}
 use Rattle.cs_normal.specs.Normal.{IsNormalChangeset}
 use Rattle.cs_normal.specs.declared.normal.TableChanges.{TableChanges}
 use Rattle.cs_group.specs.Inverse.{inverse_change, inverse_changes}
-use Rattle.cs_group.specs.Steps.Inverting.{IsMadeOf, KeepsLength}
+use Rattle.cs_group.specs.Steps.Inverting.{KeepsLength, made_inverse}
 use Rattle.cs_group.proofs.Inverses.{beside_inverse}
 
 -- ---- the inverse has as many bytes
@@ -93,15 +93,13 @@ all_at P [] at x all got = absurd (cc)
 all_at P (y ∷ xs) zero x all got = (let same : y ≡ x = cc in rw same at all.0)
 all_at P (y ∷ xs) (suc at) x all got = all_at P xs at x all.1 got
 
--- the inverse that was made alone
-pub when_made : (change : Change) (made : Bool) (inverse : List Change) → made ≡ true → IsMadeOf change made inverse → slice_get inverse 0 ≡ Some (inverse_change change)
-when_made change made inverse is alone =
-    let here : inverse ≡ inverse_change change ∷ [] = subst (λ (b : Bool). IsMadeOf change b inverse) is alone in
-    ap (λ (cs : List Change). slice_get cs 0) here
+-- the inverse is the update that was made, or the change turned
+pub updated : (made : Option Bool) (flag : Bool) (old new olds news : List Field) (change : Change) → made ≡ Some flag → olds ≡ old → news ≡ new → inverse_change change ≡ made_inverse made old new change → inverse_change change ≡ Update flag olds news
+updated made flag old new olds news change some same_olds same_news is =
+    is ∙ ap (λ m. made_inverse m old new change) some ∙ ap (λ (fs : List Field). Update flag fs new) (sym same_olds) ∙ ap (λ (fs : List Field). Update flag olds fs) (sym same_news)
 
--- the change is to be turned
-pub when_turned : (change : Change) (made : Bool) (inverse : List Change) → made ≡ false → IsMadeOf change made inverse → turned change ≡ inverse_change change
-when_turned change made inverse is alone = sym (subst (λ (b : Bool). IsMadeOf change b inverse) is alone)
+pub as_turned : (made : Option Bool) (old new : List Field) (change : Change) → made ≡ None → inverse_change change ≡ made_inverse made old new change → turned change ≡ inverse_change change
+as_turned made old new change none is = sym (is ∙ ap (λ m. made_inverse m old new change) none)
 
 -- ---- keys and inverses, side by side
 

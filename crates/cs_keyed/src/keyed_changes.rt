@@ -5,6 +5,7 @@ ghost use Rattle.cs_keyed.specs.Keyed.{beside};
 
 use cs_change::{Change, ChangesBuf};
 use cs_order::Keys;
+use cs_record::Record;
 use cs_value::Memory;
 use std::alloc::{AllocError, Global};
 use std::marker::Model;
@@ -47,6 +48,7 @@ fn put_both(
 impl Model for KeyedChanges {
     ghost use Rattle.std.specs.Prelude.{List, ℕ};
     ghost use Rattle.cs_change.specs.declared.change.Change.{Change as One};
+    ghost use Rattle.cs_change.specs.declared.change.Change.TheVariants.{Update};
     ghost use Rattle.cs_keyed.specs.Keyed.{beside};
 
     ghost Value = { List (List ℕ × One) };
@@ -61,6 +63,7 @@ impl KeyedChanges {
     ghost use Rattle.cs_change.specs.Spelling.{HasLength, change_spelling};
     ghost use Rattle.cs_change.specs.Then.{turned};
     ghost use Rattle.cs_change.specs.declared.change.Change.{Change as One};
+    ghost use Rattle.cs_change.specs.declared.change.Change.TheVariants.{Update};
     ghost use Rattle.cs_keyed.specs.Changes.{IsOrdered, change_at};
     ghost use Rattle.cs_keyed.specs.Keyed.{beside};
 
@@ -164,17 +167,15 @@ impl KeyedChanges {
         put_both(&mut self.keys, &mut self.changes, key, change)
     }
 
-    /// Puts the change that another list has there in the place of the one at the index, which has as many bytes; the keys
-    /// stay. It takes no memory.
+    /// Puts the update with these records in the place of the change at the index, which has as many bytes; the keys stay. It
+    /// takes no memory.
     #[inline(always)]
-    pub fn replace_at(&mut self, index: usize, other: &ChangesBuf, at: usize)
-        requires { (change : One) × (slice_get other.now at ≡ Some change)
-            × HasLength (values_of self.old) index (length (change_spelling change)) }
+    pub fn replace_update(&mut self, index: usize, flag: bool, old: &Record<'_>, new: &Record<'_>)
+        requires { HasLength (values_of self.old) index (length (change_spelling (Update flag old.now new.now))) }
         ensures keys { keys_of self.new ≡ keys_of self.old }
-        ensures changes { (change : One) → slice_get other.now at ≡ Some change
-            → values_of self.new ≡ slice_set (values_of self.old) index change }
+        ensures changes { values_of self.new ≡ slice_set (values_of self.old) index (Update flag old.now new.now) }
     {
-        self.changes.replace_at(index, other, at);
+        self.changes.replace_update(index, flag, old, new);
     }
 
     /// Makes a DELETE of the INSERT at the index, and an INSERT of the DELETE, of the same row and with the same flag; an
