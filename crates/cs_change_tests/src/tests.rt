@@ -54,8 +54,12 @@ fn change_of(bytes: &[u8], columns: usize) -> Option<Change<'_>> {
     }
 }
 
-/// Whether two of the change are kept as these bytes twice.
+/// Whether the change is spelled as these bytes, and two of it are kept as these bytes twice.
 fn is_kept_twice(alloc: Global, change: &Change<'_>, bytes: &[u8]) -> Result<bool, Memory> {
+    let alone = spell_change(alloc, change)?;
+    if alone.as_slice() != bytes {
+        return Ok(false);
+    }
     let mut kept = ChangesBuf::new(alloc);
     kept.push(change)?;
     kept.push(&change.again())?;

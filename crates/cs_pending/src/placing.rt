@@ -96,8 +96,8 @@ fn own_at<S: RowStore>(
     Ok(Some(row))
 }
 
-/// The row or none before what is pending at a place where this stands; none of both where nothing is pending. What is no change of
-/// the table is told to the store.
+/// The row or none before what is pending at a place where this stands, if something is pending. What is no change of the table is
+/// told to the store.
 // Six parameters: allocator and store, the place in three parts (table, number, key), and the row or none that was read there.
 fn undone_at<S: RowStore>(
     alloc: Global,
