@@ -24,10 +24,11 @@ use std::marker::Model;
 /// count and tells `Device`, and a stop leaves what it holds. Its rows lie in leaves, in order, each packed into one list of
 /// bytes, and so do its pending changes. Beside where a row stands, the first 16 bytes of its key are kept as a number, and
 /// bytes are compared only where these numbers are equal. A look-up begins where the last one ended; where its place isn't
-/// near, it begins where that would be if keys were spread evenly, and halves the leaves and then one leaf. A commit of one row or of one pending change amends its leaf in place, so it
-/// costs the logarithm of those that are there, but for a walk over the list of leaves where one is cut or goes; a leaf that
-/// gets several edits at once, or half of whose bytes would come to be of rows that are gone, is made anew, so no leaf's bytes
-/// are more than twice those of its rows. Its log has at most 4,294,967,295 entries; a commit of one more answers `Memory`.
+/// near, it begins where that would be if keys were spread evenly, and halves the leaves and then one leaf. A commit of one
+/// row or of one pending change amends its leaf in place, so it costs the logarithm of those that are there, but for a walk
+/// over the list of leaves where one is cut or goes; a leaf that gets several edits at once, or half of whose bytes would
+/// come to be of rows that are gone, is made anew, so no leaf's bytes are more than twice those of its rows. Its log has at
+/// most 4,294,967,295 entries; a commit of one more answers `Memory`.
 /// (Profile of this project.)
 #[derive(Drop)]
 pub struct MapStore {
