@@ -1,9 +1,8 @@
 -- A table's changes by the places of its groups.
-use Rattle.std.proofs.Common.{◌≡◌, ℕ, ◌+◌, cond, List, [], ◌∷◌, ◌++◌, length, map, Option, Some, None, refl, sym, ap, ◌∙◌, length-append}
+use Rattle.std.proofs.Common.{◌≡◌, ℕ, zero, suc, ◌+◌, ◌<◌, ◌≤◌, cond, List, [], ◌∷◌, ◌++◌, length, map, get_or, Option, Some, None, refl, sym, ap, ◌∙◌, length-append, arith}
 use Rattle.std.specs.Borrow.{Bor}
-use Rattle.std.specs.Prelude.{replicate}
+use Rattle.std.specs.Prelude.{replicate, slice_get}
 use Rattle.std.specs.List.{flat_map}
-use Rattle.std.specs.Option.{option_copied, MatchOption}
 use Rattle.std.specs.Str.{bytes_eq}
 use Rattle.std.proofs.lemmas.Grind.{flat_map-append}
 use Rattle.std.proofs.lemmas.List.{replicate-append-replicate}
@@ -11,10 +10,11 @@ use Rattle.std.proofs.lemmas.List.Folds.{flat_map-map}
 use Rattle.cs_change.specs.declared.change.Change.{Change}
 use Rattle.cs_change.specs.declared.group.Group.{Group}
 use Rattle.cs_order.specs.Groups.{places_of}
+use Rattle.cs_order.specs.Order.{Keys}
 use Rattle.cs_normal.specs.AtPlaces.{at_places}
 use Rattle.cs_normal.specs.NormalFormOf.{changes_of}
 use Rattle.cs_group.specs.Steps.Joining.{in_a_row}
-use Rattle.cs_group.specs.Steps.Numbering.{changes_in_group, name_of, no_group, numbered_changes_at, numbered_from, numbered_names, numbers_at, numbers_in_group, NumberedGroup}
+use Rattle.cs_group.specs.Steps.Numbering.{changes_in_group, groups_at, listed_group, name_of, named, numbered_behind, numbered_from, numbered_names, numbers_in_group, NumberedGroup}
 use Rattle.cs_group.specs.Steps.Reading.{numbers_from, read_each}
 use Rattle.cs_group.proofs.Lookups.{by_test}
 
@@ -47,19 +47,71 @@ all_numbers name number (groups ∷ rest) =
     ∙ ap (λ (ns : List ℕ). ns ++ flat_map (if_named name numbers_in_group) (numbered_from (number + 1) rest)) (flat_map-map (if_named name numbers_in_group) numbered groups ∙ numbers_of_one name number groups)
     ∙ ap (λ (ns : List ℕ). replicate (length (changes_of name groups)) number ++ ns) (all_numbers name (number + 1) rest)
 
-pub changes_placed : (name : List ℕ) (changesets : List (List Group)) (groups : List NumberedGroup) → groups ≡ numbered_from 1 changesets → flat_map (numbered_changes_at groups) (places_of (numbered_names groups) name) ≡ in_a_row (read_each name changesets)
-changes_placed name changesets groups is =
-    at_places name_of changes_in_group no_group refl name groups
-    ∙ ap (λ (gs : List NumberedGroup). flat_map (if_named name changes_in_group) gs) is
-    ∙ all_changes name 1 changesets
+-- ---- the groups of one table
 
-pub numbers_placed : (name : List ℕ) (changesets : List (List Group)) (groups : List NumberedGroup) → groups ≡ numbered_from 1 changesets → flat_map (numbers_at groups) (places_of (numbered_names groups) name) ≡ numbers_from 1 (read_each name changesets)
-numbers_placed name changesets groups is =
-    at_places name_of numbers_in_group no_group refl name groups
-    ∙ ap (λ (gs : List NumberedGroup). flat_map (if_named name numbers_in_group) gs) is
-    ∙ all_numbers name 1 changesets
+module _ (name : List ℕ) where
+  taken : {Y : Type 0} (h : NumberedGroup → List Y) (groups : List NumberedGroup) → flat_map h (named name groups) ≡ flat_map (if_named name h) groups
+  taken h [] = refl
+  taken {Y} h (g ∷ groups) =
+      let rest = taken h groups in
+      by_test (bytes_eq (name_of g) name) _
+      (λ e. simp e (ap (λ (ys : List Y). h g ++ ys) rest))
+      (λ e. simp e rest)
 
--- groups that may be lent
-pub as_lent : (groups : List NumberedGroup) (lent : Option (Bor (List NumberedGroup))) → MatchOption (option_copied lent) (Unit {0}) (λ gs. gs ≡ groups) → MatchOption lent (Unit {0}) (λ gs. gs.now ≡ groups)
-as_lent groups None h = h
-as_lent groups (Some gs) h = h
+  -- their changes are those of the table in each changeset
+  pub changes_of_named : (changesets : List (List Group)) → flat_map changes_in_group (named name (numbered_from 1 changesets)) ≡ in_a_row (read_each name changesets)
+  changes_of_named changesets =
+      taken changes_in_group (numbered_from 1 changesets) ∙ all_changes name 1 changesets
+
+  -- and so are the numbers
+  pub numbers_of_named : (changesets : List (List Group)) → flat_map numbers_in_group (named name (numbered_from 1 changesets)) ≡ numbers_from 1 (read_each name changesets)
+  numbers_of_named changesets =
+      taken numbers_in_group (numbered_from 1 changesets) ∙ all_numbers name 1 changesets
+
+-- ---- by the places of their names
+
+abbrev name_if_any : Option NumberedGroup → List ℕ
+name_if_any None = []
+name_if_any (Some group) = name_of group
+
+abbrev each_some : List NumberedGroup → List (Option NumberedGroup)
+each_some groups = map (λ group. Some group) groups
+
+names_same : (groups : List NumberedGroup) → map name_if_any (each_some groups) ≡ numbered_names groups
+names_same [] = refl
+names_same (g ∷ groups) = ap (λ (ns : Keys). name_of g ∷ ns) (names_same groups)
+
+there_same : (groups : List NumberedGroup) (place : ℕ) → get_or (each_some groups) place None ≡ slice_get groups place
+there_same [] place = refl
+there_same (g ∷ groups) zero = refl
+there_same (g ∷ groups) (suc place) = there_same groups place
+
+named_same : (name : List ℕ) (groups : List NumberedGroup) → flat_map (λ o. cond (bytes_eq (name_if_any o) name) (listed_group o) []) (each_some groups) ≡ named name groups
+named_same name [] = refl
+named_same name (g ∷ groups) =
+    ap (λ (gs : List NumberedGroup). cond (bytes_eq (name_of g) name) (g ∷ []) [] ++ gs) (named_same name groups)
+
+walked_same : (f h : ℕ → List NumberedGroup) → ((place : ℕ) → f place ≡ h place) → (places : List ℕ) → flat_map f places ≡ flat_map h places
+walked_same f h same [] = refl
+walked_same f h same (p ∷ places) =
+    ap (λ (gs : List NumberedGroup). gs ++ flat_map f places) (same p) ∙ ap (λ (gs : List NumberedGroup). h p ++ gs) (walked_same f h same places)
+
+pub named_at : (name : List ℕ) (groups : List NumberedGroup) → groups_at groups (places_of (numbered_names groups) name) ≡ named name groups
+named_at name groups =
+    let placed = at_places name_if_any listed_group None refl name (each_some groups) in
+    walked_same (λ place. listed_group (slice_get groups place)) (λ place. listed_group (get_or (each_some groups) place None)) (λ place. ap listed_group (sym (there_same groups place))) (places_of (numbered_names groups) name)
+    ∙ ap (λ (ns : Keys). flat_map (λ place. listed_group (get_or (each_some groups) place None)) (places_of ns name)) (sym (names_same groups))
+    ∙ placed
+    ∙ named_same name groups
+
+-- ---- a group at a place
+
+pub group_there : (groups : List (ℕ × Bor Group)) (place : ℕ) (x : ℕ × Bor Group) → place < length groups → x ≡ get_or groups place x → slice_get (numbered_behind groups) place ≡ Some (x.0, x.1.now)
+group_there [] place x less is = absurd (omega (arith, less))
+group_there (g ∷ groups) zero x less is = ap (λ (y : ℕ × Bor Group). Some (y.0, y.1.now)) (sym is)
+group_there (g ∷ groups) (suc place) x less is = group_there groups place x (omega (arith, less)) is
+
+pub no_group_there : (groups : List (ℕ × Bor Group)) (place : ℕ) → length groups ≤ place → slice_get (numbered_behind groups) place ≡ None
+no_group_there [] place past = refl
+no_group_there (g ∷ groups) zero past = absurd (omega (arith, past))
+no_group_there (g ∷ groups) (suc place) past = no_group_there groups place (omega (arith, past))

@@ -15,7 +15,7 @@ mod one_form;
 mod picking;
 
 pub use builder::KeysBuilder;
-pub use gathering::{gather_all_keys, gather_keys};
+pub use gathering::{gather_keys, keys_for, push_keys};
 pub use key_bytes::encode_key;
 pub use key_of_change::{key_front, put_key, put_record_key};
 pub use keyed_changes::KeyedChanges;

@@ -1,10 +1,11 @@
 -- The groups of changesets as read, each with the number of its changeset.
-use Rattle.std.specs.Prelude.{ℕ, ◌+◌, List, [], ◌∷◌, ◌++◌, length, map, replicate, slice_index_or}
+use Rattle.std.specs.Prelude.{ℕ, ◌+◌, List, [], ◌∷◌, ◌++◌, length, map, Option, Some, None, replicate, slice_get, if◌then◌else◌}
+use Rattle.std.specs.List.{flat_map}
+use Rattle.std.specs.Str.{bytes_eq}
 use Rattle.std.specs.Borrow.{Bor}
 use Rattle.cs_change.specs.declared.change.Change.{Change}
 use Rattle.cs_change.specs.declared.group.Group.{Group}
 use Rattle.cs_order.specs.Order.{Keys}
-use Rattle.cs_normal.specs.Placed.{nowhere}
 
 -- the number of a changeset, and one of its groups
 abbrev pub NumberedGroup : Type 0
@@ -31,13 +32,15 @@ changes_in_group numbered = numbered.1.changes
 abbrev pub numbers_in_group : NumberedGroup → List ℕ
 numbers_in_group numbered = replicate (length numbered.1.changes) numbered.0
 
--- what stands past the end
-abbrev pub no_group : NumberedGroup
-no_group = (0, nowhere)
+-- those that have this name
+abbrev pub named : List ℕ → List NumberedGroup → List NumberedGroup
+named name groups = flat_map (λ numbered. if bytes_eq (name_of numbered) name then numbered ∷ [] else []) groups
 
--- the changes of the group at a place; none past the end
-abbrev pub numbered_changes_at : List NumberedGroup → ℕ → List Change
-numbered_changes_at groups place = changes_in_group (slice_index_or groups place no_group)
+-- a group, if there is one, as a list
+abbrev pub listed_group : Option NumberedGroup → List NumberedGroup
+listed_group None = []
+listed_group (Some group) = group ∷ []
 
-abbrev pub numbers_at : List NumberedGroup → ℕ → List ℕ
-numbers_at groups place = numbers_in_group (slice_index_or groups place no_group)
+-- those at some places
+abbrev pub groups_at : List NumberedGroup → List ℕ → List NumberedGroup
+groups_at groups places = flat_map (λ place. listed_group (slice_get groups place)) places

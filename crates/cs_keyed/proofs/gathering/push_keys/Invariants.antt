@@ -1,12 +1,12 @@
 use Rattle.std.proofs.Common.{◌≡◌, ◌++◌, ◌-◌, ◌≤◌, length, drop}
 use Rattle.std.specs.Map.{keys_of}
 use Rattle.cs_keyed.specs.Prepared.{all_keyed, prepared}
-use Rattle.cs_keyed.proofs.gathering.gather_keys.Given as goal
+use Rattle.cs_keyed.proofs.gathering.push_keys.Given as goal
 
 abbrev pub invariant-loop-at : goal.invariant-loop-at
 invariant-loop-at l = record {
   within : l.at ≤ length l.changes;
-  keys : l.keys ++ keys_of (prepared l.marks (drop l.at l.changes)) ≡ keys_of (prepared l.marks l.changes);
+  keys : l.keys ++ keys_of (prepared l.marks (drop l.at l.changes)) ≡ l.fn.keys ++ keys_of (prepared l.marks l.changes);
   whole : all_keyed l.marks (drop l.at l.changes) ≡ all_keyed l.marks l.changes;
 }
 

@@ -1,0 +1,79 @@
+//! Changes that stay where they stand.
+
+ghost use Rattle.std.specs.Prelude.{◌≡◌, ◌++◌, OnOk};
+ghost use Rattle.cs_change.specs.declared.change.Change.{Change as One};
+ghost use Rattle.cs_group.specs.Steps.Gathering.{lent_changes};
+
+use cs_change::Change;
+use cs_value::Memory;
+
+/// What lends a change.
+pub(crate) trait Lends {
+    /// The change that is lent.
+    ghost seen: { Self → One };
+
+    /// The change, in its bytes.
+    fn lend(&self) -> Change<'_>
+        ensures { result ≡ seen self.now };
+}
+
+impl<'a> Lends for Change<'a> {
+    ghost seen = { λ change. change };
+
+    #[inline(always)]
+    fn lend(&self) -> Change<'_> {
+        self.again()
+    }
+}
+
+/// A change that is lent from a list, so that a list of such takes a fifth of a list of changes.
+#[derive(Drop)]
+pub(crate) struct Lent<'b, 'a> {
+    change: &'b Change<'a>,
+}
+
+impl<'b, 'a> Lends for Lent<'b, 'a> {
+    ghost seen = { λ lent. lent.change.now };
+
+    #[inline(always)]
+    fn lend(&self) -> Change<'_> {
+        self.change.again()
+    }
+}
+
+/// Lends each of these changes, behind those that are lent already.
+pub(crate) fn lend_each<'b, 'a>(
+    changes: &'b [Change<'a>],
+    lent: &mut Vec<Lent<'b, 'a>>,
+) -> Result<(), Memory>
+    ensures { OnOk result (lent_changes lent.new.items ≡ lent_changes lent.old.items ++ changes.now) }
+{
+    for change in changes {
+        lent.push(Lent { change })?;
+    }
+    Ok(())
+}
+
+/// How many bytes a change takes. It says how much room to take, and is no part of a result.
+#[inline(always)]
+fn size_of(change: &Change<'_>) -> usize {
+    let (first, second) = match change {
+        Change::Insert { new_row, .. } => (new_row.bytes().len(), 0),
+        Change::Delete { old_row, .. } => (old_row.bytes().len(), 0),
+        Change::Update {
+            old_fields,
+            new_fields,
+            ..
+        } => (old_fields.bytes().len(), new_fields.bytes().len()),
+    };
+    first.saturating_add(second).saturating_add(2)
+}
+
+/// How many bytes these changes take. It says how much room to take, and is no part of a result.
+pub(crate) fn room_of<C: Lends>(changes: &[C]) -> usize {
+    let mut room = 0usize;
+    for change in changes {
+        room = room.saturating_add(size_of(&change.lend()));
+    }
+    room
+}
