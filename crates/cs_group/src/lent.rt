@@ -4,7 +4,7 @@ ghost use Rattle.std.specs.Prelude.{◌≡◌, ◌++◌, OnOk};
 ghost use Rattle.cs_change.specs.declared.change.Change.{Change as One};
 ghost use Rattle.cs_group.specs.Steps.Gathering.{lent_changes};
 
-use cs_change::Change;
+use cs_change::{Change, size_of};
 use cs_value::Memory;
 
 /// What lends a change.
@@ -52,21 +52,6 @@ pub(crate) fn lend_each<'b, 'a>(
         lent.push(Lent { change })?;
     }
     Ok(())
-}
-
-/// How many bytes a change takes. It says how much room to take, and is no part of a result.
-#[inline(always)]
-fn size_of(change: &Change<'_>) -> usize {
-    let (first, second) = match change {
-        Change::Insert { new_row, .. } => (new_row.bytes().len(), 0),
-        Change::Delete { old_row, .. } => (old_row.bytes().len(), 0),
-        Change::Update {
-            old_fields,
-            new_fields,
-            ..
-        } => (old_fields.bytes().len(), new_fields.bytes().len()),
-    };
-    first.saturating_add(second).saturating_add(2)
 }
 
 /// How many bytes these changes take. It says how much room to take, and is no part of a result.
