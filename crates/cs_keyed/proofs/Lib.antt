@@ -4,4 +4,5 @@ pub mod Found
 pub mod Gathered
 pub mod KeyBytes
 pub mod KeyFronts
+pub mod Lent
 pub mod OneForm
