@@ -5,19 +5,21 @@
 //! its rows, and the answers to the conflicts of the remote one with the local rows. Its lines tell how many conflicts there were,
 //! the local rows with the remote changeset applied, the remote rows with the rebased local changeset applied, and how many
 //! conflicts that met. A case that is timed has two: a local changeset and a rebase blob. Its line has the nanoseconds of the
-//! fastest round, those of reading the local changeset and bringing it into normal form, and how many changes are left.
+//! fastest round, those of reading the local changeset and finding the order of its keys, and how many changes are left.
+
+ghost use Rattle.std.specs.Prelude.{IfOk};
+ghost use Rattle.cs_change.specs.Spelling.{FitsChangeset};
 
 use crate::drawn::{
     Wrong, answer_at, catalog_in, changeset_of, commit_edits, put_count, put_rows, store_of,
     take_part,
 };
 use cs_apply::apply;
-use cs_changeset::read;
+use cs_changeset::{Changeset, read};
 use cs_conflict::{Conflict, Kind, Resolution};
-use cs_group::normalise_alone;
 use cs_map_store::MapStore;
-use cs_normal::Normal;
-use cs_rebaser::Rebaser;
+use cs_normal::{LentNormal, Normal};
+use cs_rebaser::{Rebaser, lend_alone};
 use cs_value::Catalog;
 use std::alloc::Global;
 use std::rt::Clock;
@@ -33,19 +35,28 @@ struct Case<'a> {
     answers: &'a [u8],
 }
 
-/// The changeset in these bytes, in normal form.
-fn normal_of(alloc: Global, bytes: &[u8]) -> Result<Normal, Wrong> {
-    let Ok(changeset) = read(alloc, bytes) else {
-        return Err(Wrong::Case);
-    };
-    match normalise_alone(alloc, &changeset) {
+/// The changeset in these bytes.
+fn local_of(alloc: Global, bytes: &[u8]) -> Result<Changeset<'_>, Wrong>
+    ensures { IfOk result FitsChangeset }
+{
+    match read(alloc, bytes) {
+        Ok(changeset) => Ok(changeset),
+        Err(_) => Err(Wrong::Case),
+    }
+}
+
+/// The changeset in normal form, lent.
+fn normal_of<'b, 'a>(alloc: Global, changeset: &'b Changeset<'a>) -> Result<LentNormal<'b, 'a>, Wrong>
+    requires { FitsChangeset changeset.now }
+{
+    match lend_alone(alloc, changeset) {
         Ok(normal) => Ok(normal),
         Err(_) => Err(Wrong::Case),
     }
 }
 
 /// The local changeset over this blob.
-fn rebased(alloc: Global, local: &Normal, blob: &[u8]) -> Result<Normal, Wrong> {
+fn rebased(alloc: Global, local: LentNormal<'_, '_>, blob: &[u8]) -> Result<Normal, Wrong> {
     let Ok(blob) = cs_blob::read(alloc, blob) else {
         return Err(Wrong::Case);
     };
@@ -60,7 +71,8 @@ fn rebased(alloc: Global, local: &Normal, blob: &[u8]) -> Result<Normal, Wrong> 
 
 /// The bytes of the local changeset over this blob.
 fn rebased_bytes(alloc: Global, local: &[u8], blob: &[u8]) -> Result<Vec<u8>, Wrong> {
-    let made = rebased(alloc, &normal_of(alloc, local)?, blob)?;
+    let changeset = local_of(alloc, local)?;
+    let made = rebased(alloc, normal_of(alloc, &changeset)?, blob)?;
     let mut bytes = Vec::new(alloc);
     made.encode(&mut bytes)?;
     Ok(bytes)
@@ -218,11 +230,12 @@ fn timed<R: Clock>(rt: &R, alloc: Global, local: &[u8], blob: &[u8]) -> Result<T
     let Ok(start) = Instant::now(rt) else {
         return Err(Wrong::Case);
     };
-    let local = normal_of(alloc, local)?;
+    let changeset = local_of(alloc, local)?;
+    let local = normal_of(alloc, &changeset)?;
     let Ok(normal) = start.elapsed(rt) else {
         return Err(Wrong::Case);
     };
-    let made = rebased(alloc, &local, blob)?;
+    let made = rebased(alloc, local, blob)?;
     let mut bytes = Vec::new(alloc);
     made.encode(&mut bytes)?;
     let Ok(whole) = start.elapsed(rt) else {

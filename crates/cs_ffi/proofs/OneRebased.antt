@@ -19,7 +19,7 @@ use Rattle.cs_rebaser.specs.declared.faults.ConfigureFault.{ConfigureFault}
 use Rattle.cs_rebaser.specs.declared.faults.ConfigureFault.TheVariants as configuring
 use Rattle.cs_rebaser.specs.declared.faults.RebaseFault.{RebaseFault}
 use Rattle.cs_rebaser.specs.declared.faults.RebaseFault.TheVariants as rebasing
-use Rattle.cs_ffi.specs.Answers.{no_memory, read, IsHanded, TellsCount, TellsFault, UpToMemory}
+use Rattle.cs_ffi.specs.Answers.{no_memory, read, IsHanded, Spell, TellsCount, TellsFault, UpToMemory}
 use Rattle.cs_ffi.specs.CombinedAnswers.{IsAloneRefusal, NotCombined}
 use Rattle.cs_ffi.specs.RebasedAnswers.{key_twice, wrong_shape, configure_answer, rebase_answer, AnswersRebased, CanRebase, IsBesideRefusal, IsBlobRefusal, IsRebaseRefusal, NotConfigured, NotRebased, SpellAlone, SpellBlob, SpellRebased}
 use Rattle.cs_ffi.specs.Laws.{AnswerLaws, OneRebasedAnswer}
@@ -34,6 +34,9 @@ pub record BelowRebasing : Type 0 where
   pub shapes : NoWrongShape
 
 -- ---- the local changeset
+
+pub spelled_alone : (local : List ℕ) (groups : List Group) (alone : List TableChanges) → Spell local groups → IsCombined (groups ∷ []) alone → SpellAlone local alone
+spelled_alone local groups alone spells combined = record { groups = groups; spells = spells; combined = combined }
 
 one_form : Below → (local : List ℕ) (some others : List TableChanges) → SpellAlone local some → SpellAlone local others → some ≡ others
 one_form laws local some others s o =

@@ -101,11 +101,6 @@ IsRebaseRefusal local bytes answer =
     IsAloneRefusal local answer
     ⊎ ((alone : List TableChanges) × SpellAlone local alone × IsBesideRefusal (length local) alone bytes answer)
 
--- what reading the local changeset gives
-abbrev pub ReadsAlone : List ℕ → Result (List TableChanges) Answer → Type 0
-ReadsAlone local (Ok alone) = SpellAlone local alone
-ReadsAlone local (Err answer) = IsAloneRefusal local answer
-
 -- what reading the blob gives that stands behind so many other bytes
 abbrev pub ReadsBehind : ℕ → List ℕ → Result (List BlobGroup) Answer → Type 0
 ReadsBehind before bytes (Ok blob) = SpellBlob bytes blob

@@ -5,7 +5,7 @@ ghost use Rattle.cs_changeset.specs.Reading.{IsChangesetFault};
 ghost use Rattle.cs_changeset.specs.declared.fault.Fault.{Fault};
 ghost use Rattle.cs_ffi.specs.Answers.{TellsFault};
 ghost use Rattle.cs_ffi.specs.NormalAnswers.{TellsNoFault};
-ghost use Rattle.cs_ffi.specs.RebasedAnswers.{AnswersRebased, CanRebase, GivesRebased, ReadsAlone, ReadsBehind};
+ghost use Rattle.cs_ffi.specs.RebasedAnswers.{AnswersRebased, CanRebase, GivesRebased, ReadsBehind};
 
 use crate::answer::Answer;
 use crate::combined::read_part;
@@ -13,20 +13,11 @@ use crate::reading::hand_over_normal;
 use cs_blob::laws::blobs;
 use cs_blob::{Blob, CodecFault, read};
 use cs_changeset::laws::changesets;
-use cs_group::normalise_alone;
 use cs_normal::Normal;
 use cs_normal::laws::no_fault_where_fit;
-use cs_rebaser::Rebaser;
 use cs_rebaser::laws::no_wrong_shape;
+use cs_rebaser::{Rebaser, lend_alone};
 use std::alloc::Global;
-
-/// The normal form of the changeset that the bytes spell, by the tables of its own headers.
-fn read_alone(alloc: Global, local: &[u8]) -> Result<Normal, Answer>
-    ensures { ReadsAlone local.now result }
-{
-    let changeset = read_part(alloc, local, 0)?;
-    Ok(normalise_alone(alloc, &changeset)?)
-}
 
 /// The blob that the bytes spell, which stand behind so many others.
 fn read_behind(alloc: Global, blob: &[u8], before: usize) -> Result<Blob<'_>, Answer>
@@ -47,13 +38,14 @@ fn read_behind(alloc: Global, blob: &[u8], before: usize) -> Result<Blob<'_>, An
 fn read_rebased(alloc: Global, local: &[u8], blob: &[u8]) -> Result<Normal, Answer>
     ensures { GivesRebased local.now blob.now result }
 {
-    let alone = read_alone(alloc, local)?;
+    let changeset = read_part(alloc, local, 0)?;
+    let alone = lend_alone(alloc, &changeset)?;
     let entries = read_behind(alloc, blob, local.len())?;
     let rebaser = match Rebaser::configure(alloc, entries) {
         Ok(rebaser) => rebaser,
         Err((_entries, fault)) => return Err(Answer::from(fault)),
     };
-    Ok(rebaser.rebase(alloc, &alone)?)
+    Ok(rebaser.rebase(alloc, alone)?)
 }
 
 /// Rebases a local changeset over a blob and writes that, in normal form, into the caller's memory. Where it has no room

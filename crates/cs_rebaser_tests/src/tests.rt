@@ -1,11 +1,12 @@
 //! Local changes of a table `t1` with a key column and another, and of `t2` with a key column and three others, from bytes
 //! to bytes.
 
+ghost use Rattle.cs_change.specs.Spelling.{FitsChangeset};
+
 use crate::lawful::{Sides, apply_by_kind, apply_by_row, apply_over_local};
 use cs_apply::{Applied, apply};
-use cs_changeset::read;
+use cs_changeset::{Changeset, read};
 use cs_conflict::{Conflict, Resolution};
-use cs_group::normalise_alone;
 use cs_map_store::MapStore;
 use cs_normal::{Normal, normalise};
 use cs_rebaser::*;
@@ -100,12 +101,6 @@ fn is_told(bytes: Option<Vec<u8>>, parts: &[&[u8]]) -> bool {
     }
 }
 
-/// The normal form of the changeset in these bytes.
-fn normal_of(alloc: Global, bytes: &[u8]) -> Option<Normal> {
-    let changeset = read(alloc, bytes).ok()?;
-    normalise_alone(alloc, &changeset).ok()
-}
-
 /// A rebaser of the blob in these bytes.
 fn rebaser_of<'a>(alloc: Global, bytes: &'a [u8]) -> Option<Rebaser<'a>> {
     let blob = cs_blob::read(alloc, bytes).ok()?;
@@ -113,9 +108,12 @@ fn rebaser_of<'a>(alloc: Global, bytes: &'a [u8]) -> Option<Rebaser<'a>> {
 }
 
 /// The local changes over the blob.
-fn rebased_over(alloc: Global, blob: &[u8], local: &Normal) -> Option<Normal> {
+fn rebased_over(alloc: Global, local: &[u8], blob: &[u8]) -> Option<Normal> {
+    let changeset = read(alloc, local).ok()?;
     let rebaser = rebaser_of(alloc, blob)?;
-    rebaser.rebase(alloc, local).ok()
+    rebaser
+        .rebase(alloc, lend_alone(alloc, &changeset).ok()?)
+        .ok()
 }
 
 /// The bytes of these changes.
@@ -127,8 +125,7 @@ fn encoded(alloc: Global, normal: &Normal) -> Option<Vec<u8>> {
 
 /// What is left of the local changes over the blob, as bytes.
 fn left_of(alloc: Global, local: &[u8], blob: &[u8]) -> Option<Vec<u8>> {
-    let normal = normal_of(alloc, local)?;
-    encoded(alloc, &rebased_over(alloc, blob, &normal)?)
+    encoded(alloc, &rebased_over(alloc, local, blob)?)
 }
 
 /// The same of bytes in parts.
@@ -394,9 +391,11 @@ fn key_twice(rt: HostRuntime) {
 
 /// What rebasing the local changes over the blob is refused for.
 fn rebase_fault(alloc: Global, local: &[u8], blob: &[u8]) -> Option<RebaseFault> {
-    let normal = normal_of(alloc, local)?;
+    let changeset = read(alloc, local).ok()?;
     let rebaser = rebaser_of(alloc, blob)?;
-    rebaser.rebase(alloc, &normal).err()
+    rebaser
+        .rebase(alloc, lend_alone(alloc, &changeset).ok()?)
+        .err()
 }
 
 /// The same of bytes in parts.
@@ -423,18 +422,20 @@ fn configured_at_last<'a>(alloc: Global, bytes: &'a [u8]) -> Option<Rebaser<'a>>
 }
 
 /// The local changes, rebased. A call that is refused memory is made once more.
-fn rebased_at_last(alloc: Global, rebaser: &Rebaser<'_>, local: &Normal) -> Option<Normal> {
-    match rebaser.rebase(alloc, local) {
-        Err(RebaseFault::Memory) => rebaser.rebase(alloc, local).ok(),
+fn rebased_at_last(alloc: Global, rebaser: &Rebaser<'_>, local: &Changeset<'_>) -> Option<Normal>
+    requires { FitsChangeset local.now }
+{
+    match rebaser.rebase(alloc, lend_alone(alloc, local).ok()?) {
+        Err(RebaseFault::Memory) => rebaser.rebase(alloc, lend_alone(alloc, local).ok()?).ok(),
         other => other.ok(),
     }
 }
 
 /// The local changes, rebased over the blob.
 fn rebased_of(alloc: Global, local: &[u8], blob: &[u8]) -> Option<Normal> {
-    let normal = normal_of(alloc, local)?;
+    let changeset = read(alloc, local).ok()?;
     let rebaser = configured_at_last(alloc, blob)?;
-    rebased_at_last(alloc, &rebaser, &normal)
+    rebased_at_last(alloc, &rebaser, &changeset)
 }
 
 /// What is left of the local changes over the blob, as bytes.
@@ -637,11 +638,11 @@ fn blob_left(
     commit(alloc, store, applied)
 }
 
-/// Whether these changes of the local side are left over the blob.
-fn leaves(alloc: Global, blob: &[u8], local: &Normal, left: &[&[u8]]) -> bool {
-    match rebased_over(alloc, blob, local) {
-        Some(rebased) => is_told(encoded(alloc, &rebased), left),
-        None => false,
+/// Whether these of the local side's changes are left over the blob.
+fn leaves(alloc: Global, blob: &[u8], left: &[&[u8]]) -> bool {
+    match joined(alloc, LOCAL) {
+        Ok(local) => is_told(left_of(alloc, &local, blob), left),
+        Err(_) => false,
     }
 }
 
@@ -651,7 +652,7 @@ fn meets(alloc: Global, answers: Answers, rows: &[&[u8]], left: &[&[u8]]) -> Opt
     let local = normal_by(alloc, &catalog, LOCAL)?;
     let mut store = left_rows(alloc, &catalog)?;
     let is_left = match blob_left(alloc, &mut store, &catalog, &local, answers) {
-        Some(blob) => leaves(alloc, &blob, &local, left),
+        Some(blob) => leaves(alloc, &blob, left),
         None => false,
     };
     Some(is_left && is_told(rows_of(alloc, &mut store), rows))

@@ -25,35 +25,41 @@ use crate::written::{spelled_for_sqlite, spelled_normal};
 use cs_blob::BlobGroup;
 use cs_changeset::{Changeset, Group};
 use cs_column_bytes::{Header, put_headers};
-use cs_group::normalise_alone;
 use cs_lines::{LineInput, LineOutput};
-use cs_normal::Normal;
-use cs_rebaser::Rebaser;
+use cs_normal::{LentNormal, Normal};
+use cs_rebaser::{Rebaser, lend_alone};
 use cs_value::Memory;
 use std::alloc::Global;
 
-/// The changeset that these bytes spell, and its normal form by the catalog of its own headers.
-fn read_local(alloc: Global, bytes: &[u8]) -> Result<(Changeset<'_>, Normal), ToolFault>
-    ensures ok { IfOk result (λ local. Spells FitsChangeset changeset_spelling bytes.now local.0
-        × IsCombined (local.0 ∷ []) local.1) }
-    ensures err { IfErr result (λ told. (told ≡ NoMemory) ⊎ AreBadBytes IsChangesetFault bytes.now told
-        ⊎ ((groups : List Changes) × Spells FitsChangeset changeset_spelling bytes.now groups
-        × AreNotCombined (groups ∷ []) told)) }
+/// The changeset that these bytes spell.
+fn read_local(alloc: Global, bytes: &[u8]) -> Result<Changeset<'_>, ToolFault>
+    ensures ok { IfOk result (Spells FitsChangeset changeset_spelling bytes.now) }
+    ensures err { IfErr result (λ told. (told ≡ NoMemory) ⊎ AreBadBytes IsChangesetFault bytes.now told) }
 {
-    let changeset = cs_changeset::read(alloc, bytes)?;
-    let local = normalise_alone(alloc, &changeset)?;
-    Ok((changeset, local))
+    Ok(cs_changeset::read(alloc, bytes)?)
+}
+
+/// The normal form of a changeset by the catalog of its own headers.
+fn lend_local<'b, 'a>(
+    alloc: Global,
+    changeset: &'b Changeset<'a>,
+) -> Result<LentNormal<'b, 'a>, ToolFault>
+    requires { FitsChangeset changeset.now }
+    ensures ok { IfOk result (IsCombined (changeset.now ∷ [])) }
+    ensures err { IfErr result (λ told. (told ≡ NoMemory) ⊎ AreNotCombined (changeset.now ∷ []) told) }
+{
+    Ok(lend_alone(alloc, changeset)?)
 }
 
 /// The rebaser of the blob that these bytes spell, and the local changeset rebased over it.
 fn rebased_over<'a>(
     alloc: Global,
-    local: &Normal,
+    local: LentNormal<'_, '_>,
     bytes: &'a [u8],
 ) -> Result<(Rebaser<'a>, Normal), ToolFault>
-    ensures ok { IfOk result (λ made. Spells FitsBlob blob_spelling bytes.now made.0 × IsRebased made.0 local.now made.1) }
+    ensures ok { IfOk result (λ made. Spells FitsBlob blob_spelling bytes.now made.0 × IsRebased made.0 local.entry made.1) }
     ensures err { IfErr result (λ told. (told ≡ NoMemory) ⊎ AreBadBytes IsBlobFault bytes.now told
-        ⊎ ((blob : List Conflicts) × Spells FitsBlob blob_spelling bytes.now blob × IsNotRebased blob local.now told)) }
+        ⊎ ((blob : List Conflicts) × Spells FitsBlob blob_spelling bytes.now blob × IsNotRebased blob local.entry told)) }
 {
     let blob = cs_blob::read(alloc, bytes)?;
     let rebaser = match Rebaser::configure(alloc, blob) {
@@ -109,9 +115,10 @@ fn rebased_bytes<R: LineInput>(
     ensures err { IfErr result (RefusesToRebase form (R.failed reader.new) (R.remaining reader.old) (R.remaining reader.new)) }
 {
     let changeset = next_or_empty(alloc, reader)?;
-    let (groups, local) = read_local(alloc, changeset.as_slice())?;
+    let groups = read_local(alloc, changeset.as_slice())?;
+    let local = lend_local(alloc, &groups)?;
     let blob = next_or_empty(alloc, reader)?;
-    let (rebaser, rebased) = rebased_over(alloc, &local, blob.as_slice())?;
+    let (rebaser, rebased) = rebased_over(alloc, local, blob.as_slice())?;
     spelled_in(alloc, form, &rebased, groups.as_slice(), rebaser.blob())
 }
 
