@@ -2,7 +2,7 @@
 
 ghost use Rattle.cs_change.specs.Spelling.{FitsChangeset};
 
-use cs_change::{Change, Changeset, Group};
+use cs_change::{Change, ChangesBuf, Changeset, Group, Scratch, spell_change};
 use cs_changeset::read;
 use cs_keyed::{KeysBuilder, key_front};
 use cs_normal::*;
@@ -341,6 +341,106 @@ fn first_faults(rt: HostRuntime) {
     for (spelled, fault) in UNFIT {
         assert!(rt; is_unfit(alloc, inserts(alloc, spelled), *fault));
     }
+}
+
+/// Why these bytes have no normal form that is lent, if they have none.
+fn unfit_lent(alloc: Global, bytes: &[u8]) -> Option<Unfit> {
+    let catalog = catalog(alloc)?;
+    let changeset = read(alloc, bytes).ok()?;
+    normalise_lent(alloc, &catalog, &changeset).err()
+}
+
+/// Whether the bytes are there, and this is why they have none.
+fn is_unfit_lent(alloc: Global, bytes: Result<Vec<u8>, Memory>, fault: Unfit) -> bool {
+    match bytes {
+        Ok(bytes) => unfit_lent(alloc, &bytes) == Some(fault),
+        Err(_) => false,
+    }
+}
+
+#[test]
+fn first_faults_of_what_is_lent(rt: HostRuntime) {
+    let alloc = rt.alloc();
+    for (spelled, fault) in UNFIT {
+        assert!(rt; is_unfit_lent(alloc, inserts(alloc, spelled), *fault));
+    }
+}
+
+/// Two groups of `t1` out of order, with an UPDATE that isn't in normal form and one that changes nothing; and one of `t2`
+/// that changes nothing either.
+fn mixed(alloc: Global) -> Result<Vec<u8>, Memory> {
+    let mut bytes = Vec::new(alloc);
+    put_header(1, "t1", &mut bytes)?;
+    put_insert(2, "v2", &mut bytes)?;
+    put_update(3, "v1", "v1", &mut bytes)?;
+    put_header(1, "t2", &mut bytes)?;
+    put_update(1, "v1", "v1", &mut bytes)?;
+    put_header(1, "t1", &mut bytes)?;
+    put_update(1, "v1", "v2", &mut bytes)?;
+    Ok(bytes)
+}
+
+/// The keys 1, 2 and 3.
+const KEY_ONE: &[u8] = &[1, 0, 0, 0, 0, 0, 0, 0, 1];
+
+const KEY_TWO: &[u8] = &[1, 0, 0, 0, 0, 0, 0, 0, 2];
+
+const KEY_THREE: &[u8] = &[1, 0, 0, 0, 0, 0, 0, 0, 3];
+
+/// A byte that spells no change.
+const NONE_LEFT: &[u8] = &[0xff];
+
+/// Each key of the table in order, and behind it the change that is left, or that byte.
+fn spelled_forms(alloc: Global, table: &LentTable<'_, '_>) -> Result<Vec<u8>, Memory> {
+    let mut scratch = Scratch::new(alloc);
+    let mut room = ChangesBuf::new(alloc);
+    let mut bytes = Vec::new(alloc);
+    for at in 0..table.len() {
+        bytes.extend_from_slice(table.key(at))?;
+        match table.form(at, &mut scratch, &mut room)? {
+            Some(change) => bytes.extend_from_slice(&spell_change(alloc, &change)?)?,
+            None => bytes.extend_from_slice(NONE_LEFT)?,
+        }
+    }
+    Ok(bytes)
+}
+
+/// Whether `t1` alone is lent, with these keys and changes.
+fn has_forms(alloc: Global, lent: &LentNormal<'_, '_>, parts: &[&[u8]]) -> bool {
+    match lent.tables() {
+        [table] => match spelled_forms(alloc, table) {
+            Ok(bytes) => table.name() == "t1" && is_joined(&bytes, parts),
+            Err(_) => false,
+        },
+        _ => false,
+    }
+}
+
+/// The normal form that is lent, in bytes of its own.
+fn is_written_out(alloc: Global, lent: LentNormal<'_, '_>, parts: &[&[u8]]) -> bool {
+    match lent.written(alloc) {
+        Ok(normal) => is_written(alloc, &normal, parts),
+        Err(_) => false,
+    }
+}
+
+/// Whether the mixed changes are lent in order, each in normal form, and written so.
+fn lends_mixed(alloc: Global) -> Option<bool> {
+    let bytes = mixed(alloc).ok()?;
+    let catalog = catalog(alloc)?;
+    let changeset = read(alloc, &bytes).ok()?;
+    let lent = normalise_lent(alloc, &catalog, &changeset).ok()?;
+    let forms = has_forms(
+        alloc,
+        &lent,
+        &[KEY_ONE, UPDATE, KEY_TWO, TWO_V2, KEY_THREE, NONE_LEFT],
+    );
+    Some(forms && is_written_out(alloc, lent, &[FIRST, UPDATE, TWO_V2]))
+}
+
+#[test]
+fn each_change_in_normal_form_where_it_was_read(rt: HostRuntime) {
+    assert!(rt; lends_mixed(rt.alloc()).unwrap_or(false));
 }
 
 /// The tables `t2` and `t1`.
