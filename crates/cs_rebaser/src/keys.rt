@@ -9,37 +9,12 @@ ghost use Rattle.cs_order.specs.Steps.Rising.{ascend};
 ghost use Rattle.cs_rebaser.specs.Rebased.{entry_key};
 
 use cs_blob::Entry;
-use cs_group::defined;
-use cs_keyed::{KeysBuilder, put_record_key};
+use cs_keyed::{KeysBuilder, lend_record_key, put_record_key};
 use cs_order::{Keys, compare_bytes};
 use cs_record::Record;
 use cs_value::Memory;
 use std::alloc::Global;
 use std::cmp::Ordering;
-
-/// The bytes of the key that a record holds, where its key columns are the first ones and are defined. A record of another
-/// kind has its key put together elsewhere.
-#[inline(always)]
-#[tactic(auto, unfolding(cs_keyed::specs::NormalForm::marked_fields))]
-fn lend_key<'a>(marks: &[bool], fields: &Record<'a>) -> Option<&'a [u8]>
-    ensures { MatchOption result (Unit {0}) (λ key. key.now ≡ key_bytes (marked_fields marks.now fields.now)) }
-{
-    let mut marks = marks;
-    let mut rest = fields.again();
-    while let Some((mark, more_marks)) = marks.split_first() {
-        let Some((column, more)) = rest.split_first() else {
-            break;
-        };
-        if !*mark || !defined(&column) {
-            return None;
-        }
-        marks = more_marks;
-        rest = more;
-    }
-    let bytes = fields.bytes();
-    let (key, _) = bytes.split_at(bytes.len() - rest.bytes().len());
-    Some(key)
-}
 
 /// How the key that a record holds stands to these bytes. The room is for a key that has to be put together.
 #[inline(always)]
@@ -51,7 +26,7 @@ pub(crate) fn compare_key(
 ) -> Result<Ordering, Memory>
     ensures { IfOk result (λ compared. compared ≡ by_bytes (key_bytes (marked_fields marks.now fields.now)) key.now) }
 {
-    if let Some(lent) = lend_key(marks, fields) {
+    if let Some(lent) = lend_record_key(marks, fields) {
         return Ok(compare_bytes(lent, key));
     }
     room.clear();
@@ -70,7 +45,7 @@ pub(crate) fn lend_keys<'a>(
 {
     let mut keys = Vec::with_capacity(alloc, entries.len())?;
     for entry in entries {
-        let Some(key) = lend_key(marks, &entry.fields) else {
+        let Some(key) = lend_record_key(marks, &entry.fields) else {
             return Ok(None);
         };
         keys.push(key)?;
