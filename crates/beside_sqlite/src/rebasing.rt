@@ -46,7 +46,10 @@ fn local_of(alloc: Global, bytes: &[u8]) -> Result<Changeset<'_>, Wrong>
 }
 
 /// The changeset in normal form, lent.
-fn normal_of<'b, 'a>(alloc: Global, changeset: &'b Changeset<'a>) -> Result<LentNormal<'b, 'a>, Wrong>
+fn normal_of<'b, 'a>(
+    alloc: Global,
+    changeset: &'b Changeset<'a>,
+) -> Result<LentNormal<'b, 'a>, Wrong>
     requires { FitsChangeset changeset.now }
 {
     match lend_alone(alloc, changeset) {
