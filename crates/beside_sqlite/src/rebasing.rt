@@ -17,9 +17,10 @@ use crate::drawn::{
 use cs_apply::apply;
 use cs_changeset::{Changeset, read};
 use cs_conflict::{Conflict, Kind, Resolution};
+use cs_group::lend_alone;
 use cs_map_store::MapStore;
 use cs_normal::{LentNormal, Normal};
-use cs_rebaser::{Rebaser, lend_alone};
+use cs_rebaser::Rebaser;
 use cs_value::Catalog;
 use std::alloc::Global;
 use std::rt::Clock;

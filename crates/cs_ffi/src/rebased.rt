@@ -13,10 +13,11 @@ use crate::reading::hand_over_normal;
 use cs_blob::laws::blobs;
 use cs_blob::{Blob, CodecFault, read};
 use cs_changeset::laws::changesets;
+use cs_group::lend_alone;
 use cs_normal::Normal;
 use cs_normal::laws::no_fault_where_fit;
+use cs_rebaser::Rebaser;
 use cs_rebaser::laws::no_wrong_shape;
-use cs_rebaser::{Rebaser, lend_alone};
 use std::alloc::Global;
 
 /// The blob that the bytes spell, which stand behind so many others.

@@ -7,6 +7,7 @@ use crate::lawful::{Sides, apply_by_kind, apply_by_row, apply_over_local};
 use cs_apply::{Applied, apply};
 use cs_changeset::{Changeset, read};
 use cs_conflict::{Conflict, Resolution};
+use cs_group::lend_alone;
 use cs_map_store::MapStore;
 use cs_normal::{Normal, normalise};
 use cs_rebaser::*;

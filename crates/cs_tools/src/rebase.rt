@@ -25,9 +25,10 @@ use crate::written::{spelled_for_sqlite, spelled_normal};
 use cs_blob::BlobGroup;
 use cs_changeset::{Changeset, Group};
 use cs_column_bytes::{Header, put_headers};
+use cs_group::lend_alone;
 use cs_lines::{LineInput, LineOutput};
 use cs_normal::{LentNormal, Normal};
-use cs_rebaser::{Rebaser, lend_alone};
+use cs_rebaser::Rebaser;
 use cs_value::Memory;
 use std::alloc::Global;
 
