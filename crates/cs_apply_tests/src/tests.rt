@@ -29,11 +29,12 @@ fn table(alloc: Global, name: &str, marks: &[bool]) -> Result<TableDef, Memory> 
     })
 }
 
-/// The tables `t1(a key, b)` and `t2(a key, b, c, d)`.
+/// The tables `t1(a key, b)`, `t2(a key, b, c, d)` and `t3(a, b key)`.
 fn catalog(alloc: Global) -> Result<Option<Catalog>, Memory> {
     let mut tables = Vec::new(alloc);
     tables.push(table(alloc, "t1", &[true, false])?)?;
     tables.push(table(alloc, "t2", &[true, false, false, false])?)?;
+    tables.push(table(alloc, "t3", &[false, true])?)?;
     Ok(Catalog::new(tables).ok())
 }
 
@@ -353,10 +354,12 @@ fn null_in_a_key(rt: HostRuntime) {
     assert!(rt; tells_null_key(rt.alloc()).unwrap_or(false));
 }
 
-/// The integer 1 as a field, and the header of `t2(a key, b, c, d)`.
+/// The integer 1 as a field, and the headers of `t2(a key, b, c, d)` and `t3(a, b key)`.
 const ONE: &[u8] = &[1, 0, 0, 0, 0, 0, 0, 0, 1];
 
 const SECOND: &[u8] = &[0x54, 4, 1, 0, 0, 0, 0x74, 0x32, 0];
+
+const THIRD: &[u8] = &[0x54, 2, 0, 1, 0x74, 0x33, 0];
 
 /// A row that stands in a table, a changeset, the answer to each of its conflicts, and the blob that they leave.
 #[derive(Drop)]
@@ -427,7 +430,8 @@ const D_0: &[u8] = b"\x03\x02d0";
 
 const D_1: &[u8] = b"\x03\x02d1";
 
-/// Each kind of change, answered by OMIT and by REPLACE; changes that don't conflict leave nothing.
+/// Each kind of change, answered by OMIT and by REPLACE; changes that don't conflict leave nothing. The last case has changes
+/// of two groups, and a key behind another column.
 const CASES: &[BlobCase<'static>] = &[
     BlobCase {
         table: 0,
@@ -484,6 +488,13 @@ const CASES: &[BlobCase<'static>] = &[
         changeset: &[FIRST, &[9, 0], ONE, V1],
         answer: Resolution::Replace,
         blob: &[FIRST, &[9, 1], ONE, V1],
+    },
+    BlobCase {
+        table: 2,
+        row: &[V1, ONE],
+        changeset: &[FIRST, &[0x12, 0], ONE, V2, THIRD, &[0x12, 0], V2, ONE],
+        answer: Resolution::Omit,
+        blob: &[THIRD, &[0x12, 0], V2, ONE],
     },
 ];
 
