@@ -32,7 +32,7 @@ echo "rebased local changesets leave the same rows by the library and by SQLite"
 
 [ -n "$rounds" ] || exit 0
 print_machine_and_sqlite
-echo "nanoseconds a local change and entry, best of $rounds: the library / SQLite = ratio (share of the local changeset's normal form)"
+echo "nanoseconds a local change and entry, best of $rounds: the library / SQLite = ratio (share of reading the local changeset and finding the order of its keys)"
 
 # Times so many local changes, each at a key so far from the last one's, over so many entries from a key on.
 time_case() {
