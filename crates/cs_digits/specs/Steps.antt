@@ -1,0 +1,2 @@
+-- What the code holds on its way: no definition that a public clause cites.
+pub mod Held

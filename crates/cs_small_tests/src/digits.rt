@@ -1,0 +1,77 @@
+//! Words sorted digit by digit, beside std's sort of the same words.
+
+use cs_digits::*;
+use std::alloc::{AllocError, Global};
+use std::test::Fail;
+
+/// Words as a row of the table tells them.
+#[derive(Clone, Copy)]
+struct Words {
+    /// How many they are.
+    count: usize,
+    /// How many bits the place takes.
+    bits: u32,
+    /// How many bits stand above it.
+    rank_bits: u32,
+    /// How many words there are of one place: where there are more than one, words don't hold their own places.
+    at_a_place: usize,
+}
+
+/// A row of the table.
+fn words_of(count: usize, bits: u32, rank_bits: u32, at_a_place: usize) -> Words {
+    Words {
+        count,
+        bits,
+        rank_bits,
+        at_a_place,
+    }
+}
+
+/// So many words, whose ranks jump about, each above its place.
+fn made(alloc: Global, row: &Words) -> Result<Vec<usize>, AllocError> {
+    let mut words = Vec::with_capacity(alloc, row.count)?;
+    let ranks = 1usize << (row.rank_bits % 64);
+    let mut seed = 1usize;
+    for at in 0..row.count {
+        seed = seed
+            .wrapping_mul(6_364_136_223_846_793_005)
+            .wrapping_add(1_442_695_040_888_963_407);
+        let rank = (seed >> 11) % ranks.max(1);
+        words.push((rank << (row.bits % 64)) | (at / row.at_a_place.max(1)))?;
+    }
+    Ok(words)
+}
+
+/// Whether the words are sorted as std's sort does it.
+fn sorts(alloc: Global, row: &Words) -> Result<bool, AllocError> {
+    let mut words = made(alloc, row)?;
+    let mut expected = Vec::from_slice(alloc, words.as_slice())?;
+    expected.sort_unstable();
+    sort_words(alloc, &mut words, row.bits % 64);
+    Ok(words == expected)
+}
+
+// No word; too few words for a pass, and as many as it takes; words of two passes and of three, and too few for three; words of so
+// many passes that std's sort does it; words all of one rank; words that don't hold their own places, since two have one place and
+// since a place takes more bits than are told; and the most words that go digit by digit, and one more.
+#[test]
+fn sorts_as_std_does(rt: HostRuntime) -> Result<(), Fail> {
+    let rows = [
+        words_of(0, 0, 8, 1),
+        words_of(255, 8, 10, 1),
+        words_of(256, 8, 11, 1),
+        words_of(1_000, 10, 22, 1),
+        words_of(1_000, 10, 33, 1),
+        words_of(767, 10, 33, 1),
+        words_of(2_000, 11, 53, 1),
+        words_of(1_000, 10, 0, 1),
+        words_of(1_000, 10, 11, 3),
+        words_of(1_000, 8, 11, 1),
+        words_of(200_000, 18, 11, 1),
+        words_of(200_001, 18, 11, 1),
+    ];
+    for row in &rows {
+        assert!(rt; sorts(rt.alloc(), row)?);
+    }
+    Ok(())
+}
