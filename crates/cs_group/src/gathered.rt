@@ -4,8 +4,8 @@ ghost use Rattle.std.specs.Prelude.{◌++◌, ◌∷◌, [], IfOk, IsTrue, List,
 ghost use Rattle.cs_group.specs.Steps.Gathering.{IsGathered};
 ghost use Rattle.cs_group.specs.Steps.Numbering.{numbered_behind, NumberedGroup};
 
-use crate::lent::{Lent, lend_each, room_of};
-use cs_change::Group;
+use crate::lent::{Lent, lend_each};
+use cs_change::{Group, room_of};
 use cs_keyed::{KeysBuilder, keys_for, push_keys};
 use cs_value::Memory;
 use std::alloc::Global;

@@ -4,7 +4,7 @@ ghost use Rattle.std.specs.Prelude.{◌≡◌, ◌++◌, OnOk};
 ghost use Rattle.cs_change.specs.declared.change.Change.{Change as One};
 ghost use Rattle.cs_group.specs.Steps.Gathering.{lent_changes};
 
-use cs_change::{Change, size_of};
+use cs_change::Change;
 use cs_value::Memory;
 
 /// What lends a change.
@@ -52,13 +52,4 @@ pub(crate) fn lend_each<'b, 'a>(
         lent.push(Lent { change })?;
     }
     Ok(())
-}
-
-/// How many bytes these changes take. It says how much room to take, and is no part of a result.
-pub(crate) fn room_of<C: Lends>(changes: &[C]) -> usize {
-    let mut room = 0usize;
-    for change in changes {
-        room = room.saturating_add(size_of(&change.lend()));
-    }
-    room
 }

@@ -47,7 +47,7 @@ fn sorts(alloc: Global, row: &Words) -> Result<bool, AllocError> {
     let mut words = made(alloc, row)?;
     let mut expected = Vec::from_slice(alloc, words.as_slice())?;
     expected.sort_unstable();
-    sort_words(alloc, &mut words, row.bits % 64);
+    sort(alloc, &mut words, row.bits % 64);
     Ok(words == expected)
 }
 
@@ -58,11 +58,11 @@ fn sorts(alloc: Global, row: &Words) -> Result<bool, AllocError> {
 fn sorts_as_std_does(rt: HostRuntime) -> Result<(), Fail> {
     let rows = [
         words_of(0, 0, 8, 1),
-        words_of(255, 8, 10, 1),
-        words_of(256, 8, 11, 1),
-        words_of(1_000, 10, 22, 1),
-        words_of(1_000, 10, 33, 1),
-        words_of(767, 10, 33, 1),
+        words_of(511, 9, 10, 1),
+        words_of(512, 9, 11, 1),
+        words_of(2_000, 11, 22, 1),
+        words_of(2_000, 11, 33, 1),
+        words_of(1_535, 11, 33, 1),
         words_of(2_000, 11, 53, 1),
         words_of(1_000, 10, 0, 1),
         words_of(1_000, 10, 11, 3),
