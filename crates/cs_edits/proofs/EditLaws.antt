@@ -1,0 +1,69 @@
+-- Edits in one piece of memory.
+use Rattle.std.proofs.Common.{◌≡◌, true, false, ℕ, suc, ◌+◌, ◌-◌, ◌<◌, ◌≤◌, List, [], ◌∷◌, ◌++◌, Option, Some, None, length, take, drop, map, refl, sym, ap, ◌∙◌, arith, length-append}
+use Rattle.std.specs.List.{All, slice_range}
+use Rattle.std.proofs.lemmas.List.{take_all, length-drop, drop-append-le, take-append-le, map-append, take-map, drop-map, append_assoc}
+use Rattle.std.proofs.Math.Seq.{drop-append_seam}
+use Rattle.std.specs.Prelude.{is_some, Bool}
+use Rattle.cs_edits.specs.Edits.{BodyEdit}
+use Rattle.cs_edits.specs.Spots.{IsEditSpotIn, edit_in, edits_in, set_bytes}
+use Rattle.cs_edits.specs.declared.lent_edits.EditSpot.{EditSpot}
+
+slice_kept : (a b : List ℕ) (s e : ℕ) → s ≤ e → e ≤ length a → slice_range (a ++ b) s e ≡ slice_range a s e
+slice_kept a b s e within bound =
+    ap (take (e - s)) (drop-append-le s a b (omega arith)) ∙ take-append-le (e - s) (drop s a) b (omega (arith, length-drop s a))
+
+all_tail : {X : Type 0} (P : X → Type 0) (x : X) (xs : List X) → All P (x ∷ xs) → All P xs
+all_tail P x xs h = λ k d less. h (suc k) d (omega (arith, less))
+
+edit_kept : (bytes more : List ℕ) (spot : EditSpot) → IsEditSpotIn (length bytes) spot → edit_in (bytes ++ more) spot ≡ edit_in bytes spot
+edit_kept bytes more spot within =
+    let key = slice_kept bytes more spot.key spot.body within.0 (omega (arith, within.1, within.2)) in
+    let body = slice_kept bytes more spot.body spot.end within.1 within.2 in
+    rw (key, body) refl
+
+pub edits_kept : (bytes more : List ℕ) (spots : List EditSpot) → All (IsEditSpotIn (length bytes)) spots → edits_in (bytes ++ more) spots ≡ edits_in bytes spots
+edits_kept bytes more [] within = refl
+edits_kept bytes more (spot ∷ spots) within =
+    let here = within 0 spot (omega arith) in
+    let one = edit_kept bytes more spot here in
+    let rest = edits_kept bytes more spots (all_tail (IsEditSpotIn (length bytes)) spot spots within) in
+    cc
+
+-- the edits at some of the spots
+pub edits_part : (bytes : List ℕ) (spots : List EditSpot) (from to : ℕ) → edits_in bytes (slice_range spots from to) ≡ slice_range (edits_in bytes spots) from to
+edits_part bytes spots from to =
+    sym (take-map (edit_in bytes) (to - from) (drop from spots)) ∙ ap (take (to - from)) (sym (drop-map (edit_in bytes) from spots))
+
+-- an edit more
+pub edits_more : (bytes key set new : List ℕ) (spots now : List EditSpot) (spot : EditSpot) (edit : BodyEdit) → All (IsEditSpotIn (length bytes)) spots
+    → new ≡ (bytes ++ key) ++ set → now ≡ spots ++ spot ∷ [] → edit_in ((bytes ++ key) ++ set) spot ≡ edit
+    → edits_in new now ≡ edits_in bytes spots ++ edit ∷ []
+edits_more bytes key set new spots now spot edit within grown is last =
+    rw (is, grown) (map-append (edit_in ((bytes ++ key) ++ set)) spots (spot ∷ [])
+    ∙ ap (λ es. es ++ edit_in ((bytes ++ key) ++ set) spot ∷ []) (ap (λ bs. edits_in bs spots) (append_assoc bytes key set) ∙ edits_kept bytes (key ++ set) spots within)
+    ∙ ap (λ e. edits_in bytes spots ++ e ∷ []) last)
+
+-- what stands behind a front and before an end
+middle : (front middle back : List ℕ) (start end : ℕ) → start ≡ length front → end ≡ length (front ++ middle) → slice_range ((front ++ middle) ++ back) start end ≡ middle
+middle front it back start end begins ends =
+    rw (begins, ends) (ap (λ bs. take (length (front ++ it) - length front) (drop (length front) bs)) (append_assoc front it back)
+    ∙ ap (take (length (front ++ it) - length front)) (drop-append_seam front (it ++ back))
+    ∙ take-append-le (length (front ++ it) - length front) it back (omega (arith, length-append front it))
+    ∙ take_all (length (front ++ it) - length front) it (omega (arith, length-append front it)))
+
+last : (front back : List ℕ) (start end : ℕ) → start ≡ length front → end ≡ length (front ++ back) → slice_range (front ++ back) start end ≡ back
+last front back start end begins ends =
+    rw (begins, ends) (ap (take (length (front ++ back) - length front)) (drop-append_seam front back) ∙ take_all (length (front ++ back) - length front) back (omega (arith, length-append front back)))
+
+-- the edit of a key with a body or none behind the others
+pub last_edit : (bytes key : List ℕ) (set : Option (List ℕ)) (table start body end : ℕ) (is_set : Bool)
+    → start ≡ length bytes → body ≡ length (bytes ++ key) → end ≡ length ((bytes ++ key) ++ set_bytes set) → is_set ≡ is_some set
+    → edit_in ((bytes ++ key) ++ set_bytes set) (record { table = table; is_set = is_set; key = start; body = body; end = end }) ≡ record { table = table; key = key; body = set }
+last_edit bytes key None table start body end is_set begins mid ends is =
+    rw (is, middle bytes key [] start body begins mid) refl
+last_edit bytes key (Some set) table start body end is_set begins mid ends is =
+    rw (is, middle bytes key set start body begins mid, last (bytes ++ key) set body end mid ends) refl
+
+-- an edit with its own table
+pub same_table : (edit : BodyEdit) (table : ℕ) → table ≡ edit.table → ◌≡◌ {A = BodyEdit} (record { table = table; key = edit.key; body = edit.body }) edit
+same_table edit table same = rw same refl

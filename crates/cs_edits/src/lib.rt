@@ -1,0 +1,13 @@
+//! Edits of places: at a table's number and the bytes of a key a body that is set, or none. `PlaceEdits` holds many of them in one
+//! list of bytes, so that an edit takes no memory of its own; `LentEdits` lends some of them that follow one another, and `PlaceEdit`
+//! one. Contracts see each as the list, or the one, of what is edited (`BodyEdit`). It stands on std alone.
+//! Its tests stand in `cs_store_tests`.
+#![tactic(auto)]
+
+mod lent_edits;
+mod place_edit;
+mod place_edits;
+
+pub use lent_edits::LentEdits;
+pub use place_edit::PlaceEdit;
+pub use place_edits::PlaceEdits;
