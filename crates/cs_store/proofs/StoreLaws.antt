@@ -19,7 +19,7 @@ use Rattle.cs_store.specs.Laws as law
 use Rattle.cs_store.specs.Calls as call
 use Rattle.cs_store.specs.Calls.{CountsFailures}
 use Rattle.cs_store.specs.declared.fault.StoreFault.{StoreFault}
-use Rattle.cs_store.specs.declared.batch.PlaceEdit.{PlaceEdit}
+use Rattle.cs_edits.specs.Edits.{BodyEdit}
 use Rattle.cs_store.specs.declared.batch.MetaEdit.{MetaEdit}
 use Rattle.cs_store.specs.declared.names.MetaName.{MetaName}
 use Rattle.cs_store.specs.declared.names.MetaName.TheVariants.{Id, Version, Number, Flight, Pending, Catalog}
@@ -126,37 +126,37 @@ both_tie Greater r = refl
 same_place : (a b : ℕ) (x y : List ℕ) → eq_by_cmp place_cmp (pos a, x) (pos b, y) ≡ (nat_eq a b && same_bytes x y)
 same_place a b x y = both_tie (int_cmp (pos a) (pos b)) (by_bytes x y) ∙ ap (λ t. t && same_bytes x y) (tie_pos a b)
 
-rows_at : (rows : Bodies) (edits : List PlaceEdit) (table : ℕ) (key : List ℕ) → get (fold edit_body rows edits) (pos table, key) ≡ law.row_after edits table key (get rows (pos table, key))
+rows_at : (rows : Bodies) (edits : List BodyEdit) (table : ℕ) (key : List ℕ) → get (fold edit_body rows edits) (pos table, key) ≡ law.row_after edits table key (get rows (pos table, key))
 rows_at rows [] table key = refl
 rows_at rows (e ∷ es) table key = rows_at (edit_body rows e) es table key
-    ∙ ap (law.row_after es table key) (get-with_body rows (pos e.table, e.key.items) (optional_bytes e.body) (pos table, key)
-    ∙ ap (λ b. cond b (optional_bytes e.body) (get rows (pos table, key))) (same_place table e.table key e.key.items))
+    ∙ ap (law.row_after es table key) (get-with_body rows (pos e.table, e.key) e.body (pos table, key)
+    ∙ ap (λ b. cond b e.body (get rows (pos table, key))) (same_place table e.table key e.key))
 
 pub reads_edits : law.ReadsEdits
 reads_edits bodies edits table key = rows_at bodies edits table key
 
 pub writes_rows : law.WritesRows
-writes_rows batch before table key = rows_at before.rows batch.rows.items table key
+writes_rows batch before table key = rows_at before.rows batch.rows table key
 
 pub writes_pending : law.WritesPending
-writes_pending batch before table key = rows_at before.pending batch.pending.items table key
+writes_pending batch before table key = rows_at before.pending batch.pending table key
 
 -- a place that isn't named keeps what it has
 other_tie : (some other : StorePlace) → (other ≡ some → ⊥) → eq_by_cmp place_cmp some other ≡ false
 other_tie some other apart =
     false_from_ne_true (eq_by_cmp place_cmp some other) (λ t. apart (sym (place_exact some other ((Equal-is (place_cmp some other)).0 t))))
 
-others_at : (bodies : Bodies) (edits : List PlaceEdit) (place : StorePlace) → law.IsNoPlaceOf edits place → get (fold edit_body bodies edits) place ≡ get bodies place
+others_at : (bodies : Bodies) (edits : List BodyEdit) (place : StorePlace) → law.IsNoPlaceOf edits place → get (fold edit_body bodies edits) place ≡ get bodies place
 others_at bodies [] place none = refl
 others_at bodies (e ∷ es) place none = others_at (edit_body bodies e) es place none.1
-    ∙ get-with_body bodies (store_place e) (optional_bytes e.body) place
-    ∙ ap (λ b. cond b (optional_bytes e.body) (get bodies place)) (other_tie place (store_place e) none.0)
+    ∙ get-with_body bodies (store_place e) e.body place
+    ∙ ap (λ b. cond b e.body (get bodies place)) (other_tie place (store_place e) none.0)
 
 pub keeps_other_rows : law.KeepsOtherRows
-keeps_other_rows batch before place none = others_at before.rows batch.rows.items place none
+keeps_other_rows batch before place none = others_at before.rows batch.rows place none
 
 pub keeps_other_pending : law.KeepsOtherPending
-keeps_other_pending batch before place none = others_at before.pending batch.pending.items place none
+keeps_other_pending batch before place none = others_at before.pending batch.pending place none
 
 other_text : (some other : List ℕ) → (other ≡ some → ⊥) → eq_by_cmp by_bytes some other ≡ false
 other_text some other apart =
@@ -198,7 +198,7 @@ counts_with bodies place (Some body) =
     ∙ count_set (len bodies) (get bodies place)
 
 pub counts_bodies : law.CountsBodies
-counts_bodies bodies edit = counts_with bodies (store_place edit) (optional_bytes edit.body)
+counts_bodies bodies edit = counts_with bodies (store_place edit) edit.body
 
 meta_at : (meta : Meta) (edits : List MetaEdit) (name : MetaName) → get (fold edit_meta meta edits) (name_text name) ≡ law.value_after edits name (get meta (name_text name))
 meta_at meta [] name = refl

@@ -3,7 +3,7 @@ use Rattle.std.specs.Prelude.{◌≡◌, ◌≢◌, ◌<◌, ◌+◌, ◌-◌, �
 use Rattle.std.specs.FinMap.{empty, get, insert, len}
 use Rattle.std.specs.List.{AllByRecursion}
 use Rattle.cs_order.specs.Order.{same_bytes}
-use Rattle.cs_store.specs.declared.batch.PlaceEdit.{PlaceEdit}
+use Rattle.cs_edits.specs.Edits.{BodyEdit}
 use Rattle.cs_store.specs.declared.batch.MetaEdit.{MetaEdit}
 use Rattle.cs_store.specs.declared.batch.StoredEntry.{StoredEntry}
 use Rattle.cs_store.specs.declared.batch.Batch.{Batch}
@@ -108,11 +108,11 @@ OnlyMemory T =
 -- ---- what is written
 
 -- what edits leave at a place where a row or a pending change or none stood: what the last edit there says
-abbrev pub row_after : List PlaceEdit → ℕ → List ℕ → Option (List ℕ) → Option (List ℕ)
+abbrev pub row_after : List BodyEdit → ℕ → List ℕ → Option (List ℕ) → Option (List ℕ)
 row_after [] table key body = body
 row_after (edit ∷ edits) table key body =
     row_after edits table key
-    (if nat_eq table edit.table && same_bytes key edit.key.items then optional_bytes edit.body else body)
+    (if nat_eq table edit.table && same_bytes key edit.key then edit.body else body)
 
 -- the same of a value
 abbrev pub value_after : List MetaEdit → MetaName → Option (List ℕ) → Option (List ℕ)
@@ -126,14 +126,14 @@ abbrev pub WritesRows : Type 0
 WritesRows =
     (batch : Batch) (before : Contents) (table : ℕ) (key : List ℕ)
     → stored_tables (after_batch batch before) table key
-    ≡ row_after batch.rows.items table key (stored_tables before table key)
+    ≡ row_after batch.rows table key (stored_tables before table key)
 
 -- the same of its pending changes
 abbrev pub WritesPending : Type 0
 WritesPending =
     (batch : Batch) (before : Contents) (table : ℕ) (key : List ℕ)
     → stored_pending (after_batch batch before) table key
-    ≡ row_after batch.pending.items table key (stored_pending before table key)
+    ≡ row_after batch.pending table key (stored_pending before table key)
 
 -- what it leaves at each name
 abbrev pub WritesMeta : Type 0
@@ -160,20 +160,20 @@ CountsLog =
     → log_count (after_batch batch before) ≡ (if is_some batch.log then log_count before + 1 else log_count before)
 
 -- a place that none of the edits names
-abbrev pub IsNoPlaceOf : List PlaceEdit → StorePlace → Type 0
+abbrev pub IsNoPlaceOf : List BodyEdit → StorePlace → Type 0
 IsNoPlaceOf edits place = AllByRecursion (λ edit. store_place edit ≢ place) edits
 
 -- what a batch's edits don't name it leaves: places, also under numbers of no table, and names that are none of ours
 abbrev pub KeepsOtherRows : Type 0
 KeepsOtherRows =
     (batch : Batch) (before : Contents) (place : StorePlace)
-    → IsNoPlaceOf batch.rows.items place
+    → IsNoPlaceOf batch.rows place
     → get (after_batch batch before).rows place ≡ get before.rows place
 
 abbrev pub KeepsOtherPending : Type 0
 KeepsOtherPending =
     (batch : Batch) (before : Contents) (place : StorePlace)
-    → IsNoPlaceOf batch.pending.items place
+    → IsNoPlaceOf batch.pending place
     → get (after_batch batch before).pending place ≡ get before.pending place
 
 abbrev pub KeepsOtherNames : Type 0
@@ -185,7 +185,7 @@ KeepsOtherNames =
 -- what edits of bodies leave at each place, one after another
 abbrev pub ReadsEdits : Type 0
 ReadsEdits =
-    (bodies : Bodies) (edits : List PlaceEdit) (table : ℕ) (key : List ℕ)
+    (bodies : Bodies) (edits : List BodyEdit) (table : ℕ) (key : List ℕ)
     → get (fold edit_body bodies edits) (pos table, key) ≡ row_after edits table key (get bodies (pos table, key))
 
 -- one where there is a body
@@ -195,9 +195,9 @@ one_if_some body = if is_some body then 1 else 0
 -- an edit of a place: one body less where one stood, and one more where it sets one
 abbrev pub CountsBodies : Type 0
 CountsBodies =
-    (bodies : Bodies) (edit : PlaceEdit)
+    (bodies : Bodies) (edit : BodyEdit)
     → len (edit_body bodies edit) + one_if_some (get bodies (store_place edit))
-    ≡ len bodies + one_if_some (optional_bytes edit.body)
+    ≡ len bodies + one_if_some edit.body
 
 -- no two names have one text
 abbrev pub NamesApart : Type 0

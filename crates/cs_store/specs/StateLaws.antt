@@ -17,5 +17,5 @@ HoldsOneState =
 abbrev pub EditsLeadToState : Type 0
 EditsLeadToState =
     (tables : List TableDef) (batch : Batch) (contents : Contents) (end : State)
-    → IsStateOf tables end → AreEdits tables contents batch.rows.items end
+    → IsStateOf tables end → AreEdits tables contents batch.rows end
     → Holds tables (after_batch batch contents) end

@@ -9,9 +9,8 @@ use Rattle.cs_record.specs.Spelling.{row_bytes}
 use Rattle.cs_order.specs.Order.{by_bytes}
 use Rattle.cs_log.specs.State.{State, IsStateOf}
 use Rattle.cs_store.specs.Contents.{Contents, stored_tables}
-use Rattle.cs_store.specs.Written.{optional_bytes}
 use Rattle.cs_store.specs.Laws.{row_after}
-use Rattle.cs_store.specs.declared.batch.PlaceEdit.{PlaceEdit}
+use Rattle.cs_edits.specs.Edits.{BodyEdit}
 
 -- the store holds these rows, and they are rows of the tables: at a table's place in the catalog and the bytes of a key
 -- it has the bytes of the row that stands there, or none
@@ -24,17 +23,17 @@ pub record Holds (tables : List TableDef) (contents : Contents) (state : State) 
 abbrev pub place_bytes : ℕ → List ℕ → List ℕ
 place_bytes table key = to_be_bytes w32 table ++ key
 
-abbrev pub edit_place : PlaceEdit → List ℕ
-edit_place edit = place_bytes edit.table edit.key.items
+abbrev pub edit_place : BodyEdit → List ℕ
+edit_place edit = place_bytes edit.table edit.key
 
 -- what a commit of these edits makes of what the store holds is this state; the edits are of the tables, and rise by
 -- their tables' places and then by the bytes of their keys, so each place stands in one at most; none leaves what is there
-pub record AreEdits (tables : List TableDef) (contents : Contents) (edits : List PlaceEdit) (end : State) : Type 0 where
+pub record AreEdits (tables : List TableDef) (contents : Contents) (edits : List BodyEdit) (end : State) : Type 0 where
   pub written : (number : ℕ) (table : TableDef) (key : List ℕ) → slice_get tables number ≡ Some table
       → row_after edits number key (stored_tables contents number key) ≡ option_map row_bytes (end table.name key)
   pub within : All (λ edit. edit.table < length tables) edits
   pub rising : IsStrictlySortedBy by_bytes (map edit_place edits)
-  pub changing : All (λ edit. optional_bytes edit.body ≢ stored_tables contents edit.table edit.key.items) edits
+  pub changing : All (λ edit. edit.body ≢ stored_tables contents edit.table edit.key) edits
 
 -- the bytes of a row with so many columns, or none
 abbrev pub IsStored : ℕ → Option (List ℕ) → Place → Type 0

@@ -2,7 +2,7 @@
 use Rattle.std.specs.declared.alloc.Global.{Global}
 use Rattle.std.specs.Prelude.{Vec, option_map, map, ℕ, ℤ, pos, List, Option, Some, None, fold}
 use Rattle.std.specs.FinMap.{insert, remove, len}
-use Rattle.cs_store.specs.declared.batch.PlaceEdit.{PlaceEdit}
+use Rattle.cs_edits.specs.Edits.{BodyEdit}
 use Rattle.cs_store.specs.declared.batch.MetaEdit.{MetaEdit}
 use Rattle.cs_store.specs.declared.batch.StoredEntry.{StoredEntry}
 use Rattle.cs_store.specs.declared.batch.Batch.{Batch}
@@ -36,11 +36,11 @@ with_meta meta name None = remove meta name
 with_meta meta name (Some value) = insert meta name value
 
 -- where an edit is
-abbrev pub store_place : PlaceEdit → StorePlace
-store_place edit = (pos edit.table, edit.key.items)
+abbrev pub store_place : BodyEdit → StorePlace
+store_place edit = (pos edit.table, edit.key)
 
-abbrev pub edit_body : Bodies → PlaceEdit → Bodies
-edit_body bodies edit = with_body bodies (store_place edit) (optional_bytes edit.body)
+abbrev pub edit_body : Bodies → BodyEdit → Bodies
+edit_body bodies edit = with_body bodies (store_place edit) edit.body
 
 abbrev pub edit_meta : Meta → MetaEdit → Meta
 edit_meta meta edit = with_meta meta (name_text edit.name) (optional_bytes edit.value)
@@ -57,8 +57,8 @@ appended log entry = with_entry (pos (len log)) log entry
 -- the edits in order, and the new entry of the log
 abbrev pub after_batch : Batch → Contents → Contents
 after_batch batch contents = record {
-  rows = fold edit_body contents.rows batch.rows.items;
-  pending = fold edit_body contents.pending batch.pending.items;
+  rows = fold edit_body contents.rows batch.rows;
+  pending = fold edit_body contents.pending batch.pending;
   meta = fold edit_meta contents.meta batch.meta.items;
   log = appended contents.log (optional_entry batch.log);
 }

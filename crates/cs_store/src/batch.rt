@@ -1,18 +1,7 @@
 //! What one commit writes.
 
 use crate::MetaName;
-
-/// A body that is set at a place, or with no body the place is cleared. Of rows the body is a row, and of pending changes it
-/// is a change of the row there. (Profile of this project.)
-#[derive(Debug, Drop)]
-pub struct PlaceEdit {
-    /// The table's number: its place in the catalog.
-    pub table: u32,
-    /// The bytes of the key: the record of its values.
-    pub key: Vec<u8>,
-    /// The bytes of the body. None removes the one that stands there, if there is one.
-    pub body: Option<Vec<u8>>,
-}
+use cs_edits::PlaceEdits;
 
 /// A value that is set, or with no value removed. (Profile of this project.)
 #[derive(Debug, Drop)]
@@ -36,12 +25,12 @@ pub struct StoredEntry {
 
 /// What one commit writes. A place or a name that stands in several edits gets what the last of them says. (Profile of this
 /// project.)
-#[derive(Debug, Drop)]
+#[derive(Drop)]
 pub struct Batch {
-    /// Edits of rows, in order.
-    pub rows: Vec<PlaceEdit>,
-    /// Edits of pending changes, in order. Such a change stands at the place of its row.
-    pub pending: Vec<PlaceEdit>,
+    /// Edits of rows, in order. Each body is a row.
+    pub rows: PlaceEdits,
+    /// Edits of pending changes, in order. Each body is a change of the row at its place.
+    pub pending: PlaceEdits,
     /// Edits of values, in order.
     pub meta: Vec<MetaEdit>,
     /// A new entry of the log, if there is one. Its version is how many entries there were.

@@ -19,7 +19,7 @@ mod names;
 mod store;
 mod trip;
 
-pub use batch::{Batch, MetaEdit, PlaceEdit, StoredEntry};
+pub use batch::{Batch, MetaEdit, StoredEntry};
 pub use fault::StoreFault;
 pub use judging::{is_body, is_change, is_name, is_row, mark_bytes, whole_row};
 pub use names::MetaName;
