@@ -12,10 +12,10 @@ use Rattle.std.proofs.lemmas.List.Folds.{drop_split}
 use Rattle.std.specs.FinMap.{find, from_sorted, is_sorted, get-from_sorted, same_map}
 use Rattle.std.specs.FinMap.Entries.{put, below_all, by_order, is_sorted-put, is_sorted-where_key, find-put, find-where_key}
 use Rattle.cs_store.specs.Contents.{StorePlace, Bodies, place_cmp}
-use Rattle.cs_store.specs.Written.{optional_bytes, with_body, edit_body}
+use Rattle.cs_store.specs.Written.{with_body, edit_body}
 use Rattle.cs_leaf.specs.Entries.{Entry, no_entry, nth, written, IsPlaceFor}
 use Rattle.cs_leaf.specs.Edits.{put_row, store_place, edited, AreBelow, AreEditsAbove, AreEditsBelow, IsBehind, IsMerged}
-use Rattle.cs_store.specs.declared.batch.PlaceEdit.{PlaceEdit}
+use Rattle.cs_edits.specs.Edits.{BodyEdit}
 use Rattle.cs_leaf.proofs.Places.{place_total, place_exact, get-with_body}
 
 pub first : (a b : Bool) → T (a && b) → T a
@@ -79,13 +79,13 @@ put_before (x ∷ xs) ys p (Some v) h =
 
 -- ---- edits
 
-pub fold_behind : (ws : List PlaceEdit) (xs ys : List Entry) → AreEditsAbove xs ws → fold edited (xs ++ ys) ws ≡ xs ++ fold edited ys ws
+pub fold_behind : (ws : List BodyEdit) (xs ys : List Entry) → AreEditsAbove xs ws → fold edited (xs ++ ys) ws ≡ xs ++ fold edited ys ws
 fold_behind [] xs ys h = refl
-fold_behind (w ∷ ws) xs ys h = ap (λ es. fold edited es ws) (put_behind xs ys (store_place w) (optional_bytes w.body) h.0) ∙ fold_behind ws xs (edited ys w) h.1
+fold_behind (w ∷ ws) xs ys h = ap (λ es. fold edited es ws) (put_behind xs ys (store_place w) w.body h.0) ∙ fold_behind ws xs (edited ys w) h.1
 
-pub fold_before : (ws : List PlaceEdit) (xs ys : List Entry) → AreEditsBelow ws ys → fold edited (xs ++ ys) ws ≡ fold edited xs ws ++ ys
+pub fold_before : (ws : List BodyEdit) (xs ys : List Entry) → AreEditsBelow ws ys → fold edited (xs ++ ys) ws ≡ fold edited xs ws ++ ys
 fold_before [] xs ys h = refl
-fold_before (w ∷ ws) xs ys h = ap (λ es. fold edited es ws) (put_before xs ys (store_place w) (optional_bytes w.body) h.0) ∙ fold_before ws (edited xs w) ys h.1
+fold_before (w ∷ ws) xs ys h = ap (λ es. fold edited es ws) (put_before xs ys (store_place w) w.body h.0) ∙ fold_before ws (edited xs w) ys h.1
 
 -- ---- places that rise
 
@@ -136,9 +136,9 @@ sorted_put : (es : List Entry) (p : StorePlace) (w : Option (List ℕ)) → T (i
 sorted_put es p None h = is_sorted-where_key place_cmp (λ q. not (eq_by_cmp place_cmp p q)) es h
 sorted_put es p (Some v) h = is_sorted-put place_cmp place_total p v es h
 
-pub sorted_edits : (ws : List PlaceEdit) (es : List Entry) → T (is_sorted place_cmp es) → T (is_sorted place_cmp (fold edited es ws))
+pub sorted_edits : (ws : List BodyEdit) (es : List Entry) → T (is_sorted place_cmp es) → T (is_sorted place_cmp (fold edited es ws))
 sorted_edits [] es h = h
-sorted_edits (w ∷ ws) es h = sorted_edits ws (edited es w) (sorted_put es (store_place w) (optional_bytes w.body) h)
+sorted_edits (w ∷ ws) es h = sorted_edits ws (edited es w) (sorted_put es (store_place w) w.body h)
 
 turned : {A : Type 0} (b : Bool) (x y : A) → cond (not b) x y ≡ cond b y x
 turned true x y = refl
@@ -155,9 +155,9 @@ rows_put es p w h = same_map place_total place_exact _ _ (λ q.
     get-from_sorted place_cmp (put_row es p w) q (sorted_put es p w h) ∙ find_put_row es p w q
     ∙ sym (get-with_body (from_sorted es) p w q ∙ ap (cond (eq_by_cmp place_cmp q p) w) (get-from_sorted place_cmp es q h)))
 
-pub rows_edited : (ws : List PlaceEdit) (es : List Entry) → T (is_sorted place_cmp es) → ◌≡◌ {A = Bodies} (from_sorted (fold edited es ws)) (fold edit_body (from_sorted es) ws)
+pub rows_edited : (ws : List BodyEdit) (es : List Entry) → T (is_sorted place_cmp es) → ◌≡◌ {A = Bodies} (from_sorted (fold edited es ws)) (fold edit_body (from_sorted es) ws)
 rows_edited [] es h = refl
-rows_edited (w ∷ ws) es h = rows_edited ws (edited es w) (sorted_put es (store_place w) (optional_bytes w.body) h) ∙ ap (λ m. fold edit_body m ws) (rows_put es (store_place w) (optional_bytes w.body) h)
+rows_edited (w ∷ ws) es h = rows_edited ws (edited es w) (sorted_put es (store_place w) w.body h) ∙ ap (λ m. fold edit_body m ws) (rows_put es (store_place w) w.body h)
 
 -- ---- an edit that is merged
 
@@ -245,12 +245,12 @@ written_below : (p q : StorePlace) (w : Option (List ℕ)) → place_cmp p q ≡
 written_below p q None l = tt
 written_below p q (Some v) l = (l, tt)
 
-pub merged_edit : (es before between after : List Entry) (from at next : ℕ) (edit : PlaceEdit) → from ≤ at → at ≤ length es → T (is_sorted place_cmp es)
+pub merged_edit : (es before between after : List Entry) (from at next : ℕ) (edit : BodyEdit) → from ≤ at → at ≤ length es → T (is_sorted place_cmp es)
     → IsPlaceFor es from at (store_place edit) → IsBehind es at (store_place edit) next
-    → between ≡ before ++ slice_range es from at → after ≡ between ++ written (store_place edit) (optional_bytes edit.body) → IsMerged es from edit next before after
+    → between ≡ before ++ slice_range es from at → after ≡ between ++ written (store_place edit) edit.body → IsMerged es from edit next before after
 merged_edit es before between after from at next edit le within s found behind ran wrote =
     let p = store_place edit in
-    let w = optional_bytes edit.body in
+    let w = edit.body in
     let run = slice_range es from at in
     let low = run_below es from at p le within s found in
     record {
@@ -262,14 +262,14 @@ merged_edit es before between after from at next edit le within s found behind r
     }
 
 -- what an edit makes of entries, where its place stands or would stand at `at`
-pub edited_at : (es : List Entry) (at next : ℕ) (w : PlaceEdit) (p : StorePlace) → p ≡ store_place w → at ≤ length es → T (is_sorted place_cmp es) → IsPlaceFor es 0 at p → IsBehind es at p next
-    → edited es w ≡ take at es ++ (written p (optional_bytes w.body) ++ drop next es)
+pub edited_at : (es : List Entry) (at next : ℕ) (w : BodyEdit) (p : StorePlace) → p ≡ store_place w → at ≤ length es → T (is_sorted place_cmp es) → IsPlaceFor es 0 at p → IsBehind es at p next
+    → edited es w ≡ take at es ++ (written p w.body ++ drop next es)
 edited_at es at next w p its within s found behind =
     let n : at - 0 ≡ at = omega arith in
     let low : AreBelow (take at es) p = subst (λ k. AreBelow (take k es) p) n (run_below es 0 at p (omega arith) within s found) in
-    ap (λ (q : StorePlace). put_row es q (optional_bytes w.body)) (sym its)
-    ∙ ap (λ (zs : List Entry). put_row zs p (optional_bytes w.body)) (sym (take-append-drop at es)) ∙ put_behind (take at es) (drop at es) p (optional_bytes w.body) low
-    ∙ ap (λ (zs : List Entry). take at es ++ zs) (put_at es at next p (optional_bytes w.body) within s found.1 behind)
+    ap (λ (q : StorePlace). put_row es q w.body) (sym its)
+    ∙ ap (λ (zs : List Entry). put_row zs p w.body) (sym (take-append-drop at es)) ∙ put_behind (take at es) (drop at es) p w.body low
+    ∙ ap (λ (zs : List Entry). take at es ++ zs) (put_at es at next p w.body within s found.1 behind)
 
 -- whether something is there tells where entries go on
 pub goes_on : (es : List Entry) (at next : ℕ) (p : StorePlace) → IsBehind es at p next → (ltb at next ≡ true → at < length es) × (cond (ltb at next) (at + 1) at ≡ next)

@@ -1,16 +1,15 @@
 //! What edits make of a leaf, prepared to be made or left.
 
-ghost use Rattle.std.specs.Prelude.{◌≡◌, T, fold, IfOk, IfErr};
+ghost use Rattle.std.specs.Prelude.{◌≡◌, T, fold, Ok, IfOk, IfErr};
 ghost use Rattle.std.specs.FinMap.{is_sorted};
 ghost use Rattle.cs_store.specs.Contents.{place_cmp};
-ghost use Rattle.cs_leaf.specs.Edits.{Rise, edited, edits_behind, store_place};
+ghost use Rattle.cs_leaf.specs.Edits.{Rise, edited, store_place};
 
 use crate::leaf::{Amendment, Leaf, Place, Why};
-use crate::merging::merged;
-use cs_store::PlaceEdit;
-use std::alloc::Global;
+use crate::merging::{merged, merged_one};
+use cs_edits::{LentEdits, PlaceEdit};
+use std::alloc::{AllocError, Global};
 use std::marker::Model;
-use std::slice;
 
 /// How a leaf is changed: with one edit made in it, or for another in its place.
 #[derive(Drop)]
@@ -64,15 +63,13 @@ impl Change {
     }
 }
 
-/// Prepares another leaf in the place of this one.
-fn stage_anew(alloc: Global, leaf: Leaf, edits: &[&PlaceEdit]) -> Result<Change, Leaf>
-    requires sorted { T (is_sorted place_cmp leaf) }
-    requires rise { Rise (edits_behind edits.now) }
+/// Puts another leaf, if there was memory for it, in the place of this one.
+fn anew(leaf: Leaf, made: Result<Leaf, AllocError>) -> Result<Change, Leaf>
     ensures before { IfOk result (λ change. change.0 ≡ leaf) }
-    ensures after { IfOk result (λ change. change.1 ≡ fold edited leaf (edits_behind edits.now)) }
+    ensures after { IfOk result (λ change. made ≡ Ok change.1) }
     ensures err { IfErr result (λ kept. kept ≡ leaf) }
 {
-    match merged(alloc, &leaf, edits) {
+    match made {
         Ok(new) => Ok(Change {
             way: Way::Anew { old: leaf, new },
         }),
@@ -88,7 +85,7 @@ pub fn stage_one(
     leaf: Leaf,
     near: usize,
     place: &Place,
-    edit: &PlaceEdit,
+    edit: &PlaceEdit<'_>,
 ) -> Result<Change, Leaf>
     requires sorted { T (is_sorted place_cmp leaf) }
     requires place { place.now ≡ store_place edit.now }
@@ -102,7 +99,10 @@ pub fn stage_one(
         }),
         Err(unamended) => match unamended.why {
             Why::NoMemory => Err(unamended.leaf),
-            Why::TooLoose => stage_anew(alloc, unamended.leaf, slice::from_ref(&edit)),
+            Why::TooLoose => {
+                let made = merged_one(alloc, &unamended.leaf, edit);
+                anew(unamended.leaf, made)
+            }
         },
     }
 }
@@ -110,16 +110,18 @@ pub fn stage_one(
 /// Prepares what edits whose places rise make of a leaf. A single one is made in place, unless rows that are gone would come to
 /// take more than half of the bytes. Where memory is refused, the leaf comes back.
 #[inline(always)]
-pub fn stage(alloc: Global, leaf: Leaf, edits: &[&PlaceEdit]) -> Result<Change, Leaf>
+pub fn stage(alloc: Global, leaf: Leaf, edits: &LentEdits<'_>) -> Result<Change, Leaf>
     requires sorted { T (is_sorted place_cmp leaf) }
-    requires rise { Rise (edits_behind edits.now) }
+    requires rise { Rise edits.now }
     ensures before { IfOk result (λ change. change.0 ≡ leaf) }
-    ensures after { IfOk result (λ change. change.1 ≡ fold edited leaf (edits_behind edits.now)) }
+    ensures after { IfOk result (λ change. change.1 ≡ fold edited leaf edits.now) }
     ensures err { IfErr result (λ kept. kept ≡ leaf) }
 {
     if edits.len() != 1 {
-        return stage_anew(alloc, leaf, edits);
+        let made = merged(alloc, &leaf, edits);
+        return anew(leaf, made);
     }
-    let place = Place::of_edit(edits[0]);
-    stage_one(alloc, leaf, 0, &place, edits[0])
+    let edit = edits.get(0);
+    let place = Place::of_edit(&edit);
+    stage_one(alloc, leaf, 0, &place, &edit)
 }

@@ -1,12 +1,11 @@
 //! Bodies that follow one another, over one list of bytes, and an edit of them in place.
 
-ghost use Rattle.std.specs.Prelude.{◌≡◌, ◌⊎◌, ◌≤◌, ◌+◌, ◌*◌, ◌++◌, ◌∷◌, ℕ, List, [], length, IfOk, IfSome, OnOk, OnErr};
+ghost use Rattle.std.specs.Prelude.{◌≡◌, ◌⊎◌, ◌≤◌, ◌+◌, ◌*◌, ◌++◌, ◌∷◌, ℕ, List, [], length, option_map, IfOk, IfSome, OnOk, OnErr};
 ghost use Rattle.std.specs.List.{All};
-ghost use Rattle.cs_store.specs.Written.{optional_bytes};
 ghost use Rattle.cs_leaf.specs.Entries.{HasRoomFor, IsFrontOf, IsPacked, IsSpotIn, IsSpotEditAt, IsSpotEditFor, bytes_of, entries_at, entry_at, size_of, spots_after, written};
 
 use crate::heads::{compare_keys, head};
-use cs_store::PlaceEdit;
+use cs_edits::PlaceEdit;
 use std::alloc::{AllocError, Global};
 use std::cmp::Ordering;
 use std::marker::Model;
@@ -50,10 +49,10 @@ impl<'a> Place<'a> {
 
     /// The place of an edit.
     #[inline(always)]
-    pub fn of_edit(edit: &'a PlaceEdit) -> Place<'a>
+    pub fn of_edit(edit: &PlaceEdit<'a>) -> Place<'a>
         ensures { result ≡ store_place edit.now }
     {
-        Place::new(edit.table, edit.key.as_slice())
+        Place::new(edit.table(), edit.key())
     }
 }
 
@@ -539,7 +538,7 @@ impl Leaf {
         self,
         near: usize,
         place: &Place,
-        edit: &PlaceEdit,
+        edit: &PlaceEdit<'_>,
     ) -> Result<Amendment, Unamended>
         requires sorted { T (is_sorted place_cmp self) }
         requires place { place.now ≡ store_place edit.now }
@@ -559,7 +558,7 @@ impl Leaf {
         let mut bytes = bytes;
         let mut spots = spots;
         let held = bytes.len();
-        let spot_edit = spot_edit_of(&mut bytes, &mut spots, place, is_there, &edit.body);
+        let spot_edit = spot_edit_of(&mut bytes, &mut spots, place, is_there, edit.body());
         let Ok(spot_edit) = spot_edit else {
             return Err(given_back(front, bytes, spots, used, Why::NoMemory));
         };
@@ -644,13 +643,13 @@ fn spot_edit_of(
     spots: &mut Vec<Spot>,
     place: &Place,
     is_there: bool,
-    body: &Option<Vec<u8>>,
+    body: Option<&[u8]>,
 ) -> Result<SpotEdit, AllocError>
     ensures behind { (more : List ℕ) × (bytes.new.items ≡ bytes.old.items ++ more) }
     ensures same { spots.new.items ≡ spots.old.items }
-    ensures spot_edit { IfOk result (λ spot_edit. IsSpotEditFor place.now (optional_bytes body.now) is_there bytes.new.items spot_edit) }
+    ensures spot_edit { IfOk result (λ spot_edit. IsSpotEditFor place.now (option_map (λ row. row.now) body.entry) is_there bytes.new.items spot_edit) }
     ensures room { IfOk result (λ spot_edit. HasRoomFor spots.new spot_edit) }
-    ensures len { OnOk result (length bytes.new.items ≡ length bytes.old.items + bytes_of (written place.now (optional_bytes body.now))) }
+    ensures len { OnOk result (length bytes.new.items ≡ length bytes.old.items + bytes_of (written place.now (option_map (λ row. row.now) body.entry))) }
     ensures err { OnErr result (bytes.new.items ≡ bytes.old.items) }
 {
     match body {
@@ -658,10 +657,10 @@ fn spot_edit_of(
         None => Ok(SpotEdit::Stay),
         Some(row) => {
             if is_there {
-                return Ok(SpotEdit::Set(add_row(bytes, place, row.as_slice())?));
+                return Ok(SpotEdit::Set(add_row(bytes, place, row)?));
             }
             spots.reserve(1)?;
-            Ok(SpotEdit::Add(add_row(bytes, place, row.as_slice())?))
+            Ok(SpotEdit::Add(add_row(bytes, place, row)?))
         }
     }
 }

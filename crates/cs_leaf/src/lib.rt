@@ -2,7 +2,7 @@
 //! `stage` prepares what edits make of a leaf, for which it takes all the memory that this needs, and the `Change` that it
 //! answers is then made or left, which takes none. Rows that are gone leave their bytes behind, and yet a leaf's bytes are at
 //! most twice those of its rows: an invariant of the type (`IsTight`). `laws` says how edits of lists of bodies go together.
-//! The crate stands on places and edits of them (`cs_store`) and on the order of keys (`cs_order`).
+//! The crate stands on edits (`cs_edits`), on their places (`cs_store`) and on the order of keys (`cs_order`).
 //! Its tests stand in `cs_store_tests`.
 #![tactic(auto)]
 

@@ -1,22 +1,21 @@
 //! Edits that are merged into rows.
 
-ghost use Rattle.std.specs.Prelude.{◌≡◌, ◌≤◌, ◌<◌, ◌++◌, T, length, drop, fold, IfOk, OnOk};
+ghost use Rattle.std.specs.Prelude.{◌≡◌, ◌≤◌, ◌<◌, ◌++◌, T, length, fold, option_map, IfOk, OnOk};
 ghost use Rattle.std.specs.FinMap.{is_sorted};
 ghost use Rattle.cs_store.specs.Contents.{place_cmp};
-ghost use Rattle.cs_store.specs.Written.{optional_bytes};
-ghost use Rattle.cs_leaf.specs.Edits.{IsMerged, Rise, store_place, edited, edits_behind};
+ghost use Rattle.cs_leaf.specs.Edits.{IsMerged, Rise, edited};
 ghost use Rattle.cs_leaf.specs.Entries.{written};
 
 use crate::leaf::{Leaf, Place};
-use cs_store::PlaceEdit;
+use cs_edits::{LentEdits, PlaceEdit};
 use std::alloc::{AllocError, Global};
 
 /// Appends the row that an edit sets at its place, if it sets one.
-fn push_edit(merged: &mut Leaf, place: &Place, body: &Option<Vec<u8>>) -> Result<(), AllocError>
-    ensures { OnOk result (merged.new ≡ merged.old ++ written place.now (optional_bytes body.now)) }
+fn push_edit(merged: &mut Leaf, place: &Place, body: Option<&[u8]>) -> Result<(), AllocError>
+    ensures { OnOk result (merged.new ≡ merged.old ++ written place.now (option_map (λ row. row.now) body.entry)) }
 {
     match body {
-        Some(row) => merged.push(place, row.as_slice()),
+        Some(row) => merged.push(place, row),
         None => Ok(()),
     }
 }
@@ -26,7 +25,7 @@ fn merge_edit(
     merged: &mut Leaf,
     leaf: &Leaf,
     from: usize,
-    edit: &PlaceEdit,
+    edit: &PlaceEdit<'_>,
 ) -> Result<usize, AllocError>
     requires from { from ≤ length leaf.now }
     requires sorted { T (is_sorted place_cmp leaf.now) }
@@ -36,20 +35,35 @@ fn merge_edit(
     let place = Place::of_edit(edit);
     let at = leaf.search(from, &place);
     merged.push_rows(leaf, from, at)?;
-    push_edit(merged, &place, &edit.body)?;
+    push_edit(merged, &place, edit.body())?;
     Ok(leaf.behind(at, &place))
 }
 
-/// The rows of a leaf after edits, in memory of their own.
-pub fn merged(alloc: Global, leaf: &Leaf, edits: &[&PlaceEdit]) -> Result<Leaf, AllocError>
+/// The rows of a leaf after an edit, in memory of their own.
+pub(crate) fn merged_one(
+    alloc: Global,
+    leaf: &Leaf,
+    edit: &PlaceEdit<'_>,
+) -> Result<Leaf, AllocError>
     requires sorted { T (is_sorted place_cmp leaf.now) }
-    requires rise { Rise (edits_behind edits.now) }
-    ensures { IfOk result (λ merged. merged ≡ fold edited leaf.now (edits_behind edits.now)) }
+    ensures { IfOk result (λ merged. merged ≡ edited leaf.now edit.now) }
+{
+    let mut merged = Leaf::with_room(alloc, leaf, leaf.len().saturating_add(1))?;
+    let from = merge_edit(&mut merged, leaf, 0, edit)?;
+    merged.push_rows(leaf, from, leaf.len())?;
+    Ok(merged)
+}
+
+/// The rows of a leaf after edits, in memory of their own.
+pub fn merged(alloc: Global, leaf: &Leaf, edits: &LentEdits<'_>) -> Result<Leaf, AllocError>
+    requires sorted { T (is_sorted place_cmp leaf.now) }
+    requires rise { Rise edits.now }
+    ensures { IfOk result (λ merged. merged ≡ fold edited leaf.now edits.now) }
 {
     let mut merged = Leaf::with_room(alloc, leaf, leaf.len().saturating_add(edits.len()))?;
     let mut from = 0;
-    for edit in edits {
-        from = merge_edit(&mut merged, leaf, from, *edit)?;
+    for at in 0..edits.len() {
+        from = merge_edit(&mut merged, leaf, from, &edits.get(at))?;
     }
     merged.push_rows(leaf, from, leaf.len())?;
     Ok(merged)

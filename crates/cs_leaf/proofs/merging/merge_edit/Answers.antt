@@ -1,6 +1,5 @@
-use Rattle.std.proofs.Common.{◌≡◌, ◌++◌, subst}
+use Rattle.std.proofs.Common.{◌≡◌, ℕ, List, Option, ◌++◌, ap, subst, ◌∙◌}
 use Rattle.cs_store.specs.Contents.{StorePlace}
-use Rattle.cs_store.specs.Written.{optional_bytes}
 use Rattle.cs_leaf.specs.Entries.{IsPlaceFor, written}
 use Rattle.cs_leaf.specs.Edits.{IsBehind}
 use Rattle.cs_leaf.proofs.Editing.{merged_edit}
@@ -13,4 +12,4 @@ returns-clause-merged c =
     merged_edit c.args.leaf.now c.args.merged.now c.push_rows.new.self c.push_edit.new.merged c.args.from at c.behind.result c.args.edit.now c.search-at.ensures.bound.0 c.search-at.ensures.bound.1
     c.requires.sorted (subst (IsPlaceFor c.args.leaf.now c.args.from at) is c.search-at.ensures.found)
     (subst (λ (p : StorePlace). IsBehind c.args.leaf.now at p c.behind.result) is c.behind.ensures) c.in_ok-push_rows.ensures
-    (subst (λ (p : StorePlace). c.push_edit.new.merged ≡ c.push_rows.new.self ++ written p (optional_bytes c.args.edit.now.body)) is c.in_ok-push_edit.ensures)
+    (subst (λ (p : StorePlace). c.push_edit.new.merged ≡ c.push_rows.new.self ++ written p c.args.edit.now.body) is (c.in_ok-push_edit.ensures ∙ ap (λ (body : Option (List ℕ)). c.push_rows.new.self ++ written c.of_edit-place.result body) c.body.ensures))
