@@ -6,7 +6,7 @@ use Rattle.std.specs.FinMap.{get, empty, get-empty, same_map, is_sorted, from_so
 use Rattle.cs_leaf.specs.Entries.{Entry}
 use Rattle.cs_leaf.specs.Edits.{edited}
 use Rattle.cs_map_store.specs.Leaves.{AreLeaves, flat, in_table, bodies_in}
-use Rattle.cs_store.specs.declared.batch.PlaceEdit.{PlaceEdit}
+use Rattle.cs_edits.specs.Edits.{BodyEdit}
 use Rattle.cs_store.specs.declared.batch.MetaEdit.{MetaEdit}
 use Rattle.cs_store.specs.declared.batch.StoredEntry.{StoredEntry}
 use Rattle.cs_leaf.specs.Laws.{EditsAreOfMaps, EditsKeepOrder}
@@ -55,11 +55,11 @@ pub entry_added : (old new : List StoredEntry) (entry : Option StoredEntry) (it 
 entry_added old new entry it b is new_is done = ap log_of (new_is ∙ ap (λ (t : Bool). cond t (old ++ it ∷ []) old) done) ∙ log_push old it ∙ sym (ap (λ (e : Option StoredEntry). appended (log_of old) (optional_entry e)) is)
 
 -- the bodies of leaves after edits that were put in order
-pub bodies_after : (leaves made : List (List Entry)) (edits all : List PlaceEdit) → EditsAreOfMaps → T (is_sorted place_cmp (flat leaves)) → ((bodies : Bodies) → fold edit_body bodies edits ≡ fold edit_body bodies all)
+pub bodies_after : (leaves made : List (List Entry)) (edits all : List BodyEdit) → EditsAreOfMaps → T (is_sorted place_cmp (flat leaves)) → ((bodies : Bodies) → fold edit_body bodies edits ≡ fold edit_body bodies all)
     → flat made ≡ fold edited (flat leaves) edits → bodies_in made ≡ fold edit_body (bodies_in leaves) all
 bodies_after leaves made edits all rows_edited sorted order merged = ap from_sorted merged ∙ rows_edited edits (flat leaves) sorted ∙ order (bodies_in leaves)
 
-pub still_rises : (leaves made : List (List Entry)) (edits : List PlaceEdit) → EditsKeepOrder → T (is_sorted place_cmp (flat leaves)) → flat made ≡ fold edited (flat leaves) edits → T (is_sorted place_cmp (flat made))
+pub still_rises : (leaves made : List (List Entry)) (edits : List BodyEdit) → EditsKeepOrder → T (is_sorted place_cmp (flat leaves)) → flat made ≡ fold edited (flat leaves) edits → T (is_sorted place_cmp (flat made))
 still_rises leaves made edits sorted_edits sorted merged = subst (λ (es : List Entry). T (is_sorted place_cmp es)) (sym merged) (sorted_edits edits (flat leaves) sorted)
 
 -- leaves that are put in
@@ -71,7 +71,7 @@ pub meta_after : (es ms ns : List (SlotKey × Slot)) (steps : List Step) (edits 
 meta_after es ms ns steps edits slots copies wrote = ap meta_of (wrote ∙ (λ i. fold write_to (slots i) (copies i))) ∙ meta_after_meta (shown es) edits
 
 pub held_after : (rows made_rows pending made_pending : Bodies) (es ns : List (SlotKey × Slot)) (xs zs : List StoredEntry) (batch : Batch)
-    → made_rows ≡ fold edit_body rows batch.rows.items → made_pending ≡ fold edit_body pending batch.pending.items
+    → made_rows ≡ fold edit_body rows batch.rows → made_pending ≡ fold edit_body pending batch.pending
     → meta_of (shown ns) ≡ fold edit_meta (meta_of (shown es)) batch.meta.items → log_of zs ≡ appended (log_of xs) (optional_entry batch.log)
     → held_in made_rows made_pending ns zs ≡ after_batch batch (held_in rows pending es xs)
 held_after rows made_rows pending made_pending es ns xs zs batch r p m l = λ i. record { rows = r i; pending = p i; meta = m i; log = l i }

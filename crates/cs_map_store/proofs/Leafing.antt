@@ -2,16 +2,16 @@
 use Rattle.std.proofs.Common.{◌≡◌, ℕ, zero, suc, ◌+◌, ◌-◌, ◌<◌, ◌≤◌, ◌⊎◌, inl, inr, true, false, cond, List, [], ◌∷◌, ◌++◌, Some, None, refl, sym, ap, subst, ◌∙◌, T, length, get_or, take, drop, map, fold, filter, arith, ⊎_elim, is_gt}
 use Rattle.std.specs.Prelude.{ℤ, slice_set, nat_lt}
 use Rattle.std.specs.Cmp.{eq_by_cmp_equiv}
-use Rattle.std.specs.Borrow.{Bor}
 use Rattle.std.proofs.Math.Dec.{ltb}
 use borrow.Author.Tests.{ltb-true, ltb-false, lt-ltb}
 use Rattle.std.specs.declared.cmp.Ordering.{Ordering}
 use Rattle.std.specs.declared.cmp.Ordering.TheVariants.{Less, Equal, Greater}
-use Rattle.std.specs.List.{All, slice_range, splice}
+use Rattle.std.specs.List.{All, slice_get, slice_range, splice}
 use Rattle.std.specs.Ordering.{int_eq, is_eq, eq_by_cmp, ordering_reverse}
 use Rattle.std.specs.FinMap.{get, find, is_sorted, get-from_sorted}
 use Rattle.std.specs.FinMap.Entries.{below_all}
-use Rattle.std.proofs.lemmas.List.{append-nil, append_assoc, take-append-drop, drop_more, length-drop, get_or-drop, take_all}
+use Rattle.std.proofs.lemmas.List.{append-nil, append_assoc, take-append-drop, drop_more, take_more, length-drop, get_or-drop, take_all}
+use Rattle.std.proofs.lemmas.Option.{get_or_from_slice_get, same_Some, slice_get_within}
 use Rattle.std.proofs.lemmas.List.Elements.{All-push, All-append, All-take, All-drop}
 use Rattle.std.proofs.lemmas.List.Edits.{length-between}
 use Rattle.std.specs.declared.vec.IntoIter.{IntoIter}
@@ -21,10 +21,10 @@ use Rattle.std.proofs.lemmas.Iterator.{items_from_drains}
 use Rattle.std.proofs.lemmas.Iterator.Adapters.{YieldsList-from_vec}
 use Rattle.cs_store.specs.Contents.{StorePlace, place_cmp}
 use Rattle.cs_leaf.specs.Entries.{Entry, no_entry, nth}
-use Rattle.cs_leaf.specs.Edits.{AreBelow, AreEditsAbove, AreEditsBelow, store_place, edited, edits_behind, Rise, Follow}
+use Rattle.cs_leaf.specs.Edits.{AreBelow, AreEditsAbove, AreEditsBelow, store_place, edited, Rise, Follow}
 use Rattle.cs_map_store.specs.Leaves.{AreBefore, AreLeaves, BeginsBehind, BeginsBy, ReachLeaf, first_place, flat, in_table, nth_leaf, bodies_in, patched, ArePatches}
 use Rattle.cs_map_store.specs.declared.leaves.Patch.{Patch}
-use Rattle.cs_store.specs.declared.batch.PlaceEdit.{PlaceEdit}
+use Rattle.cs_edits.specs.Edits.{BodyEdit}
 use Rattle.cs_leaf.specs.Laws.{EditsBeforeKeep, EditsBehindKeep}
 use Rattle.cs_map_store.proofs.Maps.{place_total, place_exact}
 use Rattle.cs_map_store.proofs.Rising.{first, second, both, less, is_less, below_split, sorted_back, sorted_front, below_most, below_less, above_less}
@@ -52,41 +52,39 @@ pieces_more pieces all leaf made piece from to less within so_far full none is g
       subst (All (λ piece. 0 < length piece)) (sym grown) (All-push (λ piece. 0 < length piece) pieces piece full (let l = ap length its in let k = length-between leaf from to within in omega (arith, l, k, less))),
     )
 
-pub rise_back : (us ws : List PlaceEdit) → Rise (us ++ ws) → Rise ws
+pub rise_back : (us ws : List BodyEdit) → Rise (us ++ ws) → Rise ws
 rise_back [] ws h = h
 rise_back (u ∷ us) ws h = rise_back us ws h.1
 
-pub rise_front : (us ws : List PlaceEdit) → Rise (us ++ ws) → Rise us
+pub rise_front : (us ws : List BodyEdit) → Rise (us ++ ws) → Rise us
 rise_front [] ws h = tt
 rise_front (u ∷ us) ws h = (follows (store_place u) us ws h.0, rise_front us ws h.1)
   where
-    follows : (p : StorePlace) (us ws : List PlaceEdit) → Follow p (us ++ ws) → Follow p us
+    follows : (p : StorePlace) (us ws : List BodyEdit) → Follow p (us ++ ws) → Follow p us
     follows p [] ws h = tt
     follows p (u ∷ us) ws h = (h.0, follows p us ws h.1)
 
-pub behind_drop : (edits : List (Bor PlaceEdit)) (k : ℕ) → edits_behind (drop k edits) ≡ drop k (edits_behind edits)
-behind_drop edits zero = refl
-behind_drop [] (suc k) = refl
-behind_drop (w ∷ ws) (suc k) = behind_drop ws k
+-- what stands there, and what follows it
+pub from_there : {X : Type 0} (xs : List X) (k : ℕ) (x : X) → slice_get xs k ≡ Some x → drop k xs ≡ x ∷ drop (k + 1) xs
+from_there xs k x is = drop_more xs k x (slice_get_within xs k x is) ∙ ap (λ y. y ∷ drop (k + 1) xs) (get_or_from_slice_get xs k x x is)
 
-pub behind_take : (edits : List (Bor PlaceEdit)) (k : ℕ) → edits_behind (take k edits) ≡ take k (edits_behind edits)
-behind_take edits zero = refl
-behind_take [] (suc k) = refl
-behind_take (w ∷ ws) (suc k) = ap (λ (zs : List PlaceEdit). w.now ∷ zs) (behind_take ws k)
+-- what stands before it, and it
+pub up_to : {X : Type 0} (xs : List X) (k : ℕ) (x : X) → slice_get xs k ≡ Some x → take (k + 1) xs ≡ take k xs ++ x ∷ []
+up_to xs k x is = take_more xs k x (slice_get_within xs k x is) ∙ ap (λ y. take k xs ++ y ∷ []) (get_or_from_slice_get xs k x x is)
 
-pub rise_drop : (edits : List PlaceEdit) (k : ℕ) → Rise edits → Rise (drop k edits)
+pub rise_drop : (edits : List BodyEdit) (k : ℕ) → Rise edits → Rise (drop k edits)
 rise_drop edits k h = rise_back (take k edits) (drop k edits) (subst Rise (sym (take-append-drop k edits)) h)
 
-pub rise_take : (edits : List PlaceEdit) (k : ℕ) → Rise edits → Rise (take k edits)
+pub rise_take : (edits : List BodyEdit) (k : ℕ) → Rise edits → Rise (take k edits)
 rise_take edits k h = rise_front (take k edits) (drop k edits) (subst Rise (sym (take-append-drop k edits)) h)
 
 -- ---- which leaf
 
-pub before_none : (leaves : List (List Entry)) (at : ℕ) (ws : List PlaceEdit) → at ≡ length leaves → AreBefore leaves at ws
+pub before_none : (leaves : List (List Entry)) (at : ℕ) (ws : List BodyEdit) → at ≡ length leaves → AreBefore leaves at ws
 before_none leaves at [] e = tt
 before_none leaves at (w ∷ ws) e = (inl e, before_none leaves at ws e)
 
-pub before_push : (leaves : List (List Entry)) (at : ℕ) (ws : List PlaceEdit) (w : PlaceEdit) → AreBefore leaves at ws → BeginsBehind leaves at (store_place w) → AreBefore leaves at (ws ++ w ∷ [])
+pub before_push : (leaves : List (List Entry)) (at : ℕ) (ws : List BodyEdit) (w : BodyEdit) → AreBefore leaves at ws → BeginsBehind leaves at (store_place w) → AreBefore leaves at (ws ++ w ∷ [])
 before_push leaves at [] w h b = (b, tt)
 before_push leaves at (v ∷ ws) w h b = (h.0, before_push leaves at ws w h.1 b)
 
@@ -242,16 +240,16 @@ nth_later now leaves from at le same =
     let n : at + 0 ≡ at = omega arith in
     ap (λ k. nth_leaf now k) (sym n) ∙ sym (get_or-drop at now 0 []) ∙ ap (λ (ls : List (List Entry)). get_or ls 0 []) (later now leaves from at le same) ∙ get_or-drop at leaves 0 [] ∙ ap (λ k. nth_leaf leaves k) n
 
-below_edits : (es : List Entry) (p : StorePlace) (ws : List PlaceEdit) → AreBelow es p → Follow p ws → AreEditsAbove es ws
+below_edits : (es : List Entry) (p : StorePlace) (ws : List BodyEdit) → AreBelow es p → Follow p ws → AreEditsAbove es ws
 below_edits es p [] low h = tt
 below_edits es p (w ∷ ws) low h = (below_less es p (store_place w) h.0 low, below_edits es p ws low h.1)
 
-fold_both : (es : List Entry) (us ws : List PlaceEdit) → fold edited es (us ++ ws) ≡ fold edited (fold edited es us) ws
+fold_both : (es : List Entry) (us ws : List BodyEdit) → fold edited es (us ++ ws) ≡ fold edited (fold edited es us) ws
 fold_both es [] ws = refl
 fold_both es (u ∷ us) ws = fold_both (edited es u) us ws
 
 -- the edits that fall into one leaf change it alone
-pub patch_leaf : (leaves now : List (List Entry)) (from at : ℕ) (w : PlaceEdit) (ws : List PlaceEdit) → AreLeaves leaves → length now ≡ length leaves → T (is_sorted place_cmp (flat now)) → drop from now ≡ drop from leaves → from ≤ at → at < length leaves
+pub patch_leaf : (leaves now : List (List Entry)) (from at : ℕ) (w : BodyEdit) (ws : List BodyEdit) → AreLeaves leaves → length now ≡ length leaves → T (is_sorted place_cmp (flat now)) → drop from now ≡ drop from leaves → from ≤ at → at < length leaves
     → BeginsBy leaves at (store_place w) → AreBefore leaves (at + 1) (w ∷ ws) → Rise (w ∷ ws) → EditsBehindKeep → EditsBeforeKeep → flat (slice_set now at (fold edited (nth_leaf leaves at) (w ∷ ws))) ≡ fold edited (flat now) (w ∷ ws)
 patch_leaf leaves now from at w ws are long sorted same le less by before rise fold_behind fold_before =
     flat_set now at made there
@@ -284,7 +282,7 @@ patch_leaf leaves now from at w ws are long sorted same le less by before rise f
     is_next : nth_leaf now (at + 1) ≡ nth_leaf leaves (at + 1)
     is_next = nth_later now leaves from (at + 1) (omega (arith, le)) same
 
-    edits_below : (vs : List PlaceEdit) → AreBefore leaves (at + 1) vs → AreEditsBelow vs back
+    edits_below : (vs : List BodyEdit) → AreBefore leaves (at + 1) vs → AreEditsBelow vs back
     edits_below [] h = tt
     edits_below (v ∷ vs) h = (
       leaves_behind now (at + 1) (store_place v) (omega (arith, there)) (λ more. subst (λ (l : List Entry). 0 < length l) (sym is_next) (are.full (at + 1) [] (omega (arith, more, long)))) sorted
@@ -293,13 +291,13 @@ patch_leaf leaves now from at w ws are long sorted same le less by before rise f
     )
 
 -- a single edit
-pub patch_one : (leaves : List (List Entry)) (at : ℕ) (w : PlaceEdit) (p : StorePlace) (made : List Entry) → AreLeaves leaves → at < length leaves → p ≡ store_place w → BeginsBy leaves at p → BeginsBehind leaves (at + 1) p
+pub patch_one : (leaves : List (List Entry)) (at : ℕ) (w : BodyEdit) (p : StorePlace) (made : List Entry) → AreLeaves leaves → at < length leaves → p ≡ store_place w → BeginsBy leaves at p → BeginsBehind leaves (at + 1) p
     → EditsBehindKeep → EditsBeforeKeep → made ≡ edited (nth_leaf leaves at) w → flat (slice_set leaves at made) ≡ edited (flat leaves) w
 patch_one leaves at w p made are less is by behind behind_keep before_keep makes =
     ap (λ (m : List Entry). flat (slice_set leaves at m)) makes
     ∙ patch_leaf leaves leaves 0 at w [] are refl are.rise refl (omega arith) less (subst (BeginsBy leaves at) is by) (subst (BeginsBehind leaves (at + 1)) is behind, tt) (tt, tt) behind_keep before_keep
 
-pub patch_more : (leaves now : List (List Entry)) (from at count : ℕ) (w : PlaceEdit) (ws vs : List PlaceEdit) (made : List Entry) (end : List Entry) → AreLeaves leaves → length now ≡ length leaves → T (is_sorted place_cmp (flat now)) → drop from now ≡ drop from leaves
+pub patch_more : (leaves now : List (List Entry)) (from at count : ℕ) (w : BodyEdit) (ws vs : List BodyEdit) (made : List Entry) (end : List Entry) → AreLeaves leaves → length now ≡ length leaves → T (is_sorted place_cmp (flat now)) → drop from now ≡ drop from leaves
     → from ≤ at → at < length leaves → BeginsBy leaves at (store_place w) → ws ≡ w ∷ vs → 0 < count → AreBefore leaves (at + 1) (take count ws) → Rise ws → EditsBehindKeep → EditsBeforeKeep → made ≡ fold edited (nth_leaf leaves at) (take count ws) → fold edited (flat now) ws ≡ end
     → (flat (slice_set now at made) ≡ fold edited (flat now) (take count ws)) × (fold edited (flat (slice_set now at made)) (drop count ws) ≡ end)
 patch_more leaves now from at zero w ws vs made end are long sorted same le less by is some before rise behind_keep before_keep makes was = absurd (omega (arith, some))
@@ -311,19 +309,14 @@ patch_more leaves now from at (suc n) w ws vs made end are long sorted same le l
     ∙ ap (fold edited (flat now)) (sym first) in
     (one, ap (λ (es : List Entry). fold edited es (drop (suc n) ws)) one ∙ sym (fold_both (flat now) (take (suc n) ws) (drop (suc n) ws)) ∙ ap (fold edited (flat now)) (take-append-drop (suc n) ws) ∙ was)
 
--- the edit that comes next
-pub next_edit : (edits : List (Bor PlaceEdit)) (start : ℕ) (edit : Bor PlaceEdit) → start < length edits → edit ≡ get_or edits start edit → drop start (edits_behind edits) ≡ edit.now ∷ edits_behind (drop (start + 1) edits)
-next_edit edits start edit less is =
-    sym (behind_drop edits start) ∙ ap edits_behind (drop_more edits start edit less) ∙ ap (λ (e : Bor PlaceEdit). e.now ∷ edits_behind (drop (start + 1) edits)) (sym is)
-
 -- a list of one
-pub only_one : {X : Type 0} (xs : List X) (x : X) → 0 < length xs → length xs < 2 → x ≡ get_or xs 0 x → x ∷ [] ≡ xs
-only_one [] x some few is = absurd (omega (arith, some))
-only_one (y ∷ []) x some few is = ap (λ z. z ∷ []) is
-only_one (y ∷ z ∷ xs) x some few is = absurd (omega (arith, few))
+pub only_one : {X : Type 0} (xs : List X) (x : X) → length xs ≡ 1 → slice_get xs 0 ≡ Some x → x ∷ [] ≡ xs
+only_one [] x one is = absurd (omega (arith, one))
+only_one (y ∷ []) x one is = ap (λ z. z ∷ []) (sym (same_Some y x is))
+only_one (y ∷ z ∷ xs) x one is = absurd (omega (arith, one))
 
 -- where the next edit's leaf may be looked for
-pub reach_begins : (leaves : List (List Entry)) (from : ℕ) (ws vs : List PlaceEdit) (w : PlaceEdit) → 0 < length leaves → ws ≡ w ∷ vs → (from ≡ 0) ⊎ ReachLeaf leaves from ws → (from < length leaves) × BeginsBy leaves from (store_place w)
+pub reach_begins : (leaves : List (List Entry)) (from : ℕ) (ws vs : List BodyEdit) (w : BodyEdit) → 0 < length leaves → ws ≡ w ∷ vs → (from ≡ 0) ⊎ ReachLeaf leaves from ws → (from < length leaves) × BeginsBy leaves from (store_place w)
 reach_begins leaves from ws vs w some is = λ h. ⊎_elim (λ e. (omega (arith, e, some), inl e)) (λ r. let reach : ReachLeaf leaves from (w ∷ vs) = subst (ReachLeaf leaves from) is r in (reach.0, inr reach.1)) h
 
 -- ---- leaves that go, and leaves that are cut

@@ -9,7 +9,7 @@ use Rattle.cs_leaf.specs.Entries.{Entry, nth}
 use Rattle.cs_leaf.specs.Edits.{store_place}
 use Rattle.cs_map_store.specs.Leaves.{AreBefore, BeginsBy, ReachLeaf, nth_leaf, patched, restored, undone}
 use Rattle.cs_map_store.specs.declared.leaves.Patch.{Patch}
-use Rattle.cs_store.specs.declared.batch.PlaceEdit.{PlaceEdit}
+use Rattle.cs_edits.specs.Edits.{BodyEdit}
 use Rattle.cs_map_store.proofs.Leafing.{nth_later, patched_push}
 
 pub set_set : (leaves : List (List Entry)) (at : ℕ) (x y : List Entry) → slice_set (slice_set leaves at x) at y ≡ slice_set leaves at y
@@ -68,14 +68,14 @@ patched_more leaves now new ps all p is grown was =
 pub begins_same : (now leaves : List (List Entry)) (from at : ℕ) (p : StorePlace) → from ≤ at → drop from now ≡ drop from leaves → BeginsBy leaves at p → BeginsBy now at p
 begins_same now leaves from at p le same by = subst (λ (l : List Entry). (at ≡ 0) ⊎ (is_gt (place_cmp (nth l 0).0 p) ≡ false)) (sym (nth_later now leaves from at le same)) by
 
-pub before_same : (now leaves : List (List Entry)) (from at : ℕ) (vs : List PlaceEdit) → from ≤ at → length now ≡ length leaves → drop from now ≡ drop from leaves → AreBefore now at vs → AreBefore leaves at vs
+pub before_same : (now leaves : List (List Entry)) (from at : ℕ) (vs : List BodyEdit) → from ≤ at → length now ≡ length leaves → drop from now ≡ drop from leaves → AreBefore now at vs → AreBefore leaves at vs
 before_same now leaves from at [] le long same h = tt
 before_same now leaves from at (v ∷ vs) le long same h = (
   ⊎_elim (λ e. inl (e ∙ long)) (λ g. inr (subst (λ (l : List Entry). is_gt (place_cmp (nth l 0).0 (store_place v)) ≡ true) (nth_later now leaves from at le same) g)) h.0,
   before_same now leaves from at vs le long same h.1,
 )
 
-pub reach_same : (now leaves : List (List Entry)) (from at : ℕ) (vs : List PlaceEdit) → from ≤ at → length now ≡ length leaves → drop from now ≡ drop from leaves → ReachLeaf now at vs → ReachLeaf leaves at vs
+pub reach_same : (now leaves : List (List Entry)) (from at : ℕ) (vs : List BodyEdit) → from ≤ at → length now ≡ length leaves → drop from now ≡ drop from leaves → ReachLeaf now at vs → ReachLeaf leaves at vs
 reach_same now leaves from at [] le long same h = tt
 reach_same now leaves from at (v ∷ vs) le long same h = (
   omega (arith, h.0, long),

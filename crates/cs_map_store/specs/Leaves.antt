@@ -7,7 +7,7 @@ use Rattle.std.specs.Ordering.{int_eq, is_eq, is_lt, is_gt}
 use Rattle.std.specs.FinMap.{from_sorted, is_sorted}
 use Rattle.cs_store.specs.Contents.{StorePlace, Bodies, place_cmp}
 use Rattle.cs_store.specs.Written.{store_place}
-use Rattle.cs_store.specs.declared.batch.PlaceEdit.{PlaceEdit}
+use Rattle.cs_edits.specs.Edits.{BodyEdit}
 use Rattle.cs_leaf.specs.Entries.{Entry, nth}
 use Rattle.cs_map_store.specs.declared.leaves.Patch.{Patch}
 use Rattle.cs_map_store.specs.declared.leaves.Staged.{Staged}
@@ -32,17 +32,17 @@ abbrev pub bodies_in : List (List Entry) → Bodies
 bodies_in leaves = from_sorted (flat leaves)
 
 -- the first of these edits isn't below the place
-abbrev pub GoOnFrom : StorePlace → List PlaceEdit → Type 0
+abbrev pub GoOnFrom : StorePlace → List BodyEdit → Type 0
 GoOnFrom place [] = Unit {0}
 GoOnFrom place (edit ∷ edits) = is_lt (place_cmp (store_place edit) place) ≡ false
 
 -- the places of edits don't fall
-abbrev pub DontFall : List PlaceEdit → Type 0
+abbrev pub DontFall : List BodyEdit → Type 0
 DontFall [] = Unit {0}
 DontFall (edit ∷ edits) = GoOnFrom (store_place edit) edits × DontFall edits
 
 -- whether the next edit, if there is one, is at another place than the first
-abbrev pub is_last_of : List PlaceEdit → Bool
+abbrev pub is_last_of : List BodyEdit → Bool
 is_last_of [] = true
 is_last_of (edit ∷ []) = true
 is_last_of (edit ∷ next ∷ edits) = not (is_eq (place_cmp (store_place edit) (store_place next)))
@@ -56,12 +56,12 @@ abbrev pub BeginsBehind : List (List Entry) → ℕ → StorePlace → Type 0
 BeginsBehind leaves at place = (at ≡ length leaves) ⊎ (is_gt (place_cmp (first_place leaves at) place) ≡ true)
 
 -- all edits are before the leaf there
-abbrev pub AreBefore : List (List Entry) → ℕ → List PlaceEdit → Type 0
+abbrev pub AreBefore : List (List Entry) → ℕ → List BodyEdit → Type 0
 AreBefore leaves at [] = Unit {0}
 AreBefore leaves at (edit ∷ edits) = BeginsBehind leaves at (store_place edit) × AreBefore leaves at edits
 
 -- the first edit, if there is one, isn't before the leaf there
-abbrev pub ReachLeaf : List (List Entry) → ℕ → List PlaceEdit → Type 0
+abbrev pub ReachLeaf : List (List Entry) → ℕ → List BodyEdit → Type 0
 ReachLeaf leaves at [] = Unit {0}
 ReachLeaf leaves at (edit ∷ edits) = (at < length leaves) × (is_gt (place_cmp (first_place leaves at) (store_place edit)) ≡ false)
 

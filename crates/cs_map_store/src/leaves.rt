@@ -6,14 +6,15 @@ ghost use Rattle.std.specs.Prelude.{◌≡◌, true, false, ◌≤◌, ◌<◌, 
 ghost use Rattle.std.specs.List.{All};
 ghost use Rattle.std.specs.Ordering.{int_eq, is_gt};
 ghost use Rattle.std.specs.FinMap.{get, is_sorted};
-ghost use Rattle.cs_leaf.specs.Edits.{Rise, edited, edits_behind, store_place};
+ghost use Rattle.cs_leaf.specs.Edits.{Rise, edited, store_place};
 ghost use Rattle.cs_store.specs.Contents.{IsListing, place_cmp};
 ghost use Rattle.cs_store.specs.Written.{edit_body, optional_bytes, pairs_of};
 ghost use Rattle.cs_map_store.specs.Leaves.{AreBefore, AreLeaves, ArePatches, BeginsBy, BeginsBehind, CanBePut, ReachLeaf, after_staged, before_staged, first_place, flat, in_table, nth_leaf, patched, restored, undone, bodies_in};
 
-use crate::edits::in_order;
+use crate::edits::{in_order, rise};
+use cs_edits::{LentEdits, PlaceEdit};
 use cs_leaf::{Change, Leaf, Place, laws, merged};
-use cs_store::{PlaceEdit, StoredBody};
+use cs_store::StoredBody;
 use std::alloc::{AllocError, Global};
 use std::mem;
 
@@ -46,7 +47,7 @@ fn begins_above(leaves: &[Leaf], at: usize, place: &Place) -> bool
 }
 
 /// Whether a leaf begins above the place of an edit.
-fn is_before(leaves: &[Leaf], at: usize, edit: &PlaceEdit) -> bool
+fn is_before(leaves: &[Leaf], at: usize, edit: &PlaceEdit<'_>) -> bool
     requires in_bounds { at < length leaves.now }
     ensures { result ≡ is_gt (place_cmp (first_place leaves.now at) (store_place edit.now)) }
 {
@@ -176,7 +177,7 @@ fn leaf_near(leaves: &[Leaf], near: usize, place: &Place) -> usize
 }
 
 /// The leaf in which the place of an edit stands or would stand, not before `from`.
-fn leaf_of(leaves: &[Leaf], from: usize, edit: &PlaceEdit) -> usize
+fn leaf_of(leaves: &[Leaf], from: usize, edit: &PlaceEdit<'_>) -> usize
     requires in_bounds { from < length leaves.now }
     requires begins { BeginsBy leaves.now from (store_place edit.now) }
     ensures bound { (from ≤ result) × (result < length leaves.now) }
@@ -187,20 +188,20 @@ fn leaf_of(leaves: &[Leaf], from: usize, edit: &PlaceEdit) -> usize
 }
 
 /// How many edits fall into a leaf, of which the first does.
-fn edits_in(leaves: &[Leaf], at: usize, edits: &[&PlaceEdit]) -> usize
+fn edits_in(leaves: &[Leaf], at: usize, edits: &LentEdits<'_>) -> usize
     requires in_bounds { at < length leaves.now }
     requires some { 0 < length edits.now }
-    requires first { AreBefore leaves.now (at + 1) (take 1 (edits_behind edits.now)) }
+    requires first { AreBefore leaves.now (at + 1) (take 1 edits.now) }
     ensures bound { (0 < result) × (result ≤ length edits.now) }
-    ensures before { AreBefore leaves.now (at + 1) (take result (edits_behind edits.now)) }
-    ensures behind { ReachLeaf leaves.now (at + 1) (drop result (edits_behind edits.now)) }
+    ensures before { AreBefore leaves.now (at + 1) (take result edits.now) }
+    ensures behind { ReachLeaf leaves.now (at + 1) (drop result edits.now) }
 {
     let next = at + 1;
     if next >= leaves.len() {
         return edits.len();
     }
     let mut count = 1;
-    while count < edits.len() && is_before(leaves, next, edits[count]) {
+    while count < edits.len() && is_before(leaves, next, &edits.get(count)) {
         count += 1;
     }
     count
@@ -208,10 +209,10 @@ fn edits_in(leaves: &[Leaf], at: usize, edits: &[&PlaceEdit]) -> usize
 
 /// Where to begin to look for the leaves of edits whose places rise: at `near`, or where that leaf begins above the first of
 /// them, at the first leaf.
-fn begin_at(leaves: &[Leaf], near: usize, edits: &[&PlaceEdit]) -> usize
-    ensures { (result ≡ 0) ⊎ ReachLeaf leaves.now result (edits_behind edits.now) }
+fn begin_at(leaves: &[Leaf], near: usize, edits: &LentEdits<'_>) -> usize
+    ensures { (result ≡ 0) ⊎ ReachLeaf leaves.now result edits.now }
 {
-    if near < leaves.len() && 0 < edits.len() && !is_before(leaves, near, edits[0]) {
+    if near < leaves.len() && 0 < edits.len() && !is_before(leaves, near, &edits.get(0)) {
         near
     } else {
         0
@@ -223,14 +224,14 @@ fn stage_leaf(
     alloc: Global,
     leaves: &mut Vec<Leaf>,
     at: usize,
-    edits: &[&PlaceEdit],
+    edits: &LentEdits<'_>,
 ) -> Result<Change, AllocError>
     requires in_bounds { at < length leaves.old.items }
     requires sorted { T (is_sorted place_cmp (nth_leaf leaves.old.items at)) }
-    requires rise { Rise (edits_behind edits.now) }
+    requires rise { Rise edits.now }
     ensures left { IfOk result (λ change. leaves.new.items ≡ slice_set leaves.old.items at []) }
     ensures before { IfOk result (λ change. change.0 ≡ nth_leaf leaves.old.items at) }
-    ensures made { IfOk result (λ change. change.1 ≡ fold edited (nth_leaf leaves.old.items at) (edits_behind edits.now)) }
+    ensures made { IfOk result (λ change. change.1 ≡ fold edited (nth_leaf leaves.old.items at) edits.now) }
     ensures err { OnErr result (leaves.new.items ≡ leaves.old.items) }
 {
     let leaf = mem::replace(&mut leaves[at], Leaf::new(alloc));
@@ -268,7 +269,7 @@ fn stage_one(
     alloc: Global,
     leaves: &mut Vec<Leaf>,
     near: Near,
-    edit: &PlaceEdit,
+    edit: &PlaceEdit<'_>,
 ) -> Result<Patch, AllocError>
     requires some { 0 < length leaves.old.items }
     requires leaves { AreLeaves leaves.old.items }
@@ -298,26 +299,26 @@ fn stage_patches(
     alloc: Global,
     leaves: &mut Vec<Leaf>,
     near: usize,
-    edits: &[&PlaceEdit],
+    edits: &LentEdits<'_>,
     patches: &mut Vec<Patch>,
 ) -> Result<(), AllocError>
     requires some { 0 < length leaves.old.items }
     requires leaves { AreLeaves leaves.old.items }
-    requires rise { Rise (edits_behind edits.now) }
+    requires rise { Rise edits.now }
     requires none { patches.old.items ≡ [] }
     ensures places { ArePatches (length leaves.new.items) patches.new.items }
     ensures restored { restored leaves.new.items patches.new.items ≡ leaves.old.items }
     ensures same { patched leaves.new.items patches.new.items ≡ patched leaves.old.items patches.new.items }
-    ensures made { OnOk result (flat (patched leaves.old.items patches.new.items) ≡ fold edited (flat leaves.old.items) (edits_behind edits.now)) }
+    ensures made { OnOk result (flat (patched leaves.old.items patches.new.items) ≡ fold edited (flat leaves.old.items) edits.now) }
 {
     let mut start = 0;
     let mut from = begin_at(leaves.as_slice(), near, edits);
     laws::edited_entries();
     while start < edits.len() {
-        let at = leaf_of(leaves.as_slice(), from, edits[start]);
-        let end = start + edits_in(leaves.as_slice(), at, &edits[start..]);
+        let at = leaf_of(leaves.as_slice(), from, &edits.get(start));
+        let end = start + edits_in(leaves.as_slice(), at, &edits.part(start, edits.len()));
         patches.reserve(1)?;
-        let change = stage_leaf(alloc, leaves, at, &edits[start..end])?;
+        let change = stage_leaf(alloc, leaves, at, &edits.part(start, end))?;
         patches.push_reserved(Patch { at, change });
         start = end;
         from = at + 1;
@@ -367,13 +368,13 @@ fn stage(
     alloc: Global,
     leaves: &mut Vec<Leaf>,
     near: usize,
-    edits: &[&PlaceEdit],
+    edits: &LentEdits<'_>,
 ) -> Result<Staged, AllocError>
     requires leaves { AreLeaves leaves.old.items }
-    requires rise { Rise (edits_behind edits.now) }
+    requires rise { Rise edits.now }
     ensures can { IfOk result (λ staged. CanBePut staged leaves.new.items) }
     ensures before { IfOk result (λ staged. before_staged staged leaves.new.items ≡ leaves.old.items) }
-    ensures made { IfOk result (λ staged. flat (after_staged staged leaves.new.items) ≡ fold edited (flat leaves.old.items) (edits_behind edits.now)) }
+    ensures made { IfOk result (λ staged. flat (after_staged staged leaves.new.items) ≡ fold edited (flat leaves.old.items) edits.now) }
     ensures err { OnErr result (leaves.new.items ≡ leaves.old.items) }
 {
     if leaves.is_empty() {
@@ -393,7 +394,7 @@ fn stage_single(
     alloc: Global,
     leaves: &mut Vec<Leaf>,
     near: Near,
-    edit: &PlaceEdit,
+    edit: &PlaceEdit<'_>,
 ) -> Result<Staged, AllocError>
     requires some { 0 < length leaves.old.items }
     requires leaves { AreLeaves leaves.old.items }
@@ -415,7 +416,7 @@ pub fn stage_edits(
     alloc: Global,
     leaves: &mut Vec<Leaf>,
     near: Near,
-    edits: &[PlaceEdit],
+    edits: &LentEdits<'_>,
 ) -> Result<Staged, AllocError>
     requires { AreLeaves leaves.old.items }
     ensures can { IfOk result (λ staged. CanBePut staged leaves.new.items) }
@@ -425,15 +426,20 @@ pub fn stage_edits(
     ensures err { OnErr result (leaves.new.items ≡ leaves.old.items) }
 {
     laws::edited_entries();
-    match edits {
-        [] => Ok(Staged::Patches(Vec::new(alloc))),
-        [edit] if !leaves.is_empty() => {
-            let staged = stage_single(alloc, leaves, near, edit)?;
+    match edits.len() {
+        0 => Ok(Staged::Patches(Vec::new(alloc))),
+        1 if !leaves.is_empty() => {
+            let staged = stage_single(alloc, leaves, near, &edits.get(0))?;
+            Ok(staged)
+        }
+        // As `apply` answers them: no list of them is made.
+        _ if rise(edits) => {
+            let staged = stage(alloc, leaves, near.leaf, edits)?;
             Ok(staged)
         }
         _ => {
             let sorted = in_order(alloc, edits)?;
-            let staged = stage(alloc, leaves, near.leaf, sorted.as_slice())?;
+            let staged = stage(alloc, leaves, near.leaf, &sorted.lend())?;
             Ok(staged)
         }
     }

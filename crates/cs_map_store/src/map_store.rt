@@ -150,9 +150,9 @@ fn write(
     ensures given_back { OnErr result (vec_capacity log.new ≡ vec_capacity log.old) }
     ensures kept { IsKept slots.new log.new }
 {
-    let rows = shelves.rows.stage(alloc, near, batch.rows.as_slice())?;
-    let changes = batch.pending.as_slice();
-    let pending = match shelves.pending.stage(alloc, near_pending, changes) {
+    let rows = shelves.rows.stage(alloc, near, &batch.rows.lend())?;
+    let changes = batch.pending.lend();
+    let pending = match shelves.pending.stage(alloc, near_pending, &changes) {
         Ok(pending) => pending,
         Err(e) => {
             shelves.rows = rows.leave();

@@ -9,8 +9,9 @@ ghost use Rattle.cs_map_store.specs.Checked.{IsGood};
 
 use crate::checking::{Shelf, check_leaves};
 use crate::leaves::{Near, Staged, find_row, list_rows, put_staged, stage_edits, take_back};
+use cs_edits::LentEdits;
 use cs_leaf::{Leaf, Place};
-use cs_store::{PlaceEdit, StoredBody};
+use cs_store::StoredBody;
 use cs_value::Catalog;
 use std::alloc::{AllocError, Global};
 use std::marker::Model;
@@ -81,7 +82,7 @@ impl Leaves {
         &mut self,
         alloc: Global,
         near: Near,
-        edits: &[PlaceEdit],
+        edits: &LentEdits<'_>,
     ) -> Result<StagedLeaves, AllocError>
         ensures before { IfOk result (λ staged. staged.0 ≡ self.old) }
         ensures after { IfOk result (λ staged. staged.1 ≡ fold edit_body self.old edits.now) }

@@ -1,7 +1,7 @@
 use Rattle.std.proofs.Common.{◌≡◌, ◌-◌, ◌≤◌, ◌⊎◌, T, length, drop, fold}
 use Rattle.std.specs.FinMap.{is_sorted}
 use Rattle.cs_store.specs.Contents.{place_cmp}
-use Rattle.cs_leaf.specs.Edits.{edited, edits_behind}
+use Rattle.cs_leaf.specs.Edits.{edited}
 use Rattle.cs_map_store.specs.Leaves.{ArePatches, ReachLeaf, flat, patched, restored}
 use Rattle.cs_map_store.proofs.leaves.stage_patches.Given as goal
 
@@ -15,8 +15,8 @@ invariant-loop-start l = record {
   same : patched l.leaves.items l.patches.items ≡ patched l.initial.leaves.items l.patches.items;
   rest : drop l.from (patched l.initial.leaves.items l.patches.items) ≡ drop l.from l.initial.leaves.items;
   sorted : T (is_sorted place_cmp (flat (patched l.initial.leaves.items l.patches.items)));
-  reach : (l.from ≡ 0) ⊎ ReachLeaf l.initial.leaves.items l.from (drop l.start (edits_behind l.edits));
-  made : fold edited (flat (patched l.initial.leaves.items l.patches.items)) (drop l.start (edits_behind l.edits)) ≡ fold edited (flat l.initial.leaves.items) (edits_behind l.edits);
+  reach : (l.from ≡ 0) ⊎ ReachLeaf l.initial.leaves.items l.from (drop l.start l.edits);
+  made : fold edited (flat (patched l.initial.leaves.items l.patches.items)) (drop l.start l.edits) ≡ fold edited (flat l.initial.leaves.items) l.edits;
 }
 
 abbrev pub decreases-loop-start : goal.decreases-loop-start

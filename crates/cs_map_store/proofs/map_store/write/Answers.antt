@@ -7,8 +7,8 @@ pub returns-clause-ok : goal.returns-clause-ok
 returns-clause-ok c =
     let rows = c.args.shelves.now.rows in
     let pending = c.args.shelves.now.pending in
-    let made = c.make.ensures ∙ c.in_ok-rows.ensures.after ∙ ap (fold edit_body rows) c.as_slice.ensures.value in
-    let changed = c.make-2.ensures ∙ c.in-Ok.ensures.after ∙ ap (fold edit_body pending) c.as_slice-changes.ensures.value in
+    let made = c.make.ensures ∙ c.in_ok-rows.ensures.after ∙ ap (fold edit_body rows) c.lend.ensures in
+    let changed = c.make-2.ensures ∙ c.in-Ok.ensures.after ∙ ap (fold edit_body pending) c.lend-changes.ensures in
     held_after rows c.make.result pending c.make-2.result
     c.args.slots.now.entries c.write_rest.new.slots.entries c.args.log.now.items c.write_rest.new.log.items c.args.batch.now
     made changed c.in_default.ensures.meta c.in_default.ensures.log
