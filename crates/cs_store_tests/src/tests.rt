@@ -3,6 +3,7 @@
 
 ghost use Rattle.std.specs.Prelude.{◌≡◌, IfErr};
 
+use cs_edits::{LentEdits, PlaceEdit, PlaceEdits};
 use cs_map_store::MapStore;
 use cs_store::*;
 use cs_value::{Catalog, Items, TableDef, Text};
@@ -84,21 +85,9 @@ fn optional(alloc: Global, bytes: Option<&[u8]>) -> Result<Option<Vec<u8>>, Allo
     }
 }
 
-fn edit_of(alloc: Global, edit: &Edit<'_>) -> Result<PlaceEdit, AllocError> {
-    Ok(PlaceEdit {
-        table: edit.0,
-        key: Vec::from_slice(alloc, edit.1)?,
-        body: optional(alloc, edit.2)?,
-    })
-}
-
-fn put_edits(
-    alloc: Global,
-    edits: &[Edit<'_>],
-    made: &mut Vec<PlaceEdit>,
-) -> Result<(), AllocError> {
+fn put_edits(edits: &[Edit<'_>], made: &mut PlaceEdits) -> Result<(), AllocError> {
     for edit in edits {
-        made.push(edit_of(alloc, edit)?)?;
+        made.push(&PlaceEdit::new(edit.0, edit.1, edit.2))?;
     }
     Ok(())
 }
@@ -130,8 +119,8 @@ fn entry_of(alloc: Global, entry: Option<Entry<'_>>) -> Result<Option<StoredEntr
 
 fn nothing(alloc: Global) -> Batch {
     Batch {
-        rows: Vec::new(alloc),
-        pending: Vec::new(alloc),
+        rows: PlaceEdits::new(alloc),
+        pending: PlaceEdits::new(alloc),
         meta: Vec::new(alloc),
         log: None,
     }
@@ -146,8 +135,8 @@ type Spelled<'a> = (
 );
 
 fn put_batch(alloc: Global, spelled: &Spelled<'_>, made: &mut Batch) -> Result<(), AllocError> {
-    put_edits(alloc, spelled.0, &mut made.rows)?;
-    put_edits(alloc, spelled.1, &mut made.pending)?;
+    put_edits(spelled.0, &mut made.rows)?;
+    put_edits(spelled.1, &mut made.pending)?;
     put_named(alloc, spelled.2, &mut made.meta)?;
     made.log = entry_of(alloc, spelled.3)?;
     Ok(())
@@ -585,25 +574,58 @@ fn what_is_written_is_counted_where_a_commit_succeeds(rt: HostRuntime) {
     assert!(rt; counts_written(rt.alloc()));
 }
 
+fn is_edit(edit: &PlaceEdit<'_>, spelled: &Edit<'_>) -> bool {
+    edit.table() == spelled.0 && edit.key() == spelled.1 && edit.body() == spelled.2
+}
+
+/// Whether these are the edits that are lent.
+fn are_edits(lent: &LentEdits<'_>, spelled: &[Edit<'_>]) -> bool {
+    if lent.len() != spelled.len() {
+        return false;
+    }
+    for at in 0..spelled.len() {
+        if !is_edit(&lent.get(at), &spelled[at]) {
+            return false;
+        }
+    }
+    true
+}
+
+/// Whether edits come back as they were put into too little room, and some of them too: a body of no byte is another one than none.
+fn gives_edits_back(alloc: Global) -> Result<bool, AllocError> {
+    let mut made = PlaceEdits::with_capacity(alloc, 2, 4)?;
+    put_edits(&NEXT_ROWS, &mut made)?;
+    let lent = made.lend();
+    if made.len() < 4 {
+        return Ok(false);
+    }
+    Ok(are_edits(&lent, &NEXT_ROWS) && are_edits(&lent.part(1, 4), &NEXT_ROWS[1..4]))
+}
+
+#[test]
+fn edits_in_one_list_of_bytes_stay_apart(rt: HostRuntime) {
+    assert!(rt; gives_edits_back(rt.alloc()).unwrap_or(false));
+}
+
 /// Rows are so many of its first bytes.
 const TEXT: &[u8] = b"abcdefghijklmnop";
 
 const KEYS: [&[u8]; 5] = [b"0", b"1", b"2", b"3", b"4"];
 
 /// The edit of this number at one of five keys: a row of another length than the one before it, and of each seven none.
-fn edit_among_few(alloc: Global, number: usize) -> Result<PlaceEdit, AllocError> {
+fn edit_among_few(number: usize) -> PlaceEdit<'static> {
     let text = TEXT;
     let row = if number % 7 == 6 {
         None
     } else {
         Some(&text[..number % 17])
     };
-    edit_of(alloc, &(0, KEYS[number % 5], row))
+    PlaceEdit::new(0, KEYS[number % 5], row)
 }
 
 fn one_among_few(alloc: Global, number: usize) -> Result<Batch, AllocError> {
     let mut made = nothing(alloc);
-    made.rows.push(edit_among_few(alloc, number)?)?;
+    made.rows.push(&edit_among_few(number))?;
     Ok(made)
 }
 
@@ -633,28 +655,23 @@ fn many_edits_of_few_keys_leave_the_last_of_each(rt: HostRuntime) {
 }
 
 /// The edit of this number in two tables, of which each fifth removes.
-fn edit_at(alloc: Global, number: u8, body: &[u8]) -> Result<PlaceEdit, AllocError> {
+fn put_one(number: u8, body: &[u8], made: &mut PlaceEdits) -> Result<(), AllocError> {
     let table = if number % 2 == 0 { 0 } else { LAST };
     let set = if number % 5 == 4 { None } else { Some(body) };
-    edit_of(alloc, &(table, &[number.wrapping_mul(37)], set))
+    made.push(&PlaceEdit::new(table, &[number.wrapping_mul(37)], set))
 }
 
 /// So many of them.
-fn put_many(
-    alloc: Global,
-    count: u8,
-    body: &[u8],
-    made: &mut Vec<PlaceEdit>,
-) -> Result<(), AllocError> {
+fn put_many(count: u8, body: &[u8], made: &mut PlaceEdits) -> Result<(), AllocError> {
     for number in 0..count {
-        made.push(edit_at(alloc, number, body)?)?;
+        put_one(number, body, made)?;
     }
     Ok(())
 }
 
 fn put_many_all(alloc: Global, count: u8, body: &[u8], made: &mut Batch) -> Result<(), AllocError> {
-    put_many(alloc, count, body, &mut made.rows)?;
-    put_many(alloc, count, body, &mut made.pending)?;
+    put_many(count, body, &mut made.rows)?;
+    put_many(count, body, &mut made.pending)?;
     put_named(alloc, &[(MetaName::Number, Some(body))], &mut made.meta)?;
     made.log = entry_of(alloc, Some((1, 1, body)))?;
     Ok(())
