@@ -7,7 +7,8 @@ use Rattle.std.proofs.lemmas.Option.{slice_get_within}
 use Rattle.cs_change.specs.declared.change.Change.{Change}
 use Rattle.cs_order.specs.Order.{Keys, key_at}
 use Rattle.cs_order.specs.Groups.{IsGrouping}
-use Rattle.cs_apply.specs.Edited.{Plain, plain, plain_list, edit_for}
+use Rattle.cs_edits.specs.Edits.{BodyEdit}
+use Rattle.cs_apply.specs.Edited.{edit_list, edit_for}
 use Rattle.cs_apply.specs.Found.{AreSlots, IsSlotAt, heads}
 use Rattle.cs_apply.specs.Meeting.{blank}
 use Rattle.cs_apply.specs.Spots.{by_test}
@@ -46,38 +47,38 @@ count_waits [] = refl
 count_waits (Some m ∷ held) = count_waits held
 count_waits (None ∷ held) = ap suc (count_waits held)
 
-edits_made : (held : Held) (next : Slot) → made_edits (held ++ Some next ∷ []) ≡ made_edits held ++ plain_list (edit_for next)
-edits_made [] next = append_nil (plain_list (edit_for next))
+edits_made : (held : Held) (next : Slot) → made_edits (held ++ Some next ∷ []) ≡ made_edits held ++ edit_list (edit_for next)
+edits_made [] next = append_nil (edit_list (edit_for next))
   where
-    append_nil : (es : List Plain) → es ++ [] ≡ es
+    append_nil : (es : List BodyEdit) → es ++ [] ≡ es
     append_nil [] = refl
     append_nil (e ∷ es) = ap (λ more. e ∷ more) (append_nil es)
 edits_made (Some m ∷ held) next =
-    ap (λ more. plain_list (edit_for m) ++ more) (edits_made held next)
-    ∙ sym (append_assoc (plain_list (edit_for m)) (made_edits held) (plain_list (edit_for next)))
+    ap (λ more. edit_list (edit_for m) ++ more) (edits_made held next)
+    ∙ sym (append_assoc (edit_list (edit_for m)) (made_edits held) (edit_list (edit_for next)))
 edits_made (None ∷ held) next = edits_made held next
 
 edits_wait : (held : Held) → made_edits (held ++ None ∷ []) ≡ made_edits held
 edits_wait [] = refl
-edits_wait (Some m ∷ held) = ap (λ more. plain_list (edit_for m) ++ more) (edits_wait held)
+edits_wait (Some m ∷ held) = ap (λ more. edit_list (edit_for m) ++ more) (edits_wait held)
 edits_wait (None ∷ held) = edits_wait held
 
-waits_made : (held : Held) (next : Slot) → waits_of (held ++ Some next ∷ []) ≡ waits_of held ++ map not_waiting (plain_list (edit_for next))
-waits_made [] next = append_nil (map not_waiting (plain_list (edit_for next)))
+waits_made : (held : Held) (next : Slot) → waits_of (held ++ Some next ∷ []) ≡ waits_of held ++ map not_waiting (edit_list (edit_for next))
+waits_made [] next = append_nil (map not_waiting (edit_list (edit_for next)))
   where
     append_nil : (bs : List Bool) → bs ++ [] ≡ bs
     append_nil [] = refl
     append_nil (b ∷ bs) = ap (λ more. b ∷ more) (append_nil bs)
 waits_made (Some m ∷ held) next =
-    ap (λ more. map not_waiting (plain_list (edit_for m)) ++ more) (waits_made held next)
-    ∙ sym (append_assoc (map not_waiting (plain_list (edit_for m))) (waits_of held) (map not_waiting (plain_list (edit_for next))))
+    ap (λ more. map not_waiting (edit_list (edit_for m)) ++ more) (waits_made held next)
+    ∙ sym (append_assoc (map not_waiting (edit_list (edit_for m))) (waits_of held) (map not_waiting (edit_list (edit_for next))))
 waits_made (None ∷ held) next = ap (λ more. true ∷ more) (waits_made held next)
 
 waits_wait : (held : Held) → waits_of (held ++ None ∷ []) ≡ waits_of held ++ true ∷ []
 waits_wait [] = refl
 waits_wait (Some m ∷ held) =
-    ap (λ more. map not_waiting (plain_list (edit_for m)) ++ more) (waits_wait held)
-    ∙ sym (append_assoc (map not_waiting (plain_list (edit_for m))) (waits_of held) (true ∷ []))
+    ap (λ more. map not_waiting (edit_list (edit_for m)) ++ more) (waits_wait held)
+    ∙ sym (append_assoc (map not_waiting (edit_list (edit_for m))) (waits_of held) (true ∷ []))
 waits_wait (None ∷ held) = ap (λ more. true ∷ more) (waits_wait held)
 
 all_push : (P : Slot → Type 0) (slots : List Slot) (slot : Slot) → AllByRecursion P slots → P slot → AllByRecursion P (slots ++ slot ∷ [])
@@ -146,14 +147,14 @@ module _ (keys : Keys) (groups : List (List ℕ)) (grouping : IsGrouping keys gr
   abbrev group_at : ℕ → List ℕ
   group_at place = get_or groups place []
 
-  pub started : (read : Slot → Type 0) (places : Places) → places.made.items ≡ [] → places.slots.items ≡ [] → places.waits.items ≡ []
+  pub started : (read : Slot → Type 0) (places : Places) → places.made ≡ [] → places.slots.items ≡ [] → places.waits.items ≡ []
       → length places.numbers.items ≡ length keys → ((at : ℕ) → get_or places.numbers.items at None ≡ None)
       → ArePlacesSoFar keys groups changes read 0 places
   started read places made slots waits long none = record {
     held = [];
     long = refl;
     counted = ap length (sym slots);
-    made = ap (map plain) made;
+    made = made;
     waits = waits;
     as_read = tt;
     slots = tt;
@@ -194,8 +195,8 @@ module _ (keys : Keys) (groups : List (List ℕ)) (grouping : IsGrouping keys gr
           held = held;
           long = length-append so_far.held (Some put.next ∷ []) ∙ ap (λ n. n + 1) so_far.long;
           counted = count_made so_far.held put.next ∙ (so_far.counted ∙ ap length (sym put.slots));
-          made = put.made ∙ (ap (λ es. es ++ plain_list (edit_for put.next)) so_far.made ∙ sym (edits_made so_far.held put.next));
-          waits = put.waits ∙ (ap (λ bs. bs ++ map not_waiting (plain_list (edit_for put.next))) so_far.waits ∙ sym (waits_made so_far.held put.next));
+          made = put.made ∙ (ap (λ es. es ++ edit_list (edit_for put.next)) so_far.made ∙ sym (edits_made so_far.held put.next));
+          waits = put.waits ∙ (ap (λ bs. bs ++ map not_waiting (edit_list (edit_for put.next))) so_far.waits ∙ sym (waits_made so_far.held put.next));
           as_read = subst (AllByRecursion more) (sym woven) read_before;
           slots = subst (AreSlots (heads keys (map first_of (take (count + 1) groups)))) (sym woven) slots_before;
           numbers = ap length put.numbers ∙ so_far.numbers;

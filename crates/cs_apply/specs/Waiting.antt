@@ -3,7 +3,8 @@ use Rattle.std.specs.Prelude.{◌≡◌, ◌≢◌, ◌<◌, ◌≤◌, ◌⊎�
 use Rattle.std.specs.List.{AllByRecursion, Contains}
 use Rattle.cs_change.specs.declared.change.Change.{Change}
 use Rattle.cs_order.specs.Order.{Keys}
-use Rattle.cs_apply.specs.Edited.{Plain, plain, plain_list, edit_for}
+use Rattle.cs_edits.specs.Edits.{BodyEdit}
+use Rattle.cs_apply.specs.Edited.{edit_list, edit_for}
 use Rattle.cs_apply.specs.Found.{AreSlots, IsNumbering, heads}
 use Rattle.cs_apply.specs.Meeting.{blank, IsMadeBy}
 use Rattle.cs_apply.specs.Woven.{weave, unmade, IsWaiting, count_waiting, made_edits, waits_of, not_waiting}
@@ -23,7 +24,7 @@ IsTurn held change place (Some number) = IsWaiting held place number
 pub record ArePlaces (changes : List Change) (numbers : List ℕ) (read : Slot → Type 0) (places : Places) : Type 0 where
   pub held : List (Option Slot)
   pub counted : count_waiting held ≡ length places.slots.items
-  pub made : map plain places.made.items ≡ made_edits held
+  pub made : places.made ≡ made_edits held
   pub waits : places.waits.items ≡ waits_of held
   pub as_read : AllByRecursion read (weave (unmade held) places.slots.items)
   pub long : (length places.numbers.items ≡ length changes) × (length numbers ≡ length changes)
@@ -50,7 +51,7 @@ pub record ArePlacesSoFar (keys : Keys) (groups : List (List ℕ)) (changes : Li
   pub held : List (Option Slot)
   pub long : length held ≡ count
   pub counted : count_waiting held ≡ length places.slots.items
-  pub made : map plain places.made.items ≡ made_edits held
+  pub made : places.made ≡ made_edits held
   pub waits : places.waits.items ≡ waits_of held
   pub as_read : AllByRecursion read (weave (unmade held) places.slots.items)
   pub slots : AreSlots (heads keys (map first_of (take count groups))) (weave (unmade held) places.slots.items)
@@ -65,14 +66,14 @@ pub record IsPutMade (changes : List Change) (group : List ℕ) (slot : Slot) (o
   pub blank_is : slot ≡ blank next
   pub single : length group ≡ 1
   pub by : (some : Change) → IsMadeBy (slice_index_or changes (first_of group) some) next
-  pub made : map plain new.made.items ≡ map plain old.made.items ++ plain_list (edit_for next)
-  pub waits : new.waits.items ≡ old.waits.items ++ map not_waiting (plain_list (edit_for next))
+  pub made : new.made ≡ old.made ++ edit_list (edit_for next)
+  pub waits : new.waits.items ≡ old.waits.items ++ map not_waiting (edit_list (edit_for next))
   pub slots : new.slots.items ≡ old.slots.items
   pub numbers : new.numbers.items ≡ old.numbers.items
 
 -- or it waits
 pub record IsPutWaiting (group : List ℕ) (slot : Slot) (old new : Places) : Type 0 where
-  pub made : map plain new.made.items ≡ map plain old.made.items
+  pub made : new.made ≡ old.made
   pub waits : new.waits.items ≡ old.waits.items ++ true ∷ []
   pub slots : new.slots.items ≡ old.slots.items ++ slot ∷ []
   pub numbers : length new.numbers.items ≡ length old.numbers.items
@@ -83,9 +84,9 @@ abbrev pub IsPut : List Change → List ℕ → Slot → Places → Places → T
 IsPut changes group slot old new = IsPutMade changes group slot old new ⊎ IsPutWaiting group slot old new
 
 -- the edit, if there is one, is behind the others
-pub record HasEdit (edit : Option Plain) (old new : Places) : Type 0 where
-  pub made : map plain new.made.items ≡ map plain old.made.items ++ plain_list edit
-  pub waits : new.waits.items ≡ old.waits.items ++ map not_waiting (plain_list edit)
+pub record HasEdit (edit : Option BodyEdit) (old new : Places) : Type 0 where
+  pub made : new.made ≡ old.made ++ edit_list edit
+  pub waits : new.waits.items ≡ old.waits.items ++ map not_waiting (edit_list edit)
   pub slots : new.slots.items ≡ old.slots.items
   pub numbers : new.numbers.items ≡ old.numbers.items
 

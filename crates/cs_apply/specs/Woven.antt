@@ -1,7 +1,8 @@
 -- Places in order, of which some wait for the turns of their changes. A place that is made stands as its slot, and one
 -- that waits as none: it has the next of the slots that wait.
 use Rattle.std.specs.Prelude.{ℕ, zero, suc, Bool, true, false, List, [], ◌∷◌, ◌++◌, map, Option, Some, None, option_map}
-use Rattle.cs_apply.specs.Edited.{Plain, plain_list, edit_for}
+use Rattle.cs_edits.specs.Edits.{BodyEdit}
+use Rattle.cs_apply.specs.Edited.{edit_list, edit_for}
 use Rattle.cs_apply.specs.Meeting.{blank}
 use Rattle.cs_apply.specs.declared.slots.Slot.{Slot}
 
@@ -33,24 +34,24 @@ count_waiting (Some made ∷ held) = count_waiting held
 count_waiting (None ∷ held) = suc (count_waiting held)
 
 -- the edits of the places that are made
-abbrev pub made_edits : List (Option Slot) → List Plain
+abbrev pub made_edits : List (Option Slot) → List BodyEdit
 made_edits [] = []
-made_edits (Some made ∷ held) = plain_list (edit_for made) ++ made_edits held
+made_edits (Some made ∷ held) = edit_list (edit_for made) ++ made_edits held
 made_edits (None ∷ held) = made_edits held
 
 -- in order, false for each of these edits, and true for each place that waits
-abbrev pub not_waiting : Plain → Bool
+abbrev pub not_waiting : BodyEdit → Bool
 not_waiting edit = false
 
 abbrev pub waits_of : List (Option Slot) → List Bool
 waits_of [] = []
-waits_of (Some made ∷ held) = map not_waiting (plain_list (edit_for made)) ++ waits_of held
+waits_of (Some made ∷ held) = map not_waiting (edit_list (edit_for made)) ++ waits_of held
 waits_of (None ∷ held) = true ∷ waits_of held
 
 -- the edits that are made and those of the slots, in this order
-abbrev pub mesh : List Bool → List Plain → List Slot → List Plain
+abbrev pub mesh : List Bool → List BodyEdit → List Slot → List BodyEdit
 mesh [] made slots = []
 mesh (false ∷ waits) [] slots = mesh waits [] slots
 mesh (false ∷ waits) (edit ∷ made) slots = edit ∷ mesh waits made slots
 mesh (true ∷ waits) made [] = mesh waits made []
-mesh (true ∷ waits) made (slot ∷ slots) = plain_list (edit_for slot) ++ mesh waits made slots
+mesh (true ∷ waits) made (slot ∷ slots) = edit_list (edit_for slot) ++ mesh waits made slots

@@ -8,7 +8,7 @@ use crate::place_edit::PlaceEdit;
 use std::marker::Model;
 
 /// Where an edit stands in the bytes: its key, and behind it up to `end` the body, which is empty where none is set.
-#[derive(Clone, Copy)]
+#[derive(Clone, Copy, Debug)]
 pub(crate) struct EditSpot {
     pub table: u32,
     pub is_set: bool,
@@ -52,7 +52,7 @@ fn edit_at<'a>(bytes: &'a [u8], spot: &EditSpot) -> PlaceEdit<'a>
 }
 
 impl<'a> LentEdits<'a> {
-    ghost use Rattle.std.specs.Prelude.{◌≡◌, ◌<◌, ◌≤◌, length, slice_get, slice_range, Some};
+    ghost use Rattle.std.specs.Prelude.{◌≡◌, ◌<◌, ◌≤◌, ◌∷◌, [], length, slice_get, slice_range, MatchOption, Some};
     ghost use Rattle.std.specs.List.{All};
     ghost use Rattle.cs_edits.specs.Spots.{IsEditSpotIn, edits_in};
 
@@ -89,5 +89,19 @@ impl<'a> LentEdits<'a> {
         ensures { result ≡ slice_range self.now from to }
     {
         LentEdits::of_parts(self.bytes, &self.spots[from..to])
+    }
+
+    /// The first edit, and those behind it; `None` where there is none.
+    #[inline(always)]
+    pub fn split_first(&self) -> Option<(PlaceEdit<'a>, LentEdits<'a>)>
+        ensures { MatchOption result (self.now ≡ []) (λ split. self.now ≡ split.0 ∷ split.1) }
+    {
+        let Some((spot, rest)) = self.spots.split_first() else {
+            return None;
+        };
+        Some((
+            edit_at(self.bytes, spot),
+            LentEdits::of_parts(self.bytes, rest),
+        ))
     }
 }

@@ -10,7 +10,7 @@ use std::alloc::{AllocError, Global};
 use std::marker::Model;
 
 /// Edits of places, in order. (Profile of this project.)
-#[derive(Drop)]
+#[derive(Debug, Drop)]
 pub struct PlaceEdits {
     bytes: Vec<u8>,
     spots: Vec<EditSpot>,
@@ -110,6 +110,13 @@ impl PlaceEdits {
             bytes: Vec::with_capacity(alloc, bytes)?,
             spots: Vec::with_capacity(alloc, edits)?,
         })
+    }
+
+    /// No edit, with room for as many as these.
+    pub fn with_room_for(alloc: Global, edits: &PlaceEdits) -> Result<PlaceEdits, AllocError>
+        ensures { IfOk result (λ made. made ≡ []) }
+    {
+        PlaceEdits::with_capacity(alloc, edits.spots.len(), edits.bytes.len())
     }
 
     /// How many edits there are.

@@ -25,7 +25,7 @@ pub struct StoredEntry {
 
 /// What one commit writes. A place or a name that stands in several edits gets what the last of them says. (Profile of this
 /// project.)
-#[derive(Drop)]
+#[derive(Debug, Drop)]
 pub struct Batch {
     /// Edits of rows, in order. Each body is a row.
     pub rows: PlaceEdits,
