@@ -20,7 +20,7 @@ use Rattle.cs_store.specs.Contents.{Contents}
 use Rattle.cs_store.specs.Laws.{KeepsOtherPending, KeepsOtherRows, WritesPending, WritesRows}
 use Rattle.cs_store.specs.Written.{after_batch, edit_body}
 use Rattle.cs_store.specs.declared.batch.Batch.{Batch}
-use Rattle.cs_store.specs.declared.batch.PlaceEdit.{PlaceEdit}
+use Rattle.cs_edits.specs.Edits.{BodyEdit}
 use Rattle.cs_pending.specs.Settling.{AreWithin, IsWithin, Settles}
 use Rattle.cs_pending.specs.declared.settling.Settling.{Settling}
 use Rattle.cs_pending.specs.Steps.{rest_after, settles_none, shows_after}
@@ -126,7 +126,7 @@ was_device stored.Device told memory is = refl
 -- ---- one place put
 
 module _ (tables : List TableDef) (number : ℕ) (table : TableDef) (key : List ℕ) (before : Standing) (mine : Place) (old : Contents) (begun : ℕ) (start settling : Settling)
-    (rows_none : start.rows.items ≡ []) (pending_none : start.pending.items ≡ []) (count_is : start.count ≡ begun)
+    (rows_none : start.rows ≡ []) (pending_none : start.pending ≡ []) (count_is : start.count ≡ begun)
     (claim : (view : View) → MayStandAt tables table.name key before.base → MayStandAt tables table.name key mine → StandsIn view table key before → Settles tables old begun start view
     → Settles tables old begun settling (settled table key before.base mine view)) where
   pub settles_put : (view : View) → ShowsRows tables old view → MaySettle tables view table key before mine → Settles tables old begun settling (settled table key (middle view table.name key) mine view)
@@ -135,20 +135,20 @@ module _ (tables : List TableDef) (number : ℕ) (table : TableDef) (key : List 
       (claim view (subst (λ (p : Place). MayStandAt tables table.name key p) (sym may.stands.base_is) (shows.sound.before_state table.name key)) may.stays may.stands
       (settles_none tables old begun start view rows_none pending_none count_is shows))
 
-  pub put_in : WritesRows → WritesPending → KeepsOtherRows → KeepsOtherPending → (batch : Batch) → batch.rows.items ≡ settling.rows.items → batch.pending.items ≡ settling.pending.items → batch.meta.items ≡ [] → batch.log ≡ None
+  pub put_in : WritesRows → WritesPending → KeepsOtherRows → KeepsOtherPending → (batch : Batch) → batch.rows ≡ settling.rows → batch.pending ≡ settling.pending → batch.meta.items ≡ [] → batch.log ≡ None
       → IsWithin tables settling → IsPutIn tables table key before mine old (after_batch batch old)
   put_in rows_law pending_law other_rows other_pending batch rows pending meta log within = (
     rest_after tables old batch settling rows pending other_rows other_pending within meta log,
     λ view shows may. shows_after tables old batch settling rows pending rows_law pending_law begun (settled table key (middle view table.name key) mine view) (settles_put view shows may),
   )
 
-  pub put_counts : (batch : Batch) (new : Contents) → batch.pending.items ≡ settling.pending.items → new ≡ after_batch batch old → (view : View) → ShowsRows tables old view → MaySettle tables view table key before mine
+  pub put_counts : (batch : Batch) (new : Contents) → batch.pending ≡ settling.pending → new ≡ after_batch batch old → (view : View) → ShowsRows tables old view → MaySettle tables view table key before mine
       → begun ≡ len old.pending → settling.count ≡ len new.pending
   put_counts batch new pending is view shows may right =
       (settles_put view shows may).counted right
-      ∙ ap (λ (es : List PlaceEdit). len (fold edit_body old.pending es)) (sym pending)
+      ∙ ap (λ (es : List BodyEdit). len (fold edit_body old.pending es)) (sym pending)
       ∙ ap (λ (c : Contents). len c.pending) (sym is)
 
 -- edits of no place are within the tables
-pub none_within : (tables : List TableDef) (settling : Settling) → settling.rows.items ≡ [] → settling.pending.items ≡ [] → IsWithin tables settling
-none_within tables settling rows pending = (subst (λ (es : List PlaceEdit). AreWithin tables es) (sym rows) tt, subst (λ (es : List PlaceEdit). AreWithin tables es) (sym pending) tt)
+pub none_within : (tables : List TableDef) (settling : Settling) → settling.rows ≡ [] → settling.pending ≡ [] → IsWithin tables settling
+none_within tables settling rows pending = (subst (λ (es : List BodyEdit). AreWithin tables es) (sym rows) tt, subst (λ (es : List BodyEdit). AreWithin tables es) (sym pending) tt)

@@ -7,8 +7,8 @@ use Rattle.cs_record.specs.Spelling.{row_bytes}
 use Rattle.cs_change.specs.Spelling.{change_spelling, FitsChange}
 use Rattle.cs_store.specs.Contents.{Contents, stored_tables, stored_pending}
 use Rattle.cs_store.specs.Laws.{row_after}
-use Rattle.cs_store.specs.Written.{edit_body, optional_bytes}
-use Rattle.cs_store.specs.declared.batch.PlaceEdit.{PlaceEdit}
+use Rattle.cs_store.specs.Written.{edit_body}
+use Rattle.cs_edits.specs.Edits.{BodyEdit}
 use Rattle.cs_pending.specs.View.{View}
 use Rattle.cs_pending.specs.Shows.{IsSoundOf}
 use Rattle.cs_pending.specs.declared.settling.Settling.{Settling}
@@ -18,25 +18,25 @@ abbrev pub recount : ℕ → Bool → Bool → ℕ
 recount count was is = count - (if was then 1 else 0) + (if is then 1 else 0)
 
 -- an edit of this place was appended, that sets this body or none; or nothing was
-abbrev pub IsPushed : Bool → ℕ → List ℕ → Option (List ℕ) → List PlaceEdit → List PlaceEdit → Type 0
+abbrev pub IsPushed : Bool → ℕ → List ℕ → Option (List ℕ) → List BodyEdit → List BodyEdit → Type 0
 IsPushed false number key body old new = new ≡ old
 IsPushed true number key body old new =
-    (edit : PlaceEdit) × (new ≡ old ++ edit ∷ []) × (edit.table ≡ number) × (edit.key.items ≡ key) × (optional_bytes edit.body ≡ body)
+    (edit : BodyEdit) × (new ≡ old ++ edit ∷ []) × (edit.table ≡ number) × (edit.key ≡ key) × (edit.body ≡ body)
 
 -- the edits are of places of the tables
-abbrev pub AreWithin : List TableDef → List PlaceEdit → Type 0
-AreWithin tables edits = AllByRecursion (λ (edit : PlaceEdit). edit.table < length tables) edits
+abbrev pub AreWithin : List TableDef → List BodyEdit → Type 0
+AreWithin tables edits = AllByRecursion (λ (edit : BodyEdit). edit.table < length tables) edits
 
 abbrev pub IsWithin : List TableDef → Settling → Type 0
-IsWithin tables settling = AreWithin tables settling.rows.items × AreWithin tables settling.pending.items
+IsWithin tables settling = AreWithin tables settling.rows × AreWithin tables settling.pending
 
 -- the edits, made of what the contents hold, lead to this view; `begun` is the count of pending changes that they began with
 pub record Settles (tables : List TableDef) (contents : Contents) (begun : ℕ) (settling : Settling) (view : View) : Type 0 where
   pub rows_are : (number : ℕ) (table : TableDef) (key : List ℕ) → slice_get tables number ≡ Some table
-      → row_after settling.rows.items number key (stored_tables contents number key) ≡ option_map row_bytes (view.tables table.name key)
+      → row_after settling.rows number key (stored_tables contents number key) ≡ option_map row_bytes (view.tables table.name key)
   pub pending_are : (number : ℕ) (table : TableDef) (key : List ℕ) → slice_get tables number ≡ Some table
-      → row_after settling.pending.items number key (stored_pending contents number key) ≡ option_map change_spelling (view.pending table.name key)
+      → row_after settling.pending number key (stored_pending contents number key) ≡ option_map change_spelling (view.pending table.name key)
   pub fits : (table : TableDef) (key : List ℕ) → Contains tables table → IfSome (view.pending table.name key) (FitsChange table.key_marks)
   pub sound : IsSoundOf tables view.pending view.tables
   -- where the count was right, it is right after the edits
-  pub counted : begun ≡ len contents.pending → settling.count ≡ len (fold edit_body contents.pending settling.pending.items)
+  pub counted : begun ≡ len contents.pending → settling.count ≡ len (fold edit_body contents.pending settling.pending)

@@ -2,6 +2,7 @@
 
 ghost use Rattle.std.specs.Prelude.{◌≡◌, ◌⊎◌, Some, IfOk, IfErr, Err, slice_get};
 ghost use Rattle.std.specs.FinMap.{len};
+ghost use Rattle.std.specs.Option.{option_copied};
 ghost use Rattle.cs_store.specs.declared.fault.StoreFault.TheVariants as stored;
 ghost use Rattle.cs_pending.specs.Calls.{WritesStore};
 ghost use Rattle.cs_pending.specs.Edits.{IsChangedBy, IsOfStore, IsWantedAt, Leads, edit_at};
@@ -15,7 +16,7 @@ use crate::places::{are_same, lent};
 use crate::placing::{Found, found_at};
 use crate::settling::Settling;
 use crate::wanted::{Wanted, left_by};
-use cs_record::RowBuf;
+use cs_record::Row;
 use cs_store::{Batch, RowStore, StoreFault};
 use cs_value::{Catalog, TableDef};
 use std::alloc::Global;
@@ -30,16 +31,16 @@ fn put_place<S: RowStore>(
     catalog: &Catalog,
     table: &TableDef,
     number: u32,
-    key: Vec<u8>,
+    key: &[u8],
     before: &Found,
-    mine: Option<RowBuf>,
+    mine: Option<&Row<'_>>,
     pending: u64,
 ) -> Result<u64, StoreFault>
     requires there { slice_get catalog.now number ≡ Some table.now }
     ensures writes { WritesStore S.honest S.contents S.failed S.may_leave S.misreads stored.Device (ShowsSome catalog.now (S.contents store.old))
-        (IsPutIn catalog.now table.now key.items (standing_found before.now) mine (S.contents store.old)) store.old store.new result }
+        (IsPutIn catalog.now table.now key.now (standing_found before.now) (option_copied mine.entry) (S.contents store.old)) store.old store.new result }
     ensures counted { S.honest store.new → (view : View) → ShowsRows catalog.now (S.contents store.old) view
-        → MaySettle catalog.now view table.now key.items (standing_found before.now) mine
+        → MaySettle catalog.now view table.now key.now (standing_found before.now) (option_copied mine.entry)
         → pending ≡ len (S.contents store.old).pending → IfOk result (λ count. count ≡ len (S.contents store.new).pending) }
 {
     cs_value::laws::catalogs();
@@ -50,12 +51,13 @@ fn put_place<S: RowStore>(
     let mut settling = Settling::new(alloc, pending);
     let stood = before.mine();
     let base = before.base();
-    settling.settle_own(
+    settling.settle_at(
         alloc,
         table,
         number,
         key,
         stood.as_ref(),
+        base.as_ref(),
         base.as_ref(),
         mine,
     )?;
@@ -74,29 +76,29 @@ fn put_place<S: RowStore>(
 
 /// Makes an edit at a place. It answers how many changes are pending then. The place is told by its table, the table's number and
 /// its key; and what is wanted, and the count go with it.
-// Eight parameters: allocator, store and catalog, the place in three parts, of which the caller made the key, what is wanted, and the count.
+// Eight parameters: allocator, store and catalog, the place in three parts, what is wanted, and the count.
 pub(crate) fn edit_place<S: RowStore>(
     alloc: Global,
     store: &mut S,
     catalog: &Catalog,
     table: &TableDef,
     number: u32,
-    key: Vec<u8>,
+    key: &[u8],
     wanted: &Wanted<'_>,
     pending: u64,
 ) -> Result<u64, EditFault>
     requires there { slice_get catalog.now number ≡ Some table.now }
-    requires wanted { IsWantedAt table.now key.items wanted.now }
+    requires wanted { IsWantedAt table.now key.now wanted.now }
     ensures writes { WritesStore S.honest S.contents S.failed S.may_leave S.misreads Device (ShowsSome catalog.now (S.contents store.old))
-        (IsChangedBy catalog.now (Leads (edit_at table.now key.items wanted.now)) (S.contents store.old)) store.old store.new result }
+        (IsChangedBy catalog.now (Leads (edit_at table.now key.now wanted.now)) (S.contents store.old)) store.old store.new result }
     ensures refused { S.honest store.new → (view : View) → ShowsRows catalog.now (S.contents store.old) view
-        → IfErr result (λ fault. IsOfStore fault ⊎ (edit_at table.now key.items wanted.now view ≡ Err fault)) }
+        → IfErr result (λ fault. IsOfStore fault ⊎ (edit_at table.now key.now wanted.now view ≡ Err fault)) }
     ensures counted { S.honest store.new → ShowsSome catalog.now (S.contents store.old)
         → pending ≡ len (S.contents store.old).pending → IfOk result (λ count. count ≡ len (S.contents store.new).pending) }
 {
     cs_value::laws::catalogs();
     let _tables = catalog.tables();
-    let before = match found_at(alloc, store, catalog, table, number, key.as_slice()) {
+    let before = match found_at(alloc, store, catalog, table, number, key) {
         Ok(before) => before,
         Err(fault) => return Err(EditFault::from(fault)),
     };
@@ -110,7 +112,15 @@ pub(crate) fn edit_place<S: RowStore>(
         return Ok(pending);
     }
     match put_place(
-        alloc, store, catalog, table, number, key, &before, mine, pending,
+        alloc,
+        store,
+        catalog,
+        table,
+        number,
+        key,
+        &before,
+        row.as_ref(),
+        pending,
     ) {
         Ok(count) => Ok(count),
         Err(fault) => Err(EditFault::from(fault)),

@@ -193,7 +193,7 @@ pub fn insert_row<S: RowStore>(
         catalog,
         table,
         place as u32,
-        key,
+        key.as_slice(),
         &wanted,
         pending,
     )
@@ -249,7 +249,7 @@ pub fn update_row<S: RowStore>(
         catalog,
         table,
         place as u32,
-        key,
+        key.as_slice(),
         &wanted,
         pending,
     )
@@ -297,7 +297,7 @@ pub fn delete_row<S: RowStore>(
         catalog,
         table,
         place as u32,
-        key,
+        key.as_slice(),
         &Wanted::Delete,
         pending,
     )

@@ -87,22 +87,22 @@ pub fn undone(
 }
 
 /// The bytes of a row or none.
-pub(crate) fn row_body(alloc: Global, row: Option<&Row<'_>>) -> Result<Option<Vec<u8>>, Memory>
-    ensures { IfOk result (λ body. optional_bytes body ≡ option_map row_bytes (option_copied row.entry)) }
-{
-    match row {
-        None => Ok(None),
-        Some(row) => Ok(Some(Vec::from_slice(alloc, row.bytes())?)),
-    }
-}
-
-/// The bytes of a row or none, which it gives away.
-pub(crate) fn own_body(row: Option<RowBuf>) -> Option<Vec<u8>>
-    ensures { optional_bytes result ≡ option_map row_bytes row }
+pub(crate) fn row_body<'a>(row: Option<&Row<'a>>) -> Option<&'a [u8]>
+    ensures { option_map (λ body. body.now) result ≡ option_map row_bytes (option_copied row.entry) }
 {
     match row {
         None => None,
-        Some(row) => Some(row.into_vec()),
+        Some(row) => Some(row.bytes()),
+    }
+}
+
+/// The bytes that are there, or none.
+pub(crate) fn lent_body(body: &Option<Vec<u8>>) -> Option<&[u8]>
+    ensures { option_map (λ bytes. bytes.now) result ≡ optional_bytes body.now }
+{
+    match body {
+        None => None,
+        Some(bytes) => Some(bytes.as_slice()),
     }
 }
 

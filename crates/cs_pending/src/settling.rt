@@ -8,16 +8,15 @@ ghost use Rattle.cs_value.specs.Same.{same_place};
 ghost use Rattle.cs_record.specs.Spelling.{row_bytes};
 ghost use Rattle.cs_change.specs.Spelling.{change_spelling};
 ghost use Rattle.cs_normal.specs.State.{MayStandAt};
-ghost use Rattle.cs_store.specs.Written.{optional_bytes};
 ghost use Rattle.cs_store.specs.Contents.{Contents};
 ghost use Rattle.cs_pending.specs.Placing.{StandsIn, standing_of};
 ghost use Rattle.cs_pending.specs.Settling.{IsPushed, IsWithin, Settles, recount};
 ghost use Rattle.cs_pending.specs.View.{View, direct_net, settled};
 
-use crate::places::{are_same, lent, net_body, own_body, row_body};
+use crate::places::{are_same, lent, lent_body, net_body, row_body};
 use crate::placing::Standing;
-use cs_record::{Row, RowBuf};
-use cs_store::PlaceEdit;
+use cs_edits::{PlaceEdit, PlaceEdits};
+use cs_record::Row;
 use cs_value::{Memory, TableDef};
 use std::alloc::{AllocError, Global};
 
@@ -26,82 +25,48 @@ use std::alloc::{AllocError, Global};
 #[derive(Drop)]
 pub struct Settling {
     /// Edits of rows, in order.
-    pub rows: Vec<PlaceEdit>,
+    pub rows: PlaceEdits,
     /// Edits of pending changes, in order.
-    pub pending: Vec<PlaceEdit>,
+    pub pending: PlaceEdits,
     /// How many changes are pending after them.
     pub count: u64,
 }
 
 /// Appends an edit of a place.
 fn push_edit(
-    edits: &mut Vec<PlaceEdit>,
-    alloc: Global,
+    edits: &mut PlaceEdits,
     number: u32,
     key: &[u8],
-    body: Option<Vec<u8>>,
+    body: Option<&[u8]>,
 ) -> Result<(), Memory>
-    ensures { OnOk result (IsPushed true number key.now (optional_bytes body) edits.old.items edits.new.items) }
+    ensures { OnOk result (IsPushed true number key.now (option_map (λ set. set.now) body.entry) edits.old edits.new) }
 {
-    let key = Vec::from_slice(alloc, key)?;
-    edits.push(PlaceEdit {
-        table: number,
-        key,
-        body,
-    })?;
-    Ok(())
+    edits.push(&PlaceEdit::new(number, key, body))
 }
 
 /// Appends the edit of a row, where another row or none stood.
-// Six parameters: the list written into and its allocator, the place in two parts, and its two rows, each lent or none.
+// Five parameters: the list written into, the place in two parts, and its two rows, each lent or none.
 fn push_row(
-    edits: &mut Vec<PlaceEdit>,
-    alloc: Global,
+    edits: &mut PlaceEdits,
     number: u32,
     key: &[u8],
     stood: Option<&Row<'_>>,
     mine: Option<&Row<'_>>,
 ) -> Result<(), Memory>
     ensures { OnOk result (IsPushed (not (same_place (option_copied stood.entry) (option_copied mine.entry)))
-        number key.now (option_map row_bytes (option_copied mine.entry)) edits.old.items edits.new.items) }
+        number key.now (option_map row_bytes (option_copied mine.entry)) edits.old edits.new) }
 {
     if are_same(stood, mine) {
         return Ok(());
     }
-    let body = row_body(alloc, mine)?;
-    push_edit(edits, alloc, number, key, body)
-}
-
-/// Appends the edit of a row, whose bytes become the edit's, where another row or none stood.
-// Five parameters: the list written into, the place in two parts, and its two rows, of which the new one is given away.
-fn push_own_row(
-    edits: &mut Vec<PlaceEdit>,
-    number: u32,
-    key: Vec<u8>,
-    stood: Option<&Row<'_>>,
-    mine: Option<RowBuf>,
-) -> Result<(), Memory>
-    ensures { OnOk result (IsPushed (not (same_place (option_copied stood.entry) mine))
-        number key.items (option_map row_bytes mine) edits.old.items edits.new.items) }
-{
-    let row = lent(&mine);
-    if are_same(stood, row.as_ref()) {
-        return Ok(());
-    }
-    let body = own_body(mine);
-    edits.push(PlaceEdit {
-        table: number,
-        key,
-        body,
-    })?;
-    Ok(())
+    push_edit(edits, number, key, row_body(mine))
 }
 
 /// Appends the edit of a pending change, where one was pending or is. It answers whether one is.
 // Eight parameters: the list written into and its allocator, the place in three parts, whether a change was pending there, and the rows
 // `base` and `mine`, each lent or none.
 fn push_pending(
-    edits: &mut Vec<PlaceEdit>,
+    edits: &mut PlaceEdits,
     alloc: Global,
     table: &TableDef,
     number: u32,
@@ -112,14 +77,14 @@ fn push_pending(
 ) -> Result<bool, Memory>
     ensures is { IfOk result (λ is. is ≡ is_some (direct_net table.now (option_copied base.entry) (option_copied mine.entry))) }
     ensures pushed { IfOk result (λ is. IsPushed (was || is) number key.now
-        (option_map change_spelling (direct_net table.now (option_copied base.entry) (option_copied mine.entry))) edits.old.items edits.new.items) }
+        (option_map change_spelling (direct_net table.now (option_copied base.entry) (option_copied mine.entry))) edits.old edits.new) }
 {
     let body = net_body(alloc, table, base, mine)?;
     let is = body.is_some();
     if !was && !is {
         return Ok(false);
     }
-    match push_edit(edits, alloc, number, key, body) {
+    match push_edit(edits, number, key, lent_body(&body)) {
         Ok(()) => Ok(is),
         Err(fault) => Err(fault),
     }
@@ -142,13 +107,13 @@ fn counted(count: u64, was: bool, is: bool) -> Result<u64, Memory>
 impl Settling {
     /// No edits, where so many changes are pending. It takes no memory.
     pub fn new(alloc: Global, count: u64) -> Settling
-        ensures rows { result.rows.items ≡ [] }
-        ensures pending { result.pending.items ≡ [] }
+        ensures rows { result.rows ≡ [] }
+        ensures pending { result.pending ≡ [] }
         ensures count { result.count ≡ count }
     {
         Settling {
-            rows: Vec::new(alloc),
-            pending: Vec::new(alloc),
+            rows: PlaceEdits::new(alloc),
+            pending: PlaceEdits::new(alloc),
             count,
         }
     }
@@ -179,14 +144,50 @@ impl Settling {
             → OnOk result (Settles tables contents begun self.new
             (settled table.now key.now (option_copied base.entry) (option_copied mine.entry) view)) }
     {
+        let stood = lent(&before.mine);
+        let stood_base = lent(&before.base);
+        self.settle_at(
+            alloc,
+            table,
+            number,
+            key,
+            stood.as_ref(),
+            stood_base.as_ref(),
+            base,
+            mine,
+        )
+    }
+
+    /// As `settle`, where the rows that stood there before this are lent apart.
+    // Nine parameters: those of `settle`, with the two rows or none that stood there.
+    pub(crate) fn settle_at(
+        &mut self,
+        alloc: Global,
+        table: &TableDef,
+        number: u32,
+        key: &[u8],
+        stood: Option<&Row<'_>>,
+        stood_base: Option<&Row<'_>>,
+        base: Option<&Row<'_>>,
+        mine: Option<&Row<'_>>,
+    ) -> Result<(), Memory>
+        ensures within { (tables : List Table) → number < length tables → IsWithin tables self.old → OnOk result (IsWithin tables self.new) }
+        ensures settled { (tables : List Table) (contents : Contents) (begun : ℕ) (view : View)
+            → AreTables tables
+            → slice_get tables number ≡ Some table.now
+            → MayStandAt tables table.now.name key.now (option_copied base.entry)
+            → MayStandAt tables table.now.name key.now (option_copied mine.entry)
+            → StandsIn view table.now key.now (standing_of (option_copied stood.entry) (option_copied stood_base.entry))
+            → Settles tables contents begun self.old view
+            → OnOk result (Settles tables contents begun self.new
+            (settled table.now key.now (option_copied base.entry) (option_copied mine.entry) view)) }
+    {
         cs_value::laws::catalogs();
         cs_normal::laws::one_key_stands();
         cs_change::laws::net_takes();
         cs_store::laws::commits();
-        let stood = lent(&before.mine);
-        let stood_base = lent(&before.base);
-        let was = !are_same(stood_base.as_ref(), stood.as_ref());
-        push_row(&mut self.rows, alloc, number, key, stood.as_ref(), mine)?;
+        let was = !are_same(stood_base, stood);
+        push_row(&mut self.rows, number, key, stood, mine)?;
         let is = push_pending(
             &mut self.pending,
             alloc,
@@ -197,51 +198,6 @@ impl Settling {
             base,
             mine,
         )?;
-        self.count = counted(self.count, was, is)?;
-        Ok(())
-    }
-
-    /// As `settle`, of a row and a key that are given away, and become those of the row's edit, where `stood` stood, and what is
-    /// pending led to it from `base` too.
-    // Eight parameters: those of `settle`, with the row or none that stood there.
-    pub(crate) fn settle_own(
-        &mut self,
-        alloc: Global,
-        table: &TableDef,
-        number: u32,
-        key: Vec<u8>,
-        stood: Option<&Row<'_>>,
-        base: Option<&Row<'_>>,
-        mine: Option<RowBuf>,
-    ) -> Result<(), Memory>
-        ensures within { (tables : List Table) → number < length tables → IsWithin tables self.old → OnOk result (IsWithin tables self.new) }
-        ensures settled { (tables : List Table) (contents : Contents) (begun : ℕ) (view : View)
-            → AreTables tables
-            → slice_get tables number ≡ Some table.now
-            → MayStandAt tables table.now.name key.items (option_copied base.entry)
-            → MayStandAt tables table.now.name key.items mine
-            → StandsIn view table.now key.items (standing_of (option_copied stood.entry) (option_copied base.entry))
-            → Settles tables contents begun self.old view
-            → OnOk result (Settles tables contents begun self.new
-            (settled table.now key.items (option_copied base.entry) mine view)) }
-    {
-        cs_value::laws::catalogs();
-        cs_normal::laws::one_key_stands();
-        cs_change::laws::net_takes();
-        cs_store::laws::commits();
-        let was = !are_same(base, stood);
-        let row = lent(&mine);
-        let is = push_pending(
-            &mut self.pending,
-            alloc,
-            table,
-            number,
-            key.as_slice(),
-            was,
-            base,
-            row.as_ref(),
-        )?;
-        push_own_row(&mut self.rows, number, key, stood, mine)?;
         self.count = counted(self.count, was, is)?;
         Ok(())
     }

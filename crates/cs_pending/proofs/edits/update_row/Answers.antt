@@ -43,7 +43,7 @@ returns-clause-writes g c =
     let wide = both_counts _ _ _ _ (rw (c.as_slice.ensures, c.key_width.ensures, c.as_slice-marks.ensures) at c.if-as_slice-key_width.false) (rw c.as_slice-marks.ensures at c.if-fields-marks.false) in
     let set = rw c.as_slice-2.ensures at (sym c.are_set.ensures ∙ c.if-not-are_set.false) in
     let kept = rw c.as_slice-marks.ensures at (sym c.are_kept.ensures ∙ c.if-not-are_kept.false) in
-    let key_is = c.in_ok-key.ensures ∙ ap row_bytes c.as_slice-3.ensures in
+    let key_is = c.as_slice-4.ensures.value ∙ c.in_ok-key.ensures ∙ ap row_bytes c.as_slice-3.ensures in
     let fields_are = c.as_record.ensures ∙ c.in_ok-fields.ensures.fields in
     writes_as g.S.RowStore.honest g.S.RowStore.contents g.S.RowStore.failed g.S.RowStore.may_leave g.S.RowStore.misreads _ _ _ _ c.args.store.now c.edit_place.new.store c.edit_place.result
     (λ left changed. changed_alike c.args.catalog.now _ _ _ left (λ view. (at_place c.args.catalog.now c.args.name.now (AskUpdate c.args.key.now c.args.fields.now) c.index-tables-place.result here wide set kept view
@@ -57,7 +57,7 @@ returns-clause-refused g c = λ honest view shows.
     let wide = both_counts _ _ _ _ (rw (c.as_slice.ensures, c.key_width.ensures, c.as_slice-marks.ensures) at c.if-as_slice-key_width.false) (rw c.as_slice-marks.ensures at c.if-fields-marks.false) in
     let set = rw c.as_slice-2.ensures at (sym c.are_set.ensures ∙ c.if-not-are_set.false) in
     let kept = rw c.as_slice-marks.ensures at (sym c.are_kept.ensures ∙ c.if-not-are_kept.false) in
-    let key_is = c.in_ok-key.ensures ∙ ap row_bytes c.as_slice-3.ensures in
+    let key_is = c.as_slice-4.ensures.value ∙ c.in_ok-key.ensures ∙ ap row_bytes c.as_slice-3.ensures in
     let fields_are = c.as_record.ensures ∙ c.in_ok-fields.ensures.fields in
     told_as _ _ c.edit_place.result
     (at_place c.args.catalog.now c.args.name.now (AskUpdate c.args.key.now c.args.fields.now) c.index-tables-place.result here wide set kept view

@@ -1,15 +1,6 @@
-use Rattle.std.proofs.Common.{ap, not}
-use Rattle.cs_pending.specs.Settled.{Catalogs}
-use Rattle.cs_pending.specs.Steps.{settle_step}
 use Rattle.cs_pending.proofs.settling.Settling.settle.Goals as goal
 
 pub returns-clause-settled : goal.returns-clause-settled
 returns-clause-settled c = λ tables contents begun view are found base_stands mine_stands stands settles.
-    let law : Catalogs tables = record { are = are; one = c.catalogs.ensures.place; key = c.one_key_stands.ensures; net_takes = c.net_takes.ensures } in
-    settle_step tables law c.commits.ensures.edits c.commits.ensures.bodies contents begun c.args.number c.args.table.now c.args.key.now c.args.before.now _ _ c.args.self.now _ view (not c.are_same-was.result) c.in_ok-is.is'
-    found base_stands mine_stands stands settles
-    (ap not (rw (c.as_ref.ensures.value, c.lent-stood_base.ensures, c.as_ref-2.ensures.value, c.lent-stood.ensures) at c.are_same-was.ensures))
-    c.in_ok-is.ensures.is
-    (rw (c.as_ref-3.ensures.value, c.lent-stood.ensures) at c.in_ok-push_row.ensures)
-    c.in_ok-is.ensures.pushed
-    c.in_ok-self.ensures
+    (rw (c.as_ref.ensures.value, c.lent-stood.ensures, c.as_ref-2.ensures.value, c.lent-stood_base.ensures) at c.settle_at.ensures.settled)
+    tables contents begun view are found base_stands mine_stands stands settles
