@@ -13,7 +13,7 @@ use Rattle.cs_store.specs.Contents.{Contents}
 use Rattle.cs_store.specs.States.{AreEdits, Holds}
 use Rattle.cs_store.specs.Written.{after_batch}
 use Rattle.cs_store.specs.declared.batch.Batch.{Batch}
-use Rattle.cs_store.specs.declared.batch.PlaceEdit.{PlaceEdit}
+use Rattle.cs_edits.specs.Edits.{BodyEdit}
 use Rattle.cs_store.specs.declared.fault.StoreFault.{StoreFault}
 use Rattle.cs_store.specs.declared.fault.StoreFault.TheVariants as stored
 use Rattle.cs_pending.specs.Calls.{ReadsStore, WritesStore}
@@ -35,7 +35,7 @@ defined opening log entry after applied = (applied.0, λ name key. some_is _ _ (
 
 module _ (opening : List TableDef) (entry : LogEntry) (are : AreTables opening) (fits : IsEntryOf opening entry) where
   -- the batch of an entry that was tried leaves it appended
-  pub appended_in : AppendShows → (old : Contents) (edits : List PlaceEdit) (batch : Batch)
+  pub appended_in : AppendShows → (old : Contents) (edits : List BodyEdit) (batch : Batch)
       → ((before : State) → Holds opening old before → IsTried opening (entry_changes entry) old before edits)
       → IsBatchOf entry edits batch → IsAppendedIn opening entry old (after_batch batch old)
   appended_in law old edits batch tries is log shows =
@@ -47,7 +47,7 @@ module _ (opening : List TableDef) (entry : LogEntry) (are : AreTables opening) 
           fits = fits;
           after = tried.0;
           applied = tried.1;
-          edits = subst (λ (es : List PlaceEdit). AreEdits opening old es tried.0) (sym is.rows) tried.2;
+          edits = subst (λ (es : List BodyEdit). AreEdits opening old es tried.0) (sym is.rows) tried.2;
           no_pending = is.pending;
           no_meta = is.meta;
           item = is.log;

@@ -29,7 +29,7 @@ keyed tables changes normal fits =
     ap all_keyed (tasks_are tables changes (of_one tables changes fits) normal) ∙ are_keyed tables changes normal
 
 module _ {F : Type 0} (asks : F → Conflict → Resolution → F → Type 0) (tables : List TableDef) (changes : List TableChanges) (contents : Contents) (before : State) (f g : F) (aborts : AlwaysAborts asks) (normal : IsNormalChangeset changes) (fits : FitsCatalog tables changes) where
-  pub tried : AbortingIsApplied asks → (applied : Applied) → IsCarriedOut asks tables (groups_of changes) contents before f applied g → IsTried tables changes contents before applied.edits.items
+  pub tried : AbortingIsApplied asks → (applied : Applied) → IsCarriedOut asks tables (groups_of changes) contents before f applied g → IsTried tables changes contents before applied.edits
   tried law applied carried = law tables changes contents before f g applied aborts normal fits carried
 
   pub aborted : AbortingIsRefused asks → (fault : ApplyFault) (conflict : Conflict) → fault ≡ apply.Aborted conflict → IsRefused asks tables (groups_of changes) before f fault g → IsNotTried tables changes before (OnConflict conflict)

@@ -8,14 +8,14 @@ use Rattle.cs_store.specs.Contents.{Contents}
 use Rattle.cs_store.specs.States.{AreEdits}
 use Rattle.cs_store.specs.Written.{optional_entry}
 use Rattle.cs_store.specs.declared.batch.Batch.{Batch}
-use Rattle.cs_store.specs.declared.batch.PlaceEdit.{PlaceEdit}
+use Rattle.cs_edits.specs.Edits.{BodyEdit}
 use Rattle.cs_log_store.specs.Shows.{item_of_entry}
 use Rattle.cs_appending.specs.Appended.{IsFirstConflict}
 use Rattle.cs_appending.specs.declared.fault.AppendFault.{AppendFault}
 use Rattle.cs_appending.specs.declared.fault.AppendFault.TheVariants.{Memory, Conflict as OnConflict, Device}
 
 -- the changeset is defined, and the edits lead to what it leaves
-abbrev pub IsTried : List TableDef → List TableChanges → Contents → State → List PlaceEdit → Type 0
+abbrev pub IsTried : List TableDef → List TableChanges → Contents → State → List BodyEdit → Type 0
 IsTried tables changes contents before edits =
     (after : State) × IsApplied tables changes before after × AreEdits tables contents edits after
 
@@ -27,8 +27,8 @@ IsNotTried tables changes before (OnConflict conflict) =
 IsNotTried tables changes before Device = Unit {0}
 
 -- the batch writes these edits of rows and this entry, and nothing else
-pub record IsBatchOf (entry : LogEntry) (edits : List PlaceEdit) (batch : Batch) : Type 0 where
-  pub rows : batch.rows.items ≡ edits
-  pub pending : batch.pending.items ≡ []
+pub record IsBatchOf (entry : LogEntry) (edits : List BodyEdit) (batch : Batch) : Type 0 where
+  pub rows : batch.rows ≡ edits
+  pub pending : batch.pending ≡ []
   pub meta : batch.meta.items ≡ []
   pub log : optional_entry batch.log ≡ Some (item_of_entry entry)

@@ -18,11 +18,12 @@ ghost use Rattle.cs_appending.specs.declared.fault.AppendFault.TheVariants.{Devi
 ghost use Rattle.cs_store.specs.declared.fault.StoreFault.TheVariants as stored;
 
 use crate::fault::AppendFault;
+use cs_edits::PlaceEdits;
 use cs_apply::{ApplyFault, apply};
 use cs_conflict::{Conflict, Resolution};
 use cs_log::{Body, LogEntry, put_body};
 use cs_normal::Normal;
-use cs_store::{Batch, PlaceEdit, RowStore, StoreFault, StoredEntry};
+use cs_store::{Batch, RowStore, StoreFault, StoredEntry};
 use cs_value::{Catalog, Memory};
 use std::alloc::Global;
 
@@ -33,14 +34,14 @@ fn try_with<S: RowStore, H: FnMut(&Conflict<'_>) -> Resolution>(
     catalog: &Catalog,
     changes: &Normal,
     answer: &mut H,
-) -> Result<Vec<PlaceEdit>, AppendFault>
+) -> Result<PlaceEdits, AppendFault>
     requires callable { H.IsAlwaysCallable answer.old }
     requires aborts { AlwaysAborts (CalledAt H.FnMut) }
     requires fits { FitsCatalog catalog.now changes.now }
     ensures reads { ReadsStore S.honest S.contents S.failed S.may_leave S.misreads Device
         ((before : State) × Holds catalog.now (S.contents store.old) before) store.old store.new result }
     ensures made { S.honest store.new → (before : State) → Holds catalog.now (S.contents store.old) before
-        → IfOk result (λ edits. IsTried catalog.now changes.now (S.contents store.old) before edits.items) }
+        → IfOk result (λ edits. IsTried catalog.now changes.now (S.contents store.old) before edits) }
     ensures refused { S.honest store.new → (before : State) → Holds catalog.now (S.contents store.old) before
         → IfErr result (IsNotTried catalog.now changes.now before) }
 {
@@ -64,12 +65,12 @@ fn try_changes<S: RowStore>(
     store: &mut S,
     catalog: &Catalog,
     changes: &Normal,
-) -> Result<Vec<PlaceEdit>, AppendFault>
+) -> Result<PlaceEdits, AppendFault>
     requires fits { FitsCatalog catalog.now changes.now }
     ensures reads { ReadsStore S.honest S.contents S.failed S.may_leave S.misreads Device
         ((before : State) × Holds catalog.now (S.contents store.old) before) store.old store.new result }
     ensures made { S.honest store.new → (before : State) → Holds catalog.now (S.contents store.old) before
-        → IfOk result (λ edits. IsTried catalog.now changes.now (S.contents store.old) before edits.items) }
+        → IfOk result (λ edits. IsTried catalog.now changes.now (S.contents store.old) before edits) }
     ensures refused { S.honest store.new → (before : State) → Holds catalog.now (S.contents store.old) before
         → IfErr result (IsNotTried catalog.now changes.now before) }
 {
@@ -94,14 +95,14 @@ fn changes_of(entry: &LogEntry) -> &Normal
 }
 
 /// What writes these edits of rows, and the entry.
-fn batch_of(alloc: Global, entry: &LogEntry, edits: Vec<PlaceEdit>) -> Result<Batch, Memory>
-    ensures { IfOk result (IsBatchOf entry.now edits.items) }
+fn batch_of(alloc: Global, entry: &LogEntry, edits: PlaceEdits) -> Result<Batch, Memory>
+    ensures { IfOk result (IsBatchOf entry.now edits) }
 {
     let mut body = Vec::new(alloc);
     put_body(&entry.body, &mut body)?;
     Ok(Batch {
         rows: edits,
-        pending: Vec::new(alloc),
+        pending: PlaceEdits::new(alloc),
         meta: Vec::new(alloc),
         log: Some(StoredEntry {
             origin: entry.origin,

@@ -13,7 +13,7 @@ use Rattle.cs_apply.specs.declared.fault.ApplyFault.TheVariants.{Aborted, Misuse
 -- it is defined, and the edits lead to what it leaves
 abbrev pub IsMade : List TableDef → List TableChanges → Contents → State → Applied → Type 0
 IsMade tables push contents before applied =
-    (after : State) × IsApplied tables push before after × AreEdits tables contents applied.edits.items after
+    (after : State) × IsApplied tables push before after × AreEdits tables contents applied.edits after
 
 -- it isn't defined, and one of its changes has this conflict; other faults say nothing of it
 abbrev pub IsNotMade : List TableDef → List TableChanges → State → ApplyFault → Type 0

@@ -11,7 +11,7 @@ use Rattle.cs_store.specs.Laws.{IsNoPlaceOf, KeepsOtherNames, KeepsOtherRows, Wr
 use Rattle.cs_store.specs.Written.{after_batch, appended, edit_body, edit_meta, optional_entry, pairs_of}
 use Rattle.cs_store.specs.declared.batch.Batch.{Batch}
 use Rattle.cs_store.specs.declared.batch.MetaEdit.{MetaEdit}
-use Rattle.cs_store.specs.declared.batch.PlaceEdit.{PlaceEdit}
+use Rattle.cs_edits.specs.Edits.{BodyEdit}
 use Rattle.cs_store.specs.declared.batch.StoredEntry.{StoredEntry}
 use Rattle.cs_store.specs.declared.names.MetaName.{MetaName}
 use Rattle.cs_store.specs.declared.store.StoredBody.{StoredBody}
@@ -20,7 +20,7 @@ use Rattle.cs_copying.proofs.Maps.{by_option, by_test, key_is, meta_copied}
 
 -- ---- what the edits of one table leave at a place
 
-abbrev edits : ℕ → List StoredBody → List PlaceEdit
+abbrev edits : ℕ → List StoredBody → List BodyEdit
 edits number rows = map (edit_at number) rows
 
 same_number : (n : ℕ) (b : Bool) → (nat_eq n n && b) ≡ b
@@ -92,11 +92,11 @@ module _ (table : List ℕ → Option (List ℕ)) (n : ℕ) where
 -- ---- a commit of such edits alone
 
 module _ (batch : Batch) (before : Contents) where
-  pending_stays : batch.pending.items ≡ [] → (after_batch batch before).pending ≡ before.pending
-  pending_stays is = ap (λ (es : List PlaceEdit). fold edit_body before.pending es) is
+  pending_stays : batch.pending ≡ [] → (after_batch batch before).pending ≡ before.pending
+  pending_stays is = ap (λ (es : List BodyEdit). fold edit_body before.pending es) is
 
-  rows_stay : batch.rows.items ≡ [] → (after_batch batch before).rows ≡ before.rows
-  rows_stay is = ap (λ (es : List PlaceEdit). fold edit_body before.rows es) is
+  rows_stay : batch.rows ≡ [] → (after_batch batch before).rows ≡ before.rows
+  rows_stay is = ap (λ (es : List BodyEdit). fold edit_body before.rows es) is
 
   meta_stays : batch.meta.items ≡ [] → (after_batch batch before).meta ≡ before.meta
   meta_stays is = ap (λ (es : List MetaEdit). fold edit_meta before.meta es) is
@@ -105,10 +105,10 @@ module _ (batch : Batch) (before : Contents) where
   log_stays is = ap (λ (o : Option StoredEntry). appended before.log (optional_entry o)) is
 
 module _ (law : WritesRows) (others : KeepsOtherRows) (contents before : Contents) (batch : Batch) (n : ℕ) (listed : List StoredBody)
-    (rows : batch.rows.items ≡ edits n listed) (pending : batch.pending.items ≡ []) (meta : batch.meta.items ≡ []) (log : batch.log ≡ None)
+    (rows : batch.rows ≡ edits n listed) (pending : batch.pending ≡ []) (meta : batch.meta.items ≡ []) (log : batch.log ≡ None)
     (listing : IsListing (stored_tables contents n) (pairs_of listed)) (settled : (key : List ℕ) → stored_pending contents n key ≡ None) (copied : AreCopied contents before n) where
   at_place : (t : ℕ) (key : List ℕ) → stored_tables (after_batch batch before) t key ≡ row_after (edits n listed) t key (stored_tables before t key)
-  at_place t key = law batch before t key ∙ ap (λ (es : List PlaceEdit). row_after es t key (stored_tables before t key)) rows
+  at_place t key = law batch before t key ∙ ap (λ (es : List BodyEdit). row_after es t key (stored_tables before t key)) rows
 
   at_other : (t : ℕ) (key : List ℕ) → t ≢ n → stored_tables (after_batch batch before) t key ≡ stored_tables before t key
   at_other t key apart = at_place t key ∙ elsewhere t n key (stored_tables before t key) listed apart
@@ -129,7 +129,7 @@ module _ (law : WritesRows) (others : KeepsOtherRows) (contents before : Content
     rows = λ t key less. this_or t (λ m. stored_tables (after_batch batch before) m key ≡ stored_tables contents m key) (at_this key)
         (λ apart. at_other t key apart ∙ copied.rows t key (omega (arith, less, apart)));
     later = λ t key from. at_other t key (λ e. omega (arith, from, e)) ∙ copied.later t key (omega (arith, from));
-    before = λ z key. others batch before (negsuc z, key) (subst (λ (es : List PlaceEdit). IsNoPlaceOf es (negsuc z, key)) (sym rows) (no_place z n key listed)) ∙ copied.before z key;
+    before = λ z key. others batch before (negsuc z, key) (subst (λ (es : List BodyEdit). IsNoPlaceOf es (negsuc z, key)) (sym rows) (no_place z n key listed)) ∙ copied.before z key;
     settled = λ t key less. this_or t (λ m. stored_pending contents m key ≡ None) (settled key) (λ apart. copied.settled t key (omega (arith, less, apart)));
     pending = pending_stays batch before pending ∙ copied.pending;
     meta = meta_stays batch before meta ∙ copied.meta;
@@ -139,7 +139,7 @@ module _ (law : WritesRows) (others : KeepsOtherRows) (contents before : Content
 -- ---- a commit of values alone, of a new store
 
 module _ (law : WritesMeta) (others : KeepsOtherNames) (contents : Contents) (batch : Batch)
-    (rows : batch.rows.items ≡ []) (pending : batch.pending.items ≡ []) (log : batch.log ≡ None)
+    (rows : batch.rows ≡ []) (pending : batch.pending ≡ []) (log : batch.log ≡ None)
     (names : HasOurNames contents) (values : (name : MetaName) → value_after batch.meta.items name None ≡ meta_value contents name) where
   no_row : (place : StorePlace) → get (after_batch batch nothing).rows place ≡ None
   no_row place = ap (λ (bodies : Bodies). get bodies place) (rows_stay batch nothing rows) ∙ get-empty _ place

@@ -4,7 +4,7 @@ use Rattle.std.specs.FinMap.{empty, get}
 use Rattle.cs_order.specs.Order.{same_bytes}
 use Rattle.cs_store.specs.Contents.{Contents, meta_value, name_text, stored_pending, stored_tables}
 use Rattle.cs_store.specs.Whole.{IsName}
-use Rattle.cs_store.specs.declared.batch.PlaceEdit.{PlaceEdit}
+use Rattle.cs_edits.specs.Edits.{BodyEdit}
 use Rattle.cs_store.specs.declared.names.MetaName.{MetaName}
 use Rattle.cs_store.specs.declared.store.StoredBody.{StoredBody}
 
@@ -24,8 +24,8 @@ HasOurNames contents = (name value : List ℕ) → get contents.meta name ≡ So
 -- ---- tables
 
 -- the edit that sets a listed row of the table with this number
-abbrev pub edit_at : ℕ → StoredBody → PlaceEdit
-edit_at number row = record { table = number; key = row.key; body = Some row.body }
+abbrev pub edit_at : ℕ → StoredBody → BodyEdit
+edit_at number row = record { table = number; key = row.key.items; body = Some row.body.items }
 
 -- the values and the rows of the tables below this number are copied, and no change is pending there; nothing else is in the copy
 pub record AreCopied (contents copy : Contents) (number : ℕ) : Type 0 where

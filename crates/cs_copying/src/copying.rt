@@ -12,8 +12,9 @@ ghost use Rattle.cs_pending.specs.Calls.{ReadsStore};
 ghost use Rattle.cs_copying.specs.Copied.{HoldsRowsAlone};
 ghost use Rattle.cs_copying.specs.Steps.{AreCopied, HasOurNames, IsCopied, edit_at, value_read};
 
+use cs_edits::{PlaceEdit, PlaceEdits};
 use cs_map_store::MapStore;
-use cs_store::{Batch, MetaEdit, MetaName, PlaceEdit, RowStore, StoreFault, StoredBody};
+use cs_store::{Batch, MetaEdit, MetaName, RowStore, StoreFault, StoredBody};
 use cs_value::{Catalog, Memory, TableDef};
 use std::alloc::{AllocError, Global};
 
@@ -81,8 +82,8 @@ fn store_of(alloc: Global, meta: Vec<MetaEdit>) -> Result<MapStore, Memory>
     cs_store::laws::commits();
     let mut copy = MapStore::new(alloc);
     let batch = Batch {
-        rows: Vec::new(alloc),
-        pending: Vec::new(alloc),
+        rows: PlaceEdits::new(alloc),
+        pending: PlaceEdits::new(alloc),
         meta,
         log: None,
     };
@@ -107,16 +108,13 @@ fn copy_values<S: RowStore>(alloc: Global, store: &mut S) -> Result<MapStore, St
 }
 
 /// Edits that set the listed rows of the table with this number.
-fn edits_of(alloc: Global, number: u32, listed: Vec<StoredBody>) -> Result<Vec<PlaceEdit>, Memory>
-    ensures { IfOk result (λ edits. edits.items ≡ map (edit_at number) listed.items) }
+fn edits_of(alloc: Global, number: u32, listed: &[StoredBody]) -> Result<PlaceEdits, Memory>
+    ensures { IfOk result (λ edits. edits ≡ map (edit_at number) listed.now) }
 {
-    let mut edits = Vec::with_capacity(alloc, listed.len())?;
+    let mut edits = PlaceEdits::with_capacity(alloc, listed.len(), 0)?;
     for row in listed {
-        edits.push(PlaceEdit {
-            table: number,
-            key: row.key,
-            body: Some(row.body),
-        })?;
+        let body = Some(row.body.as_slice());
+        edits.push(&PlaceEdit::new(number, row.key.as_slice(), body))?;
     }
     Ok(edits)
 }
@@ -134,8 +132,8 @@ fn put_rows(
 {
     cs_store::laws::commits();
     let batch = Batch {
-        rows: edits_of(alloc, number, listed)?,
-        pending: Vec::new(alloc),
+        rows: edits_of(alloc, number, listed.as_slice())?,
+        pending: PlaceEdits::new(alloc),
         meta: Vec::new(alloc),
         log: None,
     };

@@ -10,17 +10,17 @@ use Rattle.cs_store.specs.Contents.{Contents, Log, StorePlace, place_cmp, name_t
 use Rattle.cs_store.specs.Laws.{KeepsOtherNames, WritesMeta, value_after}
 use Rattle.cs_store.specs.Written.{after_batch, appended, edit_body, optional_entry}
 use Rattle.cs_store.specs.declared.batch.Batch.{Batch}
-use Rattle.cs_store.specs.declared.batch.PlaceEdit.{PlaceEdit}
+use Rattle.cs_edits.specs.Edits.{BodyEdit}
 use Rattle.cs_store.specs.declared.batch.StoredEntry.{StoredEntry}
 use Rattle.cs_store.specs.declared.names.MetaName.{MetaName}
 use Rattle.cs_log_store.specs.Shows.{ShowsLog, hub_value}
 use Rattle.cs_log_opening.specs.Steps.{IsLaidOut}
 
 module _ (opening : List TableDef) (batch : Batch) (empty_law : EmptyIsLog) (meta_law : WritesMeta) (other_names : KeepsOtherNames)
-    (rows : batch.rows.items ≡ []) (pending : batch.pending.items ≡ []) (log : batch.log ≡ None)
+    (rows : batch.rows ≡ []) (pending : batch.pending ≡ []) (log : batch.log ≡ None)
     (values : (name : MetaName) → value_after batch.meta.items name None ≡ hub_value opening name) where
   no_rows_left : (place : StorePlace) → get (after_batch batch nothing).rows place ≡ None
-  no_rows_left place = ap (λ (es : List PlaceEdit). get (fold edit_body nothing.rows es) place) rows ∙ get-empty place_cmp place
+  no_rows_left place = ap (λ (es : List BodyEdit). get (fold edit_body nothing.rows es) place) rows ∙ get-empty place_cmp place
 
   no_log_left : (after_batch batch nothing).log ≡ empty
   no_log_left = ap (λ (o : Option StoredEntry). appended nothing.log (optional_entry o)) log
@@ -31,7 +31,7 @@ module _ (opening : List TableDef) (batch : Batch) (empty_law : EmptyIsLog) (met
     fit = λ k d lt. absurd (omega (arith, lt));
     rows = record { rows = λ name key. tt; stored = λ number table key at. no_rows_left (pos number, key) };
     elsewhere = λ place out. no_rows_left place;
-    pending = ap (λ (es : List PlaceEdit). fold edit_body nothing.pending es) pending;
+    pending = ap (λ (es : List BodyEdit). fold edit_body nothing.pending es) pending;
     values = record {
       values = λ name. meta_law batch nothing name ∙ ap (value_after batch.meta.items name) (get-empty by_bytes (name_text name)) ∙ values name;
       names = λ text never. other_names batch nothing text never ∙ get-empty by_bytes text;

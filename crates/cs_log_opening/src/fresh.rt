@@ -9,6 +9,7 @@ ghost use Rattle.cs_log_store.specs.Shows.{hub_value};
 ghost use Rattle.cs_log_opening.specs.Opens.{IsSameOrFirst};
 ghost use Rattle.cs_log_opening.specs.Steps.{IsLaidOut, IsOpenedFresh};
 
+use cs_edits::PlaceEdits;
 use cs_opening::holds_nothing;
 use cs_position::catalog_value;
 use cs_store::{Batch, MetaEdit, MetaName, RowStore, StoreFault};
@@ -37,8 +38,8 @@ fn lay_out<S: RowStore>(alloc: Global, store: &mut S, catalog: &Catalog) -> Resu
     cs_store::laws::commits();
     cs_log::laws::empty_is_log();
     let batch = Batch {
-        rows: Vec::new(alloc),
-        pending: Vec::new(alloc),
+        rows: PlaceEdits::new(alloc),
+        pending: PlaceEdits::new(alloc),
         meta: hub_values(alloc, catalog)?,
         log: None,
     };

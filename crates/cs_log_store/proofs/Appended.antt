@@ -21,7 +21,7 @@ use Rattle.cs_store.specs.Laws.{CountsLog, KeepsOtherRows, WritesLog, WritesRows
 use Rattle.cs_store.specs.Written.{after_batch, edit_body, edit_meta, optional_entry}
 use Rattle.cs_store.specs.declared.batch.Batch.{Batch}
 use Rattle.cs_store.specs.declared.batch.MetaEdit.{MetaEdit}
-use Rattle.cs_store.specs.declared.batch.PlaceEdit.{PlaceEdit}
+use Rattle.cs_edits.specs.Edits.{BodyEdit}
 use Rattle.cs_store.specs.declared.batch.StoredEntry.{StoredEntry}
 use Rattle.cs_pending.specs.Steps.{no_place}
 use Rattle.cs_log_store.specs.Laws.{AppendShows}
@@ -103,8 +103,8 @@ append_shows appended states rows_law log_law count_law others opening contents 
         stored = λ number table key at. rows_law batch contents number key ∙ made.edits.written number table key at
             ∙ ap (option_map row_bytes) (left_there opening log entry made.after made.applied table.name key);
       };
-      elsewhere = λ place out. others batch contents place (no_place opening place batch.rows.items out (recursion_from_All _ batch.rows.items made.edits.within)) ∙ was.elsewhere place out;
-      pending = ap (λ (edits : List PlaceEdit). fold edit_body contents.pending edits) made.no_pending ∙ was.pending;
+      elsewhere = λ place out. others batch contents place (no_place opening place batch.rows out (recursion_from_All _ batch.rows made.edits.within)) ∙ was.elsewhere place out;
+      pending = ap (λ (edits : List BodyEdit). fold edit_body contents.pending edits) made.no_pending ∙ was.pending;
       values = record {
         values = λ name. ap (λ (m : Meta). get m (name_text name)) meta ∙ was.values.values name;
         names = λ text never. ap (λ (m : Meta). get m text) meta ∙ was.values.names text never;

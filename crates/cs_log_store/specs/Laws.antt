@@ -28,8 +28,8 @@ pub record IsEntryBatch (opening : List TableDef) (contents : Contents) (log : L
   pub fits : IsEntryOf opening entry
   pub after : State
   pub applied : IsApplied (catalog_at opening log (length log)) (entry_changes entry) (state_of log) after
-  pub edits : AreEdits (catalog_at opening log (length log)) contents batch.rows.items after
-  pub no_pending : batch.pending.items ≡ []
+  pub edits : AreEdits (catalog_at opening log (length log)) contents batch.rows after
+  pub no_pending : batch.pending ≡ []
   pub no_meta : batch.meta.items ≡ []
   pub item : optional_entry batch.log ≡ Some (item_of_entry entry)
 

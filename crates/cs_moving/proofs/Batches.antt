@@ -10,7 +10,7 @@ use Rattle.cs_apply.specs.Tasks.{Task}
 use Rattle.cs_store.specs.Contents.{Bodies, Contents, Log, Meta, StorePlace, name_text}
 use Rattle.cs_store.specs.Written.{edit_body, edit_meta, with_body}
 use Rattle.cs_store.specs.declared.batch.MetaEdit.{MetaEdit}
-use Rattle.cs_store.specs.declared.batch.PlaceEdit.{PlaceEdit}
+use Rattle.cs_edits.specs.Edits.{BodyEdit}
 use Rattle.cs_store.specs.declared.names.MetaName.TheVariants.{Pending}
 use Rattle.cs_moving.specs.Moved.{moved, put_body, stored_changes}
 use Rattle.cs_moving.specs.Steps.{edit_parts, task_parts}
@@ -18,7 +18,7 @@ use Rattle.cs_moving.specs.Steps.{edit_parts, task_parts}
 abbrev put_part : Bodies → StorePlace × Option (List ℕ) → Bodies
 put_part bodies part = with_body bodies part.0 part.1
 
-by_parts : (bodies : Bodies) (edits : List PlaceEdit) → fold edit_body bodies edits ≡ fold put_part bodies (map edit_parts edits)
+by_parts : (bodies : Bodies) (edits : List BodyEdit) → fold edit_body bodies edits ≡ fold put_part bodies (map edit_parts edits)
 by_parts bodies [] = refl
 by_parts bodies (edit ∷ edits) = by_parts (edit_body bodies edit) edits
 
@@ -33,7 +33,7 @@ unfoldable pub contents_of : Bodies → Bodies → Meta → Log → Contents
 contents_of rows pending meta log = record { rows = rows; pending = pending; meta = meta; log = log }
 
 -- edits that put the changes at their places, and one that takes the value away
-pub batch_moves : (tables : List TableDef) (changes : List TableChanges) (tasks shown : List Task) (rows pending : List PlaceEdit) (meta begun : List MetaEdit) (edit : MetaEdit) (contents : Contents)
+pub batch_moves : (tables : List TableDef) (changes : List TableChanges) (tasks shown : List Task) (rows pending : List BodyEdit) (meta begun : List MetaEdit) (edit : MetaEdit) (contents : Contents)
     → rows ≡ [] → tasks ≡ keyed_tasks tables changes → map edit_parts pending ≡ map task_parts shown → shown ≡ tasks → meta ≡ begun ++ edit ∷ [] → begun ≡ [] → edit_meta contents.meta edit ≡ remove contents.meta (name_text Pending)
     → contents_of (fold edit_body contents.rows rows) (fold edit_body contents.pending pending) (fold edit_meta contents.meta meta) contents.log ≡ moved tables changes contents
 unfolding contents_of
@@ -45,5 +45,5 @@ batch_moves tables changes tasks shown rows pending meta begun edit contents non
     ∙ ap (λ (ts : List Task). fold put_body contents.pending (map stored ts)) (s ∙ are) in
     let values : fold edit_meta contents.meta meta ≡ remove contents.meta (name_text Pending) =
     ap (fold edit_meta contents.meta) grown ∙ ap (λ (es : List MetaEdit). fold edit_meta contents.meta (es ++ edit ∷ [])) b ∙ gone in
-    ap (λ (es : List PlaceEdit). contents_of (fold edit_body contents.rows es) (fold edit_body contents.pending pending) (fold edit_meta contents.meta meta) contents.log) none
+    ap (λ (es : List BodyEdit). contents_of (fold edit_body contents.rows es) (fold edit_body contents.pending pending) (fold edit_meta contents.meta meta) contents.log) none
     ∙ ap₂ (λ (p : Bodies) (m : Meta). contents_of contents.rows p m contents.log) put values

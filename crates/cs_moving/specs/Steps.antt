@@ -7,15 +7,15 @@ use Rattle.cs_apply.specs.Tasks.{Task}
 use Rattle.cs_store.specs.Contents.{Contents, StorePlace, meta_value}
 use Rattle.cs_store.specs.Written.{after_batch, optional_bytes, store_place}
 use Rattle.cs_store.specs.declared.batch.Batch.{Batch}
-use Rattle.cs_store.specs.declared.batch.PlaceEdit.{PlaceEdit}
+use Rattle.cs_edits.specs.Edits.{BodyEdit}
 use Rattle.cs_store.specs.declared.names.MetaName.TheVariants.{Id, Pending}
 use Rattle.cs_position.specs.declared.position.Position.{Position}
 use Rattle.cs_opening.specs.Opens.{StandsAt}
 use Rattle.cs_moving.specs.Moved.{IsPendingValue, KeepsValue, moved}
 
 -- where an edit is, and what it leaves there
-abbrev pub edit_parts : PlaceEdit → StorePlace × Option (List ℕ)
-edit_parts edit = (store_place edit, optional_bytes edit.body)
+abbrev pub edit_parts : BodyEdit → StorePlace × Option (List ℕ)
+edit_parts edit = (store_place edit, edit.body)
 
 abbrev pub task_parts : Task → StorePlace × Option (List ℕ)
 task_parts task = ((pos task.table, task.key), Some (change_spelling task.change))

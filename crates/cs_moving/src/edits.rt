@@ -1,6 +1,6 @@
 //! The batch that moves a value to the places of its changes.
 
-ghost use Rattle.std.specs.Prelude.{◌≡◌, ◌++◌, [], map, fold, take, Some, List, IfOk, OnOk};
+ghost use Rattle.std.specs.Prelude.{◌≡◌, ◌++◌, ◌∷◌, [], map, fold, take, Some, List, IfOk, OnOk};
 ghost use Rattle.cs_store.specs.Contents.{Contents};
 ghost use Rattle.cs_change.specs.Spelling.{change_spelling};
 ghost use Rattle.cs_store.specs.Written.{after_batch, edit_body, optional_bytes};
@@ -10,40 +10,31 @@ ghost use Rattle.cs_placed.specs.Places.{task_of};
 ghost use Rattle.cs_moving.specs.Moved.{moved};
 ghost use Rattle.cs_moving.specs.Steps.{edit_parts, task_parts};
 
-use cs_change::{Change, ChangesBuf};
+use cs_change::ChangesBuf;
+use cs_edits::{PlaceEdit, PlaceEdits};
 use cs_normal::Normal;
 use cs_placed::{Placed, place_all};
-use cs_store::{Batch, MetaEdit, MetaName, PlaceEdit};
+use cs_store::{Batch, MetaEdit, MetaName};
 use cs_value::{Catalog, Memory};
 use std::alloc::Global;
 
-/// The bytes of a change.
-fn body_of(alloc: Global, change: &Change<'_>) -> Result<Vec<u8>, Memory>
-    ensures { IfOk result (λ body. body.items ≡ change_spelling change.now) }
+/// Appends the edit that puts a change at its place.
+fn push_edit(alloc: Global, placed: &Placed<'_>, edits: &mut PlaceEdits) -> Result<(), Memory>
+    ensures { OnOk result (map edit_parts edits.new ≡ map edit_parts edits.old ++ task_parts (task_of placed.now) ∷ []) }
 {
     let mut changes = ChangesBuf::new(alloc);
-    changes.push(change)?;
-    Ok(Vec::from_slice(alloc, changes.spelling())?)
-}
-
-/// The edit that puts a change at its place.
-fn edit_of(alloc: Global, placed: &Placed<'_>) -> Result<PlaceEdit, Memory>
-    ensures { IfOk result (λ edit. edit_parts edit ≡ task_parts (task_of placed.now)) }
-{
-    Ok(PlaceEdit {
-        table: placed.number,
-        key: Vec::from_slice(alloc, placed.key)?,
-        body: Some(body_of(alloc, &placed.change)?),
-    })
+    changes.push(&placed.change)?;
+    let body = Some(changes.spelling());
+    edits.push(&PlaceEdit::new(placed.number, placed.key, body))
 }
 
 /// The edits that put changes at their places.
-fn edits_of(alloc: Global, placed: &[Placed<'_>]) -> Result<Vec<PlaceEdit>, Memory>
-    ensures { IfOk result (λ edits. map edit_parts edits.items ≡ map task_parts (map task_of placed.now)) }
+fn edits_of(alloc: Global, placed: &[Placed<'_>]) -> Result<PlaceEdits, Memory>
+    ensures { IfOk result (λ edits. map edit_parts edits ≡ map task_parts (map task_of placed.now)) }
 {
-    let mut edits = Vec::with_capacity(alloc, placed.len())?;
+    let mut edits = PlaceEdits::with_capacity(alloc, placed.len(), 0)?;
     for one in placed {
-        edits.push(edit_of(alloc, one)?)?;
+        push_edit(alloc, one, &mut edits)?;
     }
     Ok(edits)
 }
@@ -65,7 +56,7 @@ pub(crate) fn moving_batch(
         value: None,
     })?;
     Ok(Batch {
-        rows: Vec::new(alloc),
+        rows: PlaceEdits::new(alloc),
         pending,
         meta,
         log: None,

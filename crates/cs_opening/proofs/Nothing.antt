@@ -18,7 +18,7 @@ use Rattle.cs_store.specs.Laws.{KeepsOtherNames, WritesMeta, value_after}
 use Rattle.cs_store.specs.Whole.{AtTable, IsName, IsWhole, StoresChange, StoresRow}
 use Rattle.cs_store.specs.Written.{after_batch, appended, edit_body, optional_entry}
 use Rattle.cs_store.specs.declared.batch.Batch.{Batch}
-use Rattle.cs_store.specs.declared.batch.PlaceEdit.{PlaceEdit}
+use Rattle.cs_edits.specs.Edits.{BodyEdit}
 use Rattle.cs_store.specs.declared.batch.StoredEntry.{StoredEntry}
 use Rattle.cs_store.specs.declared.names.MetaName.{MetaName}
 use Rattle.cs_store.specs.declared.names.MetaName.TheVariants.{Id, Version, Number, Flight, Pending, Catalog}
@@ -168,13 +168,13 @@ module _ (tables : List TableDef) (id : ℕ) (contents : Contents) (rows : (plac
   }
 
 module _ (tables : List TableDef) (id : ℕ) (batch : Batch) (meta_law : WritesMeta) (other_names : KeepsOtherNames)
-    (rows : batch.rows.items ≡ []) (pending : batch.pending.items ≡ []) (log : batch.log ≡ None)
+    (rows : batch.rows ≡ []) (pending : batch.pending ≡ []) (log : batch.log ≡ None)
     (values : (name : MetaName) → value_after batch.meta.items name None ≡ value_of tables (first_position id) name) where
   no_rows_left : (place : StorePlace) → get (after_batch batch nothing).rows place ≡ None
-  no_rows_left place = ap (λ (es : List PlaceEdit). get (fold edit_body nothing.rows es) place) rows ∙ get-empty place_cmp place
+  no_rows_left place = ap (λ (es : List BodyEdit). get (fold edit_body nothing.rows es) place) rows ∙ get-empty place_cmp place
 
   no_pending_left : (place : StorePlace) → get (after_batch batch nothing).pending place ≡ None
-  no_pending_left place = ap (λ (es : List PlaceEdit). get (fold edit_body nothing.pending es) place) pending ∙ get-empty place_cmp place
+  no_pending_left place = ap (λ (es : List BodyEdit). get (fold edit_body nothing.pending es) place) pending ∙ get-empty place_cmp place
 
   no_log_left : log_count (after_batch batch nothing) ≡ 0
   no_log_left = ap (λ (o : Option StoredEntry). len (appended nothing.log (optional_entry o))) log ∙ len-empty int_cmp _
@@ -186,6 +186,6 @@ module _ (tables : List TableDef) (id : ℕ) (batch : Batch) (meta_law : WritesM
   pub laid_out : (old : Contents) → IsLaidOut tables id old (after_batch batch old)
   laid_out old is = subst (λ (c : Contents). IsFirst tables id (after_batch batch c)) (sym is)
       (first_shows tables id (after_batch batch nothing) no_rows_left no_pending_left
-      (ap (λ (es : List PlaceEdit). len (fold edit_body nothing.pending es)) pending ∙ len-empty place_cmp _) no_log_left
+      (ap (λ (es : List BodyEdit). len (fold edit_body nothing.pending es)) pending ∙ len-empty place_cmp _) no_log_left
       (λ name. meta_law batch nothing name ∙ ap (value_after batch.meta.items name) (get-empty by_bytes (name_text name)) ∙ values name)
       (λ name value is. named_left name value is (named_or_not name)))

@@ -10,6 +10,7 @@ ghost use Rattle.cs_pending.specs.Calls.{ReadsStore, WritesStore};
 ghost use Rattle.cs_position.specs.Values.{value_of};
 ghost use Rattle.cs_opening.specs.Fresh.{IsLaidOut, IsOpenedFresh, IsSameOrFirst, first_position};
 
+use cs_edits::PlaceEdits;
 use cs_position::{Position, catalog_value, id_value, number_value};
 use cs_store::{Batch, MetaEdit, MetaName, RowStore, StoreFault};
 use cs_value::{Catalog, Memory};
@@ -113,8 +114,8 @@ fn lay_out<S: RowStore>(
 {
     cs_store::laws::commits();
     let batch = Batch {
-        rows: Vec::new(alloc),
-        pending: Vec::new(alloc),
+        rows: PlaceEdits::new(alloc),
+        pending: PlaceEdits::new(alloc),
         meta: first_values(alloc, catalog, id)?,
         log: None,
     };

@@ -14,7 +14,7 @@ use Rattle.cs_pending.specs.Settling.{AreWithin}
 use Rattle.cs_pushing.specs.Batches.{PlacePart, all_clear, clears, place_part}
 use Rattle.cs_store.specs.Laws.{row_after}
 use Rattle.cs_store.specs.Written.{optional_bytes}
-use Rattle.cs_store.specs.declared.batch.PlaceEdit.{PlaceEdit}
+use Rattle.cs_edits.specs.Edits.{BodyEdit}
 use Rattle.cs_value.specs.declared.catalog.TableDef.{TableDef}
 
 -- ---- places, by the parts of their edits
@@ -23,9 +23,9 @@ abbrev place_after : List PlacePart → ℕ → List ℕ → Option (List ℕ) �
 place_after [] n k body = body
 place_after (part ∷ parts) n k body = place_after parts n k (cond (nat_eq n part.0 && same_bytes k part.1.0) part.1.1 body)
 
-by_parts : (edits : List PlaceEdit) (n : ℕ) (k : List ℕ) (body : Option (List ℕ)) → row_after edits n k body ≡ place_after (map place_part edits) n k body
+by_parts : (edits : List BodyEdit) (n : ℕ) (k : List ℕ) (body : Option (List ℕ)) → row_after edits n k body ≡ place_after (map place_part edits) n k body
 by_parts [] n k body = refl
-by_parts (edit ∷ edits) n k body = by_parts edits n k (cond (nat_eq n edit.table && same_bytes k edit.key.items) (optional_bytes edit.body) body)
+by_parts (edit ∷ edits) n k body = by_parts edits n k (cond (nat_eq n edit.table && same_bytes k edit.key) edit.body body)
 
 after_both : (some other : List PlacePart) (n : ℕ) (k : List ℕ) (body : Option (List ℕ)) → place_after (some ++ other) n k body ≡ place_after other n k (place_after some n k body)
 after_both [] other n k body = refl
@@ -74,7 +74,7 @@ cleared_at m (first ∷ tables) changes (suc i) table k change body at is =
     ∙ cleared_at (m + 1) tables changes i table k change (place_after (map (clears m) (keys_of (changes_in first.name changes))) (m + 1 + i) k body) at is)
 
 -- where nothing stands without a change, nothing is left at the places of the tables
-pub all_cleared : (tables : List TableDef) (changes : List TableChanges) (edits : List PlaceEdit) → map place_part edits ≡ all_clear 0 tables changes
+pub all_cleared : (tables : List TableDef) (changes : List TableChanges) (edits : List BodyEdit) → map place_part edits ≡ all_clear 0 tables changes
     → (n : ℕ) (table : TableDef) (k : List ℕ) (stored : Option (List ℕ)) → slice_get tables n ≡ Some table → stored ≡ option_map change_spelling (change_of table.name k changes) → row_after edits n k stored ≡ None
 all_cleared tables changes edits parts n table k stored at is =
     let split : (o : Option Change) → change_of table.name k changes ≡ o → place_after (all_clear 0 tables changes) n k stored ≡ None = elim [
@@ -96,11 +96,11 @@ within_all m count (table ∷ tables) changes is =
     (within_keys m count (keys_of (changes_in table.name changes)) (omega (arith, is)))
     (within_all (m + 1) count tables changes (omega (arith, is)))
 
-within_parts : (tables : List TableDef) (edits : List PlaceEdit) → AllByRecursion (λ (part : PlacePart). part.0 < length tables) (map place_part edits) → AreWithin tables edits
+within_parts : (tables : List TableDef) (edits : List BodyEdit) → AllByRecursion (λ (part : PlacePart). part.0 < length tables) (map place_part edits) → AreWithin tables edits
 within_parts tables [] all = tt
 within_parts tables (edit ∷ edits) all = (all.0, within_parts tables edits all.1)
 
-pub all_within : (tables : List TableDef) (changes : List TableChanges) (edits : List PlaceEdit) → map place_part edits ≡ all_clear 0 tables changes → AreWithin tables edits
+pub all_within : (tables : List TableDef) (changes : List TableChanges) (edits : List BodyEdit) → map place_part edits ≡ all_clear 0 tables changes → AreWithin tables edits
 all_within tables changes edits parts =
     within_parts tables edits
     (subst (λ (ps : List PlacePart). AllByRecursion (λ (part : PlacePart). part.0 < length tables) ps) (sym parts) (within_all 0 (length tables) tables changes (omega arith)))

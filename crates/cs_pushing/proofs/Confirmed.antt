@@ -22,7 +22,7 @@ use Rattle.cs_store.specs.Laws.{value_after}
 use Rattle.cs_store.specs.Written.{after_batch, edit_body, optional_bytes}
 use Rattle.cs_store.specs.declared.batch.Batch.{Batch}
 use Rattle.cs_store.specs.declared.batch.MetaEdit.{MetaEdit}
-use Rattle.cs_store.specs.declared.batch.PlaceEdit.{PlaceEdit}
+use Rattle.cs_edits.specs.Edits.{BodyEdit}
 use Rattle.cs_store.specs.declared.names.MetaName.{MetaName}
 use Rattle.cs_store.specs.declared.names.MetaName.TheVariants.{Id, Version, Number, Flight, Pending, Catalog}
 use Rattle.cs_value.specs.Facts.{same_place-Decides}
@@ -55,8 +55,8 @@ shows_same tables old new view rows pending shows = record {
   sound = shows.sound;
 }
 
-pub within_none : (tables : List TableDef) (edits : List PlaceEdit) → edits ≡ [] → AreWithin tables edits
-within_none tables edits is = subst (λ (es : List PlaceEdit). AreWithin tables es) (sym is) tt
+pub within_none : (tables : List TableDef) (edits : List BodyEdit) → edits ≡ [] → AreWithin tables edits
+within_none tables edits is = subst (λ (es : List BodyEdit). AreWithin tables es) (sym is) tt
 
 -- ---- nothing changed
 
@@ -94,10 +94,10 @@ confirm_value tables old Catalog = refl
 pub confirmed_in : CommitShows → (tables : List TableDef) (position : Position) (contents : Contents) (batch : Batch) → WritesValues [] (confirm_values (position.version + 1)) batch
     → IsConfirmedIn tables position contents (after_batch batch contents)
 confirmed_in law tables position contents batch is view shows =
-    let none = none_mapped place_part batch.pending.items is.pending in
-    let rows : (after_batch batch contents).rows ≡ contents.rows = ap (λ (es : List PlaceEdit). fold edit_body contents.rows es) is.rows in
-    let pending : (after_batch batch contents).pending ≡ contents.pending = ap (λ (es : List PlaceEdit). fold edit_body contents.pending es) none in (
-      law tables contents batch position (confirmed position) view view shows (within_none tables batch.rows.items is.rows) (within_none tables batch.pending.items none) is.log
+    let none = none_mapped place_part batch.pending is.pending in
+    let rows : (after_batch batch contents).rows ≡ contents.rows = ap (λ (es : List BodyEdit). fold edit_body contents.rows es) is.rows in
+    let pending : (after_batch batch contents).pending ≡ contents.pending = ap (λ (es : List BodyEdit). fold edit_body contents.pending es) none in (
+      law tables contents batch position (confirmed position) view view shows (within_none tables batch.rows is.rows) (within_none tables batch.pending none) is.log
           (λ name. values_are batch.meta.items (confirm_values (position.version + 1)) name (value_of tables position name) is.values ∙ confirm_value tables position name)
           (shows_same tables contents (after_batch batch contents) view rows pending shows.rows)
           (none_under_way tables view shows.rows.sound.before_state)

@@ -37,7 +37,7 @@ use Rattle.cs_store.specs.Contents.{Bodies, Contents, stored_pending}
 use Rattle.cs_store.specs.Laws.{KeepsOtherPending, WritesPending}
 use Rattle.cs_store.specs.Written.{after_batch, edit_body}
 use Rattle.cs_store.specs.declared.batch.Batch.{Batch}
-use Rattle.cs_store.specs.declared.batch.PlaceEdit.{PlaceEdit}
+use Rattle.cs_edits.specs.Edits.{BodyEdit}
 use Rattle.cs_store.specs.declared.fault.StoreFault.{StoreFault}
 use Rattle.cs_store.specs.declared.fault.StoreFault.TheVariants as stored
 use Rattle.cs_store.specs.declared.names.MetaName.{MetaName}
@@ -136,12 +136,12 @@ module _ (tables : List TableDef) (contents : Contents) (batch : Batch) (positio
     gone : (n : ℕ) (t : TableDef) (k : List ℕ) → slice_get tables n ≡ Some t → stored_pending (after_batch batch contents) n k ≡ None
     gone n t k at =
         pending_law batch contents n k
-        ∙ all_cleared tables changes batch.pending.items writes.pending n t k (stored_pending contents n k) at
+        ∙ all_cleared tables changes batch.pending writes.pending n t k (stored_pending contents n k) at
         (shows.pends.stored n t k at ∙ ap (option_map change_spelling) (sym (is.changes_are t k (contained tables n t at))))
 
     shows_grounded : ShowsRows tables (after_batch batch contents) (grounded view)
     shows_grounded =
-        let rows : (after_batch batch contents).rows ≡ contents.rows = ap (λ (es : List PlaceEdit). fold edit_body contents.rows es) writes.rows in
+        let rows : (after_batch batch contents).rows ≡ contents.rows = ap (λ (es : List BodyEdit). fold edit_body contents.rows es) writes.rows in
         record {
           rows = record { rows = shows.rows.rows; stored = λ n t k at. ap (λ (m : Bodies). get m (pos n, k)) rows ∙ shows.rows.stored n t k at };
           pends = record { stored = gone; fits = λ t k inside. tt };
@@ -151,15 +151,15 @@ module _ (tables : List TableDef) (contents : Contents) (batch : Batch) (positio
   pub push_made : CommitShows → WritesPending → KeepsOtherPending → IsReady position → (view : View) → ShowsAt tables contents position view → IsSent tables view changes
       → IsPushMade tables position view (after_batch batch contents) changes
   push_made law pending_law other_law ready view shows is =
-      let within = all_within tables changes batch.pending.items writes.pending in
+      let within = all_within tables changes batch.pending writes.pending in
       let none = none_pending tables (after_batch batch contents) (gone pending_law view shows.rows is.0)
-      (λ place elsewhere. other_law batch contents place (no_place tables place batch.pending.items elsewhere within) ∙ shows.alone.pending place elsewhere) in
+      (λ place elsewhere. other_law batch contents place (no_place tables place batch.pending elsewhere within) ∙ shows.alone.pending place elsewhere) in
       record {
         something = something_there tables contents position view shows ready.some;
         none_under_way = ready.none;
         number = ready.number;
         pending = is.0;
-        shows = law tables contents batch position (pushed position changes) view (grounded view) shows (within_none tables batch.rows.items writes.rows) within writes.log
+        shows = law tables contents batch position (pushed position changes) view (grounded view) shows (within_none tables batch.rows writes.rows) within writes.log
             (λ name. values_are batch.meta.items (push_values (position.number + 1) changes) name (value_of tables position name) writes.values ∙ push_value tables position changes name)
             (shows_grounded pending_law view shows.rows is.0)
             (under_way tables view changes shows.rows.sound is.0 is.1)

@@ -6,7 +6,7 @@ use Rattle.cs_normal.specs.declared.normal.TableChanges.{TableChanges}
 use Rattle.cs_position.specs.Values.{ValuePart, flight_bytes, value_part}
 use Rattle.cs_store.specs.Written.{optional_bytes}
 use Rattle.cs_store.specs.declared.batch.Batch.{Batch}
-use Rattle.cs_store.specs.declared.batch.PlaceEdit.{PlaceEdit}
+use Rattle.cs_edits.specs.Edits.{BodyEdit}
 use Rattle.cs_store.specs.declared.names.MetaName.TheVariants.{Flight, Number, Version}
 use Rattle.cs_value.specs.declared.catalog.TableDef.{TableDef}
 use Rattle.cs_wire.specs.Numbers.{eight_bytes}
@@ -15,8 +15,8 @@ use Rattle.cs_wire.specs.Numbers.{eight_bytes}
 abbrev pub PlacePart : Type 0
 PlacePart = ℕ × (List ℕ × Option (List ℕ))
 
-abbrev pub place_part : PlaceEdit → PlacePart
-place_part edit = (edit.table, (edit.key.items, optional_bytes edit.body))
+abbrev pub place_part : BodyEdit → PlacePart
+place_part edit = (edit.table, (edit.key, edit.body))
 
 -- a place of a table is cleared
 abbrev pub clears : ℕ → List ℕ → PlacePart
@@ -30,8 +30,8 @@ all_clear number (table ∷ tables) changes =
 
 -- these places of pending changes and these values are written, no row, and no log
 pub record WritesValues (cleared : List PlacePart) (edits : List ValuePart) (batch : Batch) : Type 0 where
-  pub rows : batch.rows.items ≡ []
-  pub pending : map place_part batch.pending.items ≡ cleared
+  pub rows : batch.rows ≡ []
+  pub pending : map place_part batch.pending ≡ cleared
   pub values : map value_part batch.meta.items ≡ edits
   pub log : batch.log ≡ None
 

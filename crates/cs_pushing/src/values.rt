@@ -6,7 +6,8 @@ ghost use Rattle.cs_pushing.specs.Batches.{WritesValues, all_clear, confirm_valu
 use crate::clearing::clear_tables;
 use cs_normal::Normal;
 use cs_position::{flight_value, number_value};
-use cs_store::{Batch, MetaEdit, MetaName, PlaceEdit};
+use cs_edits::PlaceEdits;
+use cs_store::{Batch, MetaEdit, MetaName};
 use cs_value::{Memory, TableDef};
 use std::alloc::Global;
 
@@ -30,8 +31,8 @@ pub(crate) fn push_batch(
     requires { length tables.now < 2 ^ 32 }
     ensures { IfOk result (WritesValues (all_clear 0 tables.now changes.now) (push_values number changes.now)) }
 {
-    let mut pending: Vec<PlaceEdit> = Vec::new(alloc);
-    clear_tables(alloc, tables, 0, changes, &mut pending)?;
+    let mut pending = PlaceEdits::new(alloc);
+    clear_tables(tables, 0, changes, &mut pending)?;
     let count = MetaEdit {
         name: MetaName::Number,
         value: Some(number_value(alloc, number)?),
@@ -42,7 +43,7 @@ pub(crate) fn push_batch(
     };
     let meta = two_values(alloc, count, flight)?;
     Ok(Batch {
-        rows: Vec::new(alloc),
+        rows: PlaceEdits::new(alloc),
         pending,
         meta,
         log: None,
@@ -63,8 +64,8 @@ pub(crate) fn confirm_batch(alloc: Global, version: u64) -> Result<Batch, Memory
     };
     let meta = two_values(alloc, next, flight)?;
     Ok(Batch {
-        rows: Vec::new(alloc),
-        pending: Vec::new(alloc),
+        rows: PlaceEdits::new(alloc),
+        pending: PlaceEdits::new(alloc),
         meta,
         log: None,
     })

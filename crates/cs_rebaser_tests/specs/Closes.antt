@@ -25,6 +25,6 @@ Closes tables local remote contents applied =
     → IsApplied tables remote base theirs
     → (given : List (Option Resolution)) × (merged : State)
     × IsMerged (tasks tables (groups_of remote)) given base mine theirs merged
-    × AreEdits tables contents applied.edits.items merged
+    × AreEdits tables contents applied.edits merged
     × (applied.blob.items ≡ blob_spelling (blob_of tables (groups_of remote) given))
     × IsApplied tables (rebased (blob_of tables (groups_of remote) given) local) theirs merged

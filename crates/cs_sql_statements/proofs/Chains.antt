@@ -12,7 +12,7 @@ use Rattle.sqlite.proofs.StateLemmas.{survives_then}
 use Rattle.cs_order.specs.Order.{by_bytes}
 use Rattle.cs_store.specs.Contents.{Contents, place_cmp, StorePlace, Bodies, Meta}
 use Rattle.cs_store.specs.Written.{edit_body, edit_meta}
-use Rattle.cs_store.specs.declared.batch.PlaceEdit.{PlaceEdit}
+use Rattle.cs_edits.specs.Edits.{BodyEdit}
 use Rattle.cs_store.specs.declared.batch.MetaEdit.{MetaEdit}
 use Rattle.std.specs.List.{fold}
 use Rattle.std.proofs.lemmas.List.{take_more}
@@ -59,7 +59,7 @@ then_ok (Ok x) a b c was f p q = then_edits a b c was f p q
 then_ok (Err e) a b c was f p q = tt
 
 -- one edit more
-pub one_more : (a b c : State) (was : Contents) (edits : List PlaceEdit) (i : ℕ) (edit : PlaceEdit) → i < length edits → edit ≡ get_or edits i edit → Edits (with_edits (take i edits) was) a b
+pub one_more : (a b c : State) (was : Contents) (edits : List BodyEdit) (i : ℕ) (edit : BodyEdit) → i < length edits → edit ≡ get_or edits i edit → Edits (with_edits (take i edits) was) a b
     → Edits (with_edit edit (contents_in b.now.trees)) b c → Edits (with_edits (take (i + 1) edits) was) a c
 one_more a b c was edits i edit low is p q =
     let all : take (i + 1) edits ≡ take i edits ++ edit ∷ [] = take_more edits i edit low ∙ ap (λ e. take i edits ++ e ∷ []) (sym is) in
@@ -68,7 +68,7 @@ one_more a b c was edits i edit low is p q =
     subst (λ k. Edits k a c) same (then_edits a b c (with_edits (take i edits) was) (with_edit edit) p q)
 
 -- one edit of pending changes more
-pub one_change_more : (a b c : State) (was : Contents) (edits : List PlaceEdit) (i : ℕ) (edit : PlaceEdit) → i < length edits → edit ≡ get_or edits i edit → Edits (with_changes (take i edits) was) a b
+pub one_change_more : (a b c : State) (was : Contents) (edits : List BodyEdit) (i : ℕ) (edit : BodyEdit) → i < length edits → edit ≡ get_or edits i edit → Edits (with_changes (take i edits) was) a b
     → Edits (with_change edit (contents_in b.now.trees)) b c → Edits (with_changes (take (i + 1) edits) was) a c
 one_change_more a b c was edits i edit low is p q =
     let all : take (i + 1) edits ≡ take i edits ++ edit ∷ [] = take_more edits i edit low ∙ ap (λ e. take i edits ++ e ∷ []) (sym is) in

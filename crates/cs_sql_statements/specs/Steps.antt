@@ -7,7 +7,7 @@ use Rattle.sqlite_value.specs.Order.{bytes}
 use Rattle.sqlite.specs.State.{State, KeepsCommit}
 use Rattle.cs_store.specs.Contents.{Contents, LogItem}
 use Rattle.cs_store.specs.Written.{edit_body, edit_meta, with_entry, optional_entry}
-use Rattle.cs_store.specs.declared.batch.PlaceEdit.{PlaceEdit}
+use Rattle.cs_edits.specs.Edits.{BodyEdit}
 use Rattle.cs_store.specs.declared.batch.MetaEdit.{MetaEdit}
 use Rattle.cs_store.specs.declared.batch.Batch.{Batch}
 use Rattle.cs_sql_schema.specs.Schemas.{store_schema}
@@ -32,10 +32,10 @@ without_row table key c = record c { rows = remove c.rows (table, key) }
 abbrev pub with_row : ℤ → List ℕ → List ℕ → Contents → Contents
 with_row table key body c = record c { rows = insert c.rows (table, key) body }
 
-abbrev pub with_edit : PlaceEdit → Contents → Contents
+abbrev pub with_edit : BodyEdit → Contents → Contents
 with_edit edit c = record c { rows = edit_body c.rows edit }
 
-abbrev pub with_edits : List PlaceEdit → Contents → Contents
+abbrev pub with_edits : List BodyEdit → Contents → Contents
 with_edits edits c = record c { rows = fold edit_body c.rows edits }
 
 -- the same of pending changes
@@ -45,10 +45,10 @@ without_pending table key c = record c { pending = remove c.pending (table, key)
 abbrev pub with_pending : ℤ → List ℕ → List ℕ → Contents → Contents
 with_pending table key body c = record c { pending = insert c.pending (table, key) body }
 
-abbrev pub with_change : PlaceEdit → Contents → Contents
+abbrev pub with_change : BodyEdit → Contents → Contents
 with_change edit c = record c { pending = edit_body c.pending edit }
 
-abbrev pub with_changes : List PlaceEdit → Contents → Contents
+abbrev pub with_changes : List BodyEdit → Contents → Contents
 with_changes edits c = record c { pending = fold edit_body c.pending edits }
 
 abbrev pub without_named : List ℕ → Contents → Contents
@@ -68,7 +68,7 @@ abbrev pub with_log : ℤ → Option LogItem → Contents → Contents
 with_log version entry c = record c { log = with_entry version c.log entry }
 
 abbrev pub with_batch : Batch → ℤ → Contents → Contents
-with_batch batch version c = with_log version (optional_entry batch.log) (with_values batch.meta.items (with_changes batch.pending.items (with_edits batch.rows.items c)))
+with_batch batch version c = with_log version (optional_entry batch.log) (with_values batch.meta.items (with_changes batch.pending (with_edits batch.rows c)))
 
 -- the store's tables and nothing else, with nothing under way
 pub record IsOurs (s : State) : Type 0 where

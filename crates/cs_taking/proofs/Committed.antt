@@ -19,7 +19,7 @@ use Rattle.cs_store.specs.Laws.{WritesPending, WritesRows, value_after}
 use Rattle.cs_store.specs.Written.{after_batch, edit_body, optional_bytes}
 use Rattle.cs_store.specs.declared.batch.Batch.{Batch}
 use Rattle.cs_store.specs.declared.batch.MetaEdit.{MetaEdit}
-use Rattle.cs_store.specs.declared.batch.PlaceEdit.{PlaceEdit}
+use Rattle.cs_edits.specs.Edits.{BodyEdit}
 use Rattle.cs_store.specs.declared.names.MetaName.{MetaName}
 use Rattle.cs_store.specs.declared.names.MetaName.TheVariants.{Id, Version, Number, Flight, Pending, Catalog}
 use Rattle.cs_position.specs.Values.{ValuePart, value_part}
@@ -73,10 +73,10 @@ pub committed_in : CommitShows → WritesRows → WritesPending → (tables : Li
     → WritesAll settling (next_values (position.version + 1)) batch → IsWithin tables settling
     → IsCommitted tables position settling contents (after_batch batch contents)
 committed_in law rows_law pending_law tables position settling contents batch is within seen end shows settles =
-    let count : len (after_batch batch contents).pending ≡ len (fold edit_body contents.pending settling.pending.items) = ap (λ (es : List PlaceEdit). len (fold edit_body contents.pending es)) is.pending in (
+    let count : len (after_batch batch contents).pending ≡ len (fold edit_body contents.pending settling.pending) = ap (λ (es : List BodyEdit). len (fold edit_body contents.pending es)) is.pending in (
       law tables contents batch position (taken position (len (after_batch batch contents).pending)) seen end shows
-          (subst (λ (es : List PlaceEdit). AreWithin tables es) (sym is.rows) within.0)
-          (subst (λ (es : List PlaceEdit). AreWithin tables es) (sym is.pending) within.1)
+          (subst (λ (es : List BodyEdit). AreWithin tables es) (sym is.rows) within.0)
+          (subst (λ (es : List BodyEdit). AreWithin tables es) (sym is.pending) within.1)
           is.log
           (λ name. by_parts batch.meta.items name (value_of tables position name)
           ∙ ap (λ (ps : List ValuePart). parts_after ps name (value_of tables position name)) is.values

@@ -138,8 +138,8 @@ next_values version = (Version, Some (eight_bytes version)) ∷ (Flight, None) �
 
 -- the gathered edits of places and these values are written, and no log
 pub record WritesAll (settling : Settling) (edits : List ValuePart) (batch : Batch) : Type 0 where
-  pub rows : batch.rows.items ≡ settling.rows.items
-  pub pending : batch.pending.items ≡ settling.pending.items
+  pub rows : batch.rows ≡ settling.rows
+  pub pending : batch.pending ≡ settling.pending
   pub values : map value_part batch.meta.items ≡ edits
   pub log : batch.log ≡ None
 

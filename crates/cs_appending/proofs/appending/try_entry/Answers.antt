@@ -21,4 +21,4 @@ pub returns-clause-tried : goal.returns-clause-tried
 returns-clause-tried g c = λ honest.
     let made = rw c.changes_of.ensures at c.in-Ok.ensures.made in
     appended_in c.args.catalog.now c.args.entry.now c.tables-tables.ensures.tables c.requires.fits c.append_shows.ensures
-    (g.S.RowStore.contents c.args.store.now) c.in-Ok.edits.items c.in_ok-batch.batch (made honest) c.in_ok-batch.ensures
+    (g.S.RowStore.contents c.args.store.now) c.in-Ok.edits c.in_ok-batch.batch (made honest) c.in_ok-batch.ensures

@@ -10,4 +10,4 @@ returns-in-Ok c = λ contents listing settled copied.
     let batch : Batch = record { rows = c.in_ok-edits_of.field-0; pending = c.new.result; meta = c.new-2.result; log = None } in
     subst (λ (held : Contents). AreCopied contents held (c.args.number + 1)) (sym (c.in-Ok.ensures.commits.ok tt))
     (table_copied c.commits.ensures.rows c.commits.ensures.other_rows contents c.args.copy.now.held batch c.args.number c.args.listed.items
-    c.in_ok-edits_of.ensures c.new.ensures.items c.new-2.ensures.items refl listing settled copied)
+    (rw c.as_slice.ensures.value at c.in_ok-edits_of.ensures) c.new.ensures c.new-2.ensures.items refl listing settled copied)

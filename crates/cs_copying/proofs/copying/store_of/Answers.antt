@@ -11,4 +11,4 @@ pub returns-in-Ok : goal.returns-in-Ok
 returns-in-Ok c = λ contents names values.
     let batch : Batch = record { rows = c.new.result; pending = c.new-2.result; meta = c.args.meta; log = None } in
     subst (λ (held : Contents). AreCopied contents held 0) (sym (c.in-Ok.ensures.commits.ok tt ∙ ap (λ (store : InMemory). after_batch batch store.held) c.new-copy.ensures))
-    (values_copied c.commits.ensures.meta c.commits.ensures.other_names contents batch c.new.ensures.items c.new-2.ensures.items refl names values)
+    (values_copied c.commits.ensures.meta c.commits.ensures.other_names contents batch c.new.ensures c.new-2.ensures refl names values)

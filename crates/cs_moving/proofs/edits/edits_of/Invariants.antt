@@ -5,4 +5,4 @@ use Rattle.cs_moving.proofs.edits.edits_of.Given as goal
 
 -- those so far
 abbrev pub invariant-loop-one : goal.invariant-loop-one
-invariant-loop-one l = map edit_parts l.edits.items ≡ map task_parts (map task_of (take l.one-index l.placed))
+invariant-loop-one l = map edit_parts l.edits ≡ map task_parts (map task_of (take l.one-index l.placed))

@@ -8,4 +8,4 @@ pub returns : goal.returns
 unfolding contents_of
 returns c = λ contents.
     batch_moves c.args.catalog.now c.args.changes.now _ _ _ _ _ _ _ contents
-    c.new.ensures.items c.in_ok-placed.ensures.tasks c.in_ok-pending.ensures (ap (λ (ps : List Placed). map task_of ps) c.as_slice.ensures.value) c.in_ok-push.ensures.items c.new-meta.ensures.items refl
+    c.new.ensures c.in_ok-placed.ensures.tasks c.in_ok-pending.ensures (ap (λ (ps : List Placed). map task_of ps) c.as_slice.ensures.value) c.in_ok-push.ensures.items c.new-meta.ensures.items refl
