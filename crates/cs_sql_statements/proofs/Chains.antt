@@ -14,9 +14,10 @@ use Rattle.cs_store.specs.Contents.{Contents, place_cmp, StorePlace, Bodies, Met
 use Rattle.cs_store.specs.Written.{edit_body, edit_meta}
 use Rattle.cs_edits.specs.Edits.{BodyEdit}
 use Rattle.cs_store.specs.declared.batch.MetaEdit.{MetaEdit}
-use Rattle.std.specs.List.{fold}
+use Rattle.std.specs.List.{fold, slice_get}
 use Rattle.std.proofs.lemmas.List.{take_more}
 use Rattle.std.proofs.lemmas.List.Sums.{fold-append}
+use Rattle.std.proofs.lemmas.Option.{slice_get_within, get_or_from_slice_get}
 use Rattle.cs_sql_statements.specs.Tables.{contents_in}
 use Rattle.cs_sql_statements.specs.Steps.{Edits, with_edit, with_edits, with_change, with_changes, with_value, with_values}
 use Rattle.cs_sql_statements.proofs.Answers.{place_total, place_exact}
@@ -58,20 +59,24 @@ pub then_ok : {T E : Type 0} (r : Result T E) (a b c : State) (was : Contents) (
 then_ok (Ok x) a b c was f p q = then_edits a b c was f p q
 then_ok (Err e) a b c was f p q = tt
 
+-- one element more, which stands there
+take_there : {X : Type 0} (xs : List X) (i : ℕ) (x : X) → slice_get xs i ≡ Some x → take (i + 1) xs ≡ take i xs ++ x ∷ []
+take_there xs i x there = take_more xs i x (slice_get_within xs i x there) ∙ ap (λ e. take i xs ++ e ∷ []) (get_or_from_slice_get xs i x x there)
+
 -- one edit more
-pub one_more : (a b c : State) (was : Contents) (edits : List BodyEdit) (i : ℕ) (edit : BodyEdit) → i < length edits → edit ≡ get_or edits i edit → Edits (with_edits (take i edits) was) a b
+pub one_more : (a b c : State) (was : Contents) (edits : List BodyEdit) (i : ℕ) (edit : BodyEdit) → slice_get edits i ≡ Some edit → Edits (with_edits (take i edits) was) a b
     → Edits (with_edit edit (contents_in b.now.trees)) b c → Edits (with_edits (take (i + 1) edits) was) a c
-one_more a b c was edits i edit low is p q =
-    let all : take (i + 1) edits ≡ take i edits ++ edit ∷ [] = take_more edits i edit low ∙ ap (λ e. take i edits ++ e ∷ []) (sym is) in
+one_more a b c was edits i edit there p q =
+    let all : take (i + 1) edits ≡ take i edits ++ edit ∷ [] = take_there edits i edit there in
     let same : with_edit edit (with_edits (take i edits) was) ≡ with_edits (take (i + 1) edits) was =
     ap (λ (m : Bodies). record was { rows = m }) (sym (ap (fold edit_body was.rows) all ∙ fold-append edit_body was.rows (take i edits) (edit ∷ []))) in
     subst (λ k. Edits k a c) same (then_edits a b c (with_edits (take i edits) was) (with_edit edit) p q)
 
 -- one edit of pending changes more
-pub one_change_more : (a b c : State) (was : Contents) (edits : List BodyEdit) (i : ℕ) (edit : BodyEdit) → i < length edits → edit ≡ get_or edits i edit → Edits (with_changes (take i edits) was) a b
+pub one_change_more : (a b c : State) (was : Contents) (edits : List BodyEdit) (i : ℕ) (edit : BodyEdit) → slice_get edits i ≡ Some edit → Edits (with_changes (take i edits) was) a b
     → Edits (with_change edit (contents_in b.now.trees)) b c → Edits (with_changes (take (i + 1) edits) was) a c
-one_change_more a b c was edits i edit low is p q =
-    let all : take (i + 1) edits ≡ take i edits ++ edit ∷ [] = take_more edits i edit low ∙ ap (λ e. take i edits ++ e ∷ []) (sym is) in
+one_change_more a b c was edits i edit there p q =
+    let all : take (i + 1) edits ≡ take i edits ++ edit ∷ [] = take_there edits i edit there in
     let same : with_change edit (with_changes (take i edits) was) ≡ with_changes (take (i + 1) edits) was =
     ap (λ (m : Bodies). record was { pending = m }) (sym (ap (fold edit_body was.pending) all ∙ fold-append edit_body was.pending (take i edits) (edit ∷ []))) in
     subst (λ k. Edits k a c) same (then_edits a b c (with_changes (take i edits) was) (with_change edit) p q)

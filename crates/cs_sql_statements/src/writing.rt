@@ -9,7 +9,8 @@ ghost use Rattle.cs_store.specs.Written.{item_of, optional_entry};
 ghost use Rattle.cs_sql_schema.specs.Making.{IsUndone};
 ghost use Rattle.cs_sql_statements.specs.Steps.{IsInside, Edits, without_row, with_row, with_edit, with_edits, without_pending, with_pending, with_change, with_changes, without_named, with_named, with_value, with_values, with_log, with_batch, IsReady, IsWritten};
 
-use cs_store::{Batch, MetaEdit, PlaceEdit, StoredEntry};
+use cs_edits::{LentEdits, PlaceEdit};
+use cs_store::{Batch, MetaEdit, StoredEntry};
 use sqlite::{Alter, Connection, Error, Transaction, params};
 
 /// Removes the row at a place, if there is one.
@@ -47,30 +48,30 @@ fn insert_row<S: Alter>(
 }
 
 /// Sets the row at a place, or removes it.
-fn write_row<S: Alter>(tx: &mut Transaction<'_, S>, edit: &PlaceEdit) -> Result<(), Error>
+fn write_row<S: Alter>(tx: &mut Transaction<'_, S>, edit: &PlaceEdit<'_>) -> Result<(), Error>
     requires { HasCleanDisk (state S.Store tx.old.conn.now) → IsInside (state S.Store tx.old.conn.now) }
     ensures same_reference { tx.new.conn.ghost_name ≡ tx.old.conn.ghost_name }
     ensures ok { HasCleanDisk (state S.Store tx.new.conn.now) → OnOk result (Edits (with_edit edit.now (contents_in (state S.Store tx.old.conn.now).now.trees)) (state S.Store tx.old.conn.now) (state S.Store tx.new.conn.now)) }
     ensures err { HasCleanDisk (state S.Store tx.new.conn.now) → OnErr result (KeepsCommit (state S.Store tx.old.conn.now) (state S.Store tx.new.conn.now)) }
     ensures survives { Survives (state S.Store tx.old.conn.now) (state S.Store tx.new.conn.now) (λ _. ⊥) }
 {
-    remove_row(tx, edit.table, &edit.key)?;
-    if let Some(body) = &edit.body {
-        insert_row(tx, edit.table, &edit.key, body)?;
+    remove_row(tx, edit.table(), edit.key())?;
+    if let Some(body) = edit.body() {
+        insert_row(tx, edit.table(), edit.key(), body)?;
     }
     Ok(())
 }
 
 /// Writes the rows of a batch, in order.
-fn write_rows<S: Alter>(tx: &mut Transaction<'_, S>, edits: &[PlaceEdit]) -> Result<(), Error>
+fn write_rows<S: Alter>(tx: &mut Transaction<'_, S>, edits: &LentEdits<'_>) -> Result<(), Error>
     requires { HasCleanDisk (state S.Store tx.old.conn.now) → IsInside (state S.Store tx.old.conn.now) }
     ensures same_reference { tx.new.conn.ghost_name ≡ tx.old.conn.ghost_name }
     ensures ok { HasCleanDisk (state S.Store tx.new.conn.now) → OnOk result (Edits (with_edits edits.now (contents_in (state S.Store tx.old.conn.now).now.trees)) (state S.Store tx.old.conn.now) (state S.Store tx.new.conn.now)) }
     ensures err { HasCleanDisk (state S.Store tx.new.conn.now) → OnErr result (KeepsCommit (state S.Store tx.old.conn.now) (state S.Store tx.new.conn.now)) }
     ensures survives { Survives (state S.Store tx.old.conn.now) (state S.Store tx.new.conn.now) (λ _. ⊥) }
 {
-    for edit in edits {
-        write_row(tx, edit)?;
+    for at in 0..edits.len() {
+        write_row(tx, &edits.get(at))?;
     }
     Ok(())
 }
@@ -114,30 +115,30 @@ fn insert_pending<S: Alter>(
 }
 
 /// Sets the pending change at a place, or removes it.
-fn write_change<S: Alter>(tx: &mut Transaction<'_, S>, edit: &PlaceEdit) -> Result<(), Error>
+fn write_change<S: Alter>(tx: &mut Transaction<'_, S>, edit: &PlaceEdit<'_>) -> Result<(), Error>
     requires { HasCleanDisk (state S.Store tx.old.conn.now) → IsInside (state S.Store tx.old.conn.now) }
     ensures same_reference { tx.new.conn.ghost_name ≡ tx.old.conn.ghost_name }
     ensures ok { HasCleanDisk (state S.Store tx.new.conn.now) → OnOk result (Edits (with_change edit.now (contents_in (state S.Store tx.old.conn.now).now.trees)) (state S.Store tx.old.conn.now) (state S.Store tx.new.conn.now)) }
     ensures err { HasCleanDisk (state S.Store tx.new.conn.now) → OnErr result (KeepsCommit (state S.Store tx.old.conn.now) (state S.Store tx.new.conn.now)) }
     ensures survives { Survives (state S.Store tx.old.conn.now) (state S.Store tx.new.conn.now) (λ _. ⊥) }
 {
-    remove_pending(tx, edit.table, &edit.key)?;
-    if let Some(body) = &edit.body {
-        insert_pending(tx, edit.table, &edit.key, body)?;
+    remove_pending(tx, edit.table(), edit.key())?;
+    if let Some(body) = edit.body() {
+        insert_pending(tx, edit.table(), edit.key(), body)?;
     }
     Ok(())
 }
 
 /// Writes the pending changes of a batch, in order.
-fn write_changes<S: Alter>(tx: &mut Transaction<'_, S>, edits: &[PlaceEdit]) -> Result<(), Error>
+fn write_changes<S: Alter>(tx: &mut Transaction<'_, S>, edits: &LentEdits<'_>) -> Result<(), Error>
     requires { HasCleanDisk (state S.Store tx.old.conn.now) → IsInside (state S.Store tx.old.conn.now) }
     ensures same_reference { tx.new.conn.ghost_name ≡ tx.old.conn.ghost_name }
     ensures ok { HasCleanDisk (state S.Store tx.new.conn.now) → OnOk result (Edits (with_changes edits.now (contents_in (state S.Store tx.old.conn.now).now.trees)) (state S.Store tx.old.conn.now) (state S.Store tx.new.conn.now)) }
     ensures err { HasCleanDisk (state S.Store tx.new.conn.now) → OnErr result (KeepsCommit (state S.Store tx.old.conn.now) (state S.Store tx.new.conn.now)) }
     ensures survives { Survives (state S.Store tx.old.conn.now) (state S.Store tx.new.conn.now) (λ _. ⊥) }
 {
-    for edit in edits {
-        write_change(tx, edit)?;
+    for at in 0..edits.len() {
+        write_change(tx, &edits.get(at))?;
     }
     Ok(())
 }
@@ -261,8 +262,8 @@ fn write_batch<S: Alter>(
     ensures survives { Survives (state S.Store tx.old.conn.now) (state S.Store tx.new.conn.now) (λ _. ⊥) }
     ensures free { HasCleanDisk (state S.Store tx.new.conn.now) → OnOk result (IsTrue (state S.Store tx.new.conn.now).is_open → IfSome batch.now.log (λ _. get (contents_in (state S.Store tx.old.conn.now).now.trees).log (pos version) ≡ None)) }
 {
-    write_rows(tx, &batch.rows)?;
-    write_changes(tx, &batch.pending)?;
+    write_rows(tx, &batch.rows.lend())?;
+    write_changes(tx, &batch.pending.lend())?;
     write_values(tx, &batch.meta)?;
     write_log(tx, version, &batch.log)
 }

@@ -20,6 +20,6 @@ returns-clause-ok g c clean =
     let first = c.in_ok-write_rows.ensures.ok (omega (arith, c.write_log.ensures.survives.clean, c.write_values.ensures.survives.clean, c.write_changes.ensures.survives.clean)) in
     let rows = with_edits batch.rows was in
     let changes = with_changes batch.pending rows in
-    let both = then_edits start one two rows (with_changes batch.pending) (rw c.deref.ensures.value at first) (rw c.deref-2.ensures.value at second) in
-    let all = then_edits start two three changes (with_values batch.meta.items) both (rw c.deref-3.ensures.value at third) in
+    let both = then_edits start one two rows (with_changes batch.pending) (rw c.lend.ensures at first) (rw c.lend-2.ensures at second) in
+    let all = then_edits start two three changes (with_values batch.meta.items) both (rw c.deref.ensures.value at third) in
     then_ok c.write_log.result start three end (with_values batch.meta.items changes) (with_log (pos c.args.version) (optional_entry batch.log)) all (c.write_log.ensures.ok clean)

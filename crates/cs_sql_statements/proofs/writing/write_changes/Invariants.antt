@@ -5,9 +5,9 @@ use Rattle.cs_sql_statements.specs.Tables.{contents_in}
 use Rattle.cs_sql_statements.specs.Steps.{Edits, with_changes}
 use Rattle.cs_sql_statements.proofs.writing.write_changes.Given as goal
 
-abbrev pub invariant-loop-edit : goal.invariant-loop-edit
-invariant-loop-edit g l =
+abbrev pub invariant-loop-at : goal.invariant-loop-at
+invariant-loop-at g l =
     (l.tx.conn.ghost_name ≡ l.fn.tx.conn.ghost_name)
     × Survives (state g.S.Store l.fn.tx.conn.now) (state g.S.Store l.tx.conn.now) (λ _. ⊥)
     × (HasCleanDisk (state g.S.Store l.tx.conn.now)
-    → Edits (with_changes (take l.edit-index l.edits) (contents_in (state g.S.Store l.fn.tx.conn.now).now.trees)) (state g.S.Store l.fn.tx.conn.now) (state g.S.Store l.tx.conn.now))
+    → Edits (with_changes (take l.at l.edits) (contents_in (state g.S.Store l.fn.tx.conn.now).now.trees)) (state g.S.Store l.fn.tx.conn.now) (state g.S.Store l.tx.conn.now))

@@ -4,13 +4,13 @@ use Rattle.cs_sql_statements.specs.Tables.{contents_in}
 use Rattle.cs_sql_statements.proofs.Chains.{quiet_then, one_more}
 use Rattle.cs_sql_statements.proofs.writing.write_rows.Goals as goal
 
-pub loop-edit-preserved : goal.loop-edit-preserved
-loop-edit-preserved g c =
+pub loop-at-preserved : goal.loop-at-preserved
+loop-at-preserved g c =
     let first = state g.S.Store c.args.tx.now.conn.now in
-    let mid = state g.S.Store c.loop-edit.tx.conn.now in
+    let mid = state g.S.Store c.loop-at.tx.conn.now in
     let last = state g.S.Store c.write_row.new.tx.conn.now in (
-      c.write_row.ensures.same_reference ∙ c.loop-edit.invariant.0,
-      quiet_then first mid last c.loop-edit.invariant.1 c.write_row.ensures.survives,
-      λ clean. one_more first mid last (contents_in first.now.trees) c.args.edits.now c.loop-edit.edit-index c.edit-item.result c.loop-edit-test.true c.edit-item.is
-          (c.loop-edit.invariant.2 (omega (arith, c.write_row.ensures.survives.clean))) (c.in_ok-write_row.ensures.ok clean),
+      c.write_row.ensures.same_reference ∙ c.loop-at.invariant.0,
+      quiet_then first mid last c.loop-at.invariant.1 c.write_row.ensures.survives,
+      λ clean. one_more first mid last (contents_in first.now.trees) c.args.edits.now c.loop-at.at c.get.result c.get.ensures
+          (c.loop-at.invariant.2 (omega (arith, c.write_row.ensures.survives.clean))) (c.in_ok-write_row.ensures.ok clean),
     )
