@@ -49,8 +49,8 @@ commit_shows writes other_rows other_pending other_names tables contents batch o
   rows = shows;
   values = λ name. writes batch contents name ∙ ap (value_after batch.meta.items name) (was.values name) ∙ set name;
   alone = record {
-    rows = λ place elsewhere. other_rows batch contents place (no_place tables place batch.rows.items elsewhere within_rows) ∙ was.alone.rows place elsewhere;
-    pending = λ place elsewhere. other_pending batch contents place (no_place tables place batch.pending.items elsewhere within_pending) ∙ was.alone.pending place elsewhere;
+    rows = λ place elsewhere. other_rows batch contents place (no_place tables place batch.rows elsewhere within_rows) ∙ was.alone.rows place elsewhere;
+    pending = λ place elsewhere. other_pending batch contents place (no_place tables place batch.pending elsewhere within_pending) ∙ was.alone.pending place elsewhere;
     log = ap (λ (o : Option StoredEntry). len (appended contents.log (optional_entry o))) log ∙ was.alone.log;
     names = λ text value at. if_kept text (name_or_none text) (λ never. was.alone.names text value (sym (other_names batch contents text never) ∙ at));
   };

@@ -22,8 +22,8 @@ abbrev pub CommitShows : Type 0
 CommitShows =
     (tables : List TableDef) (contents : Contents) (batch : Batch) (old new : Position) (seen view : View)
     → ShowsAt tables contents old seen
-    → AreWithin tables batch.rows.items
-    → AreWithin tables batch.pending.items
+    → AreWithin tables batch.rows
+    → AreWithin tables batch.pending
     → batch.log ≡ None
     → ((name : MetaName) → value_after batch.meta.items name (value_of tables old name) ≡ value_of tables new name)
     → ShowsRows tables (after_batch batch contents) view
