@@ -10,10 +10,10 @@ use Rattle.cs_value.specs.declared.catalog.TableDef.{TableDef}
 use Rattle.cs_order.specs.Facts.{first_place}
 use Rattle.cs_order.specs.Groups.{has_bytes, places_of}
 use Rattle.cs_order.specs.Order.{Keys, key_at, same_bytes}
-use Rattle.cs_normal.specs.Steps.FirstTables.{first_is, is_new, table_name, with_new, AreFirstTables, HaveNamesOf, IsFrontOf}
+use Rattle.cs_normal.specs.Steps.FirstTables.{first_is, is_new, with_new, AreFirstTables, HaveNamesOf, IsFrontOf}
+use Rattle.cs_normal.specs.Placed.{table_name}
 use Rattle.cs_normal.proofs.HeaderTables.{front_more, one_more}
-use Rattle.cs_normal.proofs.NormalLaws.{by_test}
-use Rattle.cs_normal.proofs.Placed.{has_place, same_self}
+use Rattle.cs_normal.specs.NormalFacts.{by_test, has_place, same_self}
 
 -- the first that passes is the least that does
 least : (test : ℕ → Bool) (start n first : ℕ) (others : List ℕ) (j : ℕ) → filter test (range_with_len start n) ≡ first ∷ others → start ≤ j → j < start + n → test j ≡ true → first ≤ j

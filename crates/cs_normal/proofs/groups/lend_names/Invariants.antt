@@ -1,7 +1,0 @@
-use Rattle.std.proofs.Common.{◌≡◌, take}
-use Rattle.cs_order.specs.Order.{keys_behind}
-use Rattle.cs_normal.specs.Placed.{names_of}
-use Rattle.cs_normal.proofs.groups.lend_names.Given as goal
-
-abbrev pub invariant-loop-group : goal.invariant-loop-group
-invariant-loop-group l = keys_behind l.names.items ≡ names_of (take l.group-index l.groups)

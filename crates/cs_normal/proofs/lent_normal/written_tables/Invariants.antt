@@ -1,6 +1,0 @@
-use Rattle.std.proofs.Common.{◌≡◌, map}
-use Rattle.cs_normal.specs.Lent.{table_of}
-use Rattle.cs_normal.proofs.lent_normal.written_tables.Given as goal
-
-abbrev pub invariant-loop-table : goal.invariant-loop-table
-invariant-loop-table l = l.made.items ≡ map table_of l.yielded
