@@ -5,7 +5,8 @@ ghost use Rattle.std.specs.Prelude.{◌≡◌};
 use crate::given::{Here, INSERT, begun, catalog, insert_of, push, tells};
 use cs_changeset::read;
 use cs_log::{Body, LogEntry};
-use cs_normal::{Normal, normalise};
+use cs_normal::Normal;
+use cs_normalising::normalise;
 use cs_spine::{Pass, Spine};
 use std::alloc::{AllocError, Global};
 

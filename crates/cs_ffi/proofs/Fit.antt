@@ -4,11 +4,11 @@ use Rattle.std.specs.List.{AllByRecursion}
 use Rattle.cs_value.specs.Catalog.{AreTables}
 use Rattle.cs_value.specs.declared.catalog.TableDef.{TableDef}
 use Rattle.cs_change.specs.declared.group.Group.{Group}
-use Rattle.cs_normal.specs.Laws.{NoFaultWhereFit}
-use Rattle.cs_normal.specs.NormalFormOf.{AreFit}
+use Rattle.cs_normalising.specs.Laws.{NoFaultWhereFit}
+use Rattle.cs_normalising.specs.NormalFormOf.{AreFit}
 use Rattle.cs_normal.specs.declared.headers.HeaderFault.TheVariants as in_headers
-use Rattle.cs_normal.specs.declared.unfit.Unfit.{Unfit}
-use Rattle.cs_normal.specs.declared.unfit.Unfit.TheVariants as in_changes
+use Rattle.cs_normalising.specs.declared.unfit.Unfit.{Unfit}
+use Rattle.cs_normalising.specs.declared.unfit.Unfit.TheVariants as in_changes
 use Rattle.cs_group.specs.Combined.{tables_of, HasCombineFault, HasFirstUnfitChangeset}
 use Rattle.cs_group.specs.declared.combining.CombineFault.{CombineFault}
 use Rattle.cs_group.specs.declared.combining.CombineFault.TheVariants.{Memory, Headers, Unfit as NoForm}

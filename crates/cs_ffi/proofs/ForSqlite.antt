@@ -6,7 +6,7 @@ use Rattle.cs_change.specs.Spelling.{changeset_spelling}
 use Rattle.cs_normal.specs.Headers.{headers, HaveCatalog}
 use Rattle.cs_normal.specs.Laws.{NormalIsTaken}
 use Rattle.cs_normal.specs.Normal.{groups_of, normal_spelling, FitsCatalog}
-use Rattle.cs_normal.specs.NormalFormOf.{IsNormalFormOf}
+use Rattle.cs_normalising.specs.NormalFormOf.{IsNormalFormOf}
 use Rattle.cs_normal.specs.declared.normal.TableChanges.{TableChanges}
 use Rattle.cs_group.specs.Combined.{tables_of}
 use Rattle.cs_column_bytes.specs.KeyPlaces.{Head, heads_of, for_sqlite, sqlite_spelling, HaveOneOrder}

@@ -9,12 +9,12 @@ use Rattle.cs_changeset.specs.Laws.{ChangesetLaws}
 use Rattle.cs_changeset.specs.Reading.{IsChangesetFault}
 use Rattle.cs_changeset.specs.declared.fault.Fault.{Fault}
 use Rattle.cs_normal.specs.Headers.{headers, HaveCatalog}
-use Rattle.cs_normal.specs.Laws.{NoFaultWhereFit, OneNormalForm, OneUnfit}
+use Rattle.cs_normalising.specs.Laws.{NoFaultWhereFit, OneNormalForm, OneUnfit}
 use Rattle.cs_normal.specs.Normal.{normal_spelling}
-use Rattle.cs_normal.specs.NormalFormOf.{AreFit, IsUnfit}
+use Rattle.cs_normalising.specs.NormalFormOf.{AreFit, IsUnfit}
 use Rattle.cs_normal.specs.declared.normal.TableChanges.{TableChanges}
-use Rattle.cs_normal.specs.declared.unfit.Unfit.{Unfit}
-use Rattle.cs_normal.specs.declared.unfit.Unfit.TheVariants as in_changes
+use Rattle.cs_normalising.specs.declared.unfit.Unfit.{Unfit}
+use Rattle.cs_normalising.specs.declared.unfit.Unfit.TheVariants as in_changes
 use Rattle.cs_group.specs.Combined.{tables_of, IsCombined, HasCombineFault, NoFaultWhereCombined, OneCombined, OneCombineFault}
 use Rattle.cs_group.specs.Inverse.{inverse_changeset}
 use Rattle.cs_group.specs.declared.combining.CombineFault.{CombineFault}

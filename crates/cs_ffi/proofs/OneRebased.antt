@@ -5,7 +5,7 @@ use Rattle.cs_change.specs.declared.group.Group.{Group}
 use Rattle.cs_changeset.specs.Laws.{ChangesetLaws}
 use Rattle.cs_changeset.specs.Reading.{IsChangesetFault}
 use Rattle.cs_changeset.specs.declared.fault.Fault.{Fault}
-use Rattle.cs_normal.specs.Laws.{NoFaultWhereFit}
+use Rattle.cs_normalising.specs.Laws.{NoFaultWhereFit}
 use Rattle.cs_normal.specs.Normal.{normal_spelling}
 use Rattle.cs_normal.specs.declared.normal.TableChanges.{TableChanges}
 use Rattle.cs_group.specs.Combined.{IsCombined}

@@ -3,8 +3,8 @@ use Rattle.std.proofs.Common.{◌≡◌, inl, inr, ℕ, List, refl, sym, ap, sub
 use Rattle.cs_value.specs.declared.catalog.TableDef.{TableDef}
 use Rattle.cs_change.specs.declared.group.Group.{Group}
 use Rattle.cs_changeset.specs.Laws.{ChangesetLaws}
-use Rattle.cs_normal.specs.Laws.{NoFaultWhereFit}
-use Rattle.cs_normal.specs.NormalFormOf.{IsNormalFormOf}
+use Rattle.cs_normalising.specs.Laws.{NoFaultWhereFit}
+use Rattle.cs_normalising.specs.NormalFormOf.{IsNormalFormOf}
 use Rattle.cs_normal.specs.declared.normal.TableChanges.{TableChanges}
 use Rattle.cs_column_bytes.specs.KeyPlaces.{heads_of, sqlite_spelling, HaveOneOrder}
 use Rattle.cs_column_bytes.specs.Laws.{OneOrderOrTwo}

@@ -8,7 +8,7 @@ use Rattle.cs_changeset.specs.Reading.{IsChangesetFault}
 use Rattle.cs_changeset.specs.declared.fault.Fault.{Fault}
 use Rattle.cs_normal.specs.Headers.{headers, HaveCatalog}
 use Rattle.cs_normal.specs.Normal.{normal_spelling}
-use Rattle.cs_normal.specs.NormalFormOf.{AreFit}
+use Rattle.cs_normalising.specs.NormalFormOf.{AreFit}
 use Rattle.cs_normal.specs.declared.headers.HeaderFault.{HeaderFault}
 use Rattle.cs_normal.specs.declared.headers.HeaderFault.TheVariants as in_headers
 use Rattle.cs_normal.specs.declared.normal.TableChanges.{TableChanges}
@@ -18,7 +18,7 @@ use Rattle.cs_group.specs.declared.combining.CombineFault.{CombineFault}
 use Rattle.cs_group.specs.declared.combining.CombineFault.TheVariants.{Memory, Headers, Unfit as NoForm}
 use Rattle.cs_ffi.specs.declared.answer.Answer.{Answer}
 use Rattle.cs_ffi.specs.Answers.{no_memory, refused, Spell, IsRefusal, Hands}
-use Rattle.cs_normal.specs.Codes.{unfit_code}
+use Rattle.cs_normalising.specs.Codes.{unfit_code}
 
 -- the number of the reason why there is no catalog of the headers
 abbrev pub header_number : HeaderFault → ℕ

@@ -6,7 +6,7 @@ use Rattle.cs_value.specs.declared.catalog.TableDef.{TableDef}
 use Rattle.cs_change.specs.declared.group.Group.{Group}
 use Rattle.cs_change.specs.Spelling.{changeset_spelling, FitsChangeset}
 use Rattle.cs_normal.specs.Headers.{headers, HaveCatalog}
-use Rattle.cs_normal.specs.NormalFormOf.{IsNormalFormOf}
+use Rattle.cs_normalising.specs.NormalFormOf.{IsNormalFormOf}
 use Rattle.cs_normal.specs.declared.normal.TableChanges.{TableChanges}
 use Rattle.cs_column_bytes.specs.KeyPlaces.{heads_of, for_sqlite, sqlite_spelling, HaveOneOrder, HasTwoOrders}
 use Rattle.cs_column_bytes.specs.Steps.{heads_behind}

@@ -9,7 +9,8 @@ ghost use Rattle.cs_ffi.specs.SqliteAnswers.{key_order};
 
 use cs_changeset::CodecFault;
 use cs_group::CombineFault;
-use cs_normal::{HeaderFault, Unfit};
+use cs_normal::HeaderFault;
+use cs_normalising::Unfit;
 use cs_rebaser::{ConfigureFault, RebaseFault};
 use std::alloc::{AllocError, AllocFailed};
 

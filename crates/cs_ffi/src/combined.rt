@@ -13,7 +13,7 @@ use crate::reading::hand_over_normal;
 use cs_changeset::{Changeset, CodecFault, read};
 use cs_group::{combine, invert, normalise_alone};
 use cs_normal::Normal;
-use cs_normal::laws::no_fault_where_fit;
+use cs_normalising::laws::no_fault_where_fit;
 use std::alloc::Global;
 
 /// Whether the lengths add up to the total. It takes them away from that, since their sum may be more than a number

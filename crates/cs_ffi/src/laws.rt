@@ -6,7 +6,7 @@ use cs_blob::laws::blobs;
 use cs_changeset::laws::changesets;
 use cs_column_bytes::laws::one_order_or_two;
 use cs_group::laws::{no_fault_where_combined, one_combine_fault, one_combined};
-use cs_normal::laws::{no_fault_where_fit, one_normal_form, one_unfit};
+use cs_normalising::laws::{no_fault_where_fit, one_normal_form, one_unfit};
 use cs_rebaser::laws::no_wrong_shape;
 
 /// Two answers of a C function to one input are equal, and so is what stands in the caller's memory after them, unless

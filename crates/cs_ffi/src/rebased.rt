@@ -15,7 +15,7 @@ use cs_blob::{Blob, CodecFault, read};
 use cs_changeset::laws::changesets;
 use cs_group::lend_alone;
 use cs_normal::Normal;
-use cs_normal::laws::no_fault_where_fit;
+use cs_normalising::laws::no_fault_where_fit;
 use cs_rebaser::Rebaser;
 use cs_rebaser::laws::no_wrong_shape;
 use std::alloc::Global;

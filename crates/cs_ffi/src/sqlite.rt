@@ -10,7 +10,8 @@ use cs_changeset::Changeset;
 use cs_changeset::laws::changesets;
 use cs_column_bytes::laws::{heads_of_catalog, one_order_or_two, same_length, stays_the_same};
 use cs_column_bytes::{Header, encode, has_one_order, put_headers};
-use cs_normal::laws::{no_fault_where_fit, normal_is_taken};
+use cs_normal::laws::normal_is_taken;
+use cs_normalising::laws::no_fault_where_fit;
 use std::alloc::Global;
 
 /// The headers of a changeset, where those of each table have the same column bytes.

@@ -19,12 +19,12 @@ use Rattle.cs_order.specs.Order.{Keys, by_bytes, same_bytes}
 use Rattle.cs_order.specs.Facts.{same_is, Above, above_more, cons_sorted}
 use Rattle.cs_keyed.specs.Changes.{Changes, change_at, IsOrdered}
 use Rattle.cs_normal.specs.Headers.{header, headers, has_other_name, tables_of_headers, CatalogOrHeaderFault}
-use Rattle.cs_normal.specs.Laws.{FormOrUnfit}
+use Rattle.cs_normalising.specs.Laws.{FormOrUnfit}
 use Rattle.cs_keyed.specs.NormalForm.{keyed, AreKeyed}
-use Rattle.cs_normal.specs.NormalFormOf.{changes_of, HaveKeys}
+use Rattle.cs_normalising.specs.NormalFormOf.{changes_of, HaveKeys}
 use Rattle.cs_normal.specs.declared.normal.TableChanges.{TableChanges}
-use Rattle.cs_normal.specs.declared.unfit.Unfit.{Unfit}
-use Rattle.cs_normal.specs.declared.unfit.Unfit.TheVariants.{Memory as NotFit}
+use Rattle.cs_normalising.specs.declared.unfit.Unfit.{Unfit}
+use Rattle.cs_normalising.specs.declared.unfit.Unfit.TheVariants.{Memory as NotFit}
 use Rattle.cs_group.specs.Combined.{tables_of, HasFirstUnfitChangeset, CombinedOrFault}
 use Rattle.cs_group.specs.Steps.Joining.{then_form}
 use Rattle.cs_group.specs.Steps.Reading.{AreTakenTogether, IsReadJoinOf, read_each}

@@ -12,7 +12,7 @@ use Rattle.cs_change.specs.declared.group.Group.{Group}
 use Rattle.cs_order.specs.Groups.{places_of}
 use Rattle.cs_order.specs.Order.{Keys}
 use Rattle.cs_normal.specs.AtPlaces.{at_places}
-use Rattle.cs_normal.specs.NormalFormOf.{changes_of}
+use Rattle.cs_normalising.specs.NormalFormOf.{changes_of}
 use Rattle.cs_group.specs.Steps.Joining.{in_a_row}
 use Rattle.cs_group.specs.Steps.Numbering.{changes_in_group, groups_at, listed_group, name_of, named, numbered_behind, numbered_from, numbered_names, numbers_in_group, NumberedGroup}
 use Rattle.cs_group.specs.Steps.Reading.{numbers_from, read_each}

@@ -4,7 +4,7 @@ use Rattle.std.proofs.lemmas.Option.{same_Some, slice_get_within}
 use Rattle.cs_value.specs.declared.catalog.TableDef.{TableDef}
 use Rattle.cs_change.specs.declared.group.Group.{Group}
 use Rattle.cs_log.specs.declared.entry.LogEntry.{LogEntry}
-use Rattle.cs_normal.specs.NormalFormOf.{IsNormalFormOf}
+use Rattle.cs_normalising.specs.NormalFormOf.{IsNormalFormOf}
 use Rattle.cs_judging.specs.Hub.{HubState, with_entry}
 use Rattle.cs_judging.specs.Judged.{hub_of}
 use Rattle.cs_judging.specs.Pushes.{IsRepeat, Push, Pushes, entry_of_push}

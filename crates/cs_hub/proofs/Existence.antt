@@ -3,7 +3,7 @@ use Rattle.std.proofs.Common.{inl, inr, ℕ, List, [], ◌∷◌, length, map, R
 use Rattle.std.proofs.lemmas.Bool.{cases_lt}
 use Rattle.cs_change.specs.Spelling.{FitsChangeset}
 use Rattle.cs_change.specs.declared.group.Group.{Group}
-use Rattle.cs_normal.specs.Laws.{FormOrUnfit}
+use Rattle.cs_normalising.specs.Laws.{FormOrUnfit}
 use Rattle.cs_changeset.specs.Laws.{ChangesetOrFault}
 use Rattle.cs_varint.specs.Bytes.{AreBytes, bytes_behind}
 use Rattle.cs_judging.specs.Hub.{HubState, entries_from}

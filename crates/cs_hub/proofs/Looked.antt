@@ -12,9 +12,9 @@ use Rattle.cs_log.specs.Stored.{IsEntryOf}
 use Rattle.cs_log.specs.declared.entry.LogEntry.{LogEntry}
 use Rattle.cs_log.specs.declared.entry.TheConstants.{MAX_CHANGESET}
 use Rattle.cs_normal.specs.Normal.{FitsCatalog, IsNormalChangeset, normal_spelling}
-use Rattle.cs_normal.specs.NormalFormOf.{IsUnfit}
+use Rattle.cs_normalising.specs.NormalFormOf.{IsUnfit}
 use Rattle.cs_normal.specs.declared.normal.TableChanges.{TableChanges}
-use Rattle.cs_normal.specs.declared.unfit.Unfit.{Unfit}
+use Rattle.cs_normalising.specs.declared.unfit.Unfit.{Unfit}
 use Rattle.cs_store.specs.Contents.{Contents}
 use Rattle.cs_store.specs.declared.batch.Batch.{Batch}
 use Rattle.cs_pending.specs.Calls.{ReadsStore}

@@ -4,8 +4,8 @@ use Rattle.cs_value.specs.Catalog.{AreTables}
 use Rattle.cs_change.specs.declared.group.Group.{Group}
 use Rattle.cs_changeset.specs.declared.fault.Fault.{Fault}
 use Rattle.cs_changeset.specs.Laws.{ChangesetLaws}
-use Rattle.cs_normal.specs.Laws.{NoFaultWhereFit, OneNormalForm, OneUnfit}
-use Rattle.cs_normal.specs.declared.unfit.Unfit.{Unfit}
+use Rattle.cs_normalising.specs.Laws.{NoFaultWhereFit, OneNormalForm, OneUnfit}
+use Rattle.cs_normalising.specs.declared.unfit.Unfit.{Unfit}
 use Rattle.cs_normal.specs.declared.normal.TableChanges.{TableChanges}
 use Rattle.cs_judging.specs.Hub.{HubState}
 use Rattle.cs_judging.specs.Laws.{OneAnswer}

@@ -3,9 +3,9 @@ use Rattle.std.specs.Prelude.{ℕ}
 use Rattle.cs_changeset.specs.Codes.{fault_code}
 use Rattle.cs_changeset.specs.declared.fault.CodecFault.{CodecFault}
 use Rattle.cs_changeset.specs.declared.fault.CodecFault.TheVariants as codec
-use Rattle.cs_normal.specs.Codes.{unfit_code}
-use Rattle.cs_normal.specs.declared.unfit.Unfit.{Unfit}
-use Rattle.cs_normal.specs.declared.unfit.Unfit.TheVariants as unfit
+use Rattle.cs_normalising.specs.Codes.{unfit_code}
+use Rattle.cs_normalising.specs.declared.unfit.Unfit.{Unfit}
+use Rattle.cs_normalising.specs.declared.unfit.Unfit.TheVariants as unfit
 use Rattle.cs_judging.specs.declared.fault.HubFault.{HubFault}
 use Rattle.cs_judging.specs.declared.fault.HubFault.TheVariants as hub
 use Rattle.cs_hub.specs.declared.refusal.Refusal.{Refusal}

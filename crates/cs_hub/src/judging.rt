@@ -22,7 +22,7 @@ use crate::serving::answer_to;
 use cs_changeset::read;
 use cs_judging::{Judgement, Pushed, judge_at};
 use cs_log::{Body, LogEntry, MAX_CHANGESET};
-use cs_normal::normalise;
+use cs_normalising::normalise;
 use cs_store::RowStore;
 use cs_value::{Catalog, Memory};
 use cs_wire::{PushHead, SHORT, ShortAnswer};

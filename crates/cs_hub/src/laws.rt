@@ -7,7 +7,7 @@ ghost use Rattle.cs_hub.specs.declared.hub.TheConstants.{MAX_ENTRIES};
 use crate::hub::Hub;
 use cs_changeset::laws::changesets;
 use cs_judging::laws::{one_answer, push_has_answer};
-use cs_normal::laws::{form_or_unfit, no_fault_where_fit, one_normal_form, one_unfit};
+use cs_normalising::laws::{form_or_unfit, no_fault_where_fit, one_normal_form, one_unfit};
 use cs_store::RowStore;
 use cs_wire::laws::{asks_something, one_request};
 

@@ -5,7 +5,7 @@ ghost use Rattle.cs_hub.specs.Refusals.{refusal_code, refusal_of_codec, refusal_
 
 use cs_changeset::{CodecFault, Fault};
 use cs_judging::HubFault;
-use cs_normal::Unfit;
+use cs_normalising::Unfit;
 use cs_wire::WireFault;
 
 /// Why a request is refused; or want of memory, of which no answer of the hub tells.

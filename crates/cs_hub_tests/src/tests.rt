@@ -7,7 +7,7 @@ use cs_changeset::read;
 use cs_hub::{Hub, Judged, MAX_ENTRIES};
 use cs_judging::{HubFault, Pushed};
 use cs_map_store::MapStore;
-use cs_normal::normalise;
+use cs_normalising::normalise;
 use cs_opening::OpenFault;
 use cs_rows::RowAtKey;
 use cs_sql::SqlStore;

@@ -8,12 +8,13 @@ use Rattle.cs_change.specs.declared.group.Group.{Group}
 use Rattle.cs_changeset.specs.Laws.{ChangesetLaws}
 use Rattle.cs_changeset.specs.Reading.{IsChangesetFault}
 use Rattle.cs_changeset.specs.declared.fault.Fault.{Fault}
-use Rattle.cs_normal.specs.Laws.{NoFaultWhereFit, NormalAgain, NormalIsTaken, OneNormalForm}
+use Rattle.cs_normalising.specs.Laws.{NoFaultWhereFit, NormalAgain, OneNormalForm}
+use Rattle.cs_normal.specs.Laws.{NormalIsTaken}
 use Rattle.cs_normal.specs.Normal.{groups_of, normal_spelling}
-use Rattle.cs_normal.specs.NormalFormOf.{IsNormalFormOf, IsUnfit}
+use Rattle.cs_normalising.specs.NormalFormOf.{IsNormalFormOf, IsUnfit}
 use Rattle.cs_normal.specs.declared.normal.TableChanges.{TableChanges}
-use Rattle.cs_normal.specs.declared.unfit.Unfit.{Unfit}
-use Rattle.cs_normal.specs.declared.unfit.Unfit.TheVariants as unfit
+use Rattle.cs_normalising.specs.declared.unfit.Unfit.{Unfit}
+use Rattle.cs_normalising.specs.declared.unfit.Unfit.TheVariants as unfit
 use Rattle.cs_log.specs.Entry.{changes_of_body}
 use Rattle.cs_log.specs.Laws.{OneBody}
 use Rattle.cs_log.specs.Stored.{AreChangesOf, FitsBody, ReadsBody, ReadsChanges, body_fault_of_unfit, stored_body}

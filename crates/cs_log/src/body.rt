@@ -10,8 +10,10 @@ use crate::entry::MAX_CHANGESET;
 use crate::fault::BodyFault;
 use crate::laws::one_body;
 use cs_changeset::read;
-use cs_normal::laws::{no_fault_where_fit, normal_again, normal_is_taken, one_normal_form};
-use cs_normal::{Normal, normalise};
+use cs_normal::laws::normal_is_taken;
+use cs_normalising::laws::{no_fault_where_fit, normal_again, one_normal_form};
+use cs_normal::Normal;
+use cs_normalising::normalise;
 use cs_value::{Catalog, Memory};
 use std::alloc::Global;
 

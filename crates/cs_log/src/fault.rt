@@ -5,7 +5,7 @@ ghost use Rattle.cs_log.specs.Stored.{body_fault_of_codec, body_fault_of_unfit};
 ghost use Rattle.cs_log.specs.declared.fault.BodyFault.TheVariants.{Memory as OutOfMemory};
 
 use cs_changeset::CodecFault;
-use cs_normal::Unfit;
+use cs_normalising::Unfit;
 use std::alloc::{AllocError, AllocFailed};
 use thiserror::Error;
 

@@ -6,6 +6,7 @@ use cs_change::{Change, ChangesBuf, Changeset, Group, Scratch, spell_change};
 use cs_changeset::read;
 use cs_keyed::{KeysBuilder, key_front};
 use cs_normal::*;
+use cs_normalising::*;
 use cs_order::Keys;
 use cs_record::{Record, read_record};
 use cs_value::{Catalog, Items, Key, Memory, TableDef, Text, Value};

@@ -13,11 +13,11 @@ use Rattle.cs_change.specs.Spelling.{FitsChangeset, changeset_spelling}
 use Rattle.cs_change.specs.declared.group.Group.{Group}
 use Rattle.cs_changeset.specs.Laws.{ChangesetOrFault, NoFaultAtChangeset, OneChangeset}
 use Rattle.cs_changeset.specs.Reading.{HasFault, IsChangesetFault}
-use Rattle.cs_normal.specs.Laws.{FormOrUnfit, NoFaultWhereFit}
-use Rattle.cs_normal.specs.NormalFormOf.{AreFit, IsNormalFormOf, IsUnfit}
+use Rattle.cs_normalising.specs.Laws.{FormOrUnfit, NoFaultWhereFit}
+use Rattle.cs_normalising.specs.NormalFormOf.{AreFit, IsNormalFormOf, IsUnfit}
 use Rattle.cs_normal.specs.declared.normal.TableChanges.{TableChanges}
-use Rattle.cs_normal.specs.declared.unfit.Unfit.{Unfit}
-use Rattle.cs_normal.specs.declared.unfit.Unfit.TheVariants as unfit
+use Rattle.cs_normalising.specs.declared.unfit.Unfit.{Unfit}
+use Rattle.cs_normalising.specs.declared.unfit.Unfit.TheVariants as unfit
 use Rattle.cs_log.specs.Entry.{kind_of}
 use Rattle.cs_log.specs.declared.body.Body.{Body}
 use Rattle.cs_log.specs.declared.body.Body.TheVariants.{Changes}

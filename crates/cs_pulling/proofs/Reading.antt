@@ -6,11 +6,11 @@ use Rattle.cs_value.specs.declared.catalog.TableDef.{TableDef}
 use Rattle.cs_change.specs.Spelling.{FitsChangeset, changeset_spelling}
 use Rattle.cs_change.specs.declared.group.Group.{Group}
 use Rattle.cs_changeset.specs.Laws.{OneChangeset}
-use Rattle.cs_normal.specs.Laws.{NoFaultWhereFit, OneNormalForm}
-use Rattle.cs_normal.specs.NormalFormOf.{IsNormalFormOf, IsUnfit}
+use Rattle.cs_normalising.specs.Laws.{NoFaultWhereFit, OneNormalForm}
+use Rattle.cs_normalising.specs.NormalFormOf.{IsNormalFormOf, IsUnfit}
 use Rattle.cs_normal.specs.declared.normal.TableChanges.{TableChanges}
-use Rattle.cs_normal.specs.declared.unfit.Unfit.{Unfit}
-use Rattle.cs_normal.specs.declared.unfit.Unfit.TheVariants.{Memory}
+use Rattle.cs_normalising.specs.declared.unfit.Unfit.{Unfit}
+use Rattle.cs_normalising.specs.declared.unfit.Unfit.TheVariants.{Memory}
 use Rattle.cs_log.specs.Entry.{changes_of_body, entry_changes}
 use Rattle.cs_log.specs.declared.body.Body.{Body}
 use Rattle.cs_log.specs.declared.body.Body.TheVariants.{Changes}

@@ -3,7 +3,7 @@ use Rattle.std.specs.Prelude.{◌≡◌, List}
 use Rattle.cs_value.specs.declared.catalog.TableDef.{TableDef}
 use Rattle.cs_change.specs.Spelling.{FitsChangeset, changeset_spelling}
 use Rattle.cs_change.specs.declared.group.Group.{Group}
-use Rattle.cs_normal.specs.NormalFormOf.{IsNormalFormOf}
+use Rattle.cs_normalising.specs.NormalFormOf.{IsNormalFormOf}
 use Rattle.cs_log.specs.Entry.{entry_changes, kind_of}
 use Rattle.cs_log.specs.declared.entry.LogEntry.{LogEntry}
 use Rattle.cs_wire.specs.Entries.{ToldEntry}

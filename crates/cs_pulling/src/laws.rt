@@ -9,7 +9,7 @@ pub fn one_read()
     ensures { OneRead }
 {
     cs_changeset::laws::changesets();
-    cs_normal::laws::one_normal_form();
+    cs_normalising::laws::one_normal_form();
 }
 
 /// An answer's entry in bytes is read as an entry of the log, or can't be read.
@@ -17,8 +17,8 @@ pub fn read_or_not()
     ensures { ReadOrNot }
 {
     cs_changeset::laws::changesets();
-    cs_normal::laws::form_or_unfit();
-    cs_normal::laws::no_fault_where_fit();
+    cs_normalising::laws::form_or_unfit();
+    cs_normalising::laws::no_fault_where_fit();
 }
 
 /// An entry that is pulled leads from the log's rows to those that it leaves of them.

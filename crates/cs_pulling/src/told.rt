@@ -2,12 +2,12 @@
 
 ghost use Rattle.std.specs.Prelude.{◌≡◌, ◌≢◌, Some, IfOk, IfSome, OnOk};
 ghost use Rattle.cs_log.specs.declared.entry.LogEntry.{LogEntry as Entry};
-ghost use Rattle.cs_normal.specs.declared.unfit.Unfit.TheVariants.{Memory as OutOfMemory};
+ghost use Rattle.cs_normalising.specs.declared.unfit.Unfit.TheVariants.{Memory as OutOfMemory};
 ghost use Rattle.cs_pulling.specs.Told.{IsReadAs};
 
 use cs_changeset::{CodecFault, read};
 use cs_log::{Body, LogEntry};
-use cs_normal::{Unfit, normalise};
+use cs_normalising::{Unfit, normalise};
 use cs_value::{Catalog, Memory};
 use cs_wire::WireEntry;
 use std::alloc::{AllocError, Global};
@@ -33,8 +33,8 @@ pub(crate) fn read_told(
     ensures only { (entry : Entry) → IsReadAs catalog.now told.now entry → IfOk result (λ read. read ≡ Some entry) }
 {
     cs_changeset::laws::changesets();
-    cs_normal::laws::one_normal_form();
-    cs_normal::laws::no_fault_where_fit();
+    cs_normalising::laws::one_normal_form();
+    cs_normalising::laws::no_fault_where_fit();
     let _tables = catalog.tables();
     let groups = match read(alloc, told.body()) {
         Ok(groups) => groups,

@@ -10,7 +10,7 @@ use Rattle.cs_change.specs.declared.change.Change.{Change}
 use Rattle.cs_blob.specs.declared.blob.BlobGroup.{BlobGroup}
 use Rattle.cs_keyed.specs.Changes.{Changes}
 use Rattle.cs_keyed.specs.Prepared.{Entries, kept}
-use Rattle.cs_normal.specs.Lent.{entry_at as lent_at}
+use Rattle.cs_normalising.specs.Lent.{nth_entry}
 use Rattle.cs_order.specs.Order.{Keys, key_at}
 use Rattle.cs_rebaser.specs.Rebase.{rebased_change}
 use Rattle.cs_rebaser.specs.Rebased.{beside as left_beside, entry_at, placed, rebased_changes, rebased_keyed}
@@ -33,12 +33,12 @@ module _ (blob : List BlobGroup) (name : List ℕ) (marks : List Bool) where
 
   -- ---- one entry
 
-  module _ (es : Entries) (at : ℕ) (places : List ℕ) (left now : List Change) (so_far : ArePicked es places left) (grown : now ≡ left ++ rebased_at marks (lent_at es at).1 (entry_at (name, (lent_at es at).0) (placed blob))) where
+  module _ (es : Entries) (at : ℕ) (places : List ℕ) (left now : List Change) (so_far : ArePicked es places left) (grown : now ≡ left ++ rebased_at marks (nth_entry es at).1 (entry_at (name, (nth_entry es at).0) (placed blob))) where
     abbrev key : List ℕ
-    key = (lent_at es at).0
+    key = (nth_entry es at).0
 
     abbrev change : Option Change
-    change = form_left key (lent_at es at).1
+    change = form_left key (nth_entry es at).1
 
     abbrev keys : Keys
     keys = picked_keys es places
@@ -47,13 +47,13 @@ module _ (blob : List BlobGroup) (name : List ℕ) (marks : List Bool) where
     many = length-map places (key_at (keys_of es)) ∙ so_far.1
 
     is : now ≡ left ++ listed change
-    is = grown ∙ ap (λ (cs : List Change). left ++ cs) (appended key (lent_at es at).1)
+    is = grown ∙ ap (λ (cs : List Change). left ++ cs) (appended key (nth_entry es at).1)
 
     abbrev put : Changes
-    put = rebased_entry blob name marks (lent_at es at)
+    put = rebased_entry blob name marks (nth_entry es at)
 
     put_is : left_beside key change ≡ put
-    put_is = sym (put_beside key (lent_at es at).1)
+    put_is = sym (put_beside key (nth_entry es at).1)
 
     -- something is left of it, and its place goes before
     pub one_picked : (more : List ℕ) → at < length es → length left < length now → more ≡ places ++ at ∷ [] → ArePicked es more now × (picked_changes es more now ≡ picked_changes es places left ++ put)
@@ -69,12 +69,12 @@ module _ (blob : List BlobGroup) (name : List ℕ) (marks : List Bool) where
 
   -- ---- all of them
 
-  pub entries_more : (es : Entries) (at : ℕ) (so_far now : Changes) → at < length es → so_far ≡ flat_map (rebased_entry blob name marks) (take at es) → now ≡ so_far ++ rebased_entry blob name marks (lent_at es at) → now ≡ flat_map (rebased_entry blob name marks) (take (at + 1) es)
+  pub entries_more : (es : Entries) (at : ℕ) (so_far now : Changes) → at < length es → so_far ≡ flat_map (rebased_entry blob name marks) (take at es) → now ≡ so_far ++ rebased_entry blob name marks (nth_entry es at) → now ≡ flat_map (rebased_entry blob name marks) (take (at + 1) es)
   entries_more es at so_far now within is grown =
       let f = rebased_entry blob name marks in
       grown
-      ∙ ap (λ (cs : Changes). cs ++ f (lent_at es at)) is
-      ∙ flat_map_more f [] (take at es) (lent_at es at)
+      ∙ ap (λ (cs : Changes). cs ++ f (nth_entry es at)) is
+      ∙ flat_map_more f [] (take at es) (nth_entry es at)
       ∙ ap (λ (fs : Entries). flat_map f fs) (sym (take_more es at ([], None) within))
 
   entries_kept : (es : Entries) → flat_map (rebased_entry blob name marks) es ≡ rebased_changes blob name marks (kept es)

@@ -19,7 +19,8 @@ use Rattle.cs_judging.specs.declared.push.Pushed.TheVariants as pushed
 use Rattle.cs_log.specs.declared.entry.LogEntry.{LogEntry}
 use Rattle.cs_member.specs.Laws.{EditHasResult, IsInRange, IsOfEdit, IsOfPushed, PushHasResult}
 use Rattle.cs_member.specs.Member.{IsEditedTo, IsPushAsked}
-use Rattle.cs_normal.specs.Laws.{NormalAgain, NormalIsTaken}
+use Rattle.cs_normalising.specs.Laws.{NormalAgain}
+use Rattle.cs_normal.specs.Laws.{NormalIsTaken}
 use Rattle.cs_normal.specs.Normal.{groups_of}
 use Rattle.cs_normal.specs.declared.normal.TableChanges.{TableChanges}
 use Rattle.cs_pending.specs.View.{View}

@@ -14,7 +14,8 @@ use Rattle.cs_log.specs.Stored.{AreChangesOf}
 use Rattle.cs_log.specs.declared.body.Body.{Body}
 use Rattle.cs_log.specs.declared.body.Body.TheVariants.{Changes}
 use Rattle.cs_log.specs.declared.entry.LogEntry.{LogEntry}
-use Rattle.cs_normal.specs.Laws.{NormalAgain, NormalIsTaken}
+use Rattle.cs_normalising.specs.Laws.{NormalAgain}
+use Rattle.cs_normal.specs.Laws.{NormalIsTaken}
 use Rattle.cs_normal.specs.Normal.{change_of, groups_of, normal_spelling}
 use Rattle.cs_normal.specs.State.{AreSame, IsApplied, IsDefinedOn, State}
 use Rattle.cs_normal.specs.declared.normal.TableChanges.{TableChanges}

@@ -17,7 +17,8 @@ use Rattle.cs_judging.specs.declared.push.Pushed.TheVariants as pushed
 use Rattle.cs_log.specs.Laws.{AppendedIsLog}
 use Rattle.cs_log.specs.Log.{IsLog, state_of}
 use Rattle.cs_log.specs.declared.entry.LogEntry.{LogEntry}
-use Rattle.cs_normal.specs.Laws.{NoFaultWhereFit, NormalAgain, NormalIsTaken, OneNormalForm}
+use Rattle.cs_normalising.specs.Laws.{NoFaultWhereFit, NormalAgain, OneNormalForm}
+use Rattle.cs_normal.specs.Laws.{NormalIsTaken}
 use Rattle.cs_normal.specs.Normal.{groups_of}
 use Rattle.cs_normal.specs.State.{IsDefinedOn}
 use Rattle.cs_normal.specs.declared.normal.TableChanges.{TableChanges}

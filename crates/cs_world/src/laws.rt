@@ -19,10 +19,10 @@ pub fn steps_are_sound()
     ensures { StepsAreSound }
 {
     cs_changeset::laws::changesets();
-    cs_normal::laws::one_normal_form();
-    cs_normal::laws::no_fault_where_fit();
+    cs_normalising::laws::one_normal_form();
+    cs_normalising::laws::no_fault_where_fit();
     cs_normal::laws::normal_is_taken();
-    cs_normal::laws::normal_again();
+    cs_normalising::laws::normal_again();
     cs_log::laws::most_bytes();
     cs_position::laws::last_number();
     cs_log::laws::appended_is_log();
@@ -61,10 +61,10 @@ pub fn answers_fit()
     ensures { AnswersFit }
 {
     cs_changeset::laws::changesets();
-    cs_normal::laws::one_normal_form();
-    cs_normal::laws::no_fault_where_fit();
+    cs_normalising::laws::one_normal_form();
+    cs_normalising::laws::no_fault_where_fit();
     cs_normal::laws::normal_is_taken();
-    cs_normal::laws::normal_again();
+    cs_normalising::laws::normal_again();
     cs_log::laws::appended_is_log();
     cs_wire::laws::one_request();
     cs_wire::laws::one_told_answer();
@@ -77,7 +77,7 @@ pub fn pulls_merge()
     ensures { PullsMerge }
 {
     cs_normal::laws::normal_is_taken();
-    cs_normal::laws::normal_again();
+    cs_normalising::laws::normal_again();
     cs_log::laws::one_body();
     cs_pending::laws::one_view();
     cs_taking::laws::one_contents();
@@ -161,7 +161,7 @@ pub fn deliver_has_step()
     cs_conflict::laws::guarded_is_lawful();
     cs_judging::laws::push_has_answer();
     cs_normal::laws::normal_is_taken();
-    cs_normal::laws::normal_again();
+    cs_normalising::laws::normal_again();
     let wishes = Wishes::new(&[]);
     answer_has_result_by(&wishes);
 }
