@@ -1,9 +1,7 @@
 -- The normal form leads from a state to where the changes as read lead, one after another.
 use Rattle.std.proofs.Common.{◌≡◌, ◌≢◌, ◌⊎◌, ℕ, Bool, true, false, List, [], ◌∷◌, ◌++◌, map, Option, Some, None, refl, sym, ap, subst, ◌∙◌, inl, inr}
-use Rattle.std.specs.Cmp.{eq_by_cmp_equiv}
 use Rattle.std.specs.List.{AllByRecursion, Contains, IsDistinct}
 use Rattle.std.specs.Str.{bytes_eq}
-use Rattle.std.proofs.lemmas.Cmp.{nat_list_cmp_total}
 use Rattle.std.proofs.lemmas.List.Elements.{All-contains, All-from_recursion, recursion_from_All}
 use Rattle.std.proofs.lemmas.Map.Keys.{IsDistinct-head, IsDistinct-tail}
 use Rattle.std.proofs.lemmas.Slice.Eq.{bytes_eq-Decides}
@@ -23,7 +21,7 @@ use Rattle.cs_keyed.specs.NormalForm.{change_key, change_bytes, AreKeyed, IsNorm
 use Rattle.cs_normal.specs.Normal.{change_of, changes_in}
 use Rattle.cs_normal.specs.State.{State, IsStateOf, left_at, IsAfterChanges, IsAfterGroups}
 use Rattle.cs_normal.specs.declared.normal.TableChanges.{TableChanges}
-use Rattle.cs_normal.specs.NormalFacts.{by_test, key_spelled, named_or_not, absent_name, row_fits}
+use Rattle.cs_normal.specs.NormalFacts.{by_test, key_spelled, named_or_not, absent_name, row_fits, same_self}
 use Rattle.cs_normalising.specs.NormalFormOf.{HasTable, changes_of, IsNormalFormOf}
 use Rattle.cs_normalising.specs.Laws.{NormalFormLeads}
 use Rattle.cs_normalising.proofs.AsRead.{shape_of, all_read}
@@ -35,9 +33,6 @@ use Rattle.cs_normalising.proofs.PerTable.{AreAsRead}
 state_place : BytesTellKeys → (tables : List TableDef) (state : State) (table : TableDef) (values : List Value) → AreTables tables → IsStateOf tables state → Contains tables table → IsSpelled values → FitsPlace table.key_marks values (state table.name (key_bytes values))
 state_place apart tables state table values are is one spelled =
     row_fits apart tables table (key_bytes values) values (state table.name (key_bytes values)) are one spelled refl (is table.name (key_bytes values))
-
-same_self : (key : List ℕ) → same_bytes key key ≡ true
-same_self key = (eq_by_cmp_equiv nat_list_cmp_total).refl key
 
 -- what the changes at the place with these bytes lead to, one after another
 abbrev AtPlace : List Bool → List ℕ → List Change → Place → Place → Type 0

@@ -25,6 +25,11 @@ pub record IsFront (tables : List TableDef) (groups : List Group) (count : ℕ) 
   pub fit : HaveTables tables (take count groups)
   pub next : MatchOption stop (count ≡ length groups) (λ fault. (count < length groups) × HoldsAt (IsUnfitHeader fault tables) groups count)
 
+-- the same, told of equal groups and of an equal stop
+pub front_of : {tables : List TableDef} {all groups : List Group} {count : ℕ} {told stop : Option Unfit} → all ≡ groups → told ≡ stop → count ≤ length all → HaveTables tables (take count all) → MatchOption told (count ≡ length all) (λ fault. (count < length all) × HoldsAt (IsUnfitHeader fault tables) all count) → IsFront tables groups count stop
+front_of {tables} {all} {groups} {count} {told} {stop} same is within fit next =
+    record { within = rw same at within; fit = rw same at fit; next = rw (is, same) at next }
+
 module _ (tables : List TableDef) (groups : List Group) (count : ℕ) (are : AreTables tables) where
   -- all headers fit
   module _ (front : IsFront tables groups count None) (normal : List TableChanges) (made : AreTablesOf (take count groups) tables normal) where
