@@ -63,9 +63,12 @@ fn put(
         ≡ edits_in bytes.old.items spots.old.items) }
 {
     let key = bytes.len();
+    let set = set_bytes(edit);
+    // Room for both is taken at once.
+    bytes.reserve(edit.key().len().saturating_add(set.len()))?;
     bytes.extend_from_slice(edit.key())?;
     let body = bytes.len();
-    if bytes.extend_from_slice(set_bytes(edit)).is_err() {
+    if bytes.extend_from_slice(set).is_err() {
         bytes.truncate(key);
         return Err(AllocError);
     }
