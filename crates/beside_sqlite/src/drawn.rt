@@ -4,9 +4,10 @@ use cs_apply::apply;
 use cs_change::{ChangesBuf, Changeset};
 use cs_changeset::read;
 use cs_conflict::{Conflict, Resolution};
+use cs_edits::PlaceEdits;
 use cs_map_store::MapStore;
 use cs_normal::catalog_of;
-use cs_store::{Batch, PlaceEdit, RowStore};
+use cs_store::{Batch, RowStore};
 use cs_value::Catalog;
 use std::alloc::{AllocError, AllocFailed, Global};
 use std::slice;
@@ -70,20 +71,16 @@ pub fn answer_at(answers: &[u8], number: usize) -> Resolution {
     }
 }
 
-fn batch_of(alloc: Global, rows: Vec<PlaceEdit>) -> Batch {
+fn batch_of(alloc: Global, rows: PlaceEdits) -> Batch {
     Batch {
         rows,
-        pending: Vec::new(alloc),
+        pending: PlaceEdits::new(alloc),
         meta: Vec::new(alloc),
         log: None,
     }
 }
 
-pub fn commit_edits(
-    alloc: Global,
-    store: &mut MapStore,
-    edits: Vec<PlaceEdit>,
-) -> Result<(), Wrong> {
+pub fn commit_edits(alloc: Global, store: &mut MapStore, edits: PlaceEdits) -> Result<(), Wrong> {
     match store.commit(&batch_of(alloc, edits)) {
         Ok(()) => Ok(()),
         Err(_) => Err(Wrong::Memory),

@@ -18,9 +18,9 @@ ghost use Rattle.cs_appending.specs.declared.fault.AppendFault.TheVariants.{Devi
 ghost use Rattle.cs_store.specs.declared.fault.StoreFault.TheVariants as stored;
 
 use crate::fault::AppendFault;
-use cs_edits::PlaceEdits;
 use cs_apply::{ApplyFault, apply};
 use cs_conflict::{Conflict, Resolution};
+use cs_edits::PlaceEdits;
 use cs_log::{Body, LogEntry, put_body};
 use cs_normal::Normal;
 use cs_store::{Batch, RowStore, StoreFault, StoredEntry};

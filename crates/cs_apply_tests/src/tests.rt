@@ -5,11 +5,12 @@ use cs_apply::*;
 use cs_change::Change;
 use cs_changeset::read;
 use cs_conflict::{Conflict, ConflictBuf, Kind, Resolution};
+use cs_edits::{PlaceEdit, PlaceEdits};
 use cs_map_store::MapStore;
 use cs_normal::Normal;
 use cs_normalising::normalise;
 use cs_record::Row;
-use cs_store::{Batch, PlaceEdit, RowStore, Trip};
+use cs_store::{Batch, RowStore, Trip};
 use cs_value::{Catalog, Items, Memory, TableDef, Text};
 use std::alloc::Global;
 
@@ -69,15 +70,13 @@ fn group(alloc: Global, header: &[u8], changes: &[Put<'_>]) -> Result<Vec<u8>, M
 /// A store that holds (1, 'v1') in `t1`.
 fn store(alloc: Global) -> Result<MapStore, Memory> {
     let mut store = MapStore::new(alloc);
-    let mut rows = Vec::new(alloc);
-    rows.push(PlaceEdit {
-        table: 0,
-        key: Vec::from_slice(alloc, &[1, 0, 0, 0, 0, 0, 0, 0, 1])?,
-        body: Some(row(alloc, 1, b"v1")?),
-    })?;
+    let mut rows = PlaceEdits::new(alloc);
+    let body = row(alloc, 1, b"v1")?;
+    let key = [1, 0, 0, 0, 0, 0, 0, 0, 1];
+    rows.push(&PlaceEdit::new(0, &key, Some(body.as_slice())))?;
     let batch = Batch {
         rows,
-        pending: Vec::new(alloc),
+        pending: PlaceEdits::new(alloc),
         meta: Vec::new(alloc),
         log: None,
     };
@@ -102,13 +101,13 @@ fn put_key_number(key: &[u8], out: &mut Vec<u8>) -> Result<(), Memory> {
 }
 
 /// An edit as its table, its key's number, and its text.
-fn put_edit(edit: &PlaceEdit, out: &mut Vec<u8>) -> Result<(), Memory> {
-    put_digit(edit.table.to_be_bytes()[3], out)?;
-    put_key_number(edit.key.as_slice(), out)?;
-    match &edit.body {
+fn put_edit(edit: &PlaceEdit<'_>, out: &mut Vec<u8>) -> Result<(), Memory> {
+    put_digit(edit.table().to_be_bytes()[3], out)?;
+    put_key_number(edit.key(), out)?;
+    match edit.body() {
         Some(row) => {
             out.push(b'=')?;
-            if let Some((_, text)) = row.as_slice().split_at_checked(11) {
+            if let Some((_, text)) = row.split_at_checked(11) {
                 out.extend_from_slice(text)?;
             }
         }
@@ -120,8 +119,9 @@ fn put_edit(edit: &PlaceEdit, out: &mut Vec<u8>) -> Result<(), Memory> {
 
 /// What came of a changeset, in short: the edits, the answers, and how many groups were skipped.
 fn put_applied(applied: &Applied, out: &mut Vec<u8>) -> Result<(), Memory> {
-    for edit in &applied.edits {
-        put_edit(edit, out)?;
+    let edits = applied.edits.lend();
+    for at in 0..edits.len() {
+        put_edit(&edits.get(at), out)?;
     }
     for answer in &applied.answers {
         put_digit(*answer as u8, out)?;
@@ -383,17 +383,13 @@ fn joined(alloc: Global, pieces: &[&[u8]]) -> Result<Vec<u8>, Memory> {
 /// A store in which the key 1 has the row, or none where it has no bytes.
 fn store_with(alloc: Global, table: u32, row: Vec<u8>) -> Result<MapStore, ApplyFault> {
     let mut store = MapStore::new(alloc);
-    let mut rows = Vec::new(alloc);
+    let mut rows = PlaceEdits::new(alloc);
     if !row.is_empty() {
-        rows.push(PlaceEdit {
-            table,
-            key: Vec::from_slice(alloc, ONE)?,
-            body: Some(row),
-        })?;
+        rows.push(&PlaceEdit::new(table, ONE, Some(row.as_slice())))?;
     }
     store.commit(&Batch {
         rows,
-        pending: Vec::new(alloc),
+        pending: PlaceEdits::new(alloc),
         meta: Vec::new(alloc),
         log: None,
     })?;

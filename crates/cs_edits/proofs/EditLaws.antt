@@ -12,7 +12,7 @@ slice_kept : (a b : List ℕ) (s e : ℕ) → s ≤ e → e ≤ length a → sli
 slice_kept a b s e within bound =
     ap (take (e - s)) (drop-append-le s a b (omega arith)) ∙ take-append-le (e - s) (drop s a) b (omega (arith, length-drop s a))
 
-pub all_tail : {X : Type 0} (P : X → Type 0) (x : X) (xs : List X) → All P (x ∷ xs) → All P xs
+all_tail : {X : Type 0} (P : X → Type 0) (x : X) (xs : List X) → All P (x ∷ xs) → All P xs
 all_tail P x xs h = λ k d less. h (suc k) d (omega (arith, less))
 
 edit_kept : (bytes more : List ℕ) (spot : EditSpot) → IsEditSpotIn (length bytes) spot → edit_in (bytes ++ more) spot ≡ edit_in bytes spot

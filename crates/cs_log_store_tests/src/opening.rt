@@ -2,9 +2,10 @@
 //! written by hand.
 
 use crate::logs::{INSERT, Store, TABLE, bare, catalog_of, is_bytes, opened};
+use cs_edits::{PlaceEdit, PlaceEdits};
 use cs_log_opening::open_log;
 use cs_opening::OpenFault;
-use cs_store::{Batch, MetaEdit, MetaName, PlaceEdit, RowStore, StoreFault, StoredEntry, Written};
+use cs_store::{Batch, MetaEdit, MetaName, RowStore, StoreFault, StoredEntry, Written};
 use std::alloc::Global;
 
 /// The one value of a hub.
@@ -51,12 +52,8 @@ enum Piece {
 }
 
 /// A body at a place.
-fn place(alloc: Global, table: u32, key: &[u8], body: &[u8]) -> Result<PlaceEdit, StoreFault> {
-    Ok(PlaceEdit {
-        table,
-        key: Vec::from_slice(alloc, key)?,
-        body: Some(Vec::from_slice(alloc, body)?),
-    })
+fn place<'a>(table: u32, key: &'a [u8], body: &'a [u8]) -> PlaceEdit<'a> {
+    PlaceEdit::new(table, key, Some(body))
 }
 
 fn value_of(alloc: Global, name: MetaName, value: &[u8]) -> Result<MetaEdit, StoreFault> {
@@ -77,15 +74,15 @@ fn entry_of(alloc: Global, body: &[u8]) -> Result<StoredEntry, StoreFault> {
 /// Writes a piece.
 fn put(alloc: Global, store: &mut Store, piece: Piece) -> Result<(), StoreFault> {
     let mut batch = Batch {
-        rows: Vec::new(alloc),
-        pending: Vec::new(alloc),
+        rows: PlaceEdits::new(alloc),
+        pending: PlaceEdits::new(alloc),
         meta: Vec::new(alloc),
         log: None,
     };
     match piece {
         Piece::Value(name, value) => batch.meta.push(value_of(alloc, name, value)?)?,
-        Piece::Row(table, key, body) => batch.rows.push(place(alloc, table, key, body)?)?,
-        Piece::Pending(table, key, body) => batch.pending.push(place(alloc, table, key, body)?)?,
+        Piece::Row(table, key, body) => batch.rows.push(&place(table, key, body))?,
+        Piece::Pending(table, key, body) => batch.pending.push(&place(table, key, body))?,
         Piece::Entry(body) => batch.log = Some(entry_of(alloc, body)?),
     }
     store.commit(&batch)

@@ -2,6 +2,7 @@
 //! written by hand.
 
 use crate::logs::{DELETE, INSERT, Push, Store, Told, UPDATE, appends, entry_of, opened};
+use cs_edits::PlaceEdits;
 use cs_log::LogEntry;
 use cs_log_reading::{entries_at, entries_told, has_entry};
 use cs_store::{Batch, RowStore, StoreFault, StoredEntry};
@@ -180,8 +181,8 @@ fn entries_past_the_end_are_misread(rt: HostRuntime) {
 /// Stores an entry with this body.
 fn put_body(alloc: Global, store: &mut Store, body: &[u8]) -> Result<(), StoreFault> {
     let batch = Batch {
-        rows: Vec::new(alloc),
-        pending: Vec::new(alloc),
+        rows: PlaceEdits::new(alloc),
+        pending: PlaceEdits::new(alloc),
         meta: Vec::new(alloc),
         log: Some(StoredEntry {
             origin: 7,

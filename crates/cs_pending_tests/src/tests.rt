@@ -1,11 +1,12 @@
 //! Edits one after another beside the rows and the pending changes that were written by hand; faults in their order; what an edit
 //! writes; and calls that are refused, by the device, for want of memory or for bytes that are no row, which leave everything.
 
+use cs_edits::{PlaceEdit, PlaceEdits};
 use cs_map_store::MapStore;
 use cs_outgoing::{Outgoing, gather};
 use cs_pending::*;
 use cs_record::{RowBuf, read_row};
-use cs_store::{Batch, PlaceEdit, RowStore, StoreFault, Trip, Written};
+use cs_store::{Batch, RowStore, StoreFault, Trip, Written};
 use cs_value::{Catalog, Field, Items, TableDef, Text, Value};
 use std::alloc::{AllocError, Global};
 
@@ -147,22 +148,20 @@ const DELETE_B: &[u8] = &[9, 0, 1, 0, 0, 0, 0, 0, 0, 0, 2, 3, 1, 0x62];
 /// The UPDATE of (1, 'x') to 'y'.
 const X_TO_Y: &[u8] = &[23, 0, 1, 0, 0, 0, 0, 0, 0, 0, 1, 3, 1, 0x78, 0, 3, 1, 0x79];
 
-fn set_body(alloc: Global, key: &[u8], body: &[u8]) -> Result<PlaceEdit, AllocError> {
-    Ok(PlaceEdit {
-        table: 0,
-        key: Vec::from_slice(alloc, key)?,
-        body: Some(Vec::from_slice(alloc, body)?),
-    })
+/// The edit that sets this body at a key.
+fn set_body(alloc: Global, key: &[u8], body: &[u8]) -> Result<PlaceEdits, AllocError> {
+    let mut edits = PlaceEdits::new(alloc);
+    edits.push(&PlaceEdit::new(0, key, Some(body)))?;
+    Ok(edits)
 }
 
 /// A store in which these bytes stand as the row with the key 2.
 fn store_of(alloc: Global, body: &[u8]) -> Result<MapStore, StoreFault> {
-    let mut rows = Vec::new(alloc);
-    rows.push(set_body(alloc, TWO, body)?)?;
+    let rows = set_body(alloc, TWO, body)?;
     let mut store = MapStore::new(alloc);
     store.commit(&Batch {
         rows,
-        pending: Vec::new(alloc),
+        pending: PlaceEdits::new(alloc),
         meta: Vec::new(alloc),
         log: None,
     })?;
@@ -481,10 +480,9 @@ fn an_edit_that_the_device_refuses_changes_nothing(rt: HostRuntime) {
 
 /// Makes these bytes the change that is pending at the key 2.
 fn put_change<S: RowStore>(alloc: Global, store: &mut S, change: &[u8]) -> Result<(), StoreFault> {
-    let mut pending = Vec::new(alloc);
-    pending.push(set_body(alloc, TWO, change)?)?;
+    let pending = set_body(alloc, TWO, change)?;
     store.commit(&Batch {
-        rows: Vec::new(alloc),
+        rows: PlaceEdits::new(alloc),
         pending,
         meta: Vec::new(alloc),
         log: None,

@@ -11,22 +11,14 @@ use cs_normal::{Normal, changes_of};
 use cs_value::{Memory, TableDef};
 
 /// Appends an edit that clears a place.
-fn clear_place(
-    number: u32,
-    key: &[u8],
-    edits: &mut PlaceEdits,
-) -> Result<(), Memory>
+fn clear_place(number: u32, key: &[u8], edits: &mut PlaceEdits) -> Result<(), Memory>
     ensures { OnOk result (map place_part edits.new ≡ map place_part edits.old ++ clears number key.now ∷ []) }
 {
     edits.push(&PlaceEdit::new(number, key, None))
 }
 
 /// Appends edits that clear the places of changes, in the table with a number.
-fn clear_changes(
-    number: u32,
-    changes: &KeyedChanges,
-    edits: &mut PlaceEdits,
-) -> Result<(), Memory>
+fn clear_changes(number: u32, changes: &KeyedChanges, edits: &mut PlaceEdits) -> Result<(), Memory>
     ensures { OnOk result (map place_part edits.new ≡ map place_part edits.old ++ map (clears number) (keys_of changes.now)) }
 {
     for at in 0..changes.len() {

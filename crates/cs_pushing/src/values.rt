@@ -4,9 +4,9 @@ ghost use Rattle.std.specs.Prelude.{◌≡◌, ◌<◌, ◌^◌, ◌∷◌, [], 
 ghost use Rattle.cs_pushing.specs.Batches.{WritesValues, all_clear, confirm_values, push_values};
 
 use crate::clearing::clear_tables;
+use cs_edits::PlaceEdits;
 use cs_normal::Normal;
 use cs_position::{flight_value, number_value};
-use cs_edits::PlaceEdits;
 use cs_store::{Batch, MetaEdit, MetaName};
 use cs_value::{Memory, TableDef};
 use std::alloc::Global;

@@ -7,6 +7,7 @@ use crate::lawful::{Sides, apply_by_kind, apply_by_row, apply_over_local};
 use cs_apply::{Applied, apply};
 use cs_changeset::{Changeset, read};
 use cs_conflict::{Conflict, Resolution};
+use cs_edits::PlaceEdits;
 use cs_group::lend_alone;
 use cs_map_store::MapStore;
 use cs_normal::Normal;
@@ -545,7 +546,7 @@ fn one_table(alloc: Global) -> Result<Option<Catalog>, Memory> {
 fn commit(alloc: Global, store: &mut MapStore, applied: Applied) -> Option<Vec<u8>> {
     let batch = Batch {
         rows: applied.edits,
-        pending: Vec::new(alloc),
+        pending: PlaceEdits::new(alloc),
         meta: Vec::new(alloc),
         log: None,
     };

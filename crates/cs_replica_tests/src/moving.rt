@@ -2,8 +2,9 @@
 
 use crate::opening::{KEY_2, is_value, nothing, put_value};
 use crate::replicas::{CHANGES, PUSH_2, Store, filled, is_at, reopened, shows_both, unopened};
+use cs_edits::PlaceEdit;
 use cs_opening::OpenFault;
-use cs_store::{MetaName, PlaceEdit, RowStore, StoreFault, Trip, Written};
+use cs_store::{MetaName, RowStore, StoreFault, Trip, Written};
 use std::alloc::Global;
 
 /// The INSERT of (2, 'x'), as a changeset.
@@ -14,12 +15,7 @@ fn second() -> &'static [u8] {
 /// Takes the pending change of key 2 away.
 fn take_pending(alloc: Global, store: &mut Store) -> Result<(), StoreFault> {
     let mut batch = nothing(alloc);
-    let key = Vec::from_slice(alloc, KEY_2)?;
-    batch.pending.push(PlaceEdit {
-        table: 0,
-        key,
-        body: None,
-    })?;
+    batch.pending.push(&PlaceEdit::new(0, KEY_2, None))?;
     store.commit(&batch)
 }
 

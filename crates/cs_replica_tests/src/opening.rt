@@ -4,9 +4,10 @@
 use crate::replicas::{
     CHANGES, PUSH_1, Store, filled, insert, is_at, opened, pushes, reopened, shows_both, unopened,
 };
+use cs_edits::{PlaceEdit, PlaceEdits};
 use cs_opening::OpenFault;
 use cs_pushing::PushFault;
-use cs_store::{Batch, MetaEdit, MetaName, PlaceEdit, RowStore, StoreFault, StoredEntry, Written};
+use cs_store::{Batch, MetaEdit, MetaName, RowStore, StoreFault, StoredEntry, Written};
 use std::alloc::Global;
 
 /// Whether these are the bytes of a value, or there are none.
@@ -97,8 +98,8 @@ fn a_store_opens_as_it_was_left(rt: HostRuntime) {
 /// A batch that writes nothing.
 pub(crate) fn nothing(alloc: Global) -> Batch {
     Batch {
-        rows: Vec::new(alloc),
-        pending: Vec::new(alloc),
+        rows: PlaceEdits::new(alloc),
+        pending: PlaceEdits::new(alloc),
         meta: Vec::new(alloc),
         log: None,
     }
@@ -126,9 +127,7 @@ fn put_pending(
     body: &[u8],
 ) -> Result<(), StoreFault> {
     let mut batch = nothing(alloc);
-    let key = Vec::from_slice(alloc, key)?;
-    let body = Some(Vec::from_slice(alloc, body)?);
-    batch.pending.push(PlaceEdit { table, key, body })?;
+    batch.pending.push(&PlaceEdit::new(table, key, Some(body)))?;
     store.commit(&batch)
 }
 

@@ -4,6 +4,7 @@
 
 ghost use Rattle.std.specs.Prelude.{◌≡◌, false};
 
+use cs_edits::{PlaceEdit, PlaceEdits};
 use cs_sql::SqlStore;
 use cs_store::*;
 use cs_value::{Catalog, Items, TableDef, Text};
@@ -90,18 +91,10 @@ fn optional(alloc: Global, bytes: Option<&[u8]>) -> Result<Option<Vec<u8>>, Allo
     }
 }
 
-fn edit_of(alloc: Global, edit: &Edit<'_>) -> Result<PlaceEdit, AllocError> {
-    Ok(PlaceEdit {
-        table: edit.0,
-        key: Vec::from_slice(alloc, edit.1)?,
-        body: optional(alloc, edit.2)?,
-    })
-}
-
-fn edits_of(alloc: Global, edits: &[Edit<'_>]) -> Result<Vec<PlaceEdit>, AllocError> {
-    let mut made = Vec::new(alloc);
-    for edit in edits {
-        made.push(edit_of(alloc, edit)?)?;
+fn edits_of(alloc: Global, edits: &[Edit<'_>]) -> Result<PlaceEdits, AllocError> {
+    let mut made = PlaceEdits::new(alloc);
+    for (table, key, body) in edits {
+        made.push(&PlaceEdit::new(*table, key, *body))?;
     }
     Ok(made)
 }
