@@ -13,6 +13,8 @@ use Rattle.cs_normal.specs.Headers.{tables_of_headers, AreTwoShapes, HasTwoShape
 use Rattle.cs_normal.specs.declared.headers.HeaderFault.TheVariants.{Shape as TwoShapes, BadCatalog}
 use Rattle.cs_normal.specs.NormalFacts.{here, behind, same_or_not}
 
+-- ---- two shapes of one name
+
 abbrev NotTwoShapes : TableDef → TableDef → Type 0
 NotTwoShapes some other = AreTwoShapes some other → ⊥
 

@@ -9,6 +9,8 @@ use Rattle.cs_order.specs.Order.{Keys, key_at}
 use Rattle.cs_normal.specs.Placed.{name_first, AreGrouped}
 use Rattle.cs_normal.specs.NormalFacts.{has_place}
 
+-- ---- each name has a place
+
 name_is : (names : Keys) (name : List ℕ) (ps : List ℕ) → places_of names name ≡ ps → Contains names name → name_first names ps ≡ name
 name_is names name [] is in' = absurd (has_place names name in' is)
 name_is names name (p ∷ ps) is in' = sym (first_place names name p ps is).0
@@ -28,6 +30,8 @@ pub grouped : (names once : Keys) (groups : List (List ℕ)) → IsGrouping name
 grouped names once groups g is =
     let same : once ≡ g.distinct = is ∙ ap (λ (gs : List (List ℕ)). map (name_first names) gs) g.each ∙ each_first names g.distinct (all_in names g.distinct (λ (name : List ℕ). (g.complete name).1)) in
     subst (λ (d : Keys). AreGrouped names d groups) (sym same) (record { rising = g.rising; complete = g.complete; each = g.each })
+
+-- ---- found
 
 pub found_places : (names once : Keys) (groups : List (List ℕ)) (name : List ℕ) (at : ℕ) (found : List ℕ) → AreGrouped names once groups → at < length once → key_at once at ≡ name → found ≡ get_or groups at [] → found ≡ places_of names name
 found_places names once groups name at found g within is here =

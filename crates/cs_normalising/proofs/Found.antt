@@ -28,6 +28,8 @@ use Rattle.cs_normalising.specs.declared.unfit.Unfit.TheVariants.{Memory, Unknow
 use Rattle.cs_normalising.proofs.Faults.{map_append}
 use Rattle.cs_normalising.proofs.GroupFaults.{changes_wrong, no_group_keys, unfit_at}
 
+-- ---- the changes of one table
+
 KeyedOrNot : List Bool → List Change → Type 0
 KeyedOrNot marks changes =
     AreKeyed marks changes ⊎ HasFirstUnfitChange NullKey marks changes ⊎ HasFirstUnfitChange KeyTwice marks changes
@@ -52,6 +54,8 @@ keyed_or_not : (marks : List Bool) (changes : List Change) → KeyedOrNot marks 
 unfolding IsDistinct
 keyed_or_not marks changes = keyed_from marks [] changes (refl, tt)
 
+-- ---- the changes of all tables
+
 abbrev IsKeyedIn : List Group → TableDef → Type 0
 IsKeyedIn groups table = AreKeyed table.key_marks (changes_of table.name groups)
 
@@ -75,6 +79,8 @@ keys_or_fault groups (table ∷ tables) =
         | inr wrong ↦ inr (later_wrong groups table tables wrong)
       ]
     ]
+
+-- ---- one group after another
 
 abbrev HasOtherName : Group → TableDef → Type 0
 HasOtherName group table = table.name ≢ group.name

@@ -20,8 +20,12 @@ use Rattle.cs_normalising.specs.Laws.{NormalAgain, NormalIsItsForm}
 use Rattle.cs_normalising.specs.NormalFormOf.{changes_of, HasTable}
 use Rattle.cs_normalising.proofs.Membership.{by_membership}
 
+-- ---- one change
+
 pub normal_is_its_form : NormalIsItsForm
 normal_is_its_form marks bytes change is = (change_stays marks is.key change is.normal).0
+
+-- ---- the changes of one table
 
 bytes_stay : (marks : List Bool) (entry : List ℕ × Change) → IsEntry marks entry → change_bytes marks entry.1 ≡ entry.0
 bytes_stay marks entry is =
@@ -52,6 +56,8 @@ changes_keyed marks changes n =
 changes_stay : (marks : List Bool) (changes : Changes) → AreNormal marks changes → IsNormalOf marks (only_changes changes) changes
 changes_stay marks changes n =
     by_membership marks (only_changes changes) changes (changes_keyed marks changes n) (n.0, λ key. stands_alike marks changes key (recursion_from_All (IsEntry marks) changes n.1))
+
+-- ---- all tables
 
 no_changes : (marks : List Bool) → AreNormal marks []
 unfolding IsStrictlySortedBy

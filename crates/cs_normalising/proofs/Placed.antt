@@ -16,6 +16,8 @@ use Rattle.cs_normal.specs.NormalFacts.{has_place}
 use Rattle.cs_normalising.specs.NormalFormOf.{changes_of}
 use Rattle.cs_normalising.specs.Steps.Named.{changes_at, names_of, nowhere}
 
+-- ---- found
+
 -- a table's changes are those of the groups at the places of its name
 pub changes_at_places : (name : List ℕ) (groups : List Group) → flat_map (changes_at groups) (places_of (names_of groups) name) ≡ changes_of name groups
 changes_at_places name groups = at_places (λ (g : Group). g.name) (λ (g : Group). g.changes) nowhere refl name groups
@@ -24,6 +26,8 @@ changes_at_places name groups = at_places (λ (g : Group). g.name) (λ (g : Grou
 pub as_lent : (names : Keys) (lent : Option (Bor Keys)) → MatchOption (option_copied lent) (Unit {0}) (λ n. n ≡ names) → MatchOption lent (Unit {0}) (λ n. n.now ≡ names)
 as_lent names None h = h
 as_lent names (Some n) h = h
+
+-- ---- the table of a name
 
 -- the first place of a name is that of a table with the name
 pub first_named : (tables : List TableDef) (name : List ℕ) (place : ℕ) (others : List ℕ) → places_of (map table_name tables) name ≡ place ∷ others → (place < length tables) × HoldsAt (λ table. table.name ≡ name) tables place
