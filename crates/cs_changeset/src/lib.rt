@@ -22,3 +22,7 @@ pub use groups::{HeadedGroup, read_file};
 pub use header::read_header;
 pub use reading::read;
 pub use records::{read_old_fields, read_row};
+
+// What stands below, for the crates above.
+pub use cs_change;
+pub use cs_change::cs_record;

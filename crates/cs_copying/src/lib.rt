@@ -7,3 +7,6 @@
 mod copying;
 
 pub use copying::copy_of;
+
+// What stands below, for the crates above.
+pub use cs_rows;

@@ -15,7 +15,7 @@ use Rattle.cs_store.specs.declared.names.MetaName.TheVariants.{Flight}
 use Rattle.cs_pending.specs.View.{View}
 use Rattle.cs_position.specs.Shows.{ShowsAt, base}
 use Rattle.cs_position.specs.declared.position.Position.{Position}
-use Rattle.cs_pushing.specs.Pushes.{IsPushMade, grounded, pushed}
+use Rattle.cs_replica.specs.cs_pushing.Pushes.{IsPushMade, grounded, pushed}
 use Rattle.cs_wire.specs.Numbers.{eight_bytes}
 use Rattle.cs_following.specs.Pushes.{IsReadied}
 

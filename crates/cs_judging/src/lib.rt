@@ -13,3 +13,7 @@ mod push;
 pub use fault::HubFault;
 pub use judging::{judge_at, push_at};
 pub use push::{Judgement, Pushed};
+
+// What stands below, for the crates above.
+pub use cs_appending;
+pub use cs_log_reading;

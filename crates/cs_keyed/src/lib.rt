@@ -26,3 +26,8 @@ pub mod laws;
 
 pub use one_form::{all_normal, lend_form};
 pub use picking::pick_form;
+
+// What stands below, for the crates above.
+pub use cs_change;
+pub use cs_change::cs_varint;
+pub use cs_order;

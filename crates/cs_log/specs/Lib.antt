@@ -2,4 +2,9 @@ pub mod Entry
 pub mod Laws
 pub mod Log
 pub mod Stored
-pub use Rattle.cs_normal.specs.State
+pub use Rattle.cs_normalising.specs.cs_normal.State
+pub use Rattle.cs_changeset.specs.cs_change
+pub use Rattle.cs_normalising.specs.cs_keyed
+pub use Rattle.cs_normalising.specs.cs_normal
+pub use Rattle.cs_normalising.specs.cs_order
+pub use Rattle.cs_changeset.specs.cs_record

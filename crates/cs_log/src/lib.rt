@@ -16,3 +16,8 @@ pub use entry::{LogEntry, MAX_CHANGESET};
 pub use fault::BodyFault;
 
 pub mod laws;
+
+// What stands below, for the crates above.
+pub use cs_changeset;
+pub use cs_changeset::{cs_change, cs_record};
+pub use cs_normalising::{cs_keyed, cs_normal};

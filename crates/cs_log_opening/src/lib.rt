@@ -13,3 +13,6 @@ mod opening;
 mod owning;
 
 pub use opening::open_log;
+
+// What stands below, for the crates above.
+pub use cs_opening;

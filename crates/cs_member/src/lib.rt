@@ -9,3 +9,7 @@ pub mod laws;
 mod turning;
 
 pub use turning::{edit_replica, push_replica, resend_replica, rows_of, tell_replica};
+
+// What stands below, for the crates above.
+pub use cs_replica;
+pub use cs_replica::cs_pulling;

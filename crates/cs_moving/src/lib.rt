@@ -12,3 +12,7 @@ mod planning;
 mod value;
 
 pub use moving::open_store;
+
+// What stands below, for the crates above.
+pub use cs_copying::cs_rows;
+pub use cs_opening;

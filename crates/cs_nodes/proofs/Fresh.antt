@@ -12,7 +12,7 @@ use Rattle.cs_pending.specs.View.{View}
 use Rattle.cs_position.specs.Shows.{ShowsAt}
 use Rattle.cs_position.specs.declared.position.Position.{Position}
 use Rattle.cs_opening.specs.Fresh.{first_position}
-use Rattle.cs_replica.specs.Moved.{IsStoreOpened}
+use Rattle.cs_following.specs.cs_replica.Moved.{IsStoreOpened}
 use Rattle.cs_following.specs.Laws.{FreshStands}
 use Rattle.cs_following.specs.Standing.{StandsIn}
 

@@ -23,3 +23,7 @@ pub mod laws;
 pub use lent_normal::LentNormal;
 pub use lent_table::LentTable;
 pub use unfit::Unfit;
+
+// What stands below, for the crates above.
+pub use cs_normal;
+pub use cs_normal::cs_keyed;

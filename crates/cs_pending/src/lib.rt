@@ -22,3 +22,8 @@ pub use fault::EditFault;
 pub use places::{copied, lent, undone};
 pub use placing::{Standing, standing_at};
 pub use settling::Settling;
+
+// What stands below, for the crates above.
+pub use cs_apply::cs_store;
+pub use cs_group;
+pub use cs_group::cs_normal;

@@ -15,3 +15,8 @@ mod told;
 pub use fault::{AnswerFault, PullFault};
 pub use listing::{Pulled, take_entries};
 pub use pulling::take_entry;
+
+// What stands below, for the crates above.
+pub use cs_pushing;
+pub use cs_pushing::cs_outgoing;
+pub use cs_taking;

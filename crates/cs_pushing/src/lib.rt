@@ -18,3 +18,6 @@ pub use confirming::confirm;
 pub use fault::PushFault;
 pub use making::make_push;
 pub use requesting::resend;
+
+// What stands below, for the crates above.
+pub use cs_outgoing;

@@ -17,3 +17,8 @@ mod told;
 
 pub use replica::Replica;
 pub use told::Told;
+
+// What stands below, for the crates above.
+pub use cs_moving::cs_opening;
+pub use cs_pulling;
+pub use cs_pulling::{cs_pushing, cs_taking};

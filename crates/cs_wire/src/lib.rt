@@ -27,3 +27,6 @@ pub use short_answer::{SHORT, ShortAnswer};
 pub use writing::{entries_head, put_entry};
 
 pub mod laws;
+
+// What stands below, for the crates above.
+pub use cs_log;

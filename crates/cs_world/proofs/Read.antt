@@ -3,7 +3,7 @@ use Rattle.std.proofs.Common.{◌≡◌, ◌∙◌, ℕ, List, Some, slice_get, 
 use Rattle.cs_value.specs.declared.catalog.TableDef.{TableDef}
 use Rattle.cs_hub.specs.Holding as hub
 use Rattle.cs_pending.specs.View.{View}
-use Rattle.cs_replica.specs.Holding as replica
+use Rattle.cs_member.specs.cs_replica.Holding as replica
 use Rattle.cs_store.specs.Contents.{Contents}
 use Rattle.cs_world.specs.Steps as step
 use Rattle.cs_world.specs.Steps.{Step}

@@ -14,11 +14,11 @@ use Rattle.cs_pending.specs.Edits.{IsOfStore, edit as edited_view}
 use Rattle.cs_pending.specs.View.{View}
 use Rattle.cs_pending.specs.declared.fault.EditFault.{EditFault}
 use Rattle.cs_position.specs.Shows.{ShowsAt}
-use Rattle.cs_pulling.specs.declared.fault.AnswerFault.{AnswerFault}
+use Rattle.cs_member.specs.cs_pulling.declared.fault.AnswerFault.{AnswerFault}
 use Rattle.cs_pushing.specs.Pushes.{IsPushFault, IsPushMade, IsResendFault, grounded, pushed, request_of}
 use Rattle.cs_pushing.specs.declared.fault.PushFault.{PushFault}
-use Rattle.cs_replica.specs.Edited.{with_pending}
-use Rattle.cs_replica.specs.declared.told.Told.{Told}
+use Rattle.cs_member.specs.cs_replica.Edited.{with_pending}
+use Rattle.cs_member.specs.cs_replica.declared.told.Told.{Told}
 use Rattle.cs_wire.specs.Answers.{answer_spelling, FitsAnswer}
 use Rattle.cs_wire.specs.Requests.{Asked, AsksPull, request_spelling}
 use Rattle.cs_wire.specs.declared.answer.Answer.{Answer}

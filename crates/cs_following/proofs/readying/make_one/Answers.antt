@@ -1,6 +1,6 @@
 use Rattle.std.proofs.Common.{List, ap, subst, sym}
 use Rattle.cs_value.specs.declared.catalog.TableDef.{TableDef}
-use Rattle.cs_pushing.specs.Pushes.{grounded}
+use Rattle.cs_replica.specs.cs_pushing.Pushes.{grounded}
 use Rattle.cs_position.specs.Shows.{ShowsAt}
 use Rattle.cs_position.specs.declared.position.Position.{Position}
 use Rattle.cs_following.proofs.Readied.{made_ready, made_rows, made_shows}
