@@ -1,11 +1,11 @@
 -- A table's changes by the places of its groups.
-use Rattle.std.proofs.Common.{◌≡◌, ℕ, zero, suc, ◌+◌, ◌<◌, ◌≤◌, cond, List, [], ◌∷◌, ◌++◌, length, map, get_or, Option, Some, None, refl, sym, ap, ◌∙◌, length-append, arith}
+use Rattle.std.proofs.Common.{◌≡◌, ℕ, zero, suc, ◌+◌, ◌<◌, ◌≤◌, cond, List, [], ◌∷◌, ◌++◌, length, map, get_or, Option, Some, None, refl, sym, ap, ◌∙◌, arith}
 use Rattle.std.specs.Borrow.{Bor}
-use Rattle.std.specs.Prelude.{replicate, slice_get}
+use Rattle.std.specs.Prelude.{slice_get}
 use Rattle.std.specs.List.{flat_map}
 use Rattle.std.specs.Str.{bytes_eq}
 use Rattle.std.proofs.lemmas.Grind.{flat_map-append}
-use Rattle.std.proofs.lemmas.List.{replicate-append-replicate}
+use Rattle.std.proofs.lemmas.List.{map-append}
 use Rattle.std.proofs.lemmas.List.Folds.{flat_map-map}
 use Rattle.cs_change.specs.declared.change.Change.{Change}
 use Rattle.cs_change.specs.declared.group.Group.{Group}
@@ -30,14 +30,13 @@ all_changes name number (groups ∷ rest) =
     ∙ ap (λ (cs : List Change). cs ++ flat_map (if_named name changes_in_group) (numbered_from (number + 1) rest)) (flat_map-map (if_named name changes_in_group) numbered groups)
     ∙ ap (λ (cs : List Change). changes_of name groups ++ cs) (all_changes name (number + 1) rest)
 
-numbers_of_one : (name : List ℕ) (number : ℕ) (groups : List Group) → flat_map (λ group. if_named name numbers_in_group (number, group)) groups ≡ replicate (length (changes_of name groups)) number
+numbers_of_one : (name : List ℕ) (number : ℕ) (groups : List Group) → flat_map (λ group. if_named name numbers_in_group (number, group)) groups ≡ map (λ _. number) (changes_of name groups)
 numbers_of_one name number [] = refl
 numbers_of_one name number (group ∷ groups) =
     let rest = numbers_of_one name number groups in
     by_test (bytes_eq group.name name) _ (λ e.
-    simp e (ap (λ (ns : List ℕ). replicate (length group.changes) number ++ ns) rest
-    ∙ replicate-append-replicate (length group.changes) (length (changes_of name groups)) number
-    ∙ ap (λ (n : ℕ). replicate n number) (sym (length-append group.changes (changes_of name groups))))) (λ e. simp e rest)
+    simp e (ap (λ (ns : List ℕ). map (λ _. number) group.changes ++ ns) rest
+    ∙ sym (map-append (λ _. number) group.changes (changes_of name groups)))) (λ e. simp e rest)
 
 all_numbers : (name : List ℕ) (number : ℕ) (changesets : List (List Group)) → flat_map (if_named name numbers_in_group) (numbered_from number changesets) ≡ numbers_from number (read_each name changesets)
 all_numbers name number [] = refl
@@ -45,7 +44,7 @@ all_numbers name number (groups ∷ rest) =
     let numbered : Group → NumberedGroup = λ group. (number, group) in
     flat_map-append (if_named name numbers_in_group) (map numbered groups) (numbered_from (number + 1) rest)
     ∙ ap (λ (ns : List ℕ). ns ++ flat_map (if_named name numbers_in_group) (numbered_from (number + 1) rest)) (flat_map-map (if_named name numbers_in_group) numbered groups ∙ numbers_of_one name number groups)
-    ∙ ap (λ (ns : List ℕ). replicate (length (changes_of name groups)) number ++ ns) (all_numbers name (number + 1) rest)
+    ∙ ap (λ (ns : List ℕ). map (λ _. number) (changes_of name groups) ++ ns) (all_numbers name (number + 1) rest)
 
 -- ---- the groups of one table
 

@@ -1,10 +1,9 @@
 -- The changes of one group more are gathered.
-use Rattle.std.proofs.Common.{◌≡◌, ℕ, ◌+◌, ◌-◌, Bool, true, ◌&&◌, List, [], ◌∷◌, ◌++◌, length, map, take, refl, sym, ap, ◌∙◌, arith, append-nil, length-append}
-use Rattle.std.specs.Prelude.{replicate}
+use Rattle.std.proofs.Common.{◌≡◌, ℕ, Bool, true, ◌&&◌, List, [], ◌∷◌, ◌++◌, map, refl, sym, ap, ◌∙◌, append-nil}
 use Rattle.std.specs.List.{flat_map, list_all}
 use Rattle.std.specs.Map.{keys_of}
 use Rattle.std.proofs.lemmas.Grind.{flat_map-append}
-use Rattle.std.proofs.lemmas.List.{length-map, length-replicate, map-append, take_all}
+use Rattle.std.proofs.lemmas.List.{map-append}
 use Rattle.std.proofs.lemmas.List.Folds.{list_all-append}
 use Rattle.cs_change.specs.declared.change.Change.{Change}
 use Rattle.cs_change.specs.declared.group.Group.{Group}
@@ -12,7 +11,7 @@ use Rattle.cs_order.specs.Order.{Keys}
 use Rattle.cs_keyed.specs.Facts.{all_keyed_is, prepared_keys}
 use Rattle.cs_keyed.specs.NormalForm.{change_bytes, has_key}
 use Rattle.cs_keyed.specs.Prepared.{all_keyed, prepared}
-use Rattle.cs_group.specs.Steps.Gathering.{IsGathered, lent_changes}
+use Rattle.cs_group.specs.Steps.Gathering.{IsGathered, lent_changes, lent_numbers}
 use Rattle.cs_group.specs.Steps.Numbering.{changes_in_group, numbers_in_group, NumberedGroup}
 use Rattle.cs_group.specs.declared.gathered.Gathered.{Gathered}
 
@@ -24,30 +23,13 @@ behind_all {Y} h groups group old new is more =
     ∙ ap (λ (ys : List Y). flat_map h groups ++ ys) (sym (append-nil (h group)))
     ∙ sym (flat_map-append h groups (group ∷ []))
 
--- there is a number for each change
-as_many : (groups : List NumberedGroup) → length (flat_map changes_in_group groups) ≡ length (flat_map numbers_in_group groups)
-as_many [] = refl
-as_many ((number, group) ∷ groups) =
-    let rest = as_many groups in
-    omega (arith, rest, length-append group.changes (flat_map changes_in_group groups), length-append (replicate (length group.changes) number) (flat_map numbers_in_group groups), length-replicate (length group.changes) number)
-
-numbers_more : (old new : List ℕ) (long have count number : ℕ) → new ≡ take long old ++ replicate (long - have) number → have ≡ length old → long ≡ length old + count → new ≡ old ++ replicate count number
-numbers_more old new long have count number is had more =
-    let rest : long - have ≡ count = omega (arith, had, more) in
-    is
-    ∙ ap (λ (ns : List ℕ). ns ++ replicate (long - have) number) (take_all long old (omega (arith, more)))
-    ∙ ap (λ (n : ℕ). old ++ replicate n number) rest
-
 module _ (marks : List Bool) (groups : List NumberedGroup) (number : ℕ) (group : Group) (old new : Gathered) where
-  pub gathered_more : lent_changes new.changes.items ≡ lent_changes old.changes.items ++ group.changes → new.keys ≡ old.keys ++ keys_of (prepared marks group.changes) → all_keyed marks group.changes ≡ true
-      → (long have : ℕ) → new.numbers.items ≡ take long old.numbers.items ++ replicate (long - have) number → have ≡ length old.numbers.items → long ≡ length new.changes.items → IsGathered marks groups old → IsGathered marks (groups ++ (number, group) ∷ []) new
-  gathered_more changes keys whole long have resized had all_of so_far =
+  pub gathered_more : lent_changes new.changes.items ≡ lent_changes old.changes.items ++ group.changes → lent_numbers new.changes.items ≡ lent_numbers old.changes.items ++ map (λ _. number) group.changes
+      → new.keys ≡ old.keys ++ keys_of (prepared marks group.changes) → all_keyed marks group.changes ≡ true → IsGathered marks groups old → IsGathered marks (groups ++ (number, group) ∷ []) new
+  gathered_more changes numbers keys whole so_far =
       let all = flat_map changes_in_group groups in
       let grown : flat_map changes_in_group (groups ++ (number, group) ∷ []) ≡ all ++ group.changes = sym (behind_all changes_in_group groups (number, group) all (all ++ group.changes) refl refl) in
       let set : list_all (has_key marks) group.changes ≡ true = sym (all_keyed_is marks group.changes) ∙ whole in
-      let before : length old.changes.items ≡ length old.numbers.items = sym (length-map old.changes.items (λ lent. lent.change.now)) ∙ ap length so_far.changes ∙ as_many groups ∙ sym (ap length so_far.numbers) in
-      let behind : length new.changes.items ≡ length old.changes.items + length group.changes = omega (arith, length-map new.changes.items (λ lent. lent.change.now), ap length changes, length-append (lent_changes old.changes.items) group.changes, length-map old.changes.items (λ lent. lent.change.now)) in
-      let numbers = numbers_more old.numbers.items new.numbers.items long have (length group.changes) number resized had (omega (arith, all_of, behind, before)) in
       record {
         changes = behind_all changes_in_group groups (number, group) _ _ so_far.changes changes;
         keys =

@@ -10,12 +10,11 @@ use cs_keyed::{KeysBuilder, keys_for, push_keys};
 use cs_value::Memory;
 use std::alloc::Global;
 
-/// Changes that are lent, and beside each its key and the number of its changeset, the first being 1.
+/// Changes that are lent, each with the number of its changeset, the first being 1, and beside each its key.
 #[derive(Drop)]
 pub(crate) struct Gathered<'b, 'a> {
     pub(crate) keys: KeysBuilder,
     pub(crate) changes: Vec<Lent<'b, 'a>>,
-    pub(crate) numbers: Vec<usize>,
     /// How many bytes the changes take. It says how much room to take, and is no part of a result.
     pub(crate) bytes: usize,
 }
@@ -31,7 +30,6 @@ fn none_gathered<'b, 'a>(
     Ok(Gathered {
         keys: keys_for(alloc, count)?,
         changes: Vec::with_capacity(alloc, count)?,
-        numbers: Vec::with_capacity(alloc, count)?,
         bytes: 0,
     })
 }
@@ -60,8 +58,7 @@ fn gather_group<'b, 'a>(
     if !push_keys(marks, changes, &mut gathered.keys)? {
         return Ok(false);
     }
-    lend_each(changes, &mut gathered.changes)?;
-    gathered.numbers.resize(gathered.changes.len(), number)?;
+    lend_each(number, changes, &mut gathered.changes)?;
     gathered.bytes = gathered.bytes.saturating_add(room_of(changes));
     Ok(true)
 }

@@ -1,5 +1,5 @@
 -- The groups of changesets as read, each with the number of its changeset.
-use Rattle.std.specs.Prelude.{ℕ, ◌+◌, List, [], ◌∷◌, ◌++◌, length, map, Option, Some, None, replicate, slice_get, if◌then◌else◌}
+use Rattle.std.specs.Prelude.{ℕ, ◌+◌, List, [], ◌∷◌, ◌++◌, map, Option, Some, None, slice_get, if◌then◌else◌}
 use Rattle.std.specs.List.{flat_map}
 use Rattle.std.specs.Str.{bytes_eq}
 use Rattle.std.specs.Borrow.{Bor}
@@ -30,7 +30,7 @@ changes_in_group numbered = numbered.1.changes
 
 -- the number of a group's changeset, once for each change
 abbrev pub numbers_in_group : NumberedGroup → List ℕ
-numbers_in_group numbered = replicate (length numbered.1.changes) numbered.0
+numbers_in_group numbered = map (λ _. numbered.0) numbered.1.changes
 
 -- those that have this name
 abbrev pub named : List ℕ → List NumberedGroup → List NumberedGroup

@@ -1,10 +1,11 @@
-use Rattle.std.proofs.Common.{◌∙◌, arith, sym}
+use Rattle.std.proofs.Common.{◌∙◌, sym}
 use Rattle.cs_group.proofs.OneGroupMore.{gathered_more}
 use Rattle.cs_group.proofs.gathered.gather_group.Goals as goal
 
 pub returns : goal.returns
 returns c = λ t groups so_far.
-    let changes = rw c.as_slice-changes.ensures at c.in_ok-lend_each.ensures in
+    let changes = rw c.as_slice-changes.ensures at c.in_ok-lend_each.ensures.changes in
+    let numbers = rw c.as_slice-changes.ensures at c.in_ok-lend_each.ensures.numbers in
     let keys = rw c.as_slice-changes.ensures at c.in_ok-push_keys.ensures.keys in
     let whole = rw c.as_slice-changes.ensures at c.in_ok-push_keys.ensures.whole in
-    gathered_more c.args.marks.now groups c.args.number c.args.group.now c.args.gathered.now _ changes keys (sym whole ∙ c.if-not-branch.false) c.len.result _ c.in_ok-resize.ensures.items (omega arith) (omega arith) so_far
+    gathered_more c.args.marks.now groups c.args.number c.args.group.now c.args.gathered.now _ changes numbers keys (sym whole ∙ c.if-not-branch.false) so_far
