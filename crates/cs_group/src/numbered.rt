@@ -7,13 +7,10 @@ ghost use Rattle.cs_order.specs.Order.{keys_behind};
 ghost use Rattle.cs_group.specs.Steps.Numbering.{groups_at, listed_group, named, numbered_behind, numbered_from, numbered_names};
 
 use cs_change::{Changeset, Group};
-use cs_normal::NamePlaces;
+use cs_normal::{FEW_NAMES, NamePlaces};
 use cs_value::{Memory, TableDef};
 use std::alloc::Global;
 use std::marker::Model;
-
-/// The groups of so many tables are sought one by one.
-const FEW: usize = 8;
 
 /// Puts the groups of one more changeset, which has this number, behind the others.
 fn number_groups<'b, 'a>(
@@ -113,7 +110,7 @@ fn places_for<'b>(
     ensures { IfOk result (λ found. MatchOption found (Unit {0})
         (λ names. names ≡ numbered_names (numbered_behind groups.now))) }
 {
-    if tables <= FEW {
+    if tables <= FEW_NAMES {
         return Ok(None);
     }
     Ok(Some(NamePlaces::new(alloc, lend_names(alloc, groups)?)?))

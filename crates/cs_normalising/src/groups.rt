@@ -17,7 +17,7 @@ use crate::lent_table::{LentTable, Ordered, is_left};
 use crate::table_form::order_table;
 use crate::unfit::Unfit;
 use cs_normal::cs_change::{Change, Changeset, Group};
-use cs_normal::{FEW, NamePlaces, Normal, lend_table_names, same_shape};
+use cs_normal::{FEW_NAMES, NamePlaces, Normal, lend_table_names, same_shape};
 use cs_value::{Catalog, Memory, TableDef};
 use std::alloc::{AllocError, Global};
 
@@ -92,7 +92,7 @@ fn many_table_names<'b>(
 ) -> Result<Option<NamePlaces<'b>>, Memory>
     ensures { IfOk result (λ found. MatchOption found (Unit {0}) (λ names. names ≡ map table_name tables.now)) }
 {
-    if groups.len() <= FEW || tables.len() <= FEW {
+    if groups.len() <= FEW_NAMES || tables.len() <= FEW_NAMES {
         return Ok(None);
     }
     let names = lend_table_names(alloc, tables)?;
@@ -134,7 +134,7 @@ fn many_names<'b>(
 ) -> Result<Option<NamePlaces<'b>>, Memory>
     ensures { IfOk result (λ found. MatchOption found (Unit {0}) (λ names. names ≡ names_of groups.now)) }
 {
-    if groups.len() <= FEW || tables.len() <= FEW {
+    if groups.len() <= FEW_NAMES || tables.len() <= FEW_NAMES {
         return Ok(None);
     }
     let names = lend_names(alloc, groups)?;
