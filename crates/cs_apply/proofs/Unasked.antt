@@ -9,7 +9,7 @@ use Rattle.cs_change.specs.declared.change.Change.{Change}
 use Rattle.cs_store.specs.cs_normal.Normal.{IsNormalChangeset, FitsCatalog, change_of, groups_of}
 use Rattle.cs_store.specs.cs_keyed.NormalForm.{change_bytes}
 use Rattle.cs_store.specs.cs_normal.State.{State, AreSame, IsApplied, IsDefinedOn, left_at}
-use Rattle.cs_store.specs.cs_normal.declared.normal.TableChanges.{TableChanges}
+use Rattle.cs_store.specs.cs_normal.TableChanges.{TableChanges}
 use Rattle.cs_conflict.specs.Conflict.{answered}
 use Rattle.cs_conflict.specs.Laws.{KindTells}
 use Rattle.cs_conflict.specs.declared.conflict.Conflict.{Conflict}

@@ -5,7 +5,7 @@ use Rattle.cs_change.specs.Action.{action}
 use Rattle.cs_store.specs.cs_normal.Normal.{change_of}
 use Rattle.cs_store.specs.cs_keyed.NormalForm.{change_bytes}
 use Rattle.cs_store.specs.cs_normal.State.{State}
-use Rattle.cs_store.specs.cs_normal.declared.normal.TableChanges.{TableChanges}
+use Rattle.cs_store.specs.cs_normal.TableChanges.{TableChanges}
 use Rattle.cs_conflict.specs.Conflict.{kind}
 use Rattle.cs_conflict.specs.declared.conflict.Conflict.{Conflict}
 

@@ -1,3 +1,3 @@
 pub mod Copied
 pub mod Steps
-pub use Rattle.cs_rows.specs as cs_rows
+pub mod cs_rows

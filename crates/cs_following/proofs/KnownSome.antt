@@ -13,8 +13,8 @@ use Rattle.cs_position.specs.Shows.{ShowsAt}
 use Rattle.cs_position.specs.declared.position.Position.{Position}
 use Rattle.cs_replica.specs.cs_pulling.Laws.{IsOfEntry, PulledOrRefused}
 use Rattle.cs_replica.specs.cs_pulling.Pulls.{IsPullFault, IsPulledIn}
-use Rattle.cs_replica.specs.cs_pulling.declared.fault.PullFault.{PullFault}
-use Rattle.cs_replica.specs.cs_pulling.declared.fault.PullFault.TheVariants as pull
+use Rattle.cs_replica.specs.cs_pulling.PullFault.{PullFault}
+use Rattle.cs_replica.specs.cs_pulling.PullFault.TheVariants as pull
 use Rattle.cs_replica.specs.cs_taking.Laws.{AnswersLawfully}
 use Rattle.cs_replica.specs.cs_taking.Takes.{taken}
 use Rattle.cs_following.specs.Laws.{AreNormal, IsOfEntries, KnownPullHasResult}

@@ -24,8 +24,8 @@ use Rattle.cs_position.specs.declared.position.Position.{Position}
 use Rattle.cs_replica.specs.cs_pulling.Pulls.{PullsOne}
 use Rattle.cs_replica.specs.cs_pushing.Laws.{IsOfPush, NoFaultWhereMade, OnePush, OnePushFault}
 use Rattle.cs_replica.specs.cs_pushing.Pushes.{HasNothing, IsPushFault, pushed}
-use Rattle.cs_replica.specs.cs_pushing.declared.fault.PushFault.{PushFault}
-use Rattle.cs_replica.specs.cs_pushing.declared.fault.PushFault.TheVariants as push
+use Rattle.cs_replica.specs.cs_pushing.PushFault.{PushFault}
+use Rattle.cs_replica.specs.cs_pushing.PushFault.TheVariants as push
 use Rattle.cs_replica.specs.Flight.{flight_entry}
 use Rattle.cs_replica.specs.cs_taking.Laws.{PicksOnce}
 use Rattle.cs_replica.specs.cs_taking.Takes.{taken}

@@ -8,5 +8,5 @@ pub mod Laws
 pub use Rattle.cs_replica.specs.Edited
 pub use Rattle.cs_replica.specs.Holding
 pub use Rattle.cs_replica.specs.cs_pulling.Calls
-pub use Rattle.cs_replica.specs as cs_replica
-pub use Rattle.cs_replica.specs.cs_taking
+pub mod cs_replica
+pub mod cs_taking

@@ -15,7 +15,7 @@ use Rattle.cs_position.specs.Shows.{ShowsAt}
 use Rattle.cs_position.specs.declared.position.Position.{Position}
 use Rattle.cs_replica.specs.cs_pulling.Pulls.{PullsOne}
 use Rattle.cs_replica.specs.cs_pushing.Pushes.{HasNothing, IsPushFault, IsPushMade, grounded, pushed}
-use Rattle.cs_replica.specs.cs_pushing.declared.fault.PushFault.TheVariants as push
+use Rattle.cs_replica.specs.cs_pushing.PushFault.TheVariants as push
 use Rattle.cs_replica.specs.Flight.{flight_entry}
 use Rattle.cs_replica.specs.cs_taking.Takes.{taken}
 use Rattle.cs_following.specs.Pulls.{IsTakeFault}

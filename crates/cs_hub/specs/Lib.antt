@@ -8,5 +8,5 @@ pub mod Judges
 pub mod Steps
 pub mod Laws
 pub mod Opened
-pub use Rattle.cs_judging.specs as cs_judging
-pub use Rattle.cs_log_opening.specs as cs_log_opening
+pub mod cs_judging
+pub mod cs_log_opening

@@ -6,6 +6,6 @@ pub mod Laws
 pub mod NormalForm
 pub mod Prepared
 pub mod Steps
-pub use Rattle.cs_change.specs as cs_change
-pub use Rattle.cs_order.specs as cs_order
-pub use Rattle.cs_change.specs.cs_record
+pub mod cs_change
+pub mod cs_order
+pub mod cs_record

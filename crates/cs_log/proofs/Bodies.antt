@@ -4,7 +4,7 @@ use Rattle.std.specs.Result.{IsErr, IsErrAnd}
 use Rattle.cs_value.specs.Catalog.{AreTables}
 use Rattle.cs_value.specs.declared.catalog.TableDef.{TableDef}
 use Rattle.cs_changeset.specs.cs_change.Spelling.{FitsChangeset, changeset_spelling}
-use Rattle.cs_changeset.specs.cs_change.declared.group.Group.{Group}
+use Rattle.cs_changeset.specs.cs_change.Group.{Group}
 use Rattle.cs_changeset.specs.Laws.{ChangesetLaws}
 use Rattle.cs_changeset.specs.Reading.{IsChangesetFault}
 use Rattle.cs_changeset.specs.declared.fault.Fault.{Fault}
@@ -12,7 +12,7 @@ use Rattle.cs_normalising.specs.Laws.{NoFaultWhereFit, NormalAgain, OneNormalFor
 use Rattle.cs_normalising.specs.cs_normal.Laws.{NormalIsTaken}
 use Rattle.cs_normalising.specs.cs_normal.Normal.{groups_of, normal_spelling}
 use Rattle.cs_normalising.specs.NormalFormOf.{IsNormalFormOf, IsUnfit}
-use Rattle.cs_normalising.specs.cs_normal.declared.normal.TableChanges.{TableChanges}
+use Rattle.cs_normalising.specs.cs_normal.TableChanges.{TableChanges}
 use Rattle.cs_normalising.specs.declared.unfit.Unfit.{Unfit}
 use Rattle.cs_normalising.specs.declared.unfit.Unfit.TheVariants as unfit
 use Rattle.cs_log.specs.Entry.{changes_of_body}

@@ -3,8 +3,8 @@ pub mod Laws
 pub mod Log
 pub mod Stored
 pub use Rattle.cs_normalising.specs.cs_normal.State
-pub use Rattle.cs_changeset.specs.cs_change
-pub use Rattle.cs_normalising.specs.cs_keyed
-pub use Rattle.cs_normalising.specs.cs_normal
-pub use Rattle.cs_normalising.specs.cs_order
-pub use Rattle.cs_changeset.specs.cs_record
+pub mod cs_change
+pub mod cs_keyed
+pub mod cs_normal
+pub mod cs_order
+pub mod cs_record

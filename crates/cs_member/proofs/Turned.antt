@@ -19,11 +19,11 @@ use Rattle.cs_pending.specs.declared.fault.EditFault.TheVariants as edits
 use Rattle.cs_position.specs.Laws.{FitsPosition, OnePosition}
 use Rattle.cs_position.specs.Shows.{ShowsAt, ShowsSomeAt}
 use Rattle.cs_position.specs.declared.position.Position.{Position}
-use Rattle.cs_replica.specs.cs_pulling.declared.fault.AnswerFault.{AnswerFault}
-use Rattle.cs_replica.specs.cs_pulling.declared.fault.AnswerFault.TheVariants as fault
+use Rattle.cs_replica.specs.cs_pulling.AnswerFault.{AnswerFault}
+use Rattle.cs_replica.specs.cs_pulling.AnswerFault.TheVariants as fault
 use Rattle.cs_replica.specs.cs_pushing.Pushes.{IsPushFault, IsPushMadeIn, IsPushOf, grounded, pushed, request_of}
-use Rattle.cs_replica.specs.cs_pushing.declared.fault.PushFault.{PushFault}
-use Rattle.cs_replica.specs.cs_pushing.declared.fault.PushFault.TheVariants as pushes
+use Rattle.cs_replica.specs.cs_pushing.PushFault.{PushFault}
+use Rattle.cs_replica.specs.cs_pushing.PushFault.TheVariants as pushes
 use Rattle.cs_replica.specs.Answered.{Answers, TellsAccepted}
 use Rattle.cs_replica.specs.Edited.{IsEditedIn, with_pending}
 use Rattle.cs_replica.specs.Holding.{Holding, Shows}

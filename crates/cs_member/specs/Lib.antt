@@ -1,5 +1,5 @@
 pub mod Member
 pub mod Same
 pub mod Laws
-pub use Rattle.cs_replica.specs.cs_pulling
-pub use Rattle.cs_replica.specs as cs_replica
+pub mod cs_pulling
+pub mod cs_replica

@@ -1,5 +1,5 @@
 pub mod Moved
 pub mod Steps
 pub mod Laws
-pub use Rattle.cs_opening.specs as cs_opening
-pub use Rattle.cs_copying.specs.cs_rows
+pub mod cs_opening
+pub mod cs_rows

@@ -9,7 +9,7 @@ use Rattle.cs_store.specs.Written.{after_batch, optional_bytes, store_place}
 use Rattle.cs_store.specs.declared.batch.Batch.{Batch}
 use Rattle.cs_edits.specs.Edits.{BodyEdit}
 use Rattle.cs_store.specs.declared.names.MetaName.TheVariants.{Id, Pending}
-use Rattle.cs_opening.specs.cs_position.declared.position.Position.{Position}
+use Rattle.cs_opening.specs.cs_position.Position.{Position}
 use Rattle.cs_opening.specs.Opens.{StandsAt}
 use Rattle.cs_moving.specs.Moved.{IsPendingValue, KeepsValue, moved}
 

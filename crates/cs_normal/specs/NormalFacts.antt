@@ -20,11 +20,11 @@ use Rattle.cs_value.specs.declared.value.Value.{Value}
 use Rattle.cs_value.specs.declared.value.Field.{Field}
 use Rattle.cs_value.specs.declared.value.Field.TheVariants.{Undefined, Is}
 use Rattle.cs_keyed.specs.cs_record.Spelling.{Fits}
-use Rattle.cs_keyed.specs.cs_change.declared.change.Change.{Change}
+use Rattle.cs_keyed.specs.cs_change.Change.{Change}
 use Rattle.cs_keyed.specs.cs_change.Spelling.{is_nonzero, marks_of, FitsChange, AreUpdateColumns}
 use Rattle.cs_keyed.specs.cs_change.Action.{action}
 use Rattle.cs_keyed.specs.cs_change.Columns.{fits, holds}
-use Rattle.cs_keyed.specs.cs_change.declared.change.Change.TheVariants.{Insert, Delete, Update}
+use Rattle.cs_keyed.specs.cs_change.Change.TheVariants.{Insert, Delete, Update}
 use Rattle.cs_keyed.specs.cs_change.Normal.{NormalUpdate, no_column, key_column, unmodified, modified, IsNormal}
 use Rattle.cs_keyed.specs.cs_change.Then.{is_idle}
 use Rattle.cs_keyed.specs.cs_order.Order.{same_bytes, Keys, key_at, places}

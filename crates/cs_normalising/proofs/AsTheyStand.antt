@@ -8,7 +8,7 @@ use Rattle.std.proofs.lemmas.List.Elements.{recursion_from_All}
 use Rattle.std.proofs.lemmas.List.FromFn.{length-range_with_len}
 use Rattle.std.proofs.lemmas.List.Sorted.{All-permutation, IsPermutation-refl, length_permutation}
 use Rattle.cs_order.specs.Order.{IsOrder, Keys, by_bytes, places}
-use Rattle.cs_normal.specs.cs_change.declared.change.Change.{Change}
+use Rattle.cs_normal.specs.cs_change.Change.{Change}
 use Rattle.cs_normal.specs.cs_keyed.Changes.{Changes}
 use Rattle.cs_normal.specs.cs_keyed.Keyed.{beside}
 use Rattle.cs_normal.specs.cs_keyed.NormalForm.{change_bytes}

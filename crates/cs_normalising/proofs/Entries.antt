@@ -11,8 +11,8 @@ use Rattle.cs_value.specs.declared.value.Field.TheVariants.{Undefined, Is}
 use Rattle.cs_normal.specs.cs_change.Action.{action_any}
 use Rattle.cs_normal.specs.cs_change.Normal.{IsNormalIfAny}
 use Rattle.cs_normal.specs.cs_change.Spelling.{FitsChange, AreUpdateColumns}
-use Rattle.cs_normal.specs.cs_change.declared.change.Change.{Change}
-use Rattle.cs_normal.specs.cs_change.declared.change.Change.TheVariants.{Insert, Delete, Update}
+use Rattle.cs_normal.specs.cs_change.Change.{Change}
+use Rattle.cs_normal.specs.cs_change.Change.TheVariants.{Insert, Delete, Update}
 use Rattle.cs_normal.specs.cs_keyed.Changes.{key_bytes, IsEntry}
 use Rattle.cs_normalising.specs.Laws.{LenientUpdate, no_column, key_column, key_again, unmodified, modified, IsLenient}
 use Rattle.cs_normal.specs.cs_keyed.NormalForm.{marked_fields, change_key, has_key, normal_form}

@@ -6,8 +6,8 @@ use Rattle.cs_value.specs.declared.value.Field.TheVariants.{Undefined, Is}
 use Rattle.cs_normal.specs.cs_record.Spelling.{Fits}
 use Rattle.cs_normal.specs.cs_change.Columns.{is_blank}
 use Rattle.cs_normal.specs.cs_change.Spelling.{FitsChange, AreUpdateColumns, IsUpdateColumn}
-use Rattle.cs_normal.specs.cs_change.declared.change.Change.{Change}
-use Rattle.cs_normal.specs.cs_change.declared.change.Change.TheVariants.{Insert, Delete, Update}
+use Rattle.cs_normal.specs.cs_change.Change.{Change}
+use Rattle.cs_normal.specs.cs_change.Change.TheVariants.{Insert, Delete, Update}
 use Rattle.cs_normal.specs.cs_keyed.NormalForm.{changes_value, normal_old, normal_new, normal_olds, normal_news, normal_form}
 use Rattle.cs_normal.specs.NormalFacts.{by_test}
 

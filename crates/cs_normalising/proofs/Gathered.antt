@@ -4,8 +4,8 @@ use Rattle.std.specs.List.Sorted.{IsPermutation}
 use Rattle.std.specs.Map.{keys_of, lookup}
 use Rattle.std.proofs.lemmas.Map.Keys.{IsDistinct-from_sorted}
 use Rattle.cs_value.specs.declared.catalog.TableDef.{TableDef}
-use Rattle.cs_normal.specs.cs_change.declared.change.Change.{Change}
-use Rattle.cs_normal.specs.cs_change.declared.group.Group.{Group}
+use Rattle.cs_normal.specs.cs_change.Change.{Change}
+use Rattle.cs_normal.specs.cs_change.Group.{Group}
 use Rattle.cs_order.specs.Order.{by_bytes, same_bytes}
 use Rattle.cs_normal.specs.cs_keyed.Changes.{change_at}
 use Rattle.cs_normal.specs.cs_keyed.NormalForm.{change_bytes, has_key, IsNormalOf, normal_form_any, keyed}

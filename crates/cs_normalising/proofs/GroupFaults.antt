@@ -12,8 +12,8 @@ use Rattle.std.proofs.lemmas.Map.Keys.{IsDistinct-head, IsDistinct-tail}
 use Rattle.std.proofs.lemmas.Slice.Eq.{bytes_eq-Decides}
 use Rattle.cs_value.specs.Catalog.{AreTables}
 use Rattle.cs_value.specs.declared.catalog.TableDef.{TableDef}
-use Rattle.cs_normal.specs.cs_change.declared.change.Change.{Change}
-use Rattle.cs_normal.specs.cs_change.declared.group.Group.{Group}
+use Rattle.cs_normal.specs.cs_change.Change.{Change}
+use Rattle.cs_normal.specs.cs_change.Group.{Group}
 use Rattle.cs_order.specs.Order.{same_bytes}
 use Rattle.cs_normal.specs.cs_keyed.NormalForm.{has_key, change_bytes, AreKeyed}
 use Rattle.cs_normalising.specs.UnfitChanges.{HasFirstUnfitChange}

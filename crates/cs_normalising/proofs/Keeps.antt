@@ -12,7 +12,7 @@ use Rattle.cs_normal.specs.cs_change.Columns.{fits, column_fits, holds, set_colu
 use Rattle.cs_normal.specs.cs_change.Normal.{NormalUpdate, IsNormalIfAny}
 use Rattle.cs_normal.specs.cs_change.Normal as n
 use Rattle.cs_normal.specs.cs_change.Then.{is_idle}
-use Rattle.cs_normal.specs.cs_change.declared.change.Change.TheVariants.{Insert, Delete, Update}
+use Rattle.cs_normal.specs.cs_change.Change.TheVariants.{Insert, Delete, Update}
 use Rattle.cs_normal.specs.cs_keyed.NormalForm.{normal_form, normal_olds, normal_news, update_unless_blank}
 use Rattle.cs_normalising.specs.Laws.{LenientUpdate, no_column, key_column, key_again, unmodified, modified, NormalFormKeeps}
 use Rattle.cs_normal.specs.NormalFacts.{by_test}

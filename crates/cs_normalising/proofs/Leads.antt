@@ -11,8 +11,8 @@ use Rattle.cs_value.specs.declared.catalog.TableDef.{TableDef}
 use Rattle.cs_value.specs.declared.value.Value.{Value}
 use Rattle.cs_normal.specs.cs_change.Action.{action, action_any, after, after_any}
 use Rattle.cs_normal.specs.cs_change.Spelling.{FitsChange, FitsChangeset, marks_of}
-use Rattle.cs_normal.specs.cs_change.declared.change.Change.{Change}
-use Rattle.cs_normal.specs.cs_change.declared.group.Group.{Group}
+use Rattle.cs_normal.specs.cs_change.Change.{Change}
+use Rattle.cs_normal.specs.cs_change.Group.{Group}
 use Rattle.cs_order.specs.Order.{same_bytes}
 use Rattle.cs_order.specs.Facts.{same_is}
 use Rattle.cs_normal.specs.cs_keyed.Changes.{key_bytes, IsSpelled, change_at}

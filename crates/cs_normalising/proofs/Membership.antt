@@ -7,7 +7,7 @@ use Rattle.std.proofs.lemmas.Cmp.{nat_list_cmp_total}
 use Rattle.std.proofs.lemmas.List.{get_or-map, length-map}
 use Rattle.std.proofs.lemmas.Map.Keys.{IsDistinct-from_sorted}
 use Rattle.std.proofs.lemmas.Map.Views.{Contains-from_lookup, lookup-from_Contains}
-use Rattle.cs_normal.specs.cs_change.declared.change.Change.{Change}
+use Rattle.cs_normal.specs.cs_change.Change.{Change}
 use Rattle.cs_order.specs.Order.{by_bytes, same_bytes}
 use Rattle.cs_order.specs.Facts.{same_is}
 use Rattle.cs_normal.specs.cs_keyed.Changes.{Changes, change_at, IsOrdered}

@@ -9,7 +9,7 @@ use Rattle.std.proofs.lemmas.Map.Keys.{IsDistinct-from_sorted}
 use Rattle.cs_value.specs.Catalog.{is_set}
 use Rattle.cs_value.specs.declared.catalog.TableDef.{TableDef}
 use Rattle.cs_normal.specs.cs_change.Facts.{marks_stay}
-use Rattle.cs_normal.specs.cs_change.declared.change.Change.{Change}
+use Rattle.cs_normal.specs.cs_change.Change.{Change}
 use Rattle.cs_order.specs.Order.{by_bytes, same_bytes}
 use Rattle.cs_normal.specs.cs_keyed.Changes.{Changes, change_at, key_bytes, IsEntry, AreNormal}
 use Rattle.cs_normal.specs.cs_keyed.NormalForm.{change_bytes, has_key, AreKeyed, IsNormalOf, normal_form_any, keyed}

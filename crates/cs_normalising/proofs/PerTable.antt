@@ -5,7 +5,7 @@ use Rattle.std.specs.Str.{bytes_eq}
 use Rattle.std.proofs.lemmas.List.Elements.{All-from_recursion}
 use Rattle.cs_value.specs.declared.catalog.TableDef.{TableDef}
 use Rattle.cs_normal.specs.cs_change.Spelling.{FitsChange}
-use Rattle.cs_normal.specs.cs_change.declared.group.Group.{Group}
+use Rattle.cs_normal.specs.cs_change.Group.{Group}
 use Rattle.cs_normal.specs.cs_keyed.Changes.{Changes}
 use Rattle.cs_normal.specs.Normal.{AreApart, FitsCatalog, changes_in, table_changes}
 use Rattle.cs_normal.specs.cs_keyed.NormalForm.{AreKeyed, IsNormalOf}

@@ -10,8 +10,8 @@ use Rattle.cs_value.specs.declared.value.Field.TheVariants.{Undefined, Is}
 use Rattle.cs_normal.specs.cs_record.Spelling.{field, record_of}
 use Rattle.cs_normal.specs.cs_change.Columns.{is_blank}
 use Rattle.cs_normal.specs.cs_change.Spelling.{change_spelling, changes_spelling}
-use Rattle.cs_normal.specs.cs_change.declared.change.Change.{Change}
-use Rattle.cs_normal.specs.cs_change.declared.change.Change.TheVariants.{Insert, Delete, Update}
+use Rattle.cs_normal.specs.cs_change.Change.{Change}
+use Rattle.cs_normal.specs.cs_change.Change.TheVariants.{Insert, Delete, Update}
 use Rattle.cs_normal.specs.cs_keyed.NormalForm.{change_bytes, has_key, normal_form, normal_old, normal_new, normal_olds, normal_news, changes_value}
 use Rattle.cs_normal.specs.cs_keyed.Prepared.{Entries, prepared, kept}
 use Rattle.cs_normal.specs.NormalFacts.{by_test}

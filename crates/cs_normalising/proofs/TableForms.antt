@@ -2,8 +2,8 @@
 use Rattle.std.proofs.Common.{◌≡◌, ℕ, Bool, true, ◌+◌, ◌<◌, ◌≤◌, List, [], ◌∷◌, ◌++◌, length, map, take, get_or, refl, sym, ap, subst, ◌∙◌, arith, append_assoc, append-nil, zero, suc}
 use Rattle.std.proofs.lemmas.List.{take_more, map-append}
 use Rattle.cs_value.specs.declared.catalog.TableDef.{TableDef}
-use Rattle.cs_normal.specs.cs_change.declared.change.Change.{Change}
-use Rattle.cs_normal.specs.cs_change.declared.group.Group.{Group}
+use Rattle.cs_normal.specs.cs_change.Change.{Change}
+use Rattle.cs_normal.specs.cs_change.Group.{Group}
 use Rattle.cs_normal.specs.cs_keyed.Changes.{Changes}
 use Rattle.cs_normal.specs.cs_keyed.NormalForm.{change_bytes, has_key, normal_form}
 use Rattle.cs_normalising.specs.NormalFormOf.{changes_of}

@@ -1,6 +1,6 @@
 -- A table's changes in normal form that stay in the bytes where they were read.
 use Rattle.std.specs.Prelude.{ℕ, Bool, List, [], Option, None, slice_index_or}
-use Rattle.cs_normal.specs.cs_change.declared.change.Change.{Change}
+use Rattle.cs_normal.specs.cs_change.Change.{Change}
 use Rattle.cs_normal.specs.cs_keyed.Prepared.{Entries, kept}
 use Rattle.cs_normal.specs.declared.normal.TableChanges.{TableChanges}
 

@@ -4,6 +4,6 @@ pub mod Lent
 pub mod NormalFormOf
 pub mod Steps
 pub mod UnfitChanges
-pub use Rattle.cs_normal.specs.cs_keyed
-pub use Rattle.cs_normal.specs as cs_normal
-pub use Rattle.cs_order.specs as cs_order
+pub mod cs_keyed
+pub mod cs_normal
+pub mod cs_order

@@ -19,13 +19,13 @@ use Rattle.std.specs.Prelude.{fold}
 use Rattle.cs_apply.specs.cs_store.Contents.{Contents}
 use Rattle.cs_apply.specs.cs_store.Laws.{KeepsOtherPending, KeepsOtherRows, WritesPending, WritesRows}
 use Rattle.cs_apply.specs.cs_store.Written.{after_batch, edit_body}
-use Rattle.cs_apply.specs.cs_store.declared.batch.Batch.{Batch}
+use Rattle.cs_apply.specs.cs_store.Batch.{Batch}
 use Rattle.cs_edits.specs.Edits.{BodyEdit}
 use Rattle.cs_pending.specs.Settling.{AreWithin, IsWithin, Settles}
 use Rattle.cs_pending.specs.declared.settling.Settling.{Settling}
 use Rattle.cs_pending.specs.Steps.{rest_after, settles_none, shows_after}
-use Rattle.cs_apply.specs.cs_store.declared.fault.StoreFault.{StoreFault}
-use Rattle.cs_apply.specs.cs_store.declared.fault.StoreFault.TheVariants as stored
+use Rattle.cs_apply.specs.cs_store.StoreFault.{StoreFault}
+use Rattle.cs_apply.specs.cs_store.StoreFault.TheVariants as stored
 use Rattle.cs_apply.specs.NormalTasks.{one_table}
 use Rattle.cs_pending.specs.Edits.{IsChangedBy, IsWantedAt, Leads, after_edit, edit_at, keeps_key, left_in}
 use Rattle.cs_pending.specs.Placing.{IsPutIn, IsStandingAt, MaySettle, StandsIn}

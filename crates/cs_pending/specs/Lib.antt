@@ -13,6 +13,6 @@ pub mod Steps
 pub use Rattle.cs_apply.specs.Spots
 pub use Rattle.cs_apply.specs.NormalTasks
 pub use Rattle.cs_apply.specs.Tasks
-pub use Rattle.cs_group.specs as cs_group
-pub use Rattle.cs_group.specs.cs_normal
-pub use Rattle.cs_apply.specs.cs_store
+pub mod cs_group
+pub mod cs_normal
+pub mod cs_store

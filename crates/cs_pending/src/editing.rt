@@ -3,7 +3,7 @@
 ghost use Rattle.std.specs.Prelude.{◌≡◌, ◌⊎◌, Some, IfOk, IfErr, Err, slice_get};
 ghost use Rattle.std.specs.FinMap.{len};
 ghost use Rattle.std.specs.Option.{option_copied};
-ghost use Rattle.cs_apply.specs.cs_store.declared.fault.StoreFault.TheVariants as stored;
+ghost use Rattle.cs_apply.specs.cs_store.StoreFault.TheVariants as stored;
 ghost use Rattle.cs_pending.specs.Calls.{WritesStore};
 ghost use Rattle.cs_pending.specs.Edits.{IsChangedBy, IsOfStore, IsWantedAt, Leads, edit_at};
 ghost use Rattle.cs_pending.specs.Placing.{IsPutIn, MaySettle, standing_found};

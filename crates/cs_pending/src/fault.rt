@@ -2,7 +2,7 @@
 
 ghost use Rattle.std.specs.Prelude.{◌≡◌};
 ghost use Rattle.cs_pending.specs.declared.fault.EditFault.TheVariants.{Memory, Device};
-ghost use Rattle.cs_apply.specs.cs_store.declared.fault.StoreFault.TheVariants as stored;
+ghost use Rattle.cs_apply.specs.cs_store.StoreFault.TheVariants as stored;
 
 use cs_apply::cs_store::StoreFault;
 use std::alloc::{AllocError, AllocFailed};

@@ -10,7 +10,7 @@ ghost use Rattle.cs_change.specs.Spelling.{change_spelling, FitsChange, FitsRow}
 ghost use Rattle.cs_change.specs.declared.change.Change.{Change as OneChange};
 ghost use Rattle.cs_apply.specs.cs_store.Contents.{stored_pending, stored_tables};
 ghost use Rattle.cs_apply.specs.cs_store.States.{IsStored};
-ghost use Rattle.cs_apply.specs.cs_store.declared.fault.StoreFault.TheVariants.{Device};
+ghost use Rattle.cs_apply.specs.cs_store.StoreFault.TheVariants.{Device};
 ghost use Rattle.cs_pending.specs.Calls.{ReadsStore};
 ghost use Rattle.cs_pending.specs.Placing.{IsStandingAt, StoresSome, StoresSomeChange, base_found, standing_found};
 ghost use Rattle.cs_pending.specs.Shows.{ShowsSome};

@@ -5,9 +5,9 @@ use Rattle.cs_conflict.specs.declared.clash.Clash.{Clash}
 use Rattle.cs_conflict.specs.declared.wish.Wish.{Wish}
 use Rattle.cs_nodes.specs.cs_following.Pulls.{PullsAll, PullsEach}
 use Rattle.cs_nodes.specs.cs_following.Pushes.{IsHeld, IsReady, PushesOn}
-use Rattle.cs_nodes.specs.cs_following.declared.fault.NodeFault.{NodeFault}
-use Rattle.cs_nodes.specs.cs_following.declared.pushed.NodePush.{NodePush}
-use Rattle.cs_nodes.specs.cs_following.declared.pushed.NodePush.TheVariants.{Nothing, Behind, Accepted, Other}
+use Rattle.cs_nodes.specs.cs_following.NodeFault.{NodeFault}
+use Rattle.cs_nodes.specs.cs_following.NodePush.{NodePush}
+use Rattle.cs_nodes.specs.cs_following.NodePush.TheVariants.{Nothing, Behind, Accepted, Other}
 use Rattle.cs_log.specs.Log.{entries_between}
 use Rattle.cs_log.specs.declared.entry.LogEntry.{LogEntry}
 use Rattle.cs_pending.specs.View.{View}

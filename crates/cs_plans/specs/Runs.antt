@@ -5,9 +5,9 @@ use Rattle.cs_nodes.specs.cs_following.Edits.{asked_of_edit, table_of_edit}
 use Rattle.cs_nodes.specs.cs_following.Pulls.{PullsAll}
 use Rattle.cs_nodes.specs.cs_following.Pushes.{IsAtRest, PushesOn}
 use Rattle.cs_nodes.specs.cs_following.Standing.{Begins}
-use Rattle.cs_nodes.specs.cs_following.declared.fault.NodeFault.{NodeFault}
-use Rattle.cs_nodes.specs.cs_following.declared.pushed.NodePush.{NodePush}
-use Rattle.cs_nodes.specs.cs_following.declared.pushed.NodePush.TheVariants.{Nothing, Behind}
+use Rattle.cs_nodes.specs.cs_following.NodeFault.{NodeFault}
+use Rattle.cs_nodes.specs.cs_following.NodePush.{NodePush}
+use Rattle.cs_nodes.specs.cs_following.NodePush.TheVariants.{Nothing, Behind}
 use Rattle.cs_log.specs.declared.entry.LogEntry.{LogEntry}
 use Rattle.cs_opening.specs.Fresh.{first_position}
 use Rattle.cs_pending.specs.Edits.{IsOfStore, edit}

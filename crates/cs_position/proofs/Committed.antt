@@ -8,9 +8,9 @@ use Rattle.cs_pending.specs.cs_store.Contents.{Contents, name_text}
 use Rattle.cs_pending.specs.cs_store.Laws.{KeepsOtherNames, KeepsOtherPending, KeepsOtherRows, WritesMeta, value_after}
 use Rattle.cs_pending.specs.cs_store.Whole.{IsName}
 use Rattle.cs_pending.specs.cs_store.Written.{appended, optional_entry}
-use Rattle.cs_pending.specs.cs_store.declared.batch.StoredEntry.{StoredEntry}
-use Rattle.cs_pending.specs.cs_store.declared.names.MetaName.{MetaName}
-use Rattle.cs_pending.specs.cs_store.declared.names.MetaName.TheVariants.{Id, Version, Number, Flight, Pending, Catalog}
+use Rattle.cs_pending.specs.cs_store.StoredEntry.{StoredEntry}
+use Rattle.cs_pending.specs.cs_store.MetaName.{MetaName}
+use Rattle.cs_pending.specs.cs_store.MetaName.TheVariants.{Id, Version, Number, Flight, Pending, Catalog}
 use Rattle.cs_pending.specs.Steps.{no_place}
 use Rattle.cs_position.specs.Laws.{CommitShows}
 

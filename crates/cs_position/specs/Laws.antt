@@ -7,8 +7,8 @@ use Rattle.cs_pending.specs.cs_normal.State.{AreSame}
 use Rattle.cs_pending.specs.cs_store.Contents.{Contents}
 use Rattle.cs_pending.specs.cs_store.Laws.{value_after}
 use Rattle.cs_pending.specs.cs_store.Written.{after_batch}
-use Rattle.cs_pending.specs.cs_store.declared.batch.Batch.{Batch}
-use Rattle.cs_pending.specs.cs_store.declared.names.MetaName.{MetaName}
+use Rattle.cs_pending.specs.cs_store.Batch.{Batch}
+use Rattle.cs_pending.specs.cs_store.MetaName.{MetaName}
 use Rattle.cs_pending.specs.Settling.{AreWithin}
 use Rattle.cs_pending.specs.Shows.{ShowsRows}
 use Rattle.cs_pending.specs.View.{View}

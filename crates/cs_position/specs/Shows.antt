@@ -4,11 +4,11 @@ use Rattle.std.specs.FinMap.{get, len}
 use Rattle.cs_value.specs.declared.catalog.TableDef.{TableDef}
 use Rattle.cs_pending.specs.cs_normal.Normal.{FitsCatalog, IsNormalChangeset, change_of, normal_spelling}
 use Rattle.cs_pending.specs.cs_normal.State.{State}
-use Rattle.cs_pending.specs.cs_normal.declared.normal.TableChanges.{TableChanges}
-use Rattle.cs_wire.specs.cs_log.declared.entry.TheConstants.{MAX_CHANGESET}
+use Rattle.cs_pending.specs.cs_normal.TableChanges.{TableChanges}
+use Rattle.cs_wire.specs.cs_log.TheConstants.{MAX_CHANGESET}
 use Rattle.cs_pending.specs.cs_store.Contents.{Contents, StorePlace, log_count, meta_value}
 use Rattle.cs_pending.specs.cs_store.Whole.{IsName}
-use Rattle.cs_pending.specs.cs_store.declared.names.MetaName.{MetaName}
+use Rattle.cs_pending.specs.cs_store.MetaName.{MetaName}
 use Rattle.cs_pending.specs.Shows.{IsElsewhere, IsSoundOf, ShowsRows}
 use Rattle.cs_pending.specs.View.{Changed, View, before, middle}
 use Rattle.cs_position.specs.Values.{value_of}

@@ -7,7 +7,7 @@ pub mod Answered
 pub mod Stands
 pub mod Laws
 pub use Rattle.cs_moving.specs.Moved
-pub use Rattle.cs_moving.specs.cs_opening
-pub use Rattle.cs_pulling.specs as cs_pulling
-pub use Rattle.cs_pulling.specs.cs_pushing
-pub use Rattle.cs_pulling.specs.cs_taking
+pub mod cs_opening
+pub mod cs_pulling
+pub mod cs_pushing
+pub mod cs_taking

@@ -6,7 +6,7 @@ ghost use Rattle.cs_value.specs.declared.catalog.TableDef.{TableDef as Table};
 ghost use Rattle.cs_pending.specs.Calls.{WritesStore};
 ghost use Rattle.cs_position.specs.Laws.{FitsPosition};
 ghost use Rattle.cs_position.specs.Shows.{ShowsSomeAt};
-ghost use Rattle.cs_moving.specs.cs_opening.declared.fault.OpenFault.TheVariants.{Device, Memory};
+ghost use Rattle.cs_moving.specs.cs_opening.OpenFault.TheVariants.{Device, Memory};
 
 use cs_moving::cs_opening::{OpenFault, open_at};
 use cs_position::Position;

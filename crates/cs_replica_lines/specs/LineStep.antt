@@ -7,9 +7,9 @@ use Rattle.cs_conflict.specs.declared.wish.Wish.{Wish}
 use Rattle.cs_lines.specs.Lines.{hex_line}
 use Rattle.cs_member.specs.Member.{Hears, IsEditedTo, IsPushedTo, IsResent, Member}
 use Rattle.cs_pending.specs.declared.fault.EditFault.{EditFault}
-use Rattle.cs_member.specs.cs_pulling.declared.fault.AnswerFault.{AnswerFault}
+use Rattle.cs_member.specs.cs_pulling.AnswerFault.{AnswerFault}
 use Rattle.cs_pushing.specs.declared.fault.PushFault.{PushFault}
-use Rattle.cs_member.specs.cs_replica.declared.told.Told.{Told}
+use Rattle.cs_member.specs.cs_replica.Told.{Told}
 use Rattle.cs_store.specs.declared.fault.StoreFault.{StoreFault}
 use Rattle.cs_text.specs.Text.{line}
 use Rattle.cs_told.specs.Dump.{AreRowLines, replica_text}

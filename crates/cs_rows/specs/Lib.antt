@@ -1,4 +1,4 @@
 pub mod Rows
 pub mod Steps
 pub mod Listings
-pub use Rattle.cs_pending.specs as cs_pending
+pub mod cs_pending

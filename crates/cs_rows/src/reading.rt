@@ -7,7 +7,7 @@ ghost use Rattle.cs_pending.specs.Shows.{ShowsRows, ShowsSome};
 ghost use Rattle.cs_pending.specs.View.{View};
 ghost use Rattle.cs_pending.specs.cs_store.Contents.{IsListing, stored_tables};
 ghost use Rattle.cs_pending.specs.cs_store.Written.{pairs_of};
-ghost use Rattle.cs_pending.specs.cs_store.declared.fault.StoreFault.TheVariants.{Device};
+ghost use Rattle.cs_pending.specs.cs_store.StoreFault.TheVariants.{Device};
 ghost use Rattle.cs_value.specs.declared.catalog.TableDef.{TableDef as Table};
 ghost use Rattle.cs_rows.specs.Rows.{AreRowsOf};
 ghost use Rattle.cs_rows.specs.Steps.{AreSpelled, IsRowBody};

@@ -5,7 +5,7 @@ use Rattle.cs_value.specs.declared.catalog.TableDef.{TableDef}
 use Rattle.cs_value.specs.declared.value.Value.{Value}
 use Rattle.cs_log.specs.cs_record.Spelling.{row_bytes}
 use Rattle.cs_log.specs.cs_change.Spelling.{FitsChange, change_spelling}
-use Rattle.cs_log.specs.cs_change.declared.change.Change.{Change}
+use Rattle.cs_log.specs.cs_change.Change.{Change}
 use Rattle.cs_log.specs.cs_keyed.NormalForm.{change_bytes, has_key}
 use Rattle.cs_log.specs.State.{IsRowOf}
 use Rattle.cs_log.specs.Stored.{FitsBody, stored_body}

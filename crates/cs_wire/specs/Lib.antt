@@ -7,4 +7,4 @@ pub mod OneSpelling
 pub mod Requests
 pub mod Spelled
 pub mod Told
-pub use Rattle.cs_log.specs as cs_log
+pub mod cs_log

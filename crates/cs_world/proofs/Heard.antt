@@ -26,17 +26,17 @@ use Rattle.cs_position.specs.declared.position.Position.{Position}
 use Rattle.cs_member.specs.cs_pulling.Laws.{OneRead, PulledLeads}
 use Rattle.cs_member.specs.cs_pulling.Listed.{Ends, EndsBad, IsToldAt, PullsList, PullsMany, count_of}
 use Rattle.cs_member.specs.cs_pulling.Told.{IsReadAs}
-use Rattle.cs_member.specs.cs_pulling.declared.fault.AnswerFault.{AnswerFault}
-use Rattle.cs_member.specs.cs_pulling.declared.fault.AnswerFault.TheVariants as fault
-use Rattle.cs_member.specs.cs_pulling.declared.listing.Pulled.{Pulled}
-use Rattle.cs_member.specs.cs_pulling.declared.listing.Pulled.TheVariants as pulled
+use Rattle.cs_member.specs.cs_pulling.AnswerFault.{AnswerFault}
+use Rattle.cs_member.specs.cs_pulling.AnswerFault.TheVariants as fault
+use Rattle.cs_member.specs.cs_pulling.Pulled.{Pulled}
+use Rattle.cs_member.specs.cs_pulling.Pulled.TheVariants as pulled
 use Rattle.cs_pushing.specs.Pushes.{confirmed}
 use Rattle.cs_member.specs.cs_replica.Accepted.{IsAccepted}
 use Rattle.cs_member.specs.cs_replica.Answered.{Answers, TellsAccepted, told_of}
 use Rattle.cs_member.specs.cs_replica.Laws.{EntryStands, FlightFits, KeptStands}
 use Rattle.cs_member.specs.cs_replica.Stands.{StandsOn}
-use Rattle.cs_member.specs.cs_replica.declared.told.Told.{Told}
-use Rattle.cs_member.specs.cs_replica.declared.told.Told.TheVariants as told
+use Rattle.cs_member.specs.cs_replica.Told.{Told}
+use Rattle.cs_member.specs.cs_replica.Told.TheVariants as told
 use Rattle.cs_store.specs.Contents.{Contents}
 use Rattle.cs_taking.specs.Laws.{OneLogRows}
 use Rattle.cs_taking.specs.Takes.{taken}

@@ -24,14 +24,14 @@ use Rattle.cs_position.specs.Shows.{ShowsAt, base}
 use Rattle.cs_position.specs.declared.position.Position.{Position}
 use Rattle.cs_member.specs.cs_pulling.Listed.{PullsMany, count_of}
 use Rattle.cs_member.specs.cs_pulling.Pulls.{IsOwn, PullsOne}
-use Rattle.cs_member.specs.cs_pulling.declared.fault.AnswerFault.{AnswerFault}
-use Rattle.cs_member.specs.cs_pulling.declared.fault.AnswerFault.TheVariants as fault
-use Rattle.cs_member.specs.cs_pulling.declared.listing.Pulled.{Pulled}
-use Rattle.cs_member.specs.cs_pulling.declared.listing.Pulled.TheVariants as pulled
+use Rattle.cs_member.specs.cs_pulling.AnswerFault.{AnswerFault}
+use Rattle.cs_member.specs.cs_pulling.AnswerFault.TheVariants as fault
+use Rattle.cs_member.specs.cs_pulling.Pulled.{Pulled}
+use Rattle.cs_member.specs.cs_pulling.Pulled.TheVariants as pulled
 use Rattle.cs_rebaser.specs.Merge.{MergesOneSide, merge}
 use Rattle.cs_member.specs.cs_replica.Answered.{told_of}
 use Rattle.cs_member.specs.cs_replica.Stands.{StandsOn}
-use Rattle.cs_member.specs.cs_replica.declared.told.Told.{Told}
+use Rattle.cs_member.specs.cs_replica.Told.{Told}
 use Rattle.cs_store.specs.Contents.{Contents}
 use Rattle.cs_taking.specs.Takes.{IsTaken, TakeAll, taken}
 use Rattle.cs_wire.specs.Entries.{ToldEntry}

@@ -16,11 +16,11 @@ use Rattle.cs_pending.specs.declared.fault.EditFault.{EditFault}
 use Rattle.cs_position.specs.Laws.{FitsPosition}
 use Rattle.cs_position.specs.Shows.{flown}
 use Rattle.cs_position.specs.declared.position.Position.{Position}
-use Rattle.cs_member.specs.cs_pulling.declared.fault.AnswerFault.{AnswerFault}
+use Rattle.cs_member.specs.cs_pulling.AnswerFault.{AnswerFault}
 use Rattle.cs_pushing.specs.Pushes.{IsResendFault, pushed, request_of}
 use Rattle.cs_pushing.specs.declared.fault.PushFault.{PushFault}
 use Rattle.cs_member.specs.cs_replica.Holding as replica
-use Rattle.cs_member.specs.cs_replica.declared.told.Told.{Told}
+use Rattle.cs_member.specs.cs_replica.Told.{Told}
 use Rattle.cs_store.specs.Calls.{MoreFailures}
 use Rattle.cs_store.specs.Contents.{Contents}
 use Rattle.cs_wire.specs.Answers.{FitsAnswer, answer_spelling}

@@ -12,4 +12,4 @@ pub mod Turns
 pub mod Runs
 pub mod Opened
 pub mod Reads
-pub use Rattle.cs_hub.specs as cs_hub
+pub mod cs_hub

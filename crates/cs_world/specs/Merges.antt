@@ -14,11 +14,11 @@ use Rattle.cs_normal.specs.Normal.{change_of, groups_of}
 use Rattle.cs_pending.specs.View.{View}
 use Rattle.cs_position.specs.declared.position.Position.{Position}
 use Rattle.cs_member.specs.cs_pulling.Pulls.{IsOwn}
-use Rattle.cs_member.specs.cs_pulling.declared.fault.AnswerFault.{AnswerFault}
-use Rattle.cs_member.specs.cs_pulling.declared.fault.AnswerFault.TheVariants as fault
+use Rattle.cs_member.specs.cs_pulling.AnswerFault.{AnswerFault}
+use Rattle.cs_member.specs.cs_pulling.AnswerFault.TheVariants as fault
 use Rattle.cs_rebaser.specs.Merge.{merge}
-use Rattle.cs_member.specs.cs_replica.declared.told.Told.{Told}
-use Rattle.cs_member.specs.cs_replica.declared.told.Told.TheVariants as what
+use Rattle.cs_member.specs.cs_replica.Told.{Told}
+use Rattle.cs_member.specs.cs_replica.Told.TheVariants as what
 use Rattle.cs_taking.specs.Takes.{TakeAll, taken}
 use Rattle.cs_wishes.specs.Wished.{IsWished}
 use Rattle.cs_wire.specs.Entries.{ToldEntry}

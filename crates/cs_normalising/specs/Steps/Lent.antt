@@ -3,7 +3,7 @@ use Rattle.std.specs.Prelude.{◌≡◌, ◌<◌, ℕ, Bool, true, List, length,
 use Rattle.std.specs.List.Sorted.{IsPermutation}
 use Rattle.std.specs.Map.{keys_of}
 use Rattle.cs_order.specs.Order.{Keys}
-use Rattle.cs_normal.specs.cs_change.declared.change.Change.{Change}
+use Rattle.cs_normal.specs.cs_change.Change.{Change}
 use Rattle.cs_normal.specs.cs_keyed.Changes.{Changes}
 use Rattle.cs_normal.specs.cs_keyed.NormalForm.{change_bytes, normal_form}
 use Rattle.cs_normal.specs.cs_keyed.Prepared.{Entries, all_keyed, kept, prepared}

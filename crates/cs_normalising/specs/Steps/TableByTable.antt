@@ -3,7 +3,7 @@ use Rattle.std.specs.Prelude.{◌≡◌, ◌≢◌, ◌≤◌, List, [], ◌∷�
 use Rattle.std.specs.List.{flat_map, AllByRecursion}
 use Rattle.cs_value.specs.declared.catalog.TableDef.{TableDef}
 use Rattle.cs_normal.specs.cs_change.Spelling.{marks_of, change_spelling, changes_spelling, FitsChange}
-use Rattle.cs_normal.specs.cs_change.declared.group.Group.{Group}
+use Rattle.cs_normal.specs.cs_change.Group.{Group}
 use Rattle.cs_normal.specs.cs_keyed.Changes.{Changes, IsEntry}
 use Rattle.cs_normal.specs.Normal.{table_changes}
 use Rattle.cs_normal.specs.cs_keyed.NormalForm.{AreKeyed, IsNormalOf}

@@ -1,0 +1,2 @@
+-- What is handed on of cs_judging.
+pub use Rattle.cs_judging.specs.Judged

@@ -1,0 +1,2 @@
+-- What is handed on of cs_outgoing.
+pub use Rattle.cs_outgoing.specs.Outgoing
