@@ -6,6 +6,7 @@
 //! Its tests stand in `cs_changeset_tests`.
 #![tactic(auto)]
 
+pub mod below;
 mod changes;
 mod columns;
 mod fault;
@@ -22,7 +23,3 @@ pub use groups::{HeadedGroup, read_file};
 pub use header::read_header;
 pub use reading::read;
 pub use records::{read_old_fields, read_row};
-
-// What stands below, for the crates above.
-pub use cs_change;
-pub use cs_change::cs_record;

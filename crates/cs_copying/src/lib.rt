@@ -4,9 +4,7 @@
 //! Its tests are those of `cs_replica_tests`, through `cs_moving`.
 #![tactic(auto)]
 
+pub mod below;
 mod copying;
 
 pub use copying::copy_of;
-
-// What stands below, for the crates above.
-pub use cs_rows;

@@ -6,6 +6,7 @@
 //! Its tests stand in `cs_nodes_tests`.
 #![tactic(auto)]
 
+pub mod below;
 mod editing;
 mod fault;
 pub mod laws;
@@ -25,7 +26,3 @@ pub use readying::is_at_rest;
 pub use rows::rows_of;
 pub use seeing::see_all;
 pub use sending::push_known;
-
-// What stands below, for the crates above.
-pub use cs_replica;
-pub use cs_replica::cs_taking;

@@ -20,7 +20,7 @@ ghost use Rattle.cs_following.specs.declared.fault.NodeFault.TheVariants.{Device
 use crate::fault::{NodeFault, push_fault};
 use cs_log::LogEntry;
 use cs_replica::Replica;
-use cs_replica::cs_pushing::PushFault;
+use cs_replica::below::PushFault;
 use cs_store::RowStore;
 use cs_value::Memory;
 use std::alloc::Global;

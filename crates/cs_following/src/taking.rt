@@ -91,7 +91,7 @@ pub(crate) fn take_standing<S: RowStore, P: Picker>(
         → StandsWhereHonest S.honest S.contents known replica.old → result ≡ Err BadEntry → S.honest replica.new.store
         → IsBadAt replica.new.catalog known replica.new.position.version }
 {
-    cs_replica::cs_pulling::laws::pulled_leads(&*picker);
+    cs_replica::below::pulled_leads(&*picker);
     cs_normal::laws::defined_is_applied();
     cs_log::laws::appended_is_log();
     let _changes = changeset(entry).tables();

@@ -14,7 +14,7 @@ ghost use Rattle.cs_hub.specs.Steps.{IsAnsweredOf, LooksAt, TellsOutcome};
 use crate::hub::MAX_ENTRIES;
 use crate::refusal::Refusal;
 use crate::taking::take_at;
-use cs_judging::cs_log_reading::entries_told;
+use cs_judging::below::entries_told;
 use cs_judging::{HubFault, Pushed};
 use cs_store::{RowStore, StoreFault};
 use cs_value::{Catalog, Memory};

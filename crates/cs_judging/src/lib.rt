@@ -5,6 +5,7 @@
 //! Its tests stand in `cs_log_store_tests`.
 #![tactic(auto)]
 
+pub mod below;
 mod fault;
 mod judging;
 pub mod laws;
@@ -13,7 +14,3 @@ mod push;
 pub use fault::HubFault;
 pub use judging::{judge_at, push_at};
 pub use push::{Judgement, Pushed};
-
-// What stands below, for the crates above.
-pub use cs_appending;
-pub use cs_log_reading;

@@ -9,7 +9,7 @@ ghost use Rattle.cs_keyed.specs.Steps.Forms.{key_if_set};
 
 use crate::key_of_change::{put_key, put_record_key};
 use cs_change::Change;
-use cs_change::cs_record::Record;
+use cs_change::below::Record;
 use cs_order::Keys;
 use cs_value::Memory;
 use std::alloc::{AllocError, Global};

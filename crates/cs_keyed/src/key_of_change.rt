@@ -8,7 +8,7 @@ ghost use Rattle.cs_keyed.specs.Changes.{key_bytes};
 ghost use Rattle.cs_keyed.specs.NormalForm.{HaveSameKeys, change_bytes, has_key, marked_fields};
 
 use cs_change::Change;
-use cs_change::cs_record::{Cell, NULL, Record, Row};
+use cs_change::below::{Cell, NULL, Record, Row};
 use cs_value::Memory;
 
 /// The marks up to the last key column: the columns behind it are in no key, and needn't be looked at.

@@ -5,7 +5,7 @@ ghost use Rattle.cs_keyed.specs.Changes.{key_bytes};
 ghost use Rattle.cs_keyed.specs.NormalForm.{change_bytes, marked_fields};
 
 use cs_change::Change;
-use cs_change::cs_record::{Cell, Record};
+use cs_change::below::{Cell, Record};
 
 /// The bytes of the key that a record holds, lent where its key columns are the first ones and are defined; `None` where the
 /// key isn't in one piece: `put_record_key` puts it together then. Marks behind the last key column are to be left out

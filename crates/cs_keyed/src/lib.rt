@@ -6,6 +6,7 @@
 //! Its tests stand in `cs_normal_tests`.
 #![tactic(auto)]
 
+pub mod below;
 mod builder;
 mod gathering;
 mod key_bytes;
@@ -26,8 +27,3 @@ pub mod laws;
 
 pub use one_form::{all_normal, lend_form};
 pub use picking::pick_form;
-
-// What stands below, for the crates above.
-pub use cs_change;
-pub use cs_change::cs_varint;
-pub use cs_order;

@@ -6,6 +6,7 @@
 //! Its tests stand in `cs_log_store_tests`.
 #![tactic(auto)]
 
+pub mod below;
 mod fresh;
 mod judging;
 pub mod laws;
@@ -13,6 +14,3 @@ mod opening;
 mod owning;
 
 pub use opening::open_log;
-
-// What stands below, for the crates above.
-pub use cs_opening;

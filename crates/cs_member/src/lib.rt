@@ -5,11 +5,8 @@
 //! `cs_replica_lines_tests`.
 #![tactic(auto)]
 
+pub mod below;
 pub mod laws;
 mod turning;
 
 pub use turning::{edit_replica, push_replica, resend_replica, rows_of, tell_replica};
-
-// What stands below, for the crates above.
-pub use cs_replica;
-pub use cs_replica::cs_pulling;

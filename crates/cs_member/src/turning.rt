@@ -9,8 +9,7 @@ ghost use Rattle.cs_replica.specs.Holding.{Shows};
 
 use cs_conflict::Wish;
 use cs_pending::EditFault;
-use cs_replica::cs_pulling::AnswerFault;
-use cs_replica::cs_pushing::PushFault;
+use cs_replica::below::{AnswerFault, PushFault};
 use cs_replica::{Replica, Told};
 use cs_rows::RowAtKey;
 use cs_store::{RowStore, StoreFault};

@@ -5,6 +5,7 @@
 //! Its tests stand in `cs_replica_tests`.
 #![tactic(auto)]
 
+pub mod below;
 mod edits;
 pub mod laws;
 mod moving;
@@ -12,7 +13,3 @@ mod planning;
 mod value;
 
 pub use moving::open_store;
-
-// What stands below, for the crates above.
-pub use cs_copying::cs_rows;
-pub use cs_opening;

@@ -6,7 +6,7 @@ ghost use Rattle.cs_moving.specs.Moved.{IsSameOrOpened, IsStoreFault, IsStoreOpe
 ghost use Rattle.cs_opening.specs.declared.fault.OpenFault.TheVariants.{Device};
 
 use crate::planning::plan_move;
-use cs_opening::cs_position::Position;
+use cs_opening::below::Position;
 use cs_opening::{OpenFault, open_at};
 use cs_store::RowStore;
 use cs_value::Catalog;

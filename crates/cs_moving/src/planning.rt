@@ -22,7 +22,7 @@ use crate::value::value_in;
 use cs_copying::copy_of;
 use cs_map_store::MapStore;
 use cs_normal::Normal;
-use cs_opening::cs_position::Position;
+use cs_opening::below::Position;
 use cs_opening::{OpenFault, open_at};
 use cs_store::{Batch, MetaName, RowStore, StoreFault};
 use cs_value::{Catalog, Memory, TableDef};

@@ -7,7 +7,7 @@ ghost use Rattle.cs_value.specs.declared.catalog.TableDef.{TableDef};
 ghost use Rattle.cs_nodes.specs.Nodes.{AreMet};
 
 use crate::node::Node;
-use cs_following::cs_taking::laws::one_contents;
+use cs_following::below::one_contents;
 use cs_following::laws::equal_where_met;
 use cs_spine::Spine;
 use cs_store::RowStore;

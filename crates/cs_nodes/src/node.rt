@@ -24,7 +24,7 @@ ghost use Rattle.cs_following.specs.declared.pushed.NodePush.TheVariants.{Behind
 ghost use Rattle.cs_nodes.specs.Nodes.{IsNode};
 
 use cs_conflict::Picker;
-use cs_following::cs_replica::Replica;
+use cs_following::below::Replica;
 use cs_following::{NodeFault, NodePush, edit_row, is_at_rest, pull_known, push_known, rows_of};
 use cs_opening::OpenFault;
 use cs_pending::EditFault;

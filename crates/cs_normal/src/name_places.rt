@@ -5,7 +5,7 @@ ghost use Rattle.cs_keyed.specs.cs_order.Groups.{places_of, IsGrouping};
 ghost use Rattle.cs_keyed.specs.cs_order.Order.{key_at, keys_behind};
 ghost use Rattle.cs_normal.specs.Placed.{name_first, AreGrouped};
 
-use cs_keyed::cs_order::{Groups, Keys, group_keys};
+use cs_keyed::below::{Groups, Keys, group_keys};
 use cs_value::Memory;
 use std::alloc::Global;
 use std::marker::Model;

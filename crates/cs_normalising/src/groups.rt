@@ -16,7 +16,7 @@ use crate::lent_normal::LentNormal;
 use crate::lent_table::{LentTable, Ordered, is_left};
 use crate::table_form::order_table;
 use crate::unfit::Unfit;
-use cs_normal::cs_change::{Change, Changeset, Group};
+use cs_normal::below::{Change, Changeset, Group};
 use cs_normal::{FEW_NAMES, NamePlaces, Normal, lend_table_names, same_shape};
 use cs_value::{Catalog, Memory, TableDef};
 use std::alloc::{AllocError, Global};

@@ -1,6 +1,6 @@
 //! The changes of a table as they were read.
 
-use cs_normal::cs_change::Change;
+use cs_normal::below::Change;
 use std::alloc::Global;
 use std::marker::Model;
 

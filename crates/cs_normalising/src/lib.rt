@@ -7,6 +7,7 @@
 //! Its tests stand in `cs_normal_tests`.
 #![tactic(auto)]
 
+pub mod below;
 mod groups;
 mod key_order;
 mod lent_list;
@@ -23,7 +24,3 @@ pub mod laws;
 pub use lent_normal::LentNormal;
 pub use lent_table::LentTable;
 pub use unfit::Unfit;
-
-// What stands below, for the crates above.
-pub use cs_normal;
-pub use cs_normal::cs_keyed;

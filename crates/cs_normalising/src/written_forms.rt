@@ -8,8 +8,7 @@ ghost use Rattle.cs_normalising.specs.Steps.Lent.{entries_at, entries_of, AreBes
 ghost use Rattle.cs_normalising.specs.Lent.{nth_entry};
 
 use crate::key_order::KeyOrder;
-use cs_normal::cs_change::{Change, ChangesBuf, Scratch};
-use cs_normal::cs_keyed::{KeyedChanges, all_normal, pick_form};
+use cs_normal::below::{Change, ChangesBuf, KeyedChanges, Scratch, all_normal, pick_form};
 use cs_order::{Keys, PickedKeys};
 use cs_value::Memory;
 use std::alloc::Global;

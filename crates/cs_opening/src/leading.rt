@@ -13,7 +13,7 @@ ghost use Rattle.cs_opening.specs.Steps.{IsLeading, IsNetTo};
 
 use cs_change::{Change, ChangesBuf, Scratch, put_set_columns};
 use cs_changeset::read_one;
-use cs_pending::cs_group::push_net;
+use cs_pending::below::push_net;
 use cs_record::{Record, Row, RowBuf};
 use cs_store::whole_row;
 use cs_value::{Memory, TableDef};

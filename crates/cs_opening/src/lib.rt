@@ -6,6 +6,7 @@
 //! Its tests stand in `cs_replica_tests`.
 #![tactic(auto)]
 
+pub mod below;
 mod fault;
 mod flying;
 mod fresh;
@@ -21,6 +22,3 @@ pub use fault::OpenFault;
 pub use fresh::{have_none, holds_nothing};
 pub use opening::open_at;
 pub use owning::{Owner, is_value, reads_id, reads_tables};
-
-// What stands below, for the crates above.
-pub use cs_position;

@@ -16,7 +16,7 @@ use crate::places::{are_same, lent};
 use crate::placing::{Found, found_at};
 use crate::settling::Settling;
 use crate::wanted::{Wanted, left_by};
-use cs_apply::cs_store::{Batch, RowStore, StoreFault};
+use cs_apply::below::{Batch, RowStore, StoreFault};
 use cs_record::Row;
 use cs_value::{Catalog, TableDef};
 use std::alloc::Global;
@@ -44,9 +44,9 @@ fn put_place<S: RowStore>(
         → pending ≡ len (S.contents store.old).pending → IfOk result (λ count. count ≡ len (S.contents store.new).pending) }
 {
     cs_value::laws::catalogs();
-    cs_group::cs_normal::laws::one_key_stands();
+    cs_group::below::one_key_stands();
     cs_change::laws::net_takes();
-    cs_apply::cs_store::laws::commits();
+    cs_apply::below::commits();
     let _tables = catalog.tables();
     let mut settling = Settling::new(alloc, pending);
     let stood = before.mine();

@@ -4,7 +4,7 @@ ghost use Rattle.std.specs.Prelude.{◌≡◌};
 ghost use Rattle.cs_pending.specs.declared.fault.EditFault.TheVariants.{Memory, Device};
 ghost use Rattle.cs_apply.specs.cs_store.StoreFault.TheVariants as stored;
 
-use cs_apply::cs_store::StoreFault;
+use cs_apply::below::StoreFault;
 use std::alloc::{AllocError, AllocFailed};
 use thiserror::Error;
 

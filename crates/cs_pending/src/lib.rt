@@ -8,6 +8,7 @@
 //! that a store shows one view, and that an edit leads to one view or has one fault. Its tests stand in `cs_pending_tests`.
 #![tactic(auto)]
 
+pub mod below;
 mod editing;
 mod edits;
 mod fault;
@@ -22,8 +23,3 @@ pub use fault::EditFault;
 pub use places::{copied, lent, undone};
 pub use placing::{Standing, standing_at};
 pub use settling::Settling;
-
-// What stands below, for the crates above.
-pub use cs_apply::cs_store;
-pub use cs_group;
-pub use cs_group::cs_normal;

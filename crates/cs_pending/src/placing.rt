@@ -17,8 +17,7 @@ ghost use Rattle.cs_pending.specs.Shows.{ShowsSome};
 ghost use Rattle.cs_pending.specs.View.{undo};
 
 use crate::places::{copied, lent, undone};
-use cs_apply::cs_changeset::read_one;
-use cs_apply::cs_store::{RowStore, StoreFault, mark_bytes, whole_row};
+use cs_apply::below::{RowStore, StoreFault, mark_bytes, read_one, whole_row};
 use cs_record::{Row, RowBuf};
 use cs_value::{Catalog, TableDef};
 use std::alloc::Global;
@@ -141,7 +140,7 @@ pub(crate) fn found_at<S: RowStore>(
     ensures found { S.honest store.new → IfOk result (λ found. IsStandingAt catalog.now (S.contents store.old) table.now key.now (standing_found found)) }
 {
     cs_value::laws::catalogs();
-    cs_group::cs_normal::laws::one_key_stands();
+    cs_group::below::one_key_stands();
     cs_change::laws::net_takes();
     let _tables = catalog.tables();
     let mine = match own_at(store, table, number, key) {

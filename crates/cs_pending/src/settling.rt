@@ -183,9 +183,9 @@ impl Settling {
             (settled table.now key.now (option_copied base.entry) (option_copied mine.entry) view)) }
     {
         cs_value::laws::catalogs();
-        cs_group::cs_normal::laws::one_key_stands();
+        cs_group::below::one_key_stands();
         cs_change::laws::net_takes();
-        cs_apply::cs_store::laws::commits();
+        cs_apply::below::commits();
         let was = !are_same(stood_base, stood);
         push_row(&mut self.rows, number, key, stood, mine)?;
         let is = push_pending(

@@ -6,6 +6,7 @@
 //! Its tests stand in `cs_pulling_tests`.
 #![tactic(auto)]
 
+pub mod below;
 mod fault;
 pub mod laws;
 mod listing;
@@ -15,8 +16,3 @@ mod told;
 pub use fault::{AnswerFault, PullFault};
 pub use listing::{Pulled, take_entries};
 pub use pulling::take_entry;
-
-// What stands below, for the crates above.
-pub use cs_pushing;
-pub use cs_pushing::cs_outgoing;
-pub use cs_taking;

@@ -6,6 +6,7 @@
 //! Its tests stand in `cs_replica_tests`.
 #![tactic(auto)]
 
+pub mod below;
 mod clearing;
 mod confirming;
 mod fault;
@@ -18,6 +19,3 @@ pub use confirming::confirm;
 pub use fault::PushFault;
 pub use making::make_push;
 pub use requesting::resend;
-
-// What stands below, for the crates above.
-pub use cs_outgoing;

@@ -11,7 +11,7 @@ ghost use Rattle.cs_pulling.specs.cs_pushing.Pushes.{IsConfirmedIn};
 use crate::told::Told;
 use cs_conflict::Picker;
 use cs_position::Position;
-use cs_pulling::cs_pushing::confirm;
+use cs_pulling::below::confirm;
 use cs_pulling::{AnswerFault, Pulled, take_entries};
 use cs_store::{RowStore, StoreFault};
 use cs_value::Catalog;

@@ -8,6 +8,7 @@
 #![tactic(auto)]
 
 mod answering;
+pub mod below;
 mod editing;
 pub mod laws;
 mod opening;
@@ -17,8 +18,3 @@ mod told;
 
 pub use replica::Replica;
 pub use told::Told;
-
-// What stands below, for the crates above.
-pub use cs_moving::cs_opening;
-pub use cs_pulling;
-pub use cs_pulling::{cs_pushing, cs_taking};

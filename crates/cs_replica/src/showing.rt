@@ -9,9 +9,9 @@ ghost use Rattle.cs_pending.specs.View.{View};
 ghost use Rattle.cs_pulling.specs.cs_outgoing.Outgoing.{IsOutgoing};
 ghost use Rattle.cs_position.specs.Shows.{ShowsAt, ShowsSomeAt};
 
-use cs_moving::cs_rows::{RowAtKey, rows_of};
+use cs_moving::below::{RowAtKey, rows_of};
 use cs_position::Position;
-use cs_pulling::cs_outgoing::{Outgoing, gather};
+use cs_pulling::below::{Outgoing, gather};
 use cs_store::{RowStore, StoreFault};
 use cs_value::Catalog;
 use std::alloc::Global;

@@ -13,7 +13,7 @@ ghost use Rattle.cs_rows.specs.Rows.{AreRowsOf};
 ghost use Rattle.cs_rows.specs.Steps.{AreSpelled, IsRowBody};
 
 use cs_change::Bytes;
-use cs_pending::cs_store::{RowStore, StoreFault, StoredBody, whole_row};
+use cs_pending::below::{RowStore, StoreFault, StoredBody, whole_row};
 use cs_record::RowBuf;
 use cs_value::{Catalog, Items, Memory, TableDef};
 use std::alloc::Global;

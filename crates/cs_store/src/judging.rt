@@ -8,10 +8,7 @@ ghost use Rattle.cs_log.specs.cs_keyed.NormalForm.{change_bytes, has_key};
 ghost use Rattle.cs_store.specs.Whole.{AtTable, IsName, StoresBody, StoresChange, StoresRow};
 
 use crate::MetaName;
-use cs_log::cs_change::Change;
-use cs_log::cs_changeset::read_one;
-use cs_log::cs_keyed::put_key;
-use cs_log::cs_record::{Row, read_row};
+use cs_log::below::{Change, Row, put_key, read_one, read_row};
 use cs_log::{BodyFault, read_body};
 use cs_value::{Catalog, Memory, TableDef};
 use std::alloc::{AllocError, Global};

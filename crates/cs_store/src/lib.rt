@@ -12,6 +12,7 @@
 #![tactic(auto)]
 
 mod batch;
+pub mod below;
 mod fault;
 mod judging;
 pub mod laws;
@@ -25,6 +26,3 @@ pub use judging::{is_body, is_change, is_name, is_row, mark_bytes, whole_row};
 pub use names::MetaName;
 pub use store::{RowStore, StoredBody};
 pub use trip::{Trip, Written};
-
-// What stands below, for the crates above.
-pub use cs_log::{cs_keyed, cs_normal};

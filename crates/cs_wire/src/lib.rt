@@ -7,6 +7,7 @@
 #![tactic(auto)]
 
 mod answer;
+pub mod below;
 mod entries;
 mod entry;
 mod fault;
@@ -27,6 +28,3 @@ pub use short_answer::{SHORT, ShortAnswer};
 pub use writing::{entries_head, put_entry};
 
 pub mod laws;
-
-// What stands below, for the crates above.
-pub use cs_log;

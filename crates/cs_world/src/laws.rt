@@ -11,7 +11,7 @@ pub fn first_is_sound()
     ensures { FirstIsSound }
 {
     cs_log::laws::empty_is_log();
-    cs_member::cs_replica::laws::first_stands();
+    cs_member::below::first_stands();
 }
 
 /// Each event keeps a world sound, and hands no replica a bad entry.
@@ -32,13 +32,13 @@ pub fn steps_are_sound()
     cs_wire::laws::one_told_answer();
     cs_wire::laws::told_are_read();
     cs_taking::laws::one_contents();
-    cs_member::cs_pulling::laws::one_read();
+    cs_member::below::one_read();
     let wishes = Wishes::new(&[]);
-    cs_member::cs_pulling::laws::pulled_leads(&wishes);
-    cs_member::cs_replica::laws::stands_longer();
-    cs_member::cs_replica::laws::edit_stands();
-    cs_member::cs_replica::laws::steps_stand();
-    cs_member::cs_replica::laws::flight_fits();
+    cs_member::below::pulled_leads(&wishes);
+    cs_member::below::stands_longer();
+    cs_member::below::edit_stands();
+    cs_member::below::steps_stand();
+    cs_member::below::flight_fits();
 }
 
 /// What is sound has the headline.
@@ -47,8 +47,8 @@ pub fn sound_has_headline()
 {
     cs_change::laws::net_takes();
     cs_normal::laws::one_key_stands();
-    cs_member::cs_replica::laws::flight_fits();
-    cs_member::cs_replica::laws::equal_at_rest();
+    cs_member::below::flight_fits();
+    cs_member::below::equal_at_rest();
 }
 
 /// By wishes in a list each clash has one answer.
@@ -81,12 +81,12 @@ pub fn pulls_merge()
     cs_log::laws::one_body();
     cs_pending::laws::one_view();
     cs_taking::laws::one_contents();
-    cs_member::cs_pulling::laws::one_read();
+    cs_member::below::one_read();
     let wishes = Wishes::new(&[]);
-    cs_member::cs_pulling::laws::pulled_leads(&wishes);
+    cs_member::below::pulled_leads(&wishes);
     cs_rebaser::laws::merge_alike();
-    cs_member::cs_replica::laws::steps_stand();
-    cs_member::cs_replica::laws::flight_fits();
+    cs_member::below::steps_stand();
+    cs_member::below::flight_fits();
 }
 
 /// In a sound world an event has one outcome, and leaves one world: but where memory was refused or a device failed.
@@ -150,7 +150,7 @@ pub fn restart_has_step()
 fn answer_has_result_by<P: Picker>(_picker: &P)
     ensures { AnswerHasResult P.picks P.is_ready }
 {
-    cs_member::cs_replica::laws::answer_has_result::<P>();
+    cs_member::below::answer_has_result::<P>();
 }
 
 /// So has, in a sound world, a message that arrives.

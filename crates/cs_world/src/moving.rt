@@ -12,7 +12,7 @@ use crate::outcome::Outcome;
 use crate::turning::reload_replica;
 use cs_conflict::Wish;
 use cs_hub::Hub;
-use cs_member::cs_replica::Replica;
+use cs_member::below::Replica;
 use cs_member::{edit_replica, push_replica, tell_replica};
 use cs_store::RowStore;
 use cs_value::Edit;

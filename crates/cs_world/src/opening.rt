@@ -7,7 +7,7 @@ ghost use Rattle.cs_world.specs.Opened.{IsNewReplica};
 
 use cs_hub::Hub;
 use cs_map_store::MapStore;
-use cs_member::cs_replica::Replica;
+use cs_member::below::Replica;
 use cs_opening::OpenFault;
 use cs_store::RowStore;
 use cs_value::{Catalog, Memory};

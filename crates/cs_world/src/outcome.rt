@@ -1,7 +1,6 @@
 //! What an event comes to.
 
-use cs_member::cs_pulling::AnswerFault;
-use cs_member::cs_replica::Told;
+use cs_member::below::{AnswerFault, Told};
 use cs_opening::OpenFault;
 use cs_pending::EditFault;
 use cs_pushing::PushFault;

@@ -2,7 +2,7 @@
 
 ghost use Rattle.cs_world.specs.Turns.{IsReloadedTo, Turns};
 
-use cs_member::cs_replica::Replica;
+use cs_member::below::Replica;
 use cs_opening::OpenFault;
 use cs_store::RowStore;
 use std::alloc::Global;

@@ -1,0 +1,4 @@
+//! What this crate hands on of those below it.
+
+pub use cs_change::below::{Record, Row, read_row};
+pub use cs_change::{Bytes, Change, PATCHSET, TABLE, put_header};

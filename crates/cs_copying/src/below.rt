@@ -1,0 +1,3 @@
+//! What this crate hands on of those below it.
+
+pub use cs_rows::{RowAtKey, rows_of};
