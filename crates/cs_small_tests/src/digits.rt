@@ -51,9 +51,10 @@ fn sorts(alloc: Global, row: &Words) -> Result<bool, AllocError> {
     Ok(words == expected)
 }
 
-// No word; too few words for a pass, and as many as it takes; words of two passes and of three, and too few for three; words of so
-// many passes that std's sort does it; words all of one rank; words that don't hold their own places, since two have one place and
-// since a place takes more bits than are told; and the most words that go digit by digit, and one more.
+// No word; too few words for a pass, and as many as it takes; words of two passes, too few for two, and too many; words of one wide
+// digit, and of one bit more; words of so many passes that std's sort does it; words all of one rank; words that don't hold their
+// own places, since two have one place and since a place takes more bits than are told; and the most words that go digit by digit,
+// and one more.
 #[test]
 fn sorts_as_std_does(rt: HostRuntime) -> Result<(), Fail> {
     let rows = [
@@ -61,8 +62,11 @@ fn sorts_as_std_does(rt: HostRuntime) -> Result<(), Fail> {
         words_of(511, 9, 10, 1),
         words_of(512, 9, 11, 1),
         words_of(2_000, 11, 22, 1),
+        words_of(1_023, 10, 22, 1),
+        words_of(16_385, 15, 22, 1),
+        words_of(10_000, 14, 14, 1),
+        words_of(10_000, 14, 15, 1),
         words_of(2_000, 11, 33, 1),
-        words_of(1_535, 11, 33, 1),
         words_of(2_000, 11, 53, 1),
         words_of(1_000, 10, 0, 1),
         words_of(1_000, 10, 11, 3),
