@@ -111,6 +111,7 @@ fn is_normal_column(in_key: bool, old: &Column<'_>, new: &Column<'_>) -> bool
 }
 
 /// Whether the columns are those of an update in normal form.
+#[inline(always)]
 #[tactic(auto, unfolding(crate::specs::Steps::Forms::normal_columns, cs_change::specs::Columns::is_blank))]
 fn are_normal(marks: &[bool], old: &Record<'_>, new: &Record<'_>) -> bool
     ensures { result ≡ normal_columns marks.now old.now new.now && not (is_blank new.now) }
