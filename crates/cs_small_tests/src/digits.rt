@@ -52,7 +52,7 @@ fn sorts(alloc: Global, row: &Words) -> Result<bool, AllocError> {
 }
 
 // No word; too few words for a pass, and as many as it takes; words of two passes, too few for two, and too many; words of one wide
-// digit, and of one bit more; words of so many passes that std's sort does it; words all of one rank; words that don't hold their
+// digit, and of one bit more; words of three passes, and of so many that std's sort does it; words all of one rank; words that don't hold their
 // own places, since two have one place and since a place takes more bits than are told; and the most words that go digit by digit,
 // and one more.
 #[test]
