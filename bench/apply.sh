@@ -1,13 +1,13 @@
 #!/bin/sh
 # Applies changesets by the library and by SQLite's sqlite3changeset_apply_v2, onto the same rows, with the same answers.
-# Usage: bench/apply.sh [ROUNDS]
+# Usage: bench/apply.sh [TURNS]
 # Over many drawn cases (tables with one and several key columns, texts, blobs, NULLs; a table that isn't there; a key that
 # comes twice) it fails unless both meet the same conflicts in the same order, with the same rows behind them, end alike, and
-# leave the same rows. With ROUNDS it also times both, and prints the ratios. Where SQLite's library can't be had, it says so
-# and ends well.
+# leave the same rows. With TURNS it also times both, by so many turns, and prints the ratios. Where SQLite's library can't be had, it
+# says so and ends well.
 set -eu
 bench="$(cd "$(dirname "$0")" && pwd)"
-rounds="${1:-}"
+turns="${1:-}"
 cases=3000
 . "$bench/common.sh"
 
@@ -27,18 +27,26 @@ cmp "$out/apply_expected" "$out/apply_told" || {
 }
 echo "all applied alike by the library and by SQLite"
 
-[ -n "$rounds" ] || exit 0
+[ -n "$turns" ] || exit 0
 print_machine_and_sqlite
-echo "nanoseconds a change, best of $rounds: the library / SQLite = ratio"
+echo "nanoseconds a change, the least of $turns turns: the library / SQLite = ratio (ratios of the middle half of the turns)"
+
+theirs() { "$out/sqlite_apply" time "$rounds" "$count" "$every" "$out/apply_case"; }
+ours() { "$runner" apply "$rounds" < "$out/apply_case"; }
+
 for every in 0 10; do
     for count in 1000 10000 100000 1000000; do
-        "$out/sqlite_apply" time "$rounds" "$count" "$every" "$out/apply_case" > "$out/apply_theirs"
-        "$runner" apply "$rounds" < "$out/apply_case" > "$out/apply_ours"
-        awk -v count="$count" -v every="$every" '
-            FNR == NR { theirs = $1; asked = $2; next }
-            {
-                if ($2 != asked) { print "WRONG: " $2 " conflicts, not " asked; exit 1 }
-                printf "%d changes onto as many rows, %d conflicts: %.0f / %.0f = %.2f\n", count, asked, $1 / count, theirs / count, $1 / theirs
-            }' "$out/apply_theirs" "$out/apply_ours"
+        rounds=$((count < 100000 ? 200000 / count : 2))
+        take_turns "$turns" "$out/apply_turns"
+        ratios="$(turn_ratios "$out/apply_turns" 1 3)"
+        awk -v count="$count" -v ratios="$ratios" '
+            $4 != $2 { print "WRONG: " $4 " conflicts, not " $2; exit 1 }
+            NR == 1 || $1 < theirs { theirs = $1 }
+            NR == 1 || $3 < ours { ours = $3 }
+            { asked = $2 }
+            END {
+                printf "%d changes onto as many rows, %d conflicts: %.0f / %.0f = %.2f (%s)\n", count, asked, ours / count, theirs / count,
+                    ours / theirs, ratios
+            }' "$out/apply_turns"
     done
 done

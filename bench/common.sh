@@ -118,6 +118,23 @@ build_rattle() {
     fi
 }
 
+# Times two sides by turns, so that both meet the machine as it is at the moment: what `theirs` and `ours` print, so many times one after
+# the other, goes into a line each of the file that is named. Each prints the nanoseconds it took, and then what has to agree.
+take_turns() {
+    turn=0
+    : > "$2"
+    while [ "$turn" -lt "$1" ]; do
+        echo "$(theirs) $(ours)" >> "$2"
+        turn=$((turn + 1))
+    done
+}
+
+# The ratio of our time to theirs in the turn at a quarter and in that at three quarters, of turns whose times stand in these columns.
+turn_ratios() {
+    awk -v theirs="$2" -v ours="$3" '{ print $ours / $theirs }' "$1" | sort -g |
+        awk '{ all[NR] = $1 } END { printf "%.2f to %.2f", all[int((NR + 3) / 4)], all[int((3 * NR + 3) / 4)] }'
+}
+
 # What the figures depend on beside the code: the machine, and the compilers of what is compared.
 print_machine() {
     echo "processor: $(sed -n 's/^model name[^:]*: *//p' /proc/cpuinfo | head -n 1), $(nproc) of them"

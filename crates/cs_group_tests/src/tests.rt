@@ -12,6 +12,7 @@ ghost use Rattle.cs_normal.specs.Normal.{FitsCatalog};
 use cs_change::{Change, ChangesBuf};
 use cs_changeset::read;
 use cs_group::*;
+use cs_net::net;
 use cs_normal::Normal;
 use cs_normalising::{Unfit, normalise};
 use cs_record::{Row, RowBuf};

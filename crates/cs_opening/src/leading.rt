@@ -7,7 +7,7 @@ ghost use Rattle.cs_change.specs.Columns.{set_columns};
 ghost use Rattle.cs_change.specs.Listed.{listed};
 ghost use Rattle.cs_change.specs.Net.{net};
 ghost use Rattle.cs_change.specs.Spelling.{marks_of};
-ghost use Rattle.cs_pending.specs.cs_group.Combine.{with_flag_any};
+ghost use Rattle.cs_pending.specs.cs_net.Combine.{with_flag_any};
 ghost use Rattle.cs_store.specs.Written.{optional_bytes};
 ghost use Rattle.cs_opening.specs.Steps.{IsLeading, IsNetTo};
 

@@ -13,6 +13,6 @@ pub mod Steps
 pub use Rattle.cs_apply.specs.Spots
 pub use Rattle.cs_apply.specs.NormalTasks
 pub use Rattle.cs_apply.specs.Tasks
-pub mod cs_group
+pub mod cs_net
 pub mod cs_normal
 pub mod cs_store

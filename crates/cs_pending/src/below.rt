@@ -2,4 +2,4 @@
 
 pub use cs_apply::below::{RowStore, StoreFault, StoredBody, commits, whole_row};
 pub use cs_group::below::Normal;
-pub use cs_group::push_net;
+pub use cs_net::push_net;

@@ -4,7 +4,7 @@
 //! and refuse by the first fault that holds. For a replica above, `standing_at` reads what stands at a place and what stood
 //! there before what is pending, and `Settling` gathers the edits of several places for one commit; `lent`, `copied` and `undone`
 //! are of rows or none in their bytes.
-//! The crate stands on stores (`cs_store`), on net changes (`cs_group`) and on the places of tables (`cs_apply`). `laws` says
+//! The crate stands on stores (`cs_store`), on net changes (`cs_net`) and on the places of tables (`cs_apply`). `laws` says
 //! that a store shows one view, and that an edit leads to one view or has one fault. Its tests stand in `cs_pending_tests`.
 #![tactic(auto)]
 

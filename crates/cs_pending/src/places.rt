@@ -10,7 +10,7 @@ ghost use Rattle.cs_apply.specs.cs_store.Written.{optional_bytes};
 ghost use Rattle.cs_pending.specs.View.{direct_net, undo};
 
 use cs_change::{Change, Scratch, put_set_columns, spell_change};
-use cs_group::net_change;
+use cs_net::net_change;
 use cs_record::{RecordBuf, Row, RowBuf};
 use cs_value::{Memory, TableDef};
 use std::alloc::Global;

@@ -17,7 +17,7 @@ use Rattle.cs_conflict.specs.declared.kind.Kind.{Kind}
 use Rattle.cs_conflict.specs.declared.kind.Kind.TheVariants.{NotFound}
 use Rattle.cs_conflict.specs.declared.wish.Wish.{Wish}
 use Rattle.cs_conflict.specs.declared.wish.Wish.TheVariants.{Keep, Take, Stop}
-use Rattle.cs_group.specs.Combine.{with_flag_any}
+use Rattle.cs_net.specs.Combine.{with_flag_any}
 use Rattle.cs_apply.specs.Applies.{IsConflictOf}
 use Rattle.cs_apply.specs.Spots.{by_test}
 use Rattle.cs_apply.specs.Tasks.{Task}

@@ -11,7 +11,7 @@ use Rattle.cs_change.specs.Laws.{NetTakes}
 use Rattle.cs_change.specs.Net.{net}
 use Rattle.cs_change.specs.Spelling.{FitsChange}
 use Rattle.cs_change.specs.declared.change.Change.{Change}
-use Rattle.cs_group.specs.Combine.{with_flag_any}
+use Rattle.cs_net.specs.Combine.{with_flag_any}
 use Rattle.cs_normal.specs.Normal.{IsNormalChangeset, change_of}
 use Rattle.cs_normal.specs.State.{AppliedIsNet, DefinedIsApplied, IsApplied, IsDefinedOn, IsStateOf, MayStandAt, OneKeyStands, State}
 use Rattle.cs_normal.specs.declared.normal.TableChanges.{TableChanges}

@@ -13,7 +13,7 @@ use Rattle.cs_change.specs.Listed.{listed}
 use Rattle.cs_change.specs.Net.{net}
 use Rattle.cs_change.specs.Normal.{IsNormal}
 use Rattle.cs_change.specs.declared.change.Change.{Change}
-use Rattle.cs_group.specs.Combine.{with_flag_any}
+use Rattle.cs_net.specs.Combine.{with_flag_any}
 use Rattle.cs_keyed.specs.Laws.{BytesTellKeys}
 use Rattle.cs_normal.specs.Laws.{SetColumnsFit}
 use Rattle.cs_normal.specs.State.{IsApplied, IsStateOf, MayStandAt, State}

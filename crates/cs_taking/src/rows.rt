@@ -6,13 +6,13 @@ ghost use Rattle.cs_change.specs.Action.{action, action_any};
 ghost use Rattle.cs_change.specs.Listed.{listed};
 ghost use Rattle.cs_change.specs.Net.{net};
 ghost use Rattle.cs_conflict.specs.Conflict.{replaced};
-ghost use Rattle.cs_group.specs.Combine.{with_flag_any};
+ghost use Rattle.cs_net.specs.Combine.{with_flag_any};
 ghost use Rattle.cs_normal.specs.Normal.{change_of};
 ghost use Rattle.cs_pending.specs.View.{undo};
 ghost use Rattle.cs_position.specs.Shows.{flown};
 
 use cs_change::{Change, ChangesBuf, Scratch, put_set_columns};
-use cs_group::net_into;
+use cs_net::net_into;
 use cs_normal::Normal;
 use cs_pending::{copied, lent, undone};
 use cs_record::{Row, RowBuf};
