@@ -1,5 +1,6 @@
 use Rattle.std.proofs.Common.{◌≡◌, ◌<◌, length, refl, sym, ap, ◌∙◌, arith}
 use Rattle.cs_apply.specs.Slots.{slot_at}
+use Rattle.cs_apply.proofs.Ahead.{none_sought}
 use Rattle.cs_apply.proofs.Numbering.{has_first, members_within}
 use Rattle.cs_apply.proofs.Placing.{started, one_more}
 use Rattle.cs_apply.proofs.places.find_groups.Goals as goal
@@ -14,20 +15,11 @@ loop-number-init g c = (
       c.in_ok-places.ensures.empty.0 c.in_ok-places.ensures.empty.1 c.in_ok-places.ensures.empty.2
       (c.in_ok-places.ensures.numbers.0 ∙ (ap length c.as_slice.ensures ∙ c.requires.changes)) c.in_ok-places.ensures.numbers.1,
   λ honest before holds. refl,
+  none_sought c.args.catalog.now c.args.tasks.now.places c.args.groups.now _ _ c.in_ok-sought.ensures,
 )
 
-pub bounds-group-0 : goal.bounds-group-0
-bounds-group-0 g c =
-    let less : c.loop-number.number < length c.args.groups.now = omega (arith, c.loop-number-test.true, c.len-number-end.ensures) in
-    let some = has_first c.args.tasks.now.places c.args.groups.now c.requires.groups c.loop-number.number less in
-    let is = ap length c.group-group.ensures in
-    omega (arith, some, is)
-
-pub find_stored-requires-clause-within : goal.find_stored-requires-clause-within
-find_stored-requires-clause-within g c =
-    let less : c.loop-number.number < length c.args.groups.now = omega (arith, c.loop-number-test.true, c.len-number-end.ensures) in
-    let some = has_first c.args.tasks.now.places c.args.groups.now c.requires.groups c.loop-number.number less in
-    rw c.group-group.ensures (members_within c.args.tasks.now.places c.args.groups.now c.requires.groups c.loop-number.number less 0 0 some)
+pub find_stored-requires : goal.find_stored-requires
+find_stored-requires g c = c.in_ok-place.ensures.sought.1
 
 pub returns-in_err-stored-clause-read_rightly : goal.returns-in_err-stored-clause-read_rightly
 returns-in_err-stored-clause-read_rightly g c = λ honest before holds.
@@ -58,7 +50,8 @@ pub loop-number-preserved : goal.loop-number-preserved
 loop-number-preserved g c =
     let reads = c.find_stored.ensures.reads in
     let less : c.loop-number.number < length c.args.groups.now = omega (arith, c.loop-number-test.true, c.len-number-end.ensures) in
-    let is = c.group-group.ensures in (
+    let is = c.group-group.ensures in
+    let here = c.in_ok-stored.ensures.slot in (
       (λ honest. c.loop-number.invariant.0 (reads.was_honest honest)),
       (λ honest. reads.same honest ∙ c.loop-number.invariant.1 (reads.was_honest honest)),
       (λ honest left may. c.loop-number.invariant.2 (reads.was_honest honest) left (reads.crash honest left may)),
@@ -66,12 +59,13 @@ loop-number-preserved g c =
       one_more c.args.tasks.now.places c.args.groups.now c.requires.groups c.args.tasks.now.changes _ _
           (λ slot seen honest. seen (reads.was_honest honest))
           c.loop-number.number (slot_at c.in_ok-stored.stored) c.loop-number.places c.put_place.new.places less c.loop-number.invariant.4
-          (rw is at c.in_ok-stored.ensures.slot)
+          (here.0 ∙ c.in_ok-place.ensures.sought.0, here.1, here.2)
           (λ honest before holds. c.in_ok-stored.ensures.found honest before (rw (c.loop-number.invariant.1 (reads.was_honest honest)) holds))
           (rw (is, c.as_slice-in-loop-number.ensures) at c.in_ok-put_place.ensures),
       (λ honest before holds.
           c.in_ok-stored.ensures.read_rightly honest before (rw (c.loop-number.invariant.1 (reads.was_honest honest)) holds)
           ∙ c.loop-number.invariant.5 (reads.was_honest honest) before holds),
+      c.in_ok-place.ensures.so_far,
     )
 
 pub returns-clause-found : goal.returns-clause-found
