@@ -115,13 +115,6 @@ impl PlaceEdits {
         })
     }
 
-    /// No edit, with room for as many as these.
-    pub fn with_room_for(alloc: Global, edits: &PlaceEdits) -> Result<PlaceEdits, AllocError>
-        ensures { IfOk result (λ made. made ≡ []) }
-    {
-        PlaceEdits::with_capacity(alloc, edits.spots.len(), edits.bytes.len())
-    }
-
     /// How many edits there are.
     #[inline(always)]
     pub fn len(&self) -> usize

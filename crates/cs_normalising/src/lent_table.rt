@@ -1,6 +1,6 @@
 //! A table's changes in normal form that stay in the bytes where they were read.
 
-ghost use Rattle.std.specs.Prelude.{◌≡◌, ◌≢◌, ◌<◌, [], IfOk, MatchBool, length, map, slice_index};
+ghost use Rattle.std.specs.Prelude.{◌≡◌, ◌≢◌, ◌<◌, [], IfOk, MatchBool, MatchOption, Some, length, map, slice_index};
 ghost use Rattle.std.specs.List.{All};
 ghost use Rattle.std.specs.Map.{keys_of};
 ghost use Rattle.cs_order.specs.Order.{key_at};
@@ -13,11 +13,12 @@ use crate::key_order::KeyOrder;
 use crate::lent_list::LentList;
 use crate::written_forms::write_forms;
 use cs_normal::TableChanges;
-use cs_normal::below::{Change, ChangesBuf, KeyedChanges, Scratch, lend_form};
+use cs_normal::below::{Change, ChangesBuf, KeyedChanges, Scratch, all_normal, lend_form};
 use cs_order::{Keys, PickedKeys};
 use cs_value::{Marks, Memory, Text};
 use std::alloc::Global;
 use std::marker::Model;
+use std::slice;
 
 /// A table's changes as read, the key of each, and the order of the keys.
 #[derive(Drop)]
@@ -64,6 +65,21 @@ fn form_at<'b>(
     lend_form(marks, change.again(), scratch, room)
 }
 
+/// The change there in the order of the keys, where it is found to be its own normal form.
+#[inline(always)]
+fn normal_at<'b, 'a>(marks: &[bool], lent: &'b Ordered<'_, 'a>, at: usize) -> Option<&'b Change<'a>>
+    requires lent { IsOrderedBy marks.now lent.now }
+    requires there { at < length lent.now.order }
+    ensures { MatchOption result (Unit {0})
+        (λ change. (nth_entry (ordered_entries marks.now lent.now) at).1 ≡ Some change.now) }
+{
+    let change = &lent.changes.as_slice()[lent.order.place(at)];
+    if all_normal(marks, slice::from_ref(change)) {
+        return Some(change);
+    }
+    None
+}
+
 /// Whether a change is left in its normal form.
 pub(crate) fn is_left(alloc: Global, marks: &[bool], lent: &Ordered<'_, '_>) -> Result<bool, Memory>
     requires { IsOrderedBy marks.now lent.now }
@@ -93,7 +109,7 @@ fn pick_keys(alloc: Global, keys: Keys, order: &KeyOrder, places: &[usize]) -> R
 }
 
 impl<'b, 'a> LentTable<'b, 'a> {
-    ghost use Rattle.std.specs.Prelude.{◌≡◌, ◌<◌, IfOk, length, map, slice_index_or};
+    ghost use Rattle.std.specs.Prelude.{◌≡◌, ◌<◌, IfOk, MatchOption, Some, length, map, slice_index_or};
     ghost use Rattle.std.specs.List.{All};
     ghost use Rattle.std.specs.Map.{keys_of};
     ghost use Rattle.cs_order.specs.Order.{key_at};
@@ -137,6 +153,17 @@ impl<'b, 'a> LentTable<'b, 'a> {
         ensures { result.now ≡ (nth_entry self.now.entries at).0 }
     {
         self.lent.keys.get(self.lent.order.place(at))
+    }
+
+    /// The change there, in the order of the keys, lent where it was read, if it is found to be its own normal form; else `None`,
+    /// and `form` brings it into that.
+    #[inline(always)]
+    pub fn normal(&self, at: usize) -> Option<&Change<'a>>
+        requires { at < length self.now.entries }
+        ensures { MatchOption result (Unit {0})
+            (λ change. (nth_entry self.now.entries at).1 ≡ Some change.now) }
+    {
+        normal_at(self.marks.as_slice(), &self.lent, at)
     }
 
     /// The normal form of the change there, in the order of the keys, if one is left: the change itself, in the bytes where it
