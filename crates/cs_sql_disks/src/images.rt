@@ -1,6 +1,8 @@
 //! All that a store of one table shows, as bytes.
 
+use crate::disks::{Disk, open_again};
 use cs_store::{MetaName, RowStore, StoreFault, StoredBody};
+use sqlite::Files;
 use std::alloc::{AllocError, Global};
 
 /// Writes bodies behind their keys.
@@ -48,11 +50,19 @@ fn put_log<S: RowStore>(image: &mut Vec<u8>, store: &mut S) -> Result<(), StoreF
 }
 
 /// All that the store shows.
-pub(crate) fn image<S: RowStore>(alloc: Global, store: &mut S) -> Result<Vec<u8>, StoreFault> {
+pub fn image<S: RowStore>(alloc: Global, store: &mut S) -> Result<Vec<u8>, StoreFault> {
     let mut image = Vec::new(alloc);
     put_bodies(&mut image, &store.list(0)?)?;
     put_bodies(&mut image, &store.pend_list(0)?)?;
     put_values(&mut image, store)?;
     put_log(&mut image, store)?;
     Ok(image)
+}
+
+/// What a store shows in files after a stop.
+pub fn shown_again(alloc: Global, files: Files<Disk>) -> Option<Vec<u8>> {
+    match open_again(alloc, files) {
+        Ok(mut store) => image(alloc, &mut store).ok(),
+        Err(_) => None,
+    }
 }

@@ -1,0 +1,18 @@
+//! The one table of these stores.
+
+use cs_value::{Catalog, Items, Memory, TableDef, Text};
+use std::alloc::Global;
+
+fn tables(alloc: Global) -> Result<Vec<TableDef>, Memory> {
+    let mut tables = Vec::new(alloc);
+    tables.push(TableDef {
+        name: Text::from_string(String::from_str(alloc, "t1")?),
+        key_marks: Items::from_vec(vec![in alloc; true, false]?),
+    })?;
+    Ok(tables)
+}
+
+/// The catalog of `t1(a key, b)`.
+pub fn catalog(alloc: Global) -> Option<Catalog> {
+    Catalog::new(tables(alloc).ok()?).ok()
+}
