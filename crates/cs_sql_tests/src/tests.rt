@@ -2,14 +2,11 @@
 //! SQL, one of them without `pending` and others that are no store's; and a stop at each call that a file gets, after which the
 //! file opens as before a commit or after it.
 
-ghost use Rattle.std.specs.Prelude.{◌≡◌, false};
-
 use cs_edits::{PlaceEdit, PlaceEdits};
 use cs_sql::SqlStore;
+use cs_sql_disks::{Calls, Disk, Filed, catalog, files_behind, open_again, open_new};
 use cs_store::*;
-use cs_value::{Catalog, Items, TableDef, Text};
-use sqlite::{Alter, Connection, Error, FileStore, Files, MemStore, Options};
-use sqlite_disk::{Crash, Fuse, Memory};
+use sqlite::{Alter, Connection, Error, Files, MemStore};
 use std::alloc::{AllocError, Global};
 
 /// A table's number, a key, and the body that is set there, or none.
@@ -300,21 +297,6 @@ fn in_memory(alloc: Global) -> Result<bool, StoreFault> {
     Ok(image(alloc, &mut store)?.as_slice() == NOTHING_SHOWN && shows_commits(alloc, &mut store)?)
 }
 
-/// A table of two columns, of which the first is the key.
-fn tables(alloc: Global) -> Result<Vec<TableDef>, AllocError> {
-    let mut tables = Vec::new(alloc);
-    tables.push(TableDef {
-        name: Text::from_string(String::from_str(alloc, "t1")?),
-        key_marks: Items::from_vec(vec![in alloc; true, false]?),
-    })?;
-    Ok(tables)
-}
-
-/// The catalog of that table.
-fn catalog(alloc: Global) -> Option<Catalog> {
-    Catalog::new(tables(alloc).ok()?).ok()
-}
-
 /// The key 1, another, and NULL.
 const KEY: &[u8] = &[1, 0, 0, 0, 0, 0, 0, 0, 1];
 
@@ -494,46 +476,6 @@ fn a_database_that_was_found_is_judged(rt: HostRuntime) {
     );
 }
 
-type Disk = Fuse<Memory>;
-
-type Filed = SqlStore<FileStore<Disk>>;
-
-/// What the files are, once a connection is let go.
-fn files_of(conn: Connection<FileStore<Disk>>) -> Files<Disk> {
-    conn.into_store().close()
-}
-
-/// A store over a connection that was opened, or the files again.
-fn adopted(alloc: Global, conn: Connection<FileStore<Disk>>) -> Result<Filed, Files<Disk>>
-    requires { conn.in_transaction ≡ false }
-{
-    match SqlStore::adopt(alloc, conn) {
-        Ok(store) => Ok(store),
-        Err((conn, _)) => Err(files_of(conn)),
-    }
-}
-
-/// A store in new files, each of which stops after so many calls, or the files again.
-fn open_new(alloc: Global, log_calls: u64, db_calls: u64) -> Result<Filed, Files<Disk>> {
-    let log = Fuse::new(Memory::new(alloc), log_calls);
-    let db = Fuse::new(Memory::new(alloc), db_calls);
-    match Connection::open_files(alloc, Files { log, db }, Options::new(7)) {
-        Ok(conn) => adopted(alloc, conn),
-        Err((_, left)) => Err(left.into_files()),
-    }
-}
-
-/// A store in files after a stop, which go back to what was synced.
-fn open_again(alloc: Global, files: Files<Disk>) -> Result<Filed, Files<Disk>> {
-    let Files { mut log, mut db } = files;
-    log.crash();
-    db.crash();
-    match Connection::open_files(alloc, Files { log, db }, Options::new(8)) {
-        Ok(conn) => adopted(alloc, conn),
-        Err((_, left)) => Err(left.into_files()),
-    }
-}
-
 /// How many of two commits succeed.
 fn commit_both(alloc: Global, store: &mut Filed) -> Result<usize, AllocError> {
     if store.commit(&first_batch(alloc)?).is_err() {
@@ -546,15 +488,11 @@ fn commit_both(alloc: Global, store: &mut Filed) -> Result<usize, AllocError> {
 }
 
 /// How many of two commits succeed in new files that stop, and what the files are then.
-fn stopped(
-    alloc: Global,
-    log_calls: u64,
-    db_calls: u64,
-) -> Result<(usize, Files<Disk>), AllocError> {
-    match open_new(alloc, log_calls, db_calls) {
+fn stopped(alloc: Global, calls: Calls) -> Result<(usize, Files<Disk>), AllocError> {
+    match open_new(alloc, calls) {
         Ok(mut store) => {
             let done = commit_both(alloc, &mut store)?;
-            Ok((done, files_of(store.close())))
+            Ok((done, files_behind(store)))
         }
         Err(files) => Ok((0, files)),
     }
@@ -578,8 +516,8 @@ fn shown_after(done: usize) -> &'static [u8] {
 }
 
 /// How many of two commits succeeded before a stop, if the files then open as before the next or after it.
-fn survives(alloc: Global, log_calls: u64, db_calls: u64) -> Option<usize> {
-    let (done, files) = stopped(alloc, log_calls, db_calls).ok()?;
+fn survives(alloc: Global, calls: Calls) -> Option<usize> {
+    let (done, files) = stopped(alloc, calls).ok()?;
     let shown = shown_again(alloc, files)?;
     let before = shown.as_slice() == shown_after(done);
     let after = shown.as_slice() == shown_after(done.saturating_add(1));
@@ -589,7 +527,7 @@ fn survives(alloc: Global, log_calls: u64, db_calls: u64) -> Option<usize> {
 /// Whether files survive a stop of the log behind each number of calls, until none comes.
 fn survive_in_log(alloc: Global) -> bool {
     for calls in 0..1000 {
-        match survives(alloc, calls, u64::MAX) {
+        match survives(alloc, Calls::of_log(calls)) {
             Some(2) => return calls > 10,
             Some(_) => {}
             None => return false,
@@ -601,7 +539,7 @@ fn survive_in_log(alloc: Global) -> bool {
 /// The same of the database file.
 fn survive_in_db(alloc: Global) -> bool {
     for calls in 0..1000 {
-        match survives(alloc, u64::MAX, calls) {
+        match survives(alloc, Calls::of_db(calls)) {
             Some(2) => return calls > 1,
             Some(_) => {}
             None => return false,
