@@ -43,6 +43,22 @@ impl<'b, 'a> Lends for Lent<'b, 'a> {
     }
 }
 
+impl<'b, 'a> Lent<'b, 'a> {
+    /// The first byte of the change's record.
+    #[inline(always)]
+    pub(crate) fn first_byte(&self) -> u8 {
+        let bytes = match self.change {
+            Change::Insert { new_row, .. } => new_row.bytes(),
+            Change::Delete { old_row, .. } => old_row.bytes(),
+            Change::Update { old_fields, .. } => old_fields.bytes(),
+        };
+        match bytes {
+            [first, ..] => *first,
+            [] => 0,
+        }
+    }
+}
+
 /// Lends each of these changes, whose changeset has this number, behind those that are lent already.
 pub(crate) fn lend_each<'b, 'a>(
     number: usize,
