@@ -79,3 +79,44 @@ fn sorts_as_std_does(rt: HostRuntime) -> Result<(), Fail> {
     }
     Ok(())
 }
+
+/// So many words, whose ranks jump about among so many, no rank twice where the step shares no divisor with these.
+fn made_once(
+    alloc: Global,
+    count: usize,
+    ranks: usize,
+    step: usize,
+) -> Result<Vec<usize>, AllocError> {
+    let mut words = Vec::with_capacity(alloc, count)?;
+    for at in 0..count {
+        let rank = at.wrapping_mul(step) % ranks.max(1);
+        words.push((rank << 18) | at)?;
+    }
+    Ok(words)
+}
+
+/// Whether such words are sorted as std's sort does it.
+fn sorts_once(alloc: Global, count: usize, ranks: usize, step: usize) -> Result<bool, AllocError> {
+    let mut words = made_once(alloc, count, ranks, step)?;
+    let mut expected = Vec::from_slice(alloc, words.as_slice())?;
+    expected.sort_unstable();
+    sort(alloc, &mut words, 18);
+    Ok(words == expected)
+}
+
+// Too few words to note their places, and as many as it takes; no rank left out; as many left out as there are words, and more;
+// words in order already; one rank that comes twice, at the last word; and the most words whose places are noted, and one more.
+#[test]
+fn sorts_ranks_that_come_once(rt: HostRuntime) -> Result<(), Fail> {
+    let alloc = rt.alloc();
+    assert!(rt; sorts_once(alloc, 63, 64, 7)?);
+    assert!(rt; sorts_once(alloc, 64, 64, 7)?);
+    assert!(rt; sorts_once(alloc, 10_000, 10_000, 7_919)?);
+    assert!(rt; sorts_once(alloc, 1_000, 2_001, 7)?);
+    assert!(rt; sorts_once(alloc, 1_000, 2_003, 7)?);
+    assert!(rt; sorts_once(alloc, 1_000, 1_000, 1)?);
+    assert!(rt; sorts_once(alloc, 1_001, 1_000, 7)?);
+    assert!(rt; sorts_once(alloc, 200_000, 200_003, 7_919)?);
+    assert!(rt; sorts_once(alloc, 200_001, 200_003, 7_919)?);
+    Ok(())
+}
