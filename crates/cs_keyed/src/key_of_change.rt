@@ -1,11 +1,11 @@
 //! The bytes of the keys of changes that stay in their bytes.
 
-ghost use Rattle.std.specs.Prelude.{◌≡◌, ◌++◌, IfOk};
+ghost use Rattle.std.specs.Prelude.{◌≡◌, ◌++◌, Bool, IfOk, List};
 ghost use Rattle.std.specs.List.{list_all};
 ghost use Rattle.cs_value.specs.Catalog.{is_set, marked};
 ghost use Rattle.cs_change.specs.cs_record.Spelling.{Extends};
 ghost use Rattle.cs_keyed.specs.Changes.{key_bytes};
-ghost use Rattle.cs_keyed.specs.NormalForm.{HaveSameKeys, change_bytes, has_key, marked_fields};
+ghost use Rattle.cs_keyed.specs.NormalForm.{HaveSameKeys, change_bytes, change_key, has_key, marked_fields};
 
 use cs_change::Change;
 use cs_change::below::{Cell, NULL, Record, Row};
@@ -86,6 +86,20 @@ pub fn put_record_key(
         fields = more_fields;
     }
     Ok(whole)
+}
+
+/// The record that holds a change's key: the only row of an INSERT or a DELETE, and the old fields of an UPDATE. So there is one
+/// way through the columns for all three.
+#[inline(always)]
+#[tactic(auto, using(crate::proofs::Lent::row_key))]
+pub(crate) fn key_record<'a>(change: &Change<'a>) -> Record<'a>
+    ensures { (marks : List Bool) → marked_fields marks result ≡ change_key marks change.now }
+{
+    match change {
+        Change::Insert { new_row, .. } => Record::of_row(new_row),
+        Change::Delete { old_row, .. } => Record::of_row(old_row),
+        Change::Update { old_fields, .. } => old_fields.again(),
+    }
 }
 
 /// Appends the bytes of a change's key, and tells whether none of its values is NULL. An `Err` may leave a part of it

@@ -4,6 +4,7 @@ ghost use Rattle.std.specs.Prelude.{◌≡◌, MatchOption};
 ghost use Rattle.cs_keyed.specs.Changes.{key_bytes};
 ghost use Rattle.cs_keyed.specs.NormalForm.{change_bytes, marked_fields};
 
+use crate::key_of_change::key_record;
 use cs_change::Change;
 use cs_change::below::{Cell, Record};
 
@@ -38,13 +39,8 @@ pub fn lend_record_key<'a>(marks: &[bool], fields: &Record<'a>) -> Option<&'a [u
 /// The bytes of a change's key, lent where its key columns are the first ones and are defined, which is nearly always; else
 /// `None`, and `put_key` puts them together. Marks behind the last key column are to be left out (`key_front`).
 #[inline(always)]
-#[tactic(auto, using(crate::proofs::Lent::row_key))]
 pub fn lend_key<'a>(marks: &[bool], change: &Change<'a>) -> Option<&'a [u8]>
     ensures { MatchOption result (Unit {0}) (λ key. key.now ≡ change_bytes marks.now change.now) }
 {
-    match change {
-        Change::Insert { new_row, .. } => lend_record_key(marks, &Record::of_row(new_row)),
-        Change::Delete { old_row, .. } => lend_record_key(marks, &Record::of_row(old_row)),
-        Change::Update { old_fields, .. } => lend_record_key(marks, old_fields),
-    }
+    lend_record_key(marks, &key_record(change))
 }
