@@ -2,13 +2,13 @@
 
 ghost use Rattle.std.specs.Prelude.{◌≡◌, ◌++◌, Bool, IfOk, List};
 ghost use Rattle.std.specs.List.{list_all};
-ghost use Rattle.cs_value.specs.Catalog.{is_set, marked};
+ghost use Rattle.cs_value.specs.Catalog.{is_set};
 ghost use Rattle.cs_change.specs.cs_record.Spelling.{Extends};
 ghost use Rattle.cs_keyed.specs.Changes.{key_bytes};
 ghost use Rattle.cs_keyed.specs.NormalForm.{HaveSameKeys, change_bytes, change_key, has_key, marked_fields};
 
 use cs_change::Change;
-use cs_change::below::{Cell, NULL, Record, Row};
+use cs_change::below::{Cell, NULL, Record};
 use cs_value::Memory;
 
 /// The marks up to the last key column: the columns behind it are in no key, and needn't be looked at.
@@ -26,28 +26,18 @@ pub fn key_front(marks: &[bool]) -> &[bool]
     front
 }
 
-/// Appends the bytes of a row's key, and tells whether none of its values is NULL.
+/// The record that holds a change's key: the only row of an INSERT or a DELETE, and the old fields of an UPDATE. So there is one
+/// way through the columns for all three.
 #[inline(always)]
-fn put_row_key(marks: &[bool], row: &Row<'_>, out: &mut Vec<u8>) -> Result<bool, Memory>
-    ensures ok { IfOk result (λ whole. (out.new.items ≡ out.old.items ++ key_bytes (marked marks.now row.now))
-        × (whole ≡ list_all is_set (marked marks.now row.now))) }
-    ensures kept { Extends out.old.items out.new.items }
+#[tactic(auto, using(crate::proofs::Lent::row_key))]
+pub(crate) fn key_record<'a>(change: &Change<'a>) -> Record<'a>
+    ensures { (marks : List Bool) → marked_fields marks result ≡ change_key marks change.now }
 {
-    let mut whole = true;
-    let mut marks = marks;
-    let mut row = row.again();
-    while let Some((mark, more_marks)) = marks.split_first() {
-        let Some((cell, more_row)) = row.split_first() else {
-            break;
-        };
-        if *mark {
-            cell.append(out)?;
-            whole = whole && cell.is_set();
-        }
-        marks = more_marks;
-        row = more_row;
+    match change {
+        Change::Insert { new_row, .. } => Record::of_row(new_row),
+        Change::Delete { old_row, .. } => Record::of_row(old_row),
+        Change::Update { old_fields, .. } => old_fields.again(),
     }
-    Ok(whole)
 }
 
 /// Appends the bytes of the key that a record holds, and tells whether none of its values is NULL; an undefined field
@@ -88,20 +78,6 @@ pub fn put_record_key(
     Ok(whole)
 }
 
-/// The record that holds a change's key: the only row of an INSERT or a DELETE, and the old fields of an UPDATE. So there is one
-/// way through the columns for all three.
-#[inline(always)]
-#[tactic(auto, using(crate::proofs::Lent::row_key))]
-pub(crate) fn key_record<'a>(change: &Change<'a>) -> Record<'a>
-    ensures { (marks : List Bool) → marked_fields marks result ≡ change_key marks change.now }
-{
-    match change {
-        Change::Insert { new_row, .. } => Record::of_row(new_row),
-        Change::Delete { old_row, .. } => Record::of_row(old_row),
-        Change::Update { old_fields, .. } => old_fields.again(),
-    }
-}
-
 /// Appends the bytes of a change's key, and tells whether none of its values is NULL. An `Err` may leave a part of it
 /// there.
 #[inline(always)]
@@ -110,9 +86,5 @@ pub fn put_key(marks: &[bool], change: &Change<'_>, out: &mut Vec<u8>) -> Result
         × (whole ≡ has_key marks.now change.now)) }
     ensures kept { Extends out.old.items out.new.items }
 {
-    match change {
-        Change::Insert { new_row, .. } => put_row_key(marks, new_row, out),
-        Change::Delete { old_row, .. } => put_row_key(marks, old_row, out),
-        Change::Update { old_fields, .. } => put_record_key(marks, old_fields, out),
-    }
+    put_record_key(marks, &key_record(change), out)
 }
