@@ -3,7 +3,7 @@ use Rattle.std.proofs.Common.{◌≡◌, ◌≢◌, ◌⊎◌, inl, inr, ◌<◌
 use Rattle.std.proofs.lemmas.List.{get_or_append_left, length-append}
 use Rattle.std.proofs.Math.Seq.{get_or-append_seam}
 use Rattle.cs_value.specs.declared.catalog.TableDef.{TableDef}
-use Rattle.cs_order.specs.Order.{Keys, key_at}
+use Rattle.cs_tasks.specs.cs_order.Order.{Keys, key_at}
 use Rattle.cs_apply.specs.Sought.{AreSought, IsSought}
 use Rattle.cs_apply.specs.Spots.{by_test}
 use Rattle.cs_apply.specs.Waiting.{first_of}

@@ -1,7 +1,7 @@
 -- Places that are to be looked up.
 use Rattle.std.specs.Prelude.{◌≡◌, ℕ, ◌<◌, ◌^◌, ◌+◌, List, [], length, slice_index_or}
 use Rattle.cs_value.specs.declared.catalog.TableDef.{TableDef}
-use Rattle.cs_order.specs.Order.{Keys, key_at}
+use Rattle.cs_tasks.specs.cs_order.Order.{Keys, key_at}
 use Rattle.cs_apply.specs.Found.{place_bytes}
 use Rattle.cs_apply.specs.Waiting.{first_of}
 use Rattle.cs_apply.specs.declared.sought.SoughtPlace.{SoughtPlace}

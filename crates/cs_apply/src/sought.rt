@@ -6,15 +6,14 @@
 
 ghost use Rattle.std.specs.Prelude.{◌≡◌, ◌<◌, ◌≤◌, length, Some, OnOk, slice_get};
 ghost use Rattle.std.specs.List.{All};
-ghost use Rattle.cs_change.specs.declared.change.Change.{Change};
-ghost use Rattle.cs_order.specs.Groups.{IsGrouping};
-ghost use Rattle.cs_order.specs.Order.{key_at};
+ghost use Rattle.cs_tasks.specs.cs_change.Change.{Change};
+ghost use Rattle.cs_tasks.specs.cs_order.Groups.{IsGrouping};
+ghost use Rattle.cs_tasks.specs.cs_order.Order.{key_at};
 ghost use Rattle.cs_apply.specs.Found.{ArePlacesOf, IsPlaceOf, place_bytes};
 ghost use Rattle.cs_apply.specs.Sought.{AreSought, IsSought};
 
-use crate::tasks::{Tasks, key_in};
-use cs_order::Groups;
-use cs_store::below::{key_front, lend_key};
+use cs_tasks::below::{Groups, key_front, lend_key};
+use cs_tasks::{Tasks, key_in};
 use cs_value::{Catalog, Memory};
 use std::alloc::Global;
 
@@ -113,8 +112,8 @@ pub(crate) struct SoughtPlaces<'t> {
 impl<'t> SoughtPlaces<'t> {
     ghost use Rattle.std.specs.Prelude.{◌≡◌, ◌<◌, [], length, IfOk, OnOk, slice_index_or};
     ghost use Rattle.std.specs.List.{All};
-    ghost use Rattle.cs_order.specs.Groups.{IsGrouping};
-    ghost use Rattle.cs_order.specs.Order.{key_at};
+    ghost use Rattle.cs_tasks.specs.cs_order.Groups.{IsGrouping};
+    ghost use Rattle.cs_tasks.specs.cs_order.Order.{key_at};
     ghost use Rattle.cs_apply.specs.Found.{ArePlacesOf};
     ghost use Rattle.cs_apply.specs.Sought.{AreSought, IsSought};
     ghost use Rattle.cs_apply.specs.Waiting.{first_of};

@@ -4,7 +4,7 @@ use Rattle.std.specs.Prelude.{◌⊎◌}
 use Rattle.cs_value.specs.Key.{Place}
 use Rattle.cs_apply.specs.NormalTasks.{found_at, found_is, of_one, tasks_are}
 use Rattle.cs_apply.specs.Spots.{by_test, same_spot, spot_is}
-use Rattle.cs_apply.specs.Tasks.{Task, tasks}
+use Rattle.cs_apply.specs.cs_tasks.Tasks.{Task, tasks}
 use Rattle.cs_change.specs.Action.{action_any, after_any}
 use Rattle.cs_change.specs.Net.{net}
 use Rattle.cs_change.specs.declared.change.Change.{Change}

@@ -1,7 +1,7 @@
 -- How a replica pulls the entries of the log: each is merged with its own rows over the log's tables (profile of this project).
 use Rattle.std.specs.Prelude.{◌≡◌, ◌⊎◌, ◌+◌, ℕ, zero, suc, List, [], ◌∷◌, Some, None, Contains, slice_get}
 use Rattle.cs_value.specs.declared.catalog.TableDef.{TableDef}
-use Rattle.cs_apply.specs.Tasks.{tasks}
+use Rattle.cs_apply.specs.cs_tasks.Tasks.{tasks}
 use Rattle.cs_change.specs.Action.{action_any}
 use Rattle.cs_change.specs.Net.{net}
 use Rattle.cs_conflict.specs.declared.conflict.Resolution.{Resolution}

@@ -1,5 +1,5 @@
 use Rattle.std.proofs.Common.{sym, ◌∙◌}
-use Rattle.cs_record.specs.OneSpelling.{one_spelled_row}
+use Rattle.cs_tasks.specs.cs_record.OneSpelling.{one_spelled_row}
 use Rattle.cs_apply.proofs.slots.row_of_body.Goals as goal
 
 pub returns : goal.returns

@@ -1,7 +1,8 @@
 use Rattle.std.proofs.Common.{◌∙◌, sym, ap, refl}
 use Rattle.std.proofs.lemmas.Option.{slice_get_read}
 use Rattle.cs_apply.specs.Found.{place_bytes}
-use Rattle.cs_apply.proofs.Reading.{four_long, key_behind, same_key}
+use Rattle.cs_tasks.specs.Facts.{same_key}
+use Rattle.cs_apply.proofs.Reading.{four_long, key_behind}
 use Rattle.cs_apply.proofs.sought.key_of.Goals as goal
 
 pub returns-in-Some : goal.returns-in-Some

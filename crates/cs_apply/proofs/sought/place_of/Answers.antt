@@ -1,6 +1,6 @@
 use Rattle.std.proofs.Common.{ℕ, Bool, List, ◌<◌, ◌∙◌, sym, ap, length, refl, arith}
 use Rattle.std.proofs.lemmas.Option.{slice_get_read}
-use Rattle.cs_store.specs.cs_keyed.NormalForm.{change_bytes}
+use Rattle.cs_tasks.specs.cs_keyed.NormalForm.{change_bytes}
 use Rattle.cs_apply.specs.Found.{marks_at, marks_or_none, place_bytes}
 use Rattle.std.proofs.lemmas.Grind.{get_or_default_zero}
 use Rattle.cs_value.specs.declared.catalog.TableDef.{TableDef}

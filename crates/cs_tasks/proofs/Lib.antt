@@ -1,0 +1,3 @@
+pub mod BlobFits
+pub mod Blobs
+pub mod Groups

@@ -1,0 +1,214 @@
+//! The changes that are applied, and where each stands.
+
+ghost use Rattle.std.specs.Prelude.{◌≡◌, ◌<◌, ◌≤◌, ◌+◌, ◌++◌, ◌∷◌, [], List, drop, length, map, option_map, OnOk, IfOk, IfErr, IfSome};
+ghost use Rattle.std.specs.List.{list_all};
+ghost use Rattle.cs_change.specs.Spelling.{marks_of};
+ghost use Rattle.cs_store.specs.cs_keyed.NormalForm.{HaveSameKeys, change_bytes, has_key};
+ghost use Rattle.cs_store.specs.States.{place_bytes};
+ghost use Rattle.cs_tasks.specs.Tasks.{Task, all_keyed, fits_table, table_of, task, tasks, tasks_at, one_if_none, skipped};
+ghost use Rattle.cs_tasks.specs.Found.{AreFound, AreGathered, TellsNullKey};
+
+use crate::change_list::{ChangeList, find_changes};
+use crate::fault::TasksFault;
+use cs_change::{Change, Changeset, Group};
+use cs_order::Keys;
+use cs_store::below::{KeysBuilder, key_front, same_shape};
+use cs_value::{Catalog, Memory, TableDef};
+use std::alloc::Global;
+
+/// How many bytes of a place name its table.
+const TABLE: usize = 4;
+
+/// How many bytes a place takes whose key is one integer.
+const PLACE: usize = 13;
+
+/// The changes of the groups that fit, in order.
+#[derive(Drop)]
+pub struct Tasks<'a> {
+    /// Each change.
+    pub changes: ChangeList<'a>,
+    /// For each change its table's place in the catalog.
+    pub tables: Vec<u32>,
+    /// The place of each change, as bytes: those of the table's place in the catalog, and then the key's.
+    pub places: Keys,
+    /// How many groups fit no table.
+    pub skipped: usize,
+}
+
+/// What is found of them, while it is gathered: places are written where they come to stand.
+#[derive(Drop)]
+pub(crate) struct TasksBuilder {
+    tables: Vec<u32>,
+    places: KeysBuilder,
+    skipped: usize,
+}
+
+/// Whether the group has the table's name, column count and key columns.
+fn fits(group: &Group<'_>, table: &TableDef) -> bool
+    ensures { result ≡ fits_table group.now table.now }
+{
+    group.name.as_str() == table.name.as_str()
+        && same_shape(group.marks.as_slice(), table.key_marks.as_slice())
+}
+
+/// The table that the group fits, if there is one, behind its place.
+#[tactic(auto, unfolding(crate::specs::Tasks::table_of))]
+pub(crate) fn find_table<'a>(group: &Group<'_>, catalog: &'a Catalog) -> Option<(u32, &'a TableDef)>
+    ensures place { option_map (λ found. found.0) result ≡ table_of group.now catalog.now }
+    ensures marks { IfSome result (λ found. marks_of group.now.marks ≡ found.1.now.key_marks) }
+{
+    let mut place = 0;
+    let mut rest = catalog.tables();
+    while let Some((table, more)) = rest.split_first() {
+        if fits(group, table) {
+            return Some((place, table));
+        }
+        place += 1;
+        rest = more;
+    }
+    None
+}
+
+/// How many changes of the group are applied: all of them where it fits a table, else none.
+pub(crate) fn count_of(catalog: &Catalog, group: &Group<'_>) -> usize
+    ensures { result ≡ length (tasks_at (table_of group.now catalog.now) group.now) }
+{
+    match find_table(group, catalog) {
+        None => 0,
+        Some(_) => group.changes.as_slice().len(),
+    }
+}
+
+/// No change, with room for so many.
+fn with_capacity(alloc: Global, count: usize) -> Result<TasksBuilder, Memory>
+    ensures { IfOk result (λ tasks. AreGathered tasks [] × (tasks.skipped ≡ 0)) }
+{
+    Ok(TasksBuilder {
+        tables: Vec::with_capacity(alloc, count)?,
+        places: KeysBuilder::with_capacity(alloc, count, count.saturating_mul(PLACE))?,
+        skipped: 0,
+    })
+}
+
+/// The key's bytes in those of a place.
+#[inline(always)]
+pub fn key_in(place: &[u8]) -> &[u8]
+    requires { 4 ≤ length place.now }
+    ensures { result.now ≡ drop 4 place.now }
+{
+    let (_, key) = place.split_at(TABLE);
+    key
+}
+
+/// Puts the place of a change behind the others, and tells whether none of the key's values is NULL. The marks are the
+/// group's, or begin as they do up to the last key column.
+fn put_place(
+    table: u32,
+    group: &Group<'_>,
+    marks: &[bool],
+    change: &Change<'_>,
+    places: &mut KeysBuilder,
+) -> Result<bool, Memory>
+    requires { HaveSameKeys marks.now (marks_of group.now.marks) }
+    ensures put { OnOk result (places.new
+        ≡ places.old ++ place_bytes table (change_bytes (marks_of group.now.marks) change.now) ∷ []) }
+    ensures whole { IfOk result (λ whole. whole ≡ has_key (marks_of group.now.marks) change.now) }
+{
+    places.push_of_behind(&table.to_be_bytes(), marks, change)
+}
+
+/// Puts a change behind the others.
+fn put_task(
+    table: u32,
+    group: &Group<'_>,
+    marks: &[bool],
+    change: &Change<'_>,
+    tasks: &mut TasksBuilder,
+) -> Result<(), TasksFault>
+    requires { HaveSameKeys marks.now (marks_of group.now.marks) }
+    ensures put { (before : List Task) → AreGathered tasks.old before
+        → OnOk result (AreGathered tasks.new (before ++ task table group.now change.now ∷ [])) }
+    ensures skipped { tasks.new.skipped ≡ tasks.old.skipped }
+    ensures fault { IfErr result (λ fault. TellsNullKey fault (has_key (marks_of group.now.marks) change.now)) }
+{
+    if !put_place(table, group, marks, change, &mut tasks.places)? {
+        return Err(TasksFault::NullKey);
+    }
+    tasks.tables.push(table)?;
+    Ok(())
+}
+
+/// Puts the changes of a group of this table behind the others.
+fn put_group(
+    table: u32,
+    group: &Group<'_>,
+    marks: &[bool],
+    tasks: &mut TasksBuilder,
+) -> Result<(), TasksFault>
+    requires { marks_of group.now.marks ≡ marks.now }
+    ensures put { (before : List Task) → AreGathered tasks.old before
+        → OnOk result (AreGathered tasks.new (before ++ map (task table group.now) group.now.changes)) }
+    ensures skipped { tasks.new.skipped ≡ tasks.old.skipped }
+    ensures fault { IfErr result (λ fault. TellsNullKey fault (list_all (has_key (marks_of group.now.marks)) group.now.changes)) }
+{
+    let front = key_front(marks);
+    for change in group.changes.as_slice() {
+        put_task(table, group, front, change, tasks)?;
+    }
+    Ok(())
+}
+
+/// Puts the changes of a group behind the others where the group fits a table, and counts it where it fits none.
+fn put_fitting(
+    catalog: &Catalog,
+    group: &Group<'_>,
+    tasks: &mut TasksBuilder,
+) -> Result<(), TasksFault>
+    requires { tasks.old.skipped < usize.MAX }
+    ensures put { (before : List Task) → AreGathered tasks.old before
+        → OnOk result (AreGathered tasks.new (before ++ tasks_at (table_of group.now catalog.now) group.now)) }
+    ensures skipped { OnOk result (tasks.new.skipped
+        ≡ tasks.old.skipped + one_if_none (table_of group.now catalog.now)) }
+    ensures fault { IfErr result (λ fault.
+        TellsNullKey fault (all_keyed (tasks_at (table_of group.now catalog.now) group.now))) }
+{
+    let Some((at, table)) = find_table(group, catalog) else {
+        tasks.skipped += 1;
+        return Ok(());
+    };
+    put_group(at, group, table.key_marks.as_slice(), tasks)
+}
+
+/// The changes that are applied: those of the groups that fit a table of the catalog, in order, each with its place. (SQLite's
+/// "Session Extension", `sqlite3changeset_apply_v2`; that the columns must fit the table's exactly is a profile of this
+/// project.)
+///
+/// # Errors
+///
+/// `Memory` may come before the other fault. `NullKey` comes where a change of a group that fits has NULL at a key column.
+pub fn find_tasks<'a>(
+    alloc: Global,
+    catalog: &Catalog,
+    changeset: &'a Changeset<'a>,
+) -> Result<Tasks<'a>, TasksFault>
+    ensures found { IfOk result (λ found. AreFound found (tasks catalog.now changeset.now)) }
+    ensures skipped { IfOk result (λ found. found.skipped ≡ skipped catalog.now changeset.now) }
+    ensures fault { IfErr result (λ fault. TellsNullKey fault (all_keyed (tasks catalog.now changeset.now))) }
+{
+    let changes = find_changes(alloc, catalog, changeset)?;
+    let mut tasks = with_capacity(alloc, changes.as_slice().len())?;
+    for group in changeset.as_slice() {
+        put_fitting(catalog, group, &mut tasks)?;
+    }
+    let TasksBuilder {
+        tables,
+        places,
+        skipped,
+    } = tasks;
+    Ok(Tasks {
+        changes,
+        tables,
+        places: places.finish(),
+        skipped,
+    })
+}
