@@ -11,6 +11,7 @@ use cs_normal::Normal;
 use cs_normalising::normalise;
 use cs_record::Row;
 use cs_store::{Batch, RowStore, Trip};
+use cs_tasks::{Tasks, TasksFault, encode_blob, find_tasks, key_in};
 use cs_value::{Catalog, Items, Memory, TableDef, Text};
 use std::alloc::Global;
 
@@ -500,6 +501,75 @@ fn blobs_of_answered_conflicts(rt: HostRuntime) {
     for case in CASES {
         assert!(rt; leaves_blob(rt.alloc(), case).unwrap_or(false));
     }
+}
+
+/// An INSERT into `t1`, a DELETE of `t9`, which no table is, and an INSERT into `t3`, each at the key 1.
+const TWO_FIT: &[&[u8]] = &[
+    FIRST,
+    &[0x12, 0],
+    ONE,
+    V2,
+    UNKNOWN,
+    &[9, 0],
+    ONE,
+    V1,
+    THIRD,
+    &[0x12, 0],
+    V2,
+    ONE,
+];
+
+/// The blob of those that fit a table, where both conflicts are answered by REPLACE.
+const BOTH_REPLACED: &[&[u8]] = &[FIRST, &[0x12, 1], ONE, V2, THIRD, &[0x12, 1], V2, ONE];
+
+/// Whether the place is that of the key 1 of the table at this place of the catalog.
+fn is_place(place: &[u8], table: u8) -> bool {
+    place.len() == 13 && place[..4] == [0, 0, 0, table] && key_in(place) == ONE
+}
+
+/// Whether two changes were found, of the tables `t1` and `t3` and at the key 1, and one group that fits no table.
+fn are_two(found: &Tasks<'_>) -> bool {
+    found.skipped == 1
+        && found.changes.as_slice().len() == 2
+        && found.tables.as_slice() == [0, 2].as_slice()
+        && found.places.len() == 2
+        && is_place(found.places.get(0), 0)
+        && is_place(found.places.get(1), 2)
+}
+
+/// Whether the two are found, and the blob is theirs where each conflict is answered by REPLACE.
+fn finds_two(alloc: Global) -> Result<bool, TasksFault> {
+    let Some(catalog) = catalog(alloc)? else {
+        return Ok(false);
+    };
+    let bytes = joined(alloc, TWO_FIT)?;
+    let Ok(changeset) = read(alloc, &bytes) else {
+        return Ok(false);
+    };
+    let found = find_tasks(alloc, &catalog, &changeset)?;
+    let given = vec![in alloc; Some(Resolution::Replace); found.changes.as_slice().len()]?;
+    let blob = encode_blob(alloc, &catalog, &changeset, given.as_slice())?;
+    Ok(are_two(&found) && blob.as_slice() == joined(alloc, BOTH_REPLACED)?.as_slice())
+}
+
+/// Whether it is told that a change has NULL at a key column.
+fn finds_null(alloc: Global) -> Result<bool, Memory> {
+    let Some(catalog) = catalog(alloc)? else {
+        return Ok(false);
+    };
+    let Ok(changeset) = read(alloc, NULL_KEY) else {
+        return Ok(false);
+    };
+    match find_tasks(alloc, &catalog, &changeset) {
+        Ok(_) => Ok(false),
+        Err(fault) => Ok(fault.to_string(alloc)?.as_str() == "NullKey"),
+    }
+}
+
+#[test]
+fn changes_are_found_without_a_store(rt: HostRuntime) {
+    assert!(rt; finds_two(rt.alloc()).unwrap_or(false));
+    assert!(rt; finds_null(rt.alloc()).unwrap_or(false));
 }
 
 /// The bytes of all rows of `t1`, behind their keys.
