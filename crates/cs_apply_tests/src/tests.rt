@@ -2,7 +2,7 @@
 
 use crate::trying::try_push;
 use cs_apply::*;
-use cs_change::Change;
+use cs_change::{Change, Changeset};
 use cs_changeset::read;
 use cs_conflict::{Conflict, ConflictBuf, Kind, Resolution};
 use cs_edits::{PlaceEdit, PlaceEdits};
@@ -538,21 +538,42 @@ fn are_two(found: &Tasks<'_>) -> bool {
 }
 
 /// Whether the two are found, and the blob is theirs where each conflict is answered by REPLACE.
+fn finds_two_in(
+    alloc: Global,
+    catalog: &Catalog,
+    changeset: &Changeset<'_>,
+) -> Result<bool, TasksFault> {
+    let found = find_tasks(alloc, catalog, changeset)?;
+    let given = vec![in alloc; Some(Resolution::Replace); found.changes.as_slice().len()]?;
+    let blob = encode_blob(alloc, catalog, changeset, given.as_slice())?;
+    Ok(are_two(&found) && blob.as_slice() == joined(alloc, BOTH_REPLACED)?.as_slice())
+}
+
+/// The same of the bytes of the changeset.
 fn finds_two(alloc: Global) -> Result<bool, TasksFault> {
     let Some(catalog) = catalog(alloc)? else {
         return Ok(false);
     };
     let bytes = joined(alloc, TWO_FIT)?;
-    let Ok(changeset) = read(alloc, &bytes) else {
+    let Ok(changeset) = read(alloc, bytes.as_slice()) else {
         return Ok(false);
     };
-    let found = find_tasks(alloc, &catalog, &changeset)?;
-    let given = vec![in alloc; Some(Resolution::Replace); found.changes.as_slice().len()]?;
-    let blob = encode_blob(alloc, &catalog, &changeset, given.as_slice())?;
-    Ok(are_two(&found) && blob.as_slice() == joined(alloc, BOTH_REPLACED)?.as_slice())
+    finds_two_in(alloc, &catalog, &changeset)
 }
 
 /// Whether it is told that a change has NULL at a key column.
+fn finds_null_in(
+    alloc: Global,
+    catalog: &Catalog,
+    changeset: &Changeset<'_>,
+) -> Result<bool, Memory> {
+    match find_tasks(alloc, catalog, changeset) {
+        Ok(_) => Ok(false),
+        Err(fault) => Ok(fault.to_string(alloc)?.as_str() == "NullKey"),
+    }
+}
+
+/// The same of the bytes of the changeset.
 fn finds_null(alloc: Global) -> Result<bool, Memory> {
     let Some(catalog) = catalog(alloc)? else {
         return Ok(false);
@@ -560,10 +581,7 @@ fn finds_null(alloc: Global) -> Result<bool, Memory> {
     let Ok(changeset) = read(alloc, NULL_KEY) else {
         return Ok(false);
     };
-    match find_tasks(alloc, &catalog, &changeset) {
-        Ok(_) => Ok(false),
-        Err(fault) => Ok(fault.to_string(alloc)?.as_str() == "NullKey"),
-    }
+    finds_null_in(alloc, &catalog, &changeset)
 }
 
 #[test]
