@@ -8,7 +8,7 @@ ghost use Rattle.std.specs.Ordering.{int_eq, is_gt};
 ghost use Rattle.std.specs.FinMap.{get, is_sorted};
 ghost use Rattle.cs_leaf.specs.Edits.{Rise, edited, store_place};
 ghost use Rattle.cs_store.specs.Contents.{IsListing, place_cmp};
-ghost use Rattle.cs_store.specs.Written.{edit_body, optional_bytes, pairs_of};
+ghost use Rattle.cs_store.specs.Written.{edit_body, if_there, optional_bytes, pairs_of};
 ghost use Rattle.cs_map_store.specs.Leaves.{AreBefore, AreLeaves, ArePatches, BeginsBy, BeginsBehind, CanBePut, ReachLeaf, after_staged, before_staged, first_place, flat, in_table, nth_leaf, patched, restored, undone, bodies_in};
 
 use crate::edits::{in_order, rise};
@@ -647,6 +647,21 @@ fn row_at<'a>(leaves: &'a [Leaf], near: &mut Near, place: &Place) -> Option<&'a 
 }
 
 /// The row at a place, if there is one. It is looked for near where the last one was.
+#[inline(always)]
+fn row_for<'a>(leaves: &'a [Leaf], near: &mut Near, place: &Place) -> Option<&'a [u8]>
+    requires { AreLeaves leaves.now }
+    ensures { option_map (λ row. row.now) result ≡ get (bodies_in leaves.now) place.now }
+{
+    if let Some(row) = row_beside(leaves, near, place) {
+        return Some(row);
+    }
+    if leaves.is_empty() {
+        return None;
+    }
+    row_at(leaves, near, place)
+}
+
+/// The same in a list of its own.
 pub fn find_row(
     alloc: Global,
     leaves: &[Leaf],
@@ -656,16 +671,28 @@ pub fn find_row(
     requires { AreLeaves leaves.now }
     ensures { IfOk result (λ row. optional_bytes row ≡ get (bodies_in leaves.now) place.now) }
 {
-    if let Some(row) = row_beside(leaves, near, place) {
-        return Ok(Some(Vec::from_slice(alloc, row)?));
-    }
-    if leaves.is_empty() {
-        return Ok(None);
-    }
-    match row_at(leaves, near, place) {
+    match row_for(leaves, near, place) {
         Some(row) => Ok(Some(Vec::from_slice(alloc, row)?)),
         None => Ok(None),
     }
+}
+
+/// The same in place of what is in a list, and whether there is one.
+pub fn put_row(
+    leaves: &[Leaf],
+    near: &mut Near,
+    place: &Place,
+    out: &mut Vec<u8>,
+) -> Result<bool, AllocError>
+    requires { AreLeaves leaves.now }
+    ensures { IfOk result (λ there. get (bodies_in leaves.now) place.now ≡ if_there there out.new.items) }
+{
+    let Some(row) = row_for(leaves, near, place) else {
+        return Ok(false);
+    };
+    out.clear();
+    out.extend_from_slice(row)?;
+    Ok(true)
 }
 
 /// Appends the rows of a table in a leaf.

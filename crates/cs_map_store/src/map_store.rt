@@ -174,7 +174,7 @@ impl RowStore for MapStore {
     ghost use Rattle.cs_store.specs.Whole.{IsWhole};
     ghost use Rattle.cs_store.specs.Calls.{OnlyReads, Commits, CountsMisread};
     ghost use Rattle.cs_store.specs.Contents.{Contents, IsListing, stored_tables, stored_pending, meta_value, log_entry, log_count};
-    ghost use Rattle.cs_store.specs.Written.{after_batch, optional_bytes, optional_entry, pairs_of};
+    ghost use Rattle.cs_store.specs.Written.{after_batch, if_there, optional_bytes, optional_entry, pairs_of};
     ghost use Rattle.cs_store.specs.declared.fault.StoreFault.TheVariants.{Memory, Device};
     ghost use Rattle.cs_map_store.specs.Slots.{held_by, is_honest, leaves_held, misreads_of};
 
@@ -199,6 +199,17 @@ impl RowStore for MapStore {
         let place = Place::new(table, key);
         let row = self.shelves.rows.find(self.alloc, &mut self.near, &place)?;
         Ok(row)
+    }
+
+    fn get_into(&mut self, table: u32, key: &[u8], row: &mut Vec<u8>) -> Result<bool, StoreFault>
+        ensures found { is_honest self.new → IfOk result (λ there. stored_tables self.old.held table key.now ≡ if_there there row.new.items) }
+        ensures reads { OnlyReads is_honest held_by misreads_of leaves_held misreads_of self.old self.new result }
+        ensures memory { IfErr result (λ fault. fault ≡ Memory) }
+        ensures count { self.new.misreads ≡ self.old.misreads }
+    {
+        let place = Place::new(table, key);
+        let there = self.shelves.rows.put(&mut self.near, &place, row)?;
+        Ok(there)
     }
 
     fn list(&mut self, table: u32) -> Result<Vec<StoredBody>, StoreFault>

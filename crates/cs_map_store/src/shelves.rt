@@ -4,11 +4,13 @@
 ghost use Rattle.std.specs.Prelude.{◌≡◌, ◌↔◌, ℕ, List, Some, pos, fold, IfOk, OnErr, IsTrue};
 ghost use Rattle.std.specs.FinMap.{empty, get};
 ghost use Rattle.cs_store.specs.Contents.{IsListing, StorePlace};
-ghost use Rattle.cs_store.specs.Written.{edit_body, optional_bytes, pairs_of};
+ghost use Rattle.cs_store.specs.Written.{edit_body, if_there, optional_bytes, pairs_of};
 ghost use Rattle.cs_map_store.specs.Checked.{IsGood};
 
 use crate::checking::{Shelf, check_leaves};
-use crate::leaves::{Near, Staged, find_row, list_rows, put_staged, stage_edits, take_back};
+use crate::leaves::{
+    Near, Staged, find_row, list_rows, put_row, put_staged, stage_edits, take_back,
+};
 use cs_edits::LentEdits;
 use cs_leaf::{Leaf, Place};
 use cs_store::StoredBody;
@@ -109,6 +111,14 @@ impl Leaves {
         ensures { IfOk result (λ row. optional_bytes row ≡ get self.now place.now) }
     {
         find_row(alloc, self.leaves.as_slice(), near, place)
+    }
+
+    /// The same in place of what is in a list, and whether there is one.
+    #[inline(always)]
+    pub fn put(&self, near: &mut Near, place: &Place, out: &mut Vec<u8>) -> Result<bool, AllocError>
+        ensures { IfOk result (λ there. get self.now place.now ≡ if_there there out.new.items) }
+    {
+        put_row(self.leaves.as_slice(), near, place, out)
     }
 
     /// The bodies of a table.

@@ -1,6 +1,6 @@
 -- What a batch makes of the contents of a store.
 use Rattle.std.specs.declared.alloc.Global.{Global}
-use Rattle.std.specs.Prelude.{Vec, option_map, map, ℕ, ℤ, pos, List, Option, Some, None, fold}
+use Rattle.std.specs.Prelude.{Vec, option_map, map, ℕ, ℤ, pos, Bool, true, false, List, Option, Some, None, fold}
 use Rattle.std.specs.FinMap.{insert, remove, len}
 use Rattle.cs_edits.specs.Edits.{BodyEdit}
 use Rattle.cs_store.specs.declared.batch.MetaEdit.{MetaEdit}
@@ -12,6 +12,11 @@ use Rattle.cs_store.specs.Contents.{StorePlace, Bodies, Meta, Log, LogItem, Cont
 -- the bytes that are there, or none
 abbrev pub optional_bytes : Option (Vec ℕ Global) → Option (List ℕ)
 optional_bytes = option_map (λ bytes. bytes.items)
+
+-- what is there where a flag says so, else none
+abbrev pub if_there : Bool → List ℕ → Option (List ℕ)
+if_there true bytes = Some bytes
+if_there false bytes = None
 
 -- an entry that is handed in or out, as the log has it
 abbrev pub item_of : StoredEntry → LogItem

@@ -3,7 +3,7 @@
 ghost use Rattle.std.specs.Prelude.{◌≡◌, ◌↔◌, ℕ, IfOk, IsTrue};
 ghost use Rattle.cs_store.specs.Calls.{OnlyReads, Commits, CountsMisread};
 ghost use Rattle.cs_store.specs.Contents.{Contents, IsListing, stored_tables, stored_pending, meta_value, log_entry, log_count};
-ghost use Rattle.cs_store.specs.Written.{after_batch, optional_bytes, optional_entry, pairs_of};
+ghost use Rattle.cs_store.specs.Written.{after_batch, if_there, optional_bytes, optional_entry, pairs_of};
 ghost use Rattle.cs_store.specs.Whole.{IsWhole};
 ghost use Rattle.cs_store.specs.declared.fault.StoreFault.TheVariants.{Device};
 
@@ -48,6 +48,20 @@ pub trait RowStore {
         ensures found { honest self.new → IfOk result (λ row.
             optional_bytes row ≡ stored_tables (contents self.old) table key.now) }
         ensures reads { OnlyReads honest contents failed may_leave misreads self.old self.new result };
+
+    /// Puts the row at a table's number and the bytes of a key in place of what is in the list, whose memory is used again, and tells
+    /// whether there is one; else the list may hold anything.
+    fn get_into(&mut self, table: u32, key: &[u8], row: &mut Vec<u8>) -> Result<bool, StoreFault>
+        ensures found { honest self.new → IfOk result (λ there.
+            stored_tables (contents self.old) table key.now ≡ if_there there row.new.items) }
+        ensures reads { OnlyReads honest contents failed may_leave misreads self.old self.new result }
+    {
+        let Some(body) = self.get(table, key)? else {
+            return Ok(false);
+        };
+        *row = body;
+        Ok(true)
+    }
 
     /// The rows of a table, by ascending bytes of the key.
     fn list(&mut self, table: u32) -> Result<Vec<StoredBody>, StoreFault>

@@ -574,6 +574,52 @@ fn what_is_written_is_counted_where_a_commit_succeeds(rt: HostRuntime) {
     assert!(rt; counts_written(rt.alloc()));
 }
 
+/// A long row, a short one, an empty one, none, and one more, as they stand after both commits.
+const FOUND: [Edit<'static>; 5] = [
+    (0, b"1", Some(b"other")),
+    (0, b"10", Some(b"y")),
+    (0, b"", Some(b"")),
+    (0, b"7", None),
+    (LAST, b"2", Some(b"c")),
+];
+
+/// Whether that is what a store puts in place of what is in the list.
+fn puts_row<S: RowStore>(
+    store: &mut S,
+    row: &mut Vec<u8>,
+    wanted: &Edit<'_>,
+) -> Result<bool, StoreFault> {
+    let there = store.get_into(wanted.0, wanted.1, row)?;
+    Ok(match wanted.2 {
+        Some(body) => there && row.as_slice() == body,
+        None => !there,
+    })
+}
+
+/// Whether a store puts each into one list.
+fn puts_each<S: RowStore>(alloc: Global, store: &mut S) -> Result<bool, StoreFault> {
+    commit_of(alloc, store, &FIRST_BATCH)?;
+    commit_of(alloc, store, &NEXT_BATCH)?;
+    let mut row = Vec::new(alloc);
+    let mut all = true;
+    for wanted in &FOUND {
+        all = puts_row(store, &mut row, wanted)? && all;
+    }
+    Ok(all)
+}
+
+/// The same through a device that passes so many calls on.
+fn puts_each_through(alloc: Global, passes: u64) -> Result<bool, StoreFault> {
+    puts_each(alloc, &mut Trip::new(MapStore::new(alloc), passes))
+}
+
+#[test]
+fn a_row_is_put_in_place_of_what_is_there(rt: HostRuntime) {
+    assert!(rt; puts_each(rt.alloc(), &mut MapStore::new(rt.alloc())) == Ok(true));
+    assert!(rt; puts_each_through(rt.alloc(), 7) == Ok(true));
+    assert!(rt; puts_each_through(rt.alloc(), 6) == Err(StoreFault::Device));
+}
+
 fn is_edit(edit: &PlaceEdit<'_>, spelled: &Edit<'_>) -> bool {
     edit.table() == spelled.0 && edit.key() == spelled.1 && edit.body() == spelled.2
 }
