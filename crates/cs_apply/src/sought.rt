@@ -1,8 +1,8 @@
 //! The places that are to be looked up next.
 //!
 //! The changes of a changeset are written in no order of their keys, and their places are looked up in that order. So each
-//! place would wait for its change, and then for the change's bytes, to come out of memory: they are reached for the places
-//! of several groups in one short loop, where these waits overlap.
+//! place would wait for its change, and then for the change's bytes, to come out of memory: for the places of several groups
+//! they are reached first, in one short loop, where these waits overlap.
 
 ghost use Rattle.std.specs.Prelude.{◌≡◌, ◌<◌, ◌≤◌, length, Some, OnOk, slice_get};
 ghost use Rattle.std.specs.List.{All};
@@ -12,13 +12,13 @@ ghost use Rattle.cs_tasks.specs.cs_order.Order.{key_at};
 ghost use Rattle.cs_apply.specs.Found.{ArePlacesOf, IsPlaceOf, place_bytes};
 ghost use Rattle.cs_apply.specs.Sought.{AreSought, IsSought};
 
-use cs_tasks::below::{Groups, key_front, lend_key};
+use cs_tasks::below::{Change, Groups, key_front, lend_key};
 use cs_tasks::{Tasks, key_in};
 use cs_value::{Catalog, Memory};
 use std::alloc::Global;
 
 /// How many places are reached at once.
-const AT_ONCE: usize = 32;
+const AT_ONCE: usize = 64;
 
 /// A place that is to be looked up. Its key is lent.
 #[derive(Clone, Copy)]
@@ -75,12 +75,39 @@ fn end_of(from: usize, count: usize) -> usize
     }
 }
 
+/// Reaches the first change of each of these groups, at both ends of its bytes, in one short loop. What was reached is listed, so
+/// that it surely is, and isn't looked at.
+// It stands alone, since within a caller of many variables it keeps its own on the stack.
+#[inline(never)]
+fn reach_changes(
+    changes: &[Change<'_>],
+    groups: &Groups,
+    from: usize,
+    end: usize,
+    reached: &mut Vec<u8>,
+) -> Result<(), Memory>
+    requires { end ≤ length groups.now }
+{
+    reached.clear();
+    for number in from..end {
+        if let [change, ..] = groups.group(number) {
+            if *change < changes.len() {
+                let (first, last) = changes[*change].ends();
+                reached.push(first ^ last)?;
+            }
+        }
+    }
+    Ok(())
+}
+
 /// Reaches the places of the groups from this number on, in place of those that were there.
+// Six parameters: of what the places are found, and the two lists that they and their changes come into.
 fn reach<'t>(
     catalog: &Catalog,
     tasks: &'t Tasks<'_>,
     groups: &Groups,
     from: usize,
+    reached: &mut Vec<u8>,
     places: &mut Vec<SoughtPlace<'t>>,
 ) -> Result<(), Memory>
     requires tables { All (λ table. table < length catalog.now) tasks.now.tables.items }
@@ -92,6 +119,7 @@ fn reach<'t>(
 {
     places.clear();
     let end = end_of(from, groups.len());
+    reach_changes(tasks.changes.as_slice(), groups, from, end, reached)?;
     for number in from..end {
         let group = groups.group(number);
         let place = place_of(catalog, tasks, group[0]);
@@ -107,6 +135,8 @@ pub(crate) struct SoughtPlaces<'t> {
     pub from: usize,
     /// The place of each.
     pub places: Vec<SoughtPlace<'t>>,
+    /// What was reached of their changes.
+    reached: Vec<u8>,
 }
 
 impl<'t> SoughtPlaces<'t> {
@@ -125,6 +155,7 @@ impl<'t> SoughtPlaces<'t> {
         Ok(SoughtPlaces {
             from: 0,
             places: Vec::with_capacity(alloc, AT_ONCE)?,
+            reached: Vec::with_capacity(alloc, AT_ONCE)?,
         })
     }
 
@@ -149,7 +180,14 @@ impl<'t> SoughtPlaces<'t> {
             return Ok(self.places[number - self.from]);
         }
         self.from = number;
-        reach(catalog, tasks, groups, number, &mut self.places)?;
+        reach(
+            catalog,
+            tasks,
+            groups,
+            number,
+            &mut self.reached,
+            &mut self.places,
+        )?;
         Ok(self.places[0])
     }
 }

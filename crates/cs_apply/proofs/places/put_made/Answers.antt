@@ -18,8 +18,8 @@ pub returns : goal.returns
 returns c =
     let slot = slot_at c.args.stored.now in
     let change = action c.args.change.now in
-    let first = c.as_ref.ensures.value ∙ c.row-row.ensures in
-    let again = c.as_ref-2.ensures.value ∙ c.row-row.ensures in
+    let first = c.as_ref.ensures.value in
+    let again = c.as_ref-2.ensures.value in
     let quiet : kind change slot.keyed.1 ≡ None = sym (rw first at c.kind_of.ensures) ∙ is_none c.kind_of.result c.if-is_some.ensures in
     let end = (c.kind_tells.ensures change slot.keyed.1).0 quiet in
     let left = rw again at c.in_ok-left.ensures ∙ (sym (c.made_as_replaced.ensures change slot.keyed.1 quiet) ∙ end.1) in record {
