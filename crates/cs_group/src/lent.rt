@@ -44,18 +44,10 @@ impl<'b, 'a> Lends for Lent<'b, 'a> {
 }
 
 impl<'b, 'a> Lent<'b, 'a> {
-    /// The first byte of the change's record.
+    /// The first byte and the last one of where the change stands.
     #[inline(always)]
-    pub(crate) fn first_byte(&self) -> u8 {
-        let bytes = match self.change {
-            Change::Insert { new_row, .. } => new_row.bytes(),
-            Change::Delete { old_row, .. } => old_row.bytes(),
-            Change::Update { old_fields, .. } => old_fields.bytes(),
-        };
-        match bytes {
-            [first, ..] => *first,
-            [] => 0,
-        }
+    pub(crate) fn ends(&self) -> (u8, u8) {
+        self.change.ends()
     }
 }
 
