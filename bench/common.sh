@@ -89,6 +89,18 @@ crates_below() {
         }' "$bench/../crates.txt"
 }
 
+# Copies crates and all below them, with what their proofs left, into a repository of its own: copy_crates FOLDER CRATE ...
+copy_crates() {
+    local into="$1"
+    shift
+    mkdir -p "$into/crates"
+    cp "$bench/../HANDLES" "$into/"
+    for crate_below in $(crates_below "$@"); do
+        cp -r "$bench/../crates/$crate_below" "$into/crates/"
+        grep "^$crate_below[ :]" "$bench/../crates.txt" >> "$into/crates.txt"
+    done
+}
+
 # Proves and builds the Rattle program NAME.rattle of this folder, with rows.rattle where that is a module of it. It uses these crates
 # and libraries of the kit: build_rattle NAME USED ... It is made over copies of them and of all crates below, in a repository of its
 # own outside this one, since the gate takes no source that is no crate's. A crate is copied with what its proof left, so that it
@@ -99,11 +111,7 @@ build_rattle() {
     mkdir -p "$out"
     work="$(mktemp -d)"
     mkdir -p "$work/crates/$name/src"
-    cp "$bench/../HANDLES" "$work/"
-    for crate_below in $(crates_below "$@"); do
-        cp -r "$bench/../crates/$crate_below" "$work/crates/"
-        grep "^$crate_below:" "$bench/../crates.txt" >> "$work/crates.txt"
-    done
+    copy_crates "$work" "$@"
     echo "$name: $*" >> "$work/crates.txt"
     cp "$bench/$name.rattle" "$work/crates/$name/src/main.rt"
     ! grep -q '^mod rows;' "$bench/$name.rattle" || cp "$bench/rows.rattle" "$work/crates/$name/src/rows.rt"
