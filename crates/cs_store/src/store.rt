@@ -49,8 +49,8 @@ pub trait RowStore {
             optional_bytes row ≡ stored_tables (contents self.old) table key.now) }
         ensures reads { OnlyReads honest contents failed may_leave misreads self.old self.new result };
 
-    /// Puts the row at a table's number and the bytes of a key in place of what is in the list, whose memory is used again, and tells
-    /// whether there is one; else the list may hold anything.
+    /// Puts the row at a table's number and the bytes of a key in place of what is in the list, whose memory the store may use again,
+    /// and tells whether there is one; where there is none, and at an `Err`, the list may hold anything.
     fn get_into(&mut self, table: u32, key: &[u8], row: &mut Vec<u8>) -> Result<bool, StoreFault>
         ensures found { honest self.new → IfOk result (λ there.
             stored_tables (contents self.old) table key.now ≡ if_there there row.new.items) }
