@@ -25,5 +25,5 @@ pub use lending::{lend_key, lend_record_key};
 
 pub mod laws;
 
-pub use one_form::{all_normal, lend_form};
+pub use one_form::{all_normal, is_normal, lend_form};
 pub use picking::pick_form;

@@ -111,7 +111,7 @@ fn is_normal_column(in_key: bool, old: &Column<'_>, new: &Column<'_>) -> bool
 }
 
 /// Whether the columns are those of an update in normal form.
-#[inline(always)]
+#[inline(never)]
 #[tactic(auto, unfolding(crate::specs::Steps::Forms::normal_columns, cs_change::specs::Columns::is_blank))]
 fn are_normal(marks: &[bool], old: &Record<'_>, new: &Record<'_>) -> bool
     ensures { result ≡ normal_columns marks.now old.now new.now && not (is_blank new.now) }
@@ -139,10 +139,10 @@ fn are_normal(marks: &[bool], old: &Record<'_>, new: &Record<'_>) -> bool
     }
 }
 
-/// Whether the change is one that its normal form leaves as it is.
+/// Whether the change is found to be one that its normal form leaves as it is.
 #[inline(always)]
 #[tactic(auto, unfolding(crate::specs::NormalForm::normal_form))]
-fn is_normal(marks: &[bool], change: &Change<'_>) -> bool
+pub fn is_normal(marks: &[bool], change: &Change<'_>) -> bool
     ensures { IsTrue result → normal_form marks.now change.now ≡ Some change.now }
 {
     match change {

@@ -13,12 +13,11 @@ use crate::key_order::KeyOrder;
 use crate::lent_list::LentList;
 use crate::written_forms::write_forms;
 use cs_normal::TableChanges;
-use cs_normal::below::{Change, ChangesBuf, KeyedChanges, Scratch, all_normal, lend_form};
+use cs_normal::below::{Change, ChangesBuf, KeyedChanges, Scratch, is_normal, lend_form};
 use cs_order::{Keys, PickedKeys};
 use cs_value::{Marks, Memory, Text};
 use std::alloc::Global;
 use std::marker::Model;
-use std::slice;
 
 /// A table's changes as read, the key of each, and the order of the keys.
 #[derive(Drop)]
@@ -74,7 +73,7 @@ fn normal_at<'b, 'a>(marks: &[bool], lent: &'b Ordered<'_, 'a>, at: usize) -> Op
         (λ change. (nth_entry (ordered_entries marks.now lent.now) at).1 ≡ Some change.now) }
 {
     let change = &lent.changes.as_slice()[lent.order.place(at)];
-    if all_normal(marks, slice::from_ref(change)) {
+    if is_normal(marks, change) {
         return Some(change);
     }
     None
