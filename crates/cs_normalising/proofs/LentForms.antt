@@ -11,7 +11,7 @@ use Rattle.cs_order.specs.Order.{Keys, key_at}
 use Rattle.cs_normal.specs.cs_change.Change.{Change}
 use Rattle.cs_normal.specs.cs_keyed.Changes.{Changes}
 use Rattle.cs_normal.specs.cs_keyed.NormalForm.{normal_form}
-use Rattle.cs_normal.specs.cs_keyed.Prepared.{AreForms, Entries, kept}
+use Rattle.cs_normal.specs.cs_keyed.Prepared.{Entries, kept}
 use Rattle.cs_normalising.specs.Steps.Lent.{entries_of, ordered_entries}
 use Rattle.cs_normalising.specs.Lent.{nth_entry}
 use Rattle.cs_normalising.specs.declared.lent_table.Ordered.{Ordered}
@@ -74,7 +74,3 @@ picked_keys es order places keys picked gathered within is =
 
 pub order_length : (marks : List Bool) (lent : Ordered) → length (ordered_entries marks lent) ≡ length lent.order
 order_length marks lent = length-map lent.order (nth_entry (entries_of marks lent.changes))
-
--- a change that stands alone and is its own normal form
-pub one_form : (marks : List Bool) (change : Change) (forms : List Change) → forms ≡ change ∷ [] → AreForms marks forms → normal_form marks change ≡ Some change
-one_form marks change forms is all = (rw is at all) 0 change (omega arith)
