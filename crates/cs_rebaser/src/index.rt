@@ -101,6 +101,8 @@ pub(crate) fn sought_in<'b, 'a>(
 
 /// The entry of a key in a group. The search begins where the last one ended, since keys that are sought rise; it goes on from
 /// there in growing steps, and then by halves.
+// It stands alone, so that what it holds doesn't weigh on keys that are found at once.
+#[inline(never)]
 fn entry_in_group<'b, 'a>(
     group: &'b BlobGroup<'a>,
     order: &GroupOrder,
@@ -142,6 +144,35 @@ fn entry_in_group<'b, 'a>(
     Ok(None)
 }
 
+/// The same. Most keys have the entry where the last search ended, or come before all.
+#[inline(always)]
+fn entry_near<'b, 'a>(
+    group: &'b BlobGroup<'a>,
+    order: &GroupOrder,
+    front: &[bool],
+    key: &[u8],
+    finger: &mut Finger,
+) -> Result<Option<&'b Entry<'a>>, Memory>
+    requires ordered { IsOrderOf group.now order.now }
+    requires front { HaveSameKeys front.now order.now.marks }
+    ensures { IfOk result (λ found. MatchOption found (entry_at (group.now.name, key.now) (placed_in group.now) ≡ None)
+        (λ entry. entry_at (group.now.name, key.now) (placed_in group.now) ≡ Some entry.now)) }
+{
+    let near = finger.near;
+    if near < order.order.len() {
+        let entry = &group.entries.as_slice()[order.order[near]];
+        match compare_key(front, &entry.fields, key, &mut finger.room)? {
+            Ordering::Equal => {
+                finger.near = near + 1;
+                return Ok(Some(entry));
+            }
+            Ordering::Greater if near == 0 => return Ok(None),
+            _ => {}
+        }
+    }
+    entry_in_group(group, order, front, key, finger)
+}
+
 /// The entry of a key of the table with this name, sought from where the last search ended.
 #[inline(always)]
 pub(crate) fn entry_sought<'b, 'a>(
@@ -158,7 +189,7 @@ pub(crate) fn entry_sought<'b, 'a>(
 {
     match sought {
         Sought::Nowhere => Ok(None),
-        Sought::InGroup(group, order, front) => entry_in_group(*group, *order, *front, key, finger),
+        Sought::InGroup(group, order, front) => entry_near(*group, *order, *front, key, finger),
         Sought::AmongAll(index) => {
             put_place(name, key, &mut finger.room)?;
             Ok(entry_in(*index, groups, finger.room.as_slice(), &mut finger.near))
