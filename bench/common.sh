@@ -32,11 +32,16 @@ need_shell() {
     command -v sqlite3 > /dev/null
 }
 
-# The toolchain's C part, which gives the library its memory (malloc).
-heap_library() {
+# The folder of the toolchain.
+toolchain() {
     local rt
     rt="$(command -v rt)" || return 1
-    echo "$(dirname "$(dirname "$(readlink -f "$rt")")")/c/liblibc_c.a"
+    dirname "$(dirname "$(readlink -f "$rt")")"
+}
+
+# The toolchain's C part, which gives the library its memory (malloc).
+heap_library() {
+    echo "$(toolchain)/c/liblibc_c.a"
 }
 
 # Proves and builds the library, where none was given.
@@ -58,6 +63,25 @@ need_runner() {
         echo "the program that runs the cases isn't built: see $out/runner.log" >&2
         return 1
     }
+}
+
+# Checks the library's own crate once more, and builds the library, over the crates below as `rt ci` has just proved and left them, as that builds its
+# programs. `rt lib` takes none of those, and proves each of them again. It builds nothing in a tree that was worked in: of what earlier runs left
+# there, `rt lib` alone can tell whether it is of today's sources.
+build_library_behind_gate() {
+    local kit crates below words
+    kit="$(toolchain)" || return 1
+    crates="$(cd "$bench/../crates" && pwd)"
+    words=(--crate-name cs_ffi src/lib.rt --crate-type staticlib --jobs 1 --extern "std=$kit/rlibs/std.rlib" -L "dependency=$kit/rlibs")
+    words+=(--antt-project "$kit/rattle/logic/antt-project.json" --logic-built "$kit/logic_built")
+    words+=(--toolchain "$kit/toolchain" --backend llvm -o out/libcs_ffi.a)
+    for below in $(crates_below cs_ffi); do
+        [ "$below" != cs_ffi ] || continue
+        [ ! -e "$crates/$below/out/rlib/stamp" ] || return 1
+        words+=(--extern "$below=$crates/$below/out/rlib/$below.rlib")
+    done
+    mkdir -p "$crates/cs_ffi/out"
+    (cd "$crates/cs_ffi" && "$kit/bin/rattle" build "${words[@]}")
 }
 
 build_capture() {
