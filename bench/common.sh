@@ -69,19 +69,19 @@ need_runner() {
 # programs. `rt lib` takes none of those, and proves each of them again. It builds nothing in a tree that was worked in: of what earlier runs left
 # there, `rt lib` alone can tell whether it is of today's sources.
 build_library_behind_gate() {
-    local kit crates below words
+    local kit crates below
     kit="$(toolchain)" || return 1
     crates="$(cd "$bench/../crates" && pwd)"
-    words=(--crate-name cs_ffi src/lib.rt --crate-type staticlib --jobs 1 --extern "std=$kit/rlibs/std.rlib" -L "dependency=$kit/rlibs")
-    words+=(--antt-project "$kit/rattle/logic/antt-project.json" --logic-built "$kit/logic_built")
-    words+=(--toolchain "$kit/toolchain" --backend llvm -o out/libcs_ffi.a)
+    set -- --crate-name cs_ffi src/lib.rt --crate-type staticlib --jobs 1 --extern "std=$kit/rlibs/std.rlib" -L "dependency=$kit/rlibs"
+    set -- "$@" --antt-project "$kit/rattle/logic/antt-project.json" --logic-built "$kit/logic_built"
+    set -- "$@" --toolchain "$kit/toolchain" --backend llvm -o out/libcs_ffi.a
     for below in $(crates_below cs_ffi); do
         [ "$below" != cs_ffi ] || continue
         [ ! -e "$crates/$below/out/rlib/stamp" ] || return 1
-        words+=(--extern "$below=$crates/$below/out/rlib/$below.rlib")
+        set -- "$@" --extern "$below=$crates/$below/out/rlib/$below.rlib"
     done
     mkdir -p "$crates/cs_ffi/out"
-    (cd "$crates/cs_ffi" && "$kit/bin/rattle" build "${words[@]}")
+    (cd "$crates/cs_ffi" && "$kit/bin/rattle" build "$@")
 }
 
 build_capture() {
