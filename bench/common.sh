@@ -66,10 +66,10 @@ need_runner() {
 }
 
 # Checks the library's own crate once more, and builds the library, over the crates below as `rt ci` has just proved and left them, as that builds its
-# programs. `rt lib` takes none of those, and proves each of them again. It builds nothing in a tree that was worked in: of what earlier runs left
-# there, `rt lib` alone can tell whether it is of today's sources.
+# programs. `rt lib` takes none of those, and proves each of them again. BEGUN is a file written as `rt ci` began: where what stands of a crate is older,
+# `rt ci` has put back what it found there, which may be of other sources, and nothing is built: build_library_behind_gate BEGUN
 build_library_behind_gate() {
-    local kit crates below
+    local begun="$1" kit crates below
     kit="$(toolchain)" || return 1
     crates="$(cd "$bench/../crates" && pwd)"
     set -- --crate-name cs_ffi src/lib.rt --crate-type staticlib --jobs 1 --extern "std=$kit/rlibs/std.rlib" -L "dependency=$kit/rlibs"
@@ -77,7 +77,7 @@ build_library_behind_gate() {
     set -- "$@" --toolchain "$kit/toolchain" --backend llvm -o out/libcs_ffi.a
     for below in $(crates_below cs_ffi); do
         [ "$below" != cs_ffi ] || continue
-        [ ! -e "$crates/$below/out/rlib/stamp" ] || return 1
+        [ "$crates/$below/out/rlib/$below.rlib" -nt "$begun" ] || return 1
         set -- "$@" --extern "$below=$crates/$below/out/rlib/$below.rlib"
     done
     mkdir -p "$crates/cs_ffi/out"
