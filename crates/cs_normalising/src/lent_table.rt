@@ -5,6 +5,7 @@ ghost use Rattle.std.specs.List.{All};
 ghost use Rattle.std.specs.Map.{keys_of};
 ghost use Rattle.cs_order.specs.Order.{key_at};
 ghost use Rattle.cs_normal.specs.cs_keyed.Keyed.{beside};
+ghost use Rattle.cs_normal.specs.cs_keyed.NormalForm.{normal_form};
 ghost use Rattle.cs_normal.specs.cs_keyed.Prepared.{kept};
 ghost use Rattle.cs_normalising.specs.Steps.Lent.{entries_at, entries_of, ordered_entries, AreBeside, IsOrderedBy};
 ghost use Rattle.cs_normalising.specs.Lent.{nth_entry};
@@ -47,6 +48,16 @@ impl<'b, 'a> Model for LentTable<'b, 'a> {
     ghost invariant = { λ table. IsOrderedBy table.marks table.lent };
 }
 
+/// The change there in the order of the keys, as it was read.
+#[inline(always)]
+fn change_at<'b, 'a>(marks: &[bool], lent: &'b Ordered<'_, 'a>, at: usize) -> &'b Change<'a>
+    requires lent { IsOrderedBy marks.now lent.now }
+    requires there { at < length lent.now.order }
+    ensures { (nth_entry (ordered_entries marks.now lent.now) at).1 ≡ normal_form marks.now result.now }
+{
+    &lent.changes.as_slice()[lent.order.place(at)]
+}
+
 /// The normal form of the change there in the order of the keys, if one is left.
 #[inline(always)]
 fn form_at<'b>(
@@ -60,8 +71,7 @@ fn form_at<'b>(
     requires there { at < length lent.now.order }
     ensures { IfOk result (λ form. form ≡ (nth_entry (ordered_entries marks.now lent.now) at).1) }
 {
-    let change = &lent.changes.as_slice()[lent.order.place(at)];
-    lend_form(marks, change.again(), scratch, room)
+    lend_form(marks, change_at(marks, lent, at).again(), scratch, room)
 }
 
 /// The change there in the order of the keys, where it is found to be its own normal form.
@@ -72,7 +82,7 @@ fn normal_at<'b, 'a>(marks: &[bool], lent: &'b Ordered<'_, 'a>, at: usize) -> Op
     ensures { MatchOption result (Unit {0})
         (λ change. (nth_entry (ordered_entries marks.now lent.now) at).1 ≡ Some change.now) }
 {
-    let change = &lent.changes.as_slice()[lent.order.place(at)];
+    let change = change_at(marks, lent, at);
     if is_normal(marks, change) {
         return Some(change);
     }
@@ -113,6 +123,7 @@ impl<'b, 'a> LentTable<'b, 'a> {
     ghost use Rattle.std.specs.Map.{keys_of};
     ghost use Rattle.cs_order.specs.Order.{key_at};
     ghost use Rattle.cs_normal.specs.cs_keyed.Keyed.{beside};
+    ghost use Rattle.cs_normal.specs.cs_keyed.NormalForm.{normal_form};
     ghost use Rattle.cs_normalising.specs.Lent.{nth_entry, table_of};
     ghost use Rattle.cs_normalising.specs.Steps.Lent.{ordered_entries, IsOrderedBy};
 
@@ -152,6 +163,15 @@ impl<'b, 'a> LentTable<'b, 'a> {
         ensures { result.now ≡ (nth_entry self.now.entries at).0 }
     {
         self.lent.keys.get(self.lent.order.place(at))
+    }
+
+    /// The change there, in the order of the keys, as it was read; what stands for it in the table is its normal form.
+    #[inline(always)]
+    pub fn as_read(&self, at: usize) -> &Change<'a>
+        requires { at < length self.now.entries }
+        ensures { (nth_entry self.now.entries at).1 ≡ normal_form self.now.marks result.now }
+    {
+        change_at(self.marks.as_slice(), &self.lent, at)
     }
 
     /// The change there, in the order of the keys, lent where it was read, if it is found to be its own normal form; else `None`,
