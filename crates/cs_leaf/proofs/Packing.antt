@@ -10,7 +10,7 @@ use Rattle.std.proofs.Math.Seq.{drop-append_seam, take-append-add}
 use Rattle.std.proofs.lemmas.List.Elements.{All-push, All-append, All-take, All-drop}
 use Rattle.cs_order.specs.Order.{by_bytes}
 use Rattle.cs_store.specs.Contents.{StorePlace, place_cmp}
-use Rattle.cs_leaf.specs.Entries.{Entry, IsFrontOf, IsHeadOf, IsPacked, IsSpotIn, IsSpotEditAt, IsSpotEditFor, IsSpotEditIn, IsTight, bytes_of, entry_at, entries_at, nth, no_entry, size_of, spots_after, written}
+use Rattle.cs_leaf.specs.Entries.{Entry, IsFrontOf, IsHeadOf, IsPacked, IsRun, IsSpotIn, IsSpotEditAt, IsSpotEditFor, IsSpotEditIn, IsTight, bytes_of, entry_at, entries_at, moved, nth, no_entry, size_of, spots_after, written}
 use Rattle.cs_leaf.specs.declared.leaf.Front.{Front}
 use Rattle.cs_leaf.specs.declared.leaf.Spot.{Spot}
 use Rattle.cs_leaf.specs.declared.leaf.SpotEdit.{SpotEdit}
@@ -75,45 +75,153 @@ module _ (bytes key row new : List ℕ) (spot : Spot) (grown : new ≡ (bytes ++
   pub row_entry : entry_at new spot ≡ ((pos spot.table, key), row)
   row_entry = λ i. ((pos spot.table, its_key i), its_row i)
 
-slice_joined : (bytes : List ℕ) (start middle end : ℕ) → start ≤ middle → middle ≤ end → end ≤ length bytes → slice_range bytes start end ≡ slice_range bytes start middle ++ slice_range bytes middle end
+pub slice_joined : {X : Type 0} (bytes : List X) (start middle end : ℕ) → start ≤ middle → middle ≤ end → end ≤ length bytes → slice_range bytes start end ≡ slice_range bytes start middle ++ slice_range bytes middle end
 slice_joined bytes start middle end first second bound =
     let part = slice_range bytes start middle in
     let long : length part ≡ middle - start = length-take-le (middle - start) (drop start bytes) (omega (arith, length-drop start bytes)) in
     let all : end - start ≡ length part + (end - middle) = omega (arith, long) in
     (λ i. take (all i) (drop_split bytes start middle first i)) ∙ take-append-add part (drop middle bytes) (end - middle)
 
--- the spot of a row that is copied from other bytes
-pub copied_entry : (bytes source new : List ℕ) (spot copied : Spot) → IsSpotIn source spot → new ≡ bytes ++ slice_range source spot.key spot.end → copied.key ≡ length bytes → copied.row ≡ length bytes + (spot.row - spot.key)
-    → copied.end ≡ length new → copied.table ≡ spot.table → entry_at new copied ≡ entry_at source spot
-copied_entry bytes source new spot copied there grown begins middle ends table =
-    let key = slice_range source spot.key spot.row in
-    let row = slice_range source spot.row spot.end in
-    let parts = slice_joined source spot.key spot.row spot.end there.0 there.1 there.2 in
-    let all : new ≡ (bytes ++ key) ++ row = grown ∙ ap (λ part. bytes ++ part) parts ∙ sym (append_assoc bytes key row) in
-    let long : length key ≡ spot.row - spot.key = length-take-le (spot.row - spot.key) (drop spot.key source) (omega (arith, length-drop spot.key source, there.1, there.2)) in
-    let within : copied.row ≡ length (bytes ++ key) = omega (arith, middle, long, length-append bytes key) in
-    row_entry bytes key row new copied all begins within ends ∙ ap (λ t. ((pos t, key), row)) table
+-- ---- rows that stand one behind another
+
+pub slice_long : {X : Type 0} (xs : List X) (start end : ℕ) → end ≤ length xs → length (slice_range xs start end) ≡ end - start
+slice_long xs start end bound = length-take-le (end - start) (drop start xs) (omega (arith, length-drop start xs, bound))
+
+abbrev pub no_spot : Spot
+no_spot = record { head = 0; table = 0; key = 0; row = 0; end = 0 }
+
+-- a row more of them
+pub run_more : (start : ℕ) (run : List Spot) (end : ℕ) (s : Spot) → IsRun start run end → s.key ≡ end → IsRun start (run ++ s ∷ []) s.end
+run_more start [] end s is next = (next ∙ sym is, refl)
+run_more start (r ∷ run) end s is next = (is.0, run_more r.end run end s is.1 next)
+
+module _ (source : List ℕ) where
+  pub run_order : (run : List Spot) (start end : ℕ) → IsRun start run end → All (IsSpotIn source) run → start ≤ end
+  run_order [] start end is there = omega (arith, is)
+  run_order (s ∷ run) start end is there =
+      let here = there 0 s (omega arith) in
+      let rest = run_order run s.end end is.1 (all_tail (IsSpotIn source) s run there) in
+      omega (arith, is.0, here.0, here.1, rest)
+
+  pub run_within : (run : List Spot) (start end : ℕ) → IsRun start run end → All (IsSpotIn source) run → 0 < length run → end ≤ length source
+  run_within [] start end is there some = absurd (omega (arith, some))
+  run_within (s ∷ []) start end is there some = let here = there 0 s (omega arith) in omega (arith, is.1, here.2)
+  run_within (s ∷ r ∷ run) start end is there some = run_within (r ∷ run) s.end end is.1 (all_tail (IsSpotIn source) s (r ∷ run) there) (omega arith)
+
+  run_there : (run : List Spot) (start end at : ℕ) (d : Spot) → at < length run → IsRun start run end → All (IsSpotIn source) run → start ≤ (get_or run at d).key
+  run_there [] start end at d less is there = absurd (omega (arith, less))
+  run_there (s ∷ run) start end zero d less is there = omega (arith, is.0)
+  run_there (s ∷ run) start end (suc at) d less is there =
+      let here = there 0 s (omega arith) in
+      let rest = run_there run s.end end at d (omega (arith, less)) is.1 (all_tail (IsSpotIn source) s run there) in
+      omega (arith, is.0, here.0, here.1, rest)
+
+  pub run_ordered : (run : List Spot) (start end at : ℕ) (d : Spot) → at < length run → IsRun start run end → All (IsSpotIn source) run
+      → (start ≤ (get_or run at d).key) × ((get_or run at d).key ≤ (get_or run at d).row) × ((get_or run at d).row ≤ (get_or run at d).end)
+  run_ordered run start end at d less is there = let here = there at d less in (run_there run start end at d less is there, here.0, here.1)
+
+  -- how many bytes they take
+  pub run_bytes : (run : List Spot) (start end : ℕ) → IsRun start run end → All (IsSpotIn source) run → start + bytes_of (entries_at source run) ≡ end
+  run_bytes [] start end is there = omega (arith, is)
+  run_bytes (s ∷ run) start end is there =
+      let here = there 0 s (omega arith) in
+      let rest = run_bytes run s.end end is.1 (all_tail (IsSpotIn source) s run there) in
+      let key = slice_long source s.key s.row (omega (arith, here.1, here.2)) in
+      let row = slice_long source s.row s.end here.2 in
+      omega (arith, is.0, here.0, here.1, key, row, rest)
+
+-- rows that are copied from other bytes in one piece
+module _ (bytes source new : List ℕ) (start end : ℕ) (grown : new ≡ bytes ++ slice_range source start end) (bound : end ≤ length source) where
+  moved_slice : (from to : ℕ) → start ≤ from → from ≤ to → to ≤ end → slice_range new (length bytes + (from - start)) (length bytes + (to - start)) ≡ slice_range source from to
+  moved_slice from to first middle last =
+      let front = slice_range source start from in
+      let part = slice_range source from to in
+      let back = slice_range source to end in
+      let parts : slice_range source start end ≡ front ++ (part ++ back) =
+      slice_joined source start from end first (omega (arith, middle, last)) bound ∙ ap (λ zs. front ++ zs) (slice_joined source from to end middle last bound) in
+      let all : new ≡ ((bytes ++ front) ++ part) ++ back =
+      grown ∙ ap (λ zs. bytes ++ zs) parts ∙ sym (append_assoc bytes front (part ++ back)) ∙ sym (append_assoc (bytes ++ front) part back) in
+      let long = slice_long source start from (omega (arith, middle, last, bound)) in
+      let its = slice_long source from to (omega (arith, last, bound)) in
+      let begins : length bytes + (from - start) ≡ length (bytes ++ front) = omega (arith, long, length-append bytes front) in
+      let ends : length bytes + (to - start) ≡ length ((bytes ++ front) ++ part) = omega (arith, long, its, first, middle, length-append bytes front, length-append (bytes ++ front) part) in
+      (λ i. slice_range (all i) (begins i) (ends i))
+      ∙ slice_kept ((bytes ++ front) ++ part) back (length (bytes ++ front)) (length ((bytes ++ front) ++ part)) (omega (arith, length-append (bytes ++ front) part)) (omega arith)
+      ∙ last_part (bytes ++ front) part
+
+  moved_entry : (s : Spot) → IsSpotIn source s → start ≤ s.key → s.end ≤ end → entry_at new (moved s start (length bytes)) ≡ entry_at source s
+  moved_entry s here first last =
+      let key = moved_slice s.key s.row first here.0 (omega (arith, here.1, last)) in
+      let row = moved_slice s.row s.end (omega (arith, first, here.0)) here.1 last in
+      λ i. ((pos s.table, key i), row i)
+
+  moved_in : (s : Spot) → IsSpotIn source s → start ≤ s.key → s.end ≤ end → IsSpotIn new (moved s start (length bytes))
+  moved_in s here first last = (
+    omega (arith, here.0),
+    omega (arith, here.1),
+    omega (arith, ap length grown, length-append bytes (slice_range source start end), slice_long source start end bound, first, here.0, here.1, last),
+    subst (IsHeadOf s.head) (sym (moved_slice s.key s.row first here.0 (omega (arith, here.1, last)))) here.3,
+  )
+
+  pub moved_run : (run : List Spot) (from : ℕ) → start ≤ from → IsRun from run end → All (IsSpotIn source) run
+      → All (IsSpotIn new) (map (λ s. moved s start (length bytes)) run) × (entries_at new (map (λ s. moved s start (length bytes)) run) ≡ entries_at source run)
+  moved_run [] from first is there = ((λ k d less. absurd (omega (arith, less))), refl)
+  moved_run (s ∷ run) from first is there =
+      let here = there 0 s (omega arith) in
+      let others = all_tail (IsSpotIn source) s run there in
+      let last = run_order source run s.end end is.1 others in
+      let begins : start ≤ s.key = omega (arith, first, is.0) in
+      let rest = moved_run run s.end (omega (arith, begins, here.0, here.1)) is.1 others in (
+        all_first (IsSpotIn new) (moved s start (length bytes)) (map (λ r. moved r start (length bytes)) run) (moved_in s here begins last) rest.0,
+        λ i. moved_entry s here begins last i ∷ rest.1 i,
+      )
+
+  pub moved_long : (run : List Spot) → start ≤ end → IsRun start run end → All (IsSpotIn source) run → length new ≡ length bytes + bytes_of (entries_at source run)
+  moved_long run order is there =
+      let size = run_bytes source run start end is there in
+      omega (arith, ap length grown, length-append bytes (slice_range source start end), slice_long source start end bound, order, size)
+
+-- a row more of them
+pub moved_more : (run spots old new : List Spot) (start held at : ℕ) (s m : Spot) → at < length run → get_or run at s ≡ s → m ≡ moved s start held → old ≡ spots ++ map (λ r. moved r start held) (take at run) → new ≡ old ++ m ∷ []
+    → new ≡ spots ++ map (λ r. moved r start held) (take (at + 1) run)
+moved_more run spots old new start held at s m less here is was grown =
+    let f : Spot → Spot = λ r. moved r start held in
+    let more : map f (take (at + 1) run) ≡ map f (take at run) ++ f s ∷ [] =
+    ap (map f) (take_more run at s less ∙ ap (λ (x : Spot). take at run ++ x ∷ []) here) ∙ map-append f (take at run) (s ∷ []) in
+    grown ∙ (λ i. was i ++ is i ∷ []) ∙ append_assoc spots (map f (take at run)) (f s ∷ []) ∙ ap (λ (zs : List Spot). spots ++ zs) (sym more)
+
+-- spots more
+pub run_pushed : (bytes more new : List ℕ) (spots others now : List Spot) → All (IsSpotIn bytes) spots → All (IsSpotIn new) others → new ≡ bytes ++ more → now ≡ spots ++ others → All (IsSpotIn new) now
+run_pushed bytes more new spots others now within its grown is = subst (All (IsSpotIn new)) (sym is) (All-append (IsSpotIn new) spots others (spots_kept bytes more new spots within grown) its)
+
+pub entries_joined : (bytes more new : List ℕ) (spots others now : List Spot) (es : List Entry) → All (IsSpotIn bytes) spots → new ≡ bytes ++ more → now ≡ spots ++ others → entries_at new others ≡ es → entries_at new now ≡ entries_at bytes spots ++ es
+entries_joined bytes more new spots others now es within grown is its =
+    ap (entries_at new) is ∙ map-append (entry_at new) spots others ∙ (λ i. entries_kept bytes more new spots within grown i ++ its i)
 
 -- a spot more
 pub spots_pushed : (new : List ℕ) (spots now : List Spot) (spot : Spot) → All (IsSpotIn new) spots → IsSpotIn new spot → now ≡ spots ++ spot ∷ [] → All (IsSpotIn new) now
 spots_pushed new spots now spot within here is = subst (All (IsSpotIn new)) (sym is) (All-push (IsSpotIn new) spots spot within here)
 
 pub entries_pushed : (bytes more new : List ℕ) (spots now : List Spot) (spot : Spot) (e : Entry) → All (IsSpotIn bytes) spots → new ≡ bytes ++ more → now ≡ spots ++ spot ∷ [] → entry_at new spot ≡ e → entries_at new now ≡ entries_at bytes spots ++ e ∷ []
-entries_pushed bytes more new spots now spot e within grown is its =
-    ap (entries_at new) is ∙ map-append (entry_at new) spots (spot ∷ []) ∙ (λ i. entries_kept bytes more new spots within grown i ++ its i ∷ [])
+entries_pushed bytes more new spots now spot e within grown is its = entries_joined bytes more new spots (spot ∷ []) now (e ∷ []) within grown is (λ i. its i ∷ [])
 
--- an entry more of a list
-pub slice_more : (es : List Entry) (from at : ℕ) → from ≤ at → at < length es → slice_range es from (at + 1) ≡ slice_range es from at ++ nth es at ∷ []
-slice_more es from at le less =
+pub slice_entries : (bytes : List ℕ) (spots : List Spot) (from to : ℕ) → entries_at bytes (slice_range spots from to) ≡ slice_range (entries_at bytes spots) from to
+slice_entries bytes spots from to = sym (take-map (entry_at bytes) (to - from) (drop from spots)) ∙ ap (take (to - from)) (sym (drop-map (entry_at bytes) from spots))
+
+-- the spots of some rows stand in the bytes too
+pub slice_within : (bytes : List ℕ) (spots : List Spot) (from to : ℕ) → All (IsSpotIn bytes) spots → All (IsSpotIn bytes) (slice_range spots from to)
+slice_within bytes spots from to within = All-take (IsSpotIn bytes) (to - from) (drop from spots) (All-drop (IsSpotIn bytes) from spots within)
+
+-- one more of a list
+pub slice_more : {X : Type 0} (xs : List X) (d : X) (from at : ℕ) → from ≤ at → at < length xs → slice_range xs from (at + 1) ≡ slice_range xs from at ++ get_or xs at d ∷ []
+slice_more {X} xs d from at le less =
     let n : at + 1 - from ≡ (at - from) + 1 = omega arith in
     let m : from + (at - from) ≡ at = omega arith in
-    ap (λ k. take k (drop from es)) n ∙ take_more (drop from es) (at - from) no_entry (omega (arith, length-drop from es))
-    ∙ ap (λ (e : Entry). slice_range es from at ++ e ∷ []) (get_or-drop from es (at - from) no_entry ∙ ap (λ k. get_or es k no_entry) m)
+    ap (λ k. take k (drop from xs)) n ∙ take_more (drop from xs) (at - from) d (omega (arith, length-drop from xs))
+    ∙ ap (λ (x : X). slice_range xs from at ++ x ∷ []) (get_or-drop from xs (at - from) d ∙ ap (λ k. get_or xs k d) m)
 
-pub one_more : (before es all : List Entry) (e : Entry) (from at : ℕ) → from ≤ at → at < length es → e ≡ nth es at → all ≡ (before ++ slice_range es from at) ++ e ∷ [] → all ≡ before ++ slice_range es from (at + 1)
-one_more before es all e from at le less is all_is =
-    all_is ∙ ap (λ (x : Entry). (before ++ slice_range es from at) ++ x ∷ []) is ∙ append_assoc before (slice_range es from at) (nth es at ∷ [])
-    ∙ ap (λ (zs : List Entry). before ++ zs) (sym (slice_more es from at le less))
+pub slice_none : {X : Type 0} (xs : List X) (from : ℕ) → slice_range xs from from ≡ []
+slice_none xs from = let n : from - from ≡ 0 = omega arith in ap (λ k. take k (drop from xs)) n
 
 -- ---- how many bytes rows take
 
@@ -144,10 +252,10 @@ bytes_after es at p body is_there there =
     rest true less = bytes_from es at (less refl)
     rest false less = omega arith
 
--- a row more
-pub tight_pushed : (es all : List Entry) (e : Entry) (used held len used_after : ℕ) → IsTight used held es → all ≡ es ++ e ∷ [] → len ≡ held + size_of e → used_after ≡ used + (len - held) → IsTight used_after len all
-tight_pushed es all e used held len used_after was grown long is =
-    let bytes : bytes_of all ≡ bytes_of es + size_of e = ap bytes_of grown ∙ bytes_append es (e ∷ []) ∙ (let none : size_of e + 0 ≡ size_of e = omega arith in ap (λ n. bytes_of es + n) none) in
+-- rows more
+pub tight_grown : (es more all : List Entry) (used held len used_after : ℕ) → IsTight used held es → all ≡ es ++ more → len ≡ held + bytes_of more → used_after ≡ used + (len - held) → IsTight used_after len all
+tight_grown es more all used held len used_after was grown long is =
+    let bytes : bytes_of all ≡ bytes_of es + bytes_of more = ap bytes_of grown ∙ bytes_append es more in
     (omega (arith, was.0, bytes, long, is), omega (arith, was.1, long, is), omega (arith, was.1, was.2, long, is))
 
 -- a row that goes, and one that comes
@@ -157,6 +265,11 @@ tight_after es after used gone held more len used_after was less bytes long is b
     (omega (arith, was.0, less, bytes, long, is), omega (arith, was.0, was.1, less, long, is), bound)
 
 -- ---- the first spot
+
+-- it stays where spots come behind it
+pub front_kept : (front : Front) (spots more now : List Spot) → IsFrontOf front spots → now ≡ spots ++ more → (length spots ≡ 0) ⊎ IsFrontOf front now
+front_kept front [] more now is grown = inl refl
+front_kept front (s ∷ spots) more now is grown = inr (subst (IsFrontOf front) (sym grown) is)
 
 -- it stays where spots are edited behind it
 pub front_stays : (front : Front) (spots : List Spot) (at : ℕ) (spot_edit : SpotEdit) → IsFrontOf front spots → IsSpotEditAt (length spots) at spot_edit → (at ≡ 0) ⊎ IsFrontOf front (spots_after spots at spot_edit)

@@ -23,6 +23,15 @@ IsHeadOf head key = (head ≡ head_of 16 key) × AreBytes key
 abbrev pub IsSpotIn : List ℕ → Spot → Type 0
 IsSpotIn bytes s = (s.key ≤ s.row) × (s.row ≤ s.end) × (s.end ≤ length bytes) × IsHeadOf s.head (slice_range bytes s.key s.row)
 
+-- spots that stand one behind another in the bytes, from `start` up to `end`
+abbrev pub IsRun : ℕ → List Spot → ℕ → Type 0
+IsRun start [] end = start ≡ end
+IsRun start (s ∷ spots) end = (s.key ≡ start) × IsRun s.end spots end
+
+-- the spot of which the bytes from `start` on stand behind `held` others
+abbrev pub moved : Spot → ℕ → ℕ → Spot
+moved s start held = record { head = s.head; table = s.table; key = held + (s.key - start); row = held + (s.row - start); end = held + (s.end - start) }
+
 -- the head and the table of the first spot, or zeros
 abbrev pub IsFrontOf : Front → List Spot → Type 0
 IsFrontOf front [] = (front.head ≡ 0) × (front.table ≡ 0)

@@ -1,8 +1,8 @@
 //! Bodies that follow one another, over one list of bytes, and an edit of them in place.
 
-ghost use Rattle.std.specs.Prelude.{◌≡◌, ◌⊎◌, ◌≤◌, ◌+◌, ◌*◌, ◌++◌, ◌∷◌, ℕ, List, [], length, option_map, IfOk, IfSome, OnOk, OnErr};
+ghost use Rattle.std.specs.Prelude.{◌≡◌, ◌⊎◌, ◌≤◌, ◌+◌, ◌*◌, ◌^◌, ◌++◌, ◌∷◌, ◌<◌, ◌-◌, ℕ, List, [], length, map, slice_range, option_map, IfOk, IfSome, OnOk, OnErr};
 ghost use Rattle.std.specs.List.{All};
-ghost use Rattle.cs_leaf.specs.Entries.{HasRoomFor, IsFrontOf, IsPacked, IsSpotIn, IsSpotEditAt, IsSpotEditFor, bytes_of, entries_at, entry_at, size_of, spots_after, written};
+ghost use Rattle.cs_leaf.specs.Entries.{HasRoomFor, IsFrontOf, IsPacked, IsRun, IsSpotIn, IsSpotEditAt, IsSpotEditFor, bytes_of, entries_at, entry_at, moved, size_of, spots_after, written};
 
 use crate::heads::{compare_keys, head};
 use cs_edits::PlaceEdit;
@@ -33,6 +33,7 @@ impl<'a> Model for Place<'a> {
 
 impl<'a> Place<'a> {
     ghost use Rattle.std.specs.Prelude.{◌≡◌, pos};
+    ghost use Rattle.cs_store.specs.Contents.{place_cmp};
     ghost use Rattle.cs_store.specs.Written.{store_place};
 
     /// The place of a table's number and the bytes of a key.
@@ -53,6 +54,17 @@ impl<'a> Place<'a> {
         ensures { result ≡ store_place edit.now }
     {
         Place::new(edit.table(), edit.key())
+    }
+
+    /// Compares two places.
+    #[inline(always)]
+    pub fn compare(&self, other: &Place) -> Ordering
+        ensures { result ≡ place_cmp self.now other.now }
+    {
+        match self.table.cmp(&other.table) {
+            Ordering::Equal => compare_keys(self.head, self.key, other.head, other.key),
+            apart => apart,
+        }
     }
 }
 
@@ -135,14 +147,16 @@ fn share(count: usize, part: u128, all: u128) -> usize {
     }
 }
 
-/// Where the first of some rows stands after an edit of them at a position, and before it stood there. Behind the first it stays,
-/// and is not read.
+/// Notes where the first of some rows stands after an edit of them at a position, where before it stood there. Behind the first it
+/// stays, and is not read.
 #[inline(always)]
-fn front_after(front: Front, spots: &[Spot], at: usize) -> Front
-    requires { (at ≡ 0) ⊎ IsFrontOf front spots.now }
-    ensures { IsFrontOf result spots.now }
+fn note_front(front: &mut Front, spots: &[Spot], at: usize)
+    requires { (at ≡ 0) ⊎ IsFrontOf front.old spots.now }
+    ensures { IsFrontOf front.new spots.now }
 {
-    if at == 0 { front_of(spots) } else { front }
+    if at == 0 {
+        *front = front_of(spots);
+    }
 }
 
 /// Appends the bytes of a row, and answers where they stand. At `Err` nothing has changed.
@@ -180,6 +194,7 @@ fn put(
 ) -> Result<(), AllocError>
     requires { All (IsSpotIn bytes.old.items) spots.old.items }
     ensures within { All (IsSpotIn bytes.new.items) spots.new.items }
+    ensures behind { OnOk result ((more : List Spot) × (spots.new.items ≡ spots.old.items ++ more)) }
     ensures ok { OnOk result (entries_at bytes.new.items spots.new.items
         ≡ entries_at bytes.old.items spots.old.items ++ (place.now, row.now) ∷ []) }
     ensures len { OnOk result (length bytes.new.items ≡ length bytes.old.items + size_of (place.now, row.now)) }
@@ -192,47 +207,81 @@ fn put(
     Ok(())
 }
 
-/// Appends the bytes of a row that stands in others, and answers where they stand. At `Err` nothing has changed.
-#[inline(always)]
-fn add_copy(bytes: &mut Vec<u8>, source: &[u8], spot: Spot) -> Result<Spot, AllocError>
-    requires { IsSpotIn source.now spot }
-    ensures behind { (more : List ℕ) × (bytes.new.items ≡ bytes.old.items ++ more) }
-    ensures spot { IfOk result (λ copied. IsSpotIn bytes.new.items copied) }
-    ensures entry { IfOk result (λ copied. entry_at bytes.new.items copied ≡ entry_at source.now spot) }
-    ensures len { OnOk result (length bytes.new.items ≡ length bytes.old.items + size_of (entry_at source.now spot)) }
-    ensures err { OnErr result (bytes.new.items ≡ bytes.old.items) }
-{
-    let start = bytes.len();
-    bytes.extend_from_slice(&source[spot.key..spot.end])?;
-    Ok(Spot {
-        head: spot.head,
-        table: spot.table,
-        key: start,
-        row: start + (spot.row - spot.key),
-        end: bytes.len(),
-    })
+/// Rows that stand one behind another in a leaf's bytes, from `start` up to `end`. The first that doesn't belong to them stands at
+/// `to` in its spots.
+#[derive(Clone, Copy)]
+struct Run {
+    to: usize,
+    start: usize,
+    end: usize,
 }
 
-/// Appends a row that stands in other bytes. At `Err` nothing has changed.
+/// The rows from one position on that stand one behind another in the bytes, of those before another position.
 #[inline(always)]
-fn put_copy(
+fn run_from(spots: &[Spot], from: usize, to: usize) -> Run
+    requires { (from < to) × (to ≤ length spots.now) }
+    ensures bound { (from < result.to) × (result.to ≤ to) }
+    ensures run { IsRun result.start (slice_range spots.now from result.to) result.end }
+{
+    let first = spots[from];
+    let mut end = first.end;
+    let mut next = from + 1;
+    while next < to && spots[next].key == end {
+        end = spots[next].end;
+        next += 1;
+    }
+    Run {
+        to: next,
+        start: first.key,
+        end,
+    }
+}
+
+/// Where a row stands of whose bytes those from `start` on stand behind `held` others now.
+#[inline(always)]
+fn moved(spot: Spot, start: usize, held: usize) -> Spot
+    requires order { (start ≤ spot.key) × (spot.key ≤ spot.row) × (spot.row ≤ spot.end) }
+    requires bound { held + (spot.end - start) < 2 ^ 64 }
+    ensures { result ≡ moved spot start held }
+{
+    Spot {
+        head: spot.head,
+        table: spot.table,
+        key: held + (spot.key - start),
+        row: held + (spot.row - start),
+        end: held + (spot.end - start),
+    }
+}
+
+/// Appends rows that stand one behind another in other bytes, from `start` up to `end`. Their bytes are copied in one piece. At
+/// `Err` nothing has changed.
+#[inline(always)]
+fn put_run(
     bytes: &mut Vec<u8>,
     spots: &mut Vec<Spot>,
     source: &[u8],
-    spot: Spot,
+    run: &[Spot],
+    start: usize,
+    end: usize,
 ) -> Result<(), AllocError>
     requires held { All (IsSpotIn bytes.old.items) spots.old.items }
-    requires there { IsSpotIn source.now spot }
+    requires there { All (IsSpotIn source.now) run.now }
+    requires run { IsRun start run.now end }
+    requires bound { (start ≤ end) × (end ≤ length source.now) }
     ensures within { All (IsSpotIn bytes.new.items) spots.new.items }
+    ensures behind { OnOk result ((more : List Spot) × (spots.new.items ≡ spots.old.items ++ more)) }
     ensures ok { OnOk result (entries_at bytes.new.items spots.new.items
-        ≡ entries_at bytes.old.items spots.old.items ++ entry_at source.now spot ∷ []) }
-    ensures len { OnOk result (length bytes.new.items ≡ length bytes.old.items + size_of (entry_at source.now spot)) }
+        ≡ entries_at bytes.old.items spots.old.items ++ entries_at source.now run.now) }
+    ensures len { OnOk result (length bytes.new.items ≡ length bytes.old.items + bytes_of (entries_at source.now run.now)) }
     ensures same_bytes { OnErr result (bytes.new.items ≡ bytes.old.items) }
     ensures same_spots { OnErr result (spots.new.items ≡ spots.old.items) }
 {
-    spots.reserve(1)?;
-    let copied = add_copy(bytes, source, spot)?;
-    spots.push_reserved(copied);
+    spots.reserve(run.len())?;
+    let held = bytes.len();
+    bytes.extend_from_slice(&source[start..end])?;
+    for at in 0..run.len() {
+        spots.push_reserved(moved(run[at], start, held));
+    }
     Ok(())
 }
 
@@ -314,10 +363,12 @@ impl Leaf {
         ensures { result ≡ place_cmp (nth self.now at).0 place.now }
     {
         let spot = self.spots[at];
-        match spot.table.cmp(&place.table) {
-            Ordering::Equal => compare_keys(spot.head, self.key(at), place.head, place.key),
-            apart => apart,
-        }
+        let here = Place {
+            table: spot.table,
+            key: self.key(at),
+            head: spot.head,
+        };
+        here.compare(place)
     }
 
     /// The key of the first row, or none.
@@ -406,13 +457,34 @@ impl Leaf {
     }
 
     /// Where a place stands or would stand, not before `from`. It takes the logarithm of the way from there.
-    pub(crate) fn search(&self, from: usize, place: &Place) -> usize
+    fn search(&self, from: usize, place: &Place) -> usize
         requires { from ≤ length self.now }
         ensures bound { (from ≤ result) × (result ≤ length self.now) }
         ensures found { IsPlaceFor self.now from result place.now }
     {
         let reached = self.reach(from, place);
         self.settle(from, reached, place)
+    }
+
+    /// Where a place stands or would stand, not before `from`, and where the leaf goes on behind it.
+    #[inline(always)]
+    pub(crate) fn pass(&self, from: usize, place: &Place) -> (usize, usize)
+        requires { from ≤ length self.now }
+        ensures bound { (from ≤ result.0) × (result.0 ≤ length self.now) }
+        ensures found { IsPlaceFor self.now from result.0 place.now }
+        ensures behind { IsBehind self.now result.0 place.now result.1 }
+    {
+        if from == self.len() {
+            return (from, from);
+        }
+        match self.compare(from, place) {
+            Ordering::Less => {
+                let at = self.search(from + 1, place);
+                (at, self.behind(at, place))
+            }
+            Ordering::Equal => (from, from + 1),
+            Ordering::Greater => (from, from),
+        }
     }
 
     /// Where a place stands or would stand. It is looked for from `near` on first.
@@ -437,7 +509,7 @@ impl Leaf {
 
     /// Where the leaf goes on behind a place, which stands or would stand at `at`.
     #[inline(always)]
-    pub(crate) fn behind(&self, at: usize, place: &Place) -> usize
+    fn behind(&self, at: usize, place: &Place) -> usize
         requires { at ≤ length self.now }
         ensures { IsBehind self.now at place.now result }
     {
@@ -481,37 +553,45 @@ impl Leaf {
         ensures { OnOk result (self.new ≡ self.old ++ (place.now, row.now) ∷ []) }
     {
         let held = self.bytes.len();
+        let rows = self.spots.len();
         put(&mut self.bytes, &mut self.spots, place, row)?;
-        self.front = front_of(self.spots.as_slice());
+        note_front(&mut self.front, self.spots.as_slice(), rows);
         self.used += self.bytes.len() - held;
         Ok(())
     }
 
-    /// Appends the row that a leaf has there. At `Err` nothing has changed.
-    #[inline(always)]
-    fn push_copy(&mut self, leaf: &Leaf, at: usize) -> Result<(), AllocError>
-        requires { at < length leaf.now }
-        ensures { OnOk result (self.new ≡ self.old ++ nth leaf.now at ∷ []) }
+    /// Appends the rows of a leaf from one place on, up to another, that stand one behind another in its bytes, and answers where the
+    /// leaf goes on. At `Err` nothing has changed.
+    fn push_run(&mut self, leaf: &Leaf, from: usize, to: usize) -> Result<usize, AllocError>
+        requires { (from < to) × (to ≤ length leaf.now) }
+        ensures bound { IfOk result (λ next. (from < next) × (next ≤ to)) }
+        ensures pushed { IfOk result (λ next. self.new ≡ self.old ++ slice_range leaf.now from next) }
     {
         let held = self.bytes.len();
-        put_copy(
+        let rows = self.spots.len();
+        let run = run_from(leaf.spots.as_slice(), from, to);
+        put_run(
             &mut self.bytes,
             &mut self.spots,
             leaf.bytes.as_slice(),
-            leaf.spots[at],
+            &leaf.spots.as_slice()[from..run.to],
+            run.start,
+            run.end,
         )?;
-        self.front = front_of(self.spots.as_slice());
+        note_front(&mut self.front, self.spots.as_slice(), rows);
         self.used += self.bytes.len() - held;
-        Ok(())
+        Ok(run.to)
     }
 
     /// Appends the rows of a leaf from one place up to another.
+    #[inline(always)]
     pub fn push_rows(&mut self, leaf: &Leaf, from: usize, to: usize) -> Result<(), AllocError>
         requires { (from ≤ to) × (to ≤ length leaf.now) }
         ensures { OnOk result (self.new ≡ self.old ++ slice_range leaf.now from to) }
     {
-        for at in from..to {
-            self.push_copy(leaf, at)?;
+        let mut at = from;
+        while at < to {
+            at = self.push_run(leaf, at, to)?;
         }
         Ok(())
     }
@@ -729,10 +809,12 @@ impl Amendment {
             spot_edit,
             ..
         } = self;
+        let mut front = front;
         let mut spots = spots;
         edit_spots(&mut spots, at, spot_edit);
+        note_front(&mut front, spots.as_slice(), at);
         Leaf {
-            front: front_after(front, spots.as_slice(), at),
+            front,
             bytes,
             spots,
             used: used_after,

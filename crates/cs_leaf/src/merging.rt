@@ -11,6 +11,7 @@ use cs_edits::{LentEdits, PlaceEdit};
 use std::alloc::{AllocError, Global};
 
 /// Appends the row that an edit sets at its place, if it sets one.
+#[inline(always)]
 fn push_edit(merged: &mut Leaf, place: &Place, body: Option<&[u8]>) -> Result<(), AllocError>
     ensures { OnOk result (merged.new ≡ merged.old ++ written place.now (option_map (λ row. row.now) body.entry)) }
 {
@@ -21,6 +22,7 @@ fn push_edit(merged: &mut Leaf, place: &Place, body: Option<&[u8]>) -> Result<()
 }
 
 /// Appends the rows of a leaf before an edit, from one place on, and then the edit's row, and answers where the leaf goes on.
+#[inline(always)]
 fn merge_edit(
     merged: &mut Leaf,
     leaf: &Leaf,
@@ -33,10 +35,10 @@ fn merge_edit(
     ensures merged { IfOk result (λ next. IsMerged leaf.now from edit.now next merged.old merged.new) }
 {
     let place = Place::of_edit(edit);
-    let at = leaf.search(from, &place);
+    let (at, next) = leaf.pass(from, &place);
     merged.push_rows(leaf, from, at)?;
     push_edit(merged, &place, edit.body())?;
-    Ok(leaf.behind(at, &place))
+    Ok(next)
 }
 
 /// The rows of a leaf after an edit, in memory of their own.

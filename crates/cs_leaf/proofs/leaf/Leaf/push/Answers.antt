@@ -1,7 +1,6 @@
-use Rattle.std.proofs.Common.{arith, subst}
-use Rattle.std.specs.Prelude.{length}
+use Rattle.std.proofs.Common.{◌∷◌, [], length, arith, subst}
 use Rattle.cs_leaf.specs.Entries.{IsFrontOf, entries_at}
-use Rattle.cs_leaf.proofs.Packing.{still_packed, tight_pushed}
+use Rattle.cs_leaf.proofs.Packing.{still_packed, tight_grown}
 use Rattle.cs_leaf.proofs.leaf.Leaf.push.Goals as goal
 
 pub invariant_of-self : goal.invariant_of-self
@@ -14,7 +13,7 @@ invariant_of-self-2 c =
     let was = c.self.inside in
     let its = c.put.ensures in (
       its.within,
-      subst (IsFrontOf c.front_of-self-inside.result) c.as_slice.ensures.value c.front_of-self-inside.ensures,
-      tight_pushed (entries_at was.bytes.items was.spots.items) (entries_at c.put.new.bytes.items c.put.new.spots.items) (c.args.place.now, c.args.row.now)
-          was.used (length was.bytes.items) (length c.put.new.bytes.items) _ c.self.invariant.2 c.in_ok-put.ensures.ok c.in_ok-put.ensures.len (omega arith),
+      subst (IsFrontOf c.note_front.new.front) c.as_slice.ensures.value c.note_front.ensures,
+      tight_grown (entries_at was.bytes.items was.spots.items) ((c.args.place.now, c.args.row.now) ∷ []) (entries_at c.put.new.bytes.items c.put.new.spots.items)
+          was.used (length was.bytes.items) (length c.put.new.bytes.items) _ c.self.invariant.2 c.in_ok-put.ensures.ok (omega (arith, c.in_ok-put.ensures.len)) (omega arith),
     )
