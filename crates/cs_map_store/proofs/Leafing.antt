@@ -298,14 +298,14 @@ patch_one leaves at w p made are less is by behind behind_keep before_keep makes
     ∙ patch_leaf leaves leaves 0 at w [] are refl are.rise refl (omega arith) less (subst (BeginsBy leaves at) is by) (subst (BeginsBehind leaves (at + 1)) is behind, tt) (tt, tt) behind_keep before_keep
 
 pub patch_more : (leaves now : List (List Entry)) (from at count : ℕ) (w : BodyEdit) (ws vs : List BodyEdit) (made : List Entry) (end : List Entry) → AreLeaves leaves → length now ≡ length leaves → T (is_sorted place_cmp (flat now)) → drop from now ≡ drop from leaves
-    → from ≤ at → at < length leaves → BeginsBy leaves at (store_place w) → ws ≡ w ∷ vs → 0 < count → AreBefore leaves (at + 1) (take count ws) → Rise ws → EditsBehindKeep → EditsBeforeKeep → made ≡ fold edited (nth_leaf leaves at) (take count ws) → fold edited (flat now) ws ≡ end
+    → from ≤ at → at < length leaves → BeginsBy leaves at (store_place w) → ws ≡ w ∷ vs → 0 < count → AreBefore leaves (at + 1) (take count ws) → Rise (take count ws) → EditsBehindKeep → EditsBeforeKeep → made ≡ fold edited (nth_leaf leaves at) (take count ws) → fold edited (flat now) ws ≡ end
     → (flat (slice_set now at made) ≡ fold edited (flat now) (take count ws)) × (fold edited (flat (slice_set now at made)) (drop count ws) ≡ end)
 patch_more leaves now from at zero w ws vs made end are long sorted same le less by is some before rise behind_keep before_keep makes was = absurd (omega (arith, some))
 patch_more leaves now from at (suc n) w ws vs made end are long sorted same le less by is some before rise behind_keep before_keep makes was =
     let first : take (suc n) ws ≡ w ∷ take n vs = ap (take (suc n)) is in
     let one : flat (slice_set now at made) ≡ fold edited (flat now) (take (suc n) ws) =
     ap (λ (m : List Entry). flat (slice_set now at m)) (makes ∙ ap (fold edited (nth_leaf leaves at)) first)
-    ∙ patch_leaf leaves now from at w (take n vs) are long sorted same le less by (subst (AreBefore leaves (at + 1)) first before) (subst Rise first (rise_take ws (suc n) rise)) behind_keep before_keep
+    ∙ patch_leaf leaves now from at w (take n vs) are long sorted same le less by (subst (AreBefore leaves (at + 1)) first before) (subst Rise first rise) behind_keep before_keep
     ∙ ap (fold edited (flat now)) (sym first) in
     (one, ap (λ (es : List Entry). fold edited es (drop (suc n) ws)) one ∙ sym (fold_both (flat now) (take (suc n) ws) (drop (suc n) ws)) ∙ ap (fold edited (flat now)) (take-append-drop (suc n) ws) ∙ was)
 

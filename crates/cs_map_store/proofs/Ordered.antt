@@ -1,17 +1,19 @@
 -- Edits in the order of their places.
-use Rattle.std.proofs.Common.{◌≡◌, ℕ, zero, suc, ◌+◌, ◌<◌, ◌≤◌, ◌⊎◌, inl, inr, Bool, true, false, cond, not, ◌&&◌, List, [], ◌∷◌, ◌++◌, Option, Some, refl, sym, ap, subst, ◌∙◌, length, get_or, take, drop, fold, filter, arith, ⊎_elim}
+use Rattle.std.proofs.Common.{◌≡◌, ℕ, zero, suc, ◌+◌, ◌<◌, ◌≤◌, ◌⊎◌, inl, inr, Bool, true, false, cond, not, ◌&&◌, List, [], ◌∷◌, ◌++◌, Option, Some, None, refl, sym, ap, subst, ◌∙◌, length, get_or, take, drop, fold, filter, arith, ⊎_elim}
 use Rattle.cs_edits.specs.Edits.{BodyEdit}
+use Rattle.std.specs.Prelude.{IfSome, is_some}
 use Rattle.std.specs.declared.cmp.Ordering.{Ordering}
 use Rattle.std.specs.declared.cmp.Ordering.TheVariants.{Less, Equal, Greater}
 use Rattle.std.specs.Ordering.{is_eq, is_lt, eq_by_cmp, ordering_reverse}
 use Rattle.std.specs.List.{slice_get}
 use Rattle.std.specs.List.Sorted.{IsSortedBy, IsStableBy, ties}
 use Rattle.std.specs.FinMap.{get, same_map}
-use Rattle.std.proofs.lemmas.List.{append_assoc, append-nil}
+use Rattle.std.proofs.lemmas.List.{append_assoc, append-nil, take-append-drop}
+use Rattle.std.proofs.lemmas.Option.{same_Some, slice_get_within}
 use Rattle.cs_store.specs.Contents.{StorePlace, Bodies, place_cmp}
 use Rattle.cs_store.specs.Written.{edit_body}
 use Rattle.cs_leaf.specs.Edits.{Follow, Rise, store_place}
-use Rattle.cs_map_store.specs.Leaves.{DontFall, is_last_of}
+use Rattle.cs_map_store.specs.Leaves.{DontFall, ReachLeaf, is_last_of}
 use Rattle.cs_map_store.proofs.Maps.{place_total, place_exact, get-with_body}
 use Rattle.cs_map_store.proofs.Leafing.{up_to}
 
@@ -53,6 +55,33 @@ rise_more edits k at v w next is last below was =
     let one : take at edits ≡ front ++ v ∷ [] = ap (λ n. take n edits) next ∙ up_to edits k v is in
     let two : take (at + 1) edits ≡ front ++ v ∷ w ∷ [] = up_to edits at w last ∙ ap (λ (es : List BodyEdit). es ++ w ∷ []) one ∙ append_assoc front (v ∷ []) (w ∷ []) in
     subst Rise (sym two) (rise_push front v w below (subst Rise one was))
+
+-- of edits whose places rise each is below the next
+rises_there : (edits : List BodyEdit) (k : ℕ) (v w : BodyEdit) → slice_get edits k ≡ Some v → slice_get edits (suc k) ≡ Some w → Rise edits → place_cmp (store_place v) (store_place w) ≡ Less
+rises_there [] k v w is next rise = absurd (omega (arith, slice_get_within [] k v is))
+rises_there (e ∷ []) zero v w is next rise = absurd (omega (arith, slice_get_within (e ∷ []) 1 w next))
+rises_there (e ∷ f ∷ es) zero v w is next rise = (λ i. place_cmp (store_place (sym (same_Some e v is) i)) (store_place (sym (same_Some f w next) i))) ∙ rise.0.0
+rises_there (e ∷ es) (suc k) v w is next rise = rises_there es k v w is next rise.1
+
+pub falls_there : (edits : List BodyEdit) (k at : ℕ) (v w : BodyEdit) → at ≡ k + 1 → slice_get edits k ≡ Some v → slice_get edits at ≡ Some w → is_lt (place_cmp (store_place v) (store_place w)) ≡ false → Rise edits → ⊥
+falls_there edits k at v w next is last fall rise =
+    let n : at ≡ suc k = omega (arith, next) in
+    let no : true ≡ false = sym (ap is_lt (rises_there edits k v w is (ap (slice_get edits) (sym n) ∙ last) rise)) ∙ fall in
+    absurd cc
+
+pub few_rise : (edits : List BodyEdit) → length edits ≤ 1 → Rise edits
+few_rise [] few = tt
+few_rise (e ∷ []) few = (tt, tt)
+few_rise (e ∷ f ∷ es) few = absurd (omega (arith, few))
+
+-- edits of which those rise that are before the end of no leaves
+pub all_rise : (edits : List BodyEdit) (found : Option ℕ) → IfSome found (λ count. ReachLeaf [] 0 (drop count edits)) → IfSome found (λ count. Rise (take count edits)) → is_some found ≡ true → Rise edits
+all_rise edits None behind rise some = absurd cc
+all_rise edits (Some count) behind rise some = subst Rise (sym (append-nil (take count edits)) ∙ ap (λ (es : List BodyEdit). take count edits ++ es) (sym (none (drop count edits) behind)) ∙ take-append-drop count edits) rise
+  where
+    none : (ws : List BodyEdit) → ReachLeaf [] 0 ws → ws ≡ []
+    none [] h = refl
+    none (w ∷ ws) h = absurd (omega (arith, h.0))
 
 follow_same : (p : StorePlace) (es : List BodyEdit) (v w : BodyEdit) → store_place v ≡ store_place w → Follow p (es ++ v ∷ []) → Follow p (es ++ w ∷ [])
 follow_same p [] v w e h = (subst (λ q. place_cmp p q ≡ Less) e h.0, tt)

@@ -1,6 +1,6 @@
 //! The edits of a batch in the order of their places, each place once.
 
-ghost use Rattle.std.specs.Prelude.{◌≡◌, ◌<◌, true, length, drop, fold, IfOk, OnOk};
+ghost use Rattle.std.specs.Prelude.{◌≡◌, ◌<◌, length, drop, fold, IfOk, OnOk};
 ghost use Rattle.cs_store.specs.Contents.{Bodies, place_cmp};
 ghost use Rattle.cs_store.specs.Written.{edit_body};
 ghost use Rattle.cs_leaf.specs.Edits.{Rise, store_place};
@@ -56,18 +56,6 @@ fn listed<'a>(alloc: Global, edits: &LentEdits<'a>) -> Result<Vec<PlaceEdit<'a>>
         list.push(edits.get(at))?;
     }
     Ok(list)
-}
-
-/// Whether each edit's place is below that of the next.
-pub fn rise(edits: &LentEdits<'_>) -> bool
-    ensures { result ≡ true → Rise edits.now }
-{
-    for at in 1..edits.len() {
-        if !compare(&edits.get(at - 1), &edits.get(at)).is_lt() {
-            return false;
-        }
-    }
-    true
 }
 
 /// Sorts the edits by their places; those of one place stay in order.

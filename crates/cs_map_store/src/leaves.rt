@@ -2,16 +2,17 @@
 //! what it makes of each leaf, for which it takes all the memory that it needs, and then makes it or takes it back, which takes
 //! none.
 
-ghost use Rattle.std.specs.Prelude.{◌≡◌, true, false, ◌≤◌, ◌<◌, ◌+◌, ◌⊎◌, List, [], ◌++◌, ◌∷◌, T, pos, length, take, drop, fold, map, filter, slice_set, option_map, Some, IfOk, IfSome, OnOk, OnErr, MatchBool};
+ghost use Rattle.std.specs.Prelude.{◌≡◌, true, false, ◌≤◌, ◌<◌, ◌+◌, ◌⊎◌, List, [], ◌++◌, ◌∷◌, T, pos, length, take, drop, fold, map, filter, slice_set, option_map, Some, None, IfOk, IfSome, OnOk, OnErr, MatchBool};
 ghost use Rattle.std.specs.List.{All};
 ghost use Rattle.std.specs.Ordering.{int_eq, is_gt};
 ghost use Rattle.std.specs.FinMap.{get, is_sorted};
+ghost use Rattle.cs_leaf.specs.Entries.{Entry};
 ghost use Rattle.cs_leaf.specs.Edits.{Rise, edited, store_place};
 ghost use Rattle.cs_store.specs.Contents.{IsListing, place_cmp};
 ghost use Rattle.cs_store.specs.Written.{edit_body, if_there, optional_bytes, pairs_of};
 ghost use Rattle.cs_map_store.specs.Leaves.{AreBefore, AreLeaves, ArePatches, BeginsBy, BeginsBehind, CanBePut, ReachLeaf, after_staged, before_staged, first_place, flat, in_table, nth_leaf, patched, restored, undone, bodies_in};
 
-use crate::edits::{in_order, rise};
+use crate::edits::in_order;
 use cs_edits::{LentEdits, PlaceEdit};
 use cs_leaf::{Change, Leaf, Place, laws, merged};
 use cs_store::StoredBody;
@@ -46,12 +47,14 @@ fn begins_above(leaves: &[Leaf], at: usize, place: &Place) -> bool
     leaves[at].compare_first(place).is_gt()
 }
 
-/// Whether a leaf begins above the place of an edit.
-fn is_before(leaves: &[Leaf], at: usize, edit: &PlaceEdit<'_>) -> bool
-    requires in_bounds { at < length leaves.now }
-    ensures { result ≡ is_gt (place_cmp (first_place leaves.now at) (store_place edit.now)) }
+/// Whether a place is before the leaf there: that begins above it, or isn't there.
+#[inline(always)]
+fn is_before(leaves: &[Leaf], at: usize, place: &Place) -> bool
+    requires in_bounds { at ≤ length leaves.now }
+    ensures before { result ≡ true → BeginsBehind leaves.now at place.now }
+    ensures reaches { result ≡ false → (at < length leaves.now) × (is_gt (place_cmp (first_place leaves.now at) place.now) ≡ false) }
 {
-    begins_above(leaves, at, &Place::of_edit(edit))
+    at >= leaves.len() || begins_above(leaves, at, place)
 }
 
 /// A leaf that begins above a place, which the leaf at `from` doesn't: one near that, or where none does, the end.
@@ -187,24 +190,40 @@ fn leaf_of(leaves: &[Leaf], from: usize, edit: &PlaceEdit<'_>) -> usize
     leaf_for(leaves, from, &Place::of_edit(edit))
 }
 
-/// How many edits fall into a leaf, of which the first does.
-fn edits_in(leaves: &[Leaf], at: usize, edits: &LentEdits<'_>) -> usize
-    requires in_bounds { at < length leaves.now }
+/// How many edits are before the leaf there, of which the first is; none, where the places of these don't rise. Behind the last
+/// leaf all are.
+fn edits_before(leaves: &[Leaf], next: usize, edits: &LentEdits<'_>) -> Option<usize>
+    requires in_bounds { next ≤ length leaves.now }
     requires some { 0 < length edits.now }
-    requires first { AreBefore leaves.now (at + 1) (take 1 edits.now) }
-    ensures bound { (0 < result) × (result ≤ length edits.now) }
-    ensures before { AreBefore leaves.now (at + 1) (take result edits.now) }
-    ensures behind { ReachLeaf leaves.now (at + 1) (drop result edits.now) }
+    requires first { AreBefore leaves.now next (take 1 edits.now) }
+    ensures bound { IfSome result (λ count. (0 < count) × (count ≤ length edits.now)) }
+    ensures before { IfSome result (λ count. AreBefore leaves.now next (take count edits.now)) }
+    ensures behind { IfSome result (λ count. ReachLeaf leaves.now next (drop count edits.now)) }
+    ensures rise { IfSome result (λ count. Rise (take count edits.now)) }
+    ensures falls { result ≡ None → Rise edits.now → ⊥ }
 {
-    let next = at + 1;
-    if next >= leaves.len() {
-        return edits.len();
-    }
+    let mut last = Place::of_edit(&edits.get(0));
     let mut count = 1;
-    while count < edits.len() && is_before(leaves, next, &edits.get(count)) {
+    while count < edits.len() {
+        let place = Place::of_edit(&edits.get(count));
+        if !is_before(leaves, next, &place) {
+            return Some(count);
+        }
+        if !last.compare(&place).is_lt() {
+            return None;
+        }
+        last = place;
         count += 1;
     }
-    count
+    Some(count)
+}
+
+/// Whether each edit's place is below that of the next.
+fn rise(edits: &LentEdits<'_>) -> bool
+    ensures yes { result ≡ true → Rise edits.now }
+    ensures no { result ≡ false → Rise edits.now → ⊥ }
+{
+    edits.len() <= 1 || edits_before(&[], 0, edits).is_some()
 }
 
 /// Where to begin to look for the leaves of edits whose places rise: at `near`, or where that leaf begins above the first of
@@ -212,10 +231,13 @@ fn edits_in(leaves: &[Leaf], at: usize, edits: &LentEdits<'_>) -> usize
 fn begin_at(leaves: &[Leaf], near: usize, edits: &LentEdits<'_>) -> usize
     ensures { (result ≡ 0) ⊎ ReachLeaf leaves.now result edits.now }
 {
-    if near < leaves.len() && 0 < edits.len() && !is_before(leaves, near, &edits.get(0)) {
-        near
-    } else {
+    if near >= leaves.len() || edits.len() == 0 {
+        return 0;
+    }
+    if begins_above(leaves, near, &Place::of_edit(&edits.get(0))) {
         0
+    } else {
+        near
     }
 }
 
@@ -293,37 +315,41 @@ fn stage_one(
     }
 }
 
-/// Prepares what edits make of the leaves, and adds it to the patches. At `Err` some of it may be prepared. The leaf at `near`
-/// is looked at first.
+/// Prepares what edits make of the leaves, adds it to the patches, and answers true; or false, where places of edits are found not
+/// to rise. Then, as at `Err`, some of it may be prepared. The leaf at `near` is looked at first.
 fn stage_patches(
     alloc: Global,
     leaves: &mut Vec<Leaf>,
     near: usize,
     edits: &LentEdits<'_>,
     patches: &mut Vec<Patch>,
-) -> Result<(), AllocError>
+) -> Result<bool, AllocError>
     requires some { 0 < length leaves.old.items }
     requires leaves { AreLeaves leaves.old.items }
-    requires rise { Rise edits.now }
     requires none { patches.old.items ≡ [] }
     ensures places { ArePatches (length leaves.new.items) patches.new.items }
     ensures restored { restored leaves.new.items patches.new.items ≡ leaves.old.items }
     ensures same { patched leaves.new.items patches.new.items ≡ patched leaves.old.items patches.new.items }
-    ensures made { OnOk result (flat (patched leaves.old.items patches.new.items) ≡ fold edited (flat leaves.old.items) edits.now) }
+    ensures made { IfOk result (λ rise. rise ≡ true → flat (patched leaves.old.items patches.new.items) ≡ fold edited (flat leaves.old.items) edits.now) }
+    ensures falls { IfOk result (λ rise. rise ≡ false → Rise edits.now → ⊥) }
 {
     let mut start = 0;
     let mut from = begin_at(leaves.as_slice(), near, edits);
     laws::edited_entries();
     while start < edits.len() {
         let at = leaf_of(leaves.as_slice(), from, &edits.get(start));
-        let end = start + edits_in(leaves.as_slice(), at, &edits.part(start, edits.len()));
+        let rest = edits.part(start, edits.len());
+        let Some(count) = edits_before(leaves.as_slice(), at + 1, &rest) else {
+            return Ok(false);
+        };
+        let end = start + count;
         patches.reserve(1)?;
         let change = stage_leaf(alloc, leaves, at, &edits.part(start, end))?;
         patches.push_reserved(Patch { at, change });
         start = end;
         from = at + 1;
     }
-    Ok(())
+    Ok(true)
 }
 
 /// The rows of a leaf, in leaves of at most so many.
@@ -363,30 +389,51 @@ fn undo_all(leaves: &mut Vec<Leaf>, patches: Vec<Patch>)
     }
 }
 
-/// Prepares what edits whose places rise make of the leaves. At `Err` nothing has changed. The leaf at `near` is looked at first.
+/// New leaves of what edits whose places rise make of none; none, where they don't rise.
+fn stage_fresh(alloc: Global, edits: &LentEdits<'_>) -> Result<Option<Staged>, AllocError>
+    ensures can { IfOk result (λ found. IfSome found (λ staged. (leaves : List (List Entry)) → CanBePut staged leaves)) }
+    ensures before { IfOk result (λ found. IfSome found (λ staged. (leaves : List (List Entry)) → before_staged staged leaves ≡ leaves)) }
+    ensures made { IfOk result (λ found. IfSome found (λ staged. (leaves : List (List Entry)) → flat (after_staged staged leaves) ≡ fold edited [] edits.now)) }
+    ensures falls { IfOk result (λ found. found ≡ None → Rise edits.now → ⊥) }
+{
+    if !rise(edits) {
+        return Ok(None);
+    }
+    let all = merged(alloc, &Leaf::new(alloc), edits)?;
+    Ok(Some(Staged::Fresh(pieces_of(alloc, &all)?)))
+}
+
+/// Prepares what edits whose places rise make of the leaves; none, where they don't rise. Then, as at `Err`, nothing has changed.
+/// The leaf at `near` is looked at first.
 fn stage(
     alloc: Global,
     leaves: &mut Vec<Leaf>,
     near: usize,
     edits: &LentEdits<'_>,
-) -> Result<Staged, AllocError>
+) -> Result<Option<Staged>, AllocError>
     requires leaves { AreLeaves leaves.old.items }
-    requires rise { Rise edits.now }
-    ensures can { IfOk result (λ staged. CanBePut staged leaves.new.items) }
-    ensures before { IfOk result (λ staged. before_staged staged leaves.new.items ≡ leaves.old.items) }
-    ensures made { IfOk result (λ staged. flat (after_staged staged leaves.new.items) ≡ fold edited (flat leaves.old.items) edits.now) }
+    ensures can { IfOk result (λ found. IfSome found (λ staged. CanBePut staged leaves.new.items)) }
+    ensures before { IfOk result (λ found. IfSome found (λ staged. before_staged staged leaves.new.items ≡ leaves.old.items)) }
+    ensures made { IfOk result (λ found. IfSome found (λ staged. flat (after_staged staged leaves.new.items) ≡ fold edited (flat leaves.old.items) edits.now)) }
+    ensures falls { IfOk result (λ found. found ≡ None → Rise edits.now → ⊥) }
+    ensures none { IfOk result (λ found. found ≡ None → leaves.new.items ≡ leaves.old.items) }
     ensures err { OnErr result (leaves.new.items ≡ leaves.old.items) }
 {
     if leaves.is_empty() {
-        let all = merged(alloc, &Leaf::new(alloc), edits)?;
-        return Ok(Staged::Fresh(pieces_of(alloc, &all)?));
+        return stage_fresh(alloc, edits);
     }
     let mut patches = Vec::with_capacity(alloc, 1)?;
-    if let Err(e) = stage_patches(alloc, leaves, near, edits, &mut patches) {
-        undo_all(leaves, patches);
-        return Err(e);
+    match stage_patches(alloc, leaves, near, edits, &mut patches) {
+        Ok(true) => Ok(Some(Staged::Patches(patches))),
+        Ok(false) => {
+            undo_all(leaves, patches);
+            Ok(None)
+        }
+        Err(e) => {
+            undo_all(leaves, patches);
+            Err(e)
+        }
     }
-    Ok(Staged::Patches(patches))
 }
 
 /// Prepares what an edit makes of the leaves. At `Err` nothing has changed. It is looked for near where the last look-up ended.
@@ -432,16 +479,16 @@ pub fn stage_edits(
             let staged = stage_single(alloc, leaves, near, &edits.get(0))?;
             Ok(staged)
         }
-        // As `apply` answers them: no list of them is made.
-        _ if rise(edits) => {
-            let staged = stage(alloc, leaves, near.leaf, edits)?;
-            Ok(staged)
-        }
-        _ => {
-            let sorted = in_order(alloc, edits)?;
-            let staged = stage(alloc, leaves, near.leaf, &sorted.lend())?;
-            Ok(staged)
-        }
+        // As `apply` answers them, places rise: no list of them is made.
+        _ => match stage(alloc, leaves, near.leaf, edits)? {
+            Some(staged) => Ok(staged),
+            None => {
+                let sorted = in_order(alloc, edits)?;
+                let staged = stage(alloc, leaves, near.leaf, &sorted.lend())?;
+                let Some(staged) = staged else { unreachable!() };
+                Ok(staged)
+            }
+        },
     }
 }
 
