@@ -1,18 +1,25 @@
-use Rattle.std.proofs.Common.{◌≡◌, ap, ◌∙◌, refl, ◌++◌, ◌∷◌, [], length, arith}
-use Rattle.std.proofs.lemmas.Grind.{common_steps}
-use Rattle.cs_edits.specs.Spots.{set_bytes}
-use Rattle.cs_edits.specs.declared.lent_edits.EditSpot.{EditSpot}
-use Rattle.cs_edits.proofs.EditLaws.{edits_more, last_edit, same_table}
+use Rattle.std.proofs.Common.{◌≡◌, ap, ◌∙◌, sym}
+use Rattle.cs_edits.specs.Spots.{edits_in}
+use Rattle.cs_edits.proofs.EditLaws.{on_err, edits_stay, edits_more, within_more}
 use Rattle.cs_edits.proofs.place_edits.put.Goals as goal
+
+pub returns-in_err-spot-clause-err : goal.returns-in_err-spot-clause-err
+returns-in_err-spot-clause-err c =
+    on_err _ (edits_stay c.args.bytes.now.items c.put_bytes.new.bytes.items c.put_bytes.ensures.grown c.args.spots.now.items c.requires)
+
+pub returns-in_err-push-clause-err : goal.returns-in_err-push-clause-err
+returns-in_err-push-clause-err c =
+    on_err _ (ap (edits_in c.put_bytes.new.bytes.items) c.in_err-push.ensures.items
+    ∙ edits_stay c.args.bytes.now.items c.put_bytes.new.bytes.items c.put_bytes.ensures.grown c.args.spots.now.items c.requires)
+
+pub returns-clause-within : goal.returns-clause-within
+returns-clause-within c =
+    rw c.in_ok-push.ensures.items
+    (within_more c.args.bytes.now.items c.put_bytes.new.bytes.items c.put_bytes.ensures.grown c.args.spots.now.items c.requires
+    c.in_ok-spot.spot c.args.edit.now c.in_ok-spot.ensures.stands c.in_ok-spot.ensures.within)
 
 pub returns-clause-ok : goal.returns-clause-ok
 returns-clause-ok c =
-    let bytes = c.args.bytes.now.items in
-    let key = c.args.edit.now.key in
-    let set = set_bytes c.args.edit.now.body in
-    let first : c.extend_from_slice.new.self.items ≡ bytes ++ key = grind (arith, common_steps) in
-    let wide : c.extend_from_slice-2.new.self.items ≡ (bytes ++ key) ++ set = grind (arith, common_steps) in
-    let spot : EditSpot = record { table = c.table.result; is_set = c.is_set.result; key = c.len-key.result; body = c.len-body.result; end = c.len.result } in
-    let grown : c.push-pushed.new.self.items ≡ c.args.spots.now.items ++ spot ∷ [] = grind (arith, common_steps) in
-    let last = last_edit bytes key c.args.edit.now.body c.table.result c.len-key.result c.len-body.result c.len.result c.is_set.result (grind (arith, common_steps)) (grind (arith, common_steps)) (grind (arith, common_steps)) c.is_set.ensures in
-    edits_more bytes key set c.extend_from_slice-2.new.self.items c.args.spots.now.items c.push-pushed.new.self.items spot c.args.edit.now c.requires wide grown (last ∙ same_table c.args.edit.now c.table.result c.table.ensures)
+    ap (edits_in c.put_bytes.new.bytes.items) c.in_ok-push.ensures.items
+    ∙ edits_more c.args.bytes.now.items c.put_bytes.new.bytes.items c.put_bytes.ensures.grown c.args.spots.now.items c.requires
+    c.in_ok-spot.spot c.args.edit.now c.in_ok-spot.ensures.stands
