@@ -10,7 +10,7 @@ use Rattle.std.proofs.Math.Seq.{drop-append_seam, take-append-add}
 use Rattle.std.proofs.lemmas.List.Elements.{All-push, All-append, All-take, All-drop}
 use Rattle.cs_order.specs.Order.{by_bytes}
 use Rattle.cs_store.specs.Contents.{StorePlace, place_cmp}
-use Rattle.cs_leaf.specs.Entries.{Entry, IsFrontOf, IsHeadOf, IsPacked, IsRun, IsSpotIn, IsSpotEditAt, IsSpotEditFor, IsSpotEditIn, IsTight, bytes_of, entry_at, entries_at, moved, nth, no_entry, size_of, spots_after, written}
+use Rattle.cs_leaf.specs.Entries.{Entry, IsFrontOf, IsHeadOf, IsPacked, IsRun, IsSpotIn, IsSpotEditAt, IsSpotEditFor, IsSpotEditIn, IsTight, bytes_of, entry_at, entries_at, shifted, nth, no_entry, size_of, spots_after, written}
 use Rattle.cs_leaf.specs.declared.leaf.Front.{Front}
 use Rattle.cs_leaf.specs.declared.leaf.Spot.{Spot}
 use Rattle.cs_leaf.specs.declared.leaf.SpotEdit.{SpotEdit}
@@ -132,8 +132,8 @@ module _ (source : List ℕ) where
 
 -- rows that are copied from other bytes in one piece
 module _ (bytes source new : List ℕ) (start end : ℕ) (grown : new ≡ bytes ++ slice_range source start end) (bound : end ≤ length source) where
-  moved_slice : (from to : ℕ) → start ≤ from → from ≤ to → to ≤ end → slice_range new (length bytes + (from - start)) (length bytes + (to - start)) ≡ slice_range source from to
-  moved_slice from to first middle last =
+  shifted_slice : (from to : ℕ) → start ≤ from → from ≤ to → to ≤ end → slice_range new (length bytes + (from - start)) (length bytes + (to - start)) ≡ slice_range source from to
+  shifted_slice from to first middle last =
       let front = slice_range source start from in
       let part = slice_range source from to in
       let back = slice_range source to end in
@@ -149,46 +149,37 @@ module _ (bytes source new : List ℕ) (start end : ℕ) (grown : new ≡ bytes 
       ∙ slice_kept ((bytes ++ front) ++ part) back (length (bytes ++ front)) (length ((bytes ++ front) ++ part)) (omega (arith, length-append (bytes ++ front) part)) (omega arith)
       ∙ last_part (bytes ++ front) part
 
-  moved_entry : (s : Spot) → IsSpotIn source s → start ≤ s.key → s.end ≤ end → entry_at new (moved s start (length bytes)) ≡ entry_at source s
-  moved_entry s here first last =
-      let key = moved_slice s.key s.row first here.0 (omega (arith, here.1, last)) in
-      let row = moved_slice s.row s.end (omega (arith, first, here.0)) here.1 last in
+  shifted_entry : (s : Spot) → IsSpotIn source s → start ≤ s.key → s.end ≤ end → entry_at new (shifted s start (length bytes)) ≡ entry_at source s
+  shifted_entry s here first last =
+      let key = shifted_slice s.key s.row first here.0 (omega (arith, here.1, last)) in
+      let row = shifted_slice s.row s.end (omega (arith, first, here.0)) here.1 last in
       λ i. ((pos s.table, key i), row i)
 
-  moved_in : (s : Spot) → IsSpotIn source s → start ≤ s.key → s.end ≤ end → IsSpotIn new (moved s start (length bytes))
-  moved_in s here first last = (
+  shifted_in : (s : Spot) → IsSpotIn source s → start ≤ s.key → s.end ≤ end → IsSpotIn new (shifted s start (length bytes))
+  shifted_in s here first last = (
     omega (arith, here.0),
     omega (arith, here.1),
     omega (arith, ap length grown, length-append bytes (slice_range source start end), slice_long source start end bound, first, here.0, here.1, last),
-    subst (IsHeadOf s.head) (sym (moved_slice s.key s.row first here.0 (omega (arith, here.1, last)))) here.3,
+    subst (IsHeadOf s.head) (sym (shifted_slice s.key s.row first here.0 (omega (arith, here.1, last)))) here.3,
   )
 
-  pub moved_run : (run : List Spot) (from : ℕ) → start ≤ from → IsRun from run end → All (IsSpotIn source) run
-      → All (IsSpotIn new) (map (λ s. moved s start (length bytes)) run) × (entries_at new (map (λ s. moved s start (length bytes)) run) ≡ entries_at source run)
-  moved_run [] from first is there = ((λ k d less. absurd (omega (arith, less))), refl)
-  moved_run (s ∷ run) from first is there =
+  pub shifted_run : (run : List Spot) (from : ℕ) → start ≤ from → IsRun from run end → All (IsSpotIn source) run
+      → All (IsSpotIn new) (map (λ s. shifted s start (length bytes)) run) × (entries_at new (map (λ s. shifted s start (length bytes)) run) ≡ entries_at source run)
+  shifted_run [] from first is there = ((λ k d less. absurd (omega (arith, less))), refl)
+  shifted_run (s ∷ run) from first is there =
       let here = there 0 s (omega arith) in
       let others = all_tail (IsSpotIn source) s run there in
       let last = run_order source run s.end end is.1 others in
       let begins : start ≤ s.key = omega (arith, first, is.0) in
-      let rest = moved_run run s.end (omega (arith, begins, here.0, here.1)) is.1 others in (
-        all_first (IsSpotIn new) (moved s start (length bytes)) (map (λ r. moved r start (length bytes)) run) (moved_in s here begins last) rest.0,
-        λ i. moved_entry s here begins last i ∷ rest.1 i,
+      let rest = shifted_run run s.end (omega (arith, begins, here.0, here.1)) is.1 others in (
+        all_first (IsSpotIn new) (shifted s start (length bytes)) (map (λ r. shifted r start (length bytes)) run) (shifted_in s here begins last) rest.0,
+        λ i. shifted_entry s here begins last i ∷ rest.1 i,
       )
 
-  pub moved_long : (run : List Spot) → start ≤ end → IsRun start run end → All (IsSpotIn source) run → length new ≡ length bytes + bytes_of (entries_at source run)
-  moved_long run order is there =
+  pub shifted_long : (run : List Spot) → start ≤ end → IsRun start run end → All (IsSpotIn source) run → length new ≡ length bytes + bytes_of (entries_at source run)
+  shifted_long run order is there =
       let size = run_bytes source run start end is there in
       omega (arith, ap length grown, length-append bytes (slice_range source start end), slice_long source start end bound, order, size)
-
--- a row more of them
-pub moved_more : (run spots old new : List Spot) (start held at : ℕ) (s m : Spot) → at < length run → get_or run at s ≡ s → m ≡ moved s start held → old ≡ spots ++ map (λ r. moved r start held) (take at run) → new ≡ old ++ m ∷ []
-    → new ≡ spots ++ map (λ r. moved r start held) (take (at + 1) run)
-moved_more run spots old new start held at s m less here is was grown =
-    let f : Spot → Spot = λ r. moved r start held in
-    let more : map f (take (at + 1) run) ≡ map f (take at run) ++ f s ∷ [] =
-    ap (map f) (take_more run at s less ∙ ap (λ (x : Spot). take at run ++ x ∷ []) here) ∙ map-append f (take at run) (s ∷ []) in
-    grown ∙ (λ i. was i ++ is i ∷ []) ∙ append_assoc spots (map f (take at run)) (f s ∷ []) ∙ ap (λ (zs : List Spot). spots ++ zs) (sym more)
 
 -- spots more
 pub run_pushed : (bytes more new : List ℕ) (spots others now : List Spot) → All (IsSpotIn bytes) spots → All (IsSpotIn new) others → new ≡ bytes ++ more → now ≡ spots ++ others → All (IsSpotIn new) now
@@ -219,9 +210,6 @@ slice_more {X} xs d from at le less =
     let m : from + (at - from) ≡ at = omega arith in
     ap (λ k. take k (drop from xs)) n ∙ take_more (drop from xs) (at - from) d (omega (arith, length-drop from xs))
     ∙ ap (λ (x : X). slice_range xs from at ++ x ∷ []) (get_or-drop from xs (at - from) d ∙ ap (λ k. get_or xs k d) m)
-
-pub slice_none : {X : Type 0} (xs : List X) (from : ℕ) → slice_range xs from from ≡ []
-slice_none xs from = let n : from - from ≡ 0 = omega arith in ap (λ k. take k (drop from xs)) n
 
 -- ---- how many bytes rows take
 
@@ -265,11 +253,6 @@ tight_after es after used gone held more len used_after was less bytes long is b
     (omega (arith, was.0, less, bytes, long, is), omega (arith, was.0, was.1, less, long, is), bound)
 
 -- ---- the first spot
-
--- it stays where spots come behind it
-pub front_kept : (front : Front) (spots more now : List Spot) → IsFrontOf front spots → now ≡ spots ++ more → (length spots ≡ 0) ⊎ IsFrontOf front now
-front_kept front [] more now is grown = inl refl
-front_kept front (s ∷ spots) more now is grown = inr (subst (IsFrontOf front) (sym grown) is)
 
 -- it stays where spots are edited behind it
 pub front_stays : (front : Front) (spots : List Spot) (at : ℕ) (spot_edit : SpotEdit) → IsFrontOf front spots → IsSpotEditAt (length spots) at spot_edit → (at ≡ 0) ⊎ IsFrontOf front (spots_after spots at spot_edit)

@@ -29,8 +29,8 @@ IsRun start [] end = start ≡ end
 IsRun start (s ∷ spots) end = (s.key ≡ start) × IsRun s.end spots end
 
 -- the spot of which the bytes from `start` on stand behind `held` others
-abbrev pub moved : Spot → ℕ → ℕ → Spot
-moved s start held = record { head = s.head; table = s.table; key = held + (s.key - start); row = held + (s.row - start); end = held + (s.end - start) }
+abbrev pub shifted : Spot → ℕ → ℕ → Spot
+shifted s start held = record { head = s.head; table = s.table; key = held + (s.key - start); row = held + (s.row - start); end = held + (s.end - start) }
 
 -- the head and the table of the first spot, or zeros
 abbrev pub IsFrontOf : Front → List Spot → Type 0

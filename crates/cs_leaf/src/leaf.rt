@@ -2,7 +2,7 @@
 
 ghost use Rattle.std.specs.Prelude.{◌≡◌, ◌⊎◌, ◌≤◌, ◌+◌, ◌*◌, ◌^◌, ◌++◌, ◌∷◌, ◌<◌, ◌-◌, ℕ, List, [], length, map, slice_range, option_map, IfOk, IfSome, OnOk, OnErr};
 ghost use Rattle.std.specs.List.{All};
-ghost use Rattle.cs_leaf.specs.Entries.{HasRoomFor, IsFrontOf, IsPacked, IsRun, IsSpotIn, IsSpotEditAt, IsSpotEditFor, bytes_of, entries_at, entry_at, moved, size_of, spots_after, written};
+ghost use Rattle.cs_leaf.specs.Entries.{HasRoomFor, IsFrontOf, IsPacked, IsRun, IsSpotIn, IsSpotEditAt, IsSpotEditFor, bytes_of, entries_at, entry_at, shifted, size_of, spots_after, written};
 
 use crate::heads::{compare_keys, head};
 use cs_edits::PlaceEdit;
@@ -239,10 +239,10 @@ fn run_from(spots: &[Spot], from: usize, to: usize) -> Run
 
 /// Where a row stands of whose bytes those from `start` on stand behind `held` others now.
 #[inline(always)]
-fn moved(spot: Spot, start: usize, held: usize) -> Spot
+fn shifted(spot: Spot, start: usize, held: usize) -> Spot
     requires order { (start ≤ spot.key) × (spot.key ≤ spot.row) × (spot.row ≤ spot.end) }
     requires bound { held + (spot.end - start) < 2 ^ 64 }
-    ensures { result ≡ moved spot start held }
+    ensures { result ≡ shifted spot start held }
 {
     Spot {
         head: spot.head,
@@ -280,7 +280,7 @@ fn put_run(
     let held = bytes.len();
     bytes.extend_from_slice(&source[start..end])?;
     for at in 0..run.len() {
-        spots.push_reserved(moved(run[at], start, held));
+        spots.push_reserved(shifted(run[at], start, held));
     }
     Ok(())
 }
