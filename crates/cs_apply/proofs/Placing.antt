@@ -13,7 +13,7 @@ use Rattle.cs_apply.specs.Found.{AreSlots, IsSlotAt, heads}
 use Rattle.cs_apply.specs.Meeting.{blank}
 use Rattle.cs_apply.specs.Spots.{by_test}
 use Rattle.cs_apply.specs.Waiting.{first_of, IsTurn, IsDone, ArePlacesSoFar, IsPut, IsPutMade, IsPutWaiting, ArePlacesFound}
-use Rattle.cs_apply.specs.Woven.{weave, unmade, IsWaiting, count_waiting, made_edits, waits_of, not_waiting}
+use Rattle.cs_apply.specs.Woven.{weave, unmade, IsWaiting, count_waiting, made_edits, stand_in, waits_of, not_waiting}
 use Rattle.cs_apply.specs.declared.places.Places.{Places}
 use Rattle.cs_apply.specs.declared.slots.Slot.{Slot}
 use Rattle.cs_apply.proofs.Numbering.{group_numbers, numbers_long, in_own, number_is, member_within, heads_rise, firsts_within, numbers_are, groups_apart}
@@ -56,12 +56,14 @@ edits_made [] next = append_nil (edit_list (edit_for next))
 edits_made (Some m ∷ held) next =
     ap (λ more. edit_list (edit_for m) ++ more) (edits_made held next)
     ∙ sym (append_assoc (edit_list (edit_for m)) (made_edits held) (edit_list (edit_for next)))
-edits_made (None ∷ held) next = edits_made held next
+edits_made (None ∷ held) next = ap (λ more. stand_in ∷ more) (edits_made held next)
 
-edits_wait : (held : Held) → made_edits (held ++ None ∷ []) ≡ made_edits held
+edits_wait : (held : Held) → made_edits (held ++ None ∷ []) ≡ made_edits held ++ stand_in ∷ []
 edits_wait [] = refl
-edits_wait (Some m ∷ held) = ap (λ more. edit_list (edit_for m) ++ more) (edits_wait held)
-edits_wait (None ∷ held) = edits_wait held
+edits_wait (Some m ∷ held) =
+    ap (λ more. edit_list (edit_for m) ++ more) (edits_wait held)
+    ∙ sym (append_assoc (edit_list (edit_for m)) (made_edits held) (stand_in ∷ []))
+edits_wait (None ∷ held) = ap (λ more. stand_in ∷ more) (edits_wait held)
 
 waits_made : (held : Held) (next : Slot) → waits_of (held ++ Some next ∷ []) ≡ waits_of held ++ map not_waiting (edit_list (edit_for next))
 waits_made [] next = append_nil (map not_waiting (edit_list (edit_for next)))
@@ -225,7 +227,7 @@ module _ (keys : Keys) (groups : List (List ℕ)) (grouping : IsGrouping keys gr
           held = held;
           long = length-append so_far.held (None ∷ []) ∙ ap (λ n. n + 1) so_far.long;
           counted = count_waits so_far.held ∙ (ap suc so_far.counted ∙ sym (ap length put.slots ∙ (length-append old.slots.items (slot ∷ []) ∙ omega arith)));
-          made = put.made ∙ (so_far.made ∙ sym (edits_wait so_far.held));
+          made = put.made ∙ (ap (λ es. es ++ stand_in ∷ []) so_far.made ∙ sym (edits_wait so_far.held));
           waits = put.waits ∙ (ap (λ bs. bs ++ true ∷ []) so_far.waits ∙ sym (waits_wait so_far.held));
           as_read = subst (AllByRecursion more) (sym woven) read_before;
           slots = subst (AreSlots (heads keys (map first_of (take (count + 1) groups)))) (sym woven) slots_before;

@@ -7,7 +7,7 @@ use Rattle.cs_edits.specs.Edits.{BodyEdit}
 use Rattle.cs_apply.specs.Edited.{edit_list, edit_for}
 use Rattle.cs_apply.specs.Found.{AreSlots, IsNumbering, heads}
 use Rattle.cs_apply.specs.Meeting.{blank, IsMadeBy}
-use Rattle.cs_apply.specs.Woven.{weave, unmade, IsWaiting, count_waiting, made_edits, waits_of, not_waiting}
+use Rattle.cs_apply.specs.Woven.{weave, unmade, IsWaiting, count_waiting, made_edits, stand_in, waits_of, not_waiting}
 use Rattle.cs_apply.specs.declared.places.Places.{Places}
 use Rattle.cs_apply.specs.declared.slots.Slot.{Slot}
 
@@ -73,7 +73,7 @@ pub record IsPutMade (changes : List Change) (group : List ℕ) (slot : Slot) (o
 
 -- or it waits
 pub record IsPutWaiting (group : List ℕ) (slot : Slot) (old new : Places) : Type 0 where
-  pub made : new.made ≡ old.made
+  pub made : new.made ≡ old.made ++ stand_in ∷ []
   pub waits : new.waits.items ≡ old.waits.items ++ true ∷ []
   pub slots : new.slots.items ≡ old.slots.items ++ slot ∷ []
   pub numbers : length new.numbers.items ≡ length old.numbers.items

@@ -33,13 +33,17 @@ count_waiting [] = 0
 count_waiting (Some made ∷ held) = count_waiting held
 count_waiting (None ∷ held) = suc (count_waiting held)
 
--- the edits of the places that are made
+-- what stands for the edit of a place that waits
+abbrev pub stand_in : BodyEdit
+stand_in = record { table = 0; key = []; body = None }
+
+-- the edits of the places that are made, and in their midst what stands for those of the places that wait
 abbrev pub made_edits : List (Option Slot) → List BodyEdit
 made_edits [] = []
 made_edits (Some made ∷ held) = edit_list (edit_for made) ++ made_edits held
-made_edits (None ∷ held) = made_edits held
+made_edits (None ∷ held) = stand_in ∷ made_edits held
 
--- in order, false for each of these edits, and true for each place that waits
+-- of each of these, whether it stands for a place that waits
 abbrev pub not_waiting : BodyEdit → Bool
 not_waiting edit = false
 
@@ -48,10 +52,10 @@ waits_of [] = []
 waits_of (Some made ∷ held) = map not_waiting (edit_list (edit_for made)) ++ waits_of held
 waits_of (None ∷ held) = true ∷ waits_of held
 
--- the edits that are made and those of the slots, in this order
+-- the edits that are made, and those of the slots where one stands for them
 abbrev pub mesh : List Bool → List BodyEdit → List Slot → List BodyEdit
 mesh [] made slots = []
-mesh (false ∷ waits) [] slots = mesh waits [] slots
+mesh (wait ∷ waits) [] slots = []
 mesh (false ∷ waits) (edit ∷ made) slots = edit ∷ mesh waits made slots
-mesh (true ∷ waits) made [] = mesh waits made []
-mesh (true ∷ waits) made (slot ∷ slots) = edit_list (edit_for slot) ++ mesh waits made slots
+mesh (true ∷ waits) (edit ∷ made) [] = mesh waits made []
+mesh (true ∷ waits) (edit ∷ made) (slot ∷ slots) = edit_list (edit_for slot) ++ mesh waits made slots

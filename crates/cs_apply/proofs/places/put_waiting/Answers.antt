@@ -1,4 +1,4 @@
-use Rattle.std.proofs.Common.{◌≡◌, Some, length, refl, sym, ap, ◌∙◌, arith}
+use Rattle.std.proofs.Common.{◌≡◌, ◌++◌, ◌∷◌, [], Some, length, sym, ap, ◌∙◌, arith}
 use Rattle.std.proofs.lemmas.List.{with_items_is}
 use Rattle.cs_apply.proofs.places.put_waiting.Goals as goal
 
@@ -9,8 +9,8 @@ returns c =
     let written = with_items_is c.args.places.now.numbers c.give.new.numbers (long ∙ sym c.args.places.now.numbers.ok.0) in
     let count : c.len.result ≡ length c.args.places.now.slots.items = omega (arith, c.len.ensures) in
     record {
-      made = refl;
-      waits = c.in_ok-push-2.ensures.items;
+      made = c.in_ok-push-2.ensures.ok ∙ ap (λ edit. c.args.places.now.made ++ edit ∷ []) c.new.ensures;
+      waits = c.in_ok-push-3.ensures.items;
       slots = c.in_ok-push.ensures.items;
       numbers = ap length written ∙ long;
       given = rw written (λ at inside. c.give.ensures.given at inside ∙ ap (λ n. Some n) count);
