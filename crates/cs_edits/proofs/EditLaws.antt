@@ -1,13 +1,12 @@
 -- Edits in one piece of memory.
-use Rattle.std.proofs.Common.{◌≡◌, true, false, ℕ, suc, ◌+◌, ◌-◌, ◌<◌, ◌≤◌, List, [], ◌∷◌, ◌++◌, Option, Some, None, option_map, length, take, drop, map, refl, sym, ap, ◌∙◌, arith, length-append}
+use Rattle.std.proofs.Common.{◌≡◌, ℕ, suc, ◌-◌, ◌≤◌, List, [], ◌∷◌, ◌++◌, Some, option_map, length, take, drop, refl, sym, ap, ◌∙◌, arith, length-append}
 use Rattle.std.specs.List.{All, slice_range}
-use Rattle.std.proofs.lemmas.List.{take_all, length-drop, drop-append-le, take-append-le, map-append, map-set, take-map, drop-map, append_assoc}
-use Rattle.std.proofs.Math.Seq.{drop-append_seam}
+use Rattle.std.proofs.lemmas.List.{length-drop, drop-append-le, take-append-le, map-append, map-set, take-map, drop-map}
 use Rattle.std.proofs.lemmas.List.Elements.{All-push}
 use Rattle.std.proofs.lemmas.Option.{same_Some, slice_get-map}
-use Rattle.std.specs.Prelude.{is_some, Bool, Result, Ok, Err, OnErr, slice_get, slice_set}
+use Rattle.std.specs.Prelude.{Result, Ok, Err, OnErr, slice_get, slice_set}
 use Rattle.cs_edits.specs.Edits.{BodyEdit}
-use Rattle.cs_edits.specs.Spots.{IsEditSpotIn, edit_in, edits_in, set_bytes}
+use Rattle.cs_edits.specs.Spots.{IsEditSpotIn, edit_in, edits_in}
 use Rattle.cs_edits.specs.declared.lent_edits.EditSpot.{EditSpot}
 
 slice_kept : (a b : List ℕ) (s e : ℕ) → s ≤ e → e ≤ length a → slice_range (a ++ b) s e ≡ slice_range a s e
@@ -72,28 +71,3 @@ pub edits_copied : (bytes : List ℕ) (spots : List EditSpot) (from to : ℕ) (s
 edits_copied bytes spots from to spot edit there is =
     let same : edit_in bytes spot ≡ edit = same_Some _ _ (ap (option_map (edit_in bytes)) (sym there) ∙ sym (slice_get-map (edit_in bytes) spots from) ∙ is) in
     map-set (edit_in bytes) spots to spot ∙ ap (slice_set (edits_in bytes spots) to) same
-
--- what stands behind a front and before an end
-middle : (front middle back : List ℕ) (start end : ℕ) → start ≡ length front → end ≡ length (front ++ middle) → slice_range ((front ++ middle) ++ back) start end ≡ middle
-middle front it back start end begins ends =
-    rw (begins, ends) (ap (λ bs. take (length (front ++ it) - length front) (drop (length front) bs)) (append_assoc front it back)
-    ∙ ap (take (length (front ++ it) - length front)) (drop-append_seam front (it ++ back))
-    ∙ take-append-le (length (front ++ it) - length front) it back (omega (arith, length-append front it))
-    ∙ take_all (length (front ++ it) - length front) it (omega (arith, length-append front it)))
-
-last : (front back : List ℕ) (start end : ℕ) → start ≡ length front → end ≡ length (front ++ back) → slice_range (front ++ back) start end ≡ back
-last front back start end begins ends =
-    rw (begins, ends) (ap (take (length (front ++ back) - length front)) (drop-append_seam front back) ∙ take_all (length (front ++ back) - length front) back (omega (arith, length-append front back)))
-
--- the edit of a key with a body or none behind the others
-pub last_edit : (bytes key : List ℕ) (set : Option (List ℕ)) (table start body end : ℕ) (is_set : Bool)
-    → start ≡ length bytes → body ≡ length (bytes ++ key) → end ≡ length ((bytes ++ key) ++ set_bytes set) → is_set ≡ is_some set
-    → edit_in ((bytes ++ key) ++ set_bytes set) (record { table = table; is_set = is_set; key = start; body = body; end = end }) ≡ record { table = table; key = key; body = set }
-last_edit bytes key None table start body end is_set begins mid ends is =
-    rw (is, middle bytes key [] start body begins mid) refl
-last_edit bytes key (Some set) table start body end is_set begins mid ends is =
-    rw (is, middle bytes key set start body begins mid, last (bytes ++ key) set body end mid ends) refl
-
--- an edit with its own table
-pub same_table : (edit : BodyEdit) (table : ℕ) → table ≡ edit.table → ◌≡◌ {A = BodyEdit} (record { table = table; key = edit.key; body = edit.body }) edit
-same_table edit table same = rw same refl

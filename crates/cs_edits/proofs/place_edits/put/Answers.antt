@@ -1,4 +1,4 @@
-use Rattle.std.proofs.Common.{◌≡◌, ap, ◌∙◌, sym}
+use Rattle.std.proofs.Common.{ap, ◌∙◌}
 use Rattle.cs_edits.specs.Spots.{edits_in}
 use Rattle.cs_edits.proofs.EditLaws.{on_err, edits_stay, edits_more, within_more}
 use Rattle.cs_edits.proofs.place_edits.put.Goals as goal

@@ -1,4 +1,4 @@
-use Rattle.std.proofs.Common.{sym, ap, ◌∙◌}
+use Rattle.std.proofs.Common.{ap, ◌∙◌}
 use Rattle.std.specs.List.{slice_range}
 use Rattle.cs_edits.proofs.EditLaws.{edits_part}
 use Rattle.cs_edits.proofs.lent_edits.LentEdits.part.Goals as goal
