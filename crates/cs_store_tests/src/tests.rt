@@ -653,6 +653,30 @@ fn edits_in_one_list_of_bytes_stay_apart(rt: HostRuntime) {
     assert!(rt; gives_edits_back(rt.alloc()).unwrap_or(false));
 }
 
+/// What is written over an edit, and longer than what stood there.
+const WRITTEN: Edit<'static> = (7, b"key", Some(b"a body that is longer"));
+
+/// Whether an edit stands in place of another then, and one also at an earlier place, with those behind them taken out.
+fn writes_edits_over(alloc: Global) -> Result<bool, AllocError> {
+    let mut made = PlaceEdits::new(alloc);
+    put_edits(&NEXT_ROWS, &mut made)?;
+    if made.len() < 4 {
+        return Ok(false);
+    }
+    made.set(1, &PlaceEdit::new(WRITTEN.0, WRITTEN.1, WRITTEN.2))?;
+    made.copy_to(3, 0);
+    made.truncate(3);
+    Ok(are_edits(
+        &made.lend(),
+        &[NEXT_ROWS[3], WRITTEN, NEXT_ROWS[2]],
+    ))
+}
+
+#[test]
+fn edits_are_written_over_one_another(rt: HostRuntime) {
+    assert!(rt; writes_edits_over(rt.alloc()).unwrap_or(false));
+}
+
 /// Rows are so many of its first bytes.
 const TEXT: &[u8] = b"abcdefghijklmnop";
 
