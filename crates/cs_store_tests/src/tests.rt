@@ -666,10 +666,7 @@ fn writes_edits_over(alloc: Global) -> Result<bool, AllocError> {
     made.set(1, &PlaceEdit::new(WRITTEN.0, WRITTEN.1, WRITTEN.2))?;
     made.copy_to(3, 0);
     made.truncate(3);
-    Ok(are_edits(
-        &made.lend(),
-        &[NEXT_ROWS[3], WRITTEN, NEXT_ROWS[2]],
-    ))
+    Ok(are_edits(&made.lend(), &[NEXT_ROWS[3], WRITTEN, NEXT_ROWS[2]]))
 }
 
 #[test]
