@@ -33,6 +33,18 @@ pub flat_append : (xs ys : List (List Entry)) → flat (xs ++ ys) ≡ flat xs ++
 flat_append [] ys = refl
 flat_append (x ∷ xs) ys = ap (λ (zs : List Entry). x ++ zs) (flat_append xs ys) ∙ sym (append_assoc x (flat xs) (flat ys))
 
+-- leaves more, at the end
+pub leaves_more : (leaves more all : List (List Entry)) (leaf : List Entry) → all ≡ leaves ++ more → flat more ≡ leaf → flat all ≡ flat leaves ++ leaf
+leaves_more leaves more all leaf is same = ap flat is ∙ flat_append leaves more ∙ ap (λ (zs : List Entry). flat leaves ++ zs) same
+
+-- one more
+pub leaf_more : (leaves all : List (List Entry)) (leaf : List Entry) → all ≡ leaves ++ leaf ∷ []
+    → (flat all ≡ flat leaves ++ leaf) × (0 < length leaf → All (λ leaf. 0 < length leaf) leaves → All (λ leaf. 0 < length leaf) all)
+leaf_more leaves all leaf is = (
+  leaves_more leaves (leaf ∷ []) all leaf is (append-nil leaf),
+  λ some full. subst (All (λ leaf. 0 < length leaf)) (sym is) (All-push (λ leaf. 0 < length leaf) leaves leaf full some),
+)
+
 take_slice : (es : List Entry) (n m : ℕ) → take (n + m) es ≡ take n es ++ take m (drop n es)
 take_slice es zero m = let k : zero + m ≡ m = omega arith in ap (λ j. take j es) k
 take_slice [] (suc n) m = let k : suc n + m ≡ suc (n + m) = omega arith in ap (λ j. take {A = Entry} j []) k ∙ sym (nothing m)
@@ -47,9 +59,10 @@ pub pieces_more : (pieces all : List (List Entry)) (leaf made piece : List Entry
     → made ≡ [] → piece ≡ made ++ slice_range leaf from to → all ≡ pieces ++ piece ∷ [] → (flat all ≡ take to leaf) × All (λ piece. 0 < length piece) all
 pieces_more pieces all leaf made piece from to less within so_far full none is grown =
     let n : from + (to - from) ≡ to = omega (arith, less) in
+    let more = leaf_more pieces all piece grown in
     let its : piece ≡ slice_range leaf from to = is ∙ ap (λ (zs : List Entry). zs ++ slice_range leaf from to) none in (
-      ap flat grown ∙ flat_append pieces (piece ∷ []) ∙ (λ i. so_far i ++ (append-nil piece ∙ its) i) ∙ sym (take_slice leaf from (to - from)) ∙ ap (λ k. take k leaf) n,
-      subst (All (λ piece. 0 < length piece)) (sym grown) (All-push (λ piece. 0 < length piece) pieces piece full (let l = ap length its in let k = length-between leaf from to within in omega (arith, l, k, less))),
+      more.0 ∙ (λ i. so_far i ++ its i) ∙ sym (take_slice leaf from (to - from)) ∙ ap (λ k. take k leaf) n,
+      more.1 (let l = ap length its in let k = length-between leaf from to within in omega (arith, l, k, less)) full,
     )
 
 pub rise_back : (us ws : List BodyEdit) → Rise (us ++ ws) → Rise ws
@@ -375,6 +388,16 @@ pub full_spliced : (leaves pieces new : List (List Entry)) (at : ℕ) → new �
 full_spliced leaves pieces new at is some full =
     subst (All (λ leaf. 0 < length leaf)) (sym is) (All-append (λ leaf. 0 < length leaf) (take at leaves) (pieces ++ drop (at + 1) leaves) (All-take (λ leaf. 0 < length leaf) at leaves full)
     (All-append (λ leaf. 0 < length leaf) pieces (drop (at + 1) leaves) some (All-drop (λ leaf. 0 < length leaf) (at + 1) leaves full)))
+
+-- a leaf that is moved behind those that were, of all
+pub moved : (cut new before rest : List (List Entry)) (leaf all : List Entry) → before ≡ leaf ∷ rest → flat new ≡ flat cut ++ leaf → flat cut ++ flat before ≡ all → flat new ++ flat rest ≡ all
+moved cut new before rest leaf all first made was = ap (λ (zs : List Entry). zs ++ flat rest) made ∙ append_assoc (flat cut) leaf (flat rest) ∙ ap (λ (ls : List (List Entry)). flat cut ++ flat ls) (sym first) ∙ was
+
+pub moved_full : (cut new before rest : List (List Entry)) (leaf : List Entry) → before ≡ leaf ∷ rest → (0 < length leaf → All (λ leaf. 0 < length leaf) cut → All (λ leaf. 0 < length leaf) new)
+    → All (λ leaf. 0 < length leaf) cut × All (λ leaf. 0 < length leaf) before → All (λ leaf. 0 < length leaf) new × All (λ leaf. 0 < length leaf) rest
+moved_full cut new before rest leaf first made was =
+    let full : All (λ leaf. 0 < length leaf) (leaf ∷ rest) = subst (All (λ leaf. 0 < length leaf)) first was.1 in
+    (made (full 0 [] (omega arith)) was.0, λ k d h. full (suc k) d (omega (arith, h)))
 
 pub rest_of : {X : Type 0} (xs : List X) (start : ℕ) → take (length xs - start) (drop start xs) ≡ drop start xs
 rest_of xs start = take_all (length xs - start) (drop start xs) (omega (arith, length-drop start xs))

@@ -2,7 +2,7 @@
 //! what it makes of each leaf, for which it takes all the memory that it needs, and then makes it or takes it back, which takes
 //! none.
 
-ghost use Rattle.std.specs.Prelude.{◌≡◌, true, false, ◌≤◌, ◌<◌, ◌+◌, ◌⊎◌, List, [], ◌++◌, ◌∷◌, T, pos, length, take, drop, fold, map, filter, slice_set, option_map, Some, None, IfOk, IfSome, OnOk, OnErr, MatchBool};
+ghost use Rattle.std.specs.Prelude.{◌≡◌, true, false, ◌≤◌, ◌<◌, ◌+◌, ◌⊎◌, List, [], ◌++◌, ◌∷◌, T, pos, length, take, drop, fold, map, filter, slice_set, option_map, Some, None, IfOk, IfSome, OnOk, OnErr, MatchBool, vec_len, vec_capacity};
 ghost use Rattle.std.specs.List.{All};
 ghost use Rattle.std.specs.Ordering.{int_eq, is_gt};
 ghost use Rattle.std.specs.FinMap.{get, is_sorted};
@@ -422,7 +422,7 @@ fn stage(
     if leaves.is_empty() {
         return stage_fresh(alloc, edits);
     }
-    let mut patches = Vec::with_capacity(alloc, 1)?;
+    let mut patches = Vec::with_capacity(alloc, edits.len().min(leaves.len()))?;
     match stage_patches(alloc, leaves, near, edits, &mut patches) {
         Ok(true) => Ok(Some(Staged::Patches(patches))),
         Ok(false) => {
@@ -502,13 +502,14 @@ pub fn take_back(leaves: &mut Vec<Leaf>, staged: Staged)
     }
 }
 
-/// Which leaves were changed in a way that asks for more: whether one has no row left, and from which place up to which some have
-/// too many; none, where the one is above the other.
+/// Which leaves were changed in a way that asks for more: whether one has no row left, how many have too many, which of these is
+/// the last, and how many leaves more there are at most once these are cut.
 #[derive(Clone, Copy)]
 struct Uneven {
     has_empty: bool,
-    from: usize,
-    to: usize,
+    large: usize,
+    last: usize,
+    more: usize,
 }
 
 impl Uneven {
@@ -518,8 +519,9 @@ impl Uneven {
     {
         Uneven {
             has_empty: false,
-            from: usize::MAX,
-            to: 0,
+            large: 0,
+            last: 0,
+            more: 0,
         }
     }
 
@@ -531,8 +533,9 @@ impl Uneven {
             self.has_empty = true;
         }
         if rows >= 2 * LEAF {
-            self.from = self.from.min(at);
-            self.to = self.to.max(at.saturating_add(1));
+            self.large = self.large.saturating_add(1);
+            self.last = at;
+            self.more = self.more.saturating_add(rows / LEAF);
         }
     }
 }
@@ -566,21 +569,73 @@ fn cut_leaf(alloc: Global, leaves: &mut Vec<Leaf>, at: usize) -> Result<(), Allo
     Ok(())
 }
 
-/// Cuts the leaves from one place up to another that have too many rows, the last first. Where memory is refused the rest stay
-/// as they are.
-fn cut_leaves(
+/// Appends the pieces of a leaf, and leaves room for so many more leaves. At `Err` nothing is appended.
+fn push_pieces(
     alloc: Global,
-    leaves: &mut Vec<Leaf>,
-    from: usize,
-    to: usize,
+    cut: &mut Vec<Leaf>,
+    leaf: &Leaf,
+    rest: usize,
 ) -> Result<(), AllocError>
+    requires { vec_len cut.old + rest < vec_capacity cut.old }
+    ensures room { OnOk result (vec_len cut.new + rest ≤ vec_capacity cut.new) }
+    ensures same { OnOk result (flat cut.new.items ≡ flat cut.old.items ++ leaf.now) }
+    ensures full { OnOk result (All (λ leaf. 0 < length leaf) cut.old.items → All (λ leaf. 0 < length leaf) cut.new.items) }
+    ensures err { OnErr result ((cut.new.items ≡ cut.old.items) × (vec_len cut.new ≡ vec_len cut.old)) }
+    ensures capacity { vec_capacity cut.old ≤ vec_capacity cut.new }
+{
+    let mut pieces = pieces_of(alloc, leaf)?;
+    cut.reserve(pieces.len() + rest)?;
+    cut.append(&mut pieces)?;
+    Ok(())
+}
+
+/// Appends a leaf, in pieces if it has too many rows and there is memory for these, and leaves room for so many more leaves.
+fn push_cut(alloc: Global, cut: &mut Vec<Leaf>, leaf: Leaf, rest: usize)
+    requires { vec_len cut.old + rest < vec_capacity cut.old }
+    ensures room { vec_len cut.new + rest ≤ vec_capacity cut.new }
+    ensures same { flat cut.new.items ≡ flat cut.old.items ++ leaf }
+    ensures full { 0 < length leaf → All (λ leaf. 0 < length leaf) cut.old.items → All (λ leaf. 0 < length leaf) cut.new.items }
+{
+    if leaf.len() < 2 * LEAF {
+        cut.push_reserved(leaf);
+        return;
+    }
+    match push_pieces(alloc, cut, &leaf, rest) {
+        Ok(()) => {}
+        Err(_) => cut.push_reserved(leaf),
+    }
+}
+
+/// Cuts the leaves that have too many rows, of which there are so many more then. All leaves are moved once, since a splice for
+/// each that is cut would move those behind it each time. A leaf for whose pieces there is no memory stays as it is, and at
+/// `Err` all do.
+fn cut_leaves(alloc: Global, leaves: &mut Vec<Leaf>, more: usize) -> Result<(), AllocError>
     ensures same { flat leaves.new.items ≡ flat leaves.old.items }
     ensures full { All (λ leaf. 0 < length leaf) leaves.old.items → All (λ leaf. 0 < length leaf) leaves.new.items }
 {
-    for done in 0..to.saturating_sub(from) {
-        cut_leaf(alloc, leaves, to - 1 - done)?;
+    let mut rest = leaves.len();
+    let mut cut = Vec::with_capacity(alloc, rest.saturating_add(more))?;
+    for leaf in mem::replace(leaves, Vec::new(alloc)) {
+        rest -= 1;
+        push_cut(alloc, &mut cut, leaf, rest);
     }
+    *leaves = cut;
     Ok(())
+}
+
+/// Cuts the leaves that have too many rows. Where memory is refused they stay as they are.
+fn cut_large(alloc: Global, leaves: &mut Vec<Leaf>, uneven: Uneven) -> Result<(), AllocError>
+    ensures same { flat leaves.new.items ≡ flat leaves.old.items }
+    ensures full { All (λ leaf. 0 < length leaf) leaves.old.items → All (λ leaf. 0 < length leaf) leaves.new.items }
+{
+    if uneven.large == 0 {
+        return Ok(());
+    }
+    // Where leaves went, this one may stand further to the front now, and all were moved already.
+    if uneven.large == 1 && !uneven.has_empty {
+        return cut_leaf(alloc, leaves, uneven.last);
+    }
+    cut_leaves(alloc, leaves, uneven.more)
 }
 
 /// Takes out the leaves that have no row.
@@ -597,13 +652,10 @@ fn even_out(alloc: Global, leaves: &mut Vec<Leaf>, uneven: Uneven)
     ensures full { (uneven.has_empty ≡ false → All (λ leaf. 0 < length leaf) leaves.old.items)
         → All (λ leaf. 0 < length leaf) leaves.new.items }
 {
-    let mut from = uneven.from;
     if uneven.has_empty {
         drop_empty(leaves);
-        // Leaves behind those that went stand further to the front now.
-        from = 0;
     }
-    let _ = cut_leaves(alloc, leaves, from, uneven.to);
+    let _ = cut_large(alloc, leaves, uneven);
 }
 
 /// Makes what is prepared. Where there is no memory to cut a leaf, it stays as it is until a later commit changes it.

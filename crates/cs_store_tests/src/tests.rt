@@ -721,6 +721,59 @@ fn many_edits_of_few_keys_leave_the_last_of_each(rt: HostRuntime) {
     assert!(rt; keeps_the_last(rt.alloc()) == Ok(true));
 }
 
+const SPREAD: u16 = 600;
+
+/// The row of this number: each fourth is there first, and three come between it and the one behind it.
+fn spread_row(number: u16) -> &'static [u8] {
+    if number % 4 == 0 { b"first" } else { b"next" }
+}
+
+/// Edits of the numbers that have this row.
+fn put_spread(row: &[u8], made: &mut PlaceEdits) -> Result<(), AllocError> {
+    for number in 0..SPREAD {
+        if spread_row(number) == row {
+            made.push(&PlaceEdit::new(0, &number.to_be_bytes(), Some(row)))?;
+        }
+    }
+    Ok(())
+}
+
+fn spread(alloc: Global, row: &[u8]) -> Result<Batch, AllocError> {
+    let mut made = nothing(alloc);
+    put_spread(row, &mut made.rows)?;
+    Ok(made)
+}
+
+fn is_spread(row: &StoredBody, number: u16) -> bool {
+    row.key.as_slice() == number.to_be_bytes().as_slice()
+        && row.body.as_slice() == spread_row(number)
+}
+
+fn are_spread(rows: &[StoredBody]) -> bool {
+    let mut number = 0;
+    for row in rows {
+        if !is_spread(row, number) {
+            return false;
+        }
+        number = number.wrapping_add(1);
+    }
+    number == SPREAD
+}
+
+/// Whether two commits leave all rows.
+fn spreads(alloc: Global) -> Result<bool, StoreFault> {
+    let mut store = MapStore::new(alloc);
+    store.commit(&spread(alloc, b"first")?)?;
+    store.commit(&spread(alloc, b"next")?)?;
+    Ok(are_spread(store.list(0)?.as_slice()))
+}
+
+/// The second commit makes each of five leaves so long that it is cut.
+#[test]
+fn rows_that_come_between_others_stay_in_order(rt: HostRuntime) {
+    assert!(rt; spreads(rt.alloc()) == Ok(true));
+}
+
 /// The edit of this number in two tables, of which each fifth removes.
 fn put_one(number: u8, body: &[u8], made: &mut PlaceEdits) -> Result<(), AllocError> {
     let table = if number % 2 == 0 { 0 } else { LAST };
