@@ -150,7 +150,7 @@ module _ (keys : Keys) (groups : List (List ℕ)) (grouping : IsGrouping keys gr
   group_at place = get_or groups place []
 
   pub started : (read : Slot → Type 0) (places : Places) → places.made ≡ [] → places.slots.items ≡ [] → places.waits.items ≡ []
-      → length places.numbers.items ≡ length keys → ((at : ℕ) → get_or places.numbers.items at None ≡ None)
+      → length places.numbers ≡ length keys → ((at : ℕ) → get_or places.numbers at None ≡ None)
       → ArePlacesSoFar keys groups changes read 0 places
   started read places made slots waits long none = record {
     held = [];
@@ -207,14 +207,14 @@ module _ (keys : Keys) (groups : List (List ℕ)) (grouping : IsGrouping keys gr
         }
       where
         made_done : (put : IsPutMade changes (group_at count) slot old new) (place : ℕ) → (place < count) ⊎ (place ≡ count)
-            → IsDone (so_far.held ++ Some put.next ∷ []) changes new.numbers.items place (group_at place)
+            → IsDone (so_far.held ++ Some put.next ∷ []) changes new.numbers place (group_at place)
         made_done put place (inl below) =
-            stays_done so_far.held (Some put.next ∷ []) old.numbers.items new.numbers.items place (λ at c. ap (λ ns. get_or ns at None) put.numbers) (so_far.done place below)
+            stays_done so_far.held (Some put.next ∷ []) old.numbers new.numbers place (λ at c. ap (λ ns. get_or ns at None) put.numbers) (so_far.done place below)
         made_done put place (inr is) =
             let first = first_of (group_at count) in
             let there : slice_get (so_far.held ++ Some put.next ∷ []) count ≡ Some (Some put.next) =
             ap (slice_get (so_far.held ++ Some put.next ∷ [])) (sym so_far.long) ∙ get_last so_far.held put.next in
-            let none : get_or new.numbers.items first None ≡ None =
+            let none : get_or new.numbers first None ≡ None =
             ap (λ ns. get_or ns first None) put.numbers ∙ so_far.later count first (omega arith) less (first_there (group_at count) put.single) in
             rw is (inl (first, put.next, only_one (group_at count) put.single, there, put.by, none))
 
@@ -239,9 +239,9 @@ module _ (keys : Keys) (groups : List (List ℕ)) (grouping : IsGrouping keys gr
         }
       where
         waits_done : (put : IsPutWaiting (group_at count) slot old new) (place : ℕ) → (place < count) ⊎ (place ≡ count)
-            → IsDone (so_far.held ++ None ∷ []) changes new.numbers.items place (group_at place)
+            → IsDone (so_far.held ++ None ∷ []) changes new.numbers place (group_at place)
         waits_done put place (inl below) =
-            stays_done so_far.held (None ∷ []) old.numbers.items new.numbers.items place
+            stays_done so_far.held (None ∷ []) old.numbers new.numbers place
             (λ at c. put.kept at (λ other. groups_apart keys groups grouping place count at below less c other)) (so_far.done place below)
         waits_done put place (inr is) =
             let waits : IsWaiting (so_far.held ++ None ∷ []) count (count_waiting so_far.held) =
@@ -260,23 +260,23 @@ module _ (keys : Keys) (groups : List (List ℕ)) (grouping : IsGrouping keys gr
     numbers = group_numbers keys groups grouping
 
     turn_of : (at : ℕ) (some : Change) → Contains (group_at (get_or numbers at 0)) at
-        → IsDone so_far.held changes places.numbers.items (get_or numbers at 0) (group_at (get_or numbers at 0))
-        → IsTurn so_far.held (get_or changes at some) (get_or numbers at 0) (get_or places.numbers.items at None)
+        → IsDone so_far.held changes places.numbers (get_or numbers at 0) (group_at (get_or numbers at 0))
+        → IsTurn so_far.held (get_or changes at some) (get_or numbers at 0) (get_or places.numbers at None)
     turn_of at some inside (inl (own, next, is, found, by, none)) =
         let same : own ≡ at = of_one own at (rw is at inside) in
-        let here : get_or places.numbers.items at None ≡ None = ap (λ k. get_or places.numbers.items k None) (sym same) ∙ none in
+        let here : get_or places.numbers at None ≡ None = ap (λ k. get_or places.numbers k None) (sym same) ∙ none in
         rw here (next, found, rw same at (by some))
     turn_of at some inside (inr (number, waits, given)) = rw (given at inside) waits
 
-    alone_in : (i j place : ℕ) → Contains (group_at place) i → Contains (group_at place) j → i ≢ j → get_or places.numbers.items i None ≡ None
-        → IsDone so_far.held changes places.numbers.items place (group_at place) → ⊥
+    alone_in : (i j place : ℕ) → Contains (group_at place) i → Contains (group_at place) j → i ≢ j → get_or places.numbers i None ≡ None
+        → IsDone so_far.held changes places.numbers place (group_at place) → ⊥
     alone_in i j place one other apart none (inl (own, next, is, found, by, none_there)) =
         apart (sym (of_one own i (rw is at one)) ∙ of_one own j (rw is at other))
     alone_in i j place one other apart none (inr (number, waits, given)) = let f = sym none ∙ given i one in cc
 
     covered_by : (place : ℕ) (next : Slot) → place < length groups → slice_get so_far.held place ≡ Some (Some next)
-        → IsDone so_far.held changes places.numbers.items place (group_at place)
-        → (at : ℕ) × (at < length changes) × (get_or places.numbers.items at None ≡ None) × (get_or numbers at 0 ≡ place)
+        → IsDone so_far.held changes places.numbers place (group_at place)
+        → (at : ℕ) × (at < length changes) × (get_or places.numbers at None ≡ None) × (get_or numbers at 0 ≡ place)
     covered_by place next less found (inl (own, made, is, there, by, none)) =
         let inside : Contains (group_at place) own = rw is (0, omega arith, refl) in
         (own, omega (arith, member_within keys groups grouping place own less inside, long), none, number_is keys groups grouping place own less inside)

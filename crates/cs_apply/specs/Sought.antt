@@ -1,9 +1,7 @@
 -- Places that are to be looked up.
-use Rattle.std.specs.Prelude.{◌≡◌, ℕ, ◌<◌, ◌^◌, ◌+◌, List, [], length, slice_index_or}
+use Rattle.std.specs.Prelude.{◌≡◌, ℕ, ◌<◌, ◌^◌, List, length, slice_index_or}
 use Rattle.cs_value.specs.declared.catalog.TableDef.{TableDef}
-use Rattle.cs_tasks.specs.cs_order.Order.{Keys, key_at}
 use Rattle.cs_apply.specs.Found.{place_bytes}
-use Rattle.cs_apply.specs.Waiting.{first_of}
 use Rattle.cs_apply.specs.declared.sought.SoughtPlace.{SoughtPlace}
 
 -- it is at a table of the catalog, whose number fits its four bytes
@@ -17,9 +15,3 @@ pub record IsOfTable (catalog : List TableDef) (sought : SoughtPlace) : Type 0 w
 -- it is this place, at a table of the catalog
 abbrev pub IsSought : List TableDef → List ℕ → SoughtPlace → Type 0
 IsSought catalog place sought = (place_bytes sought.table sought.key.now ≡ place) × IsOfTable catalog sought
-
--- these are the places of the groups from this number on
-abbrev pub AreSought : List TableDef → Keys → List (List ℕ) → ℕ → List SoughtPlace → Type 0
-AreSought catalog keys groups from sought =
-    (k : ℕ) (some : SoughtPlace) → k < length sought
-    → IsSought catalog (key_at keys (first_of (slice_index_or groups (from + k) []))) (slice_index_or sought k some)

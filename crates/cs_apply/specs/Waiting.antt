@@ -27,16 +27,16 @@ pub record ArePlaces (changes : List Change) (numbers : List ℕ) (read : Slot �
   pub made : places.made ≡ made_edits held
   pub waits : places.waits.items ≡ waits_of held
   pub as_read : AllByRecursion read (weave (unmade held) places.slots.items)
-  pub long : (length places.numbers.items ≡ length changes) × (length numbers ≡ length changes)
+  pub long : (length places.numbers ≡ length changes) × (length numbers ≡ length changes)
   -- each change makes its place, or waits
   pub turns : (at : ℕ) (some : Change) → at < length changes
-      → IsTurn held (slice_index_or changes at some) (slice_index_or numbers at 0) (slice_index_or places.numbers.items at None)
+      → IsTurn held (slice_index_or changes at some) (slice_index_or numbers at 0) (slice_index_or places.numbers at None)
   -- one that makes its place is alone there
-  pub alone : (i j : ℕ) → i < length changes → j < length changes → i ≢ j → slice_index_or places.numbers.items i None ≡ None
+  pub alone : (i j : ℕ) → i < length changes → j < length changes → i ≢ j → slice_index_or places.numbers i None ≡ None
       → slice_index_or numbers i 0 ≢ slice_index_or numbers j 0
   -- each place that is made is made by a change
   pub covered : (place : ℕ) (next : Slot) → slice_get held place ≡ Some (Some next)
-      → (at : ℕ) × (at < length changes) × (slice_index_or places.numbers.items at None ≡ None) × (slice_index_or numbers at 0 ≡ place)
+      → (at : ℕ) × (at < length changes) × (slice_index_or places.numbers at None ≡ None) × (slice_index_or numbers at 0 ≡ place)
 
 -- what has come of the changes of one place
 abbrev pub IsDone : List (Option Slot) → List Change → List (Option ℕ) → ℕ → List ℕ → Type 0
@@ -55,10 +55,10 @@ pub record ArePlacesSoFar (keys : Keys) (groups : List (List ℕ)) (changes : Li
   pub waits : places.waits.items ≡ waits_of held
   pub as_read : AllByRecursion read (weave (unmade held) places.slots.items)
   pub slots : AreSlots (heads keys (map first_of (take count groups))) (weave (unmade held) places.slots.items)
-  pub numbers : length places.numbers.items ≡ length keys
-  pub done : (place : ℕ) → place < count → IsDone held changes places.numbers.items place (slice_index_or groups place [])
+  pub numbers : length places.numbers ≡ length keys
+  pub done : (place : ℕ) → place < count → IsDone held changes places.numbers place (slice_index_or groups place [])
   pub later : (place at : ℕ) → count ≤ place → place < length groups → Contains (slice_index_or groups place []) at
-      → slice_index_or places.numbers.items at None ≡ None
+      → slice_index_or places.numbers at None ≡ None
 
 -- one more place is made by the only change of its group
 pub record IsPutMade (changes : List Change) (group : List ℕ) (slot : Slot) (old new : Places) : Type 0 where
@@ -69,16 +69,16 @@ pub record IsPutMade (changes : List Change) (group : List ℕ) (slot : Slot) (o
   pub made : new.made ≡ old.made ++ edit_list (edit_for next)
   pub waits : new.waits.items ≡ old.waits.items ++ map not_waiting (edit_list (edit_for next))
   pub slots : new.slots.items ≡ old.slots.items
-  pub numbers : new.numbers.items ≡ old.numbers.items
+  pub numbers : new.numbers ≡ old.numbers
 
 -- or it waits
 pub record IsPutWaiting (group : List ℕ) (slot : Slot) (old new : Places) : Type 0 where
   pub made : new.made ≡ old.made ++ stand_in ∷ []
   pub waits : new.waits.items ≡ old.waits.items ++ true ∷ []
   pub slots : new.slots.items ≡ old.slots.items ++ slot ∷ []
-  pub numbers : length new.numbers.items ≡ length old.numbers.items
-  pub given : (at : ℕ) → Contains group at → slice_index_or new.numbers.items at None ≡ Some (length old.slots.items)
-  pub kept : (at : ℕ) → (Contains group at → ⊥) → slice_index_or new.numbers.items at None ≡ slice_index_or old.numbers.items at None
+  pub numbers : length new.numbers ≡ length old.numbers
+  pub given : (at : ℕ) → Contains group at → slice_index_or new.numbers at None ≡ Some (length old.slots.items)
+  pub kept : (at : ℕ) → (Contains group at → ⊥) → slice_index_or new.numbers at None ≡ slice_index_or old.numbers at None
 
 abbrev pub IsPut : List Change → List ℕ → Slot → Places → Places → Type 0
 IsPut changes group slot old new = IsPutMade changes group slot old new ⊎ IsPutWaiting group slot old new
@@ -88,7 +88,7 @@ pub record HasEdit (edit : Option BodyEdit) (old new : Places) : Type 0 where
   pub made : new.made ≡ old.made ++ edit_list edit
   pub waits : new.waits.items ≡ old.waits.items ++ map not_waiting (edit_list edit)
   pub slots : new.slots.items ≡ old.slots.items
-  pub numbers : new.numbers.items ≡ old.numbers.items
+  pub numbers : new.numbers ≡ old.numbers
 
 -- a change is made at a place that the store has as this slot, and the edit of what it leaves is behind the others
 pub record IsMadeAt (change : Change) (slot : Slot) (old new : Places) : Type 0 where

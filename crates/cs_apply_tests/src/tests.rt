@@ -11,7 +11,7 @@ use cs_normal::Normal;
 use cs_normalising::normalise;
 use cs_record::Row;
 use cs_store::{Batch, RowStore, Trip};
-use cs_tasks::{Tasks, TasksFault, encode_blob, find_tasks, key_in};
+use cs_tasks::{Tasks, TasksFault, encode_blob, find_tasks};
 use cs_value::{Catalog, Items, Memory, TableDef, Text};
 use std::alloc::Global;
 
@@ -358,6 +358,7 @@ fn null_in_a_key(rt: HostRuntime) {
 
 /// The integer 1 as a field, and the headers of `t2(a key, b, c, d)` and `t3(a, b key)`.
 const ONE: &[u8] = &[1, 0, 0, 0, 0, 0, 0, 0, 1];
+const TWO: &[u8] = &[1, 0, 0, 0, 0, 0, 0, 0, 2];
 
 const SECOND: &[u8] = &[0x54, 4, 1, 0, 0, 0, 0x74, 0x32, 0];
 
@@ -522,19 +523,18 @@ const TWO_FIT: &[&[u8]] = &[
 /// The blob of those that fit a table, where both conflicts are answered by REPLACE.
 const BOTH_REPLACED: &[&[u8]] = &[FIRST, &[0x12, 1], ONE, V2, THIRD, &[0x12, 1], V2, ONE];
 
-/// Whether the place is that of the key 1 of the table at this place of the catalog.
-fn is_place(place: &[u8], table: u8) -> bool {
-    place.len() == 13 && place[..4] == [0, 0, 0, table] && key_in(place) == ONE
+/// Whether the place there is that of the key 1 of the table at this place of the catalog.
+fn is_place(found: &Tasks<'_>, at: usize, table: u32) -> bool {
+    found.places.table(at) == table && found.places.key(at) == ONE
 }
 
 /// Whether two changes were found, of the tables `t1` and `t3` and at the key 1, and one group that fits no table.
 fn are_two(found: &Tasks<'_>) -> bool {
     found.skipped == 1
         && found.changes.as_slice().len() == 2
-        && found.tables.as_slice() == [0, 2].as_slice()
         && found.places.len() == 2
-        && is_place(found.places.get(0), 0)
-        && is_place(found.places.get(1), 2)
+        && is_place(found, 0, 0)
+        && is_place(found, 1, 2)
 }
 
 /// Whether the two are found, and the blob is theirs where each conflict is answered by REPLACE.
@@ -559,6 +559,54 @@ fn finds_two(alloc: Global) -> Result<bool, TasksFault> {
         return Ok(false);
     };
     finds_two_in(alloc, &catalog, &changeset)
+}
+
+/// Changes of one table that fits, behind a group that fits none: two of `t1` at the keys 2 and 1, which lend their keys, and one of
+/// `t3`, whose key isn't its first column.
+const OF_ONE: &[(u32, &[&[u8]], &[&[u8]])] = &[
+    (
+        0,
+        &[UNKNOWN, &[9, 0], ONE, V1, FIRST, &[0x12, 0], TWO, V2, &[9, 0], ONE, V1],
+        &[TWO, ONE],
+    ),
+    (2, &[UNKNOWN, &[9, 0], ONE, V1, THIRD, &[0x12, 0], V2, ONE], &[ONE]),
+];
+
+/// Whether these are the keys that were found, all of this table.
+fn are_keys(found: &Tasks<'_>, table: u32, keys: &[&[u8]]) -> bool {
+    for (at, key) in keys.iter().enumerate() {
+        if found.places.table(at) != table || found.places.key(at) != *key {
+            return false;
+        }
+    }
+    found.skipped == 1
+        && found.changes.as_slice().len() == keys.len()
+        && found.places.len() == keys.len()
+}
+
+/// Whether they are found in these bytes.
+fn finds_keys(
+    alloc: Global,
+    parts: &[&[u8]],
+    table: u32,
+    keys: &[&[u8]],
+) -> Result<bool, TasksFault> {
+    let Some(catalog) = catalog(alloc)? else {
+        return Ok(false);
+    };
+    let bytes = joined(alloc, parts)?;
+    let Ok(changeset) = read(alloc, bytes.as_slice()) else {
+        return Ok(false);
+    };
+    let found = find_tasks(alloc, &catalog, &changeset)?;
+    Ok(are_keys(&found, table, keys))
+}
+
+#[test]
+fn changes_of_one_table_are_found_with_their_keys(rt: HostRuntime) {
+    for (table, parts, keys) in OF_ONE {
+        assert!(rt; finds_keys(rt.alloc(), parts, *table, keys).unwrap_or(false));
+    }
 }
 
 /// Whether it is told that a change has NULL at a key column.

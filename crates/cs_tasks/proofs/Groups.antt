@@ -1,7 +1,7 @@
 -- Groups and the tables that they fit.
 use Rattle.std.proofs.lemmas.List.{take_more, append_assoc, map-append}
 use Rattle.std.specs.Prelude.{get_or, Result, IfErr}
-use Rattle.std.proofs.Common.{append-nil, ◌<◌, take, ◌≡◌, ◌++◌, ◌+◌, ◌≤◌, ℕ, zero, suc, map, Bool, true, false, ◌&&◌, List, [], ◌∷◌, length, Option, Some, None, refl, sym, ap, ◌∙◌, arith}
+use Rattle.std.proofs.Common.{append-nil, ◌<◌, take, ◌≡◌, ◌++◌, ◌+◌, ◌≤◌, ℕ, zero, suc, map, Bool, true, false, not, ◌&&◌, List, [], ◌∷◌, length, Option, Some, None, is_some, option_map, refl, sym, ap, ◌∙◌, arith}
 use Rattle.std.proofs.lemmas.Bool.Decides.{same_from_decides}
 use Rattle.std.proofs.lemmas.Option.{same_Some}
 use Rattle.cs_value.specs.declared.catalog.TableDef.{TableDef}
@@ -81,6 +81,26 @@ one_at_most : (place : Option ℕ) → one_if_none place ≤ 1
 one_at_most None = omega (arith)
 one_at_most (Some at) = omega (arith)
 
+-- whether a group fits a table counts
+pub none_counts : {X : Type 0} (at : X → ℕ) (found : Option X) (place : Option ℕ) (none : Bool) → option_map at found ≡ place → is_some found ≡ not none → none ≡ true → one_if_none place ≡ 1
+none_counts at None place none is told none_is = ap one_if_none (sym is)
+none_counts at (Some x) place none is told none_is = absurd (let both : true ≡ false = told ∙ ap not none_is in cc)
+
+pub one_counts : {X : Type 0} (at : X → ℕ) (found : Option X) (place : Option ℕ) (none : Bool) → option_map at found ≡ place → is_some found ≡ not none → none ≡ false → one_if_none place ≡ 0
+one_counts at None place none is told none_is = absurd (let both : false ≡ true = told ∙ ap not none_is in cc)
+one_counts at (Some x) place none is told none_is = ap one_if_none (sym is)
+
+-- the count, where one group more is looked at
+pub count_turn : (tables : List TableDef) (all : List Group) (at : ℕ) (group : Group) (old new : ℕ) → at < length all → group ≡ get_or all at group
+    → old ≡ skipped tables (take at all) → old ≤ at → new ≡ old + one_if_none (table_of group tables)
+    → (new ≡ skipped tables (take (at + 1) all)) × (new ≤ at + 1)
+count_turn tables all at group old new less is stands few counted =
+    let more : take (at + 1) all ≡ take at all ++ group ∷ [] = take_more all at group less ∙ ap (λ g. take at all ++ g ∷ []) (sym is) in
+    let small = one_at_most (table_of group tables) in (
+      counted ∙ (ap (λ n. n + one_if_none (table_of group tables)) stands ∙ (sym (skipped_more tables (take at all) group) ∙ ap (skipped tables) (sym more))),
+      omega (arith, counted, few, small),
+    )
+
 -- one turn of the loop over the groups
 pub turn : (tables : List TableDef) (all : List Group) (at : ℕ) (group : Group) (old new : TasksBuilder) → at < length all → group ≡ get_or all at group
     → (AreGathered old (tasks tables (take at all)) × (old.skipped ≡ skipped tables (take at all)) × (old.skipped ≤ at))
@@ -90,11 +110,8 @@ pub turn : (tables : List TableDef) (all : List Group) (at : ℕ) (group : Group
 turn tables all at group old new less is stands put counted =
     let more : take (at + 1) all ≡ take at all ++ group ∷ [] = take_more all at group less ∙ ap (λ g. take at all ++ g ∷ []) (sym is) in
     let found = put (tasks tables (take at all)) stands.0 in
-    let small = one_at_most (table_of group tables) in (
-      rw (more, tasks_more tables (take at all) group) found,
-      counted ∙ (ap (λ n. n + one_if_none (table_of group tables)) stands.1 ∙ (sym (skipped_more tables (take at all) group) ∙ ap (skipped tables) (sym more))),
-      omega (arith, counted, stands.2, small),
-    )
+    let count = count_turn tables all at group old.skipped new.skipped less is stands.1 stands.2 counted in
+    (rw (more, tasks_more tables (take at all) group) found, count.0, count.1)
 
 pub fitting_fault : {T : Type 0} (r : Result T TasksFault) (place : Option ℕ) (at : ℕ) (group : Group) (marks : List Bool) → Some at ≡ place → marks_of group.marks ≡ marks
     → IfErr r (λ fault. TellsNullKey fault (list_all (has_key marks) group.changes))
@@ -105,11 +122,11 @@ fitting_fault r place at group marks is same h =
 -- ---- the changes alone
 
 -- the changes of a group that fits are applied
-all_of : (table : ℕ) (group : Group) (changes : List Change) → map (λ t. t.change) (map (task table group) changes) ≡ changes
+pub all_of : (table : ℕ) (group : Group) (changes : List Change) → map (λ t. t.change) (map (task table group) changes) ≡ changes
 all_of table group [] = refl
 all_of table group (c ∷ changes) = ap (λ (more : List Change). c ∷ more) (all_of table group changes)
 
-none_left : {A : Type 0} (xs : List A) → length xs ≡ 0 → xs ≡ []
+pub none_left : {A : Type 0} (xs : List A) → length xs ≡ 0 → xs ≡ []
 none_left [] none = refl
 none_left (x ∷ xs) none = absurd (omega (arith, none))
 

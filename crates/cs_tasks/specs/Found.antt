@@ -16,7 +16,7 @@ pub record AreTasks (tables_found : List ℕ) (places_found : Keys) (all : List 
 
 -- these changes were found
 abbrev pub AreFound : Tasks → List Task → Type 0
-AreFound found all = (found.changes ≡ map (λ t. t.change) all) × AreTasks found.tables.items found.places all
+AreFound found all = (found.changes ≡ map (λ t. t.change) all) × AreTasks found.places.0 found.places.1 all
 
 -- this was gathered of the changes so far
 abbrev pub AreGathered : TasksBuilder → List Task → Type 0

@@ -2,6 +2,7 @@ pub mod Blob
 pub mod Facts
 pub mod Found
 pub mod Laws
+pub mod Places
 pub mod Tasks
 pub mod cs_blob
 pub mod cs_change

@@ -1,6 +1,6 @@
 //! The changes that are applied, without what is found of them.
 
-ghost use Rattle.std.specs.Prelude.{◌≡◌, ◌++◌, map, IfOk, MatchOption, OnOk};
+ghost use Rattle.std.specs.Prelude.{◌≡◌, ◌++◌, map, IfOk, OnOk};
 ghost use Rattle.cs_tasks.specs.Tasks.{table_of, tasks, tasks_at};
 
 use crate::tasks::count_of;
@@ -30,6 +30,16 @@ impl<'a> Model for ChangeList<'a> {
 
 impl<'a> ChangeList<'a> {
     ghost use Rattle.std.specs.Prelude.{◌≡◌};
+
+    /// These changes, lent.
+    pub(crate) fn lend(changes: &'a [Change<'a>]) -> ChangeList<'a>
+        ensures { result ≡ changes.now }
+    {
+        ChangeList {
+            listed: None,
+            lent: changes,
+        }
+    }
 
     /// The changes.
     #[inline(always)]
@@ -71,50 +81,19 @@ fn list_group<'a>(
 }
 
 /// The changes that are applied, in a list of their own.
-fn list_changes<'a>(
+pub(crate) fn list_changes<'a>(
     alloc: Global,
     catalog: &Catalog,
     changeset: &Changeset<'a>,
-) -> Result<Vec<Change<'a>>, Memory>
-    ensures { IfOk result (λ changes. changes.items ≡ map (λ t. t.change) (tasks catalog.now changeset.now)) }
+) -> Result<ChangeList<'a>, Memory>
+    ensures { IfOk result (λ changes. changes ≡ map (λ t. t.change) (tasks catalog.now changeset.now)) }
 {
     let mut changes = Vec::with_capacity(alloc, count_all(changeset))?;
     for group in changeset.as_slice() {
         list_group(catalog, group, &mut changes)?;
     }
-    Ok(changes)
-}
-
-/// The changes that are applied, lent; `None` where they are of several groups.
-fn lend_changes<'a>(catalog: &Catalog, changeset: &'a Changeset<'a>) -> Option<&'a [Change<'a>]>
-    ensures { MatchOption result (Unit {0})
-        (λ changes. changes.now ≡ map (λ t. t.change) (tasks catalog.now changeset.now)) }
-{
-    let mut changes: &[Change<'_>] = &[];
-    for group in changeset.as_slice() {
-        if count_of(catalog, group) > 0 {
-            if !changes.is_empty() {
-                return None;
-            }
-            changes = group.changes.as_slice();
-        }
-    }
-    Some(changes)
-}
-
-/// The changes that are applied. Memory is taken only where they are of several groups.
-pub(crate) fn find_changes<'a>(
-    alloc: Global,
-    catalog: &Catalog,
-    changeset: &'a Changeset<'a>,
-) -> Result<ChangeList<'a>, Memory>
-    ensures { IfOk result (λ found. found ≡ map (λ t. t.change) (tasks catalog.now changeset.now)) }
-{
-    if let Some(lent) = lend_changes(catalog, changeset) {
-        return Ok(ChangeList { listed: None, lent });
-    }
     Ok(ChangeList {
-        listed: Some(list_changes(alloc, catalog, changeset)?),
+        listed: Some(changes),
         lent: &[],
     })
 }

@@ -12,9 +12,13 @@ mod blob;
 mod change_list;
 mod fault;
 pub mod laws;
+mod lending;
+mod only;
+mod task_places;
 mod tasks;
 
 pub use blob::encode_blob;
 pub use change_list::ChangeList;
 pub use fault::TasksFault;
-pub use tasks::{Tasks, find_tasks, key_in};
+pub use task_places::TaskPlaces;
+pub use tasks::{Tasks, find_tasks};

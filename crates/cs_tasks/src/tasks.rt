@@ -8,16 +8,15 @@ ghost use Rattle.cs_store.specs.States.{place_bytes};
 ghost use Rattle.cs_tasks.specs.Tasks.{Task, all_keyed, fits_table, table_of, task, tasks, tasks_at, one_if_none, skipped};
 ghost use Rattle.cs_tasks.specs.Found.{AreFound, AreGathered, TellsNullKey};
 
-use crate::change_list::{ChangeList, find_changes};
+use crate::change_list::{ChangeList, list_changes};
 use crate::fault::TasksFault;
+use crate::lending::lend_keys;
+use crate::only::{Only, count_skipped, find_only};
+use crate::task_places::TaskPlaces;
 use cs_change::{Change, Changeset, Group};
-use cs_order::Keys;
 use cs_store::below::{KeysBuilder, key_front, same_shape};
 use cs_value::{Catalog, Memory, TableDef};
 use std::alloc::Global;
-
-/// How many bytes of a place name its table.
-const TABLE: usize = 4;
 
 /// How many bytes a place takes whose key is one integer.
 const PLACE: usize = 13;
@@ -27,10 +26,8 @@ const PLACE: usize = 13;
 pub struct Tasks<'a> {
     /// Each change.
     pub changes: ChangeList<'a>,
-    /// For each change its table's place in the catalog.
-    pub tables: Vec<u32>,
-    /// The place of each change, as bytes: those of the table's place in the catalog, and then the key's.
-    pub places: Keys,
+    /// The place of each change.
+    pub places: TaskPlaces<'a>,
     /// How many groups fit no table.
     pub skipped: usize,
 }
@@ -41,6 +38,17 @@ pub(crate) struct TasksBuilder {
     tables: Vec<u32>,
     places: KeysBuilder,
     skipped: usize,
+}
+
+impl TasksBuilder {
+    ghost use Rattle.std.specs.Prelude.{◌≡◌};
+
+    /// The places that were found.
+    fn finish<'a>(self) -> TaskPlaces<'a>
+        ensures { result ≡ (self.tables.items, self.places) }
+    {
+        TaskPlaces::own(self.tables, self.places.finish())
+    }
 }
 
 /// Whether the group has the table's name, column count and key columns.
@@ -88,16 +96,6 @@ fn with_capacity(alloc: Global, count: usize) -> Result<TasksBuilder, Memory>
         places: KeysBuilder::with_capacity(alloc, count, count.saturating_mul(PLACE))?,
         skipped: 0,
     })
-}
-
-/// The key's bytes in those of a place.
-#[inline(always)]
-pub fn key_in(place: &[u8]) -> &[u8]
-    requires { 4 ≤ length place.now }
-    ensures { result.now ≡ drop 4 place.now }
-{
-    let (_, key) = place.split_at(TABLE);
-    key
 }
 
 /// Puts the place of a change behind the others, and tells whether none of the key's values is NULL. The marks are the
@@ -179,6 +177,55 @@ fn put_fitting(
     put_group(at, group, table.key_marks.as_slice(), tasks)
 }
 
+/// What is found of the changes of the only group of which some are applied.
+fn tasks_of_one<'a>(alloc: Global, only: &Only<'a, '_>, skipped: usize) -> Result<Tasks<'a>, TasksFault>
+    requires { marks_of only.now.group.now.marks ≡ only.now.marks.now }
+    ensures found { IfOk result (λ found. AreFound found (map (task only.now.table only.now.group.now) only.now.group.now.changes)) }
+    ensures skipped { IfOk result (λ found. found.skipped ≡ skipped) }
+    ensures fault { IfErr result (λ fault.
+        TellsNullKey fault (all_keyed (map (task only.now.table only.now.group.now) only.now.group.now.changes))) }
+{
+    let changes = ChangeList::lend(only.group.changes.as_slice());
+    if let Some(keys) = lend_keys(alloc, only.marks, only.group.changes.as_slice())? {
+        let places = TaskPlaces::lent(only.table, keys);
+        return Ok(Tasks {
+            changes,
+            places,
+            skipped,
+        });
+    }
+    let mut tasks = with_capacity(alloc, only.group.changes.as_slice().len())?;
+    put_group(only.table, only.group, only.marks, &mut tasks)?;
+    Ok(Tasks {
+        changes,
+        places: tasks.finish(),
+        skipped,
+    })
+}
+
+/// What is found of the changes of all groups.
+fn tasks_of_all<'a>(
+    alloc: Global,
+    catalog: &Catalog,
+    changeset: &'a Changeset<'a>,
+) -> Result<Tasks<'a>, TasksFault>
+    ensures found { IfOk result (λ found. AreFound found (tasks catalog.now changeset.now)) }
+    ensures skipped { IfOk result (λ found. found.skipped ≡ skipped catalog.now changeset.now) }
+    ensures fault { IfErr result (λ fault. TellsNullKey fault (all_keyed (tasks catalog.now changeset.now))) }
+{
+    let changes = list_changes(alloc, catalog, changeset)?;
+    let mut tasks = with_capacity(alloc, changes.as_slice().len())?;
+    for group in changeset.as_slice() {
+        put_fitting(catalog, group, &mut tasks)?;
+    }
+    let skipped = tasks.skipped;
+    Ok(Tasks {
+        changes,
+        places: tasks.finish(),
+        skipped,
+    })
+}
+
 /// The changes that are applied: those of the groups that fit a table of the catalog, in order, each with its place. (SQLite's
 /// "Session Extension", `sqlite3changeset_apply_v2`; that the columns must fit the table's exactly is a profile of this
 /// project.)
@@ -195,20 +242,8 @@ pub fn find_tasks<'a>(
     ensures skipped { IfOk result (λ found. found.skipped ≡ skipped catalog.now changeset.now) }
     ensures fault { IfErr result (λ fault. TellsNullKey fault (all_keyed (tasks catalog.now changeset.now))) }
 {
-    let changes = find_changes(alloc, catalog, changeset)?;
-    let mut tasks = with_capacity(alloc, changes.as_slice().len())?;
-    for group in changeset.as_slice() {
-        put_fitting(catalog, group, &mut tasks)?;
+    match find_only(catalog, changeset) {
+        Some(only) => tasks_of_one(alloc, &only, count_skipped(catalog, changeset)),
+        None => tasks_of_all(alloc, catalog, changeset),
     }
-    let TasksBuilder {
-        tables,
-        places,
-        skipped,
-    } = tasks;
-    Ok(Tasks {
-        changes,
-        tables,
-        places: places.finish(),
-        skipped,
-    })
 }

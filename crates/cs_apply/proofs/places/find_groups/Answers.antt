@@ -1,6 +1,5 @@
 use Rattle.std.proofs.Common.{◌≡◌, ◌<◌, length, refl, sym, ap, ◌∙◌, arith}
 use Rattle.cs_apply.specs.Slots.{slot_at}
-use Rattle.cs_apply.proofs.Ahead.{none_sought}
 use Rattle.cs_apply.proofs.Numbering.{has_first, members_within}
 use Rattle.cs_apply.proofs.Placing.{started, one_more}
 use Rattle.cs_apply.proofs.places.find_groups.Goals as goal
@@ -11,15 +10,14 @@ loop-number-init g c = (
   λ honest. refl,
   λ honest left may. may,
   refl,
-  started c.args.tasks.now.places c.args.groups.now c.requires.groups c.args.tasks.now.changes _ c.in_ok-places.places
+  started c.args.tasks.now.places.1 c.args.groups.now c.requires.groups c.args.tasks.now.changes _ c.in_ok-places.places
       c.in_ok-places.ensures.empty.0 c.in_ok-places.ensures.empty.1 c.in_ok-places.ensures.empty.2
       (c.in_ok-places.ensures.numbers.0 ∙ (ap length c.as_slice.ensures ∙ c.requires.changes)) c.in_ok-places.ensures.numbers.1,
   λ honest before holds. refl,
-  none_sought c.args.catalog.now c.args.tasks.now.places c.args.groups.now _ _ c.in_ok-sought.ensures,
 )
 
 pub find_stored-requires : goal.find_stored-requires
-find_stored-requires g c = c.in_ok-place.ensures.sought.1
+find_stored-requires g c = c.in_ok-place.ensures.1
 
 pub returns-in_err-stored-clause-read_rightly : goal.returns-in_err-stored-clause-read_rightly
 returns-in_err-stored-clause-read_rightly g c = λ honest before holds.
@@ -29,17 +27,17 @@ returns-in_err-stored-clause-read_rightly g c = λ honest before holds.
 pub put_place-requires-clause-some : goal.put_place-requires-clause-some
 put_place-requires-clause-some g c =
     let less : c.loop-number.number < length c.args.groups.now = omega (arith, c.loop-number-test.true, c.len-number-end.ensures) in
-    rw c.group-group.ensures (has_first c.args.tasks.now.places c.args.groups.now c.requires.groups c.loop-number.number less)
+    rw c.group-group.ensures (has_first c.args.tasks.now.places.1 c.args.groups.now c.requires.groups c.loop-number.number less)
 
 pub put_place-requires-clause-numbered : goal.put_place-requires-clause-numbered
 put_place-requires-clause-numbered g c =
     let less : c.loop-number.number < length c.args.groups.now = omega (arith, c.loop-number-test.true, c.len-number-end.ensures) in
-    rw (c.group-group.ensures, c.loop-number.invariant.4.numbers) (members_within c.args.tasks.now.places c.args.groups.now c.requires.groups c.loop-number.number less)
+    rw (c.group-group.ensures, c.loop-number.invariant.4.numbers) (members_within c.args.tasks.now.places.1 c.args.groups.now c.requires.groups c.loop-number.number less)
 
 pub put_place-requires-clause-within : goal.put_place-requires-clause-within
 put_place-requires-clause-within g c =
     let less : c.loop-number.number < length c.args.groups.now = omega (arith, c.loop-number-test.true, c.len-number-end.ensures) in
-    rw (c.group-group.ensures, c.as_slice-in-loop-number.ensures, c.requires.changes) (members_within c.args.tasks.now.places c.args.groups.now c.requires.groups c.loop-number.number less)
+    rw (c.group-group.ensures, c.as_slice-in-loop-number.ensures, c.requires.changes) (members_within c.args.tasks.now.places.1 c.args.groups.now c.requires.groups c.loop-number.number less)
 
 pub returns-in_err-put_place-clause-read_rightly : goal.returns-in_err-put_place-clause-read_rightly
 returns-in_err-put_place-clause-read_rightly g c = λ honest before holds.
@@ -56,16 +54,15 @@ loop-number-preserved g c =
       (λ honest. reads.same honest ∙ c.loop-number.invariant.1 (reads.was_honest honest)),
       (λ honest left may. c.loop-number.invariant.2 (reads.was_honest honest) left (reads.crash honest left may)),
       c.in_ok-stored.ensures.reads.kept ∙ c.loop-number.invariant.3,
-      one_more c.args.tasks.now.places c.args.groups.now c.requires.groups c.args.tasks.now.changes _ _
+      one_more c.args.tasks.now.places.1 c.args.groups.now c.requires.groups c.args.tasks.now.changes _ _
           (λ slot seen honest. seen (reads.was_honest honest))
           c.loop-number.number (slot_at c.in_ok-stored.stored) c.loop-number.places c.put_place.new.places less c.loop-number.invariant.4
-          (here.0 ∙ c.in_ok-place.ensures.sought.0, here.1, here.2)
+          (here.0 ∙ c.in_ok-place.ensures.0, here.1, here.2)
           (λ honest before holds. c.in_ok-stored.ensures.found honest before (rw (c.loop-number.invariant.1 (reads.was_honest honest)) holds))
           (rw (is, c.as_slice-in-loop-number.ensures) at c.in_ok-put_place.ensures),
       (λ honest before holds.
           c.in_ok-stored.ensures.read_rightly honest before (rw (c.loop-number.invariant.1 (reads.was_honest honest)) holds)
           ∙ c.loop-number.invariant.5 (reads.was_honest honest) before holds),
-      c.in_ok-place.ensures.so_far,
     )
 
 pub returns-clause-found : goal.returns-clause-found

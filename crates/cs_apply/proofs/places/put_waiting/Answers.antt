@@ -1,18 +1,16 @@
-use Rattle.std.proofs.Common.{◌≡◌, ◌++◌, ◌∷◌, [], Some, length, sym, ap, ◌∙◌, arith}
-use Rattle.std.proofs.lemmas.List.{with_items_is}
+use Rattle.std.proofs.Common.{◌≡◌, ◌-◌, ◌++◌, ◌∷◌, [], Some, length, length-append, ap, ◌∙◌, arith}
 use Rattle.cs_apply.proofs.places.put_waiting.Goals as goal
 
 pub returns : goal.returns
 returns c =
-    let lent = c.as_mut_slice.ensures.value in
-    let long : length c.give.new.numbers ≡ length c.args.places.now.numbers.items = c.give.ensures.length ∙ ap length lent in
-    let written = with_items_is c.args.places.now.numbers c.give.new.numbers (long ∙ sym c.args.places.now.numbers.ok.0) in
-    let count : c.len.result ≡ length c.args.places.now.slots.items = omega (arith, c.len.ensures) in
+    let slots = c.args.places.now.slots.items in
+    let long = ap length c.in_ok-push.ensures.items ∙ length-append slots (c.args.slot ∷ []) in
+    let number : c.len.result - 1 ≡ length slots = omega (arith, c.len.ensures, long) in
     record {
       made = c.in_ok-push-2.ensures.ok ∙ ap (λ edit. c.args.places.now.made ++ edit ∷ []) c.new.ensures;
       waits = c.in_ok-push-3.ensures.items;
       slots = c.in_ok-push.ensures.items;
-      numbers = ap length written ∙ long;
-      given = rw written (λ at inside. c.give.ensures.given at inside ∙ ap (λ n. Some n) count);
-      kept = rw (written, sym lent) (λ at outside. c.give.ensures.kept at outside);
+      numbers = c.in_ok-give.ensures.length;
+      given = λ at inside. c.in_ok-give.ensures.given at inside ∙ ap (λ n. Some n) number;
+      kept = c.in_ok-give.ensures.kept;
     }

@@ -3,7 +3,7 @@ use Rattle.std.proofs.lemmas.Result.{err_from_is_err_and}
 use Rattle.std.proofs.lemmas.Option.{slice_get_read}
 use Rattle.cs_tasks.specs.Tasks.{skipped}
 use Rattle.cs_tasks.proofs.Groups.{turn, null_in, null_fault}
-use Rattle.cs_tasks.proofs.tasks.find_tasks.Goals as goal
+use Rattle.cs_tasks.proofs.tasks.tasks_of_all.Goals as goal
 
 pub loop-group-init : goal.loop-group-init
 unfolding skipped

@@ -1,7 +1,7 @@
 use Rattle.std.proofs.Common.{◌≡◌, ◌≤◌, take}
 use Rattle.cs_tasks.specs.Tasks.{tasks, skipped}
 use Rattle.cs_tasks.specs.Found.{AreGathered}
-use Rattle.cs_tasks.proofs.tasks.find_tasks.Given as goal
+use Rattle.cs_tasks.proofs.tasks.tasks_of_all.Given as goal
 
 abbrev pub invariant-loop-group : goal.invariant-loop-group
 invariant-loop-group l =

@@ -1,0 +1,72 @@
+//! The only group of which changes are applied.
+
+ghost use Rattle.std.specs.Prelude.{◌≡◌, [], map, IfSome, MatchOption};
+ghost use Rattle.cs_change.specs.Spelling.{marks_of};
+ghost use Rattle.cs_tasks.specs.Tasks.{table_of, task, tasks, tasks_at, skipped};
+
+use crate::tasks::find_table;
+use cs_change::{Changeset, Group};
+use cs_value::Catalog;
+
+/// A group of which changes are applied, and the table that it fits.
+#[derive(Drop)]
+pub(crate) struct Only<'a, 'c> {
+    /// The table's place in the catalog.
+    pub table: u32,
+    /// The table's key columns.
+    pub marks: &'c [bool],
+    /// The group.
+    pub group: &'a Group<'a>,
+}
+
+/// The group with the table that it fits, if it fits one and has a change.
+fn applied<'a, 'c>(catalog: &'c Catalog, group: &'a Group<'a>) -> Option<Only<'a, 'c>>
+    ensures applied { MatchOption result (tasks_at (table_of group.now catalog.now) group.now ≡ [])
+        (λ only. tasks_at (table_of group.now catalog.now) group.now
+        ≡ map (task only.table only.group.now) only.group.now.changes) }
+    ensures marks { IfSome result (λ only. marks_of only.group.now.marks ≡ only.marks.now) }
+{
+    let (at, table) = find_table(group, catalog)?;
+    if group.changes.as_slice().is_empty() {
+        return None;
+    }
+    Some(Only {
+        table: at,
+        marks: table.key_marks.as_slice(),
+        group,
+    })
+}
+
+/// The group of which all changes are that are applied; none, where they are of several, or there are none.
+pub(crate) fn find_only<'a, 'c>(
+    catalog: &'c Catalog,
+    changeset: &'a Changeset<'a>,
+) -> Option<Only<'a, 'c>>
+    ensures all { IfSome result (λ only. tasks catalog.now changeset.now
+        ≡ map (task only.table only.group.now) only.group.now.changes) }
+    ensures marks { IfSome result (λ only. marks_of only.group.now.marks ≡ only.marks.now) }
+{
+    let mut found = None;
+    for group in changeset.as_slice() {
+        if let Some(only) = applied(catalog, group) {
+            if found.is_some() {
+                return None;
+            }
+            found = Some(only);
+        }
+    }
+    found
+}
+
+/// How many groups fit no table.
+pub(crate) fn count_skipped(catalog: &Catalog, changeset: &Changeset<'_>) -> usize
+    ensures { result ≡ skipped catalog.now changeset.now }
+{
+    let mut skipped = 0;
+    for group in changeset.as_slice() {
+        if find_table(group, catalog).is_none() {
+            skipped += 1;
+        }
+    }
+    skipped
+}
