@@ -4,18 +4,18 @@ use Rattle.std.specs.Prelude.{IsSome}
 use Rattle.std.specs.List.{AllByRecursion}
 use Rattle.cs_value.specs.Key.{Place}
 use Rattle.cs_value.specs.declared.catalog.TableDef.{TableDef}
-use Rattle.cs_tasks.specs.cs_change.Action.{Action, action, action_any, after, after_any}
+use Rattle.cs_tasks.specs.cs_change.Action.{action, action_any, after, after_any}
 use Rattle.cs_tasks.specs.cs_change.Change.{Change}
 use Rattle.cs_tasks.specs.cs_normal.Normal.{IsNormalChangeset, FitsCatalog, change_of, groups_of}
 use Rattle.cs_tasks.specs.cs_keyed.NormalForm.{change_bytes}
-use Rattle.cs_tasks.specs.cs_normal.State.{State, AreSame, IsApplied, IsDefinedOn, left_at}
+use Rattle.cs_tasks.specs.cs_normal.State.{State, left_at}
 use Rattle.cs_tasks.specs.cs_normal.TableChanges.{TableChanges}
 use Rattle.cs_conflict.specs.Conflict.{answered}
 use Rattle.cs_conflict.specs.Laws.{KindTells}
 use Rattle.cs_conflict.specs.declared.conflict.Conflict.{Conflict}
 use Rattle.cs_conflict.specs.declared.conflict.Resolution.{Resolution}
 use Rattle.cs_conflict.specs.declared.conflict.Resolution.TheVariants.{Abort}
-use Rattle.cs_apply.specs.Applies.{IsConflictOf, AppliesOne, Applies, IsStop, Stops, answers_of}
+use Rattle.cs_apply.specs.Applies.{IsConflictOf, Applies, Stops, answers_of}
 use Rattle.cs_apply.specs.Laws.{DefinedAsksNothing, DefinedIsNotStopped, UnaskedIsDefined, StopsAtAChange, AlwaysAborts, AbortingIsApplied, AbortingIsRefused}
 use Rattle.cs_apply.specs.NormalTasks.{spot_of, HaveOwnPlaces, found_at, found_is, each_found, IsKnown, all_known, shown_key, shown_on, of_one, keyed_tasks, tasks_are, are_apart, AreUntouched, untouched, same_at_first, elsewhere_too, stays}
 use Rattle.cs_apply.specs.Shown.{IsConflictIn}

@@ -1,5 +1,5 @@
 -- What is found of changes whose keys are lent by them.
-use Rattle.std.proofs.Common.{◌≡◌, ◌⊎◌, inl, inr, ◌++◌, ◌+◌, ◌<◌, Bor, ℕ, zero, suc, Bool, true, false, ◌&&◌, List, [], ◌∷◌, drop, get_or, length, map, take, refl, sym, ap, ◌∙◌, arith}
+use Rattle.std.proofs.Common.{◌≡◌, ◌⊎◌, inl, inr, ◌<◌, Bor, ℕ, zero, suc, Bool, true, false, ◌&&◌, List, [], ◌∷◌, drop, get_or, length, map, refl, sym, ap, ◌∙◌, arith}
 use Rattle.std.specs.List.{list_all}
 use Rattle.cs_value.specs.Catalog.{is_set, marked}
 use Rattle.cs_value.specs.declared.value.Value.{Value}
@@ -10,8 +10,8 @@ use Rattle.cs_change.specs.declared.change.Change.{Change}
 use Rattle.cs_change.specs.declared.group.Group.{Group}
 use Rattle.cs_order.specs.Order.{keys_behind}
 use Rattle.cs_store.specs.States.{place_bytes}
-use Rattle.cs_store.specs.cs_keyed.NormalForm.{change_bytes, has_key, marked_fields}
-use Rattle.cs_tasks.specs.Tasks.{Task, task}
+use Rattle.cs_store.specs.cs_keyed.NormalForm.{change_bytes, marked_fields}
+use Rattle.cs_tasks.specs.Tasks.{task}
 
 no_marks : (fields : List Field) → marked_fields [] fields ≡ []
 unfolding marked_fields

@@ -24,7 +24,7 @@ module _ (tables : List TableDef) (all : List Group) (at : ℕ) (group : Group) 
   pub none_more : (found : Option Only) → tasks_at (table_of group tables) group ≡ [] → AreOf (tasks tables (take at all)) found → AreOf (tasks tables (take (at + 1) all)) found
   none_more found none are =
       let same : tasks tables (take (at + 1) all) ≡ tasks tables (take at all) =
-          one_more ∙ ap (λ ts. tasks tables (take at all) ++ ts) none ∙ append-nil (tasks tables (take at all)) in
+      one_more ∙ ap (λ ts. tasks tables (take at all) ++ ts) none ∙ append-nil (tasks tables (take at all)) in
       rw same are
 
   -- and one of which they are, behind none

@@ -178,7 +178,11 @@ fn put_fitting(
 }
 
 /// What is found of the changes of the only group of which some are applied.
-fn tasks_of_one<'a>(alloc: Global, only: &Only<'a, '_>, skipped: usize) -> Result<Tasks<'a>, TasksFault>
+fn tasks_of_one<'a>(
+    alloc: Global,
+    only: &Only<'a, '_>,
+    skipped: usize,
+) -> Result<Tasks<'a>, TasksFault>
     requires { marks_of only.now.group.now.marks ≡ only.now.marks.now }
     ensures found { IfOk result (λ found. AreFound found (map (task only.now.table only.now.group.now) only.now.group.now.changes)) }
     ensures skipped { IfOk result (λ found. found.skipped ≡ skipped) }

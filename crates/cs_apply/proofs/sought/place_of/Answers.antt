@@ -19,8 +19,8 @@ returns c =
     let few = c.tables.ensures.tables.0 in
     let read = c.table-table.ensures in (
       ap (λ (table : ℕ). place_bytes table c.key.result.now) read
-      ∙ ap (place_bytes (get_or c.args.tasks.now.places.0 c.args.change 0)) c.key.ensures
-      ∙ key_behind _ at.1.0 _ at.1.1,
+          ∙ ap (place_bytes (get_or c.args.tasks.now.places.0 c.args.change 0)) c.key.ensures
+          ∙ key_behind _ at.1.0 _ at.1.1,
       record {
         table = c.index-tables-table.result;
         is = rw c.tables.ensures.same at c.index-tables-table.is;

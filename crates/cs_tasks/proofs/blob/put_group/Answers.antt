@@ -1,4 +1,4 @@
-use Rattle.std.proofs.Common.{◌≡◌, ◌++◌, append_assoc, arith, refl, sym}
+use Rattle.std.proofs.Common.{append_assoc, arith, refl, sym}
 use Rattle.std.specs.List.{flat_map}
 use Rattle.cs_change.specs.Spelling.{header_spelling, marks_of}
 use Rattle.cs_blob.specs.Spelling.{blob_entry_spelling}

@@ -1,4 +1,4 @@
-use Rattle.std.proofs.Common.{inl, inr, sym, ap, ◌∙◌}
+use Rattle.std.proofs.Common.{inl, inr, sym, ◌∙◌}
 use Rattle.cs_tasks.proofs.Groups.{none_left}
 use Rattle.cs_tasks.proofs.LentKeys.{nothing_left, one_passed, one_set}
 use Rattle.cs_tasks.proofs.lending.are_set.Goals as goal

@@ -1,4 +1,4 @@
-use Rattle.std.proofs.Common.{Bool, List, ap, sym, ◌∙◌}
+use Rattle.std.proofs.Common.{List, ap, sym, ◌∙◌}
 use Rattle.std.specs.List.{list_all}
 use Rattle.cs_value.specs.Catalog.{is_set}
 use Rattle.cs_value.specs.declared.value.Field.{Field}

@@ -1,4 +1,4 @@
-use Rattle.std.proofs.Common.{◌≡◌, ◌+◌, refl, ap, length, ◌∙◌, arith}
+use Rattle.std.proofs.Common.{◌≡◌, ◌+◌, refl, ap, length, arith}
 use Rattle.cs_tasks.specs.Tasks.{one_if_none, skipped, table_of}
 use Rattle.cs_tasks.proofs.Groups.{count_turn, none_counts, one_counts}
 use Rattle.cs_tasks.proofs.only.count_skipped.Goals.{then-is_none, else-is_none}

@@ -1,4 +1,4 @@
-use Rattle.std.proofs.Common.{◌≡◌, [], map, ap, sym, ◌∙◌}
+use Rattle.std.proofs.Common.{◌≡◌, [], map, sym, ◌∙◌}
 use Rattle.std.proofs.lemmas.Result.{err_from_is_err_and}
 use Rattle.cs_change.specs.Spelling.{marks_of}
 use Rattle.cs_order.specs.Order.{keys_behind}
