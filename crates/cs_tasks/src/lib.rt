@@ -1,9 +1,9 @@
 //! Which changes of a changeset are applied onto tables, each with its place, and the rebase blob of the answers to their conflicts
 //! (SQLite's "Session Extension", `sqlite3changeset_apply_v2` and rebasing). It stands on changes (`cs_change`), answers
 //! (`cs_conflict`), rebase blobs (`cs_blob`) and the places of stores (`cs_store`), and looks at no store: `cs_apply`, which stands
-//! on it, does. `find_tasks` gives the changes of the groups that fit a table, in order, the table and the place of each, and how
-//! many groups fit none, or tells exactly that a change has NULL at a key column; `key_in` is the key of a place; `encode_blob`
-//! writes an entry for each answer. `laws` says that the reader of blobs takes it.
+//! on it, does. `find_tasks` gives the changes of the groups that fit a table, in order, the table and the place of each
+//! (`TaskPlaces`, which lends its keys from the changes where these are of one table), and how many groups fit none, or tells exactly
+//! that a change has NULL at a key column; `encode_blob` writes an entry for each answer. `laws` says that the reader of blobs takes it.
 //! Its tests stand in `cs_apply_tests`.
 #![tactic(auto)]
 
