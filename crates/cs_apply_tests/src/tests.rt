@@ -356,8 +356,9 @@ fn null_in_a_key(rt: HostRuntime) {
     assert!(rt; tells_null_key(rt.alloc()).unwrap_or(false));
 }
 
-/// The integer 1 as a field, and the headers of `t2(a key, b, c, d)` and `t3(a, b key)`.
+/// The integers 1 and 2 as fields, and the headers of `t2(a key, b, c, d)` and `t3(a, b key)`.
 const ONE: &[u8] = &[1, 0, 0, 0, 0, 0, 0, 0, 1];
+
 const TWO: &[u8] = &[1, 0, 0, 0, 0, 0, 0, 0, 2];
 
 const SECOND: &[u8] = &[0x54, 4, 1, 0, 0, 0, 0x74, 0x32, 0];
@@ -566,10 +567,26 @@ fn finds_two(alloc: Global) -> Result<bool, TasksFault> {
 const OF_ONE: &[(u32, &[&[u8]], &[&[u8]])] = &[
     (
         0,
-        &[UNKNOWN, &[9, 0], ONE, V1, FIRST, &[0x12, 0], TWO, V2, &[9, 0], ONE, V1],
+        &[
+            UNKNOWN,
+            &[9, 0],
+            ONE,
+            V1,
+            FIRST,
+            &[0x12, 0],
+            TWO,
+            V2,
+            &[9, 0],
+            ONE,
+            V1,
+        ],
         &[TWO, ONE],
     ),
-    (2, &[UNKNOWN, &[9, 0], ONE, V1, THIRD, &[0x12, 0], V2, ONE], &[ONE]),
+    (
+        2,
+        &[UNKNOWN, &[9, 0], ONE, V1, THIRD, &[0x12, 0], V2, ONE],
+        &[ONE],
+    ),
 ];
 
 /// Whether these are the keys that were found, all of this table.
