@@ -601,7 +601,19 @@ fn are_keys(found: &Tasks<'_>, table: u32, keys: &[&[u8]]) -> bool {
         && found.places.len() == keys.len()
 }
 
-/// Whether they are found in these bytes.
+/// Whether they are found in this changeset.
+fn finds_keys_in(
+    alloc: Global,
+    catalog: &Catalog,
+    changeset: &Changeset<'_>,
+    table: u32,
+    keys: &[&[u8]],
+) -> Result<bool, TasksFault> {
+    let found = find_tasks(alloc, catalog, changeset)?;
+    Ok(are_keys(&found, table, keys))
+}
+
+/// The same of the bytes of the changeset.
 fn finds_keys(
     alloc: Global,
     parts: &[&[u8]],
@@ -615,8 +627,7 @@ fn finds_keys(
     let Ok(changeset) = read(alloc, bytes.as_slice()) else {
         return Ok(false);
     };
-    let found = find_tasks(alloc, &catalog, &changeset)?;
-    Ok(are_keys(&found, table, keys))
+    finds_keys_in(alloc, &catalog, &changeset, table, keys)
 }
 
 #[test]
