@@ -1,5 +1,5 @@
 -- The edits that are made, and those of the slots that wait in place of what stands for them, are the edits of all slots.
-use Rattle.std.proofs.Common.{◌≡◌, ◌≤◌, ◌<◌, ◌+◌, ℕ, suc, ◌++◌, ◌∷◌, Bool, true, false, List, [], length, map, take, drop, get_or, Option, Some, None, refl, sym, ap, ◌∙◌, arith}
+use Rattle.std.proofs.Common.{◌≡◌, ◌≤◌, ◌<◌, ◌+◌, ℕ, zero, suc, ◌++◌, ◌∷◌, Bool, true, false, List, [], length, map, take, drop, get_or, Option, Some, None, refl, sym, ap, ◌∙◌, arith}
 use Rattle.std.specs.Prelude.{slice_get, slice_set}
 use Rattle.std.proofs.lemmas.List.{length-set, take_more_set, drop-set-lt, drop_all, append_assoc, append-nil}
 use Rattle.std.proofs.Math.Seq.{drop-cons}
@@ -33,6 +33,15 @@ pub no_slots : (slots : List Slot) → length slots ≡ 0 → slots ≡ []
 no_slots [] none = refl
 no_slots (s ∷ slots) none = absurd (omega (arith, none))
 
+-- the one there, and those behind it
+rest_at : {X : Type 0} (xs : List X) (at : ℕ) (x : X) → at < length xs → drop at xs ≡ get_or xs at x ∷ drop (at + 1) xs
+rest_at xs at x within =
+    let more : suc at ≡ at + 1 = omega arith in
+    drop-cons xs at x within ∙ ap (λ n. get_or xs at x ∷ drop n xs) more
+
+pub slots_from : (slots : List Slot) (next : ℕ) (slot : Slot) → next < length slots → get_or slots next slot ≡ slot → drop next slots ≡ slot ∷ drop (next + 1) slots
+slots_from slots next slot less is = rest_at slots next slot less ∙ ap (λ (s : Slot). s ∷ drop (next + 1) slots) is
+
 -- of each edit it is told whether it waits
 first_long : (o : Option BodyEdit) (waits : List Bool) (made : List BodyEdit) → length waits ≡ length made
     → length (map not_waiting (edit_list o) ++ waits) ≡ length (edit_list o ++ made)
@@ -53,16 +62,11 @@ module _ (waits : List Bool) (edits : List BodyEdit) (kept at : ℕ) (few : kept
   abbrev next : BodyEdit
   next = get_or edits at stand_in
 
-  rest_at : {X : Type 0} (xs : List X) (x : X) → at < length xs → drop at xs ≡ get_or xs at x ∷ drop (at + 1) xs
-  rest_at xs x within =
-      let more : suc at ≡ at + 1 = omega arith in
-      drop-cons xs at x within ∙ ap (λ n. get_or xs at x ∷ drop n xs) more
-
   rest : (wait : Bool) → get_or waits at false ≡ wait → (slots : List Slot)
       → all (drop at waits) (drop at edits) slots ≡ all (wait ∷ drop (at + 1) waits) (next ∷ drop (at + 1) edits) slots
   rest wait is slots =
-      ap (λ here. all here (drop at edits) slots) (rest_at waits false less ∙ ap (λ w. w ∷ drop (at + 1) waits) is)
-      ∙ ap (λ there. all (wait ∷ drop (at + 1) waits) there slots) (rest_at edits stand_in (omega (arith, less, long)))
+      ap (λ here. all here (drop at edits) slots) (rest_at waits at false less ∙ ap (λ w. w ∷ drop (at + 1) waits) is)
+      ∙ ap (λ there. all (wait ∷ drop (at + 1) waits) there slots) (rest_at edits at stand_in (omega (arith, less, long)))
 
   module _ (edit : BodyEdit) (new : List BodyEdit) (put : new ≡ slice_set edits kept edit) where
     -- one more is put

@@ -41,7 +41,12 @@ fresh_told count [] fresh empty is = ap (λ (ns : List ℕ). map number_of ns) i
 fresh_told count (first ∷ told) fresh empty is = absurd (omega (arith, empty))
 
 -- others of as many
-pub told_again : (count : ℕ) (told next : List ℕ) → length next ≡ length told → map number_of told ≡ numbers_told count told → numbers_told count next ≡ map number_of next
+told_again : (count : ℕ) (told next : List ℕ) → length next ≡ length told → map number_of told ≡ numbers_told count told → numbers_told count next ≡ map number_of next
 told_again count [] [] same are = sym are
 told_again count (first ∷ told) [] same are = absurd (omega (arith, same))
 told_again count told (first ∷ next) same are = refl
+
+-- the number there then
+pub next_told : (count : ℕ) (told next : List ℕ) (at : ℕ) → length next ≡ length told → map number_of told ≡ numbers_told count told
+    → get_or (numbers_told count next) at None ≡ number_of (get_or next at 0)
+next_told count told next at same are = ap (λ (numbers : List (Option ℕ)). get_or numbers at None) (told_again count told next same are) ∙ told_at next at

@@ -20,7 +20,7 @@ use std::alloc::Global;
 const AT_ONCE: usize = 64;
 
 /// A place that is to be looked up. Its key is lent.
-#[derive(Clone, Copy)]
+#[derive(Drop)]
 pub(crate) struct SoughtPlace<'t> {
     /// The table's place in the catalog.
     pub table: u32,
