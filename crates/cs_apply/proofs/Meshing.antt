@@ -1,5 +1,5 @@
 -- The edits that are made, and those of the slots that wait in place of what stands for them, are the edits of all slots.
-use Rattle.std.proofs.Common.{◌≡◌, ◌≤◌, ◌<◌, ◌+◌, ℕ, zero, suc, ◌++◌, ◌∷◌, Bool, true, false, List, [], length, map, take, drop, get_or, Option, Some, None, refl, sym, ap, ◌∙◌, arith}
+use Rattle.std.proofs.Common.{◌≡◌, ◌≤◌, ◌<◌, ◌+◌, ℕ, suc, ◌++◌, ◌∷◌, Bool, true, false, List, [], length, map, take, drop, get_or, Option, Some, None, refl, sym, ap, ◌∙◌, arith}
 use Rattle.std.specs.Prelude.{slice_get, slice_set}
 use Rattle.std.proofs.lemmas.List.{length-set, take_more_set, drop-set-lt, drop_all, append_assoc, append-nil}
 use Rattle.std.proofs.Math.Seq.{drop-cons}

@@ -1,4 +1,4 @@
-use Rattle.std.proofs.Common.{◌≡◌, ◌≤◌, ◌<◌, ◌+◌, ◌++◌, ◌∷◌, [], length, take, drop, sym, ap, ◌∙◌, arith}
+use Rattle.std.proofs.Common.{◌≡◌, ◌≤◌, ◌<◌, ◌+◌, ◌++◌, [], length, take, drop, sym, ap, ◌∙◌, arith}
 use Rattle.std.proofs.lemmas.List.{length-set, drop_all}
 use Rattle.cs_apply.specs.Woven.{mesh}
 use Rattle.cs_apply.proofs.Meshing.{mesh_is, slots_from, one_kept, one_left, none_left, none_there, all_kept}
