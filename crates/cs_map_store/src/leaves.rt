@@ -20,7 +20,7 @@ use std::alloc::{AllocError, Global};
 use std::mem;
 
 /// A leaf that comes to have twice as many rows is cut into leaves of so many.
-const LEAF: usize = 32;
+const LEAF: usize = 64;
 
 /// So many leaves further a look-up looks at most before it halves all that are left.
 const NEARBY: usize = 64;

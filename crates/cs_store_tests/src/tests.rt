@@ -721,7 +721,7 @@ fn many_edits_of_few_keys_leave_the_last_of_each(rt: HostRuntime) {
     assert!(rt; keeps_the_last(rt.alloc()) == Ok(true));
 }
 
-const SPREAD: u16 = 600;
+const SPREAD: u16 = 1_200;
 
 /// The row of this number: each fourth is there first, and three come between it and the one behind it.
 fn spread_row(number: u16) -> &'static [u8] {
@@ -848,13 +848,13 @@ fn commits_many(
 fn holds_both(store: &mut MapStore) -> Result<bool, StoreFault> {
     let rows = store.list(0)?.len() + store.list(LAST)?.len();
     let changes = store.pend_list(0)?.len() + store.pend_list(LAST)?.len();
-    Ok(rows == 64 && changes == 64 && store.log_len()? == 2)
+    Ok(rows == 128 && changes == 128 && store.log_len()? == 2)
 }
 
-/// Two commits of which one may be refused, and what is shown behind them.
+/// Two commits of which one may be refused, and what is shown behind them. The second makes leaves so long that they are cut.
 fn commits_two(alloc: Global, store: &mut MapStore) -> Result<bool, StoreFault> {
-    let first = commits_many(alloc, store, 40, b"first")?;
-    let next = commits_many(alloc, store, 80, b"next")?;
+    let first = commits_many(alloc, store, 80, b"first")?;
+    let next = commits_many(alloc, store, 160, b"next")?;
     Ok(first && next && holds_both(store)?)
 }
 
