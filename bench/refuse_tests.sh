@@ -13,7 +13,7 @@ bench="$(cd "$(dirname "$0")" && pwd)"
 tested="$1"
 tests="${2:-}"
 . "$bench/common.sh"
-# So many allocations at least: the store's test makes batches of 120 rows and a commit copies each key, that of `apply` four
+# So many allocations at least: the store's test makes batches of 240 rows and a commit copies each key, that of `apply` four
 # changes, and the rebaser's reads and rebases three.
 module=tests
 case "$tested" in
