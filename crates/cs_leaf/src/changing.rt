@@ -108,9 +108,15 @@ pub fn stage_one(
 }
 
 /// Prepares what edits whose places rise make of a leaf. A single one is made in place, unless rows that are gone would come to
-/// take more than half of the bytes. Where memory is refused, the leaf comes back.
+/// take more than half of the bytes; with more edits the rows are put together in place of what is in `room`. Where memory is refused, the
+/// leaf comes back.
 #[inline(always)]
-pub fn stage(alloc: Global, leaf: Leaf, edits: &LentEdits<'_>) -> Result<Change, Leaf>
+pub fn stage(
+    alloc: Global,
+    leaf: Leaf,
+    edits: &LentEdits<'_>,
+    room: &mut Leaf,
+) -> Result<Change, Leaf>
     requires sorted { T (is_sorted place_cmp leaf) }
     requires rise { Rise edits.now }
     ensures before { IfOk result (λ change. change.0 ≡ leaf) }
@@ -118,7 +124,7 @@ pub fn stage(alloc: Global, leaf: Leaf, edits: &LentEdits<'_>) -> Result<Change,
     ensures err { IfErr result (λ kept. kept ≡ leaf) }
 {
     if edits.len() != 1 {
-        let made = merged(alloc, &leaf, edits);
+        let made = merged(alloc, &leaf, edits, room);
         return anew(leaf, made);
     }
     let edit = edits.get(0);

@@ -319,6 +319,28 @@ impl Leaf {
         })
     }
 
+    /// Takes out all rows. The memory for them is kept.
+    pub(crate) fn clear(&mut self)
+        ensures { self.new ≡ [] }
+    {
+        self.front = front_of(&[]);
+        self.bytes.clear();
+        self.spots.clear();
+        self.used = 0;
+    }
+
+    /// The same rows in memory of their own, which is no more than they take.
+    pub(crate) fn copied(&self, alloc: Global) -> Result<Leaf, AllocError>
+        ensures { IfOk result (λ leaf. leaf ≡ self.now) }
+    {
+        Ok(Leaf {
+            front: self.front,
+            bytes: Vec::from_slice(alloc, self.bytes.as_slice())?,
+            spots: Vec::from_slice(alloc, self.spots.as_slice())?,
+            used: self.used,
+        })
+    }
+
     /// How many rows there are.
     #[inline(always)]
     pub fn len(&self) -> usize

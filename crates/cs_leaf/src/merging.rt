@@ -56,17 +56,36 @@ pub(crate) fn merged_one(
     Ok(merged)
 }
 
-/// The rows of a leaf after edits, in memory of their own.
-pub fn merged(alloc: Global, leaf: &Leaf, edits: &LentEdits<'_>) -> Result<Leaf, AllocError>
+/// Puts the rows of a leaf after edits in place of what is in `merged`.
+pub fn merge(
+    merged: &mut Leaf,
+    leaf: &Leaf,
+    edits: &LentEdits<'_>,
+) -> Result<(), AllocError>
+    requires sorted { T (is_sorted place_cmp leaf.now) }
+    requires rise { Rise edits.now }
+    ensures { OnOk result (merged.new ≡ fold edited leaf.now edits.now) }
+{
+    merged.clear();
+    let mut from = 0;
+    for at in 0..edits.len() {
+        from = merge_edit(merged, leaf, from, &edits.get(at))?;
+    }
+    merged.push_rows(leaf, from, leaf.len())
+}
+
+/// The rows of a leaf after edits, in memory of their own. They are put together in place of what is in `room`, and copied, since
+/// how much memory they take is known then alone: with all that they may take, leaves would take twice as much.
+pub(crate) fn merged(
+    alloc: Global,
+    leaf: &Leaf,
+    edits: &LentEdits<'_>,
+    room: &mut Leaf,
+) -> Result<Leaf, AllocError>
     requires sorted { T (is_sorted place_cmp leaf.now) }
     requires rise { Rise edits.now }
     ensures { IfOk result (λ merged. merged ≡ fold edited leaf.now edits.now) }
 {
-    let mut merged = Leaf::with_room(alloc, leaf, leaf.len().saturating_add(edits.len()))?;
-    let mut from = 0;
-    for at in 0..edits.len() {
-        from = merge_edit(&mut merged, leaf, from, &edits.get(at))?;
-    }
-    merged.push_rows(leaf, from, leaf.len())?;
-    Ok(merged)
+    merge(room, leaf, edits)?;
+    room.copied(alloc)
 }

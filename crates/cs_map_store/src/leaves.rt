@@ -14,7 +14,7 @@ ghost use Rattle.cs_map_store.specs.Leaves.{AreBefore, AreLeaves, ArePatches, Be
 
 use crate::edits::in_order;
 use cs_edits::{LentEdits, PlaceEdit};
-use cs_leaf::{Change, Leaf, Place, laws, merged};
+use cs_leaf::{Change, Leaf, Place, laws, merge};
 use cs_store::StoredBody;
 use std::alloc::{AllocError, Global};
 use std::mem;
@@ -241,12 +241,13 @@ fn begin_at(leaves: &[Leaf], near: usize, edits: &LentEdits<'_>) -> usize
     }
 }
 
-/// Takes the leaf there out, and prepares what edits make of it. At `Err` nothing has changed.
+/// Takes the leaf there out, and prepares what edits make of it, in place of what is in `room` first. At `Err` nothing has changed.
 fn stage_leaf(
     alloc: Global,
     leaves: &mut Vec<Leaf>,
     at: usize,
     edits: &LentEdits<'_>,
+    room: &mut Leaf,
 ) -> Result<Change, AllocError>
     requires in_bounds { at < length leaves.old.items }
     requires sorted { T (is_sorted place_cmp (nth_leaf leaves.old.items at)) }
@@ -257,7 +258,7 @@ fn stage_leaf(
     ensures err { OnErr result (leaves.new.items ≡ leaves.old.items) }
 {
     let leaf = mem::replace(&mut leaves[at], Leaf::new(alloc));
-    match cs_leaf::stage(alloc, leaf, edits) {
+    match cs_leaf::stage(alloc, leaf, edits, room) {
         Ok(change) => Ok(change),
         Err(leaf) => {
             leaves[at] = leaf;
@@ -333,6 +334,7 @@ fn stage_patches(
     ensures made { IfOk result (λ rise. rise ≡ true → flat (patched leaves.old.items patches.new.items) ≡ fold edited (flat leaves.old.items) edits.now) }
     ensures falls { IfOk result (λ rise. rise ≡ false → Rise edits.now → ⊥) }
 {
+    let mut room = Leaf::new(alloc);
     let mut start = 0;
     let mut from = begin_at(leaves.as_slice(), near, edits);
     laws::edited_entries();
@@ -344,7 +346,7 @@ fn stage_patches(
         };
         let end = start + count;
         patches.reserve(1)?;
-        let change = stage_leaf(alloc, leaves, at, &edits.part(start, end))?;
+        let change = stage_leaf(alloc, leaves, at, &edits.part(start, end), &mut room)?;
         patches.push_reserved(Patch { at, change });
         start = end;
         from = at + 1;
@@ -399,7 +401,8 @@ fn stage_fresh(alloc: Global, edits: &LentEdits<'_>) -> Result<Option<Staged>, A
     if !rise(edits) {
         return Ok(None);
     }
-    let all = merged(alloc, &Leaf::new(alloc), edits)?;
+    let mut all = Leaf::new(alloc);
+    merge(&mut all, &Leaf::new(alloc), edits)?;
     Ok(Some(Staged::Fresh(pieces_of(alloc, &all)?)))
 }
 

@@ -1,6 +1,6 @@
 use Rattle.std.proofs.Common.{◌≡◌, ◌≤◌, ◌++◌, length, drop, fold}
 use Rattle.cs_leaf.specs.Edits.{edited}
-use Rattle.cs_leaf.proofs.merging.merged.Given as goal
+use Rattle.cs_leaf.proofs.merging.merge.Given as goal
 
 abbrev pub invariant-loop-at : goal.invariant-loop-at
 invariant-loop-at l =

@@ -2,7 +2,7 @@ use Rattle.std.proofs.Common.{◌≡◌, ◌+◌, ◌∷◌, List, fold, drop, a
 use Rattle.cs_edits.specs.Edits.{BodyEdit}
 use Rattle.cs_leaf.specs.Edits.{Rise, edited}
 use Rattle.cs_leaf.proofs.Merges.{drop_here, merge_more, rise_drop}
-use Rattle.cs_leaf.proofs.merging.merged.Goals as goal
+use Rattle.cs_leaf.proofs.merging.merge.Goals as goal
 
 pub loop-at-preserved : goal.loop-at-preserved
 loop-at-preserved c =
