@@ -330,7 +330,7 @@ impl Leaf {
     }
 
     /// The same rows in memory of their own, which is no more than they take.
-    pub(crate) fn copied(&self, alloc: Global) -> Result<Leaf, AllocError>
+    pub fn copied(&self, alloc: Global) -> Result<Leaf, AllocError>
         ensures { IfOk result (λ leaf. leaf ≡ self.now) }
     {
         Ok(Leaf {

@@ -14,4 +14,4 @@ mod merging;
 
 pub use changing::{Change, stage, stage_one};
 pub use leaf::{Leaf, Place};
-pub use merging::merge;
+pub use merging::merge_some;

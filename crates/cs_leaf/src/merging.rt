@@ -1,6 +1,6 @@
 //! Edits that are merged into rows.
 
-ghost use Rattle.std.specs.Prelude.{◌≡◌, ◌≤◌, ◌<◌, ◌++◌, T, length, fold, option_map, IfOk, OnOk};
+ghost use Rattle.std.specs.Prelude.{◌≡◌, ◌≤◌, ◌<◌, ◌++◌, T, length, drop, fold, option_map, IfOk, OnOk};
 ghost use Rattle.std.specs.FinMap.{is_sorted};
 ghost use Rattle.cs_store.specs.Contents.{place_cmp};
 ghost use Rattle.cs_leaf.specs.Edits.{IsMerged, Rise, edited};
@@ -56,24 +56,6 @@ pub(crate) fn merged_one(
     Ok(merged)
 }
 
-/// Puts the rows of a leaf after edits in place of what is in `merged`.
-pub fn merge(
-    merged: &mut Leaf,
-    leaf: &Leaf,
-    edits: &LentEdits<'_>,
-) -> Result<(), AllocError>
-    requires sorted { T (is_sorted place_cmp leaf.now) }
-    requires rise { Rise edits.now }
-    ensures { OnOk result (merged.new ≡ fold edited leaf.now edits.now) }
-{
-    merged.clear();
-    let mut from = 0;
-    for at in 0..edits.len() {
-        from = merge_edit(merged, leaf, from, &edits.get(at))?;
-    }
-    merged.push_rows(leaf, from, leaf.len())
-}
-
 /// The rows of a leaf after edits, in memory of their own. They are put together in place of what is in `room`, and copied, since
 /// how much memory they take is known then alone: with all that they may take, leaves would take twice as much.
 pub(crate) fn merged(
@@ -86,6 +68,43 @@ pub(crate) fn merged(
     requires rise { Rise edits.now }
     ensures { IfOk result (λ merged. merged ≡ fold edited leaf.now edits.now) }
 {
-    merge(room, leaf, edits)?;
+    room.clear();
+    let mut from = 0;
+    for at in 0..edits.len() {
+        from = merge_edit(room, leaf, from, &edits.get(at))?;
+    }
+    room.push_rows(leaf, from, leaf.len())?;
     room.copied(alloc)
+}
+
+/// Puts the rows of a leaf after edits, from a row and an edit on, in place of what is in `merged`: up to the edit with which there are
+/// so many, or all that are left. It answers which row and which edit are next.
+pub fn merge_some(
+    merged: &mut Leaf,
+    leaf: &Leaf,
+    from: (usize, usize),
+    edits: &LentEdits<'_>,
+    most: usize,
+) -> Result<(usize, usize), AllocError>
+    requires sorted { T (is_sorted place_cmp leaf.now) }
+    requires rise { Rise edits.now }
+    requires row { from.0 ≤ length leaf.now }
+    requires edit { from.1 < length edits.now }
+    requires some { 0 < most }
+    ensures bound { IfOk result (λ next. (next.0 ≤ length leaf.now) × (from.1 < next.1) × (next.1 ≤ length edits.now)) }
+    ensures merged { IfOk result (λ next. merged.new ++ fold edited (drop next.0 leaf.now) (drop next.1 edits.now)
+        ≡ fold edited (drop from.0 leaf.now) (drop from.1 edits.now)) }
+    ensures end { IfOk result (λ next. next.1 ≡ length edits.now → next.0 ≡ length leaf.now) }
+{
+    merged.clear();
+    let (mut row, mut at) = from;
+    while at < edits.len() && merged.len() < most {
+        row = merge_edit(merged, leaf, row, &edits.get(at))?;
+        at += 1;
+    }
+    if at < edits.len() {
+        return Ok((row, at));
+    }
+    merged.push_rows(leaf, row, leaf.len())?;
+    Ok((leaf.len(), at))
 }

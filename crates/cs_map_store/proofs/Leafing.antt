@@ -104,7 +104,7 @@ before_push leaves at (v ∷ ws) w h b = (h.0, before_push leaves at ws w h.1 b)
 pub flat_split : (leaves : List (List Entry)) (at : ℕ) → at < length leaves → flat leaves ≡ flat (take at leaves) ++ (nth_leaf leaves at ++ flat (drop (at + 1) leaves))
 flat_split leaves at h = ap flat (sym (take-append-drop at leaves)) ∙ flat_append (take at leaves) (drop at leaves) ∙ ap (λ (ls : List (List Entry)). flat (take at leaves) ++ flat ls) (drop_more leaves at [] h)
 
-some_first : (leaf : List Entry) → 0 < length leaf → leaf ≡ nth leaf 0 ∷ drop 1 leaf
+pub some_first : (leaf : List Entry) → 0 < length leaf → leaf ≡ nth leaf 0 ∷ drop 1 leaf
 some_first [] h = absurd (omega (arith, h))
 some_first (e ∷ es) h = refl
 
@@ -253,11 +253,11 @@ nth_later now leaves from at le same =
     let n : at + 0 ≡ at = omega arith in
     ap (λ k. nth_leaf now k) (sym n) ∙ sym (get_or-drop at now 0 []) ∙ ap (λ (ls : List (List Entry)). get_or ls 0 []) (later now leaves from at le same) ∙ get_or-drop at leaves 0 [] ∙ ap (λ k. nth_leaf leaves k) n
 
-below_edits : (es : List Entry) (p : StorePlace) (ws : List BodyEdit) → AreBelow es p → Follow p ws → AreEditsAbove es ws
+pub below_edits : (es : List Entry) (p : StorePlace) (ws : List BodyEdit) → AreBelow es p → Follow p ws → AreEditsAbove es ws
 below_edits es p [] low h = tt
 below_edits es p (w ∷ ws) low h = (below_less es p (store_place w) h.0 low, below_edits es p ws low h.1)
 
-fold_both : (es : List Entry) (us ws : List BodyEdit) → fold edited es (us ++ ws) ≡ fold edited (fold edited es us) ws
+pub fold_both : (es : List Entry) (us ws : List BodyEdit) → fold edited es (us ++ ws) ≡ fold edited (fold edited es us) ws
 fold_both es [] ws = refl
 fold_both es (u ∷ us) ws = fold_both (edited es u) us ws
 

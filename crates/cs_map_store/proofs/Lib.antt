@@ -9,3 +9,4 @@ pub mod Leafing
 pub mod Taking
 pub mod Ordered
 pub mod Checks
+pub mod Remaking

@@ -12,15 +12,19 @@ ghost use Rattle.cs_store.specs.Contents.{IsListing, place_cmp};
 ghost use Rattle.cs_store.specs.Written.{edit_body, if_there, optional_bytes, pairs_of};
 ghost use Rattle.cs_map_store.specs.Leaves.{AreBefore, AreLeaves, ArePatches, BeginsBy, BeginsBehind, CanBePut, ReachLeaf, after_staged, before_staged, first_place, flat, in_table, nth_leaf, patched, restored, undone, bodies_in};
 
+use crate::anew::{make_leaves, push_edited};
 use crate::edits::in_order;
 use cs_edits::{LentEdits, PlaceEdit};
-use cs_leaf::{Change, Leaf, Place, laws, merge};
+use cs_leaf::{Change, Leaf, Place, laws};
 use cs_store::StoredBody;
 use std::alloc::{AllocError, Global};
 use std::mem;
 
 /// A leaf that comes to have twice as many rows is cut into leaves of so many.
-const LEAF: usize = 64;
+pub(crate) const LEAF: usize = 64;
+
+/// A commit of so many edits for each leaf makes all leaves anew, since it changes most of them.
+const MANY: usize = 32;
 
 /// So many leaves further a look-up looks at most before it halves all that are left.
 const NEARBY: usize = 64;
@@ -49,7 +53,7 @@ fn begins_above(leaves: &[Leaf], at: usize, place: &Place) -> bool
 
 /// Whether a place is before the leaf there: that begins above it, or isn't there.
 #[inline(always)]
-fn is_before(leaves: &[Leaf], at: usize, place: &Place) -> bool
+pub(crate) fn is_before(leaves: &[Leaf], at: usize, place: &Place) -> bool
     requires in_bounds { at ≤ length leaves.now }
     ensures before { result ≡ true → BeginsBehind leaves.now at place.now }
     ensures reaches { result ≡ false → (at < length leaves.now) × (is_gt (place_cmp (first_place leaves.now at) place.now) ≡ false) }
@@ -192,7 +196,7 @@ fn leaf_of(leaves: &[Leaf], from: usize, edit: &PlaceEdit<'_>) -> usize
 
 /// How many edits are before the leaf there, of which the first is; none, where the places of these don't rise. Behind the last
 /// leaf all are.
-fn edits_before(leaves: &[Leaf], next: usize, edits: &LentEdits<'_>) -> Option<usize>
+pub(crate) fn edits_before(leaves: &[Leaf], next: usize, edits: &LentEdits<'_>) -> Option<usize>
     requires in_bounds { next ≤ length leaves.now }
     requires some { 0 < length edits.now }
     requires first { AreBefore leaves.now next (take 1 edits.now) }
@@ -401,9 +405,29 @@ fn stage_fresh(alloc: Global, edits: &LentEdits<'_>) -> Result<Option<Staged>, A
     if !rise(edits) {
         return Ok(None);
     }
-    let mut all = Leaf::new(alloc);
-    merge(&mut all, &Leaf::new(alloc), edits)?;
-    Ok(Some(Staged::Fresh(pieces_of(alloc, &all)?)))
+    let mut made = Vec::new(alloc);
+    let none = Leaf::new(alloc);
+    push_edited(alloc, &mut made, &none, edits, &mut Leaf::new(alloc))?;
+    Ok(Some(Staged::Fresh(made)))
+}
+
+/// New leaves of what edits whose places rise make of all leaves; none, where they don't rise.
+fn stage_anew(
+    alloc: Global,
+    leaves: &[Leaf],
+    edits: &LentEdits<'_>,
+) -> Result<Option<Staged>, AllocError>
+    requires some { 0 < length leaves.now }
+    requires leaves { AreLeaves leaves.now }
+    ensures can { IfOk result (λ found. IfSome found (λ staged. (others : List (List Entry)) → CanBePut staged others)) }
+    ensures before { IfOk result (λ found. IfSome found (λ staged. (others : List (List Entry)) → before_staged staged others ≡ others)) }
+    ensures made { IfOk result (λ found. IfSome found (λ staged. (others : List (List Entry)) → flat (after_staged staged others) ≡ fold edited (flat leaves.now) edits.now)) }
+    ensures falls { IfOk result (λ found. found ≡ None → Rise edits.now → ⊥) }
+{
+    match make_leaves(alloc, leaves, edits)? {
+        Some(made) => Ok(Some(Staged::Fresh(made))),
+        None => Ok(None),
+    }
 }
 
 /// Prepares what edits whose places rise make of the leaves; none, where they don't rise. Then, as at `Err`, nothing has changed.
@@ -424,6 +448,9 @@ fn stage(
 {
     if leaves.is_empty() {
         return stage_fresh(alloc, edits);
+    }
+    if edits.len() / MANY >= leaves.len() {
+        return stage_anew(alloc, leaves.as_slice(), edits);
     }
     let mut patches = Vec::with_capacity(alloc, edits.len().min(leaves.len()))?;
     match stage_patches(alloc, leaves, near, edits, &mut patches) {

@@ -6,6 +6,7 @@
 //! Its tests stand in `cs_store_tests`.
 #![tactic(auto)]
 
+mod anew;
 mod checking;
 mod edits;
 mod leaves;

@@ -723,14 +723,18 @@ fn many_edits_of_few_keys_leave_the_last_of_each(rt: HostRuntime) {
 
 const SPREAD: u16 = 1_200;
 
-/// The row of this number: each fourth is there first, and three come between it and the one behind it.
+/// The row of this number: of those below `SPREAD` each fourth is there first, and three come between it and the one behind it.
 fn spread_row(number: u16) -> &'static [u8] {
-    if number % 4 == 0 { b"first" } else { b"next" }
+    if number % 4 == 0 || number >= SPREAD {
+        b"first"
+    } else {
+        b"next"
+    }
 }
 
-/// Edits of the numbers that have this row.
-fn put_spread(row: &[u8], made: &mut PlaceEdits) -> Result<(), AllocError> {
-    for number in 0..SPREAD {
+/// Edits of the numbers that have this row, of so many.
+fn put_spread(count: u16, row: &[u8], made: &mut PlaceEdits) -> Result<(), AllocError> {
+    for number in 0..count {
         if spread_row(number) == row {
             made.push(&PlaceEdit::new(0, &number.to_be_bytes(), Some(row)))?;
         }
@@ -738,40 +742,133 @@ fn put_spread(row: &[u8], made: &mut PlaceEdits) -> Result<(), AllocError> {
     Ok(())
 }
 
-fn spread(alloc: Global, row: &[u8]) -> Result<Batch, AllocError> {
+fn spread(alloc: Global, count: u16, row: &[u8]) -> Result<Batch, AllocError> {
     let mut made = nothing(alloc);
-    put_spread(row, &mut made.rows)?;
+    put_spread(count, row, &mut made.rows)?;
     Ok(made)
 }
 
-fn is_spread(row: &StoredBody, number: u16) -> bool {
-    row.key.as_slice() == number.to_be_bytes().as_slice()
-        && row.body.as_slice() == spread_row(number)
+fn is_row(stored: &StoredBody, number: u16, row: &[u8]) -> bool {
+    stored.key.as_slice() == number.to_be_bytes().as_slice() && stored.body.as_slice() == row
 }
 
-fn are_spread(rows: &[StoredBody]) -> bool {
+fn are_spread(rows: &[StoredBody], count: u16) -> bool {
     let mut number = 0;
     for row in rows {
-        if !is_spread(row, number) {
+        if !is_row(row, number, spread_row(number)) {
             return false;
         }
         number = number.wrapping_add(1);
     }
-    number == SPREAD
+    number == count
+}
+
+/// A store of which two commits made so many rows.
+fn spread_store(alloc: Global, count: u16) -> Result<MapStore, StoreFault> {
+    let mut store = MapStore::new(alloc);
+    store.commit(&spread(alloc, count, b"first")?)?;
+    store.commit(&spread(alloc, count, b"next")?)?;
+    Ok(store)
 }
 
 /// Whether two commits leave all rows.
-fn spreads(alloc: Global) -> Result<bool, StoreFault> {
-    let mut store = MapStore::new(alloc);
-    store.commit(&spread(alloc, b"first")?)?;
-    store.commit(&spread(alloc, b"next")?)?;
-    Ok(are_spread(store.list(0)?.as_slice()))
+fn spreads(alloc: Global, count: u16) -> Result<bool, StoreFault> {
+    let mut store = spread_store(alloc, count)?;
+    Ok(are_spread(store.list(0)?.as_slice(), count))
 }
 
-/// The second commit makes each of five leaves so long that it is cut.
+/// The second commit has many edits a leaf, so that all leaves are made anew.
 #[test]
 fn rows_that_come_between_others_stay_in_order(rt: HostRuntime) {
-    assert!(rt; spreads(rt.alloc()) == Ok(true));
+    assert!(rt; spreads(rt.alloc(), SPREAD) == Ok(true));
+}
+
+/// The second commit makes five of many leaves so long that they are cut.
+#[test]
+fn rows_that_come_between_few_of_many_stay_in_order(rt: HostRuntime) {
+    assert!(rt; spreads(rt.alloc(), 4 * SPREAD) == Ok(true));
+}
+
+/// Behind a third commit there are rows of numbers below this.
+const CHANGED: u16 = SPREAD + 300;
+
+/// The row of this number that a third commit leaves: a whole run of them goes and each third of the others, each third is
+/// replaced, and some come behind the last.
+fn changed_row(number: u16) -> Option<&'static [u8]> {
+    if number >= SPREAD {
+        return Some(b"last");
+    }
+    if (400..700).contains(&number) {
+        return None;
+    }
+    match number % 3 {
+        0 => None,
+        1 => Some(b"last"),
+        _ => Some(spread_row(number)),
+    }
+}
+
+/// The edits that leave these rows, where they aren't there.
+fn put_changed(made: &mut PlaceEdits) -> Result<(), AllocError> {
+    for number in 0..CHANGED {
+        let row = changed_row(number);
+        if number >= SPREAD || row != Some(spread_row(number)) {
+            made.push(&PlaceEdit::new(0, &number.to_be_bytes(), row))?;
+        }
+    }
+    Ok(())
+}
+
+fn are_changed(rows: &[StoredBody]) -> bool {
+    let mut at = 0usize;
+    for number in 0..CHANGED {
+        if let Some(row) = changed_row(number) {
+            if at >= rows.len() || !is_row(&rows[at], number, row) {
+                return false;
+            }
+            at = at.wrapping_add(1);
+        }
+    }
+    at == rows.len()
+}
+
+/// Whether a third commit leaves these rows.
+fn changes(alloc: Global) -> Result<bool, StoreFault> {
+    let mut store = spread_store(alloc, SPREAD)?;
+    let mut batch = nothing(alloc);
+    put_changed(&mut batch.rows)?;
+    store.commit(&batch)?;
+    Ok(are_changed(store.list(0)?.as_slice()))
+}
+
+#[test]
+fn a_commit_of_many_edits_adds_replaces_and_removes(rt: HostRuntime) {
+    assert!(rt; changes(rt.alloc()) == Ok(true));
+}
+
+/// Edits that remove so many rows.
+fn put_removed(made: &mut PlaceEdits) -> Result<(), AllocError> {
+    for number in 0..SPREAD {
+        made.push(&PlaceEdit::new(0, &number.to_be_bytes(), None))?;
+    }
+    Ok(())
+}
+
+/// Whether one commit removes all rows, and rows can come again behind it.
+fn empties(alloc: Global) -> Result<bool, StoreFault> {
+    let mut store = spread_store(alloc, SPREAD)?;
+    let mut batch = nothing(alloc);
+    put_removed(&mut batch.rows)?;
+    store.commit(&batch)?;
+    let is_empty = store.list(0)?.is_empty();
+    store.commit(&spread(alloc, SPREAD, b"first")?)?;
+    store.commit(&spread(alloc, SPREAD, b"next")?)?;
+    Ok(is_empty && are_spread(store.list(0)?.as_slice(), SPREAD))
+}
+
+#[test]
+fn a_commit_that_removes_all_rows_leaves_none(rt: HostRuntime) {
+    assert!(rt; empties(rt.alloc()) == Ok(true));
 }
 
 /// The edit of this number in two tables, of which each fifth removes.
@@ -844,22 +941,24 @@ fn commits_many(
     commits_at_last(alloc, store, &batch)
 }
 
-/// Whether the store holds what both of them left.
-fn holds_both(store: &mut MapStore) -> Result<bool, StoreFault> {
+/// Whether the store holds what all of them left.
+fn holds_all(store: &mut MapStore) -> Result<bool, StoreFault> {
     let rows = store.list(0)?.len() + store.list(LAST)?.len();
     let changes = store.pend_list(0)?.len() + store.pend_list(LAST)?.len();
-    Ok(rows == 128 && changes == 128 && store.log_len()? == 2)
+    Ok(rows == 128 && changes == 128 && store.log_len()? == 3)
 }
 
-/// Two commits of which one may be refused, and what is shown behind them. The second makes leaves so long that they are cut.
-fn commits_two(alloc: Global, store: &mut MapStore) -> Result<bool, StoreFault> {
+/// Three commits of which one may be refused, and what is shown behind them. The second has so many edits that all leaves are made
+/// anew, and the third few.
+fn commits_three(alloc: Global, store: &mut MapStore) -> Result<bool, StoreFault> {
     let first = commits_many(alloc, store, 80, b"first")?;
     let next = commits_many(alloc, store, 160, b"next")?;
-    Ok(first && next && holds_both(store)?)
+    let last = commits_many(alloc, store, 20, b"last")?;
+    Ok(first && next && last && holds_all(store)?)
 }
 
-fn commits_twice(alloc: Global) -> Result<bool, StoreFault> {
-    commits_two(alloc, &mut MapStore::new(alloc))
+fn commits_thrice(alloc: Global) -> Result<bool, StoreFault> {
+    commits_three(alloc, &mut MapStore::new(alloc))
 }
 
 /// Everything is as it was where memory is refused, and the same call then succeeds. `bench/refuse_tests.sh` refuses each
@@ -867,9 +966,9 @@ fn commits_twice(alloc: Global) -> Result<bool, StoreFault> {
 #[test]
 fn refused_memory_leaves_everything(rt: HostRuntime) {
     let alloc = rt.alloc();
-    let kept = match commits_twice(alloc) {
+    let kept = match commits_thrice(alloc) {
         Ok(kept) => kept,
-        Err(fault) => fault == StoreFault::Memory && commits_twice(alloc).unwrap_or(false),
+        Err(fault) => fault == StoreFault::Memory && commits_thrice(alloc).unwrap_or(false),
     };
     assert!(rt; kept);
 }

@@ -2,7 +2,7 @@ use Rattle.std.proofs.Common.{◌≡◌, ◌+◌, ◌∷◌, List, fold, drop, a
 use Rattle.cs_edits.specs.Edits.{BodyEdit}
 use Rattle.cs_leaf.specs.Edits.{Rise, edited}
 use Rattle.cs_leaf.proofs.Merges.{drop_here, merge_more, rise_drop}
-use Rattle.cs_leaf.proofs.merging.merge.Goals as goal
+use Rattle.cs_leaf.proofs.merging.merged.Goals as goal
 
 pub loop-at-preserved : goal.loop-at-preserved
 loop-at-preserved c =
@@ -12,6 +12,6 @@ loop-at-preserved c =
     let here : drop k edits ≡ edit ∷ drop (k + 1) edits = drop_here edits k edit c.get.ensures in
     let rise : Rise (edit ∷ drop (k + 1) edits) = subst Rise here (rise_drop edits k c.requires.rise) in (
       c.in_ok-from.ensures.bound,
-      merge_more c.loop-at.merged c.merge_edit.new.merged c.args.leaf.now c.loop-at.from c.in_ok-from.from edit (drop (k + 1) edits) edits _ rise c.in_ok-from.ensures.merged
-          (ap (λ (ws : List BodyEdit). c.loop-at.merged ++ fold edited (drop c.loop-at.from c.args.leaf.now) ws) (sym here) ∙ c.loop-at.invariant.1),
+      merge_more c.loop-at.room c.merge_edit.new.merged c.args.leaf.now c.loop-at.from c.in_ok-from.from edit (drop (k + 1) edits) edits _ rise c.in_ok-from.ensures.merged
+          (ap (λ (ws : List BodyEdit). c.loop-at.room ++ fold edited (drop c.loop-at.from c.args.leaf.now) ws) (sym here) ∙ c.loop-at.invariant.1),
     )

@@ -1,0 +1,9 @@
+use Rattle.std.proofs.Common.{[], ◌∷◌, ◌++◌, ◌∙◌, List, ap}
+use Rattle.cs_leaf.specs.Entries.{Entry}
+use Rattle.cs_map_store.proofs.Leafing.{leaf_more}
+use Rattle.cs_map_store.proofs.anew.push_copy.Goals as goal
+
+pub returns-clause-same : goal.returns-clause-same
+returns-clause-same c =
+    let made = c.args.made.now.items in
+    (leaf_more made c.push.new.self.items c.args.leaf.now (c.in_ok-push.ensures.items ∙ ap (λ (leaf : List Entry). made ++ leaf ∷ []) c.in_ok-copied.ensures)).0
