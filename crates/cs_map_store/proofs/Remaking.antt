@@ -1,5 +1,5 @@
 -- All leaves, made anew one after another.
-use Rattle.std.proofs.Common.{◌≡◌, ℕ, ◌+◌, ◌<◌, ◌⊎◌, List, [], ◌∷◌, ◌++◌, refl, sym, ap, subst, ◌∙◌, T, length, take, drop, fold, arith, ⊎_elim}
+use Rattle.std.proofs.Common.{◌≡◌, ℕ, ◌+◌, ◌<◌, ◌⊎◌, List, [], ◌∷◌, ◌++◌, sym, ap, subst, ◌∙◌, T, length, take, drop, fold, arith, ⊎_elim}
 use Rattle.std.specs.FinMap.{is_sorted}
 use Rattle.std.proofs.lemmas.List.{append_assoc, take-append-drop, drop_more}
 use Rattle.cs_edits.specs.Edits.{BodyEdit}
@@ -65,8 +65,3 @@ anew_more leaves at count made new ws end are less sorted none reach before rise
       subst (λ (es : List Entry). T (is_sorted place_cmp es)) (sym one) (order (take count ws) (made ++ flat (drop at leaves)) sorted),
       ap (λ (es : List Entry). fold edited es (drop count ws)) one ∙ sym (fold_both (made ++ flat (drop at leaves)) (take count ws) (drop count ws)) ∙ ap (fold edited (made ++ flat (drop at leaves))) whole ∙ was,
     )
-
--- behind the last leaf no edit is left
-pub none_left : (leaves : List (List Entry)) (at : ℕ) (ws : List BodyEdit) → 0 < length leaves → at ≡ length leaves → (at ≡ 0) ⊎ ReachLeaf leaves at ws → ws ≡ []
-none_left leaves at [] some end reach = refl
-none_left leaves at (w ∷ ws) some end reach = ⊎_elim (λ e. absurd (omega (arith, e, some, end))) (λ r. let less : at < length leaves = r.0 in absurd (omega (arith, less, end))) reach
