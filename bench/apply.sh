@@ -1,10 +1,11 @@
 #!/bin/sh
 # Applies changesets by the library and by SQLite's sqlite3changeset_apply_v2, onto the same rows, with the same answers.
-# Usage: bench/apply.sh [TURNS]
+# Usage: bench/apply.sh [TURNS [kept]]
 # Over many drawn cases (tables with one and several key columns, texts, blobs, NULLs; a table that isn't there; a key that
 # comes twice) it fails unless both meet the same conflicts in the same order, with the same rows behind them, end alike, and
-# leave the same rows. With TURNS it also times both, by so many turns, and prints the ratios. Where SQLite's library can't be had, it
-# says so and ends well.
+# leave the same rows. With TURNS it also times both, by so many turns, and prints the ratios. Each round has a store of its own, and drops
+# it, so that the C library (glibc) gives most of its pages back; with `kept` it gives none back, on either side, as in a program that keeps
+# its store. Where SQLite's library can't be had, it says so and ends well.
 set -eu
 bench="$(cd "$(dirname "$0")" && pwd)"
 turns="${1:-}"
@@ -29,6 +30,10 @@ echo "all applied alike by the library and by SQLite"
 
 [ -n "$turns" ] || exit 0
 print_machine_and_sqlite
+if [ "${2:-}" = kept ]; then
+    export GLIBC_TUNABLES=glibc.malloc.trim_threshold=4294967296:glibc.malloc.mmap_threshold=4294967296
+    echo "no memory is given back to the system"
+fi
 echo "nanoseconds a change, the least of $turns turns: the library / SQLite = ratio (ratios of the middle half of the turns)"
 
 theirs() { "$out/sqlite_apply" time "$rounds" "$count" "$every" "$out/apply_case"; }
