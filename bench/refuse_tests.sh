@@ -1,6 +1,6 @@
 #!/bin/sh
 # Refuses a test each of its allocations in turn, one in a run of its own: `refused_memory_leaves_everything` of the store
-# commits twice to the one in memory, that of `apply` applies a changeset, that of the rebaser rebases one, that of pending changes
+# commits three times to the one in memory, that of `apply` applies a changeset, that of the rebaser rebases one, that of pending changes
 # edits rows, that of pulls takes an entry and an answer, that of replicas opens one, edits it, pushes and is told, that of a hub's log opens
 # it, appends to it and tells it, that of the log that threads share makes one, offers and sees, that of nodes makes two, edits, pushes
 # and pulls, that of books asks two a push and a pull, that of worlds makes one and lets things happen in it, and that of scripts plays one. Where
@@ -13,7 +13,7 @@ bench="$(cd "$(dirname "$0")" && pwd)"
 tested="$1"
 tests="${2:-}"
 . "$bench/common.sh"
-# So many allocations at least: the store's test makes batches of 240 rows and a commit copies each key, that of `apply` four
+# So many allocations at least: the store's test makes batches of 260 rows and a commit copies each key, that of `apply` four
 # changes, and the rebaser's reads and rebases three.
 module=tests
 case "$tested" in
