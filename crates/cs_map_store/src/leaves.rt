@@ -23,7 +23,7 @@ use std::mem;
 /// A leaf that comes to have twice as many rows is cut into leaves of so many.
 pub(crate) const LEAF: usize = 64;
 
-/// A commit of so many edits for each leaf makes all leaves anew, since it changes most of them.
+/// A commit of so many edits for each leaf there is makes all leaves anew: where they are spread, it changes most of them.
 const MANY: usize = 32;
 
 /// So many leaves further a look-up looks at most before it halves all that are left.
