@@ -59,8 +59,8 @@ fn end_of(from: usize, count: usize) -> usize
     }
 }
 
-/// Reaches the first change of each of these groups, at both ends of its bytes, and its key, in one short loop. What was reached is
-/// listed, so that it surely is, and isn't looked at.
+/// Reaches the first change of each of these groups, at both ends of its bytes, and its place, where that isn't lent by the change, in
+/// one short loop. What was reached is listed, so that it surely is, and isn't looked at.
 // It stands alone, since within a caller of many variables it keeps its own on the stack.
 #[inline(never)]
 fn reach(

@@ -1,1 +1,2 @@
 pub mod EditLaws
+pub mod Growth

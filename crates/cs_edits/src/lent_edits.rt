@@ -4,23 +4,25 @@ ghost use Rattle.std.specs.Prelude.{◌≡◌, ◌<◌, List, length, slice_get,
 ghost use Rattle.std.specs.List.{All};
 ghost use Rattle.cs_edits.specs.Spots.{IsEditSpotIn, edit_in, edits_in};
 
+use crate::pieces::Pieces;
 use crate::place_edit::PlaceEdit;
 use std::marker::Model;
 
-/// Where an edit stands in the bytes: its key, and behind it up to `end` the body, which is empty where none is set.
+/// Where an edit stands in a piece: its key up to `body`, and behind it the body, if one is set.
 #[derive(Clone, Copy, Debug)]
 pub(crate) struct EditSpot {
     pub table: u32,
-    pub is_set: bool,
+    pub piece: u32,
     pub key: usize,
     pub body: usize,
-    pub end: usize,
+    /// One more than where the body ends, or 0 for none.
+    pub past: usize,
 }
 
 /// Edits that follow one another, lent. (Profile of this project.)
 #[derive(Drop)]
 pub struct LentEdits<'a> {
-    bytes: &'a [u8],
+    pieces: &'a Pieces,
     spots: &'a [EditSpot],
 }
 
@@ -32,22 +34,23 @@ impl<'a> Model for LentEdits<'a> {
 
     ghost Value = { List BodyEdit };
 
-    ghost view = { λ edits. edits_in edits.bytes.now edits.spots.now };
+    ghost view = { λ edits. edits_in edits.pieces.now edits.spots.now };
 
-    ghost invariant = { λ edits. All (IsEditSpotIn (length edits.bytes.now)) edits.spots.now };
+    ghost invariant = { λ edits. All (IsEditSpotIn edits.pieces.now) edits.spots.now };
 }
 
 /// The edit at a spot.
 #[inline(always)]
-fn edit_at<'a>(bytes: &'a [u8], spot: &EditSpot) -> PlaceEdit<'a>
-    requires { IsEditSpotIn (length bytes.now) spot.now }
-    ensures { result ≡ edit_in bytes.now spot.now }
+fn edit_at<'a>(pieces: &'a Pieces, spot: &EditSpot) -> PlaceEdit<'a>
+    requires { IsEditSpotIn pieces.now spot.now }
+    ensures { result ≡ edit_in pieces.now spot.now }
 {
+    let bytes = pieces.get(spot.piece);
     let key = &bytes[spot.key..spot.body];
-    if spot.is_set {
-        PlaceEdit::new(spot.table, key, Some(&bytes[spot.body..spot.end]))
-    } else {
+    if spot.past == 0 {
         PlaceEdit::new(spot.table, key, None)
+    } else {
+        PlaceEdit::new(spot.table, key, Some(&bytes[spot.body..spot.past - 1]))
     }
 }
 
@@ -56,13 +59,13 @@ impl<'a> LentEdits<'a> {
     ghost use Rattle.std.specs.List.{All};
     ghost use Rattle.cs_edits.specs.Spots.{IsEditSpotIn, edits_in};
 
-    /// The edits at these spots of these bytes.
+    /// The edits at these spots of these pieces.
     #[inline(always)]
-    pub(crate) fn of_parts(bytes: &'a [u8], spots: &'a [EditSpot]) -> LentEdits<'a>
-        requires { All (IsEditSpotIn (length bytes.now)) spots.now }
-        ensures { result ≡ edits_in bytes.now spots.now }
+    pub(crate) fn of_parts(pieces: &'a Pieces, spots: &'a [EditSpot]) -> LentEdits<'a>
+        requires { All (IsEditSpotIn pieces.now) spots.now }
+        ensures { result ≡ edits_in pieces.now spots.now }
     {
-        LentEdits { bytes, spots }
+        LentEdits { pieces, spots }
     }
 
     /// How many edits there are.
@@ -79,7 +82,7 @@ impl<'a> LentEdits<'a> {
         requires { at < length self.now }
         ensures { slice_get self.now at ≡ Some result }
     {
-        edit_at(self.bytes, &self.spots[at])
+        edit_at(self.pieces, &self.spots[at])
     }
 
     /// The edits from one place up to another.
@@ -88,7 +91,7 @@ impl<'a> LentEdits<'a> {
         requires { (from ≤ to) × (to ≤ length self.now) }
         ensures { result ≡ slice_range self.now from to }
     {
-        LentEdits::of_parts(self.bytes, &self.spots[from..to])
+        LentEdits::of_parts(self.pieces, &self.spots[from..to])
     }
 
     /// The first edit, and those behind it; `None` where there is none.
@@ -100,8 +103,8 @@ impl<'a> LentEdits<'a> {
             return None;
         };
         Some((
-            edit_at(self.bytes, spot),
-            LentEdits::of_parts(self.bytes, rest),
+            edit_at(self.pieces, spot),
+            LentEdits::of_parts(self.pieces, rest),
         ))
     }
 }

@@ -1,10 +1,12 @@
-//! Edits in one list of bytes.
+//! Edits in pieces of memory.
 
 ghost use Rattle.std.specs.Prelude.{◌≡◌, ◌<◌, ◌++◌, ◌∷◌, ℕ, List, [], length, is_some, slice_set, IfOk, OnOk, OnErr};
 ghost use Rattle.std.specs.List.{All};
+ghost use Rattle.cs_edits.specs.Pieces.{HaveGrown};
 ghost use Rattle.cs_edits.specs.Spots.{IsEditSpotIn, edit_in, edits_in, set_bytes};
 
 use crate::lent_edits::{EditSpot, LentEdits};
+use crate::pieces::Pieces;
 use crate::place_edit::PlaceEdit;
 use std::alloc::{AllocError, Global};
 use std::marker::Model;
@@ -12,7 +14,7 @@ use std::marker::Model;
 /// Edits of places, in order. (Profile of this project.)
 #[derive(Debug, Drop)]
 pub struct PlaceEdits {
-    bytes: Vec<u8>,
+    pieces: Pieces,
     spots: Vec<EditSpot>,
 }
 
@@ -24,9 +26,9 @@ impl Model for PlaceEdits {
 
     ghost Value = { List BodyEdit };
 
-    ghost view = { λ edits. edits_in edits.bytes.items edits.spots.items };
+    ghost view = { λ edits. edits_in edits.pieces edits.spots.items };
 
-    ghost invariant = { λ edits. All (IsEditSpotIn (length edits.bytes.items)) edits.spots.items };
+    ghost invariant = { λ edits. All (IsEditSpotIn edits.pieces) edits.spots.items };
 }
 
 /// The bytes of the body that is set, or no byte.
@@ -40,52 +42,41 @@ fn set_bytes<'a>(edit: &PlaceEdit<'a>) -> &'a [u8]
     }
 }
 
-/// Whether a body is set.
-#[inline(always)]
-fn is_set(edit: &PlaceEdit<'_>) -> bool
-    ensures { result ≡ is_some edit.now.body }
-{
-    edit.body().is_some()
-}
-
 /// Appends the bytes of an edit, and gives where it stands in them. After an `Err` there may be bytes more, where none stands.
 #[inline(always)]
-fn put_bytes(bytes: &mut Vec<u8>, edit: &PlaceEdit<'_>) -> Result<EditSpot, AllocError>
-    ensures grown { (more : List ℕ) × (bytes.new.items ≡ bytes.old.items ++ more) }
-    ensures within { IfOk result (λ spot. IsEditSpotIn (length bytes.new.items) spot) }
-    ensures stands { IfOk result (λ spot. edit_in bytes.new.items spot ≡ edit.now) }
+fn put_bytes(pieces: &mut Pieces, edit: &PlaceEdit<'_>) -> Result<EditSpot, AllocError>
+    ensures grown { HaveGrown pieces.old pieces.new }
+    ensures within { IfOk result (λ spot. IsEditSpotIn pieces.new spot) }
+    ensures stands { IfOk result (λ spot. edit_in pieces.new spot ≡ edit.now) }
 {
-    let key = bytes.len();
-    let set = set_bytes(edit);
-    // Room for both is taken at once.
-    bytes.reserve(edit.key().len().saturating_add(set.len()))?;
-    bytes.extend_from_slice(edit.key())?;
-    let body = bytes.len();
-    bytes.extend_from_slice(set)?;
+    let stand = pieces.put(edit.key(), set_bytes(edit))?;
+    let past = if edit.body().is_some() {
+        stand.end + 1
+    } else {
+        0
+    };
     Ok(EditSpot {
         table: edit.table(),
-        is_set: is_set(edit),
-        key,
-        body,
-        end: bytes.len(),
+        piece: stand.piece,
+        key: stand.start,
+        body: stand.middle,
+        past,
     })
 }
 
 /// Appends an edit. An `Err` changes no edit.
 #[inline(always)]
 fn put(
-    bytes: &mut Vec<u8>,
+    pieces: &mut Pieces,
     spots: &mut Vec<EditSpot>,
     edit: &PlaceEdit<'_>,
 ) -> Result<(), AllocError>
-    requires { All (IsEditSpotIn (length bytes.old.items)) spots.old.items }
-    ensures within { All (IsEditSpotIn (length bytes.new.items)) spots.new.items }
-    ensures ok { OnOk result (edits_in bytes.new.items spots.new.items
-        ≡ edits_in bytes.old.items spots.old.items ++ edit.now ∷ []) }
-    ensures err { OnErr result (edits_in bytes.new.items spots.new.items
-        ≡ edits_in bytes.old.items spots.old.items) }
+    requires { All (IsEditSpotIn pieces.old) spots.old.items }
+    ensures within { All (IsEditSpotIn pieces.new) spots.new.items }
+    ensures ok { OnOk result (edits_in pieces.new spots.new.items ≡ edits_in pieces.old spots.old.items ++ edit.now ∷ []) }
+    ensures err { OnErr result (edits_in pieces.new spots.new.items ≡ edits_in pieces.old spots.old.items) }
 {
-    let spot = put_bytes(bytes, edit)?;
+    let spot = put_bytes(pieces, edit)?;
     spots.push(spot)?;
     Ok(())
 }
@@ -93,20 +84,18 @@ fn put(
 /// Puts an edit in place of the one there. An `Err` changes no edit.
 #[inline(always)]
 fn set(
-    bytes: &mut Vec<u8>,
+    pieces: &mut Pieces,
     spots: &mut [EditSpot],
     at: usize,
     edit: &PlaceEdit<'_>,
 ) -> Result<(), AllocError>
-    requires spots { All (IsEditSpotIn (length bytes.old.items)) spots.old }
+    requires spots { All (IsEditSpotIn pieces.old) spots.old }
     requires at { at < length spots.old }
-    ensures within { All (IsEditSpotIn (length bytes.new.items)) spots.new }
-    ensures ok { OnOk result (edits_in bytes.new.items spots.new
-        ≡ slice_set (edits_in bytes.old.items spots.old) at edit.now) }
-    ensures err { OnErr result (edits_in bytes.new.items spots.new
-        ≡ edits_in bytes.old.items spots.old) }
+    ensures within { All (IsEditSpotIn pieces.new) spots.new }
+    ensures ok { OnOk result (edits_in pieces.new spots.new ≡ slice_set (edits_in pieces.old spots.old) at edit.now) }
+    ensures err { OnErr result (edits_in pieces.new spots.new ≡ edits_in pieces.old spots.old) }
 {
-    spots[at] = put_bytes(bytes, edit)?;
+    spots[at] = put_bytes(pieces, edit)?;
     Ok(())
 }
 
@@ -121,12 +110,12 @@ impl PlaceEdits {
         ensures { result ≡ [] }
     {
         PlaceEdits {
-            bytes: Vec::new(alloc),
+            pieces: Pieces::new(alloc),
             spots: Vec::new(alloc),
         }
     }
 
-    /// No edit, with room for so many of so many bytes together.
+    /// No edit, with room for so many of so many bytes together, or for the first of them.
     pub fn with_capacity(
         alloc: Global,
         edits: usize,
@@ -135,7 +124,7 @@ impl PlaceEdits {
         ensures { IfOk result (λ made. made ≡ []) }
     {
         Ok(PlaceEdits {
-            bytes: Vec::with_capacity(alloc, bytes)?,
+            pieces: Pieces::with_capacity(alloc, bytes)?,
             spots: Vec::with_capacity(alloc, edits)?,
         })
     }
@@ -154,7 +143,7 @@ impl PlaceEdits {
         ensures ok { OnOk result (self.new ≡ self.old ++ edit.now ∷ []) }
         ensures err { OnErr result (self.new ≡ self.old) }
     {
-        put(&mut self.bytes, &mut self.spots, edit)
+        put(&mut self.pieces, &mut self.spots, edit)
     }
 
     /// Puts an edit in place of the one there, whose bytes aren't given back. An `Err` changes nothing.
@@ -164,7 +153,7 @@ impl PlaceEdits {
         ensures ok { OnOk result (self.new ≡ slice_set self.old at edit.now) }
         ensures err { OnErr result (self.new ≡ self.old) }
     {
-        set(&mut self.bytes, self.spots.as_mut_slice(), at, edit)
+        set(&mut self.pieces, self.spots.as_mut_slice(), at, edit)
     }
 
     /// Puts the edit from one place also at another, in place of the one there. Its bytes aren't copied.
@@ -189,6 +178,6 @@ impl PlaceEdits {
     pub fn lend(&self) -> LentEdits<'_>
         ensures { result ≡ self.now }
     {
-        LentEdits::of_parts(self.bytes.as_slice(), self.spots.as_slice())
+        LentEdits::of_parts(&self.pieces, self.spots.as_slice())
     }
 }

@@ -86,18 +86,7 @@ grouping_behind front keys groups grouping = record {
   each = grouping.each ∙ each_behind front keys grouping.distinct;
 }
 
--- ---- keys that are lent
-
-lent_behind : (front : List ℕ) (keys : List (Bor (List ℕ))) → map (λ key. front ++ key.now) keys ≡ map (λ k. front ++ k) (keys_behind keys)
-lent_behind front [] = refl
-lent_behind front (key ∷ keys) = ap (λ (more : Keys). (front ++ key.now) ∷ more) (lent_behind front keys)
-
-pub grouping_lent : (front : List ℕ) (keys : List (Bor (List ℕ))) (groups : List (List ℕ)) → IsGrouping (keys_behind keys) groups
-    → IsGrouping (map (λ key. front ++ key.now) keys) groups
-grouping_lent front keys groups grouping =
-    subst (λ (ks : Keys). IsGrouping ks groups) (sym (lent_behind front keys)) (grouping_behind front (keys_behind keys) groups grouping)
-
-pub groupings_lent : {E : Type 0} (front : List ℕ) (keys : List (Bor (List ℕ))) (found : Result (List (List ℕ)) E) → IfOk found (λ groups. IsGrouping (keys_behind keys) groups)
-    → IfOk found (λ groups. IsGrouping (map (λ key. front ++ key.now) keys) groups)
-groupings_lent front keys (Ok groups) grouping = grouping_lent front keys groups grouping
-groupings_lent front keys (Err fault) grouping = tt
+pub groupings_behind : {E : Type 0} (front : List ℕ) (keys : Keys) (found : Result (List (List ℕ)) E) → IfOk found (λ groups. IsGrouping keys groups)
+    → IfOk found (λ groups. IsGrouping (map (λ key. front ++ key) keys) groups)
+groupings_behind front keys (Ok groups) grouping = grouping_behind front keys groups grouping
+groupings_behind front keys (Err fault) grouping = tt

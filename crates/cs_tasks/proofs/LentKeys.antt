@@ -8,9 +8,10 @@ use Rattle.cs_value.specs.declared.value.Field.TheVariants.{Is}
 use Rattle.cs_change.specs.Spelling.{marks_of}
 use Rattle.cs_change.specs.declared.change.Change.{Change}
 use Rattle.cs_change.specs.declared.group.Group.{Group}
-use Rattle.cs_order.specs.Order.{keys_behind}
+use Rattle.cs_order.specs.Order.{Keys}
 use Rattle.cs_store.specs.States.{place_bytes}
-use Rattle.cs_store.specs.cs_keyed.NormalForm.{change_bytes, marked_fields}
+use Rattle.cs_store.specs.cs_keyed.NormalForm.{HaveSameKeys, change_bytes, marked_fields}
+use Rattle.cs_tasks.specs.Facts.{same_key}
 use Rattle.cs_tasks.specs.Tasks.{task}
 
 no_marks : (fields : List Field) → marked_fields [] fields ≡ []
@@ -55,22 +56,28 @@ module _ (table : ℕ) (group : Group) where
   abbrev marks : List Bool
   marks = marks_of group.marks
 
-  pub tables_lent : (keys : List (Bor (List ℕ))) (changes : List Change) → keys_behind keys ≡ map (change_bytes marks) changes
-      → map (λ key. table) keys ≡ map (λ t. t.table) (map (task table group) changes)
-  tables_lent [] [] are = refl
-  tables_lent [] (c ∷ changes) are = absurd (let e = are in cc)
-  tables_lent (k ∷ keys) [] are = absurd (let e = are in cc)
-  tables_lent (k ∷ keys) (c ∷ changes) are =
-      ap (λ (more : List ℕ). table ∷ more) (tables_lent keys changes (ap (drop 1) are))
+  all_tables : (changes : List Change) → map (λ key. table) (map (change_bytes marks) changes) ≡ map (λ t. t.table) (map (task table group) changes)
+  all_tables [] = refl
+  all_tables (c ∷ changes) = ap (λ (more : List ℕ). table ∷ more) (all_tables changes)
 
-  pub places_lent : (keys : List (Bor (List ℕ))) (changes : List Change) → keys_behind keys ≡ map (change_bytes marks) changes
-      → map (λ key. place_bytes table key.now) keys ≡ map (λ t. place_bytes t.table t.key) (map (task table group) changes)
-  places_lent [] [] are = refl
-  places_lent [] (c ∷ changes) are = absurd (let e = are in cc)
-  places_lent (k ∷ keys) [] are = absurd (let e = are in cc)
-  places_lent (k ∷ keys) (c ∷ changes) are =
-      ap (λ (key : List ℕ). place_bytes table key ∷ map (λ key. place_bytes table key.now) keys) (ap (λ (ks : List (List ℕ)). get_or ks 0 []) are)
-      ∙ ap (λ (more : List (List ℕ)). place_bytes table (change_bytes marks c) ∷ more) (places_lent keys changes (ap (drop 1) are))
+  pub tables_lent : (keys : Keys) (changes : List Change) → keys ≡ map (change_bytes marks) changes
+      → map (λ key. table) keys ≡ map (λ t. t.table) (map (task table group) changes)
+  tables_lent keys changes are = ap (map (λ key. table)) are ∙ all_tables changes
+
+  all_places : (changes : List Change) → map (place_bytes table) (map (change_bytes marks) changes) ≡ map (λ t. place_bytes t.table t.key) (map (task table group) changes)
+  all_places [] = refl
+  all_places (c ∷ changes) = ap (λ (more : Keys). place_bytes table (change_bytes marks c) ∷ more) (all_places changes)
+
+  pub places_lent : (keys : Keys) (changes : List Change) → keys ≡ map (change_bytes marks) changes
+      → map (place_bytes table) keys ≡ map (λ t. place_bytes t.table t.key) (map (task table group) changes)
+  places_lent keys changes are = ap (map (place_bytes table)) are ∙ all_places changes
+
+-- the keys by the marks up to the last key column are those by all marks
+pub same_keys : (front marks : List Bool) (changes : List Change) → HaveSameKeys front marks → map (change_bytes front) changes ≡ map (change_bytes marks) changes
+same_keys front marks [] same = refl
+same_keys front marks (c ∷ changes) same =
+    ap (λ (key : List ℕ). key ∷ map (change_bytes front) changes) (same_key front marks c same).0
+    ∙ ap (λ (more : Keys). change_bytes marks c ∷ more) (same_keys front marks changes same)
 
 -- the table there
 pub same_table : {X : Type 0} (table : ℕ) (keys : List X) (at : ℕ) → at < length keys → table ≡ get_or (map (λ key. table) keys) at 0

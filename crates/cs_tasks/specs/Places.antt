@@ -7,5 +7,5 @@ use Rattle.cs_tasks.specs.declared.task_places.Held.TheVariants.{Lent, Own}
 
 -- the numbers of the tables, and the bytes of the places
 abbrev pub places_held : Held → List ℕ × Keys
-places_held (Lent table keys) = (map (λ key. table) keys.items, map (λ key. place_bytes table key.now) keys.items)
+places_held (Lent table keys) = (map (λ key. table) keys, map (place_bytes table) keys)
 places_held (Own tables places) = (tables.items, places)

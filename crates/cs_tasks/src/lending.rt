@@ -11,6 +11,7 @@ use cs_record::{Cell, Record};
 use cs_store::below::{key_front, lend_key};
 use cs_value::Memory;
 use std::alloc::Global;
+use std::marker::Model;
 
 /// Whether a record has a value at each of these columns, and none of them is NULL.
 #[inline(always)]
@@ -47,14 +48,70 @@ fn is_keyed(marks: &[bool], change: &Change<'_>) -> bool
     }
 }
 
+/// The keys of changes, lent by these. Contracts see their bytes.
+#[derive(Drop)]
+pub(crate) struct ChangeKeys<'a> {
+    /// The marks up to the last key column.
+    front: &'a [bool],
+    changes: &'a [Change<'a>],
+    keys: Vec<&'a [u8]>,
+}
+
+impl<'a> Model for ChangeKeys<'a> {
+    ghost use Rattle.std.specs.Prelude.{◌≡◌, map};
+    ghost use Rattle.cs_order.specs.Order.{Keys, keys_behind};
+    ghost use Rattle.cs_store.specs.cs_keyed.NormalForm.{change_bytes};
+
+    ghost Value = { Keys };
+
+    ghost view = { λ lent. keys_behind lent.keys.items };
+
+    ghost invariant = { λ lent. keys_behind lent.keys.items ≡ map (change_bytes lent.front.now) lent.changes.now };
+}
+
+impl<'a> ChangeKeys<'a> {
+    ghost use Rattle.std.specs.Prelude.{◌≡◌, ◌<◌, length};
+    ghost use Rattle.cs_order.specs.Order.{key_at, keys_behind};
+
+    /// How many keys there are.
+    #[inline(always)]
+    pub(crate) fn len(&self) -> usize
+        ensures { result ≡ length self.now }
+    {
+        self.keys.len()
+    }
+
+    /// The key there. Its change lends it once more, since who asks for keys out of order asks for their changes too: where many
+    /// stand, a list that is read beside these is one wait more for each.
+    #[inline(always)]
+    pub(crate) fn get(&self, at: usize) -> &[u8]
+        requires { at < length self.now }
+        ensures { result.now ≡ key_at self.now at }
+    {
+        if let Some(change) = self.changes.get(at) {
+            if let Some(key) = lend_key(self.front, change) {
+                return key;
+            }
+        }
+        self.keys[at]
+    }
+
+    /// All keys.
+    #[inline(always)]
+    pub(crate) fn as_slice(&self) -> &[&'a [u8]]
+        ensures { keys_behind result.now ≡ self.now }
+    {
+        self.keys.as_slice()
+    }
+}
+
 /// The key of each change, lent by it; none, where a change has its key not in one piece, or has NULL there.
 pub(crate) fn lend_keys<'a>(
     alloc: Global,
-    marks: &[bool],
+    marks: &'a [bool],
     changes: &'a [Change<'a>],
-) -> Result<Option<Vec<&'a [u8]>>, Memory>
-    ensures keys { IfOk result (λ found. IfSome found (λ keys.
-        keys_behind keys.items ≡ map (change_bytes marks.now) changes.now)) }
+) -> Result<Option<ChangeKeys<'a>>, Memory>
+    ensures keys { IfOk result (λ found. IfSome found (λ keys. keys ≡ map (change_bytes marks.now) changes.now)) }
     ensures keyed { IfOk result (λ found. IfSome found (λ keys. list_all (has_key marks.now) changes.now ≡ true)) }
 {
     let front = key_front(marks);
@@ -68,5 +125,9 @@ pub(crate) fn lend_keys<'a>(
         };
         keys.push(key)?;
     }
-    Ok(Some(keys))
+    Ok(Some(ChangeKeys {
+        front,
+        changes,
+        keys,
+    }))
 }

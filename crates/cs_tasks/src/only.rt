@@ -10,17 +10,17 @@ use cs_value::Catalog;
 
 /// A group of which changes are applied, and the table that it fits.
 #[derive(Drop)]
-pub(crate) struct Only<'a, 'c> {
+pub(crate) struct Only<'a> {
     /// The table's place in the catalog.
     pub table: u32,
     /// The table's key columns.
-    pub marks: &'c [bool],
+    pub marks: &'a [bool],
     /// The group.
     pub group: &'a Group<'a>,
 }
 
 /// The group with the table that it fits, if it fits one and has a change.
-fn applied<'a, 'c>(catalog: &'c Catalog, group: &'a Group<'a>) -> Option<Only<'a, 'c>>
+fn applied<'a>(catalog: &'a Catalog, group: &'a Group<'a>) -> Option<Only<'a>>
     ensures applied { MatchOption result (tasks_at (table_of group.now catalog.now) group.now ≡ [])
         (λ only. tasks_at (table_of group.now catalog.now) group.now
         ≡ map (task only.table only.group.now) only.group.now.changes) }
@@ -38,10 +38,7 @@ fn applied<'a, 'c>(catalog: &'c Catalog, group: &'a Group<'a>) -> Option<Only<'a
 }
 
 /// The group of which all changes are that are applied; none, where they are of several, or there are none.
-pub(crate) fn find_only<'a, 'c>(
-    catalog: &'c Catalog,
-    changeset: &'a Changeset<'a>,
-) -> Option<Only<'a, 'c>>
+pub(crate) fn find_only<'a>(catalog: &'a Catalog, changeset: &'a Changeset<'a>) -> Option<Only<'a>>
     ensures all { IfSome result (λ only. tasks catalog.now changeset.now
         ≡ map (task only.table only.group.now) only.group.now.changes) }
     ensures marks { IfSome result (λ only. marks_of only.group.now.marks ≡ only.marks.now) }

@@ -2,6 +2,7 @@
 
 ghost use Rattle.std.specs.Prelude.{◌≡◌, drop};
 
+use crate::lending::ChangeKeys;
 use cs_order::{Groups, Keys, group_keys};
 use cs_value::Memory;
 use std::alloc::Global;
@@ -14,7 +15,7 @@ const TABLE: usize = 4;
 #[derive(Drop)]
 enum Held<'a> {
     /// Those of one table, whose keys are lent by the changes.
-    Lent { table: u32, keys: Vec<&'a [u8]> },
+    Lent { table: u32, keys: ChangeKeys<'a> },
     /// Each as its table's place in the catalog, and as bytes: those of that number, and then the key's.
     Own { tables: Vec<u32>, places: Keys },
 }
@@ -64,9 +65,9 @@ impl<'a> TaskPlaces<'a> {
     ghost use Rattle.cs_store.specs.States.{place_bytes};
 
     /// The places of these keys of one table. It takes no memory.
-    pub(crate) fn lent(table: u32, keys: Vec<&'a [u8]>) -> TaskPlaces<'a>
-        ensures tables { result.0 ≡ map (λ key. table) keys.entry.items }
-        ensures places { result.1 ≡ map (λ key. place_bytes table key.now) keys.entry.items }
+    pub(crate) fn lent(table: u32, keys: ChangeKeys<'a>) -> TaskPlaces<'a>
+        ensures tables { result.0 ≡ map (λ key. table) keys.entry }
+        ensures places { result.1 ≡ map (place_bytes table) keys.entry }
     {
         TaskPlaces {
             held: Held::Lent { table, keys },
@@ -111,18 +112,17 @@ impl<'a> TaskPlaces<'a> {
         ensures { result.now ≡ drop 4 (key_at self.now.1 at) }
     {
         match &self.held {
-            Held::Lent { keys, .. } if at < keys.len() => keys[at],
+            Held::Lent { keys, .. } if at < keys.len() => keys.get(at),
             Held::Own { places, .. } if at < places.len() => key_in(places.get(at)),
             _ => &[],
         }
     }
 
-    /// The last byte of the place there. Who is about to go over many places out of order asks it of each first, as he asks `ends`
-    /// of the changes. It is no part of a result.
+    /// The last byte of the place there, or any where it is lent by the change. Who is about to go over many places out of order asks
+    /// it of each first, as he asks `ends` of the changes. It is no part of a result.
     #[inline(always)]
     pub fn end(&self, at: usize) -> u8 {
         match &self.held {
-            Held::Lent { keys, .. } if at < keys.len() => last_of(keys[at]),
             Held::Own { places, .. } if at < places.len() => last_of(places.get(at)),
             _ => 0,
         }

@@ -178,11 +178,7 @@ fn put_fitting(
 }
 
 /// What is found of the changes of the only group of which some are applied.
-fn tasks_of_one<'a>(
-    alloc: Global,
-    only: &Only<'a, '_>,
-    skipped: usize,
-) -> Result<Tasks<'a>, TasksFault>
+fn tasks_of_one<'a>(alloc: Global, only: &Only<'a>, skipped: usize) -> Result<Tasks<'a>, TasksFault>
     requires { marks_of only.now.group.now.marks ≡ only.now.marks.now }
     ensures found { IfOk result (λ found. AreFound found (map (task only.now.table only.now.group.now) only.now.group.now.changes)) }
     ensures skipped { IfOk result (λ found. found.skipped ≡ skipped) }
@@ -239,7 +235,7 @@ fn tasks_of_all<'a>(
 /// `Memory` may come before the other fault. `NullKey` comes where a change of a group that fits has NULL at a key column.
 pub fn find_tasks<'a>(
     alloc: Global,
-    catalog: &Catalog,
+    catalog: &'a Catalog,
     changeset: &'a Changeset<'a>,
 ) -> Result<Tasks<'a>, TasksFault>
     ensures found { IfOk result (λ found. AreFound found (tasks catalog.now changeset.now)) }

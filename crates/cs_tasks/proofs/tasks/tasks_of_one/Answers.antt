@@ -1,7 +1,6 @@
 use Rattle.std.proofs.Common.{◌≡◌, [], map, sym, ◌∙◌}
 use Rattle.std.proofs.lemmas.Result.{err_from_is_err_and}
 use Rattle.cs_change.specs.Spelling.{marks_of}
-use Rattle.cs_order.specs.Order.{keys_behind}
 use Rattle.cs_store.specs.cs_keyed.NormalForm.{change_bytes}
 use Rattle.cs_tasks.proofs.Groups.{all_keyed_of, all_of}
 use Rattle.cs_tasks.proofs.LentKeys.{places_lent, tables_lent}
@@ -12,12 +11,12 @@ returns-in-Some-clause-found c =
     let table = c.args.only.now.table in
     let group = c.args.only.now.group.now in
     let told = rw c.in-Some.is at c.in_ok-keys.ensures.keys in
-    let are : keys_behind c.in-Some.keys.items ≡ map (change_bytes (marks_of group.marks)) group.changes = rw (sym c.requires, c.as_slice-2.ensures) at told in
+    let are : c.in-Some.keys ≡ map (change_bytes (marks_of group.marks)) group.changes = rw (sym c.requires, c.as_slice-2.ensures) at told in
     let keyed = rw (sym c.requires, c.as_slice-2.ensures) at (rw c.in-Some.is at c.in_ok-keys.ensures.keyed) in (
       c.lend-changes.ensures ∙ c.as_slice.ensures ∙ sym (all_of table group group.changes),
       record {
-        tables = c.lent-places.ensures.tables ∙ tables_lent table group c.in-Some.keys.items group.changes are;
-        places = c.lent-places.ensures.places ∙ places_lent table group c.in-Some.keys.items group.changes are;
+        tables = c.lent-places.ensures.tables ∙ tables_lent table group c.in-Some.keys group.changes are;
+        places = c.lent-places.ensures.places ∙ places_lent table group c.in-Some.keys group.changes are;
         keyed = all_keyed_of table group group.changes ∙ keyed;
       },
     )

@@ -6,5 +6,5 @@ use Rattle.cs_edits.proofs.lent_edits.LentEdits.part.Goals as goal
 pub returns : goal.returns
 returns c =
     c.of_parts.ensures
-    ∙ edits_part c.self.inside.bytes.now c.self.inside.spots.now c.args.from c.args.to
+    ∙ edits_part c.self.inside.pieces.now c.self.inside.spots.now c.args.from c.args.to
     ∙ ap (λ edits. slice_range edits c.args.from c.args.to) c.self.view_is

@@ -5,6 +5,6 @@ use Rattle.cs_edits.proofs.place_edits.PlaceEdits.truncate.Goals as goal
 
 pub returns : goal.returns
 returns c =
-    ap (edits_in c.self.inside.bytes.items) c.truncate.ensures.items
-    ∙ sym (take-map (edit_in c.self.inside.bytes.items) c.args.len c.self.inside.spots.items)
+    ap (edits_in c.self.inside.pieces) c.truncate.ensures.items
+    ∙ sym (take-map (edit_in c.self.inside.pieces) c.args.len c.self.inside.spots.items)
     ∙ ap (take c.args.len) c.self.view_is

@@ -6,7 +6,7 @@ use Rattle.cs_tasks.proofs.task_places.TaskPlaces.table.Goals as goal
 
 pub returns-in-Lent : goal.returns-in-Lent
 returns-in-Lent c =
-    let are : map (λ key. c.in-Lent.table) c.in-Lent.keys.items ≡ c.args.self.now.0 =
+    let are : map (λ key. c.in-Lent.table) c.in-Lent.keys ≡ c.args.self.now.0 =
     ap (λ held. (places_held held).0) (sym c.in-Lent.is) ∙ ap (λ (p : List ℕ × Keys). p.0) c.self.view_is in
-    let within : c.args.at < length c.in-Lent.keys.items = omega (arith, c.if-at-len.true, c.len.ensures, c.in-Lent.keys.ok.0) in
-    same_table c.in-Lent.table c.in-Lent.keys.items c.args.at within ∙ ap (λ (tables : List ℕ). get_or tables c.args.at 0) are
+    let within : c.args.at < length c.in-Lent.keys = omega (arith, c.if-at-len.true, c.len.ensures) in
+    same_table c.in-Lent.table c.in-Lent.keys c.args.at within ∙ ap (λ (tables : List ℕ). get_or tables c.args.at 0) are
