@@ -95,6 +95,7 @@ pub fn merge_some(
     ensures merged { IfOk result (λ next. merged.new ++ fold edited (drop next.0 leaf.now) (drop next.1 edits.now)
         ≡ fold edited (drop from.0 leaf.now) (drop from.1 edits.now)) }
     ensures end { IfOk result (λ next. next.1 ≡ length edits.now → next.0 ≡ length leaf.now) }
+    ensures enough { IfOk result (λ next. next.1 < length edits.now → most ≤ length merged.new) }
 {
     merged.clear();
     let (mut row, mut at) = from;
