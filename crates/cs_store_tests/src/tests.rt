@@ -649,7 +649,7 @@ fn gives_edits_back(alloc: Global) -> Result<bool, AllocError> {
 }
 
 #[test]
-fn edits_in_one_list_of_bytes_stay_apart(rt: HostRuntime) {
+fn edits_in_one_piece_of_memory_stay_apart(rt: HostRuntime) {
     assert!(rt; gives_edits_back(rt.alloc()).unwrap_or(false));
 }
 
@@ -672,6 +672,79 @@ fn writes_edits_over(alloc: Global) -> Result<bool, AllocError> {
 #[test]
 fn edits_are_written_over_one_another(rt: HostRuntime) {
     assert!(rt; writes_edits_over(rt.alloc()).unwrap_or(false));
+}
+
+/// How many bytes the body of this number has. Several fill a piece of memory, and each fourth is longer than one.
+fn length_of(number: u8) -> usize {
+    if number % 4 == 3 { 0x18_0000 } else { 0x4_b000 }
+}
+
+/// A body that has this number as each of its bytes.
+fn body_of(alloc: Global, number: u8) -> Result<Vec<u8>, AllocError> {
+    vec![in alloc; number; length_of(number)]
+}
+
+fn put_long(alloc: Global, number: u8, made: &mut PlaceEdits) -> Result<(), AllocError> {
+    let body = body_of(alloc, number)?;
+    made.push(&PlaceEdit::new(0, &[number], Some(body.as_slice())))
+}
+
+fn put_all_long(alloc: Global, made: &mut PlaceEdits) -> Result<(), AllocError> {
+    for number in 0..12 {
+        put_long(alloc, number, made)?;
+    }
+    Ok(())
+}
+
+/// Puts the edit of the number 12 in place of the second one.
+fn set_long(alloc: Global, made: &mut PlaceEdits) -> Result<(), AllocError> {
+    let body = body_of(alloc, 12)?;
+    if made.len() > 1 {
+        made.set(1, &PlaceEdit::new(0, &[12], Some(body.as_slice())))?;
+    }
+    Ok(())
+}
+
+fn is_long(edit: &PlaceEdit<'_>, number: u8) -> bool {
+    let Some(body) = edit.body() else {
+        return false;
+    };
+    edit.key() == [number].as_slice()
+        && body.len() == length_of(number)
+        && body.first() == Some(&number)
+        && body.last() == Some(&number)
+}
+
+/// Whether these are the edits of these numbers.
+fn are_long(lent: &LentEdits<'_>, numbers: &[u8]) -> bool {
+    if lent.len() != numbers.len() {
+        return false;
+    }
+    for at in 0..numbers.len() {
+        if !is_long(&lent.get(at), numbers[at]) {
+            return false;
+        }
+    }
+    true
+}
+
+/// Whether long edits come back as they were put, where one is written over another, one stands also at an earlier place, and the
+/// last is taken out.
+fn gives_long_edits_back(alloc: Global) -> Result<bool, AllocError> {
+    let mut made = PlaceEdits::with_capacity(alloc, 2, 0x30_0000)?;
+    put_all_long(alloc, &mut made)?;
+    set_long(alloc, &mut made)?;
+    if made.len() != 12 {
+        return Ok(false);
+    }
+    made.copy_to(11, 0);
+    made.truncate(11);
+    Ok(are_long(&made.lend(), &[11, 12, 2, 3, 4, 5, 6, 7, 8, 9, 10]))
+}
+
+#[test]
+fn edits_in_several_pieces_of_memory_stay_apart(rt: HostRuntime) {
+    assert!(rt; gives_long_edits_back(rt.alloc()).unwrap_or(false));
 }
 
 /// Rows are so many of its first bytes.
