@@ -1,5 +1,5 @@
 -- Pieces of bytes that have grown.
-use Rattle.std.proofs.Common.{◌≡◌, ℕ, zero, suc, ◌+◌, ◌≤◌, ◌<◌, List, [], ◌∷◌, ◌++◌, length, map, refl, sym, ap, ◌∙◌, arith, length-append, append-nil, append_assoc}
+use Rattle.std.proofs.Common.{◌≡◌, ℕ, zero, suc, ◌<◌, List, [], ◌∷◌, ◌++◌, length, refl, sym, ap, ◌∙◌, arith, length-append, append-nil, append_assoc}
 use Rattle.std.specs.Prelude.{slice_index_or}
 use Rattle.std.specs.Global.{Vec}
 use Rattle.cs_edits.specs.Pieces.{HaveGrown, pieces_of}

@@ -1,5 +1,5 @@
 -- Edits in pieces of memory: their bytes, and where each stands.
-use Rattle.std.specs.Prelude.{◌≡◌, ◌<◌, ◌≤◌, ◌+◌, ◌-◌, ◌==◌, ℕ, List, [], length, map, slice_index_or, slice_range, Bool, Option, Some, None, MatchBool, if◌then◌else◌}
+use Rattle.std.specs.Prelude.{◌<◌, ◌≤◌, ◌+◌, ◌-◌, ◌==◌, ℕ, List, [], length, map, slice_index_or, slice_range, Bool, Option, Some, None, MatchBool, if◌then◌else◌}
 use Rattle.cs_edits.specs.Edits.{BodyEdit}
 use Rattle.cs_edits.specs.declared.lent_edits.EditSpot.{EditSpot}
 

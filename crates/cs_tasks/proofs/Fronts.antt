@@ -1,5 +1,5 @@
 -- Keys that all have one front are grouped as they are without it.
-use Rattle.std.proofs.Common.{Bor, ◌≡◌, ◌<◌, ◌+◌, ◌++◌, ℕ, zero, suc, Bool, List, [], ◌∷◌, length, get_or, map, refl, sym, ap, subst, ◌∙◌, arith}
+use Rattle.std.proofs.Common.{◌≡◌, ◌<◌, ◌+◌, ◌++◌, ℕ, zero, suc, Bool, List, [], ◌∷◌, length, get_or, map, refl, sym, ap, subst, ◌∙◌, arith}
 use Rattle.std.specs.Prelude.{Result, Ok, Err, IfOk}
 use Rattle.std.specs.List.{AllByRecursion, Contains, filter, range_with_len}
 use Rattle.std.specs.List.Sorted.{IsStrictlySortedBy}
@@ -11,7 +11,7 @@ use Rattle.std.proofs.lemmas.List.{get_or-map, length-map}
 use Rattle.std.proofs.lemmas.List.Elements.{Contains-get_or}
 use Rattle.std.proofs.lemmas.Map.Keys.{sorted_head, sorted_tail}
 use Rattle.cs_order.specs.Groups.{IsGrouping, has_bytes, places_of}
-use Rattle.cs_order.specs.Order.{Keys, by_bytes, key_at, keys_behind}
+use Rattle.cs_order.specs.Order.{Keys, by_bytes, key_at}
 
 cmp_behind : (front some other : List ℕ) → by_bytes (front ++ some) (front ++ other) ≡ by_bytes some other
 cmp_behind [] some other = refl

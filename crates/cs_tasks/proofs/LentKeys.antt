@@ -1,5 +1,5 @@
 -- What is found of changes whose keys are lent by them.
-use Rattle.std.proofs.Common.{◌≡◌, ◌⊎◌, inl, inr, ◌<◌, Bor, ℕ, zero, suc, Bool, true, false, ◌&&◌, List, [], ◌∷◌, drop, get_or, length, map, refl, sym, ap, ◌∙◌, arith}
+use Rattle.std.proofs.Common.{◌≡◌, ◌⊎◌, inl, inr, ◌<◌, ℕ, zero, suc, Bool, true, false, ◌&&◌, List, [], ◌∷◌, get_or, length, map, refl, sym, ap, ◌∙◌, arith}
 use Rattle.std.specs.List.{list_all}
 use Rattle.cs_value.specs.Catalog.{is_set, marked}
 use Rattle.cs_value.specs.declared.value.Value.{Value}
