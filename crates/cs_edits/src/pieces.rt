@@ -8,8 +8,8 @@ use std::marker::Model;
 use std::mem;
 
 /// How many bytes a piece has at most, but for one that begins with longer ones: 1 MiB. One list of all bytes would be longer than any
-/// that the C library (glibc) keeps for the next call, where edits are many, and have fresh pages each time; and what it has to spare
-/// couldn't be known before.
+/// that the C library (glibc) keeps for the next call, where edits are many, and have fresh pages each time; and how long it has to
+/// be isn't known before.
 const PIECE: usize = 0x10_0000;
 
 /// As many full pieces have numbers of 32 bits. The last piece of so many grows on.
@@ -58,7 +58,7 @@ fn append(bytes: &mut Vec<u8>, front: &[u8], back: &[u8]) -> Result<usize, Alloc
     Ok(middle)
 }
 
-/// Begins a piece with room for so many bytes behind the others, where fewer are full than have numbers. An `Err` changes nothing.
+/// Begins a piece with room for so many bytes behind the others. An `Err` changes nothing.
 #[inline(never)]
 fn begin(full: &mut Vec<Vec<u8>>, last: &mut Vec<u8>, room: usize) -> Result<(), AllocError>
     ensures ok { OnOk result (pieces_of full.new.items last.new.items ≡ pieces_of full.old.items last.old.items ++ [] ∷ []) }
