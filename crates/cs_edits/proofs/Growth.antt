@@ -1,24 +1,8 @@
 -- Pieces of bytes that have grown.
-use Rattle.std.proofs.Common.{◌≡◌, ℕ, zero, suc, ◌<◌, List, [], ◌∷◌, ◌++◌, length, refl, sym, ap, ◌∙◌, arith, length-append, append-nil, append_assoc}
+use Rattle.std.proofs.Common.{◌≡◌, ℕ, zero, suc, ◌<◌, List, [], ◌∷◌, ◌++◌, length, refl, sym, ap, ◌∙◌, arith, append-nil, append_assoc}
 use Rattle.std.specs.Prelude.{slice_index_or}
 use Rattle.std.specs.Global.{Vec}
 use Rattle.cs_edits.specs.Pieces.{HaveGrown, pieces_of}
-
--- pieces that stay
-pub grown_same : (pieces : List (List ℕ)) → HaveGrown pieces pieces
-grown_same pieces = (omega arith, λ at less. ([], sym (append-nil (slice_index_or pieces at []))))
-
-index_front : (old more : List (List ℕ)) (at : ℕ) → at < length old → slice_index_or (old ++ more) at [] ≡ slice_index_or old at []
-index_front (piece ∷ old) more zero less = refl
-index_front (piece ∷ old) more (suc at) less = index_front old more at (omega (arith, less))
-index_front [] more at less = absurd (omega (arith, less))
-
--- pieces more
-pub grown_behind : (old more : List (List ℕ)) → HaveGrown old (old ++ more)
-grown_behind old more = (
-  omega (arith, length-append old more),
-  λ at less. ([], index_front old more at less ∙ sym (append-nil (slice_index_or old at []))),
-)
 
 -- bytes more in the last piece
 last_longer : (full : List (Vec ℕ)) (last more : List ℕ) (at : ℕ) → at < length (pieces_of full last)

@@ -1,6 +1,6 @@
 //! Edits that are lent.
 
-ghost use Rattle.std.specs.Prelude.{◌≡◌, ◌<◌, List, length, slice_get, Some};
+ghost use Rattle.std.specs.Prelude.{◌≡◌};
 ghost use Rattle.std.specs.List.{All};
 ghost use Rattle.cs_edits.specs.Spots.{IsEditSpotIn, edit_in, edits_in};
 
@@ -27,7 +27,7 @@ pub struct LentEdits<'a> {
 }
 
 impl<'a> Model for LentEdits<'a> {
-    ghost use Rattle.std.specs.Prelude.{List, length};
+    ghost use Rattle.std.specs.Prelude.{List};
     ghost use Rattle.std.specs.List.{All};
     ghost use Rattle.cs_edits.specs.Edits.{BodyEdit};
     ghost use Rattle.cs_edits.specs.Spots.{IsEditSpotIn, edits_in};

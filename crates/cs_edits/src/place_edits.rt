@@ -1,6 +1,6 @@
 //! Edits in pieces of memory.
 
-ghost use Rattle.std.specs.Prelude.{◌≡◌, ◌<◌, ◌++◌, ◌∷◌, ℕ, List, [], length, is_some, slice_set, IfOk, OnOk, OnErr};
+ghost use Rattle.std.specs.Prelude.{◌≡◌, ◌<◌, ◌++◌, ◌∷◌, [], length, slice_set, IfOk, OnOk, OnErr};
 ghost use Rattle.std.specs.List.{All};
 ghost use Rattle.cs_edits.specs.Pieces.{HaveGrown};
 ghost use Rattle.cs_edits.specs.Spots.{IsEditSpotIn, edit_in, edits_in, set_bytes};
@@ -19,7 +19,7 @@ pub struct PlaceEdits {
 }
 
 impl Model for PlaceEdits {
-    ghost use Rattle.std.specs.Prelude.{List, length};
+    ghost use Rattle.std.specs.Prelude.{List};
     ghost use Rattle.std.specs.List.{All};
     ghost use Rattle.cs_edits.specs.Edits.{BodyEdit};
     ghost use Rattle.cs_edits.specs.Spots.{IsEditSpotIn, edits_in};

@@ -10,8 +10,7 @@ use Rattle.cs_change.specs.declared.change.Change.{Change}
 use Rattle.cs_change.specs.declared.group.Group.{Group}
 use Rattle.cs_order.specs.Order.{Keys}
 use Rattle.cs_store.specs.States.{place_bytes}
-use Rattle.cs_store.specs.cs_keyed.NormalForm.{HaveSameKeys, change_bytes, marked_fields}
-use Rattle.cs_tasks.specs.Facts.{same_key}
+use Rattle.cs_store.specs.cs_keyed.NormalForm.{change_bytes, marked_fields}
 use Rattle.cs_tasks.specs.Tasks.{task}
 
 no_marks : (fields : List Field) → marked_fields [] fields ≡ []
@@ -71,13 +70,6 @@ module _ (table : ℕ) (group : Group) where
   pub places_lent : (keys : Keys) (changes : List Change) → keys ≡ map (change_bytes marks) changes
       → map (place_bytes table) keys ≡ map (λ t. place_bytes t.table t.key) (map (task table group) changes)
   places_lent keys changes are = ap (map (place_bytes table)) are ∙ all_places changes
-
--- the keys by the marks up to the last key column are those by all marks
-pub same_keys : (front marks : List Bool) (changes : List Change) → HaveSameKeys front marks → map (change_bytes front) changes ≡ map (change_bytes marks) changes
-same_keys front marks [] same = refl
-same_keys front marks (c ∷ changes) same =
-    ap (λ (key : List ℕ). key ∷ map (change_bytes front) changes) (same_key front marks c same).0
-    ∙ ap (λ (more : Keys). change_bytes marks c ∷ more) (same_keys front marks changes same)
 
 -- the table there
 pub same_table : {X : Type 0} (table : ℕ) (keys : List X) (at : ℕ) → at < length keys → table ≡ get_or (map (λ key. table) keys) at 0
