@@ -1,5 +1,5 @@
 -- Changesets in range are taken together, or have a fault.
-use Rattle.std.proofs.Common.{◌≡◌, ℕ, Bool, true, false, List, [], ◌∷◌, ◌++◌, map, fold, refl, sym, ap, ◌∙◌, subst, inl, inr, Option, Some, None}
+use Rattle.std.proofs.Common.{◌≡◌, ℕ, Bool, true, List, [], ◌∷◌, ◌++◌, map, fold, refl, sym, ap, ◌∙◌, inl, inr, Option, None}
 use Rattle.std.specs.Prelude.{◌≢◌, ◌⊎◌, IsUtf8}
 use Rattle.std.specs.Ordering.{is_eq, ordering_reverse}
 use Rattle.std.specs.declared.cmp.Ordering.{Ordering}
@@ -17,7 +17,7 @@ use Rattle.cs_change.specs.declared.change.Change.{Change}
 use Rattle.cs_change.specs.declared.group.Group.{Group}
 use Rattle.cs_order.specs.Order.{Keys, by_bytes, same_bytes}
 use Rattle.cs_order.specs.Facts.{same_is, Above, above_more, cons_sorted}
-use Rattle.cs_keyed.specs.Changes.{Changes, change_at, IsOrdered}
+use Rattle.cs_keyed.specs.Changes.{Changes, change_at}
 use Rattle.cs_normal.specs.Headers.{header, headers, has_other_name, tables_of_headers, CatalogOrHeaderFault}
 use Rattle.cs_normalising.specs.Laws.{FormOrUnfit}
 use Rattle.cs_keyed.specs.NormalForm.{keyed, AreKeyed}

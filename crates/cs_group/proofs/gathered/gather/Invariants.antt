@@ -3,5 +3,5 @@ use Rattle.cs_group.specs.Steps.Gathering.{IsGathered}
 use Rattle.cs_group.specs.Steps.Numbering.{numbered_behind}
 use Rattle.cs_group.proofs.gathered.gather.Given as goal
 
-abbrev pub invariant-loop-number : goal.invariant-loop-number
-invariant-loop-number l = IsGathered l.marks (numbered_behind (take l.number-index l.groups)) l.gathered
+abbrev pub invariant-loop-group : goal.invariant-loop-group
+invariant-loop-group l = IsGathered l.marks (numbered_behind (take l.group-index l.groups)) l.gathered
