@@ -1,9 +1,12 @@
-/* Times the taking together of changesets, and the taking back of one: the proved library and SQLite's changegroup and
- * invert, in one run over the very same bytes.
+/* Takes changesets together, or one back, by the proved library or by SQLite's changegroup and invert, over the very same
+ * bytes, for bench/combine.sh.
  *
- * combine ROUNDS SMALL LARGE ONE   times consolidation over the files SMALL and LARGE of changesets one after another,
- *                                  each with its FILE.lengths, and the inverse of the changeset ONE (best of ROUNDS); fails
- *                                  where SQLite's bytes, brought into normal form, are others */
+ * combine check WORK FILE               fails unless what SQLite makes of FILE, brought into normal form, is what the library
+ *                                       makes of it; prints how many changes FILE has
+ * combine time WHO WORK ROUNDS FILE     prints the nanoseconds of the first call, and of a call in the fastest round
+ *
+ * WORK is `together` or `back`, WHO `ours` or `sqlite`. For `together` FILE holds changesets one after another, and
+ * FILE.lengths how long each is, one a line; for `back` it is one changeset. */
 #include "combining.h"
 
 static size_t sqlite_combine(struct file *file) {
@@ -18,13 +21,26 @@ static size_t sqlite_invert(struct file *file) {
     return (size_t)bytes.length;
 }
 
-/* A file of changesets one after another, and how long each is, which stands in FILE.lengths, one a line. */
+static const struct work {
+    const char *name;
+    size_t (*ours)(struct file *);
+    size_t (*sqlite)(struct file *);
+    struct bytes (*sqlite_bytes)(const struct file *);
+} works[] = {{"together", ours_combine, sqlite_combine, sqlite_combined}, {"back", ours_invert, sqlite_invert, sqlite_inverted}};
+
+static const struct work *work_of(const char *name) {
+    for (size_t at = 0; at < sizeof works / sizeof *works; at++)
+        if (strcmp(works[at].name, name) == 0) return &works[at];
+    fail(name, "is no work");
+}
+
+/* The changesets of a file, with their lengths where these stand beside it. */
 static struct file read_changesets(const char *path) {
     struct file file = read_file(path);
     char lengths_path[4096];
     snprintf(lengths_path, sizeof lengths_path, "%s.lengths", path);
     FILE *stream = fopen(lengths_path, "r");
-    if (!stream) fail(lengths_path, "can't be read");
+    if (!stream) return file;
     size_t length, sum = 0;
     while (fscanf(stream, "%zu", &length) == 1) {
         add_length(&file, length);
@@ -35,55 +51,40 @@ static struct file read_changesets(const char *path) {
     return file;
 }
 
-/* What a byte costs each, in nanoseconds. */
-struct costs {
-    double ours;
-    double sqlite;
-};
-
-/* Times this library and SQLite, and prints both and their ratio. */
-static struct costs time_pair(struct contender pair[2], struct file *file, int rounds) {
-    size_t changes = sqlite_decode(file);
-    time_contenders(pair, 2, file, rounds, (int)(200000 / (changes + 1)) + 1);
-    print_contenders(pair, 2, file, changes);
-    printf("  ratio to SQLite %.2f\n", pair[0].best / pair[1].best);
-    return (struct costs){pair[0].best / (double)file->length, pair[1].best / (double)file->length};
-}
-
-static struct costs time_combine(const char *path, int rounds) {
+static void check(const struct work *work, const char *path) {
     struct file file = read_changesets(path);
-    struct file theirs = file_of(sqlite_combined(&file));
-    check_agrees(path, file.output, ours_combine(&file), &theirs);
-    printf("%zu changesets, %zu changes in all, %zu bytes, taken together %zu changes\n", file.parts, sqlite_decode(&file),
-           file.length, sqlite_decode(&theirs));
-    struct contender pair[] = {{"consolidation, this library", ours_combine, 1e18},
-                               {"consolidation, SQLite", sqlite_combine, 1e18}};
-    struct costs costs = time_pair(pair, &file, rounds);
+    struct file theirs = file_of(work->sqlite_bytes(&file));
+    check_agrees(path, file.output, work->ours(&file), &theirs);
+    printf("%zu\n", sqlite_decode(&file));
     free_file(&theirs);
     free_file(&file);
-    return costs;
 }
 
-static void time_invert(const char *path, int rounds) {
-    struct file file = read_file(path);
-    struct file theirs = file_of(sqlite_inverted(&file));
-    check_agrees(path, file.output, ours_invert(&file), &theirs);
-    printf("one changeset, %zu changes, %zu bytes\n", sqlite_decode(&file), file.length);
-    struct contender pair[] = {{"inverse, this library", ours_invert, 1e18}, {"inverse, SQLite", sqlite_invert, 1e18}};
-    time_pair(pair, &file, rounds);
-    free_file(&theirs);
+/* Nothing but the calls that are timed takes or gives back memory here, and the bytes that they read and write. */
+static void time_calls(size_t (*call)(struct file *), int rounds, const char *path) {
+    struct file file = read_changesets(path);
+    double start = now();
+    call(&file);
+    double first = now() - start, best = first;
+    int calls = (int)(16000000 / file.length) + 1;
+    for (int round = 0; round < rounds; round++) {
+        start = now();
+        for (int count = 0; count < calls; count++) call(&file);
+        double spent = (now() - start) / calls;
+        if (spent < best) best = spent;
+    }
+    printf("%.0f %.0f\n", first, best);
     free_file(&file);
 }
 
 int main(int count, char **words) {
-    if (count != 5) {
-        fprintf(stderr, "usage: combine ROUNDS SMALL LARGE ONE\n");
-        return 2;
+    if (count == 4 && strcmp(words[1], "check") == 0) {
+        check(work_of(words[2]), words[3]);
+    } else if (count == 6 && strcmp(words[1], "time") == 0) {
+        const struct work *work = work_of(words[3]);
+        time_calls(strcmp(words[2], "ours") == 0 ? work->ours : work->sqlite, atoi(words[4]), words[5]);
+    } else {
+        fail("combine", "check WORK FILE, or time WHO WORK ROUNDS FILE");
     }
-    int rounds = atoi(words[1]);
-    struct costs small = time_combine(words[2], rounds), large = time_combine(words[3], rounds);
-    printf("from the small to the large, the cost of a byte grows %.2f times in this library, %.2f times in SQLite\n",
-           large.ours / small.ours, large.sqlite / small.sqlite);
-    time_invert(words[4], rounds);
     return 0;
 }

@@ -1,19 +1,48 @@
 #!/bin/sh
 # Times the proved library and SQLite's changegroup taking the same changesets together, 100 of 100 changes and 1,000 of
-# 1,000, and both taking one changeset back, in one run, and fails where they differ. Usage: bench/combine.sh [ROUNDS]
+# 1,000, and both taking one changeset back, in one run, and fails where they differ. Each takes its turn in a process of its own,
+# since what a call costs goes with the memory that was given back before it: the ratios are those of a call that follows others, and of
+# the first call of a process, which pays for fresh pages. Usage: bench/combine.sh [TURNS]
 # The library is built where the environment's `library` names none.
 set -eu
 bench="$(cd "$(dirname "$0")" && pwd)"
 . "$bench/common.sh"
-rounds="${1:-5}"
+turns="${1:-5}"
 
 need_sqlite || { echo "SQLite's library with its session extension can't be had here" >&2; exit 1; }
 build_library
 build_capture
 build_program combine
 print_machine_and_sqlite
+echo "nanoseconds a change, the least of $turns turns: the library / SQLite = ratio (ratios of the middle half of the turns)"
+
+theirs() { "$out/combine" time sqlite "$work" "$rounds" "$file"; }
+ours() { "$out/combine" time ours "$work" "$rounds" "$file"; }
+
+# Times a work over a file, by so many rounds a turn, and says in words what it is. What a byte costs each goes into the file's costs.
+time_case() {
+    words="$1"
+    work="$2"
+    rounds="$3"
+    file="$4"
+    changes="$("$out/combine" check "$work" "$file")"
+    take_turns "$turns" "$out/combine_turns"
+    later="$(turn_ratios "$out/combine_turns" 2 4)"
+    first="$(turn_ratios "$out/combine_turns" 1 3)"
+    awk -v words="$words" -v changes="$changes" -v bytes="$(wc -c < "$file")" -v later="$later" -v first="$first" -v costs="$file.costs" '
+        function ratio(ours, theirs, middle) { return sprintf("%.0f / %.0f = %.2f (%s)", ours / changes, theirs / changes, ours / theirs, middle) }
+        { for (column = 1; column <= 4; column++) if (NR == 1 || $column < least[column]) least[column] = $column }
+        END {
+            printf "%s, %d changes, %d bytes: %s; first calls %s\n", words, changes, bytes, ratio(least[4], least[2], later), ratio(least[3], least[1], first)
+            print least[4] / bytes, least[2] / bytes > costs
+        }' "$out/combine_turns"
+}
 
 "$out/sqlite_capture" overlapping 100 100 "$out/small"
 "$out/sqlite_capture" overlapping 1000 1000 "$out/large"
 "$out/sqlite_capture" changes 10000 "$out/10000.changeset"
-"$out/combine" "$rounds" "$out/small" "$out/large" "$out/10000.changeset"
+time_case "100 changesets taken together" together 20 "$out/small"
+time_case "1,000 changesets taken together" together 3 "$out/large"
+paste "$out/small.costs" "$out/large.costs" | awk '{
+    printf "from the small to the large, the cost of a byte grows %.2f times in this library, %.2f times in SQLite\n", $3 / $1, $4 / $2 }'
+time_case "one changeset taken back" back 20 "$out/10000.changeset"
