@@ -1,6 +1,6 @@
 //! Changes that stay where they stand.
 
-ghost use Rattle.std.specs.Prelude.{◌≡◌, ◌++◌, ◌∷◌, [], IfOk, List, OnOk, map, slice_get};
+ghost use Rattle.std.specs.Prelude.{◌≡◌, ◌++◌, ◌∷◌, [], IfOk, IsTrue, List, MatchOption, OnOk, map, slice_get};
 ghost use Rattle.std.specs.List.{flat_map};
 ghost use Rattle.cs_change.specs.declared.change.Change.{Change as One};
 ghost use Rattle.cs_group.specs.Steps.Gathering.{AreLent, lent_changes, lent_numbers};
@@ -8,7 +8,7 @@ ghost use Rattle.cs_group.specs.Steps.Numbering.{changes_in_group, numbered_behi
 
 use cs_change::{Change, Group};
 use cs_value::Memory;
-use std::alloc::{AllocError, Global};
+use std::alloc::Global;
 use std::marker::Model;
 
 /// What lends changes by their places.
@@ -125,17 +125,6 @@ impl<'a> Lends for LentChanges<'a> {
     }
 }
 
-/// The place of a part, by how many stand before it. So many that it has no 32 bits take more memory than there is.
-#[inline(always)]
-fn place_of_part(parts: usize) -> Result<u32, Memory>
-    ensures { IfOk result (λ place. place ≡ parts) }
-{
-    match u32::try_from(parts) {
-        Ok(place) => Ok(place),
-        Err(_) => Err(AllocError),
-    }
-}
-
 /// Puts the place of a part behind the others, once for each of its changes.
 fn put_part(part: u32, changes: &[Change<'_>], of: &mut Vec<u32>) -> Result<(), Memory>
     ensures { OnOk result (of.new.items ≡ of.old.items ++ map (λ _. part) changes.now) }
@@ -146,18 +135,20 @@ fn put_part(part: u32, changes: &[Change<'_>], of: &mut Vec<u32>) -> Result<(), 
     Ok(())
 }
 
-/// Lends the changes of one more group, whose changeset has this number.
+/// Lends the changes of one more group, whose changeset has this number. `false` where there are so many that its place has no 32 bits.
 fn lend_group<'a>(
     number: usize,
     group: &'a Group<'a>,
     parts: &mut Vec<Part<'a>>,
     of: &mut Vec<u32>,
-) -> Result<(), Memory>
-    ensures { OnOk result ((groups : List NumberedGroup) → AreLent groups parts.old.items of.old.items
+) -> Result<bool, Memory>
+    ensures { IfOk result (λ done. IsTrue done → (groups : List NumberedGroup) → AreLent groups parts.old.items of.old.items
         → AreLent (groups ++ (number, group.now) ∷ []) parts.new.items of.new.items) }
 {
     let changes = group.changes.as_slice();
-    let place = place_of_part(parts.len())?;
+    let Ok(place) = u32::try_from(parts.len()) else {
+        return Ok(false);
+    };
     let first = of.len();
     put_part(place, changes, of)?;
     parts.push(Part {
@@ -165,22 +156,26 @@ fn lend_group<'a>(
         first,
         changes,
     })?;
-    Ok(())
+    Ok(true)
 }
 
-/// Lends the changes of these groups, each behind the number of its changeset, so many in all.
+/// Lends the changes of these groups, each behind the number of its changeset, so many in all. `None` where there are so many groups
+/// that their places have no 32 bits.
 pub(crate) fn lend_changes<'a>(
     alloc: Global,
     groups: &[(usize, &'a Group<'a>)],
     count: usize,
-) -> Result<LentChanges<'a>, Memory>
-    ensures changes { IfOk result (λ lent. lent_changes lent ≡ flat_map changes_in_group (numbered_behind groups.now)) }
-    ensures numbers { IfOk result (λ lent. lent_numbers lent ≡ flat_map numbers_in_group (numbered_behind groups.now)) }
+) -> Result<Option<LentChanges<'a>>, Memory>
+    ensures { IfOk result (λ found. MatchOption found (Unit {0}) (λ lent.
+        (lent_changes lent ≡ flat_map changes_in_group (numbered_behind groups.now))
+        × (lent_numbers lent ≡ flat_map numbers_in_group (numbered_behind groups.now)))) }
 {
     let mut parts = Vec::with_capacity(alloc, groups.len())?;
     let mut of = Vec::with_capacity(alloc, count)?;
     for (number, group) in groups {
-        lend_group(*number, group, &mut parts, &mut of)?;
+        if !lend_group(*number, group, &mut parts, &mut of)? {
+            return Ok(None);
+        }
     }
-    Ok(LentChanges { parts, of })
+    Ok(Some(LentChanges { parts, of }))
 }
