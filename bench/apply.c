@@ -5,7 +5,8 @@
  *                                           file EXPECTED, in the text that the library's program prints
  * apply time ROUNDS COUNT CONFLICTS CASE    so many changes onto as many rows, of which every CONFLICTS-th conflicts (0: none),
  *                                           answered OMIT and REPLACE in turn; writes the case to the file CASE, and prints the
- *                                           nanoseconds of SQLite's fastest round and the conflicts */
+ *                                           nanoseconds of SQLite's first round and of its fastest, and the conflicts. The databases
+ *                                           of all rounds are there before the first and stay to the end */
 #include "drawn.h"
 
 /* What is written down of the conflicts of a case. */
@@ -198,29 +199,32 @@ static void time_applying(long rounds, long count, long every, const char *path)
     void *bytes = end_session(theirs, session, &length);
     sqlite3_close(theirs);
 
-    double best = 1e18;
-    unsigned asked = 0;
+    sqlite3 **mine = malloc((size_t)rounds * sizeof *mine);
+    if (!mine) fail("apply", "no memory");
+    for (long round = 0; round < rounds; round++) mine[round] = open_disturbed(count, every);
     struct buffer file = {0};
+    put_declared_part(&file, 1);
+    put_rows_part(&file, mine[0], 1);
+
+    double first = 0, best = 1e18;
+    unsigned asked = 0;
     for (long round = 0; round < rounds; round++) {
-        sqlite3 *mine = open_disturbed(count, every);
-        if (round == 0) {
-            put_declared_part(&file, 1);
-            put_rows_part(&file, mine, 1);
-        }
         asked = 0;
         double start = now();
-        int result = sqlite3changeset_apply_v2(mine, (int)length, bytes, NULL, answer_in_turn, &asked, NULL, NULL, 0);
+        int result = sqlite3changeset_apply_v2(mine[round], (int)length, bytes, NULL, answer_in_turn, &asked, NULL, NULL, 0);
         double taken = now() - start;
-        if (result != SQLITE_OK) fail("apply", sqlite3_errmsg(mine));
+        if (result != SQLITE_OK) fail("apply", sqlite3_errmsg(mine[round]));
+        if (round == 0) first = taken;
         if (taken < best) best = taken;
-        sqlite3_close(mine);
     }
+    for (long round = 0; round < rounds; round++) sqlite3_close(mine[round]);
+    free(mine);
     struct buffer answers = {0};
     for (unsigned i = 0; i < asked; i++) put_byte(&answers, i % 2 ? '1' : '0');
     put_part(&file, bytes, length);
     put_part(&file, answers.bytes, answers.length);
     write_file(path, &file);
-    printf("%.0f %u\n", best, asked);
+    printf("%.0f %.0f %u\n", first, best, asked);
     sqlite3_free(bytes);
 }
 

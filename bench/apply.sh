@@ -1,11 +1,12 @@
 #!/bin/sh
 # Applies changesets by the library and by SQLite's sqlite3changeset_apply_v2, onto the same rows, with the same answers.
-# Usage: bench/apply.sh [TURNS [kept]]
+# Usage: bench/apply.sh [TURNS]
 # Over many drawn cases (tables with one and several key columns, texts, blobs, NULLs; a table that isn't there; a key that
 # comes twice) it fails unless both meet the same conflicts in the same order, with the same rows behind them, end alike, and
-# leave the same rows. With TURNS it also times both, by so many turns, and prints the ratios. Each round has a store of its own, and drops
-# it, so that the C library (glibc) gives most of its pages back; with `kept` it gives none back, on either side, as in a program that keeps
-# its store. Where SQLite's library can't be had, it says so and ends well.
+# leave the same rows. With TURNS it also times both, by so many turns of a process each, and prints the ratios: of a call that
+# follows others, and of the first call of a process, which pays for fresh pages of memory. Each call has rows of its own, which
+# are there before the first and stay to the end, as in a program that keeps its store. SQLite reads the changeset while it
+# applies it; ours reads it before, which is printed beside. Where SQLite's library can't be had, it says so and ends well.
 set -eu
 bench="$(cd "$(dirname "$0")" && pwd)"
 turns="${1:-}"
@@ -30,10 +31,6 @@ echo "all applied alike by the library and by SQLite"
 
 [ -n "$turns" ] || exit 0
 print_machine_and_sqlite
-if [ "${2:-}" = kept ]; then
-    export GLIBC_TUNABLES=glibc.malloc.trim_threshold=4294967296:glibc.malloc.mmap_threshold=4294967296
-    echo "no memory is given back to the system"
-fi
 echo "nanoseconds a change, the least of $turns turns: the library / SQLite = ratio (ratios of the middle half of the turns)"
 
 theirs() { "$out/sqlite_apply" time "$rounds" "$count" "$every" "$out/apply_case"; }
@@ -41,17 +38,18 @@ ours() { "$runner" apply "$rounds" < "$out/apply_case"; }
 
 for every in 0 10; do
     for count in 1000 10000 100000 1000000; do
-        rounds=$((count < 100000 ? 200000 / count : 2))
+        rounds=$((count < 100000 ? 200000 / count : 3))
         take_turns "$turns" "$out/apply_turns"
-        ratios="$(turn_ratios "$out/apply_turns" 1 3)"
-        awk -v count="$count" -v ratios="$ratios" '
-            $4 != $2 { print "WRONG: " $4 " conflicts, not " $2; exit 1 }
-            NR == 1 || $1 < theirs { theirs = $1 }
-            NR == 1 || $3 < ours { ours = $3 }
-            { asked = $2 }
+        later="$(turn_ratios "$out/apply_turns" 2 6)"
+        first="$(turn_ratios "$out/apply_turns" 1 5)"
+        awk -v count="$count" -v later="$later" -v first="$first" '
+            function ratio(ours, theirs, middle) { return sprintf("%.0f / %.0f = %.2f (%s)", ours / count, theirs / count, ours / theirs, middle) }
+            $7 != $3 { print "WRONG: " $7 " conflicts, not " $3; exit 1 }
+            { for (column = 1; column <= 6; column++) if (NR == 1 || $column < least[column]) least[column] = $column }
+            { asked = $3 }
             END {
-                printf "%d changes onto as many rows, %d conflicts: %.0f / %.0f = %.2f (%s)\n", count, asked, ours / count, theirs / count,
-                    ours / theirs, ratios
+                printf "%d changes onto as many rows, %d conflicts: %s; first calls %s; reading before %.0f\n", count, asked,
+                    ratio(least[6], least[2], later), ratio(least[5], least[1], first), least[4] / count
             }' "$out/apply_turns"
     done
 done

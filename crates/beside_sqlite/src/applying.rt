@@ -3,7 +3,8 @@
 //! Standard input holds parts, each behind its length in eight bytes, four parts a case: headers of all tables, the rows as a
 //! changeset of INSERTs, the changeset, and the answers to its conflicts in order, a digit each, where OMIT is 0, REPLACE 1 and
 //! ABORT 2; behind the last one it answers OMIT. A case that is checked has a line for each conflict, one of how applying ended,
-//! and one for each row behind it; one that is timed has the nanoseconds of the fastest round, and the conflicts and edits.
+//! and one for each row behind it. One that is timed has the nanoseconds of reading the changeset, least of all rounds, those of
+//! applying it in the first round, and the least of all, and the conflicts and edits.
 
 use crate::drawn::{
     Wrong, answer_at, catalog_in, changeset_of, commit_edits, put_conflict, put_hex, put_number,
@@ -139,18 +140,45 @@ fn tell(alloc: Global, case: &Case<'_>, out: &mut Vec<u8>) -> Result<(), Wrong> 
     Ok(())
 }
 
-/// The nanoseconds of one round, and how many conflicts and edits there were.
-fn timed<R: Clock>(rt: &R, alloc: Global, case: &Case<'_>) -> Result<(u128, u64, u64), Wrong> {
-    let mut store = store_of(alloc, &case.catalog, &case.rows)?;
+/// What a round took, in nanoseconds, and what came of it.
+#[derive(Clone, Copy)]
+struct Round {
+    /// Reading the changeset.
+    reading: u128,
+    /// Applying it, and making the edits.
+    applying: u128,
+    conflicts: u64,
+    edits: u64,
+}
+
+/// The nanoseconds since then.
+fn nanoseconds_since<R: Clock>(rt: &R, start: Instant) -> Result<u128, Wrong> {
+    match start.elapsed(rt) {
+        Ok(taken) => Ok(taken.as_nanos()),
+        Err(_) => Err(Wrong::Case),
+    }
+}
+
+fn now<R: Clock>(rt: &R) -> Result<Instant, Wrong> {
+    match Instant::now(rt) {
+        Ok(now) => Ok(now),
+        Err(_) => Err(Wrong::Case),
+    }
+}
+
+/// Applies the changeset, answers conflicts as the case says, and makes the edits. How many conflicts and edits there were.
+fn apply_and_commit(
+    alloc: Global,
+    store: &mut MapStore,
+    case: &Case<'_>,
+    changeset: &Changeset<'_>,
+) -> Result<(u64, u64), Wrong> {
     let mut asked = 0usize;
-    let Ok(start) = Instant::now(rt) else {
-        return Err(Wrong::Case);
-    };
     let ended = apply(
         alloc,
-        &mut store,
+        store,
         &case.catalog,
-        &case.changeset,
+        changeset,
         &mut |_conflict: &Conflict<'_>| {
             asked = asked.saturating_add(1);
             answer_at(case.answers, asked.saturating_sub(1))
@@ -160,31 +188,70 @@ fn timed<R: Clock>(rt: &R, alloc: Global, case: &Case<'_>) -> Result<(u128, u64,
         return Err(Wrong::Case);
     };
     let edits = applied.edits.len() as u64;
-    commit_edits(alloc, &mut store, applied.edits)?;
-    let Ok(taken) = start.elapsed(rt) else {
-        return Err(Wrong::Case);
-    };
-    Ok((taken.as_nanos(), asked as u64, edits))
+    commit_edits(alloc, store, applied.edits)?;
+    Ok((asked as u64, edits))
 }
 
-/// The line of a case that is timed.
+/// Reads the changeset, and applies it to the rows of this store.
+fn timed<R: Clock>(
+    rt: &R,
+    alloc: Global,
+    case: &Case<'_>,
+    bytes: &[u8],
+    store: &mut MapStore,
+) -> Result<Round, Wrong> {
+    let start = now(rt)?;
+    let changeset = changeset_of(alloc, bytes)?;
+    let reading = nanoseconds_since(rt, start)?;
+    let start = now(rt)?;
+    let (conflicts, edits) = apply_and_commit(alloc, store, case, &changeset)?;
+    let applying = nanoseconds_since(rt, start)?;
+    Ok(Round {
+        reading,
+        applying,
+        conflicts,
+        edits,
+    })
+}
+
+/// So many stores of the case's rows.
+fn stores_of(alloc: Global, case: &Case<'_>, count: u64) -> Result<Vec<MapStore>, Wrong> {
+    let mut stores = Vec::new(alloc);
+    for _ in 0..count {
+        stores.push(store_of(alloc, &case.catalog, &case.rows)?)?;
+    }
+    Ok(stores)
+}
+
+/// The line of a case that is timed. The stores of all rounds are there before the first and stay to the end, so that later rounds
+/// have the memory that the first one gave back, as in a program that keeps its store.
 fn put_times<R: Clock>(
     rt: &R,
     alloc: Global,
     case: &Case<'_>,
+    bytes: &[u8],
     rounds: u64,
     out: &mut Vec<u8>,
 ) -> Result<(), Wrong> {
-    let mut best = u128::MAX;
-    let mut conflicts = 0u64;
-    let mut edits = 0u64;
-    for _ in 0..rounds {
-        let (taken, asked, made) = timed(rt, alloc, case)?;
-        best = best.min(taken);
-        conflicts = asked;
-        edits = made;
+    let mut stores = stores_of(alloc, case, rounds)?;
+    let mut first = None;
+    let mut reading = u128::MAX;
+    let mut applying = u128::MAX;
+    for store in stores.as_mut_slice() {
+        let round = timed(rt, alloc, case, bytes, store)?;
+        reading = reading.min(round.reading);
+        applying = applying.min(round.applying);
+        if first.is_none() {
+            first = Some(round);
+        }
     }
-    let line = format!(in alloc; "{best} {conflicts} {edits}\n")?;
+    let Some(first) = first else {
+        return Err(Wrong::Case);
+    };
+    let line = format!(in alloc;
+        "{reading} {} {applying} {} {}\n",
+        first.applying, first.conflicts, first.edits
+    )?;
     out.extend_from_slice(line.as_str().as_bytes())?;
     Ok(())
 }
@@ -214,7 +281,7 @@ fn run_case<R: Clock>(
 ) -> Result<(), Wrong> {
     let case = case_of(alloc, parts)?;
     match rounds {
-        Some(rounds) => put_times(rt, alloc, &case, rounds, out),
+        Some(rounds) => put_times(rt, alloc, &case, parts.changeset, rounds, out),
         None => tell(alloc, &case, out),
     }
 }
