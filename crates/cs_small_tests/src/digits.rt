@@ -53,8 +53,8 @@ fn sorts(alloc: Global, row: &Words) -> Result<bool, AllocError> {
 
 // No word; too few words for a pass, and as many as it takes; words of two passes, too few for two, and too many; words of one wide
 // digit, and of one bit more; words of three passes, and of so many that std's sort does it; words all of one rank; words that don't hold their
-// own places, since two have one place and since a place takes more bits than are told; and the most words that go digit by digit,
-// and one more.
+// own places, since two have one place and since a place takes more bits than are told; words of few ranks, each of which comes often, in
+// a bucket and in two; and the most words that go digit by digit, and one more.
 #[test]
 fn sorts_as_std_does(rt: HostRuntime) -> Result<(), Fail> {
     let rows = [
@@ -71,6 +71,8 @@ fn sorts_as_std_does(rt: HostRuntime) -> Result<(), Fail> {
         words_of(1_000, 10, 0, 1),
         words_of(1_000, 10, 11, 3),
         words_of(1_000, 8, 11, 1),
+        words_of(16_384, 14, 10, 1),
+        words_of(20_000, 15, 12, 1),
         words_of(200_000, 18, 11, 1),
         words_of(200_001, 18, 11, 1),
     ];
@@ -80,32 +82,48 @@ fn sorts_as_std_does(rt: HostRuntime) -> Result<(), Fail> {
     Ok(())
 }
 
-/// So many words, whose ranks jump about among so many, no rank twice where the step shares no divisor with these.
+/// So many words, whose ranks jump about among so many, no rank twice where the step shares no divisor with these. Every second one
+/// stands so many ranks further.
 fn made_once(
     alloc: Global,
     count: usize,
     ranks: usize,
     step: usize,
+    further: usize,
 ) -> Result<Vec<usize>, AllocError> {
     let mut words = Vec::with_capacity(alloc, count)?;
     for at in 0..count {
-        let rank = at.wrapping_mul(step) % ranks.max(1);
+        let rank = (at.wrapping_mul(step) % ranks.max(1)).wrapping_add(
+            (at % 2).wrapping_mul(further),
+        );
         words.push((rank << 18) | at)?;
     }
     Ok(words)
 }
 
-/// Whether such words are sorted as std's sort does it.
-fn sorts_once(alloc: Global, count: usize, ranks: usize, step: usize) -> Result<bool, AllocError> {
-    let mut words = made_once(alloc, count, ranks, step)?;
+/// Whether words of two clusters so far apart are sorted as std's sort does it.
+fn sorts_clusters(
+    alloc: Global,
+    count: usize,
+    ranks: usize,
+    step: usize,
+    further: usize,
+) -> Result<bool, AllocError> {
+    let mut words = made_once(alloc, count, ranks, step, further)?;
     let mut expected = Vec::from_slice(alloc, words.as_slice())?;
     expected.sort_unstable();
     sort(alloc, &mut words, 18);
     Ok(words == expected)
 }
 
+/// The same of words of one cluster.
+fn sorts_once(alloc: Global, count: usize, ranks: usize, step: usize) -> Result<bool, AllocError> {
+    sorts_clusters(alloc, count, ranks, step, 0)
+}
+
 // Too few words to note their places, and as many as it takes; no rank left out; as many left out as there are words, and more;
-// words in order already; one rank that comes twice, at the last word; and the most words whose places are noted, and one more.
+// words in order already; one rank that comes twice, at the last word; the most words whose places are noted, and one more; and more
+// words, which stand mixed, and which don't.
 #[test]
 fn sorts_ranks_that_come_once(rt: HostRuntime) -> Result<(), Fail> {
     let alloc = rt.alloc();
@@ -118,5 +136,22 @@ fn sorts_ranks_that_come_once(rt: HostRuntime) -> Result<(), Fail> {
     assert!(rt; sorts_once(alloc, 1_001, 1_000, 7)?);
     assert!(rt; sorts_once(alloc, 200_000, 200_003, 7_919)?);
     assert!(rt; sorts_once(alloc, 200_001, 200_003, 7_919)?);
+    assert!(rt; sorts_once(alloc, 250_000, 300_007, 7_919)?);
+    assert!(rt; sorts_clusters(alloc, 250_000, 300_007, 1, 4)?);
+    Ok(())
+}
+
+// Two clusters near one another; two so far apart that they are sections of their own, of words whose places are noted, and of more
+// words, which are dealt; and so many ranks that more of them than words would be left out, which the first words tell alone, and which
+// the later ones do.
+#[test]
+fn sorts_ranks_in_clusters(rt: HostRuntime) -> Result<(), Fail> {
+    let alloc = rt.alloc();
+    assert!(rt; sorts_clusters(alloc, 10_000, 10_007, 7_919, 20_000)?);
+    assert!(rt; sorts_clusters(alloc, 10_000, 10_007, 7_919, 1 << 30)?);
+    assert!(rt; sorts_clusters(alloc, 100_000, 100_003, 7_919, 1 << 30)?);
+    assert!(rt; sorts_clusters(alloc, 250_000, 250_007, 7_919, 1 << 30)?);
+    assert!(rt; sorts_clusters(alloc, 10_000, 1 << 40, 7_919_000_003, 1 << 41)?);
+    assert!(rt; sorts_clusters(alloc, 10_000, 1 << 40, 2, 1 << 41)?);
     Ok(())
 }
