@@ -6,7 +6,8 @@
 # leave the same rows. With TURNS it also times both, by so many turns of a process each, and prints the ratios: of a call that
 # follows others, and of the first call of a process, which pays for fresh pages of memory. Each call has rows of its own, which
 # are there before the first and stay to the end, as in a program that keeps its store. SQLite reads the changeset while it
-# applies it; ours reads it before, which is printed beside. Where SQLite's library can't be had, it says so and ends well.
+# applies it; the library reads it before, so that the ratio is printed with that too. Where SQLite's library can't be had, it
+# says so and ends well.
 set -eu
 bench="$(cd "$(dirname "$0")" && pwd)"
 turns="${1:-}"
@@ -48,8 +49,9 @@ for every in 0 10; do
             { for (column = 1; column <= 6; column++) if (NR == 1 || $column < least[column]) least[column] = $column }
             { asked = $3 }
             END {
-                printf "%d changes onto as many rows, %d conflicts: %s; first calls %s; reading before %.0f\n", count, asked,
-                    ratio(least[6], least[2], later), ratio(least[5], least[1], first), least[4] / count
+                printf "%d changes onto as many rows, %d conflicts: %s, with reading %.0f, %.2f; first calls %s\n", count, asked,
+                    ratio(least[6], least[2], later), (least[4] + least[6]) / count, (least[4] + least[6]) / least[2],
+                    ratio(least[5], least[1], first)
             }' "$out/apply_turns"
     done
 done

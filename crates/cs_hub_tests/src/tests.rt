@@ -1,4 +1,4 @@
-//! A hub over stores in memory, also such that fail, and over one in SQLite, beside answers that were written by hand.
+//! A hub over stores in memory, also such that fail, beside answers that were written by hand.
 
 ghost use Rattle.std.specs.Prelude.{◌≡◌, ◌≤◌, length};
 ghost use Rattle.cs_log.specs.declared.entry.TheConstants.{MAX_CHANGESET};
@@ -10,7 +10,6 @@ use cs_map_store::MapStore;
 use cs_normalising::normalise;
 use cs_opening::OpenFault;
 use cs_rows::RowAtKey;
-use cs_sql::SqlStore;
 use cs_store::{RowStore, Trip};
 use cs_value::{Catalog, Items, TableDef, Text};
 use cs_wire::PushHead;
@@ -200,26 +199,6 @@ fn is_judged_and_followed(alloc: Global) -> Option<bool> {
 #[test]
 fn a_push_is_judged_and_followed(rt: HostRuntime) {
     assert!(rt; is_judged_and_followed(rt.alloc()).unwrap_or(false));
-}
-
-/// Whether a new hub over such a store answers the session so.
-fn answers_over<S: RowStore + Drop>(alloc: Global, store: S) -> Option<bool> {
-    let catalog = catalog_of(alloc, "t1")?;
-    let mut hub = Hub::open(alloc, store, &catalog).ok()?;
-    Some(answers_turns(alloc, &mut hub, &SESSION))
-}
-
-/// The same over a database in memory. What handles one is dear to prove, so this does nothing else.
-fn answers_over_sqlite(alloc: Global) -> Option<bool> {
-    match SqlStore::open_memory(alloc) {
-        Ok(store) => answers_over(alloc, store),
-        Err(_) => None,
-    }
-}
-
-#[test]
-fn a_session_over_sqlite(rt: HostRuntime) {
-    assert!(rt; answers_over_sqlite(rt.alloc()).unwrap_or(false));
 }
 
 /// Whether a hub's one row is the one of the INSERT, behind its key.
