@@ -428,12 +428,19 @@ const HELD: [Held; 13] = [
     (WHOLE, CHANGE, &[], false),
 ];
 
+fn all_are_found(alloc: Global) -> bool {
+    for held in &HELD {
+        if !is_found(alloc, held) {
+            return false;
+        }
+    }
+    true
+}
+
 #[test]
 fn a_store_is_whole_where_all_is_what_its_place_says(rt: HostRuntime) {
     assert!(rt; empty_is_whole(rt.alloc()));
-    for held in &HELD {
-        assert!(rt; is_found(rt.alloc(), held));
-    }
+    assert!(rt; all_are_found(rt.alloc()));
 }
 
 /// A call of each kind, by its number.
@@ -637,15 +644,16 @@ fn are_edits(lent: &LentEdits<'_>, spelled: &[Edit<'_>]) -> bool {
     true
 }
 
-/// Whether edits come back as they were put into too little room, and some of them too: a body of no byte is another one than none.
+/// Whether these are the edits that were put, and some of them come back too: a body of no byte is another one than none.
+fn are_next_rows(made: &LentEdits<'_>) -> bool {
+    made.len() >= 4 && are_edits(made, &NEXT_ROWS) && are_edits(&made.part(1, 4), &NEXT_ROWS[1..4])
+}
+
+/// Whether edits come back as they were put into too little room.
 fn gives_edits_back(alloc: Global) -> Result<bool, AllocError> {
     let mut made = PlaceEdits::with_capacity(alloc, 2, 4)?;
     put_edits(&NEXT_ROWS, &mut made)?;
-    let lent = made.lend();
-    if made.len() < 4 {
-        return Ok(false);
-    }
-    Ok(are_edits(&lent, &NEXT_ROWS) && are_edits(&lent.part(1, 4), &NEXT_ROWS[1..4]))
+    Ok(are_next_rows(&made.lend()))
 }
 
 #[test]
@@ -656,17 +664,26 @@ fn edits_in_one_piece_of_memory_stay_apart(rt: HostRuntime) {
 /// What is written over an edit, and longer than what stood there.
 const WRITTEN: Edit<'static> = (7, b"key", Some(b"a body that is longer"));
 
-/// Whether an edit stands in place of another then, and one also at an earlier place, with those behind them taken out.
+/// Puts an edit in place of another, and one also at an earlier place, and takes those behind them out.
+fn write_over(made: &mut PlaceEdits) -> Result<(), AllocError> {
+    if made.len() >= 4 {
+        made.set(1, &PlaceEdit::new(WRITTEN.0, WRITTEN.1, WRITTEN.2))?;
+        made.copy_to(3, 0);
+        made.truncate(3);
+    }
+    Ok(())
+}
+
+/// Whether these are the edits then.
+fn are_written_over(made: &LentEdits<'_>) -> bool {
+    are_edits(made, &[NEXT_ROWS[3], WRITTEN, NEXT_ROWS[2]])
+}
+
 fn writes_edits_over(alloc: Global) -> Result<bool, AllocError> {
     let mut made = PlaceEdits::new(alloc);
     put_edits(&NEXT_ROWS, &mut made)?;
-    if made.len() < 4 {
-        return Ok(false);
-    }
-    made.set(1, &PlaceEdit::new(WRITTEN.0, WRITTEN.1, WRITTEN.2))?;
-    made.copy_to(3, 0);
-    made.truncate(3);
-    Ok(are_edits(&made.lend(), &[NEXT_ROWS[3], WRITTEN, NEXT_ROWS[2]]))
+    write_over(&mut made)?;
+    Ok(are_written_over(&made.lend()))
 }
 
 #[test]
@@ -836,18 +853,34 @@ fn are_spread(rows: &[StoredBody], count: u16) -> bool {
     number == count
 }
 
-/// A store of which two commits made so many rows.
-fn spread_store(alloc: Global, count: u16) -> Result<MapStore, StoreFault> {
-    let mut store = MapStore::new(alloc);
-    store.commit(&spread(alloc, count, b"first")?)?;
-    store.commit(&spread(alloc, count, b"next")?)?;
-    Ok(store)
+/// Commits the edits of the numbers that have this row, of so many.
+fn commit_spread(
+    alloc: Global,
+    store: &mut MapStore,
+    count: u16,
+    row: &[u8],
+) -> Result<(), StoreFault> {
+    let batch = spread(alloc, count, row)?;
+    store.commit(&batch)
+}
+
+/// Makes so many rows by two commits.
+fn spread_in(alloc: Global, store: &mut MapStore, count: u16) -> Result<(), StoreFault> {
+    commit_spread(alloc, store, count, b"first")?;
+    commit_spread(alloc, store, count, b"next")
+}
+
+/// Whether the store has these rows.
+fn has_spread(store: &mut MapStore, count: u16) -> Result<bool, StoreFault> {
+    let rows = store.list(0)?;
+    Ok(are_spread(rows.as_slice(), count))
 }
 
 /// Whether two commits leave all rows.
 fn spreads(alloc: Global, count: u16) -> Result<bool, StoreFault> {
-    let mut store = spread_store(alloc, count)?;
-    Ok(are_spread(store.list(0)?.as_slice(), count))
+    let mut store = MapStore::new(alloc);
+    spread_in(alloc, &mut store, count)?;
+    has_spread(&mut store, count)
 }
 
 /// The second commit has many edits a leaf, so that all leaves are made anew.
@@ -905,13 +938,24 @@ fn are_changed(rows: &[StoredBody]) -> bool {
     at == rows.len()
 }
 
-/// Whether a third commit leaves these rows.
-fn changes(alloc: Global) -> Result<bool, StoreFault> {
-    let mut store = spread_store(alloc, SPREAD)?;
+/// Makes the third commit.
+fn change_spread(alloc: Global, store: &mut MapStore) -> Result<(), StoreFault> {
     let mut batch = nothing(alloc);
     put_changed(&mut batch.rows)?;
-    store.commit(&batch)?;
-    Ok(are_changed(store.list(0)?.as_slice()))
+    store.commit(&batch)
+}
+
+fn has_changed(store: &mut MapStore) -> Result<bool, StoreFault> {
+    let rows = store.list(0)?;
+    Ok(are_changed(rows.as_slice()))
+}
+
+/// Whether a third commit leaves these rows.
+fn changes(alloc: Global) -> Result<bool, StoreFault> {
+    let mut store = MapStore::new(alloc);
+    spread_in(alloc, &mut store, SPREAD)?;
+    change_spread(alloc, &mut store)?;
+    has_changed(&mut store)
 }
 
 #[test]
@@ -927,16 +971,26 @@ fn put_removed(made: &mut PlaceEdits) -> Result<(), AllocError> {
     Ok(())
 }
 
-/// Whether one commit removes all rows, and rows can come again behind it.
-fn empties(alloc: Global) -> Result<bool, StoreFault> {
-    let mut store = spread_store(alloc, SPREAD)?;
+/// Removes all rows by one commit.
+fn remove_spread(alloc: Global, store: &mut MapStore) -> Result<(), StoreFault> {
     let mut batch = nothing(alloc);
     put_removed(&mut batch.rows)?;
-    store.commit(&batch)?;
-    let is_empty = store.list(0)?.is_empty();
-    store.commit(&spread(alloc, SPREAD, b"first")?)?;
-    store.commit(&spread(alloc, SPREAD, b"next")?)?;
-    Ok(is_empty && are_spread(store.list(0)?.as_slice(), SPREAD))
+    store.commit(&batch)
+}
+
+fn has_no_row(store: &mut MapStore) -> Result<bool, StoreFault> {
+    let rows = store.list(0)?;
+    Ok(rows.is_empty())
+}
+
+/// Whether one commit removes all rows, and rows can come again behind it.
+fn empties(alloc: Global) -> Result<bool, StoreFault> {
+    let mut store = MapStore::new(alloc);
+    spread_in(alloc, &mut store, SPREAD)?;
+    remove_spread(alloc, &mut store)?;
+    let is_empty = has_no_row(&mut store)?;
+    spread_in(alloc, &mut store, SPREAD)?;
+    Ok(is_empty && has_spread(&mut store, SPREAD)?)
 }
 
 #[test]
