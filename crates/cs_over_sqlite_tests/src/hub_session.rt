@@ -1,22 +1,17 @@
 //! A hub over a store in SQLite, in memory, beside answers that were written by hand.
 
+use crate::messages::{ACCEPTED, FIRST_PUSH};
 use cs_hub::Hub;
 use cs_sql::SqlStore;
 use cs_sql_disks::catalog;
 use cs_store::RowStore;
 use std::alloc::Global;
 
-/// Push 1 of replica 7, of an INSERT of (1, 'v1') onto version 0, and the answer that it was taken as version 1.
-const PUSH: &[u8] =
-    b"\x01\0\0\0\x07\0\0\0\0\0\0\0\x01\0\0\0\0\0\0\0\0\0\0\0\x16\x54\x02\x01\0\x74\x31\0\x12\0\x01\0\0\0\0\0\0\0\x01\x03\x02\x76\x31";
-
-const ACCEPTED: &[u8] = b"\x11\0\0\0\x07\0\0\0\0\0\0\0\x01\0\0\0\0\0\0\0\x01";
-
-/// Requests, and their answers: the push, the push once more, the same change of replica 8 onto version 0, a pull of ten entries
+/// Requests, and their answers: replica 7's first push, that once more, the same change of replica 8 onto version 0, a pull of ten entries
 /// from the first on, that change onto version 1, and onto a version that isn't there, and a push without a byte of a changeset.
 const SESSION: [(&[u8], &[u8]); 7] = [
-    (PUSH, ACCEPTED),
-    (PUSH, ACCEPTED),
+    (FIRST_PUSH, ACCEPTED),
+    (FIRST_PUSH, ACCEPTED),
     (
         b"\x01\0\0\0\x08\0\0\0\0\0\0\0\x01\0\0\0\0\0\0\0\0\0\0\0\x16\x54\x02\x01\0\x74\x31\0\x12\0\x01\0\0\0\0\0\0\0\x01\x03\x02\x76\x31",
         b"\x12\0\0\0\0\0\0\0\x01",

@@ -1,6 +1,7 @@
 //! A stop at each call of the file in which a hub's store lies. After it the store opens as it was before the call of the hub or
 //! after it, beside a store in memory that made as many steps.
 
+use crate::messages::{FIRST_PUSH, SECOND_PUSH};
 use cs_hub::Hub;
 use cs_map_store::MapStore;
 use cs_sql_disks::{Calls, Disk, catalog, files_behind, image, open_new, shown_again};
@@ -9,11 +10,7 @@ use cs_value::Catalog;
 use sqlite::Files;
 use std::alloc::Global;
 
-/// Pushes 1 and 2 of replica 7, of an INSERT of (1, 'v1') and of (2, 'v1').
-const PUSHES: [&[u8]; 2] = [
-    b"\x01\0\0\0\x07\0\0\0\0\0\0\0\x01\0\0\0\0\0\0\0\0\0\0\0\x16\x54\x02\x01\0\x74\x31\0\x12\0\x01\0\0\0\0\0\0\0\x01\x03\x02\x76\x31",
-    b"\x01\0\0\0\x07\0\0\0\0\0\0\0\x02\0\0\0\0\0\0\0\x01\0\0\0\x16\x54\x02\x01\0\x74\x31\0\x12\0\x01\0\0\0\0\0\0\0\x02\x03\x02\x76\x31",
-];
+const PUSHES: [&[u8]; 2] = [FIRST_PUSH, SECOND_PUSH];
 
 /// Whether the hub takes a push.
 fn takes<S: RowStore>(hub: &mut Hub<S>, push: &[u8]) -> bool {

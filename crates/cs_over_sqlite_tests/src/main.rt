@@ -10,6 +10,8 @@ mod hub_session;
 #[cfg(test)]
 mod hub_stops;
 #[cfg(test)]
+mod messages;
+#[cfg(test)]
 mod replica_stops;
 
 fn main() {}

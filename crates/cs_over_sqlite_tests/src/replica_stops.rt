@@ -2,6 +2,7 @@
 //! replica or after it, beside a store in memory that made as many steps; an answer of three entries leaves none to three of
 //! them, in order.
 
+use crate::messages::ACCEPTED;
 use cs_conflict::{Clash, Guard, Wish};
 use cs_map_store::MapStore;
 use cs_replica::Replica;
@@ -19,9 +20,6 @@ fn row(alloc: Global, number: i64) -> Result<Row, Memory> {
     values.push(Value::Text(Text::from_string(String::from_str(alloc, "v1")?)))?;
     Ok(Items::from_vec(values))
 }
-
-/// The answer that replica 7's push 1 was taken, as version 1.
-const ACCEPTED: &[u8] = b"\x11\0\0\0\x07\0\0\0\0\0\0\0\x01\0\0\0\0\0\0\0\x01";
 
 /// Entries of replica 9: the INSERT of (2, 'v1'), of (3, 'v1') and of (4, 'v1').
 const SECOND: &[u8] =

@@ -53,8 +53,8 @@ fn sorts(alloc: Global, row: &Words) -> Result<bool, AllocError> {
 
 // No word; too few words for a pass, and as many as it takes; words of two passes, too few for two, and too many; words of one wide
 // digit, and of one bit more; words of three passes, and of so many that std's sort does it; words all of one rank; words that don't hold their
-// own places, since two have one place and since a place takes more bits than are told; words of few ranks, each of which comes often, in
-// a bucket and in two; and the most words that go digit by digit, and one more.
+// own places, since two have one place and since a place takes more bits than are told; the most words that go digit by digit; and more
+// words of few ranks, each of which comes often, which are dealt into one bucket and into two.
 #[test]
 fn sorts_as_std_does(rt: HostRuntime) -> Result<(), Fail> {
     let rows = [
@@ -71,10 +71,9 @@ fn sorts_as_std_does(rt: HostRuntime) -> Result<(), Fail> {
         words_of(1_000, 10, 0, 1),
         words_of(1_000, 10, 11, 3),
         words_of(1_000, 8, 11, 1),
-        words_of(16_384, 14, 10, 1),
-        words_of(20_000, 15, 12, 1),
         words_of(200_000, 18, 11, 1),
         words_of(200_001, 18, 11, 1),
+        words_of(250_000, 18, 12, 1),
     ];
     for row in &rows {
         assert!(rt; sorts(rt.alloc(), row)?);
