@@ -128,8 +128,8 @@ IsCombineRefusal lengths inputs answer =
     ⊎ ((changesets : List (List Group)) × ArePartsOf lengths inputs changesets × NotCombined changesets answer)
 
 -- the changesets taken together, or why they can't be
-abbrev pub GivesCombined : List ℕ → List ℕ → Result (List TableChanges) Answer → Type 0
-GivesCombined lengths inputs (Ok both) = SpellCombined lengths inputs (normal_spelling both)
+abbrev pub GivesCombined : List ℕ → List ℕ → Result (List ℕ) Answer → Type 0
+GivesCombined lengths inputs (Ok bytes) = SpellCombined lengths inputs bytes
 GivesCombined lengths inputs (Err answer) = IsCombineRefusal lengths inputs answer
 
 -- the answer: the changesets taken together are handed over, or it is told why they can't be

@@ -9,10 +9,10 @@ ghost use Rattle.cs_ffi.specs.NormalAnswers.{TellsNoFault};
 ghost use Rattle.cs_ffi.specs.CombinedAnswers.{AnswersCombined, AnswersInverse, AreFitInputs, FindsAll, FindsPart, GivesCombined, GivesInverse, ArePartsOf, IsFitAlone, ReadsAll, ReadsPart, wrong_lengths};
 
 use crate::answer::Answer;
-use crate::reading::hand_over_normal;
+use crate::reading::{hand_over_normal, hand_over_pieces};
 use cs_changeset::{Changeset, CodecFault, read};
-use cs_group::{combine, invert, normalise_alone};
-use cs_normal::Normal;
+use cs_group::{combine_spelled, invert, normalise_alone};
+use cs_normal::{BytePieces, Normal};
 use cs_normalising::laws::no_fault_where_fit;
 use std::alloc::Global;
 
@@ -73,8 +73,8 @@ fn read_all<'a>(
     Ok(changesets)
 }
 
-/// The changesets that the inputs spell, taken together.
-fn read_combined(alloc: Global, inputs: &[u8], lengths: &[usize]) -> Result<Normal, Answer>
+/// The spelling of the changesets that the inputs spell, taken together.
+fn read_combined(alloc: Global, inputs: &[u8], lengths: &[usize]) -> Result<BytePieces, Answer>
     ensures gives { GivesCombined lengths.now inputs.now result }
     ensures lengths { sum lengths.now ≢ length inputs.now → IsErrAnd result (λ answer. answer ≡ wrong_lengths) }
     ensures fit { AreFitInputs lengths.now inputs.now → IfErr result (λ answer. answer ≡ no_memory) }
@@ -85,7 +85,7 @@ fn read_combined(alloc: Global, inputs: &[u8], lengths: &[usize]) -> Result<Norm
         return Err(Answer::wrong_lengths());
     }
     let changesets = read_all(alloc, inputs, lengths)?;
-    Ok(combine(alloc, &changesets)?)
+    Ok(combine_spelled(alloc, &changesets)?)
 }
 
 /// The inverse of the changeset that the input spells.
@@ -117,7 +117,7 @@ pub fn write_combined(alloc: Global, inputs: &[u8], lengths: &[usize], output: &
     ensures fit { AreFitInputs lengths.now inputs.now → TellsNoFault result }
 {
     match read_combined(alloc, inputs, lengths) {
-        Ok(both) => hand_over_normal(alloc, &both, output),
+        Ok(spelled) => hand_over_pieces(alloc, &spelled, output),
         Err(answer) => answer,
     }
 }

@@ -11,7 +11,7 @@ ghost use Rattle.cs_ffi.specs.Answers.{read as read_of};
 
 use crate::answer::Answer;
 use cs_changeset::{Change, Group, read};
-use cs_normal::Normal;
+use cs_normal::{BytePieces, Normal};
 use std::alloc::Global;
 
 /// How many changes the groups have.
@@ -60,6 +60,16 @@ pub fn hand_over_normal(alloc: Global, normal: &Normal, output: &mut [u8]) -> An
     ensures { Hands (λ bytes. bytes ≡ normal_spelling normal.now) (λ answer. answer ≡ no_memory) output.old output.new result }
 {
     match normal.encode_to_slice(alloc, output) {
+        Ok(count) => Answer::read(count),
+        Err(_) => Answer::no_memory(),
+    }
+}
+
+/// The same of bytes in pieces.
+pub fn hand_over_pieces(alloc: Global, pieces: &BytePieces, output: &mut [u8]) -> Answer
+    ensures { Hands (λ bytes. bytes ≡ pieces.now) (λ answer. answer ≡ no_memory) output.old output.new result }
+{
+    match pieces.put_to_front(alloc, output) {
         Ok(count) => Answer::read(count),
         Err(_) => Answer::no_memory(),
     }

@@ -9,11 +9,11 @@ ghost use Rattle.cs_value.specs.Key.{FitsPlace, HasKey};
 ghost use Rattle.cs_value.specs.declared.value.Value.TheVariants.{Int};
 ghost use Rattle.cs_normal.specs.Normal.{FitsCatalog};
 
-use cs_change::{Change, ChangesBuf};
+use cs_change::{Change, ChangesBuf, Changeset};
 use cs_changeset::read;
 use cs_group::*;
 use cs_net::net;
-use cs_normal::Normal;
+use cs_normal::{BytePieces, Normal};
 use cs_normalising::{Unfit, normalise};
 use cs_record::{Row, RowBuf};
 use cs_value::{Catalog, Items, Memory, TableDef, Text, Value};
@@ -313,13 +313,13 @@ fn one_more(rt: HostRuntime) {
     assert!(rt; adds_to_nothing(rt.alloc()).unwrap_or(false));
 }
 
-/// Three changesets, read and taken together.
-fn combined<'a>(
+/// Three changesets, as they are read.
+fn three<'a>(
     alloc: Global,
     first: &'a [u8],
     second: &'a [u8],
     third: &'a [u8],
-) -> Option<Result<Normal, CombineFault>> {
+) -> Option<[Changeset<'a>; 3]> {
     let Ok(first) = read(alloc, first) else {
         return None;
     };
@@ -329,22 +329,69 @@ fn combined<'a>(
     let Ok(third) = read(alloc, third) else {
         return None;
     };
-    Some(combine(alloc, &[first, second, third]))
+    Some([first, second, third])
+}
+
+/// Whether these bytes are those, in front of one that stays.
+fn are_put(alloc: Global, pieces: &BytePieces, want: &[u8]) -> bool {
+    let Ok(mut out) = vec![in alloc; 7u8; want.len().saturating_add(1)] else {
+        return false;
+    };
+    let Ok(len) = pieces.put_to_front(alloc, out.as_mut_slice()) else {
+        return false;
+    };
+    match out.as_slice().split_last() {
+        Some((last, front)) => len == want.len() && *last == 7 && front == want,
+        None => false,
+    }
+}
+
+/// Whether three changesets together are spelled so, as one that can be asked and as bytes alone.
+fn are_together(
+    alloc: Global,
+    first: &[u8],
+    second: &[u8],
+    third: &[u8],
+    want: &[u8],
+) -> Option<bool> {
+    let changesets = three(alloc, first, second, third)?;
+    let Ok(both) = combine(alloc, &changesets) else {
+        return None;
+    };
+    let Ok(spelled) = combine_spelled(alloc, &changesets) else {
+        return None;
+    };
+    Some(is_spelled(alloc, &both, want) && are_put(alloc, &spelled, want))
+}
+
+/// Whether three changesets can't be taken together either way, for this reason.
+fn have_fault(
+    alloc: Global,
+    first: &[u8],
+    second: &[u8],
+    third: &[u8],
+    want: CombineFault,
+) -> Option<bool> {
+    let changesets = three(alloc, first, second, third)?;
+    let (Err(fault), Err(told)) = (
+        combine(alloc, &changesets),
+        combine_spelled(alloc, &changesets),
+    ) else {
+        return None;
+    };
+    Some(fault == want && told == want)
 }
 
 /// Whether an INSERT, this changeset, and an UPDATE of its row are an INSERT together.
 fn are_inserted(alloc: Global, between: &[u8]) -> Option<bool> {
-    match combined(alloc, INSERT_V1, between, UPDATE_V1_V2)? {
-        Ok(both) => Some(is_spelled(alloc, &both, INSERT_V2)),
-        Err(_) => None,
-    }
+    are_together(alloc, INSERT_V1, between, UPDATE_V1_V2, INSERT_V2)
 }
 
 /// Whether no changesets are nothing together.
 fn combines_none(alloc: Global) -> bool {
-    match combine(alloc, &[]) {
-        Ok(both) => both.len() == 0,
-        Err(_) => false,
+    match (combine(alloc, &[]), combine_spelled(alloc, &[])) {
+        (Ok(both), Ok(spelled)) => both.len() == 0 && are_put(alloc, &spelled, b""),
+        _ => false,
     }
 }
 
@@ -353,6 +400,8 @@ fn as_read_together(rt: HostRuntime) {
     let alloc = rt.alloc();
     assert!(rt; are_inserted(alloc, HEADER).unwrap_or(false));
     assert!(rt; are_inserted(alloc, UPDATE_V1_V1).unwrap_or(false));
+    // Nothing is left, so no header is.
+    assert!(rt; are_together(alloc, INSERT_V1, HEADER, DELETE_V1, b"").unwrap_or(false));
     assert!(rt; combines_none(alloc));
 }
 
@@ -417,10 +466,13 @@ fn are_in_turn(alloc: Global) -> Option<bool> {
     let Ok(expected) = one_group_each(alloc) else {
         return None;
     };
-    match combined(alloc, inserted.as_slice(), HEADER, updated.as_slice())? {
-        Ok(both) => Some(is_spelled(alloc, &both, expected.as_slice())),
-        Err(_) => None,
-    }
+    are_together(
+        alloc,
+        inserted.as_slice(),
+        HEADER,
+        updated.as_slice(),
+        expected.as_slice(),
+    )
 }
 
 /// Whether a key that comes twice is told, the second time in a later group of its table.
@@ -431,10 +483,13 @@ fn is_twice_told(alloc: Global) -> Option<bool> {
     if put_groups(b"3", INSERT_2_V1, &mut inserted).is_err() {
         return None;
     }
-    match combined(alloc, HEADER, inserted.as_slice(), HEADER)? {
-        Ok(_) => Some(false),
-        Err(fault) => Some(fault == CombineFault::Unfit(Unfit::KeyTwice)),
-    }
+    have_fault(
+        alloc,
+        HEADER,
+        inserted.as_slice(),
+        HEADER,
+        CombineFault::Unfit(Unfit::KeyTwice),
+    )
 }
 
 #[test]
@@ -442,6 +497,43 @@ fn many_tables_in_turn(rt: HostRuntime) {
     let alloc = rt.alloc();
     assert!(rt; are_in_turn(alloc).unwrap_or(false));
     assert!(rt; is_twice_told(alloc).unwrap_or(false));
+}
+
+/// So many rows take more bytes than one piece of memory has.
+const MANY: u32 = 80_000;
+
+/// A changeset with a change of each of many rows: what stands before its key, and behind it.
+fn of_many(alloc: Global, before: &[u8], behind: &[u8]) -> Result<Vec<u8>, Memory> {
+    let mut bytes = Vec::from_slice(alloc, HEADER)?;
+    for key in 0..MANY {
+        bytes.extend_from_slice(before)?;
+        bytes.extend_from_slice(&key.to_be_bytes())?;
+        bytes.extend_from_slice(behind)?;
+    }
+    Ok(bytes)
+}
+
+/// Whether many rows that are inserted and updated are so many INSERTs.
+fn are_many(alloc: Global) -> Option<bool> {
+    let (Ok(inserted), Ok(updated), Ok(expected)) = (
+        of_many(alloc, b"\x12\0\x01\0\0\0\0", b"\x03\x02v1"),
+        of_many(alloc, b"\x17\0\x01\0\0\0\0", b"\x03\x02v1\0\x03\x02v2"),
+        of_many(alloc, b"\x12\0\x01\0\0\0\0", b"\x03\x02v2"),
+    ) else {
+        return None;
+    };
+    are_together(
+        alloc,
+        inserted.as_slice(),
+        HEADER,
+        updated.as_slice(),
+        expected.as_slice(),
+    )
+}
+
+#[test]
+fn many_rows(rt: HostRuntime) {
+    assert!(rt; are_many(rt.alloc()).unwrap_or(false));
 }
 
 /// Whether the normal form of this changeset, by its own headers, is spelled as it is.
@@ -462,8 +554,13 @@ fn one_as_read(rt: HostRuntime) {
 
 /// Whether a key that comes twice is told behind two changesets that have no fault.
 fn tells_key_twice(alloc: Global) -> Option<bool> {
-    let fault = combined(alloc, INSERT_V1, HEADER, INSERT_TWICE)?;
-    Some(matches!(fault, Err(CombineFault::Unfit(Unfit::KeyTwice))))
+    have_fault(
+        alloc,
+        INSERT_V1,
+        HEADER,
+        INSERT_TWICE,
+        CombineFault::Unfit(Unfit::KeyTwice),
+    )
 }
 
 #[test]

@@ -1,4 +1,5 @@
-//! The spelling of a changeset in normal form, put into memory that is lent.
+//! Bytes that stand in pieces, put into memory that is lent: the spelling of a changeset in normal form, table by table, or bytes in
+//! pieces of their own.
 
 ghost use Rattle.std.specs.Prelude.{◌≡◌, ◌++◌, ◌≤◌, ◌<◌, length, drop, IfOk, IfErr, IfSome};
 ghost use Rattle.cs_normal.specs.Normal.{normal_spelling};
@@ -10,9 +11,9 @@ use cs_value::Memory;
 use std::alloc::{AllocError, Global};
 use std::marker::Model;
 
-/// The spelling of a table: its header, and the bytes of its changes, which are lent.
+/// The spelling of a table: its header, and the bytes of its changes, which are lent. Or bytes alone, behind no header.
 #[derive(Drop)]
-struct Piece<'a> {
+pub(crate) struct Piece<'a> {
     header: Vec<u8>,
     changes: &'a [u8],
 }
@@ -39,6 +40,16 @@ impl<'a> Piece<'a> {
             header,
             changes: table.changes.spelling(),
         })
+    }
+
+    /// Bytes that are lent. It takes no memory.
+    pub(crate) fn of_bytes(alloc: Global, bytes: &'a [u8]) -> Piece<'a>
+        ensures { result ≡ bytes.now }
+    {
+        Piece {
+            header: Vec::new(alloc),
+            changes: bytes,
+        }
     }
 
     /// How many bytes it and so many others are; none where that is more than a machine has room for.
@@ -99,6 +110,22 @@ fn put_pieces(pieces: &[Piece<'_>], out: &mut [u8])
     }
 }
 
+/// Puts pieces one after another to the front, if they have room there, and answers how many bytes they are.
+pub(crate) fn put_where_room(pieces: &[Piece<'_>], out: &mut [u8]) -> Result<usize, Memory>
+    ensures len { IfOk result (λ len. len ≡ length (joined pieces.now)) }
+    ensures room { IfOk result (λ len. len ≤ length out.old → out.new ≡ joined pieces.now ++ drop len out.old) }
+    ensures no_room { IfOk result (λ len. length out.old < len → out.new ≡ out.old) }
+    ensures err { IfErr result (λ _. out.new ≡ out.old) }
+{
+    let Some(len) = len_of(pieces) else {
+        return Err(AllocError);
+    };
+    if len <= out.len() {
+        put_pieces(pieces, out);
+    }
+    Ok(len)
+}
+
 /// Puts the spelling of tables to the front, if it has room there, and answers how many bytes it is.
 pub(crate) fn put_to_front(
     alloc: Global,
@@ -111,11 +138,5 @@ pub(crate) fn put_to_front(
     ensures err { IfErr result (λ _. out.new ≡ out.old) }
 {
     let pieces = pieces_of(alloc, tables)?;
-    let Some(len) = len_of(pieces.as_slice()) else {
-        return Err(AllocError);
-    };
-    if len <= out.len() {
-        put_pieces(pieces.as_slice(), out);
-    }
-    Ok(len)
+    put_where_room(pieces.as_slice(), out)
 }

@@ -262,6 +262,52 @@ fn is_put(alloc: Global, normal: &Normal) -> Result<bool, Memory> {
     )
 }
 
+/// Bytes in two pieces of memory and more, and one part that is longer than a piece: as they are put to the front of a slice that is a
+/// byte longer, and not into one that is a byte shorter.
+fn pieces_are_put(alloc: Global) -> Result<bool, Memory> {
+    let mut pieces = BytePieces::new(alloc);
+    let mut all = Vec::new(alloc);
+    for (byte, len) in [
+        (1u8, 700_000usize),
+        (2, 700_000),
+        (3, 0),
+        (4, 1_500_000),
+        (5, 1),
+    ] {
+        let part: Vec<u8> = vec![in alloc; byte; len]?;
+        pieces.push(part.as_slice())?;
+        all.extend_from_slice(part.as_slice())?;
+    }
+    let len = all.len();
+    all.push(7)?;
+    let mut long = sevens(alloc, all.len())?;
+    let mut short = sevens(alloc, len.saturating_sub(1))?;
+    let untouched = sevens(alloc, short.len())?;
+    let told = pieces.put_to_front(alloc, long.as_mut_slice())?;
+    let lacking = pieces.put_to_front(alloc, short.as_mut_slice())?;
+    Ok(
+        told == len
+            && lacking == len
+            && long.as_slice() == all.as_slice()
+            && short.as_slice() == untouched.as_slice(),
+    )
+}
+
+/// Whether no byte is put anywhere, and the header of a table is spelled as it stands in changesets.
+fn header_is_spelled(alloc: Global) -> Result<bool, Memory> {
+    let header = spell_header(alloc, &table(alloc, "t1", false)?)?;
+    let mut none = sevens(alloc, 0)?;
+    let told = BytePieces::new(alloc).put_to_front(alloc, none.as_mut_slice())?;
+    Ok(header.as_slice() == FIRST && told == 0)
+}
+
+#[test]
+fn bytes_in_pieces(rt: HostRuntime) {
+    let alloc = rt.alloc();
+    assert!(rt; pieces_are_put(alloc).unwrap_or(false));
+    assert!(rt; header_is_spelled(alloc).unwrap_or(false));
+}
+
 /// Whether they stand in the catalog's order, fit it, are copied and written.
 fn stands_in_order(alloc: Global) -> Option<bool> {
     let catalog = catalog(alloc)?;

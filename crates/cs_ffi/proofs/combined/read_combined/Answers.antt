@@ -13,10 +13,10 @@ returns-then-not-add_up-clause-fit c = λ given.
     let test = c.if-not-add_up.true in
     grind (arith, common_steps, adds, told, test)
 
-pub returns-in_err-combine-clause-fit : goal.returns-in_err-combine-clause-fit
-returns-in_err-combine-clause-fit c = λ given.
+pub returns-in_err-combine_spelled-clause-fit : goal.returns-in_err-combine_spelled-clause-fit
+returns-in_err-combine_spelled-clause-fit c = λ given.
     let found = c.in_ok-changesets.ensures.only given.changesets given.cut in
-    let fault = c.in_err-combine.field-0.0 in
-    let told = subst (HasCombineFault fault) (c.deref.ensures.value ∙ found) c.in_err-combine.ensures.fault in
-    let out = err_from_is_err_and c.from_residual-in_err-combine.result c.from_residual-in_err-combine.ensures.1 in
+    let fault = c.in_err-combine_spelled.field-0.0 in
+    let told = subst (HasCombineFault fault) (c.deref.ensures.value ∙ found) c.in_err-combine_spelled.ensures.fault in
+    let out = err_from_is_err_and c.from_residual-in_err-combine_spelled.result c.from_residual-in_err-combine_spelled.ensures.1 in
     rw (out.1, out.2) (fault_is_memory c.no_fault_where_fit.ensures fault given.changesets given.can told)
