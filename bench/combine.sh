@@ -1,6 +1,6 @@
 #!/bin/sh
-# Times the proved library and SQLite's changegroup taking the same changesets together, 100 of 100 changes and 1,000 of
-# 1,000, and both taking one changeset back, in one run, and fails where they differ. Each takes its turn in a process of its own,
+# Times the proved library and SQLite's changegroup taking the same changesets together, 100 of 100 changes, 100 of 1,000 and
+# 1,000 of 1,000, and both taking one changeset back, in one run, and fails where they differ. Each takes its turn in a process of its own,
 # since what a call costs goes with the memory that was given back before it: the ratios are those of a call that follows others, and of
 # the first call of a process, which pays for fresh pages. Usage: bench/combine.sh [TURNS]
 # The library is built where the environment's `library` names none.
@@ -39,9 +39,11 @@ time_case() {
 }
 
 "$out/sqlite_capture" overlapping 100 100 "$out/small"
+"$out/sqlite_capture" overlapping 100 1000 "$out/middle"
 "$out/sqlite_capture" overlapping 1000 1000 "$out/large"
 "$out/sqlite_capture" changes 10000 "$out/10000.changeset"
 time_case "100 changesets taken together" together 20 "$out/small"
+time_case "100 changesets of 1,000 changes taken together" together 6 "$out/middle"
 time_case "1,000 changesets taken together" together 3 "$out/large"
 paste "$out/small.costs" "$out/large.costs" | awk '{
     printf "from the small to the large, the cost of a byte grows %.2f times in this library, %.2f times in SQLite\n", $3 / $1, $4 / $2 }'
