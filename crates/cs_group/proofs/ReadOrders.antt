@@ -1,5 +1,5 @@
 -- What the order of a table's changes over changesets as read comes to.
-use Rattle.std.proofs.Common.{◌≡◌, ℕ, Bool, List, ◌∙◌, ap, map, subst, sym}
+use Rattle.std.proofs.Common.{◌≡◌, List, ◌∙◌, ap, map, sym}
 use Rattle.std.specs.Prelude.{IsUtf8}
 use Rattle.std.specs.List.{All, flat_map, list_all}
 use Rattle.cs_change.specs.declared.change.Change.{Change}

@@ -1,7 +1,5 @@
-use Rattle.std.proofs.Common.{◌∙◌, ◌++◌, refl, sym, ap, List, ℕ, map}
+use Rattle.std.proofs.Common.{◌∙◌, ◌++◌, refl, sym, ap, List, ℕ}
 use Rattle.std.specs.List.{flat_map}
-use Rattle.cs_change.specs.Spelling.{flag_byte, header_spelling}
-use Rattle.cs_keyed.specs.Changes.{Changes}
 use Rattle.cs_group.specs.Steps.Folding.{IsSpelling}
 use Rattle.cs_group.specs.Steps.Gathering.{lent_changes}
 use Rattle.cs_group.specs.Steps.Joining.{entry_left}
