@@ -4,7 +4,8 @@ ghost use Rattle.std.specs.Prelude.{◌≡◌, true, false, ◌∷◌, [], IfOk,
 ghost use Rattle.std.specs.Option.{option_copied};
 ghost use Rattle.cs_value.specs.declared.value.Field.TheVariants.{Is};
 ghost use Rattle.cs_record.specs.Spelling.{Fits};
-ghost use Rattle.cs_change.specs.Spelling.{FitsRow};
+ghost use Rattle.std.specs.List.{AllByRecursion};
+ghost use Rattle.cs_change.specs.Spelling.{FitsChangeset, FitsRow};
 ghost use Rattle.cs_value.specs.Key.{FitsPlace, HasKey};
 ghost use Rattle.cs_value.specs.declared.value.Value.TheVariants.{Int};
 ghost use Rattle.cs_normal.specs.Normal.{FitsCatalog};
@@ -319,7 +320,9 @@ fn three<'a>(
     first: &'a [u8],
     second: &'a [u8],
     third: &'a [u8],
-) -> Option<[Changeset<'a>; 3]> {
+) -> Option<[Changeset<'a>; 3]>
+    ensures { IfSome result (AllByRecursion FitsChangeset) }
+{
     let Ok(first) = read(alloc, first) else {
         return None;
     };
