@@ -31,7 +31,8 @@ use Rattle.cs_group.specs.Steps.Reading.{AreTakenTogether, IsReadJoinOf, read_ea
 use Rattle.cs_group.specs.Steps.TableByTable.{AreMade, no_table, next}
 use Rattle.cs_group.specs.declared.combining.CombineFault.TheVariants.{Headers, Unfit as NoForm}
 use Rattle.cs_group.proofs.GroupFolds.{by_bool, listing, listing_sorted, found_at}
-use Rattle.cs_group.proofs.ReadJoins.{FormLaws, read_combined}
+use Rattle.cs_group.specs.Steps.FormLaws.{FormLaws}
+use Rattle.cs_group.proofs.ReadJoins.{read_combined}
 
 -- ---- keys in order
 

@@ -15,12 +15,12 @@ returns-in-Some-2 c = λ changesets is.
     let entry = entry_left table.key_marks order.keys (lent_changes order.changes) in
     let joined = flat_map entry order.places in
     let header = c.in_ok-spell_header.field-0.items in
-    let found = rw (c.as_slice-marks.ensures, c.as_slice.ensures.value, c.in_ok-groups.ensures, is, c.in-Some.is) at c.in_ok-order.ensures in
+    let found = rw (is, c.in-Some.is) at c.in_ok-order.ensures.order in
     let rise = rw c.in-Some-2.is at c.in_ok-spelling.ensures.rise in
-    let folded = rw (c.as_slice-marks.ensures, c.in-Some-2.is) at c.in_ok-spelling.ensures.folded in
+    let folded = rw (c.as_slice.ensures, c.in-Some-2.is) at c.in_ok-spelling.ensures.folded in
     let left = folded_holds _ entry (IsSpelling c.args.out header) (λ group old new so_far step is. step order.keys c.args.out header so_far is) folded c.new-begun.ensures in
     record {
       changes = joined;
-      holds = joined_read table changesets order joined found (rw c.as_str-name.ensures at c.as_str-name.utf8) rise refl;
+      holds = joined_read table changesets order joined found c.order_read.ensures.text rise refl;
       spelled = c.in_ok-finish-in-Some-2.ensures c.args.out header joined left ∙ ap (λ (s : List ℕ). c.args.out ++ s) (rw c.in_ok-spell_header.ensures (sym (normal_table table joined)));
     }
