@@ -5,16 +5,17 @@
 # it, appends to it and tells it, that of the log that threads share makes one, offers and sees, that of nodes makes two, edits, pushes
 # and pulls, that of books asks two a push and a pull, that of worlds makes one and lets things happen in it, and that of scripts plays one. Where
 # that is refused, the test looks whether everything is as it was, and makes the same call again. Each run has to pass.
-# Usage: bench/refuse_tests.sh store|apply|rebaser|pending|pulling|replica|log_store|spine|nodes|books|world|script [TESTS]
-# TESTS is the program of its tests, as `rt test` leaves it (crates/cs_store_tests/out/cs_store_tests_tests and so on); where none
-# is given, it is proved and built.
+# Usage: bench/refuse_tests.sh store|apply|rebaser|pending|pulling|replica|log_store|spine|nodes|books|world|script [built]
+# With `built` the program of its tests is there, as `rt test` leaves it (crates/cs_store_tests/out/cs_store_tests_tests and so on);
+# else it is proved and built.
 set -eu
 bench="$(cd "$(dirname "$0")" && pwd)"
 tested="$1"
-tests="${2:-}"
+built="${2:-}"
 . "$bench/common.sh"
 # So many allocations at least: the store's test makes batches of 260 rows and a commit copies each key, that of `apply` four
 # changes, and the rebaser's reads and rebases three.
+crate="cs_${tested}_tests"
 module=tests
 case "$tested" in
     store) least=400 ;;
@@ -26,20 +27,20 @@ case "$tested" in
     log_store) least=100; module=memory ;;
     spine) least=40; module=memory ;;
     nodes) least=100; module=memory ;;
-    books) least=50; module=memory ;;
+    books) least=50; crate=cs_spine_tests; module=books_memory ;;
     world) least=300; module=memory ;;
     script) least=200; module=memory ;;
     *) echo "no such test of $tested" >&2; exit 1 ;;
 esac
 command -v cc > /dev/null || { echo "no allocation refused: there is no C compiler here"; exit 0; }
 mkdir -p "$out"
-if [ -z "$tests" ]; then
-    (cd "$bench/../crates/cs_${tested}_tests" && rt test > "$out/refused_tests.log" 2>&1) || {
+if [ "$built" != built ]; then
+    (cd "$bench/../crates/$crate" && rt test > "$out/refused_tests.log" 2>&1) || {
         echo "the tests aren't built: see $out/refused_tests.log" >&2
         exit 1
     }
-    tests="$bench/../crates/cs_${tested}_tests/out/cs_${tested}_tests_tests"
 fi
+tests="$bench/../crates/$crate/out/${crate}_tests"
 cc -O2 -Wall -Wextra -shared -fPIC "$bench/refuse_memory.c" -o "$out/refuse_memory.so" -ldl
 number=1
 while true; do

@@ -29,7 +29,7 @@ fn tables(alloc: Global) -> Result<Vec<TableDef>, Memory> {
     Ok(tables)
 }
 
-fn catalog(alloc: Global) -> Option<Catalog> {
+pub(crate) fn catalog(alloc: Global) -> Option<Catalog> {
     Catalog::new(tables(alloc).ok()?).ok()
 }
 
@@ -69,7 +69,7 @@ fn row(alloc: Global, number: i64, text: &str) -> Result<Items<Value>, Memory> {
 }
 
 /// The edit that inserts a row of a number and a text into t1.
-fn inserting(alloc: Global, number: i64, text: &str) -> Result<Edit, Memory> {
+pub(crate) fn inserting(alloc: Global, number: i64, text: &str) -> Result<Edit, Memory> {
     Ok(Edit::Insert {
         table: Text::from_string(String::from_str(alloc, "t1")?),
         row: row(alloc, number, text)?,
@@ -156,10 +156,12 @@ pub(crate) fn pushes<'s>(
     }
 }
 
-/// The bytes of (1, 'v1') and of (2, 'v2').
+/// The bytes of (1, 'v1'), of (2, 'v2') and of (3, 'v3').
 pub(crate) const ROW_1: &[u8] = &[1, 0, 0, 0, 0, 0, 0, 0, 1, 3, 2, 0x76, 0x31];
 
 pub(crate) const ROW_2: &[u8] = &[1, 0, 0, 0, 0, 0, 0, 0, 2, 3, 2, 0x76, 0x32];
+
+pub(crate) const ROW_3: &[u8] = &[1, 0, 0, 0, 0, 0, 0, 0, 3, 3, 2, 0x76, 0x33];
 
 /// Whether rows, one behind another, have these bytes.
 fn have_bytes(rows: &[RowAtKey], wanted: &[&[u8]]) -> bool {
@@ -184,4 +186,12 @@ pub(crate) fn shows<'s>(
     let rows = node.rows(alloc, 0)?;
     let same = have_bytes(rows.as_slice(), wanted);
     Ok(same && node.version() == version && node.pending_len() == pending)
+}
+
+/// Whether a pull takes one entry, and (2, 'v2') is then shown, alone.
+pub(crate) fn pulls_second<'s>(alloc: Global, spine: &'s Spine, late: &mut Here<'s>) -> bool
+    requires { late.old.pass.spine ≡ spine.now }
+{
+    let pulled = pulls(alloc, late, spine, 1);
+    pulled & (shows(alloc, late, &[ROW_2], 1, 0) == Ok(true))
 }

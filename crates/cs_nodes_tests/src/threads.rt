@@ -2,7 +2,7 @@
 
 ghost use Rattle.std.specs.Prelude.{◌≡◌};
 
-use crate::given::{Here, ROW_1, ROW_2, begun, inserts, pulls, pushes, shows};
+use crate::given::{Here, ROW_1, ROW_2, begun, inserts, pulls_second, pushes, shows};
 use cs_nodes::NodePush;
 use cs_spine::Spine;
 use std::alloc::Global;
@@ -83,14 +83,6 @@ fn run_both<R: Threads + Clock + Sync>(rt: &R, alloc: Global, spine: &Spine) -> 
         || runs_second(rt, alloc, spine, &gates, two),
     );
     Some(first & second)
-}
-
-/// Whether a pull takes one entry, and the second's row is then shown.
-fn pulls_second<'s>(alloc: Global, spine: &'s Spine, late: &mut Here<'s>) -> bool
-    requires { late.old.pass.spine ≡ spine.now }
-{
-    let pulled = pulls(alloc, late, spine, 1);
-    pulled & (shows(alloc, late, &[ROW_2], 1, 0) == Ok(true))
 }
 
 fn run_and_pull<'s, R: Threads + Clock + Sync>(

@@ -3,8 +3,8 @@
 use crate::messages::{ACCEPTED, FIRST_PUSH};
 use cs_hub::Hub;
 use cs_sql::SqlStore;
-use cs_sql_disks::catalog;
 use cs_store::RowStore;
+use cs_store_cases::catalog;
 use std::alloc::Global;
 
 /// Requests, and their answers: replica 7's first push, that once more, the same change of replica 8 onto version 0, a pull of ten entries

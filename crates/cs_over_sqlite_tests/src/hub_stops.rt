@@ -4,8 +4,9 @@
 use crate::messages::{FIRST_PUSH, SECOND_PUSH};
 use cs_hub::Hub;
 use cs_map_store::MapStore;
-use cs_sql_disks::{Calls, Disk, catalog, files_behind, image, open_new, shown_again};
+use cs_sql_disks::{Calls, Disk, files_behind, open_new, shown_again};
 use cs_store::RowStore;
+use cs_store_cases::{catalog, image};
 use cs_value::Catalog;
 use sqlite::Files;
 use std::alloc::Global;

@@ -2,7 +2,7 @@
 //! `run_nodes` opens a new node over a store in memory for each plan, has it make the plan's calls while a port of the caller's is told before and
 //! after each, joins all threads, and gives the nodes back with what each call came to. That each end is what its node's own calls
 //! made of a new node, one behind another (`specs/Ends.antt`), is the contract of `run_nodes`. It stands on nodes (`cs_nodes`) and on
-//! wishes in a list (`cs_wishes`). Its tests stand in `cs_plans_tests`.
+//! wishes in a list (`cs_wishes`). Its tests stand in `cs_nodes_tests`.
 #![tactic(auto)]
 
 mod ending;

@@ -1,4 +1,4 @@
-//! Entries of one table, to offer.
+//! Entries of one table, to offer, and the catalog.
 
 use cs_log::{Body, LogEntry, read_body};
 use cs_value::{Catalog, Items, TableDef, Text};
@@ -19,8 +19,12 @@ const INSERT: &[u8] = &[
     0, 0x54, 2, 1, 0, 0x74, 0x31, 0, 18, 0, 1, 0, 0, 0, 0, 0, 0, 0, 1, 3, 2, 0x76, 0x31,
 ];
 
+pub(crate) fn catalog(alloc: Global) -> Option<Catalog> {
+    Catalog::new(tables(alloc).ok()?).ok()
+}
+
 fn body(alloc: Global) -> Option<Body> {
-    let catalog = Catalog::new(tables(alloc).ok()?).ok()?;
+    let catalog = catalog(alloc)?;
     read_body(alloc, &catalog, INSERT).ok()
 }
 

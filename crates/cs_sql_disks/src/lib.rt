@@ -1,13 +1,11 @@
-//! What tests of stops in SQLite share: stores (`cs_sql`'s) in files that stop behind some number of calls and are opened again
-//! (`open_new`, `open_again`, `files_behind`), all that a store shows, as bytes (`image`, `shown_again`), and the catalog of the one
-//! table that it has there (`catalog`). It stands on `cs_sql`, on `cs_store` and on the files of `sqlite_disk`. No call promises more
-//! than to return: it is for tests alone, `cs_sql_tests` and `cs_over_sqlite_tests`, which see what comes of it.
+//! What tests of stops in SQLite share: stores (`cs_sql`'s) in files that stop behind some number of calls (`open_new`, `files_behind`), and
+//! all that such a store shows once it is opened again, as text (`shown_again`). It stands on `cs_sql`, on the files of `sqlite_disk`, and on
+//! what tests of stores share (`cs_store_cases`). No call promises more than to return: it is for tests alone, `cs_sql_tests` and
+//! `cs_over_sqlite_tests`, which see what comes of it.
 #![tactic(auto)]
 
 mod disks;
 mod images;
-mod table;
 
-pub use disks::{Calls, Disk, Filed, files_behind, open_again, open_new};
-pub use images::{image, shown_again};
-pub use table::catalog;
+pub use disks::{Calls, Disk, Filed, files_behind, open_new};
+pub use images::shown_again;

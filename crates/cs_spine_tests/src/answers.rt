@@ -2,7 +2,8 @@
 
 ghost use Rattle.std.specs.Prelude.{◌≡◌};
 
-use crate::given::{Here, INSERT, begun, catalog, insert_of, push, tells};
+use crate::books::{Here, INSERT, begun, insert_of, push, tells};
+use crate::entries::catalog;
 use cs_changeset::read;
 use cs_log::{Body, LogEntry};
 use cs_normal::Normal;

@@ -1,13 +1,10 @@
-//! Nodes that are held by their ports. How long one waits has a limit.
+//! Nodes that run their plans, held by their ports. How long one waits has a limit.
 
 ghost use Rattle.std.specs.Prelude.{◌≡◌, IfOk, IfSome, vec_len};
 
-use crate::given::{
-    Here, ROW_1, ROW_2, catalog, has_mark, idle, insert_and_push, is_edited, is_pushed, pulled,
-    shows,
-};
-use cs_map_store::MapStore;
-use cs_nodes::{Node, NodePush};
+use crate::given::{begun, catalog, pulls_second};
+use crate::planned::{has_mark, idle, insert_and_push, is_edited, is_pushed};
+use cs_nodes::NodePush;
 use cs_plans::{Mark, NodeEnd, Plan, Port, run_nodes};
 use cs_spine::Spine;
 use cs_value::{Catalog, Memory};
@@ -152,29 +149,12 @@ fn are_gated(ends: &[NodeEnd<'_>]) -> bool {
     ends.len() == 3 && none && other && accepted
 }
 
-/// Whether a pull takes one entry, and the third node's row is then shown.
-fn pulls_one<'s>(alloc: Global, spine: &'s Spine, late: &mut Here<'s>) -> bool
-    requires { late.old.pass.spine ≡ spine.now }
-{
-    pulled(alloc, late, spine) == Some(1) && shows(alloc, late, &[ROW_2])
-}
-
-/// A new node.
-fn opened<'s>(alloc: Global, catalog: &Catalog, spine: &'s Spine) -> Option<Here<'s>>
-    ensures { IfSome result (λ node. node.pass.spine ≡ spine.now) }
-{
-    match Node::open(alloc, MapStore::new(alloc), catalog, 3, spine) {
-        Ok(node) => Some(node),
-        Err(_) => None,
-    }
-}
-
 /// Whether the nodes ran as their ports let them, and a new node pulls what the third pushed.
 fn gated<R: Threads + Clock + Sync>(rt: &R, alloc: Global, spine: &Spine) -> Option<bool> {
     let catalog = catalog(alloc)?;
     let ran = are_gated(gated_ends(rt, alloc, &catalog, spine)?.as_slice());
-    let mut late = opened(alloc, &catalog, spine)?;
-    Some(ran && pulls_one(alloc, spine, &mut late))
+    let mut late = begun(alloc, spine, 3)?;
+    Some(ran && pulls_second(alloc, spine, &mut late))
 }
 
 #[test]

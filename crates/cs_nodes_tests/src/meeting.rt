@@ -1,8 +1,10 @@
-//! Nodes that nobody holds.
+//! Nodes that run their plans, held by nobody.
 
 ghost use Rattle.std.specs.Prelude.{◌≡◌, ◌≤◌, All, IfOk, IfSome, vec_len};
 
-use crate::given::{Here, ROW_1, ROW_2, ROW_3, catalog, idle, insert_and_push, pulled, shows};
+use crate::given::{Here, ROW_1, ROW_2, ROW_3, catalog, pulled, shows};
+use crate::planned::{idle, insert_and_push};
+use cs_conflict::Wish;
 use cs_nodes::meet_nodes;
 use cs_plans::{NodeEnd, Plan, Port, RunFault, run_nodes};
 use cs_spine::Spine;
@@ -68,7 +70,8 @@ fn shows_all<'s>(alloc: Global, node: &mut Here<'s>, spine: &'s Spine) -> bool
     requires { node.old.pass.spine ≡ spine.now }
     ensures { node.new.pass.spine ≡ node.old.pass.spine }
 {
-    pulled(alloc, node, spine).is_some() && shows(alloc, node, &[ROW_1, ROW_2, ROW_3])
+    let pulled = pulled(alloc, node, spine, Wish::Take).is_ok();
+    pulled && shows(alloc, node, &[ROW_1, ROW_2, ROW_3], 3, 0) == Ok(true)
 }
 
 /// Whether each of two nodes shows all rows once it has pulled, and they meet.
@@ -85,7 +88,7 @@ fn meet_once_pulled<'s>(
 {
     let first = shows_all(alloc, one, spine);
     let second = shows_all(alloc, two, spine);
-    first && second && one.version() == 3 && meet_nodes(spine, one, two)
+    first && second && meet_nodes(spine, one, two)
 }
 
 fn meet_with_third<'s>(

@@ -1,9 +1,10 @@
-//! The one table of these stores.
+//! The one table of catalogs here.
 
-use cs_value::{Catalog, Items, Memory, TableDef, Text};
-use std::alloc::Global;
+use cs_value::{Catalog, Items, TableDef, Text};
+use std::alloc::{AllocError, Global};
 
-fn tables(alloc: Global) -> Result<Vec<TableDef>, Memory> {
+/// A table of two columns, of which the first is the key.
+fn tables(alloc: Global) -> Result<Vec<TableDef>, AllocError> {
     let mut tables = Vec::new(alloc);
     tables.push(TableDef {
         name: Text::from_string(String::from_str(alloc, "t1")?),

@@ -1,29 +1,14 @@
 //! Books of one table on one row of cells, and what is asked of them.
 
-ghost use Rattle.std.specs.Prelude.{◌≡◌, [], IfSome};
-
+use crate::entries::catalog;
 use cs_books::Book;
 use cs_map_store::MapStore;
 use cs_spine::Spine;
-use cs_value::{Catalog, Items, Memory, TableDef, Text};
+use cs_value::Memory;
 use std::alloc::Global;
 
 /// A book over the store in memory.
 pub(crate) type Here<'s> = Book<'s, MapStore>;
-
-/// The table t1 of two columns, of which the first is the key.
-fn tables(alloc: Global) -> Result<Vec<TableDef>, Memory> {
-    let mut tables = Vec::new(alloc);
-    tables.push(TableDef {
-        name: Text::from_string(String::from_str(alloc, "t1")?),
-        key_marks: Items::from_vec(vec![in alloc; true, false]?),
-    })?;
-    Ok(tables)
-}
-
-pub(crate) fn catalog(alloc: Global) -> Option<Catalog> {
-    Catalog::new(tables(alloc).ok()?).ok()
-}
 
 /// A new book.
 pub(crate) fn begun<'s>(alloc: Global, spine: &'s Spine) -> Option<Here<'s>> {

@@ -1,0 +1,22 @@
+//! What tests of stores share: batches that are made of parts (`batch`), all that a store shows, as text (`image`), and cases of both,
+//! with what is shown, that were written by hand (`shows_commits`, `is_found`). It stands on `cs_store` alone, so that any store can be
+//! asked. No call promises more than to return: it is for tests, `cs_store_tests`, `cs_sql_tests`, `cs_over_sqlite_tests` and what these
+//! share of files (`cs_sql_disks`), which see what comes of it.
+#![tactic(auto)]
+
+mod commits;
+mod held;
+mod images;
+mod parts;
+mod table;
+
+pub use commits::{
+    FIRST_BATCH, FIRST_META, FIRST_PENDING, FIRST_SHOWN, LAST, NEXT_BATCH, NEXT_ROWS, NEXT_SHOWN,
+    NOTHING_SHOWN, shows_commits,
+};
+pub use held::{HELD, Held, is_found, is_whole};
+pub use images::{image, image_of, shows};
+pub use parts::{
+    Edit, Entry, Named, Spelled, batch, commit_of, entry_of, nothing, put_edits, put_named,
+};
+pub use table::catalog;
