@@ -2,12 +2,15 @@
 # Times the proved library and SQLite's changegroup taking the same changesets together, 100 of 100 changes, 100 of 1,000 and
 # 1,000 of 1,000, and both taking one changeset back, in one run, and fails where they differ. Each takes its turn in a process of its own,
 # since what a call costs goes with the memory that was given back before it: the ratios are those of a call that follows others, and of
-# the first call of a process, which pays for fresh pages. Usage: bench/combine.sh [TURNS]
+# the first call of a process, which pays for fresh pages. Usage: bench/combine.sh [TURNS [tables]]
+# With `tables` it times changesets that insert a row into each of many tables instead: of as many groups over 999, 100 and 10 tables,
+# and of twice and four times as many over 999.
 # The library is built where the environment's `library` names none.
 set -eu
 bench="$(cd "$(dirname "$0")" && pwd)"
 . "$bench/common.sh"
 turns="${1:-5}"
+cases="${2:-}"
 
 need_sqlite || { echo "SQLite's library with its session extension can't be had here" >&2; exit 1; }
 build_library
@@ -37,6 +40,21 @@ time_case() {
             print least[4] / bytes, least[2] / bytes > costs
         }' "$out/combine_turns"
 }
+
+# Times so many changesets that insert a row into each of so many tables.
+time_tables() {
+    "$out/sqlite_capture" tables "$1" "$2" "$out/tables"
+    time_case "$1 changesets of a row in each of $2 tables taken together" together 1 "$out/tables"
+}
+
+if [ "$cases" = tables ]; then
+    time_tables 9990 10
+    time_tables 999 100
+    time_tables 100 999
+    time_tables 200 999
+    time_tables 400 999
+    exit 0
+fi
 
 "$out/sqlite_capture" overlapping 100 100 "$out/small"
 "$out/sqlite_capture" overlapping 100 1000 "$out/middle"

@@ -4,6 +4,7 @@
  * sqlite_capture changes COUNT FILE            writes one changeset of COUNT changes of a table with four columns
  * sqlite_capture overlapping COUNT SIZE FILE   writes COUNT changesets of SIZE changes of that table one after another,
  *                                              and how long each is, one a line, into FILE.lengths
+ * sqlite_capture tables COUNT TABLES FILE      the same of COUNT changesets that insert a row into each of TABLES tables
  *
  * No case has a REAL value: this project's profile of the format refuses them. */
 #include "session.h"
@@ -196,12 +197,29 @@ static void change_slots(struct items *items, struct slot *slots, long size) {
     run(items->db, "COMMIT");
 }
 
+/* Files of changesets one after another, and of how long each is. */
+struct captured {
+    FILE *stream, *lengths;
+};
+
+static struct captured create_both(const char *path) {
+    char lengths_path[4096];
+    snprintf(lengths_path, sizeof lengths_path, "%s.lengths", path);
+    return (struct captured){.stream = create(path), .lengths = create(lengths_path)};
+}
+
+static void append_with_length(struct captured *captured, sqlite3 *db, sqlite3_session *session) {
+    fprintf(captured->lengths, "%zu\n", append_changeset(db, session, captured->stream));
+}
+
+static void close_both(struct captured *captured, const char *path) {
+    if (fclose(captured->stream) != 0 || fclose(captured->lengths) != 0) fail(path, "can't be written");
+}
+
 /* COUNT changesets of SIZE changes each, which follow on one another. Half of the keys of each are keys of the one before:
  * of those, half were new there, so that a key stays for two changesets on average, and some for many. */
 static void capture_overlapping(long count, long size, const char *path) {
-    char lengths_path[4096];
-    snprintf(lengths_path, sizeof lengths_path, "%s.lengths", path);
-    FILE *stream = create(path), *lengths = create(lengths_path);
+    struct captured captured = create_both(path);
     struct items items = open_items();
     struct slot *slots = calloc((size_t)size, sizeof *slots);
     if (!slots) fail(path, "no memory");
@@ -212,11 +230,49 @@ static void capture_overlapping(long count, long size, const char *path) {
         move_on(slots, size, &next_id);
         sqlite3_session *session = watch(items.db);
         change_slots(&items, slots, size);
-        fprintf(lengths, "%zu\n", append_changeset(items.db, session, stream));
+        append_with_length(&captured, items.db, session);
     }
-    if (fclose(stream) != 0 || fclose(lengths) != 0) fail(path, "can't be written");
+    close_both(&captured, path);
     free(slots);
     close_items(&items);
+}
+
+/* Makes a table, and what inserts a row into it. */
+static sqlite3_stmt *new_table(sqlite3 *db, long number) {
+    char sql[128];
+    snprintf(sql, sizeof sql, "CREATE TABLE t%ld(id INTEGER PRIMARY KEY, v TEXT)", number);
+    run(db, sql);
+    snprintf(sql, sizeof sql, "INSERT INTO t%ld VALUES(?1, ?2)", number);
+    return prepare(db, sql);
+}
+
+static void insert_into_all(sqlite3 *db, sqlite3_stmt **inserts, long tables, long id, uint64_t *state) {
+    run(db, "BEGIN");
+    for (long table = 0; table < tables; table++) {
+        sqlite3_bind_int64(inserts[table], 1, id);
+        bind_text(inserts[table], 2, state);
+        execute(db, inserts[table]);
+    }
+    run(db, "COMMIT");
+}
+
+/* COUNT changesets, each of which inserts a row into each of so many tables. */
+static void capture_tables(long count, long tables, const char *path) {
+    struct captured captured = create_both(path);
+    uint64_t state = 88172645463325252u;
+    sqlite3 *db = open_memory();
+    sqlite3_stmt **inserts = calloc((size_t)tables, sizeof *inserts);
+    if (!inserts) fail(path, "no memory");
+    for (long table = 0; table < tables; table++) inserts[table] = new_table(db, table);
+    for (long changeset = 0; changeset < count; changeset++) {
+        sqlite3_session *session = watch(db);
+        insert_into_all(db, inserts, tables, changeset, &state);
+        append_with_length(&captured, db, session);
+    }
+    close_both(&captured, path);
+    for (long table = 0; table < tables; table++) sqlite3_finalize(inserts[table]);
+    free(inserts);
+    sqlite3_close(db);
 }
 
 int main(int count, char **words) {
@@ -227,8 +283,10 @@ int main(int count, char **words) {
         capture_changes(strtol(words[2], NULL, 10), words[3]);
     } else if (count == 5 && strcmp(mode, "overlapping") == 0) {
         capture_overlapping(strtol(words[2], NULL, 10), strtol(words[3], NULL, 10), words[4]);
+    } else if (count == 5 && strcmp(mode, "tables") == 0) {
+        capture_tables(strtol(words[2], NULL, 10), strtol(words[3], NULL, 10), words[4]);
     } else {
-        fprintf(stderr, "usage: sqlite_capture cases DIRECTORY | changes COUNT FILE | overlapping COUNT SIZE FILE\n");
+        fprintf(stderr, "usage: sqlite_capture cases DIRECTORY | changes COUNT FILE | overlapping COUNT SIZE FILE | tables COUNT TABLES FILE\n");
         return 2;
     }
     return 0;
