@@ -9,29 +9,12 @@ use cs_pending::EditFault;
 use cs_rows::RowAtKey;
 use cs_spine::Spine;
 use cs_store::StoreFault;
-use cs_value::{Catalog, Edit, Items, Memory, TableDef, Text, Value};
+use cs_store_cases::catalog;
+use cs_value::{Edit, Items, Memory, Text, Value};
 use std::alloc::Global;
 
 /// A node over the store in memory.
 pub(crate) type Here<'s> = Node<'s, MapStore>;
-
-/// The table t1 of two columns, of which the first is the key.
-fn table(alloc: Global) -> Result<TableDef, Memory> {
-    Ok(TableDef {
-        name: Text::from_string(String::from_str(alloc, "t1")?),
-        key_marks: Items::from_vec(vec![in alloc; true, false]?),
-    })
-}
-
-fn tables(alloc: Global) -> Result<Vec<TableDef>, Memory> {
-    let mut tables = Vec::new(alloc);
-    tables.push(table(alloc)?)?;
-    Ok(tables)
-}
-
-pub(crate) fn catalog(alloc: Global) -> Option<Catalog> {
-    Catalog::new(tables(alloc).ok()?).ok()
-}
 
 /// A new node with this id.
 pub(crate) fn begun<'s>(alloc: Global, spine: &'s Spine, id: u32) -> Option<Here<'s>>

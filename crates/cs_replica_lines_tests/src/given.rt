@@ -4,21 +4,8 @@ ghost use Rattle.std.specs.Prelude.{◌<◌, ◌-◌, ◌^◌};
 
 use cs_replica_lines::{NodeFault, node_on};
 use cs_store::RowStore;
-use cs_value::{Catalog, Items, Memory, TableDef, Text};
+use cs_value::Catalog;
 use std::alloc::Global;
-
-fn tables(alloc: Global) -> Result<Vec<TableDef>, Memory> {
-    let mut tables = Vec::new(alloc);
-    tables.push(TableDef {
-        name: Text::from_string(String::from_str(alloc, "t1")?),
-        key_marks: Items::from_vec(vec![in alloc; true, false]?),
-    })?;
-    Ok(tables)
-}
-
-pub(crate) fn catalog(alloc: Global) -> Option<Catalog> {
-    Catalog::new(tables(alloc).ok()?).ok()
-}
 
 /// How the node with this id ends over a store, whether it prints this, and the store.
 pub(crate) fn runs<S: RowStore>(

@@ -1,8 +1,9 @@
 //! Lines over a store in memory, and what is printed of them.
 
-use crate::given::{catalog, runs};
+use crate::given::runs;
 use cs_map_store::MapStore;
 use cs_replica_lines::NodeFault;
+use cs_store_cases::catalog;
 use std::alloc::Global;
 
 /// Whether a new node prints this of its lines, and ends so.

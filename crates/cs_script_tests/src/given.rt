@@ -1,16 +1,8 @@
 //! Scripts over one table, `t1(a, b)`, whose first column is the key.
 
 use cs_script::{ScriptFault, run_script};
-use cs_value::{Catalog, Items, TableDef, Text};
+use cs_store_cases::catalog;
 use std::alloc::Global;
-
-fn catalog(alloc: Global) -> Option<Catalog> {
-    let name = Text::from_string(String::from_str(alloc, "t1").ok()?);
-    let key_marks = Items::from_vec(Vec::from_slice(alloc, &[true, false]).ok()?);
-    let mut tables = Vec::new(alloc);
-    tables.push(TableDef { name, key_marks }).ok()?;
-    Catalog::new(tables).ok()
-}
 
 /// Whether this is printed of a script, in a world of so many replicas.
 pub(crate) fn prints(alloc: Global, replicas: u32, script: &str, printed: &str) -> Option<bool> {

@@ -1,7 +1,7 @@
 //! What tests of stores share: batches that are made of parts (`batch`), all that a store shows, as text (`image`), and cases of both,
 //! with what is shown, that were written by hand (`shows_commits`, `is_found`). It stands on `cs_store` alone, so that any store can be
-//! asked. No call promises more than to return: it is for tests, `cs_store_tests`, `cs_sql_tests`, `cs_over_sqlite_tests` and what these
-//! share of files (`cs_sql_disks`), which see what comes of it.
+//! asked; tests higher up take the catalog of its one table. No call promises more than to return: it is for tests alone, which see what comes
+//! of it.
 #![tactic(auto)]
 
 mod commits;

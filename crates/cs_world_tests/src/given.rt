@@ -7,8 +7,9 @@ use cs_conflict::Wish;
 use cs_map_store::MapStore;
 use cs_opening::OpenFault;
 use cs_store::RowStore;
+use cs_store_cases::catalog;
 use cs_text::ValueText;
-use cs_value::{Catalog, Edit, Field, Fields, Items, Key, Memory, Row, TableDef, Text, Value};
+use cs_value::{Catalog, Edit, Field, Fields, Key, Memory, Row, Text, Value};
 use cs_world::{Event, Outcome, WishList, World};
 use std::alloc::Global;
 
@@ -27,18 +28,6 @@ pub(crate) enum Act {
 
 fn text(alloc: Global, text: &str) -> Result<Text, Memory> {
     Ok(Text::from_string(String::from_str(alloc, text)?))
-}
-
-pub(crate) fn catalog(alloc: Global) -> Option<Catalog> {
-    let mut tables = Vec::new(alloc);
-    let marks = Items::from_vec(Vec::from_slice(alloc, &[true, false]).ok()?);
-    tables
-        .push(TableDef {
-            name: text(alloc, "t1").ok()?,
-            key_marks: marks,
-        })
-        .ok()?;
-    Catalog::new(tables).ok()
 }
 
 pub(crate) fn world(alloc: Global, replicas: u8) -> Option<World<MapStore>> {
