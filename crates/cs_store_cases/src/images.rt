@@ -144,7 +144,7 @@ pub fn image<S: RowStore>(alloc: Global, store: &mut S) -> Result<Vec<u8>, Store
 }
 
 /// The same of a store that is then let go; none where it can't be read.
-// A store in files is dear to let go in a proof, and any store isn't.
+// A store in SQLite is dear to let go in a proof, and any store is cheap.
 pub fn image_of<S: RowStore + Drop>(alloc: Global, store: S) -> Option<Vec<u8>> {
     let mut store = store;
     image(alloc, &mut store).ok()
