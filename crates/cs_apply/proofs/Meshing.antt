@@ -3,7 +3,7 @@ use Rattle.std.proofs.Common.{◌≡◌, ◌≤◌, ◌<◌, ◌+◌, ℕ, suc, 
 use Rattle.std.specs.Prelude.{slice_get, slice_set}
 use Rattle.std.proofs.lemmas.List.{length-set, take_more_set, drop-set-lt, drop_all, append_assoc, append-nil}
 use Rattle.std.proofs.Math.Seq.{drop-cons}
-use Rattle.std.proofs.lemmas.Option.{slice_get-get_or}
+use Rattle.std.proofs.lemmas.Option.{get_or_from_slice_get, slice_get-get_or}
 use Rattle.cs_edits.specs.Edits.{BodyEdit}
 use Rattle.cs_apply.specs.Edited.{edit_list, edit_for, edits_for}
 use Rattle.cs_apply.specs.Woven.{weave, count_waiting, made_edits, stand_in, waits_of, not_waiting, mesh}
@@ -39,8 +39,9 @@ rest_at xs at x within =
     let more : suc at ≡ at + 1 = omega arith in
     drop-cons xs at x within ∙ ap (λ n. get_or xs at x ∷ drop n xs) more
 
-pub slots_from : (slots : List Slot) (next : ℕ) (slot : Slot) → next < length slots → get_or slots next slot ≡ slot → drop next slots ≡ slot ∷ drop (next + 1) slots
-slots_from slots next slot less is = rest_at slots next slot less ∙ ap (λ (s : Slot). s ∷ drop (next + 1) slots) is
+pub slots_from : (slots : List Slot) (next : ℕ) (slot : Slot) → next < length slots → slice_get slots next ≡ Some slot → drop next slots ≡ slot ∷ drop (next + 1) slots
+slots_from slots next slot less found =
+    rest_at slots next slot less ∙ ap (λ (s : Slot). s ∷ drop (next + 1) slots) (get_or_from_slice_get slots next slot slot found)
 
 -- of each edit it is told whether it waits
 first_long : (o : Option BodyEdit) (waits : List Bool) (made : List BodyEdit) → length waits ≡ length made

@@ -1,9 +1,9 @@
 -- One place more is found, and all of them.
-use Rattle.std.proofs.Common.{◌≡◌, ◌≢◌, ◌⊎◌, inl, inr, ◌<◌, ◌+◌, ◌++◌, eqb, eqb-true, eq-eqb, ℕ, zero, suc, Bool, true, List, [], ◌∷◌, length, map, take, get_or, Option, Some, None, refl, sym, subst, ap, ◌∙◌, arith}
+use Rattle.std.proofs.Common.{◌≡◌, ◌≢◌, ◌⊎◌, inl, inr, ◌<◌, ◌+◌, ◌++◌, ℕ, zero, suc, Bool, true, List, [], ◌∷◌, length, map, take, get_or, Option, Some, None, refl, sym, subst, ap, ◌∙◌, arith}
 use Rattle.std.specs.Prelude.{slice_get}
 use Rattle.std.specs.List.{AllByRecursion, Contains}
-use Rattle.std.proofs.lemmas.List.{take_more, take_all, map-append, length-append, append_assoc}
-use Rattle.std.proofs.lemmas.Option.{slice_get_within}
+use Rattle.std.proofs.lemmas.List.{take_more, take_all, map-append, length-append, append_assoc, get_or_append_left, get_or_default, get_or_push}
+use Rattle.std.proofs.lemmas.Option.{get_or_from_slice_get, slice_get_within}
 use Rattle.cs_tasks.specs.cs_change.Change.{Change}
 use Rattle.cs_tasks.specs.cs_order.Order.{Keys, key_at}
 use Rattle.cs_tasks.specs.cs_order.Groups.{IsGrouping}
@@ -11,14 +11,14 @@ use Rattle.cs_edits.specs.Edits.{BodyEdit}
 use Rattle.cs_apply.specs.Edited.{edit_list, edit_for}
 use Rattle.cs_apply.specs.Found.{AreSlots, IsSlotAt, heads}
 use Rattle.cs_apply.specs.Meeting.{blank}
-use Rattle.cs_apply.specs.Spots.{by_test}
-use Rattle.cs_apply.specs.Waiting.{first_of, IsTurn, IsDone, ArePlacesSoFar, IsPut, IsPutMade, IsPutWaiting, ArePlacesFound}
+use Rattle.cs_apply.specs.Numbers.{HaveNumbers, AreWaitingGroups}
+use Rattle.cs_apply.specs.Waiting.{first_of, only_change, IsTurn, IsDone, ArePlacesSoFar, IsPut, IsPutMade, IsPutWaiting, ArePlacesFound}
 use Rattle.cs_apply.specs.Woven.{weave, unmade, IsWaiting, count_waiting, made_edits, stand_in, waits_of, not_waiting}
-use Rattle.cs_apply.specs.declared.places.Places.{Places}
+use Rattle.cs_apply.specs.declared.places.FoundPlaces.{FoundPlaces}
 use Rattle.cs_apply.specs.declared.slots.Slot.{Slot}
-use Rattle.cs_apply.proofs.Numbering.{group_numbers, numbers_long, in_own, number_is, member_within, heads_rise, firsts_within, numbers_are, groups_apart}
+use Rattle.cs_apply.proofs.Numbering.{below_or_at, group_numbers, numbers_long, in_own, number_is, member_within, members_within, heads_rise, firsts_within, numbers_are, groups_apart}
 use Rattle.cs_apply.proofs.Reading.{slot_more}
-use Rattle.cs_apply.proofs.Weaving.{Held}
+use Rattle.cs_apply.proofs.Weaving.{Held, waiting_within}
 
 -- ---- one more place behind the others
 
@@ -126,15 +126,47 @@ waits_none (None ∷ held) zero (suc number) next is found = is
 waits_none (None ∷ held) (suc at) zero next is found = is
 waits_none (None ∷ held) (suc at) (suc number) next is found = waits_none held at number next is found
 
--- a group of one
-only_one : (group : List ℕ) → length group ≡ 1 → group ≡ first_of group ∷ []
-only_one [] long = absurd (omega (arith, long))
-only_one (x ∷ []) long = refl
-only_one (x ∷ y ∷ group) long = absurd (omega (arith, long))
+-- a place that waits is one of them
+waiting_below : (held : Held) (at number : ℕ) → IsWaiting held at number → at < length held
+waiting_below [] at number is = absurd is
+waiting_below (Some m ∷ held) zero number is = absurd is
+waiting_below (Some m ∷ held) (suc at) number is = let h = waiting_below held at number is in omega (arith, h)
+waiting_below (None ∷ held) zero number is = omega arith
+waiting_below (None ∷ held) (suc at) zero is = absurd is
+waiting_below (None ∷ held) (suc at) (suc number) is = let h = waiting_below held at number is in omega (arith, h)
 
-first_there : (group : List ℕ) → length group ≡ 1 → Contains group (first_of group)
-first_there [] long = absurd (omega (arith, long))
-first_there (x ∷ group) long = (0, omega arith, refl)
+-- a later one has a higher number
+waiting_rises : (held : Held) (p q i j : ℕ) → IsWaiting held p i → IsWaiting held q j → i < j → p < q
+waiting_rises [] p q i j one other less = absurd one
+waiting_rises (Some m ∷ held) zero q i j one other less = absurd one
+waiting_rises (Some m ∷ held) (suc p) zero i j one other less = absurd other
+waiting_rises (Some m ∷ held) (suc p) (suc q) i j one other less = let h = waiting_rises held p q i j one other less in omega (arith, h)
+waiting_rises (None ∷ held) p q i zero one other less = absurd (omega (arith, less))
+waiting_rises (None ∷ held) p zero i (suc j) one other less = absurd other
+waiting_rises (None ∷ held) zero (suc q) i (suc j) one other less = omega arith
+waiting_rises (None ∷ held) (suc p) (suc q) zero (suc j) one other less = absurd one
+waiting_rises (None ∷ held) (suc p) (suc q) (suc i) (suc j) one other less =
+    let h = waiting_rises held p q i j one other (omega (arith, less)) in omega (arith, h)
+
+-- no other has its number
+one_waiting : (held : Held) (p q number : ℕ) → IsWaiting held p number → IsWaiting held q number → p ≡ q
+one_waiting [] p q number one other = absurd one
+one_waiting (Some m ∷ held) zero q number one other = absurd one
+one_waiting (Some m ∷ held) (suc p) zero number one other = absurd other
+one_waiting (Some m ∷ held) (suc p) (suc q) number one other = ap suc (one_waiting held p q number one other)
+one_waiting (None ∷ held) zero zero number one other = refl
+one_waiting (None ∷ held) zero (suc q) zero one other = absurd other
+one_waiting (None ∷ held) zero (suc q) (suc number) one other = absurd one
+one_waiting (None ∷ held) (suc p) q zero one other = absurd one
+one_waiting (None ∷ held) (suc p) zero (suc number) one other = absurd other
+one_waiting (None ∷ held) (suc p) (suc q) (suc number) one other = ap suc (one_waiting held p q number one other)
+
+-- a group of one
+alone_at : (changes : List Change) (group : List ℕ) (change : Change) → only_change changes group ≡ Some change
+    → (at : ℕ) × (group ≡ at ∷ []) × ((some : Change) → get_or changes at some ≡ change)
+alone_at changes [] change is = absurd (let f = is in cc)
+alone_at changes (at ∷ []) change is = (at, refl, λ some. get_or_from_slice_get changes at change some is)
+alone_at changes (at ∷ other ∷ group) change is = absurd (let f = is in cc)
 
 of_one : (x y : ℕ) → Contains (x ∷ []) y → x ≡ y
 of_one x y (zero, less, is) = is
@@ -142,17 +174,13 @@ of_one x y (suc k, less, is) = absurd (omega (arith, less))
 
 -- ---- all places of the groups
 
-below_or_last : (i j : ℕ) → i < j + 1 → (i < j) ⊎ (i ≡ j)
-below_or_last i j less = by_test (eqb i j) _ (λ t. inr (eqb-true i j t)) (λ f. inl (let apart : i ≢ j = (λ e. let t = eq-eqb i j e in cc) in omega (arith, less, apart)))
-
 module _ (keys : Keys) (groups : List (List ℕ)) (grouping : IsGrouping keys groups) (changes : List Change) where
   abbrev group_at : ℕ → List ℕ
   group_at place = get_or groups place []
 
-  pub started : (read : Slot → Type 0) (places : Places) → places.made ≡ [] → places.slots.items ≡ [] → places.waits.items ≡ []
-      → length places.numbers ≡ length keys → ((at : ℕ) → get_or places.numbers at None ≡ None)
-      → ArePlacesSoFar keys groups changes read 0 places
-  started read places made slots waits long none = record {
+  pub started : (read : Slot → Type 0) (places : FoundPlaces) → places.made ≡ [] → places.slots ≡ [] → places.waits.items ≡ []
+      → places.groups.items ≡ [] → ArePlacesSoFar keys groups changes read 0 places
+  started read places made slots waits none = record {
     held = [];
     long = refl;
     counted = ap length (sym slots);
@@ -160,9 +188,9 @@ module _ (keys : Keys) (groups : List (List ℕ)) (grouping : IsGrouping keys gr
     waits = waits;
     as_read = tt;
     slots = tt;
-    numbers = long;
     done = λ place less. absurd (omega (arith, less));
-    later = λ place at past less c. none at;
+    as_many = ap length none ∙ sym (ap length slots);
+    groups_wait = λ number less. absurd (omega (arith, less, ap length none));
   }
 
   next_heads : (count : ℕ) → count < length groups
@@ -173,114 +201,152 @@ module _ (keys : Keys) (groups : List (List ℕ)) (grouping : IsGrouping keys gr
       ∙ map-append (key_at keys) (map first_of (take count groups)) (first_of (group_at count) ∷ []))
 
   -- what has come of a place stays
-  stays_done : (held more : Held) (numbers others : List (Option ℕ)) (place : ℕ) → ((at : ℕ) → Contains (group_at place) at → get_or others at None ≡ get_or numbers at None)
-      → IsDone held changes numbers place (group_at place) → IsDone (held ++ more) changes others place (group_at place)
-  stays_done held more numbers others place same (inl (at, next, is, found, by, none)) =
-      inl (at, next, is, get_left held more place next found, by, same at (rw is (0, omega arith, refl)) ∙ none)
-  stays_done held more numbers others place same (inr (number, waits, given)) =
-      inr (number, waiting_left held more place number waits, λ at c. same at c ∙ given at c)
+  stays_done : (held more : Held) (place : ℕ) → IsDone held changes place (group_at place) → IsDone (held ++ more) changes place (group_at place)
+  stays_done held more place (inl (at, next, is, found, by)) = inl (at, next, is, get_left held more place next found, by)
+  stays_done held more place (inr (number, waits)) = inr (number, waiting_left held more place number waits)
 
-  module _ (read more : Slot → Type 0) (still : (slot : Slot) → read slot → more slot) (count : ℕ) (slot : Slot) (old new : Places) (less : count < length groups)
+  module _ (read more : Slot → Type 0) (still : (slot : Slot) → read slot → more slot) (count : ℕ) (slot : Slot) (old new : FoundPlaces) (less : count < length groups)
       (so_far : ArePlacesSoFar keys groups changes read count old) (here : IsSlotAt (key_at keys (first_of (group_at count))) slot) (is_read : more slot) where
-    slots_before : AreSlots (heads keys (map first_of (take (count + 1) groups))) (weave (unmade so_far.held) old.slots.items ++ slot ∷ [])
-    slots_before = rw (next_heads count less) (slot_more (heads keys (map first_of (take count groups))) (weave (unmade so_far.held) old.slots.items) _ slot so_far.slots here)
+    slots_before : AreSlots (heads keys (map first_of (take (count + 1) groups))) (weave (unmade so_far.held) old.slots ++ slot ∷ [])
+    slots_before = rw (next_heads count less) (slot_more (heads keys (map first_of (take count groups))) (weave (unmade so_far.held) old.slots) _ slot so_far.slots here)
 
-    read_before : AllByRecursion more (weave (unmade so_far.held) old.slots.items ++ slot ∷ [])
-    read_before = all_push more (weave (unmade so_far.held) old.slots.items) slot (all_more read more still _ so_far.as_read) is_read
+    read_before : AllByRecursion more (weave (unmade so_far.held) old.slots ++ slot ∷ [])
+    read_before = all_push more (weave (unmade so_far.held) old.slots) slot (all_more read more still _ so_far.as_read) is_read
 
-    one_made : IsPutMade changes (group_at count) slot old new → ArePlacesSoFar keys groups changes more (count + 1) new
+    one_made : IsPutMade (only_change changes (group_at count)) slot old new → ArePlacesSoFar keys groups changes more (count + 1) new
     one_made put =
         let held = so_far.held ++ Some put.next ∷ [] in
-        let woven : weave (unmade held) new.slots.items ≡ weave (unmade so_far.held) old.slots.items ++ slot ∷ [] =
-        ap (weave (unmade held)) put.slots ∙ (woven_made so_far.held old.slots.items put.next so_far.counted ∙ ap (λ s. weave (unmade so_far.held) old.slots.items ++ s ∷ []) (sym put.blank_is)) in
+        let woven : weave (unmade held) new.slots ≡ weave (unmade so_far.held) old.slots ++ slot ∷ [] =
+        ap (weave (unmade held)) put.edit.slots ∙ (woven_made so_far.held old.slots put.next so_far.counted ∙ ap (λ s. weave (unmade so_far.held) old.slots ++ s ∷ []) (sym put.blank_is)) in
         record {
           held = held;
           long = length-append so_far.held (Some put.next ∷ []) ∙ ap (λ n. n + 1) so_far.long;
-          counted = count_made so_far.held put.next ∙ (so_far.counted ∙ ap length (sym put.slots));
-          made = put.made ∙ (ap (λ es. es ++ edit_list (edit_for put.next)) so_far.made ∙ sym (edits_made so_far.held put.next));
-          waits = put.waits ∙ (ap (λ bs. bs ++ map not_waiting (edit_list (edit_for put.next))) so_far.waits ∙ sym (waits_made so_far.held put.next));
+          counted = count_made so_far.held put.next ∙ (so_far.counted ∙ ap length (sym put.edit.slots));
+          made = put.edit.made ∙ (ap (λ es. es ++ edit_list (edit_for put.next)) so_far.made ∙ sym (edits_made so_far.held put.next));
+          waits = put.edit.waits ∙ (ap (λ bs. bs ++ map not_waiting (edit_list (edit_for put.next))) so_far.waits ∙ sym (waits_made so_far.held put.next));
           as_read = subst (AllByRecursion more) (sym woven) read_before;
           slots = subst (AreSlots (heads keys (map first_of (take (count + 1) groups)))) (sym woven) slots_before;
-          numbers = ap length put.numbers ∙ so_far.numbers;
-          done = λ place within. made_done put place (below_or_last place count within);
-          later = λ place at past inside c. ap (λ ns. get_or ns at None) put.numbers ∙ so_far.later place at (omega (arith, past)) inside c;
+          done = λ place within. made_done put place (below_or_at place count within);
+          as_many = ap length put.edit.groups ∙ (so_far.as_many ∙ ap length (sym put.edit.slots));
+          groups_wait = λ number inside. rw put.edit.groups
+              (waiting_left so_far.held (Some put.next ∷ []) _ number (so_far.groups_wait number (omega (arith, inside, ap length put.edit.groups))));
         }
       where
-        made_done : (put : IsPutMade changes (group_at count) slot old new) (place : ℕ) → (place < count) ⊎ (place ≡ count)
-            → IsDone (so_far.held ++ Some put.next ∷ []) changes new.numbers place (group_at place)
-        made_done put place (inl below) =
-            stays_done so_far.held (Some put.next ∷ []) old.numbers new.numbers place (λ at c. ap (λ ns. get_or ns at None) put.numbers) (so_far.done place below)
+        made_done : (put : IsPutMade (only_change changes (group_at count)) slot old new) (place : ℕ) → (place < count) ⊎ (place ≡ count)
+            → IsDone (so_far.held ++ Some put.next ∷ []) changes place (group_at place)
+        made_done put place (inl below) = stays_done so_far.held (Some put.next ∷ []) place (so_far.done place below)
         made_done put place (inr is) =
-            let first = first_of (group_at count) in
             let there : slice_get (so_far.held ++ Some put.next ∷ []) count ≡ Some (Some put.next) =
             ap (slice_get (so_far.held ++ Some put.next ∷ [])) (sym so_far.long) ∙ get_last so_far.held put.next in
-            let none : get_or new.numbers first None ≡ None =
-            ap (λ ns. get_or ns first None) put.numbers ∙ so_far.later count first (omega arith) less (first_there (group_at count) put.single) in
-            rw is (inl (first, put.next, only_one (group_at count) put.single, there, put.by, none))
+            let own = alone_at changes (group_at count) put.change put.alone_is in
+            rw is (inl (own.0, put.next, own.1, there, λ some. rw (own.2 some) put.by))
 
-    one_waits : IsPutWaiting (group_at count) slot old new → ArePlacesSoFar keys groups changes more (count + 1) new
+    one_waits : IsPutWaiting count slot old new → ArePlacesSoFar keys groups changes more (count + 1) new
     one_waits put =
         let held = so_far.held ++ None ∷ [] in
-        let woven : weave (unmade held) new.slots.items ≡ weave (unmade so_far.held) old.slots.items ++ slot ∷ [] =
-        ap (weave (unmade held)) put.slots ∙ woven_waits so_far.held old.slots.items slot so_far.counted in
+        let woven : weave (unmade held) new.slots ≡ weave (unmade so_far.held) old.slots ++ slot ∷ [] =
+        ap (weave (unmade held)) put.slots ∙ woven_waits so_far.held old.slots slot so_far.counted in
+        let one_slot : length new.slots ≡ length old.slots + 1 = ap length put.slots ∙ length-append old.slots (slot ∷ []) in
+        let one_group : length new.groups.items ≡ length old.groups.items + 1 = ap length put.groups ∙ length-append old.groups.items (count ∷ []) in
         record {
           held = held;
           long = length-append so_far.held (None ∷ []) ∙ ap (λ n. n + 1) so_far.long;
-          counted = count_waits so_far.held ∙ (ap suc so_far.counted ∙ sym (ap length put.slots ∙ (length-append old.slots.items (slot ∷ []) ∙ omega arith)));
+          counted = count_waits so_far.held ∙ (ap suc so_far.counted ∙ omega (arith, one_slot));
           made = put.made ∙ (ap (λ es. es ++ stand_in ∷ []) so_far.made ∙ sym (edits_wait so_far.held));
           waits = put.waits ∙ (ap (λ bs. bs ++ true ∷ []) so_far.waits ∙ sym (waits_wait so_far.held));
           as_read = subst (AllByRecursion more) (sym woven) read_before;
           slots = subst (AreSlots (heads keys (map first_of (take (count + 1) groups)))) (sym woven) slots_before;
-          numbers = put.numbers ∙ so_far.numbers;
-          done = λ place within. waits_done put place (below_or_last place count within);
-          later = λ place at past inside c.
-              put.kept at (λ other. groups_apart keys groups grouping count place at (omega (arith, past)) inside other c)
-              ∙ so_far.later place at (omega (arith, past)) inside c;
+          done = λ place within. waits_done place (below_or_at place count within);
+          as_many = omega (arith, one_slot, one_group, so_far.as_many);
+          groups_wait = λ number inside. rw put.groups (group_waits number (below_or_at number (length old.groups.items) (omega (arith, inside, one_group))));
         }
       where
-        waits_done : (put : IsPutWaiting (group_at count) slot old new) (place : ℕ) → (place < count) ⊎ (place ≡ count)
-            → IsDone (so_far.held ++ None ∷ []) changes new.numbers place (group_at place)
-        waits_done put place (inl below) =
-            stays_done so_far.held (None ∷ []) old.numbers new.numbers place
-            (λ at c. put.kept at (λ other. groups_apart keys groups grouping place count at below less c other)) (so_far.done place below)
-        waits_done put place (inr is) =
-            let waits : IsWaiting (so_far.held ++ None ∷ []) count (count_waiting so_far.held) =
-            subst (λ (n : ℕ). IsWaiting (so_far.held ++ None ∷ []) n (count_waiting so_far.held)) so_far.long (waiting_last so_far.held) in
-            rw is (inr (count_waiting so_far.held, waits, λ at c. put.given at c ∙ ap (λ n. Some n) (sym so_far.counted)))
+        last_waits : IsWaiting (so_far.held ++ None ∷ []) count (count_waiting so_far.held)
+        last_waits = subst (λ (n : ℕ). IsWaiting (so_far.held ++ None ∷ []) n (count_waiting so_far.held)) so_far.long (waiting_last so_far.held)
+
+        waits_done : (place : ℕ) → (place < count) ⊎ (place ≡ count) → IsDone (so_far.held ++ None ∷ []) changes place (group_at place)
+        waits_done place (inl below) = stays_done so_far.held (None ∷ []) place (so_far.done place below)
+        waits_done place (inr is) = rw is (inr (count_waiting so_far.held, last_waits))
+
+        group_waits : (number : ℕ) → (number < length old.groups.items) ⊎ (number ≡ length old.groups.items)
+            → IsWaiting (so_far.held ++ None ∷ []) (get_or (old.groups.items ++ count ∷ []) number 0) number
+        group_waits number (inl below) = rw (get_or_append_left old.groups.items (count ∷ []) 0 number below)
+            (waiting_left so_far.held (None ∷ []) _ number (so_far.groups_wait number below))
+        group_waits number (inr is) =
+            let place : get_or (old.groups.items ++ count ∷ []) number 0 ≡ count = get_or_push old.groups.items count 0 number (sym is) in
+            let slot_number : count_waiting so_far.held ≡ number = so_far.counted ∙ (sym so_far.as_many ∙ sym is) in
+            rw place (subst (λ (n : ℕ). IsWaiting (so_far.held ++ None ∷ []) count n) slot_number last_waits)
 
     -- one more place
-    pub one_more : IsPut changes (group_at count) slot old new → ArePlacesSoFar keys groups changes more (count + 1) new
+    pub one_more : IsPut count (only_change changes (group_at count)) slot old new → ArePlacesSoFar keys groups changes more (count + 1) new
     one_more (inl put) = one_made put
     one_more (inr put) = one_waits put
 
   -- ---- all of them
 
-  module _ (long : length changes ≡ length keys) (read : Slot → Type 0) (places : Places) (so_far : ArePlacesSoFar keys groups changes read (length groups) places) where
+  -- each slot's group is one, and no change is in two of them
+  pub waiting_groups : (read : Slot → Type 0) (places : FoundPlaces) → ArePlacesSoFar keys groups changes read (length groups) places
+      → length changes ≡ length keys → AreWaitingGroups groups places.groups.items (length changes)
+  waiting_groups read places so_far long = record {
+    within = λ k d less. rw (get_or_default places.groups.items k d 0 less) (inside k less);
+    below = λ number less. rw long (members_within keys groups grouping (get_or places.groups.items number 0) (inside number less));
+    apart = λ i j at less within one other.
+        let rises = waiting_rises so_far.held (get_or places.groups.items i 0) (get_or places.groups.items j 0) i j
+        (so_far.groups_wait i (omega (arith, less, within))) (so_far.groups_wait j within) less in
+        groups_apart keys groups grouping (get_or places.groups.items i 0) (get_or places.groups.items j 0) at rises (inside j within) one other;
+  }
+    where
+      inside : (number : ℕ) → number < length places.groups.items → get_or places.groups.items number 0 < length groups
+      inside number less =
+          let h = waiting_below so_far.held (get_or places.groups.items number 0) number (so_far.groups_wait number less) in
+          omega (arith, h, so_far.long)
+
+  module _ (long : length changes ≡ length keys) (read : Slot → Type 0) (places : FoundPlaces) (so_far : ArePlacesSoFar keys groups changes read (length groups) places)
+      (told : List (Option ℕ)) (numbered : HaveNumbers groups places.groups.items (length changes) told) where
     abbrev numbers : List ℕ
     numbers = group_numbers keys groups grouping
 
-    turn_of : (at : ℕ) (some : Change) → Contains (group_at (get_or numbers at 0)) at
-        → IsDone so_far.held changes places.numbers (get_or numbers at 0) (group_at (get_or numbers at 0))
-        → IsTurn so_far.held (get_or changes at some) (get_or numbers at 0) (get_or places.numbers at None)
-    turn_of at some inside (inl (own, next, is, found, by, none)) =
-        let same : own ≡ at = of_one own at (rw is at inside) in
-        let here : get_or places.numbers at None ≡ None = ap (λ k. get_or places.numbers k None) (sym same) ∙ none in
-        rw here (next, found, rw same at (by some))
-    turn_of at some inside (inr (number, waits, given)) = rw (given at inside) waits
+    -- a change of a place that is made has no number
+    none_of : (place at : ℕ) (next : Slot) → place < length groups → slice_get so_far.held place ≡ Some (Some next) → Contains (group_at place) at
+        → get_or told at None ≡ None
+    none_of place at next less found inside = numbered.others at (λ number within c.
+        let waits = so_far.groups_wait number within in
+        let other = get_or places.groups.items number 0 in
+        let h = waiting_below so_far.held other number waits in
+        let below : other < length groups = omega (arith, h, so_far.long) in
+        let same : other ≡ place = sym (number_is keys groups grouping other at below c) ∙ number_is keys groups grouping place at less inside in
+        waits_none so_far.held place number next (subst (λ (n : ℕ). IsWaiting so_far.held n number) same waits) found)
 
-    alone_in : (i j place : ℕ) → Contains (group_at place) i → Contains (group_at place) j → i ≢ j → get_or places.numbers i None ≡ None
-        → IsDone so_far.held changes places.numbers place (group_at place) → ⊥
-    alone_in i j place one other apart none (inl (own, next, is, found, by, none_there)) =
+    -- and one of a place that waits has that of its slot
+    number_of_slot : (place number at : ℕ) → IsWaiting so_far.held place number → Contains (group_at place) at → get_or told at None ≡ Some number
+    number_of_slot place number at waits inside =
+        let h = waiting_within so_far.held place number waits in
+        let within : number < length places.groups.items = omega (arith, h, so_far.counted, so_far.as_many) in
+        let same : get_or places.groups.items number 0 ≡ place =
+        one_waiting so_far.held (get_or places.groups.items number 0) place number (so_far.groups_wait number within) waits in
+        numbered.given number at within (rw same inside)
+
+    turn_of : (at : ℕ) (some : Change) → get_or numbers at 0 < length groups → Contains (group_at (get_or numbers at 0)) at
+        → IsDone so_far.held changes (get_or numbers at 0) (group_at (get_or numbers at 0))
+        → IsTurn so_far.held (get_or changes at some) (get_or numbers at 0) (get_or told at None)
+    turn_of at some less inside (inl (own, next, is, found, by)) =
+        let same : own ≡ at = of_one own at (rw is at inside) in
+        rw (none_of (get_or numbers at 0) at next less found inside) (next, found, rw same at (by some))
+    turn_of at some less inside (inr (number, waits)) = rw (number_of_slot (get_or numbers at 0) number at waits inside) waits
+
+    alone_in : (i j place : ℕ) → Contains (group_at place) i → Contains (group_at place) j → i ≢ j → get_or told i None ≡ None
+        → IsDone so_far.held changes place (group_at place) → ⊥
+    alone_in i j place one other apart none (inl (own, next, is, found, by)) =
         apart (sym (of_one own i (rw is at one)) ∙ of_one own j (rw is at other))
-    alone_in i j place one other apart none (inr (number, waits, given)) = let f = sym none ∙ given i one in cc
+    alone_in i j place one other apart none (inr (number, waits)) = let f = sym none ∙ number_of_slot place number i waits one in cc
 
     covered_by : (place : ℕ) (next : Slot) → place < length groups → slice_get so_far.held place ≡ Some (Some next)
-        → IsDone so_far.held changes places.numbers place (group_at place)
-        → (at : ℕ) × (at < length changes) × (get_or places.numbers at None ≡ None) × (get_or numbers at 0 ≡ place)
-    covered_by place next less found (inl (own, made, is, there, by, none)) =
+        → IsDone so_far.held changes place (group_at place)
+        → (at : ℕ) × (at < length changes) × (get_or told at None ≡ None) × (get_or numbers at 0 ≡ place)
+    covered_by place next less found (inl (own, made, is, there, by)) =
         let inside : Contains (group_at place) own = rw is (0, omega arith, refl) in
-        (own, omega (arith, member_within keys groups grouping place own less inside, long), none, number_is keys groups grouping place own less inside)
-    covered_by place next less found (inr (number, waits, given)) = absurd (waits_none so_far.held place number next waits found)
+        (own, omega (arith, member_within keys groups grouping place own less inside, long), none_of place own next less found inside, number_is keys groups grouping place own less inside)
+    covered_by place next less found (inr (number, waits)) = absurd (waits_none so_far.held place number next waits found)
 
     within_held : (place : ℕ) (next : Slot) → slice_get so_far.held place ≡ Some (Some next) → place < length groups
     within_held place next found = omega (arith, slice_get_within so_far.held place (Some next) found, so_far.long)
@@ -288,7 +354,7 @@ module _ (keys : Keys) (groups : List (List ℕ)) (grouping : IsGrouping keys gr
     own_group : (at : ℕ) → at < length changes → (get_or numbers at 0 < length groups) × Contains (group_at (get_or numbers at 0)) at
     own_group at less = in_own keys groups grouping at (omega (arith, less, long))
 
-    pub all_found : ArePlacesFound keys changes read places
+    pub all_found : ArePlacesFound keys changes read (record { made = places.made; slots = places.slots; waits = places.waits; numbers = told })
     all_found = record {
       firsts = map first_of groups;
       numbers = numbers;
@@ -303,8 +369,8 @@ module _ (keys : Keys) (groups : List (List ℕ)) (grouping : IsGrouping keys gr
         made = so_far.made;
         waits = so_far.waits;
         as_read = so_far.as_read;
-        long = (so_far.numbers ∙ sym long, numbers_long keys groups grouping ∙ sym long);
-        turns = λ at some less. let own = own_group at less in turn_of at some own.1 (so_far.done (get_or numbers at 0) own.0);
+        long = (numbered.long, numbers_long keys groups grouping ∙ sym long);
+        turns = λ at some less. let own = own_group at less in turn_of at some own.0 own.1 (so_far.done (get_or numbers at 0) own.0);
         alone = λ i j il jl apart none same.
             let own = own_group i il in
             let other : Contains (group_at (get_or numbers i 0)) j = subst (λ (k : ℕ). Contains (group_at k) j) (sym same) (own_group j jl).1 in

@@ -1,52 +1,70 @@
 -- The numbers of changes, as they are held.
-use Rattle.std.proofs.Common.{◌≡◌, ◌<◌, ◌-◌, ℕ, zero, suc, List, [], ◌∷◌, Option, Some, None, length, get_or, map, replicate, refl, sym, ap, ◌∙◌, arith}
-use Rattle.cs_apply.specs.Numbers.{number_of, numbers_told}
+use Rattle.std.proofs.Common.{◌≡◌, ◌+◌, ◌-◌, ℕ, zero, suc, List, [], ◌∷◌, Option, Some, None, length, get_or, map, replicate, drop, false, refl, ap, ◌∙◌, arith}
+use Rattle.std.specs.Bool.{◌==◌}
+use Rattle.std.proofs.lemmas.List.{length-map, length-replicate}
+use Rattle.cs_apply.specs.Numbers.{number_of, numbers_told, HaveNumbers}
+use Rattle.cs_apply.proofs.Giving.{AreGiven, AreKept}
 
 abbrev none : Option ℕ
 none = None
 
--- of many changes none is told
-pub none_at : (count at : ℕ) → get_or (replicate count none) at none ≡ none
-none_at zero at = refl
-none_at (suc count) zero = refl
-none_at (suc count) (suc at) = none_at count at
+-- before a change is told
+same_at : {A : Type 0} (a : A) (count at : ℕ) → get_or (replicate count a) at a ≡ a
+same_at a zero at = refl
+same_at a (suc count) zero = refl
+same_at a (suc count) (suc at) = same_at a count at
 
-pub none_told : (count : ℕ) → map number_of (replicate count 0) ≡ replicate count None
-none_told zero = refl
-none_told (suc count) = ap (λ (more : List (Option ℕ)). None ∷ more) (none_told count)
-
--- the number there
-pub told_at : (told : List ℕ) (at : ℕ) → get_or (map number_of told) at None ≡ number_of (get_or told at 0)
+-- the number of one that is told
+told_at : (told : List ℕ) (at : ℕ) → get_or (map number_of told) at None ≡ number_of (get_or told at 0)
 told_at [] at = refl
 told_at (first ∷ told) zero = refl
 told_at (first ∷ told) (suc at) = told_at told at
 
-pub last_of : (slots : ℕ) → 0 < slots → number_of slots ≡ Some (slots - 1)
-last_of zero some = absurd (omega (arith, some))
-last_of (suc last) some =
-    let same : last ≡ suc last - 1 = omega arith in
-    ap (λ (n : ℕ). Some n) same
+-- the number there
+told_there : (count : ℕ) (told : List ℕ) (at : ℕ) → get_or (numbers_told count told) at none ≡ number_of (get_or told at 0)
+told_there count [] at = same_at none count at
+told_there count (first ∷ told) at = told_at (first ∷ told) at
 
--- numbers that are told for the first time
-zeros_told : (count : ℕ) → numbers_told count (replicate count 0) ≡ replicate count None
-zeros_told zero = refl
-zeros_told (suc count) = none_told (suc count)
+-- one more than a number is told
+number_told : (number : ℕ) → number_of (number + 1) ≡ Some number
+number_told number =
+    let same : number + 1 ≡ suc number = omega arith in
+    ap number_of same
 
-pub fresh_same : (count : ℕ) (told fresh : List ℕ) → length told ≡ 0 → fresh ≡ replicate count 0 → numbers_told count fresh ≡ numbers_told count told
-fresh_same count [] fresh empty is = ap (numbers_told count) is ∙ zeros_told count
-fresh_same count (first ∷ told) fresh empty is = absurd (omega (arith, empty))
+told_long : (count : ℕ) (told : List ℕ) → length told ≡ count → length (numbers_told count told) ≡ count
+told_long count [] long = length-replicate count none
+told_long count (first ∷ told) long = length-map (first ∷ told) number_of ∙ long
 
-pub fresh_told : (count : ℕ) (told fresh : List ℕ) → length told ≡ 0 → fresh ≡ replicate count 0 → map number_of fresh ≡ numbers_told count told
-fresh_told count [] fresh empty is = ap (λ (ns : List ℕ). map number_of ns) is ∙ none_told count
-fresh_told count (first ∷ told) fresh empty is = absurd (omega (arith, empty))
+-- each group has its number, and nothing else is told
+pub numbers_given : (groups : List (List ℕ)) (waiting : List ℕ) (count : ℕ) (fresh told : List ℕ) → fresh ≡ replicate count 0 → length told ≡ count
+    → AreGiven groups waiting (length waiting) told → AreKept groups waiting (length waiting) fresh told → HaveNumbers groups waiting count (numbers_told count told)
+numbers_given groups waiting count fresh told is long put kept = record {
+  long = told_long count told long;
+  given = λ number at less inside. told_there count told at ∙ (ap number_of (put number at less inside) ∙ number_told number);
+  others = λ at outside. told_there count told at ∙ ap number_of (kept at outside ∙ (ap (λ (all : List ℕ). get_or all at 0) is ∙ same_at 0 count at));
+}
 
--- others of as many
-told_again : (count : ℕ) (told next : List ℕ) → length next ≡ length told → map number_of told ≡ numbers_told count told → numbers_told count next ≡ map number_of next
-told_again count [] [] same are = sym are
-told_again count (first ∷ told) [] same are = absurd (omega (arith, same))
-told_again count told (first ∷ next) same are = refl
+-- those behind so many, where nothing is told
+pub none_behind : (count some : ℕ) (told : List ℕ) → length told ≡ 0 → numbers_told (count - some) told ≡ drop some (numbers_told count told)
+none_behind count some (first ∷ told) empty = absurd (omega (arith, empty))
+none_behind count some [] empty = replicates count some
+  where
+    replicates : (count some : ℕ) → numbers_told (count - some) [] ≡ drop some (numbers_told count [])
+    replicates count zero = let same : count - 0 ≡ count = omega arith in ap (λ n. numbers_told n []) same
+    replicates zero (suc some) = let same : zero - suc some ≡ zero = omega arith in ap (λ n. numbers_told n []) same
+    replicates (suc count) (suc some) =
+        let same : suc count - suc some ≡ count - some = omega arith in ap (λ n. numbers_told n []) same ∙ replicates count some
 
--- the number there then
-pub next_told : (count : ℕ) (told next : List ℕ) (at : ℕ) → length next ≡ length told → map number_of told ≡ numbers_told count told
-    → get_or (numbers_told count next) at None ≡ number_of (get_or next at 0)
-next_told count told next at same are = ap (λ (numbers : List (Option ℕ)). get_or numbers at None) (told_again count told next same are) ∙ told_at next at
+-- and where it is
+pub told_behind : (count some : ℕ) (told : List ℕ) → (length told == 0) ≡ false → numbers_told (length (drop some told)) (drop some told) ≡ drop some (numbers_told count told)
+told_behind count some [] any = absurd (let e = any in cc)
+told_behind count some (first ∷ told) any = all_told (drop some (first ∷ told)) ∙ maps some (first ∷ told)
+  where
+    all_told : (told : List ℕ) → numbers_told (length told) told ≡ map number_of told
+    all_told [] = refl
+    all_told (first ∷ told) = refl
+
+    maps : (some : ℕ) (told : List ℕ) → map number_of (drop some told) ≡ drop some (map number_of told)
+    maps zero told = refl
+    maps (suc some) [] = refl
+    maps (suc some) (first ∷ told) = maps some told

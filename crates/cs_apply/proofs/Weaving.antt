@@ -43,6 +43,16 @@ woven_set (None ∷ held) (s ∷ slots) (suc at) zero slot next is found = absur
 woven_set (None ∷ held) (s ∷ slots) (suc at) (suc number) slot next is found =
     ap (λ more. s ∷ more) (woven_set held slots at number slot next is found)
 
+-- a slot that waits is there
+pub waiting_within : (held : Held) (at number : ℕ) → IsWaiting held at number → number < count_waiting held
+waiting_within [] at number is = absurd is
+waiting_within (Some m ∷ held) zero number is = absurd is
+waiting_within (Some m ∷ held) (suc at) number is = waiting_within held at number is
+waiting_within (None ∷ held) zero zero is = omega arith
+waiting_within (None ∷ held) zero (suc number) is = absurd is
+waiting_within (None ∷ held) (suc at) zero is = absurd is
+waiting_within (None ∷ held) (suc at) (suc number) is = omega (arith, waiting_within held at number is)
+
 -- ---- some places are not made yet
 
 -- the made places that pass are as the store has them

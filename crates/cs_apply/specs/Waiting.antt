@@ -1,6 +1,6 @@
 -- What is found at the places of changes: which of them are made at once, and which wait.
-use Rattle.std.specs.Prelude.{◌≡◌, ◌≢◌, ◌<◌, ◌≤◌, ◌⊎◌, ℕ, true, List, [], ◌∷◌, ◌++◌, length, map, take, Option, Some, None, slice_get, slice_index_or}
-use Rattle.std.specs.List.{AllByRecursion, Contains}
+use Rattle.std.specs.Prelude.{◌≡◌, ◌≢◌, ◌<◌, ◌⊎◌, ℕ, true, List, [], ◌∷◌, ◌++◌, length, map, take, Option, Some, None, slice_get, slice_index_or}
+use Rattle.std.specs.List.{AllByRecursion}
 use Rattle.cs_tasks.specs.cs_change.Change.{Change}
 use Rattle.cs_tasks.specs.cs_order.Order.{Keys}
 use Rattle.cs_edits.specs.Edits.{BodyEdit}
@@ -8,6 +8,7 @@ use Rattle.cs_apply.specs.Edited.{edit_list, edit_for}
 use Rattle.cs_apply.specs.Found.{AreSlots, IsNumbering, heads}
 use Rattle.cs_apply.specs.Meeting.{blank, IsMadeBy}
 use Rattle.cs_apply.specs.Woven.{weave, unmade, IsWaiting, count_waiting, made_edits, stand_in, waits_of, not_waiting}
+use Rattle.cs_apply.specs.declared.places.FoundPlaces.{FoundPlaces}
 use Rattle.cs_apply.specs.declared.places.Places.{Places}
 use Rattle.cs_apply.specs.declared.slots.Slot.{Slot}
 
@@ -23,10 +24,10 @@ IsTurn held change place (Some number) = IsWaiting held place number
 -- the places in order and those that wait: what comes of each change, where these are the numbers of their places
 pub record ArePlaces (changes : List Change) (numbers : List ℕ) (read : Slot → Type 0) (places : Places) : Type 0 where
   pub held : List (Option Slot)
-  pub counted : count_waiting held ≡ length places.slots.items
+  pub counted : count_waiting held ≡ length places.slots
   pub made : places.made ≡ made_edits held
   pub waits : places.waits.items ≡ waits_of held
-  pub as_read : AllByRecursion read (weave (unmade held) places.slots.items)
+  pub as_read : AllByRecursion read (weave (unmade held) places.slots)
   pub long : (length places.numbers ≡ length changes) × (length numbers ≡ length changes)
   -- each change makes its place, or waits
   pub turns : (at : ℕ) (some : Change) → at < length changes
@@ -39,59 +40,59 @@ pub record ArePlaces (changes : List Change) (numbers : List ℕ) (read : Slot �
       → (at : ℕ) × (at < length changes) × (slice_index_or places.numbers at None ≡ None) × (slice_index_or numbers at 0 ≡ place)
 
 -- what has come of the changes of one place
-abbrev pub IsDone : List (Option Slot) → List Change → List (Option ℕ) → ℕ → List ℕ → Type 0
-IsDone held changes numbers place group =
+abbrev pub IsDone : List (Option Slot) → List Change → ℕ → List ℕ → Type 0
+IsDone held changes place group =
     ((at : ℕ) × (next : Slot) × (group ≡ at ∷ []) × (slice_get held place ≡ Some (Some next))
-    × ((some : Change) → IsMadeBy (slice_index_or changes at some) next) × (slice_index_or numbers at None ≡ None))
-    ⊎ ((number : ℕ) × IsWaiting held place number
-    × ((at : ℕ) → Contains group at → slice_index_or numbers at None ≡ Some number))
+    × ((some : Change) → IsMadeBy (slice_index_or changes at some) next))
+    ⊎ ((number : ℕ) × IsWaiting held place number)
 
--- the same, as far as so many of the groups
-pub record ArePlacesSoFar (keys : Keys) (groups : List (List ℕ)) (changes : List Change) (read : Slot → Type 0) (count : ℕ) (places : Places) : Type 0 where
+-- the same, as far as so many of the groups, when no change has the number of its slot yet
+pub record ArePlacesSoFar (keys : Keys) (groups : List (List ℕ)) (changes : List Change) (read : Slot → Type 0) (count : ℕ) (places : FoundPlaces) : Type 0 where
   pub held : List (Option Slot)
   pub long : length held ≡ count
-  pub counted : count_waiting held ≡ length places.slots.items
+  pub counted : count_waiting held ≡ length places.slots
   pub made : places.made ≡ made_edits held
   pub waits : places.waits.items ≡ waits_of held
-  pub as_read : AllByRecursion read (weave (unmade held) places.slots.items)
-  pub slots : AreSlots (heads keys (map first_of (take count groups))) (weave (unmade held) places.slots.items)
-  pub numbers : length places.numbers ≡ length keys
-  pub done : (place : ℕ) → place < count → IsDone held changes places.numbers place (slice_index_or groups place [])
-  pub later : (place at : ℕ) → count ≤ place → place < length groups → Contains (slice_index_or groups place []) at
-      → slice_index_or places.numbers at None ≡ None
-
--- one more place is made by the only change of its group
-pub record IsPutMade (changes : List Change) (group : List ℕ) (slot : Slot) (old new : Places) : Type 0 where
-  pub next : Slot
-  pub blank_is : slot ≡ blank next
-  pub single : length group ≡ 1
-  pub by : (some : Change) → IsMadeBy (slice_index_or changes (first_of group) some) next
-  pub made : new.made ≡ old.made ++ edit_list (edit_for next)
-  pub waits : new.waits.items ≡ old.waits.items ++ map not_waiting (edit_list (edit_for next))
-  pub slots : new.slots.items ≡ old.slots.items
-  pub numbers : new.numbers ≡ old.numbers
-
--- or it waits
-pub record IsPutWaiting (group : List ℕ) (slot : Slot) (old new : Places) : Type 0 where
-  pub made : new.made ≡ old.made ++ stand_in ∷ []
-  pub waits : new.waits.items ≡ old.waits.items ++ true ∷ []
-  pub slots : new.slots.items ≡ old.slots.items ++ slot ∷ []
-  pub numbers : length new.numbers ≡ length old.numbers
-  pub given : (at : ℕ) → Contains group at → slice_index_or new.numbers at None ≡ Some (length old.slots.items)
-  pub kept : (at : ℕ) → (Contains group at → ⊥) → slice_index_or new.numbers at None ≡ slice_index_or old.numbers at None
-
-abbrev pub IsPut : List Change → List ℕ → Slot → Places → Places → Type 0
-IsPut changes group slot old new = IsPutMade changes group slot old new ⊎ IsPutWaiting group slot old new
+  pub as_read : AllByRecursion read (weave (unmade held) places.slots)
+  pub slots : AreSlots (heads keys (map first_of (take count groups))) (weave (unmade held) places.slots)
+  pub done : (place : ℕ) → place < count → IsDone held changes place (slice_index_or groups place [])
+  -- each slot has the number of its group
+  pub as_many : length places.groups.items ≡ length places.slots
+  pub groups_wait : (number : ℕ) → number < length places.groups.items → IsWaiting held (slice_index_or places.groups.items number 0) number
 
 -- the edit, if there is one, is behind the others
-pub record HasEdit (edit : Option BodyEdit) (old new : Places) : Type 0 where
+pub record HasEdit (edit : Option BodyEdit) (old new : FoundPlaces) : Type 0 where
   pub made : new.made ≡ old.made ++ edit_list edit
   pub waits : new.waits.items ≡ old.waits.items ++ map not_waiting (edit_list edit)
-  pub slots : new.slots.items ≡ old.slots.items
-  pub numbers : new.numbers ≡ old.numbers
+  pub slots : new.slots ≡ old.slots
+  pub groups : new.groups.items ≡ old.groups.items
+
+-- the change of a group that has no other
+abbrev pub only_change : List Change → List ℕ → Option Change
+only_change changes (at ∷ []) = slice_get changes at
+only_change changes _ = None
+
+-- one more place is made by the only change of its group
+pub record IsPutMade (alone : Option Change) (slot : Slot) (old new : FoundPlaces) : Type 0 where
+  pub change : Change
+  pub next : Slot
+  pub alone_is : alone ≡ Some change
+  pub blank_is : slot ≡ blank next
+  pub by : IsMadeBy change next
+  pub edit : HasEdit (edit_for next) old new
+
+-- or it waits
+pub record IsPutWaiting (group : ℕ) (slot : Slot) (old new : FoundPlaces) : Type 0 where
+  pub made : new.made ≡ old.made ++ stand_in ∷ []
+  pub waits : new.waits.items ≡ old.waits.items ++ true ∷ []
+  pub slots : new.slots ≡ old.slots ++ slot ∷ []
+  pub groups : new.groups.items ≡ old.groups.items ++ group ∷ []
+
+abbrev pub IsPut : ℕ → Option Change → Slot → FoundPlaces → FoundPlaces → Type 0
+IsPut group alone slot old new = IsPutMade alone slot old new ⊎ IsPutWaiting group slot old new
 
 -- a change is made at a place that the store has as this slot, and the edit of what it leaves is behind the others
-pub record IsMadeAt (change : Change) (slot : Slot) (old new : Places) : Type 0 where
+pub record IsMadeAt (change : Change) (slot : Slot) (old new : FoundPlaces) : Type 0 where
   pub next : Slot
   pub blank_is : slot ≡ blank next
   pub by : IsMadeBy change next
@@ -103,4 +104,4 @@ pub record ArePlacesFound (keys : Keys) (changes : List Change) (read : Slot →
   pub numbers : List ℕ
   pub numbering : IsNumbering keys firsts numbers
   pub found : ArePlaces changes numbers read places
-  pub slots : AreSlots (heads keys firsts) (weave (unmade found.held) places.slots.items)
+  pub slots : AreSlots (heads keys firsts) (weave (unmade found.held) places.slots)

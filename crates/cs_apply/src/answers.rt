@@ -1,32 +1,50 @@
-//! The answers to conflicts in order.
+//! What is told of conflicts.
 
-ghost use Rattle.std.specs.Prelude.{◌≡◌, ◌++◌, IfOk, OnOk};
-ghost use Rattle.cs_apply.specs.Applies.{answers_of, given_list};
+ghost use Rattle.std.specs.Prelude.{◌≡◌, ◌<◌, ◌++◌, ◌∷◌, [], List, ℕ, Option, Some, is_some, length, not, OnOk};
+ghost use Rattle.std.specs.List.{list_any};
+ghost use Rattle.cs_conflict.specs.declared.conflict.Resolution.{Resolution as Answer};
+ghost use Rattle.cs_tasks.specs.Blob.{answered_group};
 
 use cs_conflict::Resolution;
+use cs_tasks::BlobBuf;
+use cs_tasks::below::Group;
 use cs_value::Memory;
 use std::alloc::Global;
 
-/// Puts an answer, if there is one, behind the others.
-fn put_answer(answers: &mut Vec<Resolution>, given: Option<Resolution>) -> Result<(), Memory>
-    ensures { OnOk result (answers.new.items ≡ answers.old.items ++ given_list given) }
-{
-    if let Some(given) = given {
-        answers.push(given)?;
-    }
-    Ok(())
+/// What is told of the conflicts that were answered.
+#[derive(Drop)]
+pub(crate) struct Told {
+    /// The answers, in order.
+    pub answers: Vec<Resolution>,
+    /// The rebase blob of these.
+    pub blob: BlobBuf,
 }
 
-/// The answers, in the order of the conflicts.
-pub(crate) fn list_answers(
-    alloc: Global,
-    given: &[Option<Resolution>],
-) -> Result<Vec<Resolution>, Memory>
-    ensures { IfOk result (λ answers. answers.items ≡ answers_of given.now) }
+/// Nothing is told yet.
+pub(crate) fn nothing_told(alloc: Global) -> Told
+    ensures { (result.answers.items ≡ []) × (result.blob ≡ []) }
 {
-    let mut answers = Vec::new(alloc);
-    for one in given {
-        put_answer(&mut answers, *one)?;
+    Told {
+        answers: Vec::new(alloc),
+        blob: BlobBuf::new(alloc),
     }
-    Ok(answers)
+}
+
+/// Tells the answer to the conflict of the change there of a group, of which it may be the first.
+pub(crate) fn tell(
+    told: &mut Told,
+    group: &Group<'_>,
+    at: usize,
+    first: bool,
+    answer: Resolution,
+) -> Result<(), Memory>
+    requires { at < length group.now.changes }
+    ensures answers { OnOk result (told.new.answers.items ≡ told.old.answers.items ++ answer ∷ []) }
+    ensures blob { (front : List ℕ) → (given : List (Option Answer)) → length given ≡ at → list_any is_some given ≡ not first
+        → told.old.blob ≡ front ++ answered_group group.now given
+        → OnOk result (told.new.blob ≡ front ++ answered_group group.now (given ++ Some answer ∷ [])) }
+{
+    told.answers.push(answer)?;
+    told.blob.put(group, at, first, answer)?;
+    Ok(())
 }

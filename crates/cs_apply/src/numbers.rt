@@ -1,9 +1,10 @@
 //! The numbers of the slots at which changes wait.
 
-ghost use Rattle.std.specs.Prelude.{◌≡◌, ◌<◌, ℕ, length, map, slice_index_or, OnOk};
+ghost use Rattle.std.specs.Prelude.{◌≡◌, ◌<◌, ◌+◌, ℕ, length, slice_index_or};
 ghost use Rattle.std.specs.List.{All, Contains};
-ghost use Rattle.cs_apply.specs.Numbers.{number_of, numbers_told};
+ghost use Rattle.cs_apply.specs.Numbers.{changes_waiting, AreWaitingGroups};
 
+use cs_tasks::below::Groups;
 use cs_value::Memory;
 use std::alloc::Global;
 use std::marker::Model;
@@ -38,28 +39,90 @@ fn put_at(told: &mut [usize], places: &[usize], number: usize)
     }
 }
 
-/// Takes the memory that the numbers of so many changes need, where it isn't taken yet.
-fn take_room(alloc: Global, count: usize, told: &mut Vec<usize>) -> Result<(), Memory>
-    ensures same { OnOk result (numbers_told count told.new.items ≡ numbers_told count told.old.items) }
-    ensures told { OnOk result (map number_of told.new.items ≡ numbers_told count told.old.items) }
+/// Puts at each change of the groups that wait one more than the number of its group among these.
+fn put_numbers(told: &mut [usize], groups: &Groups, waiting: &[usize])
+    requires { AreWaitingGroups groups.now waiting.now (length told.old) }
+    ensures length { length told.new ≡ length told.old }
+    ensures put { (number at : ℕ) → number < length waiting.now → Contains (changes_waiting groups.now waiting.now number) at
+        → slice_index_or told.new at 0 ≡ number + 1 }
+    ensures kept { (at : ℕ) → ((number : ℕ) → number < length waiting.now → Contains (changes_waiting groups.now waiting.now number) at → ⊥)
+        → slice_index_or told.new at 0 ≡ slice_index_or told.old at 0 }
 {
-    if told.is_empty() {
-        *told = vec![in alloc; 0; count]?;
+    for (number, group) in waiting.iter().enumerate() {
+        put_at(told, groups.group(*group), number + 1);
     }
-    Ok(())
 }
 
 impl Numbers {
-    ghost use Rattle.std.specs.Prelude.{◌≡◌, ◌<◌, ◌-◌, ℕ, Some, None, length, replicate, slice_index_or, OnOk};
-    ghost use Rattle.std.specs.List.{All, Contains};
+    ghost use Rattle.std.specs.Prelude.{◌≡◌, IfOk};
+    ghost use Rattle.cs_apply.specs.Numbers.{HaveNumbers, AreWaitingGroups};
 
-    /// None of so many changes waits.
-    pub(crate) fn none(alloc: Global, count: usize) -> Numbers
-        ensures { result ≡ replicate count None }
+    /// The numbers of so many changes, of which these groups wait, each as the slot of its number among these.
+    pub(crate) fn of_waiting(
+        alloc: Global,
+        count: usize,
+        groups: &Groups,
+        waiting: &[usize],
+    ) -> Result<Numbers, Memory>
+        requires { AreWaitingGroups groups.now waiting.now count }
+        ensures { IfOk result (HaveNumbers groups.now waiting.now count) }
     {
-        Numbers {
-            count,
-            told: Vec::new(alloc),
+        if waiting.is_empty() {
+            let told = Vec::new(alloc);
+            return Ok(Numbers { count, told });
+        }
+        let mut told = vec![in alloc; 0; count]?;
+        put_numbers(told.as_mut_slice(), groups, waiting);
+        Ok(Numbers { count, told })
+    }
+
+    /// The numbers, lent.
+    pub(crate) fn lend(&self) -> LentNumbers<'_>
+        ensures { result ≡ self.now }
+    {
+        LentNumbers {
+            count: self.count,
+            told: self.told.as_slice(),
+        }
+    }
+}
+
+/// The numbers of changes that follow one another, lent.
+#[derive(Drop)]
+pub(crate) struct LentNumbers<'n> {
+    /// How many changes there are.
+    count: usize,
+    /// What is told of them; nothing, as long as none waits.
+    told: &'n [usize],
+}
+
+impl<'n> Model for LentNumbers<'n> {
+    ghost use Rattle.std.specs.Prelude.{List, Option, ℕ};
+    ghost use Rattle.cs_apply.specs.Numbers.{numbers_told};
+
+    ghost Value = { List (Option ℕ) };
+
+    ghost view = { λ lent. numbers_told lent.count lent.told.now };
+}
+
+impl<'n> LentNumbers<'n> {
+    ghost use Rattle.std.specs.Prelude.{◌≡◌, ◌<◌, ◌≤◌, None, drop, length, slice_index_or};
+
+    /// Those behind so many.
+    pub(crate) fn behind(&self, count: usize) -> LentNumbers<'n>
+        requires { count ≤ length self.now }
+        ensures { result ≡ drop count self.now }
+    {
+        if self.told.is_empty() {
+            return LentNumbers {
+                count: self.count - count,
+                told: self.told,
+            };
+        }
+        let (_, told) = self.told.split_at(count);
+        LentNumbers {
+            count: told.len(),
+            told,
         }
     }
 
@@ -76,24 +139,5 @@ impl Numbers {
             0 => None,
             more => Some(more - 1),
         }
-    }
-
-    /// Gives each of these changes the number of the last of so many slots.
-    pub(crate) fn give(
-        &mut self,
-        alloc: Global,
-        changes: &[usize],
-        slots: usize,
-    ) -> Result<(), Memory>
-        requires some { 0 < slots }
-        requires within { All (λ change. change < length self.old) changes.now }
-        ensures length { OnOk result (length self.new ≡ length self.old) }
-        ensures given { OnOk result ((at : ℕ) → Contains changes.now at → slice_index_or self.new at None ≡ Some (slots - 1)) }
-        ensures kept { OnOk result ((at : ℕ) → (Contains changes.now at → ⊥)
-            → slice_index_or self.new at None ≡ slice_index_or self.old at None) }
-    {
-        take_room(alloc, self.count, &mut self.told)?;
-        put_at(self.told.as_mut_slice(), changes, slots);
-        Ok(())
     }
 }

@@ -4,7 +4,7 @@
 //! place would wait for its change, and then for the change's bytes, to come out of memory: for the places of several groups
 //! they are reached first, in one short loop, where these waits overlap.
 
-ghost use Rattle.std.specs.Prelude.{◌≡◌, ◌<◌, ◌≤◌, length};
+ghost use Rattle.std.specs.Prelude.{◌<◌, ◌≤◌, length};
 ghost use Rattle.std.specs.List.{All};
 ghost use Rattle.cs_tasks.specs.cs_order.Groups.{IsGrouping};
 ghost use Rattle.cs_tasks.specs.cs_order.Order.{key_at};
@@ -95,7 +95,7 @@ pub(crate) struct Reached {
 }
 
 impl Reached {
-    ghost use Rattle.std.specs.Prelude.{◌≡◌, ◌<◌, [], length, slice_index_or, IfOk};
+    ghost use Rattle.std.specs.Prelude.{◌<◌, [], length, slice_index_or, IfOk};
     ghost use Rattle.std.specs.List.{All};
     ghost use Rattle.cs_tasks.specs.cs_order.Groups.{IsGrouping};
     ghost use Rattle.cs_tasks.specs.cs_order.Order.{key_at};

@@ -11,7 +11,7 @@ use cs_normal::Normal;
 use cs_normalising::normalise;
 use cs_record::Row;
 use cs_store::{Batch, RowStore, Trip};
-use cs_tasks::{Tasks, TasksFault, encode_blob, find_tasks};
+use cs_tasks::{BlobBuf, Tasks, TasksFault, count_of, find_tasks};
 use cs_value::{Catalog, Items, Memory, TableDef, Text};
 use std::alloc::Global;
 
@@ -538,6 +538,21 @@ fn are_two(found: &Tasks<'_>) -> bool {
         && is_place(found, 1, 2)
 }
 
+/// The blob of a changeset where the first change of each group that fits a table has a conflict that is answered by REPLACE.
+fn first_replaced(
+    alloc: Global,
+    catalog: &Catalog,
+    changeset: &Changeset<'_>,
+) -> Result<Vec<u8>, Memory> {
+    let mut blob = BlobBuf::new(alloc);
+    for group in changeset.as_slice() {
+        if count_of(catalog, group) > 0 {
+            blob.put(group, 0, true, Resolution::Replace)?;
+        }
+    }
+    Ok(blob.into_vec())
+}
+
 /// Whether the two are found, and the blob is theirs where each conflict is answered by REPLACE.
 fn finds_two_in(
     alloc: Global,
@@ -545,8 +560,7 @@ fn finds_two_in(
     changeset: &Changeset<'_>,
 ) -> Result<bool, TasksFault> {
     let found = find_tasks(alloc, catalog, changeset)?;
-    let given = vec![in alloc; Some(Resolution::Replace); found.changes.as_slice().len()]?;
-    let blob = encode_blob(alloc, catalog, changeset, given.as_slice())?;
+    let blob = first_replaced(alloc, catalog, changeset)?;
     Ok(are_two(&found) && blob.as_slice() == joined(alloc, BOTH_REPLACED)?.as_slice())
 }
 

@@ -1,6 +1,6 @@
 -- The rebase blob that applying leaves: an entry for each conflict that was answered (SQLite's "Session Extension",
 -- rebasing).
-use Rattle.std.specs.Prelude.{Bool, false, true, List, [], ◌∷◌, ◌++◌, length, map, take, drop, Option, Some, None, if◌then◌else◌}
+use Rattle.std.specs.Prelude.{ℕ, Bool, false, true, List, [], ◌∷◌, ◌++◌, length, map, take, drop, Option, Some, None, if◌then◌else◌}
 use Rattle.cs_value.specs.declared.value.Field.{Field}
 use Rattle.cs_value.specs.declared.value.Field.TheVariants.{Is}
 use Rattle.cs_value.specs.declared.catalog.TableDef.{TableDef}
@@ -10,6 +10,7 @@ use Rattle.cs_change.specs.declared.change.Change.{Change}
 use Rattle.cs_change.specs.declared.group.Group.{Group}
 use Rattle.cs_conflict.specs.declared.conflict.Resolution.{Resolution}
 use Rattle.cs_conflict.specs.declared.conflict.Resolution.TheVariants.{Replace}
+use Rattle.cs_blob.specs.Spelling.{blob_spelling}
 use Rattle.cs_blob.specs.declared.blob.Entry.{Entry}
 use Rattle.cs_blob.specs.declared.blob.BlobGroup.{BlobGroup}
 use Rattle.cs_tasks.specs.Tasks.{table_of, tasks_at}
@@ -46,6 +47,10 @@ abbrev pub group_if_any : Group → List Entry → List BlobGroup
 group_if_any group [] = []
 group_if_any group (first ∷ others) =
     record { marks = group.marks; name = group.name; entries = first ∷ others } ∷ []
+
+-- how a group is spelled of whose changes, as far as they go, each had this answer or no conflict
+abbrev pub answered_group : Group → List (Option Resolution) → List ℕ
+answered_group group given = blob_spelling (group_if_any group (entries_of (marks_of group.marks) group.changes given))
 
 -- the blob of the groups, where the changes of those that fit had these answers
 unfoldable pub blob_of : List TableDef → List Group → List (Option Resolution) → List BlobGroup

@@ -1,21 +1,19 @@
 //! The rebase blob that the answers to conflicts leave.
 
-ghost use Rattle.std.specs.Prelude.{◌≡◌, ◌≤◌, ◌++◌, ◌∷◌, [], length, map, is_some, IfOk, OnOk};
-ghost use Rattle.std.specs.List.{flat_map, list_any};
+ghost use Rattle.std.specs.Prelude.{◌≡◌, ◌++◌, map, OnOk};
 ghost use Rattle.cs_value.specs.declared.value.Field.TheVariants.{Is};
 ghost use Rattle.cs_change.specs.Action.{action};
 ghost use Rattle.cs_change.specs.Spelling.{marks_of};
-ghost use Rattle.cs_blob.specs.Spelling.{blob_spelling, blob_entry_spelling};
-ghost use Rattle.cs_tasks.specs.Blob.{blob_of, entries_of, entry_of, group_if_any, is_replace, keyed_new};
-ghost use Rattle.cs_tasks.specs.Tasks.{tasks};
+ghost use Rattle.cs_blob.specs.Spelling.{blob_entry_spelling};
+ghost use Rattle.cs_tasks.specs.Blob.{entry_of, is_replace, keyed_new};
 
-use crate::tasks::count_of;
 use cs_blob::{Entry, put_entry};
-use cs_change::{Change, Changeset, Group, put_header};
+use cs_change::{Change, Group, put_header};
 use cs_conflict::Resolution;
 use cs_record::{Record, RecordBuf, Row};
-use cs_value::{Catalog, Memory};
+use cs_value::Memory;
 use std::alloc::Global;
+use std::marker::Model;
 
 /// Appends the new record of an UPDATE, with the key filled in from the old one.
 #[tactic(auto, unfolding(crate::specs::Blob::keyed_new))]
@@ -107,78 +105,66 @@ fn put_answered(
     }
 }
 
-/// Appends the entry of a change, if its conflict was answered.
-#[tactic(auto, unfolding(crate::specs::Blob::entries_of))]
-fn put_given(
-    marks: &[u8],
-    change: &Change<'_>,
-    given: Option<Resolution>,
-    made: &mut RecordBuf,
-    out: &mut Vec<u8>,
-) -> Result<(), Memory>
-    ensures { OnOk result (out.new.items
-        ≡ out.old.items ++ flat_map blob_entry_spelling (entries_of (marks_of marks.now) (change.now ∷ []) (given ∷ []))) }
-{
-    match given {
-        None => Ok(()),
-        Some(answer) => put_answered(marks, change, answer, made, out),
-    }
+/// The rebase blob of conflicts that are answered one after another, in the order of their changes. Contracts see it as its bytes.
+/// (SQLite's "Session Extension", rebasing.)
+#[derive(Drop)]
+pub struct BlobBuf {
+    bytes: Vec<u8>,
+    /// Room for the record of an UPDATE, whose memory is used again and again.
+    made: RecordBuf,
 }
 
-/// Whether a conflict was answered.
-fn has_answer(given: &[Option<Resolution>]) -> bool
-    ensures { result ≡ list_any is_some given.now }
-{
-    for one in given {
-        if one.is_some() {
-            return true;
+impl Model for BlobBuf {
+    ghost use Rattle.std.specs.Prelude.{List, ℕ};
+
+    ghost Value = { List ℕ };
+
+    ghost view = { λ blob. blob.bytes.items };
+}
+
+impl BlobBuf {
+    ghost use Rattle.std.specs.Prelude.{◌≡◌, ◌<◌, ◌++◌, ◌∷◌, [], List, ℕ, Option, Some, is_some, length, not, OnOk};
+    ghost use Rattle.std.specs.List.{list_any};
+    ghost use Rattle.cs_conflict.specs.declared.conflict.Resolution.{Resolution as Answer};
+    ghost use Rattle.cs_tasks.specs.Blob.{answered_group};
+
+    /// The blob where no conflict is answered. It takes no memory.
+    pub fn new(alloc: Global) -> BlobBuf
+        ensures { result ≡ [] }
+    {
+        BlobBuf {
+            bytes: Vec::new(alloc),
+            made: RecordBuf::new(alloc),
         }
     }
-    false
-}
 
-/// Appends the group of the changes whose conflicts were answered, if there are some.
-fn put_group(
-    group: &Group<'_>,
-    given: &[Option<Resolution>],
-    made: &mut RecordBuf,
-    out: &mut Vec<u8>,
-) -> Result<(), Memory>
-    requires { length given.now ≤ length group.now.changes }
-    ensures { OnOk result (out.new.items ≡ out.old.items
-        ++ blob_spelling (group_if_any group.now (entries_of (marks_of group.now.marks) group.now.changes given.now))) }
-{
-    if !has_answer(given) {
-        return Ok(());
+    /// The bytes.
+    pub fn into_vec(self) -> Vec<u8>
+        ensures { result.items ≡ self }
+    {
+        self.bytes
     }
-    let marks = group.marks.as_slice();
-    put_header(marks, group.name.as_str(), out)?;
-    let changes = group.changes.as_slice();
-    for (at, one) in given.iter().enumerate() {
-        put_given(marks, &changes[at], *one, made, out)?;
-    }
-    Ok(())
-}
 
-/// The rebase blob of the answered conflicts, as it is spelled: `given` has of each change that is applied, in order, the answer
-/// to its conflict, or none. (SQLite's "Session Extension", rebasing.)
-#[tactic(auto, unfolding(crate::specs::Blob::blob_of))]
-pub fn encode_blob(
-    alloc: Global,
-    catalog: &Catalog,
-    changeset: &Changeset<'_>,
-    given: &[Option<Resolution>],
-) -> Result<Vec<u8>, Memory>
-    requires { length given.now ≡ length (tasks catalog.now changeset.now) }
-    ensures { IfOk result (λ blob. blob.items ≡ blob_spelling (blob_of catalog.now changeset.now given.now)) }
-{
-    let mut blob = Vec::new(alloc);
-    let mut made = RecordBuf::new(alloc);
-    let mut rest = given;
-    for group in changeset.as_slice() {
-        let (here, more) = rest.split_at(count_of(catalog, group));
-        put_group(group, here, &mut made, &mut blob)?;
-        rest = more;
+    /// Appends the entry of the change there of a group, whose conflict was answered so, behind the group's header where no conflict
+    /// of its changes was answered yet.
+    pub fn put(
+        &mut self,
+        group: &Group<'_>,
+        at: usize,
+        first: bool,
+        answer: Resolution,
+    ) -> Result<(), Memory>
+        requires { at < length group.now.changes }
+        ensures { (front : List ℕ) → (given : List (Option Answer)) → length given ≡ at → list_any is_some given ≡ not first
+            → self.old ≡ front ++ answered_group group.now given
+            → OnOk result (self.new ≡ front ++ answered_group group.now (given ++ Some answer ∷ [])) }
+    {
+        let marks = group.marks.as_slice();
+        if first {
+            put_header(marks, group.name.as_str(), &mut self.bytes)?;
+        }
+        let changes = group.changes.as_slice();
+        put_answered(marks, &changes[at], answer, &mut self.made, &mut self.bytes)?;
+        Ok(())
     }
-    Ok(blob)
 }

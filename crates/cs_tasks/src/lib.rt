@@ -3,7 +3,7 @@
 //! (`cs_conflict`), rebase blobs (`cs_blob`) and the places of stores (`cs_store`), and looks at no store: `cs_apply`, which stands
 //! on it, does. `find_tasks` gives the changes of the groups that fit a table, in order, the table and the place of each
 //! (`TaskPlaces`, which lends its keys from the changes where these are of one table), and how many groups fit none, or tells exactly
-//! that a change has NULL at a key column; `encode_blob` writes an entry for each answer. `laws` says that the reader of blobs takes it.
+//! that a change has NULL at a key column; `BlobBuf` takes the answers one after another, and is the blob of these (`count_of` says which groups have some). `laws` says that the reader of blobs takes it.
 //! Its tests stand in `cs_apply_tests`.
 #![tactic(auto)]
 
@@ -17,8 +17,8 @@ mod only;
 mod task_places;
 mod tasks;
 
-pub use blob::encode_blob;
+pub use blob::BlobBuf;
 pub use change_list::ChangeList;
 pub use fault::TasksFault;
 pub use task_places::TaskPlaces;
-pub use tasks::{Tasks, find_tasks};
+pub use tasks::{Tasks, count_of, find_tasks};

@@ -1,6 +1,6 @@
 //! The changes that are applied, and where each stands.
 
-ghost use Rattle.std.specs.Prelude.{◌≡◌, ◌<◌, ◌≤◌, ◌+◌, ◌++◌, ◌∷◌, [], List, drop, length, map, option_map, OnOk, IfOk, IfErr, IfSome};
+ghost use Rattle.std.specs.Prelude.{◌≡◌, ◌<◌, ◌+◌, ◌++◌, ◌∷◌, [], List, length, map, option_map, OnOk, IfOk, IfErr, IfSome};
 ghost use Rattle.std.specs.List.{list_all};
 ghost use Rattle.cs_change.specs.Spelling.{marks_of};
 ghost use Rattle.cs_store.specs.cs_keyed.NormalForm.{HaveSameKeys, change_bytes, has_key};
@@ -78,7 +78,7 @@ pub(crate) fn find_table<'a>(group: &Group<'_>, catalog: &'a Catalog) -> Option<
 }
 
 /// How many changes of the group are applied: all of them where it fits a table, else none.
-pub(crate) fn count_of(catalog: &Catalog, group: &Group<'_>) -> usize
+pub fn count_of(catalog: &Catalog, group: &Group<'_>) -> usize
     ensures { result ≡ length (tasks_at (table_of group.now catalog.now) group.now) }
 {
     match find_table(group, catalog) {

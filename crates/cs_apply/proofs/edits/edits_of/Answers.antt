@@ -3,7 +3,7 @@ use Rattle.std.proofs.lemmas.List.{length-set, drop_all}
 use Rattle.cs_apply.specs.Woven.{mesh}
 use Rattle.cs_apply.proofs.Meshing.{mesh_is, slots_from, one_kept, one_left, none_left, none_there, all_kept}
 use Rattle.cs_apply.proofs.edits.edits_of.Goals as goal
-use Rattle.cs_apply.proofs.edits.edits_of.Goals.{then-not-wait, else-not-wait+then-next-slots, in-Some+in_ok-set, in_default, else-not-wait+else-next-slots}
+use Rattle.cs_apply.proofs.edits.edits_of.Goals.{then-not-wait, else-not-wait+then-next-len, in-Some+in_ok-set, in_default, else-not-wait+else-next-len}
 
 pub loop-at-preserved : goal.loop-at-preserved
 loop-at-preserved c =
@@ -20,9 +20,9 @@ loop-at-preserved c =
       | then-not-wait w ↦
           let one = one_kept waits edits kept at few long less w.copy_to.new.self w.copy_to.ensures w.if-not-wait.true (drop next slots) in
           rw (w.edits-is, w.next-is, w.kept-is) (omega (arith, few), one.0 ∙ c.loop-at.invariant.1, one.1 ∙ c.loop-at.invariant.2)
-      | else-not-wait+then-next-slots w ↦
-          let slot = w.index-slots-next.result in
-          let split = slots_from slots next slot w.if-next-slots.true (sym w.index-slots-next.is) in
+      | else-not-wait+then-next-len w ↦
+          let slot = w.get.result in
+          let split = slots_from slots next slot (omega (arith, w.if-next-len.true, w.len.ensures)) w.get.ensures in
           let before = ap (λ behind. take kept edits ++ mesh (drop at waits) (drop at edits) behind) (sym split) ∙ c.loop-at.invariant.2 in
           elim w.match-edit_of.branch [
             | in-Some+in_ok-set w' ↦
@@ -40,8 +40,8 @@ loop-at-preserved c =
                   none_left waits edits kept at few long less w.if-not-wait.false slot (drop (next + 1) slots) (sym w'.in_default.ensures) ∙ before,
                 )
           ]
-      | else-not-wait+else-next-slots w ↦
-          let none : drop next slots ≡ [] = drop_all next slots w.if-next-slots.false in
+      | else-not-wait+else-next-len w ↦
+          let none : drop next slots ≡ [] = drop_all next slots (omega (arith, w.if-next-len.false, w.len.ensures)) in
           rw (w.edits-is, w.next-is, w.kept-is) (
             omega (arith, few),
             c.loop-at.invariant.1,
