@@ -1,5 +1,5 @@
 -- One place more is found, and all of them.
-use Rattle.std.proofs.Common.{◌≡◌, ◌≢◌, ◌⊎◌, inl, inr, ◌<◌, ◌+◌, ◌++◌, ℕ, zero, suc, Bool, true, List, [], ◌∷◌, length, map, take, get_or, Option, Some, None, refl, sym, subst, ap, ◌∙◌, arith}
+use Rattle.std.proofs.Common.{◌≡◌, ◌≢◌, ◌⊎◌, inl, inr, ◌<◌, ◌+◌, ◌++◌, ℕ, zero, suc, List, [], ◌∷◌, length, map, take, get_or, Option, Some, None, refl, sym, subst, ap, ◌∙◌, arith}
 use Rattle.std.specs.Prelude.{slice_get}
 use Rattle.std.specs.List.{AllByRecursion, Contains}
 use Rattle.std.proofs.lemmas.List.{take_more, take_all, map-append, length-append, append_assoc, get_or_append_left, get_or_default, get_or_push}
@@ -13,7 +13,7 @@ use Rattle.cs_apply.specs.Found.{AreSlots, IsSlotAt, heads}
 use Rattle.cs_apply.specs.Meeting.{blank}
 use Rattle.cs_apply.specs.Numbers.{HaveNumbers, AreWaitingGroups}
 use Rattle.cs_apply.specs.Waiting.{first_of, only_change, IsTurn, IsDone, ArePlacesSoFar, IsPut, IsPutMade, IsPutWaiting, ArePlacesFound}
-use Rattle.cs_apply.specs.Woven.{weave, unmade, IsWaiting, count_waiting, made_edits, stand_in, waits_of, not_waiting}
+use Rattle.cs_apply.specs.Woven.{weave, unmade, IsWaiting, count_waiting, made_edits, stand_in, stands_from}
 use Rattle.cs_apply.specs.declared.places.FoundPlaces.{FoundPlaces}
 use Rattle.cs_apply.specs.declared.slots.Slot.{Slot}
 use Rattle.cs_apply.proofs.Numbering.{below_or_at, group_numbers, numbers_long, in_own, number_is, member_within, members_within, heads_rise, firsts_within, numbers_are, groups_apart}
@@ -65,23 +65,17 @@ edits_wait (Some m ∷ held) =
     ∙ sym (append_assoc (edit_list (edit_for m)) (made_edits held) (stand_in ∷ []))
 edits_wait (None ∷ held) = ap (λ more. stand_in ∷ more) (edits_wait held)
 
-waits_made : (held : Held) (next : Slot) → waits_of (held ++ Some next ∷ []) ≡ waits_of held ++ map not_waiting (edit_list (edit_for next))
-waits_made [] next = append_nil (map not_waiting (edit_list (edit_for next)))
-  where
-    append_nil : (bs : List Bool) → bs ++ [] ≡ bs
-    append_nil [] = refl
-    append_nil (b ∷ bs) = ap (λ more. b ∷ more) (append_nil bs)
-waits_made (Some m ∷ held) next =
-    ap (λ more. map not_waiting (edit_list (edit_for m)) ++ more) (waits_made held next)
-    ∙ sym (append_assoc (map not_waiting (edit_list (edit_for m))) (waits_of held) (map not_waiting (edit_list (edit_for next))))
-waits_made (None ∷ held) next = ap (λ more. true ∷ more) (waits_made held next)
+-- a place that is made has no number, and one that waits has that of the edit behind the others
+stands_made : (held : Held) (at : ℕ) (next : Slot) → stands_from at (held ++ Some next ∷ []) ≡ stands_from at held
+stands_made [] at next = refl
+stands_made (Some m ∷ held) at next = stands_made held (at + length (edit_list (edit_for m))) next
+stands_made (None ∷ held) at next = ap (λ more. at ∷ more) (stands_made held (at + 1) next)
 
-waits_wait : (held : Held) → waits_of (held ++ None ∷ []) ≡ waits_of held ++ true ∷ []
-waits_wait [] = refl
-waits_wait (Some m ∷ held) =
-    ap (λ more. map not_waiting (edit_list (edit_for m)) ++ more) (waits_wait held)
-    ∙ sym (append_assoc (map not_waiting (edit_list (edit_for m))) (waits_of held) (true ∷ []))
-waits_wait (None ∷ held) = ap (λ more. true ∷ more) (waits_wait held)
+stands_wait : (held : Held) (at last : ℕ) → at + length (made_edits held) ≡ last → stands_from at (held ++ None ∷ []) ≡ stands_from at held ++ last ∷ []
+stands_wait [] at last is = let same : at ≡ last = omega (arith, is) in rw same refl
+stands_wait (Some m ∷ held) at last is =
+    stands_wait held (at + length (edit_list (edit_for m))) last (omega (arith, is, length-append (edit_list (edit_for m)) (made_edits held)))
+stands_wait (None ∷ held) at last is = ap (λ more. at ∷ more) (stands_wait held (at + 1) last (omega (arith, is)))
 
 all_push : (P : Slot → Type 0) (slots : List Slot) (slot : Slot) → AllByRecursion P slots → P slot → AllByRecursion P (slots ++ slot ∷ [])
 all_push P [] slot all one = (one, tt)
@@ -215,31 +209,31 @@ module _ (keys : Keys) (groups : List (List ℕ)) (grouping : IsGrouping keys gr
 
     one_made : IsPutMade (only_change changes (group_at count)) slot old new → ArePlacesSoFar keys groups changes more (count + 1) new
     one_made put =
-        let held = so_far.held ++ Some put.next ∷ [] in
+        let held = so_far.held ++ Some put.made_at.next ∷ [] in
         let woven : weave (unmade held) new.slots ≡ weave (unmade so_far.held) old.slots ++ slot ∷ [] =
-        ap (weave (unmade held)) put.edit.slots ∙ (woven_made so_far.held old.slots put.next so_far.counted ∙ ap (λ s. weave (unmade so_far.held) old.slots ++ s ∷ []) (sym put.blank_is)) in
+        ap (weave (unmade held)) put.made_at.edit.slots ∙ (woven_made so_far.held old.slots put.made_at.next so_far.counted ∙ ap (λ s. weave (unmade so_far.held) old.slots ++ s ∷ []) (sym put.made_at.blank_is)) in
         record {
           held = held;
-          long = length-append so_far.held (Some put.next ∷ []) ∙ ap (λ n. n + 1) so_far.long;
-          counted = count_made so_far.held put.next ∙ (so_far.counted ∙ ap length (sym put.edit.slots));
-          made = put.edit.made ∙ (ap (λ es. es ++ edit_list (edit_for put.next)) so_far.made ∙ sym (edits_made so_far.held put.next));
-          waits = put.edit.waits ∙ (ap (λ bs. bs ++ map not_waiting (edit_list (edit_for put.next))) so_far.waits ∙ sym (waits_made so_far.held put.next));
+          long = length-append so_far.held (Some put.made_at.next ∷ []) ∙ ap (λ n. n + 1) so_far.long;
+          counted = count_made so_far.held put.made_at.next ∙ (so_far.counted ∙ ap length (sym put.made_at.edit.slots));
+          made = put.made_at.edit.made ∙ (ap (λ es. es ++ edit_list (edit_for put.made_at.next)) so_far.made ∙ sym (edits_made so_far.held put.made_at.next));
+          waits = put.made_at.edit.waits ∙ (so_far.waits ∙ sym (stands_made so_far.held 0 put.made_at.next));
           as_read = subst (AllByRecursion more) (sym woven) read_before;
           slots = subst (AreSlots (heads keys (map first_of (take (count + 1) groups)))) (sym woven) slots_before;
           done = λ place within. made_done put place (below_or_at place count within);
-          as_many = ap length put.edit.groups ∙ (so_far.as_many ∙ ap length (sym put.edit.slots));
-          groups_wait = λ number inside. rw put.edit.groups
-              (waiting_left so_far.held (Some put.next ∷ []) _ number (so_far.groups_wait number (omega (arith, inside, ap length put.edit.groups))));
+          as_many = ap length put.made_at.edit.groups ∙ (so_far.as_many ∙ ap length (sym put.made_at.edit.slots));
+          groups_wait = λ number inside. rw put.made_at.edit.groups
+              (waiting_left so_far.held (Some put.made_at.next ∷ []) _ number (so_far.groups_wait number (omega (arith, inside, ap length put.made_at.edit.groups))));
         }
       where
         made_done : (put : IsPutMade (only_change changes (group_at count)) slot old new) (place : ℕ) → (place < count) ⊎ (place ≡ count)
-            → IsDone (so_far.held ++ Some put.next ∷ []) changes place (group_at place)
-        made_done put place (inl below) = stays_done so_far.held (Some put.next ∷ []) place (so_far.done place below)
+            → IsDone (so_far.held ++ Some put.made_at.next ∷ []) changes place (group_at place)
+        made_done put place (inl below) = stays_done so_far.held (Some put.made_at.next ∷ []) place (so_far.done place below)
         made_done put place (inr is) =
-            let there : slice_get (so_far.held ++ Some put.next ∷ []) count ≡ Some (Some put.next) =
-            ap (slice_get (so_far.held ++ Some put.next ∷ [])) (sym so_far.long) ∙ get_last so_far.held put.next in
+            let there : slice_get (so_far.held ++ Some put.made_at.next ∷ []) count ≡ Some (Some put.made_at.next) =
+            ap (slice_get (so_far.held ++ Some put.made_at.next ∷ [])) (sym so_far.long) ∙ get_last so_far.held put.made_at.next in
             let own = alone_at changes (group_at count) put.change put.alone_is in
-            rw is (inl (own.0, put.next, own.1, there, λ some. rw (own.2 some) put.by))
+            rw is (inl (own.0, put.made_at.next, own.1, there, λ some. rw (own.2 some) put.made_at.by))
 
     one_waits : IsPutWaiting count slot old new → ArePlacesSoFar keys groups changes more (count + 1) new
     one_waits put =
@@ -253,7 +247,8 @@ module _ (keys : Keys) (groups : List (List ℕ)) (grouping : IsGrouping keys gr
           long = length-append so_far.held (None ∷ []) ∙ ap (λ n. n + 1) so_far.long;
           counted = count_waits so_far.held ∙ (ap suc so_far.counted ∙ omega (arith, one_slot));
           made = put.made ∙ (ap (λ es. es ++ stand_in ∷ []) so_far.made ∙ sym (edits_wait so_far.held));
-          waits = put.waits ∙ (ap (λ bs. bs ++ true ∷ []) so_far.waits ∙ sym (waits_wait so_far.held));
+          waits = put.waits ∙ (ap (λ ns. ns ++ length old.made ∷ []) so_far.waits
+              ∙ sym (stands_wait so_far.held 0 (length old.made) (omega (arith, ap length so_far.made))));
           as_read = subst (AllByRecursion more) (sym woven) read_before;
           slots = subst (AreSlots (heads keys (map first_of (take (count + 1) groups)))) (sym woven) slots_before;
           done = λ place within. waits_done place (below_or_at place count within);

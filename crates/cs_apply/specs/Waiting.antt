@@ -1,5 +1,5 @@
 -- What is found at the places of changes: which of them are made at once, and which wait.
-use Rattle.std.specs.Prelude.{◌≡◌, ◌≢◌, ◌<◌, ◌⊎◌, ℕ, true, List, [], ◌∷◌, ◌++◌, length, map, take, Option, Some, None, slice_get, slice_index_or}
+use Rattle.std.specs.Prelude.{◌≡◌, ◌≢◌, ◌<◌, ◌⊎◌, ℕ, List, [], ◌∷◌, ◌++◌, length, map, take, Option, Some, None, slice_get, slice_index_or}
 use Rattle.std.specs.List.{AllByRecursion}
 use Rattle.cs_tasks.specs.cs_change.Change.{Change}
 use Rattle.cs_tasks.specs.cs_order.Order.{Keys}
@@ -7,7 +7,7 @@ use Rattle.cs_edits.specs.Edits.{BodyEdit}
 use Rattle.cs_apply.specs.Edited.{edit_list, edit_for}
 use Rattle.cs_apply.specs.Found.{AreSlots, IsNumbering, heads}
 use Rattle.cs_apply.specs.Meeting.{blank, IsMadeBy}
-use Rattle.cs_apply.specs.Woven.{weave, unmade, IsWaiting, count_waiting, made_edits, stand_in, waits_of, not_waiting}
+use Rattle.cs_apply.specs.Woven.{weave, unmade, IsWaiting, count_waiting, made_edits, stand_in, stands_of}
 use Rattle.cs_apply.specs.declared.places.FoundPlaces.{FoundPlaces}
 use Rattle.cs_apply.specs.declared.places.Places.{Places}
 use Rattle.cs_apply.specs.declared.slots.Slot.{Slot}
@@ -26,7 +26,7 @@ pub record ArePlaces (changes : List Change) (numbers : List ℕ) (read : Slot �
   pub held : List (Option Slot)
   pub counted : count_waiting held ≡ length places.slots
   pub made : places.made ≡ made_edits held
-  pub waits : places.waits.items ≡ waits_of held
+  pub waits : places.waits.items ≡ stands_of held
   pub as_read : AllByRecursion read (weave (unmade held) places.slots)
   pub long : (length places.numbers ≡ length changes) × (length numbers ≡ length changes)
   -- each change makes its place, or waits
@@ -52,7 +52,7 @@ pub record ArePlacesSoFar (keys : Keys) (groups : List (List ℕ)) (changes : Li
   pub long : length held ≡ count
   pub counted : count_waiting held ≡ length places.slots
   pub made : places.made ≡ made_edits held
-  pub waits : places.waits.items ≡ waits_of held
+  pub waits : places.waits.items ≡ stands_of held
   pub as_read : AllByRecursion read (weave (unmade held) places.slots)
   pub slots : AreSlots (heads keys (map first_of (take count groups))) (weave (unmade held) places.slots)
   pub done : (place : ℕ) → place < count → IsDone held changes place (slice_index_or groups place [])
@@ -63,7 +63,7 @@ pub record ArePlacesSoFar (keys : Keys) (groups : List (List ℕ)) (changes : Li
 -- the edit, if there is one, is behind the others
 pub record HasEdit (edit : Option BodyEdit) (old new : FoundPlaces) : Type 0 where
   pub made : new.made ≡ old.made ++ edit_list edit
-  pub waits : new.waits.items ≡ old.waits.items ++ map not_waiting (edit_list edit)
+  pub waits : new.waits.items ≡ old.waits.items
   pub slots : new.slots ≡ old.slots
   pub groups : new.groups.items ≡ old.groups.items
 
@@ -72,31 +72,28 @@ abbrev pub only_change : List Change → List ℕ → Option Change
 only_change changes (at ∷ []) = slice_get changes at
 only_change changes _ = None
 
--- one more place is made by the only change of its group
-pub record IsPutMade (alone : Option Change) (slot : Slot) (old new : FoundPlaces) : Type 0 where
-  pub change : Change
-  pub next : Slot
-  pub alone_is : alone ≡ Some change
-  pub blank_is : slot ≡ blank next
-  pub by : IsMadeBy change next
-  pub edit : HasEdit (edit_for next) old new
-
--- or it waits
-pub record IsPutWaiting (group : ℕ) (slot : Slot) (old new : FoundPlaces) : Type 0 where
-  pub made : new.made ≡ old.made ++ stand_in ∷ []
-  pub waits : new.waits.items ≡ old.waits.items ++ true ∷ []
-  pub slots : new.slots ≡ old.slots ++ slot ∷ []
-  pub groups : new.groups.items ≡ old.groups.items ++ group ∷ []
-
-abbrev pub IsPut : ℕ → Option Change → Slot → FoundPlaces → FoundPlaces → Type 0
-IsPut group alone slot old new = IsPutMade alone slot old new ⊎ IsPutWaiting group slot old new
-
 -- a change is made at a place that the store has as this slot, and the edit of what it leaves is behind the others
 pub record IsMadeAt (change : Change) (slot : Slot) (old new : FoundPlaces) : Type 0 where
   pub next : Slot
   pub blank_is : slot ≡ blank next
   pub by : IsMadeBy change next
   pub edit : HasEdit (edit_for next) old new
+
+-- one more place is made by the only change of its group
+pub record IsPutMade (alone : Option Change) (slot : Slot) (old new : FoundPlaces) : Type 0 where
+  pub change : Change
+  pub alone_is : alone ≡ Some change
+  pub made_at : IsMadeAt change slot old new
+
+-- or it waits
+pub record IsPutWaiting (group : ℕ) (slot : Slot) (old new : FoundPlaces) : Type 0 where
+  pub made : new.made ≡ old.made ++ stand_in ∷ []
+  pub waits : new.waits.items ≡ old.waits.items ++ length old.made ∷ []
+  pub slots : new.slots ≡ old.slots ++ slot ∷ []
+  pub groups : new.groups.items ≡ old.groups.items ++ group ∷ []
+
+abbrev pub IsPut : ℕ → Option Change → Slot → FoundPlaces → FoundPlaces → Type 0
+IsPut group alone slot old new = IsPutMade alone slot old new ⊎ IsPutWaiting group slot old new
 
 -- the places of keys, with what comes of the change of each
 pub record ArePlacesFound (keys : Keys) (changes : List Change) (read : Slot → Type 0) (places : Places) : Type 0 where

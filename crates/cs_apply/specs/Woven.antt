@@ -1,6 +1,6 @@
 -- Places in order, of which some wait for the turns of their changes. A place that is made stands as its slot, and one
 -- that waits as none: it has the next of the slots that wait.
-use Rattle.std.specs.Prelude.{ℕ, zero, suc, Bool, true, false, List, [], ◌∷◌, ◌++◌, map, Option, Some, None, option_map}
+use Rattle.std.specs.Prelude.{◌≤◌, ◌+◌, ℕ, zero, suc, List, [], ◌∷◌, ◌++◌, length, map, Option, Some, None, option_map}
 use Rattle.cs_edits.specs.Edits.{BodyEdit}
 use Rattle.cs_apply.specs.Edited.{edit_list, edit_for}
 use Rattle.cs_apply.specs.Meeting.{blank}
@@ -43,19 +43,16 @@ made_edits [] = []
 made_edits (Some made ∷ held) = edit_list (edit_for made) ++ made_edits held
 made_edits (None ∷ held) = stand_in ∷ made_edits held
 
--- of each of these, whether it stands for a place that waits
-abbrev pub not_waiting : BodyEdit → Bool
-not_waiting edit = false
+-- which of these edits stand for places that wait, where the first edit of all has this number
+abbrev pub stands_from : ℕ → List (Option Slot) → List ℕ
+stands_from at [] = []
+stands_from at (Some made ∷ held) = stands_from (at + length (edit_list (edit_for made))) held
+stands_from at (None ∷ held) = at ∷ stands_from (at + 1) held
 
-abbrev pub waits_of : List (Option Slot) → List Bool
-waits_of [] = []
-waits_of (Some made ∷ held) = map not_waiting (edit_list (edit_for made)) ++ waits_of held
-waits_of (None ∷ held) = true ∷ waits_of held
+abbrev pub stands_of : List (Option Slot) → List ℕ
+stands_of held = stands_from 0 held
 
--- the edits that are made, and those of the slots where one stands for them
-abbrev pub mesh : List Bool → List BodyEdit → List Slot → List BodyEdit
-mesh [] made slots = []
-mesh (wait ∷ waits) [] slots = []
-mesh (false ∷ waits) (edit ∷ made) slots = edit ∷ mesh waits made slots
-mesh (true ∷ waits) (edit ∷ made) [] = mesh waits made []
-mesh (true ∷ waits) (edit ∷ made) (slot ∷ slots) = edit_list (edit_for slot) ++ mesh waits made slots
+-- numbers that rise, none below the first of these and each below the last
+abbrev pub RiseBetween : ℕ → List ℕ → ℕ → Type 0
+RiseBetween from [] end = from ≤ end
+RiseBetween from (at ∷ numbers) end = (from ≤ at) × RiseBetween (at + 1) numbers end

@@ -1,57 +1,79 @@
-use Rattle.std.proofs.Common.{◌≡◌, ◌≤◌, ◌<◌, ◌+◌, ◌++◌, [], length, take, drop, sym, ap, ◌∙◌, arith}
-use Rattle.std.proofs.lemmas.List.{length-set, drop_all}
-use Rattle.cs_apply.specs.Woven.{mesh}
-use Rattle.cs_apply.proofs.Meshing.{mesh_is, slots_from, one_kept, one_left, none_left, none_there, all_kept}
+use Rattle.std.proofs.Common.{◌≤◌, ◌<◌, length, get_or, sym, ◌∙◌, arith}
+use Rattle.cs_apply.proofs.Meshing.{mesh_is, next_rises, none_put, one_put, all_kept}
 use Rattle.cs_apply.proofs.edits.edits_of.Goals as goal
-use Rattle.cs_apply.proofs.edits.edits_of.Goals.{then-not-wait, else-not-wait+then-next-len, in-Some+in_ok-set, in_default, else-not-wait+else-next-len}
+use Rattle.cs_apply.proofs.edits.edits_of.Goals.{in-Some+in_ok-set, in_default}
 
-pub loop-at-preserved : goal.loop-at-preserved
-loop-at-preserved c =
-    let at = c.loop-at.at in
+pub move_edits-kept-requires-clause-within : goal.move_edits-kept-requires-clause-within
+move_edits-kept-requires-clause-within c =
+    let here = next_rises c.args.waits.now c.args.made c.loop-number.number c.loop-number.from (omega (arith, c.loop-number-test.true)) c.loop-number.invariant.rising in
+    omega (arith, here.1, c.loop-number.invariant.as_many)
+
+pub set-requires : goal.set-requires
+set-requires c =
+    let here = next_rises c.args.waits.now c.args.made c.loop-number.number c.loop-number.from (omega (arith, c.loop-number-test.true)) c.loop-number.invariant.rising in
+    let moved = c.move_edits-kept.ensures in
+    omega (arith, here.1, moved.next, moved.as_many, c.loop-number.invariant.few, c.loop-number.invariant.as_many)
+
+pub overflow_add-kept : goal.overflow_add-kept
+overflow_add-kept c =
+    let here = next_rises c.args.waits.now c.args.made c.loop-number.number c.loop-number.from (omega (arith, c.loop-number-test.true)) c.loop-number.invariant.rising in
+    omega (arith, here.1, c.move_edits-kept.ensures.next, c.loop-number.invariant.few, c.len-end.ensures)
+
+pub overflow_add-from : goal.overflow_add-from
+overflow_add-from c =
+    let here = next_rises c.args.waits.now c.args.made c.loop-number.number c.loop-number.from (omega (arith, c.loop-number-test.true)) c.loop-number.invariant.rising in
+    omega (arith, here.1, c.len-end.ensures)
+
+pub loop-number-preserved : goal.loop-number-preserved
+loop-number-preserved c =
     let waits = c.args.waits.now in
+    let made = c.args.made in
     let slots = c.args.slots.now in
-    let edits = c.loop-at.edits in
-    let kept = c.loop-at.kept in
-    let next = c.loop-at.next in
-    let few : kept ≤ at = c.loop-at.invariant.0 in
-    let less : at < length waits = omega (arith, c.loop-at-test.true) in
-    let long : length waits ≡ length edits = c.requires ∙ sym c.loop-at.invariant.1 in
-    elim c.if-not-wait.branch [
-      | then-not-wait w ↦
-          let one = one_kept waits edits kept at few long less w.copy_to.new.self w.copy_to.ensures w.if-not-wait.true (drop next slots) in
-          rw (w.edits-is, w.next-is, w.kept-is) (omega (arith, few), one.0 ∙ c.loop-at.invariant.1, one.1 ∙ c.loop-at.invariant.2)
-      | else-not-wait+then-next-len w ↦
-          let slot = w.get.result in
-          let split = slots_from slots next slot (omega (arith, w.if-next-len.true, w.len.ensures)) w.get.ensures in
-          let before = ap (λ behind. take kept edits ++ mesh (drop at waits) (drop at edits) behind) (sym split) ∙ c.loop-at.invariant.2 in
-          elim w.match-edit_of.branch [
-            | in-Some+in_ok-set w' ↦
-                let put = w'.in_ok-set.ensures.ok in
-                rw (w.edits-is, w.next-is, w.kept-is, w'.edits-is, w'.kept-is) (
-                  omega (arith, few),
-                  ap length put ∙ (length-set edits kept w'.in-Some.edit ∙ c.loop-at.invariant.1),
-                  one_left waits edits kept at few long less w'.in-Some.edit w'.set.new.self put w.if-not-wait.false slot (drop (next + 1) slots) (sym w'.in-Some.ensures)
-                      ∙ before,
-                )
-            | in_default w' ↦
-                rw (w.edits-is, w.next-is, w.kept-is, w'.edits-is, w'.kept-is) (
-                  omega (arith, few),
-                  c.loop-at.invariant.1,
-                  none_left waits edits kept at few long less w.if-not-wait.false slot (drop (next + 1) slots) (sym w'.in_default.ensures) ∙ before,
-                )
-          ]
-      | else-not-wait+else-next-len w ↦
-          let none : drop next slots ≡ [] = drop_all next slots (omega (arith, w.if-next-len.false, w.len.ensures)) in
-          rw (w.edits-is, w.next-is, w.kept-is) (
-            omega (arith, few),
-            c.loop-at.invariant.1,
-            ap (λ behind. take kept edits ++ mesh (drop (at + 1) waits) (drop (at + 1) edits) behind) none
-                ∙ (none_there waits edits kept at few long less w.if-not-wait.false
-                ∙ (ap (λ behind. take kept edits ++ mesh (drop at waits) (drop at edits) behind) (sym none) ∙ c.loop-at.invariant.2)),
-          )
+    let number = c.loop-number.number in
+    let from = c.loop-number.from in
+    let edits = c.loop-number.edits in
+    let kept = c.loop-number.kept in
+    let before = c.loop-number.invariant in
+    let new = c.move_edits-kept.new.edits in
+    let next = c.move_edits-kept.result in
+    let moved = c.move_edits-kept.ensures in
+    let slot = c.get.result in
+    let less : number < length waits = omega (arith, c.loop-number-test.true) in
+    let one_slot : number < length slots = omega (arith, less, c.requires.as_many) in
+    let here = next_rises waits made number from less before.rising in
+    let few : next ≤ get_or waits number 0 = omega (arith, moved.next, before.few) in
+    elim c.match-edit_of.branch [
+      | in-Some+in_ok-set w ↦
+          let is = sym c.edit_of.ensures ∙ w.in-Some.is in
+          let put =
+          one_put waits made number from less before.rising edits new kept next before.few before.as_many before.behind
+          moved.next moved.moved moved.behind moved.as_many slots slot one_slot c.get.ensures w.in-Some.edit w.set.new.self is w.in_ok-set.ensures.ok in
+          rw (w.edits-is, w.kept-is) (record {
+            few = omega (arith, few);
+            as_many = put.0;
+            rising = here.2;
+            behind = put.1;
+            same = put.2 ∙ before.same;
+          })
+      | in_default w ↦
+          let put =
+          none_put waits made number from less before.rising edits new kept next before.few before.as_many before.behind
+          moved.next moved.moved moved.behind moved.as_many slots slot one_slot c.get.ensures (sym w.in_default.ensures) in
+          rw (w.edits-is, w.kept-is) (record {
+            few = omega (arith, few);
+            as_many = moved.as_many ∙ before.as_many;
+            rising = here.2;
+            behind = put.0;
+            same = put.1 ∙ before.same;
+          })
     ]
 
 pub returns : goal.returns
 returns c = λ held made waits count.
-    let done = c.truncate.ensures ∙ (all_kept c.args.waits.now c.loop-at.edits c.loop-at.kept c.loop-at.at (drop c.loop-at.next c.args.slots.now) (omega (arith, c.loop-at-test.false)) ∙ c.loop-at.invariant.2) in
+    let before = c.loop-number.invariant in
+    let moved = c.move_edits-kept-2.ensures in
+    let done =
+    c.truncate.ensures ∙ (moved.moved
+    ∙ (all_kept c.args.waits.now c.args.made c.loop-number.edits c.args.slots.now c.loop-number.number c.loop-number.from c.loop-number.kept c.len-end.result
+    (omega (arith, c.loop-number-test.false)) c.len-end.ensures before.as_many before.behind ∙ before.same)) in
     rw (made, waits) at done ∙ mesh_is held c.args.slots.now count
