@@ -25,7 +25,8 @@ rest_at xs at x within =
 
 -- those of one more place are looked at
 passed : (o : Option BodyEdit) (made rest : List BodyEdit) (from at : ℕ) → from ≤ at → drop at made ≡ edit_list o ++ rest
-    → (slice_range made from (at + length (edit_list o)) ≡ slice_range made from at ++ edit_list o) × (drop (at + length (edit_list o)) made ≡ rest)
+    → (slice_range made from (at + length (edit_list o)) ≡ slice_range made from at ++ edit_list o)
+    × (drop (at + length (edit_list o)) made ≡ rest)
 passed None made rest from at rising there = rw add-zero (sym (append-nil (slice_range made from at)), there)
 passed (Some edit) made rest from at rising there =
     let long : length made - at ≡ suc (length rest) = sym (length-drop at made) ∙ ap length there in
@@ -36,9 +37,11 @@ passed (Some edit) made rest from at rising there =
       cc split,
     )
 
-mesh_from : (held : List (Option Slot)) (slots : List Slot) (made : List BodyEdit) (from at : ℕ) → from ≤ at → drop at made ≡ made_edits held
-    → count_waiting held ≡ length slots → mesh from (stands_from at held) made slots ≡ slice_range made from at ++ edits_for (weave held slots)
-mesh_from [] slots made from at rising there count = drop_split made from at rising ∙ ap (λ rest. slice_range made from at ++ rest) there
+mesh_from : (held : List (Option Slot)) (slots : List Slot) (made : List BodyEdit) (from at : ℕ) → from ≤ at
+    → drop at made ≡ made_edits held → count_waiting held ≡ length slots
+    → mesh from (stands_from at held) made slots ≡ slice_range made from at ++ edits_for (weave held slots)
+mesh_from [] slots made from at rising there count =
+    drop_split made from at rising ∙ ap (λ rest. slice_range made from at ++ rest) there
 mesh_from (Some m ∷ held) slots made from at rising there count =
     let past = passed (edit_for m) made (made_edits held) from at rising there in
     mesh_from held slots made from (at + length (edit_list (edit_for m))) (omega (arith, rising)) past.1 count
@@ -68,10 +71,12 @@ no_slots (s ∷ slots) none = absurd (omega (arith, none))
 
 -- ---- the numbers of those that stand for places
 
-stands_between : (held : List (Option Slot)) (from at end : ℕ) → from ≤ at → at + length (made_edits held) ≡ end → RiseBetween from (stands_from at held) end
+stands_between : (held : List (Option Slot)) (from at end : ℕ) → from ≤ at → at + length (made_edits held) ≡ end
+    → RiseBetween from (stands_from at held) end
 stands_between [] from at end rising is = omega (arith, rising, is)
 stands_between (Some m ∷ held) from at end rising is =
-    stands_between held from (at + length (edit_list (edit_for m))) end (omega (arith, rising)) (omega (arith, is, length-append (edit_list (edit_for m)) (made_edits held)))
+    stands_between held from (at + length (edit_list (edit_for m))) end (omega (arith, rising))
+    (omega (arith, is, length-append (edit_list (edit_for m)) (made_edits held)))
 stands_between (None ∷ held) from at end rising is = (rising, stands_between held (at + 1) (at + 1) end (omega arith) (omega (arith, is)))
 
 pub stands_rise : (held : List (Option Slot)) (waits : List ℕ) (made : List BodyEdit) → waits ≡ stands_of held → made ≡ made_edits held
@@ -100,7 +105,8 @@ same_behind from at one other rising same =
     let whole : from + (at - from) ≡ at = omega (arith, rising) in
     rw whole at (sym (drop-drop (at - from) from one) ∙ (ap (drop (at - from)) same ∙ drop-drop (at - from) from other))
 
-module _ (waits : List ℕ) (made : List BodyEdit) (number from : ℕ) (less : number < length waits) (rising : RiseBetween from (drop number waits) (length made)) where
+module _ (waits : List ℕ) (made : List BodyEdit) (number from : ℕ) (less : number < length waits)
+    (rising : RiseBetween from (drop number waits) (length made)) where
   abbrev there : ℕ
   there = get_or waits number 0
 
@@ -114,8 +120,9 @@ module _ (waits : List ℕ) (made : List BodyEdit) (number from : ℕ) (less : n
       let within = rise_within (there + 1) (drop (number + 1) waits) (length made) both.1 in
       (both.0, omega (arith, within), both.1)
 
-  module _ (edits new : List BodyEdit) (kept next : ℕ) (few : kept ≤ from) (long : length edits ≡ length made) (behind : drop from edits ≡ drop from made)
-      (next_is : next + from ≡ kept + there) (moved : take next new ≡ take kept edits ++ slice_range edits from there)
+  module _ (edits new : List BodyEdit) (kept next : ℕ) (few : kept ≤ from) (long : length edits ≡ length made)
+      (behind : drop from edits ≡ drop from made) (next_is : next + from ≡ kept + there)
+      (moved : take next new ≡ take kept edits ++ slice_range edits from there)
       (left : drop there new ≡ drop there edits) (as_many : length new ≡ length edits)
       (slots : List Slot) (slot : Slot) (one_slot : number < length slots) (found : slice_get slots number ≡ Some slot) where
     abbrev rest : List BodyEdit
@@ -126,7 +133,8 @@ module _ (waits : List ℕ) (made : List BodyEdit) (number from : ℕ) (less : n
 
     slots_split : drop number slots ≡ slot ∷ drop (number + 1) slots
     slots_split =
-        rest_at slots number slot one_slot ∙ ap (λ (s : Slot). s ∷ drop (number + 1) slots) (get_or_from_slice_get slots number slot slot found)
+        rest_at slots number slot one_slot
+        ∙ ap (λ (s : Slot). s ∷ drop (number + 1) slots) (get_or_from_slice_get slots number slot slot found)
 
     opened : before ≡ take next new ++ (edit_list (edit_for slot) ++ rest)
     opened =
@@ -151,15 +159,17 @@ module _ (waits : List ℕ) (made : List BodyEdit) (number from : ℕ) (less : n
     one_put edit put is put_is = (
       ap length put_is ∙ (length-set new next edit ∙ (as_many ∙ long)),
       ap (drop (there + 1)) put_is ∙ (drop-set-lt (there + 1) new next edit (omega (arith, few, next_is)) ∙ still_behind),
-      ap (λ front. front ++ rest) (ap (take (next + 1)) put_is ∙ take_more_set new next edit (omega (arith, few, next_is, as_many, long, next_rises.1)))
+      ap (λ front. front ++ rest)
+          (ap (take (next + 1)) put_is ∙ take_more_set new next edit (omega (arith, few, next_is, as_many, long, next_rises.1)))
           ∙ (append_assoc (take next new) (edit ∷ []) rest
           ∙ sym (opened ∙ ap (λ o. take next new ++ (edit_list o ++ rest)) is)),
     )
 
 -- all numbers are looked at
-pub all_kept : (waits : List ℕ) (made edits : List BodyEdit) (slots : List Slot) (number from kept end : ℕ) → length waits ≤ number → end ≡ length made
-    → length edits ≡ length made → drop from edits ≡ drop from made
+pub all_kept : (waits : List ℕ) (made edits : List BodyEdit) (slots : List Slot) (number from kept end : ℕ) → length waits ≤ number
+    → end ≡ length made → length edits ≡ length made → drop from edits ≡ drop from made
     → take kept edits ++ slice_range edits from end ≡ take kept edits ++ mesh from (drop number waits) made (drop number slots)
 all_kept waits made edits slots number from kept end none end_is long behind =
-    ap (λ rest. take kept edits ++ rest) (take_all (end - from) (drop from edits) (omega (arith, length-drop from edits, long, end_is)) ∙ behind)
+    ap (λ rest. take kept edits ++ rest)
+    (take_all (end - from) (drop from edits) (omega (arith, length-drop from edits, long, end_is)) ∙ behind)
     ∙ ap (λ ns. take kept edits ++ mesh from ns made (drop number slots)) (sym (drop_all number waits none))

@@ -5,23 +5,31 @@ use Rattle.cs_apply.proofs.edits.edits_of.Goals.{in-Some+in_ok-set, in_default}
 
 pub move_edits-kept-requires-clause-within : goal.move_edits-kept-requires-clause-within
 move_edits-kept-requires-clause-within c =
-    let here = next_rises c.args.waits.now c.args.made c.loop-number.number c.loop-number.from (omega (arith, c.loop-number-test.true)) c.loop-number.invariant.rising in
+    let here =
+    next_rises c.args.waits.now c.args.made c.loop-number.number c.loop-number.from
+    (omega (arith, c.loop-number-test.true)) c.loop-number.invariant.rising in
     omega (arith, here.1, c.loop-number.invariant.as_many)
 
 pub set-requires : goal.set-requires
 set-requires c =
-    let here = next_rises c.args.waits.now c.args.made c.loop-number.number c.loop-number.from (omega (arith, c.loop-number-test.true)) c.loop-number.invariant.rising in
+    let here =
+    next_rises c.args.waits.now c.args.made c.loop-number.number c.loop-number.from
+    (omega (arith, c.loop-number-test.true)) c.loop-number.invariant.rising in
     let moved = c.move_edits-kept.ensures in
     omega (arith, here.1, moved.next, moved.as_many, c.loop-number.invariant.few, c.loop-number.invariant.as_many)
 
 pub overflow_add-kept : goal.overflow_add-kept
 overflow_add-kept c =
-    let here = next_rises c.args.waits.now c.args.made c.loop-number.number c.loop-number.from (omega (arith, c.loop-number-test.true)) c.loop-number.invariant.rising in
+    let here =
+    next_rises c.args.waits.now c.args.made c.loop-number.number c.loop-number.from
+    (omega (arith, c.loop-number-test.true)) c.loop-number.invariant.rising in
     omega (arith, here.1, c.move_edits-kept.ensures.next, c.loop-number.invariant.few, c.len-end.ensures)
 
 pub overflow_add-from : goal.overflow_add-from
 overflow_add-from c =
-    let here = next_rises c.args.waits.now c.args.made c.loop-number.number c.loop-number.from (omega (arith, c.loop-number-test.true)) c.loop-number.invariant.rising in
+    let here =
+    next_rises c.args.waits.now c.args.made c.loop-number.number c.loop-number.from
+    (omega (arith, c.loop-number-test.true)) c.loop-number.invariant.rising in
     omega (arith, here.1, c.len-end.ensures)
 
 pub loop-number-preserved : goal.loop-number-preserved
@@ -47,7 +55,8 @@ loop-number-preserved c =
           let is = sym c.edit_of.ensures ∙ w.in-Some.is in
           let put =
           one_put waits made number from less before.rising edits new kept next before.few before.as_many before.behind
-          moved.next moved.moved moved.behind moved.as_many slots slot one_slot c.get.ensures w.in-Some.edit w.set.new.self is w.in_ok-set.ensures.ok in
+          moved.next moved.moved moved.behind moved.as_many slots slot one_slot c.get.ensures
+          w.in-Some.edit w.set.new.self is w.in_ok-set.ensures.ok in
           rw (w.edits-is, w.kept-is) (record {
             few = omega (arith, few);
             as_many = put.0;
@@ -74,6 +83,7 @@ returns c = λ held made waits count.
     let moved = c.move_edits-kept-2.ensures in
     let done =
     c.truncate.ensures ∙ (moved.moved
-    ∙ (all_kept c.args.waits.now c.args.made c.loop-number.edits c.args.slots.now c.loop-number.number c.loop-number.from c.loop-number.kept c.len-end.result
+    ∙ (all_kept c.args.waits.now c.args.made c.loop-number.edits c.args.slots.now
+    c.loop-number.number c.loop-number.from c.loop-number.kept c.len-end.result
     (omega (arith, c.loop-number-test.false)) c.len-end.ensures before.as_many before.behind ∙ before.same)) in
     rw (made, waits) at done ∙ mesh_is held c.args.slots.now count

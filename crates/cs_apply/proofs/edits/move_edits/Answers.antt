@@ -33,6 +33,8 @@ loop-at-preserved c =
           ∙ (append_assoc (take c.args.kept old) (slice_range old from at) (edit ∷ [])
           ∙ ap (λ rest. take c.args.kept old ++ rest)
           (ap (λ (e : BodyEdit). slice_range old from at ++ e ∷ []) here ∙ sym (between_more old from at stand_in rising within)))));
-      behind = ap (drop (at + 1)) put ∙ (drop-set-lt (at + 1) edits next edit (omega (arith, few)) ∙ same_behind at (at + 1) edits old (omega arith) before.behind);
+      behind =
+          ap (drop (at + 1)) put
+          ∙ (drop-set-lt (at + 1) edits next edit (omega (arith, few)) ∙ same_behind at (at + 1) edits old (omega arith) before.behind);
       as_many = ap length put ∙ (length-set edits next edit ∙ before.as_many);
     }
