@@ -1,15 +1,15 @@
 -- What is told of the conflicts of a group, change by change, and of groups one behind another.
-use Rattle.std.proofs.Common.{◌≡◌, ◌≤◌, ◌<◌, ◌+◌, ◌++◌, map, subst, Bool, true, false, ℕ, List, [], ◌∷◌, length, take, drop, Option, Some, None, is_some, append_assoc, append-nil, refl, sym, ap, ◌∙◌, arith}
-use Rattle.std.specs.Prelude.{get_or, not}
+use Rattle.std.proofs.Common.{◌≡◌, ◌≤◌, ◌<◌, ◌+◌, ◌++◌, map, subst, true, false, ℕ, List, [], ◌∷◌, length, drop, Option, Some, None, is_some, append_assoc, append-nil, refl, sym, ap, ◌∙◌, arith}
+use Rattle.std.specs.Prelude.{get_or}
 use Rattle.std.specs.List.{list_any}
 use Rattle.std.proofs.lemmas.Grind.{flat_map-append}
 use Rattle.std.proofs.lemmas.List.{drop_more, length-append, length-drop, length-map, map-append}
 use Rattle.cs_value.specs.declared.catalog.TableDef.{TableDef}
-use Rattle.cs_tasks.specs.cs_blob.Spelling.{blob_group_spelling, blob_spelling}
+use Rattle.cs_tasks.specs.cs_blob.Spelling.{blob_spelling}
 use Rattle.cs_tasks.specs.cs_change.Change.{Change}
 use Rattle.cs_tasks.specs.cs_change.Group.{Group}
-use Rattle.cs_tasks.specs.cs_change.Spelling.{marks_of}
-use Rattle.cs_tasks.specs.Blob.{answered_group, blob_of, entries_of, group_if_any}
+use Rattle.cs_tasks.specs.Blob.{answered_group, blob_of}
+use Rattle.cs_tasks.specs.Laws.{BlobByGroups, UnansweredChange, UnansweredGroup}
 use Rattle.cs_tasks.specs.Tasks.{Task, table_of, task, tasks, tasks_at}
 use Rattle.cs_conflict.specs.declared.conflict.Conflict.{Conflict}
 use Rattle.cs_conflict.specs.declared.conflict.Resolution.{Resolution}
@@ -19,20 +19,6 @@ use Rattle.cs_apply.specs.declared.answers.Told.{Told}
 use Rattle.cs_apply.specs.declared.fault.ApplyFault.{ApplyFault}
 use Rattle.cs_apply.specs.declared.slots.Slot.{Slot}
 use Rattle.cs_apply.proofs.Running.{none_left, run_on, stop_behind, told_before, told_carried}
-
--- a change without a conflict adds no entry
-none_more : (marks : List Bool) (changes : List Change) (given : List (Option Resolution)) → entries_of marks changes (given ++ None ∷ []) ≡ entries_of marks changes given
-unfolding entries_of
-none_more marks [] given = refl
-none_more marks (change ∷ []) [] = refl
-none_more marks (change ∷ other ∷ changes) [] = refl
-none_more marks (change ∷ changes) (None ∷ given) = none_more marks changes given
-none_more marks (change ∷ changes) (Some answer ∷ given) = rw (none_more marks changes given) refl
-
-none_yet : (marks : List Bool) (changes : List Change) → entries_of marks changes [] ≡ []
-unfolding entries_of
-none_yet marks [] = refl
-none_yet marks (change ∷ changes) = refl
 
 any_more : (given : List (Option Resolution)) (answer : Resolution) → list_any is_some (given ++ Some answer ∷ []) ≡ true
 any_more [] answer = refl
@@ -45,24 +31,25 @@ any_same (None ∷ given) = any_same given
 any_same (Some one ∷ given) = refl
 
 -- what is told of the changes of a group, as far as these had these answers
-pub record IsTold (group : Group) (first : Bool) (old now : Told) (given : List (Option Resolution)) : Type 0 where
-  pub any : list_any is_some given ≡ not first
+pub record IsTold (group : Group) (old now : Told) (given : List (Option Resolution)) : Type 0 where
+  pub any : list_any is_some given ≡ now.blob.headed
   pub answers : now.answers.items ≡ old.answers.items ++ answers_of given
-  pub blob : now.blob ≡ old.blob ++ answered_group group given
+  pub blob : now.blob.bytes ≡ old.blob.bytes ++ answered_group group given
 
-pub nothing_yet : (group : Group) (told : Told) → IsTold group true told told []
-nothing_yet group told = record {
-  any = refl;
-  answers = sym (append-nil told.answers.items);
-  blob = sym (append-nil told.blob) ∙ ap (λ entries. told.blob ++ blob_spelling (group_if_any group entries)) (sym (none_yet (marks_of group.marks) group.changes));
+pub nothing_yet : UnansweredGroup → (group : Group) (old now : Told) → now.answers.items ≡ old.answers.items → now.blob.bytes ≡ old.blob.bytes → now.blob.headed ≡ false
+    → IsTold group old now []
+nothing_yet unanswered group old now answers bytes headed = record {
+  any = sym headed;
+  answers = answers ∙ sym (append-nil old.answers.items);
+  blob = bytes ∙ (sym (append-nil old.blob.bytes) ∙ ap (λ bytes. old.blob.bytes ++ bytes) (sym (unanswered group [] refl)));
 }
 
 -- one answer more
-pub told_more : (group : Group) (first : Bool) (old now next : Told) (given : List (Option Resolution)) (answer : Resolution) → IsTold group first old now given
-    → next.answers.items ≡ now.answers.items ++ answer ∷ [] → next.blob ≡ old.blob ++ answered_group group (given ++ Some answer ∷ [])
-    → IsTold group false old next (given ++ Some answer ∷ [])
-told_more group first old now next given answer before answers blob = record {
-  any = any_more given answer;
+pub told_more : (group : Group) (old now next : Told) (given : List (Option Resolution)) (answer : Resolution) → IsTold group old now given
+    → next.answers.items ≡ now.answers.items ++ answer ∷ [] → next.blob.bytes ≡ old.blob.bytes ++ answered_group group (given ++ Some answer ∷ [])
+    → next.blob.headed ≡ true → IsTold group old next (given ++ Some answer ∷ [])
+told_more group old now next given answer before answers blob headed = record {
+  any = any_more given answer ∙ sym headed;
   answers = answers ∙ (ap (λ list. list ++ answer ∷ []) before.answers
       ∙ (append_assoc old.answers.items (answers_of given) (answer ∷ [])
       ∙ ap (λ list. old.answers.items ++ list) (sym (flat_map-append given_list given (Some answer ∷ [])))));
@@ -70,11 +57,11 @@ told_more group first old now next given answer before answers blob = record {
 }
 
 -- a change without a conflict
-pub told_same : (group : Group) (first : Bool) (old now : Told) (given : List (Option Resolution)) → IsTold group first old now given → IsTold group first old now (given ++ None ∷ [])
-told_same group first old now given before = record {
+pub told_same : UnansweredChange → (group : Group) (old now : Told) (given : List (Option Resolution)) → IsTold group old now given → IsTold group old now (given ++ None ∷ [])
+told_same unanswered group old now given before = record {
   any = any_same given ∙ before.any;
   answers = before.answers ∙ ap (λ list. old.answers.items ++ list) (sym (flat_map-append given_list given (None ∷ []) ∙ append-nil (answers_of given)));
-  blob = before.blob ∙ ap (λ entries. old.blob ++ blob_spelling (group_if_any group entries)) (sym (none_more (marks_of group.marks) group.changes given));
+  blob = before.blob ∙ ap (λ bytes. old.blob.bytes ++ bytes) (sym (unanswered group given));
 }
 
 -- ---- groups one behind another
@@ -92,36 +79,18 @@ no_tasks : (all : List Task) → length all ≡ 0 → all ≡ []
 no_tasks [] none = refl
 no_tasks (one ∷ all) none = absurd (omega (arith, none))
 
-front_is : (some others : List (Option Resolution)) → take (length some) (some ++ others) ≡ some
-front_is [] others = refl
-front_is (one ∷ some) others = ap (λ list. one ∷ list) (front_is some others)
-
-behind_is : (some others : List (Option Resolution)) → drop (length some) (some ++ others) ≡ others
-behind_is [] others = refl
-behind_is (one ∷ some) others = behind_is some others
-
 abbrev pub count_in : List TableDef → Group → ℕ
 count_in tables group = length (tasks_at (table_of group tables) group)
-
--- the blob of a group and of those behind it
-blob_first : (tables : List TableDef) (group : Group) (groups : List Group) (given more : List (Option Resolution)) → length given ≡ count_in tables group
-    → blob_spelling (blob_of tables (group ∷ groups) (given ++ more)) ≡ answered_group group given ++ blob_spelling (blob_of tables groups more)
-unfolding blob_of
-blob_first tables group groups given more long =
-    let front : take (count_in tables group) (given ++ more) ≡ given = ap (λ n. take n (given ++ more)) (sym long) ∙ front_is given more in
-    let behind : drop (count_in tables group) (given ++ more) ≡ more = ap (λ n. drop n (given ++ more)) (sym long) ∙ behind_is given more in
-    flat_map-append blob_group_spelling (group_if_any group (entries_of (marks_of group.marks) group.changes (take (count_in tables group) (given ++ more))))
-    (blob_of tables groups (drop (count_in tables group) (given ++ more)))
-    ∙ (ap (λ list. answered_group group list ++ blob_spelling (blob_of tables groups (drop (count_in tables group) (given ++ more)))) front
-    ∙ ap (λ list. answered_group group given ++ blob_spelling (blob_of tables groups list)) behind)
 
 tasks_first : (tables : List TableDef) (group : Group) (groups : List Group)
     → changes_of (tasks tables (group ∷ groups)) ≡ changes_of (tasks_at (table_of group tables) group) ++ changes_of (tasks tables groups)
 tasks_first tables group groups = map-append (λ (t : Task). t.change) (tasks_at (table_of group tables) group) (tasks tables groups)
 
--- the group there, and those behind it
-pub group_first : (groups : List Group) (at : ℕ) (group : Group) → at < length groups → group ≡ get_or groups at group → drop at groups ≡ group ∷ drop (at + 1) groups
-group_first groups at group inside is = drop_more groups at group inside ∙ ap (λ g. g ∷ drop (at + 1) groups) (sym is)
+-- the group there of those that were lent, and those behind it
+pub group_first : (groups lent : List Group) (at : ℕ) (group : Group) → lent ≡ groups → at < length lent → group ≡ get_or lent at group
+    → drop at groups ≡ group ∷ drop (at + 1) groups
+group_first groups lent at group same inside is =
+    ap (drop at) (sym same) ∙ (drop_more lent at group inside ∙ (ap (λ g. g ∷ drop (at + 1) lent) (sym is) ∙ ap (λ gs. group ∷ drop (at + 1) gs) same))
 
 -- a group of which changes are applied has as many
 pub as_many : (tables : List TableDef) (group : Group) → 0 < count_in tables group → length group.changes ≡ count_in tables group
@@ -136,6 +105,12 @@ there_for tables left group others rest is long =
     long ∙ (ap (λ gs. length (tasks tables gs)) is ∙ length-append (tasks_at (table_of group tables) group) (tasks tables others)) in
     (omega (arith, all), length-drop (count_in tables group) rest ∙ omega (arith, all))
 
+-- so there are numbers for all changes of a group of which changes are applied
+pub enough_for : (tables : List TableDef) (left : List Group) (group : Group) (others : List Group) (rest : List (Option ℕ)) → left ≡ group ∷ others → length rest ≡ length (tasks tables left)
+    → 0 < count_in tables group → length group.changes ≤ length rest
+enough_for tables left group others rest is long some =
+    omega (arith, as_many tables group some, (there_for tables left group others rest is long).0)
+
 module _ {F : Type 0} (asks : F → Conflict → Resolution → F → Type 0) where
   -- the groups that are left, behind those that have run: what these do, all of them do
   pub record HaveRun (tables : List TableDef) (groups left : List Group) (all : List Slot) (numbers : List (Option ℕ)) (first : F)
@@ -143,14 +118,14 @@ module _ {F : Type 0} (asks : F → Conflict → Resolution → F → Type 0) wh
     pub given : List (Option Resolution)
     pub long : length slots ≡ length all
     pub answers : told.answers.items ≡ answers_of given
-    pub blob : (more : List (Option Resolution)) → told.blob ++ blob_spelling (blob_of tables left more) ≡ blob_spelling (blob_of tables groups (given ++ more))
+    pub blob : (more : List (Option Resolution)) → told.blob.bytes ++ blob_spelling (blob_of tables left more) ≡ blob_spelling (blob_of tables groups (given ++ more))
     pub carries : (more : List (Option Resolution)) (end : List Slot) (last : F) → RunsWaiting asks slots (changes_of (tasks tables left)) rest f more end last
         → RunsWaiting asks all (changes_of (tasks tables groups)) numbers first (given ++ more) end last
     pub stops : (answer : Resolution) (conflict : Conflict) (last : F) → WaitingToStop asks slots (changes_of (tasks tables left)) rest f last answer conflict
         → WaitingToStop asks all (changes_of (tasks tables groups)) numbers first last answer conflict
 
   module _ (tables : List TableDef) (groups : List Group) (all : List Slot) (numbers : List (Option ℕ)) (first : F) where
-    pub none_run : (told : Told) → told.answers.items ≡ [] → told.blob ≡ [] → HaveRun tables groups groups all numbers first all numbers first told
+    pub none_run : (told : Told) → told.answers.items ≡ [] → told.blob.bytes ≡ [] → HaveRun tables groups groups all numbers first all numbers first told
     none_run told answers blob = record {
       given = [];
       long = refl;
@@ -163,10 +138,10 @@ module _ {F : Type 0} (asks : F → Conflict → Resolution → F → Type 0) wh
     module _ (left : List Group) (group : Group) (others : List Group) (is : left ≡ group ∷ others) (slots : List Slot) (rest : List (Option ℕ)) (f : F) (told : Told)
         (before : HaveRun tables groups left all numbers first slots rest f told) where
       -- a group with changes that are applied
-      pub one_run : (end : List Slot) (g : F) (next : Told) → 0 < count_in tables group → length group.changes ≤ length rest → length end ≡ length slots
+      pub one_run : BlobByGroups → (end : List Slot) (g : F) (next : Told) → 0 < count_in tables group → length group.changes ≤ length rest → length end ≡ length slots
           → RunsGroup asks slots group rest f told end g next
           → HaveRun tables groups others all numbers first end (drop (count_in tables group) rest) g next
-      one_run end g next some few long (given, each, ran, answers, blob) =
+      one_run by_groups end g next some few long (given, each, ran, answers, blob) =
           let here = whole (table_of group tables) group some in
           let count = as_many tables group some in
           let behind : changes_of (tasks tables left) ≡ group.changes ++ changes_of (tasks tables others) =
@@ -177,8 +152,8 @@ module _ {F : Type 0} (asks : F → Conflict → Resolution → F → Type 0) wh
             answers = answers ∙ (ap (λ list. list ++ answers_of given) before.answers ∙ sym (flat_map-append given_list before.given given));
             blob = λ more.
                 ap (λ bytes. bytes ++ blob_spelling (blob_of tables others more)) blob
-                ∙ (append_assoc told.blob (answered_group group given) (blob_spelling (blob_of tables others more))
-                ∙ (ap (λ bytes. told.blob ++ bytes) (sym (ap (λ gs. blob_spelling (blob_of tables gs (given ++ more))) is ∙ blob_first tables group others given more (each ∙ count)))
+                ∙ (append_assoc told.blob.bytes (answered_group group given) (blob_spelling (blob_of tables others more))
+                ∙ (ap (λ bytes. told.blob.bytes ++ bytes) (sym (ap (λ gs. blob_spelling (blob_of tables gs (given ++ more))) is ∙ by_groups tables group others given more (each ∙ count)))
                 ∙ (before.blob (given ++ more) ∙ ap (λ list. blob_spelling (blob_of tables groups list)) (sym (append_assoc before.given given more)))));
             carries = λ more last h later.
                 subst (λ (list : List (Option Resolution)). RunsWaiting asks all (changes_of (tasks tables groups)) numbers first list last h) (sym (append_assoc before.given given more))
@@ -190,20 +165,19 @@ module _ {F : Type 0} (asks : F → Conflict → Resolution → F → Type 0) wh
           }
 
       -- one without
-      pub none_more_run : count_in tables group ≡ 0 → HaveRun tables groups others all numbers first slots (drop (count_in tables group) rest) f told
-      none_more_run none =
+      pub none_more_run : BlobByGroups → UnansweredGroup → count_in tables group ≡ 0 → HaveRun tables groups others all numbers first slots (drop (count_in tables group) rest) f told
+      none_more_run by_groups unanswered none =
           let here = no_tasks (tasks_at (table_of group tables) group) none in
           let behind : changes_of (tasks tables left) ≡ changes_of (tasks tables others) =
           ap (λ gs. changes_of (tasks tables gs)) is ∙ (tasks_first tables group others ∙ ap (λ ts. changes_of ts ++ changes_of (tasks tables others)) here) in
           let same : drop (count_in tables group) rest ≡ rest = ap (λ n. drop n rest) none in
-          let nothing : answered_group group [] ≡ [] = ap (λ entries. blob_spelling (group_if_any group entries)) (none_yet (marks_of group.marks) group.changes) in
           record {
             given = before.given;
             long = before.long;
             answers = before.answers;
             blob = λ more.
-                ap (λ bytes. told.blob ++ bytes) (sym (ap (λ gs. blob_spelling (blob_of tables gs more)) is
-                ∙ (blob_first tables group others [] more (sym none) ∙ ap (λ bytes. bytes ++ blob_spelling (blob_of tables others more)) nothing)))
+                ap (λ bytes. told.blob.bytes ++ bytes) (sym (ap (λ gs. blob_spelling (blob_of tables gs more)) is
+                ∙ (by_groups tables group others [] more (sym none) ∙ ap (λ bytes. bytes ++ blob_spelling (blob_of tables others more)) (unanswered group [] refl))))
                 ∙ before.blob more;
             carries = λ more last h later. before.carries more last h (rw behind (rw same at later));
             stops = λ answer conflict last stop. before.stops answer conflict last (rw behind (rw same at stop));
@@ -230,5 +204,5 @@ module _ {F : Type 0} (asks : F → Conflict → Resolution → F → Type 0) wh
           subst (λ (list : List (Option Resolution)). RunsWaiting asks all (changes_of (tasks tables groups)) numbers first list slots f) all_given
               (before.carries [] slots f (none_left asks slots rest f)),
           before.answers,
-          sym (append-nil told.blob) ∙ (before.blob [] ∙ ap (λ list. blob_spelling (blob_of tables groups list)) all_given),
+          sym (append-nil told.blob.bytes) ∙ (before.blob [] ∙ ap (λ list. blob_spelling (blob_of tables groups list)) all_given),
         )

@@ -1,5 +1,5 @@
 -- The entries of answered conflicts, answer by answer.
-use Rattle.std.proofs.Common.{◌≡◌, ◌<◌, ◌++◌, ℕ, Bool, true, false, List, [], ◌∷◌, length, Option, Some, None, is_some, append_assoc, append-nil, refl, sym, ap, ◌∙◌, arith}
+use Rattle.std.proofs.Common.{◌≡◌, ◌<◌, ◌++◌, ℕ, Bool, true, false, List, [], ◌∷◌, length, take, drop, Option, Some, None, is_some, append_assoc, append-nil, refl, sym, ap, ◌∙◌, arith}
 use Rattle.std.specs.Prelude.{get_or}
 use Rattle.std.specs.List.{flat_map, list_any}
 use Rattle.std.proofs.lemmas.Grind.{flat_map-append}
@@ -8,9 +8,11 @@ use Rattle.cs_change.specs.Spelling.{header_spelling, marks_of}
 use Rattle.cs_change.specs.declared.change.Change.{Change}
 use Rattle.cs_change.specs.declared.group.Group.{Group}
 use Rattle.cs_conflict.specs.declared.conflict.Resolution.{Resolution}
-use Rattle.cs_blob.specs.Spelling.{blob_entry_spelling, blob_spelling}
+use Rattle.cs_blob.specs.Spelling.{blob_entry_spelling, blob_group_spelling, blob_spelling}
 use Rattle.cs_blob.specs.declared.blob.Entry.{Entry}
-use Rattle.cs_tasks.specs.Blob.{answered_group, entries_of, entry_of, group_if_any}
+use Rattle.cs_tasks.specs.Blob.{answered_group, blob_of, entries_of, entry_of, group_if_any}
+use Rattle.cs_tasks.specs.Laws.{BlobByGroups, UnansweredChange, UnansweredGroup}
+use Rattle.cs_tasks.specs.Tasks.{table_of, tasks_at}
 
 -- an answer behind others adds its entry
 entry_more : (marks : List Bool) (changes : List Change) (given : List (Option Resolution)) (some : Change) (answer : Resolution) → length given < length changes
@@ -117,3 +119,40 @@ module _ (group : Group) (given : List (Option Resolution)) (at : ℕ) (change :
       put ∙ (ap (λ bytes. bytes ++ blob_entry_spelling entry) was
       ∙ (ap (λ a. (front ++ answered_group group given) ++ blob_entry_spelling (entry_of (marks_of group.marks) answer a)) (sym there)
       ∙ next_put group given change answer front inside any))
+
+-- ---- what is told of groups
+
+pub unanswered_group : UnansweredGroup
+unanswered_group group given none =
+    ap (λ entries. blob_spelling (group_if_any group entries)) (none_answered (marks_of group.marks) group.changes given none)
+
+none_more : (marks : List Bool) (changes : List Change) (given : List (Option Resolution)) → entries_of marks changes (given ++ None ∷ []) ≡ entries_of marks changes given
+unfolding entries_of
+none_more marks [] given = refl
+none_more marks (change ∷ []) [] = refl
+none_more marks (change ∷ other ∷ changes) [] = refl
+none_more marks (change ∷ changes) (None ∷ given) = none_more marks changes given
+none_more marks (change ∷ changes) (Some answer ∷ given) = rw (none_more marks changes given) refl
+
+pub unanswered_change : UnansweredChange
+unanswered_change group given =
+    ap (λ entries. blob_spelling (group_if_any group entries)) (none_more (marks_of group.marks) group.changes given)
+
+front_is : (some others : List (Option Resolution)) → take (length some) (some ++ others) ≡ some
+front_is [] others = refl
+front_is (one ∷ some) others = ap (λ list. one ∷ list) (front_is some others)
+
+behind_is : (some others : List (Option Resolution)) → drop (length some) (some ++ others) ≡ others
+behind_is [] others = refl
+behind_is (one ∷ some) others = behind_is some others
+
+pub blob_by_groups : BlobByGroups
+unfolding blob_of
+blob_by_groups tables group groups given others long =
+    let count = length (tasks_at (table_of group tables) group) in
+    let front : take count (given ++ others) ≡ given = ap (λ n. take n (given ++ others)) (sym long) ∙ front_is given others in
+    let behind : drop count (given ++ others) ≡ others = ap (λ n. drop n (given ++ others)) (sym long) ∙ behind_is given others in
+    flat_map-append blob_group_spelling (group_if_any group (entries_of (marks_of group.marks) group.changes (take count (given ++ others))))
+    (blob_of tables groups (drop count (given ++ others)))
+    ∙ (ap (λ list. answered_group group list ++ blob_spelling (blob_of tables groups (drop count (given ++ others)))) front
+    ∙ ap (λ list. answered_group group given ++ blob_spelling (blob_of tables groups list)) behind)

@@ -59,3 +59,8 @@ blob_of tables (group ∷ groups) given =
     let count = length (tasks_at (table_of group tables) group) in
     group_if_any group (entries_of (marks_of group.marks) group.changes (take count given))
     ++ blob_of tables groups (drop count given)
+
+-- the blob of the answers so far, and whether the header of the group at hand is among its bytes
+pub record BlobSoFar : Type 0 where
+  pub bytes : List ℕ
+  pub headed : Bool

@@ -3,8 +3,9 @@
 //! (`cs_conflict`), rebase blobs (`cs_blob`) and the places of stores (`cs_store`), and looks at no store: `cs_apply`, which stands
 //! on it, does. `find_tasks` gives the changes of the groups that fit a table, in order, the table and the place of each
 //! (`TaskPlaces`, which lends its keys from the changes where these are of one table), and how many groups fit none, or tells exactly
-//! that a change has NULL at a key column; `BlobBuf` takes the answers one after another, and is the blob of these (`count_of` says which groups have some). `laws` says that the reader of blobs takes it.
-//! Its tests stand in `cs_apply_tests`.
+//! that a change has NULL at a key column; `count_of` says how many changes of a group are applied. `BlobBuf` takes the answers to the
+//! conflicts of a group one after another, and group after group, and is the blob of these. `laws` says that a blob goes group by
+//! group, and that the reader of blobs takes it. Its tests stand in `cs_apply_tests`.
 #![tactic(auto)]
 
 pub mod below;

@@ -12,7 +12,7 @@ loop-at-init g c = (
   refl,
   [],
   refl,
-  nothing_yet c.args.group.now c.args.told.now,
+  nothing_yet c.unanswered_adds_nothing.ensures.group c.args.group.now c.args.told.now _ refl c.begin_group.ensures.bytes c.begin_group.ensures.headed,
   λ more end last ran. ran,
   λ answer conflict last stops. stops,
 )
@@ -41,12 +41,12 @@ loop-at-preserved g c =
     let less : c.loop-at.at < length group.changes = omega (arith, ap length lent, c.loop-at-test.true) in
     let numbered : c.loop-at.at < length c.args.numbers.now = omega (arith, less, c.requires.numbered) in
     let one = rw c.get.ensures at c.in_ok-given.ensures.applied in
-    let told : IsTold group c.match-given.first c.args.told.now c.match-given.told given =
+    let told : IsTold group c.args.told.now c.match-given.told given =
     elim c.match-given.branch [
       | in-Some+in_ok-tell w ↦
           let put = w.in_ok-tell.ensures in
-          rw (w.told-is, w.first-is, w.in-Some.is) (told_more group _ _ _ _ before _ has put.answers (put.blob c.args.told.now.blob before c.loop-at.invariant.3 has.any has.blob))
-      | in_default w ↦ rw (w.told-is, w.first-is, w.in_default.is) (told_same group _ _ _ before has)
+          rw (w.told-is, w.in-Some.is) (told_more group _ _ _ before _ has put.answers (put.blob c.args.told.now.blob.bytes before c.loop-at.invariant.3 has.any has.blob) put.headed)
+      | in_default w ↦ rw (w.told-is, w.in_default.is) (told_same c.unanswered_adds_nothing.ensures.change group _ _ before has)
     ] in (
       c.apply_waiting.ensures.ready,
       c.apply_waiting.ensures.length ∙ c.loop-at.invariant.1,

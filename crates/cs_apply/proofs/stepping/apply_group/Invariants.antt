@@ -14,7 +14,7 @@ invariant-loop-at g l =
     × (length l.slots ≡ length l.fn.slots)
     × (given : List (Option Resolution))
     × (length given ≡ l.at)
-    × IsTold l.fn.group l.first l.fn.told l.told given
+    × IsTold l.fn.group l.fn.told l.told given
     × ((more : List (Option Resolution)) (end : List Slot) (last : _)
     → RunsWaiting (CalledAt g.H.FnMut) l.slots (drop l.at l.fn.group.changes) (drop l.at l.fn.numbers) l.answer more end last
     → RunsWaiting (CalledAt g.H.FnMut) l.fn.slots l.fn.group.changes l.fn.numbers l.fn.answer (given ++ more) end last)
