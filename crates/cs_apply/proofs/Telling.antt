@@ -36,8 +36,9 @@ pub record IsTold (group : Group) (old now : Told) (given : List (Option Resolut
   pub answers : now.answers.items ≡ old.answers.items ++ answers_of given
   pub blob : now.blob.bytes ≡ old.blob.bytes ++ answered_group group given
 
-pub nothing_yet : UnansweredGroup → (group : Group) (old now : Told) → now.answers.items ≡ old.answers.items → now.blob.bytes ≡ old.blob.bytes → now.blob.headed ≡ false
-    → IsTold group old now []
+-- as the group begins
+pub nothing_yet : UnansweredGroup → (group : Group) (old now : Told) → now.answers.items ≡ old.answers.items
+    → now.blob.bytes ≡ old.blob.bytes → now.blob.headed ≡ false → IsTold group old now []
 nothing_yet unanswered group old now answers bytes headed = record {
   any = sym headed;
   answers = answers ∙ sym (append-nil old.answers.items);
@@ -46,8 +47,9 @@ nothing_yet unanswered group old now answers bytes headed = record {
 
 -- one answer more
 pub told_more : (group : Group) (old now next : Told) (given : List (Option Resolution)) (answer : Resolution) → IsTold group old now given
-    → next.answers.items ≡ now.answers.items ++ answer ∷ [] → next.blob.bytes ≡ old.blob.bytes ++ answered_group group (given ++ Some answer ∷ [])
-    → next.blob.headed ≡ true → IsTold group old next (given ++ Some answer ∷ [])
+    → next.answers.items ≡ now.answers.items ++ answer ∷ []
+    → next.blob.bytes ≡ old.blob.bytes ++ answered_group group (given ++ Some answer ∷ []) → next.blob.headed ≡ true
+    → IsTold group old next (given ++ Some answer ∷ [])
 told_more group old now next given answer before answers blob headed = record {
   any = any_more given answer ∙ sym headed;
   answers = answers ∙ (ap (λ list. list ++ answer ∷ []) before.answers
@@ -57,7 +59,8 @@ told_more group old now next given answer before answers blob headed = record {
 }
 
 -- a change without a conflict
-pub told_same : UnansweredChange → (group : Group) (old now : Told) (given : List (Option Resolution)) → IsTold group old now given → IsTold group old now (given ++ None ∷ [])
+pub told_same : UnansweredChange → (group : Group) (old now : Told) (given : List (Option Resolution)) → IsTold group old now given
+    → IsTold group old now (given ++ None ∷ [])
 told_same unanswered group old now given before = record {
   any = any_same given ∙ before.any;
   answers = before.answers ∙ ap (λ list. old.answers.items ++ list) (sym (flat_map-append given_list given (None ∷ []) ∙ append-nil (answers_of given)));
@@ -90,7 +93,8 @@ tasks_first tables group groups = map-append (λ (t : Task). t.change) (tasks_at
 pub group_first : (groups lent : List Group) (at : ℕ) (group : Group) → lent ≡ groups → at < length lent → group ≡ get_or lent at group
     → drop at groups ≡ group ∷ drop (at + 1) groups
 group_first groups lent at group same inside is =
-    ap (drop at) (sym same) ∙ (drop_more lent at group inside ∙ (ap (λ g. g ∷ drop (at + 1) lent) (sym is) ∙ ap (λ gs. group ∷ drop (at + 1) gs) same))
+    ap (drop at) (sym same) ∙ (drop_more lent at group inside
+    ∙ (ap (λ g. g ∷ drop (at + 1) lent) (sym is) ∙ ap (λ gs. group ∷ drop (at + 1) gs) same))
 
 -- a group of which changes are applied has as many
 pub as_many : (tables : List TableDef) (group : Group) → 0 < count_in tables group → length group.changes ≡ count_in tables group
@@ -106,8 +110,8 @@ there_for tables left group others rest is long =
     (omega (arith, all), length-drop (count_in tables group) rest ∙ omega (arith, all))
 
 -- so there are numbers for all changes of a group of which changes are applied
-pub enough_for : (tables : List TableDef) (left : List Group) (group : Group) (others : List Group) (rest : List (Option ℕ)) → left ≡ group ∷ others → length rest ≡ length (tasks tables left)
-    → 0 < count_in tables group → length group.changes ≤ length rest
+pub enough_for : (tables : List TableDef) (left : List Group) (group : Group) (others : List Group) (rest : List (Option ℕ))
+    → left ≡ group ∷ others → length rest ≡ length (tasks tables left) → 0 < count_in tables group → length group.changes ≤ length rest
 enough_for tables left group others rest is long some =
     omega (arith, as_many tables group some, (there_for tables left group others rest is long).0)
 
@@ -118,14 +122,16 @@ module _ {F : Type 0} (asks : F → Conflict → Resolution → F → Type 0) wh
     pub given : List (Option Resolution)
     pub long : length slots ≡ length all
     pub answers : told.answers.items ≡ answers_of given
-    pub blob : (more : List (Option Resolution)) → told.blob.bytes ++ blob_spelling (blob_of tables left more) ≡ blob_spelling (blob_of tables groups (given ++ more))
+    pub blob : (more : List (Option Resolution))
+        → told.blob.bytes ++ blob_spelling (blob_of tables left more) ≡ blob_spelling (blob_of tables groups (given ++ more))
     pub carries : (more : List (Option Resolution)) (end : List Slot) (last : F) → RunsWaiting asks slots (changes_of (tasks tables left)) rest f more end last
         → RunsWaiting asks all (changes_of (tasks tables groups)) numbers first (given ++ more) end last
     pub stops : (answer : Resolution) (conflict : Conflict) (last : F) → WaitingToStop asks slots (changes_of (tasks tables left)) rest f last answer conflict
         → WaitingToStop asks all (changes_of (tasks tables groups)) numbers first last answer conflict
 
   module _ (tables : List TableDef) (groups : List Group) (all : List Slot) (numbers : List (Option ℕ)) (first : F) where
-    pub none_run : (told : Told) → told.answers.items ≡ [] → told.blob.bytes ≡ [] → HaveRun tables groups groups all numbers first all numbers first told
+    pub none_run : (told : Told) → told.answers.items ≡ [] → told.blob.bytes ≡ []
+        → HaveRun tables groups groups all numbers first all numbers first told
     none_run told answers blob = record {
       given = [];
       long = refl;
@@ -153,7 +159,8 @@ module _ {F : Type 0} (asks : F → Conflict → Resolution → F → Type 0) wh
             blob = λ more.
                 ap (λ bytes. bytes ++ blob_spelling (blob_of tables others more)) blob
                 ∙ (append_assoc told.blob.bytes (answered_group group given) (blob_spelling (blob_of tables others more))
-                ∙ (ap (λ bytes. told.blob.bytes ++ bytes) (sym (ap (λ gs. blob_spelling (blob_of tables gs (given ++ more))) is ∙ by_groups tables group others given more (each ∙ count)))
+                ∙ (ap (λ bytes. told.blob.bytes ++ bytes) (sym (ap (λ gs. blob_spelling (blob_of tables gs (given ++ more))) is
+                ∙ by_groups tables group others given more (each ∙ count)))
                 ∙ (before.blob (given ++ more) ∙ ap (λ list. blob_spelling (blob_of tables groups list)) (sym (append_assoc before.given given more)))));
             carries = λ more last h later.
                 subst (λ (list : List (Option Resolution)). RunsWaiting asks all (changes_of (tasks tables groups)) numbers first list last h) (sym (append_assoc before.given given more))

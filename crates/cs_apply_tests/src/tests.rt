@@ -547,7 +547,8 @@ fn first_replaced(
     let mut blob = BlobBuf::new(alloc);
     for group in changeset.as_slice() {
         if count_of(catalog, group) > 0 {
-            blob.put(group, 0, true, Resolution::Replace)?;
+            blob.begin_group();
+            blob.put(group, 0, Resolution::Replace)?;
         }
     }
     Ok(blob.into_vec())

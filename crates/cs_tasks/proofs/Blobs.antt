@@ -126,7 +126,8 @@ pub unanswered_group : UnansweredGroup
 unanswered_group group given none =
     ap (λ entries. blob_spelling (group_if_any group entries)) (none_answered (marks_of group.marks) group.changes given none)
 
-none_more : (marks : List Bool) (changes : List Change) (given : List (Option Resolution)) → entries_of marks changes (given ++ None ∷ []) ≡ entries_of marks changes given
+none_more : (marks : List Bool) (changes : List Change) (given : List (Option Resolution))
+    → entries_of marks changes (given ++ None ∷ []) ≡ entries_of marks changes given
 unfolding entries_of
 none_more marks [] given = refl
 none_more marks (change ∷ []) [] = refl
@@ -152,7 +153,8 @@ blob_by_groups tables group groups given others long =
     let count = length (tasks_at (table_of group tables) group) in
     let front : take count (given ++ others) ≡ given = ap (λ n. take n (given ++ others)) (sym long) ∙ front_is given others in
     let behind : drop count (given ++ others) ≡ others = ap (λ n. drop n (given ++ others)) (sym long) ∙ behind_is given others in
-    flat_map-append blob_group_spelling (group_if_any group (entries_of (marks_of group.marks) group.changes (take count (given ++ others))))
+    flat_map-append blob_group_spelling
+    (group_if_any group (entries_of (marks_of group.marks) group.changes (take count (given ++ others))))
     (blob_of tables groups (drop count (given ++ others)))
     ∙ (ap (λ list. answered_group group list ++ blob_spelling (blob_of tables groups (drop count (given ++ others)))) front
     ∙ ap (λ list. answered_group group given ++ blob_spelling (blob_of tables groups list)) behind)

@@ -12,7 +12,8 @@ loop-at-init g c = (
   refl,
   [],
   refl,
-  nothing_yet c.unanswered_adds_nothing.ensures.group c.args.group.now c.args.told.now _ refl c.begin_group.ensures.bytes c.begin_group.ensures.headed,
+  nothing_yet c.unanswered_adds_nothing.ensures.group c.args.group.now c.args.told.now _ refl
+      c.begin_group.ensures.bytes c.begin_group.ensures.headed,
   λ more end last ran. ran,
   λ answer conflict last stops. stops,
 )
@@ -45,7 +46,8 @@ loop-at-preserved g c =
     elim c.match-given.branch [
       | in-Some+in_ok-tell w ↦
           let put = w.in_ok-tell.ensures in
-          rw (w.told-is, w.in-Some.is) (told_more group _ _ _ before _ has put.answers (put.blob c.args.told.now.blob.bytes before c.loop-at.invariant.3 has.any has.blob) put.headed)
+          let blob = put.blob c.args.told.now.blob.bytes before c.loop-at.invariant.3 has.any has.blob in
+          rw (w.told-is, w.in-Some.is) (told_more group _ _ _ before _ has put.answers blob put.headed)
       | in_default w ↦ rw (w.told-is, w.in_default.is) (told_same c.unanswered_adds_nothing.ensures.change group _ _ before has)
     ] in (
       c.apply_waiting.ensures.ready,

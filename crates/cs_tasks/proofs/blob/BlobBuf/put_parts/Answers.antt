@@ -19,6 +19,7 @@ returns-clause-ok c = λ front given long any was.
           (after_first group given c.args.at _ c.args.answer front _ c.requires is long before _ _ (answered ∙ w.if-not-self.true) header)
           (rw w.self-inside-is at put)
       | else-not-self w ↦
-          on_ok_weaker _ (after_next group given c.args.at _ c.args.answer front _ c.requires is long before _ (answered ∙ w.if-not-self.false))
+          on_ok_weaker _
+          (after_next group given c.args.at _ c.args.answer front _ c.requires is long before _ (answered ∙ w.if-not-self.false))
           (rw w.self-inside-is at put)
     ]
