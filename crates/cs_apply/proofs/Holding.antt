@@ -1,5 +1,6 @@
 -- The places that wait, in the keys and rows that are held of them.
-use Rattle.std.proofs.Common.{◌≡◌, ◌<◌, ℕ, zero, suc, List, [], ◌∷◌, ◌++◌, Option, Some, None, option_map, length, take, get_or, ◌-◌, ◌≤◌, drop, refl, sym, ap, ◌∙◌, arith}
+use Rattle.std.proofs.Common.{◌≡◌, ◌<◌, ℕ, zero, suc, List, [], ◌∷◌, ◌++◌, Option, Some, None, option_map}
+use Rattle.std.proofs.Common.{◌-◌, ◌≤◌, length, take, drop, get_or, refl, sym, ap, ◌∙◌, arith}
 use Rattle.std.specs.Prelude.{Result, Ok, Err, OnErr, IfSome, slice_get, slice_set}
 use Rattle.std.specs.List.{All, slice_range}
 use Rattle.std.proofs.lemmas.List.{append-nil, map-append, map-set, set-get_or, length-drop, drop-append-le, take-append-le, take_rest}
@@ -27,9 +28,11 @@ front_stays (x ∷ xs) (suc many) zero less = refl
 front_stays (x ∷ xs) (suc many) (suc at) less = front_stays xs many at (omega (arith, less))
 
 -- a key stays where more follow
-key_stays : (keys more : List ℕ) (key past : ℕ) → key ≤ past → past ≤ length keys → slice_range (keys ++ more) key past ≡ slice_range keys key past
+key_stays : (keys more : List ℕ) (key past : ℕ) → key ≤ past → past ≤ length keys
+    → slice_range (keys ++ more) key past ≡ slice_range keys key past
 key_stays keys more key past whole within =
-    ap (take (past - key)) (drop-append-le key keys more (omega arith)) ∙ take-append-le (past - key) (drop key keys) more (omega (arith, length-drop key keys))
+    ap (take (past - key)) (drop-append-le key keys more (omega arith))
+    ∙ take-append-le (past - key) (drop key keys) more (omega (arith, length-drop key keys))
 
 -- what is put behind the others is the key that stands there
 pub key_put : (keys key : List ℕ) → slice_range (keys ++ key) (length keys) (length (keys ++ key)) ≡ key
@@ -59,15 +62,19 @@ rows_more old rows grown = record { more = []; keys = sym (append-nil old.keys.i
 module _ (old new : KeysAndRows) (grown : AreMore old new) where
   row_stays : (number : Option ℕ) → IsNumberIn (length old.rows) number → row_at new.rows number ≡ row_at old.rows number
   row_stays None within = refl
-  row_stays (Some number) within = ap inserted (front_stays new.rows (length old.rows) number within ∙ ap (λ rows. slice_get rows number) grown.rows)
+  row_stays (Some number) within =
+      ap inserted (front_stays new.rows (length old.rows) number within ∙ ap (λ rows. slice_get rows number) grown.rows)
 
-  left_stays : (left : Option (Option ℕ)) → IfSome left (IsNumberIn (length old.rows)) → option_map (row_at new.rows) left ≡ option_map (row_at old.rows) left
+  left_stays : (left : Option (Option ℕ)) → IfSome left (IsNumberIn (length old.rows))
+      → option_map (row_at new.rows) left ≡ option_map (row_at old.rows) left
   left_stays None within = refl
   left_stays (Some number) within = ap (λ row. Some row) (row_stays number within)
 
   slot_stays : (spot : SlotSpot) → IsSlotSpotIn old spot → slot_in new spot ≡ slot_in old spot
   slot_stays spot within =
-      let key = ap (λ keys. slice_range keys spot.key spot.past) grown.keys ∙ key_stays old.keys.items grown.more spot.key spot.past within.0 within.1 in
+      let key =
+      ap (λ keys. slice_range keys spot.key spot.past) grown.keys
+      ∙ key_stays old.keys.items grown.more spot.key spot.past within.0 within.1 in
       let before = row_stays spot.before within.2 in
       let left = left_stays spot.left within.3 in
       rw (key, before, left) refl
@@ -82,20 +89,24 @@ module _ (old new : KeysAndRows) (grown : AreMore old new) where
 
   module _ (spots : List SlotSpot) (within : All (IsSlotSpotIn old) spots) where
     -- a place more, whose key and row are there
-    pub slots_more : (stored : StoredPlace) (spot : SlotSpot) → slot_in new spot ≡ slot_at stored → slots_in new (spots ++ spot ∷ []) ≡ slots_in old spots ++ slot_at stored ∷ []
+    pub slots_more : (stored : StoredPlace) (spot : SlotSpot) → slot_in new spot ≡ slot_at stored
+        → slots_in new (spots ++ spot ∷ []) ≡ slots_in old spots ++ slot_at stored ∷ []
     slots_more stored spot stands =
         map-append (slot_in new) spots (spot ∷ [])
         ∙ ap (λ slots. slots ++ slot_in new spot ∷ []) (slots_stay spots within)
         ∙ ap (λ slot. slots_in old spots ++ slot ∷ []) stands
 
     -- what is left at a place, whose row is there
-    pub slots_put : (at : ℕ) (some : SlotSpot) (number : Option ℕ) (row : Place) (slot : Slot) → at < length spots → row_at new.rows number ≡ row
+    pub slots_put : (at : ℕ) (some : SlotSpot) (number : Option ℕ) (row : Place) (slot : Slot)
+        → at < length spots → row_at new.rows number ≡ row
         → slice_get (slots_in old spots) at ≡ Some slot
-        → slots_in new (slice_set spots at (with_left (get_or spots at some) (Some number))) ≡ slice_set (slots_in old spots) at (slot_after slot (Some row))
+        → slots_in new (slice_set spots at (with_left (get_or spots at some) (Some number)))
+        ≡ slice_set (slots_in old spots) at (slot_after slot (Some row))
     slots_put at some number row slot less stands found =
         let spot = get_or spots at some in
         let same : slot_in old spot ≡ slot =
-        same_Some _ _ (sym (slice_get-map (slot_in old) spots at ∙ ap (option_map (slot_in old)) (slice_get-get_or spots at some less)) ∙ found) in
+        same_Some _ _
+        (sym (slice_get-map (slot_in old) spots at ∙ ap (option_map (slot_in old)) (slice_get-get_or spots at some less)) ∙ found) in
         let is = slot_stays spot (within at some less) in
         let put : slot_in new (with_left spot (Some number)) ≡ slot_after (slot_in old spot) (Some row) =
         ap (λ s. slot_after s (Some (row_at new.rows number))) is ∙ ap (λ r. slot_after (slot_in old spot) (Some r)) stands in
