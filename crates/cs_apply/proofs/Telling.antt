@@ -97,7 +97,7 @@ group_first groups lent at group same inside is =
     ∙ (ap (λ g. g ∷ drop (at + 1) lent) (sym is) ∙ ap (λ gs. group ∷ drop (at + 1) gs) same))
 
 -- a group of which changes are applied has as many
-pub as_many : (tables : List TableDef) (group : Group) → 0 < count_in tables group → length group.changes ≡ count_in tables group
+as_many : (tables : List TableDef) (group : Group) → 0 < count_in tables group → length group.changes ≡ count_in tables group
 as_many tables group some =
     ap length (sym (whole (table_of group tables) group some)) ∙ length-map (tasks_at (table_of group tables) group) (λ (t : Task). t.change)
 

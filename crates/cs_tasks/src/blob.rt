@@ -10,7 +10,7 @@ ghost use Rattle.cs_tasks.specs.Blob.{entry_of, is_replace, keyed_new};
 use cs_blob::{Entry, put_entry};
 use cs_change::{Change, Group, put_header};
 use cs_conflict::Resolution;
-use cs_record::{Record, RecordBuf, Row};
+use cs_record::{Record, RecordBuf};
 use cs_value::Memory;
 use std::alloc::Global;
 use std::marker::Model;
