@@ -2,7 +2,7 @@
 //! that always aborts, and answers the batch of the entry and of what it makes of the rows; `append_tried` commits that, and `append` does
 //! both. Where a change conflicts, nothing is written, and the first one that does is told with the row that it met. `laws` says that there is one such conflict, and none where the entry can
 //! be appended. The crate stands on what stores show of a hub (`cs_log_store`) and on applying (`cs_apply`).
-//! Its tests stand in `cs_log_store_tests`.
+//! Its tests stand in `cs_world_tests`.
 #![tactic(auto)]
 
 mod appending;

@@ -79,9 +79,9 @@ stands_between (Some m ∷ held) from at end rising is =
     (omega (arith, is, length-append (edit_list (edit_for m)) (made_edits held)))
 stands_between (None ∷ held) from at end rising is = (rising, stands_between held (at + 1) (at + 1) end (omega arith) (omega (arith, is)))
 
-pub stands_rise : (held : List (Option Slot)) (waits : List ℕ) (made : List BodyEdit) → waits ≡ stands_of held → made ≡ made_edits held
-    → RiseBetween 0 waits (length made)
-stands_rise held waits made waits_are made_are =
+pub stands_rise : (held : List (Option Slot)) (stand_ins : List ℕ) (made : List BodyEdit) → stand_ins ≡ stands_of held → made ≡ made_edits held
+    → RiseBetween 0 stand_ins (length made)
+stands_rise held stand_ins made waits_are made_are =
     rw (waits_are, made_are) (stands_between held 0 0 (length (made_edits held)) (omega arith) (omega arith))
 
 stands_long : (held : List (Option Slot)) (at : ℕ) → length (stands_from at held) ≡ count_waiting held
@@ -105,19 +105,19 @@ same_behind from at one other rising same =
     let whole : from + (at - from) ≡ at = omega (arith, rising) in
     rw whole at (sym (drop-drop (at - from) from one) ∙ (ap (drop (at - from)) same ∙ drop-drop (at - from) from other))
 
-module _ (waits : List ℕ) (made : List BodyEdit) (number from : ℕ) (less : number < length waits)
-    (rising : RiseBetween from (drop number waits) (length made)) where
+module _ (stand_ins : List ℕ) (made : List BodyEdit) (number from : ℕ) (less : number < length stand_ins)
+    (rising : RiseBetween from (drop number stand_ins) (length made)) where
   abbrev there : ℕ
-  there = get_or waits number 0
+  there = get_or stand_ins number 0
 
   -- the next of the numbers, and those behind it
-  split : drop number waits ≡ there ∷ drop (number + 1) waits
-  split = rest_at waits number 0 less
+  split : drop number stand_ins ≡ there ∷ drop (number + 1) stand_ins
+  split = rest_at stand_ins number 0 less
 
-  pub next_rises : (from ≤ there) × (there < length made) × RiseBetween (there + 1) (drop (number + 1) waits) (length made)
+  pub next_rises : (from ≤ there) × (there < length made) × RiseBetween (there + 1) (drop (number + 1) stand_ins) (length made)
   next_rises =
-      let both : RiseBetween from (there ∷ drop (number + 1) waits) (length made) = rw split at rising in
-      let within = rise_within (there + 1) (drop (number + 1) waits) (length made) both.1 in
+      let both : RiseBetween from (there ∷ drop (number + 1) stand_ins) (length made) = rw split at rising in
+      let within = rise_within (there + 1) (drop (number + 1) stand_ins) (length made) both.1 in
       (both.0, omega (arith, within), both.1)
 
   module _ (edits new : List BodyEdit) (kept next : ℕ) (few : kept ≤ from) (long : length edits ≡ length made)
@@ -126,10 +126,10 @@ module _ (waits : List ℕ) (made : List BodyEdit) (number from : ℕ) (less : n
       (left : drop there new ≡ drop there edits) (as_many : length new ≡ length edits)
       (slots : List Slot) (slot : Slot) (one_slot : number < length slots) (found : slice_get slots number ≡ Some slot) where
     abbrev rest : List BodyEdit
-    rest = mesh (there + 1) (drop (number + 1) waits) made (drop (number + 1) slots)
+    rest = mesh (there + 1) (drop (number + 1) stand_ins) made (drop (number + 1) slots)
 
     abbrev before : List BodyEdit
-    before = take kept edits ++ mesh from (drop number waits) made (drop number slots)
+    before = take kept edits ++ mesh from (drop number stand_ins) made (drop number slots)
 
     slots_split : drop number slots ≡ slot ∷ drop (number + 1) slots
     slots_split =
@@ -139,7 +139,7 @@ module _ (waits : List ℕ) (made : List BodyEdit) (number from : ℕ) (less : n
     opened : before ≡ take next new ++ (edit_list (edit_for slot) ++ rest)
     opened =
         ap (λ ns. take kept edits ++ mesh from ns made (drop number slots)) split
-        ∙ (ap (λ ss. take kept edits ++ mesh from (there ∷ drop (number + 1) waits) made ss) slots_split
+        ∙ (ap (λ ss. take kept edits ++ mesh from (there ∷ drop (number + 1) stand_ins) made ss) slots_split
         ∙ (ap (λ same. take kept edits ++ (take (there - from) same ++ (edit_list (edit_for slot) ++ rest))) (sym behind)
         ∙ (sym (append_assoc (take kept edits) (slice_range edits from there) (edit_list (edit_for slot) ++ rest))
         ∙ ap (λ front. front ++ (edit_list (edit_for slot) ++ rest)) (sym moved))))
@@ -166,10 +166,10 @@ module _ (waits : List ℕ) (made : List BodyEdit) (number from : ℕ) (less : n
     )
 
 -- all numbers are looked at
-pub all_kept : (waits : List ℕ) (made edits : List BodyEdit) (slots : List Slot) (number from kept end : ℕ) → length waits ≤ number
+pub all_kept : (stand_ins : List ℕ) (made edits : List BodyEdit) (slots : List Slot) (number from kept end : ℕ) → length stand_ins ≤ number
     → end ≡ length made → length edits ≡ length made → drop from edits ≡ drop from made
-    → take kept edits ++ slice_range edits from end ≡ take kept edits ++ mesh from (drop number waits) made (drop number slots)
-all_kept waits made edits slots number from kept end none end_is long behind =
+    → take kept edits ++ slice_range edits from end ≡ take kept edits ++ mesh from (drop number stand_ins) made (drop number slots)
+all_kept stand_ins made edits slots number from kept end none end_is long behind =
     ap (λ rest. take kept edits ++ rest)
     (take_all (end - from) (drop from edits) (omega (arith, length-drop from edits, long, end_is)) ∙ behind)
-    ∙ ap (λ ns. take kept edits ++ mesh from ns made (drop number slots)) (sym (drop_all number waits none))
+    ∙ ap (λ ns. take kept edits ++ mesh from ns made (drop number slots)) (sym (drop_all number stand_ins none))

@@ -172,14 +172,14 @@ module _ (keys : Keys) (groups : List (List ℕ)) (grouping : IsGrouping keys gr
   abbrev group_at : ℕ → List ℕ
   group_at place = get_or groups place []
 
-  pub started : (read : Slot → Type 0) (places : FoundPlaces) → places.made ≡ [] → places.slots ≡ [] → places.waits.items ≡ []
+  pub started : (read : Slot → Type 0) (places : FoundPlaces) → places.made ≡ [] → places.slots ≡ [] → places.stand_ins.items ≡ []
       → places.groups.items ≡ [] → ArePlacesSoFar keys groups changes read 0 places
-  started read places made slots waits none = record {
+  started read places made slots stand_ins none = record {
     held = [];
     long = refl;
     counted = ap length (sym slots);
     made = made;
-    waits = waits;
+    stand_ins = stand_ins;
     as_read = tt;
     slots = tt;
     done = λ place less. absurd (omega (arith, less));
@@ -197,7 +197,7 @@ module _ (keys : Keys) (groups : List (List ℕ)) (grouping : IsGrouping keys gr
   -- what has come of a place stays
   stays_done : (held more : Held) (place : ℕ) → IsDone held changes place (group_at place) → IsDone (held ++ more) changes place (group_at place)
   stays_done held more place (inl (at, next, is, found, by)) = inl (at, next, is, get_left held more place next found, by)
-  stays_done held more place (inr (number, waits)) = inr (number, waiting_left held more place number waits)
+  stays_done held more place (inr (number, stand_ins)) = inr (number, waiting_left held more place number stand_ins)
 
   module _ (read more : Slot → Type 0) (still : (slot : Slot) → read slot → more slot) (count : ℕ) (slot : Slot) (old new : FoundPlaces) (less : count < length groups)
       (so_far : ArePlacesSoFar keys groups changes read count old) (here : IsSlotAt (key_at keys (first_of (group_at count))) slot) (is_read : more slot) where
@@ -217,7 +217,7 @@ module _ (keys : Keys) (groups : List (List ℕ)) (grouping : IsGrouping keys gr
           long = length-append so_far.held (Some put.made_at.next ∷ []) ∙ ap (λ n. n + 1) so_far.long;
           counted = count_made so_far.held put.made_at.next ∙ (so_far.counted ∙ ap length (sym put.made_at.edit.slots));
           made = put.made_at.edit.made ∙ (ap (λ es. es ++ edit_list (edit_for put.made_at.next)) so_far.made ∙ sym (edits_made so_far.held put.made_at.next));
-          waits = put.made_at.edit.waits ∙ (so_far.waits ∙ sym (stands_made so_far.held 0 put.made_at.next));
+          stand_ins = put.made_at.edit.stand_ins ∙ (so_far.stand_ins ∙ sym (stands_made so_far.held 0 put.made_at.next));
           as_read = subst (AllByRecursion more) (sym woven) read_before;
           slots = subst (AreSlots (heads keys (map first_of (take (count + 1) groups)))) (sym woven) slots_before;
           done = λ place within. made_done put place (below_or_at place count within);
@@ -247,7 +247,7 @@ module _ (keys : Keys) (groups : List (List ℕ)) (grouping : IsGrouping keys gr
           long = length-append so_far.held (None ∷ []) ∙ ap (λ n. n + 1) so_far.long;
           counted = count_waits so_far.held ∙ (ap suc so_far.counted ∙ omega (arith, one_slot));
           made = put.made ∙ (ap (λ es. es ++ stand_in ∷ []) so_far.made ∙ sym (edits_wait so_far.held));
-          waits = put.waits ∙ (ap (λ ns. ns ++ length old.made ∷ []) so_far.waits
+          stand_ins = put.stand_ins ∙ (ap (λ ns. ns ++ length old.made ∷ []) so_far.stand_ins
               ∙ sym (stands_wait so_far.held 0 (length old.made) (omega (arith, ap length so_far.made))));
           as_read = subst (AllByRecursion more) (sym woven) read_before;
           slots = subst (AreSlots (heads keys (map first_of (take (count + 1) groups)))) (sym woven) slots_before;
@@ -305,20 +305,20 @@ module _ (keys : Keys) (groups : List (List ℕ)) (grouping : IsGrouping keys gr
     none_of : (place at : ℕ) (next : Slot) → place < length groups → slice_get so_far.held place ≡ Some (Some next) → Contains (group_at place) at
         → get_or told at None ≡ None
     none_of place at next less found inside = numbered.others at (λ number within c.
-        let waits = so_far.groups_wait number within in
+        let stand_ins = so_far.groups_wait number within in
         let other = get_or places.groups.items number 0 in
-        let h = waiting_below so_far.held other number waits in
+        let h = waiting_below so_far.held other number stand_ins in
         let below : other < length groups = omega (arith, h, so_far.long) in
         let same : other ≡ place = sym (number_is keys groups grouping other at below c) ∙ number_is keys groups grouping place at less inside in
-        waits_none so_far.held place number next (subst (λ (n : ℕ). IsWaiting so_far.held n number) same waits) found)
+        waits_none so_far.held place number next (subst (λ (n : ℕ). IsWaiting so_far.held n number) same stand_ins) found)
 
     -- and one of a place that waits has that of its slot
     number_of_slot : (place number at : ℕ) → IsWaiting so_far.held place number → Contains (group_at place) at → get_or told at None ≡ Some number
-    number_of_slot place number at waits inside =
-        let h = waiting_within so_far.held place number waits in
+    number_of_slot place number at stand_ins inside =
+        let h = waiting_within so_far.held place number stand_ins in
         let within : number < length places.groups.items = omega (arith, h, so_far.counted, so_far.as_many) in
         let same : get_or places.groups.items number 0 ≡ place =
-        one_waiting so_far.held (get_or places.groups.items number 0) place number (so_far.groups_wait number within) waits in
+        one_waiting so_far.held (get_or places.groups.items number 0) place number (so_far.groups_wait number within) stand_ins in
         numbered.given number at within (rw same inside)
 
     turn_of : (at : ℕ) (some : Change) → get_or numbers at 0 < length groups → Contains (group_at (get_or numbers at 0)) at
@@ -327,13 +327,13 @@ module _ (keys : Keys) (groups : List (List ℕ)) (grouping : IsGrouping keys gr
     turn_of at some less inside (inl (own, next, is, found, by)) =
         let same : own ≡ at = of_one own at (rw is at inside) in
         rw (none_of (get_or numbers at 0) at next less found inside) (next, found, rw same at (by some))
-    turn_of at some less inside (inr (number, waits)) = rw (number_of_slot (get_or numbers at 0) number at waits inside) waits
+    turn_of at some less inside (inr (number, stand_ins)) = rw (number_of_slot (get_or numbers at 0) number at stand_ins inside) stand_ins
 
     alone_in : (i j place : ℕ) → Contains (group_at place) i → Contains (group_at place) j → i ≢ j → get_or told i None ≡ None
         → IsDone so_far.held changes place (group_at place) → ⊥
     alone_in i j place one other apart none (inl (own, next, is, found, by)) =
         apart (sym (of_one own i (rw is at one)) ∙ of_one own j (rw is at other))
-    alone_in i j place one other apart none (inr (number, waits)) = let f = sym none ∙ number_of_slot place number i waits one in cc
+    alone_in i j place one other apart none (inr (number, stand_ins)) = let f = sym none ∙ number_of_slot place number i stand_ins one in cc
 
     covered_by : (place : ℕ) (next : Slot) → place < length groups → slice_get so_far.held place ≡ Some (Some next)
         → IsDone so_far.held changes place (group_at place)
@@ -341,7 +341,7 @@ module _ (keys : Keys) (groups : List (List ℕ)) (grouping : IsGrouping keys gr
     covered_by place next less found (inl (own, made, is, there, by)) =
         let inside : Contains (group_at place) own = rw is (0, omega arith, refl) in
         (own, omega (arith, member_within keys groups grouping place own less inside, long), none_of place own next less found inside, number_is keys groups grouping place own less inside)
-    covered_by place next less found (inr (number, waits)) = absurd (waits_none so_far.held place number next waits found)
+    covered_by place next less found (inr (number, stand_ins)) = absurd (waits_none so_far.held place number next stand_ins found)
 
     within_held : (place : ℕ) (next : Slot) → slice_get so_far.held place ≡ Some (Some next) → place < length groups
     within_held place next found = omega (arith, slice_get_within so_far.held place (Some next) found, so_far.long)
@@ -349,7 +349,7 @@ module _ (keys : Keys) (groups : List (List ℕ)) (grouping : IsGrouping keys gr
     own_group : (at : ℕ) → at < length changes → (get_or numbers at 0 < length groups) × Contains (group_at (get_or numbers at 0)) at
     own_group at less = in_own keys groups grouping at (omega (arith, less, long))
 
-    pub all_found : ArePlacesFound keys changes read (record { made = places.made; slots = places.slots; waits = places.waits; numbers = told })
+    pub all_found : ArePlacesFound keys changes read (record { made = places.made; slots = places.slots; stand_ins = places.stand_ins; numbers = told })
     all_found = record {
       firsts = map first_of groups;
       numbers = numbers;
@@ -362,7 +362,7 @@ module _ (keys : Keys) (groups : List (List ℕ)) (grouping : IsGrouping keys gr
         held = so_far.held;
         counted = so_far.counted;
         made = so_far.made;
-        waits = so_far.waits;
+        stand_ins = so_far.stand_ins;
         as_read = so_far.as_read;
         long = (numbered.long, numbers_long keys groups grouping ∙ sym long);
         turns = λ at some less. let own = own_group at less in turn_of at some own.0 own.1 (so_far.done (get_or numbers at 0) own.0);

@@ -192,12 +192,12 @@ module _ {F : Type 0} (asks : F → Conflict → Resolution → F → Type 0) (h
         (turn.2.0, turn.2.1, refl),
       )
   one_woven slots middle c n (Some k) ns ks f g given count turn apart one =
-      let waits = masked_waits (lone ns ks) held n k turn in (
+      let stand_ins = masked_waits (lone ns ks) held n k turn in (
         one.0,
         one.1,
         one.2,
-        woven_get (masked (lone ns ks) held) slots n k one.0 waits one.3,
-        rw one.4 (woven_set (masked (lone ns ks) held) slots n k one.0 one.1 waits one.3),
+        woven_get (masked (lone ns ks) held) slots n k one.0 stand_ins one.3,
+        rw one.4 (woven_set (masked (lone ns ks) held) slots n k one.0 one.1 stand_ins one.3),
         one.5,
         one.6,
       )

@@ -26,7 +26,7 @@ pub record ArePlaces (changes : List Change) (numbers : List ℕ) (read : Slot �
   pub held : List (Option Slot)
   pub counted : count_waiting held ≡ length places.slots
   pub made : places.made ≡ made_edits held
-  pub waits : places.waits.items ≡ stands_of held
+  pub stand_ins : places.stand_ins.items ≡ stands_of held
   pub as_read : AllByRecursion read (weave (unmade held) places.slots)
   pub long : (length places.numbers ≡ length changes) × (length numbers ≡ length changes)
   -- each change makes its place, or waits
@@ -52,7 +52,7 @@ pub record ArePlacesSoFar (keys : Keys) (groups : List (List ℕ)) (changes : Li
   pub long : length held ≡ count
   pub counted : count_waiting held ≡ length places.slots
   pub made : places.made ≡ made_edits held
-  pub waits : places.waits.items ≡ stands_of held
+  pub stand_ins : places.stand_ins.items ≡ stands_of held
   pub as_read : AllByRecursion read (weave (unmade held) places.slots)
   pub slots : AreSlots (heads keys (map first_of (take count groups))) (weave (unmade held) places.slots)
   pub done : (place : ℕ) → place < count → IsDone held changes place (slice_index_or groups place [])
@@ -63,7 +63,7 @@ pub record ArePlacesSoFar (keys : Keys) (groups : List (List ℕ)) (changes : Li
 -- the edit, if there is one, is behind the others
 pub record HasEdit (edit : Option BodyEdit) (old new : FoundPlaces) : Type 0 where
   pub made : new.made ≡ old.made ++ edit_list edit
-  pub waits : new.waits.items ≡ old.waits.items
+  pub stand_ins : new.stand_ins.items ≡ old.stand_ins.items
   pub slots : new.slots ≡ old.slots
   pub groups : new.groups.items ≡ old.groups.items
 
@@ -88,7 +88,7 @@ pub record IsPutMade (alone : Option Change) (slot : Slot) (old new : FoundPlace
 -- or it waits
 pub record IsPutWaiting (group : ℕ) (slot : Slot) (old new : FoundPlaces) : Type 0 where
   pub made : new.made ≡ old.made ++ stand_in ∷ []
-  pub waits : new.waits.items ≡ old.waits.items ++ length old.made ∷ []
+  pub stand_ins : new.stand_ins.items ≡ old.stand_ins.items ++ length old.made ∷ []
   pub slots : new.slots ≡ old.slots ++ slot ∷ []
   pub groups : new.groups.items ≡ old.groups.items ++ group ∷ []
 

@@ -2,7 +2,7 @@
 //! on `cs_lines` for the lines of an input and on `cs_words` for their words, and knows nothing of a replica. `read_ask` promises what one
 //! line asks, by a definition that computes it (`specs/Asked.antt`), so there is one answer; `read_asks` reads an input whole, and
 //! where it can't it tells the first line that can't be read by its number.
-//! Its tests stand in `cs_replica_lines_tests`.
+//! Its tests stand in `cs_replica_tests`.
 #![tactic(auto)]
 
 mod ask;

@@ -3,7 +3,7 @@
 //! definition's. What is read stays in the bytes that it was read from. `laws` says that bytes spell one changeset, or
 //! have one fault at one place. The crate stands on changes (`cs_change`), whose public items it hands on, and on
 //! records (`cs_record`).
-//! Its tests stand in `cs_changeset_tests`.
+//! Its tests stand in `cs_changes_tests`.
 #![tactic(auto)]
 
 pub mod below;

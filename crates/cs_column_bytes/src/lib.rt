@@ -2,7 +2,7 @@
 //! passes over a group whose bytes differ from the table's; the normal form writes 1. This crate spells a changeset in
 //! normal form (`cs_normal`) with the column bytes of the headers that came in, of changesets (`cs_change`) and of rebase
 //! blobs (`cs_blob`). `encode` is exact; `laws` says that nothing but the column bytes changes, and that the reader takes it.
-//! Its tests stand in `cs_small_tests`.
+//! Its tests stand in `cs_changes_tests`.
 #![tactic(auto)]
 
 mod headers;

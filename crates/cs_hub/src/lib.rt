@@ -3,7 +3,7 @@
 //! the answer to the bytes of a request (`specs/Serves.antt`); a failed device is told by a code of its own, want of memory changes
 //! nothing. `laws` says that there is one answer to each request, that there is one at all, and that lines answered over a store in memory
 //! are those of the log alone. The crate stands on judging pushes (`cs_judging`), opening and reading a log (`cs_log_opening`,
-//! `cs_log_reading`) and requests and answers as bytes (`cs_wire`). Its tests stand in `cs_hub_tests`.
+//! `cs_log_reading`) and requests and answers as bytes (`cs_wire`). Its tests stand in `cs_world_tests`.
 #![tactic(auto)]
 
 mod follow_fault;

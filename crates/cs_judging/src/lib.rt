@@ -2,7 +2,7 @@
 //! the store shows: no change; a base above the newest version; below it, the same push again or another one; a full log; a change
 //! that isn't defined on the tables; else the push is appended, in one commit with what it makes of the rows. `judge_at` only reads, and
 //! says what that answer is, and where the push is to be appended, by which batch. `laws` says that there is one answer to each push. The crate stands on appending (`cs_appending`) and on reading the log (`cs_log_reading`).
-//! Its tests stand in `cs_log_store_tests`.
+//! Its tests stand in `cs_world_tests`.
 #![tactic(auto)]
 
 pub mod below;

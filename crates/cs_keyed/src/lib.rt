@@ -3,7 +3,7 @@
 //! `gather_keys` write the keys of changes, which `KeysBuilder` puts together; `lend_key` lends a key that stands in its change;
 //! `lend_form` gives the normal form of one change, and `pick_form` puts it behind others; `KeyedChanges` keeps changes behind
 //! their keys, searched, compared and spelled exactly. `laws` says that the bytes of keys tell the keys apart.
-//! Its tests stand in `cs_normal_tests`.
+//! Its tests stand in `cs_changes_tests`.
 #![tactic(auto)]
 
 pub mod below;

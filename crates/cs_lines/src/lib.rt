@@ -6,7 +6,7 @@
 //! `read_line` takes exactly one line off a reader, also where memory runs out in the middle of
 //! it; `write_hex_line` writes bytes as one line without taking memory, and holds nothing of it
 //! back, and `write_text` a text. `LineInput` and `LineOutput` say what a reader and a writer owe for that.
-//! Its tests stand in `cs_small_tests`.
+//! Its tests stand in `cs_bytes_tests`.
 #![tactic(auto)]
 
 pub mod laws;

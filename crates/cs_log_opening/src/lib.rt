@@ -3,7 +3,7 @@
 //! pending, and an entry stands at each version below their count. Where it isn't, the fault says whether the store is another's
 //! or damaged. The crate stands on what stores show of a hub (`cs_log_store`) and on what opening a replica looks at (`cs_opening`).
 //! `laws` says that what a store held has one opening or one fault, and that a store that shows a log is opened.
-//! Its tests stand in `cs_log_store_tests`.
+//! Its tests stand in `cs_world_tests`.
 #![tactic(auto)]
 
 pub mod below;

@@ -1,7 +1,7 @@
 //! Reading a hub's log from its store: `entries_at` reads entries, `entries_told` writes them into an answer without decoding what they
 //! do, and `has_entry` says whether a given entry stands at a version. What the store gives that is no entry of the tables is told to
 //! the store. The crate stands on what stores show of a hub (`cs_log_store`) and on answers as bytes (`cs_wire`).
-//! Its tests stand in `cs_log_store_tests`.
+//! Its tests stand in `cs_world_tests`.
 #![tactic(auto)]
 
 mod reading;

@@ -3,7 +3,7 @@
 //! What it took for a refused commit it gives back, but for room in a leaf, which is for its next rows. A commit of one row or
 //! of one pending change costs the logarithm of those that are there. The crate stands on leaves of bodies (`cs_leaf`), on
 //! edits (`cs_edits`), on `cs_store`, on the order of keys (`cs_order`) and on catalogs (`cs_value`).
-//! Its tests stand in `cs_store_tests`.
+//! Its tests stand in `cs_stores_tests`.
 #![tactic(auto)]
 
 mod anew;

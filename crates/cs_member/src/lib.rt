@@ -2,7 +2,7 @@
 //! a state to the next: `edit_replica`, `push_replica`, `resend_replica`, `tell_replica`, which takes the hub's answer by a list of wishes, and
 //! `rows_of`. It stands on `cs_replica` and `cs_wishes` and adds nothing to what they do: each function here promises, in one clause, what
 //! the call promises of an honest store in several, so that runs of many calls are put together from it. Its tests stand in
-//! `cs_replica_lines_tests`.
+//! `cs_replica_tests`.
 #![tactic(auto)]
 
 pub mod below;

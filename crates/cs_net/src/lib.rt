@@ -4,7 +4,7 @@
 //! `net_change`, `net_into` and `push_net` are the one change from a row or none to another; `defined`, `keeps_value`, `overlaid` and
 //! `make_inverse_columns` are about the columns of two records. What each result is, is a function of `cs_change`'s definitions, and of
 //! its own of the flag (`with_flag`, `then_change` of its `specs/Combine.antt`).
-//! Its tests stand in `cs_group_tests`.
+//! Its tests stand in `cs_operations_tests`.
 #![tactic(auto)]
 
 mod record_columns;

@@ -4,7 +4,7 @@
 //! makes the same form over the bytes where it was read: `LentNormal`, whose changes are brought into normal form one by one, where
 //! each is asked for. `laws` says that a normal form means what was read, over whole states too, that there is one, also when it is
 //! read again, and that a changeset fits or has one fault.
-//! Its tests stand in `cs_normal_tests`.
+//! Its tests stand in `cs_changes_tests`.
 #![tactic(auto)]
 
 pub mod below;

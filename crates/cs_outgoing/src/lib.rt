@@ -2,7 +2,7 @@
 //! one changeset in normal form, or tells that nothing is pending or that it has more bytes than a push may have. The crate
 //! stands on edits and pending changes (`cs_pending`), and on what an entry of the log is stored as (`cs_log`). `laws` says
 //! that there is one changeset of what is pending.
-//! Its tests stand in `cs_pending_tests`.
+//! Its tests stand in `cs_stores_tests`.
 #![tactic(auto)]
 
 mod gathering;

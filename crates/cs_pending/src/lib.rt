@@ -5,7 +5,7 @@
 //! there before what is pending, and `Settling` gathers the edits of several places for one commit; `lent`, `copied` and `undone`
 //! are of rows or none in their bytes.
 //! The crate stands on stores (`cs_store`), on net changes (`cs_net`) and on the places of tables (`cs_apply`). `laws` says
-//! that a store shows one view, and that an edit leads to one view or has one fault. Its tests stand in `cs_pending_tests`.
+//! that a store shows one view, and that an edit leads to one view or has one fault. Its tests stand in `cs_stores_tests`.
 #![tactic(auto)]
 
 pub mod below;

@@ -3,7 +3,7 @@
 //! bytes, and tells how many it took and why it ended. `laws` says that an entry that is pulled leads to the log's next rows, and that
 //! an entry and a list have one result, and have one.
 //! The crate stands on taken entries (`cs_taking`), pushes (`cs_pushing`) and messages (`cs_wire`).
-//! Its tests stand in `cs_pulling_tests`.
+//! Its tests stand in `cs_replica_tests`.
 #![tactic(auto)]
 
 pub mod below;

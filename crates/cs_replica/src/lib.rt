@@ -4,7 +4,7 @@
 //! rows (`cs_pending`); `rows`, `pending` and `in_flight` give what is shown; `make_push` and `resend` push what is pending (`cs_pushing`); `take` and `answer` take what the hub tells
 //! (`cs_pulling`). `laws` says when a replica stands on a log, that each step keeps it there, that two that are at rest at one
 //! version have the same rows, and that an answer has one result.
-//! Its tests stand in `cs_replica_tests` and `cs_pulling_tests`.
+//! Its tests stand in `cs_replica_tests`.
 #![tactic(auto)]
 
 mod answering;

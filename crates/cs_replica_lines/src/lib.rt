@@ -3,7 +3,7 @@
 //! printed. `work_on` opens the replica and does what is asked, and `node_on` reads it first. Each promises how it ends
 //! (`specs/Endings.antt`): which steps were made (`specs/LineStep.antt`, one case a line), that the replica's store holds what they left,
 //! and that their texts are written, each before the next line is worked on; and whatever stops it, what was done stays done.
-//! Its tests stand in `cs_replica_lines_tests`.
+//! Its tests stand in `cs_replica_tests`.
 #![tactic(auto)]
 
 mod dump;

@@ -4,7 +4,7 @@
 //! that the caller opened; each judges what it finds, and refuses another's database untouched; `laws` says that what a store
 //! then holds is one. The crate stands on the
 //! statements (`cs_sql_statements`), on the schema (`cs_sql_schema`), on what stores owe (`cs_store`) and on `sqlite`.
-//! Its tests stand in `cs_sql_tests`.
+//! Its tests stand in `cs_sqlite_tests`.
 #![tactic(auto)]
 
 pub mod laws;

@@ -3,7 +3,7 @@
 //! `pending`, or another's; `laws` says that it is one of these alone. `lay_out` makes the tables of a fresh file and
 //! `complete` the one that is missing, each in one transaction: at `Err`, and in a stop, nothing is left of it or the whole. The
 //! crate stands on `sqlite`.
-//! Its tests stand in `cs_sql_tests`.
+//! Its tests stand in `cs_sqlite_tests`.
 #![tactic(auto)]
 
 mod judging;

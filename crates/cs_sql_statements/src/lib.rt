@@ -4,7 +4,7 @@
 //! says what it makes of the contents, what a fault leaves, and what a stop may leave; `check_store` says whether all that
 //! stands there is what its places say. The crate stands on the schema (`cs_sql_schema`), on what stores hold (`cs_store`) and
 //! on `sqlite`.
-//! Its tests stand in `cs_sql_tests`.
+//! Its tests stand in `cs_sqlite_tests`.
 #![tactic(auto)]
 
 mod checking;

@@ -8,7 +8,7 @@
 //! changesets and states (`cs_normal`), on entries (`cs_log`) and on the order of keys (`cs_order`). `laws` says that a listing
 //! and a commit have one answer, what a commit leaves at each place, how calls follow one another, that a log without gaps
 //! stays so, and that a store holds one state of the tables.
-//! Its tests stand in `cs_store_tests`.
+//! Its tests stand in `cs_stores_tests`.
 #![tactic(auto)]
 
 mod batch;

@@ -7,7 +7,7 @@
 //! rows; `gathering` does all this for an entry, and `committing` commits the gathered edits.
 //! The crate stands on positions (`cs_position`), pending changes (`cs_pending`), conflicts and pickers (`cs_conflict`), and on
 //! the merge and its diamond (`cs_rebaser`).
-//! Its tests stand in `cs_pulling_tests`, through `Replica`.
+//! Its tests stand in `cs_replica_tests`, through `Replica`.
 #![tactic(auto)]
 
 mod asking;

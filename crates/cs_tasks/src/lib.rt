@@ -5,7 +5,7 @@
 //! (`TaskPlaces`, which lends its keys from the changes where these are of one table), and how many groups fit none, or tells exactly
 //! that a change has NULL at a key column; `count_of` says how many changes of a group are applied. `BlobBuf` takes the answers to the
 //! conflicts of a group one after another, and group after group, and is the blob of these. `laws` says that a blob goes group by
-//! group, and that the reader of blobs takes it. Its tests stand in `cs_apply_tests`.
+//! group, and that the reader of blobs takes it. Its tests stand in `cs_operations_tests`.
 #![tactic(auto)]
 
 pub mod below;

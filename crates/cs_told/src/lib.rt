@@ -2,7 +2,7 @@
 //! store was refused (`edit_fault_name` and its like), where it stands (`PlaceText`, `ReplicaText`) and its rows (`RowText`, `RowsText`). The
 //! definitions of `Told` and `Dump` state each text exactly, and each type here promises its own: what `{}` writes of it is that text and nothing else. The names of tables
 //! and the values are those of `cs_text`; the text is a format of this project, described in docs/FORMATS.md. Its tests are those of
-//! `cs_script_tests`.
+//! `cs_world_tests`.
 #![tactic(auto)]
 
 mod faults;

@@ -5,7 +5,7 @@
 //! `run_tool` promises for each tool which text is written (`specs/Endings.antt`, `Owes`), and where none is, which fault of the
 //! lines is the reason (`Refuses`): the first one, in the order in which they are judged. `laws` say that an input has one
 //! text or one such fault.
-//! Its tests stand in `cs_tools_tests`.
+//! Its tests stand in `cs_operations_tests`.
 #![tactic(auto)]
 
 mod combine;

@@ -1,20 +1,14 @@
-//! Tests of worlds (`cs_world`, and the wishes of `cs_wishes`) by public calls: over stores in memory, of which one refuses a call, or memory is
-//! refused, and over stores in SQLite.
-//! They stand in a crate of their own since a crate with tests is proved twice. It is a program that does nothing, and no library: what the gate
-//! keeps of a library it marks by all ways that crates.txt has down from it, which are many here.
+//! Tests of a hub's log (`cs_log_opening`, `cs_log_reading`, `cs_appending`, `cs_judging`), of hubs (`cs_hub`), of worlds of a hub and its replicas
+//! (`cs_world`) and of their scripts (`cs_script`), over stores in memory, by public calls.
 #![tactic(auto)]
 
 #[cfg(test)]
-mod again;
+mod hub;
 #[cfg(test)]
-mod given;
+mod log;
 #[cfg(test)]
-mod memory;
+mod script;
 #[cfg(test)]
-mod over_sqlite;
-#[cfg(test)]
-mod refused;
-#[cfg(test)]
-mod tests;
+mod world;
 
 fn main() {}

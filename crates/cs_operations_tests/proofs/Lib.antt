@@ -1,0 +1,4 @@
+pub mod Tries
+pub mod Allowed
+pub mod Beside
+pub mod Closing

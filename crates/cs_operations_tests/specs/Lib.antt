@@ -1,0 +1,3 @@
+pub mod Tried
+pub mod Answers
+pub mod Closes

@@ -1,3 +1,0 @@
-pub mod Allowed
-pub mod Beside
-pub mod Closing

@@ -1,0 +1,8 @@
+mod answering;
+mod failing;
+mod given;
+mod merging;
+mod own;
+mod picking;
+mod refusing;
+mod storing;

@@ -1,0 +1,222 @@
+//! A stop at each call of the file in which a replica's store lies. After it the store opens as it was before the call of the
+//! replica or after it, beside a store in memory that made as many steps; an answer of three entries leaves none to three of
+//! them, in order.
+
+use crate::messages::ACCEPTED;
+use cs_conflict::{Clash, Guard, Wish};
+use cs_map_store::MapStore;
+use cs_replica::Replica;
+use crate::disks::{Calls, Disk, Filed, files_behind, open_new};
+use crate::images::shown_again;
+use cs_store::RowStore;
+use cs_store_cases::{catalog, image};
+use cs_value::{Catalog, Items, Memory, Row, Text, Value};
+use cs_wire::Answer;
+use sqlite::Files;
+use std::alloc::Global;
+
+/// The row of a number and the text `v1`.
+fn row(alloc: Global, number: i64) -> Result<Row, Memory> {
+    let mut values = Vec::new(alloc);
+    values.push(Value::Int(number))?;
+    values.push(Value::Text(Text::from_string(String::from_str(alloc, "v1")?)))?;
+    Ok(Items::from_vec(values))
+}
+
+/// Entries of replica 9: the INSERT of (2, 'v1'), of (3, 'v1') and of (4, 'v1').
+const SECOND: &[u8] =
+    b"\0\0\0\0\x09\0\0\0\0\0\0\0\x01\0\0\0\x16\x54\x02\x01\0\x74\x31\0\x12\0\x01\0\0\0\0\0\0\0\x02\x03\x02\x76\x31";
+
+const THIRD: &[u8] =
+    b"\0\0\0\0\x09\0\0\0\0\0\0\0\x02\0\0\0\x16\x54\x02\x01\0\x74\x31\0\x12\0\x01\0\0\0\0\0\0\0\x03\x03\x02\x76\x31";
+
+const FOURTH: &[u8] =
+    b"\0\0\0\0\x09\0\0\0\0\0\0\0\x03\0\0\0\x16\x54\x02\x01\0\x74\x31\0\x12\0\x01\0\0\0\0\0\0\0\x04\x03\x02\x76\x31";
+
+/// The bytes of an answer of entries, of which the first has this version.
+fn entries(alloc: Global, first: u8, parts: &[&[u8]]) -> Result<Vec<u8>, Memory> {
+    let mut bytes = Vec::new(alloc);
+    bytes.extend_from_slice(&[0x14, 0, 0, 0, 0, 0, 0, 0, first, 0, 0, 0])?;
+    bytes.push(u8::try_from(parts.len()).unwrap_or(0))?;
+    for part in parts {
+        bytes.extend_from_slice(part)?;
+    }
+    Ok(bytes)
+}
+
+fn inserts<S: RowStore>(alloc: Global, replica: &mut Replica<S>, number: i64) -> bool {
+    match row(alloc, number) {
+        Ok(row) => replica.insert(alloc, "t1", &row).is_ok(),
+        Err(_) => false,
+    }
+}
+
+fn pushes<S: RowStore>(alloc: Global, replica: &mut Replica<S>) -> bool {
+    replica.make_push(alloc).is_ok()
+}
+
+fn answer<S: RowStore>(alloc: Global, replica: &mut Replica<S>, answer: &Answer<'_>) -> bool {
+    let mut guard = Guard::new(|_clash: &Clash<'_>| -> Wish { Wish::Keep });
+    replica.answer(alloc, answer, &mut guard).is_ok()
+}
+
+/// Whether the answer in these bytes is taken.
+fn answers<S: RowStore>(alloc: Global, replica: &mut Replica<S>, bytes: &[u8]) -> bool {
+    match Answer::decode(bytes) {
+        Ok(decoded) => answer(alloc, replica, &decoded),
+        Err(_) => false,
+    }
+}
+
+fn answers_entries<S: RowStore>(
+    alloc: Global,
+    replica: &mut Replica<S>,
+    first: u8,
+    parts: &[&[u8]],
+) -> bool {
+    match entries(alloc, first, parts) {
+        Ok(bytes) => answers(alloc, replica, bytes.as_slice()),
+        Err(_) => false,
+    }
+}
+
+/// A call of the replica, the first being 0, and whether it succeeded: an edit, a push, its answer, an answer of three entries, and
+/// an edit.
+fn call<S: RowStore>(alloc: Global, replica: &mut Replica<S>, at: usize) -> bool {
+    match at {
+        0 => inserts(alloc, replica, 1),
+        1 => pushes(alloc, replica),
+        2 => answers(alloc, replica, ACCEPTED),
+        3 => answers_entries(alloc, replica, 1, &[SECOND, THIRD, FOURTH]),
+        _ => inserts(alloc, replica, 5),
+    }
+}
+
+/// How many calls of a replica there are.
+const CALLS: usize = 5;
+
+/// The same in commits, of which the three entries are one each.
+fn step<S: RowStore>(alloc: Global, replica: &mut Replica<S>, at: usize) -> bool {
+    match at {
+        0 => inserts(alloc, replica, 1),
+        1 => pushes(alloc, replica),
+        2 => answers(alloc, replica, ACCEPTED),
+        3 => answers_entries(alloc, replica, 1, &[SECOND]),
+        4 => answers_entries(alloc, replica, 2, &[THIRD]),
+        5 => answers_entries(alloc, replica, 3, &[FOURTH]),
+        _ => inserts(alloc, replica, 5),
+    }
+}
+
+/// How many commits there were before a call that comes behind so many calls, the first of which opens the replica; and how many
+/// behind it.
+fn commits_around(calls: usize) -> (usize, usize) {
+    match calls {
+        0 => (0, 1),
+        1 => (1, 2),
+        2 => (2, 3),
+        3 => (3, 4),
+        4 => (4, 7),
+        5 => (7, 8),
+        _ => (8, 8),
+    }
+}
+
+/// What a store in memory shows after so many commits of the replica, the first of which lays it out.
+fn shown_in_memory(alloc: Global, commits: usize) -> Option<Vec<u8>> {
+    let mut store = MapStore::new(alloc);
+    if commits == 0 {
+        return image(alloc, &mut store).ok();
+    }
+    let catalog = catalog(alloc)?;
+    let Ok(mut replica) = Replica::open(alloc, store, &catalog, 7) else {
+        return None;
+    };
+    for at in 0..commits - 1 {
+        if !step(alloc, &mut replica, at) {
+            return None;
+        }
+    }
+    image(alloc, &mut replica.close()).ok()
+}
+
+/// How many calls of the replica succeed one after another.
+fn calls_made<S: RowStore>(alloc: Global, replica: &mut Replica<S>) -> usize {
+    for at in 0..CALLS {
+        if !call(alloc, replica, at) {
+            return at;
+        }
+    }
+    CALLS
+}
+
+/// How many calls succeed over a store in files, and the files then.
+fn made_over(alloc: Global, store: Filed, catalog: &Catalog) -> (usize, Files<Disk>) {
+    match Replica::open(alloc, store, catalog, 7) {
+        Ok(mut replica) => {
+            let made = calls_made(alloc, &mut replica);
+            (made.saturating_add(1), files_behind(replica.close()))
+        }
+        Err((store, _)) => (0, files_behind(store)),
+    }
+}
+
+/// How many calls succeed in new files that stop, and the files then.
+fn stopped(alloc: Global, catalog: &Catalog, calls: Calls) -> (usize, Files<Disk>) {
+    match open_new(alloc, calls) {
+        Ok(store) => made_over(alloc, store, catalog),
+        Err(files) => (0, files),
+    }
+}
+
+/// Whether it is what a store in memory shows after one of these numbers of commits.
+fn is_between(alloc: Global, shown: &[u8], first: usize, last: usize) -> bool {
+    for commits in first..last.saturating_add(1) {
+        if let Some(image) = shown_in_memory(alloc, commits) {
+            if image.as_slice() == shown {
+                return true;
+            }
+        }
+    }
+    false
+}
+
+/// How many calls succeeded before a stop behind so many calls of a file, if the store then shows what it may.
+fn survives(alloc: Global, catalog: &Catalog, calls: Calls) -> Option<usize> {
+    let (made, files) = stopped(alloc, catalog, calls);
+    let shown = shown_again(alloc, files)?;
+    let (first, last) = commits_around(made);
+    if is_between(alloc, shown.as_slice(), first, last) {
+        Some(made)
+    } else {
+        None
+    }
+}
+
+/// Whether a replica survives a stop behind each number of calls of the log, until none comes.
+fn survive_all(alloc: Global) -> Option<bool> {
+    let catalog = catalog(alloc)?;
+    for calls in 0..2000 {
+        if survives(alloc, &catalog, Calls::of_log(calls))? > CALLS {
+            return Some(calls > 10);
+        }
+    }
+    Some(false)
+}
+
+/// The same of the database's own file.
+fn survive_all_in_db(alloc: Global) -> Option<bool> {
+    let catalog = catalog(alloc)?;
+    for calls in 0..2000 {
+        if survives(alloc, &catalog, Calls::of_db(calls))? > CALLS {
+            return Some(calls > 1);
+        }
+    }
+    Some(false)
+}
+
+#[test]
+fn a_stop_in_a_call_of_a_replica_leaves_it_made_or_not(rt: HostRuntime) {
+    assert!(rt; survive_all(rt.alloc()) == Some(true));
+    assert!(rt; survive_all_in_db(rt.alloc()) == Some(true));
+}

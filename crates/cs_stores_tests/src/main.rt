@@ -1,0 +1,10 @@
+//! Tests of stores, by public calls: batches and the store in memory (`cs_edits`, `cs_store`, `cs_leaf`, `cs_map_store`), and rows with
+//! pending changes in it (`cs_pending`, `cs_outgoing`).
+#![tactic(auto)]
+
+#[cfg(test)]
+mod pending;
+#[cfg(test)]
+mod store;
+
+fn main() {}

@@ -1,0 +1,5 @@
+mod given;
+mod memory;
+mod rows;
+mod tests;
+mod unreadable;

@@ -1,0 +1,5 @@
+mod again;
+mod given;
+mod memory;
+mod refused;
+mod tests;
