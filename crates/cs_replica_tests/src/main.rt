@@ -1,24 +1,22 @@
-//! Tests of replicas over the store in memory, by public calls: how they are opened and moved, their edits, pushes, pulls and answers
-//! (`cs_replica`, and the crates from `cs_position` on below it), and their lines (`cs_asks`, `cs_replica_lines`). `choosing` takes entries
-//! by pickers over closures as programs write them.
+//! Tests of replicas over the store in memory, by public calls (`cs_replica`, and the crates from `cs_position` on below it): each call
+//! once, what a picker over a closure is told, and whatever the device or the memory refuses. What edits, pushes, pulls and answers leave,
+//! and what lines print of it, are rows of `bench/check_node.sh`. `choosing` takes entries by pickers over closures as programs write them.
 #![tactic(auto)]
 
 pub mod choosing;
 #[cfg(test)]
-mod editing;
+mod given;
 #[cfg(test)]
 mod lines;
+#[cfg(test)]
+mod living;
 #[cfg(test)]
 mod memory;
 #[cfg(test)]
 mod moving;
 #[cfg(test)]
-mod opening;
-#[cfg(test)]
 mod pulling;
 #[cfg(test)]
 mod refusing;
-#[cfg(test)]
-mod replicas;
 
 fn main() {}

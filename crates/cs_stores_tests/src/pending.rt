@@ -1,5 +1,5 @@
-//! Edits one after another beside the rows and the pending changes that were written by hand; faults in their order; what an edit
-//! writes; and calls that are refused, by the device, for want of memory or for bytes that are no row, which leave everything.
+//! Edits as calls: refusals that no line can ask for, what an edit writes, and calls that are refused, by the device, for want of memory or
+//! for bytes that are no row, which leave everything. What edits leave one after another is rows of `bench/check_node.sh`.
 
 use cs_edits::{PlaceEdit, PlaceEdits};
 use cs_map_store::MapStore;
@@ -261,30 +261,6 @@ fn leaves<S: RowStore>(
     Ok(stands(store, case.1, case.2, case.3)? && count == case.4)
 }
 
-/// Whether each case leaves what it says, one after another.
-fn each_leaves<S: RowStore>(alloc: Global, store: &mut S, catalog: &Catalog) -> bool {
-    let mut pending = 0;
-    for case in &CASES {
-        if leaves(alloc, store, catalog, case, pending) != Ok(true) {
-            return false;
-        }
-        pending = case.4;
-    }
-    true
-}
-
-fn cases_leave(alloc: Global) -> bool {
-    match begun(alloc, TWO_B) {
-        Some((catalog, mut store)) => each_leaves(alloc, &mut store, &catalog),
-        None => false,
-    }
-}
-
-#[test]
-fn edits_are_rows_and_net_changes(rt: HostRuntime) {
-    assert!(rt; cases_leave(rt.alloc()));
-}
-
 const K9: &[Cell] = &[Cell::Int(9)];
 
 const NULL: &[Cell] = &[Cell::Null];
@@ -295,36 +271,19 @@ const NEW_TEXT: &[Option<Cell>] = &[None, Some(Cell::Text("c"))];
 
 const NEW_KEY: &[Option<Cell>] = &[Some(Cell::Int(2)), None];
 
-/// Edits that are refused, each for a reason that goes before another of its own.
-const REFUSED: [(Step, EditFault); 16] = [
-    (Step::Insert("u", K2), EditFault::NoTable),
+/// Edits that are refused, each for a reason that goes before another of its own: a table without a name, keys of another width than the
+/// fields, and fields at a key column.
+const REFUSED: [(Step, EditFault); 7] = [
     (Step::Update("u", PAIR, &[]), EditFault::NoTable),
     (Step::Delete("", PAIR), EditFault::NoTable),
-    (Step::Insert("t", NULL), EditFault::Width),
     (Step::Update("t", PAIR, NEW_KEY), EditFault::Width),
     (
         Step::Update("t", NULL, &[Some(Cell::Int(2))]),
         EditFault::Width,
     ),
-    (
-        Step::Delete("t", &[Cell::Null, Cell::Null]),
-        EditFault::Width,
-    ),
-    (
-        Step::Insert("t", &[Cell::Null, Cell::Null]),
-        EditFault::NullKey,
-    ),
     (Step::Update("t", NULL, NEW_KEY), EditFault::NullKey),
-    (Step::Delete("t", NULL), EditFault::NullKey),
     (Step::Update("t", K9, NEW_KEY), EditFault::KeyColumn),
     (Step::Update("t", K2, NEW_KEY), EditFault::KeyColumn),
-    (Step::Insert("t", PAIR), EditFault::Exists),
-    (
-        Step::Insert("t", &[Cell::Int(2), Cell::Null]),
-        EditFault::Exists,
-    ),
-    (Step::Update("t", K9, NEW_TEXT), EditFault::Missing),
-    (Step::Delete("t", K9), EditFault::Missing),
 ];
 
 /// Whether each of them is refused so.
@@ -672,32 +631,6 @@ fn make_all<S: RowStore>(alloc: Global, store: &mut S, catalog: &Catalog) -> Res
         make(alloc, store, catalog, step, 0)?;
     }
     Ok(())
-}
-
-/// Whether they are gathered table by table and key by key, and nothing is where they were taken back.
-fn gathers_all<S: RowStore>(
-    alloc: Global,
-    store: &mut S,
-    catalog: &Catalog,
-) -> Result<bool, EditFault> {
-    make_all(alloc, store, catalog)?;
-    let all = gathers(alloc, store, catalog, GATHERED)?;
-    make(alloc, store, catalog, &Step::Delete("s", K1), 3)?;
-    make(alloc, store, catalog, &Step::Delete("t", K1), 2)?;
-    make(alloc, store, catalog, &CASES[4].0, 1)?;
-    Ok(all && gathers(alloc, store, catalog, &[])?)
-}
-
-fn edits_are_gathered(alloc: Global) -> bool {
-    match begun(alloc, TWO_B) {
-        Some((catalog, mut store)) => gathers_all(alloc, &mut store, &catalog) == Ok(true),
-        None => false,
-    }
-}
-
-#[test]
-fn what_is_pending_is_one_changeset(rt: HostRuntime) {
-    assert!(rt; edits_are_gathered(rt.alloc()));
 }
 
 /// Whether a listing that the device refuses is told, and then is made.

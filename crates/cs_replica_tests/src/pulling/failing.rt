@@ -1,11 +1,11 @@
 //! A store that refuses one of the calls that a take makes: everything is as before, and the same take is made then.
 
-use crate::pulling::answering::{LENGTH_22, OTHERS as OTHERS_FIRST, TWO_FROM_0, answer_in, tells};
-use crate::pulling::given::*;
-use cs_conflict::Wish;
+use crate::given::*;
+use cs_conflict::{Clash, Guard, Wish};
 use cs_pulling::{AnswerFault, PullFault};
 use cs_replica::Told;
 use cs_store::{RowStore, Trip};
+use cs_wire::Answer;
 use std::alloc::Global;
 
 /// What the log's rows are made by, the edits that are pushed, the edits that are made then, and an entry, that of an origin; and
@@ -37,27 +37,22 @@ fn tripping(
 
 /// Takes the entry of a case, the own row first: whether it was taken, or else the device failed.
 fn is_taken(alloc: Global, replica: &mut Seven, case: &Case) -> Option<bool> {
-    let entry = entry(alloc, case.origin, 1, case.entry)?;
-    let mut kinds = [0; 4];
+    let entry = entry(alloc, case.origin, case.entry)?;
+    let mut kinds = [0; 6];
     let index = replica.version();
     match take(alloc, replica, index, &entry, &[Wish::Keep], &mut kinds) {
         Ok(()) => Some(true),
-        Err(fault) => {
-            if names(alloc, &fault, "Device") {
-                Some(false)
-            } else {
-                None
-            }
-        }
+        Err(fault) if names(alloc, &fault, "Device") => Some(false),
+        Err(_) => None,
     }
 }
 
 /// Whether everything is as before, and the entry of a case is then taken.
 fn goes_on(alloc: Global, replica: &mut Seven, case: &Case) -> bool {
     let version = replica.version();
-    shows(alloc, replica, version, &case.before)
+    keeps(alloc, replica, version, &case.before)
         && is_taken(alloc, replica, case) == Some(true)
-        && shows(alloc, replica, version.saturating_add(1), &case.after)
+        && keeps(alloc, replica, version.saturating_add(1), &case.after)
 }
 
 /// Whether the entry isn't taken where this call is refused, everything is as before then, and the same take is then made.
@@ -87,18 +82,16 @@ fn makes_calls(alloc: Global, case: &Case, count: u64) -> bool {
 const OTHERS: Case = Case {
     base: &[&H1, &INSERT, &K2, &V1],
     flown: &[],
-    edits: &[Edit::Insert("t1", 1, &["v1"])],
+    edits: &[Edit::Insert(1, "v1")],
     origin: 9,
     entry: &[&H1, &INSERT, &K1, &V2, &UPDATE, &K2, &V1, &NONE, &V2],
     before: Shown {
-        table: 0,
         rows: &[&K1, &V1, &K2, &V1],
         pending: &[&H1, &INSERT, &K1, &V1],
         count: 1,
         flight: &[],
     },
     after: Shown {
-        table: 0,
         rows: &[&K1, &V1, &K2, &V2],
         pending: &[&H1, &UPDATE, &K1, &V2, &NONE, &V1],
         count: 1,
@@ -109,19 +102,17 @@ const OTHERS: Case = Case {
 /// Another's entry while a push is under way at another place, which was changed once more.
 const WHILE_FLYING: Case = Case {
     base: &[],
-    flown: &[Edit::Insert("t1", 1, &["v1"])],
-    edits: &[Edit::Update("t1", 1, &[Some("v9")])],
+    flown: &[Edit::Insert(1, "v1")],
+    edits: &[Edit::Update(1, "v9")],
     origin: 9,
     entry: &[&H1, &INSERT, &K2, &V2],
     before: Shown {
-        table: 0,
         rows: &[&K1, &V9],
         pending: &[&H1, &UPDATE, &K1, &V1, &NONE, &V9],
         count: 1,
         flight: &[&H1, &INSERT, &K1, &V1],
     },
     after: Shown {
-        table: 0,
         rows: &[&K1, &V9, &K2, &V2],
         pending: &[&H1, &INSERT, &K1, &V9],
         count: 1,
@@ -132,19 +123,17 @@ const WHILE_FLYING: Case = Case {
 /// The own entry.
 const OWN: Case = Case {
     base: &[],
-    flown: &[Edit::Insert("t1", 1, &["v1"])],
-    edits: &[Edit::Update("t1", 1, &[Some("v9")])],
+    flown: &[Edit::Insert(1, "v1")],
+    edits: &[Edit::Update(1, "v9")],
     origin: 7,
     entry: &[&H1, &INSERT, &K1, &V1],
     before: Shown {
-        table: 0,
         rows: &[&K1, &V9],
         pending: &[&H1, &UPDATE, &K1, &V1, &NONE, &V9],
         count: 1,
         flight: &[&H1, &INSERT, &K1, &V1],
     },
     after: Shown {
-        table: 0,
         rows: &[&K1, &V9],
         pending: &[&H1, &UPDATE, &K1, &V1, &NONE, &V9],
         count: 1,
@@ -162,17 +151,19 @@ fn a_take_that_the_device_refuses_changes_nothing(rt: HostRuntime) {
     assert!(rt; makes_calls(alloc, &OWN, 1));
 }
 
-/// Two entries of another, the first over an own row, and beside it.
+/// Two entries of another, of one row each, from version 0 on: the first over an own row, and beside it.
+const TWO_FROM_0: [u8; 13] = [0x14, 0, 0, 0, 0, 0, 0, 0, 0, 0, 0, 0, 2];
+
+const OF_22: [u8; 17] = [0, 0, 0, 0, 9, 0, 0, 0, 0, 0, 0, 0, 1, 0, 0, 0, 22];
+
 const ENTRIES: Parts = &[
     &TWO_FROM_0,
-    &OTHERS_FIRST,
-    &LENGTH_22,
+    &OF_22,
     &H1,
     &INSERT,
     &K1,
     &V2,
-    &OTHERS_FIRST,
-    &LENGTH_22,
+    &OF_22,
     &H1,
     &INSERT,
     &K2,
@@ -180,11 +171,10 @@ const ENTRIES: Parts = &[
 ];
 
 /// The own edit under them.
-const EDIT: &[Edit] = &[Edit::Insert("t1", 1, &["v1"])];
+const EDIT: &[Edit] = &[Edit::Insert(1, "v1")];
 
 /// What is shown before them, behind the first and behind both.
 const NONE_TAKEN: Shown = Shown {
-    table: 0,
     rows: &[&K1, &V1],
     pending: &[&H1, &INSERT, &K1, &V1],
     count: 1,
@@ -192,7 +182,6 @@ const NONE_TAKEN: Shown = Shown {
 };
 
 const ONE_TAKEN: Shown = Shown {
-    table: 0,
     rows: &[&K1, &V1],
     pending: &[&H1, &UPDATE, &K1, &V2, &NONE, &V1],
     count: 1,
@@ -200,16 +189,23 @@ const ONE_TAKEN: Shown = Shown {
 };
 
 const BOTH_TAKEN: Shown = Shown {
-    table: 0,
     rows: &[&K1, &V1, &K2, &V2],
     pending: &[&H1, &UPDATE, &K1, &V2, &NONE, &V1],
     count: 1,
     flight: &[],
 };
 
-/// Whether the answer is told so, the own row first.
+/// What is told of the entries, the own row first; none where memory is refused to their bytes.
+fn answer(alloc: Global, replica: &mut Seven) -> Option<Result<Told, AnswerFault>> {
+    let bytes = joined(alloc, ENTRIES).ok()?;
+    let answer = Answer::decode(bytes.as_slice()).ok()?;
+    let mut guard = Guard::new(|_clash: &Clash<'_>| -> Wish { Wish::Keep });
+    Some(replica.answer(alloc, &answer, &mut guard))
+}
+
+/// Whether this is.
 fn is_told(alloc: Global, replica: &mut Seven, told: Result<Told, AnswerFault>) -> bool {
-    tells(alloc, replica, ENTRIES, &[Wish::Keep], told)
+    answer(alloc, replica) == Some(told)
 }
 
 /// Whether so many entries were taken, and the same answer then takes the others.
@@ -220,9 +216,9 @@ fn goes_on_behind(
     left: u64,
     shown: &Shown,
 ) -> bool {
-    shows(alloc, replica, taken, shown)
+    keeps(alloc, replica, taken, shown)
         && is_told(alloc, replica, Ok(Told::Taken(left)))
-        && shows(alloc, replica, 2, &BOTH_TAKEN)
+        && keeps(alloc, replica, 2, &BOTH_TAKEN)
 }
 
 /// Whether the answer ends where this call is refused, what was taken before that stays, and the same answer then takes the others.
@@ -248,8 +244,8 @@ fn an_answer_that_the_device_refuses_keeps_what_was_taken(rt: HostRuntime) {
 /// Takes the entry of a case; where memory is refused to that, whether everything is as before, and the same take is then made.
 fn keeps_at_take(alloc: Global, case: &Case) -> Option<bool> {
     let mut replica = flying(alloc, case.base, case.flown, case.edits)?;
-    let entry = entry(alloc, case.origin, 1, case.entry)?;
-    let mut kinds = [0; 4];
+    let entry = entry(alloc, case.origin, case.entry)?;
+    let mut kinds = [0; 6];
     match take(alloc, &mut replica, 1, &entry, &[Wish::Keep], &mut kinds) {
         Ok(()) => Some(true),
         Err(PullFault::Memory) => Some(goes_on(alloc, &mut replica, case)),
@@ -260,8 +256,7 @@ fn keeps_at_take(alloc: Global, case: &Case) -> Option<bool> {
 /// Takes the two entries; where memory is refused to that, whether so many as are told stay, and the others are then taken.
 fn keeps_at_answer(alloc: Global) -> Option<bool> {
     let mut replica = flying(alloc, &[], &[], EDIT)?;
-    let bytes = joined(alloc, ENTRIES).ok()?;
-    match answer_in(alloc, &mut replica, bytes.as_slice(), &[Wish::Keep])? {
+    match answer(alloc, &mut replica)? {
         Ok(told) => Some(told == Told::Taken(2)),
         Err(AnswerFault::Memory(0)) => {
             Some(goes_on_behind(alloc, &mut replica, 0, 2, &NONE_TAKEN))

@@ -1,154 +1,45 @@
-//! Entries that aren't taken: nobody is asked, and nothing changes.
+//! Entries before and behind the version: nobody is asked, and nothing changes.
 
-use crate::pulling::given::*;
+use crate::given::*;
 use cs_conflict::Wish;
 use std::alloc::Global;
 
-/// What the log's rows are made by, the own edits, an index, an entry, the name of its fault, the replica's version, and what is
-/// shown before and after.
-struct Refused {
-    base: Parts,
-    edits: &'static [Edit],
-    index: u64,
-    entry: Parts,
-    fault: &'static str,
-    version: u64,
-    shown: Shown,
-}
-
-/// Whether the entry is refused so, and nobody is asked.
-fn is_told(alloc: Global, replica: &mut Seven, case: &Refused) -> bool {
-    let Some(entry) = entry(alloc, 9, 1, case.entry) else {
-        return false;
-    };
-    let mut kinds = [0; 4];
-    match take(
-        alloc,
-        replica,
-        case.index,
-        &entry,
-        &[Wish::Keep],
-        &mut kinds,
-    ) {
-        Ok(()) => false,
-        Err(fault) => names(alloc, &fault, case.fault) && kinds == [0; 4],
-    }
-}
-
-/// Whether that changes nothing.
-fn is_refused(alloc: Global, case: &Refused) -> bool {
-    let Some(mut replica) = flying(alloc, case.base, &[], case.edits) else {
-        return false;
-    };
-    is_told(alloc, &mut replica, case) && shows(alloc, &mut replica, case.version, &case.shown)
-}
-
-/// Only the own row (1, 'v1'), and (2, 'v2') of the log.
-const OWN_ROW: Shown = Shown {
-    table: 0,
-    rows: &[&K1, &V1],
-    pending: &[&H1, &INSERT, &K1, &V1],
-    count: 1,
-    flight: &[],
-};
-
+/// The row (2, 'v2') of the log, and the own row (1, 'v1').
 const BOTH_ROWS: Shown = Shown {
-    table: 0,
     rows: &[&K1, &V1, &K2, &V2],
-    pending: &[&H1, &INSERT, &K1, &V1],
+    pending: FIRST,
     count: 1,
     flight: &[],
 };
 
-/// Entries before and behind the version; and entries that aren't defined on the log's rows, whatever the own rows are.
-const REFUSED: [Refused; 8] = [
-    Refused {
-        base: &[&H1, &INSERT, &K2, &V2],
-        edits: &[Edit::Insert("t1", 1, &["v1"])],
-        index: 0,
-        entry: &[&H1, &INSERT, &K1, &V2],
-        fault: "Behind",
-        version: 1,
-        shown: BOTH_ROWS,
-    },
-    Refused {
-        base: &[&H1, &INSERT, &K2, &V2],
-        edits: &[Edit::Insert("t1", 1, &["v1"])],
-        index: 2,
-        entry: &[&H1, &INSERT, &K1, &V2],
-        fault: "Gap",
-        version: 1,
-        shown: BOTH_ROWS,
-    },
-    Refused {
-        base: &[],
-        edits: &[Edit::Insert("t1", 1, &["v1"])],
-        index: 1,
-        entry: &[&H1, &INSERT, &K1, &V2],
-        fault: "Gap",
-        version: 0,
-        shown: OWN_ROW,
-    },
-    Refused {
-        base: &[],
-        edits: &[Edit::Insert("t1", 1, &["v1"])],
-        index: 0,
-        entry: &[&H1, &DELETE, &K1, &V1],
-        fault: "BadEntry",
-        version: 0,
-        shown: OWN_ROW,
-    },
-    Refused {
-        base: &[],
-        edits: &[Edit::Insert("t1", 1, &["v1"])],
-        index: 0,
-        entry: &[&H1, &UPDATE, &K1, &V1, &NONE, &V2],
-        fault: "BadEntry",
-        version: 0,
-        shown: OWN_ROW,
-    },
-    Refused {
-        base: &[&H1, &INSERT, &K2, &V2],
-        edits: &[Edit::Insert("t1", 1, &["v1"])],
-        index: 1,
-        entry: &[&H1, &INSERT, &K1, &V2, &INSERT, &K2, &V2],
-        fault: "BadEntry",
-        version: 1,
-        shown: BOTH_ROWS,
-    },
-    Refused {
-        base: &[&H1, &INSERT, &K2, &V2],
-        edits: &[Edit::Insert("t1", 1, &["v1"])],
-        index: 1,
-        entry: &[&H1, &UPDATE, &K2, &V1, &NONE, &V9],
-        fault: "BadEntry",
-        version: 1,
-        shown: BOTH_ROWS,
-    },
-    Refused {
-        base: &[&H1, &INSERT, &K2, &V2],
-        edits: &[
-            Edit::Insert("t1", 1, &["v1"]),
-            Edit::Update("t1", 2, &[Some("v9")]),
-        ],
-        index: 1,
-        entry: &[&H1, &DELETE, &K2, &V9],
-        fault: "BadEntry",
-        version: 1,
-        shown: Shown {
-            table: 0,
-            rows: &[&K1, &V1, &K2, &V9],
-            pending: &[&H1, &INSERT, &K1, &V1, &UPDATE, &K2, &V2, &NONE, &V9],
-            count: 2,
-            flight: &[],
-        },
-    },
-];
+/// The own row alone.
+const OWN_ROW: Shown = Shown {
+    rows: &[&K1, &V1],
+    pending: FIRST,
+    count: 1,
+    flight: &[],
+};
+
+const ROW_2: Parts = &[&H1, &INSERT, &K2, &V2];
+
+/// Whether another's entry with this index is refused so behind these rows of the log and the own row, which stay.
+fn is_refused(alloc: Global, base: Parts, index: u64, name: &str, shown: &Shown) -> Option<bool> {
+    let mut replica = flying(alloc, base, &[], &[Edit::Insert(1, "v1")])?;
+    let entry = entry(alloc, 9, &[&H1, &INSERT, &K1, &V2])?;
+    let version = replica.version();
+    let mut kinds = [0; 6];
+    let wishes = [Wish::Keep];
+    let told = match take(alloc, &mut replica, index, &entry, &wishes, &mut kinds) {
+        Ok(()) => false,
+        Err(fault) => names(alloc, &fault, name) && kinds == [0; 6],
+    };
+    Some(told && keeps(alloc, &mut replica, version, shown))
+}
 
 #[test]
-fn entries_are_refused(rt: HostRuntime) {
+fn entries_out_of_turn_are_refused(rt: HostRuntime) {
     let alloc = rt.alloc();
-    for case in &REFUSED {
-        assert!(rt; is_refused(alloc, case));
-    }
+    assert!(rt; is_refused(alloc, ROW_2, 0, "Behind", &BOTH_ROWS).unwrap_or(false));
+    assert!(rt; is_refused(alloc, ROW_2, 2, "Gap", &BOTH_ROWS).unwrap_or(false));
+    assert!(rt; is_refused(alloc, &[], 1, "Gap", &OWN_ROW).unwrap_or(false));
 }

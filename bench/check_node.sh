@@ -1,0 +1,567 @@
+#!/usr/bin/env bash
+# Runs the built program `sync` as a replica on a file, `node FILE ID TABLE..`, each case on a file of its own, and compares what is printed
+# with what it has to be: edits, and what is pending then; another's entries over own edits, with a push under way and without; answers of
+# the hub; entries that aren't taken; lines that are refused or can't be read; and files whose values were changed by the `sqlite3` shell,
+# where that can be had.
+# Usage: bench/check_node.sh PROGRAM
+set -u
+bench="$(cd "$(dirname "$0")" && pwd)"
+program="$(readlink -f "${1:?usage: bench/check_node.sh PROGRAM}")"
+. "$bench/common.sh"
+. "$bench/running.sh"
+
+# ---- what the cases are made of
+
+# The headers of t1(a key, b) and t2(a key, b, c, d); the first bytes of changes; integers, texts, NULL and an undefined field.
+H1=54020100743100
+H2=540401000000743200
+I=1200
+U=1700
+D=0900
+K1=010000000000000001
+K2=010000000000000002
+K3=010000000000000003
+V1=03027631
+V2=03027632
+V9=03027639
+N=00
+
+# push NUMBER BASE CHANGESET: the push of replica 7 with this number, on this version.
+push() {
+    printf '0100000007%016x%016x%08x%s' "$1" "$2" "$((${#3} / 2))" "$3"
+}
+
+# entry ORIGIN NUMBER CHANGESET: an entry of an answer.
+entry() {
+    printf '00%08x%016x%08x%s' "$1" "$2" "$((${#3} / 2))" "$3"
+}
+
+# from FIRST COUNT: the beginning of an answer of so many entries from a version on.
+from() {
+    printf '14%016x%08x' "$1" "$2"
+}
+
+# others VERSION CHANGESET: the answer of one entry behind this version, push 1 of replica 9.
+others() {
+    printf '%s%s' "$(from "$1" 1)" "$(entry 9 1 "$2")"
+}
+
+# accepted ORIGIN NUMBER VERSION: the answer that a push was taken.
+accepted() {
+    printf '11%08x%016x%016x' "$1" "$2" "$3"
+}
+
+# say LINE TEXT..: a line more, and the lines that are printed of it.
+say() {
+    input="$input$1\n"
+    shift
+    output="$output$(printf '%s\\n' "$@")"
+}
+
+# edit_all EDITS: edits, with `;` between them.
+edit_all() {
+    local IFS=';' edit
+    for edit in $1; do
+        say "edit $edit" ok
+    done
+}
+
+# say_dump PLACE ROWS: replica 7 stands there, and has these rows, with `;` between them.
+say_dump() {
+    local IFS=';' row
+    say dump "replica 7 $1"
+    for row in $2; do
+        output="${output}row $row\n"
+    done
+}
+
+# begins: a file is made anew, and nothing is said.
+begins() {
+    rm -f "$file" "$file-wal" "$file-shm"
+    input=''
+    output=''
+}
+
+# goes: what was said is a run of replica 7, and then nothing is said any more.
+goes() {
+    expect 0 "$input" "$output" '' node "$file" 7 $tables
+    input=''
+    output=''
+}
+
+file="$dir/file"
+tables='t1:10 t2:1000'
+
+# ---- what a case leaves
+#
+# leaves BASE FLOWN PUSHED EDITS ANSWER WISHES TOLD PLACE ROWS PENDING: what the log's rows are made by, or nothing; edits that are pushed,
+# if there are any, and the changeset that is; edits that are made then; an answer, the wishes at the clashes of its entries and what is
+# told of it; and where the replica stands then, its rows and what is pending. Where an entry is to be taken, the picker is first told to
+# stop at the last of the clashes: so many come, and nothing changes. Behind the wishes stands a stop, so that no more of them come.
+# A second run reads the file again, and sends what is under way and what is pending.
+leaves() {
+    local base="$1" flown="$2" pushed="$3" edits="$4" answer="$5" wishes="$6" told="$7" place="$8" rows="$9" pending="${10}" number=1 version at=0
+    begins
+    if [ -n "$base" ]; then
+        say "answer $(others 0 "$base") s" 'taken 1 version 1'
+        at=1
+    fi
+    if [ -n "$flown" ]; then
+        edit_all "$flown"
+        say push "$(push 1 "$at" "$pushed")"
+        number=2
+    fi
+    edit_all "$edits"
+    if [ -n "$wishes" ] && [ "${told#taken 1 }" != "$told" ]; then
+        say "answer $answer ${wishes%?}s" "stopped 0 version $at"
+    fi
+    say "answer $answer ${wishes}s" "$told"
+    say_dump "$place" "$rows"
+    goes
+    say_dump "$place" "$rows"
+    version="${place#version }"
+    version="${version%% *}"
+    if [ "${place##* }" -eq 0 ]; then
+        say resend 'refused Nothing'
+    else
+        say resend "$(push 1 "$at" "$pushed")"
+        version=$((version + 1))
+        say "answer $(accepted 7 1 "$version") -" "accepted $version"
+    fi
+    if [ -n "$pending" ]; then
+        say push "$(push "$number" "$version" "$pending")"
+    else
+        say push 'refused Nothing'
+    fi
+    goes
+}
+
+# leave: the cases of a table, with `|` between what `leaves` wants.
+leave() {
+    while IFS='|' read -r base flown pushed edits answer wishes told place rows pending; do
+        leaves "$base" "$flown" "$pushed" "$edits" "$answer" "$wishes" "$told" "$place" "$rows" "$pending"
+    done
+}
+
+# ---- another's entry over own edits: the three-way merge of each place
+# base | flown | pushed | edits | answer | wishes | told | place | rows | pending
+
+# The columns of t2, and the row that its cases begin with.
+B0=03026230
+B1=03026231
+B2=03026232
+C0=03026330
+C2=03026332
+D0=03026430
+D1=03026431
+row0=$H2$I$K1$B0$C0$D0
+
+# Both insert a row: the own one is kept, the other's is taken, and both are one.
+leave << END
+|||insert t1 1 t=v1|$(others 0 $H1$I$K1$V2)|k|taken 1 version 1|version 1 pending 1 flight 0|t1 1 t=v1|$H1$U$K1$V2$N$V1
+|||insert t1 1 t=v1|$(others 0 $H1$I$K1$V2)|t|taken 1 version 1|version 1 pending 0 flight 0|t1 1 t=v2|
+|||insert t1 1 t=v1|$(others 0 $H1$I$K1$V1)|k|taken 1 version 1|version 1 pending 0 flight 0|t1 1 t=v1|
+END
+
+# Both change the columns of a row: an own UPDATE that doesn't cover the other's goes whatever the wish is; one that does is kept or loses
+# the other's columns; other columns don't clash; and both set one value.
+leave << END
+$row0|||update t2 1 t=b1 - -|$(others 1 $H2$U$K1$B0$C0$N$N$B2$C2$N)|k|taken 1 version 2|version 2 pending 0 flight 0|t2 1 t=b2 t=c2 t=d0|
+$row0|||update t2 1 t=b1 - t=d1|$(others 1 $H2$U$K1$B0$N$N$N$B2$N$N)|k|taken 1 version 2|version 2 pending 1 flight 0|t2 1 t=b1 t=c0 t=d1|$H2$U$K1$B2$N$D0$N$B1$N$D1
+$row0|||update t2 1 t=b1 - t=d1|$(others 1 $H2$U$K1$B0$N$N$N$B2$N$N)|t|taken 1 version 2|version 2 pending 1 flight 0|t2 1 t=b2 t=c0 t=d1|$H2$U$K1$N$N$D0$N$N$N$D1
+$row0|||update t2 1 - - t=d1|$(others 1 $H2$U$K1$B0$N$N$N$B2$N$N)||taken 1 version 2|version 2 pending 1 flight 0|t2 1 t=b2 t=c0 t=d1|$H2$U$K1$N$N$D0$N$N$N$D1
+$H1$I$K1$V1|||update t1 1 t=v9|$(others 1 $H1$U$K1$V1$N$V9)|k|taken 1 version 2|version 2 pending 0 flight 0|t1 1 t=v9|
+END
+
+# A side takes the row away, or both do; the own row comes again or goes; and another row goes.
+leave << END
+$H1$I$K1$V1|||delete t1 1|$(others 1 $H1$U$K1$V1$N$V2)|t|taken 1 version 2|version 2 pending 1 flight 0||$H1$D$K1$V2
+$H1$I$K1$V1|||delete t1 1|$(others 1 $H1$D$K1$V1)|t|taken 1 version 2|version 2 pending 0 flight 0||
+$H1$I$K1$V1|||update t1 1 t=v9|$(others 1 $H1$D$K1$V1)|k|taken 1 version 2|version 2 pending 1 flight 0|t1 1 t=v9|$H1$I$K1$V9
+$H1$I$K1$V1|||update t1 1 t=v9|$(others 1 $H1$D$K1$V1)|t|taken 1 version 2|version 2 pending 0 flight 0||
+$H1$I$K1$V1$I$K2$V1|||update t1 1 t=v9|$(others 1 $H1$D$K2$V1)||taken 1 version 2|version 2 pending 1 flight 0|t1 1 t=v9|$H1$U$K1$V1$N$V9
+END
+
+# Three rows that both insert: the stop at the third changes nothing, also of the first two.
+A=030161
+B=030162
+C=030163
+X=030178
+Y=030179
+Z=03017a
+three='insert t1 1 t=x;insert t1 2 t=y;insert t1 3 t=z'
+leave << END
+|||$three|$(others 0 $H1$I$K1$A$I$K2$B$I$K3$C)|kt|stopped 0 version 0|version 0 pending 3 flight 0|t1 1 t=x;t1 2 t=y;t1 3 t=z|$H1$I$K1$X$I$K2$Y$I$K3$Z
+|||$three|$(others 0 $H1$I$K1$A$I$K2$B$I$K3$C)|ktk|taken 1 version 1|version 1 pending 2 flight 0|t1 1 t=x;t1 2 t=b;t1 3 t=z|$H1$U$K1$A$N$X$U$K3$C$N$Z
+END
+
+# ---- entries that come while a push is under way
+
+# Push 1 comes back: nobody is asked, it is confirmed, and edits that were made behind it stay.
+leave << END
+|insert t1 1 t=v1|$H1$I$K1$V1||$(from 0 1)$(entry 7 1 $H1$I$K1$V1)||taken 1 version 1|version 1 pending 0 flight 0|t1 1 t=v1|
+$H1$I$K1$V1|update t1 1 t=v2|$H1$U$K1$V1$N$V2|update t1 1 t=v9;insert t1 3 t=v1|$(from 1 1)$(entry 7 1 $H1$U$K1$V1$N$V2)||taken 1 version 2|version 2 pending 2 flight 0|t1 1 t=v9;t1 3 t=v1|$H1$U$K1$V2$N$V9$I$K3$V1
+END
+
+# What isn't push 1 is merged: another origin, a later number, an earlier one, other changes.
+leave << END
+|insert t1 1 t=v1|$H1$I$K1$V1||$(from 0 1)$(entry 8 1 $H1$I$K1$V1)|k|taken 1 version 1|version 1 pending 0 flight 0|t1 1 t=v1|
+|insert t1 1 t=v1|$H1$I$K1$V1||$(from 0 1)$(entry 7 2 $H1$I$K1$V1)|k|taken 1 version 1|version 1 pending 0 flight 0|t1 1 t=v1|
+|insert t1 1 t=v1|$H1$I$K1$V1||$(from 0 1)$(entry 7 0 $H1$I$K1$V1)|k|taken 1 version 1|version 1 pending 0 flight 0|t1 1 t=v1|
+|insert t1 1 t=v1|$H1$I$K1$V1||$(from 0 1)$(entry 7 1 $H1$I$K1$V2)|k|taken 1 version 1|version 1 pending 1 flight 0|t1 1 t=v1|$H1$U$K1$V2$N$V1
+END
+
+# Another's entry: what was under way is pending again, with the edits that were made behind it, which may take it back.
+leave << END
+|insert t1 1 t=v1|$H1$I$K1$V1|update t1 1 t=v9|$(others 0 $H1$I$K2$V2)||taken 1 version 1|version 1 pending 1 flight 0|t1 1 t=v9;t1 2 t=v2|$H1$I$K1$V9
+|insert t1 1 t=v1|$H1$I$K1$V1|delete t1 1|$(others 0 $H1$I$K2$V2)||taken 1 version 1|version 1 pending 0 flight 0|t1 2 t=v2|
+$H1$I$K1$V1|update t1 1 t=v9|$H1$U$K1$V1$N$V9|update t1 1 t=v1|$(others 1 $H1$I$K2$V2)||taken 1 version 2|version 2 pending 0 flight 0|t1 1 t=v1;t1 2 t=v2|
+|insert t1 1 t=v1|$H1$I$K1$V1|insert t1 3 t=v9|$(others 0 $H1$I$K1$V2)|k|taken 1 version 1|version 1 pending 2 flight 0|t1 1 t=v1;t1 3 t=v9|$H1$U$K1$V2$N$V1$I$K3$V9
+|insert t1 1 t=v1|$H1$I$K1$V1|insert t1 3 t=v9|$(others 0 $H1$I$K1$V2)|t|taken 1 version 1|version 1 pending 1 flight 0|t1 1 t=v2;t1 3 t=v9|$H1$I$K3$V9
+$H1$I$K1$V1|delete t1 1|$H1$D$K1$V1|insert t1 1 t=v9|$(others 1 $H1$U$K1$V1$N$V2)|k|taken 1 version 2|version 2 pending 1 flight 0|t1 1 t=v9|$H1$U$K1$V2$N$V9
+END
+
+# A stop leaves the push as it was made, and the edit behind it.
+leave << END
+|insert t1 1 t=v1|$H1$I$K1$V1|update t1 1 t=v9|$(others 0 $H1$I$K1$V2)||stopped 0 version 0|version 0 pending 1 flight 1|t1 1 t=v9|$H1$U$K1$V1$N$V9
+END
+
+# ---- answers of several entries
+
+OTHERS="$(entry 9 1 $H1$I$K1$V1)$(entry 9 1 $H1$I$K2$V2)"
+# Both are taken; those before the version are passed over, whatever they hold; those behind it aren't taken; no entry; the second can't be
+# read; the second isn't defined; a table that isn't there; a NULL as the key; the first is taken and the second stopped at; and the own
+# entry before another's.
+leave << END
+||||$(from 0 2)$OTHERS||taken 2 version 2|version 2 pending 0 flight 0|t1 1 t=v1;t1 2 t=v2|
+$H1$I$K1$V1||||$(from 0 2)$(entry 9 1 50)$(entry 9 1 $H1$I$K2$V2)||taken 1 version 2|version 2 pending 0 flight 0|t1 1 t=v1;t1 2 t=v2|
+||||$(from 1 2)$OTHERS||taken 0 version 0|version 0 pending 0 flight 0||
+||||$(from 0 0)||taken 0 version 0|version 0 pending 0 flight 0||
+||||$(from 0 2)$(entry 9 1 $H1$I$K1$V1)$(entry 9 1 50)||fault BadEntry after 1|version 1 pending 0 flight 0|t1 1 t=v1|
+||||$(from 0 2)$(entry 9 1 $H1$I$K1$V1)$(entry 9 1 $H1$D$K1$V9)||fault BadEntry after 1|version 1 pending 0 flight 0|t1 1 t=v1|
+|||insert t1 1 t=v1|$(others 0 54020100743900$I$K1$V1)||fault BadEntry after 0|version 0 pending 1 flight 0|t1 1 t=v1|$H1$I$K1$V1
+|||insert t1 1 t=v1|$(others 0 $H1${I}05$V1)||fault BadEntry after 0|version 0 pending 1 flight 0|t1 1 t=v1|$H1$I$K1$V1
+|||insert t1 1 t=v1;insert t1 2 t=v1|$(from 0 2)$(entry 9 1 $H1$I$K1$V2)$(entry 9 1 $H1$I$K2$V2)|t|stopped 1 version 1|version 1 pending 1 flight 0|t1 1 t=v2;t1 2 t=v1|$H1$I$K2$V1
+|insert t1 1 t=v1|$H1$I$K1$V1||$(from 0 2)$(entry 7 1 $H1$I$K1$V1)$(entry 9 1 $H1$I$K2$V2)||taken 2 version 2|version 2 pending 0 flight 0|t1 1 t=v1;t1 2 t=v2|
+END
+
+# Entries that aren't defined on the log's rows, whatever the own rows are: the DELETE and the UPDATE of a row that is the own one alone; an INSERT
+# of a row that is there, behind one that clashes; an UPDATE and a DELETE of another row than stands there. Nobody is asked.
+leave << END
+|||insert t1 1 t=v1|$(others 0 $H1$D$K1$V1)||fault BadEntry after 0|version 0 pending 1 flight 0|t1 1 t=v1|$H1$I$K1$V1
+|||insert t1 1 t=v1|$(others 0 $H1$U$K1$V1$N$V2)||fault BadEntry after 0|version 0 pending 1 flight 0|t1 1 t=v1|$H1$I$K1$V1
+$H1$I$K2$V2|||insert t1 1 t=v1|$(others 1 $H1$I$K1$V2$I$K2$V2)||fault BadEntry after 0|version 1 pending 1 flight 0|t1 1 t=v1;t1 2 t=v2|$H1$I$K1$V1
+$H1$I$K2$V2|||insert t1 1 t=v1|$(others 1 $H1$U$K2$V1$N$V9)||fault BadEntry after 0|version 1 pending 1 flight 0|t1 1 t=v1;t1 2 t=v2|$H1$I$K1$V1
+$H1$I$K2$V2|||insert t1 1 t=v1;update t1 2 t=v9|$(others 1 $H1$D$K2$V9)||fault BadEntry after 0|version 1 pending 2 flight 0|t1 1 t=v1;t1 2 t=v9|$H1$I$K1$V1$U$K2$V2$N$V9
+END
+
+# ---- short answers, while push 1 is under way with an edit behind it
+
+# It was taken; another's was, one with another number, one at a later version or at none; nothing is under way; it came late; it was
+# refused. What isn't it changes nothing.
+flown='insert t1 1 t=v1'
+pushed=$H1$I$K1$V1
+behind='update t1 1 t=v9'
+leave << END
+|$flown|$pushed|$behind|$(accepted 7 1 1)||accepted 1|version 1 pending 1 flight 0|t1 1 t=v9|$H1$U$K1$V1$N$V9
+|$flown|$pushed|$behind|$(accepted 8 1 1)||ignored|version 0 pending 1 flight 1|t1 1 t=v9|$H1$U$K1$V1$N$V9
+|$flown|$pushed|$behind|$(accepted 7 2 1)||ignored|version 0 pending 1 flight 1|t1 1 t=v9|$H1$U$K1$V1$N$V9
+|$flown|$pushed|$behind|$(accepted 7 1 2)||ignored|version 0 pending 1 flight 1|t1 1 t=v9|$H1$U$K1$V1$N$V9
+|$flown|$pushed|$behind|$(accepted 7 1 0)||ignored|version 0 pending 1 flight 1|t1 1 t=v9|$H1$U$K1$V1$N$V9
+|||insert t1 1 t=v1|$(accepted 7 0 1)||ignored|version 0 pending 1 flight 0|t1 1 t=v1|$H1$I$K1$V1
+|$flown|$pushed|$behind|120000000000000002||stale 2|version 0 pending 1 flight 1|t1 1 t=v9|$H1$U$K1$V1$N$V9
+|$flown|$pushed|$behind|1329||hub refused 41|version 0 pending 1 flight 1|t1 1 t=v9|$H1$U$K1$V1$N$V9
+END
+
+# ---- edits of a replica, its push, and the push's answer
+
+# The push is given again until its answer comes, meanwhile no other is made; what isn't its answer is ignored, and so is its answer the
+# second time; and then the next is made.
+begins
+say 'edit insert t1 1 t=v1' ok
+say_dump 'version 0 pending 1 flight 0' 't1 1 t=v1'
+say push "$(push 1 0 $H1$I$K1$V1)"
+say_dump 'version 0 pending 0 flight 1' 't1 1 t=v1'
+say resend "$(push 1 0 $H1$I$K1$V1)"
+say 'edit insert t1 2 t=x' ok
+say push 'refused InFlight'
+say resend "$(push 1 0 $H1$I$K1$V1)"
+say_dump 'version 0 pending 1 flight 1' 't1 1 t=v1;t1 2 t=x'
+say "answer $(accepted 8 1 1) -" ignored
+say "answer $(accepted 7 2 1) -" ignored
+say "answer $(accepted 7 1 2) -" ignored
+say_dump 'version 0 pending 1 flight 1' 't1 1 t=v1;t1 2 t=x'
+say "answer $(accepted 7 1 1) -" 'accepted 1'
+say_dump 'version 1 pending 1 flight 0' 't1 1 t=v1;t1 2 t=x'
+say "answer $(accepted 7 1 2) -" ignored
+say resend 'refused Nothing'
+say push "$(push 2 1 $H1$I$K2$X)"
+say_dump 'version 1 pending 0 flight 1' 't1 1 t=v1;t1 2 t=x'
+goes
+
+# Edits that can't be made, one that changes nothing, and a row that goes again and leaves nothing to push.
+begins
+say 'edit insert t1 1 t=v1' ok
+say 'edit insert t9 1' 'refused NoTable'
+say 'edit insert t1 1' 'refused Width'
+say 'edit insert t1 1 t=x' 'refused Exists'
+say 'edit update t1 2 t=x' 'refused Missing'
+say 'edit delete t1 2' 'refused Missing'
+say_dump 'version 0 pending 1 flight 0' 't1 1 t=v1'
+say 'edit update t1 1 t=v1' ok
+say_dump 'version 0 pending 1 flight 0' 't1 1 t=v1'
+say 'edit delete t1 1' ok
+say_dump 'version 0 pending 0 flight 0' ''
+say push 'refused Nothing'
+say resend 'refused Nothing'
+goes
+
+# Another's entry that the picker stops at leaves the push as it was made, and what stands and is pending behind it.
+begins
+say 'edit insert t1 1 t=v1' ok
+say push "$(push 1 0 $H1$I$K1$V1)"
+say 'edit update t1 1 t=v9' ok
+say resend "$(push 1 0 $H1$I$K1$V1)"
+say_dump 'version 0 pending 1 flight 1' 't1 1 t=v9'
+say "answer $(others 0 $H1$I$K1$V2) s" 'stopped 0 version 0'
+say resend "$(push 1 0 $H1$I$K1$V1)"
+say_dump 'version 0 pending 1 flight 1' 't1 1 t=v9'
+goes
+
+# ---- what is pending behind edits, over the row (2, 'b') of the log: each case has those of the cases before it
+
+tables='t:10 s:10'
+H=540201007400
+HS=540201007300
+
+# stands EDITS PENDING ROWS CHANGES: what these edits leave: so many pending changes, these rows, and the push.
+stands() {
+    begins
+    say "answer $(others 0 $H$I$K2$B) s" 'taken 1 version 1'
+    edit_all "$1"
+    say_dump "version 1 pending $2 flight 0" "$3"
+    if [ -n "$4" ]; then
+        say push "$(push 1 1 "$4")"
+    else
+        say push 'refused Nothing'
+    fi
+    goes
+}
+
+# A row comes, changes and goes; and one changes, changes back, goes, comes again and stays as it is.
+edits=''
+while IFS='|' read -r edit pending rows changes; do
+    edits="$edits${edits:+;}$edit"
+    stands "$edits" "$pending" "$rows" "$changes"
+done << END
+insert t 1 t=x|1|t 1 t=x;t 2 t=b|$H$I$K1$X
+update t 1 t=y|1|t 1 t=y;t 2 t=b|$H$I$K1$Y
+update t 2 t=c|2|t 1 t=y;t 2 t=c|$H$I$K1$Y$U$K2$B$N$C
+delete t 1|1|t 2 t=c|$H$U$K2$B$N$C
+update t 2 t=b|0|t 2 t=b|
+delete t 2|1||$H$D$K2$B
+insert t 2 t=d|1|t 2 t=d|$H$U$K2$B${N}030164
+update t 2 t=d|1|t 2 t=d|$H$U$K2$B${N}030164
+END
+
+# What is pending goes table by table and key by key, and nothing does where it was taken back.
+stands 'insert s 1 t=x;update t 2 t=c;insert t 1 t=x' 3 't 1 t=x;t 2 t=c;s 1 t=x' $H$I$K1$X$U$K2$B$N$C$HS$I$K1$X
+stands 'insert s 1 t=x;update t 2 t=c;insert t 1 t=x;delete s 1;delete t 1;update t 2 t=b' 0 't 2 t=b' ''
+
+# Edits that are refused, each for a reason that goes before another of its own, with nothing changed.
+begins
+say "answer $(others 0 $H$I$K2$B) s" 'taken 1 version 1'
+while IFS='|' read -r edit fault; do
+    say "edit $edit" "refused $fault"
+done << 'END'
+insert u 2|NoTable
+update u 2 t=b|NoTable
+delete u 2 t=b|NoTable
+insert t null|Width
+update t 2|Width
+delete t null null|Width
+insert t null null|NullKey
+update t null t=c|NullKey
+delete t null|NullKey
+insert t 2 t=b|Exists
+insert t 2 null|Exists
+update t 9 t=c|Missing
+delete t 9|Missing
+END
+say_dump 'version 1 pending 0 flight 0' 't 2 t=b'
+say push 'refused Nothing'
+goes
+
+# ---- lines of replica 0 of t1
+
+# prints LINES OUTPUT: a new replica prints this of the lines.
+prints() {
+    begins
+    expect 0 "$1" "$2" '' node "$file" 0 t1:10
+}
+
+# Bytes that are no answer.
+prints 'answer 99 -\nanswer 1100 -\nanswer 120000000000000001ff -\n' 'refused BadTag\nrefused Truncated\nrefused TooLong\n'
+# Entries that aren't defined, alone and behind one that is; and a push that is said to be an entry it can't be.
+prints "edit insert t1 1 t=v1\nanswer $(others 0 $H1$D$K1$V1) -\ndump\n" \
+    'ok\nfault BadEntry after 0\nreplica 0 version 0 pending 1 flight 0\nrow t1 1 t=v1\n'
+prints "answer $(from 0 2)$(entry 9 1 $H1$I$K1$V1)$(entry 9 2 50) -\ndump\n" \
+    'fault BadEntry after 1\nreplica 0 version 1 pending 0 flight 0\nrow t1 1 t=v1\n'
+prints "edit insert t1 1 t=v1\npush\nanswer $(accepted 0 1 2) -\ndump\n" \
+    "ok\n0100000000000000000000000100000000000000000000001654020100743100120001000000000000000103027631\nignored\nreplica 0 version 0 pending 0 flight 1\nrow t1 1 t=v1\n"
+
+# Another's entry that inserts what stands here otherwise: kept, taken and stopped at.
+while IFS='|' read -r wishes shown; do
+    prints "edit insert t1 1 t=v1\nanswer $(others 0 $H1$I$K1$V2) $wishes\ndump\n" "ok\n$shown\n"
+done << 'END'
+k|taken 1 version 1\nreplica 0 version 1 pending 1 flight 0\nrow t1 1 t=v1
+t|taken 1 version 1\nreplica 0 version 1 pending 0 flight 0\nrow t1 1 t=v2
+s|stopped 0 version 0\nreplica 0 version 0 pending 1 flight 0\nrow t1 1 t=v1
+END
+
+# What is refused, by the replica and by the hub.
+prints 'edit insert t2 1\nedit insert t1 1\nedit insert t1 null 1\nedit update t1 1 t=x\nedit delete t1 1\npush\nresend\n' \
+    'refused NoTable\nrefused Width\nrefused NullKey\nrefused Missing\nrefused Missing\nrefused Nothing\nrefused Nothing\n'
+request=0100000000000000000000000100000000000000000000001354020100743100120001000000000000000105
+prints 'edit insert t1 1 null\npush\nedit update t1 1 t=x\npush\nresend\nanswer 120000000000000007 -\nanswer 132d -\nedit delete t1 1\ndump\n' \
+    "ok\n$request\nok\nrefused InFlight\n$request\nstale 7\nhub refused 45\nok\nreplica 0 version 0 pending 1 flight 1\n"
+
+# Nothing is done or printed where a line can't be read.
+while read -r lines; do
+    begins
+    expect 1 "$lines" '' 'sync: line 2\n' node "$file" 0 t1:10
+    [ ! -e "$file" ] || tell 'made a file' node "$file" 0 t1:10
+done << 'END'
+edit insert t1 1 t=v1\npull\n
+dump\n\ndump\n
+dump\nanswer 1 -\n
+dump\nedit update t1 - t=x
+END
+
+# ---- files whose values were changed
+
+tables='t1:10'
+shell=''
+if need_shell; then
+    shell="$(command -v sqlite3)"
+else
+    echo "node: the sqlite3 shell can't be had; no file was looked at or changed there"
+fi
+
+# shows NAME QUERY WANTED: the shell answers this.
+shows() {
+    local found
+    runs=$((runs + 1))
+    found="$("$shell" -readonly "$file" "$2" 2>&1)"
+    [ "$found" = "$3" ] || tell "$1: the shell shows '$found', not '$3'" node "$file"
+}
+
+# changes SQL..: the file of replica 7 with (1, 'v1') under way and (2, 'x') pending, with these changes.
+changes() {
+    begins
+    cp "$dir/filled" "$file"
+    "$shell" "$file" "$@" > "$dir/shell" 2>&1 || tell "the shell told $(cat "$dir/shell")" node "$file"
+}
+
+# opens_not ID TOLD: the file isn't opened by this id, is told so, and holds what it held.
+opens_not() {
+    local before after
+    before="$("$shell" -readonly "$file" .dump 2>&1)"
+    expect 1 'dump\n' '' "sync: $2\n" node "$file" "$1" $tables
+    after="$("$shell" -readonly "$file" .dump 2>&1)"
+    [ "$after" = "$before" ] || tell 'was refused, and yet written' node "$file" "$1"
+}
+
+# shows_both: the replica shows both rows, and sends the first push, and then the second.
+shows_both() {
+    say_dump 'version 0 pending 1 flight 1' 't1 1 t=v1;t1 2 t=x'
+    say resend "$(push 1 0 $H1$I$K1$V1)"
+}
+
+second="$H1$I$K2$X"
+if [ -n "$shell" ]; then
+    begins
+    say 'edit insert t1 1 t=v1' ok
+    say push "$(push 1 0 $H1$I$K1$V1)"
+    say 'edit insert t1 2 t=x' ok
+    goes
+    "$shell" "$file" 'PRAGMA wal_checkpoint(TRUNCATE)' > "$dir/shell" 2>&1
+    cp "$file" "$dir/filled"
+
+    # What the store of the replica holds; a second run leaves it so, and another id is refused.
+    values='catalog|54020100743100
+flight|0000000000000001540201007431001200010000000000000001'"03027631
+id|00000007
+number|0000000000000001
+version|0000000000000000"
+    holds() {
+        shows "$1" 'SELECT name, lower(hex(body)) FROM meta ORDER BY name' "$values"
+        shows "$1" 'SELECT tab, lower(hex(key)), lower(hex(body)) FROM rows ORDER BY key' "0|$K1|$K1$V1
+0|$K2|$K2$X"
+        shows "$1" 'SELECT tab, lower(hex(key)), lower(hex(body)) FROM pending' "0|$K2|$I$K2$X"
+        shows "$1" 'SELECT count(*) FROM log' 0
+    }
+    holds 'what a replica keeps'
+    shows_both
+    goes
+    holds 'what it keeps behind a second run'
+    opens_not 8 Mismatch
+
+    # Values that can't be read, or that don't fit: a version too short, a number too long, the number of another push, a push under way that
+    # ends early, an id too short, pending changes as a value beside those at their places; an entry of a log; and a pending change at a table
+    # that isn't there, at another key than its own, of a row that isn't there, and of another row.
+    while read -r sql; do
+        changes "$sql"
+        opens_not 7 Damaged
+    done << END
+UPDATE meta SET body = x'00000000000000' WHERE name = 'version'
+UPDATE meta SET body = x'000000000000000100' WHERE name = 'number'
+UPDATE meta SET body = x'0000000000000002' WHERE name = 'number'
+UPDATE meta SET body = x'0000000000000001${H1}${I}${K1}030276' WHERE name = 'flight'
+UPDATE meta SET body = x'000007' WHERE name = 'id'
+INSERT INTO meta VALUES ('pending', x'')
+INSERT INTO log VALUES (0, 7, 1, x'00$H1$I$K1$V1')
+INSERT INTO pending VALUES (1, x'$K3', x'$I$K3$X')
+UPDATE pending SET body = x'$I$K3$X'
+INSERT INTO pending VALUES (0, x'$K3', x'$I$K3$X')
+UPDATE pending SET body = x'$I$K2$Y'
+END
+
+    # The numbers of pushes end.
+    changes "DELETE FROM meta WHERE name = 'flight'" "DELETE FROM pending WHERE key = x'$K2'" \
+        "DELETE FROM rows WHERE key = x'$K2'" "INSERT INTO pending VALUES (0, x'$K1', x'$I$K1$V1')" \
+        "UPDATE meta SET body = x'7fffffffffffffff' WHERE name = 'number'"
+    say push 'refused Spent'
+    say_dump 'version 0 pending 1 flight 0' 't1 1 t=v1'
+    goes
+    "$shell" "$file" "UPDATE meta SET body = x'0000000000000000' WHERE name = 'number'"
+    say push "$(push 1 0 $H1$I$K1$V1)"
+    goes
+
+    # A value of pending changes is moved to their places, and stays so; one of no changes is taken away; one that is no changeset, isn't in
+    # normal form, or leads to no row there or to another is damage; and another's id is told before that.
+    kept() {
+        changes 'DELETE FROM pending' "INSERT INTO meta VALUES ('pending', x'$1')"
+    }
+    kept $second
+    shows_both
+    goes
+    holds 'where a value was moved'
+    shows_both
+    goes
+    kept ''
+    say_dump 'version 0 pending 0 flight 1' 't1 1 t=v1;t1 2 t=x'
+    goes
+    shows 'where a value of no changes was' "SELECT count(*) FROM meta WHERE name = 'pending'" 0
+    for value in 50 $H1 $H1$I$K3$X $H1$I$K2$Y; do
+        kept $value
+        opens_not 7 Damaged
+    done
+    kept $second
+    opens_not 8 Mismatch
+fi
+
+if [ "$failed" -eq 0 ]; then
+    echo "node: $runs runs as they have to be"
+fi
+exit "$failed"
