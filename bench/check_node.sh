@@ -472,13 +472,13 @@ opens_not() {
     [ "$after" = "$before" ] || tell 'was refused, and yet written' node "$file" "$1"
 }
 
-# shows_both: the replica shows both rows, and sends the first push, and then the second.
+# shows_both: the replica shows both rows, and gives the first push again.
 shows_both() {
     say_dump 'version 0 pending 1 flight 1' 't1 1 t=v1;t1 2 t=x'
     say resend "$(push 1 0 $H1$I$K1$V1)"
 }
 
-second="$H1$I$K2$X"
+second=$H1$I$K2$X
 if [ -n "$shell" ]; then
     begins
     say 'edit insert t1 1 t=v1' ok
@@ -489,8 +489,8 @@ if [ -n "$shell" ]; then
     cp "$file" "$dir/filled"
 
     # What the store of the replica holds; a second run leaves it so, and another id is refused.
-    values='catalog|54020100743100
-flight|0000000000000001540201007431001200010000000000000001'"03027631
+    values="catalog|$H1
+flight|0000000000000001$H1$I$K1$V1
 id|00000007
 number|0000000000000001
 version|0000000000000000"
