@@ -231,16 +231,8 @@ fn net_of_is(
 /// The texts of the rows, or none, and their net change: the INSERT of (1, 'v2'), the DELETE of (1, 'v1'), none, and the UPDATE of this
 /// to that.
 const NETS: [(Option<&str>, Option<&str>, &[u8]); 5] = [
-    (
-        None,
-        Some("v2"),
-        b"\x12\0\x01\0\0\0\0\0\0\0\x01\x03\x02v2",
-    ),
-    (
-        Some("v1"),
-        None,
-        b"\x09\0\x01\0\0\0\0\0\0\0\x01\x03\x02v1",
-    ),
+    (None, Some("v2"), b"\x12\0\x01\0\0\0\0\0\0\0\x01\x03\x02v2"),
+    (Some("v1"), None, b"\x09\0\x01\0\0\0\0\0\0\0\x01\x03\x02v1"),
     (None, None, NOTHING),
     (Some("v1"), Some("v1"), NOTHING),
     (

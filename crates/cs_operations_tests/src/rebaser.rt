@@ -206,8 +206,7 @@ const OVER: &[u8] = b"\x01\0\0\0\0\0\0\0\x01=\x01\0\0\0\0\0\0\0\x01\x03\x02v9;\
     \x01\0\0\0\0\0\0\0\x03=\x01\0\0\0\0\0\0\0\x03\x03\x02v2;||||||||||.|.|.|.|.|.||";
 
 /// What is left where the own rows went over the other side's: the UPDATE of (3, 'v9') to 'v2'.
-const OVER_LEFT: &[u8] =
-    b"\x54\x02\x01\0t1\0\x17\0\x01\0\0\0\0\0\0\0\x03\x03\x02v9\0\x03\x02v2";
+const OVER_LEFT: &[u8] = b"\x54\x02\x01\0t1\0\x17\0\x01\0\0\0\0\0\0\0\x03\x03\x02v9\0\x03\x02v2";
 
 /// Answers, what the store shows then, and what is left.
 const MEETINGS: [(Answers, &[u8], &[u8]); 3] = [
