@@ -2,7 +2,6 @@
 
 use cs_digits::*;
 use std::alloc::{AllocError, Global};
-use std::test::Fail;
 
 /// Words as a row of the table tells them.
 #[derive(Clone, Copy)]
@@ -56,7 +55,7 @@ fn sorts(alloc: Global, row: &Words) -> Result<bool, AllocError> {
 // own places, since two have one place and since a place takes more bits than are told; the most words that go digit by digit; and more
 // words of few ranks, each of which comes often, which are dealt into one bucket and into two.
 #[test]
-fn sorts_as_std_does(rt: HostRuntime) -> Result<(), Fail> {
+fn sorts_as_std_does(rt: HostRuntime) {
     let rows = [
         words_of(0, 0, 8, 1),
         words_of(511, 9, 10, 1),
@@ -76,9 +75,8 @@ fn sorts_as_std_does(rt: HostRuntime) -> Result<(), Fail> {
         words_of(250_000, 18, 12, 1),
     ];
     for row in &rows {
-        assert!(rt; sorts(rt.alloc(), row)?);
+        assert!(rt; sorts(rt.alloc(), row) == Ok(true));
     }
-    Ok(())
 }
 
 /// So many words, whose ranks jump about among so many, no rank twice where the step shares no divisor with these. Every second one
@@ -115,42 +113,53 @@ fn sorts_clusters(
     Ok(words == expected)
 }
 
-/// The same of words of one cluster.
-fn sorts_once(alloc: Global, count: usize, ranks: usize, step: usize) -> Result<bool, AllocError> {
-    sorts_clusters(alloc, count, ranks, step, 0)
+/// How many words there are, among how many ranks, in what steps, and how far apart two clusters are.
+type Clusters = (usize, usize, usize, usize);
+
+/// Whether words of each are sorted so.
+fn sort_all(alloc: Global, rows: &[Clusters]) -> Result<bool, AllocError> {
+    let mut all = true;
+    for (count, ranks, step, further) in rows {
+        all = sorts_clusters(alloc, *count, *ranks, *step, *further)? && all;
+    }
+    Ok(all)
 }
 
 // Too few words to note their places, and as many as it takes; no rank left out; as many left out as there are words, and more;
 // words in order already; one rank that comes twice, at the last word; the most words whose places are noted, and one more; and more
 // words, which stand mixed, and which don't.
+const ONCE: [Clusters; 11] = [
+    (63, 64, 7, 0),
+    (64, 64, 7, 0),
+    (10_000, 10_000, 7_919, 0),
+    (1_000, 2_001, 7, 0),
+    (1_000, 2_003, 7, 0),
+    (1_000, 1_000, 1, 0),
+    (1_001, 1_000, 7, 0),
+    (200_000, 200_003, 7_919, 0),
+    (200_001, 200_003, 7_919, 0),
+    (250_000, 300_007, 7_919, 0),
+    (250_000, 300_007, 1, 4),
+];
+
 #[test]
-fn sorts_ranks_that_come_once(rt: HostRuntime) -> Result<(), Fail> {
-    let alloc = rt.alloc();
-    assert!(rt; sorts_once(alloc, 63, 64, 7)?);
-    assert!(rt; sorts_once(alloc, 64, 64, 7)?);
-    assert!(rt; sorts_once(alloc, 10_000, 10_000, 7_919)?);
-    assert!(rt; sorts_once(alloc, 1_000, 2_001, 7)?);
-    assert!(rt; sorts_once(alloc, 1_000, 2_003, 7)?);
-    assert!(rt; sorts_once(alloc, 1_000, 1_000, 1)?);
-    assert!(rt; sorts_once(alloc, 1_001, 1_000, 7)?);
-    assert!(rt; sorts_once(alloc, 200_000, 200_003, 7_919)?);
-    assert!(rt; sorts_once(alloc, 200_001, 200_003, 7_919)?);
-    assert!(rt; sorts_once(alloc, 250_000, 300_007, 7_919)?);
-    assert!(rt; sorts_clusters(alloc, 250_000, 300_007, 1, 4)?);
-    Ok(())
+fn sorts_ranks_that_come_once(rt: HostRuntime) {
+    assert!(rt; sort_all(rt.alloc(), &ONCE) == Ok(true));
 }
 
 // Two clusters near one another; two so far apart that they are sections of their own, of words whose places are noted, and of more
 // words, which are dealt; and so many ranks that more of them than words would be left out, which the first words tell alone, and which
 // the later ones do.
+const APART: [Clusters; 6] = [
+    (10_000, 10_007, 7_919, 20_000),
+    (10_000, 10_007, 7_919, 1 << 30),
+    (100_000, 100_003, 7_919, 1 << 30),
+    (250_000, 250_007, 7_919, 1 << 30),
+    (10_000, 1 << 40, 7_919_000_003, 1 << 41),
+    (10_000, 1 << 40, 2, 1 << 41),
+];
+
 #[test]
-fn sorts_ranks_in_clusters(rt: HostRuntime) -> Result<(), Fail> {
-    let alloc = rt.alloc();
-    assert!(rt; sorts_clusters(alloc, 10_000, 10_007, 7_919, 20_000)?);
-    assert!(rt; sorts_clusters(alloc, 10_000, 10_007, 7_919, 1 << 30)?);
-    assert!(rt; sorts_clusters(alloc, 100_000, 100_003, 7_919, 1 << 30)?);
-    assert!(rt; sorts_clusters(alloc, 250_000, 250_007, 7_919, 1 << 30)?);
-    assert!(rt; sorts_clusters(alloc, 10_000, 1 << 40, 7_919_000_003, 1 << 41)?);
-    assert!(rt; sorts_clusters(alloc, 10_000, 1 << 40, 2, 1 << 41)?);
-    Ok(())
+fn sorts_ranks_in_clusters(rt: HostRuntime) {
+    assert!(rt; sort_all(rt.alloc(), &APART) == Ok(true));
 }

@@ -1,5 +1,6 @@
 //! Changes, groups and changesets beside bytes that were written by hand.
 
+use crate::given::is_joined;
 use cs_change::*;
 use cs_record::{Record, Row, read_record, read_row};
 use cs_value::{Items, Memory, Text};
@@ -64,18 +65,6 @@ fn is_kept_twice(alloc: Global, change: &Change<'_>, bytes: &[u8]) -> Result<boo
     kept.push(change)?;
     kept.push(&change.again())?;
     Ok(kept.len() == 2 && is_joined(kept.spelling(), &[bytes, bytes]))
-}
-
-/// Whether the bytes are these parts, one behind another.
-fn is_joined(bytes: &[u8], parts: &[&[u8]]) -> bool {
-    let mut rest = bytes;
-    for part in parts {
-        match rest.split_at_checked(part.len()) {
-            Some((front, behind)) if front == *part => rest = behind,
-            _ => return false,
-        }
-    }
-    rest.is_empty()
 }
 
 /// Whether the bytes spell a change with this flag, which is kept as these bytes.
@@ -216,21 +205,11 @@ fn update_leaves(alloc: Global) -> Option<bool> {
     )
 }
 
-#[test]
-fn what_an_update_leaves(rt: HostRuntime) {
-    assert!(rt; update_leaves(rt.alloc()).unwrap_or(false));
-}
-
 /// Whether the INSERT leaves its row, and isn't defined where there is one.
 fn insert_leaves(alloc: Global) -> Option<bool> {
     let insert = change_of(&INSERT, 2)?;
     let (row, _) = read_row(&INSERT[2..], 2)?;
     Some(leaves(alloc, &insert, None, &INSERT[2..]) && is_undefined(alloc, &insert, Some(&row)))
-}
-
-#[test]
-fn what_an_insert_leaves(rt: HostRuntime) {
-    assert!(rt; insert_leaves(rt.alloc()).unwrap_or(false));
 }
 
 /// Whether the DELETE leaves no row, and isn't defined on another row, nor where there is none.
@@ -246,7 +225,9 @@ fn delete_leaves(alloc: Global) -> Option<bool> {
 }
 
 #[test]
-fn what_a_delete_leaves(rt: HostRuntime) {
+fn what_a_change_leaves(rt: HostRuntime) {
+    assert!(rt; update_leaves(rt.alloc()).unwrap_or(false));
+    assert!(rt; insert_leaves(rt.alloc()).unwrap_or(false));
     assert!(rt; delete_leaves(rt.alloc()).unwrap_or(false));
 }
 
@@ -295,12 +276,6 @@ fn becomes(alloc: Global, front: &[u8], spelled: &[Spelled<'_>], parts: &[&[u8]]
 /// One INSERT.
 const ONE_GROUP: [Spelled<'static>; 1] = [(&[1, 0], "t1", &[&INSERT])];
 
-#[test]
-fn changesets(rt: HostRuntime) {
-    assert!(rt; becomes(rt.alloc(), &[], &[], &[]));
-    assert!(rt; becomes(rt.alloc(), &[], &ONE_GROUP, &[&FIRST, &INSERT]));
-}
-
 /// Groups of two tables, of which the first comes again under another mark and without changes.
 const GROUPS: [Spelled<'static>; 3] = [
     (&[1, 0], "t1", &[&UPDATE, &INDIRECT_DELETE]),
@@ -321,6 +296,8 @@ const GROUPS_SPELLED: [&[u8]; 7] = [
 
 // The bytes of the marks and groups without changes are kept.
 #[test]
-fn several_groups(rt: HostRuntime) {
+fn changesets(rt: HostRuntime) {
+    assert!(rt; becomes(rt.alloc(), &[], &[], &[]));
+    assert!(rt; becomes(rt.alloc(), &[], &ONE_GROUP, &[&FIRST, &INSERT]));
     assert!(rt; becomes(rt.alloc(), &[0xee], &GROUPS, &GROUPS_SPELLED));
 }

@@ -1,31 +1,20 @@
 //! Bodies of entries beside bytes that were written by hand, and entries.
 
+use crate::given::catalog;
 use cs_log::{Body, BodyFault, LogEntry, put_body, read_body};
-use cs_value::{Catalog, Items, Memory, TableDef, Text};
+use cs_value::Memory;
 use std::alloc::Global;
 
-/// The table `t1` of two columns, of which the first is the key.
-fn tables(alloc: Global) -> Result<Vec<TableDef>, Memory> {
-    let mut tables = Vec::new(alloc);
-    tables.push(TableDef {
-        name: Text::from_string(String::from_str(alloc, "t1")?),
-        key_marks: Items::from_vec(vec![in alloc; true, false]?),
-    })?;
-    Ok(tables)
-}
-
-/// What the bytes are read as, by the catalog of that table.
+/// What the bytes are read as, by the catalog.
 fn body(alloc: Global, bytes: &[u8]) -> Result<Body, BodyFault> {
-    match Catalog::new(tables(alloc)?) {
-        Ok(catalog) => read_body(alloc, &catalog, bytes),
-        Err(_) => Err(BodyFault::Memory),
+    match catalog(alloc) {
+        Some(catalog) => read_body(alloc, &catalog, bytes),
+        None => Err(BodyFault::Memory),
     }
 }
 
 /// The body that inserts a row with the key 1 and the text `v1` into `t1`, as it is stored.
-const INSERT: [u8; 23] = [
-    0, 0x54, 2, 1, 0, 0x74, 0x31, 0, 0x12, 0, 1, 0, 0, 0, 0, 0, 0, 0, 1, 3, 2, 0x76, 0x31,
-];
+const INSERT: &[u8] = b"\0\x54\x02\x01\0t1\0\x12\0\x01\0\0\0\0\0\0\0\x01\x03\x02v1";
 
 /// Whether the bytes are read as a body that is stored as these bytes.
 fn stays(alloc: Global, bytes: &[u8]) -> Result<bool, BodyFault> {
@@ -35,36 +24,35 @@ fn stays(alloc: Global, bytes: &[u8]) -> Result<bool, BodyFault> {
     Ok(stored.as_slice() == bytes)
 }
 
-#[test]
-fn a_body_is_read_and_stored(rt: HostRuntime) {
-    assert!(rt; stays(rt.alloc(), &INSERT).unwrap_or(false));
-}
+/// A body with changes, and one without.
+const BODIES: [&[u8]; 2] = [INSERT, b"\0"];
 
 #[test]
-fn a_body_without_changes(rt: HostRuntime) {
-    assert!(rt; stays(rt.alloc(), &[0]).unwrap_or(false));
+fn bodies_are_read_and_stored(rt: HostRuntime) {
+    for bytes in BODIES {
+        assert!(rt; stays(rt.alloc(), bytes).unwrap_or(false));
+    }
 }
 
-/// Whether the bytes are refused as no body of `t1`.
+/// Whether the bytes are refused as no body.
 fn is_refused(alloc: Global, bytes: &[u8]) -> bool {
     matches!(body(alloc, bytes), Err(BodyFault::NoBody))
 }
 
+/// No byte, another kind, another table, a key column's mark that is 2 in place of the normal form's 1, and one byte too few.
+const NO_BODIES: [&[u8]; 5] = [
+    b"",
+    b"\x01\x54\x02\x01\0t1\0\x12\0\x01\0\0\0\0\0\0\0\x01\x03\x02v1",
+    b"\0\x54\x02\x01\0t9\0\x12\0\x01\0\0\0\0\0\0\0\x01\x03\x02v1",
+    b"\0\x54\x02\x02\0t1\0\x12\0\x01\0\0\0\0\0\0\0\x01\x03\x02v1",
+    b"\0\x54\x02\x01\0t1\0\x12\0\x01\0\0\0\0\0\0\0\x01\x03\x02v",
+];
+
 #[test]
 fn refused_bodies(rt: HostRuntime) {
-    let alloc = rt.alloc();
-    let mut other_kind = INSERT;
-    other_kind[0] = 1;
-    let mut other_table = INSERT;
-    other_table[6] = 0x32;
-    // A key column's mark is 1 in a normal form.
-    let mut other_mark = INSERT;
-    other_mark[3] = 2;
-    assert!(rt; is_refused(alloc, &[]));
-    assert!(rt; is_refused(alloc, &other_kind));
-    assert!(rt; is_refused(alloc, &other_table));
-    assert!(rt; is_refused(alloc, &other_mark));
-    assert!(rt; is_refused(alloc, &INSERT[..22]));
+    for bytes in NO_BODIES {
+        assert!(rt; is_refused(rt.alloc(), bytes));
+    }
 }
 
 /// The entry with this body.
@@ -81,15 +69,15 @@ fn is_itself(alloc: Global, entry: &LogEntry, other: &LogEntry) -> Result<bool, 
     Ok(entry.same(&entry.copy(alloc)?) && !entry.same(other))
 }
 
+/// Whether it is so of an entry with changes and one without.
+fn are_themselves(alloc: Global) -> Result<bool, BodyFault> {
+    let inserting = entry(alloc, INSERT)?;
+    let empty = entry(alloc, b"\0")?;
+    let is_changes = matches!(inserting.body, Body::Changes(_));
+    Ok(is_changes && is_itself(alloc, &inserting, &empty)?)
+}
+
 #[test]
 fn entries_are_copied_and_compared(rt: HostRuntime) {
-    let alloc = rt.alloc();
-    let Ok(inserting) = entry(alloc, &INSERT) else {
-        panic!(rt; "the body is none");
-    };
-    let Ok(empty) = entry(alloc, &[0]) else {
-        panic!(rt; "the body is none");
-    };
-    assert!(rt; is_itself(alloc, &inserting, &empty).unwrap_or(false));
-    assert!(rt; matches!(inserting.body, Body::Changes(_)));
+    assert!(rt; are_themselves(rt.alloc()).unwrap_or(false));
 }

@@ -1,20 +1,19 @@
 //! Tests of changes, by public calls: as values (`cs_change`), the readers of changesets and blobs (`cs_changeset`, `cs_blob`), normal forms
-//! (`cs_keyed`, `cs_normal`, `cs_normalising`), their columns beside SQLite's (`cs_column_bytes`), and entries of a log (`cs_log`).
+//! (`cs_keyed`, `cs_normal`, `cs_normalising`), their columns beside SQLite's (`cs_column_bytes`), and entries of a log (`cs_log`). What is
+//! read of bytes and each of their faults, and what a normal form is, are rows of `bench/check_tools.sh`.
 #![tactic(auto)]
 
 #[cfg(test)]
-mod blob;
-#[cfg(test)]
 mod change;
-#[cfg(test)]
-mod changeset;
 #[cfg(test)]
 mod column_bytes;
 #[cfg(test)]
-mod formats;
+mod given;
 #[cfg(test)]
 mod log;
 #[cfg(test)]
 mod normal;
+#[cfg(test)]
+mod reading;
 
 fn main() {}

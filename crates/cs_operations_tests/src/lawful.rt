@@ -8,8 +8,8 @@ ghost use Rattle.cs_conflict.specs.declared.conflict.Resolution.TheVariants.{Abo
 ghost use Rattle.cs_normal.specs.Normal.{FitsCatalog};
 ghost use Rattle.cs_normal.specs.State.{State, IsApplied};
 ghost use Rattle.cs_rebaser.specs.DiamondOfTables.{AnswersLawfully, local_beside};
-ghost use Rattle.cs_rebaser_tests.specs.Answers.{by_kind, by_row, over};
-ghost use Rattle.cs_rebaser_tests.specs.Closes.{Closes};
+ghost use Rattle.cs_operations_tests.specs.Answers.{by_kind, by_row, over};
+ghost use Rattle.cs_operations_tests.specs.Closes.{Closes};
 
 use cs_apply::{Applied, ApplyFault, apply};
 use cs_change::Change;

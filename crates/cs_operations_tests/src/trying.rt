@@ -8,7 +8,7 @@ ghost use Rattle.cs_normal.specs.Normal.{FitsCatalog};
 ghost use Rattle.cs_normal.specs.State.{State};
 ghost use Rattle.cs_apply.specs.Laws.{AlwaysAborts};
 ghost use Rattle.cs_store.specs.States.{Holds};
-ghost use Rattle.cs_apply_tests.specs.Tried.{IsMade, IsNotMade};
+ghost use Rattle.cs_operations_tests.specs.Tried.{IsMade, IsNotMade};
 
 use cs_apply::{Applied, ApplyFault, apply};
 use cs_conflict::{Conflict, Resolution};

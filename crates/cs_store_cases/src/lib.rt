@@ -17,6 +17,7 @@ pub use commits::{
 pub use held::{HELD, Held, is_found, is_whole};
 pub use images::{image, image_of, shows};
 pub use parts::{
-    Edit, Entry, Named, Spelled, batch, commit_of, entry_of, nothing, put_edits, put_named,
+    Edit, Entry, Named, Spelled, are_edits, batch, commit_of, entry_of, nothing, put_edits,
+    put_named,
 };
 pub use table::catalog;

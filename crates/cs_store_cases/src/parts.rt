@@ -1,6 +1,6 @@
 //! Batches that are made of parts.
 
-use cs_edits::{PlaceEdit, PlaceEdits};
+use cs_edits::{LentEdits, PlaceEdit, PlaceEdits};
 use cs_store::{Batch, MetaEdit, MetaName, RowStore, StoreFault, StoredEntry};
 use std::alloc::{AllocError, Global};
 
@@ -34,6 +34,23 @@ pub fn put_edits(edits: &[Edit<'_>], made: &mut PlaceEdits) -> Result<(), AllocE
         made.push(&PlaceEdit::new(edit.0, edit.1, edit.2))?;
     }
     Ok(())
+}
+
+fn is_edit(edit: &PlaceEdit<'_>, spelled: &Edit<'_>) -> bool {
+    edit.table() == spelled.0 && edit.key() == spelled.1 && edit.body() == spelled.2
+}
+
+/// Whether these are the edits that are lent.
+pub fn are_edits(lent: &LentEdits<'_>, spelled: &[Edit<'_>]) -> bool {
+    if lent.len() != spelled.len() {
+        return false;
+    }
+    for at in 0..spelled.len() {
+        if !is_edit(&lent.get(at), &spelled[at]) {
+            return false;
+        }
+    }
+    true
 }
 
 /// Puts edits of values behind those that are there.

@@ -227,23 +227,6 @@ fn a_row_is_put_in_place_of_what_is_there(rt: HostRuntime) {
     assert!(rt; puts_each_through(rt.alloc(), 6) == Err(StoreFault::Device));
 }
 
-fn is_edit(edit: &PlaceEdit<'_>, spelled: &Edit<'_>) -> bool {
-    edit.table() == spelled.0 && edit.key() == spelled.1 && edit.body() == spelled.2
-}
-
-/// Whether these are the edits that are lent.
-fn are_edits(lent: &LentEdits<'_>, spelled: &[Edit<'_>]) -> bool {
-    if lent.len() != spelled.len() {
-        return false;
-    }
-    for at in 0..spelled.len() {
-        if !is_edit(&lent.get(at), &spelled[at]) {
-            return false;
-        }
-    }
-    true
-}
-
 /// Whether these are the edits that were put, and some of them come back too: a body of no byte is another one than none.
 fn are_next_rows(made: &LentEdits<'_>) -> bool {
     made.len() >= 4 && are_edits(made, &NEXT_ROWS) && are_edits(&made.part(1, 4), &NEXT_ROWS[1..4])
