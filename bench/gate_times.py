@@ -39,7 +39,7 @@ def processes():
 
 def piece(number, words):
     """The crate and the kind of what these words do, if they are the toolchain's."""
-    if "--crate-name" not in words:
+    if os.path.basename(words[0]) != "rattle" or "--crate-name" not in words:
         return None
     crate = words[words.index("--crate-name") + 1]
     try:
@@ -52,10 +52,12 @@ def piece(number, words):
 
 
 def piece_of(number, all_of):
-    """The same of a process or of the nearest one that it was started by."""
+    """The same of a process or of the nearest one that it was started by, where all that was started by the gate."""
+    found = None
     while number in all_of:
-        found = piece(number, all_of[number][3])
-        if found:
+        words = all_of[number][3]
+        found = found or piece(number, words)
+        if found and "ci" in words and any(os.path.basename(it) == "rt" for it in words):
             return found
         number = all_of[number][0]
     return None

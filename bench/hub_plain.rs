@@ -6,7 +6,7 @@
 use std::collections::BTreeMap;
 use std::io::{self, BufRead, BufReader, BufWriter, Write};
 
-const MAX_ENTRIES: usize = 4096;
+const MAX_ENTRIES: usize = 1_048_576;
 
 const BAD_HEX: u8 = 22;
 const TRUNCATED: u8 = 2;

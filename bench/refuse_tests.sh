@@ -6,7 +6,7 @@
 # and pulls, that of books asks two a push and a pull, that of worlds makes one and lets things happen in it, and that of scripts plays one. Where
 # that is refused, the test looks whether everything is as it was, and makes the same call again. Each run has to pass.
 # Usage: bench/refuse_tests.sh store|apply|rebaser|pending|pulling|replica|log_store|spine|nodes|books|world|script [built]
-# With `built` the program of its tests is there, as `rt test` leaves it (crates/cs_store_tests/out/cs_store_tests_tests and so on);
+# With `built` the program of its tests is there, as `rt test` leaves it (crates/cs_stores_tests/out/cs_stores_tests_tests and so on);
 # else it is proved and built.
 set -eu
 bench="$(cd "$(dirname "$0")" && pwd)"
@@ -15,21 +15,19 @@ built="${2:-}"
 . "$bench/common.sh"
 # So many allocations at least: the store's test makes batches of 260 rows and a commit copies each key, that of `apply` four
 # changes, and the rebaser's reads and rebases three.
-crate="cs_${tested}_tests"
-module=tests
 case "$tested" in
-    store) least=400 ;;
-    apply) least=30 ;;
-    rebaser) least=30 ;;
-    pending) least=30 ;;
-    pulling) least=200; module=failing ;;
-    replica) least=100; module=memory ;;
-    log_store) least=100; module=memory ;;
-    spine) least=40; module=memory ;;
-    nodes) least=100; module=memory ;;
-    books) least=50; crate=cs_spine_tests; module=books_memory ;;
-    world) least=300; module=memory ;;
-    script) least=200; module=memory ;;
+    store) crate=cs_stores_tests; module=store; least=400 ;;
+    pending) crate=cs_stores_tests; module=pending; least=30 ;;
+    apply) crate=cs_operations_tests; module=apply; least=30 ;;
+    rebaser) crate=cs_operations_tests; module=rebaser; least=30 ;;
+    replica) crate=cs_replica_tests; module=memory; least=100 ;;
+    pulling) crate=cs_replica_tests; module=pulling::failing; least=200 ;;
+    log_store) crate=cs_world_tests; module=log::memory; least=100 ;;
+    world) crate=cs_world_tests; module=world::memory; least=300 ;;
+    script) crate=cs_world_tests; module=script::memory; least=200 ;;
+    spine) crate=cs_spine_tests; module=memory; least=40 ;;
+    books) crate=cs_spine_tests; module=books_memory; least=50 ;;
+    nodes) crate=cs_nodes_tests; module=memory; least=100 ;;
     *) echo "no such test of $tested" >&2; exit 1 ;;
 esac
 command -v cc > /dev/null || { echo "no allocation refused: there is no C compiler here"; exit 0; }

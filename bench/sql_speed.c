@@ -1,8 +1,8 @@
 /* Times the statements of a store in SQLite by Debian's library: what `bench/sql_speed.sh` holds the store to.
- * Usage: sql_speed WAL|DELETE|fill|read PATH
+ * Usage: sql_speed WAL|DELETE|fill|read|sum PATH
  * With a journal mode: 10,000 commits of a row and a pending change, 10,000 of a row and an entry of a log, each in a transaction that is
- * synced, and 10,000 reads of a row. `fill` makes the store of a replica with 1,000,000 rows, and `read` reads these. A line is what was
- * timed, and the nanoseconds that one took. */
+ * synced, and 10,000 reads of a row. `fill` makes the store of a replica with 1,000,000 rows, and `read` reads these; `sum` reads the
+ * rows and the log of any store. A line is what was timed, and the nanoseconds that one took. */
 #include <sqlite3.h>
 #include <stdint.h>
 #include <stdio.h>
@@ -149,6 +149,22 @@ static void read_all(void) {
     printf("read %lld\n", (long long)(now() - start));
 }
 
+static int64_t bytes_of(const char *sql, int64_t *rows) {
+    int64_t bytes = 0;
+    sqlite3_stmt *all = prepared(sql);
+    for (; sqlite3_step(all) == SQLITE_ROW; ++*rows)
+        for (int column = 0; column < sqlite3_column_count(all); column++) bytes += sqlite3_column_bytes(all, column);
+    sqlite3_finalize(all);
+    return bytes;
+}
+
+static void sum_all(void) {
+    int64_t start = now(), rows = 0;
+    int64_t bytes = bytes_of("SELECT key, body FROM rows", &rows) + bytes_of("SELECT body FROM log ORDER BY version", &rows);
+    int64_t took = now() - start;
+    printf("C reads %lld rows and entries of %lld bytes: %lld ms\n", (long long)rows, (long long)bytes, (long long)(took / 1000000));
+}
+
 int main(int count, char **words) {
     if (count != 3) return 2;
     need(sqlite3_open(words[2], &db), SQLITE_OK);
@@ -156,6 +172,8 @@ int main(int count, char **words) {
         fill();
     } else if (!strcmp(words[1], "read")) {
         read_all();
+    } else if (!strcmp(words[1], "sum")) {
+        sum_all();
     } else {
         char mode[64];
         snprintf(mode, sizeof mode, "PRAGMA journal_mode = %s", words[1]);

@@ -7,7 +7,7 @@ import time
 
 REPLICAS = 10
 ROWS = 1000
-# A hub's log has at most 4,096 entries, so there is a push in each so many events.
+# So many pushes at most are spread over the events.
 PUSHES = 4000
 
 

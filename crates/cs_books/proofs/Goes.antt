@@ -15,7 +15,7 @@ use Rattle.cs_spine.specs.Known.{Known}
 use Rattle.cs_hub.specs.Follows.{FitsBehind}
 use Rattle.cs_hub.specs.Holding.{Holding, Shows, ShowsSome}
 use Rattle.cs_hub.specs.Judges.{ReadsHub}
-use Rattle.cs_hub.specs.declared.hub.TheConstants.{MAX_ENTRIES}
+use Rattle.cs_log.specs.declared.entry.TheConstants.{MAX_ENTRIES}
 use Rattle.cs_books.specs.Answers.{HasTaken, IsStuckAt}
 use Rattle.cs_books.specs.Books.{BookState, IsBook, IsLater}
 

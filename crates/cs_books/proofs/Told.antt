@@ -15,7 +15,7 @@ use Rattle.cs_hub.specs.declared.follow_fault.FollowFault.TheVariants.{Device, U
 use Rattle.cs_hub.specs.declared.judged.Judged.{Judged}
 use Rattle.cs_hub.specs.declared.judged.Judged.TheVariants.{Reply, Append}
 use Rattle.cs_books.specs.Answers.{AnswersAll, AnswersOn, HasTaken, IsStuckAt, device_answer, stuck_answer}
-use Rattle.cs_hub.specs.declared.hub.TheConstants.{MAX_ENTRIES}
+use Rattle.cs_log.specs.declared.entry.TheConstants.{MAX_ENTRIES}
 use Rattle.cs_wire.specs.Answers.{answer_spelling}
 use Rattle.cs_wire.specs.declared.answer.Answer.TheVariants.{Short}
 use Rattle.cs_wire.specs.declared.short_answer.ShortAnswer.TheVariants.{Stale}

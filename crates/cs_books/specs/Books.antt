@@ -5,7 +5,7 @@ use Rattle.cs_log_store.specs.Shows.{ShowsLog}
 use Rattle.cs_spine.specs.Known.{Known, SpineCells}
 use Rattle.cs_following.specs.Standing.{Begins}
 use Rattle.cs_hub.specs.Holding.{Holding, Shows}
-use Rattle.cs_hub.specs.declared.hub.TheConstants.{MAX_ENTRIES}
+use Rattle.cs_log.specs.declared.entry.TheConstants.{MAX_ENTRIES}
 
 -- the row of cells, the hub, and the pass
 pub record BookState (S : Type 0) : Type 0 where

@@ -27,7 +27,7 @@ use Rattle.cs_hub.specs.Refusals.{refusal_of_codec, refusal_of_hub, refusal_of_u
 use Rattle.cs_hub.specs.Serves.{Outcome, TakesBytes, or_refusal}
 use Rattle.cs_hub.specs.PushedOf.{IsPushedOf}
 use Rattle.cs_hub.specs.Steps.{IsTakenOf, TakesBytesIf}
-use Rattle.cs_hub.specs.declared.hub.TheConstants.{MAX_ENTRIES}
+use Rattle.cs_log.specs.declared.entry.TheConstants.{MAX_ENTRIES}
 use Rattle.cs_hub.specs.declared.refusal.Refusal.{Refusal}
 use Rattle.cs_hub.specs.declared.refusal.Refusal.TheVariants.{ByHub}
 
@@ -50,42 +50,42 @@ within version base count is below = let e : base + 1 ≡ version = (let f = is 
 none_above : (told other : Result Pushed HubFault) (count : ℕ) → told ≡ other → ((version : ℕ) → other ≡ Ok (pushed.Accepted version) → version ≤ count) → (version : ℕ) → told ≡ Ok (pushed.Accepted version) → version ≤ count
 none_above told other count is from version accepted = from version (sym is ∙ accepted)
 
-pub pushes_count : (opening : List TableDef) (log next : List LogEntry) (push : Push) (told : Result Pushed HubFault) (count after : ℕ) → count ≡ length log → Counts count told after
+pub pushes_count : (most : MAX_ENTRIES ≡ 1048576) (opening : List TableDef) (log next : List LogEntry) (push : Push) (told : Result Pushed HubFault) (count after : ℕ) → count ≡ length log → Counts count told after
     → Pushes MAX_ENTRIES (hub_of opening log) push told (hub_of opening next) → after ≡ length next
-pushes_count opening log next push told count after is counts (inl (g, (a, s))) =
+pushes_count most opening log next push told count after is counts (inl (g, (a, s))) =
     counts.same (none_above told (Err hub.Empty) count a (λ v e. absurd (let f = e in cc))) ∙ is ∙ sym (same_log opening log next s)
-pushes_count opening log next push told count after is counts (inr (g, inl (h, (a, s)))) =
+pushes_count most opening log next push told count after is counts (inr (g, inl (h, (a, s)))) =
     counts.same (none_above told (Err hub.Ahead) count a (λ v e. absurd (let f = e in cc))) ∙ is ∙ sym (same_log opening log next s)
-pushes_count opening log next push told count after is counts (inr (g, inr (h, inl (i, (a, s))))) =
+pushes_count most opening log next push told count after is counts (inr (g, inr (h, inl (i, (a, s))))) =
     let below : push.head.base < count = rw is (slice_get_within log push.head.base (entry_of_push push) i) in
     counts.same (none_above told (Ok (pushed.Accepted (push.head.base + 1))) count a (λ v e. within v push.head.base count e below)) ∙ is ∙ sym (same_log opening log next s)
-pushes_count opening log next push told count after is counts (inr (g, inr (h, inr (i, inl (j, (a, s)))))) =
+pushes_count most opening log next push told count after is counts (inr (g, inr (h, inr (i, inl (j, (a, s)))))) =
     counts.same (none_above told (Ok (pushed.Stale (length log))) count a (λ v e. absurd (let f = e in cc))) ∙ is ∙ sym (same_log opening log next s)
-pushes_count opening log next push told count after is counts (inr (g, inr (h, inr (i, inr (j, inl (k, (a, s))))))) =
+pushes_count most opening log next push told count after is counts (inr (g, inr (h, inr (i, inr (j, inl (k, (a, s))))))) =
     counts.same (none_above told (Err hub.Full) count a (λ v e. absurd (let f = e in cc))) ∙ is ∙ sym (same_log opening log next s)
-pushes_count opening log next push told count after is counts (inr (g, inr (h, inr (i, inr (j, inr (k, inl (l, (a, s)))))))) =
+pushes_count most opening log next push told count after is counts (inr (g, inr (h, inr (i, inr (j, inr (k, inl (l, (a, s)))))))) =
     let grown : length next ≡ length (log ++ entry_of_push push ∷ []) = ap (λ (h : HubState). length h.log) s in
-    let few : length log < 4096 = omega (arith, k) in
+    let few : length log < 1048576 = omega (arith, k, most) in
     counts.more (push.head.base + 1) a (omega (arith, j, is)) (omega (arith, few, is)) ∙ omega (arith, grown, length-append log (entry_of_push push ∷ []), is)
-pushes_count opening log next push told count after is counts (inr (g, inr (h, inr (i, inr (j, inr (k, inr (l, ((conflict, first, a), s)))))))) =
+pushes_count most opening log next push told count after is counts (inr (g, inr (h, inr (i, inr (j, inr (k, inr (l, ((conflict, first, a), s)))))))) =
     counts.same (none_above told (Err (hub.Conflict conflict)) count a (λ v e. absurd (let f = e in cc))) ∙ is ∙ sym (same_log opening log next s)
 
-pub pushes_if_count : (opening : List TableDef) (log next : List LogEntry) (push : Push) (told : Result Pushed HubFault) (count after : ℕ) → count ≡ length log → Counts count told after
+pub pushes_if_count : (most : MAX_ENTRIES ≡ 1048576) (opening : List TableDef) (log next : List LogEntry) (push : Push) (told : Result Pushed HubFault) (count after : ℕ) → count ≡ length log → Counts count told after
     → PushesIf MAX_ENTRIES (hub_of opening log) push told (hub_of opening next) → after ≡ length next
-pushes_if_count opening log next push (Err hub.Memory) count after is counts s = counts.same (λ v e. absurd (let f = e in cc)) ∙ is ∙ sym (same_log opening log next s)
-pushes_if_count opening log next push (Err hub.Device) count after is counts s = counts.same (λ v e. absurd (let f = e in cc)) ∙ is ∙ sym (same_log opening log next s)
-pushes_if_count opening log next push (Err hub.Ahead) count after is counts p = pushes_count opening log next push (Err hub.Ahead) count after is counts p
-pushes_if_count opening log next push (Err hub.Empty) count after is counts p = pushes_count opening log next push (Err hub.Empty) count after is counts p
-pushes_if_count opening log next push (Err hub.Full) count after is counts p = pushes_count opening log next push (Err hub.Full) count after is counts p
-pushes_if_count opening log next push (Err (hub.Conflict conflict)) count after is counts p = pushes_count opening log next push (Err (hub.Conflict conflict)) count after is counts p
-pushes_if_count opening log next push (Ok told) count after is counts p = pushes_count opening log next push (Ok told) count after is counts p
+pushes_if_count most opening log next push (Err hub.Memory) count after is counts s = counts.same (λ v e. absurd (let f = e in cc)) ∙ is ∙ sym (same_log opening log next s)
+pushes_if_count most opening log next push (Err hub.Device) count after is counts s = counts.same (λ v e. absurd (let f = e in cc)) ∙ is ∙ sym (same_log opening log next s)
+pushes_if_count most opening log next push (Err hub.Ahead) count after is counts p = pushes_count most opening log next push (Err hub.Ahead) count after is counts p
+pushes_if_count most opening log next push (Err hub.Empty) count after is counts p = pushes_count most opening log next push (Err hub.Empty) count after is counts p
+pushes_if_count most opening log next push (Err hub.Full) count after is counts p = pushes_count most opening log next push (Err hub.Full) count after is counts p
+pushes_if_count most opening log next push (Err (hub.Conflict conflict)) count after is counts p = pushes_count most opening log next push (Err (hub.Conflict conflict)) count after is counts p
+pushes_if_count most opening log next push (Ok told) count after is counts p = pushes_count most opening log next push (Ok told) count after is counts p
 
 -- a push that was judged, counted
-pub counted : (opening : List TableDef) (log : List LogEntry) (push : Push) (old new : Contents) (told : Result Pushed HubFault) (count after : ℕ) → ShowsLog opening old log → count ≡ length log → Counts count told after
+pub counted : (most : MAX_ENTRIES ≡ 1048576) (opening : List TableDef) (log : List LogEntry) (push : Push) (old new : Contents) (told : Result Pushed HubFault) (count after : ℕ) → ShowsLog opening old log → count ≡ length log → Counts count told after
     → (ShowsLogOf opening count old → IsPushedIn MAX_ENTRIES opening push old new told) → IsPushedOf MAX_ENTRIES opening log push new after told
-counted opening log push old new told count after shows is counts answered =
+counted most opening log push old new told count after shows is counts answered =
     let judged = answered (log, shows, is) log shows in
-    (judged.0, judged.1, (judged.2, pushes_if_count opening log judged.0 push told count after is counts judged.1))
+    (judged.0, judged.1, (judged.2, pushes_if_count most opening log judged.0 push told count after is counts judged.1))
 
 -- ---- from the bytes on
 

@@ -8,7 +8,7 @@ use Rattle.cs_judging.specs.cs_appending.AppendFault.{AppendFault}
 use Rattle.cs_judging.specs.cs_appending.AppendFault.TheVariants as append
 use Rattle.cs_hub.specs.declared.follow_fault.FollowFault.{FollowFault}
 use Rattle.cs_hub.specs.declared.follow_fault.FollowFault.TheVariants.{Memory, Full, Undefined, Device}
-use Rattle.cs_hub.specs.declared.hub.TheConstants.{MAX_ENTRIES}
+use Rattle.cs_log.specs.declared.entry.TheConstants.{MAX_ENTRIES}
 
 -- it fits behind a log: it is one of the tables, no larger than one may be, and each of its changes is defined on the tables there
 abbrev pub FitsBehind : List TableDef → List LogEntry → LogEntry → Type 0

@@ -4,7 +4,7 @@ ghost use Rattle.std.specs.Prelude.{◌≡◌, ◌↔◌, ◌+◌, ◌<◌, ◌�
 ghost use Rattle.cs_judging.specs.cs_appending.Appended.{AppendsEntry, IsAppendedIn};
 ghost use Rattle.cs_log.specs.Log.{state_of};
 ghost use Rattle.cs_log.specs.declared.entry.LogEntry.{LogEntry as Entry};
-ghost use Rattle.cs_log.specs.declared.entry.TheConstants.{MAX_CHANGESET};
+ghost use Rattle.cs_log.specs.declared.entry.TheConstants.{MAX_CHANGESET, MAX_ENTRIES};
 ghost use Rattle.cs_log_opening.specs.Opens.{IsHubAt, IsHubFault};
 ghost use Rattle.cs_log_store.specs.Shows.{ShowsLog};
 ghost use Rattle.cs_normal.specs.Normal.{FitsCatalog, normal_spelling};
@@ -36,7 +36,7 @@ use crate::serving::{pull_at, push_told, refuse};
 use crate::taking::push_counted;
 use cs_judging::below::{append, append_tried, entries_at};
 use cs_judging::{HubFault, Pushed};
-use cs_log::LogEntry;
+use cs_log::{LogEntry, MAX_ENTRIES};
 use cs_log_opening::below::OpenFault;
 use cs_log_opening::open_log;
 use cs_normal::Normal;
@@ -46,9 +46,6 @@ use cs_value::{Catalog, Memory, TableDef};
 use cs_wire::{PushHead, Request};
 use std::alloc::Global;
 use std::marker::Model;
-
-/// The most entries of the log. (Profile of this project.)
-pub const MAX_ENTRIES: u32 = 4096;
 
 /// An append-only log of accepted pushes, and the rows that it makes, in a store. Contracts see it as what it holds: the store, the
 /// tables that it opened with, and how many entries the log has. What they say of the log they say where the store shows one. (Profile

@@ -2,7 +2,7 @@
 
 ghost use Rattle.std.specs.Prelude.{◌≡◌};
 ghost use Rattle.cs_hub.specs.Laws.{OneHubRun, OneService, OpenedShows, RequestHasAnswer, RunsByLog, ServedAgain, StaleBehindAnother};
-ghost use Rattle.cs_hub.specs.declared.hub.TheConstants.{MAX_ENTRIES};
+ghost use Rattle.cs_log.specs.declared.entry.TheConstants.{MAX_ENTRIES};
 
 use crate::hub::Hub;
 use cs_changeset::laws::changesets;
@@ -10,11 +10,6 @@ use cs_judging::laws::{one_answer, push_has_answer};
 use cs_normalising::laws::{form_or_unfit, no_fault_where_fit, one_normal_form, one_unfit};
 use cs_store::RowStore;
 use cs_wire::laws::{asks_something, one_request};
-
-/// How many entries a hub's log may have.
-pub fn most_entries()
-    ensures { MAX_ENTRIES ≡ 4096 }
-{}
 
 /// What is opened shows the log that the store showed, or none where it held nothing.
 pub fn opened_shows()

@@ -17,5 +17,5 @@ mod serving;
 mod taking;
 
 pub use follow_fault::FollowFault;
-pub use hub::{Hub, MAX_ENTRIES};
+pub use hub::Hub;
 pub use judged::Judged;

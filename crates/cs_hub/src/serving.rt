@@ -2,7 +2,7 @@
 
 ghost use Rattle.std.specs.Prelude.{◌≡◌, ◌≤◌, List, Ok, IfOk, OnErr, length};
 ghost use Rattle.cs_log.specs.declared.entry.LogEntry.{LogEntry as Entry};
-ghost use Rattle.cs_log.specs.declared.entry.TheConstants.{MAX_CHANGESET};
+ghost use Rattle.cs_log.specs.declared.entry.TheConstants.{MAX_CHANGESET, MAX_ENTRIES};
 ghost use Rattle.cs_log_store.specs.Shows.{ShowsLog};
 ghost use Rattle.cs_store.specs.Calls.{MoreFailures};
 ghost use Rattle.cs_judging.specs.Judged.{ShowsLogOf};
@@ -11,7 +11,6 @@ ghost use Rattle.cs_hub.specs.Calls.{ServesStore};
 ghost use Rattle.cs_hub.specs.Serves.{refused};
 ghost use Rattle.cs_hub.specs.Steps.{IsAnsweredOf, LooksAt, TellsOutcome};
 
-use crate::hub::MAX_ENTRIES;
 use crate::refusal::Refusal;
 use crate::taking::take_at;
 use cs_judging::below::entries_told;

@@ -2,7 +2,7 @@
 
 ghost use Rattle.std.specs.Prelude.{◌≡◌, ◌+◌, ◌-◌, ◌^◌, ◌<◌, ◌≤◌, ℕ, List, Ok, OnErr, length};
 ghost use Rattle.cs_log.specs.declared.entry.LogEntry.{LogEntry as Entry};
-ghost use Rattle.cs_log.specs.declared.entry.TheConstants.{MAX_CHANGESET};
+ghost use Rattle.cs_log.specs.declared.entry.TheConstants.{MAX_CHANGESET, MAX_ENTRIES};
 ghost use Rattle.cs_log_store.specs.Shows.{ShowsLog};
 ghost use Rattle.cs_normal.specs.Normal.{FitsCatalog, normal_spelling};
 ghost use Rattle.cs_pending.specs.Calls.{WritesStore};
@@ -16,10 +16,10 @@ ghost use Rattle.cs_hub.specs.PushedOf.{IsPushedOf};
 ghost use Rattle.cs_hub.specs.Steps.{IsTakenOf};
 ghost use Rattle.cs_hub.specs.declared.refusal.Refusal.TheVariants.{ByHub};
 
-use crate::hub::MAX_ENTRIES;
 use crate::refusal::Refusal;
 use cs_changeset::read;
 use cs_judging::{HubFault, Pushed, push_at};
+use cs_log::MAX_ENTRIES;
 use cs_normal::Normal;
 use cs_normalising::normalise;
 use cs_store::RowStore;
@@ -62,6 +62,7 @@ pub(crate) fn push_counted<S: RowStore>(
         → IsPushedOf MAX_ENTRIES catalog.now log (record { head = head; changes = changes }) (S.contents store.new) newest.new result }
     ensures kept { OnErr result (newest.new ≡ newest.old) }
 {
+    cs_log::laws::most_entries();
     let told = push_at(alloc, store, catalog, *newest, MAX_ENTRIES, head, changes);
     *newest = count_after(*newest, &told);
     told

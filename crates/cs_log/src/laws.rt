@@ -2,7 +2,7 @@
 
 ghost use Rattle.std.specs.Prelude.{◌≡◌};
 ghost use Rattle.cs_log.specs.Laws.{AppendedIsLog, DefinedOrNot, EmptyIsLog, FrontIsLog, LogIsApplied, LogStates, LongerLog, NextOrNot, OneBody, OneStateAVersion, Slices};
-ghost use Rattle.cs_log.specs.declared.entry.TheConstants.{MAX_CHANGESET};
+ghost use Rattle.cs_log.specs.declared.entry.TheConstants.{MAX_CHANGESET, MAX_ENTRIES};
 
 use cs_changeset::laws::changesets;
 use cs_normalising::below::{applied_is_net, normal_is_taken};
@@ -11,6 +11,11 @@ use cs_normalising::laws::{normal_again, one_normal_form};
 /// How many bytes an entry's changeset may have.
 pub fn most_bytes()
     ensures { MAX_CHANGESET ≡ 4294967295 }
+{}
+
+/// How many entries a log may have.
+pub fn most_entries()
+    ensures { MAX_ENTRIES ≡ 1048576 }
 {}
 
 /// A log without entries is one of any tables.

@@ -1,6 +1,6 @@
 -- Events, one after another.
 use Rattle.std.proofs.Common.{◌≡◌, ℕ, List, [], ◌∷◌, ◌++◌, refl, sym, ap, subst, ◌∙◌, append_assoc, append-nil}
-use Rattle.cs_world.specs.cs_hub.TheConstants.{MAX_ENTRIES}
+use Rattle.cs_log.specs.declared.entry.TheConstants.{MAX_ENTRIES}
 use Rattle.cs_map_store.specs.Slots.{InMemory, held_by, is_honest}
 use Rattle.cs_text.specs.Text.{line}
 use Rattle.cs_world.specs.Holding.{Holding}

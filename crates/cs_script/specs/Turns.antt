@@ -1,7 +1,7 @@
 -- Steps on the way from lines to a text: no definition that a public clause cites.
 use Rattle.std.specs.Prelude.{◌≡◌, ◌+◌, ℕ, List, [], ◌++◌, Option, Some, None}
 use Rattle.std.specs.Io.KnownBytes.{IsAtEnd, Keeps}
-use Rattle.cs_world.specs.cs_hub.TheConstants.{MAX_ENTRIES}
+use Rattle.cs_log.specs.declared.entry.TheConstants.{MAX_ENTRIES}
 use Rattle.cs_lines.specs.Reading.{StaysInLine, TakesLine}
 use Rattle.cs_log.specs.Log.{state_of}
 use Rattle.cs_map_store.specs.Slots.{InMemory, held_by, is_honest}

@@ -3,15 +3,12 @@
 use crate::fault::{OfferFault, SpineFault};
 use crate::pass::Pass;
 use crate::segment::{SEGMENT_CELLS, Segment, follow, follow_or_make};
-use crate::sight::Sight;
-use cs_log::LogEntry;
+use crate::sight::{Held, Sight};
+use cs_log::{LogEntry, MAX_ENTRIES};
 use cs_value::Memory;
 use once_cell::race::OnceBox;
 use std::alloc::Global;
 use std::marker::Model;
-
-/// The most cells of a spine. (Profile of this project.)
-pub const MAX_CELLS: usize = 4096;
 
 /// What an offer came to.
 #[derive(Clone, Copy, Debug, PartialEq, Eq)]
@@ -47,6 +44,7 @@ impl Spine {
     ghost use Rattle.std.specs.Prelude.{◌≡◌, ◌<◌, ◌↔◌, ◌∷◌, ◌++◌, ◌/◌, [], IfOk, IfSome, IsErrOf, MatchOption, OnErr, Some, length, min, slice_get, take};
     ghost use Rattle.once_cell.specs.Once.{cell_name};
     ghost use Rattle.cs_log.specs.declared.entry.LogEntry.{LogEntry as Entry};
+    ghost use Rattle.cs_log.specs.declared.entry.TheConstants.{MAX_ENTRIES};
     ghost use Rattle.cs_spine.specs.Known.{segment_cells};
     ghost use Rattle.cs_spine.specs.Sights.{IsSightOf};
 
@@ -54,12 +52,12 @@ impl Spine {
     ///
     /// # Errors
     ///
-    /// `TooMany` exactly above 4,096 cells, which is `MAX_CELLS`; `Memory` where memory was refused.
+    /// `TooMany` exactly above `MAX_ENTRIES` cells; `Memory` where memory was refused.
     pub fn new(alloc: Global, cap: usize) -> Result<Spine, SpineFault>
         ensures cap { IfOk result (λ spine. spine.cap ≡ cap) }
-        ensures many { IsErrOf result SpineFault.TooMany ↔ (4096 < cap) }
+        ensures many { IsErrOf result SpineFault.TooMany ↔ (MAX_ENTRIES < cap) }
     {
-        if cap > MAX_CELLS {
+        if cap > MAX_ENTRIES as usize {
             return Err(SpineFault::TooMany);
         }
         let count = cap.div_ceil(SEGMENT_CELLS);
@@ -77,7 +75,7 @@ impl Spine {
         self.cap
     }
 
-    /// A pass that knows nothing. Its room is taken here, so that it learns without memory.
+    /// A pass that knows nothing. What it learns takes no bytes, so it learns without memory.
     pub fn pass<'s>(&'s self) -> Result<Pass<'s>, Memory>
         ensures { IfOk result (λ pass. (pass.spine ≡ self.now) × (pass.known ≡ [])) }
     {
@@ -93,26 +91,36 @@ impl Spine {
     }
 
     /// What a cell holds, if it is set.
-    fn sight<'s>(&'s self, n: usize) -> Option<Sight<'s>>
+    fn look<'s>(&'s self, n: usize) -> Option<Held<'s>>
         requires { n < self.now.cap }
-        ensures { IfSome result (λ sight. IsSightOf self.now n sight) }
+        ensures { IfSome result (λ held. IsSightOf self.now n held.sight) }
     {
         let joint = follow(self.link(n))?;
-        Sight::of(joint, n % SEGMENT_CELLS)
+        Held::of(joint, n % SEGMENT_CELLS)
     }
 
     /// What a cell holds: what it held, or else a copy of this entry, or what another thread set meanwhile. Memory is taken where
     /// the cell is not set yet, and before it is; a segment is made where the cell's is not there.
-    fn settle<'s>(&'s self, n: usize, entry: &LogEntry) -> Result<Sight<'s>, Memory>
+    fn settle<'s>(&'s self, n: usize, entry: &LogEntry) -> Result<Held<'s>, Memory>
         requires { n < self.now.cap }
-        ensures { IfOk result (λ sight. IsSightOf self.now n sight) }
+        ensures { IfOk result (λ held. IsSightOf self.now n held.sight) }
     {
-        if let Some(sight) = self.sight(n) {
-            return Ok(sight);
+        if let Some(held) = self.look(n) {
+            return Ok(held);
         }
         let mine = Box::new(self.alloc, entry.copy(self.alloc)?)?;
         let joint = follow_or_make(self.link(n), self.alloc)?;
-        Ok(Sight::settled(joint, n % SEGMENT_CELLS, mine))
+        Ok(Held::settled(joint, n % SEGMENT_CELLS, mine))
+    }
+
+    /// What a cell that was seen holds. It takes no memory.
+    pub(crate) fn recall<'s>(&'s self, n: usize, sight: &Sight) -> &'s LogEntry
+        requires within { n < self.now.cap }
+        requires of { IsSightOf self.now n sight.now }
+        ensures { result.now ≡ sight.now.cell.value }
+    {
+        let segment = sight.link.recall(self.link(n));
+        sight.cell.recall(segment.cell(n % SEGMENT_CELLS))
     }
 
     /// Looks at the next cell that the pass doesn't know, and knows its entry from then on, if there is one. It takes no memory.
@@ -125,10 +133,9 @@ impl Spine {
         if next == self.cap {
             return None;
         }
-        let sight = self.sight(next)?;
-        let held = sight.held;
-        pass.learn(sight);
-        Some(held)
+        let held = self.look(next)?;
+        pass.learn(held.sight);
+        Some(held.entry)
     }
 
     /// Offers an entry for the next cell that the pass doesn't know, and knows that cell's entry from then on. All memory is
@@ -151,10 +158,9 @@ impl Spine {
         if next == self.cap {
             return Err(OfferFault::Full);
         }
-        let sight = self.settle(next, entry)?;
-        let held = sight.held;
-        pass.learn(sight);
-        if held.same(entry) {
+        let held = self.settle(next, entry)?;
+        pass.learn(held.sight);
+        if held.entry.same(entry) {
             Ok(Offered::Mine)
         } else {
             Ok(Offered::Other)

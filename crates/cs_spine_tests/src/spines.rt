@@ -3,8 +3,8 @@
 ghost use Rattle.std.specs.Prelude.{◌≡◌};
 
 use crate::entries::insert;
-use cs_log::LogEntry;
-use cs_spine::{MAX_CELLS, OfferFault, Offered, Pass, Spine, SpineFault};
+use cs_log::{LogEntry, MAX_ENTRIES};
+use cs_spine::{OfferFault, Offered, Pass, Spine, SpineFault};
 use std::alloc::Global;
 
 /// Whether the next cell holds this entry, as the pass sees it.
@@ -31,9 +31,26 @@ pub(crate) fn offers<'s>(
     spine.offer(pass, entry) == told
 }
 
+/// Whether so many offers of one entry are `Mine`.
+fn offers_all<'s>(spine: &'s Spine, pass: &mut Pass<'s>, entry: &LogEntry, count: usize) -> bool
+    requires { pass.old.spine ≡ spine.now }
+    ensures { pass.new.spine ≡ pass.old.spine }
+{
+    let mut all = true;
+    for _ in 0..count {
+        all = all & (spine.offer(pass, entry) == Ok(Offered::Mine));
+    }
+    all
+}
+
 /// Whether a pass knows so many entries, of which this is the last.
 fn knows(spine: &Spine, pass: &Pass<'_>, count: usize, last: &LogEntry) -> bool {
     pass.len() == count && count > 0 && spine.entry(pass, count - 1).same(last)
+}
+
+/// Whether a pass knows this entry of a cell.
+fn holds(spine: &Spine, pass: &Pass<'_>, n: usize, entry: &LogEntry) -> bool {
+    n < pass.len() && spine.entry(pass, n).same(entry)
 }
 
 /// Offers on a spine of one cell: the first is `Mine`, the next through that pass finds it full, another pass sees the first
@@ -146,24 +163,18 @@ fn none_is_full(alloc: Global) -> Option<bool> {
 #[test]
 fn a_spine_has_so_many_cells(rt: HostRuntime) {
     let alloc = rt.alloc();
-    assert!(rt; cells(alloc, 4096) == Ok(4096) && MAX_CELLS == 4096);
-    assert!(rt; cells(alloc, 4097) == Err(SpineFault::TooMany));
+    assert!(rt; MAX_ENTRIES == 1_048_576 && cells(alloc, 1_048_576) == Ok(1_048_576));
+    assert!(rt; cells(alloc, 1_048_577) == Err(SpineFault::TooMany));
     assert!(rt; none_is_full(alloc) == Some(true));
 }
 
-/// How many offers of one entry through one pass are `Mine`, up to the first that isn't.
-fn offers_that_are_mine(spine: &Spine, entry: &LogEntry, most: usize) -> usize {
+/// Whether so many offers of one entry through one pass are `Mine`, and the next finds the spine full.
+fn fills(spine: &Spine, entry: &LogEntry, count: usize) -> bool {
     let Ok(mut pass) = spine.pass() else {
-        return 0;
+        return false;
     };
-    let mut count = 0usize;
-    for _ in 0..most {
-        if spine.offer(&mut pass, entry) != Ok(Offered::Mine) {
-            break;
-        }
-        count = count.saturating_add(1);
-    }
-    count
+    offers_all(spine, &mut pass, entry, count)
+        && offers(spine, &mut pass, entry, Err(OfferFault::Full))
 }
 
 /// How many entries a pass that knows nothing sees, of which each is this one.
@@ -181,16 +192,41 @@ fn sights_of(spine: &Spine, entry: &LogEntry, most: usize) -> usize {
     count
 }
 
-/// All cells of the longest spine are set and seen, and then it is full.
-fn longest(alloc: Global) -> Option<bool> {
-    let spine = Spine::new(alloc, MAX_CELLS).ok()?;
+/// All cells of a spine of two segments, the second of which has one cell, are set, and then it is full. Before that a pass that
+/// knows nothing sees as many as were set.
+fn two_segments(alloc: Global) -> Option<bool> {
+    let spine = Spine::new(alloc, 4097).ok()?;
     let entry = insert(alloc, 1, 1)?;
-    let set = offers_that_are_mine(&spine, &entry, 5000);
-    let seen = sights_of(&spine, &entry, 5000);
-    Some(set == 4096 && seen == 4096)
+    let none = sights_of(&spine, &entry, 5000) == 0;
+    let filled = fills(&spine, &entry, 4097);
+    let seen = sights_of(&spine, &entry, 5000) == 4097;
+    Some(none & filled & seen)
 }
 
 #[test]
-fn each_cell_of_the_longest_spine_is_set(rt: HostRuntime) {
-    assert!(rt; longest(rt.alloc()) == Some(true));
+fn each_cell_of_two_segments_is_set(rt: HostRuntime) {
+    assert!(rt; two_segments(rt.alloc()) == Some(true));
+}
+
+/// Whether an entry comes through an offer behind the first segment, which a pass sees that was shared before, and that no pass sees
+/// before it: a pass that stands at the end of the first segment looks at a link that leads nowhere yet.
+fn goes_over(spine: &Spine, entry: &LogEntry, last: &LogEntry) -> Option<bool> {
+    let mut one = spine.pass().ok()?;
+    let filled = offers_all(spine, &mut one, entry, 4096);
+    let mut other = spine.share(&one).ok()?;
+    let unset = spine.see(&mut other).is_none();
+    let next = offers(spine, &mut one, last, Ok(Offered::Mine));
+    let seen = sees(spine, &mut other, last);
+    let known = knows(spine, &other, 4097, last) && holds(spine, &other, 4095, entry);
+    Some(filled & unset & next & seen & known & (spine.meet(&one, &other) == 4097))
+}
+
+fn between_segments(alloc: Global) -> Option<bool> {
+    let (spine, entry, last) = with_entries(alloc, 8192)?;
+    goes_over(&spine, &entry, &last)
+}
+
+#[test]
+fn a_second_segment_is_made(rt: HostRuntime) {
+    assert!(rt; between_segments(rt.alloc()) == Some(true));
 }

@@ -12,4 +12,3 @@ pub mod Turns
 pub mod Runs
 pub mod Opened
 pub mod Reads
-pub mod cs_hub

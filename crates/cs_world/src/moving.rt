@@ -3,7 +3,7 @@
 ghost use Rattle.std.specs.Prelude.{◌≡◌, ◌<◌, ◌++◌, [], ◌∷◌, List, Some, IfOk, OnErr, length, vec_capacity, vec_len};
 ghost use Rattle.cs_world.specs.declared.event.Event.TheVariants.{AskPull, Deliver, MakePush, OnEdit, Resend, Restart};
 ghost use Rattle.cs_world.specs.declared.outcome.Outcome.TheVariants as told;
-ghost use Rattle.cs_hub.specs.declared.hub.TheConstants.{MAX_ENTRIES};
+ghost use Rattle.cs_log.specs.declared.entry.TheConstants.{MAX_ENTRIES};
 ghost use Rattle.cs_world.specs.Moves.{Moves};
 
 use crate::event::Event;
@@ -155,7 +155,7 @@ impl<S: RowStore> Core<S> {
         ensures { Moves S.honest S.contents MAX_ENTRIES self.old (Deliver which wishes.now) result self.new }
     {
         crate::laws::answers_fit();
-        cs_hub::laws::most_entries();
+        cs_log::laws::most_entries();
         cs_wire::laws::one_told_answer();
         if self.letters.reserve(1).is_err() {
             return Outcome::Memory;

@@ -2,7 +2,7 @@
 
 ghost use Rattle.std.specs.Prelude.{◌≡◌, [], None, Some, IfOk, length, slice_get};
 ghost use Rattle.std.specs.Option.{option_copied};
-ghost use Rattle.cs_hub.specs.declared.hub.TheConstants.{MAX_ENTRIES};
+ghost use Rattle.cs_log.specs.declared.entry.TheConstants.{MAX_ENTRIES};
 ghost use Rattle.cs_log.specs.Log.{state_of};
 ghost use Rattle.cs_member.specs.cs_replica.Holding.{Holding as Held};
 ghost use Rattle.cs_world.specs.Holding.{AreHonest, StandsAt};

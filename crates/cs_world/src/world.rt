@@ -1,7 +1,7 @@
 //! The world over stores.
 
 ghost use Rattle.std.specs.Prelude.{◌≡◌, ◌<◌, ◌-◌, ◌^◌, [], ◌∷◌, All, IfOk, OnErr, length};
-ghost use Rattle.cs_hub.specs.declared.hub.TheConstants.{MAX_ENTRIES};
+ghost use Rattle.cs_log.specs.declared.entry.TheConstants.{MAX_ENTRIES};
 ghost use Rattle.cs_store.specs.Contents.{nothing};
 ghost use Rattle.cs_world.specs.Runs.{HasHeadline, IsNew, RunMerges, Runs};
 
@@ -26,7 +26,7 @@ pub struct World<S: RowStore> {
 
 impl<S: RowStore> Model for World<S> {
     ghost use Rattle.cs_world.specs.World.{World as Standing};
-    ghost use Rattle.cs_hub.specs.declared.hub.TheConstants.{MAX_ENTRIES};
+    ghost use Rattle.cs_log.specs.declared.entry.TheConstants.{MAX_ENTRIES};
     ghost use Rattle.cs_world.specs.Holding.{AreHonest, Holding, StandsAt};
 
     ghost Value = { Holding S };
@@ -110,7 +110,7 @@ impl<S: RowStore> World<S> {
         ensures { Runs S.honest S.contents MAX_ENTRIES self.old (event.now ∷ []) (result ∷ []) self.new }
     {
         crate::laws::steps_are_sound();
-        cs_hub::laws::most_entries();
+        cs_log::laws::most_entries();
         self.core.step(event)
     }
 
@@ -132,7 +132,7 @@ impl<S: RowStore> World<S> {
         ensures refused { OnErr result (self.new ≡ self.old) }
     {
         crate::laws::events_merge();
-        cs_hub::laws::most_entries();
+        cs_log::laws::most_entries();
         self.headline();
         let mut outcomes = Vec::with_capacity(self.core.alloc, events.len())?;
         let mut rest = events;

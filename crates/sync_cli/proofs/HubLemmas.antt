@@ -2,7 +2,7 @@
 use Rattle.std.proofs.Common.{◌≡◌, ℕ, List, [], arith, refl}
 use Rattle.std.specs.Prelude.{⊤, Option, Result, Ok, Err}
 use Rattle.cs_hub.specs.Serves.{IsSame, Serves}
-use Rattle.cs_hub.specs.declared.hub.TheConstants.{MAX_ENTRIES}
+use Rattle.cs_log.specs.declared.entry.TheConstants.{MAX_ENTRIES}
 use Rattle.cs_hub_lines.specs.Endings.{AnsweredOver, EndsAnswered, EndsReading, EndsServingOn, EndsWriting}
 use Rattle.cs_hub_lines.specs.declared.fault.ServingFault.{ServingFault}
 use Rattle.cs_hub_lines.specs.declared.fault.ServingFault.TheVariants as serving

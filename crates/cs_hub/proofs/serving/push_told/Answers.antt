@@ -1,7 +1,7 @@
 use Rattle.std.proofs.Common.{List, ℕ, ◌++◌, ◌∙◌, ap}
 use Rattle.cs_store.specs.Calls.{MoreFailures}
 use Rattle.cs_wire.specs.Answers.{short_spelling}
-use Rattle.cs_hub.specs.declared.hub.TheConstants.{MAX_ENTRIES}
+use Rattle.cs_log.specs.declared.entry.TheConstants.{MAX_ENTRIES}
 use Rattle.cs_hub.proofs.Answered.{told}
 use Rattle.cs_hub.proofs.serving.push_told.Goals as goal
 

@@ -1,6 +1,6 @@
 use Rattle.std.proofs.Common.{Err, ap}
 use Rattle.cs_store.specs.Calls.{MoreFailures}
-use Rattle.cs_hub.specs.declared.hub.TheConstants.{MAX_ENTRIES}
+use Rattle.cs_log.specs.declared.entry.TheConstants.{MAX_ENTRIES}
 use Rattle.cs_hub.proofs.Stored.{refused_so, taken_so}
 use Rattle.cs_hub.proofs.Taken.{has_form, push_of, refused_by, taken}
 use Rattle.cs_hub.proofs.taking.take_at.Goals as goal

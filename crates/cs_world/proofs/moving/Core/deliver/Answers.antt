@@ -1,6 +1,6 @@
 use Rattle.std.proofs.Common.{◌∙◌, Some, Ok, refl, sym, ap, arith}
 use Rattle.std.proofs.lemmas.Option.{slice_get_read}
-use Rattle.cs_hub.specs.declared.hub.TheConstants.{MAX_ENTRIES}
+use Rattle.cs_log.specs.declared.entry.TheConstants.{MAX_ENTRIES}
 use Rattle.cs_world.specs.declared.event.Event.TheVariants.{Deliver}
 use Rattle.std.proofs.Common.{Err, length}
 use Rattle.cs_world.proofs.Moved.{hears, no_letter, no_room, none_told, serves, serves_not, unread}

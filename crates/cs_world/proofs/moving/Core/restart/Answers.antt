@@ -1,6 +1,6 @@
 use Rattle.std.proofs.Common.{length, refl}
 use Rattle.std.proofs.lemmas.Option.{slice_get_read}
-use Rattle.cs_hub.specs.declared.hub.TheConstants.{MAX_ENTRIES}
+use Rattle.cs_log.specs.declared.entry.TheConstants.{MAX_ENTRIES}
 use Rattle.cs_world.specs.declared.event.Event.TheVariants.{Restart}
 use Rattle.cs_world.proofs.Moved.{none_there, restarts, restarts_not}
 use Rattle.cs_world.proofs.moving.Core.restart.Goals as goal

@@ -2,7 +2,7 @@ use Rattle.std.proofs.Common.{◌≡◌, ◌∙◌, None, Some, length, refl, sy
 use Rattle.std.proofs.lemmas.Option.{slice_get_read}
 use Rattle.cs_world.proofs.Read.{listed, reads_replica}
 use Rattle.cs_world.specs.Reads.{AreRowsIn}
-use Rattle.cs_hub.specs.declared.hub.TheConstants.{MAX_ENTRIES}
+use Rattle.cs_log.specs.declared.entry.TheConstants.{MAX_ENTRIES}
 use Rattle.cs_world.proofs.moving.Core.rows.Goals as goal
 
 pub returns-in-Ok-clause-reads : goal.returns-in-Ok-clause-reads
