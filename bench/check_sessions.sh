@@ -1,7 +1,7 @@
 #!/bin/sh
 # Runs the built program `sync` on what a person types, and compares each run's status, output and errors with what they have to
 # be: a hub's sessions, each request and changeset that it refuses, each front of requests and of a pushed changeset, long lines, a
-# full log; the tools by their words; table words that are read and that are refused; command lines that aren't taken; the help; and
+# long log; the tools by their words; table words that are read and that are refused; command lines that aren't taken; the help; and
 # reads and writes that fail in mid-stream. One case is one run.
 # Usage: bench/check_sessions.sh PROGRAM
 # A read that fails is that of a terminal whose other side is gone, for which it wants python3 (as `rt` does).
@@ -232,26 +232,25 @@ done
 long="$(head -c 131072 /dev/zero | tr '\0' f)"
 answers '1314\n1308\n' "$long" "$(push 7 1 0 "$long")"
 
-# ---- a full log: 4,096 pushes of rows with keys of their own, and one more; then a push again, another one, and the last entries
+# ---- a long log: 4,097 pushes of rows with keys of their own; then a push again, another one, and the last entries
 
 awk 'BEGIN {
     for (base = 0; base < 4097; base++)
         printf "0100000007%016x%016x0000001654020100743100120001%016x03027631\n", base + 1, base, base
     printf "0100000007%016x%016x0000001654020100743100120001%016x03027631\n", 1, 0, 0
     printf "0100000008%016x%016x0000001654020100743100120001%016x03027631\n", 1, 0, 0
-    printf "02%016x0000000a\n", 4090
-    print "0200000000000010000000000a"
+    printf "02%016x0000000a\n", 4091
     print "0200000000000010010000000a"
+    print "0200000000000010020000000a"
 }' > "$dir/input"
 awk 'BEGIN {
-    for (next_one = 1; next_one < 4097; next_one++) printf "1100000007%016x%016x\n", next_one, next_one
-    print "132b"
+    for (next_one = 1; next_one < 4098; next_one++) printf "1100000007%016x%016x\n", next_one, next_one
     printf "1100000007%016x%016x\n", 1, 1
-    print "120000000000001000"
-    printf "14%016x00000006", 4090
-    for (base = 4090; base < 4096; base++) printf "0000000007%016x0000001654020100743100120001%016x03027631", base + 1, base
+    print "120000000000001001"
+    printf "14%016x00000006", 4091
+    for (base = 4091; base < 4097; base++) printf "0000000007%016x0000001654020100743100120001%016x03027631", base + 1, base
     print ""
-    print "14000000000000100000000000"
+    print "14000000000000100100000000"
     print "1328"
 }' > "$dir/output_wanted"
 : > "$dir/errors_wanted"
