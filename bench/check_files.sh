@@ -263,6 +263,99 @@ run 'dump\n' node "$full" 0 t1:10
 [ "$(printf '%s\n' "$written" | grep -c '^row ')" -eq "$done_there" ] \
     || tell 'node on what was a full device' "$done_there edits were done, and it shows $(printf '%s\n' "$written" | grep -c '^row ')"
 
+# ---- files that the shell makes: what a hub finds there
+
+# The tables of a store, as they are made (docs/FORMATS.md), the value of a hub of t1, and the row and the entry of the INSERT.
+three='CREATE TABLE rows (tab INTEGER NOT NULL, key BLOB NOT NULL, body BLOB NOT NULL, PRIMARY KEY (tab, key)) STRICT;
+    CREATE TABLE meta (name TEXT NOT NULL PRIMARY KEY, body BLOB NOT NULL) STRICT;
+    CREATE TABLE log (version INTEGER PRIMARY KEY, origin INTEGER NOT NULL, number INTEGER NOT NULL, body BLOB NOT NULL) STRICT;'
+four="$three
+    CREATE TABLE pending (tab INTEGER NOT NULL, key BLOB NOT NULL, body BLOB NOT NULL, PRIMARY KEY (tab, key)) STRICT;"
+note='CREATE TABLE note (id INTEGER PRIMARY KEY);'
+value="INSERT INTO meta VALUES ('catalog', x'54020100743100');"
+row="INSERT INTO rows VALUES (0, x'$key1', x'${key1}03027631');"
+entry="INSERT INTO log VALUES (0, 0, 1, x'00$insert');"
+pull=0200000000000000000000000a
+none=14000000000000000000000000
+one="140000000000000000000000010000000000000000000000000100000016$insert"
+
+# Makes a file by SQL.
+found="$dir/found"
+make_found() {
+    rm -f "$found" "$found-wal" "$found-shm" "$found-journal"
+    "$shell" "$found" "$1" > /dev/null
+}
+
+# opens NAME OUTPUT TABLES SQL: a hub opens what this makes, answers a pull so, and the file then has these tables, in this order.
+opens() {
+    make_found "$4"
+    gives "a hub on $1" "$2\n" "$pull\n" hub --file "$found" t1:10
+    selects "$1" "$found" "$3" "SELECT group_concat(name, ' ') FROM sqlite_schema WHERE type = 'table'"
+}
+
+# finds NAME TOLD SQL: what this makes is refused so, and is as it was.
+finds() {
+    local before
+    make_found "$3"
+    before="$(sum_of "$found")"
+    refuses "a hub on $1" "sync: $2" "$pull\n" hub --file "$found" t1:10
+    [ "$(sum_of "$found")" = "$before" ] || tell "a hub on $1" 'was refused, and yet written'
+}
+
+# holds NAME TOLD SQL: the same of a hub's file without entries, to which this was done.
+holds() {
+    finds "$1" "$2" "$four $value $3"
+}
+
+if [ -n "$shell" ]; then
+    # The database of nobody, a store from before pending changes had a table, and a store. An entry's origin and number are the last there can be.
+    opens 'no table' $none 'rows meta log pending' 'VACUUM'
+    opens 'three tables' $one 'rows meta log pending' "$three $value $row $entry"
+    opens 'four tables' $one 'rows meta log pending' "$four $value $row $entry"
+    opens 'the last origin and number' "14000000000000000000000001""00ffffffffffffffffffffffff00000016$insert" 'rows meta log pending' \
+        "$four $value $row INSERT INTO log VALUES (0, 4294967295, -1, x'00$insert');"
+
+    # Another's database, one beside a store's tables, and logs whose versions aren't those from 0 on.
+    finds 'a table of others' Device "$note"
+    finds 'a table beside the four' Device "$four $value $row $entry $note"
+    finds 'three tables without entry 0' Device "$three $value $row INSERT INTO log VALUES (1, 0, 1, x'00$insert');"
+    finds 'four tables without entry 0' Device "$four $value $row INSERT INTO log VALUES (1, 0, 1, x'00$insert');"
+    finds 'a version below 0' Device "$four $value $row $entry INSERT INTO log VALUES (-1, 0, 1, x'00$insert');"
+
+    # What a new hub lays out, which opens again, and not as that of another table.
+    rm -f "$found" "$found-wal" "$found-shm"
+    gives 'a new hub' '' '' hub --file "$found" t1:10
+    laid_out="SELECT (SELECT count(*) FROM rows), (SELECT count(*) FROM pending), (SELECT count(*) FROM log), name, hex(body) FROM meta"
+    selects 'a new hub' "$found" '0|0|0|catalog|54020100743100' "$laid_out"
+    gives 'a new hub, again' "$none\n" "$pull\n" hub --file "$found" t1:10
+    refuses 'a new hub of another table' 'sync: Mismatch' "$pull\n" hub --file "$found" t2:10
+    selects 'a new hub, at last' "$found" '0|0|0|catalog|54020100743100' "$laid_out"
+
+    # Values: an id, and bytes that are none; without tables it can't be read whose it is; other tables, and bytes that are none; values of a replica.
+    holds 'an id' Mismatch "INSERT INTO meta VALUES ('id', x'00000007')"
+    finds 'an id alone' Damaged "$four INSERT INTO meta VALUES ('id', x'00000007')"
+    holds 'no id' Damaged "INSERT INTO meta VALUES ('id', x'07')"
+    finds 'no id alone' Damaged "$four INSERT INTO meta VALUES ('id', x'07')"
+    holds 'other tables' Mismatch "UPDATE meta SET body = x'54020100743200'"
+    holds 'no tables' Damaged "UPDATE meta SET body = x'50'"
+    holds 'a number' Damaged "INSERT INTO meta VALUES ('number', x'0000000000000000')"
+    holds 'a version' Damaged "INSERT INTO meta VALUES ('version', x'0000000000000000')"
+    holds 'a push under way' Damaged "INSERT INTO meta VALUES ('flight', x'')"
+    holds 'pending changes' Damaged "INSERT INTO meta VALUES ('pending', x'')"
+
+    # Entries: of no kind, of another kind, without a changeset, and of another table. Rows: at another key than their own, and of no table. A
+    # pending change, and one of no table.
+    holds 'an entry of no kind' Damaged "INSERT INTO log VALUES (0, 7, 1, x'')"
+    holds 'an entry of another kind' Damaged "INSERT INTO log VALUES (0, 7, 1, x'01')"
+    holds 'an entry without a changeset' Damaged "INSERT INTO log VALUES (0, 7, 1, x'0050')"
+    holds 'an entry of another table' Damaged \
+        "INSERT INTO log VALUES (0, 7, 1, x'00540201007432001200${key1}03027631')"
+    holds 'a row at another key' Damaged "INSERT INTO rows VALUES (0, x'$key2', x'${key1}03027631')"
+    holds 'a row of no table' Damaged "INSERT INTO rows VALUES (1, x'$key1', x'${key1}03027631')"
+    holds 'a pending change' Damaged "INSERT INTO pending VALUES (0, x'$key1', x'1200${key1}03027631')"
+    holds 'a pending change of no table' Damaged "INSERT INTO pending VALUES (1, x'$key1', x'1200${key1}03027631')"
+fi
+
 if [ "$failed" -eq 0 ]; then
     echo "files: $runs runs as they have to be, $refused of damaged files refused by name"
 fi

@@ -1,7 +1,7 @@
 #!/bin/sh
 # Runs the built program `sync` on what a person types, and compares each run's status, output and errors with what they have to
 # be: a hub's sessions, each request and changeset that it refuses, each front of requests and of a pushed changeset, long lines, a
-# full log; the tools by their words; table words that are read and that are refused; command lines that aren't taken; the help; and
+# long log; the tools by their words; table words that are read and that are refused; command lines that aren't taken; the help; and
 # reads and writes that fail in mid-stream. One case is one run.
 # Usage: bench/check_sessions.sh PROGRAM
 # A read that fails is that of a terminal whose other side is gone, for which it wants python3 (as `rt` does).
@@ -14,11 +14,48 @@ push() {
     printf '01%08x%016x%016x%08x%s' "$1" "$2" "$3" "$((${#4} / 2))" "$4"
 }
 
+# pull FIRST LIMIT: the pull of so many entries.
+pull() {
+    printf '02%016x%08x' "$1" "$2"
+}
+
+# accepted ORIGIN NUMBER VERSION, stale NEWEST, entries FIRST [ENTRY..], entry ORIGIN NUMBER CHANGESET: answers, and an entry of the last but one.
+accepted() {
+    printf '11%08x%016x%016x' "$1" "$2" "$3"
+}
+
+stale() {
+    printf '12%016x' "$1"
+}
+
+entries() {
+    first=$1
+    shift
+    printf '14%016x%08x' "$first" "$#"
+    printf %s "$@"
+}
+
+entry() {
+    printf '00%08x%016x%08x%s' "$1" "$2" "$((${#3} / 2))" "$3"
+}
+
 # answers OUTPUT LINE..: a hub of t1 answers these lines so.
 answers() {
     answer=$1
     shift
     expect 0 "$(printf '%s\\n' "$@")" "$answer" '' hub t1:10
+}
+
+# session: a new hub of t1 answers the requests of a table, which stands on the input: a line each, its answer before it. It answers so in memory
+# and over a file.
+session() {
+    cat > "$dir/table"
+    cut -d ' ' -f 1 "$dir/table" > "$dir/output_wanted"
+    cut -d ' ' -f 2 "$dir/table" > "$dir/input"
+    : > "$dir/errors_wanted"
+    expect_files 0 hub t1:10
+    rm -f "$dir/hub" "$dir/hub-wal" "$dir/hub-shm"
+    expect_files 0 hub --file "$dir/hub" t1:10
 }
 
 # refuses_words WORD..: the words are no command line, and nothing is read or written.
@@ -48,13 +85,84 @@ hub_answers '07\r\n' '1316\n'
 hub_answers '0a0B\n\nff\n 07\n0' '1314\n1302\n1314\n1316\n1316\n'
 expect 0 '07\n' '1314\n' '' hub
 
-# ---- sessions with a hub of t1
+# ---- sessions with a hub of t1: a push, the same again, others onto the versions below, at and above the newest one, and entries
 
-answers '110000000700000000000000010000000000000001\n110000000700000000000000010000000000000001\n120000000000000001\n14000000000000000000000001000000000700000000000000010000001654020100743100120001000000000000000103027631\n1329\n1328\n132a\n' \
-    "$(push 7 1 0 $insert)" "$(push 7 1 0 $insert)" "$(push 8 1 0 $insert)" 0200000000000000000000000A \
-    "$(push 8 2 1 $insert)" "$(push 8 3 7 $insert)" "$(push 8 4 1 '')"
-answers '110000000700000000000000010000000000000001\n110000000700000000000000020000000000000002\n1329\n110000000800000000000000020000000000000003\n110000000800000000000000030000000000000004\n' \
-    "$(push 7 1 0 $insert)" "$(push 7 2 1 $update)" "$(push 8 1 2 $delete)" "$(push 8 2 2 $delete_updated)" "$(push 8 3 3 $insert)"
+session << END
+110000000700000000000000010000000000000001 $(push 7 1 0 $insert)
+110000000700000000000000010000000000000001 $(push 7 1 0 $insert)
+120000000000000001 $(push 8 1 0 $insert)
+14000000000000000000000001000000000700000000000000010000001654020100743100120001000000000000000103027631 0200000000000000000000000A
+1329 $(push 8 2 1 $insert)
+1328 $(push 8 3 7 $insert)
+132a $(push 8 4 1 '')
+END
+session << END
+110000000700000000000000010000000000000001 $(push 7 1 0 $insert)
+110000000700000000000000020000000000000002 $(push 7 2 1 $update)
+1329 $(push 8 1 2 $delete)
+110000000800000000000000020000000000000003 $(push 8 2 2 $delete_updated)
+110000000800000000000000030000000000000004 $(push 8 3 3 $insert)
+END
+
+# ---- each case of a push, in the order in which they are judged: no change, a base above the newest version, a change that isn't defined, taken;
+# below the newest version the same push and others; and at the end the log that was made
+
+session << END
+132a $(push 7 1 0 '')
+132a $(push 7 1 1 '')
+1328 $(push 7 1 1 $insert)
+1329 $(push 7 1 0 $update)
+$(accepted 7 1 1) $(push 7 1 0 $insert)
+$(accepted 7 1 1) $(push 7 1 0 $insert)
+$(stale 1) $(push 7 2 0 $insert)
+$(stale 1) $(push 7 1 0 $update)
+1329 $(push 7 2 1 $insert)
+1329 $(push 7 2 1 $delete_updated)
+$(accepted 7 2 2) $(push 7 2 1 $update)
+$(accepted 7 1 1) $(push 7 1 0 $insert)
+$(accepted 7 2 2) $(push 7 2 1 $update)
+$(accepted 7 3 3) $(push 7 3 2 $delete_updated)
+$(entries 0 $(entry 7 1 $insert) $(entry 7 2 $update) $(entry 7 3 $delete_updated)) $(pull 0 10)
+END
+
+# ---- changes that aren't defined where (1, 'v1') stands: that row is there, with other values too; a DELETE of (1, 'v2') and of (2, 'x'); the
+# UPDATE of (2, 'x') to 'y'; and an UPDATE that is defined before a DELETE that isn't. Nothing changes: the log has one entry, and the row is as it was
+
+for changeset in $insert 540201007431001200010000000000000001030178 $delete_updated 540201007431000900010000000000000002030178 \
+    54020100743100170001000000000000000203017800030179 \
+    5402010074310017000100000000000000010302763100030276320900010000000000000002030178; do
+    session << END
+$(accepted 7 1 1) $(push 7 1 0 $insert)
+1329 $(push 7 2 1 $changeset)
+$(entries 0 $(entry 7 1 $insert)) $(pull 0 10)
+$(accepted 7 2 2) $(push 7 2 1 $delete)
+END
+done
+
+# ---- a log of three entries of two replicas: each push again; what differs from an entry in its number, its origin, its changes or its version; and
+# the entries from each version on, so many of them
+
+session << END
+$(accepted 7 1 1) $(push 7 1 0 $insert)
+$(accepted 8 5 2) $(push 8 5 1 $update)
+$(accepted 7 2 3) $(push 7 2 2 $delete_updated)
+$(accepted 7 1 1) $(push 7 1 0 $insert)
+$(accepted 8 5 2) $(push 8 5 1 $update)
+$(accepted 7 2 3) $(push 7 2 2 $delete_updated)
+$(stale 3) $(push 7 2 0 $insert)
+$(stale 3) $(push 8 1 0 $insert)
+$(stale 3) $(push 7 1 0 $update)
+$(stale 3) $(push 7 1 1 $insert)
+140000000000000000000000010000000007000000000000000100000016$insert $(pull 0 1)
+14000000000000000100000002000000000800000000000000050000001b$update$(entry 7 2 $delete_updated) $(pull 1 2)
+$(entries 0 $(entry 7 1 $insert) $(entry 8 5 $update) $(entry 7 2 $delete_updated)) $(pull 0 3)
+$(entries 1 $(entry 8 5 $update) $(entry 7 2 $delete_updated)) $(pull 1 4294967295)
+14000000000000000000000000 $(pull 0 0)
+14000000000000000200000000 $(pull 2 0)
+14000000000000000300000000 $(pull 3 0)
+14000000000000000300000000 $(pull 3 10)
+1328 $(pull 4 0)
+END
 
 # ---- requests that are refused, and one of no entry: the answer, the line
 
@@ -68,6 +176,7 @@ done << 'END'
 1315 0200000000000000000000000a00
 1316 0200000000000000000000000
 14000000000000000000000000 02000000000000000000000000
+14000000000000000000000000 0200000000000000000000000a
 1328 0200000000000000010000000a
 1314 030000000900000000000000000000000a
 END
@@ -123,12 +232,27 @@ done
 long="$(head -c 131072 /dev/zero | tr '\0' f)"
 answers '1314\n1308\n' "$long" "$(push 7 1 0 "$long")"
 
-# ---- a full log: 4,096 pushes of rows with keys of their own, and one more
+# ---- a long log: 4,097 pushes of rows with keys of their own; then a push again, another one, and the last entries
 
-awk 'BEGIN { for (base = 0; base < 4097; base++)
-    printf "0100000007%016x%016x0000001654020100743100120001%016x03027631\n", base + 1, base, base }' > "$dir/input"
-awk 'BEGIN { for (next_one = 1; next_one < 4097; next_one++) printf "1100000007%016x%016x\n", next_one, next_one; print "132b" }' \
-    > "$dir/output_wanted"
+awk 'BEGIN {
+    for (base = 0; base < 4097; base++)
+        printf "0100000007%016x%016x0000001654020100743100120001%016x03027631\n", base + 1, base, base
+    printf "0100000007%016x%016x0000001654020100743100120001%016x03027631\n", 1, 0, 0
+    printf "0100000008%016x%016x0000001654020100743100120001%016x03027631\n", 1, 0, 0
+    printf "02%016x0000000a\n", 4091
+    print "0200000000000010010000000a"
+    print "0200000000000010020000000a"
+}' > "$dir/input"
+awk 'BEGIN {
+    for (next_one = 1; next_one < 4098; next_one++) printf "1100000007%016x%016x\n", next_one, next_one
+    printf "1100000007%016x%016x\n", 1, 1
+    print "120000000000001001"
+    printf "14%016x00000006", 4091
+    for (base = 4091; base < 4097; base++) printf "0000000007%016x0000001654020100743100120001%016x03027631", base + 1, base
+    print ""
+    print "14000000000000100100000000"
+    print "1328"
+}' > "$dir/output_wanted"
 : > "$dir/errors_wanted"
 seconds=120
 expect_files 0 hub t1:10
@@ -214,29 +338,8 @@ expect 0 "$insert\n" 'table t1 10\ninsert 0 1 t=v1\n' '' show changeset
 expect 0 "$insert\n" 'table t1 10\nchange omit 1 t=v1\n' '' show blob
 expect 1 '54\n' '' 'sync: Truncated at 1\n' show blob
 
-# ---- worlds: a lost answer and an old push that comes again, two pushes on one version, what is refused, and lines that can't be read
-
-# plays N OUTPUT LINE..: the script is played so by a world of N replicas.
-plays() {
-    count=$1
-    shown=$2
-    shift 2
-    expect 0 "$(printf '%s\\n' "$@")" "$shown" '' world "$count" t1:10
-}
-
-plays 1 'ok\nsent 0\nsent 1\nok\nsent 2\nsent 3\ntaken 1 version 1\nsent 4\nignored\nhub 1\nrow t1 1 t=v1\nreplica 0 version 1 pending 1 flight 0\nrow t1 1 t=v2\n' \
-    'edit 0 insert t1 1 t=v1' 'push 0' 'deliver 0 -' 'edit 0 update t1 1 t=v2' 'pull 0 10' 'deliver 2 -' 'deliver 3 -' 'deliver 0 -' 'deliver 4 -'
-plays 2 'ok\nok\nsent 0\nsent 1\nsent 2\nsent 3\naccepted 1\nstale 1\nsent 4\nsent 5\ntaken 1 version 1\nsent 6\nsent 7\naccepted 2\nsent 8\nsent 9\ntaken 1 version 2\nhub 2\nrow t1 1 t=v2\nreplica 0 version 2 pending 0 flight 0\nrow t1 1 t=v2\nreplica 1 version 2 pending 0 flight 0\nrow t1 1 t=v2\n' \
-    'edit 0 insert t1 1 t=v1' 'edit 1 insert t1 1 t=v2' 'push 0' 'push 1' 'deliver 0 -' 'deliver 1 -' 'deliver 2 -' 'deliver 3 -' 'pull 1 10' \
-    'deliver 4 -' 'deliver 5 k' 'push 1' 'deliver 6 -' 'deliver 7 -' 'pull 0 10' 'deliver 8 -' 'deliver 9 -'
-plays 1 'ok\nrefused NoTable\nrefused Width\nrefused NullKey\nrefused Exists\nrefused Missing\nok\nok\nrefused Nothing\nrefused Nothing\nrefused NoMessage\nrefused NoReplica\nhub 0\nreplica 0 version 0 pending 0 flight 0\n' \
-    'edit 0 insert t1 1 t=v1' 'edit 0 insert t9 1' 'edit 0 insert t1 1 2 3' 'edit 0 insert t1 null t=x' 'edit 0 insert t1 1 t=x' 'edit 0 update t1 2 t=x' \
-    'edit 0 update t1 1 t=v1' 'edit 0 delete t1 1' 'push 0' 'resend 0' 'deliver 9 -' 'push 1'
-expect 0 '' 'hub 0\n' '' world 0 t1:10
-expect 1 'edit 0 insert t1 1 t=v1\nnonsense\n' '' 'sync: line 2\n' world 1 t1:10
-expect 1 'push 0\npush 0\nedit 0 update t1 - t=v1\n' '' 'sync: line 3\n' world 1 t1:10
-expect 2 'push 0\n' '' 'sync: table t1:12\n' world 1 t1:12
-for words in 'world' 'world x t1:10' 'world 4294967296 t1:10' 'node' 'node f' 'node f x t1:10' 'node f 4294967295 t1:10' 'hub --file'; do
+# The same of commands that take a number.
+for words in 'node' 'node f' 'node f x t1:10' 'node f 4294967295 t1:10' 'hub --file'; do
     refuses_words $words
 done
 

@@ -1,49 +1,17 @@
-//! Each call over a store in SQLite, in memory and on files, beside answers that were written by hand; files that were made by
-//! SQL, one of them without `pending` and others that are no store's; and a stop at each call that a file gets, after which the
-//! file opens as before a commit or after it.
+//! Stores in SQLite, in memory, beside what was written by hand, and databases that SQL made, of which some are no store's.
 
 use cs_sql::SqlStore;
-use crate::disks::{Calls, Disk, files_behind, open_new};
-use crate::images::shown_again;
 use cs_store::{RowStore, StoreFault};
-use cs_store_cases::{
-    FIRST_BATCH, FIRST_SHOWN, HELD, Held, NEXT_BATCH, NEXT_SHOWN, NOTHING_SHOWN, commit_of,
-    image_of, is_found, shows, shows_commits,
-};
-use sqlite::{Alter, Connection, Error, Files, MemStore};
+use cs_store_cases::{HELD, NOTHING_SHOWN, image_of, is_found, shows, shows_commits};
+use sqlite::{Alter, Connection, Error, MemStore};
 use std::alloc::Global;
 
-fn in_memory(alloc: Global) -> bool {
-    match SqlStore::open_memory(alloc) {
-        Ok(store) => shows_commits(alloc, store),
-        Err(_) => false,
-    }
-}
-
-#[test]
-fn a_store_in_memory_shows_what_was_committed(rt: HostRuntime) {
-    assert!(rt; in_memory(rt.alloc()));
-}
-
-fn is_found_in_memory(alloc: Global, held: &Held) -> bool {
-    match SqlStore::open_memory(alloc) {
-        Ok(store) => is_found(alloc, store, held),
-        Err(_) => false,
-    }
-}
-
-fn all_are_found(alloc: Global) -> bool {
-    for held in &HELD {
-        if !is_found_in_memory(alloc, held) {
-            return false;
-        }
-    }
-    true
-}
-
-#[test]
-fn a_store_is_whole_where_all_is_what_its_place_says(rt: HostRuntime) {
-    assert!(rt; all_are_found(rt.alloc()));
+/// What is asked of a store that holds nothing: what it shows behind commits, whether it is whole where it holds this, and how it counts.
+#[derive(Clone, Copy)]
+enum Asks {
+    Commits,
+    Held(usize),
+    Misread,
 }
 
 /// Whether a misread is told as the device's, is counted, and leaves a new store as it was.
@@ -55,16 +23,36 @@ fn counts_a_misread<S: RowStore + Drop>(alloc: Global, store: S) -> bool {
     counted && shows(alloc, &mut store, NOTHING_SHOWN) == Ok(true)
 }
 
-fn misread_is_counted(alloc: Global) -> bool {
+fn is_so_of<S: RowStore + Drop>(alloc: Global, store: S, asks: Asks) -> bool {
+    match asks {
+        Asks::Commits => shows_commits(alloc, store),
+        Asks::Held(at) => match HELD.get(at) {
+            Some(held) => is_found(alloc, store, held),
+            None => false,
+        },
+        Asks::Misread => counts_a_misread(alloc, store),
+    }
+}
+
+/// Whether that is so of a store in memory. What handles one is dear to prove, so this does nothing else.
+fn is_so(alloc: Global, asks: Asks) -> bool {
     match SqlStore::open_memory(alloc) {
-        Ok(store) => counts_a_misread(alloc, store),
+        Ok(store) => is_so_of(alloc, store, asks),
         Err(_) => false,
     }
 }
 
 #[test]
-fn a_misread_counts_and_changes_nothing_else(rt: HostRuntime) {
-    assert!(rt; misread_is_counted(rt.alloc()));
+fn a_store_in_memory_shows_what_was_committed(rt: HostRuntime) {
+    assert!(rt; is_so(rt.alloc(), Asks::Commits));
+    assert!(rt; is_so(rt.alloc(), Asks::Misread));
+}
+
+#[test]
+fn a_store_is_whole_where_all_is_what_its_place_says(rt: HostRuntime) {
+    for at in 0..HELD.len() {
+        assert!(rt; is_so(rt.alloc(), Asks::Held(at)));
+    }
 }
 
 /// What SQL makes: the three tables of a store that had no `pending`, a row, a value and two entries.
@@ -98,25 +86,6 @@ fn made(alloc: Global, texts: &[&str]) -> Option<Connection<MemStore>> {
     Some(conn)
 }
 
-/// What a store shows that adopts a database that this SQL made, or None where it is refused.
-fn shown_of(alloc: Global, texts: &[&str]) -> Option<Vec<u8>> {
-    let conn = made(alloc, texts)?;
-    if !conn.is_autocommit() {
-        return None;
-    }
-    match SqlStore::adopt(alloc, conn) {
-        Ok(store) => image_of(alloc, store),
-        Err(_) => None,
-    }
-}
-
-fn adopts(alloc: Global, texts: &[&str], shown: &[u8]) -> bool {
-    match shown_of(alloc, texts) {
-        Some(image) => image.as_slice() == shown,
-        None => false,
-    }
-}
-
 /// How many tables a database has.
 fn tables_in<A: Alter>(conn: &mut Connection<A>) -> Option<i64> {
     conn.query_row(
@@ -128,118 +97,42 @@ fn tables_in<A: Alter>(conn: &mut Connection<A>) -> Option<i64> {
     .ok()
 }
 
-/// Whether a database that this SQL made is refused as `Device` and given back with so many tables.
-fn refuses(alloc: Global, texts: &[&str], tables: i64) -> bool {
-    let Some(conn) = made(alloc, texts) else {
-        return false;
-    };
+/// What becomes of a database that this SQL made: what a store shows that adopts it; or, where it is refused as `Device` and given back, how
+/// many tables it has.
+fn adopted(alloc: Global, texts: &[&str]) -> Option<Result<Vec<u8>, i64>> {
+    let conn = made(alloc, texts)?;
     if !conn.is_autocommit() {
-        return false;
+        return None;
     }
     match SqlStore::adopt(alloc, conn) {
-        Ok(_) => false,
-        Err((mut conn, fault)) => fault == StoreFault::Device
-            && tables_in(&mut conn) == Some(tables),
+        Ok(store) => Some(Ok(image_of(alloc, store)?)),
+        Err((mut conn, StoreFault::Device)) => Some(Err(tables_in(&mut conn)?)),
+        Err(_) => None,
     }
 }
 
+fn becomes(alloc: Global, texts: &[&str], wanted: Result<&[u8], i64>) -> bool {
+    match (adopted(alloc, texts), wanted) {
+        (Some(Ok(image)), Ok(shown)) => image.as_slice() == shown,
+        (Some(Err(tables)), Err(left)) => tables == left,
+        _ => false,
+    }
+}
+
+/// A fresh database, a store from before pending changes had a table, a store, another's, and one whose log lacks its first entry.
 #[test]
 fn a_database_that_was_found_is_judged(rt: HostRuntime) {
-    let alloc = rt.alloc();
-    assert!(rt; adopts(alloc, &[], NOTHING_SHOWN));
-    assert!(rt; adopts(alloc, &[FRONT], FRONT_SHOWN));
-    assert!(rt; adopts(alloc, &[FRONT, PENDING], FRONT_SHOWN));
-    assert!(rt; refuses(alloc, &["CREATE TABLE note (id INTEGER PRIMARY KEY)"], 1));
-    assert!(rt;
-        refuses(
-            alloc,
-            &[FRONT, PENDING, "CREATE TABLE note (id INTEGER PRIMARY KEY)"],
-            5
-        )
-    );
-    assert!(rt; refuses(alloc, &[FRONT, "DELETE FROM log WHERE version = 0"], 3));
-    assert!(rt;
-        refuses(
-            alloc,
+    let cases: [(&[&'static str], Result<&'static [u8], i64>); 5] = [
+        (&[], Ok(NOTHING_SHOWN)),
+        (&[FRONT], Ok(FRONT_SHOWN)),
+        (&[FRONT, PENDING], Ok(FRONT_SHOWN)),
+        (&["CREATE TABLE note (id INTEGER PRIMARY KEY)"], Err(1)),
+        (
             &[FRONT, PENDING, "DELETE FROM log WHERE version = 0"],
-            4
-        )
-    );
-    assert!(rt;
-        refuses(
-            alloc,
-            &[FRONT, PENDING, "INSERT INTO log VALUES (-1, 7, 1, x'6f')"],
-            4
-        )
-    );
-}
-
-/// How many of two commits succeed.
-fn commit_both<S: RowStore>(alloc: Global, store: &mut S) -> usize {
-    for (done, spelled) in [FIRST_BATCH, NEXT_BATCH].iter().enumerate() {
-        if commit_of(alloc, store, spelled).is_err() {
-            return done;
-        }
+            Err(4),
+        ),
+    ];
+    for (texts, wanted) in cases {
+        assert!(rt; becomes(rt.alloc(), texts, wanted));
     }
-    2
-}
-
-/// How many of two commits succeed in new files that stop, and what the files are then.
-fn stopped(alloc: Global, calls: Calls) -> (usize, Files<Disk>) {
-    match open_new(alloc, calls) {
-        Ok(mut store) => {
-            let done = commit_both(alloc, &mut store);
-            (done, files_behind(store))
-        }
-        Err(files) => (0, files),
-    }
-}
-
-/// What a store shows after no commit, one and two.
-fn shown_after(done: usize) -> &'static [u8] {
-    match done {
-        0 => NOTHING_SHOWN,
-        1 => FIRST_SHOWN,
-        _ => NEXT_SHOWN,
-    }
-}
-
-/// How many of two commits succeeded before a stop, if the files then open as before the next or after it.
-fn survives(alloc: Global, calls: Calls) -> Option<usize> {
-    let (done, files) = stopped(alloc, calls);
-    let shown = shown_again(alloc, files)?;
-    let before = shown.as_slice() == shown_after(done);
-    let after = shown.as_slice() == shown_after(done.saturating_add(1));
-    if before || after { Some(done) } else { None }
-}
-
-/// Whether files survive a stop of the log behind each number of calls, until none comes.
-fn survive_in_log(alloc: Global) -> bool {
-    for calls in 0..1000 {
-        match survives(alloc, Calls::of_log(calls)) {
-            Some(2) => return calls > 10,
-            Some(_) => {}
-            None => return false,
-        }
-    }
-    false
-}
-
-/// The same of the database file.
-fn survive_in_db(alloc: Global) -> bool {
-    for calls in 0..1000 {
-        match survives(alloc, Calls::of_db(calls)) {
-            Some(2) => return calls > 1,
-            Some(_) => {}
-            None => return false,
-        }
-    }
-    false
-}
-
-#[test]
-fn a_stop_at_any_call_leaves_a_commit_whole_or_none_of_it(rt: HostRuntime) {
-    let alloc = rt.alloc();
-    assert!(rt; survive_in_log(alloc));
-    assert!(rt; survive_in_db(alloc));
 }

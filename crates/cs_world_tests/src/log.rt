@@ -1,6 +1,4 @@
 mod appending;
-mod judging;
-mod logs;
 mod memory;
 mod opening;
 mod reading;

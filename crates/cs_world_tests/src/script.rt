@@ -1,5 +1,1 @@
-mod given;
 mod memory;
-mod rows;
-mod tests;
-mod unreadable;

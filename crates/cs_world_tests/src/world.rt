@@ -2,4 +2,4 @@ mod again;
 mod given;
 mod memory;
 mod refused;
-mod tests;
+mod running;

@@ -1,26 +1,17 @@
 //! Memory that is refused, at opening, at appending and at reading: it is told, leaves everything, and the same call is then made.
 
-use crate::log::logs::{
-    INSERT, Push, ROW_1, ROW_2, Store, Told, UPDATE, appends, bare, catalog_of, entry_of, has,
-};
+use crate::given::{INSERT, Push, ROW_1, ROW_2, Store, Told, UPDATE, appends, bare, entry_of, has};
 use cs_log_opening::open_log;
 use cs_log_reading::{entries_at, entries_told, has_entry};
 use cs_opening::OpenFault;
 use cs_store::{RowStore, StoreFault};
+use cs_store_cases::catalog;
 use cs_value::Catalog;
 use std::alloc::Global;
 
-const FIRST: Push = Push {
-    origin: 7,
-    number: 1,
-    changes: INSERT,
-};
+const FIRST: Push = (1, INSERT);
 
-const SECOND: Push = Push {
-    origin: 7,
-    number: 2,
-    changes: UPDATE,
-};
+const SECOND: Push = (2, UPDATE);
 
 /// Whether a store opens with so many entries, the first time or, where memory was refused, the second.
 fn opens_at_last(alloc: Global, store: &mut Store, catalog: &Catalog, count: u32) -> bool {
@@ -105,8 +96,8 @@ fn shows_at_last(alloc: Global, store: &mut Store, catalog: &Catalog) -> bool {
 
 /// A hub's store that is laid out, appended to, read and opened again.
 fn lives(alloc: Global) -> Option<bool> {
-    let catalog = catalog_of(alloc, "t1")?;
-    let mut store = bare(alloc);
+    let catalog = catalog(alloc)?;
+    let mut store = bare(alloc, u64::MAX);
     let opened = opens_at_last(alloc, &mut store, &catalog, 0);
     let first = appends_at_last(alloc, &mut store, &catalog, FIRST, 0, None)?;
     let second = appends_at_last(alloc, &mut store, &catalog, SECOND, 1, Some(ROW_1))?;

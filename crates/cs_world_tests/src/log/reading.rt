@@ -1,32 +1,17 @@
-//! A log that is read again: whether an entry stands at a version, the entries, and the answers that tell them, beside bytes that were
-//! written by hand.
+//! A log that is read again by calls that no request makes: for entries that no push can be, and past its end.
 
-use crate::log::logs::{DELETE, INSERT, Push, Store, Told, UPDATE, appends, entry_of, opened};
-use cs_edits::PlaceEdits;
+use crate::given::{
+    DELETE, INSERT, NO_CHANGE, Push, Store, Told, UPDATE, appends, entry_of, opened,
+};
 use cs_log::LogEntry;
 use cs_log_reading::{entries_at, entries_told, has_entry};
-use cs_store::{Batch, RowStore, StoreFault, StoredEntry};
+use cs_store::{RowStore, StoreFault};
+use cs_store_cases::commit_of;
 use cs_value::Catalog;
 use std::alloc::Global;
 
-/// The INSERT of (1, 'v1') by replica 7, its UPDATE to 'v2' by replica 8, and the DELETE of (1, 'v2') by replica 7.
-const PUSHES: [Push; 3] = [
-    Push {
-        origin: 7,
-        number: 1,
-        changes: INSERT,
-    },
-    Push {
-        origin: 8,
-        number: 5,
-        changes: UPDATE,
-    },
-    Push {
-        origin: 7,
-        number: 2,
-        changes: DELETE,
-    },
-];
+/// Pushes of the INSERT of (1, 'v1'), of its UPDATE to 'v2', and of the DELETE of (1, 'v2').
+const PUSHES: [Push; 3] = [(1, INSERT), (5, UPDATE), (2, DELETE)];
 
 /// The tables of a hub, and its store, to which they were appended.
 fn filled(alloc: Global) -> Option<(Catalog, Store)> {
@@ -39,41 +24,25 @@ fn filled(alloc: Global) -> Option<(Catalog, Store)> {
     Some((catalog, store))
 }
 
-/// Whether the log is told to have, or not to have, this entry at a version.
+/// Whether the log has this entry at a version.
 fn has(alloc: Global, version: u32, push: Push) -> Option<bool> {
     let (catalog, mut store) = filled(alloc)?;
     let entry = entry_of(alloc, &catalog, push)?;
-    let has = has_entry(alloc, &mut store, &catalog, version, &entry).ok()?;
-    if store.failures() != 0 {
-        return None;
-    }
-    Some(has)
+    has_entry(alloc, &mut store, &catalog, version, &entry).ok()
 }
 
+/// One at its version, one of no changes, one at the next version of the log, and at the last that there can be.
 #[test]
 fn an_entry_stands_at_its_version(rt: HostRuntime) {
     let alloc = rt.alloc();
-    let cases: [(u32, u32, u64, &'static [u8], bool); 10] = [
-        (0, 7, 1, INSERT, true),
-        (1, 8, 5, UPDATE, true),
-        (2, 7, 2, DELETE, true),
-        // Another number, another origin, other changes, none.
-        (0, 7, 2, INSERT, false),
-        (0, 8, 1, INSERT, false),
-        (0, 7, 1, UPDATE, false),
-        (0, 7, 1, &[], false),
-        // Another version, the next one of the log, and the last that there can be.
-        (1, 7, 1, INSERT, false),
-        (3, 7, 1, INSERT, false),
-        (u32::MAX, 7, 1, INSERT, false),
+    let cases: [(u32, &'static [u8], bool); 4] = [
+        (0, INSERT, true),
+        (0, NO_CHANGE, false),
+        (3, INSERT, false),
+        (u32::MAX, INSERT, false),
     ];
-    for (version, origin, number, changes, wanted) in cases {
-        let push = Push {
-            origin,
-            number,
-            changes,
-        };
-        assert!(rt; has(alloc, version, push) == Some(wanted));
+    for (version, does, wanted) in cases {
+        assert!(rt; has(alloc, version, (1, does)) == Some(wanted));
     }
 }
 
@@ -110,47 +79,7 @@ fn entries_are_read(rt: HostRuntime) {
         (3, 0, &[]),
     ];
     for (first, count, pushes) in cases {
-        assert!(rt; reads(alloc, first, count, pushes).unwrap_or(false));
-    }
-}
-
-/// The entry of the first push from 0 on; the two behind it from 1 on; none from 2 on, and none from 3 on.
-const FIRST: &[u8] = &[
-    0x14, 0, 0, 0, 0, 0, 0, 0, 0, 0, 0, 0, 1, 0, 0, 0, 0, 7, 0, 0, 0, 0, 0, 0, 0, 1, 0, 0, 0, 0x16,
-    0x54, 2, 1, 0, 0x74, 0x31, 0, 0x12, 0, 1, 0, 0, 0, 0, 0, 0, 0, 1, 3, 2, 0x76, 0x31,
-];
-
-const OTHERS: &[u8] = &[
-    0x14, 0, 0, 0, 0, 0, 0, 0, 1, 0, 0, 0, 2, // The UPDATE, in 27 bytes.
-    0, 0, 0, 0, 8, 0, 0, 0, 0, 0, 0, 0, 5, 0, 0, 0, 0x1b, 0x54, 2, 1, 0, 0x74, 0x31, 0, 0x17, 0, 1,
-    0, 0, 0, 0, 0, 0, 0, 1, 3, 2, 0x76, 0x31, 0, 3, 2, 0x76, 0x32,
-    // The DELETE, in 22 bytes.
-    0, 0, 0, 0, 7, 0, 0, 0, 0, 0, 0, 0, 2, 0, 0, 0, 0x16, 0x54, 2, 1, 0, 0x74, 0x31, 0, 9, 0, 1, 0,
-    0, 0, 0, 0, 0, 0, 1, 3, 2, 0x76, 0x32,
-];
-
-const NONE_OF_2: &[u8] = &[0x14, 0, 0, 0, 0, 0, 0, 0, 2, 0, 0, 0, 0];
-
-const NONE_OF_3: &[u8] = &[0x14, 0, 0, 0, 0, 0, 0, 0, 3, 0, 0, 0, 0];
-
-/// Whether so many entries are told by these bytes.
-fn tells(alloc: Global, first: u16, count: u16, wanted: &[u8]) -> Option<bool> {
-    let (catalog, mut store) = filled(alloc)?;
-    let told = entries_told(alloc, &mut store, &catalog, first as u32, count as u32).ok()?;
-    Some(told.as_slice() == wanted && store.failures() == 0)
-}
-
-#[test]
-fn entries_are_told(rt: HostRuntime) {
-    let alloc = rt.alloc();
-    let cases: [(u16, u16, &[u8]); 4] = [
-        (0, 1, FIRST),
-        (1, 2, OTHERS),
-        (2, 0, NONE_OF_2),
-        (3, 0, NONE_OF_3),
-    ];
-    for (first, count, wanted) in cases {
-        assert!(rt; tells(alloc, first, count, wanted).unwrap_or(false));
+        assert!(rt; reads(alloc, first, count, pushes) == Some(true));
     }
 }
 
@@ -164,56 +93,43 @@ fn misreads(alloc: Global, store: &mut Store, catalog: &Catalog, first: u16, cou
         && matches!(told, Err(StoreFault::Device))
 }
 
+/// The same store, with an entry behind the three that is stored with this body.
+fn filled_with(alloc: Global, body: &[u8]) -> Option<(Catalog, Store)> {
+    let (catalog, mut store) = filled(alloc)?;
+    let entry = Some((7, 3, body));
+    commit_of(alloc, &mut store, &(&[], &[], &[], entry)).ok()?;
+    Some((catalog, store))
+}
+
 fn are_past_the_end(alloc: Global, first: u16, count: u16) -> Option<bool> {
     let (catalog, mut store) = filled(alloc)?;
     Some(misreads(alloc, &mut store, &catalog, first, count) && store.inner.failures() == 2)
 }
 
-#[test]
-fn entries_past_the_end_are_misread(rt: HostRuntime) {
-    let alloc = rt.alloc();
-    let cases: [(u16, u16); 4] = [(0, 4), (2, 2), (3, 1), (7, 1)];
-    for (first, count) in cases {
-        assert!(rt; are_past_the_end(alloc, first, count).unwrap_or(false));
-    }
+/// Whether an entry that is stored without a body can neither be read nor told.
+fn is_untold(alloc: Global) -> Option<bool> {
+    let (catalog, mut store) = filled_with(alloc, &[])?;
+    Some(misreads(alloc, &mut store, &catalog, 2, 2))
 }
 
-/// Stores an entry with this body.
-fn put_body(alloc: Global, store: &mut Store, body: &[u8]) -> Result<(), StoreFault> {
-    let batch = Batch {
-        rows: PlaceEdits::new(alloc),
-        pending: PlaceEdits::new(alloc),
-        meta: Vec::new(alloc),
-        log: Some(StoredEntry {
-            origin: 7,
-            number: 3,
-            body: Vec::from_slice(alloc, body)?,
-        }),
-    };
-    store.commit(&batch)
-}
-
-/// Whether an entry that is stored with this body behind the three isn't read, and that is told to the store.
+/// Whether an entry that is stored with this body isn't read, and that is told to the store.
 fn is_unread(alloc: Global, body: &[u8]) -> Option<bool> {
-    let (catalog, mut store) = filled(alloc)?;
-    put_body(alloc, &mut store, body).ok()?;
+    let (catalog, mut store) = filled_with(alloc, body)?;
     let read = entries_at(alloc, &mut store, &catalog, 2, 2);
     Some(matches!(read, Err(StoreFault::Device)) && store.failures() == 1)
 }
 
-/// Whether an entry that is stored without a body can't be told.
-fn is_untold(alloc: Global) -> Option<bool> {
-    let (catalog, mut store) = filled(alloc)?;
-    put_body(alloc, &mut store, &[]).ok()?;
-    Some(misreads(alloc, &mut store, &catalog, 2, 2))
-}
-
+/// Past the end; an entry that is stored without a body; and bodies of another kind, of no changeset, and of a changeset without its kind.
 #[test]
-fn bodies_that_are_none_are_misread(rt: HostRuntime) {
+fn what_is_no_entry_is_misread(rt: HostRuntime) {
     let alloc = rt.alloc();
-    let cases: [&'static [u8]; 3] = [&[1], &[0, 0x50], &INSERT[..7]];
-    for body in cases {
-        assert!(rt; is_unread(alloc, body).unwrap_or(false));
+    let cases: [(u16, u16); 4] = [(0, 4), (2, 2), (3, 1), (7, 1)];
+    for (first, count) in cases {
+        assert!(rt; are_past_the_end(alloc, first, count) == Some(true));
     }
-    assert!(rt; is_untold(alloc).unwrap_or(false));
+    assert!(rt; is_untold(alloc) == Some(true));
+    let bodies: [&'static [u8]; 3] = [&[1], &[0, 0x50], &INSERT[1..8]];
+    for body in bodies {
+        assert!(rt; is_unread(alloc, body) == Some(true));
+    }
 }

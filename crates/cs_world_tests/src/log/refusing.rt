@@ -1,48 +1,28 @@
 //! Calls that the device refuses, one after another: each is told, leaves everything, and is made when it comes again.
 
-use crate::log::logs::{INSERT, Push, ROW_1, ROW_2, Store, Told, UPDATE, appends, bare, has, opened};
+use crate::given::{ROW_1, ROW_2, Store, Told, UPDATE, appends, bare, filled, has, refusing};
 use cs_log_opening::open_log;
 use cs_opening::OpenFault;
-use cs_store::{MetaName, RowStore, Trip, Written};
+use cs_store::{MetaName, RowStore};
+use cs_store_cases::catalog;
 use cs_value::Catalog;
 use std::alloc::Global;
 
-/// A push of replica 7.
-fn push(changes: &'static [u8]) -> Push {
-    Push {
-        origin: 7,
-        number: 1,
-        changes,
-    }
-}
-
-/// The same store, which refuses the call behind so many.
-fn refusing(store: Store, passes: u64) -> Store {
-    Trip {
-        inner: store.inner,
-        passes: Some(passes),
-        wrote: store.wrote,
-    }
-}
-
 /// The tables of a hub, and its store, which has the entry of (1, 'v1') and refuses the call behind so many.
-fn filled(alloc: Global, passes: u64) -> Option<(Catalog, Store)> {
-    let (catalog, mut store) = opened(alloc)?;
-    if appends(alloc, &mut store, &catalog, push(INSERT)) != Some(Told::Done) {
-        return None;
-    }
+fn filled_for(alloc: Global, passes: u64) -> Option<(Catalog, Store)> {
+    let (catalog, store) = filled(alloc)?;
     Some((catalog, refusing(store, passes)))
 }
 
 /// Whether an append is refused where so many calls pass, changes nothing, and is made then.
 fn is_appended_again(alloc: Global, passes: u64) -> Option<bool> {
-    let (catalog, mut store) = filled(alloc, passes)?;
+    let (catalog, mut store) = filled_for(alloc, passes)?;
     let before = store.written();
-    let told = appends(alloc, &mut store, &catalog, push(UPDATE))?;
+    let told = appends(alloc, &mut store, &catalog, (2, UPDATE))?;
     let kept = store.failures() == 1
         && store.written() == before
         && has(&mut store, 1, Some(ROW_1)) == Ok(true);
-    let again = appends(alloc, &mut store, &catalog, push(UPDATE))?;
+    let again = appends(alloc, &mut store, &catalog, (2, UPDATE))?;
     Some(
         told == Told::Device
             && kept
@@ -53,8 +33,8 @@ fn is_appended_again(alloc: Global, passes: u64) -> Option<bool> {
 
 /// Whether no call of an append is refused where so many pass.
 fn is_appended_at_once(alloc: Global, passes: u64) -> Option<bool> {
-    let (catalog, mut store) = filled(alloc, passes)?;
-    let told = appends(alloc, &mut store, &catalog, push(UPDATE))?;
+    let (catalog, mut store) = filled_for(alloc, passes)?;
+    let told = appends(alloc, &mut store, &catalog, (2, UPDATE))?;
     Some(told == Told::Done && store.failures() == 0)
 }
 
@@ -63,9 +43,9 @@ fn is_appended_at_once(alloc: Global, passes: u64) -> Option<bool> {
 fn an_append_that_the_device_refuses_changes_nothing(rt: HostRuntime) {
     let alloc = rt.alloc();
     for passes in 0..2u64 {
-        assert!(rt; is_appended_again(alloc, passes).unwrap_or(false));
+        assert!(rt; is_appended_again(alloc, passes) == Some(true));
     }
-    assert!(rt; is_appended_at_once(alloc, 2).unwrap_or(false));
+    assert!(rt; is_appended_at_once(alloc, 2) == Some(true));
 }
 
 /// Whether an opening is refused, writes nothing, and the same opening then gives this count.
@@ -79,8 +59,8 @@ fn is_opened_again(alloc: Global, catalog: &Catalog, store: &mut Store, count: u
 
 /// Whether a store that holds nothing is refused where so many calls pass, holds nothing still, and is laid out then.
 fn is_laid_out_again(alloc: Global, passes: u64) -> Option<bool> {
-    let (catalog, _) = opened(alloc)?;
-    let mut store = refusing(bare(alloc), passes);
+    let catalog = catalog(alloc)?;
+    let mut store = bare(alloc, passes);
     let told = open_log(alloc, &mut store, &catalog);
     let none = store.meta(MetaName::Catalog).ok()?.is_none();
     Some(
@@ -93,7 +73,7 @@ fn is_laid_out_again(alloc: Global, passes: u64) -> Option<bool> {
 
 /// Whether the store with one entry is refused so, and is as it was.
 fn is_read_again(alloc: Global, passes: u64) -> Option<bool> {
-    let (catalog, mut store) = filled(alloc, passes)?;
+    let (catalog, mut store) = filled_for(alloc, passes)?;
     Some(
         is_opened_again(alloc, &catalog, &mut store, 1)
             && has(&mut store, 1, Some(ROW_1)) == Ok(true),
@@ -102,8 +82,8 @@ fn is_read_again(alloc: Global, passes: u64) -> Option<bool> {
 
 /// Whether no call is refused where so many pass: of a store that holds nothing, and of one with one entry.
 fn are_opened_at_once(alloc: Global, bare_passes: u64, passes: u64) -> Option<bool> {
-    let (catalog, mut store) = filled(alloc, passes)?;
-    let mut first = refusing(bare(alloc), bare_passes);
+    let (catalog, mut store) = filled_for(alloc, passes)?;
+    let mut first = bare(alloc, bare_passes);
     Some(
         open_log(alloc, &mut first, &catalog) == Ok(0)
             && first.failures() == 0
@@ -118,10 +98,10 @@ fn are_opened_at_once(alloc: Global, bare_passes: u64, passes: u64) -> Option<bo
 fn what_the_device_refuses_is_not_opened(rt: HostRuntime) {
     let alloc = rt.alloc();
     for passes in 0..9u64 {
-        assert!(rt; is_laid_out_again(alloc, passes).unwrap_or(false));
+        assert!(rt; is_laid_out_again(alloc, passes) == Some(true));
     }
     for passes in 0..11u64 {
-        assert!(rt; is_read_again(alloc, passes).unwrap_or(false));
+        assert!(rt; is_read_again(alloc, passes) == Some(true));
     }
-    assert!(rt; are_opened_at_once(alloc, 9, 11).unwrap_or(false));
+    assert!(rt; are_opened_at_once(alloc, 9, 11) == Some(true));
 }

@@ -1,7 +1,7 @@
 use Rattle.std.proofs.Common.{◌≡◌, ◌∷◌, []}
 use Rattle.std.proofs.lemmas.List.Elements.{All-cons, All-nil}
 use Rattle.cs_store.specs.Contents.{nothing}
-use Rattle.cs_world_tests.proofs.given.opened.Goals as goal
+use Rattle.cs_world_tests.proofs.world.given.opened.Goals as goal
 
 pub new-requires-clause-replicas : goal.new-requires-clause-replicas
 new-requires-clause-replicas g c =

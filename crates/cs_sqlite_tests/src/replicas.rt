@@ -1,18 +1,14 @@
-//! A stop at each call of the file in which a replica's store lies. After it the store opens as it was before the call of the
-//! replica or after it, beside a store in memory that made as many steps; an answer of three entries leaves none to three of
-//! them, in order.
+//! A replica that makes five calls over any store, and what a store shows in memory after each commit; an answer of three entries makes one a
+//! entry, in order.
 
 use crate::messages::ACCEPTED;
 use cs_conflict::{Clash, Guard, Wish};
 use cs_map_store::MapStore;
 use cs_replica::Replica;
-use crate::disks::{Calls, Disk, Filed, files_behind, open_new};
-use crate::images::shown_again;
 use cs_store::RowStore;
-use cs_store_cases::{catalog, image};
+use cs_store_cases::image;
 use cs_value::{Catalog, Items, Memory, Row, Text, Value};
 use cs_wire::Answer;
-use sqlite::Files;
 use std::alloc::Global;
 
 /// The row of a number and the text `v1`.
@@ -110,7 +106,7 @@ fn step<S: RowStore>(alloc: Global, replica: &mut Replica<S>, at: usize) -> bool
 
 /// How many commits there were before a call that comes behind so many calls, the first of which opens the replica; and how many
 /// behind it.
-fn commits_around(calls: usize) -> (usize, usize) {
+pub(crate) fn commits_around(calls: usize) -> (usize, usize) {
     match calls {
         0 => (0, 1),
         1 => (1, 2),
@@ -123,13 +119,12 @@ fn commits_around(calls: usize) -> (usize, usize) {
 }
 
 /// What a store in memory shows after so many commits of the replica, the first of which lays it out.
-fn shown_in_memory(alloc: Global, commits: usize) -> Option<Vec<u8>> {
+pub(crate) fn shown_after(alloc: Global, catalog: &Catalog, commits: usize) -> Option<Vec<u8>> {
     let mut store = MapStore::new(alloc);
     if commits == 0 {
         return image(alloc, &mut store).ok();
     }
-    let catalog = catalog(alloc)?;
-    let Ok(mut replica) = Replica::open(alloc, store, &catalog, 7) else {
+    let Ok(mut replica) = Replica::open(alloc, store, catalog, 7) else {
         return None;
     };
     for at in 0..commits - 1 {
@@ -150,73 +145,13 @@ fn calls_made<S: RowStore>(alloc: Global, replica: &mut Replica<S>) -> usize {
     CALLS
 }
 
-/// How many calls succeed over a store in files, and the files then.
-fn made_over(alloc: Global, store: Filed, catalog: &Catalog) -> (usize, Files<Disk>) {
+/// How many calls succeed over a store that holds nothing, of which the first opens the replica, and the store then.
+pub(crate) fn made_over<S: RowStore>(alloc: Global, store: S, catalog: &Catalog) -> (usize, S) {
     match Replica::open(alloc, store, catalog, 7) {
         Ok(mut replica) => {
             let made = calls_made(alloc, &mut replica);
-            (made.saturating_add(1), files_behind(replica.close()))
+            (made.saturating_add(1), replica.close())
         }
-        Err((store, _)) => (0, files_behind(store)),
+        Err((store, _)) => (0, store),
     }
-}
-
-/// How many calls succeed in new files that stop, and the files then.
-fn stopped(alloc: Global, catalog: &Catalog, calls: Calls) -> (usize, Files<Disk>) {
-    match open_new(alloc, calls) {
-        Ok(store) => made_over(alloc, store, catalog),
-        Err(files) => (0, files),
-    }
-}
-
-/// Whether it is what a store in memory shows after one of these numbers of commits.
-fn is_between(alloc: Global, shown: &[u8], first: usize, last: usize) -> bool {
-    for commits in first..last.saturating_add(1) {
-        if let Some(image) = shown_in_memory(alloc, commits) {
-            if image.as_slice() == shown {
-                return true;
-            }
-        }
-    }
-    false
-}
-
-/// How many calls succeeded before a stop behind so many calls of a file, if the store then shows what it may.
-fn survives(alloc: Global, catalog: &Catalog, calls: Calls) -> Option<usize> {
-    let (made, files) = stopped(alloc, catalog, calls);
-    let shown = shown_again(alloc, files)?;
-    let (first, last) = commits_around(made);
-    if is_between(alloc, shown.as_slice(), first, last) {
-        Some(made)
-    } else {
-        None
-    }
-}
-
-/// Whether a replica survives a stop behind each number of calls of the log, until none comes.
-fn survive_all(alloc: Global) -> Option<bool> {
-    let catalog = catalog(alloc)?;
-    for calls in 0..2000 {
-        if survives(alloc, &catalog, Calls::of_log(calls))? > CALLS {
-            return Some(calls > 10);
-        }
-    }
-    Some(false)
-}
-
-/// The same of the database's own file.
-fn survive_all_in_db(alloc: Global) -> Option<bool> {
-    let catalog = catalog(alloc)?;
-    for calls in 0..2000 {
-        if survives(alloc, &catalog, Calls::of_db(calls))? > CALLS {
-            return Some(calls > 1);
-        }
-    }
-    Some(false)
-}
-
-#[test]
-fn a_stop_in_a_call_of_a_replica_leaves_it_made_or_not(rt: HostRuntime) {
-    assert!(rt; survive_all(rt.alloc()) == Some(true));
-    assert!(rt; survive_all_in_db(rt.alloc()) == Some(true));
 }
