@@ -12,7 +12,7 @@ program="$(readlink -f "${1:?usage: bench/check_node.sh PROGRAM}")"
 
 # ---- what the cases are made of
 
-# The headers of t1(a key, b) and t2(a key, b, c, d); the first bytes of changes; integers, texts, NULL and an undefined field.
+# The headers of t1(a key, b) and t2(a key, b, c, d); the first bytes of changes; integers, texts and an undefined field.
 H1=54020100743100
 H2=540401000000743200
 I=1200
