@@ -105,7 +105,7 @@ fn survives(alloc: Global, catalog: &Catalog, whose: Whose, calls: Calls) -> Opt
     None
 }
 
-/// Which file stops, and behind how many calls it does at least.
+/// Which file stops.
 #[derive(Clone, Copy)]
 enum Stops {
     Log,
