@@ -138,7 +138,7 @@ struct Case<'a> {
 /// The DELETE of (1, 'v2') from `t1`, and the blob where it was left out.
 const OTHER_DELETED: &[u8] = b"\x54\x02\x01\0t1\0\x09\0\x01\0\0\0\0\0\0\0\x01\x03\x02v2";
 
-const CASES: [Case<'static>; 8] = [
+const CASES: &[Case<'static>] = &[
     // A DELETE of another row, left out and made.
     Case {
         rows: &[(0, ONE, Some(ROW))],
@@ -246,7 +246,7 @@ fn is_so(alloc: Global, case: &Case<'_>) -> Result<bool, ApplyFault> {
 
 #[test]
 fn what_is_applied(rt: HostRuntime) {
-    for case in &CASES {
+    for case in CASES {
         assert!(rt; is_so(rt.alloc(), case).unwrap_or(false));
     }
 }
