@@ -479,7 +479,18 @@ fn replaces_both(alloc: Global) -> Result<bool, Memory> {
     Ok(first_replaced(alloc, &catalog, &changeset)?.as_slice() == BOTH_REPLACED)
 }
 
-/// Whether it is told that a change has NULL at a key column.
+/// Whether it is told that a change of this changeset has NULL at a key column.
+fn finds_null_in(
+    alloc: Global,
+    catalog: &Catalog,
+    changeset: &Changeset<'_>,
+) -> Result<bool, Memory> {
+    match find_tasks(alloc, catalog, changeset) {
+        Ok(_) => Ok(false),
+        Err(fault) => Ok(fault.to_string(alloc)?.as_str() == "NullKey"),
+    }
+}
+
 fn finds_null(alloc: Global) -> Result<bool, Memory> {
     let Some(catalog) = catalog(alloc)? else {
         return Ok(false);
@@ -487,10 +498,7 @@ fn finds_null(alloc: Global) -> Result<bool, Memory> {
     let Ok(changeset) = read(alloc, NULL_KEY) else {
         return Ok(false);
     };
-    match find_tasks(alloc, &catalog, &changeset) {
-        Ok(_) => Ok(false),
-        Err(fault) => Ok(fault.to_string(alloc)?.as_str() == "NullKey"),
-    }
+    finds_null_in(alloc, &catalog, &changeset)
 }
 
 #[test]
