@@ -140,13 +140,23 @@ fn has_no_row(hub: &mut Hub<Store>, table: usize) -> bool {
     matches!(hub.rows(table), Ok(rows) if rows.is_empty())
 }
 
-/// Whether a new hub has its table, and no entry, nor one behind those that it has, and no row, nor a second table.
+/// Whether a hub has no entry, nor one behind those that it has.
+fn has_no_entry(hub: &mut Hub<Store>) -> bool {
+    let entries = hub.entries(0, 10);
+    let above = hub.entries(1, 10);
+    matches!(&entries, Ok(entries) if entries.is_empty()) && matches!(above, Err(HubFault::Ahead))
+}
+
+/// Whether a new hub has its table, and no entry, row or second table.
 fn has_nothing(alloc: Global) -> Option<bool> {
     let mut hub = hub_of_t1(alloc)?;
-    let none = matches!(hub.entries(0, 10), Ok(entries) if entries.is_empty());
-    let above = matches!(hub.entries(1, 10), Err(HubFault::Ahead));
-    let rows = has_no_row(&mut hub, 0) && has_no_row(&mut hub, 1);
-    Some(none && above && rows && hub.newest() == 0 && hub.tables().len() == 1)
+    Some(
+        hub.newest() == 0
+            && hub.tables().len() == 1
+            && has_no_row(&mut hub, 0)
+            && has_no_row(&mut hub, 1)
+            && has_no_entry(&mut hub),
+    )
 }
 
 #[test]
