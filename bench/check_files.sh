@@ -318,6 +318,7 @@ if [ -n "$shell" ]; then
     # Another's database, one beside a store's tables, and logs whose versions aren't those from 0 on.
     finds 'a table of others' Device "$note"
     finds 'a table beside the four' Device "$four $value $row $entry $note"
+    finds 'a table that is not strict' Device "$(printf '%s' "$four" | sed '1s/ STRICT//') $value $row $entry"
     finds 'three tables without entry 0' Device "$three $value $row INSERT INTO log VALUES (1, 0, 1, x'00$insert');"
     finds 'four tables without entry 0' Device "$four $value $row INSERT INTO log VALUES (1, 0, 1, x'00$insert');"
     finds 'a version below 0' Device "$four $value $row $entry INSERT INTO log VALUES (-1, 0, 1, x'00$insert');"
