@@ -1,7 +1,7 @@
 //! Bodies of entries beside bytes that were written by hand, and entries.
 
 use crate::given::catalog;
-use cs_log::{Body, BodyFault, LogEntry, put_body, read_body};
+use cs_log::{Body, BodyFault, LogEntry, is_stored_body, put_body, read_body};
 use cs_value::Memory;
 use std::alloc::Global;
 
@@ -24,13 +24,24 @@ fn stays(alloc: Global, bytes: &[u8]) -> Result<bool, BodyFault> {
     Ok(stored.as_slice() == bytes)
 }
 
-/// A body with changes, and one without.
-const BODIES: [&[u8]; 2] = [INSERT, b"\0"];
+/// Whether the bytes are told to be a body.
+fn told(alloc: Global, bytes: &[u8]) -> Option<bool> {
+    let catalog = catalog(alloc)?;
+    is_stored_body(alloc, &catalog, bytes).ok()
+}
+
+/// A body with a change, with two, and one without.
+const BODIES: [&[u8]; 3] = [
+    INSERT,
+    b"\0\x54\x02\x01\0t1\0\x12\0\x01\0\0\0\0\0\0\0\x01\x03\x02v1\x12\0\x01\0\0\0\0\0\0\0\x02\x03\x02v1",
+    b"\0",
+];
 
 #[test]
 fn bodies_are_read_and_stored(rt: HostRuntime) {
     for bytes in BODIES {
         assert!(rt; stays(rt.alloc(), bytes).unwrap_or(false));
+        assert!(rt; told(rt.alloc(), bytes) == Some(true));
     }
 }
 
@@ -39,19 +50,21 @@ fn is_refused(alloc: Global, bytes: &[u8]) -> bool {
     matches!(body(alloc, bytes), Err(BodyFault::NoBody))
 }
 
-/// No byte, another kind, another table, a key column's mark that is 2 in place of the normal form's 1, and one byte too few.
-const NO_BODIES: [&[u8]; 5] = [
+/// No byte, another kind, another table, a key column's mark that is 2 in place of the normal form's 1, one byte too few, and keys that fall.
+const NO_BODIES: [&[u8]; 6] = [
     b"",
     b"\x01\x54\x02\x01\0t1\0\x12\0\x01\0\0\0\0\0\0\0\x01\x03\x02v1",
     b"\0\x54\x02\x01\0t9\0\x12\0\x01\0\0\0\0\0\0\0\x01\x03\x02v1",
     b"\0\x54\x02\x02\0t1\0\x12\0\x01\0\0\0\0\0\0\0\x01\x03\x02v1",
     b"\0\x54\x02\x01\0t1\0\x12\0\x01\0\0\0\0\0\0\0\x01\x03\x02v",
+    b"\0\x54\x02\x01\0t1\0\x12\0\x01\0\0\0\0\0\0\0\x02\x03\x02v1\x12\0\x01\0\0\0\0\0\0\0\x01\x03\x02v1",
 ];
 
 #[test]
 fn refused_bodies(rt: HostRuntime) {
     for bytes in NO_BODIES {
         assert!(rt; is_refused(rt.alloc(), bytes));
+        assert!(rt; told(rt.alloc(), bytes) == Some(false));
     }
 }
 

@@ -2,15 +2,13 @@
 use Rattle.std.proofs.Common.{◌≡◌, ◌⊎◌, inl, inr, ℕ, Bool, true, false, cond, List, [], ◌∷◌, Option, Some, None, refl, sym, subst}
 use Rattle.std.specs.Option.{IsSome}
 use Rattle.std.specs.Str.{bytes_eq}
-use Rattle.std.specs.Cmp.{Equal-is}
-use Rattle.std.proofs.lemmas.Map.Lookups.{exact_bytes}
 use Rattle.std.proofs.lemmas.Slice.Eq.{bytes_eq-Decides}
 use Rattle.cs_value.specs.Decided.{OrNot, both_or_not, same_bytes_or_not, same_marks_or_not}
 use Rattle.cs_value.specs.Key.{Place}
 use Rattle.cs_value.specs.declared.catalog.TableDef.{TableDef}
 use Rattle.cs_changeset.specs.cs_change.Action.{action_any, after_any}
 use Rattle.cs_changeset.specs.cs_change.Change.{Change}
-use Rattle.cs_normalising.specs.cs_normal.Order.{by_bytes, same_bytes}
+use Rattle.cs_normalising.specs.cs_normal.Order.{same_bytes}
 use Rattle.cs_normalising.specs.cs_normal.Facts.{same_is}
 use Rattle.cs_normalising.specs.cs_normal.Changes.{Changes, change_at}
 use Rattle.cs_normalising.specs.cs_normal.Normal.{FitsCatalog, IsOfTable, change_of, changes_in}

@@ -1,4 +1,5 @@
 pub mod Bodies
 pub mod Decided
 pub mod Logs
+pub mod Seen
 pub mod States

@@ -1,6 +1,7 @@
 pub mod Entry
 pub mod Laws
 pub mod Log
+pub mod Steps
 pub mod Stored
 pub use Rattle.cs_normalising.specs.cs_normal.State
 pub mod cs_change

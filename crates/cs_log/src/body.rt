@@ -17,7 +17,7 @@ use cs_value::{Catalog, Memory};
 use std::alloc::Global;
 
 /// The kind of a body that has changes: the first byte of what an entry does, as a log is stored. (Profile of this project.)
-const CHANGES: u8 = 0;
+pub(crate) const CHANGES: u8 = 0;
 
 /// What an entry of the log does. (Profile of this project.)
 #[derive(Drop)]

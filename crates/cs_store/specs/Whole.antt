@@ -8,8 +8,7 @@ use Rattle.cs_log.specs.cs_change.Spelling.{FitsChange, change_spelling}
 use Rattle.cs_log.specs.cs_change.Change.{Change}
 use Rattle.cs_log.specs.cs_keyed.NormalForm.{change_bytes, has_key}
 use Rattle.cs_log.specs.State.{IsRowOf}
-use Rattle.cs_log.specs.Stored.{FitsBody, stored_body}
-use Rattle.cs_log.specs.declared.body.Body.{Body}
+use Rattle.cs_log.specs.Stored.{IsStoredBody}
 use Rattle.cs_store.specs.Contents.{Contents, LogItem, StorePlace, name_text}
 use Rattle.cs_store.specs.declared.names.MetaName.{MetaName}
 
@@ -25,7 +24,7 @@ StoresChange table key body =
 
 -- the bytes are those that the body of an entry is stored as
 abbrev pub StoresBody : List TableDef → List ℕ → Type 0
-StoresBody tables bytes = (body : Body) × FitsBody tables body × (bytes ≡ stored_body body)
+StoresBody tables bytes = IsStoredBody tables bytes
 
 -- the place is under the number of a table, and there stands what is stored for that table
 abbrev pub AtTable : (TableDef → List ℕ → List ℕ → Type 0) → List TableDef → StorePlace → List ℕ → Type 0

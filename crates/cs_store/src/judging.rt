@@ -9,9 +9,9 @@ ghost use Rattle.cs_store.specs.Whole.{AtTable, IsName, StoresBody, StoresChange
 
 use crate::MetaName;
 use cs_log::below::{Change, Row, put_key, read_one, read_row};
-use cs_log::{BodyFault, read_body};
+use cs_log::is_stored_body;
 use cs_value::{Catalog, Memory, TableDef};
-use std::alloc::{AllocError, Global};
+use std::alloc::Global;
 
 /// The row of so many values that the whole of the bytes spells, if they spell one.
 pub fn whole_row(bytes: &[u8], columns: usize) -> Option<Row<'_>>
@@ -114,11 +114,7 @@ pub fn is_change(
 pub fn is_body(alloc: Global, catalog: &Catalog, bytes: &[u8]) -> Result<bool, Memory>
     ensures { IfOk result (λ is. IsTrue is ↔ StoresBody catalog.now bytes.now) }
 {
-    match read_body(alloc, catalog, bytes) {
-        Ok(_body) => Ok(true),
-        Err(BodyFault::NoBody) => Ok(false),
-        Err(BodyFault::Memory) => Err(AllocError),
-    }
+    is_stored_body(alloc, catalog, bytes)
 }
 
 /// Whether the bytes are the text of a name. (Profile of this project.)

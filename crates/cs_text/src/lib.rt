@@ -3,7 +3,7 @@
 //! its own. The definitions of `Text` state each text exactly, and each type here promises its own: what `{}` writes of a
 //! `ChangesetText`, a `BlobText`, a `NameText`, a `ValueText` or a `FieldText` is that text and nothing else, so `format!`
 //! ensures it where it succeeds. The text is a format of this project, described in docs/FORMATS.md.
-//! Its tests stand in `cs_bytes_tests`.
+//! Its texts are compared by `bench/check_tools.sh`.
 #![tactic(auto)]
 
 mod blobs;
