@@ -315,13 +315,18 @@ if [ -n "$shell" ]; then
     opens 'the last origin and number' "14000000000000000000000001""00ffffffffffffffffffffffff00000016$insert" 'rows meta log pending' \
         "$four $value $row INSERT INTO log VALUES (0, 4294967295, -1, x'00$insert');"
 
-    # Another's database, one beside a store's tables, and logs whose versions aren't those from 0 on.
+    # Another's database, and one beside a store's tables.
     finds 'a table of others' Device "$note"
     finds 'a table beside the four' Device "$four $value $row $entry $note"
     finds 'a table that is not strict' Device "$(printf '%s' "$four" | sed '1s/ STRICT//') $value $row $entry"
-    finds 'three tables without entry 0' Device "$three $value $row INSERT INTO log VALUES (1, 0, 1, x'00$insert');"
-    finds 'four tables without entry 0' Device "$four $value $row INSERT INTO log VALUES (1, 0, 1, x'00$insert');"
-    finds 'a version below 0' Device "$four $value $row $entry INSERT INTO log VALUES (-1, 0, 1, x'00$insert');"
+
+    # Logs whose versions aren't those from 0 on. The table that is missing is made before the log is looked at.
+    finds 'four tables without entry 0' Damaged "$four $value $row INSERT INTO log VALUES (1, 0, 1, x'00$insert');"
+    finds 'a gap behind entry 0' Damaged "$four $value $row $entry INSERT INTO log VALUES (2, 0, 1, x'00$insert');"
+    finds 'a version below 0' Damaged "$four $value $row $entry INSERT INTO log VALUES (-1, 0, 1, x'00$insert');"
+    make_found "$three $value $row INSERT INTO log VALUES (1, 0, 1, x'00$insert');"
+    refuses 'a hub on three tables without entry 0' 'sync: Damaged' "$pull\n" hub --file "$found" t1:10
+    selects 'three tables without entry 0' "$found" 'rows meta log pending' "SELECT group_concat(name, ' ') FROM sqlite_schema WHERE type = 'table'"
 
     # What a new hub lays out, which opens again, and not as that of another table.
     rm -f "$found" "$found-wal" "$found-shm"

@@ -5,14 +5,14 @@ use Rattle.std.specs.FinMap.{get, get-empty}
 use Rattle.std.specs.List.{AllByRecursion}
 use Rattle.std.proofs.lemmas.Option.{slice_get_within}
 use Rattle.cs_value.specs.declared.catalog.TableDef.{TableDef}
-use Rattle.cs_store.specs.Contents.{Bodies, Contents, StorePlace, log_count, meta_value, name_text, place_cmp}
+use Rattle.cs_store.specs.Contents.{Bodies, Contents, HasEachEntry, StorePlace, log_count, meta_value, name_text, place_cmp}
 use Rattle.cs_store.specs.Whole.{IsWhole}
 use Rattle.cs_store.specs.declared.names.MetaName.{MetaName}
 use Rattle.cs_store.specs.declared.names.MetaName.TheVariants.{Version, Number, Flight, Pending}
 use Rattle.cs_opening.specs.declared.owning.Owner.TheVariants.{This}
 use Rattle.cs_log_store.specs.Shows.{hub_value}
 use Rattle.cs_log_opening.specs.Opens.{AreOf, IsHubStore}
-use Rattle.cs_log_opening.specs.Steps.{HasAllBelow, IsCounted, PendsNoneBelow}
+use Rattle.cs_log_opening.specs.Steps.{IsCounted, PendsNoneBelow}
 use Rattle.cs_log_opening.proofs.Names.{each_name, no_bodies, none_at}
 
 -- none of a replica's names has a value
@@ -31,7 +31,7 @@ module _ (opening : List TableDef) (contents : Contents) where
 
   -- ---- what makes one
 
-  module _ (this : AreOf opening contents This) (lacks : LackNames contents) (whole : IsWhole opening contents) (pends : PendsNoneBelow contents (length opening)) (all : HasAllBelow contents (log_count contents)) where
+  module _ (this : AreOf opening contents This) (lacks : LackNames contents) (whole : IsWhole opening contents) (pends : PendsNoneBelow contents (length opening)) (all : HasEachEntry contents) where
     nowhere : (place : StorePlace) (body : List ℕ) → get contents.pending place ≡ Some body → ⊥
     nowhere place body e =
         let at = whole.pending place body e in
@@ -67,14 +67,13 @@ module _ (opening : List TableDef) (first second third fourth fifth : Contents) 
       count_is : count ≡ log_count first
       count_is = long ∙ ap log_count (pended ∙ checked ∙ lacked)
 
-      pub some_lacks : (HasAllBelow fifth count → ⊥) → IsHubStore opening first → ⊥
-      some_lacks never hub =
-          never (subst (HasAllBelow fifth) (sym count_is) (subst (λ (left : Contents). HasAllBelow left (log_count first)) (sym (counted ∙ pended ∙ checked ∙ lacked)) hub.entries))
+      pub some_lacks : (HasEachEntry fifth → ⊥) → IsHubStore opening first → ⊥
+      some_lacks never hub = never (subst HasEachEntry (sym (counted ∙ pended ∙ checked ∙ lacked)) hub.entries)
 
-      pub all_counted : AreOf opening first This → LackNames first → IsWhole opening second → PendsNoneBelow third end → HasAllBelow fifth count → IsCounted opening first (Some count)
+      pub all_counted : AreOf opening first This → LackNames first → IsWhole opening second → PendsNoneBelow third end → HasEachEntry fifth → IsCounted opening first (Some count)
       all_counted this lacks whole pends all = (
         hub_store opening first this lacks (subst (IsWhole opening) lacked whole)
             (subst (PendsNoneBelow first) (sym ends_there) (subst (λ (left : Contents). PendsNoneBelow left end) (checked ∙ lacked) pends))
-            (subst (HasAllBelow first) count_is (subst (λ (left : Contents). HasAllBelow left count) (counted ∙ pended ∙ checked ∙ lacked) all)),
+            (subst HasEachEntry (counted ∙ pended ∙ checked ∙ lacked) all),
         count_is,
       )

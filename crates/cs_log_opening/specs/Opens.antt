@@ -1,8 +1,8 @@
 -- Opening a hub over any store (profile of this project).
-use Rattle.std.specs.Prelude.{◌≡◌, ◌≢◌, ◌⊎◌, ◌<◌, ℕ, List, [], IsSome}
+use Rattle.std.specs.Prelude.{◌≡◌, ◌≢◌, ◌⊎◌, ℕ, List, []}
 use Rattle.std.specs.FinMap.{empty}
 use Rattle.cs_value.specs.declared.catalog.TableDef.{TableDef}
-use Rattle.cs_store.specs.Contents.{Contents, log_count, log_entry, meta_value, nothing}
+use Rattle.cs_store.specs.Contents.{Contents, HasEachEntry, log_count, meta_value, nothing}
 use Rattle.cs_store.specs.Whole.{IsWhole}
 use Rattle.cs_store.specs.declared.names.MetaName.TheVariants as named
 use Rattle.cs_log_store.specs.Shows.{HasHubValues, ShowsLog}
@@ -18,7 +18,7 @@ pub record IsHubStore (opening : List TableDef) (contents : Contents) : Type 0 w
   pub whole : IsWhole opening contents
   pub values : HasHubValues opening contents
   pub pending : contents.pending ≡ empty
-  pub entries : (version : ℕ) → version < log_count contents → IsSome (log_entry contents version)
+  pub entries : HasEachEntry contents
 
 -- ---- what is opened
 

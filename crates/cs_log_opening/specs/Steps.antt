@@ -1,7 +1,7 @@
 -- What the code has found on its way: no definition that a public clause cites.
-use Rattle.std.specs.Prelude.{◌≡◌, ◌≢◌, ◌<◌, ℕ, Bool, true, false, List, [], Option, Some, None, IsSome}
+use Rattle.std.specs.Prelude.{◌≡◌, ◌≢◌, ◌<◌, ℕ, Bool, true, false, List, [], Option, Some, None}
 use Rattle.cs_value.specs.declared.catalog.TableDef.{TableDef}
-use Rattle.cs_store.specs.Contents.{Contents, log_count, log_entry, nothing, stored_pending}
+use Rattle.cs_store.specs.Contents.{Contents, log_count, nothing, stored_pending}
 use Rattle.cs_log_store.specs.Shows.{ShowsLog}
 use Rattle.cs_log_opening.specs.Opens.{IsHubStore}
 
@@ -21,10 +21,6 @@ PendsNone contents number = (key : List ℕ) → stored_pending contents number 
 -- the same of each table with a number below this one
 abbrev pub PendsNoneBelow : Contents → ℕ → Type 0
 PendsNoneBelow contents end = (number : ℕ) → number < end → PendsNone contents number
-
--- an entry stands at each version below this one
-abbrev pub HasAllBelow : Contents → ℕ → Type 0
-HasAllBelow contents end = (version : ℕ) → version < end → IsSome (log_entry contents version)
 
 -- how many entries contents have that are what a hub's store is, or that they aren't
 abbrev pub IsCounted : List TableDef → Contents → Option ℕ → Type 0

@@ -5,7 +5,7 @@ ghost use Rattle.cs_store.specs.declared.fault.StoreFault.TheVariants.{Device};
 ghost use Rattle.cs_pending.specs.Calls.{ReadsStore};
 ghost use Rattle.cs_opening.specs.declared.owning.Owner.TheVariants.{This};
 ghost use Rattle.cs_log_opening.specs.Opens.{AreOf};
-ghost use Rattle.cs_log_opening.specs.Steps.{HasAllBelow, IsCounted, PendsNone, PendsNoneBelow};
+ghost use Rattle.cs_log_opening.specs.Steps.{IsCounted, PendsNone, PendsNoneBelow};
 
 use cs_opening::have_none;
 use cs_store::{MetaName, RowStore, StoreFault};
@@ -29,21 +29,6 @@ fn pends_none_below<S: RowStore>(store: &mut S, end: u32) -> Result<bool, StoreF
         match pends_none(store, number) {
             Ok(true) => {}
             Ok(false) => return Ok(false),
-            Err(fault) => return Err(fault),
-        }
-    }
-    Ok(true)
-}
-
-/// Whether an entry stands at each version below this one.
-fn has_all_below<S: RowStore>(store: &mut S, end: u32) -> Result<bool, StoreFault>
-    ensures reads { ReadsStore S.honest S.contents S.failed S.may_leave S.misreads Device (Unit {0}) store.old store.new result }
-    ensures told { S.honest store.new → IfOk result (λ all. IsTrue all ↔ HasAllBelow (S.contents store.old) end) }
-{
-    for version in 0..end {
-        match store.log_get(version) {
-            Ok(Some(_)) => {}
-            Ok(None) => return Ok(false),
             Err(fault) => return Err(fault),
         }
     }
@@ -86,7 +71,7 @@ pub(crate) fn count_entries<S: RowStore>(
         Ok(count) => count,
         Err(fault) => return Err(fault),
     };
-    match has_all_below(store, count) {
+    match store.log_is_whole() {
         Ok(true) => Ok(Some(count)),
         Ok(false) => Ok(None),
         Err(fault) => Err(fault),

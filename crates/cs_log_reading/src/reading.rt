@@ -1,13 +1,15 @@
 //! Entries, read from a store.
 
-ghost use Rattle.std.specs.Prelude.{◌≡◌, ◌↔◌, ◌+◌, ◌≤◌, ◌<◌, ◌^◌, List, Some, length, take, drop, slice_get, IfOk, IsSome, IsTrue};
+ghost use Rattle.std.specs.Prelude.{◌≡◌, ◌↔◌, ◌+◌, ◌≤◌, ◌<◌, ◌^◌, List, Some, Err, length, take, drop, slice_get, IfOk, IsTrue};
 ghost use Rattle.cs_log.specs.Stored.{IsEntryOf, stored_body};
 ghost use Rattle.cs_log.specs.declared.entry.LogEntry.{LogEntry as Entry};
+ghost use Rattle.cs_log.specs.declared.fault.BodyFault.TheVariants.{NoBody};
 ghost use Rattle.cs_log_store.specs.Shows.{ShowsLog, ShowsSomeLog, item_of_entry};
 ghost use Rattle.cs_log_reading.specs.Reading.{ShowsEntries};
+ghost use Rattle.cs_log_reading.specs.Steps.{AreStoredAs, HasRange, IsStoredAs, ReadsAs};
 ghost use Rattle.cs_pending.specs.Calls.{ReadsStore};
-ghost use Rattle.cs_store.specs.Contents.{log_entry};
-ghost use Rattle.cs_store.specs.Written.{item_of};
+ghost use Rattle.cs_store.specs.Contents.{log_range};
+ghost use Rattle.cs_store.specs.Written.{item_of, items_of};
 ghost use Rattle.cs_store.specs.declared.fault.StoreFault.TheVariants.{Device};
 
 use cs_log::laws::one_body;
@@ -16,17 +18,26 @@ use cs_store::{RowStore, StoreFault, StoredEntry};
 use cs_value::{Catalog, Memory};
 use std::alloc::Global;
 
-/// What is stored of the entry at a version. That there is none is told to the store.
-pub(crate) fn stored_at<S: RowStore>(store: &mut S, version: u32) -> Result<StoredEntry, StoreFault>
+/// What is stored of so many entries, from a version on. That one isn't there is told to the store.
+pub(crate) fn stored_from<S: RowStore>(
+    store: &mut S,
+    first: u32,
+    count: u32,
+) -> Result<Vec<StoredEntry>, StoreFault>
+    requires { first + count < 2 ^ 32 }
     ensures reads { ReadsStore S.honest S.contents S.failed S.may_leave S.misreads Device
-        (IsSome (log_entry (S.contents store.old) version)) store.old store.new result }
-    ensures found { S.honest store.new → IfOk result (λ stored. log_entry (S.contents store.old) version ≡ Some (item_of stored)) }
+        (HasRange (S.contents store.old) first count) store.old store.new result }
+    ensures found { S.honest store.new → IfOk result (λ stored.
+        items_of stored.items ≡ log_range (S.contents store.old) first count) }
 {
-    match store.log_get(version) {
-        Ok(Some(stored)) => Ok(stored),
-        Ok(None) => Err(store.misread()),
-        Err(fault) => Err(fault),
+    let stored = match store.log_list(first, count) {
+        Ok(stored) => stored,
+        Err(fault) => return Err(fault),
+    };
+    if stored.len() != count as usize {
+        return Err(store.misread());
     }
+    Ok(stored)
 }
 
 /// Whether the bytes are those that the body is stored as.
@@ -78,31 +89,36 @@ pub fn has_entry<S: RowStore>(
     Ok(is)
 }
 
-/// The entry of the log at a version. That there is none, or that what is stored there is none of the tables', is told to the store.
-fn entry_at<S: RowStore>(
-    alloc: Global,
-    store: &mut S,
-    catalog: &Catalog,
-    version: u32,
-) -> Result<LogEntry, StoreFault>
-    ensures reads { ReadsStore S.honest S.contents S.failed S.may_leave S.misreads Device
-        (ShowsEntries catalog.now (S.contents store.old) version 1) store.old store.new result }
-    ensures found { S.honest store.new → (log : List Entry) → ShowsLog catalog.now (S.contents store.old) log
-        → version < length log → IfOk result (λ entry. slice_get log version ≡ Some entry) }
+/// The entry that is stored so.
+fn read_entry(alloc: Global, catalog: &Catalog, stored: &StoredEntry) -> Result<LogEntry, BodyFault>
+    ensures { (entry : Entry) → IsStoredAs catalog.now (item_of stored.now) entry → ReadsAs entry result }
 {
-    let stored = match stored_at(store, version) {
-        Ok(stored) => stored,
-        Err(fault) => return Err(fault),
-    };
-    match read_body(alloc, catalog, stored.body.as_slice()) {
-        Ok(body) => Ok(LogEntry {
-            origin: stored.origin,
-            number: stored.number,
-            body,
-        }),
-        Err(BodyFault::NoBody) => Err(store.misread()),
-        Err(BodyFault::Memory) => Err(StoreFault::Memory),
+    one_body();
+    let body = read_body(alloc, catalog, stored.body.as_slice())?;
+    Ok(LogEntry {
+        origin: stored.origin,
+        number: stored.number,
+        body,
+    })
+}
+
+/// The entries that are stored so.
+fn read_each(
+    alloc: Global,
+    catalog: &Catalog,
+    stored: &[StoredEntry],
+) -> Result<Vec<LogEntry>, BodyFault>
+    ensures read { (entries : List Entry) → AreStoredAs catalog.now (items_of stored.now) entries → IfOk result (λ read. read.items ≡ entries) }
+    ensures unread { (entries : List Entry) → AreStoredAs catalog.now (items_of stored.now) entries → result ≡ Err NoBody → ⊥ }
+{
+    let mut entries = Vec::with_capacity(alloc, stored.len())?;
+    for entry in stored {
+        match read_entry(alloc, catalog, entry) {
+            Ok(read) => entries.push(read)?,
+            Err(fault) => return Err(fault),
+        }
     }
+    Ok(entries)
 }
 
 /// So many entries of the log, from a version on. An entry that isn't there, or is none of the tables', is told to the store.
@@ -124,12 +140,13 @@ pub fn entries_at<S: RowStore>(
     ensures found { S.honest store.new → (log : List Entry) → ShowsLog catalog.now (S.contents store.old) log
         → first + count ≤ length log → IfOk result (λ entries. entries.items ≡ take count (drop first log)) }
 {
-    let mut entries = Vec::with_capacity(alloc, count as usize)?;
-    for at in 0..count {
-        match entry_at(alloc, store, catalog, first + at) {
-            Ok(entry) => entries.push(entry)?,
-            Err(fault) => return Err(fault),
-        }
+    let stored = match stored_from(store, first, count) {
+        Ok(stored) => stored,
+        Err(fault) => return Err(fault),
+    };
+    match read_each(alloc, catalog, stored.as_slice()) {
+        Ok(entries) => Ok(entries),
+        Err(BodyFault::NoBody) => Err(store.misread()),
+        Err(BodyFault::Memory) => Err(StoreFault::Memory),
     }
-    Ok(entries)
 }

@@ -15,9 +15,8 @@ use Rattle.std.proofs.lemmas.List.{take_more, append-nil, append_assoc}
 use Rattle.cs_value.specs.declared.catalog.TableDef.{TableDef}
 use Rattle.cs_order.specs.Order.{by_bytes}
 use Rattle.cs_store.specs.declared.batch.MetaEdit.{MetaEdit}
-use Rattle.cs_store.specs.declared.batch.StoredEntry.{StoredEntry}
 use Rattle.cs_store.specs.Contents.{Bodies, LogItem, Meta, StorePlace, place_cmp, name_text}
-use Rattle.cs_store.specs.Written.{edit_meta, item_of, optional_bytes}
+use Rattle.cs_store.specs.Written.{edit_meta, optional_bytes}
 use Rattle.cs_store.specs.Whole.{AtTable, IsName, IsWhole, StoresBody, StoresChange, StoresRow}
 use Rattle.cs_leaf.specs.Entries.{Entry}
 use Rattle.cs_map_store.specs.Leaves.{bodies_in, flat}
@@ -118,34 +117,24 @@ module _ (P : StorePlace → List ℕ → Type 0) where
 -- ---- the log
 
 module _ (P : List ℕ → Type 0) where
-  found_entry : (n : ℕ) (xs : List StoredEntry) → AllByRecursion (λ x. P x.body.items) xs → (version : ℤ) (item : LogItem) → find int_cmp version (numbered n xs) ≡ Some item → P item.body
+  found_entry : (n : ℕ) (xs : List LogItem) → AllByRecursion (λ x. P x.body) xs → (version : ℤ) (item : LogItem) → find int_cmp version (numbered n xs) ≡ Some item → P item.body
   found_entry n [] all version item is = let no : ◌≡◌ {A = Option LogItem} None (Some item) = is in absurd cc
   found_entry n (x ∷ xs) all version item is =
-      elim (eq_by_cmp int_cmp version (pos n)) as (λ b. cond b (Some (item_of x)) (find int_cmp version (numbered (n + 1) xs)) ≡ Some item → P item.body) [
-        | true ↦ λ g. subst (λ (it : LogItem). P it.body) (same_Some (item_of x) item g) all.0
+      elim (eq_by_cmp int_cmp version (pos n)) as (λ b. cond b (Some x) (find int_cmp version (numbered (n + 1) xs)) ≡ Some item → P item.body) [
+        | true ↦ λ g. subst (λ (it : LogItem). P it.body) (same_Some x item g) all.0
         | false ↦ λ g. found_entry (n + 1) xs all.1 version item g
       ] is
 
-  each_entry : (xs : List StoredEntry) → ((k : ℕ) (d : StoredEntry) → k < length xs → P (get_or xs k d).body.items) → AllByRecursion (λ x. P x.body.items) xs
+  each_entry : (xs : List LogItem) → ((k : ℕ) (d : LogItem) → k < length xs → P (get_or xs k d).body) → AllByRecursion (λ x. P x.body) xs
   each_entry [] h = tt
   each_entry (x ∷ xs) h = (h 0 x (omega arith), each_entry xs (λ k d less. h (suc k) d (omega (arith, less))))
 
-  pub log_holds : (xs : List StoredEntry) → AllByRecursion (λ x. P x.body.items) xs ↔ ((version : ℤ) (item : LogItem) → get (log_of xs) version ≡ Some item → P item.body)
+  pub log_holds : (xs : List LogItem) → AllByRecursion (λ x. P x.body) xs ↔ ((version : ℤ) (item : LogItem) → get (log_of xs) version ≡ Some item → P item.body)
   unfolding log_of
   log_holds xs = (
     λ all version item is. found_entry 0 xs all version item (sym (get-from_entries int_cmp_total (numbered 0 xs) version) ∙ is),
-    λ h. each_entry xs (λ k d less. h (pos k) (item_of (get_or xs k d)) (log_has xs k (get_or xs k d) less (same_element xs k d less))),
+    λ h. each_entry xs (λ k d less. h (pos k) (get_or xs k d) (log_has xs k d less)),
   )
-    where
-      same_element : (ys : List StoredEntry) (k : ℕ) (d : StoredEntry) → k < length ys → get_or ys k d ≡ get_or ys k (get_or ys k d)
-      same_element [] k d less = absurd (omega (arith, less))
-      same_element (y ∷ ys) zero d less = refl
-      same_element (y ∷ ys) (suc k) d less = at_any ys k d (get_or ys k d) (omega (arith, less))
-        where
-          at_any : (zs : List StoredEntry) (j : ℕ) (some other : StoredEntry) → j < length zs → get_or zs j some ≡ get_or zs j other
-          at_any [] j some other h = absurd (omega (arith, h))
-          at_any (z ∷ zs) zero some other h = refl
-          at_any (z ∷ zs) (suc j) some other h = at_any zs j some other (omega (arith, h))
 
 -- ---- names
 
@@ -193,10 +182,10 @@ all_three true true false p q r = absurd cc
 all_three true false c p q r = absurd cc
 all_three false b c p q r = absurd cc
 
-pub whole_is : (tables : List TableDef) (rows pending : Bodies) (es : List (SlotKey × Slot)) (xs : List StoredEntry) (a b c : Bool) → HasOwnNames (meta_of (shown es))
+pub whole_is : (tables : List TableDef) (rows pending : Bodies) (es : List (SlotKey × Slot)) (xs : List LogItem) (a b c : Bool) → HasOwnNames (meta_of (shown es))
     → (IsTrue a ↔ ((place : StorePlace) (body : List ℕ) → get rows place ≡ Some body → AtTable StoresRow tables place body))
     → (IsTrue b ↔ ((place : StorePlace) (body : List ℕ) → get pending place ≡ Some body → AtTable StoresChange tables place body))
-    → (IsTrue c ↔ AllByRecursion (λ x. StoresBody tables x.body.items) xs)
+    → (IsTrue c ↔ AllByRecursion (λ x. StoresBody tables x.body) xs)
     → IsTrue (a && (b && c)) ↔ IsWhole tables (held_in rows pending es xs)
 unfolding HasOwnNames
 whole_is tables rows pending es xs a b c own ra pb lc =

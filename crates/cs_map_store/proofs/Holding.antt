@@ -1,5 +1,5 @@
 -- What a `MapStore` holds, as its calls find and change it.
-use Rattle.std.proofs.Common.{◌≡◌, ℕ, Bool, true, cond, List, [], ◌∷◌, ◌++◌, map, fold, Option, Some, refl, sym, ap, subst, ◌∙◌, T, length, ◌<◌, arith}
+use Rattle.std.proofs.Common.{◌≡◌, ℕ, List, [], map, fold, refl, sym, ap, subst, ◌∙◌, T, length, ◌<◌, arith}
 use Rattle.std.specs.Prelude.{pos}
 use Rattle.std.specs.List.{All}
 use Rattle.std.specs.FinMap.{get, empty, get-empty, same_map, is_sorted, from_sorted, get-from_sorted, entries-from_sorted}
@@ -8,11 +8,10 @@ use Rattle.cs_leaf.specs.Edits.{edited}
 use Rattle.cs_map_store.specs.Leaves.{AreLeaves, flat, in_table, bodies_in}
 use Rattle.cs_edits.specs.Edits.{BodyEdit}
 use Rattle.cs_store.specs.declared.batch.MetaEdit.{MetaEdit}
-use Rattle.cs_store.specs.declared.batch.StoredEntry.{StoredEntry}
 use Rattle.cs_leaf.specs.Laws.{EditsAreOfMaps, EditsKeepOrder}
 use Rattle.std.proofs.lemmas.Cmp.{nat_list_cmp_total}
 use Rattle.std.proofs.lemmas.Map.Lookups.{exact_bytes}
-use Rattle.cs_store.specs.Contents.{Bodies, place_cmp, nothing, IsListing}
+use Rattle.cs_store.specs.Contents.{Bodies, LogItem, place_cmp, nothing, IsListing}
 use Rattle.cs_store.specs.Written.{optional_entry, after_batch, appended, edit_body, edit_meta}
 use Rattle.cs_map_store.specs.Slots.{SlotKey, Slot, HasOwnNames, listed, shown, meta_of, meta_table, log_of, held_in, write_to, meta_write}
 use Rattle.cs_map_store.specs.Steps.{step_write}
@@ -20,7 +19,6 @@ use Rattle.cs_store.specs.declared.batch.Batch.{Batch}
 use Rattle.cs_map_store.specs.declared.slots.Step.{Step}
 use Rattle.cs_map_store.proofs.Maps.{place_total, place_exact, get-meta_of, meta_after_meta, listed_sorted, find-listed}
 use Rattle.cs_map_store.proofs.Showing.{get-shown}
-use Rattle.cs_map_store.proofs.Numbered.{log_push}
 use Rattle.cs_map_store.proofs.Checks.{own_empty}
 
 -- ---- a new store
@@ -35,7 +33,7 @@ no_log : log_of [] ≡ empty
 unfolding log_of
 no_log = refl
 
-pub new_holds : (rows pending : Bodies) (es : List (SlotKey × Slot)) (xs : List StoredEntry) → rows ≡ empty → pending ≡ empty → es ≡ [] → xs ≡ [] → held_in rows pending es xs ≡ nothing
+pub new_holds : (rows pending : Bodies) (es : List (SlotKey × Slot)) (xs : List LogItem) → rows ≡ empty → pending ≡ empty → es ≡ [] → xs ≡ [] → held_in rows pending es xs ≡ nothing
 new_holds rows pending es xs r p e x = (λ i. held_in (r i) (p i) (e i) (x i)) ∙ (λ i. record { rows = empty; pending = empty; meta = no_meta i; log = no_log i })
 
 -- ---- reads
@@ -50,9 +48,6 @@ table_listed leaves n pairs sorted is =
     subst (IsListing (λ k. get (bodies_in leaves) (pos n, k))) (sym same) (record { rises = listed_sorted (pos n) (bodies_in leaves); found = λ k. find-listed (pos n) k (bodies_in leaves) })
 
 -- ---- a commit
-
-pub entry_added : (old new : List StoredEntry) (entry : Option StoredEntry) (it : StoredEntry) (b : Bool) → entry ≡ Some it → new ≡ cond b (old ++ it ∷ []) old → b ≡ true → log_of new ≡ appended (log_of old) (optional_entry entry)
-entry_added old new entry it b is new_is done = ap log_of (new_is ∙ ap (λ (t : Bool). cond t (old ++ it ∷ []) old) done) ∙ log_push old it ∙ sym (ap (λ (e : Option StoredEntry). appended (log_of old) (optional_entry e)) is)
 
 -- the bodies of leaves after edits that were put in order
 pub bodies_after : (leaves made : List (List Entry)) (edits all : List BodyEdit) → EditsAreOfMaps → T (is_sorted place_cmp (flat leaves)) → ((bodies : Bodies) → fold edit_body bodies edits ≡ fold edit_body bodies all)
@@ -70,7 +65,7 @@ pub meta_after : (es ms ns : List (SlotKey × Slot)) (steps : List Step) (edits 
     → meta_of (shown ns) ≡ fold edit_meta (meta_of (shown es)) edits
 meta_after es ms ns steps edits slots copies wrote = ap meta_of (wrote ∙ (λ i. fold write_to (slots i) (copies i))) ∙ meta_after_meta (shown es) edits
 
-pub held_after : (rows made_rows pending made_pending : Bodies) (es ns : List (SlotKey × Slot)) (xs zs : List StoredEntry) (batch : Batch)
+pub held_after : (rows made_rows pending made_pending : Bodies) (es ns : List (SlotKey × Slot)) (xs zs : List LogItem) (batch : Batch)
     → made_rows ≡ fold edit_body rows batch.rows → made_pending ≡ fold edit_body pending batch.pending
     → meta_of (shown ns) ≡ fold edit_meta (meta_of (shown es)) batch.meta.items → log_of zs ≡ appended (log_of xs) (optional_entry batch.log)
     → held_in made_rows made_pending ns zs ≡ after_batch batch (held_in rows pending es xs)

@@ -10,3 +10,5 @@ pub mod Taking
 pub mod Ordered
 pub mod Checks
 pub mod Remaking
+pub mod Packing
+pub mod Ranging

@@ -1,4 +1,5 @@
 pub mod Slots
+pub mod Packed
 pub mod Steps
 pub mod Leaves
 pub mod Checked

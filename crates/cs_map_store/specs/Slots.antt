@@ -1,5 +1,5 @@
 -- What a `MapStore` holds: rows and pending changes in leaves, values of meta in a map of slots under `meta_table`, and the
--- log as a list.
+-- log as a list of entries.
 -- A slot with no value shows as one that is not there, so that room can be made before anything changes.
 use Rattle.std.specs.declared.alloc.Global.{Global}
 use Rattle.std.specs.Prelude.{Vec, ◌≡◌, Some, refl, ℕ, zero, suc, ℤ, pos, negsuc, ◌+◌, map, filter, List, [], ◌∷◌, Option}
@@ -10,9 +10,8 @@ use Rattle.cs_order.specs.Order.{by_bytes}
 use Rattle.std.specs.FinMap.{empty, entries, from_entries, get}
 use Rattle.cs_store.specs.Whole.{IsName}
 use Rattle.cs_store.specs.declared.batch.MetaEdit.{MetaEdit}
-use Rattle.cs_store.specs.declared.batch.StoredEntry.{StoredEntry}
 use Rattle.cs_store.specs.Contents.{Contents, StorePlace, Bodies, Meta, Log, LogItem, contents_code, name_text, nothing}
-use Rattle.cs_store.specs.Written.{item_of, optional_bytes, with_body}
+use Rattle.cs_store.specs.Written.{optional_bytes, with_body}
 
 abbrev pub SlotKey : Type 0
 SlotKey = ℕ × Vec ℕ Global
@@ -58,15 +57,15 @@ abbrev pub meta_write : MetaEdit → Write
 meta_write e = ((meta_table, name_text e.name), optional_bytes e.value)
 
 -- entries of the log with their versions, from n on
-abbrev pub numbered : ℕ → List StoredEntry → List (ℤ × LogItem)
+abbrev pub numbered : ℕ → List LogItem → List (ℤ × LogItem)
 numbered n [] = []
-numbered n (entry ∷ entries) = (pos n, item_of entry) ∷ numbered (n + 1) entries
+numbered n (item ∷ items) = (pos n, item) ∷ numbered (n + 1) items
 
-unfoldable pub log_of : List StoredEntry → Log
-log_of entries = from_entries (numbered 0 entries)
+unfoldable pub log_of : List LogItem → Log
+log_of items = from_entries (numbered 0 items)
 
 -- what rows, pending changes, a map of slots and a list of entries hold
-abbrev pub held_in : Bodies → Bodies → List (SlotKey × Slot) → List StoredEntry → Contents
+abbrev pub held_in : Bodies → Bodies → List (SlotKey × Slot) → List LogItem → Contents
 held_in rows pending slots log =
     record { rows = rows; pending = pending; meta = meta_of (shown slots); log = log_of log }
 

@@ -1,10 +1,8 @@
 -- The copies that a commit makes of a batch's edits.
-use Rattle.std.specs.declared.alloc.Global.{Global}
-use Rattle.std.specs.Prelude.{Vec, ◌≡◌, ◌<◌, ◌^◌, Bool, true, false, Option, List, [], ◌∷◌, length, map, Some, None, IsSome}
+use Rattle.std.specs.Prelude.{◌≡◌, Bool, true, false, Option, List, [], ◌∷◌, map, Some, None, IsSome}
 use Rattle.std.specs.List.{All, list_any}
 use Rattle.std.specs.BTreeMap.{BTreeMap, get, is_at}
 use Rattle.cs_map_store.specs.declared.slots.Step.{Step}
-use Rattle.cs_store.specs.declared.batch.StoredEntry.{StoredEntry}
 use Rattle.cs_store.specs.Written.{optional_bytes}
 use Rattle.cs_map_store.specs.Slots.{SlotKey, Slot, HasOwnNames, key_cmp, meta_of, place_of, shown, Write}
 
@@ -35,9 +33,8 @@ abbrev pub left_empty : Slot → SlotKey → List SlotKey → List SlotKey
 left_empty None k ks = k ∷ ks
 left_empty (Some v) k ks = ks
 
--- what a `MapStore` keeps: versions in reach of a `u32`, a value in each slot, and no slot but for names
-pub record IsKept (slots : BTreeMap SlotKey Slot) (log : Vec StoredEntry Global) : Type 0 where
-  pub bound : length log.items < 2 ^ 32
+-- what a `MapStore` keeps: a value in each slot, and no slot but for names
+pub record IsKept (slots : BTreeMap SlotKey Slot) : Type 0 where
   pub filled : IsEmptyOnlyAt [] slots
   pub names : HasOwnNames (meta_of (shown slots.entries))
 

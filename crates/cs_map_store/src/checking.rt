@@ -7,8 +7,9 @@ ghost use Rattle.cs_leaf.specs.Entries.{nth};
 ghost use Rattle.cs_map_store.specs.Leaves.{flat};
 ghost use Rattle.cs_map_store.specs.Checked.{IsGood};
 
+use crate::log::PackedLog;
 use cs_leaf::Leaf;
-use cs_store::{StoredEntry, is_body, is_change, is_row};
+use cs_store::{is_body, is_change, is_row};
 use cs_value::Catalog;
 use std::alloc::{AllocError, Global};
 
@@ -76,12 +77,12 @@ pub fn check_leaves(
     Ok(true)
 }
 
-/// Whether the body of each entry decodes.
-pub fn check_log(alloc: Global, catalog: &Catalog, log: &[StoredEntry]) -> Result<bool, AllocError>
-    ensures { IfOk result (λ good. IsTrue good ↔ AllByRecursion (λ entry. StoresBody catalog.now entry.body.items) log.now) }
+/// Whether the body of each entry decodes. None is copied.
+pub fn check_log(alloc: Global, catalog: &Catalog, log: &PackedLog) -> Result<bool, AllocError>
+    ensures { IfOk result (λ good. IsTrue good ↔ AllByRecursion (λ item. StoresBody catalog.now item.body) log.now.items) }
 {
-    for entry in log {
-        let good = is_body(alloc, catalog, entry.body.as_slice())?;
+    for at in 0..log.len() as usize {
+        let good = is_body(alloc, catalog, log.body(at))?;
         if !good {
             return Ok(false);
         }

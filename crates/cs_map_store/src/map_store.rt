@@ -1,14 +1,14 @@
 //! A store in memory.
 
-ghost use Rattle.std.specs.Prelude.{◌≡◌, ◌<◌, ◌^◌, ◌+◌, [], length, fold, IsSome, OnOk, OnErr};
-ghost use Rattle.std.specs.Vec.{vec_len, vec_capacity};
+ghost use Rattle.std.specs.Prelude.{◌≡◌, [], fold, OnOk, OnErr};
 ghost use Rattle.cs_store.specs.Written.{after_batch, appended, edit_meta, optional_entry};
+ghost use Rattle.cs_map_store.specs.Packed.{HasRoomFor};
 ghost use Rattle.cs_map_store.specs.Slots.{HasOwnNames, held_in, log_of, meta_of, shown};
 ghost use Rattle.cs_map_store.specs.Steps.{HasSlots, IsEmptyOnlyAt, IsKept, step_keys};
 
 use crate::checking::{Shelf, all_hold, check_log};
 use crate::leaves::Near;
-use crate::log::{append, copied_entry, make_room, read_log};
+use crate::log::PackedLog;
 use crate::shelves::{Leaves, Shelves};
 use crate::slots::{
     SlotKey, Slots, Step, make_slots, read_slot, steps_of, sweep_steps, write_steps,
@@ -27,15 +27,16 @@ use std::marker::Model;
 /// near, it begins where that would be if keys were spread evenly, and halves the leaves and then one leaf. A commit of one
 /// row or of one pending change amends its leaf in place, so it costs the logarithm of those that are there, but for a walk
 /// over the list of leaves where one is cut or goes; a leaf that gets several edits at once, or half of whose bytes would
-/// come to be of rows that are gone, is made anew, so no leaf's bytes are more than twice those of its rows. Its log has at
-/// most 4,294,967,295 entries; a commit of one more answers `Memory`.
+/// come to be of rows that are gone, is made anew, so no leaf's bytes are more than twice those of its rows. Its log lies in
+/// chunks of 256 entries, each with one list for all bodies, so that beside its bytes an entry takes 24 more, but in the last
+/// chunk. It has at most 4,294,967,295 entries; a commit of one more answers `Memory`.
 /// (Profile of this project.)
 #[derive(Drop)]
 pub struct MapStore {
     alloc: Global,
     shelves: Shelves,
     slots: Slots,
-    log: Vec<StoredEntry>,
+    log: PackedLog,
     near: Near,
     near_pending: Near,
     misreads: u64,
@@ -55,7 +56,7 @@ impl Model for MapStore {
     } };
 
     // Each slot has a value, so what was taken for a refused commit is given back.
-    ghost invariant = { λ store. IsKept store.slots store.log };
+    ghost invariant = { λ store. IsKept store.slots };
 }
 
 impl MapStore {
@@ -73,7 +74,7 @@ impl MapStore {
                 pending: Leaves::new(alloc),
             },
             slots: BTreeMap::new(alloc),
-            log: Vec::new(alloc),
+            log: PackedLog::new(alloc),
             near: Near::start(),
             near_pending: Near::start(),
             misreads: 0,
@@ -85,7 +86,7 @@ impl MapStore {
 fn take_room(
     alloc: Global,
     slots: &mut Slots,
-    log: &mut Vec<StoredEntry>,
+    log: &mut PackedLog,
     steps: &[Step],
     entry: &Option<StoredEntry>,
 ) -> Result<(), AllocError>
@@ -93,41 +94,36 @@ fn take_room(
     ensures has { OnOk result (HasSlots slots.new steps.now) }
     ensures empty { IsEmptyOnlyAt [] slots.old → IsEmptyOnlyAt (step_keys steps.now) slots.new }
     ensures items { log.new.items ≡ log.old.items }
-    ensures room { OnOk result (IsSome entry.now → vec_len log.new < vec_capacity log.new) }
-    ensures bound { OnOk result (IsSome entry.now → length log.new.items + 1 < 2 ^ 32) }
-    ensures err { OnErr result (vec_capacity log.new ≡ vec_capacity log.old) }
+    ensures room { OnOk result (HasRoomFor log.new (optional_entry entry.now)) }
+    ensures err { OnErr result (log.new ≡ log.old) }
 {
     make_slots(alloc, slots, steps)?;
-    make_room(log, entry)
+    log.make_room(alloc, entry)
 }
 
 /// Writes the values and the entry of a batch. What was taken for a refused one is given back.
 fn write_rest(
     alloc: Global,
     slots: &mut Slots,
-    log: &mut Vec<StoredEntry>,
+    log: &mut PackedLog,
     batch: &Batch,
 ) -> Result<(), AllocError>
-    requires bound { length log.old.items < 2 ^ 32 }
-    requires filled { IsEmptyOnlyAt [] slots.old }
+    requires { IsEmptyOnlyAt [] slots.old }
     ensures meta { OnOk result (meta_of (shown slots.new.entries) ≡ fold edit_meta (meta_of (shown slots.old.entries)) batch.now.meta.items) }
     ensures log { OnOk result (log_of log.new.items ≡ appended (log_of log.old.items) (optional_entry batch.now.log)) }
     ensures same_meta { OnErr result (shown slots.new.entries ≡ shown slots.old.entries) }
-    ensures same_log { OnErr result (log.new.items ≡ log.old.items) }
-    ensures given_back { OnErr result (vec_capacity log.new ≡ vec_capacity log.old) }
-    ensures bound { length log.new.items < 2 ^ 32 }
+    ensures same_log { OnErr result (log.new ≡ log.old) }
     ensures filled { IsEmptyOnlyAt [] slots.new }
     ensures names { HasOwnNames (meta_of (shown slots.old.entries)) → HasOwnNames (meta_of (shown slots.new.entries)) }
 {
     let steps = steps_of(alloc, batch)?;
-    let entry = copied_entry(alloc, &batch.log)?;
     let cleared = Vec::with_capacity(alloc, steps.len())?;
-    if let Err(e) = take_room(alloc, slots, log, steps.as_slice(), &entry) {
+    if let Err(e) = take_room(alloc, slots, log, steps.as_slice(), &batch.log) {
         sweep_steps(slots, steps.as_slice());
         return Err(e);
     }
     write_steps(slots, steps, cleared);
-    append(log, entry);
+    log.append(&batch.log);
     Ok(())
 }
 
@@ -139,16 +135,16 @@ fn write(
     near: Near,
     near_pending: Near,
     slots: &mut Slots,
-    log: &mut Vec<StoredEntry>,
+    log: &mut PackedLog,
     batch: &Batch,
 ) -> Result<(), AllocError>
-    requires { IsKept slots.old log.old }
+    requires { IsKept slots.old }
     ensures ok { OnOk result (held_in shelves.new.rows shelves.new.pending slots.new.entries log.new.items
         ≡ after_batch batch.now (held_in shelves.old.rows shelves.old.pending slots.old.entries log.old.items)) }
     ensures err { OnErr result (held_in shelves.new.rows shelves.new.pending slots.new.entries log.new.items
         ≡ held_in shelves.old.rows shelves.old.pending slots.old.entries log.old.items) }
-    ensures given_back { OnErr result (vec_capacity log.new ≡ vec_capacity log.old) }
-    ensures kept { IsKept slots.new log.new }
+    ensures given_back { OnErr result (log.new ≡ log.old) }
+    ensures kept { IsKept slots.new }
 {
     let rows = shelves.rows.stage(alloc, near, &batch.rows.lend())?;
     let changes = batch.pending.lend();
@@ -170,11 +166,11 @@ fn write(
 }
 
 impl RowStore for MapStore {
-    ghost use Rattle.std.specs.Prelude.{◌≡◌, ◌+◌, ◌-◌, ◌^◌, ℕ, ◌↔◌, refl, min, IfOk, IfErr, IsTrue};
+    ghost use Rattle.std.specs.Prelude.{◌≡◌, ◌<◌, ◌+◌, ◌-◌, ◌^◌, ℕ, ◌↔◌, refl, min, IfOk, IfErr, IsTrue};
     ghost use Rattle.cs_store.specs.Whole.{IsWhole};
     ghost use Rattle.cs_store.specs.Calls.{OnlyReads, Commits, CountsMisread};
-    ghost use Rattle.cs_store.specs.Contents.{Contents, IsListing, stored_tables, stored_pending, meta_value, log_entry, log_count};
-    ghost use Rattle.cs_store.specs.Written.{after_batch, if_there, optional_bytes, optional_entry, pairs_of};
+    ghost use Rattle.cs_store.specs.Contents.{Contents, HasEachEntry, IsListing, stored_tables, stored_pending, meta_value, log_entry, log_count, log_range};
+    ghost use Rattle.cs_store.specs.Written.{after_batch, if_there, items_of, optional_bytes, optional_entry, pairs_of};
     ghost use Rattle.cs_store.specs.declared.fault.StoreFault.TheVariants.{Memory, Device};
     ghost use Rattle.cs_map_store.specs.Slots.{held_by, is_honest, leaves_held, misreads_of};
 
@@ -261,7 +257,7 @@ impl RowStore for MapStore {
         ensures memory { IfErr result (λ fault. fault ≡ Memory) }
         ensures count { self.new.misreads ≡ self.old.misreads }
     {
-        Ok(self.log.len() as u32)
+        Ok(self.log.len())
     }
 
     fn log_get(&mut self, version: u32) -> Result<Option<StoredEntry>, StoreFault>
@@ -270,8 +266,30 @@ impl RowStore for MapStore {
         ensures memory { IfErr result (λ fault. fault ≡ Memory) }
         ensures count { self.new.misreads ≡ self.old.misreads }
     {
-        let entry = read_log(self.alloc, self.log.as_slice(), version)?;
+        let entry = self.log.get(self.alloc, version)?;
         Ok(entry)
+    }
+
+    fn log_list(&mut self, first: u32, count: u32) -> Result<Vec<StoredEntry>, StoreFault>
+        requires { first + count < 2 ^ 32 }
+        ensures listed { is_honest self.new → IfOk result (λ entries. items_of entries.items ≡ log_range self.old.held first count) }
+        ensures reads { OnlyReads is_honest held_by misreads_of leaves_held misreads_of self.old self.new result }
+        ensures memory { IfErr result (λ fault. fault ≡ Memory) }
+        ensures count { self.new.misreads ≡ self.old.misreads }
+    {
+        let entries = self.log.list(self.alloc, first, count)?;
+        Ok(entries)
+    }
+
+    fn log_is_whole(&mut self) -> Result<bool, StoreFault>
+        ensures told { is_honest self.new → IfOk result (λ whole. IsTrue whole ↔ HasEachEntry self.old.held) }
+        ensures reads { OnlyReads is_honest held_by misreads_of leaves_held misreads_of self.old self.new result }
+        ensures memory { IfErr result (λ fault. fault ≡ Memory) }
+        ensures count { self.new.misreads ≡ self.old.misreads }
+    {
+        // An entry's version is its place in the list.
+        let _log = &self.log;
+        Ok(true)
     }
 
     fn commit(&mut self, batch: &Batch) -> Result<(), StoreFault>
@@ -312,7 +330,7 @@ impl RowStore for MapStore {
             .shelves
             .pending
             .check(self.alloc, catalog, Shelf::Pending)?;
-        let entries = check_log(self.alloc, catalog, self.log.as_slice())?;
+        let entries = check_log(self.alloc, catalog, &self.log)?;
         let whole = all_hold(rows, pending, entries);
         Ok(whole)
     }

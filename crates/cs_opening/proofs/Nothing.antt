@@ -68,7 +68,7 @@ all_parts rows pending meta log r p m l =
 -- ---- the names of values
 
 abbrev pub all_names : List MetaName
-all_names = Id ∷ Version ∷ Number ∷ Flight ∷ Pending ∷ Catalog ∷ []
+all_names = Catalog ∷ Id ∷ Version ∷ Number ∷ Flight ∷ Pending ∷ []
 
 each_name : (P : MetaName → Type 0) → P Id → P Version → P Number → P Flight → P Pending → P Catalog → (name : MetaName) → P name
 each_name P a b c d e f Id = a
@@ -79,10 +79,10 @@ each_name P a b c d e f Pending = e
 each_name P a b c d e f Catalog = f
 
 all_none : (contents : Contents) → AllByRecursion (λ (name : MetaName). meta_value contents name ≡ None) all_names → (name : MetaName) → meta_value contents name ≡ None
-all_none contents all = each_name (λ name. meta_value contents name ≡ None) all.0 all.1.0 all.1.1.0 all.1.1.1.0 all.1.1.1.1.0 all.1.1.1.1.1.0
+all_none contents all = each_name (λ name. meta_value contents name ≡ None) all.1.0 all.1.1.0 all.1.1.1.0 all.1.1.1.1.0 all.1.1.1.1.1.0 all.0
 
 none_all : (contents : Contents) → ((name : MetaName) → meta_value contents name ≡ None) → AllByRecursion (λ (name : MetaName). meta_value contents name ≡ None) all_names
-none_all contents none = (none Id, (none Version, (none Number, (none Flight, (none Pending, (none Catalog, tt))))))
+none_all contents none = (none Catalog, (none Id, (none Version, (none Number, (none Flight, (none Pending, tt))))))
 
 by_name : (text : List ℕ) (name : MetaName) → ((name_text name ≢ text) → IsName text ⊎ ((name : MetaName) → name_text name ≢ text)) → IsName text ⊎ ((name : MetaName) → name_text name ≢ text)
 by_name text name other =
@@ -96,7 +96,14 @@ named_or_not text =
 
 -- ---- whether contents hold nothing
 
-module _ (contents : Contents) (tables : List TableDef) (bare : tables ≡ []) where
+module _ (contents : Contents) where
+  pub has_entries : (count : ℕ) → count ≡ log_count contents → (count ≡ 0 → ⊥) → contents ≡ nothing → ⊥
+  has_entries count counted some is = some (counted ∙ ap log_count is ∙ len-empty int_cmp _)
+
+  pub has_none : contents ≡ nothing → AllByRecursion (λ (name : MetaName). meta_value contents name ≡ None) all_names
+  has_none is = none_all contents (λ name. ap (λ (c : Contents). meta_value c name) is ∙ get-empty by_bytes (name_text name))
+
+module _ (tables : List TableDef) (bare : tables ≡ []) where
   whole_nothing : IsWhole tables nothing
   whole_nothing = record {
     rows = λ place body is. absurd (let no = sym is ∙ get-empty place_cmp place in cc);
@@ -105,35 +112,26 @@ module _ (contents : Contents) (tables : List TableDef) (bare : tables ≡ []) w
     names = λ name value is. absurd (let no = sym is ∙ get-empty by_bytes name in cc);
   }
 
-  pub not_whole : (IsWhole tables contents → ⊥) → contents ≡ nothing → ⊥
-  not_whole never is = never (subst (λ (c : Contents). IsWhole tables c) (sym is) whole_nothing)
-
-  pub has_entries : (count : ℕ) → count ≡ log_count contents → (count ≡ 0 → ⊥) → contents ≡ nothing → ⊥
-  has_entries count counted some is = some (counted ∙ ap log_count is ∙ len-empty int_cmp _)
-
-  pub holds_none : IsWhole tables contents → log_count contents ≡ 0 → AllByRecursion (λ (name : MetaName). meta_value contents name ≡ None) all_names → contents ≡ nothing
-  holds_none whole count none =
+  holds_none : (contents : Contents) → IsWhole tables contents → log_count contents ≡ 0 → AllByRecursion (λ (name : MetaName). meta_value contents name ≡ None) all_names → contents ≡ nothing
+  holds_none contents whole count none =
       all_parts contents.rows contents.pending contents.meta contents.log
       (no_bodies contents.rows (λ place body is. no_table StoresRow place body (subst (λ (ts : List TableDef). AtTable StoresRow ts place body) bare (whole.rows place body is))))
       (no_bodies contents.pending (λ place body is. no_table StoresChange place body (subst (λ (ts : List TableDef). AtTable StoresChange ts place body) bare (whole.pending place body is))))
       (no_values contents whole.names (all_none contents none))
       (empty_of_len contents.log count)
 
-  pub has_none : contents ≡ nothing → AllByRecursion (λ (name : MetaName). meta_value contents name ≡ None) all_names
-  has_none is = none_all contents (λ name. ap (λ (c : Contents). meta_value c name) is ∙ get-empty by_bytes (name_text name))
+  -- what the names, a count and a check tell, of contents that stay as they are
+  pub is_nothing : (contents middle last : Contents) (good : Bool) → middle ≡ contents → last ≡ middle → AllByRecursion (λ (name : MetaName). meta_value contents name ≡ None) all_names → log_count middle ≡ 0
+      → (IsTrue good → IsWhole tables last) × (IsWhole tables last → IsTrue good)
+      → (IsTrue good → contents ≡ nothing) × (contents ≡ nothing → IsTrue good)
+  is_nothing contents middle last good same again none count checked =
+      let is : last ≡ contents = again ∙ same in (
+        (λ t. holds_none contents (subst (IsWhole tables) is (checked.0 t)) (ap log_count (sym same) ∙ count) none),
+        (λ e. checked.1 (subst (IsWhole tables) (sym (is ∙ e)) whole_nothing)),
+      )
 
--- what two reads and the names tell, of contents that stay as they are
 pub isnt_nothing : (contents : Contents) → (contents ≡ nothing → ⊥) → (IsTrue false → contents ≡ nothing) × (contents ≡ nothing → IsTrue false)
 isnt_nothing contents never = (λ t. absurd (let no = t in cc), λ is. absurd (never is))
-
-pub is_nothing : (contents : Contents) (tables : List TableDef) → tables ≡ [] → (middle last : Contents) (none : Bool) → middle ≡ contents → last ≡ middle → IsWhole tables contents → log_count middle ≡ 0
-    → (IsTrue none → AllByRecursion (λ (name : MetaName). meta_value last name ≡ None) all_names) × (AllByRecursion (λ (name : MetaName). meta_value last name ≡ None) all_names → IsTrue none)
-    → (IsTrue none → contents ≡ nothing) × (contents ≡ nothing → IsTrue none)
-is_nothing contents tables bare middle last none same again whole count found =
-    let is : last ≡ contents = again ∙ same in (
-      (λ t. holds_none contents tables bare whole (ap log_count (sym same) ∙ count) (subst (λ (c : Contents). AllByRecursion (λ (name : MetaName). meta_value c name ≡ None) all_names) is (found.0 t))),
-      (λ e. found.1 (subst (λ (c : Contents). AllByRecursion (λ (name : MetaName). meta_value c name ≡ None) all_names) (sym is) (has_none contents tables bare e))),
-    )
 
 -- ---- the first position
 

@@ -50,25 +50,29 @@ pub fn holds_nothing<S: RowStore>(alloc: Global, store: &mut S) -> Result<bool, 
     ensures reads { ReadsStore S.honest S.contents S.failed S.may_leave S.misreads Device (Unit {0}) store.old store.new result }
     ensures nothing { S.honest store.new → IfOk result (λ is. IsTrue is ↔ (S.contents store.old ≡ nothing)) }
 {
-    let tables = no_tables(alloc);
-    let bare = store.check(&tables)?;
-    if !bare {
-        return Ok(false);
-    }
-    let entries = store.log_len()?;
-    if entries != 0 {
-        return Ok(false);
-    }
+    // A store that was laid out has a value, and no more of it is read.
     let names = [
+        MetaName::Catalog,
         MetaName::Id,
         MetaName::Version,
         MetaName::Number,
         MetaName::Flight,
         MetaName::Pending,
-        MetaName::Catalog,
     ];
     match have_none(store, &names) {
-        Ok(none) => Ok(none),
+        Ok(true) => {}
+        Ok(false) => return Ok(false),
+        Err(fault) => return Err(fault),
+    }
+    let entries = match store.log_len() {
+        Ok(entries) => entries,
+        Err(fault) => return Err(fault),
+    };
+    if entries != 0 {
+        return Ok(false);
+    }
+    match store.check(&no_tables(alloc)) {
+        Ok(bare) => Ok(bare),
         Err(fault) => Err(fault),
     }
 }

@@ -1,7 +1,13 @@
 -- The store after a commit, and as it is made.
-use Rattle.std.proofs.Common.{◌≡◌, inl, inr, ℕ, pos, ◌+◌, Option, Some, None, Result, Ok, Err, IfOk, IfErr, IfSome, IsTrue, false, refl, sym, ap, subst, ◌∙◌, arith, cond}
-use Rattle.std.specs.FinMap.{get, len, contains_key, len-insert, len-empty}
-use Rattle.std.specs.Ordering.{int_cmp}
+use Rattle.std.specs.Prelude.{◌↔◌, is_some, IsSome}
+use Rattle.std.proofs.Common.{◌≡◌, inl, inr, ℕ, pos, ◌+◌, ◌<◌, true, Option, Some, None, Result, Ok, Err, IfOk, IfErr, IfSome, IsTrue, false, refl, sym, ap, subst, ◌∙◌, arith, cond}
+use Rattle.std.specs.declared.cmp.Ordering.{Ordering}
+use Rattle.std.specs.declared.cmp.Ordering.TheVariants.{Less, Equal, Greater}
+use Rattle.std.specs.FinMap.{get, len, contains_key, get-insert, len-insert, len-empty}
+use Rattle.std.specs.Ordering.{is_eq, eq_by_cmp, int_cmp}
+use Rattle.std.specs.Cmp.{eq_by_cmp_equiv}
+use Rattle.std.proofs.lemmas.Bool.{cases_Bool}
+use Rattle.std.proofs.lemmas.Map.Lookups.{exact_signed}
 use Rattle.std.proofs.lemmas.Cmp.{int_cmp_total}
 use Rattle.sqlite.specs.Store.{Ghosts}
 use Rattle.sqlite.specs.State.{State, HasCleanDisk, Survives}
@@ -10,7 +16,7 @@ use Rattle.sqlite.specs.Schema.{Schema}
 use Rattle.sqlite.specs.Tree.{Trees}
 use Rattle.sqlite.specs.Held.{Held, state}
 use Rattle.sqlite.proofs.StateLemmas.{survives_then}
-use Rattle.cs_store.specs.Contents.{Contents, HasNoGaps, Log, LogItem, nothing}
+use Rattle.cs_store.specs.Contents.{Contents, HasEachEntry, Log, LogItem, nothing}
 use Rattle.cs_store.specs.Written.{with_entry, optional_entry, item_of}
 use Rattle.cs_store.specs.declared.batch.StoredEntry.{StoredEntry}
 use Rattle.cs_store.specs.declared.batch.Batch.{Batch}
@@ -18,6 +24,7 @@ use Rattle.cs_sql_schema.specs.Schemas.{no_schema, front_schema, store_schema}
 use Rattle.cs_sql_schema.specs.Making.{AddsPending, IsCompleted, IsEmptyIn, IsLaidOut, IsUndone}
 use Rattle.cs_sql_statements.specs.Tables.{IsKept, contents_in}
 use Rattle.cs_sql_statements.specs.Steps.{IsReady, IsWritten, Stays, with_batch}
+use Rattle.cs_sql_statements.specs.declared.counting.LogFound.{LogFound}
 use Rattle.cs_sql_statements.specs.Found.{IsFrontKept, IsLogOf, IsUntouched, front_in}
 use Rattle.cs_sql.specs.Keeping.{Kept, IsSteady, IsFresh, IsAdopted, IsAt, IsGivenBack, IsMadeOf, count_with, holds, made_over}
 
@@ -27,28 +34,67 @@ counted_more : (log : Log) (n : ℕ) (entry : Option StoredEntry) → n ≡ len 
 counted_more log n None is free = is
 counted_more log n (Some v) is free = let lacks : contains_key log (pos n) ≡ false = rw free refl in ap (λ m. m + 1) is ∙ sym (len-insert int_cmp_total log (pos n) (item_of v) ∙ ap (λ b. cond b (len log) (len log + 1)) lacks)
 
-pub written_steady : {S : Type 0} (g : Ghosts S) (old : Kept S) (conn : Held S) (batch : Batch) (entries : ℕ) → IsSteady g old.conn old.last old.entries → conn.in_transaction ≡ false
-    → Survives (state g old.conn) (state g conn) (λ db. IsTrue (state g old.conn).is_open × (contents_in db ≡ with_batch batch (pos old.entries) (contents_in (state g old.conn).now.trees)))
-    → (HasCleanDisk (state g conn) → IsWritten (with_batch batch (pos old.entries) (contents_in (state g old.conn).now.trees)) (state g old.conn) (state g conn))
-    → (HasCleanDisk (state g conn) → IfSome batch.log (λ _. get (contents_in (state g old.conn).now.trees).log (pos old.entries) ≡ None))
-    → entries ≡ count_with old.entries (optional_entry batch.log) → IsSteady g conn conn entries
-written_steady g old conn batch entries steady idle survives written free is = record {
+abbrev HasEach : Log → Type 0
+HasEach log = (version : ℕ) → version < len log → IsSome (get log (pos version))
+
+equal_from : (o : Ordering) → is_eq o ≡ true → o ≡ Equal
+equal_from Less h = absurd cc
+equal_from Equal h = refl
+equal_from Greater h = absurd cc
+
+-- an entry at a version that had none, the first above the count, fills no gap and leaves none
+whole_still : (log : Log) (n : ℕ) (entry : Option StoredEntry) → n ≡ len log → IfSome entry (λ _. get log (pos n) ≡ None) → HasEach log ↔ HasEach (with_entry (pos n) log (optional_entry entry))
+whole_still log n None is free = (λ each. each, λ each. each)
+whole_still log n (Some v) is free =
+    let count = counted_more log n (Some v) is free in
+    let at = λ (version : ℕ). get-insert int_cmp_total log (pos n) (item_of v) (pos version) in (
+      λ each version less. elim (cases_Bool (eq_by_cmp int_cmp (pos version) (pos n))) [
+        | inl here ↦ ap is_some (at version) ∙ rw here refl
+        | inr other ↦
+            let apart : version ≡ n → ⊥ = λ same. let yes : eq_by_cmp int_cmp (pos version) (pos n) ≡ true = subst (λ (k : ℕ). eq_by_cmp int_cmp (pos version) (pos k) ≡ true) same ((eq_by_cmp_equiv int_cmp_total).refl (pos version)) in
+            let no : true ≡ false = sym yes ∙ other in absurd cc in
+            ap is_some (at version) ∙ ap (λ b. is_some (cond b (Some (item_of v)) (get log (pos version)))) other ∙ each version (omega (arith, less, count, is, apart))
+      ],
+      λ each version less.
+          let other : eq_by_cmp int_cmp (pos version) (pos n) ≡ false = elim (cases_Bool (eq_by_cmp int_cmp (pos version) (pos n))) [
+            | inl same ↦ absurd (let k : pos version ≡ pos n = exact_signed (pos version) (pos n) (equal_from _ same) in let m : version ≡ n = cc in omega (arith, less, is, m))
+            | inr apart ↦ apart
+          ] in
+          sym (ap is_some (at version) ∙ ap (λ b. is_some (cond b (Some (item_of v)) (get log (pos version)))) other) ∙ each version (omega (arith, less, count, is)),
+    )
+
+through : {A B C : Type 0} → A ↔ B → B ↔ C → A ↔ C
+through p q = (λ a. q.0 (p.0 a), λ c. p.1 (q.1 c))
+
+-- what is said of a log with the entry of a batch
+log_written : (before after : Contents) (batch : Batch) (log next : LogFound) → IsLogOf before log → after ≡ with_batch batch (pos log.entries) before → IfSome batch.log (λ _. get before.log (pos log.entries) ≡ None)
+    → next.entries ≡ count_with log.entries (optional_entry batch.log) → next.is_whole ≡ log.is_whole → IsLogOf after next
+log_written before after batch log next old is free entries whole = record {
+  counted = entries ∙ counted_more before.log log.entries batch.log old.counted free ∙ sym (ap (λ (k : Contents). len k.log) is);
+  whole = subst (λ b. IsTrue b ↔ HasEachEntry after) (sym whole) (subst (λ (k : Contents). IsTrue log.is_whole ↔ HasEachEntry k) (sym is) (through old.whole (whole_still before.log log.entries batch.log old.counted free)));
+}
+
+pub written_steady : {S : Type 0} (g : Ghosts S) (old : Kept S) (conn : Held S) (batch : Batch) (next : LogFound) → IsSteady g old.conn old.last old.log → conn.in_transaction ≡ false
+    → Survives (state g old.conn) (state g conn) (λ db. IsTrue (state g old.conn).is_open × (contents_in db ≡ with_batch batch (pos old.log.entries) (contents_in (state g old.conn).now.trees)))
+    → (HasCleanDisk (state g conn) → IsWritten (with_batch batch (pos old.log.entries) (contents_in (state g old.conn).now.trees)) (state g old.conn) (state g conn))
+    → (HasCleanDisk (state g conn) → IfSome batch.log (λ _. get (contents_in (state g old.conn).now.trees).log (pos old.log.entries) ≡ None))
+    → next.entries ≡ count_with old.log.entries (optional_entry batch.log) → next.is_whole ≡ old.log.is_whole → IsSteady g conn conn next
+written_steady g old conn batch next steady idle survives written free entries whole = record {
   idle = idle;
   ready = λ clean _. (written clean).ready;
   same = λ _ _. refl;
-  counted = λ clean.
+  log = λ clean.
       let w = written clean in
       let early : HasCleanDisk (state g old.conn) = omega (arith, clean, survives.clean) in
       let there = steady.same early w.was_open in
-      let count = steady.counted early ∙ ap (λ (k : Contents). len k.log) (sym there) in
-      is ∙ counted_more (contents_in (state g old.conn).now.trees).log old.entries batch.log count (free clean) ∙ sym (ap (λ (k : Contents). len k.log) w.contents);
+      log_written (contents_in (state g old.conn).now.trees) (contents_in (state g conn).now.trees) batch old.log next (subst (λ (k : Contents). IsLogOf k old.log) (sym there) (steady.log early)) w.contents (free clean) entries whole;
 }
 
 -- ---- a store that is made
 
-pub over_steady : {S : Type 0} (g : Ghosts S) (conn : Held S) (entries : ℕ) → conn.in_transaction ≡ false → (HasCleanDisk (state g conn) → IsReady (state g conn))
-    → (HasCleanDisk (state g conn) → entries ≡ len (contents_in (state g conn).now.trees).log) → IsSteady g conn conn entries
-over_steady g conn entries idle ready counted = record { idle = idle; ready = λ clean _. ready clean; same = λ _ _. refl; counted = counted }
+pub over_steady : {S : Type 0} (g : Ghosts S) (conn : Held S) (log : LogFound) → conn.in_transaction ≡ false → (HasCleanDisk (state g conn) → IsReady (state g conn))
+    → (HasCleanDisk (state g conn) → IsLogOf (contents_in (state g conn).now.trees) log) → IsSteady g conn conn log
+over_steady g conn log idle ready is = record { idle = idle; ready = λ clean _. ready clean; same = λ _ _. refl; log = is }
 
 laid_is : (trees : Trees) → IsEmptyIn store_schema trees → contents_in trees ≡ nothing
 laid_is trees empty = rw (empty.0, empty.1.0, empty.1.1.0, empty.1.1.1.0) refl
@@ -65,8 +111,14 @@ laid_kept db schema empty = record {
 pub laid_ready : (old new : State) → IsLaidOut old new → IsReady new
 laid_ready old new laid = record { kept = laid_kept new.now laid.schema_is laid.empty; settled = laid.settled }
 
-pub laid_counted : (old new : State) → IsLaidOut old new → 0 ≡ len (contents_in new.now.trees).log
-laid_counted old new laid = sym (ap (λ (k : Contents). len k.log) (laid_is new.now.trees laid.empty) ∙ len-empty int_cmp LogItem)
+abbrev pub empty_log : LogFound
+empty_log = record { entries = 0; is_whole = true }
+
+pub laid_log : (old new : State) → IsLaidOut old new → IsLogOf (contents_in new.now.trees) empty_log
+laid_log old new laid = subst (λ (k : Contents). IsLogOf k empty_log) (sym (laid_is new.now.trees laid.empty)) (record {
+  counted = sym (len-empty int_cmp LogItem);
+  whole = (λ _ version less. absurd (let none = len-empty int_cmp LogItem in omega (arith, less, none)), λ _. refl);
+})
 
 pub laid_survives : (old new : State) → (HasCleanDisk old → IsAt no_schema old) → Survives old new (IsEmptyIn store_schema) → Survives old new (IsMadeOf old.now)
 laid_survives old new at s = record {
@@ -93,8 +145,8 @@ completed_kept old new kept schema adds = record {
 pub completed_ready : (old new : State) → IsFrontKept old.now.trees → IsCompleted old new → IsReady new
 completed_ready old new kept done = record { kept = completed_kept old.now new.now kept done.schema_is done.added; settled = done.settled }
 
-pub completed_counted : (old new : State) (entries : ℕ) → IsLogOf (front_in old.now.trees) entries → IsCompleted old new → entries ≡ len (contents_in new.now.trees).log
-completed_counted old new entries log done = log.counted ∙ sym (ap (λ (k : Contents). len k.log) (completed_is old.now.trees new.now.trees done.added))
+pub completed_log : (old new : State) (log : LogFound) → IsLogOf (front_in old.now.trees) log → IsCompleted old new → IsLogOf (contents_in new.now.trees) log
+completed_log old new log is done = subst (λ (k : Contents). IsLogOf k log) (sym (completed_is old.now.trees new.now.trees done.added)) is
 
 pub completed_survives : (old new : State) → (HasCleanDisk old → IsAt front_schema old) → Survives old new (λ db. AddsPending old.now.trees db) → Survives old new (IsMadeOf old.now)
 completed_survives old new at s = record {
@@ -107,20 +159,20 @@ completed_survives old new at s = record {
 }
 
 -- a store just made over a connection that is open holds what it shows, and a stop leaves that alone
-fresh_over : {S : Type 0} (g : Ghosts S) (conn : Held S) (entries : ℕ) (found : Contents) → contents_in (state g conn).now.trees ≡ found → (state g conn).committed ≡ (state g conn).now
-    → ((db : Trees) → (state g conn).may_leave db → db ≡ (state g conn).committed.trees) → IsFresh g (made_over conn entries) found
-fresh_over g conn entries found is settled leaves = record {
+fresh_over : {S : Type 0} (g : Ghosts S) (conn : Held S) (log : LogFound) (found : Contents) → contents_in (state g conn).now.trees ≡ found → (state g conn).committed ≡ (state g conn).now
+    → ((db : Trees) → (state g conn).may_leave db → db ≡ (state g conn).committed.trees) → IsFresh g (made_over conn log) found
+fresh_over g conn log found is settled leaves = record {
   holds_is = is;
   durable = λ left m. m.2 ∙ ap contents_in (leaves m.0 m.1 ∙ ap (λ (d : Database). d.trees) settled) ∙ is;
 }
 
 pub laid_fresh : {S : Type 0} (g : Ghosts S) (start : State) (conn : Held S) → IsLaidOut start (state g conn) → ((db : Trees) → (state g conn).may_leave db → db ≡ (state g conn).committed.trees)
-    → IsFresh g (made_over conn 0) nothing
-laid_fresh g start conn laid leaves = fresh_over g conn 0 nothing (laid_is (state g conn).now.trees laid.empty) laid.settled leaves
+    → IsFresh g (made_over conn empty_log) nothing
+laid_fresh g start conn laid leaves = fresh_over g conn empty_log nothing (laid_is (state g conn).now.trees laid.empty) laid.settled leaves
 
-pub completed_fresh : {S : Type 0} (g : Ghosts S) (start : State) (conn : Held S) (entries : ℕ) → IsCompleted start (state g conn) → ((db : Trees) → (state g conn).may_leave db → db ≡ (state g conn).committed.trees)
-    → IsFresh g (made_over conn entries) (front_in start.now.trees)
-completed_fresh g start conn entries done leaves = fresh_over g conn entries (front_in start.now.trees) (completed_is start.now.trees (state g conn).now.trees done.added) done.settled leaves
+pub completed_fresh : {S : Type 0} (g : Ghosts S) (start : State) (conn : Held S) (log : LogFound) → IsCompleted start (state g conn) → ((db : Trees) → (state g conn).may_leave db → db ≡ (state g conn).committed.trees)
+    → IsFresh g (made_over conn log) (front_in start.now.trees)
+completed_fresh g start conn log done leaves = fresh_over g conn log (front_in start.now.trees) (completed_is start.now.trees (state g conn).now.trees done.added) done.settled leaves
 
 -- ---- a connection that is given back
 
@@ -180,37 +232,36 @@ all_back g start mid same (Err e) first stays h = record {
 }
 
 pub fresh_adopted : {S X : Type 0} (g : Ghosts S) (start mid : State) (r : Result (Kept S) X) → (HasCleanDisk mid → start.now.schema ≡ no_schema) → (HasCleanDisk mid → IsUntouched start mid) → IfOk r (λ s. Survives mid (state g s.conn) (IsMadeOf mid.now))
-    → IfOk r (λ s. HasCleanDisk (state g s.conn) → IsFresh g s nothing) → HasNoGaps nothing → IfOk r (λ s. HasCleanDisk (state g s.conn) → IsAdopted g start s)
-fresh_adopted g start mid (Err e) schema untouched survives made gapless = tt
-fresh_adopted g start mid (Ok s) schema untouched survives made gapless = λ clean.
+    → IfOk r (λ s. HasCleanDisk (state g s.conn) → IsFresh g s nothing) → IfOk r (λ s. HasCleanDisk (state g s.conn) → IsAdopted g start s)
+fresh_adopted g start mid (Err e) schema untouched survives made = tt
+fresh_adopted g start mid (Ok s) schema untouched survives made = λ clean.
     let early : HasCleanDisk mid = omega (arith, clean, survives.clean) in
     let u = untouched early in
     let f = made clean in
-    record { was_open = u.was_open; from = inl (schema early, f.holds_is); no_gaps = subst HasNoGaps (sym f.holds_is) gapless; durable = λ left m. f.durable left m ∙ sym f.holds_is }
+    record { was_open = u.was_open; from = inl (schema early, f.holds_is); durable = λ left m. f.durable left m ∙ sym f.holds_is }
 
-pub front_adopted : {S X : Type 0} (g : Ghosts S) (start mid : State) (r : Result (Kept S) X) (entries : ℕ) → (HasCleanDisk mid → start.now.schema ≡ front_schema) → (HasCleanDisk mid → IsLogOf (front_in start.now.trees) entries) → (HasCleanDisk mid → IsUntouched start mid)
+pub front_adopted : {S X : Type 0} (g : Ghosts S) (start mid : State) (r : Result (Kept S) X) → (HasCleanDisk mid → start.now.schema ≡ front_schema) → (HasCleanDisk mid → IsUntouched start mid)
     → IfOk r (λ s. Survives mid (state g s.conn) (IsMadeOf mid.now)) → IfOk r (λ s. HasCleanDisk (state g s.conn) → IsFresh g s (front_in mid.now.trees)) → IfOk r (λ s. HasCleanDisk (state g s.conn) → IsAdopted g start s)
-front_adopted g start mid (Err e) entries schema log untouched survives made = tt
-front_adopted g start mid (Ok s) entries schema log untouched survives made = λ clean.
+front_adopted g start mid (Err e) schema untouched survives made = tt
+front_adopted g start mid (Ok s) schema untouched survives made = λ clean.
     let early : HasCleanDisk mid = omega (arith, clean, survives.clean) in
     let u = untouched early in
     let f = made clean in
     let holds_it : holds g s ≡ front_in start.now.trees = f.holds_is ∙ ap (λ (d : Database). front_in d.trees) u.now in
-    record { was_open = u.was_open; from = inr (inl (schema early, holds_it)); no_gaps = subst HasNoGaps (sym holds_it) (log early).no_gaps; durable = λ left m. f.durable left m ∙ sym f.holds_is }
+    record { was_open = u.was_open; from = inr (inl (schema early, holds_it)); durable = λ left m. f.durable left m ∙ sym f.holds_is }
 
-pub ours_adopted : {S : Type 0} (g : Ghosts S) (start : State) (conn : Held S) (entries : ℕ) → IsKept start.now → IsLogOf (contents_in start.now.trees) entries → IsUntouched start (state g conn)
-    → ((db : Trees) → (state g conn).may_leave db → db ≡ (state g conn).committed.trees) → IsAdopted g start (made_over conn entries)
-ours_adopted g start conn entries kept log u leaves =
+pub ours_adopted : {S : Type 0} (g : Ghosts S) (start : State) (conn : Held S) (log : LogFound) → IsKept start.now → IsUntouched start (state g conn)
+    → ((db : Trees) → (state g conn).may_leave db → db ≡ (state g conn).committed.trees) → IsAdopted g start (made_over conn log)
+ours_adopted g start conn log kept u leaves =
     let holds_it : contents_in (state g conn).now.trees ≡ contents_in start.now.trees = ap (λ (d : Database). contents_in d.trees) u.now in
     record {
       was_open = u.was_open;
       from = inr (inr (kept.schema, holds_it));
-      no_gaps = subst HasNoGaps (sym holds_it) log.no_gaps;
       durable = λ left m. m.2 ∙ ap contents_in (leaves m.0 m.1 ∙ ap (λ (d : Database). d.trees) u.settled);
     }
 
 pub ours_ready : (old new : State) → IsKept old.now → IsUntouched old new → IsReady new
 ours_ready old new kept u = record { kept = subst IsKept (sym u.now) kept; settled = u.settled }
 
-pub ours_counted : (old new : State) (entries : ℕ) → IsLogOf (contents_in old.now.trees) entries → IsUntouched old new → entries ≡ len (contents_in new.now.trees).log
-ours_counted old new entries log u = log.counted ∙ sym (ap (λ (d : Database). len (contents_in d.trees).log) u.now)
+pub ours_log : (old new : State) (log : LogFound) → IsLogOf (contents_in old.now.trees) log → IsUntouched old new → IsLogOf (contents_in new.now.trees) log
+ours_log old new log is u = subst (λ (d : Database). IsLogOf (contents_in d.trees) log) (sym u.now) is

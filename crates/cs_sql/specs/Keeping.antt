@@ -1,21 +1,21 @@
 -- A store over a connection (profile of this project).
-use Rattle.std.specs.Prelude.{◌≡◌, ◌⊎◌, ℕ, ◌≤◌, ◌+◌, Option, Some, None, false, IsTrue, refl}
-use Rattle.std.specs.FinMap.{len}
-use Rattle.std.specs.Coded.{Coded, code_by, coded×, coded_ℕ}
+use Rattle.std.specs.Prelude.{◌≡◌, ◌⊎◌, ℕ, Bool, ◌≤◌, ◌+◌, Option, Some, None, false, IsTrue, refl}
+use Rattle.std.specs.Coded.{Coded, code_by, coded×, coded_ℕ, coded_bool}
 use Rattle.sqlite.specs.Store.{Ghosts}
 use Rattle.sqlite.specs.Effect.{Database}
 use Rattle.sqlite.specs.Schema.{Schema}
 use Rattle.sqlite.specs.Tree.{Trees}
 use Rattle.sqlite.specs.State.{State, HasCleanDisk, Survives}
 use Rattle.sqlite.specs.Held.{Held, state, held_code}
-use Rattle.cs_store.specs.Contents.{Contents, HasNoGaps, LogItem, nothing}
+use Rattle.cs_store.specs.Contents.{Contents, LogItem, nothing}
 use Rattle.cs_store.specs.Calls.{MoreFailures}
 use Rattle.cs_store.specs.declared.fault.StoreFault.{StoreFault}
 use Rattle.cs_store.specs.declared.fault.StoreFault.TheVariants.{Device}
 use Rattle.cs_sql_schema.specs.Schemas.{no_schema, front_schema, store_schema}
 use Rattle.cs_sql_statements.specs.Tables.{contents_in}
 use Rattle.cs_sql_statements.specs.Steps.{IsReady, Stays}
-use Rattle.cs_sql_statements.specs.Found.{front_in}
+use Rattle.cs_sql_statements.specs.declared.counting.LogFound.{LogFound}
+use Rattle.cs_sql_statements.specs.Found.{IsLogOf, front_in}
 
 -- the count never falls, and rises with `Device`
 pub record IsToldAs (fault : StoreFault) (old new : ℕ) : Type 0 where
@@ -26,20 +26,20 @@ pub record Kept (S : Type 0) : Type 0 where
   pub conn : Held S
   -- as a commit last left it
   pub last : Held S
-  -- how many entries the log has
-  pub entries : ℕ
+  -- how many entries the log has, and whether one stands at each version below that number
+  pub log : LogFound
   pub failures : ℕ
   pub misreads : ℕ
 
 abbrev pub kept_code : {S : Type 0} → Coded S → Coded (Kept S)
 kept_code {S} store =
-    code_by (Held S × (Held S × (ℕ × (ℕ × ℕ)))) (coded× (held_code store) (coded× (held_code store) (coded× coded_ℕ (coded× coded_ℕ coded_ℕ))))
-    (λ s. (s.conn, (s.last, (s.entries, (s.failures, s.misreads)))))
-    (λ p. record { conn = p.0; last = p.1.0; entries = p.1.1.0; failures = p.1.1.1.0; misreads = p.1.1.1.1 }) (λ _. refl)
+    code_by (Held S × (Held S × (ℕ × (Bool × (ℕ × ℕ))))) (coded× (held_code store) (coded× (held_code store) (coded× coded_ℕ (coded× coded_bool (coded× coded_ℕ coded_ℕ)))))
+    (λ s. (s.conn, (s.last, (s.log.entries, (s.log.is_whole, (s.failures, s.misreads))))))
+    (λ p. record { conn = p.0; last = p.1.0; log = record { entries = p.1.1.0; is_whole = p.1.1.1.0 }; failures = p.1.1.1.1.0; misreads = p.1.1.1.1.1 }) (λ _. refl)
 
 -- a store that was just made over the connection
-abbrev pub made_over : {S : Type 0} → Held S → ℕ → Kept S
-made_over conn entries = record { conn = conn; last = conn; entries = entries; failures = 0; misreads = 0 }
+abbrev pub made_over : {S : Type 0} → Held S → LogFound → Kept S
+made_over conn log = record { conn = conn; last = conn; log = log; failures = 0; misreads = 0 }
 
 -- how many entries there are with the new one
 abbrev pub count_with : ℕ → Option LogItem → ℕ
@@ -55,11 +55,11 @@ module _ {S : Type 0} (g : Ghosts S) where
   MayLeave s left = (db : Trees) × (state g s.conn).may_leave db × (left ≡ contents_in db)
 
   -- between two commits, the connection shows what the last one left
-  pub record IsSteady (conn last : Held S) (entries : ℕ) : Type 0 where
+  pub record IsSteady (conn last : Held S) (found : LogFound) : Type 0 where
     pub idle : conn.in_transaction ≡ false
     pub ready : HasCleanDisk (state g conn) → IsTrue (state g conn).is_open → IsReady (state g conn)
     pub same : HasCleanDisk (state g conn) → IsTrue (state g conn).is_open → contents_in (state g conn).now.trees ≡ contents_in (state g last).now.trees
-    pub counted : HasCleanDisk (state g conn) → entries ≡ len (contents_in (state g last).now.trees).log
+    pub log : HasCleanDisk (state g conn) → IsLogOf (contents_in (state g last).now.trees) found
 
   -- the store was just made, and holds this: a stop now leaves it, alone
   pub record IsFresh (s : Kept S) (found : Contents) : Type 0 where
@@ -88,11 +88,10 @@ IsMadeOf db left =
     ⊎ ((db.schema ≡ front_schema) × (contents_in left ≡ front_in db.trees))
 
 module _ {S : Type 0} (g : Ghosts S) (shown : State) where
-  -- the store holds what the connection showed, whose log has no gaps, and a stop now leaves that alone
+  -- the store holds what the connection showed, and a stop now leaves that alone
   pub record IsAdopted (s : Kept S) : Type 0 where
     pub was_open : IsTrue shown.is_open
     pub from : IsHeldIn shown.now (holds g s)
-    pub no_gaps : HasNoGaps (holds g s)
     pub durable : (left : Contents) → MayLeave g s left → left ≡ holds g s
 
   -- the connection is given back as it was: in no transaction, and where it is open it shows what it showed; a stop leaves what

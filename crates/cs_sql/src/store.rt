@@ -1,7 +1,6 @@
 //! A store over a connection.
 
 ghost use Rattle.std.specs.Prelude.{◌≡◌, false, IfErr, IfOk, IfSome};
-ghost use Rattle.std.specs.FinMap.{len};
 ghost use Rattle.sqlite.specs.Files.{file_state};
 ghost use Rattle.sqlite.specs.Held.{state};
 ghost use Rattle.sqlite.specs.State.{HasCleanDisk, Survives};
@@ -18,10 +17,9 @@ ghost use Rattle.cs_sql.specs.Opening.{IsOpenedAt};
 
 use cs_sql_schema::{complete, lay_out};
 use cs_sql_statements::{
-    Found, check_store, commit_batch, list_pending, list_rows, look, read_log, read_meta,
-    read_pending, read_row,
+    Found, LogFound, check_store, commit_batch, list_log, list_pending, list_rows, look, read_log,
+    read_meta, read_pending, read_row,
 };
-use cs_store::laws::no_gaps;
 use cs_store::{Batch, MetaName, RowStore, StoreFault, StoredBody, StoredEntry};
 use cs_value::Catalog;
 use sqlite::{Alter, Connection, Error, ErrorCode, FileFrom, FileStore, MemStore, Start};
@@ -38,7 +36,8 @@ pub struct SqlStore<A: Alter> {
     conn: Connection<A>,
     /// What the connection held when a commit last succeeded: what it shows where it is still open.
     last: Snapshot<Connection<A>>,
-    entries: u32,
+    /// What is so of the log.
+    log: LogFound,
     failures: u64,
     misreads: u64,
     alloc: Global,
@@ -51,9 +50,9 @@ impl<A: Alter> Model for SqlStore<A> {
 
     ghost coded = { kept_code A.code };
 
-    ghost view = { λ s. record { conn = s.conn; last = s.last.value; entries = s.entries; failures = s.failures; misreads = s.misreads } };
+    ghost view = { λ s. record { conn = s.conn; last = s.last.value; log = s.log; failures = s.failures; misreads = s.misreads } };
 
-    ghost invariant = { λ s. IsSteady A.Store s.conn s.last.value s.entries };
+    ghost invariant = { λ s. IsSteady A.Store s.conn s.last.value s.log };
 }
 
 /// What a fault of `sqlite` is told as. One that isn't want of memory is counted.
@@ -92,17 +91,17 @@ impl SqlStore<MemStore> {
 
 impl<A: Alter> SqlStore<A> {
     /// A store over a connection on the store's tables, as the last commit left it.
-    fn over(alloc: Global, conn: Connection<A>, entries: u32) -> SqlStore<A>
+    fn over(alloc: Global, conn: Connection<A>, log: LogFound) -> SqlStore<A>
         requires idle { conn.in_transaction ≡ false }
         requires ready { HasCleanDisk (state A.Store conn) → IsReady (state A.Store conn) }
-        requires counted { HasCleanDisk (state A.Store conn) → entries ≡ len (contents_in (state A.Store conn).now.trees).log }
-        ensures { result ≡ made_over conn entries }
+        requires log { HasCleanDisk (state A.Store conn) → IsLogOf (contents_in (state A.Store conn).now.trees) log }
+        ensures { result ≡ made_over conn log }
     {
         let last = Snapshot::of(&conn);
         SqlStore {
             conn,
             last,
-            entries,
+            log,
             failures: 0,
             misreads: 0,
             alloc,
@@ -121,27 +120,33 @@ impl<A: Alter> SqlStore<A> {
         ensures kept { IfErr result (λ e. IsGivenBack A.Store (state A.Store conn) e.0) }
     {
         match lay_out(&mut conn) {
-            Ok(()) => Ok(SqlStore::over(alloc, conn, 0)),
+            Ok(()) => {
+                let log = LogFound {
+                    entries: 0,
+                    is_whole: true,
+                };
+                Ok(SqlStore::over(alloc, conn, log))
+            }
             Err(error) => Err((conn, fault_of(&error, &mut 0))),
         }
     }
 
-    /// A store over a connection to a database that has the store's tables but for `pending`, and so many entries of the log.
+    /// A store over a connection to a database that has the store's tables but for `pending`, of whose log that was found.
     fn extend(
         alloc: Global,
         mut conn: Connection<A>,
-        entries: u32,
+        log: LogFound,
     ) -> Result<SqlStore<A>, (Connection<A>, StoreFault)>
         requires idle { conn.in_transaction ≡ false }
         requires front { HasCleanDisk (state A.Store conn) → IsAt front_schema (state A.Store conn) }
         requires kept { HasCleanDisk (state A.Store conn) → IsFrontKept (state A.Store conn).now.trees }
-        requires log { HasCleanDisk (state A.Store conn) → IsLogOf (front_in (state A.Store conn).now.trees) entries }
+        requires log { HasCleanDisk (state A.Store conn) → IsLogOf (front_in (state A.Store conn).now.trees) log }
         ensures made { IfOk result (λ s. HasCleanDisk (state A.Store s.conn) → IsFresh A.Store s (front_in (state A.Store conn).now.trees)) }
         ensures survives { IfOk result (λ s. Survives (state A.Store conn) (state A.Store s.conn) (IsMadeOf (state A.Store conn).now)) }
         ensures kept { IfErr result (λ e. IsGivenBack A.Store (state A.Store conn) e.0) }
     {
         match complete(&mut conn) {
-            Ok(()) => Ok(SqlStore::over(alloc, conn, entries)),
+            Ok(()) => Ok(SqlStore::over(alloc, conn, log)),
             Err(error) => Err((conn, fault_of(&error, &mut 0))),
         }
     }
@@ -152,7 +157,8 @@ impl<A: Alter> SqlStore<A> {
     /// # Errors
     ///
     /// `Memory`, where `sqlite` answered that, and `Device`, where it answered another fault or where the database is another's:
-    /// its schema isn't the store's, rowids aren't apart, or the log's versions have gaps. The connection is given back as it was.
+    /// its schema isn't the store's, rowids aren't apart, or the log has more entries than there are versions. A log whose
+    /// versions have gaps is taken as it is, and `log_is_whole` tells. The connection is given back as it was.
     pub fn adopt(
         alloc: Global,
         mut conn: Connection<A>,
@@ -163,11 +169,10 @@ impl<A: Alter> SqlStore<A> {
         ensures kept { IfErr result (λ e. IsGivenBack A.Store (state A.Store conn) e.0) }
     {
         let _ = conn.is_autocommit();
-        no_gaps();
         match look(&mut conn) {
             Ok(Found::Fresh) => SqlStore::make(alloc, conn),
-            Ok(Found::Front(entries)) => SqlStore::extend(alloc, conn, entries),
-            Ok(Found::Ours(entries)) => Ok(SqlStore::over(alloc, conn, entries)),
+            Ok(Found::Front(log)) => SqlStore::extend(alloc, conn, log),
+            Ok(Found::Ours(log)) => Ok(SqlStore::over(alloc, conn, log)),
             Ok(Found::Foreign) => Err((conn, StoreFault::Device)),
             Err(error) => Err((conn, fault_of(&error, &mut 0))),
         }
@@ -256,7 +261,7 @@ impl<A: Alter> RowStore for SqlStore<A> {
     }
 
     fn log_len(&mut self) -> Result<u32, StoreFault> {
-        Ok(self.entries)
+        Ok(self.log.entries)
     }
 
     fn log_get(&mut self, version: u32) -> Result<Option<StoredEntry>, StoreFault> {
@@ -266,15 +271,27 @@ impl<A: Alter> RowStore for SqlStore<A> {
         }
     }
 
+    fn log_list(&mut self, first: u32, count: u32) -> Result<Vec<StoredEntry>, StoreFault> {
+        match list_log(self.alloc, &mut self.conn, first, count) {
+            Ok(entries) => Ok(entries),
+            Err(error) => Err(fault_of(&error, &mut self.failures)),
+        }
+    }
+
+    fn log_is_whole(&mut self) -> Result<bool, StoreFault> {
+        Ok(self.log.is_whole)
+    }
+
     fn commit(&mut self, batch: &Batch) -> Result<(), StoreFault> {
         // A log has no more entries than there are versions.
-        let Some(entries) = entries_with(self.entries, batch) else {
+        let Some(entries) = entries_with(self.log.entries, batch) else {
             return Err(StoreFault::Memory);
         };
-        match commit_batch(&mut self.conn, batch, self.entries) {
+        match commit_batch(&mut self.conn, batch, self.log.entries) {
             Ok(()) => {
                 self.last = Snapshot::of(&self.conn);
-                self.entries = entries;
+                // The new entry stands at the old count, where none stood: it fills no gap and leaves none.
+                self.log.entries = entries;
                 Ok(())
             }
             Err(error) => Err(fault_of(&error, &mut self.failures)),

@@ -1,7 +1,6 @@
 -- What the tables of a file that was found hold.
-use Rattle.std.specs.Prelude.{is_some, ◌↔◌, IsSome}
-use Rattle.std.specs.declared.alloc.Global.{Global}
-use Rattle.std.proofs.Common.{◌≡◌, ◌≢◌, inl, inr, ℕ, ◌+◌, ◌<◌, ◌≤◌, ℤ, pos, Vec, List, [], ◌∷◌, length, get_or, take, drop, ◌++◌, map, codes, Bool, true, false, not, ◌&&◌, ◌||◌, cond, Option, Some, None, IfSome, IsTrue, refl, sym, ap, subst, ◌∙◌, arith}
+use Rattle.std.specs.Prelude.{is_some, zero, suc, ◌↔◌, IsSome}
+use Rattle.std.proofs.Common.{◌≡◌, ◌≢◌, inl, inr, ℕ, ◌+◌, ◌<◌, ◌≤◌, ℤ, pos, List, [], ◌∷◌, length, drop, ◌++◌, length-append, map, codes, Bool, true, false, not, ◌&&◌, ◌||◌, cond, Option, Some, None, IfSome, IsTrue, refl, sym, ap, subst, ◌∙◌, arith}
 use Rattle.std.specs.declared.cmp.Ordering.{Ordering}
 use Rattle.std.specs.declared.cmp.Ordering.TheVariants.{Less, Equal, Greater}
 use Rattle.std.specs.Ordering.{is_eq, is_ne, eq_by_cmp, int_cmp}
@@ -12,19 +11,18 @@ use Rattle.std.specs.FinMap.{find, get, len, from_entries, get-from_entries, con
 use Rattle.std.proofs.lemmas.Bool.{cases_Bool, and_parts}
 use Rattle.std.proofs.lemmas.Cmp.{int_cmp_total, nat_list_cmp_total, tied_itself}
 use Rattle.std.proofs.lemmas.Map.Lookups.{exact_signed}
-use Rattle.std.proofs.lemmas.List.{length-map, length-take, take_more}
+use Rattle.std.proofs.lemmas.List.{append_assoc, length-map}
 use Rattle.std.proofs.lemmas.List.Sorted.{length_permutation, list_any-IsPermutation, IsPermutation-sym}
 use Rattle.sqlite.specs.Order.{Row, column}
 use Rattle.sqlite.specs.Effect.{Database, IsDatabase}
 use Rattle.sqlite.specs.Tree.{Trees, rowid}
-use Rattle.sqlite.specs.State.{State, HasCleanDisk, Shown, Survives, CommitsShowing, FailsToQuery, IsUnchanged}
-use Rattle.sqlite.specs.declared.error.Error.{Error}
+use Rattle.sqlite.specs.State.{State, IsUnchanged}
 use Rattle.sqlite.specs.Program.{overlay}
 use Rattle.sqlite.specs.Schema.{Schema}
 use Rattle.sqlite.specs.Listing.{understood, reads_listing}
 use Rattle.sqlite.specs.Command.TheVariants.{Select}
 use Rattle.sqlite.specs.Ops.{binary, is_true, is_null, from_truth}
-use Rattle.sqlite.proofs.Callers.{IsPlain, command_of, reads_as, never_commits}
+use Rattle.sqlite.proofs.Callers.{IsPlain, command_of, reads_as}
 use Rattle.sqlite_rules.specs.Lists.{Has}
 use Rattle.sqlite_rules.specs.Edit.{id_in}
 use Rattle.sqlite_rules.proofs.ListLemmas.{all_has, all_from, some_from}
@@ -40,13 +38,14 @@ use Rattle.cs_order.specs.Order.{by_bytes}
 use Rattle.cs_store.specs.Contents.{LogItem, place_cmp}
 use Rattle.cs_sql_schema.specs.Schemas.{front_schema, store_schema, rows_table, meta_table, log_table}
 use Rattle.cs_sql_statements.specs.Tables.{rows_ids_text, meta_ids_text, log_ids_text, pending_ids_text, IsRow, IsMeta, IsLog, IsKept, Apart, same_id, same_key, row_pair, value_pair, entry_pair, contents_in}
-use Rattle.cs_sql_statements.specs.Steps.{Stays}
-use Rattle.cs_sql_statements.specs.Found.{AreApart, AreEntries, AreNumbered, HasFront, IsCounted, IsFrontKept, IsLogOf, IsUntouched, Rise, Serves, ShowsIds, ShowsNumber, front_in, is_version}
+use Rattle.cs_sql_statements.specs.declared.counting.Ids.{Ids}
+use Rattle.cs_sql_statements.specs.declared.counting.LogFound.{LogFound}
+use Rattle.cs_sql_statements.specs.Steps.{Serves}
+use Rattle.cs_sql_statements.specs.Found.{AreApart, AreEntries, AreNumbered, AreSeen, HasEachVersion, HasFront, IsCounted, IsFrontKept, IsLogOf, IsUntouched, Rise, ShowsIds, ShowsLast, ShowsNumber, front_in, is_version}
 use Rattle.cs_sql_statements.proofs.Meanings.{ids_in, one_column, rising_by, rows_ids_front, meta_ids_front, log_ids_front, rows_ids_store, meta_ids_store, log_ids_store, pending_ids_store}
-use Rattle.cs_sql_statements.proofs.Finding.{stays_failed, shown_unchanged}
 use Rattle.cs_sql_statements.proofs.Answers.{place_total, shown, answer_is, passes_on, passes_is, name_passes}
 use Rattle.cs_sql_statements.proofs.Apart.{find_none}
-use Rattle.cs_sql_statements.proofs.Orders.{apart_permutation, apart_unmap, all_permutation, all_unmap}
+use Rattle.cs_sql_statements.proofs.Orders.{apart_permutation, apart_unmap, all_permutation, all_unmap, pos_less, rise_push}
 
 -- ---- rowids
 
@@ -79,12 +78,12 @@ apart_from es rows same whole rise =
 abbrev pub AsksIds : Schema → List ℕ → ℕ → List (List ℕ) → Type 0
 AsksIds schema sql tree names = (command_of (understood schema sql) ≡ Select (record { lets = []; body = ids_in tree }) names) × (reads_listing schema sql ≡ false) × IsPlain (understood schema sql)
 
-module _ (schema : Schema) (sql : List ℕ) (tree : ℕ) (names : List (List ℕ)) (asks : AsksIds schema sql tree names) (old new : State) (has : old.now.schema ≡ schema) (rows : List Row) (it : ShowsIds sql old new rows) where
-  ids_same : IsPermutation (map (shown (one_column 0) []) (filter (passes_on [] []) (overlay old.now.trees [] tree))) rows
-  ids_same = let a = reads_as sql [] old new schema has _ asks.0 asks.2 asks.1 rows it.shown in answer_is tree [] (one_column 0) (rising_by 0) old.now.trees [] rows (a.answer Null)
+module _ (schema : Schema) (sql : List ℕ) (tree : ℕ) (names : List (List ℕ)) (asks : AsksIds schema sql tree names) (old new : State) (has : old.now.schema ≡ schema) (ids : Ids) (it : ShowsIds sql old new ids) where
+  ids_same : IsPermutation (map (shown (one_column 0) []) (filter (passes_on [] []) (overlay old.now.trees [] tree))) it.rows
+  ids_same = let a = reads_as sql [] old new schema has _ asks.0 asks.2 asks.1 it.rows it.shown in answer_is tree [] (one_column 0) (rising_by 0) old.now.trees [] it.rows (a.answer Null)
 
-  ids_apart : AreApart (overlay old.now.trees [] tree)
-  ids_apart = apart_from (overlay old.now.trees [] tree) rows ids_same it.whole it.rise
+  ids_apart : IsTrue ids.rise → AreApart (overlay old.now.trees [] tree)
+  ids_apart rise = apart_from (overlay old.now.trees [] tree) it.rows ids_same it.are.whole (it.are.rise rise)
 
 -- ---- the versions of the log
 
@@ -127,34 +126,144 @@ numbered_push from [] row are is = let same : from + 0 ≡ from = omega arith in
 numbered_push from (e ∷ es) row are is =
     let same : from + length (e ∷ es) ≡ (from + 1) + length es = omega arith in (are.0, numbered_push (from + 1) es row are.1 (is ∙ ap (λ (n : ℕ). Int (pos n)) same))
 
-pub numbered_more : (rows : List Row) (at : ℕ) (row : Row) → at < length rows → row ≡ get_or rows at row → column row 0 ≡ Int (pos at) → AreNumbered 0 (take at rows) → AreNumbered 0 (take (at + 1) rows)
-numbered_more rows at row less here is are =
-    let all : take (at + 1) rows ≡ take at rows ++ row ∷ [] = take_more rows at row less ∙ ap (λ (e : Row). take at rows ++ e ∷ []) (sym here) in
-    let count : 0 + length (take at rows) ≡ at = omega (arith, length-take at rows, less) in
-    subst (AreNumbered 0) (sym all) (numbered_push 0 (take at rows) row are (is ∙ ap (λ (n : ℕ). Int (pos n)) (sym count)))
+numbered_front : (from : ℕ) (es : List Row) (row : Row) → AreNumbered from (es ++ row ∷ []) → AreNumbered from es × (column row 0 ≡ Int (pos (from + length es)))
+numbered_front from [] row are = let same : from ≡ from + 0 = omega arith in (tt, are.0 ∙ ap (λ (n : ℕ). Int (pos n)) same)
+numbered_front from (e ∷ es) row are =
+    let rest = numbered_front (from + 1) es row are.1 in let same : (from + 1) + length es ≡ from + length (e ∷ es) = omega arith in ((are.0, rest.0), rest.1 ∙ ap (λ (n : ℕ). Int (pos n)) same)
+
+-- the versions that rising rows show are numbered where each below their count is shown
+version_id : (r : Row) (k : ℕ) → ShowsNumber r → is_version k r ≡ true → column r 0 ≡ Int (pos k)
+version_id r k whole tie =
+    let same : int_cmp whole.0 (pos k) ≡ Equal = sym (value_cmp-Int whole.0 (pos k)) ∙ (λ i. value_cmp (sym whole.1 i) (Int (pos k))) ∙ equal_from _ tie in whole.1 ∙ ap (λ (z : ℤ). Int z) (exact_signed whole.0 (pos k) same)
+
+below_shown : (r : Row) (k : ℕ) (rows : List Row) → AllByRecursion ShowsNumber rows → AllByRecursion (λ other. value_cmp (column r 0) (column other 0) ≡ Less) rows → list_any (is_version k) rows ≡ true
+    → value_cmp (column r 0) (Int (pos k)) ≡ Less
+below_shown r k [] whole below there = absurd cc
+below_shown r k (o ∷ rows) whole below there = elim (cases_Bool (is_version k o)) [
+  | inl here ↦ subst (λ v. value_cmp (column r 0) v ≡ Less) (version_id o k whole.0 here) below.0
+  | inr other ↦ below_shown r k rows whole.1 below.1 (rw other at there)
+]
+
+-- a row that shows a version stands below those after it
+row_below : (r : Row) (at k : ℕ) (rows : List Row) → AllByRecursion ShowsNumber rows → AllByRecursion (λ other. value_cmp (column r 0) (column other 0) ≡ Less) rows → column r 0 ≡ Int (pos at) → list_any (is_version k) rows ≡ true → at < k
+row_below r at k rows whole below is there =
+    pos_less at k (sym (value_cmp-Int (pos at) (pos k)) ∙ (λ i. value_cmp (sym is i) (Int (pos k))) ∙ below_shown r k rows whole below there)
+
+in_rest : (r : Row) (k : ℕ) (rows : List Row) → list_any (is_version k) (r ∷ rows) ≡ true → is_version k r ≡ false → list_any (is_version k) rows ≡ true
+in_rest r k rows there other = rw other at there
+
+-- the row isn't that of the version
+not_row : (r : Row) (k : ℕ) → (is_version k r ≡ true → ⊥) → is_version k r ≡ false
+not_row r k isnt = elim (cases_Bool (is_version k r)) [ inl here ↦ absurd (isnt here) | inr other ↦ other ]
+
+abbrev HasEachFrom : ℕ → ℕ → List Row → Type 0
+HasEachFrom from count rows = (version : ℕ) → from ≤ version → version < from + count → list_any (is_version version) rows ≡ true
+
+fewer : (from count : ℕ) (rows : List Row) → AllByRecursion ShowsNumber rows → Rise rows → HasEachFrom from count rows → count ≤ length rows
+fewer from zero rows whole rise each = omega arith
+fewer from (suc count) [] whole rise each = absurd (let there = each from (omega arith) (omega arith) in cc)
+fewer from (suc count) (r ∷ rows) whole rise each =
+    let first = each from (omega arith) (omega arith) in
+    let later : HasEachFrom (from + 1) count rows = λ version low high.
+    in_rest r version rows (each version (omega (arith, low)) (omega (arith, high))) (not_row r version (λ here.
+    let is = version_id r version whole.0 here in
+    let apart : is_version from r ≡ false = not_row r from (λ same. let at : version ≡ from = is_at r version from is same in omega (arith, at, low)) in
+    let less = row_below r version from rows whole.1 rise.0 is (in_rest r from rows first apart) in omega (arith, less, low))) in
+    let rest = fewer (from + 1) count rows whole.1 rise.1 later in omega (arith, rest)
+
+numbered_from : (from : ℕ) (rows : List Row) → AllByRecursion ShowsNumber rows → Rise rows → HasEachFrom from (length rows) rows → AreNumbered from rows
+numbered_from from [] whole rise each = tt
+numbered_from from (r ∷ rows) whole rise each =
+    let first = each from (omega arith) (omega arith) in
+    let here : is_version from r ≡ true = elim (cases_Bool (is_version from r)) [
+      | inl here ↦ here
+      | inr other ↦ absurd (
+          let within = in_rest r from rows first other in
+          let all : HasEachFrom from (length (r ∷ rows)) rows = λ version low high. in_rest r version rows (each version low high) (not_row r version (λ same.
+          let less = row_below r version from rows whole.1 rise.0 (version_id r version whole.0 same) within in omega (arith, less, low))) in
+          let count = fewer from (length (r ∷ rows)) rows whole.1 rise.1 all in omega (arith, count))
+    ] in
+    let is = version_id r from whole.0 here in (
+      is,
+      numbered_from (from + 1) rows whole.1 rise.1 (λ version low high. in_rest r version rows (each version (omega (arith, low)) (omega (arith, high))) (not_row r version (λ same.
+          let at : from ≡ version = is_at r from version is same in omega (arith, at, low)))),
+    )
+
+numbered_each : (rows : List Row) → AllByRecursion ShowsNumber rows → Rise rows → AreNumbered 0 rows ↔ HasEachVersion rows
+numbered_each rows whole rise = (
+  λ are version less. (any_numbered 0 version rows are).1 (omega arith, omega (arith, less)),
+  λ each. numbered_from 0 rows whole rise (λ version low high. each version (omega (arith, high))),
+)
+
+-- ---- one more rowid
+
+more_whole : (es : List Row) (row : Row) → AllByRecursion ShowsNumber es → ShowsNumber row → AllByRecursion ShowsNumber (es ++ row ∷ [])
+more_whole [] row all is = (is, tt)
+more_whole (e ∷ es) row all is = (all.0, more_whole es row all.1 is)
+
+both_true : (a b : Bool) → (a && b) ≡ true → (a ≡ true) × (b ≡ true)
+both_true true b e = (refl, e)
+both_true false b e = absurd cc
+
+more_rise : (last : Option ℤ) (id : ℤ) (rows : List Row) (row : Row) → ShowsLast last rows → column row 0 ≡ Int id → IfSome last (λ (was : ℤ). int_cmp was id ≡ Less) → Rise rows → Rise (rows ++ row ∷ [])
+more_rise None id rows row none is above rise = subst (λ (es : List Row). Rise (es ++ row ∷ [])) (sym none) (tt, tt)
+more_rise (Some was) id rows row last is above rise =
+    let less : value_cmp (column last.1 0) (column row 0) ≡ Less = (λ i. value_cmp (last.3 i) (is i)) ∙ value_cmp-Int was id ∙ above in
+    let two : rows ++ row ∷ [] ≡ last.0 ++ last.1 ∷ row ∷ [] = ap (λ (es : List Row). es ++ row ∷ []) last.2 ∙ append_assoc last.0 (last.1 ∷ []) (row ∷ []) in
+    subst Rise (sym two) (rise_push last.0 last.1 row less (subst Rise last.2 rise))
+
+-- what is told of rowids is so with one more
+pub one_more_seen : (ids more : Ids) (id : ℤ) (is_above numbered : Bool) → more.count ≡ ids.count + 1 → more.last ≡ Some id → more.rise ≡ (ids.rise && is_above) → more.are_numbered ≡ (ids.are_numbered && numbered)
+    → (IsTrue is_above → IfSome ids.last (λ (was : ℤ). int_cmp was id ≡ Less)) → (IsTrue numbered ↔ (id ≡ pos ids.count))
+    → (rows : List Row) (row : Row) → AreSeen ids rows → column row 0 ≡ Int id → AreSeen more (rows ++ row ∷ [])
+one_more_seen ids more id is_above numbered count last rise are above place rows row seen is = record {
+  whole = more_whole rows row seen.whole (id, is);
+  count_is = let n = seen.count_is in let m = length-append rows (row ∷ []) in omega (arith, count, n, m);
+  last_is = subst (λ (o : Option ℤ). ShowsLast o (rows ++ row ∷ [])) (sym last) (rows, row, refl, is);
+  rise = λ t. let both = both_true ids.rise is_above (sym rise ∙ t) in more_rise ids.last id rows row seen.last_is is (above both.1) (seen.rise both.0);
+  numbered = (
+    λ t.
+        let both = both_true ids.are_numbered numbered (sym are ∙ t) in
+        let at : id ≡ pos (0 + length rows) = place.0 both.1 ∙ ap (λ (n : ℕ). pos n) (seen.count_is ∙ zero_more (length rows)) in
+        numbered_push 0 rows row (seen.numbered.0 both.0) (is ∙ ap (λ (z : ℤ). Int z) at),
+    λ all.
+        let front = numbered_front 0 rows row all in
+        let at : id ≡ pos (0 + length rows) = int_same id (pos (0 + length rows)) (sym is ∙ front.1) in
+        are ∙ and_true ids.are_numbered numbered (seen.numbered.1 front.0) (place.1 (at ∙ ap (λ (n : ℕ). pos n) (sym (seen.count_is ∙ zero_more (length rows))))),
+  );
+}
+  where
+    zero_more : (n : ℕ) → n ≡ 0 + n
+    zero_more n = omega arith
+
+    int_same : (a b : ℤ) → ◌≡◌ {A = Value} (Int a) (Int b) → a ≡ b
+    int_same a b e = cc
+
+    and_true : (a b : Bool) → a ≡ true → b ≡ true → (a && b) ≡ true
+    and_true a b p q = rw (p, q) refl
 
 any_map : {A B : Type 0} (p : B → Bool) (f : A → B) (xs : List A) → list_any p (map f xs) ≡ list_any (λ x. p (f x)) xs
 any_map p f [] = refl
 any_map p f (x ∷ xs) = ap (λ b. p (f x) || b) (any_map p f xs)
 
 -- the versions are those of the rows that were shown
-pub entries_from : (es rows : List Row) → IsPermutation (map (shown (one_column 0) []) (filter (passes_on [] []) es)) rows → AreApart es → AreNumbered 0 rows → AreEntries es (length rows)
-entries_from es rows same apart are =
+pub entries_from : (es rows : List Row) (ids : Ids) (found : LogFound) → IsPermutation (map (shown (one_column 0) []) (filter (passes_on [] []) es)) rows → AreApart es → AreSeen ids rows → IsTrue ids.rise
+    → found.entries ≡ ids.count → found.is_whole ≡ ids.are_numbered → AreEntries es found
+entries_from es rows ids found same apart are rise entries whole =
     let moved : IsPermutation (map (shown (one_column 0) []) es) rows = subst (λ xs. IsPermutation (map (shown (one_column 0) []) xs) rows) (filter_none [] es) same in
+    let count : length es ≡ length rows = sym (length_permutation (map (shown (one_column 0) []) es) rows moved ∙ length-map es _) in
+    let there = λ (version : ℕ). sym (any_map (is_version version) (shown (one_column 0) []) es) ∙ list_any-IsPermutation (is_version version) (map (shown (one_column 0) []) es) rows moved in
+    let each = numbered_each rows are.whole (are.rise rise) in
     record {
       apart = apart;
-      versions = λ version.
-          let there : list_any (is_version version) es ≡ list_any (is_version version) rows = sym (any_map (is_version version) (shown (one_column 0) []) es) ∙ list_any-IsPermutation (is_version version) (map (shown (one_column 0) []) es) rows moved in
-          let are_in = any_numbered 0 version rows are in
-          (λ t. let within = (are_in.0 (sym there ∙ t)).1 in omega (arith, within), λ less. there ∙ are_in.1 (omega arith, omega (arith, less)));
-      count_is = length_permutation (map (shown (one_column 0) []) es) rows moved ∙ length-map es _;
+      count_is = entries ∙ are.count_is ∙ sym count;
+      whole = (
+        λ t version less. there version ∙ each.0 (are.numbered.0 (sym whole ∙ t)) version (omega (arith, less, count)),
+        λ all. whole ∙ are.numbered.1 (each.1 (λ version less. sym (there version) ∙ all version (omega (arith, less, count)))),
+      );
     }
 
 -- ---- the four queries
-
-some_of : (P : List Row → Type 0) (o : Option (Vec Row Global)) → is_some o ≡ true → IfSome o (λ rows. P rows.items) → (rows : List Row) × P rows
-some_of P None e h = absurd cc
-some_of P (Some rows) e h = (rows.items, h)
 
 front_ids : (schema : Schema) → HasFront schema → AsksIds schema rows_ids_text 0 (codes "rowid" ∷ []) × AsksIds schema meta_ids_text 2 (codes "rowid" ∷ []) × AsksIds schema log_ids_text 4 (codes "version" ∷ [])
 front_ids schema (inl is) = subst (λ (s : Schema). AsksIds s rows_ids_text 0 (codes "rowid" ∷ []) × AsksIds s meta_ids_text 2 (codes "rowid" ∷ []) × AsksIds s log_ids_text 4 (codes "version" ∷ [])) (sym is) (rows_ids_front, meta_ids_front, log_ids_front)
@@ -172,49 +281,27 @@ log_plain schema front = (front_ids schema front).2.2
 pub pending_plain : (schema : Schema) → schema ≡ store_schema → IsPlain (understood schema pending_ids_text)
 pending_plain schema is = subst (λ (s : Schema). IsPlain (understood s pending_ids_text)) (sym is) pending_ids_store.2
 
-pub front_counted : (s0 s1 s2 s3 : State) (rows meta : Option (Vec Row Global)) (log : List Row) → HasFront s0.now.schema → s1.now ≡ s0.now → s2.now ≡ s1.now
-    → IfSome rows (λ rows. ShowsIds rows_ids_text s0 s1 rows.items) → IfSome meta (λ rows. ShowsIds meta_ids_text s1 s2 rows.items) → ShowsIds log_ids_text s2 s3 log
-    → is_some rows ≡ true → is_some meta ≡ true → AreNumbered 0 log → IsCounted s0.now.trees (length log)
-front_counted s0 s1 s2 s3 rows meta log front e1 e2 r m l sr sm numbered =
+pub some_then : {X : Type 0} (P Q : X → Type 0) (o : Option X) → ((x : X) → P x → Q x) → IfSome o P → IfSome o Q
+some_then P Q None f h = tt
+some_then P Q (Some x) f h = f x h
+
+pub front_counted : (s0 s1 s2 s3 : State) (rows meta log : Ids) (found : LogFound) → HasFront s0.now.schema → s1.now ≡ s0.now → s2.now ≡ s1.now
+    → ShowsIds rows_ids_text s0 s1 rows → ShowsIds meta_ids_text s1 s2 meta → ShowsIds log_ids_text s2 s3 log
+    → rows.rise ≡ true → meta.rise ≡ true → log.rise ≡ true → found.entries ≡ log.count → found.is_whole ≡ log.are_numbered → IsCounted s0.now.trees found
+front_counted s0 s1 s2 s3 rows meta log found front e1 e2 r m l sr sm sl entries whole =
     let f2 : s2.now ≡ s0.now = e2 ∙ e1 in
     let asks = front_ids s0.now.schema front in
     let has = λ (s : State) (e : s.now ≡ s0.now). ap (λ (d : Database). d.schema) e in
-    let a = some_of (ShowsIds rows_ids_text s0 s1) rows sr r in
-    let b = some_of (ShowsIds meta_ids_text s1 s2) meta sm m in
     let same = ids_same s0.now.schema log_ids_text 4 _ asks.2 s2 s3 (has s2 f2) log l in
-    let apart = ids_apart s0.now.schema log_ids_text 4 _ asks.2 s2 s3 (has s2 f2) log l in
+    let apart = ids_apart s0.now.schema log_ids_text 4 _ asks.2 s2 s3 (has s2 f2) log l sl in
     record {
-      rows = ids_apart s0.now.schema rows_ids_text 0 _ asks.0 s0 s1 refl a.0 a.1;
-      meta = subst (λ (t : Database). AreApart (t.trees 2)) e1 (ids_apart s0.now.schema meta_ids_text 2 _ asks.1 s1 s2 (has s1 e1) b.0 b.1);
-      log = subst (λ (t : Database). AreEntries (t.trees 4) (length log)) f2 (entries_from (overlay s2.now.trees [] 4) log same apart numbered);
+      rows = ids_apart s0.now.schema rows_ids_text 0 _ asks.0 s0 s1 refl rows r sr;
+      meta = subst (λ (t : Database). AreApart (t.trees 2)) e1 (ids_apart s0.now.schema meta_ids_text 2 _ asks.1 s1 s2 (has s1 e1) meta m sm);
+      log = subst (λ (t : Database). AreEntries (t.trees 4) found) f2 (entries_from (overlay s2.now.trees [] 4) l.rows log found same apart l.are sl entries whole);
     }
 
-pub pending_apart : (s0 s1 : State) (rows : Option (Vec Row Global)) → s0.now.schema ≡ store_schema → IfSome rows (λ rows. ShowsIds pending_ids_text s0 s1 rows.items) → is_some rows ≡ true → AreApart (s0.now.trees 5)
-pending_apart s0 s1 rows is shown some = let a = some_of (ShowsIds pending_ids_text s0 s1) rows some shown in ids_apart store_schema pending_ids_text 5 _ pending_ids_store s0 s1 is a.0 a.1
-
--- a query on a connection that serves
-module _ (sql : List ℕ) (old new : State) (plain : HasCleanDisk old → IsPlain (understood old.now.schema sql)) (serves : HasCleanDisk old → Serves old) (survives : Survives old new (CommitsShowing sql [] old)) where
-  was_clean : HasCleanDisk new → HasCleanDisk old
-  was_clean clean = omega (arith, clean, survives.clean)
-
-  old_plain : HasCleanDisk new → IsPlain (understood old.now.schema sql)
-  old_plain clean = plain (was_clean clean)
-
-  pub quiet : Survives old new (λ _. ⊥)
-  quiet = record {
-    clean = survives.clean;
-    shield = survives.shield;
-    counts = survives.counts;
-    limit = survives.limit;
-    closes = survives.closes;
-    crash = λ clean db left. elim (survives.crash clean db left) [ inl before ↦ inl before | inr commits ↦ absurd (never_commits sql [] old db (old_plain clean) commits) ];
-  }
-
-  pub failed : (e : Error) → HasCleanDisk new → FailsToQuery sql [] old new e → Stays old new
-  failed e clean h = stays_failed sql [] old new (old_plain clean) e (λ _. (serves (was_clean clean)).settled) h
-
-  pub unchanged : (rows : List Row) → HasCleanDisk new → Shown sql [] old new rows → IsUnchanged old new
-  unchanged rows clean h = shown_unchanged sql [] old new (old_plain clean) rows h
+pub pending_apart : (s0 s1 : State) (ids : Ids) → s0.now.schema ≡ store_schema → ShowsIds pending_ids_text s0 s1 ids → ids.rise ≡ true → AreApart (s0.now.trees 5)
+pending_apart s0 s1 ids is shown rise = ids_apart store_schema pending_ids_text 5 _ pending_ids_store s0 s1 is ids shown rise
 
 -- ---- what the columns of a row are
 
@@ -414,7 +501,7 @@ untouched_then s0 s1 s2 serves u w = record {
 
 -- ---- the whole store
 
-module _ (trees : Trees) (typed : Keeps Datatype front_schema trees) (present : Keeps NotNull front_schema trees) (unique : Keeps Unique front_schema trees) (entries : ℕ) (counted : IsCounted trees entries) where
+module _ (trees : Trees) (typed : Keeps Datatype front_schema trees) (present : Keeps NotNull front_schema trees) (unique : Keeps Unique front_schema trees) (found : LogFound) (counted : IsCounted trees found) where
   rows_typed : AllByRecursion IsRow (trees 0)
   rows_typed = all_from IsRow (trees 0) (λ r h. typed_row r (all_has ShowsNumber (trees 0) r counted.rows.whole h) ((and_parts _ true (all_has _ (trees 0) r typed.0 h)).0) (all_has _ (trees 0) r present.0 h))
 
@@ -448,15 +535,16 @@ module _ (trees : Trees) (typed : Keeps Datatype front_schema trees) (present : 
     log = record { typed = log_typed; ids_apart = counted.log.apart.apart; keys_apart = log_keys };
   }
 
-  pub log_counts : entries ≡ len (contents_in trees).log
+  pub log_counts : found.entries ≡ len (contents_in trees).log
   log_counts = counted.log.count_is ∙ sym (log_counted (trees 4) log_typed log_keys)
 
-  pub log_gapless : (version : ℕ) → IsSome (get (contents_in trees).log (pos version)) ↔ (version < len (contents_in trees).log)
-  log_gapless version =
-      let there : is_some (get (contents_in trees).log (pos version)) ≡ list_any (is_version version) (trees 4) = ap is_some (get-from_entries int_cmp_total (map entry_pair (trees 4)) (pos version)) ∙ found_is version (trees 4) counted.log.apart.whole in
-      let are = counted.log.versions version in
-      let count = log_counts in
-      (λ some. let less = are.0 (sym there ∙ some) in subst (λ (n : ℕ). version < n) count less, λ less. there ∙ are.1 (subst (λ (n : ℕ). version < n) (sym count) less))
+  pub log_whole : IsTrue found.is_whole ↔ ((version : ℕ) → version < len (contents_in trees).log → IsSome (get (contents_in trees).log (pos version)))
+  log_whole =
+      let there = λ (version : ℕ). ap is_some (get-from_entries int_cmp_total (map entry_pair (trees 4)) (pos version)) ∙ found_is version (trees 4) counted.log.apart.whole in
+      let count : len (contents_in trees).log ≡ length (trees 4) = log_counted (trees 4) log_typed log_keys in (
+        λ t version less. there version ∙ counted.log.whole.0 t version (subst (λ (n : ℕ). version < n) count less),
+        λ each. counted.log.whole.1 (λ version less. sym (there version) ∙ each version (subst (λ (n : ℕ). version < n) (sym count) less)),
+      )
     where
       found_is : (version : ℕ) (es : List Row) → AllByRecursion ShowsNumber es → is_some (find int_cmp (pos version) (map entry_pair es)) ≡ list_any (is_version version) es
       found_is version [] whole = refl
@@ -471,22 +559,22 @@ module _ (trees : Trees) (typed : Keeps Datatype front_schema trees) (present : 
           some_or false item rest = refl
 
 -- the rules of a store's schema are those of its front, and `pending`'s
-pub found_front : (db : Database) (entries : ℕ) → db.schema ≡ front_schema → IsDatabase db → IsCounted db.trees entries → IsFrontKept db.trees × IsLogOf (front_in db.trees) entries
-found_front db entries schema sound counted =
+pub found_front : (db : Database) (found : LogFound) → db.schema ≡ front_schema → IsDatabase db → IsCounted db.trees found → IsFrontKept db.trees × IsLogOf (front_in db.trees) found
+found_front db found schema sound counted =
     let typed : Keeps Datatype front_schema db.trees = subst (λ (s : Schema). Keeps Datatype s db.trees) schema (sound.obeys.rules Datatype) in
     let present : Keeps NotNull front_schema db.trees = subst (λ (s : Schema). Keeps NotNull s db.trees) schema (sound.obeys.rules NotNull) in
     let unique : Keeps Unique front_schema db.trees = subst (λ (s : Schema). Keeps Unique s db.trees) schema (sound.obeys.rules Unique) in
-    (front_kept db.trees typed present unique entries counted, record { counted = log_counts db.trees typed present unique entries counted; no_gaps = log_gapless db.trees typed present unique entries counted })
+    (front_kept db.trees typed present unique found counted, record { counted = log_counts db.trees typed present unique found counted; whole = log_whole db.trees typed present unique found counted })
 
-pub found_ours : (db : Database) (entries : ℕ) → db.schema ≡ store_schema → IsDatabase db → IsCounted db.trees entries → AreApart (db.trees 5) → IsKept db × IsLogOf (contents_in db.trees) entries
-found_ours db entries schema sound counted apart =
+pub found_ours : (db : Database) (found : LogFound) → db.schema ≡ store_schema → IsDatabase db → IsCounted db.trees found → AreApart (db.trees 5) → IsKept db × IsLogOf (contents_in db.trees) found
+found_ours db found schema sound counted apart =
     let all_typed : Keeps Datatype store_schema db.trees = subst (λ (s : Schema). Keeps Datatype s db.trees) schema (sound.obeys.rules Datatype) in
     let all_present : Keeps NotNull store_schema db.trees = subst (λ (s : Schema). Keeps NotNull s db.trees) schema (sound.obeys.rules NotNull) in
     let all_unique : Keeps Unique store_schema db.trees = subst (λ (s : Schema). Keeps Unique s db.trees) schema (sound.obeys.rules Unique) in
     let typed : Keeps Datatype front_schema db.trees = (all_typed.0, (all_typed.1.0, (all_typed.1.1.0, tt))) in
     let present : Keeps NotNull front_schema db.trees = (all_present.0, (all_present.1.0, (all_present.1.1.0, tt))) in
     let unique : Keeps Unique front_schema db.trees = (all_unique.0, (all_unique.1.0, (all_unique.1.1.0, tt))) in
-    let front = front_kept db.trees typed present unique entries counted in
+    let front = front_kept db.trees typed present unique found counted in
     let is_row : AllByRecursion IsRow (db.trees 5) =
     all_from IsRow (db.trees 5) (λ r h. typed_row r (all_has ShowsNumber (db.trees 5) r apart.whole h) ((and_parts _ true (all_has _ (db.trees 5) r all_typed.1.1.1.0 h)).0) (all_has _ (db.trees 5) r all_present.1.1.1.0 h)) in
     let clash : AllByRecursion (λ r. clashes plain (1 ∷ 2 ∷ []) (db.trees 5) r ≡ false) (db.trees 5) =
@@ -502,5 +590,5 @@ found_ours db entries schema sound counted apart =
           keys_apart = keys_apart place_cmp row_pair (1 ∷ 2 ∷ []) (db.trees 5) apart.whole (λ x y hx hy. rows_agree x y (all_has IsRow (db.trees 5) x is_row hx) (all_has IsRow (db.trees 5) y is_row hy)) clash (db.trees 5) (λ y h. h) apart.apart;
         };
       },
-      record { counted = log_counts db.trees typed present unique entries counted; no_gaps = log_gapless db.trees typed present unique entries counted },
+      record { counted = log_counts db.trees typed present unique found counted; whole = log_whole db.trees typed present unique found counted },
     )

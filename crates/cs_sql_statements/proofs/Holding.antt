@@ -1,5 +1,5 @@
 -- That all of a table holds is that all of its answer does.
-use Rattle.std.proofs.Common.{◌≡◌, inl, inr, List, [], ◌∷◌, map, Bool, true, IsTrue, Option, Some, None, refl, sym, ap, subst, ◌∙◌}
+use Rattle.std.proofs.Common.{◌≡◌, inl, inr, ℕ, List, [], ◌∷◌, map, Bool, true, IsTrue, Option, Some, None, refl, sym, ap, subst, ◌∙◌}
 use Rattle.std.specs.Prelude.{◌↔◌}
 use Rattle.std.specs.declared.cmp.Ordering.{Ordering}
 use Rattle.std.specs.declared.cmp.Ordering.TheVariants.{Less, Equal, Greater}
@@ -16,7 +16,8 @@ use Rattle.sqlite.specs.Order.{Row}
 use Rattle.sqlite.specs.Effect.{Database}
 use Rattle.sqlite.specs.State.{State, Shown}
 use Rattle.sqlite.specs.Term.{Term}
-use Rattle.sqlite.proofs.Callers.{reads_as}
+use Rattle.sqlite.specs.Listing.{understood}
+use Rattle.sqlite.proofs.Callers.{IsPlain, reads_as}
 use Rattle.sqlite_rules.specs.Lists.{Has}
 use Rattle.sqlite_rules.proofs.ListLemmas.{all_has, all_from}
 use Rattle.sqlite_value.specs.declared.value.Value.TheVariants.{Null}
@@ -25,7 +26,8 @@ use Rattle.cs_store.specs.Whole.{AtTable, IsName, IsWhole, StoresBody, StoresCha
 use Rattle.cs_sql_schema.specs.Schemas.{store_schema}
 use Rattle.cs_sql_statements.specs.Tables.{IsRow, IsMeta, IsLog, IsMapped, IsKept, contents_in, row_pair, value_pair, entry_pair, all_rows_text, all_pending_text, all_names_text, all_bodies_text}
 use Rattle.cs_sql_statements.specs.Steps.{IsReady, Stays}
-use Rattle.cs_sql_statements.specs.Checked.{HasOwn, ShowsOwn}
+use Rattle.cs_sql_statements.specs.Checked.{HasOwn, ShowsOwn, all_text}
+use Rattle.cs_sql_statements.specs.declared.checking.Part.{Part}
 use Rattle.cs_sql_statements.specs.declared.checking.Part.TheVariants as part
 use Rattle.cs_sql_statements.proofs.Meanings.{one_column, place_terms, all_rows_is, all_rows_plain, all_pending_is, all_pending_plain, all_names_is, all_names_plain, all_bodies_is, all_bodies_plain}
 use Rattle.cs_sql_statements.proofs.Answers.{place_total, place_exact, shown, answer_is, passes_on}
@@ -73,33 +75,51 @@ module _ {K X : Type 0} {R : K → K → Ordering} (total : IsTotalOrder R) (exa
             (each (entry r).0 (entry r).1 (get-from_entries total (map entry es) (entry r).0 ∙ find_had total exact (map entry es) apart (entry r).0 (entry r) (has_map entry es r h) ((eq_by_cmp_equiv total).refl (entry r).0)))))),
       )
 
-module _ (tables : List TableDef) (old new : State) (has : IsKept old.now) (rows : List Row) where
-  pub rows_hold : Shown all_rows_text [] old new rows → AllByRecursion (ShowsOwn part.Rows tables) rows ↔ HasOwn part.Rows tables (contents_in old.now.trees)
-  rows_hold h =
-      let a = reads_as all_rows_text [] old new store_schema has.schema _ all_rows_is.0 all_rows_plain all_rows_is.1 rows h in
-      holds place_total place_exact row_pair IsRow place_terms (λ place body. AtTable StoresRow tables place body) (ShowsOwn part.Rows tables) (λ r it. rw it.4 (λ q. q, λ q. q)) (old.now.trees 0) rows has.rows
-      (answer_is 0 [] place_terms [] old.now.trees [] rows (a.answer Null))
-
-  pub pending_hold : Shown all_pending_text [] old new rows → AllByRecursion (ShowsOwn part.Pending tables) rows ↔ HasOwn part.Pending tables (contents_in old.now.trees)
-  pending_hold h =
-      let a = reads_as all_pending_text [] old new store_schema has.schema _ all_pending_is.0 all_pending_plain all_pending_is.1 rows h in
-      holds place_total place_exact row_pair IsRow place_terms (λ place body. AtTable StoresChange tables place body) (ShowsOwn part.Pending tables) (λ r it. rw it.4 (λ q. q, λ q. q)) (old.now.trees 5) rows has.pending
-      (answer_is 5 [] place_terms [] old.now.trees [] rows (a.answer Null))
-
-  pub names_hold : Shown all_names_text [] old new rows → AllByRecursion (ShowsOwn part.Meta tables) rows ↔ HasOwn part.Meta tables (contents_in old.now.trees)
-  names_hold h =
-      let a = reads_as all_names_text [] old new store_schema has.schema _ all_names_is.0 all_names_plain all_names_is.1 rows h in
-      holds nat_list_cmp_total exact_bytes value_pair IsMeta (one_column 1) (λ name value. IsName name) (ShowsOwn part.Meta tables) (λ r it. rw it.3 (λ q. q, λ q. q)) (old.now.trees 2) rows has.meta
-      (answer_is 2 [] (one_column 1) [] old.now.trees [] rows (a.answer Null))
-
-  pub bodies_hold : Shown all_bodies_text [] old new rows → AllByRecursion (ShowsOwn part.Log tables) rows ↔ HasOwn part.Log tables (contents_in old.now.trees)
-  bodies_hold h =
-      let a = reads_as all_bodies_text [] old new store_schema has.schema _ all_bodies_is.0 all_bodies_plain all_bodies_is.1 rows h in
-      holds int_cmp_total exact_signed entry_pair IsLog (one_column 4) (λ version item. StoresBody tables item.body) (ShowsOwn part.Log tables) (λ r it. rw it.4 (λ q. q, λ q. q)) (old.now.trees 4) rows has.log
-      (answer_is 4 [] (one_column 4) [] old.now.trees [] rows (a.answer Null))
-
 pub through : {A B C : Type 0} → A ↔ B → B ↔ C → A ↔ C
 through p q = (λ a. q.0 (p.0 a), λ c. p.1 (q.1 c))
+
+rows_hold : (tables : List TableDef) (old new : State) (rows : List Row) → IsKept old.now → Shown all_rows_text [] old new rows → AllByRecursion (ShowsOwn part.Rows tables) rows ↔ HasOwn part.Rows tables (contents_in old.now.trees)
+rows_hold tables old new rows has h =
+    let a = reads_as all_rows_text [] old new store_schema has.schema _ all_rows_is.0 all_rows_plain all_rows_is.1 rows h in
+    holds place_total place_exact row_pair IsRow place_terms (λ place body. AtTable StoresRow tables place body) (ShowsOwn part.Rows tables) (λ r it. rw it.4 (λ q. q, λ q. q)) (old.now.trees 0) rows has.rows
+    (answer_is 0 [] place_terms [] old.now.trees [] rows (a.answer Null))
+
+pending_hold : (tables : List TableDef) (old new : State) (rows : List Row) → IsKept old.now → Shown all_pending_text [] old new rows → AllByRecursion (ShowsOwn part.Pending tables) rows ↔ HasOwn part.Pending tables (contents_in old.now.trees)
+pending_hold tables old new rows has h =
+    let a = reads_as all_pending_text [] old new store_schema has.schema _ all_pending_is.0 all_pending_plain all_pending_is.1 rows h in
+    holds place_total place_exact row_pair IsRow place_terms (λ place body. AtTable StoresChange tables place body) (ShowsOwn part.Pending tables) (λ r it. rw it.4 (λ q. q, λ q. q)) (old.now.trees 5) rows has.pending
+    (answer_is 5 [] place_terms [] old.now.trees [] rows (a.answer Null))
+
+names_hold : (tables : List TableDef) (old new : State) (rows : List Row) → IsKept old.now → Shown all_names_text [] old new rows → AllByRecursion (ShowsOwn part.Meta tables) rows ↔ HasOwn part.Meta tables (contents_in old.now.trees)
+names_hold tables old new rows has h =
+    let a = reads_as all_names_text [] old new store_schema has.schema _ all_names_is.0 all_names_plain all_names_is.1 rows h in
+    holds nat_list_cmp_total exact_bytes value_pair IsMeta (one_column 1) (λ name value. IsName name) (ShowsOwn part.Meta tables) (λ r it. rw it.3 (λ q. q, λ q. q)) (old.now.trees 2) rows has.meta
+    (answer_is 2 [] (one_column 1) [] old.now.trees [] rows (a.answer Null))
+
+bodies_hold : (tables : List TableDef) (old new : State) (rows : List Row) → IsKept old.now → Shown all_bodies_text [] old new rows → AllByRecursion (ShowsOwn part.Log tables) rows ↔ HasOwn part.Log tables (contents_in old.now.trees)
+bodies_hold tables old new rows has h =
+    let a = reads_as all_bodies_text [] old new store_schema has.schema _ all_bodies_is.0 all_bodies_plain all_bodies_is.1 rows h in
+    holds int_cmp_total exact_signed entry_pair IsLog (one_column 4) (λ version item. StoresBody tables item.body) (ShowsOwn part.Log tables) (λ r it. rw it.4 (λ q. q, λ q. q)) (old.now.trees 4) rows has.log
+    (answer_is 4 [] (one_column 4) [] old.now.trees [] rows (a.answer Null))
+
+pub part_plain : (p : Part) → IsPlain (understood store_schema (all_text p))
+part_plain part.Rows = all_rows_plain
+part_plain part.Pending = all_pending_plain
+part_plain part.Meta = all_names_plain
+part_plain part.Log = all_bodies_plain
+
+part_holds : (p : Part) (tables : List TableDef) (old new : State) (rows : List Row) → IsKept old.now → Shown (all_text p) [] old new rows → AllByRecursion (ShowsOwn p tables) rows ↔ HasOwn p tables (contents_in old.now.trees)
+part_holds part.Rows tables old new rows has h = rows_hold tables old new rows has h
+part_holds part.Pending tables old new rows has h = pending_hold tables old new rows has h
+part_holds part.Meta tables old new rows has h = names_hold tables old new rows has h
+part_holds part.Log tables old new rows has h = bodies_hold tables old new rows has h
+
+-- what a judge that was begun on the part tells of all its rows
+pub judged : (p : Part) (tables others : List TableDef) (kind : Part) (own : Bool) (sql : List ℕ) (old new : State) (rows : List Row) → sql ≡ all_text p → IsKept old.now → Shown sql [] old new rows → kind ≡ p → others ≡ tables
+    → (IsTrue own ↔ AllByRecursion (ShowsOwn kind others) rows) → IsTrue own ↔ HasOwn p tables (contents_in old.now.trees)
+judged p tables others kind own sql old new rows text has h same these all =
+    through (subst (λ (k : Part). IsTrue own ↔ AllByRecursion (ShowsOwn k tables) rows) same (subst (λ (t : List TableDef). IsTrue own ↔ AllByRecursion (ShowsOwn kind t) rows) these all))
+    (part_holds p tables old new rows has (subst (λ (s : List ℕ). Shown s [] old new rows) text h))
 
 -- ---- one part after another
 

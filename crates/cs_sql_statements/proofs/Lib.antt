@@ -10,3 +10,6 @@ pub mod Orders
 pub mod Listed
 pub mod Adopting
 pub mod Holding
+pub mod Streams
+pub mod Ranges
+pub mod Taking

@@ -10,10 +10,10 @@ use Rattle.sqlite.proofs.Callers.{IsPlain, command_of}
 use Rattle.sqlite_value.specs.declared.value.Value.TheVariants.{Null, Int}
 use Rattle.sqlite_value.specs.declared.keys.Key.{Key}
 use Rattle.sqlite_sql.specs.declared.ops.BinaryOp.TheVariants.{Compare}
-use Rattle.sqlite_sql.specs.declared.ops.CompareOp.TheVariants.{Eq}
+use Rattle.sqlite_sql.specs.declared.ops.CompareOp.TheVariants.{Eq, Ge, Lt}
 use Rattle.sqlite_tied.specs.Compute.{everything}
 use Rattle.cs_sql_schema.specs.Schemas.{front_schema, store_schema}
-use Rattle.cs_sql_statements.specs.Tables.{remove_pending_text, insert_pending_text, select_pending_text, list_pending_text, rows_ids_text, meta_ids_text, log_ids_text, pending_ids_text, all_rows_text, all_pending_text, all_names_text, all_bodies_text, remove_row_text, insert_row_text, select_row_text, list_rows_text, remove_meta_text, insert_meta_text, select_meta_text, insert_log_text, select_log_text}
+use Rattle.cs_sql_statements.specs.Tables.{remove_pending_text, insert_pending_text, select_pending_text, list_pending_text, rows_ids_text, meta_ids_text, log_ids_text, pending_ids_text, all_rows_text, all_pending_text, all_names_text, all_bodies_text, remove_row_text, insert_row_text, select_row_text, list_rows_text, remove_meta_text, insert_meta_text, select_meta_text, insert_log_text, select_log_text, list_log_text}
 
 -- the terms of `tab = ?1 AND key = ?2`
 abbrev pub at_place : List Term
@@ -67,6 +67,17 @@ item_terms = col 1 2 ∷ col 1 3 ∷ col 1 4 ∷ []
 
 abbrev pub item_at : Query
 item_at = query_on 4 at_version item_terms []
+
+-- the terms of `version >= ?1 AND version < ?2`
+abbrev pub in_range : List Term
+in_range = op2 (Compare Ge Binary) (col 1 0) (col 0 0) ∷ op2 (Compare Lt Binary) (col 1 0) (col 0 1) ∷ []
+
+abbrev pub listed_terms : List Term
+listed_terms = col 1 2 ∷ col 1 3 ∷ col 1 4 ∷ col 1 0 ∷ []
+
+-- a range of the log, by version
+abbrev pub entries_in : Query
+entries_in = query_on 4 in_range listed_terms (rising_by 0)
 
 abbrev pub pair_terms : List Term
 pair_terms = col 1 2 ∷ col 1 3 ∷ []
@@ -167,6 +178,14 @@ select_log_is = (refl, refl)
 pub select_log_plain : IsPlain (understood store_schema select_log_text)
 unfolding understood everything
 select_log_plain = (refl, refl)
+
+pub list_log_is : (command_of (understood store_schema list_log_text) ≡ Select (record { lets = []; body = entries_in }) (codes "origin" ∷ codes "number" ∷ codes "body" ∷ codes "version" ∷ [])) × (reads_listing store_schema list_log_text ≡ false)
+unfolding understood everything
+list_log_is = (refl, refl)
+
+pub list_log_plain : IsPlain (understood store_schema list_log_text)
+unfolding understood everything
+list_log_plain = (refl, refl)
 
 pub list_is : (command_of (understood store_schema list_rows_text) ≡ Select (record { lets = []; body = pairs_in 0 }) (codes "key" ∷ codes "body" ∷ [])) × (reads_listing store_schema list_rows_text ≡ false)
 unfolding understood everything

@@ -1,19 +1,20 @@
 -- Lists with the same elements, apart and in order.
-use Rattle.std.proofs.Common.{◌≡◌, inl, inr, ℕ, ◌+◌, ◌<◌, ◌≤◌, List, [], ◌∷◌, ◌++◌, take, map, Bool, true, false, ◌&&◌, cond, Some, None, T, refl, sym, ap, subst, ◌∙◌, arith, length, get_or}
+use Rattle.std.proofs.Common.{◌≡◌, inl, inr, ℕ, ◌+◌, ◌<◌, ◌≤◌, pos, List, [], ◌∷◌, ◌++◌, map, Bool, true, false, ◌&&◌, cond, Some, None, T, refl, sym, ap, subst, ◌∙◌, arith}
 use Rattle.std.specs.declared.cmp.Ordering.{Ordering}
 use Rattle.std.specs.declared.cmp.Ordering.TheVariants.{Less, Equal, Greater}
-use Rattle.std.specs.Ordering.{is_eq, is_lt, eq_by_cmp, ordering_reverse}
+use Rattle.std.specs.Ordering.{is_eq, is_lt, eq_by_cmp, int_cmp, ordering_reverse}
 use Rattle.std.specs.Cmp.{IsTotalOrder, eq_by_cmp_equiv}
 use Rattle.std.specs.List.{AllByRecursion, list_any, sum_by}
 use Rattle.std.specs.List.Sorted.{IsPermutation}
 use Rattle.std.specs.FinMap.{find, is_sorted, IsAntisymmetric}
 use Rattle.std.specs.FinMap.Entries.{below_all}
+use Rattle.std.proofs.Math.Dec.{ltb}
+use borrow.Author.Tests.{ltb-true, ltb-false}
 use Rattle.std.proofs.lemmas.Bool.{cases_Bool}
 use Rattle.std.proofs.lemmas.List.Sums.{sum_by-cons}
 use Rattle.std.proofs.lemmas.List.Sorted.{IsPermutation-sym, Contains-permutation, sum_by-IsPermutation, list_any-IsPermutation}
 use Rattle.sqlite_rules.specs.Lists.{Has}
 use Rattle.sqlite_rules.proofs.ListLemmas.{all_has, all_from, some_has, has_contained, contains_had}
-use Rattle.std.proofs.lemmas.List.{append_assoc, take_more}
 use Rattle.sqlite.specs.Order.{Row, column}
 use Rattle.sqlite_value.specs.Order.{value_cmp}
 use Rattle.sqlite_value.proofs.OrderLemmas.{value_cmp_total}
@@ -177,6 +178,36 @@ module _ {K X : Type 0} {R : K → K → Ordering} (total : IsTotalOrder R) (exa
       both (below_all R x.0 (y ∷ more)) (is_sorted R (y ∷ more))
       (both (is_lt (R x.0 y.0)) (below_all R x.0 more) here (below_more x.0 y.0 more (less_of _ here) (first _ _ rest))) rest
 
+  -- each key is below those after it
+  abbrev pub Ascend : List (K × X) → Type 0
+  Ascend [] = Unit {0}
+  Ascend (x ∷ more) = AllByRecursion (λ (y : K × X). R x.0 y.0 ≡ Less) more × Ascend more
+
+  below_each : (x : K) (es : List (K × X)) → T (below_all R x es) → AllByRecursion (λ (y : K × X). R x y.0 ≡ Less) es
+  below_each x [] h = tt
+  below_each x (e ∷ es) h = (less_of (R x e.0) (first (is_lt (R x e.0)) (below_all R x es) h), below_each x es (second (is_lt (R x e.0)) (below_all R x es) h))
+
+  pub ascends : (es : List (K × X)) → T (is_sorted R es) → Ascend es
+  ascends [] h = tt
+  ascends (e ∷ es) h = (below_each e.0 es (first (below_all R e.0 es) (is_sorted R es) h), ascends es (second (below_all R e.0 es) (is_sorted R es) h))
+
+-- ---- numbers
+
+pub pos_less : (a b : ℕ) → int_cmp (pos a) (pos b) ≡ Less → a < b
+pos_less a b e = two (ltb a b) (ltb b a) refl e
+  where
+    two : (l g : Bool) → ltb a b ≡ l → cond l Less (cond g Greater Equal) ≡ Less → a < b
+    two true g p e = ltb-true a b p
+    two false true p e = absurd cc
+    two false false p e = absurd cc
+
+pub pos_at_least : (a b : ℕ) → is_lt (int_cmp (pos a) (pos b)) ≡ false → b ≤ a
+pos_at_least a b e = two (ltb a b) refl e
+  where
+    two : (l : Bool) → ltb a b ≡ l → is_lt (cond l Less (cond (ltb b a) Greater Equal)) ≡ false → b ≤ a
+    two true p e = absurd cc
+    two false p e = ltb-false a b p
+
 -- ---- rows that rise
 
 follow_push : (p : Row) (es : List Row) (v w : Row) → value_cmp (column v 0) (column w 0) ≡ Less → AllByRecursion (λ y. value_cmp (column p 0) (column y 0) ≡ Less) (es ++ v ∷ [])
@@ -184,22 +215,6 @@ follow_push : (p : Row) (es : List Row) (v w : Row) → value_cmp (column v 0) (
 follow_push p [] v w l h = (h.0, (value_cmp_total.trans (column p 0) (column v 0) (column w 0) h.0 l, tt))
 follow_push p (e ∷ es) v w l h = (h.0, follow_push p es v w l h.1)
 
-rise_push : (es : List Row) (v w : Row) → value_cmp (column v 0) (column w 0) ≡ Less → Rise (es ++ v ∷ []) → Rise (es ++ v ∷ w ∷ [])
+pub rise_push : (es : List Row) (v w : Row) → value_cmp (column v 0) (column w 0) ≡ Less → Rise (es ++ v ∷ []) → Rise (es ++ v ∷ w ∷ [])
 rise_push [] v w l h = ((l, tt), (tt, tt))
 rise_push (e ∷ es) v w l h = (follow_push e es v w l h.0, rise_push es v w l h.1)
-
-pub first_rises : (rows : List Row) → Rise (take 1 rows)
-first_rises [] = tt
-first_rises (r ∷ rows) = (tt, tt)
-
-pub less_if : (o : Ordering) → is_lt o ≡ true → o ≡ Less
-less_if Less h = refl
-less_if Equal h = absurd cc
-less_if Greater h = absurd cc
-
-pub rise_more : (rows : List Row) (k at : ℕ) (v w : Row) → at ≡ k + 1 → at < length rows → v ≡ get_or rows k v → w ≡ get_or rows at w → value_cmp (column v 0) (column w 0) ≡ Less → Rise (take at rows) → Rise (take (at + 1) rows)
-rise_more rows k at v w next less is last below was =
-    let front = take k rows in
-    let one : take at rows ≡ front ++ v ∷ [] = ap (λ n. take n rows) next ∙ take_more rows k v (omega (arith, next, less)) ∙ ap (λ e. front ++ e ∷ []) (sym is) in
-    let two : take (at + 1) rows ≡ front ++ v ∷ w ∷ [] = take_more rows at w less ∙ (λ i. one i ++ sym last i ∷ []) ∙ append_assoc front (v ∷ []) (w ∷ []) in
-    subst Rise (sym two) (rise_push front v w below (subst Rise one was))

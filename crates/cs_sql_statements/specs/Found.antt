@@ -1,5 +1,5 @@
 -- A database that was found (profile of this project).
-use Rattle.std.specs.Prelude.{◌≡◌, ◌↔◌, ◌<◌, ◌⊎◌, ⊤, ℕ, ◌+◌, ℤ, pos, Bool, List, [], ◌∷◌, length, IsTrue}
+use Rattle.std.specs.Prelude.{◌≡◌, ◌↔◌, ◌<◌, ◌⊎◌, ⊤, ℕ, ◌+◌, ℤ, pos, Bool, List, [], ◌∷◌, ◌++◌, length, Option, Some, None, IsTrue}
 use Rattle.std.specs.Ordering.{is_eq, int_cmp}
 use Rattle.std.specs.FinMap.{empty}
 use Rattle.std.specs.List.{AllByRecursion, list_any}
@@ -12,8 +12,10 @@ use Rattle.sqlite.specs.Tree.{Trees}
 use Rattle.sqlite_value.specs.declared.value.Value.TheVariants.{Int}
 use Rattle.sqlite_value.specs.Order.{value_cmp}
 use Rattle.cs_order.specs.Order.{by_bytes}
-use Rattle.cs_store.specs.Contents.{Contents, HasNoGaps, log_count, place_cmp}
+use Rattle.cs_store.specs.Contents.{Contents, HasEachEntry, log_count, place_cmp}
 use Rattle.cs_sql_schema.specs.Schemas.{no_schema, front_schema, store_schema}
+use Rattle.cs_sql_statements.specs.declared.counting.Ids.{Ids}
+use Rattle.cs_sql_statements.specs.declared.counting.LogFound.{LogFound}
 use Rattle.cs_sql_statements.specs.declared.looking.Found.{Found}
 use Rattle.cs_sql_statements.specs.declared.looking.Found.TheVariants.{Fresh, Front, Ours, Foreign}
 use Rattle.cs_sql_statements.specs.Tables.{Apart, IsKept, IsMapped, IsRow, IsMeta, IsLog, contents_in, row_pair, value_pair, entry_pair, same_id}
@@ -28,26 +30,34 @@ abbrev pub Rise : List Row → Type 0
 Rise [] = ⊤
 Rise (row ∷ rows) = AllByRecursion (λ other. value_cmp (column row 0) (column other 0) ≡ Less) rows × Rise rows
 
+-- the last row, if there is one, shows this number
+abbrev pub ShowsLast : Option ℤ → List Row → Type 0
+ShowsLast None rows = rows ≡ []
+ShowsLast (Some id) rows = (before : List Row) × (last : Row) × (rows ≡ before ++ last ∷ []) × (column last 0 ≡ Int id)
+
 -- each rowid is the number of its place, from this one on
 abbrev pub AreNumbered : ℕ → List Row → Type 0
 AreNumbered from [] = ⊤
 AreNumbered from (row ∷ rows) = (column row 0 ≡ Int (pos from)) × AreNumbered (from + 1) rows
 
--- the query showed numbers, which rise
-pub record ShowsIds (sql : List ℕ) (old new : State) (rows : List Row) : Type 0 where
-  pub shown : Shown sql [] old new rows
+-- what is told of rowids that were read is so
+pub record AreSeen (seen : Ids) (rows : List Row) : Type 0 where
   pub whole : AllByRecursion ShowsNumber rows
-  pub rise : Rise rows
+  pub count_is : seen.count ≡ length rows
+  pub last_is : ShowsLast seen.last rows
+  pub rise : IsTrue seen.rise → Rise rows
+  pub numbered : IsTrue seen.are_numbered ↔ AreNumbered 0 rows
+
+-- the query showed numbers, of which that is told
+pub record ShowsIds (sql : List ℕ) (old new : State) (seen : Ids) : Type 0 where
+  pub rows : List Row
+  pub shown : Shown sql [] old new rows
+  pub are : AreSeen seen rows
 
 -- the rows of a table are numbered apart
 pub record AreApart (rows : List Row) : Type 0 where
   pub whole : AllByRecursion ShowsNumber rows
   pub apart : Apart same_id rows
-
--- a connection that is open, between two transactions
-pub record Serves (s : State) : Type 0 where
-  pub is_open : IsTrue s.is_open
-  pub settled : s.committed ≡ s.now
 
 -- the tables of a store's front or of a store
 abbrev pub HasFront : Schema → Type 0
@@ -57,17 +67,21 @@ HasFront schema = (schema ≡ front_schema) ⊎ (schema ≡ store_schema)
 abbrev pub is_version : ℕ → Row → Bool
 is_version version row = is_eq (value_cmp (column row 0) (Int (pos version)))
 
--- the rows of the log are so many, and their rowids are the versions below that number
-pub record AreEntries (rows : List Row) (count : ℕ) : Type 0 where
-  pub apart : AreApart rows
-  pub versions : (version : ℕ) → IsTrue (list_any (is_version version) rows) ↔ (version < count)
-  pub count_is : count ≡ length rows
+-- a row of the log stands at each version below their count
+abbrev pub HasEachVersion : List Row → Type 0
+HasEachVersion rows = (version : ℕ) → version < length rows → IsTrue (list_any (is_version version) rows)
 
--- the tables but `pending` are numbered apart, the log's from 0 on
-pub record IsCounted (trees : Trees) (entries : ℕ) : Type 0 where
+-- what was found of the rows of the log is so
+pub record AreEntries (rows : List Row) (found : LogFound) : Type 0 where
+  pub apart : AreApart rows
+  pub count_is : found.entries ≡ length rows
+  pub whole : IsTrue found.is_whole ↔ HasEachVersion rows
+
+-- the tables but `pending` are numbered apart, and that was found of the log
+pub record IsCounted (trees : Trees) (found : LogFound) : Type 0 where
   pub rows : AreApart (trees 0)
   pub meta : AreApart (trees 2)
-  pub log : AreEntries (trees 4) entries
+  pub log : AreEntries (trees 4) found
 
 -- ---- what was found
 
@@ -81,10 +95,10 @@ pub record IsFrontKept (trees : Trees) : Type 0 where
   pub meta : IsMapped by_bytes value_pair IsMeta (trees 2)
   pub log : IsMapped int_cmp entry_pair IsLog (trees 4)
 
--- a log that has so many entries, at the versions from 0 on
-pub record IsLogOf (contents : Contents) (entries : ℕ) : Type 0 where
-  pub counted : entries ≡ log_count contents
-  pub no_gaps : HasNoGaps contents
+-- what was found of a log is so: how many entries it has, and whether one stands at each version below that number
+pub record IsLogOf (contents : Contents) (found : LogFound) : Type 0 where
+  pub counted : found.entries ≡ log_count contents
+  pub whole : IsTrue found.is_whole ↔ HasEachEntry contents
 
 -- the connection was open and is, and shows what it showed, which is what the last commit left
 pub record IsUntouched (old new : State) : Type 0 where
@@ -96,6 +110,6 @@ pub record IsUntouched (old new : State) : Type 0 where
 -- what a database was found to be is so
 abbrev pub IsFound : Found → Database → Type 0
 IsFound Fresh db = db.schema ≡ no_schema
-IsFound (Front entries) db = (db.schema ≡ front_schema) × IsFrontKept db.trees × IsLogOf (front_in db.trees) entries
-IsFound (Ours entries) db = IsKept db × IsLogOf (contents_in db.trees) entries
+IsFound (Front log) db = (db.schema ≡ front_schema) × IsFrontKept db.trees × IsLogOf (front_in db.trees) log
+IsFound (Ours log) db = IsKept db × IsLogOf (contents_in db.trees) log
 IsFound Foreign db = Unit {0}

@@ -1,16 +1,19 @@
 -- What the steps of a commit leave of a connection, and what a query shows (profile of this project).
-use Rattle.std.specs.Prelude.{◌≡◌, ℤ, ℕ, List, [], ◌∷◌, Option, Some, None, IsTrue, fold}
+use Rattle.std.specs.Prelude.{◌≡◌, ℤ, ℕ, pos, ◌+◌, Bool, true, false, if◌then◌else◌, List, [], ◌∷◌, ◌++◌, length, Option, Some, None, IsTrue, fold}
+use Rattle.std.specs.Ordering.{is_eq}
 use Rattle.std.specs.FinMap.{insert, remove}
 use Rattle.sqlite.specs.Order.{Row, column}
 use Rattle.sqlite.specs.Edit.{id_in}
-use Rattle.sqlite_value.specs.Order.{bytes}
+use Rattle.sqlite_value.specs.declared.value.Value.TheVariants.{Int}
+use Rattle.sqlite_value.specs.Order.{bytes, value_cmp}
 use Rattle.sqlite.specs.State.{State, KeepsCommit}
 use Rattle.cs_store.specs.Contents.{Contents, LogItem}
-use Rattle.cs_store.specs.Written.{edit_body, edit_meta, with_entry, optional_entry}
+use Rattle.cs_store.specs.Written.{edit_body, edit_meta, items_of, with_entry, optional_entry}
 use Rattle.cs_edits.specs.Edits.{BodyEdit}
 use Rattle.cs_store.specs.declared.batch.MetaEdit.{MetaEdit}
 use Rattle.cs_store.specs.declared.batch.Batch.{Batch}
 use Rattle.cs_sql_schema.specs.Schemas.{store_schema}
+use Rattle.cs_sql_statements.specs.declared.reading.Entries.{Entries}
 use Rattle.cs_sql_statements.specs.Tables.{IsKept, contents_in, number_of}
 
 -- inside a transaction on the store's tables
@@ -70,6 +73,11 @@ with_log version entry c = record c { log = with_entry version c.log entry }
 abbrev pub with_batch : Batch → ℤ → Contents → Contents
 with_batch batch version c = with_log version (optional_entry batch.log) (with_values batch.meta.items (with_changes batch.pending (with_edits batch.rows c)))
 
+-- a connection that is open, between two transactions
+pub record Serves (s : State) : Type 0 where
+  pub is_open : IsTrue s.is_open
+  pub settled : s.committed ≡ s.now
+
 -- the store's tables and nothing else, with nothing under way
 pub record IsOurs (s : State) : Type 0 where
   pub schema : s.now.schema ≡ store_schema
@@ -103,6 +111,26 @@ body_read row = bytes (column row 0)
 
 abbrev pub item_read : Row → LogItem
 item_read row = record { origin = id_in (column row 0); number = number_of (id_in (column row 1)); body = bytes (column row 2) }
+
+-- whether it shows an entry at the version
+abbrev pub is_shown_at : ℕ → Row → Bool
+is_shown_at version row = is_eq (value_cmp (column row 3) (Int (pos version)))
+
+-- the entries that the rows show, from a version on, up to the first row that shows another version than the next
+abbrev pub items_read : ℕ → List Row → List LogItem
+items_read next [] = []
+items_read next (row ∷ rows) = if is_shown_at next row then item_read row ∷ items_read (next + 1) rows else []
+
+-- each row shows the version after the last, from this one on
+abbrev pub AreInTurn : ℕ → List Row → Type 0
+AreInTurn next [] = Unit {0}
+AreInTurn next (row ∷ rows) = IsTrue (is_shown_at next row) × AreInTurn (next + 1) rows
+
+-- entries that were read of rows, begun at a version, with the version of the next
+pub record AreTaken (first : ℕ) (taken : Entries) (rows : List Row) : Type 0 where
+  pub items : items_of taken.entries.items ≡ items_read first rows
+  pub in_turn : taken.has_ended ≡ false → AreInTurn first rows × (taken.next ≡ first + length rows)
+  pub ended : taken.has_ended ≡ true → (more : List Row) → items_read first (rows ++ more) ≡ items_read first rows
 
 -- a key and a body
 abbrev pub pair_read : Row → List ℕ × List ℕ

@@ -55,6 +55,9 @@ insert_log_text = codes "INSERT INTO log VALUES (?1, ?2, ?3, ?4)"
 abbrev pub select_log_text : List ℕ
 select_log_text = codes "SELECT origin, number, body FROM log WHERE version = ?1"
 
+abbrev pub list_log_text : List ℕ
+list_log_text = codes "SELECT origin, number, body, version FROM log WHERE version >= ?1 AND version < ?2 ORDER BY version"
+
 abbrev pub all_rows_text : List ℕ
 all_rows_text = codes "SELECT tab, key, body FROM rows"
 

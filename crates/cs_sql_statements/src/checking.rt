@@ -1,7 +1,6 @@
 //! Whether all that the tables hold is what its places say.
 
-ghost use Rattle.std.specs.Prelude.{◌≡◌, ◌↔◌, ◌≤◌, ℕ, [], pos, length, false, IfOk, MatchOption, IsTrue};
-ghost use Rattle.std.specs.List.{AllByRecursion};
+ghost use Rattle.std.specs.Prelude.{◌≡◌, ◌↔◌, ◌≤◌, ℕ, [], pos, length, false, IfOk, MatchOption, IsTrue, OnOk};
 ghost use Rattle.sqlite.specs.Held.{state};
 ghost use Rattle.sqlite.specs.State.{HasCleanDisk, Survives};
 ghost use Rattle.sqlite_value.specs.Order.{bytes};
@@ -10,9 +9,9 @@ ghost use Rattle.cs_store.specs.Whole.{IsWhole};
 ghost use Rattle.cs_sql_statements.specs.declared.checking.Part.TheVariants.{Rows, Pending, Meta, Log};
 ghost use Rattle.cs_sql_statements.specs.Tables.{contents_in};
 ghost use Rattle.cs_sql_statements.specs.Steps.{IsReady, Stays};
-ghost use Rattle.cs_sql_statements.specs.Checked.{HasOwn, ShowsOwn};
+ghost use Rattle.cs_sql_statements.specs.Checked.{HasOwn, ShowsOwn, all_text};
 
-use crate::reading::probe;
+use crate::streaming::{Reader, read_ready};
 use cs_store::{is_body, is_change, is_name, is_row};
 use cs_value::Catalog;
 use sqlite::{Alter, Connection, Error, Row};
@@ -32,6 +31,20 @@ pub enum Part {
     Log,
 }
 
+impl Part {
+    /// The query that shows all that the table holds.
+    fn query(self) -> &'static str
+        ensures { result.now ≡ all_text self }
+    {
+        match self {
+            Part::Rows => "SELECT tab, key, body FROM rows",
+            Part::Pending => "SELECT tab, key, body FROM pending",
+            Part::Meta => "SELECT name FROM meta",
+            Part::Log => "SELECT body FROM log",
+        }
+    }
+}
+
 /// The number of a table of the catalog, if it is one.
 fn table_number(catalog: &Catalog, number: i64) -> Option<u32>
     ensures { MatchOption result ((table : ℕ) → number ≡ pos table → length catalog.now ≤ table) (λ table. number ≡ pos table) }
@@ -44,32 +57,6 @@ fn table_number(catalog: &Catalog, number: i64) -> Option<u32>
     }
 }
 
-/// Whether a row is one of the catalog's table that it names, at its own key.
-fn shows_row(alloc: Global, catalog: &Catalog, row: &Row) -> Result<bool, Error>
-    ensures { IfOk result (λ own. IsTrue own ↔ ShowsOwn Rows catalog.now row.now) }
-{
-    let number: i64 = row.get(0)?;
-    let key: Vec<u8> = row.get(1)?;
-    let body: Vec<u8> = row.get(2)?;
-    let Some(table) = table_number(catalog, number) else {
-        return Ok(false);
-    };
-    Ok(is_row(alloc, catalog, table, &key, &body)?)
-}
-
-/// The same of a pending change.
-fn shows_change(alloc: Global, catalog: &Catalog, row: &Row) -> Result<bool, Error>
-    ensures { IfOk result (λ own. IsTrue own ↔ ShowsOwn Pending catalog.now row.now) }
-{
-    let number: i64 = row.get(0)?;
-    let key: Vec<u8> = row.get(1)?;
-    let body: Vec<u8> = row.get(2)?;
-    let Some(table) = table_number(catalog, number) else {
-        return Ok(false);
-    };
-    Ok(is_change(alloc, catalog, table, &key, &body)?)
-}
-
 /// The bytes of a text or a blob; none of another value.
 fn bytes_of<'a>(value: &ValueRef<'a>) -> &'a [u8]
     ensures { result.now ≡ bytes (owned value.now) }
@@ -79,6 +66,32 @@ fn bytes_of<'a>(value: &ValueRef<'a>) -> &'a [u8]
         ValueRef::Blob(blob) => blob,
         _ => &[],
     }
+}
+
+/// Whether a row is one of the catalog's table that it names, at its own key.
+fn shows_row(alloc: Global, catalog: &Catalog, row: &Row) -> Result<bool, Error>
+    ensures { IfOk result (λ own. IsTrue own ↔ ShowsOwn Rows catalog.now row.now) }
+{
+    let number: i64 = row.get(0)?;
+    let key = row.get_ref(1)?;
+    let body = row.get_ref(2)?;
+    let Some(table) = table_number(catalog, number) else {
+        return Ok(false);
+    };
+    Ok(is_row(alloc, catalog, table, bytes_of(&key), bytes_of(&body))?)
+}
+
+/// The same of a pending change.
+fn shows_change(alloc: Global, catalog: &Catalog, row: &Row) -> Result<bool, Error>
+    ensures { IfOk result (λ own. IsTrue own ↔ ShowsOwn Pending catalog.now row.now) }
+{
+    let number: i64 = row.get(0)?;
+    let key = row.get_ref(1)?;
+    let body = row.get_ref(2)?;
+    let Some(table) = table_number(catalog, number) else {
+        return Ok(false);
+    };
+    Ok(is_change(alloc, catalog, table, bytes_of(&key), bytes_of(&body))?)
 }
 
 /// Whether a name is one of ours.
@@ -93,8 +106,8 @@ fn shows_name(row: &Row) -> Result<bool, Error>
 fn shows_body(alloc: Global, catalog: &Catalog, row: &Row) -> Result<bool, Error>
     ensures { IfOk result (λ own. IsTrue own ↔ ShowsOwn Log catalog.now row.now) }
 {
-    let body: Vec<u8> = row.get(0)?;
-    Ok(is_body(alloc, catalog, &body)?)
+    let body = row.get_ref(0)?;
+    Ok(is_body(alloc, catalog, bytes_of(&body))?)
 }
 
 fn shows_own(alloc: Global, catalog: &Catalog, part: Part, row: &Row) -> Result<bool, Error>
@@ -108,84 +121,69 @@ fn shows_own(alloc: Global, catalog: &Catalog, part: Part, row: &Row) -> Result<
     }
 }
 
-/// Whether each row of an answer is one that the table may hold.
-fn all_own(alloc: Global, catalog: &Catalog, part: Part, rows: &[Row]) -> Result<bool, Error>
-    ensures { IfOk result (λ own. IsTrue own ↔ AllByRecursion (ShowsOwn part catalog.now) rows.now) }
-{
-    for row in rows {
-        if !shows_own(alloc, catalog, part, row)? {
-            return Ok(false);
+/// Judges the rows of one of the tables, one after another.
+#[derive(Drop)]
+struct Judge<'a> {
+    alloc: Global,
+    catalog: &'a Catalog,
+    part: Part,
+    /// Whether each so far is one that the table may hold.
+    all_own: bool,
+}
+
+impl<'a> Judge<'a> {
+    fn new(alloc: Global, catalog: &'a Catalog, part: Part) -> Judge<'a>
+        ensures { (result.part ≡ part) × (result.catalog.now ≡ catalog.now) × IsTrue result.all_own }
+    {
+        Judge {
+            alloc,
+            catalog,
+            part,
+            all_own: true,
         }
     }
-    Ok(true)
+
+    /// Judges one more.
+    fn judge(&mut self, row: &Row) -> Result<(), Error>
+        ensures same { OnOk result ((self.new.part ≡ self.old.part) × (self.new.catalog.now ≡ self.old.catalog.now)) }
+        ensures own { OnOk result (IsTrue self.new.all_own ↔ (IsTrue self.old.all_own × ShowsOwn self.old.part self.old.catalog.now row.now)) }
+    {
+        if self.all_own {
+            self.all_own = shows_own(self.alloc, self.catalog, self.part, row)?;
+        }
+        Ok(())
+    }
 }
 
-fn check_rows<S: Alter>(
+impl Reader for Judge<'_> {
+    ghost use Rattle.std.specs.Prelude.{◌≡◌, ◌↔◌, IsTrue};
+    ghost use Rattle.std.specs.List.{AllByRecursion};
+    ghost use Rattle.cs_sql_statements.specs.Checked.{ShowsOwn};
+
+    ghost has_read = { λ start judge rows. (judge.part ≡ start.part) × (judge.catalog.now ≡ start.catalog.now) × (IsTrue start.all_own → (IsTrue judge.all_own ↔ AllByRecursion (ShowsOwn start.part start.catalog.now) rows)) };
+
+    fn read(&mut self, row: &Row) -> Result<(), Error> {
+        self.judge(row)
+    }
+}
+
+/// Whether all that one of the tables holds is what its places say.
+fn check_part<S: Alter>(
     alloc: Global,
     conn: &mut Connection<S>,
     catalog: &Catalog,
+    part: Part,
 ) -> Result<bool, Error>
     requires idle { conn.old.in_transaction ≡ false }
     requires ready { HasCleanDisk (state S.Store conn.old) → IsTrue (state S.Store conn.old).is_open → IsReady (state S.Store conn.old) }
     ensures idle { conn.new.in_transaction ≡ false }
-    ensures ok { HasCleanDisk (state S.Store conn.new) → IfOk result (λ own. IsTrue (state S.Store conn.old).is_open × (IsTrue own ↔ HasOwn Rows catalog.now (contents_in (state S.Store conn.old).now.trees))) }
+    ensures ok { HasCleanDisk (state S.Store conn.new) → IfOk result (λ own. IsTrue (state S.Store conn.old).is_open × (IsTrue own ↔ HasOwn part catalog.now (contents_in (state S.Store conn.old).now.trees))) }
     ensures same { HasCleanDisk (state S.Store conn.new) → Stays (state S.Store conn.old) (state S.Store conn.new) }
     ensures survives { Survives (state S.Store conn.old) (state S.Store conn.new) (λ _. ⊥) }
 {
-    probe(conn)?;
-    let rows = conn.query_all("SELECT tab, key, body FROM rows", &[])?;
-    all_own(alloc, catalog, Part::Rows, &rows)
-}
-
-fn check_pending<S: Alter>(
-    alloc: Global,
-    conn: &mut Connection<S>,
-    catalog: &Catalog,
-) -> Result<bool, Error>
-    requires idle { conn.old.in_transaction ≡ false }
-    requires ready { HasCleanDisk (state S.Store conn.old) → IsTrue (state S.Store conn.old).is_open → IsReady (state S.Store conn.old) }
-    ensures idle { conn.new.in_transaction ≡ false }
-    ensures ok { HasCleanDisk (state S.Store conn.new) → IfOk result (λ own. IsTrue (state S.Store conn.old).is_open × (IsTrue own ↔ HasOwn Pending catalog.now (contents_in (state S.Store conn.old).now.trees))) }
-    ensures same { HasCleanDisk (state S.Store conn.new) → Stays (state S.Store conn.old) (state S.Store conn.new) }
-    ensures survives { Survives (state S.Store conn.old) (state S.Store conn.new) (λ _. ⊥) }
-{
-    probe(conn)?;
-    let rows = conn.query_all("SELECT tab, key, body FROM pending", &[])?;
-    all_own(alloc, catalog, Part::Pending, &rows)
-}
-
-fn check_meta<S: Alter>(
-    alloc: Global,
-    conn: &mut Connection<S>,
-    catalog: &Catalog,
-) -> Result<bool, Error>
-    requires idle { conn.old.in_transaction ≡ false }
-    requires ready { HasCleanDisk (state S.Store conn.old) → IsTrue (state S.Store conn.old).is_open → IsReady (state S.Store conn.old) }
-    ensures idle { conn.new.in_transaction ≡ false }
-    ensures ok { HasCleanDisk (state S.Store conn.new) → IfOk result (λ own. IsTrue (state S.Store conn.old).is_open × (IsTrue own ↔ HasOwn Meta catalog.now (contents_in (state S.Store conn.old).now.trees))) }
-    ensures same { HasCleanDisk (state S.Store conn.new) → Stays (state S.Store conn.old) (state S.Store conn.new) }
-    ensures survives { Survives (state S.Store conn.old) (state S.Store conn.new) (λ _. ⊥) }
-{
-    probe(conn)?;
-    let rows = conn.query_all("SELECT name FROM meta", &[])?;
-    all_own(alloc, catalog, Part::Meta, &rows)
-}
-
-fn check_log<S: Alter>(
-    alloc: Global,
-    conn: &mut Connection<S>,
-    catalog: &Catalog,
-) -> Result<bool, Error>
-    requires idle { conn.old.in_transaction ≡ false }
-    requires ready { HasCleanDisk (state S.Store conn.old) → IsTrue (state S.Store conn.old).is_open → IsReady (state S.Store conn.old) }
-    ensures idle { conn.new.in_transaction ≡ false }
-    ensures ok { HasCleanDisk (state S.Store conn.new) → IfOk result (λ own. IsTrue (state S.Store conn.old).is_open × (IsTrue own ↔ HasOwn Log catalog.now (contents_in (state S.Store conn.old).now.trees))) }
-    ensures same { HasCleanDisk (state S.Store conn.new) → Stays (state S.Store conn.old) (state S.Store conn.new) }
-    ensures survives { Survives (state S.Store conn.old) (state S.Store conn.new) (λ _. ⊥) }
-{
-    probe(conn)?;
-    let rows = conn.query_all("SELECT body FROM log", &[])?;
-    all_own(alloc, catalog, Part::Log, &rows)
+    let mut judge = Judge::new(alloc, catalog, part);
+    read_ready(conn, part.query(), &[], &mut judge)?;
+    Ok(judge.all_own)
 }
 
 fn all_four(rows: bool, pending: bool, meta: bool, log: bool) -> bool
@@ -207,9 +205,9 @@ pub fn check_store<S: Alter>(
     ensures same { HasCleanDisk (state S.Store conn.new) → Stays (state S.Store conn.old) (state S.Store conn.new) }
     ensures survives { Survives (state S.Store conn.old) (state S.Store conn.new) (λ _. ⊥) }
 {
-    let rows = check_rows(alloc, conn, catalog)?;
-    let pending = check_pending(alloc, conn, catalog)?;
-    let meta = check_meta(alloc, conn, catalog)?;
-    let log = check_log(alloc, conn, catalog)?;
+    let rows = check_part(alloc, conn, catalog, Part::Rows)?;
+    let pending = check_part(alloc, conn, catalog, Part::Pending)?;
+    let meta = check_part(alloc, conn, catalog, Part::Meta)?;
+    let log = check_part(alloc, conn, catalog, Part::Log)?;
     Ok(all_four(rows, pending, meta, log))
 }

@@ -1,82 +1,119 @@
-//! The rowids of a file that was found are shown to be apart, and those of its log to be the versions from 0 on.
+//! The rowids of a file that was found are read one at a time and shown to be apart, and the entries of its log are counted.
 
-ghost use Rattle.std.specs.Prelude.{◌≡◌, pos, false, IsTrue, IfOk, IfSome, OnOk};
-ghost use Rattle.std.specs.List.{AllByRecursion};
+ghost use Rattle.std.specs.Prelude.{◌≡◌, ◌&&◌, ◌++◌, [], ◌∷◌, List, false, IsTrue, IfOk, IfSome, OnOk};
+ghost use Rattle.std.specs.declared.cmp.Ordering.TheVariants.{Less};
+ghost use Rattle.std.specs.Ordering.{int_cmp};
 ghost use Rattle.sqlite.specs.Held.{state};
 ghost use Rattle.sqlite.specs.Given.{IsPlain};
 ghost use Rattle.sqlite.specs.Listing.{understood};
+ghost use Rattle.sqlite.specs.Order.{Row as Values, column};
 ghost use Rattle.sqlite.specs.State.{HasCleanDisk, IsUnchanged, Survives};
+ghost use Rattle.sqlite_value.specs.declared.value.Value.TheVariants.{Int};
 ghost use Rattle.cs_sql_schema.specs.Schemas.{store_schema};
-ghost use Rattle.cs_sql_statements.specs.Tables.{pending_ids_text};
-ghost use Rattle.cs_sql_statements.specs.Steps.{Stays};
-ghost use Rattle.cs_sql_statements.specs.Found.{AreApart, AreNumbered, HasFront, IsCounted, Rise, Serves, ShowsIds, ShowsNumber};
+ghost use Rattle.cs_sql_statements.specs.Steps.{Serves, Stays};
+ghost use Rattle.cs_sql_statements.specs.Found.{AreApart, AreSeen, HasFront, IsCounted, ShowsIds};
 
+use crate::streaming::{Reader, is_place, one_more, read_each};
 use sqlite::{Alter, Connection, Error, Row};
-use sqlite_value::order::compare;
 
-/// Tests that each row shows a number.
-fn are_whole(rows: &[Row]) -> Result<(), Error>
-    ensures { OnOk result (AllByRecursion ShowsNumber rows.now) }
-{
-    for row in rows {
-        let _: i64 = row.get(0)?;
-    }
-    Ok(())
+/// What was found of a log.
+#[derive(Clone, Copy)]
+pub struct LogFound {
+    /// How many entries it has.
+    pub entries: u32,
+    /// Whether an entry stands at each version below that number.
+    pub is_whole: bool,
 }
 
-/// Whether each row shows less than the next.
-fn rise(rows: &[Row]) -> Result<bool, Error>
-    ensures { IfOk result (λ rise. IsTrue rise → Rise rows.now) }
+/// What is told of the rowids of a table, as far as they were read.
+#[derive(Drop)]
+pub(crate) struct Ids {
+    /// How many they are.
+    count: u64,
+    last: Option<i64>,
+    /// Whether each is below the next.
+    rise: bool,
+    /// Whether each is the number of its place, the first being 0.
+    are_numbered: bool,
+}
+
+/// Whether the number is above the last, if there is one.
+fn is_above(last: Option<i64>, number: i64) -> bool
+    ensures { IsTrue result → IfSome last (λ last. int_cmp last number ≡ Less) }
 {
-    for at in 1..rows.len() {
-        if !compare(rows[at - 1].get_ref(0)?, rows[at].get_ref(0)?).is_lt() {
-            return Ok(false);
+    match last {
+        Some(last) => last < number,
+        None => true,
+    }
+}
+
+fn both(some: bool, other: bool) -> bool
+    ensures { result ≡ (some && other) }
+{
+    some && other
+}
+
+impl Ids {
+    /// What is told with one more.
+    fn with(&self, id: i64) -> Result<Ids, Error>
+        ensures { IfOk result (λ more. (rows : List Values) (row : Values) → AreSeen self.now rows → column row 0 ≡ Int id → AreSeen more (rows ++ row ∷ [])) }
+    {
+        Ok(Ids {
+            count: one_more(self.count)?,
+            last: Some(id),
+            rise: both(self.rise, is_above(self.last, id)),
+            are_numbered: both(self.are_numbered, is_place(id, self.count)),
+        })
+    }
+
+    /// What was found of a log with these rowids, if their count fits the versions.
+    fn of_log(&self) -> Option<LogFound>
+        ensures { IfSome result (λ found. (found.entries ≡ self.now.count) × (found.is_whole ≡ self.now.are_numbered)) }
+    {
+        if self.count <= 4_294_967_295 {
+            Some(LogFound {
+                entries: self.count as u32,
+                is_whole: self.are_numbered,
+            })
+        } else {
+            None
         }
     }
-    Ok(true)
 }
 
-/// Whether the number is that of the place.
-fn is_place(number: i64, place: usize) -> bool
-    ensures { IsTrue result → number ≡ pos place }
-{
-    number >= 0 && number as usize == place
-}
+impl Reader for Ids {
+    ghost use Rattle.cs_sql_statements.specs.Found.{AreSeen};
 
-/// Whether each row shows the number of its place, the first being 0.
-fn are_numbered(rows: &[Row]) -> Result<bool, Error>
-    ensures { IfOk result (λ are. IsTrue are → AreNumbered 0 rows.now) }
-{
-    for at in 0..rows.len() {
-        let id: i64 = rows[at].get(0)?;
-        if !is_place(id, at) {
-            return Ok(false);
-        }
+    ghost has_read = { λ start seen rows. AreSeen seen rows };
+
+    fn read(&mut self, row: &Row) -> Result<(), Error> {
+        *self = self.with(row.get(0)?)?;
+        Ok(())
     }
-    Ok(true)
 }
 
-/// The rowids of a table, which the query shows, if they rise.
-fn rising_ids<S: Alter>(conn: &mut Connection<S>, sql: &str) -> Result<Option<Vec<Row>>, Error>
+/// The rowids of a table, which the query shows.
+fn read_ids<S: Alter>(conn: &mut Connection<S>, sql: &str) -> Result<Ids, Error>
     requires serves { HasCleanDisk (state S.Store conn.old) → Serves (state S.Store conn.old) }
     requires plain { HasCleanDisk (state S.Store conn.old) → IsPlain (understood (state S.Store conn.old).now.schema sql.now) }
     ensures mode { conn.old.in_transaction ≡ false → conn.new.in_transaction ≡ false }
-    ensures shown { HasCleanDisk (state S.Store conn.new) → IfOk result (λ o. IfSome o (λ rows. ShowsIds sql.now (state S.Store conn.old) (state S.Store conn.new) rows.items)) }
+    ensures shown { HasCleanDisk (state S.Store conn.new) → IfOk result (ShowsIds sql.now (state S.Store conn.old) (state S.Store conn.new)) }
     ensures ok { HasCleanDisk (state S.Store conn.new) → OnOk result (IsUnchanged (state S.Store conn.old) (state S.Store conn.new)) }
     ensures same { HasCleanDisk (state S.Store conn.new) → Stays (state S.Store conn.old) (state S.Store conn.new) }
     ensures survives { Survives (state S.Store conn.old) (state S.Store conn.new) (λ _. ⊥) }
 {
-    let rows = conn.query_all(sql, &[])?;
-    are_whole(&rows)?;
-    if rise(&rows)? {
-        Ok(Some(rows))
-    } else {
-        Ok(None)
-    }
+    let mut ids = Ids {
+        count: 0,
+        last: None,
+        rise: true,
+        are_numbered: true,
+    };
+    read_each(conn, sql, &[], &mut ids)?;
+    Ok(ids)
 }
 
-/// How many entries the log has, if the rowids of each table but `pending` are apart and the log's are the versions from 0 on.
-pub(crate) fn count_front<S: Alter>(conn: &mut Connection<S>) -> Result<Option<usize>, Error>
+/// What is found of the log, if the rowids of each table but `pending` are apart and the log's count fits the versions.
+pub(crate) fn count_front<S: Alter>(conn: &mut Connection<S>) -> Result<Option<LogFound>, Error>
     requires serves { HasCleanDisk (state S.Store conn.old) → Serves (state S.Store conn.old) }
     requires front { HasCleanDisk (state S.Store conn.old) → HasFront (state S.Store conn.old).now.schema }
     ensures mode { conn.old.in_transaction ≡ false → conn.new.in_transaction ≡ false }
@@ -85,13 +122,11 @@ pub(crate) fn count_front<S: Alter>(conn: &mut Connection<S>) -> Result<Option<u
     ensures same { HasCleanDisk (state S.Store conn.new) → Stays (state S.Store conn.old) (state S.Store conn.new) }
     ensures survives { Survives (state S.Store conn.old) (state S.Store conn.new) (λ _. ⊥) }
 {
-    let rows = rising_ids(conn, "SELECT rowid FROM rows ORDER BY rowid")?;
-    let meta = rising_ids(conn, "SELECT rowid FROM meta ORDER BY rowid")?;
-    let Some(log) = rising_ids(conn, "SELECT rowid FROM log ORDER BY rowid")? else {
-        return Ok(None);
-    };
-    if rows.is_some() && meta.is_some() && are_numbered(&log)? {
-        Ok(Some(log.len()))
+    let rows = read_ids(conn, "SELECT rowid FROM rows ORDER BY rowid")?;
+    let meta = read_ids(conn, "SELECT rowid FROM meta ORDER BY rowid")?;
+    let log = read_ids(conn, "SELECT rowid FROM log ORDER BY rowid")?;
+    if rows.rise && meta.rise && log.rise {
+        Ok(log.of_log())
     } else {
         Ok(None)
     }
@@ -107,6 +142,6 @@ pub(crate) fn is_pending_apart<S: Alter>(conn: &mut Connection<S>) -> Result<boo
     ensures same { HasCleanDisk (state S.Store conn.new) → Stays (state S.Store conn.old) (state S.Store conn.new) }
     ensures survives { Survives (state S.Store conn.old) (state S.Store conn.new) (λ _. ⊥) }
 {
-    let rows = rising_ids(conn, "SELECT rowid FROM pending ORDER BY rowid")?;
-    Ok(rows.is_some())
+    let ids = read_ids(conn, "SELECT rowid FROM pending ORDER BY rowid")?;
+    Ok(ids.rise)
 }

@@ -1,15 +1,15 @@
 //! What a connection that a caller opened shows.
 
-ghost use Rattle.std.specs.Prelude.{◌≡◌, ◌≤◌, false, IsTrue, IfOk, IfSome};
+ghost use Rattle.std.specs.Prelude.{◌≡◌, false, IsTrue, IfOk};
 ghost use Rattle.sqlite.specs.Held.{state};
 ghost use Rattle.sqlite.specs.Effect.{IsDatabase};
 ghost use Rattle.sqlite.specs.State.{HasCleanDisk, Survives};
 ghost use Rattle.cs_sql_schema.specs.Schemas.{front_schema, store_schema};
-ghost use Rattle.cs_sql_statements.specs.Steps.{Stays};
-ghost use Rattle.cs_sql_statements.specs.Found.{IsFound, IsUntouched, Serves};
+ghost use Rattle.cs_sql_statements.specs.Steps.{Serves, Stays};
+ghost use Rattle.cs_sql_statements.specs.Found.{IsFound, IsUntouched};
 
-use crate::counting::{count_front, is_pending_apart};
-use crate::reading::probe;
+use crate::counting::{LogFound, count_front, is_pending_apart};
+use crate::streaming::probe;
 use cs_sql_schema::{Judged, judge};
 use sqlite::{Alter, Connection, Error};
 
@@ -17,23 +17,12 @@ use sqlite::{Alter, Connection, Error};
 pub enum Found {
     /// It has no table.
     Fresh,
-    /// It has a store's tables but for `pending`, with so many entries of the log.
-    Front(u32),
-    /// It has a store's tables, with so many entries of the log.
-    Ours(u32),
-    /// It has another schema, or rowids that aren't apart, or versions of the log with gaps.
+    /// It has a store's tables but for `pending`, and that was found of its log.
+    Front(LogFound),
+    /// It has a store's tables, and that was found of its log.
+    Ours(LogFound),
+    /// It has another schema, or rowids that aren't apart, or more entries of the log than there are versions.
     Foreign,
-}
-
-/// The count of a log, if it fits the versions.
-fn as_count(entries: usize) -> Option<u32>
-    ensures { IfSome result (λ count. count ≡ entries) }
-{
-    if entries <= 4_294_967_295 {
-        Some(entries as u32)
-    } else {
-        None
-    }
 }
 
 /// What a connection on the tables but `pending` shows.
@@ -46,11 +35,8 @@ fn look_front<S: Alter>(conn: &mut Connection<S>) -> Result<Found, Error>
     ensures same { HasCleanDisk (state S.Store conn.new) → Stays (state S.Store conn.old) (state S.Store conn.new) }
     ensures survives { Survives (state S.Store conn.old) (state S.Store conn.new) (λ _. ⊥) }
 {
-    let Some(entries) = count_front(conn)? else {
-        return Ok(Found::Foreign);
-    };
-    match as_count(entries) {
-        Some(count) => Ok(Found::Front(count)),
+    match count_front(conn)? {
+        Some(log) => Ok(Found::Front(log)),
         None => Ok(Found::Foreign),
     }
 }
@@ -65,15 +51,13 @@ fn look_ours<S: Alter>(conn: &mut Connection<S>) -> Result<Found, Error>
     ensures same { HasCleanDisk (state S.Store conn.new) → Stays (state S.Store conn.old) (state S.Store conn.new) }
     ensures survives { Survives (state S.Store conn.old) (state S.Store conn.new) (λ _. ⊥) }
 {
-    let Some(entries) = count_front(conn)? else {
+    let Some(log) = count_front(conn)? else {
         return Ok(Found::Foreign);
     };
-    if !is_pending_apart(conn)? {
-        return Ok(Found::Foreign);
-    }
-    match as_count(entries) {
-        Some(count) => Ok(Found::Ours(count)),
-        None => Ok(Found::Foreign),
+    if is_pending_apart(conn)? {
+        Ok(Found::Ours(log))
+    } else {
+        Ok(Found::Foreign)
     }
 }
 

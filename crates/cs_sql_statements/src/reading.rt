@@ -1,14 +1,16 @@
 //! The queries, each a function of its own.
 
-ghost use Rattle.std.specs.Prelude.{◌≡◌, pos, map, false, IsTrue, IfOk, OnOk};
+ghost use Rattle.std.specs.Prelude.{◌≡◌, ◌↔◌, ◌<◌, ◌+◌, ◌^◌, ◌++◌, ℕ, pos, List, [], ◌∷◌, map, false, IsTrue, IfOk, OnOk};
 ghost use Rattle.std.specs.FinMap.{get};
 ghost use Rattle.sqlite.specs.Held.{state};
-ghost use Rattle.sqlite.specs.State.{HasCleanDisk, IsUnchanged, Survives};
-ghost use Rattle.cs_store.specs.Written.{optional_bytes, optional_entry, item_of, pairs_of};
-ghost use Rattle.cs_store.specs.Contents.{IsListing, stored_tables, stored_pending};
+ghost use Rattle.sqlite.specs.Order.{Row as Values};
+ghost use Rattle.sqlite.specs.State.{HasCleanDisk, Survives};
+ghost use Rattle.cs_store.specs.Written.{items_of, optional_bytes, optional_entry, item_of, pairs_of};
+ghost use Rattle.cs_store.specs.Contents.{IsListing, log_range, stored_tables, stored_pending};
 ghost use Rattle.cs_sql_statements.specs.Tables.{contents_in, number_of};
-ghost use Rattle.cs_sql_statements.specs.Steps.{IsReady, Stays, first_read, body_read, item_read, pair_read};
+ghost use Rattle.cs_sql_statements.specs.Steps.{AreTaken, IsReady, Stays, first_read, body_read, item_read, pair_read};
 
+use crate::streaming::{Reader, is_place, one_more, probe, read_ready};
 use cs_store::{StoredBody, StoredEntry};
 use sqlite::{Alter, Connection, Error, Row, params};
 use std::alloc::Global;
@@ -69,16 +71,60 @@ fn pairs_in(alloc: Global, rows: &[Row]) -> Result<Vec<StoredBody>, Error>
     Ok(pairs)
 }
 
-/// Tests that the connection still serves.
-pub(crate) fn probe<S: Alter>(conn: &mut Connection<S>) -> Result<(), Error>
-    requires settled { HasCleanDisk (state S.Store conn.old) → IsTrue (state S.Store conn.old).is_open → (state S.Store conn.old).committed ≡ (state S.Store conn.old).now }
-    ensures mode { conn.old.in_transaction ≡ false → conn.new.in_transaction ≡ false }
-    ensures ok { HasCleanDisk (state S.Store conn.new) → OnOk result (IsUnchanged (state S.Store conn.old) (state S.Store conn.new)) }
-    ensures same { HasCleanDisk (state S.Store conn.new) → Stays (state S.Store conn.old) (state S.Store conn.new) }
-    ensures survives { Survives (state S.Store conn.old) (state S.Store conn.new) (λ _. ⊥) }
-{
-    let _empty = conn.prepare("")?;
-    Ok(())
+/// Entries of the log, as they are read of the rows that show them.
+#[derive(Drop)]
+pub(crate) struct Entries {
+    entries: Vec<StoredEntry>,
+    /// The version of the next.
+    next: u64,
+    /// Whether a row showed another version.
+    has_ended: bool,
+}
+
+impl Entries {
+    /// No entries, the first having this version.
+    fn new(alloc: Global, first: u32) -> Entries
+        ensures { AreTaken first result [] }
+    {
+        Entries {
+            entries: Vec::new(alloc),
+            next: first as u64,
+            has_ended: false,
+        }
+    }
+
+    /// Whether an entry at the version is the next.
+    fn takes(&self, version: i64) -> bool
+        ensures { IsTrue result ↔ ((self.now.has_ended ≡ false) × (version ≡ pos self.now.next)) }
+    {
+        !self.has_ended && is_place(version, self.next)
+    }
+
+    /// The entry that a row shows, where its version is the next.
+    fn take(&mut self, row: &Row) -> Result<(), Error>
+        ensures { OnOk result ((first : ℕ) (rows : List Values) → AreTaken first self.old rows → AreTaken first self.new (rows ++ row.now ∷ [])) }
+    {
+        let version: i64 = row.get(3)?;
+        if self.takes(version) {
+            self.next = one_more(self.next)?;
+            self.entries.push(entry_in(row)?)?;
+            Ok(())
+        } else {
+            self.has_ended = true;
+            Ok(())
+        }
+    }
+}
+
+impl Reader for Entries {
+    ghost use Rattle.std.specs.Prelude.{ℕ, []};
+    ghost use Rattle.cs_sql_statements.specs.Steps.{AreTaken};
+
+    ghost has_read = { λ start taken rows. (first : ℕ) → AreTaken first start [] → AreTaken first taken rows };
+
+    fn read(&mut self, row: &Row) -> Result<(), Error> {
+        self.take(row)
+    }
 }
 
 /// The body of the row at a place.
@@ -155,6 +201,32 @@ pub fn read_log<S: Alter>(
         params![version],
     )?;
     entry_of(&rows)
+}
+
+/// The entries of the log from a version on, at most so many, up to the first version that has none.
+pub fn list_log<S: Alter>(
+    alloc: Global,
+    conn: &mut Connection<S>,
+    first: u32,
+    count: u32,
+) -> Result<Vec<StoredEntry>, Error>
+    requires fits { first + count < 2 ^ 32 }
+    requires idle { conn.old.in_transaction ≡ false }
+    requires ready { HasCleanDisk (state S.Store conn.old) → IsTrue (state S.Store conn.old).is_open → IsReady (state S.Store conn.old) }
+    ensures idle { conn.new.in_transaction ≡ false }
+    ensures ok { HasCleanDisk (state S.Store conn.new) → IfOk result (λ entries. IsTrue (state S.Store conn.old).is_open × (items_of entries.items ≡ log_range (contents_in (state S.Store conn.old).now.trees) first count)) }
+    ensures same { HasCleanDisk (state S.Store conn.new) → Stays (state S.Store conn.old) (state S.Store conn.new) }
+    ensures survives { Survives (state S.Store conn.old) (state S.Store conn.new) (λ _. ⊥) }
+{
+    let end = first + count;
+    let mut entries = Entries::new(alloc, first);
+    read_ready(
+        conn,
+        "SELECT origin, number, body, version FROM log WHERE version >= ?1 AND version < ?2 ORDER BY version",
+        params![first, end],
+        &mut entries,
+    )?;
+    Ok(entries.entries)
 }
 
 /// The rows of a table, by ascending bytes of the key.

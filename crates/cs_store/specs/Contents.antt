@@ -1,5 +1,5 @@
 -- What a store holds, whatever it is kept in (profile of this project).
-use Rattle.std.specs.Prelude.{◌≡◌, ◌<◌, ◌↔◌, refl, ℕ, ℤ, pos, T, List, Option, IsSome, codes}
+use Rattle.std.specs.Prelude.{◌≡◌, ◌<◌, ◌+◌, ◌↔◌, refl, ℕ, zero, suc, ℤ, pos, T, List, [], ◌∷◌, Option, Some, None, IsSome, codes}
 use Rattle.std.specs.Coded.{Coded, code_by, coded×, coded_list, coded_ℕ, coded_ℤ}
 use Rattle.std.specs.declared.cmp.Ordering.{Ordering}
 use Rattle.std.specs.Ordering.{int_cmp, on, then_cmp}
@@ -91,10 +91,24 @@ log_entry contents version = get contents.log (pos version)
 abbrev pub log_count : Contents → ℕ
 log_count contents = len contents.log
 
+-- an entry, if there is one, before others; none where there is none
+abbrev pub entry_before : Option LogItem → List LogItem → List LogItem
+entry_before None items = []
+entry_before (Some item) items = item ∷ items
+
+-- the entries of the log from a version on, at most so many, up to the first version that has none
+abbrev pub log_range : Contents → ℕ → ℕ → List LogItem
+log_range contents first zero = []
+log_range contents first (suc count) = entry_before (log_entry contents first) (log_range contents (first + 1) count)
+
 -- a table's rows as a list: the bytes of the keys rise, and what is found at a key is what stands there
 pub record IsListing (table : List ℕ → Option (List ℕ)) (rows : List (List ℕ × List ℕ)) : Type 0 where
   pub rises : T (is_sorted by_bytes rows)
   pub found : (key : List ℕ) → find by_bytes key rows ≡ table key
+
+-- an entry stands at each version below their count
+abbrev pub HasEachEntry : Contents → Type 0
+HasEachEntry contents = (version : ℕ) → version < log_count contents → IsSome (log_entry contents version)
 
 -- entries stand at exactly the versions below their count
 abbrev pub HasNoGaps : Contents → Type 0

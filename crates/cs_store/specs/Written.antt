@@ -26,6 +26,10 @@ item_of entry = record { origin = pos entry.origin; number = entry.number; body 
 abbrev pub optional_entry : Option StoredEntry → Option LogItem
 optional_entry = option_map item_of
 
+-- the entries of a list
+abbrev pub items_of : List StoredEntry → List LogItem
+items_of = map item_of
+
 -- the keys and the bodies of a list
 abbrev pub pairs_of : List StoredBody → List (List ℕ × List ℕ)
 pairs_of = map (λ stored. (stored.key.items, stored.body.items))

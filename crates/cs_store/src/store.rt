@@ -1,9 +1,9 @@
 //! What a store owes its callers.
 
-ghost use Rattle.std.specs.Prelude.{◌≡◌, ◌↔◌, ℕ, IfOk, IsTrue};
+ghost use Rattle.std.specs.Prelude.{◌≡◌, ◌↔◌, ◌+◌, ◌<◌, ◌^◌, ℕ, IfOk, IsTrue};
 ghost use Rattle.cs_store.specs.Calls.{OnlyReads, Commits, CountsMisread};
-ghost use Rattle.cs_store.specs.Contents.{Contents, IsListing, stored_tables, stored_pending, meta_value, log_entry, log_count};
-ghost use Rattle.cs_store.specs.Written.{after_batch, if_there, optional_bytes, optional_entry, pairs_of};
+ghost use Rattle.cs_store.specs.Contents.{Contents, HasEachEntry, IsListing, stored_tables, stored_pending, meta_value, log_entry, log_count, log_range};
+ghost use Rattle.cs_store.specs.Written.{after_batch, if_there, items_of, optional_bytes, optional_entry, pairs_of};
 ghost use Rattle.cs_store.specs.Whole.{IsWhole};
 ghost use Rattle.cs_store.specs.declared.fault.StoreFault.TheVariants.{Device};
 
@@ -96,6 +96,17 @@ pub trait RowStore {
     fn log_get(&mut self, version: u32) -> Result<Option<StoredEntry>, StoreFault>
         ensures found { honest self.new → IfOk result (λ entry.
             optional_entry entry ≡ log_entry (contents self.old) version) }
+        ensures reads { OnlyReads honest contents failed may_leave misreads self.old self.new result };
+
+    /// The entries of the log from a version on, at most so many, up to the first version that has none.
+    fn log_list(&mut self, first: u32, count: u32) -> Result<Vec<StoredEntry>, StoreFault>
+        requires { first + count < 2 ^ 32 }
+        ensures listed { honest self.new → IfOk result (λ entries. items_of entries.items ≡ log_range (contents self.old) first count) }
+        ensures reads { OnlyReads honest contents failed may_leave misreads self.old self.new result };
+
+    /// Whether an entry stands at each version below their count.
+    fn log_is_whole(&mut self) -> Result<bool, StoreFault>
+        ensures told { honest self.new → IfOk result (λ whole. IsTrue whole ↔ HasEachEntry (contents self.old)) }
         ensures reads { OnlyReads honest contents failed may_leave misreads self.old self.new result };
 
     /// Writes the batch, whole.

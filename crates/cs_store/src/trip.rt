@@ -1,11 +1,11 @@
 //! A store for tests that refuses one call, and counts what is written.
 
-ghost use Rattle.std.specs.Prelude.{◌≡◌, ◌+◌, ◌-◌, ◌^◌, ℕ, Some, None, Ok, Err, Option, min, ◌↔◌, IfOk, IsTrue, OnOk, OnErr};
+ghost use Rattle.std.specs.Prelude.{◌≡◌, ◌+◌, ◌-◌, ◌<◌, ◌^◌, ℕ, Some, None, Ok, Err, Option, min, ◌↔◌, IfOk, IsTrue, OnOk, OnErr};
 ghost use Rattle.cs_store.specs.Trips.{Trips, after_call, at_call, contents_in, failed_in, honest_in, may_leave_in, misreads_in, nothing_written, own_failures, wrote_by};
 ghost use Rattle.cs_store.specs.Calls.{OnlyReads, Commits, CountsMisread};
-ghost use Rattle.cs_store.specs.Contents.{Contents, IsListing, stored_tables, stored_pending, meta_value, log_entry, log_count};
+ghost use Rattle.cs_store.specs.Contents.{Contents, HasEachEntry, IsListing, stored_tables, stored_pending, meta_value, log_entry, log_count, log_range};
 ghost use Rattle.cs_store.specs.Whole.{IsWhole};
-ghost use Rattle.cs_store.specs.Written.{after_batch, optional_bytes, optional_entry, pairs_of};
+ghost use Rattle.cs_store.specs.Written.{after_batch, items_of, optional_bytes, optional_entry, pairs_of};
 ghost use Rattle.cs_store.specs.declared.fault.StoreFault.TheVariants.{Device};
 
 use crate::{Batch, MetaName, RowStore, StoreFault, StoredBody, StoredEntry};
@@ -187,6 +187,27 @@ impl<S: RowStore> RowStore for Trip<S> {
     {
         pass(&mut self.passes)?;
         self.inner.log_get(version)
+    }
+
+    fn log_list(&mut self, first: u32, count: u32) -> Result<Vec<StoredEntry>, StoreFault>
+        requires { first + count < 2 ^ 32 }
+        ensures listed { S.honest self.new.inner → IfOk result (λ entries. items_of entries.items ≡ log_range (S.contents self.old.inner) first count) }
+        ensures reads { OnlyReads (honest_in S.honest) (contents_in S.contents) (failed_in S.failed) (may_leave_in S.may_leave) (misreads_in S.misreads) self.old self.new result }
+        ensures trips { Trips self.old self.new result (OnlyReads S.honest S.contents S.failed S.may_leave S.misreads self.old.inner self.new.inner result) }
+        ensures wrote { self.new.wrote ≡ self.old.wrote }
+    {
+        pass(&mut self.passes)?;
+        self.inner.log_list(first, count)
+    }
+
+    fn log_is_whole(&mut self) -> Result<bool, StoreFault>
+        ensures told { S.honest self.new.inner → IfOk result (λ whole. IsTrue whole ↔ HasEachEntry (S.contents self.old.inner)) }
+        ensures reads { OnlyReads (honest_in S.honest) (contents_in S.contents) (failed_in S.failed) (may_leave_in S.may_leave) (misreads_in S.misreads) self.old self.new result }
+        ensures trips { Trips self.old self.new result (OnlyReads S.honest S.contents S.failed S.may_leave S.misreads self.old.inner self.new.inner result) }
+        ensures wrote { self.new.wrote ≡ self.old.wrote }
+    {
+        pass(&mut self.passes)?;
+        self.inner.log_is_whole()
     }
 
     fn commit(&mut self, batch: &Batch) -> Result<(), StoreFault>

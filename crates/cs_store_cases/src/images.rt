@@ -111,16 +111,49 @@ fn put_meta<S: RowStore>(image: &mut Vec<u8>, store: &mut S) -> Result<(), Store
     Ok(())
 }
 
-/// The entries of the log, and what stands behind them.
+/// Whether the entry was found.
+fn is_found(found: &Option<StoredEntry>, entry: &StoredEntry) -> bool {
+    match found {
+        Some(found) => {
+            found.origin == entry.origin
+                && found.number == entry.number
+                && found.body.as_slice() == entry.body.as_slice()
+        }
+        None => false,
+    }
+}
+
+/// A listed entry, and a mark where it isn't got by its version.
+fn put_listed<S: RowStore>(
+    image: &mut Vec<u8>,
+    alloc: Global,
+    store: &mut S,
+    version: u32,
+    entry: &StoredEntry,
+) -> Result<(), StoreFault> {
+    put_entry(image, alloc, entry)?;
+    let found = store.log_get(version)?;
+    if !is_found(&found, entry) {
+        image.push(b'!')?;
+    }
+    Ok(())
+}
+
+/// The entries of the log, and a mark where there are more or fewer than are counted, or one is missing.
 fn put_log<S: RowStore>(
     image: &mut Vec<u8>,
     alloc: Global,
     store: &mut S,
 ) -> Result<(), StoreFault> {
-    for version in 0..store.log_len()?.saturating_add(1) {
-        if let Some(entry) = store.log_get(version)? {
-            put_entry(image, alloc, &entry)?;
+    let count = store.log_len()?;
+    let listed = store.log_list(0, count.saturating_add(1))?;
+    for version in 0..count {
+        if let Some(entry) = listed.get(version as usize) {
+            put_listed(image, alloc, store, version, entry)?;
         }
+    }
+    if listed.len() != count as usize || !store.log_is_whole()? {
+        image.push(b'!')?;
     }
     image.push(b'|')?;
     Ok(())

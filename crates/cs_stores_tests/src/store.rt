@@ -59,6 +59,8 @@ fn call<S: RowStore>(
         5 => store.pend_get(0, b"1").map(|_change| ()),
         6 => store.pend_list(0).map(|_changes| ()),
         7 => store.check(catalog).map(|_whole| ()),
+        8 => store.log_list(0, 1).map(|_entries| ()),
+        9 => store.log_is_whole().map(|_whole| ()),
         _ => store.commit(next),
     }
 }
@@ -124,7 +126,7 @@ fn prints(alloc: Global, fault: StoreFault, printed: &str) -> bool {
 
 #[test]
 fn a_call_that_the_device_refuses_leaves_everything(rt: HostRuntime) {
-    for refused in 0..9u64 {
+    for refused in 0..11u64 {
         assert!(rt; refusal_leaves_everything(rt.alloc(), refused) == Some(true));
     }
     assert!(rt; prints(rt.alloc(), StoreFault::Device, "Device"));

@@ -18,7 +18,7 @@ const BASE: Parts = &[&H1, &INSERT, &K1, &V1, &INSERT, &K2, &V1, &INSERT, &K3, &
 
 const CHANGED: &[Edit] = &[Edit::Update(1, "v9"), Edit::Update(2, "v9")];
 
-/// Behind those and a thousand edits more: one edit more; entries whose place has no own change, one that is kept, and one that goes.
+/// Behind those and a thousand edits more: entries whose place has no own change, one that is kept, and one that goes.
 const WRITES: [Write; 3] = [
     Write {
         entry: &[&H1, &UPDATE, &K3, &V1, &NONE, &V2],

@@ -92,8 +92,8 @@ fn are_opened_at_once(alloc: Global, bare_passes: u64, passes: u64) -> Option<bo
     )
 }
 
-/// A store that holds nothing is asked nine times: for three signs of that, of which the last is six values, and for the commit. One
-/// with an entry is asked eleven times: for a sign, two values, four values, three signs of damage, and the entry.
+/// A store that holds nothing is asked nine times: for three signs of that, of which the first is six values, and for the commit. One
+/// with an entry is asked eleven times: for a sign, two values, four values, and four signs of damage.
 #[test]
 fn what_the_device_refuses_is_not_opened(rt: HostRuntime) {
     let alloc = rt.alloc();

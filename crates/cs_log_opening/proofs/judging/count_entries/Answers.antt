@@ -12,9 +12,9 @@ returns-in-Ok-false-pends_none_below-clause-told g c = λ honest of.
     (c.in-Ok-true.ensures.reads.same checked) (c.in-Ok-true-check.ensures.reads.same pended) refl refl c.tables-tables.result.now c.tables-tables.ensures.same _ refl
     (λ all. let no = told.1 all in (let f = no in cc))
 
-pub returns-in-Ok-true-has_all_below-clause-told : goal.returns-in-Ok-true-has_all_below-clause-told
-returns-in-Ok-true-has_all_below-clause-told g c = λ honest of.
-    let counted = c.in-Ok-true-has_all_below.ensures.reads.was_honest honest in
+pub returns-in-Ok-true-log_is_whole-clause-told : goal.returns-in-Ok-true-log_is_whole-clause-told
+returns-in-Ok-true-log_is_whole-clause-told g c = λ honest of.
+    let counted = c.in-Ok-true-log_is_whole.ensures.reads.was_honest honest in
     let pended = c.in-Ok.ensures.reads.was_honest counted in
     let checked = c.in-Ok-true-pends_none_below.ensures.reads.was_honest pended in
     let lacked = c.in-Ok-true-check.ensures.reads.was_honest checked in
@@ -24,4 +24,4 @@ returns-in-Ok-true-has_all_below-clause-told g c = λ honest of.
     (((rw c.in-Ok-true.field-0-test at c.in-Ok-true.ensures.found) lacked).0 refl)
     (((rw c.in-Ok-true-check.field-0-test at c.in-Ok-true-check.ensures.checked) checked).0 refl)
     (((rw c.in-Ok-true-pends_none_below.field-0-test at c.in-Ok-true-pends_none_below.ensures.told) pended).0 refl)
-    (((rw c.in-Ok-true-has_all_below.field-0-test at c.in-Ok-true-has_all_below.ensures.told) honest).0 refl)
+    (((rw c.in-Ok-true-log_is_whole.field-0-test at c.in-Ok-true-log_is_whole.ensures.told) honest).0 refl)

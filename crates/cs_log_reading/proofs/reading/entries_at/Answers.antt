@@ -1,46 +1,38 @@
-use Rattle.std.proofs.Common.{arith, subst, sym}
-use Rattle.cs_log_store.specs.Shows.{ShowsLog}
-use Rattle.cs_pending.specs.Storing.{then_reads_failed, then_well, went_well}
-use Rattle.cs_store.specs.Contents.{Contents}
-use Rattle.cs_store.specs.declared.fault.StoreFault.TheVariants.{Device}
-use Rattle.cs_log_reading.proofs.Found.{found_more, no_memory, one_there}
+use Rattle.std.proofs.Common.{ap, drop, subst, sym, take, ◌∙◌, Err, List}
+use Rattle.cs_log.specs.declared.entry.LogEntry.{LogEntry}
+use Rattle.cs_log.specs.declared.fault.BodyFault.{BodyFault}
+use Rattle.cs_pending.specs.Storing.{misread_told}
+use Rattle.cs_store.specs.Contents.{LogItem}
+use Rattle.cs_store.specs.Written.{items_of}
+use Rattle.cs_log_reading.specs.Reading.{ShowsEntries}
+use Rattle.cs_log_reading.specs.Steps.{AreStoredAs}
+use Rattle.cs_log_reading.proofs.Found.{are_stored, has_range, no_memory, read_failed, read_well}
 use Rattle.cs_log_reading.proofs.reading.entries_at.Goals as goal
-
-pub returns-in_err-push-in-Ok-clause-reads : goal.returns-in_err-push-in-Ok-clause-reads
-returns-in_err-push-in-Ok-clause-reads g c =
-    let old = g.S.RowStore.contents c.args.store.now in
-    let mid = g.S.RowStore.contents c.loop-at.store in
-    no_memory g.S.RowStore.honest g.S.RowStore.contents g.S.RowStore.failed g.S.RowStore.may_leave g.S.RowStore.misreads _ c.args.store.now c.entry_at.new.store _
-    c.from_residual-in_err-push-in-Ok.ensures.1
-    (then_well g.S.RowStore.honest g.S.RowStore.contents g.S.RowStore.failed g.S.RowStore.may_leave g.S.RowStore.misreads _ _ _ c.args.store.now c.loop-at.store c.entry_at.new.store
-    (λ some. some)
-    (λ honest some. one_there c.args.catalog.now old mid c.args.first c.args.count c.loop-at.at (c.loop-at.invariant.read.same honest) (omega (arith, c.loop-at-test.true)) some)
-    c.loop-at.invariant.read
-    (went_well g.S.RowStore.honest g.S.RowStore.contents g.S.RowStore.failed g.S.RowStore.may_leave g.S.RowStore.misreads _ _ _ _ _ c.in-Ok.ensures.reads))
 
 pub returns-in-Err-clause-reads : goal.returns-in-Err-clause-reads
 returns-in-Err-clause-reads g c =
-    let old = g.S.RowStore.contents c.args.store.now in
-    let mid = g.S.RowStore.contents c.loop-at.store in
-    then_reads_failed g.S.RowStore.honest g.S.RowStore.contents g.S.RowStore.failed g.S.RowStore.may_leave g.S.RowStore.misreads Device c.in-Err.fault _ _ _ c.args.store.now c.loop-at.store c.entry_at.new.store
-    (λ some. some)
-    (λ honest some. one_there c.args.catalog.now old mid c.args.first c.args.count c.loop-at.at (c.loop-at.invariant.read.same honest) (omega (arith, c.loop-at-test.true)) some)
-    c.loop-at.invariant.read
-    c.in-Err.ensures.reads
+    read_failed g.S.RowStore.honest g.S.RowStore.contents g.S.RowStore.failed g.S.RowStore.may_leave g.S.RowStore.misreads _ _ (has_range c.args.catalog.now (g.S.RowStore.contents c.args.store.now) c.args.first c.args.count) c.args.store.now c.stored_from.new.store c.in-Err.fault c.in-Err.ensures.reads
 
-pub loop-at-preserved : goal.loop-at-preserved
-loop-at-preserved g c =
-    let old = g.S.RowStore.contents c.args.store.now in
-    let mid = g.S.RowStore.contents c.loop-at.store in
-    record {
-      read = then_well g.S.RowStore.honest g.S.RowStore.contents g.S.RowStore.failed g.S.RowStore.may_leave g.S.RowStore.misreads _ _ _ c.args.store.now c.loop-at.store c.entry_at.new.store
-          (λ some. some)
-          (λ honest some. one_there c.args.catalog.now old mid c.args.first c.args.count c.loop-at.at (c.loop-at.invariant.read.same honest) (omega (arith, c.loop-at-test.true)) some)
-          c.loop-at.invariant.read
-          (went_well g.S.RowStore.honest g.S.RowStore.contents g.S.RowStore.failed g.S.RowStore.may_leave g.S.RowStore.misreads _ _ _ _ _ c.in-Ok.ensures.reads);
-      found = λ honest log shows within.
-          let was = c.in-Ok.ensures.reads.was_honest honest in
-          let still = subst (λ (left : Contents). ShowsLog c.args.catalog.now left log) (sym (c.loop-at.invariant.read.same was)) shows in
-          let is = c.in-Ok.ensures.found honest log still (omega (arith, c.loop-at-test.true, within)) in
-          found_more c.args.first c.loop-at.at log c.loop-at.entries.items c.push.new.self.items c.in-Ok.entry is (c.loop-at.invariant.found was log shows within) c.in_ok-push-in-Ok.ensures.items;
-    }
+pub returns-in-Ok-read_each-clause-reads : goal.returns-in-Ok-read_each-clause-reads
+returns-in-Ok-read_each-clause-reads g c =
+    read_well g.S.RowStore.honest g.S.RowStore.contents g.S.RowStore.failed g.S.RowStore.may_leave g.S.RowStore.misreads _ _ (has_range c.args.catalog.now (g.S.RowStore.contents c.args.store.now) c.args.first c.args.count) c.args.store.now c.stored_from.new.store c.in-Ok.stored c.in-Ok-read_each.entries c.in-Ok.ensures.reads
+
+pub returns-in-Ok-read_each-clause-found : goal.returns-in-Ok-read_each-clause-found
+returns-in-Ok-read_each-clause-found g c = λ honest log shows within.
+    let entries = take c.args.count (drop c.args.first log) in
+    c.in-Ok-read_each.ensures.read entries
+    (subst (λ (items : List LogItem). AreStoredAs c.args.catalog.now items entries) (sym (ap items_of c.as_slice.ensures.value ∙ c.in-Ok.ensures.found honest)) (are_stored c.args.catalog.now (g.S.RowStore.contents c.args.store.now) log shows c.args.first c.args.count within))
+
+pub returns-in-Err-NoBody-clause-reads : goal.returns-in-Err-NoBody-clause-reads
+returns-in-Err-NoBody-clause-reads g c =
+    misread_told g.S.RowStore.honest g.S.RowStore.contents g.S.RowStore.failed g.S.RowStore.may_leave g.S.RowStore.misreads c.misread.result _ _ c.args.store.now c.stored_from.new.store c.misread.new.self c.in-Ok.stored
+    (λ honest (some : ShowsEntries c.args.catalog.now (g.S.RowStore.contents c.args.store.now) c.args.first c.args.count).
+    let entries = take c.args.count (drop c.args.first some.0) in
+    c.in-Err-NoBody.ensures.unread entries
+    (subst (λ (items : List LogItem). AreStoredAs c.args.catalog.now items entries) (sym (ap items_of c.as_slice.ensures.value ∙ c.in-Ok.ensures.found honest)) (are_stored c.args.catalog.now (g.S.RowStore.contents c.args.store.now) some.0 some.1 c.args.first c.args.count some.2))
+    (ap (λ (fault : BodyFault). Err fault) c.in-Err-NoBody.field-0-is))
+    c.in-Ok.ensures.reads c.misread.ensures.counted
+
+pub returns-clause-reads : goal.returns-clause-reads
+returns-clause-reads g c =
+    no_memory g.S.RowStore.honest g.S.RowStore.contents g.S.RowStore.failed g.S.RowStore.may_leave g.S.RowStore.misreads _ _ (has_range c.args.catalog.now (g.S.RowStore.contents c.args.store.now) c.args.first c.args.count) c.args.store.now c.stored_from.new.store c.in-Ok.stored c.in-Ok.ensures.reads

@@ -1,40 +1,42 @@
-use Rattle.std.proofs.Common.{◌+◌, ◌∙◌, arith}
-use Rattle.cs_pending.specs.Storing.{then_reads_failed, then_well, went_well}
-use Rattle.cs_store.specs.declared.fault.StoreFault.TheVariants.{Device}
+use Rattle.std.proofs.Common.{ap, drop, map, subst, sym, take, ◌∙◌, List}
+use Rattle.cs_log.specs.declared.entry.LogEntry.{LogEntry}
+use Rattle.cs_pending.specs.Storing.{misread_told}
+use Rattle.cs_store.specs.Contents.{LogItem}
+use Rattle.cs_store.specs.Written.{items_of}
+use Rattle.cs_log_reading.specs.Reading.{ShowsEntries}
+use Rattle.cs_log_reading.specs.Steps.{AreStoredAs}
 use Rattle.cs_wire.specs.Told.{told_entry}
-use Rattle.cs_log_reading.proofs.Found.{all_told, can_tell, there_at, told_as, told_more}
+use Rattle.cs_log_reading.proofs.Found.{all_told, are_stored, are_told, has_range, no_memory, read_failed, read_well}
 use Rattle.cs_log_reading.proofs.telling.entries_told.Goals as goal
 
 pub returns-in-Err-clause-reads : goal.returns-in-Err-clause-reads
 returns-in-Err-clause-reads g c =
-    let old = g.S.RowStore.contents c.args.store.now in
-    let mid = g.S.RowStore.contents c.loop-at.store in
-    then_reads_failed g.S.RowStore.honest g.S.RowStore.contents g.S.RowStore.failed g.S.RowStore.may_leave g.S.RowStore.misreads Device c.in-Err.fault _ _ _ c.args.store.now c.loop-at.store c.put_entry_at.new.store
-    (λ some. some)
-    (λ honest some. can_tell c.args.catalog.now old mid c.args.first c.args.count c.loop-at.at (c.loop-at.invariant.read.same honest) (omega (arith, c.loop-at-test.true)) some)
-    c.loop-at.invariant.read
-    c.in-Err.ensures.reads
+    read_failed g.S.RowStore.honest g.S.RowStore.contents g.S.RowStore.failed g.S.RowStore.may_leave g.S.RowStore.misreads _ _ (has_range c.args.catalog.now (g.S.RowStore.contents c.args.store.now) c.args.first c.args.count) c.args.store.now c.stored_from.new.store c.in-Err.fault c.in-Err.ensures.reads
 
-pub loop-at-preserved : goal.loop-at-preserved
-loop-at-preserved g c =
-    let old = g.S.RowStore.contents c.args.store.now in
-    let mid = g.S.RowStore.contents c.loop-at.store in
-    let first = c.args.first in
-    let at = c.loop-at.at in
-    record {
-      read = then_well g.S.RowStore.honest g.S.RowStore.contents g.S.RowStore.failed g.S.RowStore.may_leave g.S.RowStore.misreads _ _ _ c.args.store.now c.loop-at.store c.put_entry_at.new.store
-          (λ some. some)
-          (λ honest some. can_tell c.args.catalog.now old mid first c.args.count at (c.loop-at.invariant.read.same honest) (omega (arith, c.loop-at-test.true)) some)
-          c.loop-at.invariant.read
-          (went_well g.S.RowStore.honest g.S.RowStore.contents g.S.RowStore.failed g.S.RowStore.may_leave g.S.RowStore.misreads _ _ _ _ _ c.in-Ok.ensures.reads);
-      told = λ honest log shows within.
-          let was = c.in-Ok.ensures.reads.was_honest honest in
-          let there = there_at log (first + at) (omega (arith, c.loop-at-test.true, within)) in
-          let is = c.in-Ok.ensures.told honest (told_entry there.0) (told_as c.args.catalog.now old mid (c.loop-at.invariant.read.same was) log shows (first + at) there.0 there.1) in
-          told_more first c.args.count at log c.loop-at.answer.items c.put_entry_at.new.out.items there.0 there.1 (c.loop-at.invariant.told was log shows within) is;
-    }
+pub returns-in-Ok-true-clause-reads : goal.returns-in-Ok-true-clause-reads
+returns-in-Ok-true-clause-reads g c =
+    read_well g.S.RowStore.honest g.S.RowStore.contents g.S.RowStore.failed g.S.RowStore.may_leave g.S.RowStore.misreads _ _ (has_range c.args.catalog.now (g.S.RowStore.contents c.args.store.now) c.args.first c.args.count) c.args.store.now c.stored_from.new.store c.in-Ok.stored c.put_each.new.out c.in-Ok.ensures.reads
 
-pub returns-clause-told : goal.returns-clause-told
-returns-clause-told g c = λ honest log shows within.
-    c.loop-at.invariant.told honest log shows within
-    ∙ all_told c.args.first c.args.count c.loop-at.at log (omega (arith, c.loop-at-test.false, c.loop-at.auto.at-end)) within
+pub returns-in-Ok-true-clause-told : goal.returns-in-Ok-true-clause-told
+returns-in-Ok-true-clause-told g c = λ honest log shows within.
+    let entries = take c.args.count (drop c.args.first log) in
+    let stored = subst (λ (items : List LogItem). AreStoredAs c.args.catalog.now items entries) (sym (ap items_of c.as_slice.ensures.value ∙ c.in-Ok.ensures.found honest))
+    (are_stored c.args.catalog.now (g.S.RowStore.contents c.args.store.now) log shows c.args.first c.args.count within) in
+    let put = c.in-Ok-true.ensures (map told_entry entries) (are_told c.args.catalog.now (items_of c.as_slice.result.now) entries stored) in
+    all_told c.args.first c.args.count log c.in_ok-answer.answer.items c.put_each.new.out.items within c.in_ok-answer.ensures put.1
+
+pub returns-in-Ok-false-clause-reads : goal.returns-in-Ok-false-clause-reads
+returns-in-Ok-false-clause-reads g c =
+    misread_told g.S.RowStore.honest g.S.RowStore.contents g.S.RowStore.failed g.S.RowStore.may_leave g.S.RowStore.misreads c.misread.result _ _ c.args.store.now c.stored_from.new.store c.misread.new.self c.in-Ok.stored
+    (λ honest (some : ShowsEntries c.args.catalog.now (g.S.RowStore.contents c.args.store.now) c.args.first c.args.count).
+    let log : List LogEntry = some.0 in
+    let entries = take c.args.count (drop c.args.first log) in
+    let stored = subst (λ (items : List LogItem). AreStoredAs c.args.catalog.now items entries) (sym (ap items_of c.as_slice.ensures.value ∙ c.in-Ok.ensures.found honest))
+    (are_stored c.args.catalog.now (g.S.RowStore.contents c.args.store.now) log some.1 c.args.first c.args.count some.2) in
+    let put = c.in-Ok-false.ensures (map told_entry entries) (are_told c.args.catalog.now (items_of c.as_slice.result.now) entries stored) in
+    (let no = put.0 in cc))
+    c.in-Ok.ensures.reads c.misread.ensures.counted
+
+pub returns-in-Err-put_each-clause-reads : goal.returns-in-Err-put_each-clause-reads
+returns-in-Err-put_each-clause-reads g c =
+    no_memory g.S.RowStore.honest g.S.RowStore.contents g.S.RowStore.failed g.S.RowStore.may_leave g.S.RowStore.misreads _ _ (has_range c.args.catalog.now (g.S.RowStore.contents c.args.store.now) c.args.first c.args.count) c.args.store.now c.stored_from.new.store c.in-Ok.stored c.in-Ok.ensures.reads

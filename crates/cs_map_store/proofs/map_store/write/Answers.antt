@@ -15,7 +15,6 @@ returns-clause-ok c =
 
 pub returns-clause-kept : goal.returns-clause-kept
 returns-clause-kept c = record {
-  bound = c.write_rest.ensures.bound;
   filled = c.write_rest.ensures.filled;
   names = c.write_rest.ensures.names c.requires.names;
 }

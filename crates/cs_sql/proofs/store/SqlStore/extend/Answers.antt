@@ -9,4 +9,4 @@ use Rattle.cs_sql.proofs.store.SqlStore.extend.Goals as goal
 pub returns-in-Ok-clause-made : goal.returns-in-Ok-clause-made
 returns-in-Ok-clause-made g c = subst (λ s. HasCleanDisk (state g.A.Store s.conn) → IsFresh g.A.Store s (front_in (state g.A.Store c.args.conn).now.trees)) (sym c.over.ensures) (λ clean.
     let done = c.in-Ok.ensures.ok clean in
-    completed_fresh g.A.Store (state g.A.Store c.args.conn) c.complete.new.conn c.args.entries done (λ db left. g.met.A.Store.settled c.complete.new.conn.store db done.is_open left))
+    completed_fresh g.A.Store (state g.A.Store c.args.conn) c.complete.new.conn c.args.log done (λ db left. g.met.A.Store.settled c.complete.new.conn.store db done.is_open left))
