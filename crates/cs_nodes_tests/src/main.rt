@@ -19,5 +19,7 @@ mod nodes;
 mod planned;
 #[cfg(test)]
 mod threads;
+#[cfg(test)]
+mod undefined;
 
 fn main() {}
