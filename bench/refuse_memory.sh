@@ -102,3 +102,7 @@ refuse_tool "$out/changesets" show changeset
 printf '%s\n' 54020100743100120001000000000000000103027631 54020100743100120001000000000000000103027632 > "$out/rebased_lines"
 refuse_tool "$out/rebased_lines" rebase
 refuse_tool "$out/rebased_lines" rebase --sqlite
+
+# The same blob, shown.
+sed -n 2p "$out/rebased_lines" > "$out/blobs"
+refuse_tool "$out/blobs" show blob
