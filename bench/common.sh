@@ -128,7 +128,8 @@ copy_crates() {
 # Proves and builds the Rattle program NAME.rattle of this folder, with rows.rattle where that is a module of it. It uses these crates
 # and libraries of the kit: build_rattle NAME USED ... It is made over copies of them and of all crates below, in a repository of its
 # own outside this one, since the gate takes no source that is no crate's. A crate is copied with what its proof left: behind `rt check`
-# or `rt lib` it isn't proved again; what `rt ci` leaves isn't taken.
+# or `rt lib` it isn't proved again; what `rt ci` leaves isn't taken. The invariants of its loops stand in NAME.invariants, each behind a
+# line `== FUNCTION`.
 build_rattle() {
     local name="$1" work
     shift
@@ -139,6 +140,9 @@ build_rattle() {
     echo "$name: $*" >> "$work/crates.txt"
     cp "$bench/$name.rattle" "$work/crates/$name/src/main.rt"
     ! grep -q '^mod rows;' "$bench/$name.rattle" || cp "$bench/rows.rattle" "$work/crates/$name/src/rows.rt"
+    [ ! -f "$bench/$name.invariants" ] || awk -v proofs="$work/crates/$name/proofs" '
+        /^== / { into = proofs "/" $2; system("mkdir -p " into); into = into "/Invariants.antt"; next }
+        { print > into }' "$bench/$name.invariants"
     : > "$work/crates/$name/stdin"
     if (cd "$work/crates/$name" && rt run > "$out/${name}_build.log" 2>&1); then
         cp "$work/crates/$name/out/$name" "$out/$name"

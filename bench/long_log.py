@@ -1,6 +1,6 @@
-"""Times a hub whose log gets long: see long_log.sh. Usage: long_log.py PROGRAM LENGTH.. [--file FILE]
+"""Times a hub whose log gets long: see long_log.sh. Usage: long_log.py PROGRAM TEXT LENGTH.. [--file FILE]
 
-Fills a hub of t1(a key, b) by pushes of one row each, and times at each length the last thousand pushes, and two hundred pulls of ten
+TEXT is how many bytes the text of each row has, at most 127. Fills a hub of t1(a key, b) by pushes of one row each, and times at each length the last thousand pushes, and two hundred pulls of ten
 entries at drawn places of the log, in blocks of fifty; the least block counts. It prints a line a length, and at the end the memory
 of the hub and the bytes of its rows and entries.
 """
@@ -14,13 +14,14 @@ import time
 BLOCK = 50
 PUSHES = 1000
 PULLS = 200
-# A row (an integer and a text of two bytes) with its key, and the entry that inserts it.
-ROW, ENTRY = 13 + 9, 22
+# What a row and an entry have beside the text: a row's key and its values; the header of a changeset, and the change.
+KEY, VALUES, CHANGE = 9, 11, 20
 
 
-def push(number):
+def push(number, text):
     """The push of a row of its own onto a log of so many entries."""
-    return b"0100000007%016x%016x00000016540201007431001200" % (number + 1, number) + b"01%016x03027631\n" % number
+    head = b"0100000007%016x%016x%08x540201007431001200" % (number + 1, number, CHANGE + text)
+    return head + b"01%016x03%02x" % (number, text) + b"76" * text + b"\n"
 
 
 def pull(first):
@@ -57,7 +58,7 @@ def main(words):
     if "--file" in words:
         file = words[words.index("--file"):]
         words = words[:words.index("--file")]
-    program, lengths = words[0], [int(word) for word in words[1:]]
+    program, text, lengths = words[0], int(words[1]), [int(word) for word in words[2:]]
     hub = Hub(program, file)
     empty = hub.memory()
     draw = random.Random(7)
@@ -65,7 +66,7 @@ def main(words):
     for length in lengths:
         pushes, pulls = [], []
         while count < length:
-            took = hub.ask([push(number) for number in range(count, count + BLOCK)], b"11")
+            took = hub.ask([push(number, text) for number in range(count, count + BLOCK)], b"11")
             count += BLOCK
             if count > length - PUSHES:
                 pushes.append(took)
@@ -77,8 +78,9 @@ def main(words):
               % (length, *found, found[0] / first[0], found[1] / first[1]), flush=True)
     if not file:
         taken = hub.memory() - empty
-        print("memory of %d entries of one row: %d bytes each, %.2f of the bytes of rows and entries"
-              % (count, taken / count, taken / count / (ROW + ENTRY)))
+        held = KEY + VALUES + text + CHANGE + text
+        print("memory of %d entries of one row with a text of %d bytes: %d bytes each, %.2f of the bytes of rows and entries"
+              % (count, text, taken / count, taken / count / held))
     hub.close()
 
 
