@@ -15,7 +15,7 @@ use Rattle.cs_position.specs.declared.position.Position.{Position}
 use Rattle.cs_taking.specs.Takes.{taken}
 use Rattle.cs_wire.specs.Entries.{ToldEntry}
 use Rattle.cs_pulling.specs.Calls.{WritesInTurn}
-use Rattle.cs_pulling.specs.Listed.{Ends, EndsThere, IsAmong, IsToldAt, PullsList, PullsMany, TakesAll, TellsDevice, count_of}
+use Rattle.cs_pulling.specs.Listed.{Ends, EndsThere, IsAmong, IsNextOf, IsToldAt, PullsList, PullsMany, TakesAll, TellsDevice, count_of}
 use Rattle.cs_pulling.specs.Pulls.{IsBad, IsPullFault, PullsOne}
 use Rattle.cs_pulling.specs.Steps.{EndsAt, IsToldFault, IsToldPulled}
 use Rattle.cs_pulling.specs.Told.{IsReadAs}
@@ -81,7 +81,7 @@ module _ {P : Type 0} (picks : P → Clash → Wish → P → Type 0) (tables : 
     pub seen : honest now → (before : View) → ShowsAt tables (contents old) begun before
         → (here : View) × PullsMany picks tables first entries count begun before p position here q × ShowsAt tables (contents now) position here
     pub turn : WritesInTurn honest contents failed may_leave misreads (Unit {0}) ⊥ (ShowsSomeAt tables begun (contents old))
-        (IsAmong picks tables first entries begun (contents old) p) old now
+        (IsAmong picks tables first entries begun (contents old) p) (IsNextOf picks tables first entries position (contents now)) old now
 
   -- before the first
   pub begins : {S : Type 0} (honest : S → Type 0) (contents : S → Contents) (failed : S → ℕ) (may_leave : S → Contents → Type 0) (misreads : S → ℕ) (begun : Position) (old : S) (p : P) (rest : List ToldEntry)
@@ -96,7 +96,7 @@ module _ {P : Type 0} (picks : P → Clash → Wish → P → Type 0) (tables : 
     seen = λ h before shows. (before, (refl, refl, refl), shows);
     turn = record {
       was_honest = λ h. h;
-      durable = λ h finished left may. inr (may, refl);
+      durable = λ h left may. inr (inl (may, refl));
       crash = λ h left may. inl may;
       kept = λ finished. refl;
       later = omega arith;
@@ -159,6 +159,17 @@ module _ {P : Type 0} (picks : P → Clash → Wish → P → Type 0) (tables : 
         let after = pulled here.0 here.2 in
         (count, taken position (len left.pending), after.0, next, pulls_more count begun before p position here.0 q here.1 told entry (len left.pending) left after.0 next (told_there told others is same) read after.2 after.1, after.1)
 
+    -- or its commit, where that failed
+    next_of : (told : ToldEntry) (others : List ToldEntry) → rest ≡ told ∷ others → index ≡ position.version → (next : P) (left : Contents)
+        → IsToldPulled picks tables position told q next (contents mid) left → IsNextOf picks tables first entries position (contents mid) left
+    unfolding PullsMany
+    next_of told others is same next left (entry, read, pulled) = (
+      q,
+      λ view shows.
+          let after = pulled view shows in
+          (taken position (len left.pending), after.0, next, pulls_more 0 position view q position view q (refl, refl, refl) told entry (len left.pending) left after.0 next (told_there told others is same) read after.2 after.1, after.1),
+    )
+
     -- one is pulled
     pub pulled_on : (told : ToldEntry) (others left : List ToldEntry) → rest ≡ told ∷ others → others ≡ left → index ≡ position.version → (done : Unit {0}) (other : Position) (new : S) (next : P)
         → WritesStore honest contents failed may_leave misreads Device (ShowsSomeAt tables position (contents mid)) (IsToldPulled picks tables position told q next (contents mid)) mid new (Ok done)
@@ -187,7 +198,7 @@ module _ {P : Type 0} (picks : P → Clash → Wish → P → Type 0) (tables : 
           );
       turn = record {
         was_honest = λ h. walked.turn.was_honest (writes.was_honest h);
-        durable = λ h finished left may. twice (writes.was_honest h) left (writes.durable h left may);
+        durable = λ h left may. twice (writes.was_honest h) left (writes.durable h left may);
         crash = λ h left may. either (writes.was_honest h) left (writes.crash h left may);
         kept = λ finished. writes.kept ∙ walked.turn.kept tt;
         later = omega (arith, walked.turn.later, writes.later);
@@ -197,13 +208,14 @@ module _ {P : Type 0} (picks : P → Clash → Wish → P → Type 0) (tables : 
     }
       where
         twice : honest mid → (left : Contents) → (left ≡ contents new) ⊎ (may_leave mid left × (contents new ≡ contents mid))
-            → (left ≡ contents new) ⊎ (may_leave old left × (contents new ≡ contents old))
+            → (left ≡ contents new) ⊎ ((may_leave old left × (contents new ≡ contents old)) ⊎ ((Unit {0} → ⊥) × IsNextOf picks tables first entries other (contents new) left))
         twice h left (inl now) = inl now
-        twice h left (inr (may, kept)) = before_that (walked.turn.durable h tt left may)
-          where
-            before_that : (left ≡ contents mid) ⊎ (may_leave old left × (contents mid ≡ contents old)) → (left ≡ contents new) ⊎ (may_leave old left × (contents new ≡ contents old))
-            before_that (inl e) = inl (e ∙ sym kept)
-            before_that (inr (m, k)) = inr (m, kept ∙ k)
+        twice h left (inr (may, kept)) =
+            elim (walked.turn.durable h left may) [
+              | inl now ↦ inl (now ∙ sym kept)
+              | inr (inl (may_old, stays)) ↦ inr (inl (may_old, kept ∙ stays))
+              | inr (inr (undone, next_one)) ↦ absurd (undone tt)
+            ]
 
         either : honest mid → (left : Contents) → may_leave mid left ⊎ IsToldPulled picks tables position told q next (contents mid) left
             → may_leave old left ⊎ IsAmong picks tables first entries begun (contents old) p left
@@ -282,10 +294,10 @@ module _ {P S : Type 0} (picks : P → Clash → Wish → P → Type 0) (tables 
 
   pub stopped_turn : fault ≢ Behind → fault ≢ Gap
       → WritesInTurn honest contents failed may_leave misreads (TakesAll result) (TellsDevice result) (ShowsSomeAt tables begun (contents old))
-      (IsAmong picks tables first entries begun (contents old) p) old new
+      (IsAmong picks tables first entries begun (contents old) p) (IsNextOf picks tables first entries position (contents new)) old new
   stopped_turn behind gap = record {
     was_honest = λ h. walked.turn.was_honest (writes.was_honest h);
-    durable = λ h finished left may. absurd (unfinished fault count result behind gap ended finished);
+    durable = λ h left may. third h left (writes.crash h left may);
     crash = λ h left may. either (writes.was_honest h) left (writes.crash h left may);
     kept = λ finished. absurd (unfinished fault count result behind gap ended finished);
     later = omega (arith, walked.turn.later, writes.later);
@@ -299,3 +311,18 @@ module _ {P S : Type 0} (picks : P → Clash → Wish → P → Type 0) (tables 
           → may_leave old left ⊎ IsAmong picks tables first entries begun (contents old) p left
       either h left (inl may) = walked.turn.crash h left may
       either h left (inr one) = inr (left_among picks tables first entries honest contents failed may_leave misreads begun old p count index rest position mid q walked told others is same next left h one)
+
+      third : honest new → (left : Contents) → may_leave mid left ⊎ IsToldPulled picks tables position told q next (contents mid) left
+          → (left ≡ contents new) ⊎ ((may_leave old left × (contents new ≡ contents old)) ⊎ ((TakesAll result → ⊥) × IsNextOf picks tables first entries position (contents new) left))
+      third h left (inl may) =
+          elim (walked.turn.durable (writes.was_honest h) left may) [
+            | inl now ↦ inl (now ∙ sym (writes.err h))
+            | inr (inl (may_old, stays)) ↦ inr (inl (may_old, writes.err h ∙ stays))
+            | inr (inr (undone, next_one)) ↦ absurd (undone tt)
+          ]
+      third h left (inr one) =
+          inr (inr (
+            unfinished fault count result behind gap ended,
+            subst (λ (c : Contents). IsNextOf picks tables first entries position c left) (sym (writes.err h))
+                (next_of picks tables first entries honest contents failed may_leave misreads begun old p count index rest position mid q walked told others is same next left one),
+          ))

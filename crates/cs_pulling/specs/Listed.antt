@@ -77,6 +77,16 @@ module _ {P : Type 0} (picks : P → Clash → Wish → P → Type 0) (tables : 
       (end : View) × (between : P) × PullsMany (count_of result) position before p other end between
       × ShowsAt tables new other end × Ends result other end between q
 
+  -- contents in which one entry more was pulled
+  abbrev pub IsOneMoreIn : Position → Contents → P → Contents → Type 0
+  IsOneMoreIn position now p left =
+      (view : View) → ShowsAt tables now position view
+      → (other : Position) × (end : View) × (q : P) × PullsMany 1 position view p other end q × ShowsAt tables left other end
+
+  -- contents that one commit more would have left
+  abbrev pub IsNextOf : Position → Contents → Contents → Type 0
+  IsNextOf position now left = (p : P) × IsOneMoreIn position now p left
+
   -- contents that stood after one of the commits: some of the entries were pulled, but for the count of what is pending
   abbrev pub IsAmong : Position → Contents → P → Contents → Type 0
   IsAmong position old p left =

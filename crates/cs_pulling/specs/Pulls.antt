@@ -43,6 +43,10 @@ module _ {P : Type 0} (picks : P → Clash → Wish → P → Type 0) where
       (before : View) → ShowsAt tables old position before
       → (after : View) × ShowsAt tables new (taken position (len new.pending)) after × PullsOne tables position entry before p after q
 
+  -- contents in which the entry that is told at an index was: it is the one at the version
+  abbrev pub IsPulledAt : List TableDef → Position → ℕ → LogEntry → P → P → Contents → Contents → Type 0
+  IsPulledAt tables position index entry p q old new = (index ≡ position.version) × IsPulledIn tables position entry p q old new
+
   -- the picker stops at this conflict of another's entry
   pub record StopsPull (tables : List TableDef) (position : Position) (entry : LogEntry) (view : View) (p : P) (conflict : _) (q : P) : Type 0 where
     pub room : position.version < 2 ^ 64 - 1

@@ -7,7 +7,7 @@ ghost use Rattle.cs_pending.specs.View.{View};
 ghost use Rattle.cs_position.specs.Shows.{ShowsAt, ShowsSomeAt};
 ghost use Rattle.cs_taking.specs.Takes.{taken};
 ghost use Rattle.cs_pulling.specs.Calls.{WritesInTurn};
-ghost use Rattle.cs_pulling.specs.Listed.{IsAmong, PullsList, TakesAll, TellsDevice};
+ghost use Rattle.cs_pulling.specs.Listed.{IsAmong, IsNextOf, PullsList, TakesAll, TellsDevice};
 ghost use Rattle.cs_pulling.specs.Steps.{EndsAt, IsToldFault, IsToldPulled};
 ghost use Rattle.cs_pulling.specs.declared.fault.PullFault.TheVariants.{Behind, Gap, Device};
 
@@ -105,7 +105,8 @@ pub fn take_entries<S: RowStore, P: Picker>(
     // Each in a commit of its own.
     ensures writes { WritesInTurn S.honest S.contents S.failed S.may_leave S.misreads (TakesAll result) (TellsDevice result)
         (ShowsSomeAt catalog.now position.old (S.contents store.old))
-        (IsAmong P.picks catalog.now first entries.now position.old (S.contents store.old) picker.old) store.old store.new }
+        (IsAmong P.picks catalog.now first entries.now position.old (S.contents store.old) picker.old)
+        (IsNextOf P.picks catalog.now first entries.now position.new (S.contents store.new)) store.old store.new }
 {
     let mut count = 0;
     let mut index = first;

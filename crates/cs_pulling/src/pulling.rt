@@ -7,7 +7,7 @@ ghost use Rattle.cs_pending.specs.Calls.{WritesStore};
 ghost use Rattle.cs_pending.specs.View.{View};
 ghost use Rattle.cs_position.specs.Shows.{ShowsAt, ShowsSomeAt};
 ghost use Rattle.cs_taking.specs.Takes.{taken};
-ghost use Rattle.cs_pulling.specs.Pulls.{IsOwn, IsPullFault, IsPulledIn};
+ghost use Rattle.cs_pulling.specs.Pulls.{IsOwn, IsPullFault, IsPulledAt, IsPulledIn};
 ghost use Rattle.cs_pulling.specs.declared.fault.PullFault.TheVariants.{Behind, Gap, Device};
 
 use crate::fault::PullFault;
@@ -111,7 +111,7 @@ pub fn take_entry<S: RowStore, P: Picker>(
     // The entry was pulled, in one commit, or nothing has changed.
     ensures writes { WritesStore S.honest S.contents S.failed S.may_leave S.misreads Device
         (ShowsSomeAt catalog.now position.old (S.contents store.old))
-        (IsPulledIn P.picks catalog.now position.old entry.now picker.old picker.new (S.contents store.old)) store.old store.new result }
+        (IsPulledAt P.picks catalog.now position.old index entry.now picker.old picker.new (S.contents store.old)) store.old store.new result }
 
     // It was the one at the position's version, and the position is behind it.
     ensures next { OnOk result ((index ≡ position.old.version) × (position.old.version < 2 ^ 64 - 1)) }

@@ -7,20 +7,20 @@ use Rattle.cs_conflict.specs.declared.wish.Wish.{Wish}
 use Rattle.cs_pending.specs.View.{View}
 use Rattle.cs_position.specs.declared.position.Position.{Position}
 use Rattle.cs_pulling.specs.Calls.{WritesInTurn}
-use Rattle.cs_pulling.specs.Listed.{IsAmong, PullsList}
+use Rattle.cs_pulling.specs.Listed.{IsAmong, IsNextOf, PullsList}
 use Rattle.cs_pulling.specs.declared.fault.AnswerFault.{AnswerFault}
 use Rattle.cs_pulling.specs.declared.listing.Pulled.{Pulled}
 use Rattle.cs_wire.specs.Entries.{ToldEntry}
 use Rattle.cs_wire.specs.declared.answer.Answer.{Answer}
 use Rattle.cs_wire.specs.declared.answer.Answer.TheVariants.{Entries}
-use Rattle.cs_replica.specs.Answered.{Answers, IsAnsweredAmong, told_of}
+use Rattle.cs_replica.specs.Answered.{Answers, IsAnsweredAmong, IsAnsweredNext, told_of}
 
 module _ {P S : Type 0} (picks : P → Clash → Wish → P → Type 0) (honest : S → Type 0) (contents : S → Contents) (failed : S → ℕ) (may_leave : S → Contents → Type 0) (misreads : S → ℕ)
     (tables : List TableDef) (answer : Answer) (first : ℕ) (entries : List ToldEntry) (is : answer ≡ Entries first entries) (position : Position) (old new : S) (p : P) where
-  pub entries_write : (finished device readable : Type 0) → WritesInTurn honest contents failed may_leave misreads finished device readable (IsAmong picks tables first entries position (contents old) p) old new
-      → WritesInTurn honest contents failed may_leave misreads finished device readable (IsAnsweredAmong picks tables answer position (contents old) p) old new
-  entries_write finished device readable writes =
-      subst (λ (a : Answer). WritesInTurn honest contents failed may_leave misreads finished device readable (IsAnsweredAmong picks tables a position (contents old) p) old new) (sym is) writes
+  pub entries_write : (finished device readable : Type 0) (other : Position) → WritesInTurn honest contents failed may_leave misreads finished device readable (IsAmong picks tables first entries position (contents old) p) (IsNextOf picks tables first entries other (contents new)) old new
+      → WritesInTurn honest contents failed may_leave misreads finished device readable (IsAnsweredAmong picks tables answer position (contents old) p) (IsAnsweredNext picks tables answer other (contents new)) old new
+  entries_write finished device readable other writes =
+      subst (λ (a : Answer). WritesInTurn honest contents failed may_leave misreads finished device readable (IsAnsweredAmong picks tables a position (contents old) p) (IsAnsweredNext picks tables a other (contents new)) old new) (sym is) writes
 
   pub entries_tell : (pulled : Result Pulled AnswerFault) (before : View) (other : Position) (q : P) → PullsList picks tables first entries pulled position before p other (contents new) q
       → Answers picks tables answer (told_of pulled) position before p other (contents new) q

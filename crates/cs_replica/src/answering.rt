@@ -5,7 +5,7 @@ ghost use Rattle.cs_pending.specs.View.{View};
 ghost use Rattle.cs_position.specs.Shows.{ShowsAt, ShowsSomeAt};
 ghost use Rattle.cs_pulling.specs.Calls.{WritesInTurn};
 ghost use Rattle.cs_replica.specs.Accepted.{IsAccepted};
-ghost use Rattle.cs_replica.specs.Answered.{Answers, IsAnsweredAmong, IsDone, SaysDevice, TellsAccepted, KeepsRows};
+ghost use Rattle.cs_replica.specs.Answered.{Answers, IsAnsweredAmong, IsAnsweredNext, IsDone, SaysDevice, TellsAccepted, KeepsRows};
 ghost use Rattle.cs_pulling.specs.cs_pushing.Pushes.{IsConfirmedIn};
 
 use crate::told::Told;
@@ -46,7 +46,8 @@ fn accept_at<S: RowStore>(
         → TellsAccepted origin number version result position.old position.new × ShowsAt catalog.now (S.contents store.new) position.new before }
     ensures writes { WritesInTurn S.honest S.contents S.failed S.may_leave S.misreads (IsDone result) (SaysDevice result)
         (ShowsSomeAt catalog.now position.old (S.contents store.old))
-        (λ left. IsAccepted position.old origin number version × IsConfirmedIn catalog.now position.old (S.contents store.old) left) store.old store.new }
+        (λ left. IsAccepted position.old origin number version × IsConfirmedIn catalog.now position.old (S.contents store.old) left)
+        (λ left. IsAccepted position.new origin number version × IsConfirmedIn catalog.now position.new (S.contents store.new) left) store.old store.new }
 {
     if !is_accepted(position, origin, number, version) {
         return Ok(Told::Ignored);
@@ -74,7 +75,8 @@ pub(crate) fn answer_at<S: RowStore, P: Picker>(
         → Answers P.picks catalog.now answer.now result position.old before picker.old position.new (S.contents store.new) picker.new }
     ensures writes { WritesInTurn S.honest S.contents S.failed S.may_leave S.misreads (IsDone result) (SaysDevice result)
         (ShowsSomeAt catalog.now position.old (S.contents store.old))
-        (IsAnsweredAmong P.picks catalog.now answer.now position.old (S.contents store.old) picker.old) store.old store.new }
+        (IsAnsweredAmong P.picks catalog.now answer.now position.old (S.contents store.old) picker.old)
+        (IsAnsweredNext P.picks catalog.now answer.now position.new (S.contents store.new)) store.old store.new }
 {
     match answer {
         Answer::Short(

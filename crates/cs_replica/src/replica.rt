@@ -18,9 +18,9 @@ ghost use Rattle.cs_pulling.specs.cs_pushing.PushFault.TheVariants as push;
 ghost use Rattle.cs_wire.specs.Requests.{HasShortChangeset, asked_by_owned};
 ghost use Rattle.cs_pulling.specs.cs_taking.Takes.{taken};
 ghost use Rattle.cs_pulling.specs.Calls.{WritesInTurn};
-ghost use Rattle.cs_pulling.specs.Pulls.{IsPullFault, IsPulledIn};
+ghost use Rattle.cs_pulling.specs.Pulls.{IsPullFault, IsPulledAt};
 ghost use Rattle.cs_pulling.specs.declared.fault.PullFault.TheVariants as pull;
-ghost use Rattle.cs_replica.specs.Answered.{Answers, IsAnsweredAmong, IsDone, SaysDevice};
+ghost use Rattle.cs_replica.specs.Answered.{Answers, IsAnsweredAmong, IsAnsweredNext, IsDone, SaysDevice};
 ghost use Rattle.cs_replica.specs.Edited.{IsEditedIn, with_pending};
 ghost use Rattle.cs_replica.specs.Flight.{flight_entry};
 ghost use Rattle.cs_replica.specs.Holding.{Shows};
@@ -349,7 +349,7 @@ impl<S: RowStore> Replica<S> {
 
         // The entry was taken, in one commit, or nothing has changed.
         ensures writes { WritesStore S.honest S.contents S.failed S.may_leave S.misreads pull.Device (ShowsSomeAt self.old.catalog self.old.position (S.contents self.old.store))
-            (IsPulledIn P.picks self.old.catalog self.old.position entry.now picker.old picker.new (S.contents self.old.store)) self.old.store self.new.store result }
+            (IsPulledAt P.picks self.old.catalog self.old.position index entry.now picker.old picker.new (S.contents self.old.store)) self.old.store self.new.store result }
 
         // It was the one at the version, and the replica is behind it.
         ensures next { OnOk result ((index ≡ self.old.position.version) × (self.old.position.version < 2 ^ 64 - 1)) }
@@ -394,7 +394,8 @@ impl<S: RowStore> Replica<S> {
         // In whole commits, one after another.
         ensures writes { WritesInTurn S.honest S.contents S.failed S.may_leave S.misreads (IsDone result) (SaysDevice result)
             (ShowsSomeAt self.old.catalog self.old.position (S.contents self.old.store))
-            (IsAnsweredAmong P.picks self.old.catalog answer.now self.old.position (S.contents self.old.store) picker.old) self.old.store self.new.store }
+            (IsAnsweredAmong P.picks self.old.catalog answer.now self.old.position (S.contents self.old.store) picker.old)
+            (IsAnsweredNext P.picks self.old.catalog answer.now self.new.position (S.contents self.new.store)) self.old.store self.new.store }
         ensures catalog { self.new.catalog ≡ self.old.catalog }
     {
         answer_at(

@@ -1,6 +1,8 @@
 use Rattle.std.proofs.Common.{Err, ap, sym, subst, arith, inl}
+use Rattle.cs_position.specs.Shows.{ShowsSomeAt}
 use Rattle.cs_position.specs.declared.position.Position.{Position}
-use Rattle.cs_pulling.specs.Listed.{PullsList}
+use Rattle.cs_pulling.specs.Calls.{WritesInTurn}
+use Rattle.cs_pulling.specs.Listed.{IsAmong, IsNextOf, PullsList, TakesAll, TellsDevice}
 use Rattle.cs_pulling.proofs.Walk.{begins, end_pulls, left_of, passed, pulled_on, shorter, split_left, stopped_pulls, stopped_turn}
 use Rattle.cs_pulling.proofs.listing.take_entries.Goals as goal
 
@@ -53,11 +55,16 @@ returns-in-Err-clause-pulls g c = λ honest before shows.
 
 pub returns-in-Err-clause-writes : goal.returns-in-Err-clause-writes
 returns-in-Err-clause-writes g c =
-    stopped_turn g.P.Picker.picks c.args.catalog.now c.args.first c.args.entries.now g.S.RowStore.honest g.S.RowStore.contents g.S.RowStore.failed g.S.RowStore.may_leave g.S.RowStore.misreads
+    subst (λ (x : Position). WritesInTurn g.S.RowStore.honest g.S.RowStore.contents g.S.RowStore.failed g.S.RowStore.may_leave g.S.RowStore.misreads (TakesAll c.ended.result) (TellsDevice c.ended.result)
+    (ShowsSomeAt c.args.catalog.now c.args.position.now (g.S.RowStore.contents c.args.store.now))
+    (IsAmong g.P.Picker.picks c.args.catalog.now c.args.first c.args.entries.now c.args.position.now (g.S.RowStore.contents c.args.store.now) c.args.picker.now)
+    (IsNextOf g.P.Picker.picks c.args.catalog.now c.args.first c.args.entries.now x (g.S.RowStore.contents c.pull_told.new.store)) c.args.store.now c.pull_told.new.store)
+    (sym c.in-Err.ensures.kept)
+    (stopped_turn g.P.Picker.picks c.args.catalog.now c.args.first c.args.entries.now g.S.RowStore.honest g.S.RowStore.contents g.S.RowStore.failed g.S.RowStore.may_leave g.S.RowStore.misreads
     c.args.position.now c.args.store.now c.args.picker.now c.loop-next.count c.loop-next.index (left_of c.loop-next.next) c.loop-next.position c.loop-next.store c.loop-next.picker c.loop-next.invariant.1
     c.in-Some.told c.in-Some.others (ap left_of c.in-Some.is) (omega (arith, c.if-index-position.false, c.if-index-position-2.false))
     c.in-Err.fault c.pull_told.new.store c.pull_told.new.picker c.ended.result c.ended.ensures c.in-Err.ensures.writes
-    (λ e. c.in-Err.ensures.behind (ap (λ f. Err f) e)) (λ e. c.in-Err.ensures.gap (ap (λ f. Err f) e))
+    (λ e. c.in-Err.ensures.behind (ap (λ f. Err f) e)) (λ e. c.in-Err.ensures.gap (ap (λ f. Err f) e)))
 
 pub returns-in_default-clause-pulls : goal.returns-in_default-clause-pulls
 returns-in_default-clause-pulls g c =
