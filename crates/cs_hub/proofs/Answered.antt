@@ -19,10 +19,10 @@ use Rattle.cs_wire.specs.declared.fault.WireFault.{WireFault}
 use Rattle.cs_wire.specs.declared.push_head.PushHead.{PushHead}
 use Rattle.cs_wire.specs.declared.request.Request.{Request}
 use Rattle.cs_wire.specs.declared.short_answer.ShortAnswer.{ShortAnswer}
-use Rattle.cs_hub.specs.Calls.{AnswersHub, ServesStore, StaysHub}
+use Rattle.cs_hub.specs.Calls.{AnswersHub, IsServedIn, ServesStore, StaysHub}
 use Rattle.cs_hub.specs.Holding.{Holding}
 use Rattle.cs_hub.specs.Serves.{Outcome, push_answer, refused}
-use Rattle.cs_hub.specs.Steps.{IsAnsweredOf, IsTakenOf, TellsOutcome}
+use Rattle.cs_hub.specs.Steps.{IsAnsweredOf, IsAskedIn, IsTakenOf, TellsOutcome}
 use Rattle.cs_hub.specs.declared.refusal.Refusal.TheVariants.{ByHub, Memory, NoChangeset, NoForm, NoRequest}
 
 -- so many entries, cut where the log ends
@@ -81,13 +81,23 @@ told device_failed limit opening log contents count head changeset outcome answe
 
 -- ---- a request
 
+-- contents in which what it asks was answered are those in which it was served
+pub served_in : (limit : ℕ) (opening : List TableDef) (request : List ℕ) (asked : Result Asked WireFault) (old left : Contents) → ReadsRequest request asked → IsAskedIn limit opening asked old left → IsServedIn limit opening request old left
+served_in limit opening request asked old left reads is log shows =
+    let answered = is log shows in (
+      answered.0,
+      answered.1,
+      elim answered.2 [ inl right ↦ inl (asked, reads, right) | inr broken ↦ inr broken ],
+      answered.3,
+    )
+
 -- a request that was read, told by its parts
 pub read_as : (bytes : List ℕ) (read same : Request) → read ≡ same → FitsRequest (asked_by read) × (bytes ≡ request_spelling (asked_by read)) → ReadsRequest bytes (Ok (asked_by same))
 read_as bytes read same is found = subst (λ (r : Request). ReadsRequest bytes (Ok (asked_by r))) is found
 
-module _ {S : Type 0} (honest : S → Type 0) (contents : S → Contents) (failed : S → ℕ) (may_leave : S → Contents → Type 0) (misreads : S → ℕ) (old new : Holding S) (catalog : new.catalog ≡ old.catalog) where
+module _ {S : Type 0} (honest : S → Type 0) (contents : S → Contents) (failed : S → ℕ) (may_leave : S → Contents → Type 0) (misreads : S → ℕ) (old new : Holding S) (catalog : new.catalog ≡ old.catalog) (served : Contents → Type 0) where
   abbrev Stores : {E : Type 0} → Result (Vec ℕ Global) E → Type 0
-  Stores result = ServesStore honest contents failed may_leave misreads old.catalog (ShowsLogOf old.catalog old.newest (contents old.store)) old.store new.store result
+  Stores result = ServesStore honest contents failed may_leave misreads old.catalog (ShowsLogOf old.catalog old.newest (contents old.store)) served old.store new.store result
 
   pub answers : {E : Type 0} (limit : ℕ) (request : List ℕ) (asked : Result Asked WireFault) (result : Result (Vec ℕ Global) E) → ReadsRequest request asked → Stores result
       → (honest new.store → (log : List LogEntry) → ShowsLog old.catalog (contents old.store) log → old.newest ≡ length log
@@ -112,6 +122,6 @@ module _ {S : Type 0} (honest : S → Type 0) (contents : S → Contents) (faile
     was_honest = stores.was_honest;
     catalog = catalog;
     newest = newest;
-    same = λ h. stores.err h;
+    same = λ h. stores.err h tt;
     as_read = λ h log shows. stores.as_read h (log, shows.0, shows.1);
   }

@@ -1,6 +1,6 @@
 -- What calls of a hub over a store leave of it, and what they tell (profile of this project).
 use Rattle.std.specs.declared.alloc.Global.{Global}
-use Rattle.std.specs.Prelude.{Vec, ◌≡◌, ◌⊎◌, ◌<◌, ◌≤◌, ℕ, List, length, Result, Ok, Err, OnErr}
+use Rattle.std.specs.Prelude.{Vec, ◌≡◌, ◌⊎◌, ◌<◌, ◌≤◌, ℕ, List, length, Result, Ok, Err}
 use Rattle.cs_value.specs.declared.catalog.TableDef.{TableDef}
 use Rattle.cs_log.specs.declared.entry.LogEntry.{LogEntry}
 use Rattle.cs_store.specs.Calls.{MoreFailures}
@@ -9,11 +9,10 @@ use Rattle.cs_judging.specs.cs_appending.Appended.{IsAppendedIn}
 use Rattle.cs_judging.specs.Judged.{hub_of}
 use Rattle.cs_judging.specs.declared.fault.HubFault.{HubFault}
 use Rattle.cs_judging.specs.declared.fault.HubFault.TheVariants.{Memory, Ahead, Device}
-use Rattle.cs_wire.specs.Answers.{answer_spelling}
-use Rattle.cs_wire.specs.declared.answer.Answer.TheVariants.{Short}
-use Rattle.cs_wire.specs.declared.short_answer.ShortAnswer.TheVariants.{Accepted}
+use Rattle.cs_log_store.specs.Shows.{ShowsLog}
 use Rattle.cs_hub.specs.Holding.{Holding, Shows}
-use Rattle.cs_hub.specs.Serves.{ServesIf}
+use Rattle.cs_hub.specs.Serves.{ServesIf, refused}
+use Rattle.cs_hub.specs.declared.refusal.Refusal.TheVariants.{ByHub}
 
 -- why entries aren't told
 abbrev pub IsEntriesFault : List LogEntry → ℕ → HubFault → Type 0
@@ -26,23 +25,33 @@ IsEntriesFault log first _ = ⊥
 abbrev pub IsSameOrGrown : List TableDef → Contents → Contents → Type 0
 IsSameOrGrown opening old new = (new ≡ old) ⊎ ((entry : LogEntry) × IsAppendedIn opening entry old new)
 
--- the answer says that a push was taken
-abbrev pub SaysAccepted : {E : Type 0} → Result (Vec ℕ Global) E → Type 0
-SaysAccepted (Ok answer) = (origin number version : ℕ) × (answer.items ≡ answer_spelling (Short (Accepted origin number version)))
-SaysAccepted (Err fault) = ⊥
+-- contents of a hub's store in which a request was served, by the log that was shown
+abbrev pub IsServedIn : ℕ → List TableDef → List ℕ → Contents → Contents → Type 0
+IsServedIn limit opening request old left =
+    (log : List LogEntry) → ShowsLog opening old log
+    → (answer : List ℕ) × (next : List LogEntry) × ServesIf (Unit {0}) limit (hub_of opening log) request answer (hub_of opening next)
+    × ShowsLog opening left next
+
+-- it wasn't served: memory was refused, or it is told that the device failed
+abbrev pub IsNotServed : {E : Type 0} → Result (Vec ℕ Global) E → Type 0
+IsNotServed (Ok answer) = answer.items ≡ refused (ByHub Device)
+IsNotServed (Err fault) = Unit {0}
 
 -- `readable` says that what is read there is what its places say
 module _ {S : Type 0} (honest : S → Type 0) (contents : S → Contents) (failed : S → ℕ) (may_leave : S → Contents → Type 0) (misreads : S → ℕ) where
-  -- a request was served, whatever was told: the store was only read, or one entry was appended, in one commit
-  pub record ServesStore {E : Type 0} (opening : List TableDef) (readable : Type 0) (old new : S) (result : Result (Vec ℕ Global) E) : Type 0 where
+  -- a request was served, whatever was told: the store was only read, or one entry was appended, in one commit; `served` is what is said of
+  -- contents in which the request was served
+  pub record ServesStore {E : Type 0} (opening : List TableDef) (readable : Type 0) (served : Contents → Type 0) (old new : S) (result : Result (Vec ℕ Global) E) : Type 0 where
     pub was_honest : honest new → honest old
     pub grown : honest new → IsSameOrGrown opening (contents old) (contents new)
-    pub err : honest new → OnErr result (contents new ≡ contents old)
-    -- where a push is told to be taken, a stop leaves what the store holds, alone, where anything was written
-    pub durable : honest new → SaysAccepted result → (left : Contents) → may_leave new left
+    -- where it wasn't served nothing has changed
+    pub err : honest new → IsNotServed result → contents new ≡ contents old
+    -- where it was, a stop leaves what the store holds, alone, where anything was written
+    pub durable : honest new → (IsNotServed result → ⊥) → (left : Contents) → may_leave new left
         → (left ≡ contents new) ⊎ (may_leave old left × (contents new ≡ contents old))
-    -- in any case a stop leaves what it could leave before, or one entry more
-    pub crash : honest new → (left : Contents) → may_leave new left → may_leave old left ⊎ IsSameOrGrown opening (contents old) left
+    -- in any case a stop leaves what it could leave before, or one entry more: of a store that shows a log, that with which this request was served
+    pub crash : honest new → (left : Contents) → may_leave new left
+        → may_leave old left ⊎ (IsSameOrGrown opening (contents old) left × (readable → served left))
     pub later : failed old ≤ failed new
     -- nothing that can be read is told to be no such thing
     pub as_read : honest new → readable → misreads new ≡ misreads old

@@ -4,17 +4,19 @@ use Rattle.cs_value.specs.declared.catalog.TableDef.{TableDef}
 use Rattle.cs_log.specs.Stored.{IsEntryOf}
 use Rattle.cs_log.specs.declared.entry.LogEntry.{LogEntry}
 use Rattle.cs_store.specs.Contents.{Contents}
+use Rattle.cs_log_store.specs.Shows.{ShowsLog}
 use Rattle.cs_judging.specs.Hub.{HubState, with_entry}
-use Rattle.cs_judging.specs.Judged.{hub_of}
+use Rattle.cs_judging.specs.Judged.{ShowsLogOf, hub_of}
 use Rattle.cs_judging.specs.declared.fault.HubFault.TheVariants.{Device}
 use Rattle.cs_judging.specs.declared.push.Judgement.{Judgement}
 use Rattle.cs_judging.specs.declared.push.Judgement.TheVariants as judged
 use Rattle.cs_judging.specs.declared.push.Pushed.TheVariants.{Accepted}
-use Rattle.cs_wire.specs.Requests.{Asked}
+use Rattle.cs_wire.specs.Requests.{Asked, AsksPush}
 use Rattle.cs_wire.specs.declared.answer.Answer.TheVariants.{Short}
 use Rattle.cs_wire.specs.declared.fault.WireFault.{WireFault}
 use Rattle.cs_wire.specs.declared.push_head.PushHead.{PushHead}
 use Rattle.cs_wire.specs.declared.short_answer.ShortAnswer.{ShortAnswer}
+use Rattle.cs_hub.specs.Calls.{IsSameOrGrown}
 use Rattle.cs_hub.specs.Follows.{FitsBehind}
 use Rattle.cs_hub.specs.PushedOf.{Leads}
 use Rattle.cs_hub.specs.Serves.{AnswersAsked, Outcome, TakesBytes, push_answer, refused}
@@ -48,6 +50,20 @@ AnswersAskedIf device_failed limit old asked answer new =
 abbrev pub IsAnsweredOf : Type 0 → ℕ → List TableDef → List LogEntry → Result Asked WireFault → List ℕ → Contents → ℕ → Type 0
 IsAnsweredOf device_failed limit opening log asked answer new count =
     (next : List LogEntry) × AnswersAskedIf device_failed limit (hub_of opening log) asked answer (hub_of opening next) × Leads opening new count next
+
+-- ---- what a stop may leave
+
+-- contents in which what is asked was answered, by the log that was shown
+abbrev pub IsAskedIn : ℕ → List TableDef → Result Asked WireFault → Contents → Contents → Type 0
+IsAskedIn limit opening asked old left =
+    (log : List LogEntry) → ShowsLog opening old log
+    → (answer : List ℕ) × (next : List LogEntry) × AnswersAskedIf (Unit {0}) limit (hub_of opening log) asked answer (hub_of opening next)
+    × ShowsLog opening left next
+
+-- contents are as they were, or have one entry more: of a store that shows a log of so many entries, that of the push with these bytes
+abbrev pub IsPushTakenIn : ℕ → List TableDef → ℕ → PushHead → List ℕ → Contents → Contents → Type 0
+IsPushTakenIn limit opening count head changeset old new =
+    IsSameOrGrown opening old new × (ShowsLogOf opening count old → IsAskedIn limit opening (Ok (AsksPush head changeset)) old new)
 
 -- ---- a request that is judged
 

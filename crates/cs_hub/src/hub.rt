@@ -1,6 +1,6 @@
 //! The hub over any store, and what it answers.
 
-ghost use Rattle.std.specs.Prelude.{◌≡◌, ◌↔◌, ◌+◌, ◌<◌, ◌≤◌, ◌∷◌, ◌++◌, [], List, Some, IfErr, IfOk, IsErrOf, MatchResult, OnErr, OnOk, Ok, Err, length, min, slice_get};
+ghost use Rattle.std.specs.Prelude.{◌≡◌, ◌≢◌, ◌↔◌, ◌+◌, ◌<◌, ◌≤◌, ◌∷◌, ◌++◌, [], List, Some, IfErr, IfOk, IsErrOf, MatchResult, OnErr, OnOk, Ok, Err, length, min, slice_get};
 ghost use Rattle.cs_judging.specs.cs_appending.Appended.{AppendsEntry, IsAppendedIn};
 ghost use Rattle.cs_log.specs.Log.{state_of};
 ghost use Rattle.cs_log.specs.declared.entry.LogEntry.{LogEntry as Entry};
@@ -10,15 +10,15 @@ ghost use Rattle.cs_log_store.specs.Shows.{ShowsLog};
 ghost use Rattle.cs_normal.specs.Normal.{FitsCatalog, normal_spelling};
 ghost use Rattle.cs_pending.specs.Calls.{ReadsStore, WritesStore};
 ghost use Rattle.cs_rows.specs.Rows.{AreRowsOf};
-ghost use Rattle.cs_store.specs.Contents.{nothing};
+ghost use Rattle.cs_store.specs.Contents.{Contents, nothing};
 ghost use Rattle.cs_store.specs.declared.fault.StoreFault.TheVariants as stored;
 ghost use Rattle.cs_value.specs.Catalog.{AreTables};
 ghost use Rattle.cs_value.specs.declared.catalog.TableDef.{TableDef as Table};
 ghost use Rattle.cs_judging.specs.Hub.{entries_from};
 ghost use Rattle.cs_judging.specs.Judged.{IsSameOrAppended};
 ghost use Rattle.cs_judging.specs.Pushes.{Push};
-ghost use Rattle.cs_judging.specs.declared.fault.HubFault.TheVariants.{Device};
-ghost use Rattle.cs_hub.specs.Calls.{AnswersHub, IsEntriesFault, ServesStore, StaysHub};
+ghost use Rattle.cs_judging.specs.declared.fault.HubFault.TheVariants.{Device, Memory};
+ghost use Rattle.cs_hub.specs.Calls.{AnswersHub, IsEntriesFault, IsServedIn, ServesStore, StaysHub};
 ghost use Rattle.cs_hub.specs.Follows.{FitsBehind, IsFollowFault};
 ghost use Rattle.cs_hub.specs.Holding.{Shows, ShowsSome};
 ghost use Rattle.cs_hub.specs.Judges.{AppendsJudged, HasRoom, IsJudged, ReadsHub};
@@ -197,9 +197,14 @@ impl<S: RowStore> Hub<S> {
         ensures answered { S.honest self.new.store → (log : List Entry) → Shows S.contents self.old log
             → IsPushedOf MAX_ENTRIES self.old.catalog log (record { head = head; changes = changes }) (S.contents self.new.store) self.new.newest result }
 
-        // The store was only read, or the push appended, in one commit.
+        // The store was only read, or the push appended, in one commit, and then it is accepted.
         ensures writes { WritesStore S.honest S.contents S.failed S.may_leave S.misreads Device (ShowsSome S.contents self.old)
-            (IsSameOrAppended self.old.catalog (record { head = head; changes = changes }) (S.contents self.old.store)) self.old.store self.new.store result }
+            (IsSameOrAppended MAX_ENTRIES self.old.catalog self.old.newest (record { head = head; changes = changes }) (S.contents self.old.store))
+            self.old.store self.new.store result }
+
+        // A push that is refused, but for want of memory or by a failed device, is refused before anything is written: a stop leaves nothing more.
+        ensures unwritten { S.honest self.new.store → result ≢ Err Memory → result ≢ Err Device
+            → OnErr result ((left : Contents) → S.may_leave self.new.store left → S.may_leave self.old.store left) }
         ensures catalog { self.new.catalog ≡ self.old.catalog }
         ensures kept { OnErr result (self.new.newest ≡ self.old.newest) }
     {
@@ -225,9 +230,9 @@ impl<S: RowStore> Hub<S> {
             AnswersHub S.honest S.contents S.failed S.may_leave S.misreads MAX_ENTRIES self.old request.now answer.items self.new) }
         ensures refused { OnErr result (StaysHub S.honest S.contents S.failed S.may_leave S.misreads self.old self.new) }
 
-        // What becomes of the store: a push that is told to be taken stands in it, also after a stop.
-        ensures store { ServesStore S.honest S.contents S.failed S.may_leave S.misreads self.old.catalog
-            (ShowsSome S.contents self.old) self.old.store self.new.store result }
+        // What becomes of the store: where the request was served, a stop leaves what it then holds; else maybe this very request served.
+        ensures store { ServesStore S.honest S.contents S.failed S.may_leave S.misreads self.old.catalog (ShowsSome S.contents self.old)
+            (IsServedIn MAX_ENTRIES self.old.catalog request.now (S.contents self.old.store)) self.old.store self.new.store result }
     {
         match Request::decode(request) {
             Err(fault) => refuse(self.alloc, &Refusal::NoRequest(fault)),

@@ -9,7 +9,7 @@ ghost use Rattle.cs_judging.specs.Judged.{ShowsLogOf};
 ghost use Rattle.cs_wire.specs.Requests.{AsksPull, AsksPush};
 ghost use Rattle.cs_hub.specs.Calls.{ServesStore};
 ghost use Rattle.cs_hub.specs.Serves.{refused};
-ghost use Rattle.cs_hub.specs.Steps.{IsAnsweredOf, LooksAt, TellsOutcome};
+ghost use Rattle.cs_hub.specs.Steps.{IsAnsweredOf, IsAskedIn, LooksAt, TellsOutcome};
 
 use crate::refusal::Refusal;
 use crate::taking::take_at;
@@ -40,7 +40,7 @@ pub(crate) fn pull_at<S: RowStore>(
     limit: u32,
 ) -> Result<Vec<u8>, Memory>
     ensures serves { ServesStore S.honest S.contents S.failed S.may_leave S.misreads catalog.now
-        (ShowsLogOf catalog.now newest (S.contents store.old)) store.old store.new result }
+        (ShowsLogOf catalog.now newest (S.contents store.old)) (IsAskedIn MAX_ENTRIES catalog.now (Ok (AsksPull first limit)) (S.contents store.old)) store.old store.new result }
     ensures looks { LooksAt S.honest S.contents S.failed S.may_leave S.misreads (ShowsLogOf catalog.now newest (S.contents store.old)) store.old store.new }
     ensures answered { S.honest store.new → (log : List Entry) → ShowsLog catalog.now (S.contents store.old) log → newest ≡ length log
         → IfOk result (λ bytes. IsAnsweredOf (MoreFailures (S.failed store.old) (S.failed store.new)) MAX_ENTRIES catalog.now log (Ok (AsksPull first limit)) bytes.items (S.contents store.new) newest) }
@@ -80,7 +80,7 @@ pub(crate) fn push_told<S: RowStore>(
 ) -> Result<Vec<u8>, Memory>
     requires { length changeset.now ≤ MAX_CHANGESET }
     ensures serves { ServesStore S.honest S.contents S.failed S.may_leave S.misreads catalog.now
-        (ShowsLogOf catalog.now newest.old (S.contents store.old)) store.old store.new result }
+        (ShowsLogOf catalog.now newest.old (S.contents store.old)) (IsAskedIn MAX_ENTRIES catalog.now (Ok (AsksPush head changeset.now)) (S.contents store.old)) store.old store.new result }
     ensures answered { S.honest store.new → (log : List Entry) → ShowsLog catalog.now (S.contents store.old) log → newest.old ≡ length log
         → IfOk result (λ bytes. IsAnsweredOf (MoreFailures (S.failed store.old) (S.failed store.new)) MAX_ENTRIES catalog.now log (Ok (AsksPush head changeset.now)) bytes.items (S.contents store.new) newest.new) }
     ensures kept { OnErr result (newest.new ≡ newest.old) }

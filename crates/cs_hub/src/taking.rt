@@ -1,19 +1,20 @@
 //! A push, taken: its changeset is read, brought into normal form, and judged.
 
-ghost use Rattle.std.specs.Prelude.{◌≡◌, ◌+◌, ◌-◌, ◌^◌, ◌<◌, ◌≤◌, ℕ, List, Ok, OnErr, length};
+ghost use Rattle.std.specs.Prelude.{◌≡◌, ◌≢◌, ◌+◌, ◌-◌, ◌^◌, ◌<◌, ◌≤◌, ℕ, List, Err, Ok, OnErr, length};
 ghost use Rattle.cs_log.specs.declared.entry.LogEntry.{LogEntry as Entry};
 ghost use Rattle.cs_log.specs.declared.entry.TheConstants.{MAX_CHANGESET, MAX_ENTRIES};
 ghost use Rattle.cs_log_store.specs.Shows.{ShowsLog};
 ghost use Rattle.cs_normal.specs.Normal.{FitsCatalog, normal_spelling};
 ghost use Rattle.cs_pending.specs.Calls.{WritesStore};
 ghost use Rattle.cs_store.specs.Calls.{MoreFailures};
+ghost use Rattle.cs_store.specs.Contents.{Contents};
 ghost use Rattle.cs_judging.specs.Judged.{IsSameOrAppended, ShowsLogOf};
 ghost use Rattle.cs_judging.specs.Pushes.{Push};
-ghost use Rattle.cs_judging.specs.declared.fault.HubFault.TheVariants.{Device};
+ghost use Rattle.cs_judging.specs.declared.fault.HubFault.TheVariants.{Device, Memory};
 ghost use Rattle.cs_judging.specs.declared.push.Pushed.TheVariants.{Accepted};
-ghost use Rattle.cs_hub.specs.Calls.{IsSameOrGrown};
 ghost use Rattle.cs_hub.specs.PushedOf.{IsPushedOf};
-ghost use Rattle.cs_hub.specs.Steps.{IsTakenOf};
+ghost use Rattle.cs_hub.specs.Steps.{IsPushTakenIn, IsTakenOf};
+ghost use Rattle.cs_hub.specs.declared.refusal.Refusal.TheVariants as refusal;
 ghost use Rattle.cs_hub.specs.declared.refusal.Refusal.TheVariants.{ByHub};
 
 use crate::refusal::Refusal;
@@ -57,7 +58,9 @@ pub(crate) fn push_counted<S: RowStore>(
     requires size { length (normal_spelling changes) ≤ MAX_CHANGESET }
     ensures writes { WritesStore S.honest S.contents S.failed S.may_leave S.misreads Device
         (ShowsLogOf catalog.now newest.old (S.contents store.old))
-        (IsSameOrAppended catalog.now (record { head = head; changes = changes }) (S.contents store.old)) store.old store.new result }
+        (IsSameOrAppended MAX_ENTRIES catalog.now newest.old (record { head = head; changes = changes }) (S.contents store.old)) store.old store.new result }
+    ensures unwritten { S.honest store.new → result ≢ Err Memory → result ≢ Err Device
+        → OnErr result ((left : Contents) → S.may_leave store.new left → S.may_leave store.old left) }
     ensures answered { S.honest store.new → (log : List Entry) → ShowsLog catalog.now (S.contents store.old) log → newest.old ≡ length log
         → IsPushedOf MAX_ENTRIES catalog.now log (record { head = head; changes = changes }) (S.contents store.new) newest.new result }
     ensures kept { OnErr result (newest.new ≡ newest.old) }
@@ -81,7 +84,9 @@ pub(crate) fn take_at<S: RowStore>(
     requires { length changeset.now ≤ MAX_CHANGESET }
     ensures writes { WritesStore S.honest S.contents S.failed S.may_leave S.misreads (ByHub Device)
         (ShowsLogOf catalog.now newest.old (S.contents store.old))
-        (IsSameOrGrown catalog.now (S.contents store.old)) store.old store.new result }
+        (IsPushTakenIn MAX_ENTRIES catalog.now newest.old head changeset.now (S.contents store.old)) store.old store.new result }
+    ensures unwritten { S.honest store.new → result ≢ Err refusal.Memory → result ≢ Err (ByHub Device)
+        → OnErr result ((left : Contents) → S.may_leave store.new left → S.may_leave store.old left) }
     ensures taken { S.honest store.new → (log : List Entry) → ShowsLog catalog.now (S.contents store.old) log → newest.old ≡ length log
         → IsTakenOf (MoreFailures (S.failed store.old) (S.failed store.new)) MAX_ENTRIES catalog.now log head changeset.now (S.contents store.new) newest.new result }
     ensures kept { OnErr result (newest.new ≡ newest.old) }

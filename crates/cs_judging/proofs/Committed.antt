@@ -20,15 +20,53 @@ use Rattle.cs_judging.specs.declared.push.Judgement.TheVariants.{Told}
 use Rattle.cs_judging.specs.declared.push.Pushed.{Pushed}
 use Rattle.cs_judging.specs.declared.push.Pushed.TheVariants.{Accepted}
 
+-- ---- the answer
+
+module _ (limit : ℕ) (opening : List TableDef) (push : Push) (count : ℕ) (old : Contents) where
+  -- a log that is shown has so many entries
+  counted : ShowsLogOf opening count old → (log : List LogEntry) → ShowsLog opening old log → count ≡ length log
+  counted shown log shows = shown.2 ∙ sym shown.1.entries.counted ∙ shows.entries.counted
+
+  -- the push is accepted, once this entry is appended
+  abbrev pub Accepts : LogEntry → Type 0
+  Accepts entry =
+      (log : List LogEntry) → ShowsLog opening old log → count ≡ length log → Pushes limit (hub_of opening log) push (Ok (Accepted (push.head.base + 1))) (with_entry (hub_of opening log) entry)
+
+  module _ (new : Contents) where
+    pub told : (pushed : Pushed) → new ≡ old → ((log : List LogEntry) → ShowsLog opening old log → count ≡ length log → Pushes limit (hub_of opening log) push (Ok pushed) (hub_of opening log))
+        → ShowsLogOf opening count old → IsPushedIn limit opening push old new (Ok pushed)
+    told pushed same judged shown log shows =
+        (log, judged log shows (counted shown log shows), subst (λ (c : Contents). ShowsLog opening c log) (sym same) shows)
+
+    pub refused : (fault : HubFault) → new ≡ old → ((log : List LogEntry) → ShowsLog opening old log → count ≡ length log → PushesIf limit (hub_of opening log) push (Err fault) (hub_of opening log))
+        → ShowsLogOf opening count old → IsPushedIn limit opening push old new (Err fault)
+    refused fault same judged shown log shows =
+        (log, judged log shows (counted shown log shows), subst (λ (c : Contents). ShowsLog opening c log) (sym same) shows)
+
+    pub accepted : (entry : LogEntry) → Accepts entry → IsAppendedIn opening entry old new → ShowsLogOf opening count old → IsPushedIn limit opening push old new (Ok (Accepted (push.head.base + 1)))
+    accepted entry judged is shown log shows = (log ++ entry ∷ [], judged log shows (counted shown log shows), (is log shows).1)
+
+    pub appended : (entry : LogEntry) → push.head.base ≡ count → Accepts entry → IsAppendedIn opening entry old new → ShowsLogOf opening count old → IsPushedIn limit opening push old new (Ok (Accepted (count + 1)))
+    appended entry base judged is shown =
+        subst (λ (n : ℕ). IsPushedIn limit opening push old new (Ok (Accepted (n + 1)))) base (accepted entry judged is shown)
+
+    -- the store failed
+    pub failed_so : (fault : StoreFault) (told : HubFault) → (fault ≡ stored.Memory → told ≡ Memory) × (fault ≡ stored.Device → told ≡ Device) → new ≡ old
+        → ShowsLogOf opening count old → IsPushedIn limit opening push old new (Err told)
+    failed_so stored.Memory told is same shown log shows =
+        (log, subst (λ (f : HubFault). PushesIf limit (hub_of opening log) push (Err f) (hub_of opening log)) (sym (is.0 refl)) refl, subst (λ (c : Contents). ShowsLog opening c log) (sym same) shows)
+    failed_so stored.Device told is same shown log shows =
+        (log, subst (λ (f : HubFault). PushesIf limit (hub_of opening log) push (Err f) (hub_of opening log)) (sym (is.1 refl)) refl, subst (λ (c : Contents). ShowsLog opening c log) (sym same) shows)
+
 -- ---- the store
 
-module _ {S : Type 0} (honest : S → Type 0) (contents : S → Contents) (failed : S → ℕ) (may_leave : S → Contents → Type 0) (misreads : S → ℕ) (opening : List TableDef) (push : Push) (count : ℕ) where
+module _ {S : Type 0} (honest : S → Type 0) (contents : S → Contents) (failed : S → ℕ) (may_leave : S → Contents → Type 0) (misreads : S → ℕ) (limit : ℕ) (opening : List TableDef) (push : Push) (count : ℕ) where
   abbrev Readable : S → Type 0
   Readable old = ShowsLogOf opening count (contents old)
 
   abbrev Writes : {T E : Type 0} → E → S → S → Result T E → Type 0
   Writes device old new result =
-      WritesStore honest contents failed may_leave misreads device (Readable old) (IsSameOrAppended opening push (contents old)) old new result
+      WritesStore honest contents failed may_leave misreads device (Readable old) (IsSameOrAppended limit opening count push (contents old)) old new result
 
   -- it was told, and nothing was written
   pub told_well : {T U : Type 0} (old new : S) (t : T) (u : U) → ReadsStore honest contents failed may_leave misreads Device (Readable old) old new (Ok t) → Writes Device old new (Ok u)
@@ -68,57 +106,28 @@ module _ {S : Type 0} (honest : S → Type 0) (contents : S → Contents) (faile
     pub since : honest mid → (c : Contents) → IsAppendedIn opening entry (contents mid) c → IsAppendedIn opening entry (contents old) c
     since h c i = subst (λ (was : Contents). IsAppendedIn opening entry was c) (read.same h) i
 
-    as_push : honest mid → (c : Contents) → IsAppendedIn opening entry (contents mid) c → IsSameOrAppended opening push (contents old) c
-    as_push h c i = inr (subst (λ (e : LogEntry). IsAppendedIn opening e (contents old) c) of (since h c i))
-
     abbrev Appends : {T : Type 0} → Result T StoreFault → Type 0
     Appends result = WritesStore honest contents failed may_leave misreads stored.Device (ShowsSomeLog opening (contents mid)) (IsAppendedIn opening entry (contents mid)) mid new result
 
-    pub then_wrote : {T U : Type 0} (t : T) (u : U) → Appends (Ok t) → Writes Device old new (Ok u)
-    then_wrote t u writes =
-        then_written honest contents failed may_leave misreads (IsAppendedIn opening entry (contents mid)) (IsSameOrAppended opening push (contents old)) (Readable old) (ShowsSomeLog opening (contents mid)) (Readable old)
-        old mid new (λ r. r) there as_push read stored.Device Device t u writes
+    -- it was judged that the push is accepted
+    module _ (judged : honest mid → Accepts limit opening push count (contents old) entry) where
+      as_push : honest mid → (c : Contents) → IsAppendedIn opening entry (contents mid) c → IsSameOrAppended limit opening count push (contents old) c
+      as_push h c i = inr (
+        subst (λ (e : LogEntry). IsAppendedIn opening e (contents old) c) of (since h c i),
+        accepted limit opening push count (contents old) c entry (judged h) (since h c i),
+      )
 
-    pub then_wrote_not : {T U : Type 0} (fault : StoreFault) (told : HubFault) → (told ≡ Device → fault ≡ stored.Device) → Appends {T = T} (Err fault) → Writes {T = U} Device old new (Err told)
-    then_wrote_not {T} {U} fault told was writes =
-        then_not_written honest contents failed may_leave misreads (IsAppendedIn opening entry (contents mid)) (IsSameOrAppended opening push (contents old)) (Readable old) (ShowsSomeLog opening (contents mid)) (Readable old)
-        old mid new (λ r. r) there as_push read {T = T} {U = U} stored.Device fault Device told was writes
+      pub then_wrote : {T U : Type 0} (t : T) (u : U) → Appends (Ok t) → Writes Device old new (Ok u)
+      then_wrote t u writes =
+          then_written honest contents failed may_leave misreads (IsAppendedIn opening entry (contents mid)) (IsSameOrAppended limit opening count push (contents old)) (Readable old) (ShowsSomeLog opening (contents mid)) (Readable old)
+          old mid new (λ r. r) there as_push read stored.Device Device t u writes
+
+      pub then_wrote_not : {T U : Type 0} (fault : StoreFault) (told : HubFault) → (told ≡ Device → fault ≡ stored.Device) → Appends {T = T} (Err fault) → Writes {T = U} Device old new (Err told)
+      then_wrote_not {T} {U} fault told was writes =
+          then_not_written honest contents failed may_leave misreads (IsAppendedIn opening entry (contents mid)) (IsSameOrAppended limit opening count push (contents old)) (Readable old) (ShowsSomeLog opening (contents mid)) (Readable old)
+          old mid new (λ r. r) there as_push read {T = T} {U = U} stored.Device fault Device told was writes
 
 -- a fault of a store is told as itself
 pub was_device : (fault : StoreFault) (told : HubFault) → (fault ≡ stored.Memory → told ≡ Memory) × (fault ≡ stored.Device → told ≡ Device) → told ≡ Device → fault ≡ stored.Device
 was_device stored.Memory told is at = absurd (let m = is.0 refl in cc)
 was_device stored.Device told is at = refl
-
--- ---- the answer
-
-module _ (limit : ℕ) (opening : List TableDef) (push : Push) (count : ℕ) (old new : Contents) where
-  -- a log that is shown has so many entries
-  counted : ShowsLogOf opening count old → (log : List LogEntry) → ShowsLog opening old log → count ≡ length log
-  counted shown log shows = shown.2 ∙ sym shown.1.entries.counted ∙ shows.entries.counted
-
-  pub told : (pushed : Pushed) → new ≡ old → ((log : List LogEntry) → ShowsLog opening old log → count ≡ length log → Pushes limit (hub_of opening log) push (Ok pushed) (hub_of opening log))
-      → ShowsLogOf opening count old → IsPushedIn limit opening push old new (Ok pushed)
-  told pushed same judged shown log shows =
-      (log, judged log shows (counted shown log shows), subst (λ (c : Contents). ShowsLog opening c log) (sym same) shows)
-
-  pub refused : (fault : HubFault) → new ≡ old → ((log : List LogEntry) → ShowsLog opening old log → count ≡ length log → PushesIf limit (hub_of opening log) push (Err fault) (hub_of opening log))
-      → ShowsLogOf opening count old → IsPushedIn limit opening push old new (Err fault)
-  refused fault same judged shown log shows =
-      (log, judged log shows (counted shown log shows), subst (λ (c : Contents). ShowsLog opening c log) (sym same) shows)
-
-  pub appended : (entry : LogEntry) → push.head.base ≡ count
-      → ((log : List LogEntry) → ShowsLog opening old log → count ≡ length log → Pushes limit (hub_of opening log) push (Ok (Accepted (push.head.base + 1))) (with_entry (hub_of opening log) entry))
-      → IsAppendedIn opening entry old new → ShowsLogOf opening count old → IsPushedIn limit opening push old new (Ok (Accepted (count + 1)))
-  appended entry base judged is shown log shows = (
-    log ++ entry ∷ [],
-    subst (λ (n : ℕ). Pushes limit (hub_of opening log) push (Ok (Accepted (n + 1))) (with_entry (hub_of opening log) entry)) base (judged log shows (counted shown log shows)),
-    (is log shows).1,
-  )
-
-  -- the store failed
-  pub failed_so : (fault : StoreFault) (told : HubFault) → (fault ≡ stored.Memory → told ≡ Memory) × (fault ≡ stored.Device → told ≡ Device) → new ≡ old
-      → ShowsLogOf opening count old → IsPushedIn limit opening push old new (Err told)
-  failed_so stored.Memory told is same shown log shows =
-      (log, subst (λ (f : HubFault). PushesIf limit (hub_of opening log) push (Err f) (hub_of opening log)) (sym (is.0 refl)) refl, subst (λ (c : Contents). ShowsLog opening c log) (sym same) shows)
-  failed_so stored.Device told is same shown log shows =
-      (log, subst (λ (f : HubFault). PushesIf limit (hub_of opening log) push (Err f) (hub_of opening log)) (sym (is.1 refl)) refl, subst (λ (c : Contents). ShowsLog opening c log) (sym same) shows)

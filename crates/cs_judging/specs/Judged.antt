@@ -27,9 +27,12 @@ IsPushedIn limit opening push old new result =
     (log : List LogEntry) → ShowsLog opening old log
     → (next : List LogEntry) × PushesIf limit (hub_of opening log) push result (hub_of opening next) × ShowsLog opening new next
 
--- contents are as they were, or the push was appended
-abbrev pub IsSameOrAppended : List TableDef → Push → Contents → Contents → Type 0
-IsSameOrAppended opening push old new = (new ≡ old) ⊎ IsAppendedIn opening (entry_of_push push) old new
+-- contents are as they were, or the push was appended, and by the log of so many entries that was shown it is accepted
+abbrev pub IsSameOrAppended : ℕ → List TableDef → ℕ → Push → Contents → Contents → Type 0
+IsSameOrAppended limit opening count push old new =
+    (new ≡ old)
+    ⊎ (IsAppendedIn opening (entry_of_push push) old new
+    × (ShowsLogOf opening count old → IsPushedIn limit opening push old new (Ok (Accepted (push.head.base + 1)))))
 
 -- ---- a push that is judged, and not yet taken
 

@@ -1,6 +1,6 @@
 //! A push, judged by the log and the rows of a hub's store.
 
-ghost use Rattle.std.specs.Prelude.{◌≡◌, ◌<◌, ◌≤◌, ◌≢◌, [], IfOk, List, Ok, length};
+ghost use Rattle.std.specs.Prelude.{◌≡◌, ◌<◌, ◌≤◌, ◌≢◌, [], Err, IfOk, List, Ok, OnErr, length};
 ghost use Rattle.cs_log.specs.Entry.{entry_changes};
 ghost use Rattle.cs_log.specs.Stored.{IsEntryOf};
 ghost use Rattle.cs_log.specs.declared.entry.LogEntry.{LogEntry as Entry};
@@ -8,9 +8,10 @@ ghost use Rattle.cs_log.specs.declared.entry.TheConstants.{MAX_CHANGESET};
 ghost use Rattle.cs_appending.specs.Shows.{ShowsLog};
 ghost use Rattle.cs_normal.specs.Normal.{FitsCatalog, normal_spelling};
 ghost use Rattle.cs_pending.specs.Calls.{ReadsStore, WritesStore};
+ghost use Rattle.cs_store.specs.Contents.{Contents};
 ghost use Rattle.cs_judging.specs.Judged.{CanBeAppended, IsJudgement, IsOfPush, IsPushedIn, IsSameOrAppended, ShowsLogOf, hub_of};
 ghost use Rattle.cs_judging.specs.Pushes.{Push, entry_of_push};
-ghost use Rattle.cs_judging.specs.declared.fault.HubFault.TheVariants.{Device};
+ghost use Rattle.cs_judging.specs.declared.fault.HubFault.TheVariants.{Device, Memory};
 
 use crate::fault::HubFault;
 use crate::push::{Judgement, Pushed};
@@ -131,7 +132,11 @@ pub fn push_at<S: RowStore>(
     // The store was only read, or the push appended, in one commit.
     ensures writes { WritesStore S.honest S.contents S.failed S.may_leave S.misreads Device
         (ShowsLogOf catalog.now newest (S.contents store.old))
-        (IsSameOrAppended catalog.now (record { head = head; changes = changes }) (S.contents store.old)) store.old store.new result }
+        (IsSameOrAppended limit catalog.now newest (record { head = head; changes = changes }) (S.contents store.old)) store.old store.new result }
+
+    // A push that is refused, but for want of memory or by a failed device, is refused before anything is written: a stop leaves nothing more.
+    ensures unwritten { S.honest store.new → result ≢ Err Memory → result ≢ Err Device
+        → OnErr result ((left : Contents) → S.may_leave store.new left → S.may_leave store.old left) }
 
     // The answer is that to the push, by the log that the store showed; and the log after it is shown.
     ensures answered { S.honest store.new → ShowsLogOf catalog.now newest (S.contents store.old)

@@ -1,14 +1,14 @@
 use Rattle.std.proofs.Common.{Err, ap}
 use Rattle.cs_store.specs.Calls.{MoreFailures}
 use Rattle.cs_log.specs.declared.entry.TheConstants.{MAX_ENTRIES}
-use Rattle.cs_hub.proofs.Stored.{refused_so, taken_so}
-use Rattle.cs_hub.proofs.Taken.{has_form, push_of, refused_by, taken}
+use Rattle.cs_hub.proofs.Stored.{refused_so, taken_so, unwritten_so}
+use Rattle.cs_hub.proofs.Taken.{has_form, refused_by, taken}
 use Rattle.cs_hub.proofs.taking.take_at.Goals as goal
 
 pub returns-in-Ok-clause-writes : goal.returns-in-Ok-clause-writes
 returns-in-Ok-clause-writes g c =
-    taken_so g.S.RowStore.honest g.S.RowStore.contents g.S.RowStore.failed g.S.RowStore.may_leave g.S.RowStore.misreads _
-    (push_of c.args.head c.in_ok-changes.changes) _ _ _ _ c.in-Ok.ensures.writes
+    taken_so g.S.RowStore.honest g.S.RowStore.contents g.S.RowStore.failed g.S.RowStore.may_leave g.S.RowStore.misreads MAX_ENTRIES _ _ c.args.head c.args.changeset.now c.in_ok-changes.changes
+    (has_form _ _ _ _ c.in_ok-groups.ensures.reads c.in_ok-changes.ensures.normal) _ _ _ _ c.in-Ok.ensures.writes
 
 pub returns-in-Ok-clause-taken : goal.returns-in-Ok-clause-taken
 returns-in-Ok-clause-taken g c = λ honest log shows same.
@@ -18,8 +18,11 @@ returns-in-Ok-clause-taken g c = λ honest log shows same.
 
 pub returns-clause-writes : goal.returns-clause-writes
 returns-clause-writes g c =
-    refused_so g.S.RowStore.honest g.S.RowStore.contents g.S.RowStore.failed g.S.RowStore.may_leave g.S.RowStore.misreads _
-    (push_of c.args.head c.in_ok-changes.changes) _ _ _ c.in-Err.fault _ c.from.ensures c.in-Err.ensures.writes
+    refused_so g.S.RowStore.honest g.S.RowStore.contents g.S.RowStore.failed g.S.RowStore.may_leave g.S.RowStore.misreads MAX_ENTRIES _ _ c.args.head c.args.changeset.now c.in_ok-changes.changes
+    (has_form _ _ _ _ c.in_ok-groups.ensures.reads c.in_ok-changes.ensures.normal) _ _ _ c.in-Err.fault _ c.from.ensures c.in-Err.ensures.writes
+
+pub returns-clause-unwritten : goal.returns-clause-unwritten
+returns-clause-unwritten g c = λ honest. unwritten_so c.in-Err.fault _ _ c.from.ensures (c.in-Err.ensures.unwritten honest)
 
 pub returns-clause-taken : goal.returns-clause-taken
 returns-clause-taken g c = λ honest log shows same.

@@ -1,10 +1,36 @@
-use Rattle.std.proofs.Common.{Ok, subst}
+use Rattle.std.proofs.Common.{Ok, subst, ◌∙◌}
 use Rattle.cs_pending.specs.Storing.{went_well}
 use Rattle.cs_judging.specs.Judged.{IsJudgement, IsOfPush, hub_of}
 use Rattle.cs_judging.specs.Pushes.{Push}
 use Rattle.cs_judging.specs.declared.push.Judgement.{Judgement}
-use Rattle.cs_judging.proofs.Committed.{appended, since}
+use Rattle.cs_judging.proofs.Committed.{appended, failed_so, since, then_wrote, then_wrote_not, was_device}
 use Rattle.cs_judging.proofs.judging.push_at.Goals as goal
+
+pub returns-in-Ok-clause-writes : goal.returns-in-Ok-clause-writes
+returns-in-Ok-clause-writes g c =
+    let push : Push = record { head = c.args.head; changes = c.args.changes } in
+    let of = subst (IsOfPush c.args.limit c.args.newest push) c.in-Ok-Append.field-0-is c.in-Ok-Append.ensures.of in
+    let read = went_well g.S.RowStore.honest g.S.RowStore.contents g.S.RowStore.failed g.S.RowStore.may_leave g.S.RowStore.misreads _ _ _ _ _ c.in-Ok-Append.ensures.reads in
+    then_wrote g.S.RowStore.honest g.S.RowStore.contents g.S.RowStore.failed g.S.RowStore.may_leave g.S.RowStore.misreads c.args.limit c.args.catalog.now push c.args.newest c.in-Ok-Append.entry of.0
+    c.args.store.now c.judge_at.new.store c.append_tried.new.store read
+    (λ was log shows same. subst (λ (j : Judgement). IsJudgement c.args.limit (hub_of c.args.catalog.now log) push (Ok j)) c.in-Ok-Append.field-0-is (c.in-Ok-Append.ensures.judged was log shows same))
+    _ _ c.in-Ok.ensures.writes
+
+pub returns-in-Ok-Append-clause-writes : goal.returns-in-Ok-Append-clause-writes
+returns-in-Ok-Append-clause-writes g c =
+    let push : Push = record { head = c.args.head; changes = c.args.changes } in
+    let of = subst (IsOfPush c.args.limit c.args.newest push) c.in-Ok-Append.field-0-is c.in-Ok-Append.ensures.of in
+    let read = went_well g.S.RowStore.honest g.S.RowStore.contents g.S.RowStore.failed g.S.RowStore.may_leave g.S.RowStore.misreads _ _ _ _ _ c.in-Ok-Append.ensures.reads in
+    then_wrote_not g.S.RowStore.honest g.S.RowStore.contents g.S.RowStore.failed g.S.RowStore.may_leave g.S.RowStore.misreads c.args.limit c.args.catalog.now push c.args.newest c.in-Ok-Append.entry of.0
+    c.args.store.now c.judge_at.new.store c.append_tried.new.store read
+    (λ was log shows same. subst (λ (j : Judgement). IsJudgement c.args.limit (hub_of c.args.catalog.now log) push (Ok j)) c.in-Ok-Append.field-0-is (c.in-Ok-Append.ensures.judged was log shows same))
+    c.in-Err-append_tried.fault c.from.result (was_device c.in-Err-append_tried.fault c.from.result c.from.ensures) c.in-Err-append_tried.ensures.writes
+
+pub returns-in-Ok-Append-clause-answered : goal.returns-in-Ok-Append-clause-answered
+returns-in-Ok-Append-clause-answered g c = λ honest.
+    failed_so c.args.limit c.args.catalog.now (record { head = c.args.head; changes = c.args.changes }) c.args.newest (g.S.RowStore.contents c.args.store.now) (g.S.RowStore.contents c.append_tried.new.store)
+    c.in-Err-append_tried.fault c.from.result c.from.ensures
+    (c.in-Err-append_tried.ensures.writes.err honest ∙ c.in-Ok-Append.ensures.reads.same (c.in-Err-append_tried.ensures.writes.was_honest honest))
 
 pub returns-in-Ok-clause-answered : goal.returns-in-Ok-clause-answered
 returns-in-Ok-clause-answered g c = λ honest.
@@ -14,5 +40,5 @@ returns-in-Ok-clause-answered g c = λ honest.
     let read = went_well g.S.RowStore.honest g.S.RowStore.contents g.S.RowStore.failed g.S.RowStore.may_leave g.S.RowStore.misreads _ _ _ _ _ c.in-Ok-Append.ensures.reads in
     appended c.args.limit c.args.catalog.now push c.args.newest (g.S.RowStore.contents c.args.store.now) (g.S.RowStore.contents c.append_tried.new.store) c.in-Ok-Append.entry of.1
     (λ log shows same. subst (λ (j : Judgement). IsJudgement c.args.limit (hub_of c.args.catalog.now log) push (Ok j)) c.in-Ok-Append.field-0-is (c.in-Ok-Append.ensures.judged was log shows same))
-    (since g.S.RowStore.honest g.S.RowStore.contents g.S.RowStore.failed g.S.RowStore.may_leave g.S.RowStore.misreads c.args.catalog.now push c.args.newest c.in-Ok-Append.entry of.0
+    (since g.S.RowStore.honest g.S.RowStore.contents g.S.RowStore.failed g.S.RowStore.may_leave g.S.RowStore.misreads c.args.limit c.args.catalog.now push c.args.newest c.in-Ok-Append.entry of.0
     c.args.store.now c.judge_at.new.store c.append_tried.new.store read was (g.S.RowStore.contents c.append_tried.new.store) (c.in-Ok.ensures.writes.ok honest))
