@@ -1,5 +1,5 @@
 -- What the calls of a replica give, as the step that it makes.
-use Rattle.std.proofs.Common.{◌≡◌, ◌∙◌, ◌<◌, ◌≤◌, ◌^◌, ℕ, zero, suc, List, [], Some, Result, Ok, Err, length, slice_get, sym, ap, subst}
+use Rattle.std.proofs.Common.{◌≡◌, ◌∙◌, ◌<◌, ◌≤◌, ◌^◌, ℕ, zero, suc, List, [], Some, Result, Ok, Err, length, slice_get, sym, ap, subst, inl, inr}
 use Rattle.std.specs.Prelude.{◌⊎◌, IfErr, IfOk, OnErr, OnOk, Vec}
 use Rattle.std.specs.FinMap.{len}
 use Rattle.cs_value.specs.Catalog.{AreTables}
@@ -11,7 +11,7 @@ use Rattle.cs_rows.specs.Rows.{AreRowsOf}
 use Rattle.std.specs.declared.alloc.Global.{Global}
 use Rattle.cs_conflict.specs.declared.wish.Wish.{Wish}
 use Rattle.cs_normal.specs.declared.normal.TableChanges.{TableChanges}
-use Rattle.cs_pending.specs.Calls.{WritesStore}
+use Rattle.cs_pending.specs.Calls.{ReadsStore, WritesStore}
 use Rattle.cs_pending.specs.Edits.{IsOfStore, edit}
 use Rattle.cs_pending.specs.View.{View}
 use Rattle.cs_pending.specs.declared.fault.EditFault.{EditFault}
@@ -30,6 +30,7 @@ use Rattle.cs_replica.specs.Holding.{Holding, Shows}
 use Rattle.cs_replica.specs.declared.told.Told.{Told}
 use Rattle.cs_replica.specs.declared.told.Told.TheVariants as what
 use Rattle.cs_store.specs.Contents.{Contents}
+use Rattle.cs_store.specs.declared.store.RowStore.{Ghosts}
 use Rattle.cs_wire.specs.Requests.{asked_by_owned}
 use Rattle.cs_wire.specs.declared.answer.Answer.{Answer}
 use Rattle.cs_wire.specs.declared.request.RequestBuf.{RequestBuf}
@@ -37,9 +38,11 @@ use Rattle.cs_wishes.specs.Wished.{IsWished}
 use Rattle.cs_wire.specs.Entries.{ToldEntry}
 use Rattle.cs_wire.specs.declared.answer.Answer.TheVariants as told
 use Rattle.cs_wire.specs.declared.short_answer.ShortAnswer.TheVariants as short
+use Rattle.cs_replica.specs.cs_pulling.Calls.{WritesInTurn}
 use Rattle.cs_replica.specs.cs_pulling.Listed.{PullsMany, count_of}
 use Rattle.cs_replica.specs.cs_taking.Takes.{taken}
-use Rattle.cs_member.specs.Member.{AreRowsIn, Hears, IsEditedTo, IsPushedTo, Turns, asked_of, member_of, table_of}
+use Rattle.cs_member.specs.Leaves.{CallLeaves}
+use Rattle.cs_member.specs.Member.{AreRowsIn, Hears, IsEditedBy, IsEditedTo, IsPushedTo, Member, Turns, asked_of, member_of, table_of}
 
 -- ---- the id stays
 
@@ -192,6 +195,73 @@ module _ {S : Type 0} (honest : S → Type 0) (contents : S → Contents) (faile
     catalog = catalog;
     turned = λ h are fits view shows. (view, still view (same h) kept shows, subst FitsPosition (sym kept) fits, same_member view kept);
   }
+
+-- ---- what a stop leaves
+
+module _ {S : Type 0} (g : Ghosts S) (one : OnePosition) (step : Member → Member → Type 0) (failed : Position → Contents → Contents → Type 0) (old new : Holding S) (turns : Turns g.honest g.contents step old new) where
+  -- where the store holds what it held, the replica is where it was
+  stays : g.honest new.store → AreTables old.catalog → FitsPosition old.position → (view : View) → Shows g.contents old view → g.contents new.store ≡ g.contents old.store → new.position ≡ old.position
+  stays h are fits view shows same =
+      let t = turns.turned h are fits view shows in
+      (one old.catalog (g.contents new.store) new.position old.position t.0 view are t.2 fits (subst (λ (tables : List TableDef). ShowsAt tables (g.contents new.store) new.position t.0) turns.catalog t.1)
+      (subst (λ (c : Contents). ShowsAt old.catalog c old.position view) (sym same) shows)).0
+
+  -- behind a call that writes once
+  pub once_leaves : {T E : Type 0} (device : E) (readable : Type 0) (once : Contents → Type 0) (result : Result T E)
+      → WritesStore g.honest g.contents g.failed g.may_leave g.misreads device readable once old.store new.store result
+      → OnErr result (new.position ≡ old.position)
+      → (g.contents new.store ≡ g.contents old.store → new.position ≡ old.position → (left : Contents) → once left → failed new.position (g.contents new.store) left)
+      → CallLeaves g failed old new
+  once_leaves device readable once (Ok value) writes kept ahead = λ h are fits view shows left may.
+      elim (writes.durable h left may) [
+        | inl now ↦ inl now
+        | inr (before, same) ↦ inr (inl (before, same, stays h are fits view shows same))
+      ]
+  once_leaves device readable once (Err fault) writes kept ahead = λ h are fits view shows left may.
+      elim (writes.crash h left may) [
+        | inl before ↦ inr (inl (before, writes.err h, kept))
+        | inr made ↦ inr (inr (ahead (writes.err h) kept left made))
+      ]
+
+  -- behind one that writes in turn
+  pub turns_leave : (finished device readable : Type 0) (between : Contents → Type 0)
+      → WritesInTurn g.honest g.contents g.failed g.may_leave g.misreads finished device readable between (failed new.position (g.contents new.store)) old.store new.store
+      → CallLeaves g failed old new
+  turns_leave finished device readable between writes = λ h are fits view shows left may.
+      elim (writes.durable h left may) [
+        | inl now ↦ inl now
+        | inr (inl (before, same)) ↦ inr (inl (before, same, stays h are fits view shows same))
+        | inr (inr (undone, more)) ↦ inr (inr more)
+      ]
+
+-- behind an edit
+pub edit_leaves : {S : Type 0} (g : Ghosts S) (one : OnePosition) (asked : Edit) (result : Result (Unit {0}) EditFault) (old new : Holding S)
+    → Turns g.honest g.contents (IsEditedTo old.catalog asked result) old new
+    → WritesStore g.honest g.contents g.failed g.may_leave g.misreads edits.Device (ShowsSomeAt old.catalog old.position (g.contents old.store))
+    (IsEditedIn old.catalog old.position (table_of asked) (asked_of asked) (g.contents old.store)) old.store new.store result
+    → OnErr result (new.position ≡ old.position)
+    → CallLeaves g (IsEditedBy old.catalog asked) old new
+edit_leaves g one asked result old new turns writes kept =
+    once_leaves g one (IsEditedTo old.catalog asked result) (IsEditedBy old.catalog asked) old new turns edits.Device (ShowsSomeAt old.catalog old.position (g.contents old.store))
+    (IsEditedIn old.catalog old.position (table_of asked) (asked_of asked) (g.contents old.store)) result writes kept (λ same stays left made. rw (same, stays) made)
+
+-- behind a push
+pub push_leaves : {S : Type 0} (g : Ghosts S) (one : OnePosition) (result : Result RequestBuf PushFault) (old new : Holding S)
+    → Turns g.honest g.contents (IsPushedTo old.catalog result) old new
+    → WritesStore g.honest g.contents g.failed g.may_leave g.misreads pushes.Device (ShowsSomeAt old.catalog old.position (g.contents old.store))
+    (IsPushMadeIn old.catalog old.position (g.contents old.store)) old.store new.store result
+    → OnErr result (new.position ≡ old.position)
+    → CallLeaves g (IsPushMadeIn old.catalog) old new
+push_leaves g one result old new turns writes kept =
+    once_leaves g one (IsPushedTo old.catalog result) (IsPushMadeIn old.catalog) old new turns pushes.Device (ShowsSomeAt old.catalog old.position (g.contents old.store))
+    (IsPushMadeIn old.catalog old.position (g.contents old.store)) result writes kept (λ same stays left made. rw (same, stays) made)
+
+-- behind one that only reads
+pub reads_leave : {S T E : Type 0} (g : Ghosts S) (old new : Holding S) (device : E) (readable : Type 0) (result : Result T E)
+    → ReadsStore g.honest g.contents g.failed g.may_leave g.misreads device readable old.store new.store result
+    → new.position ≡ old.position
+    → CallLeaves g (λ position now left. ⊥) old new
+reads_leave g old new device readable result reads kept = λ h are fits view shows left may. inr (inl (reads.crash h left may, reads.same h, kept))
 
 pub rows_in : {E : Type 0} (tables : List TableDef) (state : State) (table : ℕ) (result : Result (Vec (List ℕ × List Value) Global) E)
     → ((def : TableDef) → slice_get tables table ≡ Some def → IfOk result (λ rows. AreRowsOf (state def.name) rows.items))

@@ -1,4 +1,5 @@
 pub mod Member
+pub mod Leaves
 pub mod Same
 pub mod Laws
 pub mod cs_pulling

@@ -13,7 +13,7 @@ use Rattle.cs_replica.specs.cs_pulling.AnswerFault.{AnswerFault}
 use Rattle.cs_replica.specs.cs_pushing.Pushes.{IsPushFault, IsPushMade, IsResendFault, grounded, pushed, request_of}
 use Rattle.cs_replica.specs.cs_pushing.PushFault.{PushFault}
 use Rattle.cs_replica.specs.Answered.{Answers}
-use Rattle.cs_replica.specs.Edited.{with_pending}
+use Rattle.cs_replica.specs.Edited.{IsEditedIn, with_pending}
 use Rattle.cs_replica.specs.Holding.{Holding, Shows}
 use Rattle.cs_replica.specs.declared.told.Told.{Told}
 use Rattle.cs_rows.specs.Rows.{AreRowsOf}
@@ -57,6 +57,10 @@ abbrev pub asked_of : Edit → AskedEdit
 asked_of (edit.Insert table row) = AskInsert row
 asked_of (edit.Update table key fields) = AskUpdate key fields
 asked_of (edit.Delete table key) = AskDelete key
+
+-- contents in which it is made, at a position
+abbrev pub IsEditedBy : List TableDef → Edit → Position → Contents → Contents → Type 0
+IsEditedBy tables asked position now left = IsEditedIn tables position (table_of asked) (asked_of asked) now left
 
 -- the rows were edited, and so many changes are pending then; or not, and this is why
 abbrev pub IsEditedTo : List TableDef → Edit → Result (Unit {0}) EditFault → Member → Member → Type 0

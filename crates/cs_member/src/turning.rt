@@ -1,11 +1,18 @@
 //! What a call makes of a replica.
 
-ghost use Rattle.std.specs.Prelude.{◌≡◌, ◌<◌, ◌^◌, IfOk};
-ghost use Rattle.cs_member.specs.Member.{AreRowsIn, Hears, IsEditedTo, IsPushedTo, IsResent, Turns};
+ghost use Rattle.std.specs.Prelude.{◌≡◌, ◌<◌, ◌^◌, Err, IfOk};
+ghost use Rattle.cs_member.specs.Leaves.{CallLeaves, Counts};
+ghost use Rattle.cs_member.specs.Member.{AreRowsIn, Hears, IsEditedBy, IsEditedTo, IsPushedTo, IsResent, Turns};
 ghost use Rattle.cs_value.specs.declared.edit.Edit.TheVariants.{Delete, Insert, Update};
 ghost use Rattle.cs_wire.specs.Requests.{HasShortChangeset, asked_by_owned};
 ghost use Rattle.cs_pending.specs.View.{View};
+ghost use Rattle.cs_pending.specs.declared.fault.EditFault.TheVariants as edits;
+ghost use Rattle.cs_replica.specs.cs_pushing.PushFault.TheVariants as pushes;
+ghost use Rattle.cs_replica.specs.cs_pushing.Pushes.{IsPushMadeIn};
+ghost use Rattle.cs_replica.specs.Answered.{IsAnsweredNext, SaysDevice};
 ghost use Rattle.cs_replica.specs.Holding.{Shows};
+ghost use Rattle.cs_store.specs.declared.fault.StoreFault.TheVariants as stored;
+ghost use Rattle.cs_wishes.specs.Wished.{IsWished};
 
 use cs_conflict::Wish;
 use cs_pending::EditFault;
@@ -25,7 +32,9 @@ fn insert_into<S: RowStore>(
     table: &Text,
     row: &Row,
 ) -> Result<(), EditFault>
-    ensures { Turns S.honest S.contents (IsEditedTo replica.old.catalog (Insert table.now row.now) result) replica.old replica.new }
+    ensures turned { Turns S.honest S.contents (IsEditedTo replica.old.catalog (Insert table.now row.now) result) replica.old replica.new }
+    ensures left { CallLeaves S.RowStore (IsEditedBy replica.old.catalog (Insert table.now row.now)) replica.old replica.new }
+    ensures counts { Counts S.RowStore (result ≡ Err edits.Device) replica.old replica.new }
 {
     cs_position::laws::one_position();
     let edited = replica.insert(alloc, table.as_str(), row);
@@ -41,7 +50,9 @@ fn update_in<S: RowStore>(
     key: &Key,
     fields: &Fields,
 ) -> Result<(), EditFault>
-    ensures { Turns S.honest S.contents (IsEditedTo replica.old.catalog (Update table.now key.now fields.now) result) replica.old replica.new }
+    ensures turned { Turns S.honest S.contents (IsEditedTo replica.old.catalog (Update table.now key.now fields.now) result) replica.old replica.new }
+    ensures left { CallLeaves S.RowStore (IsEditedBy replica.old.catalog (Update table.now key.now fields.now)) replica.old replica.new }
+    ensures counts { Counts S.RowStore (result ≡ Err edits.Device) replica.old replica.new }
 {
     cs_position::laws::one_position();
     let edited = replica.update(alloc, table.as_str(), key, fields.as_slice());
@@ -56,7 +67,9 @@ fn delete_from<S: RowStore>(
     table: &Text,
     key: &Key,
 ) -> Result<(), EditFault>
-    ensures { Turns S.honest S.contents (IsEditedTo replica.old.catalog (Delete table.now key.now) result) replica.old replica.new }
+    ensures turned { Turns S.honest S.contents (IsEditedTo replica.old.catalog (Delete table.now key.now) result) replica.old replica.new }
+    ensures left { CallLeaves S.RowStore (IsEditedBy replica.old.catalog (Delete table.now key.now)) replica.old replica.new }
+    ensures counts { Counts S.RowStore (result ≡ Err edits.Device) replica.old replica.new }
 {
     cs_position::laws::one_position();
     let edited = replica.delete(alloc, table.as_str(), key);
@@ -74,7 +87,11 @@ pub fn edit_replica<S: RowStore>(
     replica: &mut Replica<S>,
     edit: &Edit,
 ) -> Result<(), EditFault>
-    ensures { Turns S.honest S.contents (IsEditedTo replica.old.catalog edit.now result) replica.old replica.new }
+    ensures turned { Turns S.honest S.contents (IsEditedTo replica.old.catalog edit.now result) replica.old replica.new }
+
+    // What a stop leaves, and that a failed device is told only where its count rose.
+    ensures left { CallLeaves S.RowStore (IsEditedBy replica.old.catalog edit.now) replica.old replica.new }
+    ensures counts { Counts S.RowStore (result ≡ Err edits.Device) replica.old replica.new }
 {
     match edit {
         Edit::Insert { table, row } => insert_into(alloc, replica, table, row),
@@ -93,6 +110,8 @@ pub fn push_replica<S: RowStore>(
     replica: &mut Replica<S>,
 ) -> Result<RequestBuf, PushFault>
     ensures pushed { Turns S.honest S.contents (IsPushedTo replica.old.catalog result) replica.old replica.new }
+    ensures left { CallLeaves S.RowStore (IsPushMadeIn replica.old.catalog) replica.old replica.new }
+    ensures counts { Counts S.RowStore (result ≡ Err pushes.Device) replica.old replica.new }
     ensures short { IfOk result (λ request. HasShortChangeset (asked_by_owned request)) }
 {
     cs_position::laws::one_position();
@@ -137,8 +156,11 @@ pub fn tell_replica<S: RowStore>(
     answer: &Answer<'_>,
     wishes: &[Wish],
 ) -> Result<Told, AnswerFault>
-    ensures { Turns S.honest S.contents (λ before after. Hears replica.old.catalog before answer.now wishes.now result after) replica.old replica.new }
+    ensures turned { Turns S.honest S.contents (λ before after. Hears replica.old.catalog before answer.now wishes.now result after) replica.old replica.new }
+    ensures left { CallLeaves S.RowStore (IsAnsweredNext IsWished replica.old.catalog answer.now) replica.old replica.new }
+    ensures counts { Counts S.RowStore (SaysDevice result) replica.old replica.new }
 {
+    cs_position::laws::one_position();
     let mut picker = Wishes::new(wishes);
     let told = replica.answer(alloc, answer, &mut picker);
     replica.shown();
@@ -158,6 +180,8 @@ pub fn rows_of<S: RowStore>(
     table: usize,
 ) -> Result<Vec<RowAtKey>, StoreFault>
     ensures kept { Turns S.honest S.contents (λ before after. after ≡ before) replica.old replica.new }
+    ensures left { CallLeaves S.RowStore (λ position now left. ⊥) replica.old replica.new }
+    ensures counts { Counts S.RowStore (result ≡ Err stored.Device) replica.old replica.new }
     ensures listed { S.honest replica.new.store → (view : View) → Shows S.contents replica.old view → IfOk result (λ rows. AreRowsIn replica.old.catalog view.tables table rows.items) }
 {
     replica.rows(alloc, table)

@@ -1,7 +1,21 @@
-use Rattle.cs_member.proofs.Turned.{heard}
+use Rattle.cs_member.specs.Member.{Hears}
+use Rattle.cs_replica.specs.Answered.{IsAnsweredNext}
+use Rattle.cs_wishes.specs.Wished.{IsWished}
+use Rattle.cs_member.proofs.Turned.{heard, turns_leave}
 use Rattle.cs_member.proofs.turning.tell_replica.Goals as goal
 
-pub returns : goal.returns
-returns g c =
+pub returns-clause-turned : goal.returns-clause-turned
+returns-clause-turned g c =
     heard g.S.RowStore.honest g.S.RowStore.contents g.S.RowStore.failed g.S.RowStore.may_leave g.S.RowStore.misreads c.args.replica.now c.answer-told.new.self c.answer-told.ensures.catalog
     c.shown.ensures c.args.answer.now c.args.wishes.now c.answer-told.new.picker c.answer-told.result c.version_fits.ensures c.answer-told.ensures.writes.was_honest (rw c.new-picker.ensures at c.answer-told.ensures.told)
+
+pub returns-clause-left : goal.returns-clause-left
+returns-clause-left g c =
+    turns_leave g.S.RowStore c.one_position.ensures (λ before after. Hears c.args.replica.now.catalog before c.args.answer.now c.args.wishes.now c.answer-told.result after) (IsAnsweredNext IsWished c.args.replica.now.catalog c.args.answer.now)
+    c.args.replica.now c.answer-told.new.self
+    (heard g.S.RowStore.honest g.S.RowStore.contents g.S.RowStore.failed g.S.RowStore.may_leave g.S.RowStore.misreads c.args.replica.now c.answer-told.new.self c.answer-told.ensures.catalog
+    c.shown.ensures c.args.answer.now c.args.wishes.now c.answer-told.new.picker c.answer-told.result c.version_fits.ensures c.answer-told.ensures.writes.was_honest (rw c.new-picker.ensures at c.answer-told.ensures.told))
+    _ _ _ _ c.answer-told.ensures.writes
+
+pub returns-clause-counts : goal.returns-clause-counts
+returns-clause-counts g c = record { later = c.answer-told.ensures.writes.later; cause = c.answer-told.ensures.writes.cause }
