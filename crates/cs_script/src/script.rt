@@ -10,7 +10,7 @@ use crate::reading::read_script;
 use cs_lines::{LineInput, LineOutput, write_text};
 use cs_value::{Catalog, Memory};
 use cs_world::{Event, World};
-use std::alloc::{AllocError, Global};
+use std::alloc::Global;
 
 /// Reads a script whole, makes its events in a new world in memory of so many replicas of these tables, and writes what each came to, a
 /// line each, and then the hub and the replicas, each with its rows. (Profile of this project.)
@@ -47,9 +47,6 @@ fn played_text(
     ensures { IfOk result (λ text. IsPlayed catalog.now count events.now (string_bytes text)) }
 {
     cs_world::laws::sound_has_headline();
-    if count == u32::MAX {
-        return Err(AllocError);
-    }
     let mut world = World::in_memory(alloc, catalog, count)?;
     let mut text = String::new(alloc);
     play(alloc, &mut world, events, &mut text)?;

@@ -1,24 +1,30 @@
 -- A world in which nothing has happened.
-use Rattle.std.proofs.Common.{◌≡◌, ◌<◌, ◌-◌, ◌^◌, ◌∙◌, ◌++◌, ℕ, List, [], ◌∷◌, Option, Some, None, length, map, option_map, slice_get, refl, sym, ap, subst, inl, inr, arith}
+use Rattle.std.proofs.Common.{◌≡◌, ◌≤◌, ◌-◌, ◌^◌, ◌∙◌, ◌++◌, ℕ, List, [], ◌∷◌, Option, Some, None, Ok, length, map, option_map, slice_get, refl, sym, ap, subst, inl, inr, arith}
 use Rattle.std.specs.FinMap.{get-empty}
 use Rattle.std.proofs.lemmas.Option.{slice_get-map, slice_get_within}
 use Rattle.std.proofs.lemmas.List.{length-map}
 use Rattle.cs_value.specs.Catalog.{AreTables}
 use Rattle.cs_value.specs.declared.catalog.TableDef.{TableDef}
 use Rattle.cs_hub.specs.Holding as hub
+use Rattle.cs_log.specs.declared.entry.LogEntry.{LogEntry}
+use Rattle.cs_log_store.specs.Shows.{ShowsLog}
 use Rattle.cs_member.specs.cs_replica.Moved.{IsStoreOpened}
 use Rattle.cs_opening.specs.Fresh.{IsFirst, first_position}
 use Rattle.cs_order.specs.Order.{by_bytes}
+use Rattle.cs_pending.specs.Calls.{WritesStore}
 use Rattle.cs_pending.specs.Laws.{empty_view}
 use Rattle.cs_position.specs.Shows.{ShowsAt}
 use Rattle.cs_position.specs.declared.position.Position.{Position}
 use Rattle.cs_member.specs.cs_replica.Holding as replica
+use Rattle.cs_pending.specs.View.{View}
 use Rattle.cs_store.specs.Contents.{Contents, meta_value, name_text, nothing}
-use Rattle.cs_store.specs.declared.names.MetaName.TheVariants.{Pending}
+use Rattle.cs_store.specs.declared.store.RowStore.{Ghosts}
+use Rattle.cs_store.specs.declared.names.MetaName.TheVariants.{Catalog, Pending}
 use Rattle.cs_world.specs.Holding.{AreHonest, Holding, StandsAt}
 use Rattle.cs_world.specs.declared.letter.Letter.{Letter}
 use Rattle.cs_world.specs.Laws.{FirstIsSound, IsFirstMember}
-use Rattle.cs_world.specs.Opened.{IsNewReplica}
+use Rattle.cs_world.specs.Left.{Leaves}
+use Rattle.cs_world.specs.Opened.{IsNewReplica, LeavesAlone}
 use Rattle.cs_world.specs.Runs.{IsNew}
 use Rattle.cs_world.specs.World.{IsMember, Member, World, first_world}
 use Rattle.cs_world.proofs.Found.{in_one_more, nowhere}
@@ -32,7 +38,25 @@ opened_new tables id old new position none (inr (changes, keeps, moved, stands))
     let there = keeps.there in
     absurd (cc)
 
-module _ {S : Type 0} (honest : S → Type 0) (contents : S → Contents) (limit : ℕ) (tables : List TableDef) (are : AreTables tables) (sound : FirstIsSound) (h : hub.Holding S) (replicas : List (replica.Holding S)) where
+-- what shows a replica is something, and so is what shows a log
+shows_some : (tables : List TableDef) (contents : Contents) (bytes : List ℕ) → meta_value contents Catalog ≡ Some bytes → contents ≡ nothing → ⊥
+shows_some tables contents bytes there none =
+    let gone : meta_value contents Catalog ≡ None = ap (λ (c : Contents). meta_value c Catalog) none ∙ get-empty by_bytes (name_text Catalog) in
+    absurd (let e = sym gone ∙ there in cc)
+
+module _ {S T E : Type 0} (g : Ghosts S) (device : E) (readable : Type 0) (after : Contents → Type 0) (old new : S) (value : T)
+    (writes : WritesStore g.honest g.contents g.failed g.may_leave g.misreads device readable after old new (Ok value)) (bare : g.contents old ≡ nothing) where
+  alone : (g.honest new → g.contents new ≡ nothing → ⊥) → LeavesAlone g new
+  alone some h left may =
+      elim (writes.durable h left may) [ inl is ↦ is | inr (before, same) ↦ absurd (some h (same ∙ bare)) ]
+
+  pub replica_alone : (tables : List TableDef) (position : Position) (view : View) → (g.honest new → ShowsAt tables (g.contents new) position view) → LeavesAlone g new
+  replica_alone tables position view shows = alone (λ h. shows_some tables (g.contents new) _ ((shows h).values Catalog))
+
+  pub hub_alone : (tables : List TableDef) (log : List LogEntry) → (g.honest new → ShowsLog tables (g.contents new) log) → LeavesAlone g new
+  hub_alone tables log shows = alone (λ h. shows_some tables (g.contents new) _ ((shows h).values.values Catalog))
+
+module _ {S : Type 0} (g : Ghosts S) (limit : ℕ) (tables : List TableDef) (are : AreTables tables) (sound : FirstIsSound) (h : hub.Holding S) (replicas : List (replica.Holding S)) where
   abbrev first_of : replica.Holding S → Member
   first_of one = record { position = one.position; view = empty_view }
 
@@ -47,9 +71,9 @@ module _ {S : Type 0} (honest : S → Type 0) (contents : S → Contents) (limit
   found : (r : ℕ) (member : Member) → slice_get members r ≡ Some member → (one : replica.Holding S) × (slice_get replicas r ≡ Some one) × (member ≡ first_of one)
   found r member at = member_of r member (slice_get replicas r) refl (sym (slice_get-map first_of replicas r) ∙ at)
 
-  pub is_new : (letters : List Letter) → letters ≡ [] → (count : ℕ) → length replicas ≡ count → count < 2 ^ 32 - 1 → h.catalog ≡ tables → (honest h.store → hub.Shows contents h [])
-      → ((r : ℕ) (one : replica.Holding S) → slice_get replicas r ≡ Some one → IsNewReplica honest contents tables r one)
-      → IsNew honest contents limit tables count (record { hub = h; replicas = replicas; letters = letters })
+  pub is_new : (letters : List Letter) → letters ≡ [] → (count : ℕ) → length replicas ≡ count → count ≤ 2 ^ 32 - 1 → h.catalog ≡ tables → (g.honest h.store → hub.Shows g.contents h [])
+      → ((r : ℕ) (one : replica.Holding S) → slice_get replicas r ≡ Some one → IsNewReplica g tables r one)
+      → IsNew g.honest g.contents limit tables count (record { hub = h; replicas = replicas; letters = letters })
   is_new letters bare count counted few catalog log news all =
       let firsts : (r : ℕ) (member : Member) → IsMember (first_world tables members) r member → IsFirstMember tables r member = (λ r member at.
       let f = found r member at in
@@ -59,8 +83,8 @@ module _ {S : Type 0} (honest : S → Type 0) (contents : S → Contents) (limit
         position = ap (λ (m : Member). m.position) f.2 ∙ n.1;
         view = ap (λ (m : Member). m.view) f.2;
         small = omega (arith, within, counted, few);
-        contents = contents f.0.store;
-        shown = subst (λ (m : Member). ShowsAt tables (contents f.0.store) m.position m.view) (sym f.2) (subst (λ (p : Position). ShowsAt tables (contents f.0.store) p empty_view) (sym n.1) n.2);
+        contents = g.contents f.0.store;
+        shown = subst (λ (m : Member). ShowsAt tables (g.contents f.0.store) m.position m.view) (sym f.2) (subst (λ (p : Position). ShowsAt tables (g.contents f.0.store) p empty_view) (sym n.1) n.2);
       }) in (
         members,
         length-map replicas first_of ∙ counted,
@@ -77,7 +101,7 @@ module _ {S : Type 0} (honest : S → Type 0) (contents : S → Contents) (limit
                   record {
                     catalog = n.0;
                     position = refl;
-                    shows = subst (λ (t : List TableDef). ShowsAt t (contents one.store) one.position empty_view) (sym n.0) (subst (λ (p : Position). ShowsAt tables (contents one.store) p empty_view) (sym n.1) n.2);
+                    shows = subst (λ (t : List TableDef). ShowsAt t (g.contents one.store) one.position empty_view) (sym n.0) (subst (λ (p : Position). ShowsAt tables (g.contents one.store) p empty_view) (sym n.1) n.2);
                   },
                 );
             messages_count = ap (λ (l : List Letter). length l) bare;
@@ -88,26 +112,37 @@ module _ {S : Type 0} (honest : S → Type 0) (contents : S → Contents) (limit
       )
 
 -- none so far
-pub none_yet : {S : Type 0} (honest : S → Type 0) (contents : S → Contents) (tables : List TableDef) (replicas : List (replica.Holding S)) → replicas ≡ []
-    → (r : ℕ) (one : replica.Holding S) → slice_get replicas r ≡ Some one → IsNewReplica honest contents tables r one
-none_yet {S = S} honest contents tables replicas none r one at =
+pub none_yet : {S : Type 0} (g : Ghosts S) (tables : List TableDef) (replicas : List (replica.Holding S)) → replicas ≡ []
+    → (r : ℕ) (one : replica.Holding S) → slice_get replicas r ≡ Some one → IsNewReplica g tables r one
+none_yet {S = S} g tables replicas none r one at =
     absurd (nowhere one r (subst (λ (l : List (replica.Holding S)). slice_get l r ≡ Some one) none at))
 
 -- a replica more
-pub one_more : {S : Type 0} (honest : S → Type 0) (contents : S → Contents) (tables : List TableDef) (replicas : List (replica.Holding S)) (new : replica.Holding S)
-    → ((r : ℕ) (one : replica.Holding S) → slice_get replicas r ≡ Some one → IsNewReplica honest contents tables r one)
-    → IsNewReplica honest contents tables (length replicas) new
+pub one_more : {S : Type 0} (g : Ghosts S) (tables : List TableDef) (replicas : List (replica.Holding S)) (new : replica.Holding S)
+    → ((r : ℕ) (one : replica.Holding S) → slice_get replicas r ≡ Some one → IsNewReplica g tables r one)
+    → IsNewReplica g tables (length replicas) new
     → (all : List (replica.Holding S)) → all ≡ replicas ++ new ∷ []
-    → (r : ℕ) (one : replica.Holding S) → slice_get all r ≡ Some one → IsNewReplica honest contents tables r one
-one_more honest contents tables replicas new news is all same r one at =
+    → (r : ℕ) (one : replica.Holding S) → slice_get all r ≡ Some one → IsNewReplica g tables r one
+one_more g tables replicas new news is all same r one at =
     elim (in_one_more replicas one new r (subst (λ (l : List (replica.Holding _)). slice_get l r ≡ Some one) same at)) [
       | inl old ↦ news r one old
-      | inr (last, it) ↦ subst (λ (i : ℕ). IsNewReplica honest contents tables i one) (sym last) (subst (λ (x : replica.Holding _). IsNewReplica honest contents tables (length replicas) x) (sym it) is)
+      | inr (last, it) ↦ subst (λ (i : ℕ). IsNewReplica g tables i one) (sym last) (subst (λ (x : replica.Holding _). IsNewReplica g tables (length replicas) x) (sym it) is)
     ]
 
 -- where it is new, it stands at a world
-pub new_stands : {S : Type 0} (honest : S → Type 0) (contents : S → Contents) (limit : ℕ) (tables : List TableDef) (count : ℕ) (held : Holding S) → IsNew honest contents limit tables count held
-    → AreHonest honest contents held → (world : World) × StandsAt honest contents limit held world
-new_stands honest contents limit tables count held is all =
+pub new_stands : {S : Type 0} (g : Ghosts S) (limit : ℕ) (tables : List TableDef) (count : ℕ) (held : Holding S) → IsNew g.honest g.contents limit tables count held
+    → AreHonest g.honest g.contents held → (world : World) × StandsAt g.honest g.contents limit held world
+new_stands g limit tables count held is all =
     let n = is all in
     (first_world tables n.0, n.3)
+
+-- and a stop leaves of each of its stores what it holds
+pub new_leaves : {S : Type 0} (g : Ghosts S) (limit : ℕ) (tables : List TableDef) (h : hub.Holding S) (replicas : List (replica.Holding S)) (letters : List Letter) → LeavesAlone g h.store
+    → ((r : ℕ) (one : replica.Holding S) → slice_get replicas r ≡ Some one → IsNewReplica g tables r one)
+    → AreHonest g.honest g.contents (record { hub = h; replicas = replicas; letters = letters }) → (world : World) → Leaves g limit world (record { hub = h; replicas = replicas; letters = letters })
+new_leaves g limit tables h replicas letters alone news all world = record {
+  hub = λ left may. inl (alone all.hub left may);
+  replicas = λ r one at left may.
+      let good = all.replicas r one at in
+      inl ((news r one at good).3 good left may);
+}

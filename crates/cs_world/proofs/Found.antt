@@ -66,6 +66,14 @@ none_too (x ∷ xs) [] k same few = refl
 none_too (x ∷ xs) (y ∷ ys) zero same few = absurd (omega (arith, few))
 none_too (x ∷ xs) (y ∷ ys) (suc k) same few = none_too xs ys k (omega (arith, same)) (omega (arith, few))
 
+-- what stands in one of two lists of one length stands in the other
+pub both_there : {X Y : Type 0} (xs : List X) (ys : List Y) (k : ℕ) (y : Y) → length xs ≡ length ys → slice_get ys k ≡ Some y → (x : X) × (slice_get xs k ≡ Some x)
+both_there [] [] k y same at = absurd (cc)
+both_there [] (z ∷ ys) k y same at = absurd (omega (arith, same))
+both_there (x ∷ xs) [] k y same at = absurd (omega (arith, same))
+both_there (x ∷ xs) (z ∷ ys) zero y same at = (x, refl)
+both_there (x ∷ xs) (z ∷ ys) (suc k) y same at = both_there xs ys k y (omega (arith, same)) at
+
 -- it was there, or it is among those that were added
 pub in_append : {X : Type 0} (xs ys : List X) (x : X) (k : ℕ) → slice_get (xs ++ ys) k ≡ Some x → (slice_get xs k ≡ Some x) ⊎ ((j : ℕ) × (k ≡ length xs + j) × (slice_get ys j ≡ Some x))
 in_append [] ys x k at = inr (k, omega arith, at)

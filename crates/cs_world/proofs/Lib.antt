@@ -10,6 +10,12 @@ mod Came
 mod Coming
 mod Exists
 mod Begun
+mod Asking
+mod Counted
+mod Left
 mod Moved
 mod Running
 mod Read
+mod StopsLocal
+mod StopsRuns
+mod StopsWhole

@@ -6,7 +6,7 @@ use Rattle.cs_value.specs.Catalog.{AreTables}
 use Rattle.cs_value.specs.declared.catalog.TableDef.{TableDef}
 use Rattle.cs_value.specs.declared.edit.Edit.{Edit}
 use Rattle.cs_conflict.specs.declared.wish.Wish.{Wish}
-use Rattle.cs_hub.specs.Calls.{AnswersHub, StaysHub}
+use Rattle.cs_hub.specs.Calls.{AnswersHub, IsServedIn, StaysHub}
 use Rattle.cs_hub.specs.Holding as hub
 use Rattle.cs_hub.specs.Serves.{ServesIf}
 use Rattle.cs_judging.specs.Judged.{hub_of}
@@ -16,18 +16,23 @@ use Rattle.cs_pending.specs.declared.fault.EditFault.{EditFault}
 use Rattle.cs_position.specs.Laws.{FitsPosition}
 use Rattle.cs_position.specs.Shows.{flown}
 use Rattle.cs_position.specs.declared.position.Position.{Position}
+use Rattle.cs_member.specs.Leaves.{CallLeaves, Counts}
+use Rattle.cs_member.specs.Member.{IsEditedBy}
 use Rattle.cs_member.specs.cs_pulling.AnswerFault.{AnswerFault}
-use Rattle.cs_pushing.specs.Pushes.{IsResendFault, pushed, request_of}
+use Rattle.cs_member.specs.cs_replica.Answered.{IsAnsweredNext}
+use Rattle.cs_pushing.specs.Pushes.{IsPushMadeIn, IsResendFault, pushed, request_of}
 use Rattle.cs_pushing.specs.declared.fault.PushFault.{PushFault}
 use Rattle.cs_member.specs.cs_replica.Holding as replica
 use Rattle.cs_member.specs.cs_replica.Told.{Told}
 use Rattle.cs_store.specs.Calls.{MoreFailures}
 use Rattle.cs_store.specs.Contents.{Contents}
+use Rattle.cs_store.specs.declared.store.RowStore.{Ghosts}
 use Rattle.cs_wire.specs.Answers.{FitsAnswer, answer_spelling}
 use Rattle.cs_wire.specs.Laws.{OneToldAnswer}
 use Rattle.cs_wire.specs.Requests.{Asked, AsksPull, asked_by_owned, request_spelling}
 use Rattle.cs_wire.specs.declared.answer.Answer.{Answer}
 use Rattle.cs_wire.specs.declared.request.RequestBuf.{RequestBuf}
+use Rattle.cs_wishes.specs.Wished.{IsWished}
 use Rattle.cs_world.specs.Laws.{AnswersFit}
 use Rattle.cs_world.specs.Steps as step
 use Rattle.cs_world.specs.Steps.{Hears, Step, addressee, heard}
@@ -37,20 +42,25 @@ use Rattle.cs_world.specs.declared.event.Event.TheVariants.{AskPull, Deliver, Ma
 use Rattle.cs_world.specs.declared.outcome.Outcome.{Outcome}
 use Rattle.cs_world.specs.declared.outcome.Outcome.TheVariants as told
 use Rattle.cs_world.specs.Holding.{AreHonest, Holding, Says, ShowsMember, ShowsWorld, StandsAt}
-use Rattle.cs_world.specs.Moves.{Moves}
+use Rattle.cs_world.specs.Fails.{SaysDevice}
+use Rattle.cs_world.specs.Left as found
+use Rattle.cs_world.specs.Left.{WouldLeave, WouldServe}
+use Rattle.cs_world.specs.Moves.{KeepsLeft, Moves}
 use Rattle.cs_world.specs.Turns.{IsEditedTo, IsPushedTo, IsReloadedTo, Turns, member_of}
 use Rattle.cs_world.specs.declared.letter.Letter.{Letter}
 use Rattle.cs_world.specs.declared.letter.Letter.TheVariants as letter
+use Rattle.cs_world.proofs.Counted.{counts_hub, counts_replica, counts_same}
+use Rattle.cs_world.proofs.Left.{HubLeaves, left_as_it_was, left_of_hub, left_of_replica, next_of_answer}
 use Rattle.cs_world.proofs.Found.{added, in_one_more, none_too, same_or_other, set_at, set_length, set_other, set_same, set_there, still}
 
-module _ {S : Type 0} (honest : S → Type 0) (contents : S → Contents) (limit : ℕ) where
+module _ {S : Type 0} (g : Ghosts S) (limit : ℕ) where
   abbrev pub held : hub.Holding S → List (replica.Holding S) → List Letter → Holding S
   held h rs ls = record { hub = h; replicas = rs; letters = ls }
 
   -- ---- a message more
 
-  pub says_more : (h : hub.Holding S) (replicas : List (replica.Holding S)) (letters : List Letter) (world : World) (one : Letter) (message : Sent) → ShowsWorld honest contents (held h replicas letters) world → Says one message
-      → ShowsWorld honest contents (held h replicas (letters ++ one ∷ [])) (with_message world message)
+  pub says_more : (h : hub.Holding S) (replicas : List (replica.Holding S)) (letters : List Letter) (world : World) (one : Letter) (message : Sent) → ShowsWorld g.honest g.contents (held h replicas letters) world → Says one message
+      → ShowsWorld g.honest g.contents (held h replicas (letters ++ one ∷ [])) (with_message world message)
   says_more h replicas letters world one message shows says =
       let n = length-append letters (one ∷ []) in
       let m = length-append world.messages (message ∷ []) in
@@ -73,35 +83,37 @@ module _ {S : Type 0} (honest : S → Type 0) (contents : S → Contents) (limit
   module _ (h : hub.Holding S) (replicas : List (replica.Holding S)) (letters : List Letter) where
     -- ---- nothing changes
 
-    pub stays : (event : Event) (outcome : Outcome) (ls : List Letter) → ls ≡ letters
-        → ((world : World) → StandsAt honest contents limit (held h replicas letters) world → Step limit world event outcome world)
-        → Moves honest contents limit (held h replicas letters) event outcome (held h replicas ls)
-    stays event outcome ls same steps =
-        subst (λ (l : List Letter). Moves honest contents limit (held h replicas letters) event outcome (held h replicas l)) (sym same) (record {
+    pub stays : (event : Event) (outcome : Outcome) → (SaysDevice outcome → ⊥) → (ls : List Letter) → ls ≡ letters
+        → ((world : World) → StandsAt g.honest g.contents limit (held h replicas letters) world → Step limit world event outcome world)
+        → Moves g limit (held h replicas letters) event outcome (held h replicas ls)
+    stays event outcome quiet ls same steps =
+        subst (λ (l : List Letter). Moves g limit (held h replicas letters) event outcome (held h replicas l)) (sym same) (record {
           was_honest = λ all. all;
           moved = λ all world stands. (world, steps world stands, stands.0);
+          left = left_as_it_was g limit h replicas letters letters;
+          counts = counts_same g (SaysDevice outcome) quiet h replicas letters letters;
         })
 
-    pub no_room : (event : Event) (ls : List Letter) → ls ≡ letters → Moves honest contents limit (held h replicas letters) event told.Memory (held h replicas ls)
-    no_room event ls same = stays event told.Memory ls same (λ world stands. step.no_memory)
+    pub no_room : (event : Event) (ls : List Letter) → ls ≡ letters → Moves g limit (held h replicas letters) event told.Memory (held h replicas ls)
+    no_room event ls same = stays event told.Memory (λ none. none) ls same (λ world stands. step.no_memory)
 
     pub none_there : (event : Event) (r : ℕ) (ls : List Letter) → ls ≡ letters → length replicas ≤ r
-        → ((world : World) → StandsAt honest contents limit (held h replicas letters) world → addressee world event ≡ Some r)
-        → Moves honest contents limit (held h replicas letters) event told.NoReplica (held h replicas ls)
+        → ((world : World) → StandsAt g.honest g.contents limit (held h replicas letters) world → addressee world event ≡ Some r)
+        → Moves g limit (held h replicas letters) event told.NoReplica (held h replicas ls)
     none_there event r ls same few to =
-        stays event told.NoReplica ls same (λ world stands. step.no_replica (to world stands) (none_too replicas world.members r stands.0.members_count few))
+        stays event told.NoReplica (λ none. none) ls same (λ world stands. step.no_replica (to world stands) (none_too replicas world.members r stands.0.members_count few))
 
     pub no_letter : (k : ℕ) (wishes : List Wish) (ls : List Letter) → ls ≡ letters → length letters ≤ k
-        → Moves honest contents limit (held h replicas letters) (Deliver k wishes) told.NoMessage (held h replicas ls)
+        → Moves g limit (held h replicas letters) (Deliver k wishes) told.NoMessage (held h replicas ls)
     no_letter k wishes ls same few =
-        stays (Deliver k wishes) told.NoMessage ls same (λ world stands. step.no_message (none_too letters world.messages k stands.0.messages_count few))
+        stays (Deliver k wishes) told.NoMessage (λ none. none) ls same (λ world stands. step.no_message (none_too letters world.messages k stands.0.messages_count few))
 
     pub sends : (event : Event) (one : Letter) (outcome : Outcome) (ls all : List Letter) → ls ≡ letters → all ≡ ls ++ one ∷ [] → outcome ≡ told.Sent (length ls)
-        → ((world : World) → StandsAt honest contents limit (held h replicas letters) world
+        → ((world : World) → StandsAt g.honest g.contents limit (held h replicas letters) world
         → (message : Sent) × Says one message × Step limit world event (told.Sent (length world.messages)) (with_message world message))
-        → Moves honest contents limit (held h replicas letters) event outcome (held h replicas all)
+        → Moves g limit (held h replicas letters) event outcome (held h replicas all)
     sends event one outcome ls all same is as_told steps =
-        subst (λ (l : List Letter). Moves honest contents limit (held h replicas letters) event outcome (held h replicas l)) (sym (is ∙ ap (λ (l : List Letter). l ++ one ∷ []) same)) (record {
+        subst (λ (l : List Letter). Moves g limit (held h replicas letters) event outcome (held h replicas l)) (sym (is ∙ ap (λ (l : List Letter). l ++ one ∷ []) same)) (record {
           was_honest = λ good. record { hub = good.hub; replicas = good.replicas };
           moved = λ good world stands.
               let s = steps world stands in
@@ -110,6 +122,8 @@ module _ {S : Type 0} (honest : S → Type 0) (contents : S → Contents) (limit
                 subst (λ (o : Outcome). Step limit world event o (with_message world s.0)) number s.2,
                 says_more h replicas letters world one s.0 stands.0 s.1,
               );
+          left = left_as_it_was g limit h replicas letters (letters ++ one ∷ []);
+          counts = counts_same g (SaysDevice outcome) (λ says. subst SaysDevice as_told says) h replicas letters (letters ++ one ∷ []);
         })
 
     -- ---- an answer that no replica hears
@@ -120,7 +134,7 @@ module _ {S : Type 0} (honest : S → Type 0) (contents : S → Contents) (limit
     told_of world k r bytes (Tells q answer, there, (who, spelled)) = (answer, there ∙ ap (λ (x : ℕ). Some (Tells x answer)) (sym who), spelled)
 
     pub none_told : (k r : ℕ) (wishes : List Wish) (bytes : Vec ℕ Global) (ls : List Letter) → ls ≡ letters → slice_get letters k ≡ Some (letter.Tells r bytes) → length replicas ≤ r
-        → Moves honest contents limit (held h replicas letters) (Deliver k wishes) told.NoReplica (held h replicas ls)
+        → Moves g limit (held h replicas letters) (Deliver k wishes) told.NoReplica (held h replicas ls)
     none_told k r wishes bytes ls same at few =
         none_there (Deliver k wishes) r ls same few (λ world stands.
         let t = told_of world k r bytes (stands.0.messages k (letter.Tells r bytes) at) in
@@ -128,9 +142,9 @@ module _ {S : Type 0} (honest : S → Type 0) (contents : S → Contents) (limit
 
     pub unread : (k r : ℕ) (wishes : List Wish) (bytes : Vec ℕ Global) (ls : List Letter) → ls ≡ letters → slice_get letters k ≡ Some (letter.Tells r bytes)
         → ((answer : Answer) → FitsAnswer answer → bytes.items ≡ answer_spelling answer → ⊥)
-        → Moves honest contents limit (held h replicas letters) (Deliver k wishes) told.NoMessage (held h replicas ls)
+        → Moves g limit (held h replicas letters) (Deliver k wishes) told.NoMessage (held h replicas ls)
     unread k r wishes bytes ls same at never =
-        stays (Deliver k wishes) told.NoMessage ls same (λ world stands.
+        stays (Deliver k wishes) told.NoMessage (λ none. none) ls same (λ world stands.
         let t = told_of world k r bytes (stands.0.messages k (letter.Tells r bytes) at) in
         absurd (never t.0 (stands.1.spelled k (Tells r t.0) t.1) t.2))
 
@@ -138,25 +152,25 @@ module _ {S : Type 0} (honest : S → Type 0) (contents : S → Contents) (limit
 
     module _ (r : ℕ) (old : replica.Holding S) (was : slice_get replicas r ≡ Some old) where
       -- it is shown, and placed
-      pub member_there : (world : World) → StandsAt honest contents limit (held h replicas letters) world
-          → (before : Member) × IsMember world r before × ShowsMember honest contents world.tables old before
+      pub member_there : (world : World) → StandsAt g.honest g.contents limit (held h replicas letters) world
+          → (before : Member) × IsMember world r before × ShowsMember g.honest g.contents world.tables old before
       member_there world stands = stands.0.members r old was
 
       module _ (new : replica.Holding S) where
-        pub honest_back : (ls : List Letter) → (honest new.store → honest old.store) → AreHonest honest contents (held h (slice_set replicas r new) ls) → AreHonest honest contents (held h replicas letters)
+        pub honest_back : (ls : List Letter) → (g.honest new.store → g.honest old.store) → AreHonest g.honest g.contents (held h (slice_set replicas r new) ls) → AreHonest g.honest g.contents (held h replicas letters)
         honest_back ls back all = record {
           hub = all.hub;
           replicas = λ j one at. elim (same_or_other replicas r new j one at) [
             | inl is ↦
                 let at_r : slice_get replicas r ≡ Some one = subst (λ (i : ℕ). slice_get replicas i ≡ Some one) is at in
                 let same : one ≡ old = cc in
-                subst (λ (x : replica.Holding S). honest x.store) (sym same) (back (all.replicas r new (set_there replicas r new old was)))
+                subst (λ (x : replica.Holding S). g.honest x.store) (sym same) (back (all.replicas r new (set_there replicas r new old was)))
             | inr there ↦ all.replicas j one there
           ];
         }
 
-        pub shows_turned : (world : World) (before after : Member) → ShowsWorld honest contents (held h replicas letters) world → IsMember world r before → ShowsMember honest contents world.tables new after
-            → ShowsWorld honest contents (held h (slice_set replicas r new) letters) (with_member world r after)
+        pub shows_turned : (world : World) (before after : Member) → ShowsWorld g.honest g.contents (held h replicas letters) world → IsMember world r before → ShowsMember g.honest g.contents world.tables new after
+            → ShowsWorld g.honest g.contents (held h (slice_set replicas r new) letters) (with_member world r after)
         shows_turned world before after shows is there = record {
           catalog = shows.catalog;
           log = shows.log;
@@ -165,7 +179,7 @@ module _ {S : Type 0} (honest : S → Type 0) (contents : S → Contents) (limit
             | inl same ↦ (
               after,
               subst (λ (i : ℕ). slice_get (slice_set world.members r after) i ≡ Some after) (sym same.0) (set_there world.members r after before is),
-              subst (λ (x : replica.Holding S). ShowsMember honest contents world.tables x after) (sym same.1) there,
+              subst (λ (x : replica.Holding S). ShowsMember g.honest g.contents world.tables x after) (sym same.1) there,
             )
             | inr other ↦
                 let m = shows.members j one other.1 in
@@ -175,8 +189,8 @@ module _ {S : Type 0} (honest : S → Type 0) (contents : S → Contents) (limit
           messages = shows.messages;
         }
 
-        module _ (turn : List TableDef → Member → Member → Type 0) (turns : Turns honest contents (turn old.catalog) old new) (ls : List Letter) (all : AreHonest honest contents (held h (slice_set replicas r new) ls)) (world : World) (stands : StandsAt honest contents limit (held h replicas letters) world) where
-          pub turned_there : (before : Member) × IsMember world r before × ((after : Member) × turn world.tables before after × ShowsMember honest contents world.tables new after)
+        module _ (turn : List TableDef → Member → Member → Type 0) (turns : Turns g.honest g.contents (turn old.catalog) old new) (ls : List Letter) (all : AreHonest g.honest g.contents (held h (slice_set replicas r new) ls)) (world : World) (stands : StandsAt g.honest g.contents limit (held h replicas letters) world) where
+          pub turned_there : (before : Member) × IsMember world r before × ((after : Member) × turn world.tables before after × ShowsMember g.honest g.contents world.tables new after)
           turned_there =
               let m = member_there world stands in
               let placed = stands.1.placed r m.0 m.1 in
@@ -191,12 +205,19 @@ module _ {S : Type 0} (honest : S → Type 0) (contents : S → Contents) (limit
                 ),
               )
 
+        -- what a commit that failed would have left is what that of an event would
+        abbrev Would : (List TableDef → Position → Contents → Contents → Type 0) → Type 0
+        Would failed =
+            (world : World) → StandsAt g.honest g.contents limit (held h replicas letters) world → (position : Position) (now left : Contents) → failed world.tables position now left
+            → (event : Event) × WouldLeave world r position now left event
+
         -- the replica is as it was
-        pub unturned : (event : Event) (outcome : Outcome) (ls : List Letter) → ls ≡ letters → (turn : List TableDef → Member → Member → Type 0) → Turns honest contents (turn old.catalog) old new
+        pub unturned : (failed : List TableDef → Position → Contents → Contents → Type 0) → CallLeaves g (failed old.catalog) old new → Would failed
+            → (event : Event) (outcome : Outcome) → Counts g (SaysDevice outcome) old new → (ls : List Letter) → ls ≡ letters → (turn : List TableDef → Member → Member → Type 0) → Turns g.honest g.contents (turn old.catalog) old new
             → ((world : World) (before after : Member) → IsMember world r before → turn world.tables before after → (after ≡ before) × Step limit world event outcome world)
-            → Moves honest contents limit (held h replicas letters) event outcome (held h (slice_set replicas r new) ls)
-        unturned event outcome ls same turn turns steps =
-            subst (λ (l : List Letter). Moves honest contents limit (held h replicas letters) event outcome (held h (slice_set replicas r new) l)) (sym same) (record {
+            → Moves g limit (held h replicas letters) event outcome (held h (slice_set replicas r new) ls)
+        unturned failed leaves would event outcome counts ls same turn turns steps =
+            subst (λ (l : List Letter). Moves g limit (held h replicas letters) event outcome (held h (slice_set replicas r new) l)) (sym same) (record {
               was_honest = honest_back letters turns.was_honest;
               moved = λ all world stands.
                   let t = turned_there turn turns letters all world stands in
@@ -205,16 +226,19 @@ module _ {S : Type 0} (honest : S → Type 0) (contents : S → Contents) (limit
                   ap (λ (m : Member). with_member world r m) s.0 ∙ ap (λ (ms : List Member). record world { members = ms }) (set_same world.members r t.0 t.1) in (
                     world,
                     s.1,
-                    subst (ShowsWorld honest contents (held h (slice_set replicas r new) letters)) back (shows_turned world t.0 t.2.0 stands.0 t.1 t.2.2),
+                    subst (ShowsWorld g.honest g.contents (held h (slice_set replicas r new) letters)) back (shows_turned world t.0 t.2.0 stands.0 t.1 t.2.2),
                   );
+              left = left_of_replica g limit h replicas letters r old new was failed leaves would letters;
+              counts = counts_replica g (SaysDevice outcome) (SaysDevice outcome) (λ says. says) h replicas r old new was counts letters letters;
             })
 
         -- the replica is another, and nothing is sent
-        pub turned : (event : Event) (outcome : Outcome) (ls : List Letter) → ls ≡ letters → (turn : List TableDef → Member → Member → Type 0) → Turns honest contents (turn old.catalog) old new
-            → ((world : World) (before after : Member) → StandsAt honest contents limit (held h replicas letters) world → IsMember world r before → turn world.tables before after → Step limit world event outcome (with_member world r after))
-            → Moves honest contents limit (held h replicas letters) event outcome (held h (slice_set replicas r new) ls)
-        turned event outcome ls same turn turns steps =
-            subst (λ (l : List Letter). Moves honest contents limit (held h replicas letters) event outcome (held h (slice_set replicas r new) l)) (sym same) (record {
+        pub turned : (failed : List TableDef → Position → Contents → Contents → Type 0) → CallLeaves g (failed old.catalog) old new → Would failed
+            → (event : Event) (outcome : Outcome) → Counts g (SaysDevice outcome) old new → (ls : List Letter) → ls ≡ letters → (turn : List TableDef → Member → Member → Type 0) → Turns g.honest g.contents (turn old.catalog) old new
+            → ((world : World) (before after : Member) → StandsAt g.honest g.contents limit (held h replicas letters) world → IsMember world r before → turn world.tables before after → Step limit world event outcome (with_member world r after))
+            → Moves g limit (held h replicas letters) event outcome (held h (slice_set replicas r new) ls)
+        turned failed leaves would event outcome counts ls same turn turns steps =
+            subst (λ (l : List Letter). Moves g limit (held h replicas letters) event outcome (held h (slice_set replicas r new) l)) (sym same) (record {
               was_honest = honest_back letters turns.was_honest;
               moved = λ all world stands.
                   let t = turned_there turn turns letters all world stands in (
@@ -222,45 +246,53 @@ module _ {S : Type 0} (honest : S → Type 0) (contents : S → Contents) (limit
                     steps world t.0 t.2.0 stands t.1 t.2.1,
                     shows_turned world t.0 t.2.0 stands.0 t.1 t.2.2,
                   );
+              left = left_of_replica g limit h replicas letters r old new was failed leaves would letters;
+              counts = counts_replica g (SaysDevice outcome) (SaysDevice outcome) (λ says. says) h replicas r old new was counts letters letters;
             })
 
         -- ---- each event
+
+        by_edit : (asked : Edit) → Would (λ tables. IsEditedBy tables asked)
+        by_edit asked world stands position now left made = (OnEdit r asked, found.edited made)
+
+        by_push : Would IsPushMadeIn
+        by_push world stands position now left made = (MakePush r, found.pushed made)
 
         edit_step : (asked : Edit) (world : World) (before after : Member) → IsMember world r before → IsEditedTo world.tables asked (Ok tt) before after → Step limit world (OnEdit r asked) told.Done (with_member world r after)
         edit_step asked world before after is (count, next, left, same, made, shows) =
             subst (λ (m : Member). Step limit world (OnEdit r asked) told.Done (with_member world r m)) (sym same) (step.edits {left = left} count is made shows)
 
-        pub edits : (asked : Edit) (ls : List Letter) → ls ≡ letters → Turns honest contents (IsEditedTo old.catalog asked (Ok tt)) old new
-            → Moves honest contents limit (held h replicas letters) (OnEdit r asked) told.Done (held h (slice_set replicas r new) ls)
-        edits asked ls same turns =
-            turned (OnEdit r asked) told.Done ls same (λ tables. IsEditedTo tables asked (Ok tt)) turns (λ world before after stands is t. edit_step asked world before after is t)
+        pub edits : (asked : Edit) (ls : List Letter) → ls ≡ letters → Counts g ⊥ old new → CallLeaves g (IsEditedBy old.catalog asked) old new → Turns g.honest g.contents (IsEditedTo old.catalog asked (Ok tt)) old new
+            → Moves g limit (held h replicas letters) (OnEdit r asked) told.Done (held h (slice_set replicas r new) ls)
+        edits asked ls same counts leaves turns =
+            turned (λ tables. IsEditedBy tables asked) leaves (by_edit asked) (OnEdit r asked) told.Done counts ls same (λ tables. IsEditedTo tables asked (Ok tt)) turns (λ world before after stands is t. edit_step asked world before after is t)
 
-        pub edits_not : (asked : Edit) (fault : EditFault) (ls : List Letter) → ls ≡ letters → Turns honest contents (IsEditedTo old.catalog asked (Err fault)) old new
-            → Moves honest contents limit (held h replicas letters) (OnEdit r asked) (told.NotEdited fault) (held h (slice_set replicas r new) ls)
-        edits_not asked fault ls same turns =
-            unturned (OnEdit r asked) (told.NotEdited fault) ls same (λ tables. IsEditedTo tables asked (Err fault)) turns (λ world before after is t. (t.0, step.edits_not is t.1))
+        pub edits_not : (asked : Edit) (fault : EditFault) (ls : List Letter) → ls ≡ letters → Counts g (SaysDevice (told.NotEdited fault)) old new → CallLeaves g (IsEditedBy old.catalog asked) old new → Turns g.honest g.contents (IsEditedTo old.catalog asked (Err fault)) old new
+            → Moves g limit (held h replicas letters) (OnEdit r asked) (told.NotEdited fault) (held h (slice_set replicas r new) ls)
+        edits_not asked fault ls same counts leaves turns =
+            unturned (λ tables. IsEditedBy tables asked) leaves (by_edit asked) (OnEdit r asked) (told.NotEdited fault) counts ls same (λ tables. IsEditedTo tables asked (Err fault)) turns (λ world before after is t. (t.0, step.edits_not is t.1))
 
-        pub pushes_not : (fault : PushFault) (ls : List Letter) → ls ≡ letters → Turns honest contents (IsPushedTo old.catalog (Err fault)) old new
-            → Moves honest contents limit (held h replicas letters) (MakePush r) (told.NotPushed fault) (held h (slice_set replicas r new) ls)
-        pushes_not fault ls same turns =
-            unturned (MakePush r) (told.NotPushed fault) ls same (λ tables. IsPushedTo tables (Err fault)) turns (λ world before after is t. (t.0, step.pushes_not is t.1))
+        pub pushes_not : (fault : PushFault) (ls : List Letter) → ls ≡ letters → Counts g (SaysDevice (told.NotPushed fault)) old new → CallLeaves g (IsPushMadeIn old.catalog) old new → Turns g.honest g.contents (IsPushedTo old.catalog (Err fault)) old new
+            → Moves g limit (held h replicas letters) (MakePush r) (told.NotPushed fault) (held h (slice_set replicas r new) ls)
+        pushes_not fault ls same counts leaves turns =
+            unturned IsPushMadeIn leaves by_push (MakePush r) (told.NotPushed fault) counts ls same (λ tables. IsPushedTo tables (Err fault)) turns (λ world before after is t. (t.0, step.pushes_not is t.1))
 
-        pub restarts : (ls : List Letter) → ls ≡ letters → Turns honest contents (IsReloadedTo (Ok tt)) old new
-            → Moves honest contents limit (held h replicas letters) (Restart r) told.Done (held h (slice_set replicas r new) ls)
-        restarts ls same turns =
-            unturned (Restart r) told.Done ls same (λ tables. IsReloadedTo (Ok tt)) turns (λ world before after is t. (t.0, step.restarts is))
+        pub restarts : (ls : List Letter) → ls ≡ letters → Counts g ⊥ old new → CallLeaves g (λ position now left. ⊥) old new → Turns g.honest g.contents (IsReloadedTo (Ok tt)) old new
+            → Moves g limit (held h replicas letters) (Restart r) told.Done (held h (slice_set replicas r new) ls)
+        restarts ls same counts leaves turns =
+            unturned (λ tables position now left. ⊥) leaves (λ world stands position now left none. absurd none) (Restart r) told.Done counts ls same (λ tables. IsReloadedTo (Ok tt)) turns (λ world before after is t. (t.0, step.restarts is))
 
-        pub restarts_not : (fault : OpenFault) (ls : List Letter) → ls ≡ letters → Turns honest contents (IsReloadedTo (Err fault)) old new
-            → Moves honest contents limit (held h replicas letters) (Restart r) (told.NotReloaded fault) (held h (slice_set replicas r new) ls)
-        restarts_not fault ls same turns =
-            unturned (Restart r) (told.NotReloaded fault) ls same (λ tables. IsReloadedTo (Err fault)) turns (λ world before after is t. (t.0, step.restarts_not is t.1))
+        pub restarts_not : (fault : OpenFault) (ls : List Letter) → ls ≡ letters → Counts g (SaysDevice (told.NotReloaded fault)) old new → CallLeaves g (λ position now left. ⊥) old new → Turns g.honest g.contents (IsReloadedTo (Err fault)) old new
+            → Moves g limit (held h replicas letters) (Restart r) (told.NotReloaded fault) (held h (slice_set replicas r new) ls)
+        restarts_not fault ls same counts leaves turns =
+            unturned (λ tables position now left. ⊥) leaves (λ world stands position now left none. absurd none) (Restart r) (told.NotReloaded fault) counts ls same (λ tables. IsReloadedTo (Err fault)) turns (λ world before after is t. (t.0, step.restarts_not is t.1))
 
         -- a push is made
         pub pushes : (request : RequestBuf) (asked : Asked) (outcome : Outcome) (ls all : List Letter) → asked ≡ asked_by_owned request → ls ≡ letters → all ≡ ls ++ letter.Asks r asked ∷ [] → outcome ≡ told.Sent (length ls)
-            → Turns honest contents (IsPushedTo old.catalog (Ok request)) old new
-            → Moves honest contents limit (held h replicas letters) (MakePush r) outcome (held h (slice_set replicas r new) all)
-        pushes request asked outcome ls all asks same is as_told turns =
-            subst (λ (l : List Letter). Moves honest contents limit (held h replicas letters) (MakePush r) outcome (held h (slice_set replicas r new) l)) (sym (is ∙ ap (λ (l : List Letter). l ++ letter.Asks r asked ∷ []) same)) (record {
+            → Counts g ⊥ old new → CallLeaves g (IsPushMadeIn old.catalog) old new → Turns g.honest g.contents (IsPushedTo old.catalog (Ok request)) old new
+            → Moves g limit (held h replicas letters) (MakePush r) outcome (held h (slice_set replicas r new) all)
+        pushes request asked outcome ls all asks same is as_told counts leaves turns =
+            subst (λ (l : List Letter). Moves g limit (held h replicas letters) (MakePush r) outcome (held h (slice_set replicas r new) l)) (sym (is ∙ ap (λ (l : List Letter). l ++ letter.Asks r asked ∷ []) same)) (record {
               was_honest = honest_back (letters ++ letter.Asks r asked ∷ []) turns.was_honest;
               moved = λ good world stands.
                   let t = turned_there (λ tables. IsPushedTo tables (Ok request)) turns (letters ++ letter.Asks r asked ∷ []) good world stands in
@@ -273,10 +305,12 @@ module _ {S : Type 0} (honest : S → Type 0) (contents : S → Contents) (limit
                     subst (λ (o : Outcome). Step limit world (MakePush r) o (with_message (with_member world r t.2.0) message)) number made,
                     shown_and_said world t.0 t.2.0 message stands.0 t.1 t.2.2 (asks ∙ p.4),
                   );
+              left = left_of_replica g limit h replicas letters r old new was IsPushMadeIn leaves by_push (letters ++ letter.Asks r asked ∷ []);
+              counts = counts_replica g (SaysDevice outcome) ⊥ (λ says. subst SaysDevice as_told says) h replicas r old new was counts letters (letters ++ letter.Asks r asked ∷ []);
             })
           where
-            shown_and_said : (world : World) (before after : Member) (message : Sent) → ShowsWorld honest contents (held h replicas letters) world → IsMember world r before → ShowsMember honest contents world.tables new after
-                → {its : Asked} → asked ≡ its → ShowsWorld honest contents (held h (slice_set replicas r new) (letters ++ letter.Asks r asked ∷ [])) (with_message (with_member world r after) (Asks r its))
+            shown_and_said : (world : World) (before after : Member) (message : Sent) → ShowsWorld g.honest g.contents (held h replicas letters) world → IsMember world r before → ShowsMember g.honest g.contents world.tables new after
+                → {its : Asked} → asked ≡ its → ShowsWorld g.honest g.contents (held h (slice_set replicas r new) (letters ++ letter.Asks r asked ∷ [])) (with_message (with_member world r after) (Asks r its))
             shown_and_said world before after message shows at there {its = its} same_asked =
                 says_more h (slice_set replicas r new) letters (with_member world r after) (letter.Asks r asked) (Asks r its) (shows_turned world before after shows at there) (refl, same_asked)
 
@@ -284,24 +318,34 @@ module _ {S : Type 0} (honest : S → Type 0) (contents : S → Contents) (limit
         pub hears : (k : ℕ) (wishes : List Wish) (bytes : Vec ℕ Global) (answer : Answer) (result : Result Told AnswerFault) (ls : List Letter) → ls ≡ letters
             → slice_get letters k ≡ Some (letter.Tells r bytes) → FitsAnswer answer → bytes.items ≡ answer_spelling answer
             → OneToldAnswer
-            → Turns honest contents (λ before after. Hears old.catalog before answer wishes result after) old new
-            → Moves honest contents limit (held h replicas letters) (Deliver k wishes) (heard result) (held h (slice_set replicas r new) ls)
-        hears k wishes bytes answer result ls same at fits spelled one turns =
-            turned (Deliver k wishes) (heard result) ls same (λ tables before after. Hears tables before answer wishes result after) turns
+            → Counts g (SaysDevice (heard result)) old new
+            → CallLeaves g (IsAnsweredNext IsWished old.catalog answer) old new
+            → Turns g.honest g.contents (λ before after. Hears old.catalog before answer wishes result after) old new
+            → Moves g limit (held h replicas letters) (Deliver k wishes) (heard result) (held h (slice_set replicas r new) ls)
+        hears k wishes bytes answer result ls same at fits spelled one counts leaves turns =
+            turned (λ tables. IsAnsweredNext IsWished tables answer) leaves by_answer (Deliver k wishes) (heard result) counts ls same (λ tables before after. Hears tables before answer wishes result after) turns
             (λ world before after stands is t. told_step world before after stands is t (told_of world k r bytes (stands.0.messages k (letter.Tells r bytes) at)))
           where
-            told_step : (world : World) (before after : Member) → StandsAt honest contents limit (held h replicas letters) world → IsMember world r before → Hears world.tables before answer wishes result after
-                → (its : Answer) × IsMessage world k (Tells r its) × (bytes.items ≡ answer_spelling its) → Step limit world (Deliver k wishes) (heard result) (with_member world r after)
-            told_step world before after stands is t (its, there, its_spelled) =
+            message_is : (world : World) → StandsAt g.honest g.contents limit (held h replicas letters) world → (its : Answer) × IsMessage world k (Tells r its) × (bytes.items ≡ answer_spelling its) → IsMessage world k (Tells r answer)
+            message_is world stands (its, there, its_spelled) =
                 let both : Ok its ≡ Ok answer = one bytes.items (Ok its) (Ok answer) (stands.1.spelled k (Tells r its) there, its_spelled) (fits, spelled) in
                 let same_answer : its ≡ answer = cc in
-                step.hears (there ∙ ap (λ (a : Answer). Some (Tells r a)) same_answer) is t
+                there ∙ ap (λ (a : Answer). Some (Tells r a)) same_answer
+
+            by_answer : Would (λ tables. IsAnsweredNext IsWished tables answer)
+            by_answer world stands position now left next =
+                next_of_answer world k r answer position now left (message_is world stands (told_of world k r bytes (stands.0.messages k (letter.Tells r bytes) at))) next
+
+            told_step : (world : World) (before after : Member) → StandsAt g.honest g.contents limit (held h replicas letters) world → IsMember world r before → Hears world.tables before answer wishes result after
+                → (its : Answer) × IsMessage world k (Tells r its) × (bytes.items ≡ answer_spelling its) → Step limit world (Deliver k wishes) (heard result) (with_member world r after)
+            told_step world before after stands is t (its, there, its_spelled) =
+                step.hears (message_is world stands (its, there, its_spelled)) is t
 
     -- ---- requests
 
     pub asks : (r version count : ℕ) (old : replica.Holding S) (asked : Asked) (outcome : Outcome) (ls all : List Letter) → slice_get replicas r ≡ Some old → version ≡ old.position.version → count < 2 ^ 32
         → asked ≡ AsksPull version count → ls ≡ letters → all ≡ ls ++ letter.Asks r asked ∷ [] → outcome ≡ told.Sent (length ls)
-        → Moves honest contents limit (held h replicas letters) (AskPull r count) outcome (held h replicas all)
+        → Moves g limit (held h replicas letters) (AskPull r count) outcome (held h replicas all)
     asks r version count old asked outcome ls all was is_version few is same is_all as_told =
         sends (AskPull r count) (letter.Asks r asked) outcome ls all same is_all as_told (λ world stands.
         let m = member_there r old was world stands in (
@@ -316,7 +360,7 @@ module _ {S : Type 0} (honest : S → Type 0) (contents : S → Contents) (limit
 
     pub resends : (r : ℕ) (old : replica.Holding S) (asked : Asked) (outcome : Outcome) (ls all : List Letter) → slice_get replicas r ≡ Some old → IsSome old.position.flight
         → asked ≡ request_of old.position (flown old.position.flight) → ls ≡ letters → all ≡ ls ++ letter.Asks r asked ∷ [] → outcome ≡ told.Sent (length ls)
-        → Moves honest contents limit (held h replicas letters) (Resend r) outcome (held h replicas all)
+        → Moves g limit (held h replicas letters) (Resend r) outcome (held h replicas all)
     resends r old asked outcome ls all was some is same is_all as_told =
         sends (Resend r) (letter.Asks r asked) outcome ls all same is_all as_told (λ world stands.
         let m = member_there r old was world stands in
@@ -328,15 +372,15 @@ module _ {S : Type 0} (honest : S → Type 0) (contents : S → Contents) (limit
         ))
 
     pub resends_not : (r : ℕ) (old : replica.Holding S) (fault : PushFault) (ls : List Letter) → slice_get replicas r ≡ Some old → IsResendFault fault old.position → ls ≡ letters
-        → Moves honest contents limit (held h replicas letters) (Resend r) (told.NotPushed fault) (held h replicas ls)
+        → Moves g limit (held h replicas letters) (Resend r) (told.NotPushed fault) (held h replicas ls)
     resends_not r old fault ls was why same =
-        stays (Resend r) (told.NotPushed fault) ls same (λ world stands.
+        stays (Resend r) (told.NotPushed fault) (λ device. subst (λ (f : PushFault). IsResendFault f old.position) device why) ls same (λ world stands.
         let m = member_there r old was world stands in
         step.resends_not m.1 (subst (IsResendFault fault) m.2.position why))
 
     -- ---- the hub serves
 
-    module _ (failed : S → ℕ) (may_leave : S → Contents → Type 0) (misreads : S → ℕ) (small : limit < 2 ^ 32) (fit : AnswersFit) (k r : ℕ) (request : Asked) (at : slice_get letters k ≡ Some (letter.Asks r request)) where
+    module _ (small : limit < 2 ^ 32) (fit : AnswersFit) (k r : ℕ) (request : Asked) (at : slice_get letters k ≡ Some (letter.Asks r request)) where
       weaker : (device : Type 0) (old new : _) (asked answer : List ℕ) → ServesIf device limit old asked answer new → ServesIf (Unit {0}) limit old asked answer new
       weaker device old new asked answer (inl serves) = inl serves
       weaker device old new asked answer (inr (failed_so, is, same)) = inr (tt, is, same)
@@ -346,23 +390,42 @@ module _ {S : Type 0} (honest : S → Type 0) (contents : S → Contents) (limit
           there ∙ (ap (λ (x : ℕ). Some (Asks x asked)) (sym who) ∙ ap (λ (a : Asked). Some (Asks r a)) (sym is))
       what_was_asked world (Tells q answer, there, says) = absurd says
 
+      would_serve : (world : World) → StandsAt g.honest g.contents limit (held h replicas letters) world → (bytes : List ℕ) → bytes ≡ request_spelling request → (now left : Contents) → IsServedIn limit h.catalog bytes now left → WouldServe limit world now left
+      would_serve world stands bytes spelled now left served = record {
+        message = k;
+        who = r;
+        asked = request;
+        sent = what_was_asked world (stands.0.messages k (letter.Asks r request) at);
+        served = subst (λ (b : List ℕ). IsServedIn limit world.tables b now left) spelled (subst (λ (t : List TableDef). IsServedIn limit t bytes now left) stands.0.catalog served);
+      }
+
+      hub_left : (bytes : List ℕ) → bytes ≡ request_spelling request → (new : hub.Holding S) → HubLeaves g limit bytes h new → (ls : List Letter) → KeepsLeft g limit (held h replicas letters) (held new replicas ls)
+      hub_left bytes spelled new leaves =
+          left_of_hub g limit h replicas letters new (λ world all stands left may.
+          elim (leaves all.hub world.log stands.0.log left may) [
+            | inl now ↦ inl now
+            | inr (inl before) ↦ inr (inl before)
+            | inr (inr served) ↦ inr (inr (would_serve world stands bytes spelled (g.contents new.store) left served))
+          ])
+
       pub serves : (wishes : List Wish) (bytes : List ℕ) (answer : Vec ℕ Global) (new : hub.Holding S) (outcome : Outcome) (ls all : List Letter) → bytes ≡ request_spelling request
-          → AnswersHub honest contents failed may_leave misreads limit h bytes answer.items new
+          → AnswersHub g.honest g.contents g.failed g.may_leave g.misreads limit h bytes answer.items new
+          → HubLeaves g limit bytes h new → g.failed h.store ≤ g.failed new.store
           → ls ≡ letters → all ≡ ls ++ letter.Tells r answer ∷ [] → outcome ≡ told.Sent (length ls)
-          → Moves honest contents limit (held h replicas letters) (Deliver k wishes) outcome (held new replicas all)
-      serves wishes bytes answer new outcome ls all spelled answers same is_all as_told =
-          subst (λ (l : List Letter). Moves honest contents limit (held h replicas letters) (Deliver k wishes) outcome (held new replicas l)) (sym (is_all ∙ ap (λ (l : List Letter). l ++ letter.Tells r answer ∷ []) same)) (record {
+          → Moves g limit (held h replicas letters) (Deliver k wishes) outcome (held new replicas all)
+      serves wishes bytes answer new outcome ls all spelled answers leaves later same is_all as_told =
+          subst (λ (l : List Letter). Moves g limit (held h replicas letters) (Deliver k wishes) outcome (held new replicas l)) (sym (is_all ∙ ap (λ (l : List Letter). l ++ letter.Tells r answer ∷ []) same)) (record {
             was_honest = λ good. record { hub = answers.was_honest good.hub; replicas = good.replicas };
             moved = λ good world stands.
                 let there = what_was_asked world (stands.0.messages k (letter.Asks r request) at) in
                 let s = answers.answered good.hub world.log stands.0.log in
-                let by_bytes = weaker (MoreFailures (failed h.store) (failed new.store)) (hub_of h.catalog world.log) (hub_of h.catalog s.0) bytes answer.items s.1 in
+                let by_bytes = weaker (MoreFailures (g.failed h.store) (g.failed new.store)) (hub_of h.catalog world.log) (hub_of h.catalog s.0) bytes answer.items s.1 in
                 let by_tables = subst (λ (t : List TableDef). ServesIf (Unit {0}) limit (hub_of t world.log) bytes answer.items (hub_of t s.0)) stands.0.catalog by_bytes in
                 let by_asked = subst (λ (b : List ℕ). ServesIf (Unit {0}) limit (hub_of world.tables world.log) b answer.items (hub_of world.tables s.0)) spelled by_tables in
                 let f = fit limit world k r request answer.items s.0 small stands.1 there by_asked in
                 let number : told.Sent (length world.messages) ≡ outcome = ap (λ (n : ℕ). told.Sent n) (sym stands.0.messages_count ∙ ap (λ (l : List Letter). length l) (sym same)) ∙ sym as_told in
                 let next : World = with_log world s.0 in
-                let shown : ShowsWorld honest contents (held new replicas letters) next = record {
+                let shown : ShowsWorld g.honest g.contents (held new replicas letters) next = record {
                   catalog = answers.catalog ∙ stands.0.catalog;
                   log = s.2;
                   members_count = stands.0.members_count;
@@ -375,12 +438,14 @@ module _ {S : Type 0} (honest : S → Type 0) (contents : S → Contents) (limit
                       (step.serves f.0 there f.1 (subst (λ (b : List ℕ). ServesIf (Unit {0}) limit (hub_of world.tables world.log) (request_spelling request) b (hub_of world.tables s.0)) f.2 by_asked)),
                   says_more new replicas letters next (letter.Tells r answer) (Tells r f.0) shown (refl, f.2),
                 );
+            left = hub_left bytes spelled new leaves (letters ++ letter.Tells r answer ∷ []);
+            counts = counts_hub g (SaysDevice outcome) h new (λ says. absurd (subst SaysDevice as_told says)) replicas letters (letters ++ letter.Tells r answer ∷ []) later;
           })
 
-      pub serves_not : (wishes : List Wish) (new : hub.Holding S) (ls : List Letter) → StaysHub honest contents failed may_leave misreads h new → ls ≡ letters
-          → Moves honest contents limit (held h replicas letters) (Deliver k wishes) told.Memory (held new replicas ls)
-      serves_not wishes new ls kept same =
-          subst (λ (l : List Letter). Moves honest contents limit (held h replicas letters) (Deliver k wishes) told.Memory (held new replicas l)) (sym same) (record {
+      pub serves_not : (wishes : List Wish) (bytes : List ℕ) (new : hub.Holding S) (ls : List Letter) → bytes ≡ request_spelling request → StaysHub g.honest g.contents g.failed g.may_leave g.misreads h new → HubLeaves g limit bytes h new → g.failed h.store ≤ g.failed new.store → ls ≡ letters
+          → Moves g limit (held h replicas letters) (Deliver k wishes) told.Memory (held new replicas ls)
+      serves_not wishes bytes new ls spelled kept leaves later same =
+          subst (λ (l : List Letter). Moves g limit (held h replicas letters) (Deliver k wishes) told.Memory (held new replicas l)) (sym same) (record {
             was_honest = λ good. record { hub = kept.was_honest good.hub; replicas = good.replicas };
             moved = λ good world stands. (
               world,
@@ -394,7 +459,9 @@ module _ {S : Type 0} (honest : S → Type 0) (contents : S → Contents) (limit
                 messages = stands.0.messages;
               },
             );
+            left = hub_left bytes spelled new leaves letters;
+            counts = counts_hub g ⊥ h new (λ none. absurd none) replicas letters letters later;
           })
         where
-          still_shown : (world : World) → honest new.store → hub.Shows contents h world.log → hub.Shows contents new world.log
+          still_shown : (world : World) → g.honest new.store → hub.Shows g.contents h world.log → hub.Shows g.contents new world.log
           still_shown world good (shows, count) = (rw (kept.catalog, kept.same good) shows, kept.newest ∙ count)

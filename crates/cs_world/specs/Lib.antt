@@ -7,8 +7,12 @@ pub mod Merges
 pub mod Laws
 pub mod Short
 pub mod Holding
+pub mod Fails
+pub mod Left
 pub mod Moves
 pub mod Turns
 pub mod Runs
 pub mod Opened
 pub mod Reads
+pub mod Stops
+pub mod StopsLaws

@@ -2,6 +2,7 @@
 
 ghost use Rattle.cs_member.specs.cs_replica.Laws.{AnswerHasResult};
 ghost use Rattle.cs_world.specs.Laws.{AnswersFit, AskHasStep, DeliverHasStep, EditHasStep, EventsMerge, FirstIsSound, OneRun, OneStep, PullsMerge, PushHasStep, ResendHasStep, RestartHasStep, SoundHasHeadline, StepsAreSound, WishesPickOnce};
+ghost use Rattle.cs_world.specs.StopsLaws.{FoundIsStep, FoundIsStepOfHub, OpensAsLeft, RunWithStops, RunsWhole, StopOfHub, StopOfReplica};
 
 use cs_conflict::Picker;
 use cs_wishes::Wishes;
@@ -164,4 +165,49 @@ pub fn deliver_has_step()
     cs_normalising::laws::normal_again();
     let wishes = Wishes::new(&[]);
     answer_has_result_by(&wishes);
+}
+
+// ---- stops
+
+/// A run with stops is a run without, and has the headline.
+pub fn run_with_stops()
+    ensures { RunWithStops }
+{
+    steps_are_sound();
+    sound_has_headline();
+}
+
+/// Each run without stops is one in which none came.
+pub fn runs_whole()
+    ensures { RunsWhole }
+{}
+
+/// What a commit that failed may yet have left in a replica's store shows what a step of its event makes of the replica.
+pub fn found_is_step()
+    ensures { FoundIsStep }
+{}
+
+/// The same of the hub of a sound world.
+pub fn found_is_step_of_hub()
+    ensures { FoundIsStepOfHub }
+{
+    answers_fit();
+}
+
+/// Behind a stop of one replica's store, or of the hub's, the stores show a world that has the headline.
+pub fn stops_keep_headline()
+    ensures replica { StopOfReplica }
+    ensures hub { StopOfHub }
+{
+    answers_fit();
+    steps_are_sound();
+    sound_has_headline();
+}
+
+/// What a stop leaves of a replica's store is opened as it stands.
+pub fn opens_as_left()
+    ensures { OpensAsLeft }
+{
+    cs_moving::laws::store_openings();
+    cs_opening::laws::openings();
 }

@@ -3,12 +3,14 @@
 //! `World::run` makes any list of events happen over any stores, edits, pushes, pulls, losses, repeats and restarts in any order, and its
 //! contract is the headline (`specs/Headline.antt`): over honest stores each event makes its step, each replica's tables are the hub's at its
 //! version with its own changes on top, each pull is the three-way merge, no push conflicts, each counts once, and replicas at rest at one
-//! version have the same rows. `laws` says why: a world that began with nothing stays sound, whatever happens in it, and what is sound has
-//! the headline. It knows nothing of text. The crate stands on `cs_hub` and `cs_replica`, whose calls each event makes. Its tests stand
+//! version have the same rows. So it is of whatever a stop leaves of one of the stores (`specs/Left.antt`), and of a run in which some stop
+//! (`specs/Stops.antt`). `laws` says why: a world that began with nothing stays sound, whatever happens in it, and what is sound has the
+//! headline. It knows nothing of text. The crate stands on `cs_hub` and `cs_replica`, whose calls each event makes. Its tests stand
 //! in `cs_world_tests`.
 #![tactic(auto)]
 
 mod event;
+mod fault;
 pub mod laws;
 mod letter;
 mod moving;
@@ -19,5 +21,6 @@ mod turning;
 mod world;
 
 pub use event::{Event, WishList};
+pub use fault::WorldFault;
 pub use outcome::Outcome;
 pub use world::World;

@@ -4,6 +4,7 @@ ghost use Rattle.std.specs.Prelude.{◌≡◌, ◌<◌, ◌++◌, [], ◌∷◌,
 ghost use Rattle.cs_world.specs.declared.event.Event.TheVariants.{AskPull, Deliver, MakePush, OnEdit, Resend, Restart};
 ghost use Rattle.cs_world.specs.declared.outcome.Outcome.TheVariants as told;
 ghost use Rattle.cs_log.specs.declared.entry.TheConstants.{MAX_ENTRIES};
+ghost use Rattle.cs_world.specs.Fails.{AsksHub};
 ghost use Rattle.cs_world.specs.Moves.{Moves};
 
 use crate::event::Event;
@@ -51,7 +52,8 @@ fn send(letters: &mut Vec<Letter>, letter: Letter) -> Outcome
 impl<S: RowStore> Core<S> {
     /// What an event does, and what it comes to.
     pub(crate) fn step(&mut self, event: &Event) -> Outcome
-        ensures { Moves S.honest S.contents MAX_ENTRIES self.old event.now result self.new }
+        ensures moves { Moves S.RowStore MAX_ENTRIES self.old event.now result self.new }
+        ensures asks { AsksHub S.RowStore MAX_ENTRIES event.now result self.old self.new }
     {
         match event {
             Event::OnEdit { replica, edit } => self.edit(*replica, edit),
@@ -64,7 +66,7 @@ impl<S: RowStore> Core<S> {
     }
 
     fn edit(&mut self, which: u32, edit: &Edit) -> Outcome
-        ensures { Moves S.honest S.contents MAX_ENTRIES self.old (OnEdit which edit.now) result self.new }
+        ensures { Moves S.RowStore MAX_ENTRIES self.old (OnEdit which edit.now) result self.new }
     {
         let Some(replica) = self.replicas.get_mut(which as usize) else {
             return Outcome::NoReplica;
@@ -76,7 +78,7 @@ impl<S: RowStore> Core<S> {
     }
 
     fn make_push(&mut self, which: u32) -> Outcome
-        ensures { Moves S.honest S.contents MAX_ENTRIES self.old (MakePush which) result self.new }
+        ensures { Moves S.RowStore MAX_ENTRIES self.old (MakePush which) result self.new }
     {
         if self.letters.reserve(1).is_err() {
             return Outcome::Memory;
@@ -97,7 +99,7 @@ impl<S: RowStore> Core<S> {
     }
 
     fn resend(&mut self, which: u32) -> Outcome
-        ensures { Moves S.honest S.contents MAX_ENTRIES self.old (Resend which) result self.new }
+        ensures { Moves S.RowStore MAX_ENTRIES self.old (Resend which) result self.new }
     {
         if self.letters.reserve(1).is_err() {
             return Outcome::Memory;
@@ -118,7 +120,7 @@ impl<S: RowStore> Core<S> {
     }
 
     fn ask_pull(&mut self, which: u32, limit: u32) -> Outcome
-        ensures { Moves S.honest S.contents MAX_ENTRIES self.old (AskPull which limit) result self.new }
+        ensures { Moves S.RowStore MAX_ENTRIES self.old (AskPull which limit) result self.new }
     {
         if self.letters.reserve(1).is_err() {
             return Outcome::Memory;
@@ -140,7 +142,7 @@ impl<S: RowStore> Core<S> {
     }
 
     fn restart(&mut self, which: u32) -> Outcome
-        ensures { Moves S.honest S.contents MAX_ENTRIES self.old (Restart which) result self.new }
+        ensures { Moves S.RowStore MAX_ENTRIES self.old (Restart which) result self.new }
     {
         let Some(replica) = self.replicas.get_mut(which as usize) else {
             return Outcome::NoReplica;
@@ -152,7 +154,8 @@ impl<S: RowStore> Core<S> {
     }
 
     fn deliver(&mut self, which: usize, wishes: &[Wish]) -> Outcome
-        ensures { Moves S.honest S.contents MAX_ENTRIES self.old (Deliver which wishes.now) result self.new }
+        ensures moves { Moves S.RowStore MAX_ENTRIES self.old (Deliver which wishes.now) result self.new }
+        ensures asks { AsksHub S.RowStore MAX_ENTRIES (Deliver which wishes.now) result self.old self.new }
     {
         crate::laws::answers_fit();
         cs_log::laws::most_entries();

@@ -3,12 +3,12 @@
 ghost use Rattle.std.specs.Prelude.{◌≡◌, ◌<◌, ◌-◌, ◌^◌, [], All, IfOk, length};
 ghost use Rattle.cs_hub.specs.Holding as hub;
 ghost use Rattle.cs_store.specs.Contents.{nothing};
-ghost use Rattle.cs_world.specs.Opened.{IsNewReplica};
+ghost use Rattle.cs_world.specs.Opened.{IsNewReplica, LeavesAlone};
 
+use crate::fault::WorldFault;
 use cs_hub::Hub;
 use cs_map_store::MapStore;
 use cs_member::below::Replica;
-use cs_opening::OpenFault;
 use cs_store::RowStore;
 use cs_value::{Catalog, Memory};
 use std::alloc::Global;
@@ -18,7 +18,7 @@ pub(crate) fn bare_stores(alloc: Global, count: u32) -> Result<Vec<MapStore>, Me
     ensures bare { IfOk result (λ stores. All (λ store. ⟦<MapStore as RowStore>⟧.contents store ≡ nothing) stores.items) }
     ensures count { IfOk result (λ stores. length stores.items ≡ count) }
 {
-    let mut stores = Vec::new(alloc);
+    let mut stores = Vec::with_capacity(alloc, count as usize)?;
     for number in 0..count {
         let _ = number;
         stores.push(MapStore::new(alloc))?;
@@ -32,14 +32,14 @@ pub(crate) fn open_replica<S: RowStore + Drop>(
     store: S,
     catalog: &Catalog,
     number: u32,
-) -> Result<Replica<S>, OpenFault>
+) -> Result<Replica<S>, WorldFault>
     requires bare { S.contents store ≡ nothing }
     requires small { number < 2 ^ 32 - 1 }
-    ensures { IfOk result (IsNewReplica S.honest S.contents catalog.now number) }
+    ensures { IfOk result (IsNewReplica S.RowStore catalog.now number) }
 {
     match Replica::open(alloc, store, catalog, number) {
         Ok(replica) => Ok(replica),
-        Err((_, fault)) => Err(fault),
+        Err((_, fault)) => Err(WorldFault::from(fault)),
     }
 }
 
@@ -48,13 +48,14 @@ pub(crate) fn open_hub<S: RowStore + Drop>(
     alloc: Global,
     store: S,
     catalog: &Catalog,
-) -> Result<Hub<S>, OpenFault>
+) -> Result<Hub<S>, WorldFault>
     requires { S.contents store ≡ nothing }
     ensures catalog { IfOk result (λ opened. opened.catalog ≡ catalog.now) }
     ensures shown { IfOk result (λ opened. S.honest opened.store → hub.Shows S.contents opened []) }
+    ensures alone { IfOk result (λ opened. LeavesAlone S.RowStore opened.store) }
 {
     match Hub::open(alloc, store, catalog) {
         Ok(hub) => Ok(hub),
-        Err((_, fault)) => Err(fault),
+        Err((_, fault)) => Err(WorldFault::from(fault)),
     }
 }

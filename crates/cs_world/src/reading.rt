@@ -1,11 +1,14 @@
 //! What a world shows.
 
-ghost use Rattle.std.specs.Prelude.{◌≡◌, [], None, Some, IfOk, length, slice_get};
+ghost use Rattle.std.specs.Prelude.{◌≡◌, [], None, Some, Err, IfOk, length, slice_get};
 ghost use Rattle.std.specs.Option.{option_copied};
 ghost use Rattle.cs_log.specs.declared.entry.TheConstants.{MAX_ENTRIES};
 ghost use Rattle.cs_log.specs.Log.{state_of};
 ghost use Rattle.cs_member.specs.cs_replica.Holding.{Holding as Held};
+ghost use Rattle.cs_store.specs.declared.fault.StoreFault.TheVariants.{Device};
+ghost use Rattle.cs_world.specs.Fails.{CountsOn};
 ghost use Rattle.cs_world.specs.Holding.{AreHonest, StandsAt};
+ghost use Rattle.cs_world.specs.Moves.{KeepsLeft};
 ghost use Rattle.cs_world.specs.Reads.{AreRowsIn, Reads, letter_receiver};
 ghost use Rattle.cs_world.specs.World.{IsMember, Member, World as Standing};
 
@@ -21,6 +24,8 @@ impl<S: RowStore> Core<S> {
     /// The rows of a replica's table; none where there is no such replica.
     fn rows(&mut self, replica: usize, table: usize) -> Result<Vec<RowAtKey>, StoreFault>
         ensures reads { Reads S.honest S.contents MAX_ENTRIES self.old self.new }
+        ensures left { KeepsLeft S.RowStore MAX_ENTRIES self.old self.new }
+        ensures counts { CountsOn S.RowStore (result ≡ Err Device) self.old self.new }
         ensures listed { AreHonest S.honest S.contents self.new → (world : Standing) → StandsAt S.honest S.contents MAX_ENTRIES self.old world → (member : Member) → IsMember world replica member → IfOk result (λ rows. AreRowsIn world.tables member.view.tables table rows.items) }
         ensures none { slice_get self.old.replicas replica ≡ None → IfOk result (λ rows. rows.items ≡ []) }
     {
@@ -36,6 +41,8 @@ impl<S: RowStore> Core<S> {
     /// The rows of the hub's table.
     fn hub_rows(&mut self, table: usize) -> Result<Vec<RowAtKey>, StoreFault>
         ensures reads { Reads S.honest S.contents MAX_ENTRIES self.old self.new }
+        ensures left { KeepsLeft S.RowStore MAX_ENTRIES self.old self.new }
+        ensures counts { CountsOn S.RowStore (result ≡ Err Device) self.old self.new }
         ensures listed { AreHonest S.honest S.contents self.new → (world : Standing) → StandsAt S.honest S.contents MAX_ENTRIES self.old world → IfOk result (λ rows. AreRowsIn world.tables (state_of world.log) table rows.items) }
     {
         match self.hub.rows(table) {
@@ -111,8 +118,9 @@ impl<S: RowStore> World<S> {
     ///
     /// `Memory` and `Device`.
     pub fn rows(&mut self, replica: usize, table: usize) -> Result<Vec<RowAtKey>, StoreFault>
-        // Nothing has happened.
+        // Nothing has happened, and a failed device is told only where its count rose.
         ensures reads { Reads S.honest S.contents MAX_ENTRIES self.old self.new }
+        ensures counts { CountsOn S.RowStore (result ≡ Err Device) self.old self.new }
         ensures listed { AreHonest S.honest S.contents self.new → (world : Standing) → StandsAt S.honest S.contents MAX_ENTRIES self.old world → (member : Member) → IsMember world replica member → IfOk result (λ rows. AreRowsIn world.tables member.view.tables table rows.items) }
         ensures none { slice_get self.old.replicas replica ≡ None → IfOk result (λ rows. rows.items ≡ []) }
     {
@@ -125,8 +133,9 @@ impl<S: RowStore> World<S> {
     ///
     /// `Memory` and `Device`.
     pub fn hub_rows(&mut self, table: usize) -> Result<Vec<RowAtKey>, StoreFault>
-        // Nothing has happened.
+        // Nothing has happened, and a failed device is told only where its count rose.
         ensures reads { Reads S.honest S.contents MAX_ENTRIES self.old self.new }
+        ensures counts { CountsOn S.RowStore (result ≡ Err Device) self.old self.new }
         ensures listed { AreHonest S.honest S.contents self.new → (world : Standing) → StandsAt S.honest S.contents MAX_ENTRIES self.old world → IfOk result (λ rows. AreRowsIn world.tables (state_of world.log) table rows.items) }
     {
         self.core.hub_rows(table)

@@ -1,5 +1,8 @@
 //! A replica that reads its store again.
 
+ghost use Rattle.std.specs.Prelude.{◌≡◌, Err};
+ghost use Rattle.cs_member.specs.Leaves.{CallLeaves, Counts};
+ghost use Rattle.cs_opening.specs.declared.fault.OpenFault.TheVariants.{Device};
 ghost use Rattle.cs_world.specs.Turns.{IsReloadedTo, Turns};
 
 use cs_member::below::Replica;
@@ -12,7 +15,9 @@ pub(crate) fn reload_replica<S: RowStore>(
     alloc: Global,
     replica: &mut Replica<S>,
 ) -> Result<(), OpenFault>
-    ensures { Turns S.honest S.contents (IsReloadedTo result) replica.old replica.new }
+    ensures turned { Turns S.honest S.contents (IsReloadedTo result) replica.old replica.new }
+    ensures left { CallLeaves S.RowStore (λ position now left. ⊥) replica.old replica.new }
+    ensures counts { Counts S.RowStore (result ≡ Err Device) replica.old replica.new }
 {
     replica.reload(alloc)
 }

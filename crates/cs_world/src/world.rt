@@ -1,16 +1,18 @@
 //! The world over stores.
 
-ghost use Rattle.std.specs.Prelude.{◌≡◌, ◌<◌, ◌-◌, ◌^◌, [], ◌∷◌, All, IfOk, OnErr, length};
+ghost use Rattle.std.specs.Prelude.{◌≡◌, ◌<◌, ◌^◌, [], ◌∷◌, All, IfOk, OnErr, length};
 ghost use Rattle.cs_log.specs.declared.entry.TheConstants.{MAX_ENTRIES};
 ghost use Rattle.cs_store.specs.Contents.{nothing};
+ghost use Rattle.cs_world.specs.Fails.{AsksHub, CountsOn, SaysDevice, SomeSaysDevice};
+ghost use Rattle.cs_world.specs.Left.{StopsHaveHeadline};
 ghost use Rattle.cs_world.specs.Runs.{HasHeadline, IsNew, RunMerges, Runs};
 
 use crate::event::Event;
+use crate::fault::WorldFault;
 use crate::moving::Core;
 use crate::opening::{bare_stores, open_hub, open_replica};
 use crate::outcome::Outcome;
 use cs_map_store::MapStore;
-use cs_opening::OpenFault;
 use cs_store::RowStore;
 use cs_value::{Catalog, Memory};
 use std::alloc::{AllocError, Global};
@@ -28,12 +30,14 @@ impl<S: RowStore> Model for World<S> {
     ghost use Rattle.cs_world.specs.World.{World as Standing};
     ghost use Rattle.cs_log.specs.declared.entry.TheConstants.{MAX_ENTRIES};
     ghost use Rattle.cs_world.specs.Holding.{AreHonest, Holding, StandsAt};
+    ghost use Rattle.cs_world.specs.Left.{Leaves};
 
     ghost Value = { Holding S };
 
     ghost view = { λ world. world.core };
 
-    ghost invariant = { λ world. AreHonest S.honest S.contents world.core → (standing : Standing) × StandsAt S.honest S.contents MAX_ENTRIES world.core standing };
+    ghost invariant = { λ world. AreHonest S.honest S.contents world.core
+        → (standing : Standing) × StandsAt S.honest S.contents MAX_ENTRIES world.core standing × Leaves S.RowStore MAX_ENTRIES standing world.core };
 }
 
 impl<S: RowStore + Drop> World<S> {
@@ -42,17 +46,16 @@ impl<S: RowStore + Drop> World<S> {
     ///
     /// # Errors
     ///
-    /// `Memory`, or `Device` where a store failed; over stores that hold something, those of `Hub::open` and `Replica::open`. The stores are
-    /// let go then.
+    /// `Memory`, and `Device` where a store failed. The stores are let go then.
     pub fn new(
         alloc: Global,
         catalog: &Catalog,
         hub: S,
         replicas: Vec<S>,
-    ) -> Result<World<S>, OpenFault>
+    ) -> Result<World<S>, WorldFault>
         requires hub { S.contents hub ≡ nothing }
         requires replicas { All (λ store. S.contents store ≡ nothing) replicas.items }
-        requires count { length replicas.items < 2 ^ 32 - 1 }
+        requires count { length replicas.items < 2 ^ 32 }
         ensures { IfOk result (IsNew S.honest S.contents MAX_ENTRIES catalog.now (length replicas.items)) }
     {
         crate::laws::first_is_sound();
@@ -85,7 +88,6 @@ impl World<MapStore> {
         catalog: &Catalog,
         count: u32,
     ) -> Result<World<MapStore>, Memory>
-        requires { count < 2 ^ 32 - 1 }
         ensures { IfOk result (IsNew ⟦<MapStore as RowStore>⟧.honest ⟦<MapStore as RowStore>⟧.contents MAX_ENTRIES catalog.now count) }
     {
         let stores = bare_stores(alloc, count)?;
@@ -97,17 +99,31 @@ impl World<MapStore> {
 }
 
 impl<S: RowStore> World<S> {
-    /// What is so of every world, whatever has happened in it: the headline. It takes no memory, and does nothing.
+    /// What is so of every world, whatever has happened in it: the headline, also behind a stop. It takes no memory, and does nothing.
     pub fn headline(&self)
-        ensures { HasHeadline S.honest S.contents MAX_ENTRIES self.now }
+        ensures headline { HasHeadline S.honest S.contents MAX_ENTRIES self.now }
+
+        // Whatever a stop now leaves of one of its stores, that and the others show a world that has the headline: this one, or one to
+        // which a step leads.
+        ensures stops { StopsHaveHeadline S.RowStore MAX_ENTRIES self.now }
     {
+        crate::laws::answers_fit();
+        crate::laws::steps_are_sound();
         crate::laws::sound_has_headline();
+        cs_log::laws::most_entries();
+        cs_wire::laws::one_told_answer();
         let _core = &self.core;
     }
 
     /// Makes an event happen. (Profile of this project.)
     pub fn step(&mut self, event: &Event) -> Outcome
-        ensures { Runs S.honest S.contents MAX_ENTRIES self.old (event.now ∷ []) (result ∷ []) self.new }
+        ensures ran { Runs S.honest S.contents MAX_ENTRIES self.old (event.now ∷ []) (result ∷ []) self.new }
+
+        // A failed device is told only where its count rose.
+        ensures counts { CountsOn S.RowStore (SaysDevice result) self.old self.new }
+
+        // A request that reaches the hub is answered by it.
+        ensures asks { AsksHub S.RowStore MAX_ENTRIES event.now result self.old self.new }
     {
         crate::laws::steps_are_sound();
         cs_log::laws::most_entries();
@@ -123,12 +139,18 @@ impl<S: RowStore> World<S> {
         // The steps of the events are made, with these outcomes.
         ensures ran { IfOk result (λ outcomes. Runs S.honest S.contents MAX_ENTRIES self.old events.now outcomes.items self.new) }
 
+        // A failed device is told only where its count rose.
+        ensures counts { IfOk result (λ outcomes. CountsOn S.RowStore (SomeSaysDevice outcomes.items) self.old self.new) }
+
         // Each pull is the three-way merge of the log's tables at the replica's version, its own, and the log's at the next.
         ensures merges { IfOk result (λ outcomes. RunMerges S.honest S.contents MAX_ENTRIES self.old events.now outcomes.items) }
 
         // Each replica's tables are the hub's at its version with its own changes on top, no push conflicts, each counts once, and replicas
         // at rest at one version have the same rows.
         ensures headline { HasHeadline S.honest S.contents MAX_ENTRIES self.new }
+
+        // So it is of whatever a stop now leaves of one of its stores.
+        ensures stops { StopsHaveHeadline S.RowStore MAX_ENTRIES self.new }
         ensures refused { OnErr result (self.new ≡ self.old) }
     {
         crate::laws::events_merge();

@@ -6,8 +6,8 @@ use Rattle.cs_world.proofs.opening.bare_stores.Goals as goal
 
 pub loop-number-init : goal.loop-number-init
 loop-number-init c = record {
-  bare = rw c.new-stores.ensures.items (All-nil (λ (store : MapStore). store.held ≡ nothing));
-  count = let none = ap length c.new-stores.ensures.items in omega (arith, none);
+  bare = rw c.in_ok-stores.ensures.items (All-nil (λ (store : MapStore). store.held ≡ nothing));
+  count = let none = ap length c.in_ok-stores.ensures.items in omega (arith, none);
 }
 
 pub loop-number-preserved : goal.loop-number-preserved

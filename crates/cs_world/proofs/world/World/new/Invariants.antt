@@ -7,7 +7,7 @@ use Rattle.cs_world.proofs.world.World.new.Given as goal
 
 abbrev pub invariant-loop-store : goal.invariant-loop-store
 invariant-loop-store g l = record {
-  news : (r : ℕ) (one : Holding g.row.S.Denot) → slice_get l.opened.items r ≡ Some one → IsNewReplica g.S.RowStore.honest g.S.RowStore.contents l.fn.catalog r one;
+  news : (r : ℕ) (one : Holding g.row.S.Denot) → slice_get l.opened.items r ≡ Some one → IsNewReplica g.S.RowStore l.fn.catalog r one;
   bare : All (λ store. g.S.RowStore.contents store ≡ nothing) (into_iter_items l.store-iterator);
   counted : length l.opened.items + length (into_iter_items l.store-iterator) ≡ length l.fn.replicas.items;
 }

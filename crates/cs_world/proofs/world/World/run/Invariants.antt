@@ -1,11 +1,12 @@
 use Rattle.std.proofs.Common.{◌+◌, ◌≤◌, length, vec_capacity, vec_len}
 use Rattle.cs_log.specs.declared.entry.TheConstants.{MAX_ENTRIES}
-use Rattle.cs_world.proofs.Running.{Running}
+use Rattle.cs_world.proofs.Running.{Counting, Running}
 use Rattle.cs_world.proofs.world.World.run.Given as goal
 
 abbrev pub invariant-loop-event : goal.invariant-loop-event
 invariant-loop-event g l = record {
-  running : Running g.S.RowStore.honest g.S.RowStore.contents MAX_ENTRIES l.fn.self l.fn.events l.self l.rest l.outcomes.items;
+  running : Running g.S.RowStore MAX_ENTRIES l.fn.self l.fn.events l.self l.rest l.outcomes.items;
+  counting : Counting g.S.RowStore MAX_ENTRIES l.fn.self l.self l.outcomes.items;
   room : vec_len l.outcomes + length l.rest ≤ vec_capacity l.outcomes;
 }
 

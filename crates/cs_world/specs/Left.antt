@@ -1,0 +1,127 @@
+-- What a stop may leave of the stores of a world, and what these show then (profile of this project).
+use Rattle.std.specs.Prelude.{◌≡◌, ◌⊎◌, ◌++◌, ℕ, List, Option, Some, slice_get, slice_set}
+use Rattle.cs_value.specs.declared.catalog.TableDef.{TableDef}
+use Rattle.cs_value.specs.declared.edit.Edit.{Edit}
+use Rattle.cs_conflict.specs.declared.wish.Wish.{Wish}
+use Rattle.cs_hub.specs.Calls.{IsServedIn}
+use Rattle.cs_log.specs.declared.entry.LogEntry.{LogEntry}
+use Rattle.cs_log_store.specs.Shows.{ShowsLog}
+use Rattle.cs_member.specs.Member.{IsEditedBy}
+use Rattle.cs_member.specs.cs_replica.Accepted.{IsAccepted}
+use Rattle.cs_member.specs.cs_replica.Holding as replica
+use Rattle.cs_member.specs.cs_pulling.Listed.{IsOneMoreIn}
+use Rattle.cs_position.specs.Shows.{ShowsAt}
+use Rattle.cs_position.specs.declared.position.Position.{Position}
+use Rattle.cs_pushing.specs.Pushes.{IsConfirmedIn, IsPushMadeIn}
+use Rattle.cs_store.specs.Contents.{Contents}
+use Rattle.cs_store.specs.declared.store.RowStore.{Ghosts}
+use Rattle.cs_wire.specs.Entries.{ToldEntry}
+use Rattle.cs_wire.specs.Requests.{Asked, request_spelling}
+use Rattle.cs_wire.specs.declared.answer.Answer.TheVariants.{Entries, Short}
+use Rattle.cs_wire.specs.declared.short_answer.ShortAnswer.TheVariants.{Accepted}
+use Rattle.cs_wishes.specs.Wished.{IsWished}
+use Rattle.cs_world.specs.Headline.{Headline}
+use Rattle.cs_world.specs.Holding.{AreHonest, Holding, StandsAt}
+use Rattle.cs_world.specs.Sound.{IsSound}
+use Rattle.cs_world.specs.Steps.{Step}
+use Rattle.cs_world.specs.World.{Asks, IsMessage, Member, Sent, Tells, World}
+use Rattle.cs_world.specs.declared.event.Event.{Event}
+use Rattle.cs_world.specs.declared.event.Event.TheVariants.{Deliver, MakePush, OnEdit}
+use Rattle.cs_world.specs.declared.outcome.Outcome.{Outcome}
+
+-- ---- stores
+
+-- whose store it is: the hub's, or that of the replica with this number
+pub data Place : Type 0 where
+  AtHub : Place
+  AtReplica : (r : ℕ) → Place
+
+-- what such a store keeps: the log, or the replica
+abbrev pub Kept : Place → Type 0
+Kept AtHub = List LogEntry
+Kept (AtReplica r) = Member
+
+-- what it keeps in a world; none where there is no such replica
+abbrev pub kept_at : (place : Place) → World → Option (Kept place)
+kept_at AtHub world = Some world.log
+kept_at (AtReplica r) world = slice_get world.members r
+
+-- the world in which it keeps this, and in which these messages were sent too
+abbrev pub turned : (place : Place) → World → Kept place → List Sent → World
+turned AtHub world log sent = record world { log = log; messages = world.messages ++ sent }
+turned (AtReplica r) world member sent =
+    record world { members = slice_set world.members r member; messages = world.messages ++ sent }
+
+-- contents of such a store show that it keeps this
+abbrev pub ShowsKept : List TableDef → (place : Place) → Contents → Kept place → Type 0
+ShowsKept tables AtHub contents log = ShowsLog tables contents log
+ShowsKept tables (AtReplica r) contents member = ShowsAt tables contents member.position member.view
+
+-- ---- what a failed commit may have left
+
+-- what the commit of an event would have left in the store of replica number r, of the message that reaches it where the event is that
+pub data WouldLeave (world : World) (r : ℕ) (position : Position) (old left : Contents) : Event → Type 0 where
+  edited : {asked : Edit} → IsEditedBy world.tables asked position old left
+      → WouldLeave world r position old left (OnEdit r asked)
+  pushed : IsPushMadeIn world.tables position old left
+      → WouldLeave world r position old left (MakePush r)
+  confirmed : {k origin number version : ℕ} {wishes : List Wish}
+      → IsMessage world k (Tells r (Short (Accepted origin number version)))
+      → IsAccepted position origin number version → IsConfirmedIn world.tables position old left
+      → WouldLeave world r position old left (Deliver k wishes)
+  pulled : {k first : ℕ} {entries : List ToldEntry} {wishes : List Wish}
+      → IsMessage world k (Tells r (Entries first entries))
+      → IsOneMoreIn IsWished world.tables first entries position old wishes left
+      → WouldLeave world r position old left (Deliver k wishes)
+
+-- of the hub's store, a request that was sent
+pub record WouldServe (limit : ℕ) (world : World) (old left : Contents) : Type 0 where
+  pub message : ℕ
+  pub who : ℕ
+  pub asked : Asked
+  pub sent : IsMessage world message (Asks who asked)
+  pub served : IsServedIn limit world.tables (request_spelling asked) old left
+
+-- ---- what a stop leaves
+
+module _ {S : Type 0} (g : Ghosts S) where
+  -- a stop now leaves of the store of replica number r, which stands at this position, what it holds, or what the commit of an event would have left
+  abbrev pub LeavesReplica : World → ℕ → Position → S → Type 0
+  LeavesReplica world r position store =
+      (left : Contents) → g.may_leave store left
+      → (left ≡ g.contents store) ⊎ ((event : Event) × WouldLeave world r position (g.contents store) left event)
+
+  -- and of the hub's store what it holds, or that with a request served that was sent
+  abbrev pub LeavesHub : ℕ → World → S → Type 0
+  LeavesHub limit world store =
+      (left : Contents) → g.may_leave store left → (left ≡ g.contents store) ⊎ WouldServe limit world (g.contents store) left
+
+  -- so of each store of a world
+  pub record Leaves (limit : ℕ) (world : World) (held : Holding S) : Type 0 where
+    pub hub : LeavesHub limit world held.hub.store
+    pub replicas : (r : ℕ) (one : replica.Holding S) → slice_get held.replicas r ≡ Some one → LeavesReplica world r one.position one.store
+
+  -- a stop now may leave this of the store there
+  abbrev pub MayLeaveAt : Holding S → Place → Contents → Type 0
+  MayLeaveAt held AtHub left = g.may_leave held.hub.store left
+  MayLeaveAt held (AtReplica r) left =
+      (one : replica.Holding S) × (slice_get held.replicas r ≡ Some one) × g.may_leave one.store left
+
+-- ---- the headline, stops included
+
+-- what was left of a store shows what it keeps in a world that is sound and has the headline, the other stores as they are; that is the
+-- world before the stop, or a step leads there
+pub record Survives (limit : ℕ) (world : World) (place : Place) (left : Contents) : Type 0 where
+  pub kept : Kept place
+  pub sent : List Sent
+  pub shows : ShowsKept world.tables place left kept
+  pub sound : IsSound limit (turned place world kept sent)
+  pub headline : Headline (turned place world kept sent)
+  pub by : (turned place world kept sent ≡ world)
+      ⊎ ((event : Event) × (outcome : Outcome) × Step limit world event outcome (turned place world kept sent))
+
+-- where the stores are honest, so is it of whatever a stop now leaves of one of them
+abbrev pub StopsHaveHeadline : {S : Type 0} → Ghosts S → ℕ → Holding S → Type 0
+StopsHaveHeadline g limit held =
+    AreHonest g.honest g.contents held → (world : World) → StandsAt g.honest g.contents limit held world
+    → (place : Place) (left : Contents) → MayLeaveAt g held place left → Survives limit world place left
