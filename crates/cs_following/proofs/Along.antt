@@ -18,7 +18,7 @@ use Rattle.cs_replica.specs.cs_pulling.Pulls.{IsPulledIn, PullsOne}
 use Rattle.cs_replica.specs.Holding.{Holding, Shows}
 use Rattle.cs_replica.specs.cs_taking.Takes.{taken}
 use Rattle.cs_following.specs.InTurn.{WentOn, no_call_yet, one_more, one_failed}
-use Rattle.cs_following.specs.Pulls.{IsPulledAmong, IsTakeFault, PullsAll, PullsEach, PullsKnown}
+use Rattle.cs_following.specs.Pulls.{IsNextKnown, IsPulledAmong, IsTakeFault, PullsAll, PullsEach, PullsKnown}
 use Rattle.cs_following.specs.Standing.{StandsWhereHonest}
 use Rattle.cs_following.specs.declared.fault.NodeFault.{NodeFault}
 use Rattle.cs_following.specs.declared.fault.NodeFault.TheVariants.{Device}
@@ -83,7 +83,7 @@ module _ {P S : Type 0} (picks : P → Clash → Wish → P → Type 0) (honest 
     pub seen : honest now.store → (before : View) → Shows contents begun before
         → (here : View) × PullsKnown picks begun.catalog known begun.position before p now.position here q × ShowsAt begun.catalog (contents now.store) now.position here
     pub turn : WentOn honest contents failed may_leave misreads (ShowsSomeAt begun.catalog begun.position (contents begun.store))
-        (IsPulledAmong picks begun.catalog known begun.position (contents begun.store) p) begun.store now.store
+        (IsPulledAmong picks begun.catalog known begun.position (contents begun.store) p) (IsNextKnown picks begun.catalog known now.position (contents now.store)) begun.store now.store
     pub stands : StandsWhereHonest honest contents known begun → StandsWhereHonest honest contents known now
 
   -- at the start
@@ -93,7 +93,7 @@ module _ {P S : Type 0} (picks : P → Clash → Wish → P → Type 0) (honest 
     from = omega (arith, is);
     catalog = refl;
     seen = λ h before shows. (before, known_none picks begun.catalog known begun.position before p within, shows);
-    turn = no_call_yet honest contents failed may_leave misreads _ _ begun.store;
+    turn = no_call_yet honest contents failed may_leave misreads _ _ _ begun.store;
     stands = λ s. s;
   }
 
@@ -140,7 +140,7 @@ module _ {P S : Type 0} (picks : P → Clash → Wish → P → Type 0) (honest 
                 (known_more picks begun.catalog known begun.position before p mid.position s.0 q s.1 entry there pending (contents new.store) after.0 r after.2 after.1),
             subst (λ (x : Position). ShowsAt begun.catalog (contents new.store) x after.0) (sym is) after.1,
           );
-      turn = one_more honest contents failed may_leave misreads _ _ _ _ begun.store mid.store new.store readable among a.turn Device done writes;
+      turn = one_more honest contents failed may_leave misreads _ _ _ _ _ _ begun.store mid.store new.store readable among a.turn Device done writes;
       stands = λ s. stands known there (a.stands s);
     }
 
@@ -162,7 +162,15 @@ module _ {P S : Type 0} (picks : P → Clash → Wish → P → Type 0) (honest 
             (entry, there, subst (λ (t : List TableDef). IsTakeFault picks t fault mid.position entry s.0 q r) a.catalog told),
           )
 
+      -- its commit, where that failed
+      next : contents new.store ≡ contents mid.store → (left : Contents) → IsPulledIn picks mid.catalog mid.position entry q r (contents mid.store) left
+          → IsNextKnown picks begun.catalog known new.position (contents new.store) left
+      next same left pulled =
+          subst (λ (x : Position). IsNextKnown picks begun.catalog known x (contents new.store) left) (sym kept)
+          (subst (λ (c : Contents). IsNextKnown picks begun.catalog known mid.position c left) (sym same)
+          (entry, there, (q, r, subst (λ (t : List TableDef). IsPulledIn picks t mid.position entry q r (contents mid.store) left) a.catalog pulled)))
+
       pub along_failed : (finished told : Type 0) → (finished → ⊥) → (told → fault ≡ Device)
           → WritesInTurn honest contents failed may_leave misreads finished told (ShowsSomeAt begun.catalog begun.position (contents begun.store))
-          (IsPulledAmong picks begun.catalog known begun.position (contents begun.store) p) begun.store new.store
-      along_failed finished told undone is = one_failed honest contents failed may_leave misreads _ _ _ _ begun.store mid.store new.store readable among a.turn Device fault finished told undone is writes
+          (IsPulledAmong picks begun.catalog known begun.position (contents begun.store) p) (IsNextKnown picks begun.catalog known new.position (contents new.store)) begun.store new.store
+      along_failed finished told undone is = one_failed honest contents failed may_leave misreads _ _ _ _ _ _ begun.store mid.store new.store readable among a.turn Device fault finished told undone is next writes

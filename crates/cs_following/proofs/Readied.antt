@@ -1,5 +1,5 @@
 -- A push that is made ready.
-use Rattle.std.proofs.Common.{◌≡◌, ◌+◌, ◌++◌, ◌∷◌, ℕ, true, List, Option, refl, sym, ap, subst, ◌∙◌, inr}
+use Rattle.std.proofs.Common.{◌≡◌, ◌+◌, ◌++◌, ◌∷◌, ℕ, true, List, Option, Ok, Err, refl, sym, ap, subst, ◌∙◌, inr}
 use Rattle.std.proofs.lemmas.List.{append_cancel_left}
 use Rattle.std.proofs.lemmas.Option.{same_Some}
 use Rattle.cs_value.specs.Catalog.{AreTables}
@@ -15,9 +15,13 @@ use Rattle.cs_store.specs.declared.names.MetaName.TheVariants.{Flight}
 use Rattle.cs_pending.specs.View.{View}
 use Rattle.cs_position.specs.Shows.{ShowsAt, base}
 use Rattle.cs_position.specs.declared.position.Position.{Position}
-use Rattle.cs_replica.specs.cs_pushing.Pushes.{IsPushMade, grounded, pushed}
+use Rattle.cs_replica.specs.cs_pushing.PushFault.{PushFault}
+use Rattle.cs_replica.specs.cs_pushing.PushFault.TheVariants as push
+use Rattle.cs_replica.specs.cs_pushing.Pushes.{IsPushMade, IsPushMadeIn, grounded, pushed}
 use Rattle.cs_wire.specs.Numbers.{eight_bytes}
+use Rattle.cs_following.specs.Faults.{told_of_push}
 use Rattle.cs_following.specs.Pushes.{IsReadied}
+use Rattle.cs_following.specs.declared.fault.NodeFault.TheVariants.{Device}
 
 behind_same : (front a b : List ℕ) → front ++ a ≡ front ++ b → a ≡ b
 behind_same front a b is = append_cancel_left front a b is
@@ -45,3 +49,28 @@ module _ (one : OneBody) (tables : List TableDef) (are : AreTables tables) (posi
 
   pub made_rows : AreSame (base position.flight before) (base now.flight (grounded before))
   made_rows = subst (λ (f : Option (List TableChanges)). AreSame (base position.flight before) (base f (grounded before))) (sym (ap (λ (x : Position). x.flight) now_is)) made.log_rows
+
+-- ---- none is made
+
+-- what the commit would have left, where it failed
+pub made_next : (tables : List TableDef) (position other : Position) (old new : Contents) → other ≡ position → new ≡ old → (left : Contents) → IsPushMadeIn tables position old left → IsPushMadeIn tables other new left
+made_next tables position other old new kept same left made =
+    subst (λ (x : Position). IsPushMadeIn tables x new left) (sym kept) (subst (λ (c : Contents). IsPushMadeIn tables position c left) (sym same) made)
+
+-- no fault is told as one that was made
+pub never_made : (fault : PushFault) → told_of_push fault ≡ Ok true → ⊥
+never_made push.Memory is = let no = is in cc
+never_made push.Nothing is = let no = is in cc
+never_made push.InFlight is = let no = is in cc
+never_made push.Device is = let no = is in cc
+never_made push.Spent is = let no = is in cc
+never_made push.TooLarge is = let no = is in cc
+
+-- and none but a failed device as that
+pub device_made : (fault : PushFault) → told_of_push fault ≡ Err Device → fault ≡ push.Device
+device_made push.Memory is = absurd (let no = is in cc)
+device_made push.Nothing is = absurd (let no = is in cc)
+device_made push.InFlight is = absurd (let no = is in cc)
+device_made push.Device is = refl
+device_made push.Spent is = absurd (let no = is in cc)
+device_made push.TooLarge is = absurd (let no = is in cc)

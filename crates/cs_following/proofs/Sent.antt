@@ -21,8 +21,8 @@ use Rattle.cs_replica.specs.cs_pulling.Pulls.{IsPulledIn}
 use Rattle.cs_replica.specs.cs_pushing.Pushes.{HasNothing, IsPushMadeIn, grounded, pushed}
 use Rattle.cs_replica.specs.Flight.{flight_entry}
 use Rattle.cs_replica.specs.cs_taking.Takes.{taken}
-use Rattle.cs_following.specs.Pulls.{IsTakeFault}
-use Rattle.cs_following.specs.Pushes.{IsNotOffered, IsReadied, IsReadyFault, IsSent, IsSentAmong, PushesOn}
+use Rattle.cs_following.specs.Pulls.{IsNextKnown, IsTakeFault}
+use Rattle.cs_following.specs.Pushes.{IsNotOffered, IsReadied, IsReadyFault, IsSent, IsSentAmong, IsSentNext, PushesOn}
 use Rattle.cs_following.specs.declared.fault.NodeFault.{NodeFault}
 use Rattle.cs_following.specs.declared.fault.NodeFault.TheVariants.{BadEntry, Device, Full, Memory, Spent, Stopped, TooLarge}
 use Rattle.cs_following.specs.declared.pushed.NodePush.TheVariants.{Accepted, Other}
@@ -137,6 +137,15 @@ taken_leaves picks tables position ready old mid p q entry readied left pulled a
     let r = readied are before shows in
     let after = pulled r.0 r.1 in
     (ready, r.0, r.2, inr (entry, after.0, q, len left.pending, after.2, after.1))
+
+-- and what its commit would have left, where that failed
+pub taken_next : {P : Type 0} (picks : P → Clash → Wish → P → Type 0) (tables others : List TableDef) (ready other : Position) (mid new : Contents) (p q : P) (learned : List LogEntry) (entry : LogEntry)
+    → others ≡ tables → other ≡ ready → slice_get learned ready.version ≡ Some entry → new ≡ mid
+    → (left : Contents) → IsPulledIn picks others ready entry p q mid left → IsSentNext picks tables learned other new left
+taken_next picks tables others ready other mid new p q learned entry same kept here stays left pulled =
+    inr (subst (λ (x : Position). IsNextKnown picks tables learned x new left) (sym kept)
+    (subst (λ (c : Contents). IsNextKnown picks tables learned ready c left) (sym stays)
+    (entry, here, (p, q, subst (λ (t : List TableDef). IsPulledIn picks t ready entry p q mid left) same pulled))))
 
 -- ---- nothing is pending
 

@@ -7,14 +7,31 @@ use Rattle.cs_store.specs.Calls.{MoreFailures}
 use Rattle.cs_store.specs.Contents.{Contents}
 
 module _ {S : Type 0} (honest : S → Type 0) (contents : S → Contents) (failed : S → ℕ) (may_leave : S → Contents → Type 0) (misreads : S → ℕ) where
-  -- calls that went well so far
-  abbrev pub WentOn : Type 0 → (Contents → Type 0) → S → S → Type 0
-  WentOn readable between old new = WritesInTurn honest contents failed may_leave misreads (Unit {0}) ⊥ readable between old new
+  -- calls that went well so far; nothing is left undone then, so nothing is said of one commit more
+  abbrev pub WentOn : Type 0 → (Contents → Type 0) → (Contents → Type 0) → S → S → Type 0
+  WentOn readable between further old new = WritesInTurn honest contents failed may_leave misreads (Unit {0}) ⊥ readable between further old new
 
-  pub no_call_yet : (readable : Type 0) (between : Contents → Type 0) (old : S) → WentOn readable between old old
-  no_call_yet readable between old = record {
+  -- what a stop may leave at the end of calls: what is held, or nothing was written, or one commit more
+  abbrev LeavesAtEnd : Type 0 → (Contents → Type 0) → S → S → Contents → Type 0
+  LeavesAtEnd undone further old new left =
+      (left ≡ contents new) ⊎ ((may_leave old left × (contents new ≡ contents old)) ⊎ (undone × further left))
+
+  -- where one commit more says this
+  onwards : (undone other : Type 0) (ahead further : Contents → Type 0) (old new : S) (left : Contents) → (undone → ahead left → other × further left)
+      → LeavesAtEnd undone ahead old new left → LeavesAtEnd other further old new left
+  onwards undone other ahead further old new left says (inl is) = inl is
+  onwards undone other ahead further old new left says (inr (inl before)) = inr (inl before)
+  onwards undone other ahead further old new left says (inr (inr (not, more))) = inr (inr (says not more))
+
+  -- and where less is said of what stood after one of the commits
+  or_less : (after less : Contents → Type 0) (leaves : (left : Contents) → after left → less left) (old : S) (left : Contents) → may_leave old left ⊎ after left → may_leave old left ⊎ less left
+  or_less after less leaves old left (inl may) = inl may
+  or_less after less leaves old left (inr is) = inr (leaves left is)
+
+  pub no_call_yet : (readable : Type 0) (between further : Contents → Type 0) (old : S) → WentOn readable between further old old
+  no_call_yet readable between further old = record {
     was_honest = λ h. h;
-    durable = λ h finished left may. inr (may, refl);
+    durable = λ h left may. inr (inl (may, refl));
     crash = λ h left may. inl may;
     kept = λ finished. refl;
     later = omega arith;
@@ -23,11 +40,11 @@ module _ {S : Type 0} (honest : S → Type 0) (contents : S → Contents) (faile
   }
 
   -- what was asked was done, and no device failed
-  pub all_well : (readable : Type 0) (between : Contents → Type 0) (old new : S) (finished device : Type 0) → (device → ⊥) → WentOn readable between old new
-      → WritesInTurn honest contents failed may_leave misreads finished device readable between old new
-  all_well readable between old new finished device none on = record {
+  pub all_well : (readable : Type 0) (between further : Contents → Type 0) (old new : S) (finished device : Type 0) → (device → ⊥) → WentOn readable between further old new
+      → WritesInTurn honest contents failed may_leave misreads finished device readable between further old new
+  all_well readable between further old new finished device none on = record {
     was_honest = on.was_honest;
-    durable = λ h done left may. on.durable h tt left may;
+    durable = λ h left may. onwards (Unit {0} → ⊥) (finished → ⊥) further further old new left (λ undone more. absurd (undone tt)) (on.durable h left may);
     crash = on.crash;
     kept = λ done. on.kept tt;
     later = on.later;
@@ -35,18 +52,14 @@ module _ {S : Type 0} (honest : S → Type 0) (contents : S → Contents) (faile
     as_read = on.as_read;
   }
 
-  module _ (readable : Type 0) (inner between : Contents → Type 0) (old new : S) (leaves : (left : Contents) → inner left → between left) (finished device : Type 0)
-      (turn : WritesInTurn honest contents failed may_leave misreads finished device readable inner old new) where
-    or_left : (left : Contents) → may_leave old left ⊎ inner left → may_leave old left ⊎ between left
-    or_left left (inl may) = inl may
-    or_left left (inr is) = inr (leaves left is)
-
+  module _ (readable : Type 0) (inner between ahead further : Contents → Type 0) (old new : S) (leaves : (left : Contents) → inner left → between left) (finished device : Type 0)
+      (turn : WritesInTurn honest contents failed may_leave misreads finished device readable inner ahead old new) where
     -- calls that did what was asked of them
-    pub turned_on : finished → WentOn readable between old new
+    pub turned_on : finished → WentOn readable between further old new
     turned_on done = record {
       was_honest = turn.was_honest;
-      durable = λ h finished left may. turn.durable h done left may;
-      crash = λ h left may. or_left left (turn.crash h left may);
+      durable = λ h left may. onwards (finished → ⊥) (Unit {0} → ⊥) ahead further old new left (λ undone more. absurd (undone done)) (turn.durable h left may);
+      crash = λ h left may. or_less inner between leaves old left (turn.crash h left may);
       kept = λ finished. turn.kept done;
       later = turn.later;
       cause = λ none. absurd none;
@@ -54,37 +67,44 @@ module _ {S : Type 0} (honest : S → Type 0) (contents : S → Contents) (faile
     }
 
     -- calls after which something is left undone
-    pub turned_early : (all told : Type 0) → (all → ⊥) → (told → device) → WritesInTurn honest contents failed may_leave misreads all told readable between old new
-    turned_early all told undone is = record {
+    pub turned_early : ((left : Contents) → ahead left → further left) → (all told : Type 0) → (all → ⊥) → (told → device)
+        → WritesInTurn honest contents failed may_leave misreads all told readable between further old new
+    turned_early leads all told undone is = record {
       was_honest = turn.was_honest;
-      durable = λ h done left may. absurd (undone done);
-      crash = λ h left may. or_left left (turn.crash h left may);
+      durable = λ h left may. onwards (finished → ⊥) (all → ⊥) ahead further old new left (λ early more. (undone, leads left more)) (turn.durable h left may);
+      crash = λ h left may. or_less inner between leaves old left (turn.crash h left may);
       kept = λ done. absurd (undone done);
       later = turn.later;
       cause = λ t. turn.cause (is t);
       as_read = turn.as_read;
     }
 
-  module _ (readable inner : Type 0) (between after : Contents → Type 0) (old mid new : S)
-      (can : honest mid → readable → inner) (leaves : honest mid → (left : Contents) → after left → between left) (on : WentOn readable between old mid) where
-    twice : honest mid → (left : Contents) → (left ≡ contents new) ⊎ (may_leave mid left × (contents new ≡ contents mid))
-        → (left ≡ contents new) ⊎ (may_leave old left × (contents new ≡ contents old))
+  module _ (readable inner : Type 0) (between after ahead further : Contents → Type 0) (old mid new : S)
+      (can : honest mid → readable → inner) (leaves : honest mid → (left : Contents) → after left → between left) (on : WentOn readable between ahead old mid) where
+    -- where the last call wrote nothing
+    as_before : (undone : Type 0) (left : Contents) → contents new ≡ contents mid → LeavesAtEnd (Unit {0} → ⊥) ahead old mid left → LeavesAtEnd undone further old new left
+    as_before undone left same (inl is) = inl (is ∙ sym same)
+    as_before undone left same (inr (inl (before, stays))) = inr (inl (before, same ∙ stays))
+    as_before undone left same (inr (inr (not, more))) = absurd (not tt)
+
+    twice : honest mid → (left : Contents) → (left ≡ contents new) ⊎ (may_leave mid left × (contents new ≡ contents mid)) → LeavesAtEnd (Unit {0} → ⊥) further old new left
     twice h left (inl is) = inl is
-    twice h left (inr (may, same)) = further (on.durable h tt left may)
-      where
-        further : (left ≡ contents mid) ⊎ (may_leave old left × (contents mid ≡ contents old)) → (left ≡ contents new) ⊎ (may_leave old left × (contents new ≡ contents old))
-        further (inl is) = inl (is ∙ sym same)
-        further (inr (before, stays)) = inr (before, same ∙ stays)
+    twice h left (inr (may, same)) = as_before (Unit {0} → ⊥) left same (on.durable h left may)
+
+    once_more : (undone : Type 0) → undone → honest mid → contents new ≡ contents mid → ((left : Contents) → after left → further left) → (left : Contents) → may_leave mid left ⊎ after left
+        → LeavesAtEnd undone further old new left
+    once_more undone not h same leads left (inl may) = as_before undone left same (on.durable h left may)
+    once_more undone not h same leads left (inr is) = inr (inr (not, leads left is))
 
     either : honest mid → (left : Contents) → may_leave mid left ⊎ after left → may_leave old left ⊎ between left
     either h left (inl may) = on.crash h left may
     either h left (inr is) = inr (leaves h left is)
 
     -- one more call went well
-    pub one_more : {T E : Type 0} (device : E) (t : T) → WritesStore honest contents failed may_leave misreads device inner after mid new (Ok t) → WentOn readable between old new
+    pub one_more : {T E : Type 0} (device : E) (t : T) → WritesStore honest contents failed may_leave misreads device inner after mid new (Ok t) → WentOn readable between further old new
     one_more device t writes = record {
       was_honest = λ h. on.was_honest (writes.was_honest h);
-      durable = λ h done left may. twice (writes.was_honest h) left (writes.durable h left may);
+      durable = λ h left may. twice (writes.was_honest h) left (writes.durable h left may);
       crash = λ h left may. either (writes.was_honest h) left (writes.crash h left may);
       kept = λ done. writes.kept ∙ on.kept tt;
       later = omega (arith, on.later, writes.later);
@@ -92,16 +112,25 @@ module _ {S : Type 0} (honest : S → Type 0) (contents : S → Contents) (faile
       as_read = λ h r. writes.as_read h (can (writes.was_honest h) r) ∙ on.as_read (writes.was_honest h) r;
     }
 
-    -- and then one failed
+    -- and then one failed; `leads` says what is known of what it would have written
     pub one_failed : {T E : Type 0} (device fault : E) (finished told : Type 0) → (finished → ⊥) → (told → fault ≡ device)
+        → (contents new ≡ contents mid → (left : Contents) → after left → further left)
         → WritesStore honest contents failed may_leave misreads {T = T} {E = E} device inner after mid new (Err fault)
-        → WritesInTurn honest contents failed may_leave misreads finished told readable between old new
-    one_failed {T} {E} device fault finished told undone is writes = record {
+        → WritesInTurn honest contents failed may_leave misreads finished told readable between further old new
+    one_failed {T} {E} device fault finished told undone is leads writes = record {
       was_honest = λ h. on.was_honest (writes.was_honest h);
-      durable = λ h done left may. absurd (undone done);
+      durable = λ h left may. once_more (finished → ⊥) undone (writes.was_honest h) (writes.err h) (leads (writes.err h)) left (writes.crash h left may);
       crash = λ h left may. either (writes.was_honest h) left (writes.crash h left may);
       kept = λ done. absurd (undone done);
       later = omega (arith, on.later, writes.later);
       cause = λ t. subst (λ (n : ℕ). MoreFailures n (failed new)) (on.kept tt) (writes.cause (ap (λ (f : E). Err f) (is t)));
       as_read = λ h r. writes.as_read h (can (writes.was_honest h) r) ∙ on.as_read (writes.was_honest h) r;
     }
+
+  -- the same of one call that failed
+  pub failed_alone : {T E : Type 0} (device fault : E) (readable : Type 0) (after further : Contents → Type 0) (old new : S) (finished told : Type 0) → (finished → ⊥) → (told → fault ≡ device)
+      → (contents new ≡ contents old → (left : Contents) → after left → further left)
+      → WritesStore honest contents failed may_leave misreads {T = T} {E = E} device readable after old new (Err fault)
+      → WritesInTurn honest contents failed may_leave misreads finished told readable after further old new
+  failed_alone device fault readable after further old new finished told undone is leads writes =
+      one_failed readable readable after after further further old old new (λ h r. r) (λ h left is. is) (no_call_yet readable after further old) device fault finished told undone is leads writes

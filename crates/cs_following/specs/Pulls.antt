@@ -11,7 +11,7 @@ use Rattle.cs_pending.specs.View.{View}
 use Rattle.cs_position.specs.Shows.{ShowsAt}
 use Rattle.cs_position.specs.declared.position.Position.{Position}
 use Rattle.cs_replica.specs.cs_taking.Takes.{taken}
-use Rattle.cs_replica.specs.cs_pulling.Pulls.{IsBad, PullsOne, StopsPull}
+use Rattle.cs_replica.specs.cs_pulling.Pulls.{IsBad, IsPulledIn, PullsOne, StopsPull}
 use Rattle.cs_following.specs.declared.fault.NodeFault.{NodeFault}
 use Rattle.cs_following.specs.declared.fault.NodeFault.TheVariants.{Memory, Device, BadEntry, Stopped, Full, Spent, TooLarge}
 
@@ -61,3 +61,9 @@ module _ {P : Type 0} (picks : P → Clash → Wish → P → Type 0) (tables : 
       (before : View) → ShowsAt tables old position before
       → (other : Position) × (end : View) × (q : P)
       × PullsKnown known position before p other end q × (position.version < other.version) × ShowsAt tables left other end
+
+  -- contents that one commit more would have left: of what is known, the entry at the version was pulled
+  abbrev pub IsNextKnown : List LogEntry → Position → Contents → Contents → Type 0
+  IsNextKnown known position now left =
+      (entry : LogEntry) × (slice_get known position.version ≡ Some entry)
+      × ((p : P) × (q : P) × IsPulledIn picks tables position entry p q now left)

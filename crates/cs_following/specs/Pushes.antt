@@ -14,11 +14,11 @@ use Rattle.cs_pending.specs.View.{View}
 use Rattle.cs_position.specs.Shows.{ShowsAt}
 use Rattle.cs_position.specs.declared.position.Position.{Position}
 use Rattle.cs_replica.specs.cs_pulling.Pulls.{PullsOne}
-use Rattle.cs_replica.specs.cs_pushing.Pushes.{HasNothing, IsPushFault, IsPushMade, grounded, pushed}
+use Rattle.cs_replica.specs.cs_pushing.Pushes.{HasNothing, IsPushFault, IsPushMade, IsPushMadeIn, grounded, pushed}
 use Rattle.cs_replica.specs.cs_pushing.PushFault.TheVariants as push
 use Rattle.cs_replica.specs.Flight.{flight_entry}
 use Rattle.cs_replica.specs.cs_taking.Takes.{taken}
-use Rattle.cs_following.specs.Pulls.{IsTakeFault}
+use Rattle.cs_following.specs.Pulls.{IsNextKnown, IsTakeFault}
 use Rattle.cs_following.specs.declared.fault.NodeFault.{NodeFault}
 use Rattle.cs_following.specs.declared.fault.NodeFault.TheVariants.{Memory, Device, BadEntry, Stopped, Full, Spent, TooLarge}
 use Rattle.cs_following.specs.declared.pushed.NodePush.{NodePush}
@@ -136,6 +136,11 @@ IsSentAmong {P} picks tables position old p left =
     × (ShowsAt tables left ready view
     ⊎ ((entry : LogEntry) × (after : View) × (q : P) × (pending : ℕ)
     × PullsOne picks tables ready entry view p after q × ShowsAt tables left (taken ready pending) after))
+
+-- contents that one commit more would have left: a push was made, or of what is known the entry at the version was pulled
+abbrev pub IsSentNext : {P : Type 0} → (P → Clash → Wish → P → Type 0) → List TableDef → List LogEntry → Position → Contents → Contents → Type 0
+IsSentNext {P} picks tables learned position now left =
+    IsPushMadeIn tables position now left ⊎ IsNextKnown picks tables learned position now left
 
 -- an entry was taken
 abbrev pub HasTaken : Result NodePush NodeFault → Type 0

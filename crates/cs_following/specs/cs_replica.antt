@@ -2,3 +2,4 @@
 pub use Rattle.cs_replica.specs.Edited
 pub use Rattle.cs_replica.specs.Holding
 pub use Rattle.cs_replica.specs.Moved
+pub use Rattle.cs_replica.specs.Opened

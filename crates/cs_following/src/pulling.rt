@@ -5,7 +5,7 @@ ghost use Rattle.cs_pending.specs.View.{View};
 ghost use Rattle.cs_position.specs.Shows.{ShowsSomeAt};
 ghost use Rattle.cs_replica.specs.cs_pulling.Calls.{WritesInTurn};
 ghost use Rattle.cs_replica.specs.Holding.{Shows};
-ghost use Rattle.cs_following.specs.Pulls.{IsPulledAmong, PullsAll};
+ghost use Rattle.cs_following.specs.Pulls.{IsNextKnown, IsPulledAmong, PullsAll};
 ghost use Rattle.cs_following.specs.Standing.{Begins, IsBadAt, StandsWhereHonest};
 ghost use Rattle.cs_following.specs.declared.fault.NodeFault.TheVariants.{BadEntry, Device};
 
@@ -42,10 +42,12 @@ pub fn pull_known<'s, S: RowStore, P: Picker>(
     ensures pulled { S.honest replica.new.store → (before : View) → Shows S.contents replica.old before
         → PullsAll P.picks replica.old.catalog pass.new.known result replica.old.position before picker.old replica.new.position (S.contents replica.new.store) picker.new }
 
-    // Each in a commit of its own.
+    // Each in a commit of its own. Those that were taken stay, however it ended: a stop then leaves what the store holds, or, at an
+    // `Err`, that with the next entry taken too. Where nothing was written, it may also leave what it could before.
     ensures writes { WritesInTurn S.honest S.contents S.failed S.may_leave S.misreads (IsOk result) (result ≡ Err Device)
         (ShowsSomeAt replica.old.catalog replica.old.position (S.contents replica.old.store))
-        (IsPulledAmong P.picks replica.old.catalog pass.new.known replica.old.position (S.contents replica.old.store) picker.old) replica.old.store replica.new.store }
+        (IsPulledAmong P.picks replica.old.catalog pass.new.known replica.old.position (S.contents replica.old.store) picker.old)
+        (IsNextKnown P.picks replica.old.catalog pass.new.known replica.new.position (S.contents replica.new.store)) replica.old.store replica.new.store }
 
     // At `Ok` it has come to the last that is known.
     ensures level { IfOk result (λ count. (replica.new.position.version ≡ length pass.new.known) × (replica.new.position.version ≡ replica.old.position.version + count)) }

@@ -67,7 +67,8 @@ fn make_one<S: RowStore>(alloc: Global, replica: &mut Replica<S>) -> Result<bool
     requires { replica.old.position.flight ≡ None }
     ensures writes { WritesInTurn S.honest S.contents S.failed S.may_leave S.misreads (result ≡ Ok true) (result ≡ Err Device)
         (ShowsSomeAt replica.old.catalog replica.old.position (S.contents replica.old.store))
-        (IsPushMadeIn replica.old.catalog replica.old.position (S.contents replica.old.store)) replica.old.store replica.new.store }
+        (IsPushMadeIn replica.old.catalog replica.old.position (S.contents replica.old.store))
+        (IsPushMadeIn replica.old.catalog replica.new.position (S.contents replica.new.store)) replica.old.store replica.new.store }
     ensures readied { S.honest replica.new.store → AreTables replica.old.catalog → (before : View) → Shows S.contents replica.old before
         → IfOk result (λ some. IsReadied replica.old.catalog replica.old.position before some replica.new.position (S.contents replica.new.store)) }
     ensures refused { S.honest replica.new.store → (before : View) → Shows S.contents replica.old before
@@ -96,7 +97,8 @@ pub(crate) fn make_ready<S: RowStore>(
 ) -> Result<bool, NodeFault>
     ensures writes { WritesInTurn S.honest S.contents S.failed S.may_leave S.misreads (result ≡ Ok true) (result ≡ Err Device)
         (ShowsSomeAt replica.old.catalog replica.old.position (S.contents replica.old.store))
-        (IsPushMadeIn replica.old.catalog replica.old.position (S.contents replica.old.store)) replica.old.store replica.new.store }
+        (IsPushMadeIn replica.old.catalog replica.old.position (S.contents replica.old.store))
+        (IsPushMadeIn replica.old.catalog replica.new.position (S.contents replica.new.store)) replica.old.store replica.new.store }
     ensures readied { S.honest replica.new.store → AreTables replica.old.catalog → (before : View) → Shows S.contents replica.old before
         → IfOk result (λ some. IsReadied replica.old.catalog replica.old.position before some replica.new.position (S.contents replica.new.store)) }
     ensures refused { S.honest replica.new.store → (before : View) → Shows S.contents replica.old before

@@ -6,7 +6,7 @@ ghost use Rattle.cs_pending.specs.View.{View};
 ghost use Rattle.cs_position.specs.Shows.{ShowsSomeAt};
 ghost use Rattle.cs_replica.specs.cs_pulling.Calls.{WritesInTurn};
 ghost use Rattle.cs_replica.specs.Holding.{Shows};
-ghost use Rattle.cs_following.specs.Pushes.{HasTaken, IsAtRest, IsSentAmong, PushesOn};
+ghost use Rattle.cs_following.specs.Pushes.{HasTaken, IsAtRest, IsSentAmong, IsSentNext, PushesOn};
 ghost use Rattle.cs_following.specs.Standing.{Begins, IsBadAt, StandsWhereHonest};
 ghost use Rattle.cs_following.specs.declared.fault.NodeFault.TheVariants.{BadEntry, Device, Full};
 ghost use Rattle.cs_following.specs.declared.pushed.NodePush.TheVariants.{Nothing, Behind};
@@ -44,7 +44,8 @@ fn send<'s, S: RowStore, P: Picker>(
     // The push, and what comes of it, are commits of their own.
     ensures writes { WritesInTurn S.honest S.contents S.failed S.may_leave S.misreads (HasTaken result) (result ≡ Err Device)
         (ShowsSomeAt replica.old.catalog replica.old.position (S.contents replica.old.store))
-        (IsSentAmong P.picks replica.old.catalog replica.old.position (S.contents replica.old.store) picker.old) replica.old.store replica.new.store }
+        (IsSentAmong P.picks replica.old.catalog replica.old.position (S.contents replica.old.store) picker.old)
+        (IsSentNext P.picks replica.old.catalog pass.new.known replica.new.position (S.contents replica.new.store)) replica.old.store replica.new.store }
     ensures full { result ≡ Err Full → length pass.old.known ≡ spine.now.cap }
     ensures begins { Begins pass.old.known pass.new.known }
     ensures within { replica.new.position.version ≤ length pass.new.known }
@@ -113,10 +114,13 @@ pub fn push_known<'s, S: RowStore, P: Picker>(
         → (before : View) → Shows S.contents replica.old before
         → PushesOn P.picks replica.old.catalog pass.old.known replica.old.position before picker.old spine.now.cap result pass.new.known replica.new.position (S.contents replica.new.store) picker.new }
 
-    // The push, and what comes of it, are commits of their own.
+    // The push, and what comes of it, are commits of their own. What was made stays, however it ended, at `Full` too: a stop then
+    // leaves what the store holds, or, where no entry was taken, that with one commit more, which makes the push or takes the entry at
+    // the version. Where nothing was written, it may also leave what it could before.
     ensures writes { WritesInTurn S.honest S.contents S.failed S.may_leave S.misreads (HasTaken result) (result ≡ Err Device)
         (ShowsSomeAt replica.old.catalog replica.old.position (S.contents replica.old.store))
-        (IsSentAmong P.picks replica.old.catalog replica.old.position (S.contents replica.old.store) picker.old) replica.old.store replica.new.store }
+        (IsSentAmong P.picks replica.old.catalog replica.old.position (S.contents replica.old.store) picker.old)
+        (IsSentNext P.picks replica.old.catalog pass.new.known replica.new.position (S.contents replica.new.store)) replica.old.store replica.new.store }
 
     // Nothing is told first, then that it is behind; and nothing has changed then.
     ensures nothing { IsAtRest replica.old.position → (result ≡ Ok Nothing) × (replica.new ≡ replica.old) × (pass.new ≡ pass.old) }

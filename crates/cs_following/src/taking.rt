@@ -11,7 +11,7 @@ ghost use Rattle.cs_replica.specs.cs_pulling.Calls.{WritesInTurn};
 ghost use Rattle.cs_replica.specs.cs_pulling.Pulls.{IsPulledIn};
 ghost use Rattle.cs_replica.specs.Holding.{Shows};
 ghost use Rattle.cs_replica.specs.cs_taking.Takes.{taken};
-ghost use Rattle.cs_following.specs.Pulls.{IsPulledAmong, IsTakeFault, PullsAll};
+ghost use Rattle.cs_following.specs.Pulls.{IsNextKnown, IsPulledAmong, IsTakeFault, PullsAll};
 ghost use Rattle.cs_following.specs.Standing.{IsBadAt, StandsWhereHonest};
 ghost use Rattle.cs_following.specs.declared.fault.NodeFault.TheVariants.{BadEntry, Device, Full};
 
@@ -125,7 +125,8 @@ pub(crate) fn take_known<S: RowStore, P: Picker>(
     // Each in a commit of its own.
     ensures writes { WritesInTurn S.honest S.contents S.failed S.may_leave S.misreads (IsOk result) (result ≡ Err Device)
         (ShowsSomeAt replica.old.catalog replica.old.position (S.contents replica.old.store))
-        (IsPulledAmong P.picks replica.old.catalog pass.now.known replica.old.position (S.contents replica.old.store) picker.old) replica.old.store replica.new.store }
+        (IsPulledAmong P.picks replica.old.catalog pass.now.known replica.old.position (S.contents replica.old.store) picker.old)
+        (IsNextKnown P.picks replica.old.catalog pass.now.known replica.new.position (S.contents replica.new.store)) replica.old.store replica.new.store }
 
     // At `Ok` it has come to the last that is known.
     ensures level { IfOk result (λ count. (replica.new.position.version ≡ length pass.now.known) × (replica.new.position.version ≡ replica.old.position.version + count)) }

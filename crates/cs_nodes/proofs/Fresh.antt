@@ -1,5 +1,6 @@
 -- A node over a store that held nothing.
-use Rattle.std.proofs.Common.{◌≡◌, ℕ, List, Option, Some, None, sym, ap, subst, ◌∙◌, inl, inr}
+use Rattle.std.proofs.Common.{◌≡◌, ℕ, List, Option, Some, None, Ok, Err, refl, sym, ap, subst, ◌∙◌, inl, inr}
+use Rattle.std.specs.Prelude.{◌⊎◌}
 use Rattle.std.specs.FinMap.{get-empty}
 use Rattle.cs_order.specs.Order.{by_bytes}
 use Rattle.cs_value.specs.Catalog.{AreTables}
@@ -12,7 +13,10 @@ use Rattle.cs_pending.specs.View.{View}
 use Rattle.cs_position.specs.Shows.{ShowsAt}
 use Rattle.cs_position.specs.declared.position.Position.{Position}
 use Rattle.cs_opening.specs.Fresh.{first_position}
-use Rattle.cs_following.specs.cs_replica.Moved.{IsStoreOpened}
+use Rattle.cs_opening.specs.declared.fault.OpenFault.{OpenFault}
+use Rattle.cs_opening.specs.declared.fault.OpenFault.TheVariants.{Memory, Damaged, Device, Mismatch}
+use Rattle.cs_following.specs.cs_replica.Moved.{IsStoreFault, IsStoreOpened}
+use Rattle.cs_following.specs.cs_replica.Opened.{Opens}
 use Rattle.cs_following.specs.Laws.{FreshStands}
 use Rattle.cs_following.specs.Standing.{StandsIn}
 
@@ -35,3 +39,33 @@ pub fresh_node : FreshStands → (tables others : List TableDef) (known : List L
 fresh_node law tables others known id old new position are same bare opened =
     let first = shown_at tables others id old new position same bare opened in
     (empty_view, first.1, law others known position (subst (λ (t : List TableDef). AreTables t) (sym same) are) (ap (λ (x : Position). x.version) first.0) (ap (λ (x : Position). x.flight) first.0))
+
+-- nothing that is held is at fault
+pub bare_fault : (tables : List TableDef) (id : ℕ) (old : Contents) (fault : OpenFault) → old ≡ nothing → IsStoreFault tables id old fault → (fault ≡ Memory) ⊎ (fault ≡ Device)
+bare_fault tables id old Memory bare told = inl refl
+bare_fault tables id old Damaged bare told = absurd (told.0.0 bare)
+bare_fault tables id old Device bare told = inr refl
+bare_fault tables id old Mismatch bare told = absurd (told.0 bare)
+
+module _ {S : Type 0} (honest : S → Type 0) (contents : S → Contents) (tables : List TableDef) (id : ℕ) (old new last : S) (same : last ≡ new) where
+  -- what is opened over nothing is at version 0, where the store is honest
+  pub never_further : (position : Position) (version : ℕ) → contents old ≡ nothing → (honest new → IsStoreOpened tables id (contents old) (contents new) position) → version ≡ position.version → (version ≡ 0 → ⊥)
+      → honest last → ⊥
+  never_further position version bare opened is further h =
+      further (is ∙ ap (λ (x : Position). x.version) (fresh_at tables id (contents old) (contents new) position bare (opened (subst honest same h))).0)
+
+  -- of a store that isn't honest something else is told than that it was opened
+  pub told_else : (failed : S → ℕ) (may_leave : S → Contents → Type 0) (misreads : S → ℕ) → Opens honest contents failed may_leave misreads tables id old new (Ok tt) → (honest last → ⊥)
+      → Opens honest contents failed may_leave misreads tables id old last (Err Damaged)
+  told_else failed may_leave misreads opens never =
+      subst (λ (s : S). Opens honest contents failed may_leave misreads tables id old s (Err Damaged)) (sym same) (record {
+        was_honest = opens.was_honest;
+        ok = λ h. tt;
+        err = λ h. absurd (never (subst honest (sym same) h));
+        durable = λ h. tt;
+        crash = λ h left may. absurd (never (subst honest (sym same) h));
+        kept = tt;
+        later = opens.later;
+        cause = λ told. absurd (let no = told in cc);
+        as_read = opens.as_read;
+      })

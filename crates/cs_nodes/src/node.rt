@@ -4,6 +4,7 @@ ghost use Rattle.std.specs.Prelude.{◌≡◌, ◌⊎◌, ◌≤◌, ◌<◌, �
 ghost use Rattle.cs_pending.specs.Calls.{ReadsStore, WritesStore};
 ghost use Rattle.cs_pending.specs.Edits.{IsOfStore, edit as edit_of};
 ghost use Rattle.cs_opening.specs.Fresh.{first_position};
+ghost use Rattle.cs_opening.specs.declared.fault.OpenFault.TheVariants as opening;
 ghost use Rattle.cs_pending.specs.Laws.{empty_view};
 ghost use Rattle.cs_pending.specs.View.{View};
 ghost use Rattle.cs_store.specs.Contents.{nothing};
@@ -12,12 +13,13 @@ ghost use Rattle.cs_position.specs.Shows.{ShowsSomeAt};
 ghost use Rattle.cs_following.specs.Calls.{WritesInTurn};
 ghost use Rattle.cs_following.specs.cs_replica.Edited.{IsEditedIn, with_pending};
 ghost use Rattle.cs_following.specs.cs_replica.Holding.{Shows};
+ghost use Rattle.cs_following.specs.cs_replica.Opened.{Opens};
 ghost use Rattle.cs_rows.specs.Rows.{AreRowsOf};
 ghost use Rattle.cs_store.specs.declared.fault.StoreFault.TheVariants as stored;
 ghost use Rattle.cs_value.specs.declared.catalog.TableDef.{TableDef};
 ghost use Rattle.cs_following.specs.Edits.{asked_of_edit, table_of_edit};
-ghost use Rattle.cs_following.specs.Pulls.{IsPulledAmong, PullsAll};
-ghost use Rattle.cs_following.specs.Pushes.{HasTaken, IsAtRest, IsSentAmong, PushesOn};
+ghost use Rattle.cs_following.specs.Pulls.{IsNextKnown, IsPulledAmong, PullsAll};
+ghost use Rattle.cs_following.specs.Pushes.{HasTaken, IsAtRest, IsSentAmong, IsSentNext, PushesOn};
 ghost use Rattle.cs_following.specs.Standing.{Begins, IsBadAt, StandsWhereHonest};
 ghost use Rattle.cs_following.specs.declared.fault.NodeFault.TheVariants.{BadEntry, Device, Full};
 ghost use Rattle.cs_following.specs.declared.pushed.NodePush.TheVariants.{Behind, Nothing};
@@ -52,44 +54,55 @@ impl<'s, S: RowStore> Model for Node<'s, S> {
     ghost invariant = { λ node. IsNode S.honest S.contents (record { replica = node.replica; pass = node.pass }) };
 }
 
-impl<'s, S: RowStore + Drop> Node<'s, S> {
+impl<'s, S: RowStore> Node<'s, S> {
     /// A new node over a store that holds nothing: its replica, with this id, is at version 0 with no row, nothing pending and nothing
-    /// under way, and its pass knows nothing. An id is at most 4,294,967,294. (Profile of this project.)
+    /// under way, and its pass knows nothing. An id is at most 4,294,967,294. At `Err` the store comes back as it was. (Profile of
+    /// this project.)
     ///
     /// # Errors
     ///
-    /// Those of `Replica::open`. The store is gone then.
+    /// `Memory` and `Device`; of a store that isn't honest any fault of `Replica::open`.
     pub fn open(
         alloc: Global,
         store: S,
         catalog: &Catalog,
         id: u32,
         spine: &'s Spine,
-    ) -> Result<Node<'s, S>, OpenFault>
+    ) -> Result<Node<'s, S>, (S, OpenFault)>
         requires id { id < 2 ^ 32 - 1 }
         requires bare { S.contents store ≡ nothing }
         ensures pass { IfOk result (λ node. (node.pass.spine ≡ spine.now) × (node.pass.known ≡ [])) }
         ensures catalog { IfOk result (λ node. node.replica.catalog ≡ catalog.now) }
         ensures fresh { IfOk result (λ node. S.honest node.replica.store
             → (node.replica.position ≡ first_position id) × Shows S.contents node.replica empty_view) }
+
+        // At `Err` the store is as it was, and memory was refused or the device failed.
+        ensures kept { IfErr result (λ told. S.honest told.0 → S.contents told.0 ≡ S.contents store) }
+        ensures refused { IfErr result (λ told. S.honest told.0 → (told.1 ≡ opening.Memory) ⊎ (told.1 ≡ opening.Device)) }
+
+        // What a stop leaves, and how the count of failures goes.
+        ensures opens { MatchResult result
+            (λ node. Opens S.honest S.contents S.failed S.may_leave S.misreads catalog.now id store node.replica.store (Ok tt))
+            (λ told. Opens S.honest S.contents S.failed S.may_leave S.misreads catalog.now id store told.0 (Err told.1)) }
     {
         cs_following::laws::fresh_stands();
         let _tables = catalog.tables();
-        let pass = spine.pass()?;
+        let pass = match spine.pass() {
+            Ok(pass) => pass,
+            Err(fault) => return Err((store, OpenFault::from(fault))),
+        };
         match Replica::open(alloc, store, catalog, id) {
             Ok(replica) => {
-                // A new replica is at version 0.
+                // Over an honest store a new replica is at version 0.
                 if replica.version() != 0 {
-                    return Err(OpenFault::Damaged);
+                    return Err((replica.close(), OpenFault::Damaged));
                 }
                 Ok(Node::new(replica, pass))
             }
-            Err((_store, fault)) => Err(fault),
+            Err(told) => Err(told),
         }
     }
-}
 
-impl<'s, S: RowStore> Node<'s, S> {
     /// A node of a replica that stands on what the pass knows, as a new one does (`cs_following::laws::fresh_stands`). It takes no
     /// memory. (Profile of this project.)
     pub fn new(replica: Replica<S>, pass: Pass<'s>) -> Node<'s, S>
@@ -210,10 +223,12 @@ impl<'s, S: RowStore> Node<'s, S> {
             → PullsAll P.picks self.old.replica.catalog self.new.pass.known result self.old.replica.position before picker.old
             self.new.replica.position (S.contents self.new.replica.store) picker.new }
 
-        // Each in a commit of its own.
+        // Each in a commit of its own. Those that were taken stay, however it ended: a stop then leaves what the store holds, or, at an
+        // `Err`, that with the next entry taken too. Where nothing was written, it may also leave what it could before.
         ensures writes { WritesInTurn S.honest S.contents S.failed S.may_leave S.misreads (IsOk result) (result ≡ Err Device)
             (ShowsSomeAt self.old.replica.catalog self.old.replica.position (S.contents self.old.replica.store))
             (IsPulledAmong P.picks self.old.replica.catalog self.new.pass.known self.old.replica.position (S.contents self.old.replica.store) picker.old)
+            (IsNextKnown P.picks self.old.replica.catalog self.new.pass.known self.new.replica.position (S.contents self.new.replica.store))
             self.old.replica.store self.new.replica.store }
 
         // At `Ok` it has come to the last that is known.
@@ -253,10 +268,13 @@ impl<'s, S: RowStore> Node<'s, S> {
             → PushesOn P.picks self.old.replica.catalog self.old.pass.known self.old.replica.position before picker.old spine.now.cap result
             self.new.pass.known self.new.replica.position (S.contents self.new.replica.store) picker.new }
 
-        // The push, and what comes of it, are commits of their own.
+        // The push, and what comes of it, are commits of their own. What was made stays, however it ended, at `Full` too: a stop then
+        // leaves what the store holds, or, where no entry was taken, that with one commit more, which makes the push or takes the
+        // entry at the version. Where nothing was written, it may also leave what it could before.
         ensures writes { WritesInTurn S.honest S.contents S.failed S.may_leave S.misreads (HasTaken result) (result ≡ Err Device)
             (ShowsSomeAt self.old.replica.catalog self.old.replica.position (S.contents self.old.replica.store))
             (IsSentAmong P.picks self.old.replica.catalog self.old.replica.position (S.contents self.old.replica.store) picker.old)
+            (IsSentNext P.picks self.old.replica.catalog self.new.pass.known self.new.replica.position (S.contents self.new.replica.store))
             self.old.replica.store self.new.replica.store }
 
         // Nothing is told first, then that it is behind; and nothing has changed then.

@@ -23,12 +23,12 @@ fresh id start none first = (λ i. record { known = none i; position = first i; 
 
 -- what a plan made of a new node is its end
 pub ended : (tables : List TableDef) (cells : SpineCells) (id : ℕ) (plan : List Step) (end : NodeEnd) (start : NodeState InMemory)
-    → start.replica.catalog ≡ tables → start.pass.spine ≡ cells → start.pass.known ≡ [] → start.replica.position ≡ first_position id → Shows held_by start.replica empty_view
+    → start.replica.catalog ≡ tables → start.pass.spine ≡ cells → start.pass.known ≡ [] → start.replica.position ≡ first_position id → Shows held_by start.replica empty_view → start.replica.store.misreads ≡ 0
     → TurnsBy plan end.steps.items start end.node → IsEnd tables cells id plan end
-ended tables cells id plan end start tabled of none first shows turns =
-    let t = turns.turned empty_view shows in
+ended tables cells id plan end start tabled of none first shows unread turns =
+    let t = turns.turned unread empty_view shows in
     let named : RunsPlan tables start.pass.spine.cap plan end.steps.items (node_at start empty_view) (node_at end.node t.0) =
-    subst (λ (ts : List TableDef). RunsPlan ts start.pass.spine.cap plan end.steps.items (node_at start empty_view) (node_at end.node t.0)) tabled t.2 in
+    subst (λ (ts : List TableDef). RunsPlan ts start.pass.spine.cap plan end.steps.items (node_at start empty_view) (node_at end.node t.0)) tabled t.3 in
     let celled : RunsPlan tables cells.cap plan end.steps.items (node_at start empty_view) (node_at end.node t.0) =
     subst (λ (s : SpineCells). RunsPlan tables s.cap plan end.steps.items (node_at start empty_view) (node_at end.node t.0)) of named in
     let runs : RunsPlan tables cells.cap plan end.steps.items (first_node id) (node_at end.node t.0) =

@@ -18,18 +18,18 @@ runs_more : (old mid new : NodeState InMemory) (step : Step) (one : Stepped) (pl
 runs_more old mid new step one plan steps first rest = record {
   catalog = rest.catalog ∙ first.catalog;
   spine = rest.spine ∙ first.spine;
-  turned = λ view shows.
-      let f = first.turned view shows in
-      let r = rest.turned f.0 f.1 in
+  turned = λ none view shows.
+      let f = first.turned none view shows in
+      let r = rest.turned f.2 f.0 f.1 in
       let here : RunsPlan old.replica.catalog mid.pass.spine.cap plan steps (node_at mid f.0) (node_at new r.0) =
-      subst (λ (t : List TableDef). RunsPlan t mid.pass.spine.cap plan steps (node_at mid f.0) (node_at new r.0)) first.catalog r.2 in
+      subst (λ (t : List TableDef). RunsPlan t mid.pass.spine.cap plan steps (node_at mid f.0) (node_at new r.0)) first.catalog r.3 in
       let there : RunsPlan old.replica.catalog old.pass.spine.cap plan steps (node_at mid f.0) (node_at new r.0) =
       subst (λ (s : SpineCells). RunsPlan old.replica.catalog s.cap plan steps (node_at mid f.0) (node_at new r.0)) first.spine here in
-      (r.0, r.1, (node_at mid f.0, f.2, there));
+      (r.0, r.1, r.2, (node_at mid f.0, f.3, there));
 }
 
 runs_none : (old : NodeState InMemory) → TurnsBy [] [] old old
-runs_none old = record { catalog = refl; spine = refl; turned = λ view shows. (view, shows, refl) }
+runs_none old = record { catalog = refl; spine = refl; turned = λ none view shows. (view, shows, none, refl) }
 
 -- what follows from here, follows from the start
 abbrev pub Running : NodeState InMemory → List Step → NodeState InMemory → List Step → List Stepped → Type 0

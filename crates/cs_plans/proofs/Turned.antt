@@ -1,5 +1,5 @@
 -- From what a call promises to a step of the node as it is shown.
-use Rattle.std.proofs.Common.{◌≡◌, ◌≢◌, ◌<◌, ◌&&◌, ℕ, Bool, false, not, List, [], length, Ok, Err, refl, sym, ap, subst, ◌∙◌, append-nil}
+use Rattle.std.proofs.Common.{◌≡◌, ◌≢◌, ◌<◌, ◌&&◌, ℕ, Bool, false, not, List, [], length, Ok, Err, refl, sym, ap, subst, ◌∙◌, arith, append-nil}
 use Rattle.std.specs.Prelude.{◌↔◌, ◌⊎◌, IsSome, IsTrue, Result}
 use Rattle.std.specs.FinMap.{len}
 use Rattle.cs_conflict.specs.declared.wish.Wish.{Wish}
@@ -8,6 +8,7 @@ use Rattle.cs_nodes.specs.cs_following.Pulls.{PullsAll}
 use Rattle.cs_nodes.specs.cs_following.Pushes.{IsAtRest, PushesOn}
 use Rattle.cs_nodes.specs.cs_following.Standing.{Begins}
 use Rattle.cs_nodes.specs.cs_following.NodeFault.{NodeFault}
+use Rattle.cs_nodes.specs.cs_following.NodeFault.TheVariants as moving
 use Rattle.cs_nodes.specs.cs_following.NodePush.{NodePush}
 use Rattle.cs_nodes.specs.cs_following.NodePush.TheVariants.{Nothing, Behind}
 use Rattle.cs_map_store.specs.Slots.{InMemory, held_by}
@@ -15,18 +16,20 @@ use Rattle.cs_nodes.specs.Nodes.{NodeState}
 use Rattle.cs_pending.specs.Edits.{IsOfStore, edit}
 use Rattle.cs_pending.specs.View.{View}
 use Rattle.cs_pending.specs.declared.fault.EditFault.{EditFault}
-use Rattle.cs_position.specs.Shows.{ShowsAt}
+use Rattle.cs_pending.specs.declared.fault.EditFault.TheVariants as editing
+use Rattle.cs_position.specs.Shows.{ShowsAt, ShowsSomeAt}
 use Rattle.cs_position.specs.declared.position.Position.{Position}
 use Rattle.cs_nodes.specs.cs_following.Edited.{IsEditedIn, with_pending}
 use Rattle.cs_nodes.specs.cs_following.Holding.{Shows}
 use Rattle.cs_spine.specs.Known.{Known, SpineCells}
+use Rattle.cs_store.specs.Calls.{MoreFailures}
 use Rattle.cs_store.specs.Contents.{Contents}
 use Rattle.cs_value.specs.declared.catalog.TableDef.{TableDef}
 use Rattle.cs_value.specs.declared.edit.Edit.{Edit as Edits}
 use Rattle.cs_wishes.specs.Wished.{IsWished}
 use Rattle.cs_plans.specs.Ends.{TurnsNode, node_at}
 use Rattle.cs_plans.specs.Marks.{is_taken}
-use Rattle.cs_plans.specs.Runs.{ComesTo, NodeAt, PullsBy, PushesBy, RunsStep}
+use Rattle.cs_plans.specs.Runs.{ComesTo, NodeAt, PullsBy, PushesBy, RunsStep, TellsNoDevice}
 use Rattle.cs_plans.specs.declared.plan.Step.{Step}
 use Rattle.cs_plans.specs.declared.plan.Step.TheVariants.{Edit, Pull, Push}
 use Rattle.cs_plans.specs.declared.plan.StepOutcome.{StepOutcome}
@@ -48,18 +51,39 @@ pub record MakesOf (old new : NodeState InMemory) (step : Step) (outcome : StepO
   pub makes : ComesTo old.replica.catalog old.pass.spine.cap step outcome (node_at old view) (node_at new next) (held_by new.replica.store)
   pub number : IsTrue made ↔ (old.replica.position.number ≢ new.replica.position.number)
 
+-- where nothing was misread so far, and the store shows the node, nothing is misread then, and it isn't told that a device failed
+abbrev pub StaysQuiet : NodeState InMemory → NodeState InMemory → StepOutcome → Type 0
+StaysQuiet old new outcome =
+    old.replica.store.misreads ≡ 0 → ShowsSomeAt old.replica.catalog old.replica.position (held_by old.replica.store)
+    → (new.replica.store.misreads ≡ 0) × TellsNoDevice outcome
+
+no_more : (old new : ℕ) → old ≡ 0 → new ≡ old → MoreFailures old new → ⊥
+no_more old new none same more = omega (arith, none, same, more)
+
+-- by what a call says of its store: nothing that can be read is misread, and a failed device is told only where one more was
+pub stays_quiet : (old new : NodeState InMemory) (device : Type 0) (outcome : StepOutcome)
+    → (Unit {0} → ShowsSomeAt old.replica.catalog old.replica.position (held_by old.replica.store) → new.replica.store.misreads ≡ old.replica.store.misreads)
+    → (device → MoreFailures old.replica.store.misreads new.replica.store.misreads)
+    → ((device → ⊥) → TellsNoDevice outcome)
+    → StaysQuiet old new outcome
+stays_quiet old new device outcome as_read cause tells none shown =
+    let same = as_read tt shown in
+    (same ∙ none, tells (λ failed. no_more old.replica.store.misreads new.replica.store.misreads none same (cause failed)))
+
 -- a call that makes something of whatever the node showed
 pub turned_to : (old new : NodeState InMemory) (step : Step) (one : Stepped) (outcome : StepOutcome) (made : Bool) → new.replica.catalog ≡ old.replica.catalog → new.pass.spine ≡ old.pass.spine
-    → Begins old.pass.known new.pass.known → Tells old new one outcome made
+    → Begins old.pass.known new.pass.known → Tells old new one outcome made → StaysQuiet old new outcome
     → ((view : View) → Shows held_by old.replica view → MakesOf old new step outcome made view)
     → TurnsNode (λ tables cells. RunsStep tables cells step one) old new
-turned_to old new step one outcome made same of begins tells does = record {
+turned_to old new step one outcome made same of begins tells stays does = record {
   catalog = same;
   spine = of;
-  turned = λ view shows.
-      let d = does view shows in (
+  turned = λ none view shows.
+      let d = does view shows in
+      let quiet = stays none (view, shows) in (
         d.next,
         d.shows,
+        quiet.0,
         record {
           begins = begins;
           left = held_by new.replica.store;
@@ -70,9 +94,17 @@ turned_to old new step one outcome made same of begins tells does = record {
             version = tells.version_is;
             made = subst (λ (b : Bool). IsTrue b ↔ (old.replica.position.number ≢ new.replica.position.number)) (sym tells.made_is) d.number;
           };
+          no_device = subst TellsNoDevice (sym tells.outcome_is) quiet.1;
         },
       );
 }
+
+-- an edit, which was made or not
+pub made_quiet : TellsNoDevice Edited
+made_quiet = ((λ told. absurd (let no = told in cc)), (λ told. absurd (let no = told in cc)))
+
+pub refused_quiet : (fault : EditFault) → (fault ≡ editing.Device → ⊥) → TellsNoDevice (NotEdited fault)
+refused_quiet fault never = ((λ told. never (let same = told in cc)), (λ told. absurd (let no = told in cc)))
 
 -- where nothing was learned
 pub begins_same : (old new : NodeState InMemory) → new.pass ≡ old.pass → Begins old.pass.known new.pass.known
@@ -82,10 +114,10 @@ begins_same old new same = ([], ap (λ (p : Known). p.known) same ∙ sym (appen
 pub edit_made : (old new : NodeState InMemory) (asked : Edits) (one : Stepped) → new.replica.catalog ≡ old.replica.catalog → new.pass ≡ old.pass → Tells old new one Edited false
     → IsEditedIn old.replica.catalog old.replica.position (table_of_edit asked) (asked_of_edit asked) (held_by old.replica.store) (held_by new.replica.store)
     → new.replica.position ≡ with_pending old.replica.position new.replica.position.pending
-    → ((view : View) × Shows held_by new.replica view)
+    → ((view : View) × Shows held_by new.replica view) → StaysQuiet old new Edited
     → TurnsNode (λ tables cells. RunsStep tables cells (Edit asked) one) old new
-edit_made old new asked one same kept tells edits moved shown =
-    turned_to old new (Edit asked) one Edited false same (ap (λ (p : Known). p.spine) kept) (begins_same old new kept) tells (λ view shows.
+edit_made old new asked one same kept tells edits moved shown quiet =
+    turned_to old new (Edit asked) one Edited false same (ap (λ (p : Known). p.spine) kept) (begins_same old new kept) tells quiet (λ view shows.
     let e = edits view shows in
     let place : with_pending old.replica.position (len (held_by new.replica.store).pending) ≡ new.replica.position =
     ap (λ (n : ℕ). with_pending old.replica.position n) (sym shown.1.counted) ∙ sym moved in
@@ -105,9 +137,10 @@ pub edit_refused : (old new : NodeState InMemory) (asked : Edits) (fault : EditF
     → held_by new.replica.store ≡ held_by old.replica.store
     → new.replica.position ≡ old.replica.position
     → ((view : View) → Shows held_by old.replica view → IsOfStore fault ⊎ (edit old.replica.catalog (table_of_edit asked) (asked_of_edit asked) view ≡ Err fault))
+    → StaysQuiet old new (NotEdited fault)
     → TurnsNode (λ tables cells. RunsStep tables cells (Edit asked) one) old new
-edit_refused old new asked fault one same kept tells holds stays refused =
-    turned_to old new (Edit asked) one (NotEdited fault) false same (ap (λ (p : Known). p.spine) kept) (begins_same old new kept) tells (λ view shows.
+edit_refused old new asked fault one same kept tells holds stays refused quiet =
+    turned_to old new (Edit asked) one (NotEdited fault) false same (ap (λ (p : Known). p.spine) kept) (begins_same old new kept) tells quiet (λ view shows.
     let held : ShowsAt old.replica.catalog (held_by new.replica.store) old.replica.position view =
     subst (λ (c : Contents). ShowsAt old.replica.catalog c old.replica.position view) (sym holds) shows in
     let here : ShowsAt old.replica.catalog (held_by new.replica.store) new.replica.position view =
@@ -128,6 +161,10 @@ abbrev pub pull_outcome : Result ℕ NodeFault → StepOutcome
 pull_outcome (Ok count) = Pulled count
 pull_outcome (Err fault) = Failed fault
 
+pub pull_quiet : (result : Result ℕ NodeFault) → (result ≡ Err moving.Device → ⊥) → TellsNoDevice (pull_outcome result)
+pull_quiet (Ok count) never = ((λ told. absurd (let no = told in cc)), (λ told. absurd (let no = told in cc)))
+pull_quiet (Err fault) never = ((λ told. absurd (let no = told in cc)), (λ told. never (let same = told in cc)))
+
 pull_makes : (tables : List TableDef) (cells : ℕ) (wishes : List Wish) (result : Result ℕ NodeFault) (old new : NodeAt) (left : Contents) → PullsBy tables cells wishes result old new left
     → ComesTo tables cells (Pull wishes) (pull_outcome result) old new left
 pull_makes tables cells wishes (Ok count) old new left h = h
@@ -138,10 +175,10 @@ pub pull_turns : (old new : NodeState InMemory) (wishes picker unused : List Wis
     → Begins old.pass.known new.pass.known → Tells old new one (pull_outcome result) false → picker ≡ wishes
     → ((view : View) → Shows held_by old.replica view
     → PullsAll IsWished old.replica.catalog new.pass.known result old.replica.position view picker new.replica.position (held_by new.replica.store) unused)
-    → ((view : View) × Shows held_by new.replica view)
+    → ((view : View) × Shows held_by new.replica view) → StaysQuiet old new (pull_outcome result)
     → TurnsNode (λ tables cells. RunsStep tables cells (Pull wishes) one) old new
-pull_turns old new wishes picker unused result one same of begins tells by pulls shown =
-    turned_to old new (Pull wishes) one (pull_outcome result) false same of begins tells (λ view shows.
+pull_turns old new wishes picker unused result one same of begins tells by pulls shown quiet =
+    turned_to old new (Pull wishes) one (pull_outcome result) false same of begins tells quiet (λ view shows.
     let p = pulls view shows in
     let pulled : PullsAll IsWished old.replica.catalog new.pass.known result old.replica.position view wishes new.replica.position (held_by new.replica.store) unused =
     subst (λ (w : List Wish). PullsAll IsWished old.replica.catalog new.pass.known result old.replica.position view w new.replica.position (held_by new.replica.store) unused) by p in
@@ -158,6 +195,10 @@ pull_turns old new wishes picker unused result one same of begins tells by pulls
 abbrev pub push_outcome : Result NodePush NodeFault → StepOutcome
 push_outcome (Ok told) = Pushed told
 push_outcome (Err fault) = Failed fault
+
+pub push_quiet : (result : Result NodePush NodeFault) → (result ≡ Err moving.Device → ⊥) → TellsNoDevice (push_outcome result)
+push_quiet (Ok pushed) never = ((λ told. absurd (let no = told in cc)), (λ told. absurd (let no = told in cc)))
+push_quiet (Err fault) never = ((λ told. absurd (let no = told in cc)), (λ told. never (let same = told in cc)))
 
 push_makes : (tables : List TableDef) (cells : ℕ) (wishes : List Wish) (result : Result NodePush NodeFault) (old new : NodeAt) (left : Contents) → PushesBy tables cells wishes result old new left
     → ComesTo tables cells (Push wishes) (push_outcome result) old new left
@@ -186,10 +227,10 @@ pub push_turns : (old new : NodeState InMemory) (cells : SpineCells) (wishes pic
     → PushesOn IsWished old.replica.catalog old.pass.known old.replica.position view picker cells.cap result new.pass.known new.replica.position (held_by new.replica.store) unused)
     → (IsAtRest old.replica.position → result ≡ Ok Nothing)
     → ((IsAtRest old.replica.position → ⊥) → old.replica.position.version < length old.pass.known → result ≡ Ok Behind)
-    → ((view : View) × Shows held_by new.replica view)
+    → ((view : View) × Shows held_by new.replica view) → StaysQuiet old new (push_outcome result)
     → TurnsNode (λ tables cells. RunsStep tables cells (Push wishes) one) old new
-push_turns old new cells wishes picker unused was flies result one same of row begins tells by before after pushes nothing behind shown =
-    turned_to old new (Push wishes) one (push_outcome result) (not was && is_there result flies) same of begins tells (λ view shows.
+push_turns old new cells wishes picker unused was flies result one same of row begins tells by before after pushes nothing behind shown quiet =
+    turned_to old new (Push wishes) one (push_outcome result) (not was && is_there result flies) same of begins tells quiet (λ view shows.
     let p = pushes view shows in
     let wished : PushesOn IsWished old.replica.catalog old.pass.known old.replica.position view wishes cells.cap result new.pass.known new.replica.position (held_by new.replica.store) unused =
     subst (λ (w : List Wish). PushesOn IsWished old.replica.catalog old.pass.known old.replica.position view w cells.cap result new.pass.known new.replica.position (held_by new.replica.store) unused) by p in

@@ -14,12 +14,14 @@ use Rattle.cs_plans.specs.Runs.{NodeAt, RunsPlan, first_node}
 abbrev pub node_at : NodeState InMemory → View → NodeAt
 node_at node view = record { known = node.pass.known; position = node.replica.position; view = view }
 
--- a node keeps its tables and its row of cells, and what it showed has made this step
+-- a node keeps its tables and its row of cells, and what it showed has made this step, where nothing in its store was misread so far;
+-- nor is it then
 pub record TurnsNode (step : List TableDef → ℕ → NodeAt → NodeAt → Type 0) (old new : NodeState InMemory) : Type 0 where
   pub catalog : new.replica.catalog ≡ old.replica.catalog
   pub spine : new.pass.spine ≡ old.pass.spine
-  pub turned : (view : View) → Shows held_by old.replica view
-      → (next : View) × Shows held_by new.replica next × step old.replica.catalog old.pass.spine.cap (node_at old view) (node_at new next)
+  pub turned : old.replica.store.misreads ≡ 0 → (view : View) → Shows held_by old.replica view
+      → (next : View) × Shows held_by new.replica next × (new.replica.store.misreads ≡ 0)
+      × step old.replica.catalog old.pass.spine.cap (node_at old view) (node_at new next)
 
 module _ (tables : List TableDef) (cells : SpineCells) where
   -- the end of a new node with this id that ran the plan: what its store shows is what the plan's calls made of it

@@ -6,6 +6,7 @@ use Rattle.cs_nodes.specs.cs_following.Pulls.{PullsAll}
 use Rattle.cs_nodes.specs.cs_following.Pushes.{IsAtRest, PushesOn}
 use Rattle.cs_nodes.specs.cs_following.Standing.{Begins}
 use Rattle.cs_nodes.specs.cs_following.NodeFault.{NodeFault}
+use Rattle.cs_nodes.specs.cs_following.NodeFault.TheVariants as moving
 use Rattle.cs_nodes.specs.cs_following.NodePush.{NodePush}
 use Rattle.cs_nodes.specs.cs_following.NodePush.TheVariants.{Nothing, Behind}
 use Rattle.cs_log.specs.declared.entry.LogEntry.{LogEntry}
@@ -13,6 +14,7 @@ use Rattle.cs_opening.specs.Fresh.{first_position}
 use Rattle.cs_pending.specs.Edits.{IsOfStore, edit}
 use Rattle.cs_pending.specs.Laws.{empty_view}
 use Rattle.cs_pending.specs.View.{View}
+use Rattle.cs_pending.specs.declared.fault.EditFault.TheVariants as editing
 use Rattle.cs_position.specs.Shows.{ShowsAt}
 use Rattle.cs_position.specs.declared.position.Position.{Position}
 use Rattle.cs_nodes.specs.cs_following.Edited.{with_pending}
@@ -42,6 +44,10 @@ pub record IsMark (old new : NodeAt) (mark : Mark) : Type 0 where
   pub version : mark.version ≡ new.position.version
   pub made : IsTrue mark.made ↔ (old.position.number ≢ new.position.number)
 
+-- it isn't told that a device failed
+abbrev pub TellsNoDevice : StepOutcome → Type 0
+TellsNoDevice outcome = (outcome ≢ NotEdited editing.Device) × (outcome ≢ Failed moving.Device)
+
 -- `left` is what the store holds then; the row has so many cells
 module _ (tables : List TableDef) (cells : ℕ) where
   -- a pull by these wishes: so many entries, or why no more
@@ -69,13 +75,15 @@ module _ (tables : List TableDef) (cells : ℕ) where
   ComesTo (Push wishes) (Failed fault) old new left = PushesBy wishes (Err fault) old new left
   ComesTo _ _ old new left = ⊥
 
-  -- one call: what was known begins what is known then, and the store shows the node as it then stands
+  -- one call: what was known begins what is known then, and the store shows the node as it then stands. It is a store in memory, so no
+  -- device is told to have failed
   pub record RunsStep (step : Step) (stepped : Stepped) (old new : NodeAt) : Type 0 where
     pub begins : Begins old.known new.known
     pub left : Contents
     pub shows : ShowsAt tables left new.position new.view
     pub makes : ComesTo step stepped.outcome old new left
     pub marked : IsMark old new stepped.mark
+    pub no_device : TellsNoDevice stepped.outcome
 
   -- a plan's calls one behind another, with what each came to
   abbrev pub RunsPlan : List Step → List Stepped → NodeAt → NodeAt → Type 0

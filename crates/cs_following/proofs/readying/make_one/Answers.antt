@@ -1,9 +1,11 @@
-use Rattle.std.proofs.Common.{List, ap, subst, sym}
+use Rattle.std.proofs.Common.{List, ap, subst, sym, ◌∙◌}
 use Rattle.cs_value.specs.declared.catalog.TableDef.{TableDef}
+use Rattle.cs_replica.specs.cs_pushing.PushFault.TheVariants as push
 use Rattle.cs_replica.specs.cs_pushing.Pushes.{grounded}
 use Rattle.cs_position.specs.Shows.{ShowsAt}
 use Rattle.cs_position.specs.declared.position.Position.{Position}
-use Rattle.cs_following.proofs.Readied.{made_ready, made_rows, made_shows}
+use Rattle.cs_following.specs.InTurn.{failed_alone}
+use Rattle.cs_following.proofs.Readied.{device_made, made_next, made_ready, made_rows, made_shows, never_made}
 use Rattle.cs_following.proofs.Stood.{readied_stands}
 use Rattle.cs_following.proofs.readying.make_one.Goals as goal
 
@@ -31,3 +33,10 @@ returns-in-Ok-clause-stands g c = λ known stands h.
     (made_rows c.one_body.ensures c.args.replica.now.catalog s.2.of_catalog c.args.replica.now.position c.make_push.new.self.position (g.S.RowStore.contents c.args.replica.now.store) (g.S.RowStore.contents c.make_push.new.self.store) s.0
     made.0 moved.0 made.1 moved.1 seen.0 shown)
     s.2
+
+pub returns-in-Err-clause-writes : goal.returns-in-Err-clause-writes
+returns-in-Err-clause-writes g c =
+    failed_alone g.S.RowStore.honest g.S.RowStore.contents g.S.RowStore.failed g.S.RowStore.may_leave g.S.RowStore.misreads push.Device c.in-Err.fault _ _ _ c.args.replica.now.store c.make_push.new.self.store _ _
+    (λ made. never_made c.in-Err.fault (sym c.not_made.ensures ∙ made)) (λ told. device_made c.in-Err.fault (sym c.not_made.ensures ∙ told))
+    (made_next c.args.replica.now.catalog c.args.replica.now.position c.make_push.new.self.position (g.S.RowStore.contents c.args.replica.now.store) (g.S.RowStore.contents c.make_push.new.self.store) c.in-Err.ensures.kept)
+    c.in-Err.ensures.writes

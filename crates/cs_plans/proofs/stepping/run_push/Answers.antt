@@ -1,6 +1,6 @@
 use Rattle.std.proofs.Common.{◌&&◌, Bool, not, Ok, Err, ap, ◌∙◌}
 use Rattle.std.specs.Prelude.{is_some}
-use Rattle.cs_plans.proofs.Turned.{push_turns}
+use Rattle.cs_plans.proofs.Turned.{push_outcome, push_quiet, push_turns, stays_quiet}
 use Rattle.cs_plans.proofs.stepping.run_push.Goals as goal
 
 pub returns-in-Ok : goal.returns-in-Ok
@@ -16,6 +16,7 @@ returns-in-Ok c =
     })
     (c.new-picker.ensures ∙ c.as_slice.ensures) c.is_under_way-was_under_way.ensures ((λ h. h), (λ h. h)) (c.in-Ok.ensures.pushed tt) (λ rest. (c.in-Ok.ensures.nothing rest).0) (λ apart less. (c.in-Ok.ensures.behind apart less).0)
     (stood.0, stood.1)
+    (stays_quiet c.args.node.now c.push-pushed.new.self _ (push_outcome (Ok c.in-Ok.told)) c.in-Ok.ensures.writes.as_read c.in-Ok.ensures.writes.cause (push_quiet (Ok c.in-Ok.told)))
 
 pub returns-in-Err : goal.returns-in-Err
 returns-in-Err c =
@@ -30,3 +31,4 @@ returns-in-Err c =
     })
     (c.new-picker.ensures ∙ c.as_slice.ensures) c.is_under_way-was_under_way.ensures c.is_under_way.ensures (c.in-Err.ensures.pushed tt) (λ rest. (c.in-Err.ensures.nothing rest).0)
     (λ apart less. (c.in-Err.ensures.behind apart less).0) (stood.0, stood.1)
+    (stays_quiet c.args.node.now c.push-pushed.new.self _ (push_outcome (Err c.in-Err.fault)) c.in-Err.ensures.writes.as_read c.in-Err.ensures.writes.cause (push_quiet (Err c.in-Err.fault)))
