@@ -1,10 +1,12 @@
 -- A book that goes on.
-use Rattle.std.proofs.Common.{◌≡◌, ◌⊎◌, ℕ, ◌+◌, ◌≤◌, List, [], ◌∷◌, ◌++◌, length, take, Some, Result, Ok, Err, slice_get, inl, inr, refl, sym, ap, subst, ◌∙◌, arith, append_assoc, length-append}
+use Rattle.std.proofs.Common.{◌≡◌, ◌⊎◌, ℕ, ◌+◌, ◌<◌, ◌≤◌, List, [], ◌∷◌, ◌++◌, length, take, Some, Result, Ok, Err, slice_get, inl, inr, refl, sym, ap, subst, ◌∙◌, arith, append_assoc, length-append}
 use Rattle.std.proofs.lemmas.List.{append-nil, take-append-le, take_more}
 use Rattle.std.proofs.Math.Seq.{take-length}
 use Rattle.std.proofs.lemmas.Option.{get_or_from_slice_get, slice_get_within}
-use Rattle.std.specs.Prelude.{OnErr, OnOk}
+use Rattle.std.proofs.lemmas.List.Elements.{All-get_or}
+use Rattle.std.specs.Prelude.{All, IfErr, OnErr, OnOk}
 use Rattle.cs_value.specs.declared.catalog.TableDef.{TableDef}
+use Rattle.cs_log.specs.Stored.{IsEntryOf}
 use Rattle.cs_log.specs.declared.entry.LogEntry.{LogEntry}
 use Rattle.cs_store.specs.Contents.{Contents}
 use Rattle.cs_pending.specs.Calls.{WritesStore}
@@ -12,12 +14,15 @@ use Rattle.cs_log_store.specs.Shows.{ShowsLog}
 use Rattle.cs_appending.specs.Appended.{IsAppendedIn}
 use Rattle.cs_following.specs.Standing.{Begins}
 use Rattle.cs_spine.specs.Known.{Known}
-use Rattle.cs_hub.specs.Follows.{FitsBehind}
+use Rattle.cs_hub.specs.Follows.{FitsBehind, IsFollowFault}
+use Rattle.cs_hub.specs.declared.follow_fault.FollowFault.{FollowFault}
+use Rattle.cs_hub.specs.declared.follow_fault.FollowFault.TheVariants as follow
 use Rattle.cs_hub.specs.Holding.{Holding, Shows, ShowsSome}
 use Rattle.cs_hub.specs.Judges.{ReadsHub}
 use Rattle.cs_log.specs.declared.entry.TheConstants.{MAX_ENTRIES}
 use Rattle.cs_books.specs.Answers.{HasTaken, IsStuckAt}
 use Rattle.cs_books.specs.Books.{BookState, IsBook, IsLater}
+use Rattle.cs_books.specs.Steps.{IsFinished}
 
 -- ---- lists
 
@@ -40,19 +45,40 @@ next_taken : (known : List LogEntry) (at : ℕ) (entry : LogEntry) → slice_get
 next_taken known at entry here =
     take_more known at entry (slice_get_within known at entry here) ∙ ap (λ (e : LogEntry). take at known ++ e ∷ []) (get_or_from_slice_get known at entry entry here)
 
+-- an entry of a log that fits is one of the tables
+at_end : (before : List LogEntry) (entry : LogEntry) → slice_get (before ++ entry ∷ []) (length before) ≡ Some entry
+at_end [] entry = refl
+at_end (first ∷ before) entry = at_end before entry
+
+pub fit_at : (tables : List TableDef) (log : List LogEntry) (at : ℕ) (entry : LogEntry) → All (IsEntryOf tables) log → slice_get log at ≡ Some entry → IsEntryOf tables entry
+fit_at tables log at entry fit here =
+    subst (IsEntryOf tables) (get_or_from_slice_get log at entry entry here) (All-get_or (IsEntryOf tables) log at entry (slice_get_within log at entry here) fit)
+
+-- what is appended fits behind the log
+fits_behind : (tables : List TableDef) (log : List LogEntry) (entry : LogEntry) (old left : Contents) → ShowsLog tables old log → IsAppendedIn tables entry old left → FitsBehind tables log entry
+fits_behind tables log entry old left shows appended =
+    let is = appended log shows in
+    (fit_at tables (log ++ entry ∷ []) (length log) entry is.1.fit (at_end log entry), is.0)
+
 -- ---- one step after another
 
 module _ {S : Type 0} (honest : S → Type 0) (contents : S → Contents) (failed : S → ℕ) (may_leave : S → Contents → Type 0) (misreads : S → ℕ) where
-  abbrev Later : BookState S → BookState S → Type 0
-  Later = IsLater honest contents failed may_leave misreads
+  abbrev Later : Type 0 → BookState S → BookState S → Type 0
+  Later finished = IsLater honest contents failed may_leave misreads finished
 
-  -- what a stop may leave between
-  abbrev Between : BookState S → Contents → Type 0
-  Between book left = (version : ℕ) × (version ≤ length book.pass.known) × ShowsLog book.hub.catalog left (take version book.pass.known)
+  -- the log with the next entry
+  abbrev OneMore : BookState S → Contents → Type 0
+  OneMore book left =
+      (book.hub.newest < length book.pass.known) × ShowsLog book.hub.catalog left (take (book.hub.newest + 1) book.pass.known)
+
+  -- what a stop may leave
+  abbrev Left : Type 0 → BookState S → BookState S → Contents → Type 0
+  Left finished old new left =
+      (left ≡ contents new.hub.store) ⊎ ((may_leave old.hub.store left × (contents new.hub.store ≡ contents old.hub.store)) ⊎ ((finished → ⊥) × (new.hub.newest < length new.pass.known) × ShowsLog new.hub.catalog left (take (new.hub.newest + 1) new.pass.known)))
 
   -- the book knows more, and its hub is as it was
-  pub knows_more : (old new : BookState S) → new.row ≡ old.row → new.hub ≡ old.hub → Begins old.pass.known new.pass.known → Later old new
-  knows_more old new row hub begins =
+  pub knows_more : (finished : Type 0) (old new : BookState S) → new.row ≡ old.row → new.hub ≡ old.hub → Begins old.pass.known new.pass.known → Later finished old new
+  knows_more finished old new row hub begins =
       let store : new.hub.store ≡ old.hub.store = ap (λ (h : Holding S). h.store) hub in
       record {
         row = row;
@@ -60,48 +86,67 @@ module _ {S : Type 0} (honest : S → Type 0) (contents : S → Contents) (faile
         begins = begins;
         onwards = (let n : new.hub.newest ≡ old.hub.newest = ap (λ (h : Holding S). h.newest) hub in omega (arith, n));
         was_honest = λ h. subst honest store h;
-        crash = λ h left l. inl (subst (λ (s : S). may_leave s left) store l);
+        crash = λ h left l. inr (inl (subst (λ (s : S). may_leave s left) store l, ap contents store));
         later = (let f : failed new.hub.store ≡ failed old.hub.store = ap failed store in omega (arith, f));
         as_read = λ h. ap misreads store;
       }
 
-  pub stays : (book : BookState S) → Later book book
-  stays book = knows_more book book refl refl (same_begins book.pass.known)
+  pub stays : (finished : Type 0) (book : BookState S) → Later finished book book
+  stays finished book = knows_more finished book book refl refl (same_begins book.pass.known)
 
   -- its hub only judged
-  pub looks : (old new : BookState S) → new.row ≡ old.row → new.pass ≡ old.pass → ReadsHub honest contents failed may_leave misreads old.hub new.hub → (honest new.hub.store → misreads new.hub.store ≡ misreads old.hub.store) → Later old new
-  looks old new row pass reads same = record {
+  pub looks : (finished : Type 0) (old new : BookState S) → new.row ≡ old.row → new.pass ≡ old.pass → ReadsHub honest contents failed may_leave misreads old.hub new.hub → (honest new.hub.store → misreads new.hub.store ≡ misreads old.hub.store)
+      → Later finished old new
+  looks finished old new row pass reads same = record {
     row = row;
     catalog = reads.catalog;
     begins = subst (Begins old.pass.known) (sym (ap (λ (p : Known). p.known) pass)) (same_begins old.pass.known);
     onwards = (let n : new.hub.newest ≡ old.hub.newest = reads.newest in omega (arith, n));
     was_honest = reads.was_honest;
-    crash = λ h left l. inl (reads.crash h left l);
+    crash = λ h left l. inr (inl (reads.crash h left l, reads.same h));
     later = reads.later;
     as_read = same;
   }
 
-  on_between : (mid new : BookState S) → new.hub.catalog ≡ mid.hub.catalog → Begins mid.pass.known new.pass.known → (left : Contents) → Between mid left → Between new left
-  on_between mid new catalog begins left (version, within, shows) =
-      let w = wider mid.pass.known new.pass.known begins version within in
-      (version, w.0, subst (λ (t : List TableDef). ShowsLog t left (take version new.pass.known)) (sym catalog) (subst (λ (l : List LogEntry). ShowsLog mid.hub.catalog left l) (sym w.1) shows))
+  -- a step behind one that has finished
+  before_it : (finished : Type 0) (old mid new : BookState S) (left : Contents) → contents new.hub.store ≡ contents mid.hub.store → Left (Unit {0}) old mid left → Left finished old new left
+  before_it finished old mid new left same (inl is) = inl (is ∙ sym same)
+  before_it finished old mid new left same (inr (inl (before, kept))) = inr (inl (before, same ∙ kept))
+  before_it finished old mid new left same (inr (inr (not, room, shows))) = absurd (not tt)
 
-  either : (old mid new : BookState S) → Later old mid → new.hub.catalog ≡ mid.hub.catalog → Begins mid.pass.known new.pass.known → honest mid.hub.store → (left : Contents)
-      → may_leave mid.hub.store left ⊎ Between new left → may_leave old.hub.store left ⊎ Between new left
-  either old mid new one catalog begins h left (inr is) = inr is
-  either old mid new one catalog begins h left (inl l) =
-      elim (one.crash h left l) [ inl before ↦ inl before | inr is ↦ inr (on_between mid new catalog begins left is) ]
+  behind : (finished : Type 0) (old mid new : BookState S) → Later (Unit {0}) old mid → honest mid.hub.store → (left : Contents) → Left finished mid new left → Left finished old new left
+  behind finished old mid new one h left (inl is) = inl is
+  behind finished old mid new one h left (inr (inl (l, same))) = before_it finished old mid new left same (one.crash h left l)
+  behind finished old mid new one h left (inr (inr more)) = inr (inr more)
 
-  pub then_later : (old mid new : BookState S) → Later old mid → Later mid new → Later old new
-  then_later old mid new one two = record {
+  pub then_later : (finished : Type 0) (old mid new : BookState S) → Later (Unit {0}) old mid → Later finished mid new → Later finished old new
+  then_later finished old mid new one two = record {
     row = two.row ∙ one.row;
     catalog = two.catalog ∙ one.catalog;
     begins = then_begins old.pass.known mid.pass.known new.pass.known one.begins two.begins;
     onwards = omega (arith, one.onwards, two.onwards);
     was_honest = λ h. one.was_honest (two.was_honest h);
-    crash = λ h left l. either old mid new one two.catalog two.begins (two.was_honest h) left (two.crash h left l);
+    crash = λ h left l. behind finished old mid new one (two.was_honest h) left (two.crash h left l);
     later = omega (arith, one.later, two.later);
     as_read = λ h. two.as_read h ∙ one.as_read (two.was_honest h);
+  }
+
+  -- said of more that it has finished
+  left_as : (some other : Type 0) (old new : BookState S) (left : Contents) → (other → some) → Left some old new left → Left other old new left
+  left_as some other old new left on (inl is) = inl is
+  left_as some other old new left on (inr (inl is)) = inr (inl is)
+  left_as some other old new left on (inr (inr (not, room, shows))) = inr (inr ((λ o. not (on o)), room, shows))
+
+  pub later_as : (some other : Type 0) (old new : BookState S) → (other → some) → Later some old new → Later other old new
+  later_as some other old new on is = record {
+    row = is.row;
+    catalog = is.catalog;
+    begins = is.begins;
+    onwards = is.onwards;
+    was_honest = is.was_honest;
+    crash = λ h left l. left_as some other old new left on (is.crash h left l);
+    later = is.later;
+    as_read = is.as_read;
   }
 
   -- ---- it is a book again
@@ -136,8 +181,9 @@ module _ {S : Type 0} (honest : S → Type 0) (contents : S → Contents) (faile
   }
 
   -- then the next entry is taken
-  pub one_more : (old mid seen new : BookState S) → Later old mid → seen.row ≡ mid.row → seen.hub ≡ mid.hub → Begins mid.pass.known seen.pass.known → Later seen new → Later old new
-  one_more old mid seen new one row hub begins two = then_later old seen new (then_later old mid seen one (knows_more mid seen row hub begins)) two
+  pub one_more : (finished : Type 0) (old mid seen new : BookState S) → Later (Unit {0}) old mid → seen.row ≡ mid.row → seen.hub ≡ mid.hub → Begins mid.pass.known seen.pass.known → Later finished seen new → Later finished old new
+  one_more finished old mid seen new one row hub begins two =
+      then_later finished old seen new (then_later (Unit {0}) old mid seen one (knows_more (Unit {0}) mid seen row hub begins)) two
 
   -- a book that has come to the last that is known shows all of it
   pub shows_all : (book : BookState S) → IsBook honest contents book → book.hub.newest ≡ length book.pass.known → honest book.hub.store → Shows contents book.hub book.pass.known
@@ -161,28 +207,39 @@ module _ {S : Type 0} (honest : S → Type 0) (contents : S → Contents) (faile
     abbrev Writes : {F : Type 0} → F → Result (Unit {0}) F → Type 0
     Writes device result = WritesStore honest contents failed may_leave misreads device (ShowsSome contents book.hub) (IsAppendedIn book.hub.catalog entry (contents book.hub.store)) book.hub.store hub.store result
 
-    between : honest book.hub.store → (left : Contents) → IsAppendedIn book.hub.catalog entry (contents book.hub.store) left → Between After left
-    between h left appended =
+    one_taken : honest book.hub.store → hub.newest ≡ book.hub.newest → (left : Contents) → IsAppendedIn book.hub.catalog entry (contents book.hub.store) left → OneMore After left
+    one_taken h kept left appended =
         let shows = (appended Front (is.shows h).0).1 in
         let within = slice_get_within book.pass.known book.hub.newest entry here in (
-          book.hub.newest + 1,
-          omega (arith, within),
-          subst (λ (t : List TableDef). ShowsLog t left (take (book.hub.newest + 1) book.pass.known)) (sym catalog)
-              (subst (λ (l : List LogEntry). ShowsLog book.hub.catalog left l) (sym (next_taken book.pass.known book.hub.newest entry here)) shows),
+          omega (arith, within, kept),
+          subst (λ (n : ℕ). ShowsLog hub.catalog left (take (n + 1) book.pass.known)) (sym kept)
+              (subst (λ (t : List TableDef). ShowsLog t left (take (book.hub.newest + 1) book.pass.known)) (sym catalog)
+              (subst (λ (l : List LogEntry). ShowsLog book.hub.catalog left l) (sym (next_taken book.pass.known book.hub.newest entry here)) shows)),
         )
 
-    left_so : honest book.hub.store → (left : Contents) → may_leave book.hub.store left ⊎ IsAppendedIn book.hub.catalog entry (contents book.hub.store) left → may_leave book.hub.store left ⊎ Between After left
-    left_so h left (inl l) = inl l
-    left_so h left (inr appended) = inr (between h left appended)
+    -- where it has finished, and yet nothing was taken, nothing is appended
+    abbrev Ends : {F : Type 0} → Type 0 → Result (Unit {0}) F → Type 0
+    Ends finished result =
+        honest hub.store → finished → OnErr result ((left : Contents) → IsAppendedIn book.hub.catalog entry (contents book.hub.store) left → ⊥)
 
-    pub takes : {F : Type 0} (device : F) (result : Result (Unit {0}) F) → Writes device result → book.hub.newest ≤ hub.newest → Later book After
-    takes device result writes onwards = record {
+    left_so : {F : Type 0} (device : F) (result : Result (Unit {0}) F) (finished : Type 0) → Writes device result → OnErr result (hub.newest ≡ book.hub.newest) → Ends finished result
+        → honest hub.store → (left : Contents) → may_leave hub.store left → Left finished book After left
+    left_so device (Ok t) finished writes kept ends h left l =
+        elim (writes.durable h left l) [ inl now ↦ inl now | inr before ↦ inr (inl before) ]
+    left_so device (Err fault) finished writes kept ends h left l =
+        elim (writes.crash h left l) [
+          | inl before ↦ inr (inl (before, writes.err h))
+          | inr appended ↦ (let more = one_taken (writes.was_honest h) kept left appended in inr (inr ((λ (f : finished). ends h f left appended), more.0, more.1)))
+        ]
+
+    pub takes : {F : Type 0} (device : F) (result : Result (Unit {0}) F) (finished : Type 0) → Writes device result → book.hub.newest ≤ hub.newest → OnErr result (hub.newest ≡ book.hub.newest) → Ends finished result → Later finished book After
+    takes device result finished writes onwards kept ends = record {
       row = refl;
       catalog = catalog;
       begins = same_begins book.pass.known;
       onwards = onwards;
       was_honest = writes.was_honest;
-      crash = λ h left l. left_so (writes.was_honest h) left (writes.crash h left l);
+      crash = λ h left l. left_so device result finished writes kept ends h left l;
       later = writes.later;
       as_read = λ h. writes.as_read h (Front, (is.shows (writes.was_honest h)).0, (is.shows (writes.was_honest h)).1);
     }
@@ -203,8 +260,24 @@ module _ {S : Type 0} (honest : S → Type 0) (contents : S → Contents) (faile
     onwards_of (Err fault) counted kept = omega (arith, kept)
 
     -- whatever came of it
-    pub goes_on : {F : Type 0} (device : F) (result : Result (Unit {0}) F) → Writes device result → OnOk result (hub.newest ≡ book.hub.newest + 1) → OnErr result (hub.newest ≡ book.hub.newest) → Later book After
-    goes_on device result writes counted kept = takes device result writes (onwards_of result counted kept)
+    pub goes_on : {F : Type 0} (device : F) (result : Result (Unit {0}) F) (finished : Type 0) → Writes device result → OnOk result (hub.newest ≡ book.hub.newest + 1) → OnErr result (hub.newest ≡ book.hub.newest)
+        → Ends finished result → Later finished book After
+    goes_on device result finished writes counted kept ends = takes device result finished writes (onwards_of result counted kept) kept ends
+
+    -- an entry that doesn't fit isn't appended
+    pub ends_follow : (result : Result (Unit {0}) FollowFault) → (honest hub.store → (log : List LogEntry) → Shows contents book.hub log → IfErr result (IsFollowFault book.hub.catalog log entry))
+        → (honest hub.store → honest book.hub.store) → Ends (IsFinished result) result
+    ends_follow (Ok t) refused was_honest h finished = tt
+    ends_follow (Err follow.Memory) refused was_honest h finished = absurd finished
+    ends_follow (Err follow.Full) refused was_honest h finished = absurd finished
+    ends_follow (Err follow.Device) refused was_honest h finished = absurd finished
+    ends_follow (Err follow.Undefined) refused was_honest h finished = λ left appended.
+        let shows = is.shows (was_honest h) in
+        refused h Front shows (fits_behind book.hub.catalog Front entry (contents book.hub.store) left shows.0 appended)
+
+    pub ends_append : {F : Type 0} (result : Result (Unit {0}) F) → Ends (OnErr result ⊥) result
+    ends_append (Ok t) h finished = tt
+    ends_append (Err fault) h finished = absurd finished
 
     pub book_again : {F : Type 0} (device : F) (result : Result (Unit {0}) F) → Writes device result → OnOk result (hub.newest ≡ book.hub.newest + 1) → OnErr result (hub.newest ≡ book.hub.newest)
         → (honest hub.store → (log : List LogEntry) → Shows contents book.hub log → OnOk result (Shows contents hub (log ++ entry ∷ []))) → IsBook honest contents After

@@ -1,3 +1,4 @@
 pub mod Goes
 pub mod Told
 pub mod Once
+pub mod Opened

@@ -1,8 +1,6 @@
 -- On one list of entries a request has one answer.
-use Rattle.std.proofs.Common.{◌≡◌, ℕ, List, length, take, Some, slice_get, inl, inr, sym, ap, subst, ◌∙◌}
+use Rattle.std.proofs.Common.{◌≡◌, ℕ, List, length, take, inl, inr, sym, ap, subst, ◌∙◌}
 use Rattle.std.proofs.Math.Seq.{take-length}
-use Rattle.std.proofs.lemmas.List.Elements.{All-get_or}
-use Rattle.std.proofs.lemmas.Option.{get_or_from_slice_get, slice_get_within}
 use Rattle.std.specs.Prelude.{All}
 use Rattle.cs_value.specs.declared.catalog.TableDef.{TableDef}
 use Rattle.cs_log.specs.Log.{IsLog}
@@ -12,6 +10,7 @@ use Rattle.cs_judging.specs.Judged.{hub_of}
 use Rattle.cs_hub.specs.Laws.{OneService}
 use Rattle.cs_books.specs.Answers.{HasTaken, IsStuckAt}
 use Rattle.cs_books.specs.Laws.{OneKnownAnswer}
+use Rattle.cs_books.proofs.Goes.{fit_at}
 
 -- all that was taken fits, so nothing is stuck there
 apart : (tables : List TableDef) (known : List LogEntry) (taken others : ℕ) → taken ≡ length known → HasTaken tables known taken → IsStuckAt tables known others → ⊥
@@ -19,11 +18,7 @@ apart tables known taken others level front stuck =
     let all : take taken known ≡ known = ap (λ (n : ℕ). take n known) level ∙ take-length known in
     let is_log : IsLog tables known = subst (IsLog tables) all front.is_log in
     let fit : All (IsEntryOf tables) known = subst (All (IsEntryOf tables)) all front.fit in
-    stuck.unfit (fit_at known others stuck.entry fit stuck.here, is_log others stuck.entry stuck.here)
-  where
-    fit_at : (log : List LogEntry) (at : ℕ) (entry : LogEntry) → All (IsEntryOf tables) log → slice_get log at ≡ Some entry → IsEntryOf tables entry
-    fit_at log at entry fit here =
-        subst (IsEntryOf tables) (get_or_from_slice_get log at entry entry here) (All-get_or (IsEntryOf tables) log at entry (slice_get_within log at entry here) fit)
+    stuck.unfit (fit_at tables known others stuck.entry fit stuck.here, is_log others stuck.entry stuck.here)
 
 pub one_known_answer : OneService → OneKnownAnswer
 one_known_answer one limit tables known taken others request answer other are (inl p) (inl q) =

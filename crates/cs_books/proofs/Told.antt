@@ -14,14 +14,14 @@ use Rattle.cs_hub.specs.declared.follow_fault.FollowFault.{FollowFault}
 use Rattle.cs_hub.specs.declared.follow_fault.FollowFault.TheVariants.{Device, Undefined}
 use Rattle.cs_hub.specs.declared.judged.Judged.{Judged}
 use Rattle.cs_hub.specs.declared.judged.Judged.TheVariants.{Reply, Append}
-use Rattle.cs_books.specs.Answers.{AnswersAll, AnswersOn, HasTaken, IsStuckAt, device_answer, stuck_answer}
+use Rattle.cs_books.specs.Answers.{AnswersAll, AnswersOn, HasTaken, IsAnswered, IsStuckAt, device_answer, stuck_answer}
 use Rattle.cs_log.specs.declared.entry.TheConstants.{MAX_ENTRIES}
 use Rattle.cs_wire.specs.Answers.{answer_spelling}
 use Rattle.cs_wire.specs.declared.answer.Answer.TheVariants.{Short}
 use Rattle.cs_wire.specs.declared.short_answer.ShortAnswer.TheVariants.{Stale}
 use Rattle.cs_spine.specs.Known.{Known, SpineCells}
 use Rattle.cs_books.specs.Books.{BookState, most_cells}
-use Rattle.cs_books.specs.Steps.{CameLater, Halts}
+use Rattle.cs_books.specs.Steps.{CameLater, Halts, IsFinished}
 
 pub if_ok : {T E : Type 0} (result : Result T E) (P Q : T → Type 0) → ((t : T) → P t → Q t) → IfOk result P → IfOk result Q
 if_ok (Ok t) P Q on is = on t is
@@ -49,6 +49,13 @@ halts device_failed honest tables known taken fault answer device stuck (inr (is
 pub halts_later : (some other : Type 0) (tables : List TableDef) (known : List LogEntry) (taken : ℕ) (answer : List ℕ) → (some → other) → Halts some tables known taken answer → Halts other tables known taken answer
 halts_later some other tables known taken answer on (inl is) = inl is
 halts_later some other tables known taken answer on (inr (failed, told)) = inr (on failed, told)
+
+-- where that isn't told as the device's failure it has finished
+pub told_finished : {E : Type 0} (fault : FollowFault) (result : Result (Vec ℕ Global) E) → IfOk result (λ answer. ((fault ≡ Undefined) × (answer.items ≡ stuck_answer)) ⊎ ((fault ≡ Device) × (answer.items ≡ device_answer)))
+    → IsAnswered result → IsFinished (Err fault)
+told_finished fault (Ok answer) (inl (is, told)) answered = subst (λ (f : FollowFault). IsFinished (Err f)) (sym is) tt
+told_finished fault (Ok answer) (inr (is, told)) answered = absurd (answered told)
+told_finished fault (Err want) told answered = absurd answered
 
 module _ (device_failed : Type 0) (limit : ℕ) (tables : List TableDef) (known : List LogEntry) (taken : ℕ) (request : List ℕ) where
   pub halted : (answer : List ℕ) → Halts device_failed tables known taken answer → AnswersOn device_failed limit tables known taken request answer

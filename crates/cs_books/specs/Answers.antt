@@ -1,5 +1,6 @@
 -- What a book answers (profile of this project).
-use Rattle.std.specs.Prelude.{◌≡◌, ◌⊎◌, ℕ, List, All, length, Some, slice_get, take}
+use Rattle.std.specs.declared.alloc.Global.{Global}
+use Rattle.std.specs.Prelude.{Vec, ◌≡◌, ◌≢◌, ◌⊎◌, ℕ, List, All, length, Result, Ok, Err, Some, slice_get, take}
 use Rattle.cs_value.specs.declared.catalog.TableDef.{TableDef}
 use Rattle.cs_log.specs.Log.{IsLog}
 use Rattle.cs_log.specs.Stored.{IsEntryOf}
@@ -57,3 +58,8 @@ module _ (limit : ℕ) (tables : List TableDef) (known : List LogEntry) (taken :
 abbrev pub AnswersOn : Type 0 → ℕ → List TableDef → List LogEntry → ℕ → List ℕ → List ℕ → Type 0
 AnswersOn device_failed limit tables known taken request answer =
     AnswersKnown limit tables known taken request answer ⊎ (device_failed × (answer ≡ device_answer))
+
+-- it is answered otherwise than that the device failed
+abbrev pub IsAnswered : {E : Type 0} → Result (Vec ℕ Global) E → Type 0
+IsAnswered (Ok answer) = answer.items ≢ device_answer
+IsAnswered (Err fault) = ⊥

@@ -1,5 +1,5 @@
 -- A book: a hub over a store, and what its thread knows of a row of cells (profile of this project).
-use Rattle.std.specs.Prelude.{◌≡◌, ◌≤◌, ◌⊎◌, ℕ, length, min, take}
+use Rattle.std.specs.Prelude.{◌≡◌, ◌+◌, ◌<◌, ◌≤◌, ◌⊎◌, ℕ, length, min, take}
 use Rattle.cs_store.specs.Contents.{Contents}
 use Rattle.cs_log_store.specs.Shows.{ShowsLog}
 use Rattle.cs_spine.specs.Known.{Known, SpineCells}
@@ -26,16 +26,18 @@ pub record IsBook {S : Type 0} (honest : S → Type 0) (contents : S → Content
   pub shows : honest book.hub.store → Shows contents book.hub (take book.hub.newest book.pass.known)
 
 -- the book has gone on: it is of the same row and the same tables; it knows what it knew, and maybe more; and it has taken what it had
--- taken, and maybe more, each entry in a commit of its own
-pub record IsLater {S : Type 0} (honest : S → Type 0) (contents : S → Contents) (failed : S → ℕ) (may_leave : S → Contents → Type 0) (misreads : S → ℕ) (old new : BookState S) : Type 0 where
+-- taken, and maybe more, each entry in a commit of its own. `finished` says that no commit failed
+pub record IsLater {S : Type 0} (honest : S → Type 0) (contents : S → Contents) (failed : S → ℕ) (may_leave : S → Contents → Type 0) (misreads : S → ℕ) (finished : Type 0) (old new : BookState S) : Type 0 where
   pub row : new.row ≡ old.row
   pub catalog : new.hub.catalog ≡ old.hub.catalog
   pub begins : Begins old.pass.known new.pass.known
   pub onwards : old.hub.newest ≤ new.hub.newest
   pub was_honest : honest new.hub.store → honest old.hub.store
-  -- a stop leaves what it could leave before, or a log that was shown between: the first of the entries that are known
+  -- a stop leaves what the store holds; where nothing was written, what it could leave before; where a commit failed, the log with the next entry
   pub crash : honest new.hub.store → (left : Contents) → may_leave new.hub.store left
-      → may_leave old.hub.store left ⊎ ((version : ℕ) × (version ≤ length new.pass.known) × ShowsLog new.hub.catalog left (take version new.pass.known))
+      → (left ≡ contents new.hub.store)
+      ⊎ ((may_leave old.hub.store left × (contents new.hub.store ≡ contents old.hub.store))
+      ⊎ ((finished → ⊥) × (new.hub.newest < length new.pass.known) × ShowsLog new.hub.catalog left (take (new.hub.newest + 1) new.pass.known)))
   pub later : failed old.hub.store ≤ failed new.hub.store
   -- nothing that can be read is told to be no such thing
   pub as_read : honest new.hub.store → misreads new.hub.store ≡ misreads old.hub.store

@@ -1,10 +1,18 @@
 -- What single steps of a book come to: no definition that a public clause cites.
-use Rattle.std.specs.Prelude.{◌≡◌, ◌≢◌, ◌⊎◌, ℕ, List, [], ◌∷◌, ◌++◌}
+use Rattle.std.specs.Prelude.{◌≡◌, ◌≢◌, ◌⊎◌, ℕ, List, [], ◌∷◌, ◌++◌, Result, Ok, Err}
 use Rattle.cs_value.specs.declared.catalog.TableDef.{TableDef}
 use Rattle.cs_log.specs.declared.entry.LogEntry.{LogEntry}
 use Rattle.cs_judging.specs.Judged.{hub_of}
 use Rattle.cs_hub.specs.Serves.{Serves}
+use Rattle.cs_hub.specs.declared.follow_fault.FollowFault.{FollowFault}
+use Rattle.cs_hub.specs.declared.follow_fault.FollowFault.TheVariants.{Undefined}
 use Rattle.cs_books.specs.Answers.{IsStuckAt, device_answer, stuck_answer}
+
+-- it has taken all that fits, and no store failed in this
+abbrev pub IsFinished : Result (Unit {0}) FollowFault → Type 0
+IsFinished (Ok done) = Unit {0}
+IsFinished (Err Undefined) = Unit {0}
+IsFinished (Err fault) = ⊥
 
 -- it doesn't go on, and that is told
 abbrev pub Halts : Type 0 → List TableDef → List LogEntry → ℕ → List ℕ → Type 0

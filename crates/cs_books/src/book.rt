@@ -1,10 +1,12 @@
 //! A book.
 
-ghost use Rattle.std.specs.Prelude.{◌≡◌, ◌≢◌, ◌⊎◌, ◌↔◌, ◌<◌, ◌≤◌, ◌+◌, ◌∷◌, ◌++◌, [], Err, IfOk, IsFalse, IsTrue, OnErr, OnOk, Some, length, slice_get, vec_capacity, vec_len};
+ghost use Rattle.std.specs.Prelude.{◌≡◌, ◌≢◌, ◌⊎◌, ◌↔◌, ◌<◌, ◌≤◌, ◌+◌, ◌∷◌, ◌++◌, [], Err, IfOk, IsFalse, IsTrue, MatchResult, Ok, OnErr, OnOk, Some, length, slice_get, vec_capacity, vec_len};
 ghost use Rattle.cs_appending.specs.Appended.{AppendsEntry};
 ghost use Rattle.cs_following.specs.Standing.{Begins};
 ghost use Rattle.cs_hub.specs.Judges.{AppendsJudged, HasRoom, IsJudged, ReadsHub};
+ghost use Rattle.cs_hub.specs.Opened.{Opens};
 ghost use Rattle.cs_hub.specs.Serves.{Serves};
+ghost use Rattle.cs_hub.specs.cs_log_opening.Opens.{IsHubFault};
 ghost use Rattle.cs_hub.specs.declared.follow_fault.FollowFault.TheVariants.{Device, Full, Undefined};
 ghost use Rattle.cs_log.specs.declared.entry.TheConstants.{MAX_ENTRIES as MOST};
 ghost use Rattle.cs_judging.specs.Judged.{hub_of};
@@ -13,9 +15,9 @@ ghost use Rattle.cs_spine.specs.declared.spine.Offered.TheVariants.{Mine};
 ghost use Rattle.cs_store.specs.Calls.{MoreFailures};
 ghost use Rattle.cs_store.specs.Contents.{nothing};
 ghost use Rattle.cs_store.specs.declared.fault.StoreFault.TheVariants as stored;
-ghost use Rattle.cs_books.specs.Answers.{AnswersOn, HasTaken, IsStuckAt};
+ghost use Rattle.cs_books.specs.Answers.{AnswersOn, HasTaken, IsAnswered, IsStuckAt};
 ghost use Rattle.cs_books.specs.Books.{IsLater, most_cells};
-ghost use Rattle.cs_books.specs.Steps.{CameLater, Halts};
+ghost use Rattle.cs_books.specs.Steps.{CameLater, Halts, IsFinished};
 
 use crate::refusing::refuse;
 use cs_hub::{FollowFault, Hub, Judged};
@@ -65,6 +67,12 @@ impl<'s, S: RowStore + Drop> Book<'s, S> {
         ensures pass { IfOk result (λ book. (book.row ≡ spine.now) × (book.pass.known ≡ [])) }
         ensures catalog { IfOk result (λ book. book.hub.catalog ≡ catalog.now) }
         ensures fresh { IfOk result (λ book. book.hub.newest ≡ 0) }
+
+        // What a stop leaves, and how the count of failures goes; at `Err` of the store as it was when it was let go, and what is told of it holds.
+        ensures opens { MatchResult result
+            (λ book. Opens S.honest S.contents S.failed S.may_leave S.misreads catalog.now store book.hub.store (Ok tt))
+            (λ fault. (last : S) × Opens S.honest S.contents S.failed S.may_leave S.misreads catalog.now store last (Err fault)
+            × (S.honest last → IsHubFault catalog.now (S.contents store) fault)) }
     {
         let pass = spine.pass()?;
         match Hub::open(alloc, store, catalog) {
@@ -133,7 +141,7 @@ impl<'s, S: RowStore> Book<'s, S> {
     /// Takes the next entry that it knows.
     fn take_next(&mut self) -> Result<(), FollowFault>
         requires { self.old.hub.newest < length self.old.pass.known }
-        ensures later { IsLater S.honest S.contents S.failed S.may_leave S.misreads self.old self.new }
+        ensures later { IsLater S.honest S.contents S.failed S.may_leave S.misreads (IsFinished result) self.old self.new }
         ensures pass { self.new.pass ≡ self.old.pass }
         ensures taken { OnOk result (self.new.hub.newest ≡ self.old.hub.newest + 1) }
         ensures front { S.honest self.new.hub.store → HasTaken self.new.hub.catalog self.new.pass.known self.new.hub.newest }
@@ -142,15 +150,12 @@ impl<'s, S: RowStore> Book<'s, S> {
         ensures stuck { result ≡ Err Undefined → S.honest self.new.hub.store → IsStuckAt self.new.hub.catalog self.new.pass.known self.new.hub.newest }
     {
         let entry = self.spine.entry(&self.pass, self.hub.newest() as usize);
-        match self.hub.follow(entry) {
-            Ok(()) => Ok(()),
-            Err(fault) => Err(fault),
-        }
+        self.hub.follow(entry)
     }
 
     /// Takes all entries that it knows and sees.
     fn catch_up(&mut self) -> Result<(), FollowFault>
-        ensures later { IsLater S.honest S.contents S.failed S.may_leave S.misreads self.old self.new }
+        ensures later { IsLater S.honest S.contents S.failed S.may_leave S.misreads (IsFinished result) self.old self.new }
         ensures level { OnOk result (self.new.hub.newest ≡ length self.new.pass.known) }
         ensures front { S.honest self.new.hub.store → HasTaken self.new.hub.catalog self.new.pass.known self.new.hub.newest }
         ensures full { result ≢ Err Full }
@@ -203,16 +208,13 @@ impl<'s, S: RowStore> Book<'s, S> {
     fn take_judged(&mut self, entry: &LogEntry, batch: &Batch) -> Result<(), StoreFault>
         requires known { slice_get self.old.pass.known self.old.hub.newest ≡ Some entry.now }
         requires tried { S.honest self.old.hub.store → AppendsEntry self.old.hub.catalog entry.now (S.contents self.old.hub.store) batch.now }
-        ensures later { IsLater S.honest S.contents S.failed S.may_leave S.misreads self.old self.new }
+        ensures later { IsLater S.honest S.contents S.failed S.may_leave S.misreads (OnErr result ⊥) self.old self.new }
         ensures pass { self.new.pass ≡ self.old.pass }
         ensures taken { OnOk result (self.new.hub.newest ≡ self.old.hub.newest + 1) }
         ensures front { S.honest self.new.hub.store → HasTaken self.new.hub.catalog self.new.pass.known self.new.hub.newest }
         ensures device { result ≡ Err stored.Device → MoreFailures (S.failed self.old.hub.store) (S.failed self.new.hub.store) }
     {
-        match self.hub.append_judged(entry, batch) {
-            Ok(()) => Ok(()),
-            Err(fault) => Err(fault),
-        }
+        self.hub.append_judged(entry, batch)
     }
 
     /// Takes the entry that it has set, and answers so.
@@ -227,7 +229,7 @@ impl<'s, S: RowStore> Book<'s, S> {
         requires tried { S.honest self.old.hub.store → AppendsEntry self.old.hub.catalog entry.now (S.contents self.old.hub.store) batch.now }
         requires room { vec_len room + SHORT ≤ vec_capacity room }
         requires empty { room.items ≡ [] }
-        ensures later { IsLater S.honest S.contents S.failed S.may_leave S.misreads self.old self.new }
+        ensures later { IsLater S.honest S.contents S.failed S.may_leave S.misreads (IsAnswered result) self.old self.new }
         ensures pass { self.new.pass ≡ self.old.pass }
         ensures front { S.honest self.new.hub.store → HasTaken self.new.hub.catalog self.new.pass.known self.new.hub.newest }
         ensures settled { IfOk result (λ answer. S.honest self.new.hub.store → ((answer.items ≡ reply.items) × (self.new.hub.newest ≡ self.old.hub.newest + 1))
@@ -245,7 +247,7 @@ impl<'s, S: RowStore> Book<'s, S> {
         requires room { vec_len room + SHORT ≤ vec_capacity room }
         requires empty { room.items ≡ [] }
         requires later { S.honest self.old.hub.store → CameLater (most_cells self.old.row) self.old.hub.catalog self.old.pass.known _request.now }
-        ensures later { IsLater S.honest S.contents S.failed S.may_leave S.misreads self.old self.new }
+        ensures later { IsLater S.honest S.contents S.failed S.may_leave S.misreads (IsAnswered result) self.old self.new }
         ensures served { IfOk result (λ answer. S.honest self.new.hub.store
             → AnswersOn (MoreFailures (S.failed self.old.hub.store) (S.failed self.new.hub.store)) (most_cells self.new.row) self.new.hub.catalog
             self.new.pass.known self.new.hub.newest _request.now answer.items) }
@@ -278,7 +280,7 @@ impl<'s, S: RowStore> Book<'s, S> {
         requires empty { room.items ≡ [] }
         requires judged { S.honest self.old.hub.store → Serves (most_cells self.old.row) (hub_of self.old.hub.catalog self.old.pass.known) request.now reply.items
             (hub_of self.old.hub.catalog (self.old.pass.known ++ entry.now ∷ [])) }
-        ensures later { IsLater S.honest S.contents S.failed S.may_leave S.misreads self.old self.new }
+        ensures later { IsLater S.honest S.contents S.failed S.may_leave S.misreads (IsAnswered result) self.old self.new }
         ensures served { IfOk result (λ answer. S.honest self.new.hub.store
             → AnswersOn (MoreFailures (S.failed self.old.hub.store) (S.failed self.new.hub.store)) (most_cells self.new.row) self.new.hub.catalog
             self.new.pass.known self.new.hub.newest request.now answer.items) }
@@ -299,8 +301,9 @@ impl<'s, S: RowStore> Book<'s, S> {
     /// `Memory` where memory was refused. What was seen and taken stays, also a push that has come into its cell: it is told as that when
     /// the request comes again.
     pub fn serve(&mut self, request: &[u8]) -> Result<Vec<u8>, Memory>
-        // The book is that of the same row of cells and tables; it knows more, and has taken more of it.
-        ensures later { IsLater S.honest S.contents S.failed S.may_leave S.misreads self.old self.new }
+        // The book is that of the same row of cells and tables; it knows more, and has taken more of it. Where it answers otherwise than that
+        // the device failed, all that it has taken stands, also after a stop.
+        ensures later { IsLater S.honest S.contents S.failed S.may_leave S.misreads (IsAnswered result) self.old self.new }
 
         // The answer is the hub's on all that is known; or that the next entry doesn't fit; or that the device failed.
         ensures served { IfOk result (λ answer. S.honest self.new.hub.store

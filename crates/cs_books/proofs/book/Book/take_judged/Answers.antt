@@ -1,7 +1,7 @@
 use Rattle.std.proofs.Common.{◌≡◌, Some, slice_get}
 use Rattle.cs_store.specs.declared.fault.StoreFault.TheVariants.{Device}
 use Rattle.cs_books.specs.Books.{BookState}
-use Rattle.cs_books.proofs.Goes.{book_again, goes_on, has_taken}
+use Rattle.cs_books.proofs.Goes.{book_again, ends_append, goes_on, has_taken}
 use Rattle.cs_books.proofs.book.Book.take_judged.Goals as goal
 
 pub invariant_of-self : goal.invariant_of-self
@@ -17,7 +17,8 @@ returns-clause-later g c =
     let book : BookState g.row.S.Denot = record { row = c.self.inside.spine.now; hub = c.self.inside.hub; pass = c.self.inside.pass } in
     rw (← c.self.view_is)
     (goes_on g.S.RowStore.honest g.S.RowStore.contents g.S.RowStore.failed g.S.RowStore.may_leave g.S.RowStore.misreads book c.self.invariant c.args.entry.now here c.append_judged.new.self c.append_judged.ensures.catalog
-    Device c.append_judged.result c.append_judged.ensures.writes c.append_judged.ensures.counted c.append_judged.ensures.kept)
+    Device c.append_judged.result _ c.append_judged.ensures.writes c.append_judged.ensures.counted c.append_judged.ensures.kept
+    (ends_append g.S.RowStore.honest g.S.RowStore.contents g.S.RowStore.failed g.S.RowStore.may_leave g.S.RowStore.misreads book c.self.invariant c.args.entry.now here c.append_judged.new.self c.append_judged.ensures.catalog c.append_judged.result))
 
 pub returns-clause-front : goal.returns-clause-front
 returns-clause-front g c =

@@ -1,7 +1,7 @@
 use Rattle.std.proofs.Common.{◌≡◌, Some, slice_get}
 use Rattle.cs_books.specs.Books.{BookState}
 use Rattle.cs_hub.specs.declared.follow_fault.FollowFault.TheVariants.{Device}
-use Rattle.cs_books.proofs.Goes.{book_again, goes_on, has_taken, shown_of}
+use Rattle.cs_books.proofs.Goes.{book_again, ends_follow, goes_on, has_taken, shown_of}
 use Rattle.cs_books.proofs.book.Book.take_next.Goals as goal
 
 pub invariant_of-self : goal.invariant_of-self
@@ -19,7 +19,9 @@ returns-clause-later g c =
     let book : BookState g.row.S.Denot = record { row = c.self.inside.spine.now; hub = c.self.inside.hub; pass = c.self.inside.pass } in
     rw (← c.self.view_is)
     (goes_on g.S.RowStore.honest g.S.RowStore.contents g.S.RowStore.failed g.S.RowStore.may_leave g.S.RowStore.misreads book c.self.invariant c.entry-entry.result.now here c.follow.new.self c.follow.ensures.catalog
-    Device c.follow.result c.follow.ensures.writes c.follow.ensures.counted c.follow.ensures.kept)
+    Device c.follow.result _ c.follow.ensures.writes c.follow.ensures.counted c.follow.ensures.kept
+    (ends_follow g.S.RowStore.honest g.S.RowStore.contents g.S.RowStore.failed g.S.RowStore.may_leave g.S.RowStore.misreads book c.self.invariant c.entry-entry.result.now here c.follow.new.self c.follow.ensures.catalog
+    c.follow.result c.follow.ensures.refused c.follow.ensures.writes.was_honest))
 
 pub returns-clause-front : goal.returns-clause-front
 returns-clause-front g c =
