@@ -1,3 +1,4 @@
+mod Counting
 mod Printing
 mod Going
 mod Dumping

@@ -1,6 +1,5 @@
 -- A line has one text at the same replica, and leaves the same replica.
 use Rattle.std.proofs.Common.{◌≡◌, ◌∙◌, ◌++◌, ℕ, List, [], ◌∷◌, Result, Ok, Err, refl, sym, ap, subst, inl, inr}
-use Rattle.std.specs.Prelude.{◌⊎◌}
 use Rattle.cs_asks.specs.declared.ask.Ask.{Ask}
 use Rattle.cs_asks.specs.declared.ask.Ask.TheVariants.{Answer, Dump, OnEdit, Pull, Push, Resend}
 use Rattle.cs_conflict.specs.declared.wish.Wish.{Wish}
@@ -24,7 +23,6 @@ use Rattle.cs_told.specs.Told.{edit_fault_text, push_fault_text}
 use Rattle.cs_value.specs.Catalog.{AreTables}
 use Rattle.cs_value.specs.declared.catalog.TableDef.{TableDef}
 use Rattle.cs_value.specs.declared.value.Value.{Value}
-use Rattle.cs_wire.specs.Answers.{FitsAnswer, answer_spelling}
 use Rattle.cs_wire.specs.Laws.{OneToldAnswer}
 use Rattle.cs_wire.specs.Requests.{Asked, AsksPull, request_spelling}
 use Rattle.cs_wire.specs.declared.answer.Answer.{Answer as Told_by}
@@ -32,7 +30,7 @@ use Rattle.cs_wire.specs.declared.fault.WireFault.{WireFault}
 use Rattle.cs_wire.specs.declared.request.RequestBuf.{RequestBuf}
 use Rattle.cs_replica_lines.specs.Laws.{OneLineRun, OneLineStep, SaysRefused}
 use Rattle.cs_told.specs.Dump.{AreRowLines, replica_text, rows_text}
-use Rattle.cs_replica_lines.specs.LineStep.{IsDumped, LineStep, LineSteps, TakesAnswer}
+use Rattle.cs_replica_lines.specs.LineStep.{IsDumped, LineStep, TakesAnswer}
 use Rattle.cs_replica_lines.specs.Texts.{edited_text, heard_text, pushed_text, refused_text, store_fault_text, wire_fault_text}
 
 -- the laws below
@@ -103,7 +101,7 @@ pub stays_same : (tables : List TableDef) (before its one last : Member) → one
 stays_same tables before its one last is so same =
     subst (λ (m : Member). IsSameMember tables m last) (sym is) (subst (λ (m : Member). IsSameMember tables before m) (sym so) same)
 
-module _ (laws : Below) (tables : List TableDef) (are : AreTables tables) (before its : Member) (shown : IsShown tables before) (sees : IsShown tables its) (same : IsSameMember tables before its) where
+module _ (laws : Below) (tables : List TableDef) (are : AreTables tables) (had has its_had its_has : ℕ) (before its : Member) (shown : IsShown tables before) (sees : IsShown tables its) (same : IsSameMember tables before its) where
   dumped_once : (some other : List ℕ) → IsDumped tables before some → IsDumped tables its other → some ≡ other
   dumped_once some other (rows, lines, is) (others, more, so) =
       let states : its.view.tables ≡ before.view.tables = λ i name key. same.view.rows name key i in
@@ -123,17 +121,17 @@ module _ (laws : Below) (tables : List TableDef) (are : AreTables tables) (befor
       let versions : last.position.version ≡ one.position.version = ap (λ (p : Position). p.version) all.1.position in
       (is ∙ (heard_alike result outcome one.position.version last.position.version all.0 versions ∙ sym so), all.1)
 
-  taken_once : (bytes : List ℕ) (wishes : List Wish) (some other : List ℕ) (one last : Member) → (SaysRefused some → ⊥) → (SaysRefused other → ⊥) → TakesAnswer tables before bytes wishes some one → TakesAnswer tables its bytes wishes other last
+  taken_once : (bytes : List ℕ) (wishes : List Wish) (some other : List ℕ) (one last : Member) → (SaysRefused some → ⊥) → (SaysRefused other → ⊥) → TakesAnswer tables had has before bytes wishes some one → TakesAnswer tables its_had its_has its bytes wishes other last
       → (some ≡ other) × IsSameMember tables one last
-  taken_once bytes wishes some other one last not never (inl (answer, result, fits, spelled, hears, is)) (inl (told, outcome, suits, spells, again, so)) =
+  taken_once bytes wishes some other one last not never (inl (answer, result, fits, spelled, hears, device, is)) (inl (told, outcome, suits, spells, again, failed, so)) =
       let both : Ok answer ≡ Ok told = laws.answer bytes (Ok answer) (Ok told) (fits, spelled) (suits, spells) in
       let answers : told ≡ answer = (let e = sym both in cc) in
       heard_once bytes wishes some other one last answer result outcome not never hears is (subst (λ (a : Told_by). Hears tables its a wishes outcome last) answers again) so
-  taken_once bytes wishes some other one last not never (inl (answer, result, fits, spelled, hears, is)) (inr (stays, inl (fault, wrong, so))) =
+  taken_once bytes wishes some other one last not never (inl (answer, result, fits, spelled, hears, device, is)) (inr (stays, inl (fault, wrong, so))) =
       let both : Ok answer ≡ Err fault = laws.answer bytes (Ok answer) (Err fault) (fits, spelled) wrong in
       absurd cc
-  taken_once bytes wishes some other one last not never (inl (answer, result, fits, spelled, hears, is)) (inr (stays, inr memory)) = absurd (never (inl memory))
-  taken_once bytes wishes some other one last not never (inr (still, inl (fault, wrong, is))) (inl (told, outcome, suits, spells, again, so)) =
+  taken_once bytes wishes some other one last not never (inl (answer, result, fits, spelled, hears, device, is)) (inr (stays, inr memory)) = absurd (never (inl memory))
+  taken_once bytes wishes some other one last not never (inr (still, inl (fault, wrong, is))) (inl (told, outcome, suits, spells, again, failed, so)) =
       let both : Err fault ≡ Ok told = laws.answer bytes (Err fault) (Ok told) wrong (suits, spells) in
       absurd cc
   taken_once bytes wishes some other one last not never (inr (still, inl (fault, wrong, is))) (inr (stays, inl (why, bad, so))) =
@@ -143,12 +141,12 @@ module _ (laws : Below) (tables : List TableDef) (are : AreTables tables) (befor
   taken_once bytes wishes some other one last not never (inr (still, inl (fault, wrong, is))) (inr (stays, inr memory)) = absurd (never (inl memory))
   taken_once bytes wishes some other one last not never (inr (still, inr memory)) taken = absurd (not (inl memory))
 
-  pub line_once : (ask : Ask) (some other : List ℕ) (one last : Member) → (SaysRefused some → ⊥) → (SaysRefused other → ⊥) → LineStep tables before ask some one → LineStep tables its ask other last
+  pub line_once : (ask : Ask) (some other : List ℕ) (one last : Member) → (SaysRefused some → ⊥) → (SaysRefused other → ⊥) → LineStep tables had has before ask some one → LineStep tables its_had its_has its ask other last
       → (some ≡ other) × IsSameMember tables one last
-  line_once (OnEdit asked) some other one last not never (result, goes, is) (outcome, went, so) =
+  line_once (OnEdit asked) some other one last not never (result, goes, device, is) (outcome, went, failed, so) =
       let all = laws.edited tables asked result outcome before its one last same (edit_tells result some is not) (edit_tells outcome other so never) goes went in
       (is ∙ (ap edited_text all.0 ∙ sym so), all.1)
-  line_once Push some other one last not never (result, goes, is) (outcome, went, so) =
+  line_once Push some other one last not never (result, goes, device, is) (outcome, went, failed, so) =
       let all = laws.pushed tables (asked_in result) (asked_in outcome) before its one last are same (push_tells result some is not) (push_tells outcome other so never) goes went in
       (is ∙ (pushed_alike result outcome all.0 ∙ sym so), all.1)
   line_once Resend some other one last not never (still, inl (result, goes, is)) (stays, inl (outcome, went, so)) =
@@ -164,41 +162,43 @@ module _ (laws : Below) (tables : List TableDef) (are : AreTables tables) (befor
   line_once (Pull limit) some other one last not never (still, inr memory) went = absurd (not (inl memory))
   line_once (Answer bytes wishes) some other one last not never goes went = taken_once bytes wishes some other one last not never goes went
   line_once Dump some other one last not never (still, inl dumped) (stays, inl looked) = (dumped_once some other dumped looked, stays_same tables before its one last still stays same)
-  line_once Dump some other one last not never (still, inl dumped) (stays, inr (fault, so)) = absurd (store_tells fault other so never)
-  line_once Dump some other one last not never (still, inr (fault, is)) went = absurd (store_tells fault some is not)
+  line_once Dump some other one last not never (still, inl dumped) (stays, inr (fault, failed, so)) = absurd (store_tells fault other so never)
+  line_once Dump some other one last not never (still, inr (fault, device, is)) went = absurd (store_tells fault some is not)
 
 pub one_line_step : Below → OneLineStep
-one_line_step laws tables ask some other before its one last are shown sees same not never goes went = line_once laws tables are before its shown sees same ask some other one last not never goes went
+one_line_step laws tables ask some other had has its_had its_has before its one last are shown sees same not never goes went = line_once laws tables are had has its_had its_has before its shown sees same ask some other one last not never goes went
 
 -- ---- lines one behind another
 
 -- a replica that is shown is shown after a line
-module _ (tables : List TableDef) (before after : Member) (shown : IsShown tables before) where
+module _ (tables : List TableDef) (had has : ℕ) (before after : Member) (shown : IsShown tables before) where
   still_shown : after ≡ before → IsShown tables after
   still_shown still = subst (IsShown tables) (sym still) shown
 
-  taken_shown : (bytes : List ℕ) (wishes : List Wish) (text : List ℕ) → TakesAnswer tables before bytes wishes text after → IsShown tables after
-  taken_shown bytes wishes text (inl (answer, result, fits, spelled, hears, is)) = record { contents = hears.left; shows = hears.shows }
+  taken_shown : (bytes : List ℕ) (wishes : List Wish) (text : List ℕ) → TakesAnswer tables had has before bytes wishes text after → IsShown tables after
+  taken_shown bytes wishes text (inl (answer, result, fits, spelled, hears, device, is)) = record { contents = hears.left; shows = hears.shows }
   taken_shown bytes wishes text (inr (still, why)) = still_shown still
 
-  pub shown_after : (ask : Ask) (text : List ℕ) → LineStep tables before ask text after → IsShown tables after
-  shown_after (OnEdit asked) text (Ok done, (count, next, left, is, made, shows), says) = subst (IsShown tables) (sym is) (record { contents = left; shows = shows })
-  shown_after (OnEdit asked) text (Err fault, (still, why), says) = still_shown still
-  shown_after Push text (Ok request, (changes, left, is, made, asks), says) = subst (IsShown tables) (sym is) (record { contents = left; shows = made.shows })
-  shown_after Push text (Err fault, (still, why), says) = still_shown still
+  pub shown_after : (ask : Ask) (text : List ℕ) → LineStep tables had has before ask text after → IsShown tables after
+  shown_after (OnEdit asked) text (Ok done, (count, next, left, is, made, shows), device, says) = subst (IsShown tables) (sym is) (record { contents = left; shows = shows })
+  shown_after (OnEdit asked) text (Err fault, (still, why), device, says) = still_shown still
+  shown_after Push text (Ok request, (changes, left, is, made, asks), device, says) = subst (IsShown tables) (sym is) (record { contents = left; shows = made.shows })
+  shown_after Push text (Err fault, (still, why), device, says) = still_shown still
   shown_after Resend text (still, says) = still_shown still
   shown_after (Pull limit) text (still, says) = still_shown still
   shown_after (Answer bytes wishes) text goes = taken_shown bytes wishes text goes
   shown_after Dump text (still, says) = still_shown still
 
 pub one_line_run : OneLineStep → OneLineRun
-one_line_run law tables [] [] [] before its one last are shown sees same not never is so = (refl, stays_same tables before its one last is so same)
-one_line_run law tables (ask ∷ asks) (some ∷ more) (other ∷ others) before its one last are shown sees same (not, nots) (never, nos) (between, goes, on) (among, went, further) =
-    let first = law tables ask some other before its between among are shown sees same not never goes went in
+one_line_run law tables [] [] [] had has its_had its_has before its one last are shown sees same not never (is, kept) (so, stood) = (refl, stays_same tables before its one last is so same)
+one_line_run law tables (ask ∷ asks) (some ∷ more) (other ∷ others) had has its_had its_has before its one last are shown sees same (not, nots) (never, nos)
+    (between, count, later, goes, on) (among, number, grown, went, further) =
+    let first = law tables ask some other had count its_had number before its between among are shown sees same not never goes went in
     let all =
-    one_line_run law tables asks more others between among one last are (shown_after tables before between shown ask some goes) (shown_after tables its among sees ask other went) first.1 nots nos on further in
+    one_line_run law tables asks more others count has number its_has between among one last are (shown_after tables had count before between shown ask some goes)
+    (shown_after tables its_had number its among sees ask other went) first.1 nots nos on further in
     (ap (λ (t : List ℕ). t ∷ more) first.0 ∙ ap (λ (ts : List (List ℕ)). other ∷ ts) all.0, all.1)
-one_line_run law tables [] (some ∷ more) others before its one last are shown sees same not never is so = absurd is
-one_line_run law tables [] [] (other ∷ others) before its one last are shown sees same not never is so = absurd so
-one_line_run law tables (ask ∷ asks) [] others before its one last are shown sees same not never is so = absurd is
-one_line_run law tables (ask ∷ asks) (some ∷ more) [] before its one last are shown sees same not never is so = absurd so
+one_line_run law tables [] (some ∷ more) others had has its_had its_has before its one last are shown sees same not never is so = absurd is
+one_line_run law tables [] [] (other ∷ others) had has its_had its_has before its one last are shown sees same not never is so = absurd so
+one_line_run law tables (ask ∷ asks) [] others had has its_had its_has before its one last are shown sees same not never is so = absurd is
+one_line_run law tables (ask ∷ asks) (some ∷ more) [] had has its_had its_has before its one last are shown sees same not never is so = absurd so

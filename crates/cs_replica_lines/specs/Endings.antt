@@ -1,5 +1,5 @@
 -- How a replica that is worked by lines ends (profile of this project): what was done, what is printed, and what stopped it.
-use Rattle.std.specs.Prelude.{◌≡◌, ◌⊎◌, ⊤, ℕ, List, [], ◌∷◌, ◌++◌, Option, Result, Ok, Err}
+use Rattle.std.specs.Prelude.{◌≡◌, ◌⊎◌, ◌≤◌, ⊤, ℕ, List, [], ◌∷◌, ◌++◌, Option, Result, Ok, Err}
 use Rattle.std.specs.Io.KnownBytes.{Appends, Keeps}
 use Rattle.cs_asks.specs.Reading.{AreAllAsks, IsReadFault}
 use Rattle.cs_asks.specs.declared.ask.Ask.{Ask}
@@ -10,7 +10,9 @@ use Rattle.cs_moving.specs.Moved.{IsStoreFault, IsStoreOpened}
 use Rattle.cs_opening.specs.declared.fault.OpenFault.{OpenFault}
 use Rattle.cs_opening.specs.declared.fault.OpenFault.TheVariants as opening
 use Rattle.cs_position.specs.Shows.{ShowsAt}
+use Rattle.cs_store.specs.Calls.{MoreFailures}
 use Rattle.cs_store.specs.Contents.{Contents}
+use Rattle.cs_store.specs.declared.store.RowStore.{Ghosts}
 use Rattle.cs_value.specs.declared.catalog.TableDef.{TableDef}
 use Rattle.cs_replica_lines.specs.LineStep.{LineSteps}
 use Rattle.cs_replica_lines.specs.declared.fault.NodeFault.{NodeFault}
@@ -42,20 +44,23 @@ BreaksOff Read write_failed old new before text = ⊥
 BreaksOff (Line number) write_failed old new before text = ⊥
 BreaksOff (Open fault) write_failed old new before text = ⊥
 
-module _ {S : Type 0} (honest : S → Type 0) (contents : S → Contents) (tables : List TableDef) (id : ℕ) where
+module _ {S : Type 0} (g : Ghosts S) (tables : List TableDef) (id : ℕ) where
   -- where the store is honest in the end, it was opened as the replica with this id, the lines made these steps of it with these texts,
-  -- and it shows what they left
+  -- from its count of failures on to that in the end, and it shows what they left
   pub record Worked (store last : S) (asks : List Ask) (texts : List (List ℕ)) : Type 0 where
-    pub was_honest : honest last → honest store
-    pub worked : honest last → (first : Contents) × (before : Member) × (after : Member)
-        × IsStoreOpened tables id (contents store) first before.position × ShowsAt tables first before.position before.view
-        × LineSteps tables before asks texts after × ShowsAt tables (contents last) after.position after.view
+    pub was_honest : g.honest last → g.honest store
+    pub later : g.failed store ≤ g.failed last
+    pub worked : g.honest last → (first : Contents) × (before : Member) × (after : Member)
+        × IsStoreOpened tables id (g.contents store) first before.position × ShowsAt tables first before.position before.view
+        × LineSteps tables (g.failed store) (g.failed last) before asks texts after × ShowsAt tables (g.contents last) after.position after.view
 
-  -- where the store is honest, it holds what it held, and isn't opened for this reason
+  -- where the store is honest, it holds what it held, and isn't opened for this reason: for a failed device only where its count rose
   pub record NotOpened (store last : S) (fault : OpenFault) : Type 0 where
-    pub was_honest : honest last → honest store
-    pub same : honest last → contents last ≡ contents store
-    pub refused : honest last → IsStoreFault tables id (contents store) fault
+    pub was_honest : g.honest last → g.honest store
+    pub later : g.failed store ≤ g.failed last
+    pub same : g.honest last → g.contents last ≡ g.contents store
+    pub refused : g.honest last → IsStoreFault tables id (g.contents store) fault
+    pub cause : fault ≡ opening.Device → MoreFailures (g.failed store) (g.failed last)
 
   -- some of the lines were worked, and the text of the last of them isn't printed whole: memory was refused for it, or the writer failed
   abbrev pub WorkedUpTo : List Ask → S → S → NodeFault → Type 0 → Option (List ℕ) → Option (List ℕ) → Type 0

@@ -23,27 +23,27 @@ SaysRefused text =
 -- a line has one text at the same replica, and leaves the same replica: but where its text says nothing of it
 abbrev pub OneLineStep : Type 0
 OneLineStep =
-    (tables : List TableDef) (ask : Ask) (some other : List ℕ) (before its one last : Member)
+    (tables : List TableDef) (ask : Ask) (some other : List ℕ) (had has its_had its_has : ℕ) (before its one last : Member)
     → AreTables tables
     → IsShown tables before
     → IsShown tables its
     → IsSameMember tables before its
     → (SaysRefused some → ⊥)
     → (SaysRefused other → ⊥)
-    → LineStep tables before ask some one
-    → LineStep tables its ask other last
+    → LineStep tables had has before ask some one
+    → LineStep tables its_had its_has its ask other last
     → (some ≡ other) × IsSameMember tables one last
 
 -- so do lines one behind another, where no text says nothing
 abbrev pub OneLineRun : Type 0
 OneLineRun =
-    (tables : List TableDef) (asks : List Ask) (some other : List (List ℕ)) (before its one last : Member)
+    (tables : List TableDef) (asks : List Ask) (some other : List (List ℕ)) (had has its_had its_has : ℕ) (before its one last : Member)
     → AreTables tables
     → IsShown tables before
     → IsShown tables its
     → IsSameMember tables before its
     → AllByRecursion (λ (text : List ℕ). SaysRefused text → ⊥) some
     → AllByRecursion (λ (text : List ℕ). SaysRefused text → ⊥) other
-    → LineSteps tables before asks some one
-    → LineSteps tables its asks other last
+    → LineSteps tables had has before asks some one
+    → LineSteps tables its_had its_has its asks other last
     → (some ≡ other) × IsSameMember tables one last

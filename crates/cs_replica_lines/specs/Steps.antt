@@ -1,5 +1,5 @@
 -- On the way from a line to a run: no definition that a public clause cites.
-use Rattle.std.specs.Prelude.{◌≡◌, ⊤, ℕ, List, [], ◌∷◌, ◌++◌, Option, Result, Ok, Err}
+use Rattle.std.specs.Prelude.{◌≡◌, ◌≤◌, ⊤, ℕ, List, [], ◌∷◌, ◌++◌, Option, Result, Ok, Err}
 use Rattle.std.specs.declared.alloc.AllocError.{AllocError}
 use Rattle.std.specs.Io.KnownBytes.{Appends, Keeps}
 use Rattle.cs_asks.specs.declared.ask.Ask.{Ask}
@@ -8,7 +8,7 @@ use Rattle.cs_member.specs.Member.{Member, Turns}
 use Rattle.cs_member.specs.cs_replica.Holding.{Holding}
 use Rattle.cs_normal.specs.State.{State}
 use Rattle.cs_rows.specs.Rows.{AreRowsOf}
-use Rattle.cs_store.specs.Contents.{Contents}
+use Rattle.cs_store.specs.declared.store.RowStore.{Ghosts}
 use Rattle.cs_told.specs.Dump.{rows_text}
 use Rattle.cs_value.specs.declared.catalog.TableDef.{TableDef}
 use Rattle.cs_value.specs.declared.value.Value.{Value}
@@ -20,11 +20,16 @@ use Rattle.cs_replica_lines.specs.declared.fault.NodeFault.TheVariants.{Line, Me
 use Rattle.cs_replica_lines.specs.declared.reply.Reply.{Reply}
 
 -- of the replica with this id
-abbrev pub IsStep : ℕ → List TableDef → Ask → List ℕ → Member → Member → Type 0
-IsStep id tables ask text before after = before.position.id ≡ id → LineStep tables before ask text after
+abbrev pub IsStep : ℕ → List TableDef → Ask → List ℕ → ℕ → ℕ → Member → Member → Type 0
+IsStep id tables ask text had has before after = before.position.id ≡ id → LineStep tables had has before ask text after
 
-abbrev pub AreSteps : ℕ → List TableDef → List Ask → List (List ℕ) → Member → Member → Type 0
-AreSteps id tables asks texts before after = before.position.id ≡ id → LineSteps tables before asks texts after
+abbrev pub AreSteps : ℕ → List TableDef → List Ask → List (List ℕ) → ℕ → ℕ → Member → Member → Type 0
+AreSteps id tables asks texts had has before after = before.position.id ≡ id → LineSteps tables had has before asks texts after
+
+-- the step was made between the store's counts of failures, which didn't fall
+pub record Counted {S : Type 0} (g : Ghosts S) (step : ℕ → ℕ → Member → Member → Type 0) (old new : Holding S) : Type 0 where
+  pub later : g.failed old.store ≤ g.failed new.store
+  pub turns : Turns g.honest g.contents (step (g.failed old.store) (g.failed new.store)) old new
 
 -- the reply has the text
 abbrev pub Says : Result Reply AllocError → List ℕ → Type 0
@@ -45,27 +50,27 @@ abbrev pub PutsTable : State → List ℕ → List ℕ → List ℕ → Type 0
 PutsTable state name old new =
     (rows : List (List ℕ × List Value)) × AreRowsOf (state name) rows × (new ≡ old ++ rows_text name rows)
 
-module _ {S : Type 0} (honest : S → Type 0) (contents : S → Contents) where
+module _ {S : Type 0} (g : Ghosts S) where
   -- a line's step was made, whatever the replica's id is, and this is its reply
   abbrev pub Makes : Ask → Result Reply AllocError → Holding S → Holding S → Type 0
   Makes ask result old new =
-      (text : List ℕ) × Turns honest contents (λ before after. LineStep old.catalog before ask text after) old new × Says result text
+      (text : List ℕ) × Counted g (λ had has before after. LineStep old.catalog had has before ask text after) old new × Says result text
 
-module _ {S : Type 0} (honest : S → Type 0) (contents : S → Contents) (id : ℕ) where
+module _ {S : Type 0} (g : Ghosts S) (id : ℕ) where
   -- a line's step was made, and this is its reply
   abbrev pub Replies : Ask → Result Reply AllocError → Holding S → Holding S → Type 0
-  Replies ask result old new = (text : List ℕ) × Turns honest contents (IsStep id old.catalog ask text) old new × Says result text
+  Replies ask result old new = (text : List ℕ) × Counted g (IsStep id old.catalog ask text) old new × Says result text
 
   -- and its text was printed
   abbrev pub Tells : Ask → Result ⊤ NodeFault → Type 0 → Option (List ℕ) → Option (List ℕ) → Holding S → Holding S → Type 0
   Tells ask result write_failed before after old new =
-      (text : List ℕ) × Turns honest contents (IsStep id old.catalog ask text) old new × Prints result write_failed before after text
+      (text : List ℕ) × Counted g (IsStep id old.catalog ask text) old new × Prints result write_failed before after text
 
   -- so it was with all lines, or up to one
   abbrev pub TellsAll : List Ask → Result ⊤ NodeFault → Type 0 → Option (List ℕ) → Option (List ℕ) → Holding S → Holding S → Type 0
   TellsAll asks (Ok done) write_failed before after old new =
-      (texts : List (List ℕ)) × Turns honest contents (AreSteps id old.catalog asks texts) old new × Appends before after (printed texts)
+      (texts : List (List ℕ)) × Counted g (AreSteps id old.catalog asks texts) old new × Appends before after (printed texts)
   TellsAll asks (Err fault) write_failed before after old new =
       (done : List Ask) × (ask : Ask) × (later : List Ask) × (texts : List (List ℕ)) × (text : List ℕ)
-      × (asks ≡ done ++ ask ∷ later) × Turns honest contents (AreSteps id old.catalog (done ++ ask ∷ []) (texts ++ text ∷ [])) old new
+      × (asks ≡ done ++ ask ∷ later) × Counted g (AreSteps id old.catalog (done ++ ask ∷ []) (texts ++ text ∷ [])) old new
       × BreaksOff fault write_failed before after (printed texts) text

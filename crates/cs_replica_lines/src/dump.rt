@@ -1,9 +1,11 @@
 //! Where a replica stands, and its rows.
 
-ghost use Rattle.std.specs.Prelude.{◌≡◌, IfOk, OnOk, Some, slice_get, string_bytes};
+ghost use Rattle.std.specs.Prelude.{◌≡◌, Err, IfOk, OnOk, Some, slice_get, string_bytes};
+ghost use Rattle.cs_member.specs.Leaves.{Counts};
 ghost use Rattle.cs_member.specs.Member.{Member, Turns};
 ghost use Rattle.cs_replica_lines.specs.LineStep.{IsDumped};
 ghost use Rattle.cs_replica_lines.specs.Steps.{PutsTable};
+ghost use Rattle.cs_store.specs.declared.fault.StoreFault.TheVariants as stored;
 ghost use Rattle.cs_text.specs.Text.{line};
 ghost use Rattle.cs_told.specs.Dump.{PutsRows, flight_count, numbered_text, replica_text, rows_text};
 ghost use Rattle.cs_told.specs.Told.{place_text};
@@ -68,8 +70,9 @@ fn put_table<S: RowStore>(
     text: &mut String,
 ) -> Result<(), StoreFault>
     requires { slice_get replica.old.catalog table ≡ Some def.now }
-    ensures { Turns S.honest S.contents (λ (before : Member) (after : Member). (after ≡ before)
+    ensures turned { Turns S.honest S.contents (λ (before : Member) (after : Member). (after ≡ before)
         × OnOk result (PutsTable before.view.tables def.now.name (string_bytes text.old) (string_bytes text.new))) replica.old replica.new }
+    ensures counts { Counts S.RowStore (result ≡ Err stored.Device) replica.old replica.new }
 {
     let rows = rows_of(alloc, replica, table)?;
     let lines = lines_of(alloc, &def.name, rows.as_slice())?;
@@ -85,8 +88,9 @@ fn put_tables<S: RowStore>(
     text: &mut String,
 ) -> Result<(), StoreFault>
     requires { replica.old.catalog ≡ catalog.now }
-    ensures { Turns S.honest S.contents (λ (before : Member) (after : Member). (after ≡ before)
+    ensures turned { Turns S.honest S.contents (λ (before : Member) (after : Member). (after ≡ before)
         × OnOk result (PutsRows catalog.now before.view.tables (string_bytes text.old) (string_bytes text.new))) replica.old replica.new }
+    ensures counts { Counts S.RowStore (result ≡ Err stored.Device) replica.old replica.new }
 {
     let tables = catalog.tables();
     for table in 0..tables.len() {
@@ -109,8 +113,9 @@ pub(crate) fn dump_of<S: RowStore>(
     id: u32,
 ) -> Result<String, StoreFault>
     requires { replica.old.catalog ≡ catalog.now }
-    ensures { Turns S.honest S.contents (λ (before : Member) (after : Member). (after ≡ before)
+    ensures turned { Turns S.honest S.contents (λ (before : Member) (after : Member). (after ≡ before)
         × (before.position.id ≡ id → IfOk result (λ text. IsDumped catalog.now before (string_bytes text)))) replica.old replica.new }
+    ensures counts { Counts S.RowStore (result ≡ Err stored.Device) replica.old replica.new }
 {
     let mut text = place_of(alloc, replica, id)?;
     put_tables(alloc, replica, catalog, &mut text)?;

@@ -1,9 +1,9 @@
 //! A replica that is worked by lines, over any store, reader and writer: edits, pushes, the hub's answers, and a look at its rows. It stands
 //! on `cs_asks` for what lines ask, on `cs_member` for what each call makes of the replica, and on `cs_told` for what is
 //! printed. `work_on` opens the replica and does what is asked, and `node_on` reads it first. Each promises how it ends
-//! (`specs/Endings.antt`): which steps were made (`specs/LineStep.antt`, one case a line), that the replica's store holds what they left,
-//! and that their texts are written, each before the next line is worked on; and whatever stops it, what was done stays done.
-//! Its tests stand in `cs_replica_tests`.
+//! (`specs/Endings.antt`): which steps were made (`specs/LineStep.antt`, one case a line), that a failed device is told only where its
+//! count rose, that the replica's store holds what they left, and that their texts are written, each before the next line is worked on;
+//! and whatever stops it, what was done stays done. Its tests stand in `cs_replica_tests`.
 #![tactic(auto)]
 
 mod dump;

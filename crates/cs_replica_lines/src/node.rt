@@ -26,7 +26,7 @@ fn do_ask<S: RowStore, W: LineOutput>(
     writer: &mut W,
 ) -> Result<(), NodeFault>
     requires { replica.old.catalog ≡ catalog.now }
-    ensures told { Tells S.honest S.contents id ask.now result (W.failed writer.new) (W.contents writer.old) (W.contents writer.new) replica.old replica.new }
+    ensures told { Tells S.RowStore id ask.now result (W.failed writer.new) (W.contents writer.old) (W.contents writer.new) replica.old replica.new }
     ensures sent { OnOk result (W.sent writer.new) }
 {
     let reply = work_ask(alloc, replica, catalog, id, ask)?;
@@ -47,7 +47,7 @@ fn do_asks<S: RowStore, W: LineOutput>(
     writer: &mut W,
 ) -> Result<(), NodeFault>
     requires { replica.old.catalog ≡ catalog.now }
-    ensures told { TellsAll S.honest S.contents id asks.now result (W.failed writer.new) (W.contents writer.old) (W.contents writer.new) replica.old replica.new }
+    ensures told { TellsAll S.RowStore id asks.now result (W.failed writer.new) (W.contents writer.old) (W.contents writer.new) replica.old replica.new }
     ensures sent { OnOk result (W.sent writer.old → W.sent writer.new) }
 {
     cs_member::laws::hears_keeps_id();
@@ -70,8 +70,8 @@ fn position_fits<S: RowStore>(replica: &Replica<S>, id: u32)
 }
 
 /// Opens the replica with this id over a store and does what lines ask, one behind another; the text of each is printed and sent before the
-/// next is worked on, and what it commits is committed before. An id is at most 4,294,967,294. The store comes back in any case. (Profile
-/// of this project.)
+/// next is worked on, and what it commits is committed before. A failed device is told of a line only where the store's count of failures
+/// rose at it. An id is at most 4,294,967,294. The store comes back in any case. (Profile of this project.)
 ///
 /// # Errors
 ///
@@ -87,7 +87,7 @@ pub fn work_on<S: RowStore, W: LineOutput>(
     writer: &mut W,
 ) -> (Result<(), NodeFault>, S)
     requires { id < 2 ^ 32 - 1 }
-    ensures ends { EndsWorking S.honest S.contents catalog.now id asks.now store result.1
+    ensures ends { EndsWorking S.RowStore catalog.now id asks.now store result.1
         (W.failed writer.new) (W.contents writer.old) (W.contents writer.new) result.0 }
     ensures sent { OnOk result.0 (W.sent writer.old → W.sent writer.new) }
 {
@@ -119,7 +119,7 @@ pub fn node_on<S: RowStore, R: LineInput, W: LineOutput>(
     writer: &mut W,
 ) -> (Result<(), NodeFault>, S)
     requires { id < 2 ^ 32 - 1 }
-    ensures ends { EndsNode S.honest S.contents catalog.now id (R.remaining reader.old) (R.remaining reader.new) (R.failed reader.new) store result.1
+    ensures ends { EndsNode S.RowStore catalog.now id (R.remaining reader.old) (R.remaining reader.new) (R.failed reader.new) store result.1
         (W.failed writer.new) (W.contents writer.old) (W.contents writer.new) result.0 }
     ensures sent { OnOk result.0 (W.sent writer.old → W.sent writer.new) }
 {

@@ -1,14 +1,14 @@
 //! What a line does.
 
-ghost use Rattle.std.specs.Prelude.{◌≡◌, ◌⊎◌, ◌++◌, IfOk, OnOk, string_bytes};
+ghost use Rattle.std.specs.Prelude.{◌≡◌, ◌⊎◌, ◌++◌, ℕ, IfOk, OnOk, string_bytes};
 ghost use Rattle.cs_asks.specs.declared.ask.Ask.TheVariants as line;
 ghost use Rattle.cs_lines.specs.Lines.{hex_line};
-ghost use Rattle.cs_member.specs.Member.{Member, Turns};
+ghost use Rattle.cs_member.specs.Member.{Member};
 ghost use Rattle.cs_replica_lines.specs.LineStep.{LineStep, SaysMemory};
 ghost use Rattle.cs_replica_lines.specs.Replies.{reply_text};
 ghost use Rattle.cs_replica_lines.specs.Texts.{heard_text};
 ghost use Rattle.cs_wire.specs.Requests.{HasShortChangeset, asked_by_owned, request_spelling};
-ghost use Rattle.cs_replica_lines.specs.Steps.{Makes, Replies};
+ghost use Rattle.cs_replica_lines.specs.Steps.{Counted, IsStep, Makes, Replies};
 
 use crate::dump::dump_of;
 use crate::names::{store_fault_name, wire_fault_name};
@@ -50,7 +50,7 @@ fn asked(alloc: Global, request: &RequestBuf) -> Reply
 }
 
 fn edit_line<S: RowStore>(alloc: Global, replica: &mut Replica<S>, edit: &Edit) -> Reply
-    ensures { Turns S.honest S.contents (λ (before : Member) (after : Member). LineStep replica.old.catalog before (line.OnEdit edit.now) (reply_text result) after) replica.old replica.new }
+    ensures { Counted S.RowStore (λ (had : ℕ) (has : ℕ) (before : Member) (after : Member). LineStep replica.old.catalog had has before (line.OnEdit edit.now) (reply_text result) after) replica.old replica.new }
 {
     match edit_replica(alloc, replica, edit) {
         Ok(()) => Reply::Done,
@@ -59,7 +59,7 @@ fn edit_line<S: RowStore>(alloc: Global, replica: &mut Replica<S>, edit: &Edit) 
 }
 
 fn push_line<S: RowStore>(alloc: Global, replica: &mut Replica<S>) -> Result<Reply, Memory>
-    ensures { Makes S.honest S.contents line.Push result replica.old replica.new }
+    ensures { Makes S.RowStore line.Push result replica.old replica.new }
 {
     match push_replica(alloc, replica) {
         Ok(request) => Ok(Reply::Hex(spelled(alloc, &request)?)),
@@ -68,7 +68,7 @@ fn push_line<S: RowStore>(alloc: Global, replica: &mut Replica<S>) -> Result<Rep
 }
 
 fn resend_line<S: RowStore>(alloc: Global, replica: &Replica<S>) -> Reply
-    ensures { (before : Member) → before.position ≡ replica.now.position → LineStep replica.now.catalog before line.Resend (reply_text result) before }
+    ensures { (had : ℕ) → (has : ℕ) → (before : Member) → before.position ≡ replica.now.position → LineStep replica.now.catalog had has before line.Resend (reply_text result) before }
 {
     match resend_replica(alloc, replica) {
         Ok(request) => asked(alloc, &request),
@@ -77,7 +77,7 @@ fn resend_line<S: RowStore>(alloc: Global, replica: &Replica<S>) -> Reply
 }
 
 fn pull_line<S: RowStore>(alloc: Global, replica: &Replica<S>, limit: u32) -> Reply
-    ensures { (before : Member) → before.position ≡ replica.now.position → LineStep replica.now.catalog before (line.Pull limit) (reply_text result) before }
+    ensures { (had : ℕ) → (has : ℕ) → (before : Member) → before.position ≡ replica.now.position → LineStep replica.now.catalog had has before (line.Pull limit) (reply_text result) before }
 {
     let first = replica.version();
     asked(alloc, &RequestBuf::Pull { first, limit })
@@ -99,7 +99,7 @@ fn answer_line<S: RowStore>(
     bytes: &[u8],
     wishes: &[Wish],
 ) -> Result<Reply, Memory>
-    ensures { Makes S.honest S.contents (line.Answer bytes.now wishes.now) result replica.old replica.new }
+    ensures { Makes S.RowStore (line.Answer bytes.now wishes.now) result replica.old replica.new }
 {
     let answer = match Answer::decode(bytes) {
         Ok(answer) => answer,
@@ -120,7 +120,7 @@ fn dump_line<S: RowStore>(
     id: u32,
 ) -> Reply
     requires { replica.old.catalog ≡ catalog.now }
-    ensures { Turns S.honest S.contents (λ (before : Member) (after : Member). before.position.id ≡ id → LineStep replica.old.catalog before line.Dump (reply_text result) after) replica.old replica.new }
+    ensures { Counted S.RowStore (IsStep id replica.old.catalog line.Dump (reply_text result)) replica.old replica.new }
 {
     match dump_of(alloc, replica, catalog, id) {
         Ok(text) => Reply::Text(text),
@@ -137,7 +137,7 @@ pub(crate) fn work_ask<S: RowStore>(
     ask: &Ask,
 ) -> Result<Reply, Memory>
     requires { replica.old.catalog ≡ catalog.now }
-    ensures { Replies S.honest S.contents id ask.now result replica.old replica.new }
+    ensures { Replies S.RowStore id ask.now result replica.old replica.new }
 {
     match ask {
         Ask::OnEdit(edit) => Ok(edit_line(alloc, replica, edit)),

@@ -1,4 +1,4 @@
-use Rattle.std.proofs.Common.{◌≡◌}
+use Rattle.std.proofs.Common.{◌≡◌, ◌≤◌}
 use Rattle.std.specs.Prelude.{string_bytes}
 use Rattle.cs_replica_lines.proofs.Dumping.{IsDumping}
 use Rattle.cs_replica_lines.proofs.dump.put_tables.Given as goal
@@ -7,3 +7,4 @@ abbrev pub invariant-loop-table : goal.invariant-loop-table
 invariant-loop-table g l =
     IsDumping g.S.RowStore.honest g.S.RowStore.contents l.catalog l.table (string_bytes l.initial.text) (string_bytes l.text) l.initial.replica l.replica
     × (l.replica.catalog ≡ l.catalog)
+    × (g.S.RowStore.failed l.initial.replica.store ≤ g.S.RowStore.failed l.replica.store)

@@ -4,7 +4,7 @@ use Rattle.cs_replica_lines.proofs.node.do_asks.Given as goal
 
 abbrev pub invariant-loop-ask : goal.invariant-loop-ask
 invariant-loop-ask g l =
-    IsGoing g.S.RowStore.honest g.S.RowStore.contents l.id l.asks l.rest (g.W.Write.contents l.initial.writer) (g.W.Write.contents l.writer) l.initial.replica l.replica
+    IsGoing g.S.RowStore l.id l.asks l.rest (g.W.Write.contents l.initial.writer) (g.W.Write.contents l.writer) l.initial.replica l.replica
     × (g.W.LineOutput.sent l.initial.writer → g.W.LineOutput.sent l.writer)
     × (l.replica.catalog ≡ l.catalog)
 

@@ -7,8 +7,8 @@ use Rattle.cs_replica_lines.proofs.working.answer_line.Goals as goal
 pub returns-in_err-put_heard : goal.returns-in_err-put_heard
 returns-in_err-put_heard g c = (
   heard_text c.tell_replica-told.result c.version.result,
-  answer_told g.S.RowStore.honest g.S.RowStore.contents c.args.bytes.now c.args.wishes.now c.in-Ok.answer c.tell_replica-told.result c.version.result c.args.replica.now c.tell_replica-told.new.replica
-      c.in-Ok.ensures.found.0 c.in-Ok.ensures.found.1 c.version.ensures c.tell_replica-told.ensures,
+  answer_told g.S.RowStore c.args.bytes.now c.args.wishes.now c.in-Ok.answer c.tell_replica-told.result c.version.result c.args.replica.now c.tell_replica-told.new.replica
+      c.in-Ok.ensures.found.0 c.in-Ok.ensures.found.1 c.version.ensures c.tell_replica-told.ensures.turned c.tell_replica-told.ensures.counts,
   search rules,
 )
 
@@ -16,7 +16,7 @@ pub returns : goal.returns
 returns g c =
     let says : heard_text c.tell_replica-told.result c.version.result ≡ string_bytes c.put_heard.new.text = search rules in (
       heard_text c.tell_replica-told.result c.version.result,
-      answer_told g.S.RowStore.honest g.S.RowStore.contents c.args.bytes.now c.args.wishes.now c.in-Ok.answer c.tell_replica-told.result c.version.result c.args.replica.now c.tell_replica-told.new.replica
-          c.in-Ok.ensures.found.0 c.in-Ok.ensures.found.1 c.version.ensures c.tell_replica-told.ensures,
+      answer_told g.S.RowStore c.args.bytes.now c.args.wishes.now c.in-Ok.answer c.tell_replica-told.result c.version.result c.args.replica.now c.tell_replica-told.new.replica
+          c.in-Ok.ensures.found.0 c.in-Ok.ensures.found.1 c.version.ensures c.tell_replica-told.ensures.turned c.tell_replica-told.ensures.counts,
       says,
     )
