@@ -1,6 +1,6 @@
 -- The store after a commit, and as it is made.
 use Rattle.std.specs.Prelude.{◌↔◌, is_some, IsSome}
-use Rattle.std.proofs.Common.{◌≡◌, inl, inr, ℕ, pos, ◌+◌, ◌<◌, true, Option, Some, None, Result, Ok, Err, IfOk, IfErr, IfSome, IsTrue, false, refl, sym, ap, subst, ◌∙◌, arith, cond}
+use Rattle.std.proofs.Common.{◌≡◌, inl, inr, ℕ, pos, ◌+◌, ◌<◌, ◌^◌, true, Option, Some, None, Result, Ok, Err, IfOk, IfErr, IfSome, IsTrue, false, refl, sym, ap, subst, ◌∙◌, arith, cond}
 use Rattle.std.specs.declared.cmp.Ordering.{Ordering}
 use Rattle.std.specs.declared.cmp.Ordering.TheVariants.{Less, Equal, Greater}
 use Rattle.std.specs.FinMap.{get, len, contains_key, get-insert, len-insert, len-empty}
@@ -10,23 +10,26 @@ use Rattle.std.proofs.lemmas.Bool.{cases_Bool}
 use Rattle.std.proofs.lemmas.Map.Lookups.{exact_signed}
 use Rattle.std.proofs.lemmas.Cmp.{int_cmp_total}
 use Rattle.sqlite.specs.Store.{Ghosts}
-use Rattle.sqlite.specs.State.{State, HasCleanDisk, Survives}
-use Rattle.sqlite.specs.Effect.{Database}
+use Rattle.sqlite.specs.State.{State, HasCleanDisk, IsLive, Survives}
+use Rattle.sqlite.specs.Effect.{Database, IsDatabase}
 use Rattle.sqlite.specs.Schema.{Schema}
 use Rattle.sqlite.specs.Tree.{Trees}
 use Rattle.sqlite.specs.Held.{Held, state}
 use Rattle.sqlite.proofs.StateLemmas.{survives_then}
 use Rattle.cs_store.specs.Contents.{Contents, HasEachEntry, Log, LogItem, nothing}
-use Rattle.cs_store.specs.Written.{with_entry, optional_entry, item_of}
+use Rattle.cs_store.specs.Calls.{Commits}
+use Rattle.cs_store.specs.Written.{after_batch, with_entry, optional_entry, item_of}
 use Rattle.cs_store.specs.declared.batch.StoredEntry.{StoredEntry}
 use Rattle.cs_store.specs.declared.batch.Batch.{Batch}
+use Rattle.cs_store.specs.declared.fault.StoreFault.{StoreFault}
+use Rattle.cs_store.specs.declared.fault.StoreFault.TheVariants.{Device}
 use Rattle.cs_sql_schema.specs.Schemas.{no_schema, front_schema, store_schema}
 use Rattle.cs_sql_schema.specs.Making.{AddsPending, IsCompleted, IsEmptyIn, IsLaidOut, IsUndone}
-use Rattle.cs_sql_statements.specs.Tables.{IsKept, contents_in}
-use Rattle.cs_sql_statements.specs.Steps.{IsReady, IsWritten, Stays, with_batch}
+use Rattle.cs_sql_statements.specs.Tables.{AreKept, IsKept, contents_in, store_over}
+use Rattle.cs_sql_statements.specs.Steps.{HasBatch, IsReady, IsWritten, Stays, with_batch}
 use Rattle.cs_sql_statements.specs.declared.counting.LogFound.{LogFound}
-use Rattle.cs_sql_statements.specs.Found.{IsFrontKept, IsLogOf, IsUntouched, front_in}
-use Rattle.cs_sql.specs.Keeping.{Kept, IsSteady, IsFresh, IsAdopted, IsAt, IsGivenBack, IsMadeOf, count_with, holds, made_over}
+use Rattle.cs_sql_statements.specs.Found.{IsFrontKept, IsFrontOf, IsLogOf, IsStoreOf, IsUntouched, front_in}
+use Rattle.cs_sql.specs.Keeping.{Kept, IsSteady, IsFresh, IsAdopted, IsAt, IsGivenBack, IsMadeOf, IsToldAs, LeavesStore, MayLeave, OpenAsStore, count_with, holds, made_over}
 
 -- ---- a commit
 
@@ -68,33 +71,108 @@ through p q = (λ a. q.0 (p.0 a), λ c. p.1 (q.1 c))
 
 -- what is said of a log with the entry of a batch
 log_written : (before after : Contents) (batch : Batch) (log next : LogFound) → IsLogOf before log → after ≡ with_batch batch (pos log.entries) before → IfSome batch.log (λ _. get before.log (pos log.entries) ≡ None)
-    → next.entries ≡ count_with log.entries (optional_entry batch.log) → next.is_whole ≡ log.is_whole → IsLogOf after next
-log_written before after batch log next old is free entries whole = record {
+    → next.entries ≡ count_with log.entries (optional_entry batch.log) → next.is_whole ≡ log.is_whole → next.entries < 2 ^ 32 → IsLogOf after next
+log_written before after batch log next old is free entries whole fits = record {
+  fits = fits;
   counted = entries ∙ counted_more before.log log.entries batch.log old.counted free ∙ sym (ap (λ (k : Contents). len k.log) is);
   whole = subst (λ b. IsTrue b ↔ HasEachEntry after) (sym whole) (subst (λ (k : Contents). IsTrue log.is_whole ↔ HasEachEntry k) (sym is) (through old.whole (whole_still before.log log.entries batch.log old.counted free)));
 }
 
-pub written_steady : {S : Type 0} (g : Ghosts S) (old : Kept S) (conn : Held S) (batch : Batch) (next : LogFound) → IsSteady g old.conn old.last old.log → conn.in_transaction ≡ false
-    → Survives (state g old.conn) (state g conn) (λ db. IsTrue (state g old.conn).is_open × (contents_in db ≡ with_batch batch (pos old.log.entries) (contents_in (state g old.conn).now.trees)))
-    → (HasCleanDisk (state g conn) → IsWritten (with_batch batch (pos old.log.entries) (contents_in (state g old.conn).now.trees)) (state g old.conn) (state g conn))
-    → (HasCleanDisk (state g conn) → IfSome batch.log (λ _. get (contents_in (state g old.conn).now.trees).log (pos old.log.entries) ≡ None))
-    → next.entries ≡ count_with old.log.entries (optional_entry batch.log) → next.is_whole ≡ old.log.is_whole → IsSteady g conn conn next
-written_steady g old conn batch next steady idle survives written free entries whole = record {
-  idle = idle;
-  ready = λ clean _. (written clean).ready;
-  same = λ _ _. refl;
-  log = λ clean.
-      let w = written clean in
+-- ---- what a stop leaves
+
+pub quiet_leaves : (old new : State) → Survives old new (λ _. ⊥) → (HasCleanDisk old → LeavesStore old) → HasCleanDisk new → LeavesStore new
+quiet_leaves old new quiet opens clean trees left = elim (quiet.crash clean trees left) [ inl before ↦ opens (omega (arith, clean, quiet.clean)) trees before | inr none ↦ absurd none ]
+
+-- a connection that is open on a store's tables leaves what it shows
+pub settled_leaves : (s : State) (log : LogFound) → IsTrue s.is_open → IsLive s → IsReady s → IsLogOf (contents_in s.now.trees) log → ((db : Trees) → s.may_leave db → db ≡ s.committed.trees) → LeavesStore s
+settled_leaves s log opened live ready is leaves trees left =
+    let same : s.now ≡ store_over s.now.trees = λ i. record { schema = ready.kept.schema i; trees = s.now.trees } in
+    let kept : AreKept s.now.trees = record { sound = subst IsDatabase same (live opened).0; kept = subst IsKept same ready.kept } in
+    subst OpenAsStore (sym (leaves trees left ∙ ap (λ (d : Database). d.trees) ready.settled)) (record { kept = kept; log = log; log_is = is })
+
+-- what a stop may leave of a commit opens as a store too
+module _ {S : Type 0} (g : Ghosts S) (old : Kept S) (conn : Held S) (batch : Batch) (next : LogFound) (steady : IsSteady g old.conn old.last old.log)
+    (survives : Survives (state g old.conn) (state g conn) (HasBatch batch (pos old.log.entries) (state g old.conn)))
+    (entries : next.entries ≡ count_with old.log.entries (optional_entry batch.log)) (whole : next.is_whole ≡ old.log.is_whole) (fits : next.entries < 2 ^ 32) where
+  batch_opens : HasCleanDisk (state g old.conn) → (trees : Trees) → HasBatch batch (pos old.log.entries) (state g old.conn) trees → OpenAsStore trees
+  batch_opens early trees has =
+      let there = steady.same early has.was_open in
+      record {
+        kept = has.kept;
+        log = next;
+        log_is = log_written (contents_in (state g old.conn).now.trees) (contents_in trees) batch old.log next (subst (λ (k : Contents). IsLogOf k old.log) (sym there) (steady.log early)) has.contents has.free entries whole fits;
+      }
+
+  written_leaves : HasCleanDisk (state g conn) → LeavesStore (state g conn)
+  written_leaves clean trees left =
       let early : HasCleanDisk (state g old.conn) = omega (arith, clean, survives.clean) in
-      let there = steady.same early w.was_open in
-      log_written (contents_in (state g old.conn).now.trees) (contents_in (state g conn).now.trees) batch old.log next (subst (λ (k : Contents). IsLogOf k old.log) (sym there) (steady.log early)) w.contents (free clean) entries whole;
+      elim (survives.crash clean trees left) [ inl before ↦ steady.left early trees before | inr has ↦ batch_opens early trees has ]
+
+  pub written_steady : conn.in_transaction ≡ false → (HasCleanDisk (state g conn) → IsWritten (with_batch batch (pos old.log.entries) (contents_in (state g old.conn).now.trees)) (state g old.conn) (state g conn))
+      → (HasCleanDisk (state g conn) → IfSome batch.log (λ _. get (contents_in (state g old.conn).now.trees).log (pos old.log.entries) ≡ None)) → IsSteady g conn conn next
+  written_steady idle written free = record {
+    idle = idle;
+    ready = λ clean _. (written clean).ready;
+    same = λ _ _. refl;
+    log = λ clean.
+        let w = written clean in
+        let early : HasCleanDisk (state g old.conn) = omega (arith, clean, survives.clean) in
+        let there = steady.same early w.was_open in
+        log_written (contents_in (state g old.conn).now.trees) (contents_in (state g conn).now.trees) batch old.log next (subst (λ (k : Contents). IsLogOf k old.log) (sym there) (steady.log early)) w.contents (free clean) entries whole fits;
+    left = written_leaves;
+  }
+
+  -- a commit that failed
+  pub undone_steady : conn.in_transaction ≡ false → (HasCleanDisk (state g conn) → IsUndone (state g old.conn) (state g conn)) → IsSteady g conn old.last old.log
+  undone_steady idle undone = record {
+    idle = idle;
+    ready = λ clean opened.
+        let early : HasCleanDisk (state g old.conn) = omega (arith, clean, survives.clean) in
+        let u = undone clean in
+        let was = steady.ready early (u.was_open opened) in
+        let same : (state g conn).now ≡ (state g old.conn).now = u.now opened ∙ was.settled in
+        record { kept = subst IsKept (sym same) was.kept; settled = u.committed opened ∙ was.settled ∙ sym same };
+    same = λ clean opened.
+        let early : HasCleanDisk (state g old.conn) = omega (arith, clean, survives.clean) in
+        let u = undone clean in
+        let was = steady.ready early (u.was_open opened) in
+        ap (λ (d : Database). contents_in d.trees) (u.now opened ∙ was.settled) ∙ steady.same early (u.was_open opened);
+    log = λ clean. steady.log (omega (arith, clean, survives.clean));
+    left = written_leaves;
+  }
+
+-- ---- a commit that failed
+
+batch_is : (log : LogFound) (batch : Batch) (contents : Contents) → IsLogOf contents log → with_batch batch (pos log.entries) contents ≡ after_batch batch contents
+batch_is log batch contents is = ap (λ (n : ℕ). with_batch batch (pos n) contents) is.counted
+
+failed_again : (fault : StoreFault) (T : Type 0) → ◌≡◌ {A = Result T StoreFault} (Err fault) (Err Device) → fault ≡ Device
+failed_again fault T e = cc
+
+pub commit_failed : {S : Type 0} (g : Ghosts S) (old : Kept S) (conn : Held S) (batch : Batch) (failures : ℕ) (fault : StoreFault) → IsSteady g old.conn old.last old.log
+    → Survives (state g old.conn) (state g conn) (HasBatch batch (pos old.log.entries) (state g old.conn)) → IsToldAs fault old.failures failures
+    → Commits (λ (s : Kept S). HasCleanDisk (state g s.conn)) (λ (s : Kept S). holds g s) (λ (s : Kept S). s.failures) (λ (s : Kept S). MayLeave g s) (λ (s : Kept S). s.misreads) {T = Unit {0}} (after_batch batch (holds g old)) old
+    (record { conn = conn; last = old.last; log = old.log; failures = failures; misreads = old.misreads }) (Err fault)
+commit_failed g old conn batch failures fault steady survives told = record {
+  was_honest = λ clean. omega (arith, clean, survives.clean);
+  ok = λ _. tt;
+  err = λ _. refl;
+  durable = λ _. tt;
+  crash = λ clean left m.
+      let early : HasCleanDisk (state g old.conn) = omega (arith, clean, survives.clean) in
+      elim (survives.crash clean m.0 m.1) [
+        | inl before ↦ inl (m.0, before, m.2)
+        | inr has ↦ inr (m.2 ∙ has.contents ∙ ap (with_batch batch (pos old.log.entries)) (steady.same early has.was_open) ∙ batch_is old.log batch (holds g old) (steady.log early))
+      ];
+  failures = record { kept = tt; later = told.later; cause = λ e. told.cause (failed_again fault (Unit {0}) e) };
+  as_read = refl;
 }
 
 -- ---- a store that is made
 
 pub over_steady : {S : Type 0} (g : Ghosts S) (conn : Held S) (log : LogFound) → conn.in_transaction ≡ false → (HasCleanDisk (state g conn) → IsReady (state g conn))
-    → (HasCleanDisk (state g conn) → IsLogOf (contents_in (state g conn).now.trees) log) → IsSteady g conn conn log
-over_steady g conn log idle ready is = record { idle = idle; ready = λ clean _. ready clean; same = λ _ _. refl; log = is }
+    → (HasCleanDisk (state g conn) → IsLogOf (contents_in (state g conn).now.trees) log) → (HasCleanDisk (state g conn) → LeavesStore (state g conn)) → IsSteady g conn conn log
+over_steady g conn log idle ready is opens = record { idle = idle; ready = λ clean _. ready clean; same = λ _ _. refl; log = is; left = opens }
 
 laid_is : (trees : Trees) → IsEmptyIn store_schema trees → contents_in trees ≡ nothing
 laid_is trees empty = rw (empty.0, empty.1.0, empty.1.1.0, empty.1.1.1.0) refl
@@ -118,6 +196,7 @@ pub laid_log : (old new : State) → IsLaidOut old new → IsLogOf (contents_in 
 laid_log old new laid = subst (λ (k : Contents). IsLogOf k empty_log) (sym (laid_is new.now.trees laid.empty)) (record {
   counted = sym (len-empty int_cmp LogItem);
   whole = (λ _ version less. absurd (let none = len-empty int_cmp LogItem in omega (arith, less, none)), λ _. refl);
+  fits = omega arith;
 })
 
 pub laid_survives : (old new : State) → (HasCleanDisk old → IsAt no_schema old) → Survives old new (IsEmptyIn store_schema) → Survives old new (IsMadeOf old.now)
@@ -148,31 +227,35 @@ completed_ready old new kept done = record { kept = completed_kept old.now new.n
 pub completed_log : (old new : State) (log : LogFound) → IsLogOf (front_in old.now.trees) log → IsCompleted old new → IsLogOf (contents_in new.now.trees) log
 completed_log old new log is done = subst (λ (k : Contents). IsLogOf k log) (sym (completed_is old.now.trees new.now.trees done.added)) is
 
-pub completed_survives : (old new : State) → (HasCleanDisk old → IsAt front_schema old) → Survives old new (λ db. AddsPending old.now.trees db) → Survives old new (IsMadeOf old.now)
-completed_survives old new at s = record {
+pub completed_survives : (old new : State) (log : LogFound) → (HasCleanDisk old → IsAt front_schema old) → (HasCleanDisk old → IsFrontKept old.now.trees) → (HasCleanDisk old → IsLogOf (front_in old.now.trees) log)
+    → Survives old new (λ db. AddsPending old.now.trees db) → Survives old new (IsMadeOf old.now)
+completed_survives old new log at kept is s = record {
   clean = s.clean;
   shield = s.shield;
   counts = s.counts;
   limit = s.limit;
   closes = s.closes;
-  crash = λ clean db left. elim (s.crash clean db left) [ inl before ↦ inl before | inr adds ↦ inr (inr ((at (omega (arith, clean, s.clean))).schema_is, completed_is old.now.trees db adds)) ];
+  crash = λ clean db left.
+      let early : HasCleanDisk old = omega (arith, clean, s.clean) in
+      elim (s.crash clean db left) [ inl before ↦ inl before | inr adds ↦ inr (inr (log, ((at early).schema_is, kept early, is early), completed_is old.now.trees db adds)) ];
 }
 
 -- a store just made over a connection that is open holds what it shows, and a stop leaves that alone
 fresh_over : {S : Type 0} (g : Ghosts S) (conn : Held S) (log : LogFound) (found : Contents) → contents_in (state g conn).now.trees ≡ found → (state g conn).committed ≡ (state g conn).now
-    → ((db : Trees) → (state g conn).may_leave db → db ≡ (state g conn).committed.trees) → IsFresh g (made_over conn log) found
-fresh_over g conn log found is settled leaves = record {
+    → ((db : Trees) → (state g conn).may_leave db → db ≡ (state g conn).committed.trees) → LeavesStore (state g conn) → IsFresh g (made_over conn log) found
+fresh_over g conn log found is settled leaves opens = record {
   holds_is = is;
   durable = λ left m. m.2 ∙ ap contents_in (leaves m.0 m.1 ∙ ap (λ (d : Database). d.trees) settled) ∙ is;
+  opens = opens;
 }
 
 pub laid_fresh : {S : Type 0} (g : Ghosts S) (start : State) (conn : Held S) → IsLaidOut start (state g conn) → ((db : Trees) → (state g conn).may_leave db → db ≡ (state g conn).committed.trees)
-    → IsFresh g (made_over conn empty_log) nothing
-laid_fresh g start conn laid leaves = fresh_over g conn empty_log nothing (laid_is (state g conn).now.trees laid.empty) laid.settled leaves
+    → LeavesStore (state g conn) → IsFresh g (made_over conn empty_log) nothing
+laid_fresh g start conn laid leaves opens = fresh_over g conn empty_log nothing (laid_is (state g conn).now.trees laid.empty) laid.settled leaves opens
 
 pub completed_fresh : {S : Type 0} (g : Ghosts S) (start : State) (conn : Held S) (log : LogFound) → IsCompleted start (state g conn) → ((db : Trees) → (state g conn).may_leave db → db ≡ (state g conn).committed.trees)
-    → IsFresh g (made_over conn log) (front_in start.now.trees)
-completed_fresh g start conn log done leaves = fresh_over g conn log (front_in start.now.trees) (completed_is start.now.trees (state g conn).now.trees done.added) done.settled leaves
+    → LeavesStore (state g conn) → IsFresh g (made_over conn log) (front_in start.now.trees)
+completed_fresh g start conn log done leaves opens = fresh_over g conn log (front_in start.now.trees) (completed_is start.now.trees (state g conn).now.trees done.added) done.settled leaves opens
 
 -- ---- a connection that is given back
 
@@ -238,26 +321,27 @@ fresh_adopted g start mid (Ok s) schema untouched survives made = λ clean.
     let early : HasCleanDisk mid = omega (arith, clean, survives.clean) in
     let u = untouched early in
     let f = made clean in
-    record { was_open = u.was_open; from = inl (schema early, f.holds_is); durable = λ left m. f.durable left m ∙ sym f.holds_is }
+    record { was_open = u.was_open; from = inl (schema early, f.holds_is); durable = λ left m. f.durable left m ∙ sym f.holds_is; opens = f.opens }
 
-pub front_adopted : {S X : Type 0} (g : Ghosts S) (start mid : State) (r : Result (Kept S) X) → (HasCleanDisk mid → start.now.schema ≡ front_schema) → (HasCleanDisk mid → IsUntouched start mid)
+pub front_adopted : {S X : Type 0} (g : Ghosts S) (start mid : State) (r : Result (Kept S) X) (log : LogFound) → (HasCleanDisk mid → IsFrontOf log start.now) → (HasCleanDisk mid → IsUntouched start mid)
     → IfOk r (λ s. Survives mid (state g s.conn) (IsMadeOf mid.now)) → IfOk r (λ s. HasCleanDisk (state g s.conn) → IsFresh g s (front_in mid.now.trees)) → IfOk r (λ s. HasCleanDisk (state g s.conn) → IsAdopted g start s)
-front_adopted g start mid (Err e) schema untouched survives made = tt
-front_adopted g start mid (Ok s) schema untouched survives made = λ clean.
+front_adopted g start mid (Err e) log front untouched survives made = tt
+front_adopted g start mid (Ok s) log front untouched survives made = λ clean.
     let early : HasCleanDisk mid = omega (arith, clean, survives.clean) in
     let u = untouched early in
     let f = made clean in
     let holds_it : holds g s ≡ front_in start.now.trees = f.holds_is ∙ ap (λ (d : Database). front_in d.trees) u.now in
-    record { was_open = u.was_open; from = inr (inl (schema early, holds_it)); durable = λ left m. f.durable left m ∙ sym f.holds_is }
+    record { was_open = u.was_open; from = inr (inl (log, front early, holds_it)); durable = λ left m. f.durable left m ∙ sym f.holds_is; opens = f.opens }
 
-pub ours_adopted : {S : Type 0} (g : Ghosts S) (start : State) (conn : Held S) (log : LogFound) → IsKept start.now → IsUntouched start (state g conn)
-    → ((db : Trees) → (state g conn).may_leave db → db ≡ (state g conn).committed.trees) → IsAdopted g start (made_over conn log)
-ours_adopted g start conn log kept u leaves =
+pub ours_adopted : {S : Type 0} (g : Ghosts S) (start : State) (conn : Held S) (log : LogFound) → IsStoreOf log start.now → IsUntouched start (state g conn)
+    → ((db : Trees) → (state g conn).may_leave db → db ≡ (state g conn).committed.trees) → LeavesStore (state g conn) → IsAdopted g start (made_over conn log)
+ours_adopted g start conn log ours u leaves opens =
     let holds_it : contents_in (state g conn).now.trees ≡ contents_in start.now.trees = ap (λ (d : Database). contents_in d.trees) u.now in
     record {
       was_open = u.was_open;
-      from = inr (inr (kept.schema, holds_it));
+      from = inr (inr (log, ours, holds_it));
       durable = λ left m. m.2 ∙ ap contents_in (leaves m.0 m.1 ∙ ap (λ (d : Database). d.trees) u.settled);
+      opens = opens;
     }
 
 pub ours_ready : (old new : State) → IsKept old.now → IsUntouched old new → IsReady new

@@ -11,11 +11,11 @@ use Rattle.cs_store.specs.Contents.{Contents, LogItem, nothing}
 use Rattle.cs_store.specs.Calls.{MoreFailures}
 use Rattle.cs_store.specs.declared.fault.StoreFault.{StoreFault}
 use Rattle.cs_store.specs.declared.fault.StoreFault.TheVariants.{Device}
-use Rattle.cs_sql_schema.specs.Schemas.{no_schema, front_schema, store_schema}
-use Rattle.cs_sql_statements.specs.Tables.{contents_in}
+use Rattle.cs_sql_statements.specs.Tables.{AreKept, contents_in}
 use Rattle.cs_sql_statements.specs.Steps.{IsReady, Stays}
 use Rattle.cs_sql_statements.specs.declared.counting.LogFound.{LogFound}
-use Rattle.cs_sql_statements.specs.Found.{IsLogOf, front_in}
+use Rattle.cs_sql_statements.specs.declared.looking.Found.TheVariants.{Fresh, Front, Ours}
+use Rattle.cs_sql_statements.specs.Found.{IsFound, IsLogOf, front_in}
 
 -- the count never falls, and rises with `Device`
 pub record IsToldAs (fault : StoreFault) (old new : ℕ) : Type 0 where
@@ -46,11 +46,23 @@ abbrev pub count_with : ℕ → Option LogItem → ℕ
 count_with entries None = entries
 count_with entries (Some entry) = entries + 1
 
+-- ---- what a stop leaves
+
+-- the trees open as a store: they are a store's, and this is so of the log that they hold
+pub record OpenAsStore (trees : Trees) : Type 0 where
+  pub kept : AreKept trees
+  pub log : LogFound
+  pub log_is : IsLogOf (contents_in trees) log
+
+-- whatever a stop leaves opens as a store
+abbrev pub LeavesStore : State → Type 0
+LeavesStore s = (trees : Trees) → s.may_leave trees → OpenAsStore trees
+
 module _ {S : Type 0} (g : Ghosts S) where
   abbrev pub holds : Kept S → Contents
   holds s = contents_in (state g s.last).now.trees
 
-  -- a stop now leaves a database with these contents
+  -- a stop now leaves a database with these contents; the law `LeftOpens` says that a store opens over each that it leaves
   abbrev pub MayLeave : Kept S → Contents → Type 0
   MayLeave s left = (db : Trees) × (state g s.conn).may_leave db × (left ≡ contents_in db)
 
@@ -60,11 +72,13 @@ module _ {S : Type 0} (g : Ghosts S) where
     pub ready : HasCleanDisk (state g conn) → IsTrue (state g conn).is_open → IsReady (state g conn)
     pub same : HasCleanDisk (state g conn) → IsTrue (state g conn).is_open → contents_in (state g conn).now.trees ≡ contents_in (state g last).now.trees
     pub log : HasCleanDisk (state g conn) → IsLogOf (contents_in (state g last).now.trees) found
+    pub left : HasCleanDisk (state g conn) → LeavesStore (state g conn)
 
-  -- the store was just made, and holds this: a stop now leaves it, alone
+  -- the store was just made, and holds this: a stop now leaves it, alone, and what it leaves opens as a store
   pub record IsFresh (s : Kept S) (found : Contents) : Type 0 where
     pub holds_is : holds s ≡ found
     pub durable : (left : Contents) → MayLeave s left → left ≡ found
+    pub opens : LeavesStore (state g s.conn)
 
 -- ---- a database that was found
 
@@ -74,25 +88,27 @@ pub record IsAt (schema : Schema) (s : State) : Type 0 where
   pub settled : s.committed ≡ s.now
   pub schema_is : s.now.schema ≡ schema
 
--- what a store over the database holds: nothing where it has no table, what a store's front holds, or what a store holds
+-- what a store over the database holds: nothing where it has no table, what a store's front holds, or what a store holds; no store
+-- is made over a database that is none of these
 abbrev pub IsHeldIn : Database → Contents → Type 0
-IsHeldIn db found =
-    ((db.schema ≡ no_schema) × (found ≡ nothing))
-    ⊎ (((db.schema ≡ front_schema) × (found ≡ front_in db.trees))
-    ⊎ ((db.schema ≡ store_schema) × (found ≡ contents_in db.trees)))
+IsHeldIn db held =
+    (IsFound Fresh db × (held ≡ nothing))
+    ⊎ (((log : LogFound) × IsFound (Front log) db × (held ≡ front_in db.trees))
+    ⊎ ((log : LogFound) × IsFound (Ours log) db × (held ≡ contents_in db.trees)))
 
--- what a stop may leave where the tables that the database lacks are made
+-- what a stop may leave where the tables that the database lacks are made; of one that is a store's, or foreign, nothing
 abbrev pub IsMadeOf : Database → Trees → Type 0
 IsMadeOf db left =
-    ((db.schema ≡ no_schema) × (contents_in left ≡ nothing))
-    ⊎ ((db.schema ≡ front_schema) × (contents_in left ≡ front_in db.trees))
+    (IsFound Fresh db × (contents_in left ≡ nothing))
+    ⊎ ((log : LogFound) × IsFound (Front log) db × (contents_in left ≡ front_in db.trees))
 
 module _ {S : Type 0} (g : Ghosts S) (shown : State) where
-  -- the store holds what the connection showed, and a stop now leaves that alone
+  -- the store holds what the connection showed, and a stop now leaves that alone, which opens as a store
   pub record IsAdopted (s : Kept S) : Type 0 where
     pub was_open : IsTrue shown.is_open
     pub from : IsHeldIn shown.now (holds g s)
     pub durable : (left : Contents) → MayLeave g s left → left ≡ holds g s
+    pub opens : LeavesStore (state g s.conn)
 
   -- the connection is given back as it was: in no transaction, and where it is open it shows what it showed; a stop leaves what
   -- it could leave before, or the tables that the database lacked

@@ -1,9 +1,15 @@
--- The laws of a store in SQLite: what it holds where it is made over a database is one (profile of this project).
+-- The laws of a store in SQLite: what it holds where it is made over a database is one, what a database is found to be is one, and
+-- what a stop leaves of a store opens as one (profile of this project).
 use Rattle.std.specs.Prelude.{◌≡◌}
-use Rattle.sqlite.specs.Effect.{Database}
+use Rattle.sqlite.specs.Effect.{Database, IsDatabase}
 use Rattle.sqlite.specs.Store.{Ghosts}
-use Rattle.sqlite.specs.State.{State}
+use Rattle.sqlite.specs.Held.{state}
+use Rattle.sqlite.specs.State.{State, HasCleanDisk}
 use Rattle.cs_store.specs.Contents.{Contents}
+use Rattle.cs_sql_statements.specs.Found.{IsFound}
+use Rattle.cs_sql_statements.specs.declared.counting.LogFound.{LogFound}
+use Rattle.cs_sql_statements.specs.declared.looking.Found.{Found}
+use Rattle.cs_sql_statements.specs.declared.looking.Found.TheVariants.{Foreign, Ours}
 use Rattle.cs_sql.specs.Keeping.{IsAdopted, IsHeldIn, Kept, MayLeave, holds}
 
 -- a store holds one thing of what a database shows
@@ -16,3 +22,28 @@ OneIsAdopted {S} g shown =
     (some other : Kept S) → IsAdopted g shown some → IsAdopted g shown other
     → (holds g some ≡ holds g other)
     × ((left last : Contents) → MayLeave g some left → MayLeave g other last → left ≡ last)
+
+-- no store adopts what is found to be foreign
+abbrev pub NoneIsForeign : {S : Type 0} → Ghosts S → State → Type 0
+NoneIsForeign {S} g shown = (s : Kept S) → IsAdopted g shown s → ¬ IsFound Foreign shown.now
+
+-- a database is found to be one thing
+abbrev pub OneIsFound : Type 0
+OneIsFound = (db : Database) (some other : Found) → IsFound some db → IsFound other db → some ≡ other
+
+-- no database is none of them
+abbrev pub SomeIsFound : Type 0
+SomeIsFound = (db : Database) → ¬ ((found : Found) → ¬ IsFound found db)
+
+-- the database is found to be a store's and nothing else, and what a store over it holds is this
+pub record OpensAs (left : Contents) (db : Database) : Type 0 where
+  pub log : LogFound
+  pub found : IsFound (Ours log) db
+  pub alone : (other : Found) → IsFound other db → other ≡ Ours log
+  pub held : IsHeldIn db left
+  pub only : (other : Contents) → IsHeldIn db other → other ≡ left
+
+-- what a stop may leave of a store opens as one that holds what was left: a connection that shows the trees that were left shows
+-- a database of theirs, and each is found so
+abbrev pub LeftOpens : {S : Type 0} → Ghosts S → Kept S → Type 0
+LeftOpens {S} g s = HasCleanDisk (state g s.conn) → (left : Contents) (it : MayLeave g s left) (db : Database) → IsDatabase db → db.trees ≡ it.0 → OpensAs left db

@@ -1,8 +1,9 @@
 //! The laws of a store in SQLite, each the contract of a function that does nothing.
 
 ghost use Rattle.sqlite.specs.Held.{state};
-ghost use Rattle.cs_sql.specs.Laws.{OneIsAdopted, OneIsHeld};
+ghost use Rattle.cs_sql.specs.Laws.{LeftOpens, NoneIsForeign, OneIsAdopted, OneIsFound, OneIsHeld, SomeIsFound};
 
+use crate::SqlStore;
 use cs_sql_schema::laws::judgements;
 use sqlite::{Alter, Connection};
 
@@ -13,9 +14,27 @@ pub fn one_is_held()
     judgements();
 }
 
-/// What stores hold that adopt what a connection shows is one, and a stop leaves one.
+/// What stores hold that adopt what a connection shows is one, and a stop leaves one; none adopts what is foreign.
 pub fn one_is_adopted<A: Alter>(_conn: &Connection<A>)
-    ensures { OneIsAdopted A.Store (state A.Store _conn.now) }
+    ensures one { OneIsAdopted A.Store (state A.Store _conn.now) }
+    ensures none { NoneIsForeign A.Store (state A.Store _conn.now) }
 {
     one_is_held();
+}
+
+/// A database is found to be one thing, and no database is found to be nothing.
+pub fn one_is_found()
+    ensures one { OneIsFound }
+    ensures some { SomeIsFound }
+{
+    judgements();
+}
+
+/// What a stop may leave of a store opens as one that holds what was left.
+pub fn left_opens<A: Alter>(_store: &SqlStore<A>)
+    ensures { LeftOpens A.Store _store.now }
+{
+    one_is_held();
+    one_is_found();
+    _store.leaves_store();
 }

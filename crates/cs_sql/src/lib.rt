@@ -2,7 +2,7 @@
 //! opens. It meets what any store owes (`cs_store`'s `RowStore`); every commit is one transaction, so a stop leaves what the
 //! store held or the whole commit. `open_memory` makes one in memory, `open_path` opens a file, `adopt` takes a connection
 //! that the caller opened; each judges what it finds, and refuses another's database untouched; `laws` says that what a store
-//! then holds is one. The crate stands on the
+//! then holds is one, and that whatever a stop leaves of a store opens as one that holds what was left. The crate stands on the
 //! statements (`cs_sql_statements`), on the schema (`cs_sql_schema`), on what stores owe (`cs_store`) and on `sqlite`.
 //! Its tests stand in `cs_sqlite_tests`.
 #![tactic(auto)]

@@ -1,6 +1,6 @@
 //! A store over a connection.
 
-ghost use Rattle.std.specs.Prelude.{◌≡◌, false, IfErr, IfOk, IfSome};
+ghost use Rattle.std.specs.Prelude.{◌≡◌, ◌<◌, ◌^◌, false, IfErr, IfOk, IfSome, IsTrue};
 ghost use Rattle.sqlite.specs.Files.{file_state};
 ghost use Rattle.sqlite.specs.Held.{state};
 ghost use Rattle.sqlite.specs.State.{HasCleanDisk, Survives};
@@ -12,7 +12,7 @@ ghost use Rattle.cs_sql_schema.specs.Schemas.{no_schema, front_schema};
 ghost use Rattle.cs_sql_statements.specs.Tables.{contents_in};
 ghost use Rattle.cs_sql_statements.specs.Steps.{IsReady};
 ghost use Rattle.cs_sql_statements.specs.Found.{IsFrontKept, IsLogOf, front_in};
-ghost use Rattle.cs_sql.specs.Keeping.{IsAdopted, IsAt, IsFresh, IsGivenBack, IsMadeOf, IsToldAs, count_with, made_over};
+ghost use Rattle.cs_sql.specs.Keeping.{IsAdopted, IsAt, IsFresh, IsGivenBack, IsMadeOf, IsToldAs, LeavesStore, count_with, made_over};
 ghost use Rattle.cs_sql.specs.Opening.{IsOpenedAt};
 
 use cs_sql_schema::{complete, lay_out};
@@ -68,7 +68,7 @@ fn fault_of(error: &Error, failures: &mut u64) -> StoreFault
 
 /// How many entries the log has with the batch's.
 fn entries_with(entries: u32, batch: &Batch) -> Option<u32>
-    ensures { IfSome result (λ count. count ≡ count_with entries (optional_entry batch.now.log)) }
+    ensures { IfSome result (λ count. (count ≡ count_with entries (optional_entry batch.now.log)) × (count < 2 ^ 32)) }
 {
     match &batch.log {
         Some(_) => entries.checked_add(1),
@@ -78,6 +78,10 @@ fn entries_with(entries: u32, batch: &Batch) -> Option<u32>
 
 impl SqlStore<MemStore> {
     /// A store in memory that holds nothing. (Profile of this project.)
+    ///
+    /// # Errors
+    ///
+    /// `Memory`, where memory was refused, and `Device`, where `sqlite` answered another fault as the tables were made.
     pub fn open_memory(alloc: Global) -> Result<SqlStore<MemStore>, StoreFault>
         ensures { IfOk result (λ s. IsFresh over_memory s nothing) }
     {
@@ -95,8 +99,11 @@ impl<A: Alter> SqlStore<A> {
         requires idle { conn.in_transaction ≡ false }
         requires ready { HasCleanDisk (state A.Store conn) → IsReady (state A.Store conn) }
         requires log { HasCleanDisk (state A.Store conn) → IsLogOf (contents_in (state A.Store conn).now.trees) log }
-        ensures { result ≡ made_over conn log }
+        requires open { HasCleanDisk (state A.Store conn) → IsTrue (state A.Store conn).is_open }
+        ensures made { result ≡ made_over conn log }
+        ensures opens { HasCleanDisk (state A.Store conn) → LeavesStore (state A.Store conn) }
     {
+        let _ = conn.schema();
         let last = Snapshot::of(&conn);
         SqlStore {
             conn,
@@ -156,9 +163,10 @@ impl<A: Alter> SqlStore<A> {
     ///
     /// # Errors
     ///
-    /// `Memory`, where `sqlite` answered that, and `Device`, where it answered another fault or where the database is another's:
-    /// its schema isn't the store's, rowids aren't apart, or the log has more entries than there are versions. A log whose
-    /// versions have gaps is taken as it is, and `log_is_whole` tells. The connection is given back as it was.
+    /// `Memory`, where `sqlite` answered that, and `Device`, where it answered another fault or where the database is another's
+    /// (`IsFound Foreign`): its schema isn't the store's, rowids aren't apart, or the log has more entries than there are
+    /// versions. No database of another is taken, and nothing is written to one. A log whose versions have gaps is taken as it
+    /// is, and `log_is_whole` tells. The connection is given back as it was.
     pub fn adopt(
         alloc: Global,
         mut conn: Connection<A>,
@@ -178,9 +186,17 @@ impl<A: Alter> SqlStore<A> {
         }
     }
 
+    /// That what a stop leaves opens as a store is so of each store.
+    pub(crate) fn leaves_store(&self)
+        ensures { HasCleanDisk (state A.Store self.now.conn) → LeavesStore (state A.Store self.now.conn) }
+    {
+        let _ = &self.conn;
+    }
+
     /// The connection, as it is. (Profile of this project.)
     pub fn close(self) -> Connection<A>
-        ensures { result ≡ self.conn }
+        ensures same { result ≡ self.conn }
+        ensures opens { HasCleanDisk (state A.Store result) → LeavesStore (state A.Store result) }
     {
         self.conn
     }
@@ -188,6 +204,11 @@ impl<A: Alter> SqlStore<A> {
 
 impl<S: Start> SqlStore<FileStore<FileFrom<S>>> {
     /// A store in the file at a path, as `sqlite`'s `open_from` opens it and `adopt` takes it. (Profile of this project.)
+    ///
+    /// # Errors
+    ///
+    /// `Memory`, where `sqlite` answered that, and `Device`, where it answered another fault at the open (`is_open_error` lists
+    /// them) or `adopt` answers that.
     pub fn open_path(
         rt: &HostRuntime,
         path: &str,

@@ -1,12 +1,12 @@
 -- What the tables of a file that was found hold.
-use Rattle.std.specs.Prelude.{is_some, zero, suc, ◌↔◌, IsSome}
-use Rattle.std.proofs.Common.{◌≡◌, ◌≢◌, inl, inr, ℕ, ◌+◌, ◌<◌, ◌≤◌, ℤ, pos, List, [], ◌∷◌, length, drop, ◌++◌, length-append, map, codes, Bool, true, false, not, ◌&&◌, ◌||◌, cond, Option, Some, None, IfSome, IsTrue, refl, sym, ap, subst, ◌∙◌, arith}
+use Rattle.std.specs.Prelude.{is_some, zero, suc, ◌↔◌, IsSome, MatchOption}
+use Rattle.std.proofs.Common.{◌≡◌, ◌≢◌, inl, inr, ℕ, ◌+◌, ◌^◌, ◌<◌, ◌≤◌, ℤ, pos, List, [], ◌∷◌, length, drop, ◌++◌, length-append, map, codes, Bool, true, false, not, ◌&&◌, ◌||◌, cond, Option, Some, None, IfSome, IsTrue, refl, sym, ap, subst, ◌∙◌, arith, get_or}
 use Rattle.std.specs.declared.cmp.Ordering.{Ordering}
 use Rattle.std.specs.declared.cmp.Ordering.TheVariants.{Less, Equal, Greater}
-use Rattle.std.specs.Ordering.{is_eq, is_ne, eq_by_cmp, int_cmp}
+use Rattle.std.specs.Ordering.{is_eq, is_lt, is_ne, eq_by_cmp, int_cmp, ordering_then}
 use Rattle.std.specs.Cmp.{eq_by_cmp_equiv}
 use Rattle.std.specs.List.{AllByRecursion, filter, list_any}
-use Rattle.std.specs.List.Sorted.{IsPermutation}
+use Rattle.std.specs.List.Sorted.{IsPermutation, IsSorted}
 use Rattle.std.specs.FinMap.{find, get, len, from_entries, get-from_entries, contains_key, len-insert, len-empty}
 use Rattle.std.proofs.lemmas.Bool.{cases_Bool, and_parts}
 use Rattle.std.proofs.lemmas.Cmp.{int_cmp_total, nat_list_cmp_total, tied_itself}
@@ -18,6 +18,7 @@ use Rattle.sqlite.specs.Effect.{Database, IsDatabase}
 use Rattle.sqlite.specs.Tree.{Trees, rowid}
 use Rattle.sqlite.specs.State.{State, IsUnchanged}
 use Rattle.sqlite.specs.Program.{overlay}
+use Rattle.sqlite.specs.Query.{Output, output_cmp}
 use Rattle.sqlite.specs.Schema.{Schema}
 use Rattle.sqlite.specs.Listing.{understood, reads_listing}
 use Rattle.sqlite.specs.Command.TheVariants.{Select}
@@ -35,17 +36,19 @@ use Rattle.sqlite_value.specs.declared.value.Value.TheVariants.{Null, Int, Real,
 use Rattle.sqlite_value.specs.Order.{value_cmp}
 use Rattle.sqlite_value.proofs.OrderLemmas.{value_cmp-Int, value_cmp_total}
 use Rattle.cs_order.specs.Order.{by_bytes}
-use Rattle.cs_store.specs.Contents.{LogItem, place_cmp}
-use Rattle.cs_sql_schema.specs.Schemas.{front_schema, store_schema, rows_table, meta_table, log_table}
-use Rattle.cs_sql_statements.specs.Tables.{rows_ids_text, meta_ids_text, log_ids_text, pending_ids_text, IsRow, IsMeta, IsLog, IsKept, Apart, same_id, same_key, row_pair, value_pair, entry_pair, contents_in}
+use Rattle.cs_store.specs.Contents.{Contents, Log, LogItem, place_cmp}
+use Rattle.cs_sql_schema.specs.Judged.{IsForeign}
+use Rattle.cs_sql_schema.specs.Schemas.{no_schema, front_schema, store_schema, rows_table, meta_table, log_table}
+use Rattle.cs_sql_statements.specs.Tables.{rows_ids_text, meta_ids_text, log_ids_text, pending_ids_text, IsRow, IsMeta, IsLog, IsMapped, IsKept, Apart, same_id, same_key, row_pair, value_pair, entry_pair, contents_in}
 use Rattle.cs_sql_statements.specs.declared.counting.Ids.{Ids}
 use Rattle.cs_sql_statements.specs.declared.counting.LogFound.{LogFound}
+use Rattle.cs_sql_statements.specs.declared.looking.Found.TheVariants.{Foreign}
 use Rattle.cs_sql_statements.specs.Steps.{Serves}
-use Rattle.cs_sql_statements.specs.Found.{AreApart, AreEntries, AreNumbered, AreSeen, HasEachVersion, HasFront, IsCounted, IsFrontKept, IsLogOf, IsUntouched, Rise, ShowsIds, ShowsLast, ShowsNumber, front_in, is_version}
+use Rattle.cs_sql_statements.specs.Found.{AreApart, AreCountable, AreEntries, AreNumbered, AreSeen, HasEachVersion, HasFront, IsCounted, IsFound, IsFrontKept, IsFrontOf, IsLogOf, IsStoreOf, IsUntouched, Rise, ShowsIds, ShowsLast, ShowsNumber, front_in, is_version}
 use Rattle.cs_sql_statements.proofs.Meanings.{ids_in, one_column, rising_by, rows_ids_front, meta_ids_front, log_ids_front, rows_ids_store, meta_ids_store, log_ids_store, pending_ids_store}
-use Rattle.cs_sql_statements.proofs.Answers.{place_total, shown, answer_is, passes_on, passes_is, name_passes}
+use Rattle.cs_sql_statements.proofs.Answers.{place_total, shown, given, answer_is, ordered_is, passes_on, passes_is, name_passes}
 use Rattle.cs_sql_statements.proofs.Apart.{find_none}
-use Rattle.cs_sql_statements.proofs.Orders.{apart_permutation, apart_unmap, all_permutation, all_unmap, pos_less, rise_push}
+use Rattle.cs_sql_statements.proofs.Orders.{Level, apart_map, apart_permutation, apart_unmap, all_permutation, all_unmap, pos_less, rise_front, rise_level, rise_pair, rise_push}
 
 -- ---- rowids
 
@@ -74,6 +77,40 @@ apart_from es rows same whole rise =
           (λ a. ap is_eq (tied_itself value_cmp_total (column a 0))) rows (map (shown (one_column 0) []) es) back (rise_apart rows rise));
     }
 
+first_not_less : (o : Ordering) → is_lt (ordering_then o Equal) ≡ false → is_lt o ≡ false
+first_not_less Less h = h
+first_not_less Equal h = refl
+first_not_less Greater h = h
+
+-- what it is sorted by is what it shows
+abbrev IsKeyed : Output → Type 0
+IsKeyed o = (column o.0 0 ≡ column o.1 0)
+
+-- no output is sorted before the one before it
+level_of : (tree : ℕ) (os : List Output) → AllByRecursion IsKeyed os → IsSorted (output_cmp (ids_in tree)) os → Level (map (λ (o : Output). o.1) os)
+level_of tree [] all h = tt
+level_of tree (x ∷ []) all h = tt
+level_of tree (x ∷ y ∷ os) all h = (
+  first_not_less _ (ap (λ o. is_lt (ordering_then o Equal)) (λ i. value_cmp (sym all.1.0 i) (sym all.0 i)) ∙ h 0 x (omega arith) (omega arith)),
+  level_of tree (y ∷ os) all.1 (λ k d a b.
+      let n : suc k + 1 ≡ suc (k + 1) = omega arith in
+      ap (λ j. is_lt (output_cmp (ids_in tree) (get_or (x ∷ y ∷ os) j d) (get_or (y ∷ os) k d))) (sym n) ∙ h (suc k) d (omega arith) (omega (arith, b))),
+)
+
+keyed_all : (tree : ℕ) (es : List Row) → AllByRecursion IsKeyed (map (given (ids_in tree) []) es)
+keyed_all tree [] = tt
+keyed_all tree (e ∷ es) = (refl, keyed_all tree es)
+
+-- rowids that are apart are shown to rise
+rise_shown : (tree : ℕ) (es rows : List Row) (ordered : List Output) → IsPermutation (map (given (ids_in tree) []) (filter (passes_on [] []) es)) ordered → IsSorted (output_cmp (ids_in tree)) ordered
+    → rows ≡ map (λ (o : Output). o.1) ordered → IsPermutation (map (shown (one_column 0) []) (filter (passes_on [] []) es)) rows → Apart same_id es → Rise rows
+rise_shown tree es rows ordered given_are sorted shown_are same apart =
+    let keyed : AllByRecursion IsKeyed ordered = all_permutation IsKeyed (map (given (ids_in tree) []) (filter (passes_on [] []) es)) ordered given_are (keyed_all tree (filter (passes_on [] []) es)) in
+    let moved : IsPermutation (map (shown (one_column 0) []) es) rows = subst (λ xs. IsPermutation (map (shown (one_column 0) []) xs) rows) (filter_none [] es) same in
+    let ties : Apart tie_first rows = apart_permutation tie_first (λ a b. (eq_by_cmp_equiv value_cmp_total).symm (column a 0) (column b 0)) (λ a. ap is_eq (tied_itself value_cmp_total (column a 0)))
+    (map (shown (one_column 0) []) es) rows moved (apart_map tie_first (shown (one_column 0) []) es apart) in
+    rise_level rows (subst Level (sym shown_are) (level_of tree ordered keyed sorted)) ties
+
 -- a text that asks for the rowids of the table at the tree
 abbrev pub AsksIds : Schema → List ℕ → ℕ → List (List ℕ) → Type 0
 AsksIds schema sql tree names = (command_of (understood schema sql) ≡ Select (record { lets = []; body = ids_in tree }) names) × (reads_listing schema sql ≡ false) × IsPlain (understood schema sql)
@@ -83,7 +120,19 @@ module _ (schema : Schema) (sql : List ℕ) (tree : ℕ) (names : List (List ℕ
   ids_same = let a = reads_as sql [] old new schema has _ asks.0 asks.2 asks.1 it.rows it.shown in answer_is tree [] (one_column 0) (rising_by 0) old.now.trees [] it.rows (a.answer Null)
 
   ids_apart : IsTrue ids.rise → AreApart (overlay old.now.trees [] tree)
-  ids_apart rise = apart_from (overlay old.now.trees [] tree) it.rows ids_same it.are.whole (it.are.rise rise)
+  ids_apart rise = apart_from (overlay old.now.trees [] tree) it.rows ids_same it.are.whole (it.are.rise.0 rise)
+
+  ids_rise : Apart same_id (overlay old.now.trees [] tree) → IsTrue ids.rise
+  ids_rise apart =
+      let a = reads_as sql [] old new schema has _ asks.0 asks.2 asks.1 it.rows it.shown in
+      let o = ordered_is tree [] (one_column 0) (rising_by 0) old.now.trees [] it.rows (a.answer Null) in
+      it.are.rise.1 (rise_shown tree (overlay old.now.trees [] tree) it.rows o.ordered o.same o.sorted o.shown_are ids_same apart)
+
+  ids_count : ids.count ≡ length (overlay old.now.trees [] tree)
+  ids_count =
+      let es = overlay old.now.trees [] tree in
+      let moved : IsPermutation (map (shown (one_column 0) []) es) it.rows = subst (λ xs. IsPermutation (map (shown (one_column 0) []) xs) it.rows) (filter_none [] es) ids_same in
+      it.are.count_is ∙ length_permutation (map (shown (one_column 0) []) es) it.rows moved ∙ length-map es _
 
 -- ---- the versions of the log
 
@@ -212,15 +261,24 @@ more_rise (Some was) id rows row last is above rise =
     let two : rows ++ row ∷ [] ≡ last.0 ++ last.1 ∷ row ∷ [] = ap (λ (es : List Row). es ++ row ∷ []) last.2 ∙ append_assoc last.0 (last.1 ∷ []) (row ∷ []) in
     subst Rise (sym two) (rise_push last.0 last.1 row less (subst Rise last.2 rise))
 
+last_less : (last : Option ℤ) (id : ℤ) (rows : List Row) (row : Row) → ShowsLast last rows → column row 0 ≡ Int id → Rise (rows ++ row ∷ []) → IfSome last (λ (was : ℤ). int_cmp was id ≡ Less)
+last_less None id rows row none is rise = tt
+last_less (Some was) id rows row last is rise =
+    let two : rows ++ row ∷ [] ≡ last.0 ++ last.1 ∷ row ∷ [] = ap (λ (es : List Row). es ++ row ∷ []) last.2 ∙ append_assoc last.0 (last.1 ∷ []) (row ∷ []) in
+    sym (value_cmp-Int was id) ∙ (λ i. value_cmp (sym last.3 i) (sym is i)) ∙ rise_pair last.0 last.1 row (subst Rise two rise)
+
 -- what is told of rowids is so with one more
 pub one_more_seen : (ids more : Ids) (id : ℤ) (is_above numbered : Bool) → more.count ≡ ids.count + 1 → more.last ≡ Some id → more.rise ≡ (ids.rise && is_above) → more.are_numbered ≡ (ids.are_numbered && numbered)
-    → (IsTrue is_above → IfSome ids.last (λ (was : ℤ). int_cmp was id ≡ Less)) → (IsTrue numbered ↔ (id ≡ pos ids.count))
+    → (IsTrue is_above ↔ IfSome ids.last (λ (was : ℤ). int_cmp was id ≡ Less)) → (IsTrue numbered ↔ (id ≡ pos ids.count))
     → (rows : List Row) (row : Row) → AreSeen ids rows → column row 0 ≡ Int id → AreSeen more (rows ++ row ∷ [])
 one_more_seen ids more id is_above numbered count last rise are above place rows row seen is = record {
   whole = more_whole rows row seen.whole (id, is);
   count_is = let n = seen.count_is in let m = length-append rows (row ∷ []) in omega (arith, count, n, m);
   last_is = subst (λ (o : Option ℤ). ShowsLast o (rows ++ row ∷ [])) (sym last) (rows, row, refl, is);
-  rise = λ t. let both = both_true ids.rise is_above (sym rise ∙ t) in more_rise ids.last id rows row seen.last_is is (above both.1) (seen.rise both.0);
+  rise = (
+    λ t. let both = both_true ids.rise is_above (sym rise ∙ t) in more_rise ids.last id rows row seen.last_is is (above.0 both.1) (seen.rise.0 both.0),
+    λ all. rise ∙ and_true ids.rise is_above (seen.rise.1 (rise_front rows row all)) (above.1 (last_less ids.last id rows row seen.last_is is all)),
+  );
   numbered = (
     λ t.
         let both = both_true ids.are_numbered numbered (sym are ∙ t) in
@@ -248,12 +306,12 @@ any_map p f (x ∷ xs) = ap (λ b. p (f x) || b) (any_map p f xs)
 
 -- the versions are those of the rows that were shown
 pub entries_from : (es rows : List Row) (ids : Ids) (found : LogFound) → IsPermutation (map (shown (one_column 0) []) (filter (passes_on [] []) es)) rows → AreApart es → AreSeen ids rows → IsTrue ids.rise
-    → found.entries ≡ ids.count → found.is_whole ≡ ids.are_numbered → AreEntries es found
-entries_from es rows ids found same apart are rise entries whole =
+    → found.entries ≡ ids.count → found.is_whole ≡ ids.are_numbered → ids.count < 2 ^ 32 → AreEntries es found
+entries_from es rows ids found same apart are rise entries whole fits =
     let moved : IsPermutation (map (shown (one_column 0) []) es) rows = subst (λ xs. IsPermutation (map (shown (one_column 0) []) xs) rows) (filter_none [] es) same in
     let count : length es ≡ length rows = sym (length_permutation (map (shown (one_column 0) []) es) rows moved ∙ length-map es _) in
     let there = λ (version : ℕ). sym (any_map (is_version version) (shown (one_column 0) []) es) ∙ list_any-IsPermutation (is_version version) (map (shown (one_column 0) []) es) rows moved in
-    let each = numbered_each rows are.whole (are.rise rise) in
+    let each = numbered_each rows are.whole (are.rise.0 rise) in
     record {
       apart = apart;
       count_is = entries ∙ are.count_is ∙ sym count;
@@ -261,6 +319,7 @@ entries_from es rows ids found same apart are rise entries whole =
         λ t version less. there version ∙ each.0 (are.numbered.0 (sym whole ∙ t)) version (omega (arith, less, count)),
         λ all. whole ∙ are.numbered.1 (each.1 (λ version less. sym (there version) ∙ all version (omega (arith, less, count)))),
       );
+      fits = subst (λ (n : ℕ). n < 2 ^ 32) (sym entries) fits;
     }
 
 -- ---- the four queries
@@ -281,14 +340,18 @@ log_plain schema front = (front_ids schema front).2.2
 pub pending_plain : (schema : Schema) → schema ≡ store_schema → IsPlain (understood schema pending_ids_text)
 pending_plain schema is = subst (λ (s : Schema). IsPlain (understood s pending_ids_text)) (sym is) pending_ids_store.2
 
-pub some_then : {X : Type 0} (P Q : X → Type 0) (o : Option X) → ((x : X) → P x → Q x) → IfSome o P → IfSome o Q
-some_then P Q None f h = tt
-some_then P Q (Some x) f h = f x h
+pub match_then : {X : Type 0} (N M : Type 0) (P Q : X → Type 0) (o : Option X) → (N → M) → ((x : X) → P x → Q x) → MatchOption o N P → MatchOption o M Q
+match_then N M P Q None n f h = n h
+match_then N M P Q (Some x) n f h = f x h
+
+pub none_left : {X : Type 0} (o : Option X) (N : Type 0) (P : X → Type 0) → ((x : X) → o ≡ Some x → ⊥) → MatchOption o N P → N
+none_left None N P missing h = h
+none_left (Some x) N P missing h = absurd (missing x refl)
 
 pub front_counted : (s0 s1 s2 s3 : State) (rows meta log : Ids) (found : LogFound) → HasFront s0.now.schema → s1.now ≡ s0.now → s2.now ≡ s1.now
     → ShowsIds rows_ids_text s0 s1 rows → ShowsIds meta_ids_text s1 s2 meta → ShowsIds log_ids_text s2 s3 log
-    → rows.rise ≡ true → meta.rise ≡ true → log.rise ≡ true → found.entries ≡ log.count → found.is_whole ≡ log.are_numbered → IsCounted s0.now.trees found
-front_counted s0 s1 s2 s3 rows meta log found front e1 e2 r m l sr sm sl entries whole =
+    → rows.rise ≡ true → meta.rise ≡ true → log.rise ≡ true → found.entries ≡ log.count → found.is_whole ≡ log.are_numbered → log.count < 2 ^ 32 → IsCounted s0.now.trees found
+front_counted s0 s1 s2 s3 rows meta log found front e1 e2 r m l sr sm sl entries whole fits =
     let f2 : s2.now ≡ s0.now = e2 ∙ e1 in
     let asks = front_ids s0.now.schema front in
     let has = λ (s : State) (e : s.now ≡ s0.now). ap (λ (d : Database). d.schema) e in
@@ -297,11 +360,26 @@ front_counted s0 s1 s2 s3 rows meta log found front e1 e2 r m l sr sm sl entries
     record {
       rows = ids_apart s0.now.schema rows_ids_text 0 _ asks.0 s0 s1 refl rows r sr;
       meta = subst (λ (t : Database). AreApart (t.trees 2)) e1 (ids_apart s0.now.schema meta_ids_text 2 _ asks.1 s1 s2 (has s1 e1) meta m sm);
-      log = subst (λ (t : Database). AreEntries (t.trees 4) found) f2 (entries_from (overlay s2.now.trees [] 4) l.rows log found same apart l.are sl entries whole);
+      log = subst (λ (t : Database). AreEntries (t.trees 4) found) f2 (entries_from (overlay s2.now.trees [] 4) l.rows log found same apart l.are sl entries whole fits);
     }
 
-pub pending_apart : (s0 s1 : State) (ids : Ids) → s0.now.schema ≡ store_schema → ShowsIds pending_ids_text s0 s1 ids → ids.rise ≡ true → AreApart (s0.now.trees 5)
-pending_apart s0 s1 ids is shown rise = ids_apart store_schema pending_ids_text 5 _ pending_ids_store s0 s1 is ids shown rise
+-- rowids that are apart rise as they are read, and the count of the log is its rows'
+pub front_rises : (s0 s1 s2 s3 : State) (rows meta log : Ids) → HasFront s0.now.schema → s1.now ≡ s0.now → s2.now ≡ s1.now
+    → ShowsIds rows_ids_text s0 s1 rows → ShowsIds meta_ids_text s1 s2 meta → ShowsIds log_ids_text s2 s3 log
+    → AreCountable s0.now.trees → (rows.rise ≡ true) × (meta.rise ≡ true) × (log.rise ≡ true) × (log.count < 2 ^ 32)
+front_rises s0 s1 s2 s3 rows meta log front e1 e2 r m l can =
+    let f2 : s2.now ≡ s0.now = e2 ∙ e1 in
+    let asks = front_ids s0.now.schema front in
+    let has = λ (s : State) (e : s.now ≡ s0.now). ap (λ (d : Database). d.schema) e in (
+      ids_rise s0.now.schema rows_ids_text 0 _ asks.0 s0 s1 refl rows r can.rows,
+      ids_rise s0.now.schema meta_ids_text 2 _ asks.1 s1 s2 (has s1 e1) meta m (subst (λ (d : Database). Apart same_id (d.trees 2)) (sym e1) can.meta),
+      ids_rise s0.now.schema log_ids_text 4 _ asks.2 s2 s3 (has s2 f2) log l (subst (λ (d : Database). Apart same_id (d.trees 4)) (sym f2) can.log),
+      subst (λ (n : ℕ). n < 2 ^ 32) (sym (ids_count s0.now.schema log_ids_text 4 _ asks.2 s2 s3 (has s2 f2) log l ∙ ap (λ (d : Database). length (d.trees 4)) f2)) can.fits,
+    )
+
+pub pending_apart : (s0 s1 : State) (ids : Ids) → s0.now.schema ≡ store_schema → ShowsIds pending_ids_text s0 s1 ids → IsTrue ids.rise ↔ AreApart (s0.now.trees 5)
+pending_apart s0 s1 ids is shown =
+    (λ rise. ids_apart store_schema pending_ids_text 5 _ pending_ids_store s0 s1 is ids shown rise, λ are. ids_rise store_schema pending_ids_text 5 _ pending_ids_store s0 s1 is ids shown are.apart)
 
 -- ---- what the columns of a row are
 
@@ -564,7 +642,7 @@ found_front db found schema sound counted =
     let typed : Keeps Datatype front_schema db.trees = subst (λ (s : Schema). Keeps Datatype s db.trees) schema (sound.obeys.rules Datatype) in
     let present : Keeps NotNull front_schema db.trees = subst (λ (s : Schema). Keeps NotNull s db.trees) schema (sound.obeys.rules NotNull) in
     let unique : Keeps Unique front_schema db.trees = subst (λ (s : Schema). Keeps Unique s db.trees) schema (sound.obeys.rules Unique) in
-    (front_kept db.trees typed present unique found counted, record { counted = log_counts db.trees typed present unique found counted; whole = log_whole db.trees typed present unique found counted })
+    (front_kept db.trees typed present unique found counted, record { counted = log_counts db.trees typed present unique found counted; whole = log_whole db.trees typed present unique found counted; fits = counted.log.fits })
 
 pub found_ours : (db : Database) (found : LogFound) → db.schema ≡ store_schema → IsDatabase db → IsCounted db.trees found → AreApart (db.trees 5) → IsKept db × IsLogOf (contents_in db.trees) found
 found_ours db found schema sound counted apart =
@@ -590,5 +668,53 @@ found_ours db found schema sound counted apart =
           keys_apart = keys_apart place_cmp row_pair (1 ∷ 2 ∷ []) (db.trees 5) apart.whole (λ x y hx hy. rows_agree x y (all_has IsRow (db.trees 5) x is_row hx) (all_has IsRow (db.trees 5) y is_row hy)) clash (db.trees 5) (λ y h. h) apart.apart;
         };
       },
-      record { counted = log_counts db.trees typed present unique found counted; whole = log_whole db.trees typed present unique found counted },
+      record { counted = log_counts db.trees typed present unique found counted; whole = log_whole db.trees typed present unique found counted; fits = counted.log.fits },
     )
+
+-- ---- what is no store's
+
+abbrev tables_in : Schema → ℕ
+tables_in schema = length schema.tables
+
+store_apart : store_schema ≢ front_schema
+store_apart e = let n : 4 ≡ 3 = ap tables_in e in absurd (omega (arith, n))
+
+store_some : store_schema ≢ no_schema
+store_some e = let n : 4 ≡ 0 = ap tables_in e in absurd (omega (arith, n))
+
+front_some : front_schema ≢ no_schema
+front_some e = let n : 3 ≡ 0 = ap tables_in e in absurd (omega (arith, n))
+
+log_fits : (es : List Row) (log : LogFound) (contents : Contents) → contents.log ≡ from_entries (map entry_pair es) → IsMapped int_cmp entry_pair IsLog es → IsLogOf contents log → length es < 2 ^ 32
+log_fits es log contents is m found = subst (λ (n : ℕ). n < 2 ^ 32) (found.counted ∙ ap (λ (l : Log). len l) is ∙ log_counted es m.typed m.keys_apart) found.fits
+
+front_countable : (log : LogFound) (db : Database) → IsFrontOf log db → AreCountable db.trees
+front_countable log db is = record {
+  rows = is.1.rows.ids_apart;
+  meta = is.1.meta.ids_apart;
+  log = is.1.log.ids_apart;
+  fits = log_fits (db.trees 4) log (front_in db.trees) refl is.1.log is.2;
+}
+
+store_countable : (log : LogFound) (db : Database) → IsStoreOf log db → AreCountable db.trees
+store_countable log db is = record {
+  rows = is.0.rows.ids_apart;
+  meta = is.0.meta.ids_apart;
+  log = is.0.log.ids_apart;
+  fits = log_fits (db.trees 4) log (contents_in db.trees) refl is.0.log is.1;
+}
+
+rows_apart : (es : List Row) → IsMapped place_cmp row_pair IsRow es → AreApart es
+rows_apart es m = record { whole = all_from ShowsNumber es (λ r h. let it = all_has IsRow es r m.typed h in (it.0, ap (λ (q : Row). column q 0) it.4)); apart = m.ids_apart }
+
+pub foreign_schema : (db : Database) → IsForeign db.schema → IsFound Foreign db
+foreign_schema db is = (is.0, λ log front. is.1 front.0, λ log store. is.2 store.0.schema)
+
+pub foreign_front : (db : Database) → db.schema ≡ front_schema → ¬ AreCountable db.trees → IsFound Foreign db
+foreign_front db is fails = (λ e. front_some (sym is ∙ e), λ log front. fails (front_countable log db front), λ log store. store_apart (sym store.0.schema ∙ is))
+
+pub foreign_store : (db : Database) → db.schema ≡ store_schema → ¬ AreCountable db.trees → IsFound Foreign db
+foreign_store db is fails = (λ e. store_some (sym is ∙ e), λ log front. store_apart (sym is ∙ front.0), λ log store. fails (store_countable log db store))
+
+pub foreign_pending : (db : Database) → db.schema ≡ store_schema → ¬ AreApart (db.trees 5) → IsFound Foreign db
+foreign_pending db is fails = (λ e. store_some (sym is ∙ e), λ log front. store_apart (sym is ∙ front.0), λ log store. fails (rows_apart (db.trees 5) store.0.pending))

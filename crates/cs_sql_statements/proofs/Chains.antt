@@ -1,11 +1,12 @@
 -- Steps after one another.
-use Rattle.std.proofs.Common.{◌≡◌, inl, inr, Result, Ok, Err, OnOk, OnErr, ℕ, List, [], ◌∷◌, ◌++◌, ◌+◌, ◌<◌, length, take, get_or, Option, Some, None, IsTrue, refl, sym, ap, subst, ◌∙◌, arith, cond, Bool, true, false}
+use Rattle.std.proofs.Common.{◌≡◌, inl, inr, Result, Ok, Err, OnOk, OnErr, ℕ, ℤ, List, [], ◌∷◌, ◌++◌, ◌+◌, ◌<◌, length, take, get_or, Option, Some, None, IsTrue, IfSome, refl, sym, ap, subst, ◌∙◌, arith, cond, Bool, true, false}
 use Rattle.std.specs.FinMap.{get, insert, remove, get-insert, get-remove, same_map}
 use Rattle.std.specs.Cmp.{eq_by_cmp_equiv}
 use Rattle.std.specs.Ordering.{eq_by_cmp}
 use Rattle.std.proofs.lemmas.Cmp.{nat_list_cmp_total}
 use Rattle.std.proofs.lemmas.Map.Lookups.{exact_bytes}
 use Rattle.sqlite.specs.State.{State, HasCleanDisk, KeepsCommit, IsUnchanged, IsNotRun, Survives}
+use Rattle.sqlite.specs.Effect.{Database, IsDatabase}
 use Rattle.sqlite.specs.Order.{Row}
 use Rattle.sqlite.specs.declared.error.Error.{Error}
 use Rattle.sqlite.proofs.StateLemmas.{survives_then}
@@ -13,13 +14,14 @@ use Rattle.cs_order.specs.Order.{by_bytes}
 use Rattle.cs_store.specs.Contents.{Contents, place_cmp, StorePlace, Bodies, Meta}
 use Rattle.cs_store.specs.Written.{edit_body, edit_meta}
 use Rattle.cs_edits.specs.Edits.{BodyEdit}
+use Rattle.cs_store.specs.declared.batch.Batch.{Batch}
 use Rattle.cs_store.specs.declared.batch.MetaEdit.{MetaEdit}
 use Rattle.std.specs.List.{fold, slice_get}
 use Rattle.std.proofs.lemmas.List.{take_more}
 use Rattle.std.proofs.lemmas.List.Sums.{fold-append}
 use Rattle.std.proofs.lemmas.Option.{slice_get_within, get_or_from_slice_get}
-use Rattle.cs_sql_statements.specs.Tables.{contents_in}
-use Rattle.cs_sql_statements.specs.Steps.{Edits, with_edit, with_edits, with_change, with_changes, with_value, with_values}
+use Rattle.cs_sql_statements.specs.Tables.{AreKept, IsKept, contents_in, store_over}
+use Rattle.cs_sql_statements.specs.Steps.{Edits, HasBatch, with_batch, with_edit, with_edits, with_change, with_changes, with_value, with_values}
 use Rattle.cs_sql_statements.proofs.Answers.{place_total, place_exact}
 
 pub removed : (rows : Bodies) (place : StorePlace) → get (remove rows place) place ≡ None
@@ -101,16 +103,28 @@ keeps_unrun a b sql params e (inr h) = record { was_open = h.3.was_open; committ
 
 -- ---- the whole commit
 
+-- what a database that is kept has, its trees have
+pub trees_kept : (db : Database) → IsDatabase db → IsKept db → AreKept db.trees
+trees_kept db sound kept = let same : db ≡ store_over db.trees = λ i. record { schema = kept.schema i; trees = db.trees } in record { sound = subst IsDatabase same sound; kept = subst IsKept same kept }
+
 -- what a stop may leave of a transaction that began, wrote and was committed
-pub survives_commit : (start probed last end : State) (after : Contents) → Survives start probed (λ _. ⊥) → (HasCleanDisk probed → IsTrue probed.is_open)
-    → Survives probed last (λ _. ⊥) → (HasCleanDisk last → Edits after probed last) → Survives last end (λ db. db ≡ last.now.trees)
-    → (HasCleanDisk probed → IsTrue start.is_open) → Survives start end (λ db. IsTrue start.is_open × (contents_in db ≡ after))
-survives_commit start probed last end after p serves q writes r opened =
-    survives_then start last end (λ _. ⊥) (λ db. db ≡ last.now.trees) (λ db. IsTrue start.is_open × (contents_in db ≡ after)) (λ _ db none. absurd none)
+pub survives_commit : (was start probed last end : State) (batch : Batch) (version : ℤ) → Survives start probed (λ _. ⊥) → (HasCleanDisk probed → IsTrue probed.is_open)
+    → Survives probed last (λ _. ⊥) → (HasCleanDisk last → Edits (with_batch batch version (contents_in was.now.trees)) probed last)
+    → (HasCleanDisk last → IsTrue last.is_open → IfSome batch.log (λ _. get (contents_in was.now.trees).log version ≡ None)) → Survives last end (λ db. db ≡ last.now.trees)
+    → (HasCleanDisk probed → IsTrue was.is_open) → Survives start end (HasBatch batch version was)
+survives_commit was start probed last end batch version p serves q writes free r opened =
+    survives_then start last end (λ _. ⊥) (λ db. db ≡ last.now.trees) (HasBatch batch version was) (λ _ db none. absurd none)
     (λ clean db is.
     let late : HasCleanDisk last = omega (arith, r.clean) in
     let early : HasCleanDisk probed = omega (arith, r.clean, q.clean) in
-    let it = writes late in (opened early, ap contents_in is ∙ it.contents (it.stays (serves early))))
+    let it = writes late in
+    let stays = it.stays (serves early) in
+    record {
+      was_open = opened early;
+      kept = subst AreKept (sym is) (trees_kept last.now (it.inside.sound stays) (it.inside.kept stays));
+      contents = ap contents_in is ∙ it.contents stays;
+      free = free late stays;
+    })
     (quiet_then start probed last p q) r
 
 -- what holds in any case holds at `Err`

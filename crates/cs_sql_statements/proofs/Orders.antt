@@ -111,12 +111,12 @@ second : (a b : Bool) → T (a && b) → T b
 second true b p = p
 second false b p = absurd p
 
-less_of : (o : Ordering) → T (is_lt o) → o ≡ Less
+pub less_of : (o : Ordering) → T (is_lt o) → o ≡ Less
 less_of Less p = refl
 less_of Equal p = absurd p
 less_of Greater p = absurd p
 
-strictly : {K : Type 0} {R : K → K → Ordering} → IsTotalOrder R → (x y : K) → is_lt (R y x) ≡ false → eq_by_cmp R x y ≡ false → T (is_lt (R x y))
+pub strictly : {K : Type 0} {R : K → K → Ordering} → IsTotalOrder R → (x y : K) → is_lt (R y x) ≡ false → eq_by_cmp R x y ≡ false → T (is_lt (R x y))
 strictly {R = R} total x y fall apart = elim (R x y) as (λ o. R x y ≡ o → is_eq o ≡ false → T (is_lt o)) [
   | Less ↦ λ t h. tt
   | Equal ↦ λ t h. absurd cc
@@ -218,3 +218,34 @@ follow_push p (e ∷ es) v w l h = (h.0, follow_push p es v w l h.1)
 pub rise_push : (es : List Row) (v w : Row) → value_cmp (column v 0) (column w 0) ≡ Less → Rise (es ++ v ∷ []) → Rise (es ++ v ∷ w ∷ [])
 rise_push [] v w l h = ((l, tt), (tt, tt))
 rise_push (e ∷ es) v w l h = (follow_push e es v w l h.0, rise_push es v w l h.1)
+
+all_front : (P : Row → Type 0) (es : List Row) (row : Row) → AllByRecursion P (es ++ row ∷ []) → AllByRecursion P es
+all_front P [] row all = tt
+all_front P (e ∷ es) row all = (all.0, all_front P es row all.1)
+
+pub rise_front : (es : List Row) (row : Row) → Rise (es ++ row ∷ []) → Rise es
+rise_front [] row rise = tt
+rise_front (e ∷ es) row rise = (all_front (λ other. value_cmp (column e 0) (column other 0) ≡ Less) es row rise.0, rise_front es row rise.1)
+
+pub rise_pair : (es : List Row) (v w : Row) → Rise (es ++ v ∷ w ∷ []) → value_cmp (column v 0) (column w 0) ≡ Less
+rise_pair [] v w rise = rise.0.0
+rise_pair (e ∷ es) v w rise = rise_pair es v w rise.1
+
+-- no row is below the one before it
+abbrev pub Level : List Row → Type 0
+Level [] = Unit {0}
+Level (x ∷ []) = Unit {0}
+Level (x ∷ y ∷ more) = (is_lt (value_cmp (column y 0) (column x 0)) ≡ false) × Level (y ∷ more)
+
+less_more : (x y : Row) (rows : List Row) → value_cmp (column x 0) (column y 0) ≡ Less → AllByRecursion (λ other. value_cmp (column y 0) (column other 0) ≡ Less) rows → AllByRecursion (λ other. value_cmp (column x 0) (column other 0) ≡ Less) rows
+less_more x y [] l all = tt
+less_more x y (z ∷ rows) l all = (value_cmp_total.trans (column x 0) (column y 0) (column z 0) l all.0, less_more x y rows l all.1)
+
+-- where no two are equal either, they rise
+pub rise_level : (rows : List Row) → Level rows → Apart (λ (a b : Row). is_eq (value_cmp (column a 0) (column b 0))) rows → Rise rows
+rise_level [] l a = tt
+rise_level (x ∷ []) l a = (tt, tt)
+rise_level (x ∷ y ∷ more) l a =
+    let rest = rise_level (y ∷ more) l.1 a.1 in
+    let here : value_cmp (column x 0) (column y 0) ≡ Less = less_of _ (strictly value_cmp_total (column x 0) (column y 0) l.0 a.0.0) in
+    ((here, less_more x y more here rest.0), rest)

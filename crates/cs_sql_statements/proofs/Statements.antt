@@ -9,7 +9,7 @@ use Rattle.std.proofs.lemmas.Map.Lookups.{exact_signed, exact_bytes}
 use Rattle.sqlite.specs.declared.error.Error.{Error}
 use Rattle.sqlite.specs.Order.{Row}
 use Rattle.sqlite.specs.Tree.{Trees, rowid, put_row}
-use Rattle.sqlite.specs.Effect.{Database}
+use Rattle.sqlite.specs.Effect.{Database, IsDatabase}
 use Rattle.sqlite.specs.Does.{Tally, Does, OnRows}
 use Rattle.sqlite.specs.declared.run.Mode.{Mode}
 use Rattle.sqlite.specs.Table.{Table}
@@ -27,9 +27,11 @@ use Rattle.sqlite.specs.Command.TheVariants.{Delete, Insert}
 use Rattle.sqlite.specs.Source.TheVariants.{Values}
 use Rattle.sqlite.specs.Listing.{understood}
 use Rattle.sqlite.specs.State.{State, mode_of, Executes, ExecutesInside, Shows}
-use Rattle.sqlite.proofs.Callers.{runs_as, statement_of, one_step}
+use Rattle.sqlite.proofs.Callers.{IsPlain, command_of, runs_as, statement_of, one_step}
 use Rattle.sqlite_rules.specs.Calls.{ids_of}
 use Rattle.sqlite_rules.proofs.ListLemmas.{all_has, all_from}
+use Rattle.sqlite_schema.specs.declared.command.Source.{Source}
+use Rattle.sqlite_schema.specs.declared.program.Program.{Program}
 use Rattle.sqlite_trees.specs.View.{is_int}
 use Rattle.sqlite_value.specs.declared.value.Value.{Value}
 use Rattle.sqlite_value.specs.declared.value.Value.TheVariants.{Null, Int, Blob, Text as Words}
@@ -334,9 +336,17 @@ module _ (old new : State) (version origin number : ℤ) (body : List ℕ) (has 
 
 -- ---- inside a transaction
 
-edits_by : (old new : State) (after : Contents) → Shows old new new.now old.committed true → IsKept new.now → contents_in new.now.trees ≡ after → Edits after old new
-edits_by old new after shows kept is = record {
-  inside = record { writes = shows.mode; kept = λ _. kept };
+deletes_sound : (sql : List ℕ) (params : Row) (old new : State) (has : IsKept old.now) (at : ℕ) (q : Program) → command_of (understood store_schema sql) ≡ Delete at q → IsPlain (understood store_schema sql)
+    → (count : ℕ) → Executes sql params old new (Ok count) → IsDatabase new.now
+deletes_sound sql params old new has at q is plain count h = (runs_as sql params old new store_schema has.schema (Delete at q) is plain count h).sound
+
+inserts_sound : (sql : List ℕ) (params : Row) (old new : State) (has : IsKept old.now) (at : ℕ) (from : Source) → command_of (understood store_schema sql) ≡ Insert at from → IsPlain (understood store_schema sql)
+    → (count : ℕ) → Executes sql params old new (Ok count) → IsDatabase new.now
+inserts_sound sql params old new has at from is plain count h = (runs_as sql params old new store_schema has.schema (Insert at from) is plain count h).sound
+
+edits_by : (old new : State) (after : Contents) → Shows old new new.now old.committed true → IsDatabase new.now → IsKept new.now → contents_in new.now.trees ≡ after → Edits after old new
+edits_by old new after shows sound kept is = record {
+  inside = record { writes = shows.mode; sound = λ _. sound; kept = λ _. kept };
   kept = record { was_open = λ _. shows.was_open; committed = λ _. shows.committed_is };
   stays = λ _. shows.is_open;
   contents = λ _. is;
@@ -345,42 +355,53 @@ edits_by old new after shows kept is = record {
 pub removes_inside : (old new : State) (table : ℤ) (key : List ℕ) (r : Result ℕ Error) → IsInside old → ExecutesInside 0 remove_row_text (params_at table key) old new r
     → OnOk r (Edits (without_row table key (contents_in old.now.trees)) old new)
 removes_inside old new table key (Err e) inside h = tt
-removes_inside old new table key (Ok count) inside h = let step = removes old new table key (inside.kept h.1.was_open) count h.0 in edits_by old new _ h.1 step.0 step.1
+removes_inside old new table key (Ok count) inside h =
+    let has = inside.kept h.1.was_open in
+    let step = removes old new table key has count h.0 in edits_by old new _ h.1 (deletes_sound remove_row_text (params_at table key) old new has 0 _ remove_is remove_plain count h.0) step.0 step.1
 
 pub inserts_inside : (old new : State) (table : ℤ) (key body : List ℕ) (r : Result ℕ Error) → IsInside old → (IsTrue old.is_open → get (contents_in old.now.trees).rows (table, key) ≡ None)
     → ExecutesInside 0 insert_row_text (Int table ∷ Blob key ∷ Blob body ∷ []) old new r → OnOk r (Edits (with_row table key body (contents_in old.now.trees)) old new)
 inserts_inside old new table key body (Err e) inside absent h = tt
 inserts_inside old new table key body (Ok count) inside absent h =
-    let step = inserts old new table key body (inside.kept h.1.was_open) count (absent h.1.was_open) h.0 in edits_by old new _ h.1 step.0 step.1
+    let has = inside.kept h.1.was_open in
+    let step = inserts old new table key body has count (absent h.1.was_open) h.0 in edits_by old new _ h.1 (inserts_sound insert_row_text (Int table ∷ Blob key ∷ Blob body ∷ []) old new has 0 _ insert_is insert_plain count h.0) step.0 step.1
 
 pub removes_pending_inside : (old new : State) (table : ℤ) (key : List ℕ) (r : Result ℕ Error) → IsInside old → ExecutesInside 0 remove_pending_text (params_at table key) old new r
     → OnOk r (Edits (without_pending table key (contents_in old.now.trees)) old new)
 removes_pending_inside old new table key (Err e) inside h = tt
-removes_pending_inside old new table key (Ok count) inside h = let step = removes_pending old new table key (inside.kept h.1.was_open) count h.0 in edits_by old new _ h.1 step.0 step.1
+removes_pending_inside old new table key (Ok count) inside h =
+    let has = inside.kept h.1.was_open in
+    let step = removes_pending old new table key has count h.0 in edits_by old new _ h.1 (deletes_sound remove_pending_text (params_at table key) old new has 3 _ remove_pending_is remove_pending_plain count h.0) step.0 step.1
 
 pub inserts_pending_inside : (old new : State) (table : ℤ) (key body : List ℕ) (r : Result ℕ Error) → IsInside old → (IsTrue old.is_open → get (contents_in old.now.trees).pending (table, key) ≡ None)
     → ExecutesInside 0 insert_pending_text (Int table ∷ Blob key ∷ Blob body ∷ []) old new r → OnOk r (Edits (with_pending table key body (contents_in old.now.trees)) old new)
 inserts_pending_inside old new table key body (Err e) inside absent h = tt
 inserts_pending_inside old new table key body (Ok count) inside absent h =
-    let step = inserts_pending old new table key body (inside.kept h.1.was_open) count (absent h.1.was_open) h.0 in edits_by old new _ h.1 step.0 step.1
+    let has = inside.kept h.1.was_open in
+    let step = inserts_pending old new table key body has count (absent h.1.was_open) h.0 in edits_by old new _ h.1 (inserts_sound insert_pending_text (Int table ∷ Blob key ∷ Blob body ∷ []) old new has 3 _ insert_pending_is insert_pending_plain count h.0) step.0 step.1
 
 pub removes_meta_inside : (old new : State) (name : List ℕ) (r : Result ℕ Error) → IsInside old → ExecutesInside 0 remove_meta_text (Words name ∷ []) old new r
     → OnOk r (Edits (without_named name (contents_in old.now.trees)) old new)
 removes_meta_inside old new name (Err e) inside h = tt
-removes_meta_inside old new name (Ok count) inside h = let step = removes_meta old new name (inside.kept h.1.was_open) count h.0 in edits_by old new _ h.1 step.0 step.1
+removes_meta_inside old new name (Ok count) inside h =
+    let has = inside.kept h.1.was_open in
+    let step = removes_meta old new name has count h.0 in edits_by old new _ h.1 (deletes_sound remove_meta_text (Words name ∷ []) old new has 1 _ remove_meta_is remove_meta_plain count h.0) step.0 step.1
 
 pub inserts_meta_inside : (old new : State) (name value : List ℕ) (r : Result ℕ Error) → IsInside old → (IsTrue old.is_open → get (contents_in old.now.trees).meta name ≡ None)
     → ExecutesInside 0 insert_meta_text (Words name ∷ Blob value ∷ []) old new r → OnOk r (Edits (with_named name value (contents_in old.now.trees)) old new)
 inserts_meta_inside old new name value (Err e) inside absent h = tt
 inserts_meta_inside old new name value (Ok count) inside absent h =
-    let step = inserts_meta old new name value (inside.kept h.1.was_open) count (absent h.1.was_open) h.0 in edits_by old new _ h.1 step.0 step.1
+    let has = inside.kept h.1.was_open in
+    let step = inserts_meta old new name value has count (absent h.1.was_open) h.0 in edits_by old new _ h.1 (inserts_sound insert_meta_text (Words name ∷ Blob value ∷ []) old new has 1 _ insert_meta_is insert_meta_plain count h.0) step.0 step.1
 
 pub inserts_log_inside : (old new : State) (version origin number : ℤ) (body : List ℕ) (r : Result ℕ Error) → IsInside old
     → ExecutesInside 0 insert_log_text (Int version ∷ Int origin ∷ Int number ∷ Blob body ∷ []) old new r
     → OnOk r (Edits (with_log version (Some (item origin number body)) (contents_in old.now.trees)) old new × (IsTrue new.is_open → get (contents_in old.now.trees).log version ≡ None))
 inserts_log_inside old new version origin number body (Err e) inside h = tt
 inserts_log_inside old new version origin number body (Ok count) inside h =
-    let step = inserts_log old new version origin number body (inside.kept h.1.was_open) count h.0 in (edits_by old new _ h.1 step.1 step.2, λ _. step.0)
+    let has = inside.kept h.1.was_open in
+    let step = inserts_log old new version origin number body has count h.0 in
+    (edits_by old new _ h.1 (inserts_sound insert_log_text (Int version ∷ Int origin ∷ Int number ∷ Blob body ∷ []) old new has 2 _ insert_log_is insert_log_plain count h.0) step.1 step.2, λ _. step.0)
 
 pub first_of : {T E : Type 0} (P Q : Type 0) (r : Result T E) → OnOk r (P × Q) → OnOk r P
 first_of P Q (Ok x) h = h.0

@@ -1,5 +1,5 @@
 -- A database that was found (profile of this project).
-use Rattle.std.specs.Prelude.{◌≡◌, ◌↔◌, ◌<◌, ◌⊎◌, ⊤, ℕ, ◌+◌, ℤ, pos, Bool, List, [], ◌∷◌, ◌++◌, length, Option, Some, None, IsTrue}
+use Rattle.std.specs.Prelude.{◌≡◌, ◌≢◌, ◌↔◌, ◌<◌, ◌⊎◌, ⊤, ℕ, ◌+◌, ◌^◌, ℤ, pos, Bool, List, [], ◌∷◌, ◌++◌, length, Option, Some, None, IsTrue}
 use Rattle.std.specs.Ordering.{is_eq, int_cmp}
 use Rattle.std.specs.FinMap.{empty}
 use Rattle.std.specs.List.{AllByRecursion, list_any}
@@ -45,7 +45,7 @@ pub record AreSeen (seen : Ids) (rows : List Row) : Type 0 where
   pub whole : AllByRecursion ShowsNumber rows
   pub count_is : seen.count ≡ length rows
   pub last_is : ShowsLast seen.last rows
-  pub rise : IsTrue seen.rise → Rise rows
+  pub rise : IsTrue seen.rise ↔ Rise rows
   pub numbered : IsTrue seen.are_numbered ↔ AreNumbered 0 rows
 
 -- the query showed numbers, of which that is told
@@ -76,12 +76,20 @@ pub record AreEntries (rows : List Row) (found : LogFound) : Type 0 where
   pub apart : AreApart rows
   pub count_is : found.entries ≡ length rows
   pub whole : IsTrue found.is_whole ↔ HasEachVersion rows
+  pub fits : found.entries < 2 ^ 32
 
 -- the tables but `pending` are numbered apart, and that was found of the log
 pub record IsCounted (trees : Trees) (found : LogFound) : Type 0 where
   pub rows : AreApart (trees 0)
   pub meta : AreApart (trees 2)
   pub log : AreEntries (trees 4) found
+
+-- the tables but `pending` have no rowid twice, and the log has no more rows than there are versions
+pub record AreCountable (trees : Trees) : Type 0 where
+  pub rows : Apart same_id (trees 0)
+  pub meta : Apart same_id (trees 2)
+  pub log : Apart same_id (trees 4)
+  pub fits : length (trees 4) < 2 ^ 32
 
 -- ---- what was found
 
@@ -95,10 +103,12 @@ pub record IsFrontKept (trees : Trees) : Type 0 where
   pub meta : IsMapped by_bytes value_pair IsMeta (trees 2)
   pub log : IsMapped int_cmp entry_pair IsLog (trees 4)
 
--- what was found of a log is so: how many entries it has, and whether one stands at each version below that number
+-- what was found of a log is so: how many entries it has, no more than there are versions, and whether one stands at each version
+-- below that number
 pub record IsLogOf (contents : Contents) (found : LogFound) : Type 0 where
   pub counted : found.entries ≡ log_count contents
   pub whole : IsTrue found.is_whole ↔ HasEachEntry contents
+  pub fits : found.entries < 2 ^ 32
 
 -- the connection was open and is, and shows what it showed, which is what the last commit left
 pub record IsUntouched (old new : State) : Type 0 where
@@ -107,9 +117,17 @@ pub record IsUntouched (old new : State) : Type 0 where
   pub now : new.now ≡ old.now
   pub settled : new.committed ≡ new.now
 
--- what a database was found to be is so
+-- it has the tables of a store but `pending`, which are maps, and that was found of its log
+abbrev pub IsFrontOf : LogFound → Database → Type 0
+IsFrontOf log db = (db.schema ≡ front_schema) × IsFrontKept db.trees × IsLogOf (front_in db.trees) log
+
+-- it has the tables of a store, which are maps, and that was found of its log
+abbrev pub IsStoreOf : LogFound → Database → Type 0
+IsStoreOf log db = IsKept db × IsLogOf (contents_in db.trees) log
+
+-- what a database was found to be is so; a foreign one is none of the others
 abbrev pub IsFound : Found → Database → Type 0
 IsFound Fresh db = db.schema ≡ no_schema
-IsFound (Front log) db = (db.schema ≡ front_schema) × IsFrontKept db.trees × IsLogOf (front_in db.trees) log
-IsFound (Ours log) db = IsKept db × IsLogOf (contents_in db.trees) log
-IsFound Foreign db = Unit {0}
+IsFound (Front log) db = IsFrontOf log db
+IsFound (Ours log) db = IsStoreOf log db
+IsFound Foreign db = (db.schema ≢ no_schema) × ((log : LogFound) → ¬ IsFrontOf log db) × ((log : LogFound) → ¬ IsStoreOf log db)

@@ -1,12 +1,14 @@
 -- What the steps of a commit leave of a connection, and what a query shows (profile of this project).
-use Rattle.std.specs.Prelude.{◌≡◌, ℤ, ℕ, pos, ◌+◌, Bool, true, false, if◌then◌else◌, List, [], ◌∷◌, ◌++◌, length, Option, Some, None, IsTrue, fold}
+use Rattle.std.specs.Prelude.{◌≡◌, ℤ, ℕ, pos, ◌+◌, Bool, true, false, if◌then◌else◌, List, [], ◌∷◌, ◌++◌, length, Option, Some, None, IsTrue, IfSome, fold}
 use Rattle.std.specs.Ordering.{is_eq}
-use Rattle.std.specs.FinMap.{insert, remove}
+use Rattle.std.specs.FinMap.{get, insert, remove}
 use Rattle.sqlite.specs.Order.{Row, column}
 use Rattle.sqlite.specs.Edit.{id_in}
 use Rattle.sqlite_value.specs.declared.value.Value.TheVariants.{Int}
 use Rattle.sqlite_value.specs.Order.{bytes, value_cmp}
+use Rattle.sqlite.specs.Effect.{IsDatabase}
 use Rattle.sqlite.specs.State.{State, KeepsCommit}
+use Rattle.sqlite.specs.Tree.{Trees}
 use Rattle.cs_store.specs.Contents.{Contents, LogItem}
 use Rattle.cs_store.specs.Written.{edit_body, edit_meta, items_of, with_entry, optional_entry}
 use Rattle.cs_edits.specs.Edits.{BodyEdit}
@@ -14,11 +16,12 @@ use Rattle.cs_store.specs.declared.batch.MetaEdit.{MetaEdit}
 use Rattle.cs_store.specs.declared.batch.Batch.{Batch}
 use Rattle.cs_sql_schema.specs.Schemas.{store_schema}
 use Rattle.cs_sql_statements.specs.declared.reading.Entries.{Entries}
-use Rattle.cs_sql_statements.specs.Tables.{IsKept, contents_in, number_of}
+use Rattle.cs_sql_statements.specs.Tables.{AreKept, IsKept, contents_in, number_of}
 
 -- inside a transaction on the store's tables
 pub record IsInside (s : State) : Type 0 where
   pub writes : IsTrue s.in_transaction
+  pub sound : IsTrue s.is_open → IsDatabase s.now
   pub kept : IsTrue s.is_open → IsKept s.now
 
 -- the transaction goes on, and now holds this
@@ -72,6 +75,13 @@ with_log version entry c = record c { log = with_entry version c.log entry }
 
 abbrev pub with_batch : Batch → ℤ → Contents → Contents
 with_batch batch version c = with_log version (optional_entry batch.log) (with_values batch.meta.items (with_changes batch.pending (with_edits batch.rows c)))
+
+-- what a stop may leave of a commit: a store's trees that hold the whole batch, whose entry stands at a version that had none
+pub record HasBatch (batch : Batch) (version : ℤ) (old : State) (trees : Trees) : Type 0 where
+  pub was_open : IsTrue old.is_open
+  pub kept : AreKept trees
+  pub contents : contents_in trees ≡ with_batch batch version (contents_in old.now.trees)
+  pub free : IfSome batch.log (λ _. get (contents_in old.now.trees).log version ≡ None)
 
 -- a connection that is open, between two transactions
 pub record Serves (s : State) : Type 0 where

@@ -1,6 +1,6 @@
 //! The rowids of a file that was found are read one at a time and shown to be apart, and the entries of its log are counted.
 
-ghost use Rattle.std.specs.Prelude.{◌≡◌, ◌&&◌, ◌++◌, [], ◌∷◌, List, false, IsTrue, IfOk, IfSome, OnOk};
+ghost use Rattle.std.specs.Prelude.{◌≡◌, ◌↔◌, ◌<◌, ◌≤◌, ◌^◌, ◌&&◌, ◌++◌, [], ◌∷◌, List, false, IsTrue, IfOk, IfSome, MatchOption, OnOk};
 ghost use Rattle.std.specs.declared.cmp.Ordering.TheVariants.{Less};
 ghost use Rattle.std.specs.Ordering.{int_cmp};
 ghost use Rattle.sqlite.specs.Held.{state};
@@ -11,7 +11,7 @@ ghost use Rattle.sqlite.specs.State.{HasCleanDisk, IsUnchanged, Survives};
 ghost use Rattle.sqlite_value.specs.declared.value.Value.TheVariants.{Int};
 ghost use Rattle.cs_sql_schema.specs.Schemas.{store_schema};
 ghost use Rattle.cs_sql_statements.specs.Steps.{Serves, Stays};
-ghost use Rattle.cs_sql_statements.specs.Found.{AreApart, AreSeen, HasFront, IsCounted, ShowsIds};
+ghost use Rattle.cs_sql_statements.specs.Found.{AreApart, AreCountable, AreSeen, HasFront, IsCounted, ShowsIds};
 
 use crate::streaming::{Reader, is_place, one_more, read_each};
 use sqlite::{Alter, Connection, Error, Row};
@@ -39,7 +39,7 @@ pub(crate) struct Ids {
 
 /// Whether the number is above the last, if there is one.
 fn is_above(last: Option<i64>, number: i64) -> bool
-    ensures { IsTrue result → IfSome last (λ last. int_cmp last number ≡ Less) }
+    ensures { IsTrue result ↔ IfSome last (λ last. int_cmp last number ≡ Less) }
 {
     match last {
         Some(last) => last < number,
@@ -68,7 +68,7 @@ impl Ids {
 
     /// What was found of a log with these rowids, if their count fits the versions.
     fn of_log(&self) -> Option<LogFound>
-        ensures { IfSome result (λ found. (found.entries ≡ self.now.count) × (found.is_whole ≡ self.now.are_numbered)) }
+        ensures { MatchOption result (2 ^ 32 ≤ self.now.count) (λ found. (found.entries ≡ self.now.count) × (found.is_whole ≡ self.now.are_numbered) × (self.now.count < 2 ^ 32)) }
     {
         if self.count <= 4_294_967_295 {
             Some(LogFound {
@@ -112,12 +112,13 @@ fn read_ids<S: Alter>(conn: &mut Connection<S>, sql: &str) -> Result<Ids, Error>
     Ok(ids)
 }
 
-/// What is found of the log, if the rowids of each table but `pending` are apart and the log's count fits the versions.
+/// What is found of the log, if the rowids of each table but `pending` are apart and the log's count fits the versions, and
+/// nothing where that isn't so.
 pub(crate) fn count_front<S: Alter>(conn: &mut Connection<S>) -> Result<Option<LogFound>, Error>
     requires serves { HasCleanDisk (state S.Store conn.old) → Serves (state S.Store conn.old) }
     requires front { HasCleanDisk (state S.Store conn.old) → HasFront (state S.Store conn.old).now.schema }
     ensures mode { conn.old.in_transaction ≡ false → conn.new.in_transaction ≡ false }
-    ensures counted { HasCleanDisk (state S.Store conn.new) → IfOk result (λ o. IfSome o (IsCounted (state S.Store conn.old).now.trees)) }
+    ensures counted { HasCleanDisk (state S.Store conn.new) → IfOk result (λ o. MatchOption o (¬ AreCountable (state S.Store conn.old).now.trees) (IsCounted (state S.Store conn.old).now.trees)) }
     ensures ok { HasCleanDisk (state S.Store conn.new) → OnOk result (IsUnchanged (state S.Store conn.old) (state S.Store conn.new)) }
     ensures same { HasCleanDisk (state S.Store conn.new) → Stays (state S.Store conn.old) (state S.Store conn.new) }
     ensures survives { Survives (state S.Store conn.old) (state S.Store conn.new) (λ _. ⊥) }
@@ -137,7 +138,7 @@ pub(crate) fn is_pending_apart<S: Alter>(conn: &mut Connection<S>) -> Result<boo
     requires serves { HasCleanDisk (state S.Store conn.old) → Serves (state S.Store conn.old) }
     requires ours { HasCleanDisk (state S.Store conn.old) → (state S.Store conn.old).now.schema ≡ store_schema }
     ensures mode { conn.old.in_transaction ≡ false → conn.new.in_transaction ≡ false }
-    ensures apart { HasCleanDisk (state S.Store conn.new) → IfOk result (λ are. IsTrue are → AreApart ((state S.Store conn.old).now.trees 5)) }
+    ensures apart { HasCleanDisk (state S.Store conn.new) → IfOk result (λ are. IsTrue are ↔ AreApart ((state S.Store conn.old).now.trees 5)) }
     ensures ok { HasCleanDisk (state S.Store conn.new) → OnOk result (IsUnchanged (state S.Store conn.old) (state S.Store conn.new)) }
     ensures same { HasCleanDisk (state S.Store conn.new) → Stays (state S.Store conn.old) (state S.Store conn.new) }
     ensures survives { Survives (state S.Store conn.old) (state S.Store conn.new) (λ _. ⊥) }

@@ -7,7 +7,7 @@ ghost use Rattle.sqlite.specs.State.{HasCleanDisk, KeepsCommit, IsUnchanged, Sur
 ghost use Rattle.cs_sql_statements.specs.Tables.{contents_in, number_of};
 ghost use Rattle.cs_store.specs.Written.{item_of, optional_entry};
 ghost use Rattle.cs_sql_schema.specs.Making.{IsUndone};
-ghost use Rattle.cs_sql_statements.specs.Steps.{IsInside, Edits, without_row, with_row, with_edit, with_edits, without_pending, with_pending, with_change, with_changes, without_named, with_named, with_value, with_values, with_log, with_batch, IsReady, IsWritten};
+ghost use Rattle.cs_sql_statements.specs.Steps.{IsInside, Edits, without_row, with_row, with_edit, with_edits, without_pending, with_pending, with_change, with_changes, without_named, with_named, with_value, with_values, with_log, with_batch, HasBatch, IsReady, IsWritten};
 
 use cs_edits::{LentEdits, PlaceEdit};
 use cs_store::{Batch, MetaEdit, StoredEntry};
@@ -291,8 +291,9 @@ pub fn commit_batch<S: Alter>(
     ensures ok { HasCleanDisk (state S.Store conn.new) → OnOk result (IsWritten (with_batch batch.now (pos version) (contents_in (state S.Store conn.old).now.trees)) (state S.Store conn.old) (state S.Store conn.new)) }
     ensures free { HasCleanDisk (state S.Store conn.new) → OnOk result (IfSome batch.now.log (λ _. get (contents_in (state S.Store conn.old).now.trees).log (pos version) ≡ None)) }
     ensures err { HasCleanDisk (state S.Store conn.new) → OnErr result (IsUndone (state S.Store conn.old) (state S.Store conn.new)) }
-    ensures survives { Survives (state S.Store conn.old) (state S.Store conn.new) (λ db. IsTrue (state S.Store conn.old).is_open × (contents_in db ≡ with_batch batch.now (pos version) (contents_in (state S.Store conn.old).now.trees))) }
+    ensures survives { Survives (state S.Store conn.old) (state S.Store conn.new) (HasBatch batch.now (pos version) (state S.Store conn.old)) }
 {
+    let _ = conn.schema();
     let mut tx = conn.transaction();
     probe(&mut tx)?;
     write_batch(&mut tx, batch, version)?;

@@ -33,11 +33,11 @@ returns-in-Ok-Fresh-clause-adopted g c =
 pub returns-in-Ok-Front-clause-adopted : goal.returns-in-Ok-Front-clause-adopted
 returns-in-Ok-Front-clause-adopted g c =
     let found = rw c.in-Ok-Front.field-0-is at c.in-Ok-Front.ensures.found in
-    front_adopted g.A.Store (state g.A.Store c.args.conn) (state g.A.Store c.look.new.conn) c.extend.result (λ clean. (found clean).0.0) (λ clean. (found clean).1) c.extend.ensures.survives c.extend.ensures.made
+    front_adopted g.A.Store (state g.A.Store c.args.conn) (state g.A.Store c.look.new.conn) c.extend.result c.in-Ok-Front.log (λ clean. (found clean).0) (λ clean. (found clean).1) c.extend.ensures.survives c.extend.ensures.made
 
 pub returns-in-Ok-Ours-clause-adopted : goal.returns-in-Ok-Ours-clause-adopted
 returns-in-Ok-Ours-clause-adopted g c =
     let found = rw c.in-Ok-Ours.field-0-is at c.in-Ok-Ours.ensures.found in
-    subst (λ s. HasCleanDisk (state g.A.Store s.conn) → IsAdopted g.A.Store (state g.A.Store c.args.conn) s) (sym c.over.ensures) (λ clean.
+    subst (λ s. HasCleanDisk (state g.A.Store s.conn) → IsAdopted g.A.Store (state g.A.Store c.args.conn) s) (sym c.over.ensures.made) (λ clean.
     let it = found clean in
-    ours_adopted g.A.Store (state g.A.Store c.args.conn) c.look.new.conn c.in-Ok-Ours.log it.0.0 it.1 (λ db left. g.met.A.Store.settled c.look.new.conn.store db it.1.is_open left))
+    ours_adopted g.A.Store (state g.A.Store c.args.conn) c.look.new.conn c.in-Ok-Ours.log it.0 it.1 (λ db left. g.met.A.Store.settled c.look.new.conn.store db it.1.is_open left) (c.over.ensures.opens clean))
