@@ -6,15 +6,13 @@ ghost use Rattle.sync_cli.specs.Faults.{of_memory, of_serving};
 ghost use Rattle.sync_cli.specs.OverFiles.{EndsHub, EndsServingFile};
 
 use crate::fault::RunFault;
+use crate::opener::Opener;
 use cs_hub_lines::{ServingFault, serve_on};
 use cs_lines::{LineInput, LineOutput};
 use cs_map_store::MapStore;
-use cs_sql::SqlStore;
 use cs_store::RowStore;
 use cs_value::Catalog;
-use sqlite::{FileFrom, FileStore, Unknown};
 use std::alloc::Global;
-use std::rt::HostRuntime;
 
 /// Answers each line of the input as a new hub of these tables, over a store in memory. (Profile of this project.)
 pub fn serve_hub<'w, R: LineInput, W: LineOutput>(
@@ -53,28 +51,26 @@ fn in_memory<'w>(fault: ServingFault) -> RunFault<'w>
     }
 }
 
-/// The same over the store in a file, which is made where there is none. (Profile of this project.)
-pub fn serve_file<'w, R: LineInput, W: LineOutput>(
-    rt: &HostRuntime,
+/// The same over the store that the opener gives for a file. (Profile of this project.)
+pub fn serve_file<'w, O: Opener, R: LineInput, W: LineOutput>(
+    alloc: Global,
+    opener: &mut O,
     path: &str,
     catalog: &Catalog,
     reader: &mut R,
     writer: &mut W,
 ) -> Result<(), RunFault<'w>>
-    ensures ends { EndsServingFile ⟦<SqlStore<FileStore<FileFrom<Unknown>>> as RowStore>⟧.honest
-        ⟦<SqlStore<FileStore<FileFrom<Unknown>>> as RowStore>⟧.contents ⟦<SqlStore<FileStore<FileFrom<Unknown>>> as RowStore>⟧.failed
-        ⟦<SqlStore<FileStore<FileFrom<Unknown>>> as RowStore>⟧.may_leave ⟦<SqlStore<FileStore<FileFrom<Unknown>>> as RowStore>⟧.misreads
-        catalog.now (R.remaining reader.old) (R.remaining reader.new) (R.failed reader.new) (W.failed writer.new)
+    ensures ends { EndsServingFile O.Store.RowStore (O.gave opener.new) (O.refused opener.new) (O.took opener.new)
+        path.now catalog.now (R.remaining reader.old) (R.remaining reader.new) (R.failed reader.new) (W.failed writer.new)
         (W.contents writer.old) (W.contents writer.new) result }
     ensures sent { OnOk result (W.sent writer.old → W.sent writer.new) }
 {
-    let store = match SqlStore::open_path(rt, path, Unknown) {
+    let store = match opener.open(path) {
         Ok(store) => store,
         Err(fault) => return Err(RunFault::from(fault)),
     };
-    let (ended, store) = serve_on(rt.alloc(), store, catalog, reader, writer);
-    // Each commit stands in the file's log by now, so a failure here loses nothing.
-    let _ = store.close().close();
+    let (ended, store) = serve_on(alloc, store, catalog, reader, writer);
+    opener.close(store);
     told_of(ended)
 }
 
@@ -89,22 +85,21 @@ fn told_of<'w>(ended: Result<(), ServingFault>) -> Result<(), RunFault<'w>>
 }
 
 /// The one or the other. (Profile of this project.)
-pub fn serve_asked<'w, R: LineInput, W: LineOutput>(
-    rt: &HostRuntime,
+pub fn serve_asked<'w, O: Opener, R: LineInput, W: LineOutput>(
+    alloc: Global,
+    opener: &mut O,
     file: Option<&str>,
     catalog: &Catalog,
     reader: &mut R,
     writer: &mut W,
 ) -> Result<(), RunFault<'w>>
-    ensures ends { EndsHub ⟦<SqlStore<FileStore<FileFrom<Unknown>>> as RowStore>⟧.honest
-        ⟦<SqlStore<FileStore<FileFrom<Unknown>>> as RowStore>⟧.contents ⟦<SqlStore<FileStore<FileFrom<Unknown>>> as RowStore>⟧.failed
-        ⟦<SqlStore<FileStore<FileFrom<Unknown>>> as RowStore>⟧.may_leave ⟦<SqlStore<FileStore<FileFrom<Unknown>>> as RowStore>⟧.misreads
+    ensures ends { EndsHub O.Store.RowStore (O.gave opener.new) (O.refused opener.new) (O.took opener.new)
         (option_map (λ word. word.now) file.entry) catalog.now (R.remaining reader.old) (R.remaining reader.new) (R.failed reader.new)
         (W.failed writer.new) (W.contents writer.old) (W.contents writer.new) result }
     ensures sent { OnOk result (W.sent writer.old → W.sent writer.new) }
 {
     match file {
-        Some(path) => serve_file(rt, path, catalog, reader, writer),
-        None => serve_hub(rt.alloc(), catalog, reader, writer),
+        Some(path) => serve_file(alloc, opener, path, catalog, reader, writer),
+        None => serve_hub(alloc, catalog, reader, writer),
     }
 }

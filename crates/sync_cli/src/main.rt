@@ -16,11 +16,13 @@
 mod fault;
 mod hub;
 mod node;
+mod opener;
 mod run;
 mod status;
 mod world;
 
 use crate::fault::RunFault;
+use crate::opener::Paths;
 use crate::status::tell_end;
 use std::io::{BufReader, BufWriter, ErrorKind};
 use std::process::ExitCode;
@@ -42,7 +44,14 @@ fn start(rt: &HostRuntime) -> io::Result<u8> {
     let words: Vec<String> = env::args(rt)?.collect(alloc)?;
     let mut reader = BufReader::new(alloc, rt.reader())?;
     let mut writer = BufWriter::with_capacity(alloc, OUTPUT_BUFFER, io::writer(rt))?;
-    let ended = run::run(rt, words.as_slice(), &mut reader, &mut writer);
+    let mut paths = Paths::new(rt);
+    let ended = run::run(
+        alloc,
+        &mut paths,
+        words.as_slice(),
+        &mut reader,
+        &mut writer,
+    );
     Ok(tell_end(&ended, &mut rt.stderr()))
 }
 

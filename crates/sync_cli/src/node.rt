@@ -6,20 +6,20 @@ ghost use Rattle.sync_cli.specs.Faults.{of_node};
 ghost use Rattle.sync_cli.specs.OverFiles.{EndsNodeFile};
 
 use crate::fault::RunFault;
+use crate::opener::Opener;
 use cs_asks::read_asks;
 use cs_lines::{LineInput, LineOutput};
 use cs_replica_lines::{NodeFault, work_on};
-use cs_sql::SqlStore;
 use cs_store::RowStore;
 use cs_value::Catalog;
-use sqlite::{FileFrom, FileStore, Unknown};
-use std::rt::HostRuntime;
+use std::alloc::Global;
 
-/// Reads the input whole, opens the replica with this id in a file, which is made where there is none, and does what the lines ask. (Profile
+/// Reads the input whole, opens the replica with this id in the store that the opener gives for a file, and does what the lines ask. (Profile
 /// of this project.)
-// Six parameters: the runtime, what the words name (file, id, tables), read apart, and the input and the output.
-pub fn work_file<'w, R: LineInput, W: LineOutput>(
-    rt: &HostRuntime,
+// Seven parameters: the allocator, the opener, what the words name (file, id, tables), read apart, and the input and the output.
+pub fn work_file<'w, O: Opener, R: LineInput, W: LineOutput>(
+    alloc: Global,
+    opener: &mut O,
     path: &str,
     id: u32,
     catalog: &Catalog,
@@ -27,22 +27,18 @@ pub fn work_file<'w, R: LineInput, W: LineOutput>(
     writer: &mut W,
 ) -> Result<(), RunFault<'w>>
     requires { id < 2 ^ 32 - 1 }
-    ensures ends { EndsNodeFile ⟦<SqlStore<FileStore<FileFrom<Unknown>>> as RowStore>⟧.honest
-        ⟦<SqlStore<FileStore<FileFrom<Unknown>>> as RowStore>⟧.contents ⟦<SqlStore<FileStore<FileFrom<Unknown>>> as RowStore>⟧.failed
-        ⟦<SqlStore<FileStore<FileFrom<Unknown>>> as RowStore>⟧.may_leave ⟦<SqlStore<FileStore<FileFrom<Unknown>>> as RowStore>⟧.misreads
-        id catalog.now (R.remaining reader.old) (R.remaining reader.new) (R.failed reader.new) (W.failed writer.new)
+    ensures ends { EndsNodeFile O.Store.RowStore (O.gave opener.new) (O.refused opener.new) (O.took opener.new)
+        path.now id catalog.now (R.remaining reader.old) (R.remaining reader.new) (R.failed reader.new) (W.failed writer.new)
         (W.contents writer.old) (W.contents writer.new) result }
     ensures sent { OnOk result (W.sent writer.old → W.sent writer.new) }
 {
-    let alloc = rt.alloc();
     let asks = read_asks(alloc, catalog, reader)?;
-    let store = match SqlStore::open_path(rt, path, Unknown) {
+    let store = match opener.open(path) {
         Ok(store) => store,
         Err(fault) => return Err(RunFault::from(fault)),
     };
     let (ended, store) = work_on(alloc, store, catalog, id, asks.as_slice(), writer);
-    // Each commit stands in the file's log by now, so a failure here loses nothing.
-    let _ = store.close().close();
+    opener.close(store);
     told_of(ended)
 }
 

@@ -10,23 +10,22 @@ ghost use Rattle.sync_cli.specs.OverFiles.{EndsAsked, EndsWanted};
 use crate::fault::RunFault;
 use crate::hub::serve_asked;
 use crate::node::work_file;
+use crate::opener::Opener;
 use crate::world::play_script;
 use clap::error::ErrorKind;
 use clap::{ArgMatches, Error};
 use cs_command::{Asked, asked_of, catalog_of, parse};
 use cs_lines::{LineInput, LineOutput, write_text};
-use cs_sql::SqlStore;
 use cs_store::RowStore;
 use cs_tools::run_tool;
-use sqlite::{FileFrom, FileStore, Unknown};
 use std::alloc::Global;
 use std::convert::AsStr;
-use std::rt::HostRuntime;
 
-/// Runs `sync` on its words, of which the first is the program's name. Where all was done, also where help was asked for, what
-/// was written is sent. (Profile of this project.)
-pub fn run<'w, S: AsStr, R: LineInput, W: LineOutput>(
-    rt: &HostRuntime,
+/// Runs `sync` on its words, of which the first is the program's name. Stores in files come from the opener. Where all was done, also where
+/// help was asked for, what was written is sent. (Profile of this project.)
+pub fn run<'w, S: AsStr, O: Opener, R: LineInput, W: LineOutput>(
+    alloc: Global,
+    opener: &mut O,
     words: &'w [S],
     reader: &mut R,
     writer: &mut W,
@@ -43,9 +42,7 @@ pub fn run<'w, S: AsStr, R: LineInput, W: LineOutput>(
     // what it owes; or why not.
     ensures asked { (asked : Wanted) → faults_of (map S.text words.entry.now) ≡ []
         → wanted_of (map S.text words.entry.now) ≡ Some asked
-        → EndsAsked ⟦<SqlStore<FileStore<FileFrom<Unknown>>> as RowStore>⟧.honest
-        ⟦<SqlStore<FileStore<FileFrom<Unknown>>> as RowStore>⟧.contents ⟦<SqlStore<FileStore<FileFrom<Unknown>>> as RowStore>⟧.failed
-        ⟦<SqlStore<FileStore<FileFrom<Unknown>>> as RowStore>⟧.may_leave ⟦<SqlStore<FileStore<FileFrom<Unknown>>> as RowStore>⟧.misreads
+        → EndsAsked O.Store.RowStore (O.gave opener.new) (O.refused opener.new) (O.took opener.new)
         asked (table_words_of (map S.text words.entry.now)) (R.remaining reader.old) (R.remaining reader.new)
         (R.failed reader.new) (W.failed writer.new) (W.contents writer.old) (W.contents writer.new) result }
 
@@ -53,42 +50,39 @@ pub fn run<'w, S: AsStr, R: LineInput, W: LineOutput>(
     ensures unasked { faults_of (map S.text words.entry.now) ≡ [] → wanted_of (map S.text words.entry.now) ≡ None
         → EndsUnasked (W.contents writer.old) (W.contents writer.new) result }
 {
-    let alloc = rt.alloc();
     let matches = match parse(alloc, words) {
         Ok(matches) => matches,
         Err(error) => return end_untaken(alloc, &error, writer),
     };
     match asked_of(&matches) {
-        Some(asked) => run_asked(rt, &asked, &matches, reader, writer),
+        Some(asked) => run_asked(alloc, opener, &asked, &matches, reader, writer),
         None => Err(RunFault::CommandLine),
     }
 }
 
 // Does what the words ask for.
-fn run_asked<'w, R: LineInput, W: LineOutput>(
-    rt: &HostRuntime,
+fn run_asked<'w, O: Opener, R: LineInput, W: LineOutput>(
+    alloc: Global,
+    opener: &mut O,
     asked: &Asked<'_>,
     matches: &ArgMatches<'w>,
     reader: &mut R,
     writer: &mut W,
 ) -> Result<(), RunFault<'w>>
     requires id { HasId asked.now }
-    ensures ends { EndsWanted ⟦<SqlStore<FileStore<FileFrom<Unknown>>> as RowStore>⟧.honest
-        ⟦<SqlStore<FileStore<FileFrom<Unknown>>> as RowStore>⟧.contents ⟦<SqlStore<FileStore<FileFrom<Unknown>>> as RowStore>⟧.failed
-        ⟦<SqlStore<FileStore<FileFrom<Unknown>>> as RowStore>⟧.may_leave ⟦<SqlStore<FileStore<FileFrom<Unknown>>> as RowStore>⟧.misreads
+    ensures ends { EndsWanted O.Store.RowStore (O.gave opener.new) (O.refused opener.new) (O.took opener.new)
         (wanted asked.now) (tables_in (subcommand_rows_of matches.now)) (R.remaining reader.old) (R.remaining reader.new)
         (R.failed reader.new) (W.failed writer.new) (W.contents writer.old) (W.contents writer.new) result }
     ensures sent { OnOk result (W.sent writer.old → W.sent writer.new) }
 {
-    let alloc = rt.alloc();
     if let Asked::Tool(tool) = asked {
         return Ok(run_tool(alloc, *tool, reader, writer)?);
     }
     let catalog = catalog_of(alloc, matches)?;
     match asked {
-        Asked::Hub { file } => serve_asked(rt, *file, &catalog, reader, writer),
+        Asked::Hub { file } => serve_asked(alloc, opener, *file, &catalog, reader, writer),
         Asked::World { count } => play_script(alloc, *count, &catalog, reader, writer),
-        Asked::Node { file, id } => work_file(rt, file, *id, &catalog, reader, writer),
+        Asked::Node { file, id } => work_file(alloc, opener, file, *id, &catalog, reader, writer),
         Asked::Tool(_) => Err(RunFault::CommandLine),
     }
 }

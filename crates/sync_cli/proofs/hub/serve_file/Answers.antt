@@ -4,7 +4,7 @@ use Rattle.sync_cli.proofs.hub.serve_file.Goals as goal
 
 pub returns-clause-ends : goal.returns-clause-ends
 returns-clause-ends g c =
-    inl (c.in-Ok.store, c.serve_on-ended.result.1, (c.serve_on-ended.result.0, c.told_of.ensures, c.serve_on-ended.ensures.ends))
+    inl (c.in-Ok.store, c.serve_on-ended.result.1, c.close.ensures.kept c.args.path.now c.in-Ok.store c.in-Ok.ensures.gave, c.close.ensures.took, (c.serve_on-ended.result.0, c.told_of.ensures, c.serve_on-ended.ensures.ends))
 
 pub returns-clause-sent : goal.returns-clause-sent
 returns-clause-sent g c = done_so _ c.serve_on-ended.result.0 c.told_of.result _ c.told_of.ensures c.serve_on-ended.ensures.sent
