@@ -8,13 +8,36 @@ use cs_nodes::{Node, NodeFault, NodePush};
 use cs_pending::EditFault;
 use cs_rows::RowAtKey;
 use cs_spine::Spine;
-use cs_store::StoreFault;
+use cs_store::{RowStore, StoreFault, Trip};
 use cs_store_cases::catalog;
 use cs_value::{Edit, Items, Memory, Text, Value};
 use std::alloc::Global;
 
 /// A node over the store in memory.
 pub(crate) type Here<'s> = Node<'s, MapStore>;
+
+/// One over a store in memory that refuses one call.
+pub(crate) type Refusing<'s> = Node<'s, Trip<MapStore>>;
+
+/// A new node with this id, whose store refuses the call behind so many.
+pub(crate) fn begun_refusing<'s>(
+    alloc: Global,
+    spine: &'s Spine,
+    id: u32,
+    passes: u64,
+) -> Option<Refusing<'s>>
+    ensures { IfSome result (λ node. node.pass.spine ≡ spine.now) }
+{
+    if id == u32::MAX {
+        return None;
+    }
+    let catalog = catalog(alloc)?;
+    let store = Trip::new(MapStore::new(alloc), passes);
+    match Node::open(alloc, store, &catalog, id, spine) {
+        Ok(node) => Some(node),
+        Err(_) => None,
+    }
+}
 
 /// A new node with this id.
 pub(crate) fn begun<'s>(alloc: Global, spine: &'s Spine, id: u32) -> Option<Here<'s>>
@@ -60,7 +83,12 @@ pub(crate) fn inserting(alloc: Global, number: i64, text: &str) -> Result<Edit, 
 }
 
 /// Whether a row of a number and a text gets into t1.
-pub(crate) fn inserts<'s>(alloc: Global, node: &mut Here<'s>, number: i64, text: &str) -> bool
+pub(crate) fn inserts<'s, S: RowStore>(
+    alloc: Global,
+    node: &mut Node<'s, S>,
+    number: i64,
+    text: &str,
+) -> bool
     ensures { node.new.pass ≡ node.old.pass }
 {
     match inserting(alloc, number, text) {
@@ -70,9 +98,9 @@ pub(crate) fn inserts<'s>(alloc: Global, node: &mut Here<'s>, number: i64, text:
 }
 
 /// The fault of an insert into t1, if it has one.
-pub(crate) fn insert_fault<'s>(
+pub(crate) fn insert_fault<'s, S: RowStore>(
     alloc: Global,
-    node: &mut Here<'s>,
+    node: &mut Node<'s, S>,
     number: i64,
     text: &str,
 ) -> Option<EditFault>
@@ -85,9 +113,9 @@ pub(crate) fn insert_fault<'s>(
 }
 
 /// A pull; each clash is answered by this wish, where it is lawful.
-pub(crate) fn pulled<'s>(
+pub(crate) fn pulled<'s, S: RowStore>(
     alloc: Global,
-    node: &mut Here<'s>,
+    node: &mut Node<'s, S>,
     spine: &'s Spine,
     wish: Wish,
 ) -> Result<usize, NodeFault>
@@ -99,9 +127,9 @@ pub(crate) fn pulled<'s>(
 }
 
 /// A push; each clash is answered by this wish, where it is lawful.
-pub(crate) fn pushed<'s>(
+pub(crate) fn pushed<'s, S: RowStore>(
     alloc: Global,
-    node: &mut Here<'s>,
+    node: &mut Node<'s, S>,
     spine: &'s Spine,
     wish: Wish,
 ) -> Result<NodePush, NodeFault>
@@ -113,7 +141,12 @@ pub(crate) fn pushed<'s>(
 }
 
 /// Whether a pull takes so many entries.
-pub(crate) fn pulls<'s>(alloc: Global, node: &mut Here<'s>, spine: &'s Spine, count: usize) -> bool
+pub(crate) fn pulls<'s, S: RowStore>(
+    alloc: Global,
+    node: &mut Node<'s, S>,
+    spine: &'s Spine,
+    count: usize,
+) -> bool
     requires { node.old.pass.spine ≡ spine.now }
     ensures { node.new.pass.spine ≡ node.old.pass.spine }
 {
@@ -124,9 +157,9 @@ pub(crate) fn pulls<'s>(alloc: Global, node: &mut Here<'s>, spine: &'s Spine, co
 }
 
 /// Whether a push is told so.
-pub(crate) fn pushes<'s>(
+pub(crate) fn pushes<'s, S: RowStore>(
     alloc: Global,
-    node: &mut Here<'s>,
+    node: &mut Node<'s, S>,
     spine: &'s Spine,
     told: NodePush,
 ) -> bool
@@ -157,9 +190,9 @@ fn have_bytes(rows: &[RowAtKey], wanted: &[&[u8]]) -> bool {
 }
 
 /// Whether a node shows these rows of t1, and is at a version with so many changes pending.
-pub(crate) fn shows<'s>(
+pub(crate) fn shows<'s, S: RowStore>(
     alloc: Global,
-    node: &mut Here<'s>,
+    node: &mut Node<'s, S>,
     wanted: &[&[u8]],
     version: u64,
     pending: u64,

@@ -41,6 +41,19 @@ pub(crate) fn made_over<S: RowStore>(alloc: Global, store: S, catalog: &Catalog)
     }
 }
 
+/// Whether both pushes, that come twice now, are told to be taken, each as one entry; and the store then.
+pub(crate) fn takes_once<S: RowStore>(alloc: Global, store: S, catalog: &Catalog) -> (bool, S) {
+    match Hub::open(alloc, store, catalog) {
+        Ok(mut hub) => {
+            let first = pushes_taken(&mut hub, &PUSHES);
+            let again = pushes_taken(&mut hub, &PUSHES);
+            let once = first == 2 && again == 2 && hub.newest() == 2;
+            (once, hub.close())
+        }
+        Err((store, _)) => (false, store),
+    }
+}
+
 /// What a store in memory shows after so many commits.
 pub(crate) fn shown_after(alloc: Global, catalog: &Catalog, commits: usize) -> Option<Vec<u8>> {
     let mut store = MapStore::new(alloc);

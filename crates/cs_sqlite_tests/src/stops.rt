@@ -1,7 +1,7 @@
 //! A stop at each call of the files in which a store lies, whose commits are those of a test, of a hub or of a replica. After it the store
 //! opens as it was before the call or after it, as a store in memory shows it that made as many commits.
 
-use crate::disks::{Calls, Disk, files_behind, open_new, shown_again};
+use crate::disks::{Calls, Disk, files_behind, open_again, open_new, shown_again};
 use crate::{hubs, replicas};
 use cs_store::RowStore;
 use cs_store_cases::{
@@ -136,6 +136,28 @@ fn survive_all(alloc: Global, whose: Whose, stops: Stops) -> Option<u64> {
     None
 }
 
+/// How many calls succeeded before a stop, if the pushes, whose answers are lost, count once when they come again.
+fn counts_once(alloc: Global, catalog: &Catalog, calls: Calls) -> Option<usize> {
+    let (made, files) = stopped(alloc, catalog, Whose::Hub, calls);
+    let Ok(store) = open_again(alloc, files) else {
+        return None;
+    };
+    let (once, store) = hubs::takes_once(alloc, store, catalog);
+    let _ = files_behind(store);
+    if once { Some(made) } else { None }
+}
+
+/// Behind how many calls of the log's file none comes that stops the pushes; none where they don't count once behind a stop before.
+fn count_once(alloc: Global) -> Option<u64> {
+    let catalog = catalog(alloc)?;
+    for calls in 0..2000 {
+        if counts_once(alloc, &catalog, calls_before(Stops::Log, calls))? == calls_of(Whose::Hub) {
+            return Some(calls);
+        }
+    }
+    None
+}
+
 /// Whether each stop of either file is survived, of which there are some.
 fn survive_both(alloc: Global, whose: Whose) -> Option<bool> {
     let log = survive_all(alloc, whose, Stops::Log)?;
@@ -156,4 +178,9 @@ fn a_stop_in_a_push_leaves_it_taken_or_not(rt: HostRuntime) {
 #[test]
 fn a_stop_in_a_call_of_a_replica_leaves_it_made_or_not(rt: HostRuntime) {
     assert!(rt; survive_both(rt.alloc(), Whose::Replica) == Some(true));
+}
+
+#[test]
+fn a_push_whose_answer_is_lost_counts_once(rt: HostRuntime) {
+    assert!(rt; matches!(count_once(rt.alloc()), Some(calls) if calls > 10));
 }

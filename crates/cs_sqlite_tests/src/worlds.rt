@@ -3,14 +3,13 @@
 ghost use Rattle.std.specs.Prelude.{◌≡◌, ◌∷◌, [], IfOk};
 ghost use Rattle.cs_store.specs.Contents.{nothing};
 
-use cs_opening::OpenFault;
 use cs_replica::Told;
 use cs_script::read_event;
 use cs_sql::SqlStore;
 use cs_store::{RowStore, StoreFault};
 use cs_store_cases::catalog;
 use cs_value::{Catalog, Memory};
-use cs_world::{Outcome, World};
+use cs_world::{Outcome, World, WorldFault};
 use std::alloc::Global;
 
 /// A line, and what it comes to.
@@ -181,7 +180,7 @@ fn opened<S: RowStore + Drop>(
     hub: S,
     one: S,
     other: S,
-) -> Result<World<S>, OpenFault>
+) -> Result<World<S>, WorldFault>
     requires hub { S.contents hub ≡ nothing }
     requires one { S.contents one ≡ nothing }
     requires other { S.contents other ≡ nothing }

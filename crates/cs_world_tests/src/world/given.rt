@@ -3,10 +3,9 @@
 ghost use Rattle.std.specs.Prelude.{◌≡◌, ◌∷◌, [], IfOk};
 ghost use Rattle.cs_store.specs.Contents.{nothing};
 
-use cs_opening::OpenFault;
 use cs_store::RowStore;
 use cs_value::{Catalog, Memory};
-use cs_world::World;
+use cs_world::{World, WorldFault};
 use std::alloc::Global;
 
 fn two_of<T: Drop>(alloc: Global, one: T, other: T) -> Result<Vec<T>, Memory>
@@ -25,7 +24,7 @@ pub(crate) fn opened<S: RowStore + Drop>(
     hub: S,
     one: S,
     other: S,
-) -> Result<World<S>, OpenFault>
+) -> Result<World<S>, WorldFault>
     requires hub { S.contents hub ≡ nothing }
     requires one { S.contents one ≡ nothing }
     requires other { S.contents other ≡ nothing }
