@@ -1,8 +1,9 @@
 /* Loaded in front of the C library (LD_PRELOAD), refuses one call of malloc or realloc: the one whose number, from 1,
- * stands in REFUSE. Where there is none of that number, it writes "not reached" to the file descriptor 9 at the end. */
+ * stands in REFUSE. Where there is none of that number, it writes how many there were to the file descriptor 9 at the end. */
 #define _GNU_SOURCE
 #include <dlfcn.h>
 #include <errno.h>
+#include <stdio.h>
 #include <stdlib.h>
 #include <unistd.h>
 
@@ -33,10 +34,12 @@ void *realloc(void *memory, size_t size) {
 }
 
 __attribute__((destructor)) static void tell(void) {
-    static const char text[] = "not reached\n";
     static int told;
+    char text[32];
+    int length;
     if (told++ || calls >= refused) return;
-    if (write(9, text, sizeof text - 1) < 0) abort();
+    length = snprintf(text, sizeof text, "%lu\n", calls);
+    if (write(9, text, (size_t)length) < 0) abort();
 }
 
 /* A program that may start threads ends by this call, which runs no destructor. */
