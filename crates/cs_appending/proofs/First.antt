@@ -12,7 +12,7 @@ use Rattle.cs_conflict.specs.declared.kind.Kind.{Kind}
 use Rattle.cs_apply.specs.Applies.{AppliesOne, IsConflictOf, IsStop, KeepsOthers, Stops}
 use Rattle.cs_apply.specs.Laws.{AlwaysAborts}
 use Rattle.cs_apply.specs.Spots.{by_test, same_spot, spot_is, spot_refl}
-use Rattle.cs_apply.specs.cs_tasks.Tasks.{Task}
+use Rattle.cs_tasks.specs.Tasks.{Task}
 use Rattle.cs_appending.specs.Appended.{aborts}
 use Rattle.cs_appending.specs.Laws.{OneFirstConflict}
 

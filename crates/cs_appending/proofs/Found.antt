@@ -17,7 +17,7 @@ use Rattle.cs_conflict.specs.declared.kind.Kind.{Kind}
 use Rattle.cs_apply.specs.Applies.{Applies, AppliesTask, KeepsOthers, Stops, answers_of}
 use Rattle.cs_apply.specs.Laws.{UnaskedIsDefined}
 use Rattle.cs_apply.specs.Spots.{by_test, same_spot, spot_is, spot_refl}
-use Rattle.cs_apply.specs.cs_tasks.Tasks.{Task, tasks}
+use Rattle.cs_tasks.specs.Tasks.{Task, tasks}
 use Rattle.cs_pending.specs.View.{put_at}
 use Rattle.cs_appending.specs.Appended.{aborts}
 use Rattle.cs_appending.specs.Laws.{DefinedOrConflict}

@@ -12,7 +12,7 @@ use Rattle.cs_store.specs.States.{Holds}
 use Rattle.cs_apply.specs.Calls.{IsCarriedOut, IsRefused, IsStoppedAt, LeavesStore}
 use Rattle.cs_apply.specs.Laws.{AlwaysAborts, AbortingIsApplied, AbortingIsRefused}
 use Rattle.cs_apply.specs.NormalTasks.{are_keyed, of_one, tasks_are}
-use Rattle.cs_apply.specs.cs_tasks.Tasks.{all_keyed, tasks}
+use Rattle.cs_tasks.specs.Tasks.{all_keyed, tasks}
 use Rattle.cs_apply.specs.declared.applying.Applied.{Applied}
 use Rattle.cs_apply.specs.declared.fault.ApplyFault.{ApplyFault}
 use Rattle.cs_apply.specs.declared.fault.ApplyFault.TheVariants as apply

@@ -7,8 +7,8 @@ use Rattle.std.proofs.lemmas.List.{append-nil, map-append, map-set, set-get_or, 
 use Rattle.std.proofs.Math.Seq.{drop-append_seam}
 use Rattle.std.proofs.lemmas.Option.{same_Some, slice_get-map, slice_get-get_or, get_or_from_slice_get}
 use Rattle.cs_value.specs.Key.{Place}
-use Rattle.cs_tasks.specs.cs_change.Change.{Change}
-use Rattle.cs_tasks.specs.cs_record.Spelling.{Extends}
+use Rattle.cs_change.specs.declared.change.Change.{Change}
+use Rattle.cs_record.specs.Spelling.{Extends}
 use Rattle.cs_apply.specs.Slots.{inserted, row_at, slot_after, slot_at, slot_in, slots_in, IsNumberIn, IsSlotSpotIn}
 use Rattle.cs_apply.specs.declared.slots.KeysAndRows.{KeysAndRows}
 use Rattle.cs_apply.specs.declared.slots.Slot.{Slot}

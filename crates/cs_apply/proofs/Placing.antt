@@ -4,9 +4,9 @@ use Rattle.std.specs.Prelude.{slice_get}
 use Rattle.std.specs.List.{AllByRecursion, Contains}
 use Rattle.std.proofs.lemmas.List.{take_more, take_all, map-append, length-append, append_assoc, get_or_append_left, get_or_default, get_or_push}
 use Rattle.std.proofs.lemmas.Option.{get_or_from_slice_get, slice_get_within}
-use Rattle.cs_tasks.specs.cs_change.Change.{Change}
-use Rattle.cs_tasks.specs.cs_order.Order.{Keys, key_at}
-use Rattle.cs_tasks.specs.cs_order.Groups.{IsGrouping}
+use Rattle.cs_change.specs.declared.change.Change.{Change}
+use Rattle.cs_order.specs.Order.{Keys, key_at}
+use Rattle.cs_order.specs.Groups.{IsGrouping}
 use Rattle.cs_edits.specs.Edits.{BodyEdit}
 use Rattle.cs_apply.specs.Edited.{edit_list, edit_for}
 use Rattle.cs_apply.specs.Found.{AreSlots, IsSlotAt, heads}

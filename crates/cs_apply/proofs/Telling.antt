@@ -5,9 +5,9 @@ use Rattle.std.specs.List.{list_any}
 use Rattle.std.proofs.lemmas.Grind.{flat_map-append}
 use Rattle.std.proofs.lemmas.List.{drop_more, length-append, length-drop, length-map, map-append}
 use Rattle.cs_value.specs.declared.catalog.TableDef.{TableDef}
-use Rattle.cs_tasks.specs.cs_blob.Spelling.{blob_spelling}
-use Rattle.cs_tasks.specs.cs_change.Change.{Change}
-use Rattle.cs_tasks.specs.cs_change.Group.{Group}
+use Rattle.cs_blob.specs.Spelling.{blob_spelling}
+use Rattle.cs_change.specs.declared.change.Change.{Change}
+use Rattle.cs_change.specs.declared.group.Group.{Group}
 use Rattle.cs_tasks.specs.Blob.{answered_group, blob_of}
 use Rattle.cs_tasks.specs.Laws.{BlobByGroups, UnansweredChange, UnansweredGroup}
 use Rattle.cs_tasks.specs.Tasks.{Task, table_of, task, tasks, tasks_at}

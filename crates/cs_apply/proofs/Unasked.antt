@@ -4,12 +4,12 @@ use Rattle.std.specs.Prelude.{IsSome}
 use Rattle.std.specs.List.{AllByRecursion}
 use Rattle.cs_value.specs.Key.{Place}
 use Rattle.cs_value.specs.declared.catalog.TableDef.{TableDef}
-use Rattle.cs_tasks.specs.cs_change.Action.{action, action_any, after, after_any}
-use Rattle.cs_tasks.specs.cs_change.Change.{Change}
-use Rattle.cs_tasks.specs.cs_normal.Normal.{IsNormalChangeset, FitsCatalog, change_of, groups_of}
-use Rattle.cs_tasks.specs.cs_keyed.NormalForm.{change_bytes}
-use Rattle.cs_tasks.specs.cs_normal.State.{State, left_at}
-use Rattle.cs_tasks.specs.cs_normal.TableChanges.{TableChanges}
+use Rattle.cs_change.specs.Action.{action, action_any, after, after_any}
+use Rattle.cs_change.specs.declared.change.Change.{Change}
+use Rattle.cs_normal.specs.Normal.{IsNormalChangeset, FitsCatalog, change_of, groups_of}
+use Rattle.cs_keyed.specs.NormalForm.{change_bytes}
+use Rattle.cs_normal.specs.State.{State, left_at}
+use Rattle.cs_normal.specs.declared.normal.TableChanges.{TableChanges}
 use Rattle.cs_conflict.specs.Conflict.{answered}
 use Rattle.cs_conflict.specs.Laws.{KindTells}
 use Rattle.cs_conflict.specs.declared.conflict.Conflict.{Conflict}

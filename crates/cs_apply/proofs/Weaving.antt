@@ -3,7 +3,7 @@ use Rattle.std.proofs.Common.{eqb, eqb-true, eq-eqb, ◌≡◌, ◌≢◌, ◌<�
 use Rattle.std.specs.Prelude.{slice_get, slice_set}
 use Rattle.std.proofs.lemmas.List.{length-set}
 use Rattle.std.proofs.lemmas.Option.{same_Some}
-use Rattle.cs_tasks.specs.cs_change.Change.{Change}
+use Rattle.cs_change.specs.declared.change.Change.{Change}
 use Rattle.cs_conflict.specs.declared.conflict.Conflict.{Conflict}
 use Rattle.cs_conflict.specs.declared.conflict.Resolution.{Resolution}
 use Rattle.cs_apply.specs.Meeting.{blank}

@@ -1,7 +1,7 @@
 -- A change that is alone at its place, as it meets what the store has there.
 use Rattle.std.specs.Prelude.{◌≡◌, None, Some}
-use Rattle.cs_tasks.specs.cs_change.Action.{action, after}
-use Rattle.cs_tasks.specs.cs_change.Change.{Change}
+use Rattle.cs_change.specs.Action.{action, after}
+use Rattle.cs_change.specs.declared.change.Change.{Change}
 use Rattle.cs_conflict.specs.Conflict.{kind}
 use Rattle.cs_apply.specs.Slots.{standing}
 use Rattle.cs_apply.specs.declared.slots.Slot.{Slot}

@@ -1,11 +1,11 @@
 -- Which conflicts a closure is shown.
 use Rattle.std.specs.Prelude.{◌≡◌, List, Some, slice_get}
 use Rattle.cs_value.specs.declared.catalog.TableDef.{TableDef}
-use Rattle.cs_tasks.specs.cs_change.Action.{action}
-use Rattle.cs_tasks.specs.cs_normal.Normal.{change_of}
-use Rattle.cs_tasks.specs.cs_keyed.NormalForm.{change_bytes}
-use Rattle.cs_tasks.specs.cs_normal.State.{State}
-use Rattle.cs_tasks.specs.cs_normal.TableChanges.{TableChanges}
+use Rattle.cs_change.specs.Action.{action}
+use Rattle.cs_normal.specs.Normal.{change_of}
+use Rattle.cs_keyed.specs.NormalForm.{change_bytes}
+use Rattle.cs_normal.specs.State.{State}
+use Rattle.cs_normal.specs.declared.normal.TableChanges.{TableChanges}
 use Rattle.cs_conflict.specs.Conflict.{kind}
 use Rattle.cs_conflict.specs.declared.conflict.Conflict.{Conflict}
 

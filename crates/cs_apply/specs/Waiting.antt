@@ -1,8 +1,8 @@
 -- What is found at the places of changes: which of them are made at once, and which wait.
 use Rattle.std.specs.Prelude.{◌≡◌, ◌≢◌, ◌<◌, ◌⊎◌, ℕ, List, [], ◌∷◌, ◌++◌, length, map, take, Option, Some, None, slice_get, slice_index_or}
 use Rattle.std.specs.List.{AllByRecursion}
-use Rattle.cs_tasks.specs.cs_change.Change.{Change}
-use Rattle.cs_tasks.specs.cs_order.Order.{Keys}
+use Rattle.cs_change.specs.declared.change.Change.{Change}
+use Rattle.cs_order.specs.Order.{Keys}
 use Rattle.cs_edits.specs.Edits.{BodyEdit}
 use Rattle.cs_apply.specs.Edited.{edit_list, edit_for}
 use Rattle.cs_apply.specs.Found.{AreSlots, IsNumbering, heads}

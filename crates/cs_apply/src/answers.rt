@@ -5,9 +5,9 @@ ghost use Rattle.std.specs.List.{list_any};
 ghost use Rattle.cs_conflict.specs.declared.conflict.Resolution.{Resolution as Answer};
 ghost use Rattle.cs_tasks.specs.Blob.{answered_group};
 
+use cs_change::Group;
 use cs_conflict::Resolution;
 use cs_tasks::BlobBuf;
-use cs_tasks::below::Group;
 use cs_value::Memory;
 use std::alloc::Global;
 

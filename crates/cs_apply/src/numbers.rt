@@ -4,7 +4,7 @@ ghost use Rattle.std.specs.Prelude.{◌≡◌, ◌<◌, ◌+◌, ℕ, length, sl
 ghost use Rattle.std.specs.List.{All, Contains};
 ghost use Rattle.cs_apply.specs.Numbers.{changes_waiting, AreWaitingGroups};
 
-use cs_tasks::below::Groups;
+use cs_order::Groups;
 use cs_value::Memory;
 use std::alloc::Global;
 use std::marker::Model;

@@ -6,13 +6,13 @@
 
 ghost use Rattle.std.specs.Prelude.{◌<◌, ◌≤◌, length};
 ghost use Rattle.std.specs.List.{All};
-ghost use Rattle.cs_tasks.specs.cs_order.Groups.{IsGrouping};
-ghost use Rattle.cs_tasks.specs.cs_order.Order.{key_at};
+ghost use Rattle.cs_order.specs.Groups.{IsGrouping};
+ghost use Rattle.cs_order.specs.Order.{key_at};
 ghost use Rattle.cs_apply.specs.Found.{ArePlacesOf};
 ghost use Rattle.cs_apply.specs.Sought.{IsSought};
 
+use cs_order::Groups;
 use cs_tasks::Tasks;
-use cs_tasks::below::Groups;
 use cs_value::{Catalog, Memory};
 use std::alloc::Global;
 
@@ -97,8 +97,8 @@ pub(crate) struct Reached {
 impl Reached {
     ghost use Rattle.std.specs.Prelude.{◌<◌, [], length, slice_index_or, IfOk};
     ghost use Rattle.std.specs.List.{All};
-    ghost use Rattle.cs_tasks.specs.cs_order.Groups.{IsGrouping};
-    ghost use Rattle.cs_tasks.specs.cs_order.Order.{key_at};
+    ghost use Rattle.cs_order.specs.Groups.{IsGrouping};
+    ghost use Rattle.cs_order.specs.Order.{key_at};
     ghost use Rattle.cs_apply.specs.Found.{ArePlacesOf};
     ghost use Rattle.cs_apply.specs.Sought.{IsSought};
     ghost use Rattle.cs_apply.specs.Waiting.{first_of};

@@ -3,7 +3,7 @@ use Rattle.std.proofs.Common.{◌≡◌, ℕ, zero, suc, ◌+◌, Bool, true, fa
 use Rattle.std.specs.Prelude.{◌≢◌, ◌⊎◌}
 use Rattle.std.proofs.lemmas.Bool.{cases_eq}
 use Rattle.cs_varint.specs.Bytes.{AreBytes}
-use Rattle.cs_changeset.specs.cs_change.Spelling.{flag_byte}
+use Rattle.cs_change.specs.Spelling.{flag_byte}
 use Rattle.cs_changeset.specs.Facts.{flag_small}
 use Rattle.cs_changeset.specs.Laws.{ColumnsOrFault}
 use Rattle.cs_changeset.specs.Reading.{BeginsWith, HasFault}

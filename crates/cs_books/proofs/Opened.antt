@@ -5,7 +5,7 @@ use Rattle.cs_value.specs.declared.catalog.TableDef.{TableDef}
 use Rattle.cs_store.specs.Contents.{Contents}
 use Rattle.cs_pending.specs.Storing.{err_is}
 use Rattle.cs_hub.specs.Opened.{Opens}
-use Rattle.cs_hub.specs.cs_log_opening.Opens.{IsHubFault}
+use Rattle.cs_log_opening.specs.Opens.{IsHubFault}
 use Rattle.cs_opening.specs.declared.fault.OpenFault.{OpenFault}
 use Rattle.cs_opening.specs.declared.fault.OpenFault.TheVariants.{Damaged, Device, Memory, Mismatch}
 

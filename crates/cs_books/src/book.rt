@@ -6,7 +6,7 @@ ghost use Rattle.cs_following.specs.Standing.{Begins};
 ghost use Rattle.cs_hub.specs.Judges.{AppendsJudged, HasRoom, IsJudged, ReadsHub};
 ghost use Rattle.cs_hub.specs.Opened.{Opens};
 ghost use Rattle.cs_hub.specs.Serves.{Serves};
-ghost use Rattle.cs_hub.specs.cs_log_opening.Opens.{IsHubFault};
+ghost use Rattle.cs_log_opening.specs.Opens.{IsHubFault};
 ghost use Rattle.cs_hub.specs.declared.follow_fault.FollowFault.TheVariants.{Device, Full, Undefined};
 ghost use Rattle.cs_log.specs.declared.entry.TheConstants.{MAX_ENTRIES as MOST};
 ghost use Rattle.cs_judging.specs.Judged.{hub_of};

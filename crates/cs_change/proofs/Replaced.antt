@@ -5,7 +5,7 @@ use Rattle.std.specs.List.{AllByRecursion}
 use Rattle.std.proofs.Math.Seq.{take-append_seam, drop-append_seam}
 use Rattle.std.proofs.lemmas.Option.{slice_get_within, slice_get-get_or}
 use Rattle.std.proofs.lemmas.List.{append_assoc, drop-drop, drop_at, get_or_at, length-take-le, set_at, take_at}
-use Rattle.cs_record.specs.cs_value.Field.{Field}
+use Rattle.cs_value.specs.declared.value.Field.{Field}
 use Rattle.cs_record.specs.Spelling.{record_of, row_bytes}
 use Rattle.cs_record.specs.Spelled.{SpellsRecord}
 use Rattle.cs_change.specs.declared.change.Change.{Change}

@@ -6,7 +6,7 @@ use Rattle.cs_varint.specs.Bytes.{AreBytes, bytes_rest}
 use Rattle.cs_value.specs.declared.value.Value.{Value}
 use Rattle.cs_value.specs.declared.value.Field.{Field}
 use Rattle.cs_value.specs.declared.value.Field.TheVariants.{Undefined, Is}
-use Rattle.cs_change.specs.cs_record.Spelling.{record_of, row_bytes}
+use Rattle.cs_record.specs.Spelling.{record_of, row_bytes}
 use Rattle.cs_change.specs.declared.change.Change.{Change}
 use Rattle.cs_change.specs.declared.change.Change.TheVariants.{Insert, Delete, Update}
 use Rattle.cs_change.specs.Spelling.{flag_byte, change_spelling, FitsChange, FitsRow}
@@ -15,7 +15,7 @@ use Rattle.cs_changeset.specs.Laws.{ColumnsOrFault, ChangeOrFault}
 use Rattle.cs_changeset.specs.Reading.{BeginsWith, HasFault, IsUpdateFault, IsRecordsFault, IsOperation, IsChangeFault}
 use Rattle.cs_changeset.specs.Records.{AreRight, row_rules, old_rules, new_rules}
 use Rattle.cs_changeset.specs.declared.fault.Fault.TheVariants.{Truncated, Patchset, BadOperation, BadFlag}
-use Rattle.cs_changeset.proofs.ChangeLaws.{fits_row, row_fields, right_columns}
+use Rattle.cs_changeset.proofs.ChangeLaws.{fits_row, row_fields}
 
 -- ---- rows
 

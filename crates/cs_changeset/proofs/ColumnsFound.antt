@@ -3,9 +3,9 @@ use Rattle.std.proofs.Common.{◌≡◌, ℕ, ◌+◌, List, [], ◌∷◌, ◌+
 use Rattle.std.specs.Prelude.{◌⊎◌}
 use Rattle.cs_varint.specs.Bytes.{AreBytes, bytes_rest}
 use Rattle.cs_value.specs.declared.value.Field.{Field}
-use Rattle.cs_change.specs.cs_record.Facts.{parts}
-use Rattle.cs_change.specs.cs_record.Laws.{FieldLaws}
-use Rattle.cs_change.specs.cs_record.Spelling.{field, record_of, Fits}
+use Rattle.cs_record.specs.Facts.{parts}
+use Rattle.cs_record.specs.Laws.{FieldLaws}
+use Rattle.cs_record.specs.Spelling.{field, record_of, Fits}
 use Rattle.cs_changeset.specs.Laws.{ColumnsOrFault}
 use Rattle.cs_changeset.specs.Reading.{BeginsWith, HasFault}
 use Rattle.cs_changeset.specs.Records.{Rule, of_field, field_fault, IsRight, AreRight, IsColumnFault, IsColumnsFault}

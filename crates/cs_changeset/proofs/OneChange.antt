@@ -4,9 +4,9 @@ use Rattle.std.specs.Prelude.{nat_eq}
 use Rattle.std.proofs.Math.Dec.{eqb}
 use borrow.Author.Tests.{eqb-true, eq-eqb}
 use Rattle.std.proofs.lemmas.List.{append-nil, take_all}
-use Rattle.cs_change.specs.cs_record.Laws.{FieldLaws, RecordLaws}
-use Rattle.cs_change.specs.cs_record.Facts.{parts, reaches}
-use Rattle.cs_change.specs.cs_record.Reading.{StandsAt}
+use Rattle.cs_record.specs.Laws.{FieldLaws, RecordLaws}
+use Rattle.cs_record.specs.Facts.{parts, reaches}
+use Rattle.cs_record.specs.Reading.{StandsAt}
 use Rattle.cs_change.specs.declared.change.Change.{Change}
 use Rattle.cs_change.specs.Spelling.{change_spelling, FitsChange}
 use Rattle.cs_changeset.specs.Reading.{IsChangeFault}

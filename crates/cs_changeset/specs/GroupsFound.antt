@@ -4,7 +4,7 @@ use Rattle.std.specs.Prelude.{◌≢◌, ◌⊎◌}
 use Rattle.std.specs.List.{flat_map, AllByRecursion}
 use Rattle.std.proofs.lemmas.Bool.{cases_eq}
 use Rattle.cs_varint.specs.Bytes.{AreBytes, bytes_rest, byte_before}
-use Rattle.cs_change.specs.cs_record.Reading.{FaultBehind}
+use Rattle.cs_record.specs.Reading.{FaultBehind}
 use Rattle.cs_change.specs.Spelling.{marks_of, header_spelling, FitsHeader}
 use Rattle.cs_changeset.specs.Groups.{EntryLaws}
 use Rattle.cs_changeset.specs.Laws.{HeaderLaws}

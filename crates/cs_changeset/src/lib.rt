@@ -6,7 +6,6 @@
 //! Its tests stand in `cs_changes_tests`.
 #![tactic(auto)]
 
-pub mod below;
 mod changes;
 mod columns;
 mod fault;
@@ -17,9 +16,10 @@ mod reading;
 mod records;
 
 pub use changes::{read_flag, read_one};
+pub use columns::{read_new, read_old, read_value};
 pub use cs_change::{Bytes, Change, Changeset, Group, encode};
 pub use fault::{CodecFault, Fault, FirstFault};
 pub use groups::{HeadedGroup, read_file};
-pub use header::read_header;
+pub use header::{read_columns, read_header};
 pub use reading::read;
 pub use records::{read_old_fields, read_row};

@@ -9,7 +9,7 @@ ghost use Rattle.cs_conflict.specs.declared.kind.Kind.TheVariants.{NotFound};
 
 use crate::conflict::Conflict;
 use cs_change::Change;
-use cs_change::below::{Cell, Record};
+use cs_record::{Cell, Record};
 
 /// Another's change that can't be made on the own row, beside the own change of its place. What the ghost fields say is so
 /// of each clash. (Profile of this project.)

@@ -6,7 +6,7 @@ ghost use Rattle.cs_conflict.specs.Owned.{IsOne, IsOne-prop};
 use crate::conflict::Conflict;
 use crate::kind::Kind;
 use cs_change::ChangesBuf;
-use cs_change::below::{Row, RowBuf};
+use cs_record::{Row, RowBuf};
 use cs_value::Memory;
 use std::alloc::Global;
 use std::fmt;

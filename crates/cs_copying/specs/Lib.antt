@@ -1,3 +1,2 @@
 pub mod Copied
 pub mod Steps
-pub mod cs_rows

@@ -8,7 +8,7 @@ ghost use Rattle.cs_store.specs.Whole.{IsWhole};
 ghost use Rattle.cs_store.specs.Written.{pairs_of};
 ghost use Rattle.cs_store.specs.declared.fault.StoreFault.TheVariants.{Device};
 ghost use Rattle.cs_store.specs.declared.names.MetaName.{MetaName as Name};
-ghost use Rattle.cs_rows.specs.cs_pending.Calls.{ReadsStore};
+ghost use Rattle.cs_pending.specs.Calls.{ReadsStore};
 ghost use Rattle.cs_copying.specs.Copied.{HoldsRowsAlone};
 ghost use Rattle.cs_copying.specs.Steps.{AreCopied, HasOurNames, IsCopied, edit_at, value_read};
 

@@ -4,7 +4,6 @@
 //! Its tests are those of `cs_replica_tests`, through `cs_moving`.
 #![tactic(auto)]
 
-pub mod below;
 mod copying;
 
 pub use copying::copy_of;

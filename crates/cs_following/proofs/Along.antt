@@ -13,10 +13,10 @@ use Rattle.cs_pending.specs.Calls.{WritesStore}
 use Rattle.cs_pending.specs.View.{View}
 use Rattle.cs_position.specs.Shows.{ShowsAt, ShowsSomeAt}
 use Rattle.cs_position.specs.declared.position.Position.{Position}
-use Rattle.cs_replica.specs.cs_pulling.Calls.{WritesInTurn}
-use Rattle.cs_replica.specs.cs_pulling.Pulls.{IsPulledIn, PullsOne}
+use Rattle.cs_pulling.specs.Calls.{WritesInTurn}
+use Rattle.cs_pulling.specs.Pulls.{IsPulledIn, PullsOne}
 use Rattle.cs_replica.specs.Holding.{Holding, Shows}
-use Rattle.cs_replica.specs.cs_taking.Takes.{taken}
+use Rattle.cs_taking.specs.Takes.{taken}
 use Rattle.cs_following.specs.InTurn.{WentOn, no_call_yet, one_more, one_failed}
 use Rattle.cs_following.specs.Pulls.{IsNextKnown, IsPulledAmong, IsTakeFault, PullsAll, PullsEach, PullsKnown}
 use Rattle.cs_following.specs.Standing.{StandsWhereHonest}

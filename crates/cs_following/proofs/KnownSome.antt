@@ -11,12 +11,12 @@ use Rattle.cs_conflict.specs.declared.wish.Wish.{Wish}
 use Rattle.cs_pending.specs.View.{View}
 use Rattle.cs_position.specs.Shows.{ShowsAt}
 use Rattle.cs_position.specs.declared.position.Position.{Position}
-use Rattle.cs_replica.specs.cs_pulling.Laws.{IsOfEntry, PulledOrRefused}
-use Rattle.cs_replica.specs.cs_pulling.Pulls.{IsPullFault, IsPulledIn}
-use Rattle.cs_replica.specs.cs_pulling.PullFault.{PullFault}
-use Rattle.cs_replica.specs.cs_pulling.PullFault.TheVariants as pull
-use Rattle.cs_replica.specs.cs_taking.Laws.{AnswersLawfully}
-use Rattle.cs_replica.specs.cs_taking.Takes.{taken}
+use Rattle.cs_pulling.specs.Laws.{IsOfEntry, PulledOrRefused}
+use Rattle.cs_pulling.specs.Pulls.{IsPullFault, IsPulledIn}
+use Rattle.cs_pulling.specs.declared.fault.PullFault.{PullFault}
+use Rattle.cs_pulling.specs.declared.fault.PullFault.TheVariants as pull
+use Rattle.cs_taking.specs.Laws.{AnswersLawfully}
+use Rattle.cs_taking.specs.Takes.{taken}
 use Rattle.cs_following.specs.Laws.{AreNormal, IsOfEntries, KnownPullHasResult}
 use Rattle.cs_following.specs.Pulls.{PullsAll, PullsKnown}
 use Rattle.cs_following.specs.declared.fault.NodeFault.{NodeFault}

@@ -17,12 +17,12 @@ use Rattle.cs_pending.specs.Laws.{OneView}
 use Rattle.cs_pending.specs.View.{View}
 use Rattle.cs_position.specs.Shows.{ShowsAt, base}
 use Rattle.cs_position.specs.declared.position.Position.{Position}
-use Rattle.cs_replica.specs.cs_pulling.Laws.{IsOfEntry, NoPullFaultWherePulled, OnePull, OnePullFault}
-use Rattle.cs_replica.specs.cs_pulling.Pulls.{IsBad, IsPullFault, PullsOne, StopsPull}
-use Rattle.cs_replica.specs.cs_pulling.PullFault.{PullFault}
-use Rattle.cs_replica.specs.cs_pulling.PullFault.TheVariants as pull
-use Rattle.cs_replica.specs.cs_taking.Laws.{OneContents, OneLogRows, PicksOnce}
-use Rattle.cs_replica.specs.cs_taking.Takes.{StopsAt, taken}
+use Rattle.cs_pulling.specs.Laws.{IsOfEntry, NoPullFaultWherePulled, OnePull, OnePullFault}
+use Rattle.cs_pulling.specs.Pulls.{IsBad, IsPullFault, PullsOne, StopsPull}
+use Rattle.cs_pulling.specs.declared.fault.PullFault.{PullFault}
+use Rattle.cs_pulling.specs.declared.fault.PullFault.TheVariants as pull
+use Rattle.cs_taking.specs.Laws.{OneContents, OneLogRows, PicksOnce}
+use Rattle.cs_taking.specs.Takes.{StopsAt, taken}
 use Rattle.cs_following.specs.Laws.{AreNormal, IsOfEntries, OneKnownPull}
 use Rattle.cs_following.specs.Pulls.{EndsPull, IsTakeFault, PullsEach}
 use Rattle.cs_following.specs.declared.fault.NodeFault.{NodeFault}

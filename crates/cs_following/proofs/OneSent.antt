@@ -21,14 +21,14 @@ use Rattle.cs_pending.specs.Shows.{IsElsewhere}
 use Rattle.cs_pending.specs.View.{View}
 use Rattle.cs_position.specs.Shows.{ShowsAt}
 use Rattle.cs_position.specs.declared.position.Position.{Position}
-use Rattle.cs_replica.specs.cs_pulling.Pulls.{PullsOne}
-use Rattle.cs_replica.specs.cs_pushing.Laws.{IsOfPush, NoFaultWhereMade, OnePush, OnePushFault}
-use Rattle.cs_replica.specs.cs_pushing.Pushes.{HasNothing, IsPushFault, pushed}
-use Rattle.cs_replica.specs.cs_pushing.PushFault.{PushFault}
-use Rattle.cs_replica.specs.cs_pushing.PushFault.TheVariants as push
+use Rattle.cs_pulling.specs.Pulls.{PullsOne}
+use Rattle.cs_pushing.specs.Laws.{IsOfPush, NoFaultWhereMade, OnePush, OnePushFault}
+use Rattle.cs_pushing.specs.Pushes.{HasNothing, IsPushFault, pushed}
+use Rattle.cs_pushing.specs.declared.fault.PushFault.{PushFault}
+use Rattle.cs_pushing.specs.declared.fault.PushFault.TheVariants as push
 use Rattle.cs_replica.specs.Flight.{flight_entry}
-use Rattle.cs_replica.specs.cs_taking.Laws.{PicksOnce}
-use Rattle.cs_replica.specs.cs_taking.Takes.{taken}
+use Rattle.cs_taking.specs.Laws.{PicksOnce}
+use Rattle.cs_taking.specs.Takes.{taken}
 use Rattle.cs_following.specs.Laws.{AreNormal, IsOfEntries, IsOfOffer, OneKnownPush}
 use Rattle.cs_following.specs.Pulls.{IsTakeFault}
 use Rattle.cs_following.specs.Pushes.{IsAtRest, IsNotMade, IsNotOffered, IsNotTaken, IsReady, IsSent, PushesOn}

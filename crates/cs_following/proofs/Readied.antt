@@ -15,9 +15,9 @@ use Rattle.cs_store.specs.declared.names.MetaName.TheVariants.{Flight}
 use Rattle.cs_pending.specs.View.{View}
 use Rattle.cs_position.specs.Shows.{ShowsAt, base}
 use Rattle.cs_position.specs.declared.position.Position.{Position}
-use Rattle.cs_replica.specs.cs_pushing.PushFault.{PushFault}
-use Rattle.cs_replica.specs.cs_pushing.PushFault.TheVariants as push
-use Rattle.cs_replica.specs.cs_pushing.Pushes.{IsPushMade, IsPushMadeIn, grounded, pushed}
+use Rattle.cs_pushing.specs.declared.fault.PushFault.{PushFault}
+use Rattle.cs_pushing.specs.declared.fault.PushFault.TheVariants as push
+use Rattle.cs_pushing.specs.Pushes.{IsPushMade, IsPushMadeIn, grounded, pushed}
 use Rattle.cs_wire.specs.Numbers.{eight_bytes}
 use Rattle.cs_following.specs.Faults.{told_of_push}
 use Rattle.cs_following.specs.Pushes.{IsReadied}

@@ -17,10 +17,10 @@ use Rattle.cs_conflict.specs.declared.wish.Wish.{Wish}
 use Rattle.cs_pending.specs.View.{View}
 use Rattle.cs_position.specs.Shows.{ShowsAt}
 use Rattle.cs_position.specs.declared.position.Position.{Position}
-use Rattle.cs_replica.specs.cs_pulling.Pulls.{IsPulledIn}
-use Rattle.cs_replica.specs.cs_pushing.Pushes.{HasNothing, IsPushMadeIn, grounded, pushed}
+use Rattle.cs_pulling.specs.Pulls.{IsPulledIn}
+use Rattle.cs_pushing.specs.Pushes.{HasNothing, IsPushMadeIn, grounded, pushed}
 use Rattle.cs_replica.specs.Flight.{flight_entry}
-use Rattle.cs_replica.specs.cs_taking.Takes.{taken}
+use Rattle.cs_taking.specs.Takes.{taken}
 use Rattle.cs_following.specs.Pulls.{IsNextKnown, IsTakeFault}
 use Rattle.cs_following.specs.Pushes.{IsNotOffered, IsReadied, IsReadyFault, IsSent, IsSentAmong, IsSentNext, PushesOn}
 use Rattle.cs_following.specs.declared.fault.NodeFault.{NodeFault}

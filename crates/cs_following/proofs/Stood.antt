@@ -23,13 +23,13 @@ use Rattle.cs_pending.specs.Edits.{Asked}
 use Rattle.cs_pending.specs.View.{View}
 use Rattle.cs_position.specs.Shows.{ShowsAt, ShowsSomeAt, base}
 use Rattle.cs_position.specs.declared.position.Position.{Position}
-use Rattle.cs_replica.specs.cs_pulling.Laws.{PulledLeads}
-use Rattle.cs_replica.specs.cs_pulling.Pulls.{IsBad, IsPulledIn}
+use Rattle.cs_pulling.specs.Laws.{PulledLeads}
+use Rattle.cs_pulling.specs.Pulls.{IsBad, IsPulledIn}
 use Rattle.cs_replica.specs.Edited.{IsEditedIn, with_pending}
 use Rattle.cs_replica.specs.Holding.{Holding, Shows}
 use Rattle.cs_replica.specs.Laws.{EditStands, KeptStands, StandsLonger}
 use Rattle.cs_replica.specs.Stands.{StandsOn}
-use Rattle.cs_replica.specs.cs_taking.Takes.{taken}
+use Rattle.cs_taking.specs.Takes.{taken}
 use Rattle.cs_following.specs.Pulls.{IsTakeFault}
 use Rattle.cs_following.specs.Standing.{IsBadAt, StandsIn, StandsWhereHonest}
 use Rattle.cs_following.specs.declared.fault.NodeFault.{NodeFault}

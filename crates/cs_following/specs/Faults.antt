@@ -1,9 +1,9 @@
 -- What is told of the faults on the way: no definition that a public clause cites.
 use Rattle.std.specs.Prelude.{Bool, false, Result, Ok, Err}
-use Rattle.cs_replica.specs.cs_pulling.PullFault.{PullFault}
-use Rattle.cs_replica.specs.cs_pulling.PullFault.TheVariants as pull
-use Rattle.cs_replica.specs.cs_pushing.PushFault.{PushFault}
-use Rattle.cs_replica.specs.cs_pushing.PushFault.TheVariants as push
+use Rattle.cs_pulling.specs.declared.fault.PullFault.{PullFault}
+use Rattle.cs_pulling.specs.declared.fault.PullFault.TheVariants as pull
+use Rattle.cs_pushing.specs.declared.fault.PushFault.{PushFault}
+use Rattle.cs_pushing.specs.declared.fault.PushFault.TheVariants as push
 use Rattle.cs_following.specs.declared.fault.NodeFault.{NodeFault}
 use Rattle.cs_following.specs.declared.fault.NodeFault.TheVariants.{Memory, Device, BadEntry, Stopped, Spent, TooLarge}
 

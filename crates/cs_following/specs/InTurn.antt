@@ -2,7 +2,7 @@
 use Rattle.std.proofs.Common.{◌≡◌, ℕ, Ok, Err, refl, sym, ap, subst, ◌∙◌, arith, inl, inr}
 use Rattle.std.specs.Prelude.{◌⊎◌}
 use Rattle.cs_pending.specs.Calls.{WritesStore}
-use Rattle.cs_replica.specs.cs_pulling.Calls.{WritesInTurn}
+use Rattle.cs_pulling.specs.Calls.{WritesInTurn}
 use Rattle.cs_store.specs.Calls.{MoreFailures}
 use Rattle.cs_store.specs.Contents.{Contents}
 

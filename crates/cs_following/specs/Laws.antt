@@ -13,7 +13,7 @@ use Rattle.cs_pending.specs.View.{View}
 use Rattle.cs_position.specs.Shows.{ShowsAt}
 use Rattle.cs_position.specs.declared.position.Position.{Position}
 use Rattle.cs_replica.specs.Holding.{Holding}
-use Rattle.cs_replica.specs.cs_taking.Laws.{AnswersLawfully, PicksOnce}
+use Rattle.cs_taking.specs.Laws.{AnswersLawfully, PicksOnce}
 use Rattle.cs_following.specs.Pulls.{PullsAll}
 use Rattle.cs_following.specs.Pushes.{IsAtRest, PushesOn}
 use Rattle.cs_following.specs.Standing.{Begins, StandsIn, StandsWhereHonest}

@@ -7,6 +7,4 @@ pub mod InTurn
 pub mod Laws
 pub use Rattle.cs_replica.specs.Edited
 pub use Rattle.cs_replica.specs.Holding
-pub use Rattle.cs_replica.specs.cs_pulling.Calls
-pub mod cs_replica
-pub mod cs_taking
+pub use Rattle.cs_pulling.specs.Calls

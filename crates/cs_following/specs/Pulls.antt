@@ -10,8 +10,8 @@ use Rattle.cs_conflict.specs.declared.wish.Wish.{Wish}
 use Rattle.cs_pending.specs.View.{View}
 use Rattle.cs_position.specs.Shows.{ShowsAt}
 use Rattle.cs_position.specs.declared.position.Position.{Position}
-use Rattle.cs_replica.specs.cs_taking.Takes.{taken}
-use Rattle.cs_replica.specs.cs_pulling.Pulls.{IsBad, IsPulledIn, PullsOne, StopsPull}
+use Rattle.cs_taking.specs.Takes.{taken}
+use Rattle.cs_pulling.specs.Pulls.{IsBad, IsPulledIn, PullsOne, StopsPull}
 use Rattle.cs_following.specs.declared.fault.NodeFault.{NodeFault}
 use Rattle.cs_following.specs.declared.fault.NodeFault.TheVariants.{Memory, Device, BadEntry, Stopped, Full, Spent, TooLarge}
 

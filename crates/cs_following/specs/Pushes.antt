@@ -13,11 +13,11 @@ use Rattle.cs_conflict.specs.declared.wish.Wish.{Wish}
 use Rattle.cs_pending.specs.View.{View}
 use Rattle.cs_position.specs.Shows.{ShowsAt}
 use Rattle.cs_position.specs.declared.position.Position.{Position}
-use Rattle.cs_replica.specs.cs_pulling.Pulls.{PullsOne}
-use Rattle.cs_replica.specs.cs_pushing.Pushes.{HasNothing, IsPushFault, IsPushMade, IsPushMadeIn, grounded, pushed}
-use Rattle.cs_replica.specs.cs_pushing.PushFault.TheVariants as push
+use Rattle.cs_pulling.specs.Pulls.{PullsOne}
+use Rattle.cs_pushing.specs.Pushes.{HasNothing, IsPushFault, IsPushMade, IsPushMadeIn, grounded, pushed}
+use Rattle.cs_pushing.specs.declared.fault.PushFault.TheVariants as push
 use Rattle.cs_replica.specs.Flight.{flight_entry}
-use Rattle.cs_replica.specs.cs_taking.Takes.{taken}
+use Rattle.cs_taking.specs.Takes.{taken}
 use Rattle.cs_following.specs.Pulls.{IsNextKnown, IsTakeFault}
 use Rattle.cs_following.specs.declared.fault.NodeFault.{NodeFault}
 use Rattle.cs_following.specs.declared.fault.NodeFault.TheVariants.{Memory, Device, BadEntry, Stopped, Full, Spent, TooLarge}

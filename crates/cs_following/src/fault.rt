@@ -5,7 +5,8 @@ ghost use Rattle.cs_following.specs.Faults.{fault_of_pull, fault_of_push};
 ghost use Rattle.cs_following.specs.declared.fault.NodeFault.TheVariants.{Memory};
 
 use cs_conflict::ConflictBuf;
-use cs_replica::below::{PullFault, PushFault};
+use cs_pulling::PullFault;
+use cs_pushing::PushFault;
 use std::alloc::AllocError;
 use thiserror::Error;
 

@@ -33,17 +33,17 @@ pub fn one_known_pull<P: Picker>()
     ensures { OneKnownPull P.picks }
 {
     cs_pending::laws::one_view();
-    cs_replica::below::one_contents();
-    cs_replica::below::one_stop_taking::<P>();
-    cs_replica::below::one_pull::<P>();
-    cs_replica::below::one_pull_fault::<P>();
+    cs_taking::laws::one_contents();
+    cs_taking::laws::one_stop_taking::<P>();
+    cs_pulling::laws::one_pull::<P>();
+    cs_pulling::laws::one_pull_fault::<P>();
 }
 
 /// Where a picker has a lawful answer to each clash, a pull of what is known has a result, and there is a store that holds what is left.
 pub fn known_pull_has_result<P: Picker>()
     ensures { KnownPullHasResult P.picks P.is_ready }
 {
-    cs_replica::below::pulled_or_refused::<P>();
+    cs_pulling::laws::pulled_or_refused::<P>();
 }
 
 /// Where a picker has one answer to each clash, a push has one outcome, given the entry of the cell that it is offered for, and leaves one
@@ -52,9 +52,9 @@ pub fn one_known_push<P: Picker>()
     ensures { OneKnownPush P.picks }
 {
     cs_pending::laws::one_view();
-    cs_replica::below::one_contents();
-    cs_replica::below::one_stop_taking::<P>();
-    cs_replica::below::one_pull::<P>();
-    cs_replica::below::one_pull_fault::<P>();
-    cs_replica::below::one_push();
+    cs_taking::laws::one_contents();
+    cs_taking::laws::one_stop_taking::<P>();
+    cs_pulling::laws::one_pull::<P>();
+    cs_pulling::laws::one_pull_fault::<P>();
+    cs_pushing::laws::one_push();
 }

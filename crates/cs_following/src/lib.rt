@@ -6,7 +6,6 @@
 //! Its tests stand in `cs_nodes_tests`.
 #![tactic(auto)]
 
-pub mod below;
 mod editing;
 mod fault;
 pub mod laws;

@@ -3,7 +3,7 @@
 ghost use Rattle.std.specs.Prelude.{◌≡◌, ◌+◌, ◌≤◌, Err, IfOk, IsOk, length};
 ghost use Rattle.cs_pending.specs.View.{View};
 ghost use Rattle.cs_position.specs.Shows.{ShowsSomeAt};
-ghost use Rattle.cs_replica.specs.cs_pulling.Calls.{WritesInTurn};
+ghost use Rattle.cs_pulling.specs.Calls.{WritesInTurn};
 ghost use Rattle.cs_replica.specs.Holding.{Shows};
 ghost use Rattle.cs_following.specs.Pulls.{IsNextKnown, IsPulledAmong, PullsAll};
 ghost use Rattle.cs_following.specs.Standing.{Begins, IsBadAt, StandsWhereHonest};

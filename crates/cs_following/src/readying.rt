@@ -7,8 +7,8 @@ ghost use Rattle.cs_log.specs.declared.entry.LogEntry.{LogEntry as Entry};
 ghost use Rattle.cs_normal.specs.State.{IsDefinedOn};
 ghost use Rattle.cs_pending.specs.View.{View};
 ghost use Rattle.cs_position.specs.Shows.{ShowsSomeAt};
-ghost use Rattle.cs_replica.specs.cs_pulling.Calls.{WritesInTurn};
-ghost use Rattle.cs_replica.specs.cs_pushing.Pushes.{IsPushMadeIn};
+ghost use Rattle.cs_pulling.specs.Calls.{WritesInTurn};
+ghost use Rattle.cs_pushing.specs.Pushes.{IsPushMadeIn};
 ghost use Rattle.cs_replica.specs.Holding.{Shows};
 ghost use Rattle.cs_following.specs.Faults.{told_of_push};
 ghost use Rattle.cs_following.specs.Pushes.{IsAtRest, IsReadied, IsReadyFault};
@@ -19,8 +19,8 @@ ghost use Rattle.cs_following.specs.declared.fault.NodeFault.TheVariants.{Device
 
 use crate::fault::{NodeFault, push_fault};
 use cs_log::LogEntry;
+use cs_pushing::PushFault;
 use cs_replica::Replica;
-use cs_replica::below::PushFault;
 use cs_store::RowStore;
 use cs_value::Memory;
 use std::alloc::Global;

@@ -4,7 +4,7 @@ ghost use Rattle.std.specs.Prelude.{◌≡◌, ◌≢◌, ◌≤◌, ◌<◌, �
 ghost use Rattle.cs_log.specs.declared.entry.LogEntry.{LogEntry as Entry};
 ghost use Rattle.cs_pending.specs.View.{View};
 ghost use Rattle.cs_position.specs.Shows.{ShowsSomeAt};
-ghost use Rattle.cs_replica.specs.cs_pulling.Calls.{WritesInTurn};
+ghost use Rattle.cs_pulling.specs.Calls.{WritesInTurn};
 ghost use Rattle.cs_replica.specs.Holding.{Shows};
 ghost use Rattle.cs_following.specs.Pushes.{HasTaken, IsAtRest, IsSentAmong, IsSentNext, PushesOn};
 ghost use Rattle.cs_following.specs.Standing.{Begins, IsBadAt, StandsWhereHonest};

@@ -7,10 +7,10 @@ ghost use Rattle.cs_log.specs.declared.entry.LogEntry.{LogEntry as Entry};
 ghost use Rattle.cs_pending.specs.Calls.{WritesStore};
 ghost use Rattle.cs_pending.specs.View.{View};
 ghost use Rattle.cs_position.specs.Shows.{ShowsSomeAt};
-ghost use Rattle.cs_replica.specs.cs_pulling.Calls.{WritesInTurn};
-ghost use Rattle.cs_replica.specs.cs_pulling.Pulls.{IsPulledIn};
+ghost use Rattle.cs_pulling.specs.Calls.{WritesInTurn};
+ghost use Rattle.cs_pulling.specs.Pulls.{IsPulledIn};
 ghost use Rattle.cs_replica.specs.Holding.{Shows};
-ghost use Rattle.cs_replica.specs.cs_taking.Takes.{taken};
+ghost use Rattle.cs_taking.specs.Takes.{taken};
 ghost use Rattle.cs_following.specs.Pulls.{IsNextKnown, IsPulledAmong, IsTakeFault, PullsAll};
 ghost use Rattle.cs_following.specs.Standing.{IsBadAt, StandsWhereHonest};
 ghost use Rattle.cs_following.specs.declared.fault.NodeFault.TheVariants.{BadEntry, Device, Full};
@@ -91,7 +91,7 @@ pub(crate) fn take_standing<S: RowStore, P: Picker>(
         → StandsWhereHonest S.honest S.contents known replica.old → result ≡ Err BadEntry → S.honest replica.new.store
         → IsBadAt replica.new.catalog known replica.new.position.version }
 {
-    cs_replica::below::pulled_leads(&*picker);
+    cs_pulling::laws::pulled_leads(&*picker);
     cs_normal::laws::defined_is_applied();
     cs_log::laws::appended_is_log();
     let _changes = changeset(entry).tables();

@@ -5,7 +5,7 @@ use Rattle.cs_value.specs.declared.catalog.TableDef.{TableDef}
 use Rattle.cs_log.specs.declared.entry.LogEntry.{LogEntry}
 use Rattle.cs_store.specs.Calls.{MoreFailures}
 use Rattle.cs_store.specs.Contents.{Contents}
-use Rattle.cs_judging.specs.cs_appending.Appended.{IsAppendedIn}
+use Rattle.cs_appending.specs.Appended.{IsAppendedIn}
 use Rattle.cs_judging.specs.Judged.{hub_of}
 use Rattle.cs_judging.specs.declared.fault.HubFault.{HubFault}
 use Rattle.cs_judging.specs.declared.fault.HubFault.TheVariants.{Memory, Ahead, Device}

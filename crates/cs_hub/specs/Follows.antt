@@ -4,8 +4,8 @@ use Rattle.cs_value.specs.declared.catalog.TableDef.{TableDef}
 use Rattle.cs_log.specs.Log.{IsNextEntry}
 use Rattle.cs_log.specs.Stored.{IsEntryOf}
 use Rattle.cs_log.specs.declared.entry.LogEntry.{LogEntry}
-use Rattle.cs_judging.specs.cs_appending.AppendFault.{AppendFault}
-use Rattle.cs_judging.specs.cs_appending.AppendFault.TheVariants as append
+use Rattle.cs_appending.specs.declared.fault.AppendFault.{AppendFault}
+use Rattle.cs_appending.specs.declared.fault.AppendFault.TheVariants as append
 use Rattle.cs_hub.specs.declared.follow_fault.FollowFault.{FollowFault}
 use Rattle.cs_hub.specs.declared.follow_fault.FollowFault.TheVariants.{Memory, Full, Undefined, Device}
 use Rattle.cs_log.specs.declared.entry.TheConstants.{MAX_ENTRIES}

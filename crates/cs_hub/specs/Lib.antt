@@ -8,5 +8,3 @@ pub mod Judges
 pub mod Steps
 pub mod Laws
 pub mod Opened
-pub mod cs_judging
-pub mod cs_log_opening

@@ -1,7 +1,7 @@
 //! The hub over any store, and what it answers.
 
 ghost use Rattle.std.specs.Prelude.{◌≡◌, ◌≢◌, ◌↔◌, ◌+◌, ◌<◌, ◌≤◌, ◌∷◌, ◌++◌, [], List, Some, IfErr, IfOk, IsErrOf, MatchResult, OnErr, OnOk, Ok, Err, length, min, slice_get};
-ghost use Rattle.cs_judging.specs.cs_appending.Appended.{AppendsEntry, IsAppendedIn};
+ghost use Rattle.cs_appending.specs.Appended.{AppendsEntry, IsAppendedIn};
 ghost use Rattle.cs_log.specs.Log.{state_of};
 ghost use Rattle.cs_log.specs.declared.entry.LogEntry.{LogEntry as Entry};
 ghost use Rattle.cs_log.specs.declared.entry.TheConstants.{MAX_CHANGESET, MAX_ENTRIES};
@@ -34,12 +34,13 @@ use crate::judging::{is_entry_of, judge_told};
 use crate::refusal::Refusal;
 use crate::serving::{pull_at, push_told, refuse};
 use crate::taking::push_counted;
-use cs_judging::below::{append, append_tried, entries_at};
+use cs_appending::{append, append_tried};
 use cs_judging::{HubFault, Pushed};
 use cs_log::{LogEntry, MAX_ENTRIES};
-use cs_log_opening::below::OpenFault;
 use cs_log_opening::open_log;
+use cs_log_reading::entries_at;
 use cs_normal::Normal;
+use cs_opening::OpenFault;
 use cs_rows::{RowAtKey, rows_of};
 use cs_store::{Batch, RowStore, StoreFault};
 use cs_value::{Catalog, Memory, TableDef};

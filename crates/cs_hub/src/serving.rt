@@ -13,8 +13,8 @@ ghost use Rattle.cs_hub.specs.Steps.{IsAnsweredOf, IsAskedIn, LooksAt, TellsOutc
 
 use crate::refusal::Refusal;
 use crate::taking::take_at;
-use cs_judging::below::entries_told;
 use cs_judging::{HubFault, Pushed};
+use cs_log_reading::entries_told;
 use cs_store::{RowStore, StoreFault};
 use cs_value::{Catalog, Memory};
 use cs_wire::{PushHead, SHORT, ShortAnswer};

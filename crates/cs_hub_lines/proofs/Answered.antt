@@ -7,7 +7,7 @@ use Rattle.cs_hub.specs.Holding.{Holding}
 use Rattle.cs_hub.specs.Laws.{RunsByLog}
 use Rattle.cs_hub.specs.Serves.{IsSame, Serves}
 use Rattle.cs_log.specs.declared.entry.TheConstants.{MAX_ENTRIES}
-use Rattle.cs_hub.specs.cs_judging.Judged.{hub_of}
+use Rattle.cs_judging.specs.Judged.{hub_of}
 use Rattle.cs_lines.specs.Lines.{hex_line}
 use Rattle.cs_lines.specs.Reading.{AreAllBefore}
 use Rattle.cs_lines.specs.Served.{AnswersAll, AreAllLines, AreFirstLines}

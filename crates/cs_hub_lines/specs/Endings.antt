@@ -5,7 +5,7 @@ use Rattle.cs_hub.specs.Calls.{AnswersHub, StaysHub}
 use Rattle.cs_hub.specs.Holding.{Holding, Shows}
 use Rattle.cs_hub.specs.Serves.{IsSame, Serves}
 use Rattle.cs_log.specs.declared.entry.TheConstants.{MAX_ENTRIES}
-use Rattle.cs_hub.specs.cs_judging.Judged.{hub_of}
+use Rattle.cs_judging.specs.Judged.{hub_of}
 use Rattle.cs_lines.specs.Lines.{hex_line}
 use Rattle.cs_lines.specs.Reading.{AreAllBefore}
 use Rattle.cs_lines.specs.Served.{AnswersAll, AreAllLines, AreFirstLines}
@@ -14,7 +14,7 @@ use Rattle.cs_lines.specs.declared.serve.Stop.{Stop}
 use Rattle.cs_lines.specs.declared.serve.Stop.TheVariants as stopped
 use Rattle.cs_lines.specs.declared.serve.TheConstants.{ASKS}
 use Rattle.cs_log.specs.declared.entry.LogEntry.{LogEntry}
-use Rattle.cs_hub.specs.cs_log_opening.Opens.{IsHubAt, IsHubFault}
+use Rattle.cs_log_opening.specs.Opens.{IsHubAt, IsHubFault}
 use Rattle.cs_log_store.specs.Shows.{ShowsLog}
 use Rattle.cs_opening.specs.declared.fault.OpenFault.{OpenFault}
 use Rattle.cs_opening.specs.declared.fault.OpenFault.TheVariants as opening

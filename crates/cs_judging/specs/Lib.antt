@@ -2,4 +2,3 @@ pub mod Hub
 pub mod Pushes
 pub mod Judged
 pub mod Laws
-pub mod cs_appending

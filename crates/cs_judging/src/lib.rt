@@ -5,7 +5,6 @@
 //! Its tests stand in `cs_world_tests`.
 #![tactic(auto)]
 
-pub mod below;
 mod fault;
 mod judging;
 pub mod laws;

@@ -5,8 +5,8 @@ use Rattle.std.proofs.lemmas.List.Folds.{flat_map-map}
 use Rattle.cs_value.specs.declared.value.Value.{Value}
 use Rattle.cs_value.specs.declared.value.Field.{Field}
 use Rattle.cs_value.specs.declared.value.Field.TheVariants.{Is}
-use Rattle.cs_change.specs.cs_record.Laws.{OneSpelledRecord}
-use Rattle.cs_change.specs.cs_record.Spelling.{field, record_of, Fits}
+use Rattle.cs_record.specs.Laws.{OneSpelledRecord}
+use Rattle.cs_record.specs.Spelling.{field, record_of, Fits}
 use Rattle.cs_keyed.specs.Changes.{key_bytes, IsSpelled}
 use Rattle.cs_keyed.specs.Laws.{BytesTellKeys}
 

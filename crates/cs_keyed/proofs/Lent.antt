@@ -4,7 +4,7 @@ use Rattle.std.proofs.lemmas.List.{take-append-le, take_all}
 use Rattle.cs_value.specs.Catalog.{marked}
 use Rattle.cs_value.specs.declared.value.Field.{Field}
 use Rattle.cs_value.specs.declared.value.Field.TheVariants.{Is}
-use Rattle.cs_change.specs.cs_record.Spelling.{field, record_of}
+use Rattle.cs_record.specs.Spelling.{field, record_of}
 use Rattle.cs_keyed.specs.Changes.{key_bytes}
 use Rattle.cs_keyed.specs.NormalForm.{marked_fields}
 use Rattle.cs_value.specs.declared.value.Value.{Value}

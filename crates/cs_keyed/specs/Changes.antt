@@ -7,7 +7,7 @@ use Rattle.cs_order.specs.Order.{by_bytes, same_bytes}
 use Rattle.cs_value.specs.declared.value.Value.{Value}
 use Rattle.cs_value.specs.declared.value.Field.TheVariants.{Is}
 use Rattle.cs_value.specs.Catalog.{is_set}
-use Rattle.cs_change.specs.cs_record.Spelling.{row_bytes, Fits}
+use Rattle.cs_record.specs.Spelling.{row_bytes, Fits}
 use Rattle.cs_change.specs.Action.{action}
 use Rattle.cs_change.specs.Normal.{IsNormal}
 use Rattle.cs_change.specs.Spelling.{FitsChange}

@@ -5,7 +5,7 @@ use Rattle.cs_value.specs.Same.{same_value, same_row}
 use Rattle.cs_value.specs.declared.value.Value.{Value}
 use Rattle.cs_value.specs.declared.value.Field.{Field}
 use Rattle.cs_value.specs.declared.value.Field.TheVariants.{Undefined, Is}
-use Rattle.cs_change.specs.cs_record.Spelling.{Fits}
+use Rattle.cs_record.specs.Spelling.{Fits}
 use Rattle.cs_change.specs.Action.{Action, Inserts, Deletes, Updates, action}
 use Rattle.cs_change.specs.Columns.{overlay_field}
 use Rattle.cs_change.specs.Net.{net, old_field, new_field, old_record, new_record}

@@ -6,6 +6,3 @@ pub mod Laws
 pub mod NormalForm
 pub mod Prepared
 pub mod Steps
-pub mod cs_change
-pub mod cs_order
-pub mod cs_record

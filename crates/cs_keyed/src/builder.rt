@@ -9,8 +9,8 @@ ghost use Rattle.cs_keyed.specs.Steps.Forms.{key_if_set};
 
 use crate::key_of_change::{put_key, put_record_key};
 use cs_change::Change;
-use cs_change::below::Record;
 use cs_order::Keys;
+use cs_record::Record;
 use cs_value::Memory;
 use std::alloc::{AllocError, Global};
 use std::marker::Model;

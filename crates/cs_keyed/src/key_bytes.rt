@@ -4,7 +4,7 @@ ghost use Rattle.std.specs.Prelude.{◌≡◌, ◌++◌, IfOk, OnOk};
 ghost use Rattle.cs_keyed.specs.Changes.{key_bytes};
 
 use cs_change::Bytes;
-use cs_change::below::encode_value;
+use cs_record::encode_value;
 use cs_value::{Items, Memory, Value};
 use std::alloc::Global;
 

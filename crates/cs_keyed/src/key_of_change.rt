@@ -3,12 +3,12 @@
 ghost use Rattle.std.specs.Prelude.{◌≡◌, ◌++◌, Bool, IfOk, List};
 ghost use Rattle.std.specs.List.{list_all};
 ghost use Rattle.cs_value.specs.Catalog.{is_set};
-ghost use Rattle.cs_change.specs.cs_record.Spelling.{Extends};
+ghost use Rattle.cs_record.specs.Spelling.{Extends};
 ghost use Rattle.cs_keyed.specs.Changes.{key_bytes};
 ghost use Rattle.cs_keyed.specs.NormalForm.{HaveSameKeys, change_bytes, change_key, has_key, marked_fields};
 
 use cs_change::Change;
-use cs_change::below::{Cell, NULL, Record};
+use cs_record::{Cell, NULL, Record};
 use cs_value::Memory;
 
 /// The marks up to the last key column: the columns behind it are in no key, and needn't be looked at.

@@ -3,9 +3,9 @@
 ghost use Rattle.std.specs.Prelude.{◌≡◌, ◌++◌, ◌∷◌, [], OnErr, OnOk, length};
 ghost use Rattle.cs_keyed.specs.Keyed.{beside};
 
-use cs_change::below::Record;
 use cs_change::{Change, ChangesBuf};
 use cs_order::Keys;
+use cs_record::Record;
 use cs_value::Memory;
 use std::alloc::{AllocError, Global};
 use std::marker::Model;

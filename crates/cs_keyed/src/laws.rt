@@ -6,5 +6,5 @@ ghost use Rattle.cs_keyed.specs.Laws.{BytesTellKeys};
 pub fn bytes_tell_keys()
     ensures { BytesTellKeys }
 {
-    cs_change::below::records();
+    cs_record::laws::records();
 }

@@ -6,7 +6,7 @@ ghost use Rattle.cs_keyed.specs.NormalForm.{change_bytes, marked_fields};
 
 use crate::key_of_change::key_record;
 use cs_change::Change;
-use cs_change::below::{Cell, Record};
+use cs_record::{Cell, Record};
 
 /// The bytes of the key that a record holds, lent where its key columns are the first ones and are defined; `None` where the
 /// key isn't in one piece: `put_record_key` puts it together then. Marks behind the last key column are to be left out

@@ -6,7 +6,6 @@
 //! Its tests stand in `cs_changes_tests`.
 #![tactic(auto)]
 
-pub mod below;
 mod builder;
 mod gathering;
 mod key_bytes;

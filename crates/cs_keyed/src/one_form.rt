@@ -9,8 +9,8 @@ ghost use Rattle.cs_keyed.specs.NormalForm.{changes_value, normal_form, normal_n
 ghost use Rattle.cs_keyed.specs.Steps.Forms.{normal_columns, is_normal_column};
 ghost use Rattle.cs_keyed.specs.Prepared.{AreForms};
 
-use cs_change::below::{Cell, Column, Record, RecordBuf};
 use cs_change::{Change, ChangesBuf, Scratch};
+use cs_record::{Cell, Column, Record, RecordBuf};
 use cs_value::Memory;
 
 #[inline(always)]

@@ -3,16 +3,16 @@ use Rattle.std.proofs.Common.{◌≡◌, ◌≢◌, ◌⊎◌, inl, ℕ, List, �
 use Rattle.std.specs.Result.{IsErr, IsErrAnd}
 use Rattle.cs_value.specs.Catalog.{AreTables}
 use Rattle.cs_value.specs.declared.catalog.TableDef.{TableDef}
-use Rattle.cs_changeset.specs.cs_change.Spelling.{FitsChangeset, changeset_spelling}
-use Rattle.cs_changeset.specs.cs_change.Group.{Group}
+use Rattle.cs_change.specs.Spelling.{FitsChangeset, changeset_spelling}
+use Rattle.cs_change.specs.declared.group.Group.{Group}
 use Rattle.cs_changeset.specs.Laws.{ChangesetLaws}
 use Rattle.cs_changeset.specs.Reading.{IsChangesetFault}
 use Rattle.cs_changeset.specs.declared.fault.Fault.{Fault}
 use Rattle.cs_normalising.specs.Laws.{NoFaultWhereFit, NormalAgain, OneNormalForm}
-use Rattle.cs_normalising.specs.cs_normal.Laws.{NormalIsTaken}
-use Rattle.cs_normalising.specs.cs_normal.Normal.{groups_of, normal_spelling}
+use Rattle.cs_normal.specs.Laws.{NormalIsTaken}
+use Rattle.cs_normal.specs.Normal.{groups_of, normal_spelling}
 use Rattle.cs_normalising.specs.NormalFormOf.{IsNormalFormOf, IsUnfit}
-use Rattle.cs_normalising.specs.cs_normal.TableChanges.{TableChanges}
+use Rattle.cs_normal.specs.declared.normal.TableChanges.{TableChanges}
 use Rattle.cs_normalising.specs.declared.unfit.Unfit.{Unfit}
 use Rattle.cs_normalising.specs.declared.unfit.Unfit.TheVariants as unfit
 use Rattle.cs_log.specs.Entry.{changes_of_body}

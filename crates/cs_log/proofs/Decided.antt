@@ -6,14 +6,14 @@ use Rattle.std.proofs.lemmas.Slice.Eq.{bytes_eq-Decides}
 use Rattle.cs_value.specs.Decided.{OrNot, both_or_not, same_bytes_or_not, same_marks_or_not}
 use Rattle.cs_value.specs.Key.{Place}
 use Rattle.cs_value.specs.declared.catalog.TableDef.{TableDef}
-use Rattle.cs_changeset.specs.cs_change.Action.{action_any, after_any}
-use Rattle.cs_changeset.specs.cs_change.Change.{Change}
-use Rattle.cs_normalising.specs.cs_normal.Order.{same_bytes}
-use Rattle.cs_normalising.specs.cs_normal.Facts.{same_is}
-use Rattle.cs_normalising.specs.cs_normal.Changes.{Changes, change_at}
-use Rattle.cs_normalising.specs.cs_normal.Normal.{FitsCatalog, IsOfTable, change_of, changes_in}
-use Rattle.cs_normalising.specs.cs_normal.State.{State, left_at}
-use Rattle.cs_normalising.specs.cs_normal.TableChanges.{TableChanges}
+use Rattle.cs_change.specs.Action.{action_any, after_any}
+use Rattle.cs_change.specs.declared.change.Change.{Change}
+use Rattle.cs_normal.specs.Order.{same_bytes}
+use Rattle.cs_normal.specs.Facts.{same_is}
+use Rattle.cs_normal.specs.Changes.{Changes, change_at}
+use Rattle.cs_normal.specs.Normal.{FitsCatalog, IsOfTable, change_of, changes_in}
+use Rattle.cs_normal.specs.State.{State, left_at}
+use Rattle.cs_normal.specs.declared.normal.TableChanges.{TableChanges}
 use Rattle.cs_log.specs.Laws.{DefinedOrNot, NextOrNot}
 
 one_of : {P Q : Type 0} → OrNot P → OrNot Q → OrNot (P ⊎ Q)

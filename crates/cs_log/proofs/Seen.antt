@@ -12,20 +12,20 @@ use Rattle.cs_value.specs.declared.catalog.TableDef.{TableDef}
 use Rattle.cs_value.specs.declared.value.Value.{Value}
 use Rattle.cs_value.specs.declared.value.Field.{Field}
 use Rattle.cs_value.specs.declared.value.Field.TheVariants.{Undefined, Is}
-use Rattle.cs_changeset.specs.cs_change.Action.{action, action_any}
-use Rattle.cs_changeset.specs.cs_change.Change.{Change}
-use Rattle.cs_changeset.specs.cs_change.Change.TheVariants.{Insert, Delete, Update}
-use Rattle.cs_changeset.specs.cs_change.Spelling.{AreUpdateColumns, FitsChange, FitsHeader, change_spelling, flag_byte, header_spelling, marks_of}
-use Rattle.cs_changeset.specs.cs_record.Facts.{all_more, parts}
-use Rattle.cs_changeset.specs.cs_record.Reading.{StandsAt}
+use Rattle.cs_change.specs.Action.{action, action_any}
+use Rattle.cs_change.specs.declared.change.Change.{Change}
+use Rattle.cs_change.specs.declared.change.Change.TheVariants.{Insert, Delete, Update}
+use Rattle.cs_change.specs.Spelling.{AreUpdateColumns, FitsChange, FitsHeader, change_spelling, flag_byte, header_spelling, marks_of}
+use Rattle.cs_record.specs.Facts.{all_more, parts}
+use Rattle.cs_record.specs.Reading.{StandsAt}
 use Rattle.cs_order.specs.Order.{Keys, by_bytes}
-use Rattle.cs_normal.specs.cs_change.Normal.{IsNormal, IsNormalIfAny}
+use Rattle.cs_change.specs.Normal.{IsNormal, IsNormalIfAny}
 use Rattle.cs_normalising.specs.Laws.{IsLenient, LenientUpdate, NormalFormKeeps, no_column, key_column, key_again, unmodified, modified}
-use Rattle.cs_normalising.specs.cs_keyed.Changes.{AreNormal, Changes, IsEntry}
-use Rattle.cs_normalising.specs.cs_keyed.NormalForm.{change_key, marked_fields, normal_form}
-use Rattle.cs_normalising.specs.cs_normal.Laws.{FittingIsNormal}
-use Rattle.cs_normalising.specs.cs_normal.Normal.{FitsCatalog, IsNormalTable, normal_spelling, table_spelling}
-use Rattle.cs_normalising.specs.cs_normal.TableChanges.{TableChanges}
+use Rattle.cs_keyed.specs.Changes.{AreNormal, Changes, IsEntry}
+use Rattle.cs_keyed.specs.NormalForm.{change_key, marked_fields, normal_form}
+use Rattle.cs_normal.specs.Laws.{FittingIsNormal}
+use Rattle.cs_normal.specs.Normal.{FitsCatalog, IsNormalTable, normal_spelling, table_spelling}
+use Rattle.cs_normal.specs.declared.normal.TableChanges.{TableChanges}
 use Rattle.cs_log.specs.Stored.{IsStoredBody}
 use Rattle.cs_log.specs.declared.body.Body.TheVariants.{Changes as with_changes}
 use Rattle.cs_log.specs.declared.entry.TheConstants.{MAX_CHANGESET}

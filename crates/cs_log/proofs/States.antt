@@ -7,9 +7,9 @@ use Rattle.std.proofs.lemmas.List.Sums.{fold-append}
 use Rattle.cs_value.specs.Catalog.{AreTables}
 use Rattle.cs_value.specs.Key.{Place}
 use Rattle.cs_value.specs.declared.catalog.TableDef.{TableDef}
-use Rattle.cs_changeset.specs.cs_change.Action.{action_any, after_any}
-use Rattle.cs_normalising.specs.cs_normal.Normal.{change_of}
-use Rattle.cs_normalising.specs.cs_normal.State.{State, left_at, IsApplied, AreApplied, AppliedIsNet, IsStateOf}
+use Rattle.cs_change.specs.Action.{action_any, after_any}
+use Rattle.cs_normal.specs.Normal.{change_of}
+use Rattle.cs_normal.specs.State.{State, left_at, IsApplied, AreApplied, AppliedIsNet, IsStateOf}
 use Rattle.cs_log.specs.Entry.{entry_changes}
 use Rattle.cs_log.specs.Laws.{LogIsApplied, LogStates, OneStateAVersion, Slices}
 use Rattle.cs_log.specs.Log.{IsLog, IsNextEntry, after_entry, empty_state, entries_between, state_of, tables_at}

@@ -1,7 +1,7 @@
 -- An entry's changes, and how what it does is spelled. (Profile of this project.)
 use Rattle.std.specs.Prelude.{ℕ, List}
-use Rattle.cs_normalising.specs.cs_normal.Normal.{normal_spelling}
-use Rattle.cs_normalising.specs.cs_normal.TableChanges.{TableChanges}
+use Rattle.cs_normal.specs.Normal.{normal_spelling}
+use Rattle.cs_normal.specs.declared.normal.TableChanges.{TableChanges}
 use Rattle.cs_log.specs.declared.body.Body.{Body}
 use Rattle.cs_log.specs.declared.body.Body.TheVariants.{Changes}
 use Rattle.cs_log.specs.declared.entry.LogEntry.{LogEntry}

@@ -2,9 +2,9 @@
 use Rattle.std.specs.Prelude.{◌≡◌, ◌⊎◌, ℕ, ◌≤◌, List, [], ◌∷◌, ◌++◌, length, map, take}
 use Rattle.cs_value.specs.Catalog.{AreTables}
 use Rattle.cs_value.specs.declared.catalog.TableDef.{TableDef}
-use Rattle.cs_normalising.specs.cs_normal.Normal.{IsNormalChangeset}
-use Rattle.cs_normalising.specs.cs_normal.State.{State, AreApplied, AreSame, IsDefinedOn, IsStateOf}
-use Rattle.cs_normalising.specs.cs_normal.TableChanges.{TableChanges}
+use Rattle.cs_normal.specs.Normal.{IsNormalChangeset}
+use Rattle.cs_normal.specs.State.{State, AreApplied, AreSame, IsDefinedOn, IsStateOf}
+use Rattle.cs_normal.specs.declared.normal.TableChanges.{TableChanges}
 use Rattle.cs_log.specs.Entry.{changes_of_body, entry_changes}
 use Rattle.cs_log.specs.Log.{IsLog, IsNextEntry, catalog_at, empty_state, entries_between, state_of, tables_at}
 use Rattle.cs_log.specs.Stored.{AreChangesOf, stored_body}

@@ -3,9 +3,4 @@ pub mod Laws
 pub mod Log
 pub mod Steps
 pub mod Stored
-pub use Rattle.cs_normalising.specs.cs_normal.State
-pub mod cs_change
-pub mod cs_keyed
-pub mod cs_normal
-pub mod cs_order
-pub mod cs_record
+pub use Rattle.cs_normal.specs.State

@@ -3,8 +3,8 @@ use Rattle.std.specs.Prelude.{◌≡◌, ℕ, List, length, take, drop, Some, No
 use Rattle.std.specs.List.{fold, slice_get}
 use Rattle.std.specs.Option.{unwrap_or}
 use Rattle.cs_value.specs.declared.catalog.TableDef.{TableDef}
-use Rattle.cs_normalising.specs.cs_normal.Normal.{IsNormalChangeset}
-use Rattle.cs_normalising.specs.cs_normal.State.{State, IsDefinedOn, left_at}
+use Rattle.cs_normal.specs.Normal.{IsNormalChangeset}
+use Rattle.cs_normal.specs.State.{State, IsDefinedOn, left_at}
 use Rattle.cs_log.specs.Entry.{entry_changes}
 use Rattle.cs_log.specs.declared.entry.LogEntry.{LogEntry}
 

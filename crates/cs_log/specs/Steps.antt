@@ -3,14 +3,14 @@ use Rattle.std.specs.Prelude.{◌≡◌, ◌≢◌, ℕ, ◌<◌, Bool, true, Li
 use Rattle.std.specs.List.{flat_map}
 use Rattle.std.specs.declared.cmp.Ordering.TheVariants.{Less}
 use Rattle.cs_value.specs.declared.catalog.TableDef.{TableDef}
-use Rattle.cs_changeset.specs.cs_change.Change.{Change}
-use Rattle.cs_changeset.specs.cs_change.Spelling.{FitsChange, change_spelling, flag_byte}
-use Rattle.cs_changeset.specs.cs_record.Reading.{StandsAt}
+use Rattle.cs_change.specs.declared.change.Change.{Change}
+use Rattle.cs_change.specs.Spelling.{FitsChange, change_spelling, flag_byte}
+use Rattle.cs_record.specs.Reading.{StandsAt}
 use Rattle.cs_order.specs.Order.{by_bytes}
-use Rattle.cs_normalising.specs.cs_keyed.Changes.{AreNormal, Changes, IsEntry}
-use Rattle.cs_normalising.specs.cs_keyed.NormalForm.{change_bytes, has_key}
-use Rattle.cs_normalising.specs.cs_normal.Normal.{FitsCatalog, IsNormalTable, normal_spelling, table_spelling}
-use Rattle.cs_normalising.specs.cs_normal.TableChanges.{TableChanges}
+use Rattle.cs_keyed.specs.Changes.{AreNormal, Changes, IsEntry}
+use Rattle.cs_keyed.specs.NormalForm.{change_bytes, has_key}
+use Rattle.cs_normal.specs.Normal.{FitsCatalog, IsNormalTable, normal_spelling, table_spelling}
+use Rattle.cs_normal.specs.declared.normal.TableChanges.{TableChanges}
 use Rattle.cs_log.specs.Stored.{AreChangesOf}
 
 -- how the changes of a table are written

@@ -3,8 +3,8 @@ use Rattle.std.specs.Prelude.{◌≡◌, ℕ, ◌≤◌, List, ◌∷◌, length
 use Rattle.cs_value.specs.declared.catalog.TableDef.{TableDef}
 use Rattle.cs_changeset.specs.declared.fault.CodecFault.{CodecFault}
 use Rattle.cs_changeset.specs.declared.fault.CodecFault.TheVariants as codec
-use Rattle.cs_normalising.specs.cs_normal.Normal.{FitsCatalog, IsNormalChangeset, normal_spelling}
-use Rattle.cs_normalising.specs.cs_normal.TableChanges.{TableChanges}
+use Rattle.cs_normal.specs.Normal.{FitsCatalog, IsNormalChangeset, normal_spelling}
+use Rattle.cs_normal.specs.declared.normal.TableChanges.{TableChanges}
 use Rattle.cs_normalising.specs.declared.unfit.Unfit.{Unfit}
 use Rattle.cs_normalising.specs.declared.unfit.Unfit.TheVariants as unfit
 use Rattle.cs_log.specs.Entry.{body_spelling, changes_of_body, kind_of}

@@ -1,7 +1,7 @@
 //! What an entry of the log does, and how that is stored.
 
 ghost use Rattle.std.specs.Prelude.{◌≡◌, ◌⊎◌, ◌↔◌, ◌++◌, List, Ok, Err, IsTrue, IfOk, OnOk, OnErr};
-ghost use Rattle.cs_normalising.specs.cs_normal.Normal.{normal_spelling};
+ghost use Rattle.cs_normal.specs.Normal.{normal_spelling};
 ghost use Rattle.cs_log.specs.Stored.{FitsBody, ReadsBody, ReadsChanges, stored_body};
 ghost use Rattle.cs_log.specs.declared.body.Body.{Body};
 ghost use Rattle.cs_log.specs.declared.fault.BodyFault.TheVariants.{Memory as OutOfMemory};
@@ -10,7 +10,8 @@ use crate::entry::MAX_CHANGESET;
 use crate::fault::BodyFault;
 use crate::laws::one_body;
 use cs_changeset::read;
-use cs_normalising::below::{Normal, normal_is_taken};
+use cs_normal::Normal;
+use cs_normal::laws::normal_is_taken;
 use cs_normalising::laws::{no_fault_where_fit, normal_again, one_normal_form};
 use cs_normalising::normalise;
 use cs_value::{Catalog, Memory};

@@ -5,7 +5,7 @@ ghost use Rattle.cs_log.specs.Laws.{AppendedIsLog, DefinedOrNot, EmptyIsLog, Fro
 ghost use Rattle.cs_log.specs.declared.entry.TheConstants.{MAX_CHANGESET, MAX_ENTRIES};
 
 use cs_changeset::laws::changesets;
-use cs_normalising::below::{applied_is_net, normal_is_taken};
+use cs_normal::laws::{applied_is_net, normal_is_taken};
 use cs_normalising::laws::{normal_again, one_normal_form};
 
 /// How many bytes an entry's changeset may have.

@@ -2,7 +2,7 @@
 //! catalog's tables in order, and the changes of each are in normal form, in the order of their keys.
 
 ghost use Rattle.std.specs.Prelude.{◌≡◌, ◌↔◌, IfOk, IfSome, IsTrue, map};
-ghost use Rattle.cs_changeset.specs.cs_change.Spelling.{flag_byte, marks_of};
+ghost use Rattle.cs_change.specs.Spelling.{flag_byte, marks_of};
 ghost use Rattle.cs_changeset.specs.Steps.{EndsGroup};
 ghost use Rattle.cs_log.specs.Steps.{AreNextChanges, HasKeyAbove, IsChangeAt, IsNextChange, IsNextTable, IsTableBefore, SpellsChanges};
 ghost use Rattle.cs_log.specs.Stored.{IsStoredBody};
@@ -10,11 +10,10 @@ ghost use Rattle.cs_log.specs.Stored.{IsStoredBody};
 use crate::body::{CHANGES, read_body};
 use crate::entry::MAX_CHANGESET;
 use crate::fault::BodyFault;
-use cs_changeset::below::TABLE;
+use cs_change::TABLE;
 use cs_changeset::{Change, Group, HeadedGroup, read_header};
-use cs_normal::below::is_normal;
+use cs_keyed::{is_normal, put_key};
 use cs_normal::laws::fitting_is_normal;
-use cs_normalising::below::put_key;
 use cs_normalising::laws::normal_form_keeps;
 use cs_order::compare_bytes;
 use cs_value::{Catalog, Memory, TableDef};

@@ -2,4 +2,3 @@ pub mod Owner
 pub mod Opens
 pub mod Laws
 pub mod Steps
-pub mod cs_opening

@@ -6,7 +6,6 @@
 //! Its tests stand in `cs_world_tests`.
 #![tactic(auto)]
 
-pub mod below;
 mod fresh;
 mod judging;
 pub mod laws;

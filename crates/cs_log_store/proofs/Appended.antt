@@ -23,7 +23,7 @@ use Rattle.cs_store.specs.declared.batch.Batch.{Batch}
 use Rattle.cs_store.specs.declared.batch.MetaEdit.{MetaEdit}
 use Rattle.cs_edits.specs.Edits.{BodyEdit}
 use Rattle.cs_store.specs.declared.batch.StoredEntry.{StoredEntry}
-use Rattle.cs_position.specs.cs_pending.Steps.{no_place}
+use Rattle.cs_pending.specs.Steps.{no_place}
 use Rattle.cs_log_store.specs.Laws.{AppendShows}
 use Rattle.cs_log_store.specs.Shows.{HasEntries, item_of_entry}
 

@@ -4,7 +4,7 @@ use Rattle.std.specs.FinMap.{get, find, from_entries, get-empty, get-from_entrie
 use Rattle.std.specs.Ordering.{int_cmp}
 use Rattle.std.proofs.lemmas.Cmp.{nat_list_cmp_total}
 use Rattle.cs_order.specs.Order.{by_bytes, same_bytes}
-use Rattle.cs_position.specs.cs_pending.Spots.{by_test, key_is}
+use Rattle.cs_pending.specs.Spots.{by_test, key_is}
 use Rattle.cs_value.specs.declared.catalog.TableDef.{TableDef}
 use Rattle.cs_log.specs.Laws.{EmptyIsLog}
 use Rattle.cs_position.specs.Values.{catalog_bytes}

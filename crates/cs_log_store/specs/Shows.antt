@@ -9,7 +9,7 @@ use Rattle.cs_store.specs.Contents.{Contents, LogItem, StorePlace, log_count, lo
 use Rattle.cs_store.specs.States.{Holds}
 use Rattle.cs_store.specs.declared.names.MetaName.{MetaName}
 use Rattle.cs_store.specs.declared.names.MetaName.TheVariants.{Id, Version, Number, Flight, Pending, Catalog}
-use Rattle.cs_position.specs.cs_pending.Shows.{IsElsewhere}
+use Rattle.cs_pending.specs.Shows.{IsElsewhere}
 use Rattle.cs_position.specs.Values.{catalog_bytes}
 
 -- an entry as the store has it

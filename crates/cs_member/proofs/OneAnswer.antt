@@ -8,7 +8,7 @@ use Rattle.cs_position.specs.declared.position.Position.{Position}
 use Rattle.cs_replica.specs.Answered.{Answers}
 use Rattle.cs_replica.specs.Laws.{OneAnswered}
 use Rattle.cs_store.specs.Contents.{Contents}
-use Rattle.cs_replica.specs.cs_taking.Laws.{OneContents, PicksOnce}
+use Rattle.cs_taking.specs.Laws.{OneContents, PicksOnce}
 use Rattle.cs_value.specs.declared.catalog.TableDef.{TableDef}
 use Rattle.cs_wishes.specs.Wished.{IsWished}
 use Rattle.cs_member.specs.Laws.{OneHeard}

@@ -14,7 +14,7 @@ use Rattle.cs_position.specs.Shows.{ShowsAt}
 use Rattle.cs_position.specs.declared.position.Position.{Position}
 use Rattle.cs_replica.specs.Edited.{with_pending}
 use Rattle.cs_store.specs.Contents.{Contents}
-use Rattle.cs_replica.specs.cs_taking.Laws.{OneContents}
+use Rattle.cs_taking.specs.Laws.{OneContents}
 use Rattle.cs_value.specs.Key.{Place}
 use Rattle.cs_value.specs.Same.{same_place}
 use Rattle.cs_value.specs.declared.catalog.TableDef.{TableDef}

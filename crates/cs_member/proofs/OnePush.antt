@@ -8,10 +8,10 @@ use Rattle.cs_outgoing.specs.Outgoing.{IsPendingOf, OnePending}
 use Rattle.cs_pending.specs.View.{View}
 use Rattle.cs_position.specs.Shows.{flown}
 use Rattle.cs_position.specs.declared.position.Position.{Position}
-use Rattle.cs_replica.specs.cs_pushing.Laws.{IsOfPush, NoFaultWhereMade, OnePushFault}
-use Rattle.cs_replica.specs.cs_pushing.Pushes.{IsPushFault, IsResendFault, grounded, pushed, request_of}
-use Rattle.cs_replica.specs.cs_pushing.PushFault.{PushFault}
-use Rattle.cs_replica.specs.cs_pushing.PushFault.TheVariants.{Device, InFlight, Memory, Nothing, Spent, TooLarge}
+use Rattle.cs_pushing.specs.Laws.{IsOfPush, NoFaultWhereMade, OnePushFault}
+use Rattle.cs_pushing.specs.Pushes.{IsPushFault, IsResendFault, grounded, pushed, request_of}
+use Rattle.cs_pushing.specs.declared.fault.PushFault.{PushFault}
+use Rattle.cs_pushing.specs.declared.fault.PushFault.TheVariants.{Device, InFlight, Memory, Nothing, Spent, TooLarge}
 use Rattle.cs_value.specs.declared.catalog.TableDef.{TableDef}
 use Rattle.cs_wire.specs.Requests.{Asked}
 use Rattle.cs_member.specs.Laws.{IsOfPushed, OnePushed, OneResent}

@@ -2,9 +2,9 @@
 use Rattle.std.proofs.Common.{List, Result, Ok, Err, refl, inl, inr}
 use Rattle.std.specs.Prelude.{◌⊎◌}
 use Rattle.cs_normal.specs.declared.normal.TableChanges.{TableChanges}
-use Rattle.cs_replica.specs.cs_pushing.Laws.{IsOfPush, MadeOrPushFault}
-use Rattle.cs_replica.specs.cs_pushing.Pushes.{IsPushFault, IsPushMade, grounded, pushed, request_of}
-use Rattle.cs_replica.specs.cs_pushing.PushFault.{PushFault}
+use Rattle.cs_pushing.specs.Laws.{IsOfPush, MadeOrPushFault}
+use Rattle.cs_pushing.specs.Pushes.{IsPushFault, IsPushMade, grounded, pushed, request_of}
+use Rattle.cs_pushing.specs.declared.fault.PushFault.{PushFault}
 use Rattle.cs_store.specs.Contents.{Contents}
 use Rattle.cs_value.specs.declared.catalog.TableDef.{TableDef}
 use Rattle.cs_wire.specs.Requests.{Asked}

@@ -19,11 +19,11 @@ use Rattle.cs_pending.specs.declared.fault.EditFault.TheVariants as edits
 use Rattle.cs_position.specs.Laws.{FitsPosition, OnePosition}
 use Rattle.cs_position.specs.Shows.{ShowsAt, ShowsSomeAt}
 use Rattle.cs_position.specs.declared.position.Position.{Position}
-use Rattle.cs_replica.specs.cs_pulling.AnswerFault.{AnswerFault}
-use Rattle.cs_replica.specs.cs_pulling.AnswerFault.TheVariants as fault
-use Rattle.cs_replica.specs.cs_pushing.Pushes.{IsPushFault, IsPushMadeIn, IsPushOf, grounded, pushed, request_of}
-use Rattle.cs_replica.specs.cs_pushing.PushFault.{PushFault}
-use Rattle.cs_replica.specs.cs_pushing.PushFault.TheVariants as pushes
+use Rattle.cs_pulling.specs.declared.fault.AnswerFault.{AnswerFault}
+use Rattle.cs_pulling.specs.declared.fault.AnswerFault.TheVariants as fault
+use Rattle.cs_pushing.specs.Pushes.{IsPushFault, IsPushMadeIn, IsPushOf, grounded, pushed, request_of}
+use Rattle.cs_pushing.specs.declared.fault.PushFault.{PushFault}
+use Rattle.cs_pushing.specs.declared.fault.PushFault.TheVariants as pushes
 use Rattle.cs_replica.specs.Answered.{Answers, TellsAccepted}
 use Rattle.cs_replica.specs.Edited.{IsEditedIn, with_pending}
 use Rattle.cs_replica.specs.Holding.{Holding, Shows}
@@ -38,9 +38,9 @@ use Rattle.cs_wishes.specs.Wished.{IsWished}
 use Rattle.cs_wire.specs.Entries.{ToldEntry}
 use Rattle.cs_wire.specs.declared.answer.Answer.TheVariants as told
 use Rattle.cs_wire.specs.declared.short_answer.ShortAnswer.TheVariants as short
-use Rattle.cs_replica.specs.cs_pulling.Calls.{WritesInTurn}
-use Rattle.cs_replica.specs.cs_pulling.Listed.{PullsMany, count_of}
-use Rattle.cs_replica.specs.cs_taking.Takes.{taken}
+use Rattle.cs_pulling.specs.Calls.{WritesInTurn}
+use Rattle.cs_pulling.specs.Listed.{PullsMany, count_of}
+use Rattle.cs_taking.specs.Takes.{taken}
 use Rattle.cs_member.specs.Leaves.{CallLeaves}
 use Rattle.cs_member.specs.Member.{AreRowsIn, Hears, IsEditedBy, IsEditedTo, IsPushedTo, Member, Turns, asked_of, member_of, table_of}
 

@@ -4,9 +4,9 @@ use Rattle.std.specs.List.{AllByRecursion}
 use Rattle.cs_conflict.specs.declared.wish.Wish.{Wish}
 use Rattle.cs_pending.specs.Edits.{IsOfStore}
 use Rattle.cs_pending.specs.declared.fault.EditFault.{EditFault}
-use Rattle.cs_replica.specs.cs_pulling.AnswerFault.{AnswerFault}
-use Rattle.cs_replica.specs.cs_pushing.Laws.{IsOfPush}
-use Rattle.cs_replica.specs.cs_pushing.PushFault.{PushFault}
+use Rattle.cs_pulling.specs.declared.fault.AnswerFault.{AnswerFault}
+use Rattle.cs_pushing.specs.Laws.{IsOfPush}
+use Rattle.cs_pushing.specs.declared.fault.PushFault.{PushFault}
 use Rattle.cs_record.specs.Spelling.{Fits}
 use Rattle.cs_replica.specs.Laws.{IsOfAnswer}
 use Rattle.cs_replica.specs.declared.told.Told.{Told}

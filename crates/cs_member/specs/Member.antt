@@ -9,9 +9,9 @@ use Rattle.cs_pending.specs.declared.fault.EditFault.{EditFault}
 use Rattle.cs_position.specs.Laws.{FitsPosition}
 use Rattle.cs_position.specs.Shows.{ShowsAt, flown}
 use Rattle.cs_position.specs.declared.position.Position.{Position}
-use Rattle.cs_replica.specs.cs_pulling.AnswerFault.{AnswerFault}
-use Rattle.cs_replica.specs.cs_pushing.Pushes.{IsPushFault, IsPushMade, IsResendFault, grounded, pushed, request_of}
-use Rattle.cs_replica.specs.cs_pushing.PushFault.{PushFault}
+use Rattle.cs_pulling.specs.declared.fault.AnswerFault.{AnswerFault}
+use Rattle.cs_pushing.specs.Pushes.{IsPushFault, IsPushMade, IsResendFault, grounded, pushed, request_of}
+use Rattle.cs_pushing.specs.declared.fault.PushFault.{PushFault}
 use Rattle.cs_replica.specs.Answered.{Answers}
 use Rattle.cs_replica.specs.Edited.{IsEditedIn, with_pending}
 use Rattle.cs_replica.specs.Holding.{Holding, Shows}

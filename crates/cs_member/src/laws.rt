@@ -15,7 +15,7 @@ pub fn hears_keeps_id()
 pub fn one_edited()
     ensures { OneEdited }
 {
-    cs_replica::below::one_contents();
+    cs_taking::laws::one_contents();
 }
 
 /// An edit of a replica that some store shows has a result, and some store shows what it leaves.
@@ -33,14 +33,14 @@ pub fn one_pushed()
     ensures { OnePushed }
 {
     cs_outgoing::laws::one_pending();
-    cs_replica::below::one_push();
+    cs_pushing::laws::one_push();
 }
 
 /// A push of a replica that some store shows has a result, and some store shows what it leaves.
 pub fn push_has_result()
     ensures { PushHasResult }
 {
-    cs_replica::below::made_or_push_fault();
+    cs_pushing::laws::made_or_push_fault();
 }
 
 /// But for want of memory the push under way asks one thing once more, or there is none.
@@ -60,7 +60,7 @@ pub fn one_heard()
     ensures { OneHeard }
 {
     cs_pending::laws::one_view();
-    cs_replica::below::one_contents();
+    cs_taking::laws::one_contents();
     let wishes = Wishes::new(&[]);
     one_answered_by(&wishes);
 }

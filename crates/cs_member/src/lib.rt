@@ -5,7 +5,6 @@
 //! `cs_replica_tests`.
 #![tactic(auto)]
 
-pub mod below;
 pub mod laws;
 mod turning;
 

@@ -7,8 +7,8 @@ ghost use Rattle.cs_value.specs.declared.edit.Edit.TheVariants.{Delete, Insert, 
 ghost use Rattle.cs_wire.specs.Requests.{HasShortChangeset, asked_by_owned};
 ghost use Rattle.cs_pending.specs.View.{View};
 ghost use Rattle.cs_pending.specs.declared.fault.EditFault.TheVariants as edits;
-ghost use Rattle.cs_replica.specs.cs_pushing.PushFault.TheVariants as pushes;
-ghost use Rattle.cs_replica.specs.cs_pushing.Pushes.{IsPushMadeIn};
+ghost use Rattle.cs_pushing.specs.declared.fault.PushFault.TheVariants as pushes;
+ghost use Rattle.cs_pushing.specs.Pushes.{IsPushMadeIn};
 ghost use Rattle.cs_replica.specs.Answered.{IsAnsweredNext, SaysDevice};
 ghost use Rattle.cs_replica.specs.Holding.{Shows};
 ghost use Rattle.cs_store.specs.declared.fault.StoreFault.TheVariants as stored;
@@ -16,7 +16,8 @@ ghost use Rattle.cs_wishes.specs.Wished.{IsWished};
 
 use cs_conflict::Wish;
 use cs_pending::EditFault;
-use cs_replica::below::{AnswerFault, PushFault};
+use cs_pulling::AnswerFault;
+use cs_pushing::PushFault;
 use cs_replica::{Replica, Told};
 use cs_rows::RowAtKey;
 use cs_store::{RowStore, StoreFault};

@@ -6,7 +6,7 @@ use Rattle.cs_value.specs.declared.catalog.TableDef.{TableDef}
 use Rattle.cs_change.specs.Spelling.{change_spelling}
 use Rattle.cs_normal.specs.declared.normal.TableChanges.{TableChanges}
 use Rattle.cs_apply.specs.NormalTasks.{keyed_tasks}
-use Rattle.cs_apply.specs.cs_tasks.Tasks.{Task}
+use Rattle.cs_tasks.specs.Tasks.{Task}
 use Rattle.cs_store.specs.Contents.{Bodies, Contents, Log, Meta, StorePlace, name_text}
 use Rattle.cs_store.specs.Written.{edit_body, edit_meta, with_body}
 use Rattle.cs_store.specs.declared.batch.MetaEdit.{MetaEdit}

@@ -14,7 +14,7 @@ use Rattle.cs_store.specs.Whole.{IsName, IsWhole}
 use Rattle.cs_store.specs.Written.{after_batch}
 use Rattle.cs_store.specs.declared.batch.Batch.{Batch}
 use Rattle.cs_store.specs.declared.names.MetaName.TheVariants.{Id, Pending}
-use Rattle.cs_opening.specs.cs_position.Position.{Position}
+use Rattle.cs_position.specs.declared.position.Position.{Position}
 use Rattle.cs_copying.specs.Copied.{HoldsRowsAlone}
 use Rattle.cs_opening.specs.Laws.{IsOfContents, NoFaultWhereOpened, ShownIsWhole}
 use Rattle.cs_opening.specs.Opens.{IsOpenFault, IsReplicaAt, StandsAt}

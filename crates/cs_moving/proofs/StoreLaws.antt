@@ -13,8 +13,8 @@ use Rattle.cs_log.specs.declared.body.Body.TheVariants.{Changes}
 use Rattle.cs_store.specs.Contents.{Contents, meta_value, name_text}
 use Rattle.cs_store.specs.declared.names.MetaName.TheVariants as named
 use Rattle.cs_wire.specs.Numbers.{four_bytes}
-use Rattle.cs_opening.specs.cs_position.Laws.{OnePosition}
-use Rattle.cs_opening.specs.cs_position.Position.{Position}
+use Rattle.cs_position.specs.Laws.{OnePosition}
+use Rattle.cs_position.specs.declared.position.Position.{Position}
 use Rattle.cs_opening.specs.Laws.{IsOfContents, NoFaultWhereOpened, OneOpenFault, OneOpening, OpensOrFails}
 use Rattle.cs_opening.specs.Opens.{AreOf, IsOpenFault, IsReplicaAt, StandsAt}
 use Rattle.cs_opening.specs.declared.fault.OpenFault.{OpenFault}

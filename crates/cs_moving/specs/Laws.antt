@@ -5,7 +5,7 @@ use Rattle.cs_value.specs.Catalog.{AreTables}
 use Rattle.cs_value.specs.declared.catalog.TableDef.{TableDef}
 use Rattle.cs_normal.specs.declared.normal.TableChanges.{TableChanges}
 use Rattle.cs_store.specs.Contents.{Contents}
-use Rattle.cs_opening.specs.cs_position.Position.{Position}
+use Rattle.cs_position.specs.declared.position.Position.{Position}
 use Rattle.cs_opening.specs.Laws.{IsOfContents}
 use Rattle.cs_opening.specs.declared.fault.OpenFault.{OpenFault}
 use Rattle.cs_moving.specs.Moved.{IsStoreFault, IsStoreOpened, KeepsValue}

@@ -10,7 +10,7 @@ use Rattle.cs_apply.specs.NormalTasks.{keyed_tasks}
 use Rattle.cs_log.specs.declared.entry.TheConstants.{MAX_CHANGESET}
 use Rattle.cs_store.specs.Contents.{Bodies, Contents, StorePlace, meta_value, name_text}
 use Rattle.cs_store.specs.declared.names.MetaName.TheVariants.{Pending}
-use Rattle.cs_opening.specs.cs_position.Position.{Position}
+use Rattle.cs_position.specs.declared.position.Position.{Position}
 use Rattle.cs_opening.specs.Fresh.{IsSameOrFirst}
 use Rattle.cs_opening.specs.Opens.{IsOpenFault, IsReplicaAt, StandsAt}
 use Rattle.cs_opening.specs.declared.fault.OpenFault.{OpenFault}

@@ -3,13 +3,13 @@ use Rattle.std.specs.Prelude.{◌≡◌, ℕ, pos, List, Option, Some, IsSome}
 use Rattle.cs_value.specs.declared.catalog.TableDef.{TableDef}
 use Rattle.cs_change.specs.Spelling.{change_spelling}
 use Rattle.cs_normal.specs.declared.normal.TableChanges.{TableChanges}
-use Rattle.cs_apply.specs.cs_tasks.Tasks.{Task}
+use Rattle.cs_tasks.specs.Tasks.{Task}
 use Rattle.cs_store.specs.Contents.{Contents, StorePlace, meta_value}
 use Rattle.cs_store.specs.Written.{after_batch, optional_bytes, store_place}
 use Rattle.cs_store.specs.declared.batch.Batch.{Batch}
 use Rattle.cs_edits.specs.Edits.{BodyEdit}
 use Rattle.cs_store.specs.declared.names.MetaName.TheVariants.{Id, Pending}
-use Rattle.cs_opening.specs.cs_position.Position.{Position}
+use Rattle.cs_position.specs.declared.position.Position.{Position}
 use Rattle.cs_opening.specs.Opens.{StandsAt}
 use Rattle.cs_moving.specs.Moved.{IsPendingValue, KeepsValue, moved}
 

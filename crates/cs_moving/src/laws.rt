@@ -13,5 +13,5 @@ pub fn store_openings()
 {
     cs_log::laws::one_body();
     cs_opening::laws::openings();
-    cs_opening::below::one_position();
+    cs_position::laws::one_position();
 }

@@ -5,7 +5,6 @@
 //! Its tests stand in `cs_replica_tests`.
 #![tactic(auto)]
 
-pub mod below;
 mod edits;
 pub mod laws;
 mod moving;

@@ -1,13 +1,13 @@
 //! Any store, opened; a value of pending changes is moved.
 
 ghost use Rattle.std.specs.Prelude.{◌≡◌, IfErr, IfOk};
-ghost use Rattle.cs_opening.specs.cs_pending.Calls.{WritesStore};
+ghost use Rattle.cs_pending.specs.Calls.{WritesStore};
 ghost use Rattle.cs_moving.specs.Moved.{IsSameOrOpened, IsStoreFault, IsStoreOpened};
 ghost use Rattle.cs_opening.specs.declared.fault.OpenFault.TheVariants.{Device};
 
 use crate::planning::plan_move;
-use cs_opening::below::Position;
 use cs_opening::{OpenFault, open_at};
+use cs_position::Position;
 use cs_store::RowStore;
 use cs_value::Catalog;
 use std::alloc::Global;

@@ -15,8 +15,8 @@ use Rattle.cs_position.specs.declared.position.Position.{Position}
 use Rattle.cs_opening.specs.Fresh.{first_position}
 use Rattle.cs_opening.specs.declared.fault.OpenFault.{OpenFault}
 use Rattle.cs_opening.specs.declared.fault.OpenFault.TheVariants.{Memory, Damaged, Device, Mismatch}
-use Rattle.cs_following.specs.cs_replica.Moved.{IsStoreFault, IsStoreOpened}
-use Rattle.cs_following.specs.cs_replica.Opened.{Opens}
+use Rattle.cs_replica.specs.Moved.{IsStoreFault, IsStoreOpened}
+use Rattle.cs_replica.specs.Opened.{Opens}
 use Rattle.cs_following.specs.Laws.{FreshStands}
 use Rattle.cs_following.specs.Standing.{StandsIn}
 

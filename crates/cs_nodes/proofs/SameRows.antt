@@ -7,7 +7,7 @@ use Rattle.cs_store.specs.Contents.{Contents}
 use Rattle.cs_pending.specs.View.{View}
 use Rattle.cs_position.specs.Shows.{ShowsAt}
 use Rattle.cs_position.specs.declared.position.Position.{Position}
-use Rattle.cs_following.specs.cs_taking.Laws.{OneLogRows}
+use Rattle.cs_taking.specs.Laws.{OneLogRows}
 use Rattle.cs_following.specs.Laws.{EqualWhereMet}
 use Rattle.cs_following.specs.Pushes.{IsAtRest}
 use Rattle.cs_following.specs.Standing.{StandsIn}

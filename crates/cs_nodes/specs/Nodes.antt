@@ -1,7 +1,7 @@
 -- A node: a replica, and what its thread knows of a row of cells (profile of this project).
 use Rattle.std.specs.Prelude.{◌≡◌, ◌≤◌, length}
 use Rattle.cs_store.specs.Contents.{Contents}
-use Rattle.cs_following.specs.cs_replica.Holding.{Holding}
+use Rattle.cs_replica.specs.Holding.{Holding}
 use Rattle.cs_spine.specs.Known.{Known}
 use Rattle.cs_following.specs.Pushes.{IsAtRest}
 use Rattle.cs_following.specs.Standing.{StandsWhereHonest}

@@ -11,9 +11,9 @@ ghost use Rattle.cs_store.specs.Contents.{nothing};
 ghost use Rattle.cs_pending.specs.declared.fault.EditFault.TheVariants as editing;
 ghost use Rattle.cs_position.specs.Shows.{ShowsSomeAt};
 ghost use Rattle.cs_following.specs.Calls.{WritesInTurn};
-ghost use Rattle.cs_following.specs.cs_replica.Edited.{IsEditedIn, with_pending};
-ghost use Rattle.cs_following.specs.cs_replica.Holding.{Shows};
-ghost use Rattle.cs_following.specs.cs_replica.Opened.{Opens};
+ghost use Rattle.cs_replica.specs.Edited.{IsEditedIn, with_pending};
+ghost use Rattle.cs_replica.specs.Holding.{Shows};
+ghost use Rattle.cs_replica.specs.Opened.{Opens};
 ghost use Rattle.cs_rows.specs.Rows.{AreRowsOf};
 ghost use Rattle.cs_store.specs.declared.fault.StoreFault.TheVariants as stored;
 ghost use Rattle.cs_value.specs.declared.catalog.TableDef.{TableDef};
@@ -26,10 +26,10 @@ ghost use Rattle.cs_following.specs.declared.pushed.NodePush.TheVariants.{Behind
 ghost use Rattle.cs_nodes.specs.Nodes.{IsNode};
 
 use cs_conflict::Picker;
-use cs_following::below::Replica;
 use cs_following::{NodeFault, NodePush, edit_row, is_at_rest, pull_known, push_known, rows_of};
 use cs_opening::OpenFault;
 use cs_pending::EditFault;
+use cs_replica::Replica;
 use cs_rows::RowAtKey;
 use cs_spine::{Pass, Spine};
 use cs_store::{RowStore, StoreFault};

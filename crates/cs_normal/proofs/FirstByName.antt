@@ -7,9 +7,9 @@ use Rattle.std.proofs.lemmas.List.{get_or_default, get_or-map, get_or-take, leng
 use Rattle.std.proofs.lemmas.List.Folds.{Any-from_list_any, list_any_at, list_any-append}
 use Rattle.std.proofs.lemmas.Slice.Eq.{bytes_eq-Decides}
 use Rattle.cs_value.specs.declared.catalog.TableDef.{TableDef}
-use Rattle.cs_keyed.specs.cs_order.Facts.{first_place}
-use Rattle.cs_keyed.specs.cs_order.Groups.{has_bytes, places_of}
-use Rattle.cs_keyed.specs.cs_order.Order.{Keys, key_at, same_bytes}
+use Rattle.cs_order.specs.Facts.{first_place}
+use Rattle.cs_order.specs.Groups.{has_bytes, places_of}
+use Rattle.cs_order.specs.Order.{Keys, key_at, same_bytes}
 use Rattle.cs_normal.specs.Steps.FirstTables.{first_is, is_new, with_new, AreFirstTables, HaveNamesOf, IsFrontOf}
 use Rattle.cs_normal.specs.Placed.{table_name}
 use Rattle.cs_normal.proofs.HeaderTables.{front_more, one_more}

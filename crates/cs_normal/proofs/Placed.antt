@@ -3,9 +3,9 @@ use Rattle.std.proofs.Common.{◌≡◌, ℕ, ◌<◌, List, [], ◌∷◌, leng
 use Rattle.std.specs.List.{AllByRecursion, Contains}
 use Rattle.std.proofs.lemmas.List.{get_or-map, length-map}
 use Rattle.std.proofs.lemmas.List.Elements.{All-contains_itself, recursion_from_All}
-use Rattle.cs_keyed.specs.cs_order.Facts.{first_place, no_places}
-use Rattle.cs_keyed.specs.cs_order.Groups.{places_of, IsGrouping}
-use Rattle.cs_keyed.specs.cs_order.Order.{Keys, key_at}
+use Rattle.cs_order.specs.Facts.{first_place, no_places}
+use Rattle.cs_order.specs.Groups.{places_of, IsGrouping}
+use Rattle.cs_order.specs.Order.{Keys, key_at}
 use Rattle.cs_normal.specs.Placed.{name_first, AreGrouped}
 use Rattle.cs_normal.specs.NormalFacts.{has_place}
 

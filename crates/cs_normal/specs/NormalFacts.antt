@@ -19,17 +19,17 @@ use Rattle.cs_value.specs.Facts.{same_value-tells}
 use Rattle.cs_value.specs.declared.value.Value.{Value}
 use Rattle.cs_value.specs.declared.value.Field.{Field}
 use Rattle.cs_value.specs.declared.value.Field.TheVariants.{Undefined, Is}
-use Rattle.cs_keyed.specs.cs_record.Spelling.{Fits}
-use Rattle.cs_keyed.specs.cs_change.Change.{Change}
-use Rattle.cs_keyed.specs.cs_change.Spelling.{is_nonzero, marks_of, FitsChange, AreUpdateColumns}
-use Rattle.cs_keyed.specs.cs_change.Action.{action}
-use Rattle.cs_keyed.specs.cs_change.Columns.{fits, holds}
-use Rattle.cs_keyed.specs.cs_change.Change.TheVariants.{Insert, Delete, Update}
-use Rattle.cs_keyed.specs.cs_change.Normal.{NormalUpdate, no_column, key_column, unmodified, modified, IsNormal}
-use Rattle.cs_keyed.specs.cs_change.Then.{is_idle}
-use Rattle.cs_keyed.specs.cs_order.Order.{same_bytes, Keys, key_at, places}
-use Rattle.cs_keyed.specs.cs_order.Facts.{Above}
-use Rattle.cs_keyed.specs.cs_order.Groups.{has_bytes, places_of}
+use Rattle.cs_record.specs.Spelling.{Fits}
+use Rattle.cs_change.specs.declared.change.Change.{Change}
+use Rattle.cs_change.specs.Spelling.{is_nonzero, marks_of, FitsChange, AreUpdateColumns}
+use Rattle.cs_change.specs.Action.{action}
+use Rattle.cs_change.specs.Columns.{fits, holds}
+use Rattle.cs_change.specs.declared.change.Change.TheVariants.{Insert, Delete, Update}
+use Rattle.cs_change.specs.Normal.{NormalUpdate, no_column, key_column, unmodified, modified, IsNormal}
+use Rattle.cs_change.specs.Then.{is_idle}
+use Rattle.cs_order.specs.Order.{same_bytes, Keys, key_at, places}
+use Rattle.cs_order.specs.Facts.{Above}
+use Rattle.cs_order.specs.Groups.{has_bytes, places_of}
 use Rattle.cs_keyed.specs.Changes.{Changes, change_at, key_bytes, IsSpelled}
 use Rattle.cs_keyed.specs.NormalForm.{marked_fields, change_key, normal_olds, normal_news, normal_form}
 use Rattle.cs_keyed.specs.Laws.{BytesTellKeys}

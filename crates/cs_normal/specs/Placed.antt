@@ -2,8 +2,8 @@
 use Rattle.std.specs.Prelude.{◌≡◌, ◌↔◌, ℕ, List, Contains, map, slice_index}
 use Rattle.std.specs.List.Sorted.{IsStrictlySortedBy}
 use Rattle.cs_value.specs.declared.catalog.TableDef.{TableDef}
-use Rattle.cs_keyed.specs.cs_order.Groups.{places_of}
-use Rattle.cs_keyed.specs.cs_order.Order.{Keys, by_bytes, key_at}
+use Rattle.cs_order.specs.Groups.{places_of}
+use Rattle.cs_order.specs.Order.{Keys, by_bytes, key_at}
 
 -- the name at the first of some places
 abbrev pub name_first : Keys → List ℕ → List ℕ

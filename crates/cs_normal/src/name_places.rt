@@ -1,11 +1,11 @@
 //! Where names stand in a list, so that the places of one name are found without a walk over the whole list.
 
 ghost use Rattle.std.specs.Prelude.{◌≡◌, map, slice_index, IfOk};
-ghost use Rattle.cs_keyed.specs.cs_order.Groups.{places_of, IsGrouping};
-ghost use Rattle.cs_keyed.specs.cs_order.Order.{key_at, keys_behind};
+ghost use Rattle.cs_order.specs.Groups.{places_of, IsGrouping};
+ghost use Rattle.cs_order.specs.Order.{key_at, keys_behind};
 ghost use Rattle.cs_normal.specs.Placed.{name_first, AreGrouped};
 
-use cs_keyed::below::{Groups, Keys, group_keys};
+use cs_order::{Groups, Keys, group_keys};
 use cs_value::Memory;
 use std::alloc::Global;
 use std::marker::Model;
@@ -20,7 +20,7 @@ pub struct NamePlaces<'a> {
 
 impl<'a> Model for NamePlaces<'a> {
     ghost use Rattle.std.specs.Prelude.{List, ℕ};
-    ghost use Rattle.cs_keyed.specs.cs_order.Order.{keys_behind};
+    ghost use Rattle.cs_order.specs.Order.{keys_behind};
     ghost use Rattle.cs_normal.specs.Placed.{AreGrouped};
 
     ghost Value = { List (List ℕ) };
@@ -55,8 +55,8 @@ fn names_once(alloc: Global, names: &[&[u8]], places: &Groups) -> Result<Keys, M
 
 impl<'a> NamePlaces<'a> {
     ghost use Rattle.std.specs.Prelude.{◌≡◌, IfOk};
-    ghost use Rattle.cs_keyed.specs.cs_order.Groups.{places_of};
-    ghost use Rattle.cs_keyed.specs.cs_order.Order.{keys_behind};
+    ghost use Rattle.cs_order.specs.Groups.{places_of};
+    ghost use Rattle.cs_order.specs.Order.{keys_behind};
 
     /// The places of these names: they are put in order once.
     pub fn new(alloc: Global, names: Vec<&'a [u8]>) -> Result<NamePlaces<'a>, Memory>

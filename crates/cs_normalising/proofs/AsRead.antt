@@ -6,8 +6,8 @@ use Rattle.std.proofs.lemmas.List.Elements.{recursion_from_All, All-contains_its
 use Rattle.std.proofs.lemmas.Slice.Eq.{bytes_eq-Decides}
 use Rattle.cs_value.specs.Catalog.{AreTables}
 use Rattle.cs_value.specs.declared.catalog.TableDef.{TableDef}
-use Rattle.cs_normal.specs.cs_change.Spelling.{FitsChange, FitsChangeset, marks_of}
-use Rattle.cs_normal.specs.cs_change.Group.{Group}
+use Rattle.cs_change.specs.Spelling.{FitsChange, FitsChangeset, marks_of}
+use Rattle.cs_change.specs.declared.group.Group.{Group}
 use Rattle.cs_normalising.specs.NormalFormOf.{changes_of, HasTable, HaveTables}
 use Rattle.cs_normal.specs.NormalFacts.{by_test, one_table}
 use Rattle.cs_normalising.proofs.PerTable.{AreAsRead}

@@ -13,20 +13,20 @@ use Rattle.std.proofs.lemmas.List.Elements.{recursion_from_All}
 use Rattle.std.proofs.lemmas.List.Sorted.{IsPermutation-refl, IsPermutation-sym, IsPermutation-trans, IsPermutation-cons, IsPermutation-middle}
 use Rattle.std.proofs.lemmas.Map.Keys.{sorted_head, sorted_tail}
 use Rattle.cs_value.specs.declared.catalog.TableDef.{TableDef}
-use Rattle.cs_normal.specs.cs_change.Change.{Change}
-use Rattle.cs_normal.specs.cs_change.Group.{Group}
+use Rattle.cs_change.specs.declared.change.Change.{Change}
+use Rattle.cs_change.specs.declared.group.Group.{Group}
 use Rattle.cs_order.specs.Order.{by_bytes, same_bytes}
-use Rattle.cs_normal.specs.cs_keyed.Changes.{Changes}
+use Rattle.cs_keyed.specs.Changes.{Changes}
 use Rattle.cs_normalising.specs.Laws.{FitHasForm}
-use Rattle.cs_normal.specs.cs_keyed.NormalForm.{AreKeyed}
+use Rattle.cs_keyed.specs.NormalForm.{AreKeyed}
 use Rattle.cs_normalising.specs.NormalFormOf.{changes_of}
-use Rattle.cs_normal.specs.cs_keyed.Prepared.{Entries, all_keyed, kept, prepared}
+use Rattle.cs_keyed.specs.Prepared.{Entries, all_keyed, kept, prepared}
 use Rattle.cs_normalising.specs.Steps.Prepared.{rises, rises_from}
 use Rattle.cs_normalising.specs.Steps.TableByTable.{AreTablesOf, no_table, next, IsTableOf}
 use Rattle.cs_normal.specs.declared.normal.TableChanges.{TableChanges}
 use Rattle.cs_normalising.proofs.Gathered.{is_table_of}
 use Rattle.cs_order.specs.Facts.{Above, above_more, cons_sorted}
-use Rattle.cs_normal.specs.cs_keyed.Facts.{all_keyed_is, prepared_keys}
+use Rattle.cs_keyed.specs.Facts.{all_keyed_is, prepared_keys}
 use Rattle.cs_normal.specs.NormalFacts.{by_test}
 use Rattle.cs_normalising.proofs.NormalLaws.{distinct_on}
 use Rattle.cs_normalising.proofs.Whole.{IsFront}

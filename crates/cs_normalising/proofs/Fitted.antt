@@ -3,12 +3,12 @@ use Rattle.std.proofs.Common.{Bool, true, false, List, [], ◌∷◌, Option, So
 use Rattle.std.specs.List.{AllByRecursion}
 use Rattle.cs_value.specs.declared.value.Field.{Field}
 use Rattle.cs_value.specs.declared.value.Field.TheVariants.{Undefined, Is}
-use Rattle.cs_normal.specs.cs_record.Spelling.{Fits}
-use Rattle.cs_normal.specs.cs_change.Columns.{is_blank}
-use Rattle.cs_normal.specs.cs_change.Spelling.{FitsChange, AreUpdateColumns, IsUpdateColumn}
-use Rattle.cs_normal.specs.cs_change.Change.{Change}
-use Rattle.cs_normal.specs.cs_change.Change.TheVariants.{Insert, Delete, Update}
-use Rattle.cs_normal.specs.cs_keyed.NormalForm.{changes_value, normal_old, normal_new, normal_olds, normal_news, normal_form}
+use Rattle.cs_record.specs.Spelling.{Fits}
+use Rattle.cs_change.specs.Columns.{is_blank}
+use Rattle.cs_change.specs.Spelling.{FitsChange, AreUpdateColumns, IsUpdateColumn}
+use Rattle.cs_change.specs.declared.change.Change.{Change}
+use Rattle.cs_change.specs.declared.change.Change.TheVariants.{Insert, Delete, Update}
+use Rattle.cs_keyed.specs.NormalForm.{changes_value, normal_old, normal_new, normal_olds, normal_news, normal_form}
 use Rattle.cs_normal.specs.NormalFacts.{by_test}
 
 old_fits : (m : Bool) (o n : Field) → Fits o → Fits (normal_old m o n)

@@ -7,13 +7,13 @@ use Rattle.cs_value.specs.Same.{same_value}
 use Rattle.cs_value.specs.declared.value.Value.{Value}
 use Rattle.cs_value.specs.declared.value.Field.{Field}
 use Rattle.cs_value.specs.declared.value.Field.TheVariants.{Undefined, Is}
-use Rattle.cs_normal.specs.cs_change.Action.{Updates, action_any, after, after_any}
-use Rattle.cs_normal.specs.cs_change.Columns.{fits, column_fits, holds, set_columns, is_blank}
-use Rattle.cs_normal.specs.cs_change.Normal.{NormalUpdate, IsNormalIfAny}
-use Rattle.cs_normal.specs.cs_change.Normal as n
-use Rattle.cs_normal.specs.cs_change.Then.{is_idle}
-use Rattle.cs_normal.specs.cs_change.Change.TheVariants.{Insert, Delete, Update}
-use Rattle.cs_normal.specs.cs_keyed.NormalForm.{normal_form, normal_olds, normal_news, update_unless_blank}
+use Rattle.cs_change.specs.Action.{Updates, action_any, after, after_any}
+use Rattle.cs_change.specs.Columns.{fits, column_fits, holds, set_columns, is_blank}
+use Rattle.cs_change.specs.Normal.{NormalUpdate, IsNormalIfAny}
+use Rattle.cs_change.specs.Normal as n
+use Rattle.cs_change.specs.Then.{is_idle}
+use Rattle.cs_change.specs.declared.change.Change.TheVariants.{Insert, Delete, Update}
+use Rattle.cs_keyed.specs.NormalForm.{normal_form, normal_olds, normal_news, update_unless_blank}
 use Rattle.cs_normalising.specs.Laws.{LenientUpdate, no_column, key_column, key_again, unmodified, modified, NormalFormKeeps}
 use Rattle.cs_normal.specs.NormalFacts.{by_test}
 use Rattle.cs_order.specs.Facts.{both_true}

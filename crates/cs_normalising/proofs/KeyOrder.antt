@@ -8,9 +8,9 @@ use Rattle.std.proofs.Math.ListN.{get_or-map}
 use Rattle.std.proofs.lemmas.List.{same_lists, length-map, get_or_default}
 use Rattle.std.proofs.lemmas.List.FromFn.{get_or-map-range_with_len, length-map-range_with_len}
 use Rattle.std.proofs.lemmas.List.Sorted.{IsPermutation-map}
-use Rattle.cs_normal.specs.cs_change.Change.{Change}
+use Rattle.cs_change.specs.declared.change.Change.{Change}
 use Rattle.cs_order.specs.Order.{key_at, IsOrder, by_bytes}
-use Rattle.cs_normal.specs.cs_keyed.Prepared.{Entries}
+use Rattle.cs_keyed.specs.Prepared.{Entries}
 use Rattle.cs_normalising.specs.Lent.{nth_entry}
 use Rattle.cs_normalising.specs.Steps.Prepared.{is_below}
 

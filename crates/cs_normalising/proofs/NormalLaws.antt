@@ -9,14 +9,14 @@ use Rattle.std.proofs.lemmas.List.Sorted.{IsPermutation-map, IsPermutation-sym, 
 use Rattle.std.proofs.lemmas.Map.Keys.{sorted_head, sorted_tail, IsDistinct-from_sorted, IsDistinct-IsPermutation}
 use Rattle.std.proofs.lemmas.Map.Views.{Contains-from_lookup, lookup-from_Contains}
 use Rattle.std.proofs.lemmas.Cmp.{nat_list_cmp_total}
-use Rattle.cs_normal.specs.cs_change.Change.{Change}
+use Rattle.cs_change.specs.declared.change.Change.{Change}
 use Rattle.cs_order.specs.Order.{by_bytes, same_bytes}
 use Rattle.cs_order.specs.Facts.{Above, ascend_tells, cons_sorted, same_is}
 use Rattle.cs_order.specs.Steps.Rising.{ascend, ascend_from}
-use Rattle.cs_normal.specs.cs_keyed.Changes.{Changes, change_at, IsOrdered}
-use Rattle.cs_normal.specs.cs_keyed.NormalForm.{AreKeyed}
-use Rattle.cs_normal.specs.cs_keyed.Facts.{all_keyed_is, prepared_keys}
-use Rattle.cs_normal.specs.cs_keyed.Prepared.{Entries, prepared, all_keyed, kept}
+use Rattle.cs_keyed.specs.Changes.{Changes, change_at, IsOrdered}
+use Rattle.cs_keyed.specs.NormalForm.{AreKeyed}
+use Rattle.cs_keyed.specs.Facts.{all_keyed_is, prepared_keys}
+use Rattle.cs_keyed.specs.Prepared.{Entries, prepared, all_keyed, kept}
 use Rattle.cs_normal.specs.NormalFacts.{by_test, none_above}
 use Rattle.cs_normalising.specs.Steps.Prepared.{rises, rises_from}
 

@@ -6,7 +6,7 @@ use Rattle.std.specs.Prelude.{◌≢◌}
 use Rattle.std.specs.List.{All, HoldsAt, flat_map}
 use Rattle.std.proofs.lemmas.List.{get_or-map, length-map}
 use Rattle.cs_value.specs.declared.catalog.TableDef.{TableDef}
-use Rattle.cs_normal.specs.cs_change.Group.{Group}
+use Rattle.cs_change.specs.declared.group.Group.{Group}
 use Rattle.cs_order.specs.Facts.{first_place}
 use Rattle.cs_order.specs.Groups.{places_of}
 use Rattle.cs_order.specs.Order.{Keys}

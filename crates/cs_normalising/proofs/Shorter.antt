@@ -7,11 +7,11 @@ use Rattle.std.proofs.lemmas.List.{length-map}
 use Rattle.std.proofs.lemmas.Slice.Eq.{bytes_eq-Decides}
 use Rattle.cs_varint.specs.Varint.{spelling}
 use Rattle.cs_value.specs.declared.catalog.TableDef.{TableDef}
-use Rattle.cs_normal.specs.cs_change.Spelling.{flag_byte, is_nonzero, marks_of, change_spelling, changes_spelling, header_spelling, group_spelling, changeset_spelling}
-use Rattle.cs_normal.specs.cs_change.Change.{Change}
-use Rattle.cs_normal.specs.cs_change.Change.TheVariants.{Insert, Delete, Update}
-use Rattle.cs_normal.specs.cs_change.Group.{Group}
-use Rattle.cs_normal.specs.cs_keyed.Changes.{Changes}
+use Rattle.cs_change.specs.Spelling.{flag_byte, is_nonzero, marks_of, change_spelling, changes_spelling, header_spelling, group_spelling, changeset_spelling}
+use Rattle.cs_change.specs.declared.change.Change.{Change}
+use Rattle.cs_change.specs.declared.change.Change.TheVariants.{Insert, Delete, Update}
+use Rattle.cs_change.specs.declared.group.Group.{Group}
+use Rattle.cs_keyed.specs.Changes.{Changes}
 use Rattle.cs_normal.specs.Normal.{AreApart, table_spelling, normal_spelling}
 use Rattle.cs_normalising.specs.NormalFormOf.{changes_of}
 use Rattle.cs_normalising.specs.Steps.TableByTable.{IsTableOf, AreTablesOf, no_table, next}

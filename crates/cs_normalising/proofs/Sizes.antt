@@ -7,13 +7,13 @@ use Rattle.std.proofs.lemmas.List.Sums.{sum_by-cons}
 use Rattle.cs_value.specs.declared.value.Value.TheVariants.{Null, Int, Text, Blob}
 use Rattle.cs_value.specs.declared.value.Field.{Field}
 use Rattle.cs_value.specs.declared.value.Field.TheVariants.{Undefined, Is}
-use Rattle.cs_normal.specs.cs_record.Spelling.{field, record_of}
-use Rattle.cs_normal.specs.cs_change.Columns.{is_blank}
-use Rattle.cs_normal.specs.cs_change.Spelling.{change_spelling, changes_spelling}
-use Rattle.cs_normal.specs.cs_change.Change.{Change}
-use Rattle.cs_normal.specs.cs_change.Change.TheVariants.{Insert, Delete, Update}
-use Rattle.cs_normal.specs.cs_keyed.NormalForm.{change_bytes, has_key, normal_form, normal_old, normal_new, normal_olds, normal_news, changes_value}
-use Rattle.cs_normal.specs.cs_keyed.Prepared.{Entries, prepared, kept}
+use Rattle.cs_record.specs.Spelling.{field, record_of}
+use Rattle.cs_change.specs.Columns.{is_blank}
+use Rattle.cs_change.specs.Spelling.{change_spelling, changes_spelling}
+use Rattle.cs_change.specs.declared.change.Change.{Change}
+use Rattle.cs_change.specs.declared.change.Change.TheVariants.{Insert, Delete, Update}
+use Rattle.cs_keyed.specs.NormalForm.{change_bytes, has_key, normal_form, normal_old, normal_new, normal_olds, normal_news, changes_value}
+use Rattle.cs_keyed.specs.Prepared.{Entries, prepared, kept}
 use Rattle.cs_normal.specs.NormalFacts.{by_test}
 
 field_takes_a_byte : (f : Field) → 1 ≤ length (field f)

@@ -5,8 +5,8 @@ use Rattle.std.specs.Option.{MatchOption}
 use Rattle.std.proofs.lemmas.List.{take_all, take-append-drop}
 use Rattle.cs_value.specs.Catalog.{AreTables}
 use Rattle.cs_value.specs.declared.catalog.TableDef.{TableDef}
-use Rattle.cs_normal.specs.cs_change.Spelling.{FitsChangeset, changeset_spelling}
-use Rattle.cs_normal.specs.cs_change.Group.{Group}
+use Rattle.cs_change.specs.Spelling.{FitsChangeset, changeset_spelling}
+use Rattle.cs_change.specs.declared.group.Group.{Group}
 use Rattle.cs_normal.specs.Normal.{IsNormalChangeset, normal_spelling}
 use Rattle.cs_normalising.specs.NormalFormOf.{HaveTables, IsNormalFormOf, IsUnfit}
 use Rattle.cs_normalising.specs.Steps.TableByTable.{AreTablesOf, IsUnfitHeader}

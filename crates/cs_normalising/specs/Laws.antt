@@ -7,14 +7,14 @@ use Rattle.cs_value.specs.declared.catalog.TableDef.{TableDef}
 use Rattle.cs_value.specs.declared.value.Value.{Value}
 use Rattle.cs_value.specs.declared.value.Field.{Field}
 use Rattle.cs_value.specs.declared.value.Field.TheVariants.{Undefined, Is}
-use Rattle.cs_normal.specs.cs_change.Action.{action, action_any, after, after_any}
-use Rattle.cs_normal.specs.cs_change.Normal.{IsNormalIfAny}
-use Rattle.cs_normal.specs.cs_change.Spelling.{FitsChangeset}
-use Rattle.cs_normal.specs.cs_change.Change.{Change}
-use Rattle.cs_normal.specs.cs_change.Change.TheVariants.{Insert, Delete, Update}
-use Rattle.cs_normal.specs.cs_change.Group.{Group}
-use Rattle.cs_normal.specs.cs_keyed.Changes.{Changes, change_at, IsEntry}
-use Rattle.cs_normal.specs.cs_keyed.NormalForm.{keyed, normal_form, normal_form_any, IsNormalOf}
+use Rattle.cs_change.specs.Action.{action, action_any, after, after_any}
+use Rattle.cs_change.specs.Normal.{IsNormalIfAny}
+use Rattle.cs_change.specs.Spelling.{FitsChangeset}
+use Rattle.cs_change.specs.declared.change.Change.{Change}
+use Rattle.cs_change.specs.declared.change.Change.TheVariants.{Insert, Delete, Update}
+use Rattle.cs_change.specs.declared.group.Group.{Group}
+use Rattle.cs_keyed.specs.Changes.{Changes, change_at, IsEntry}
+use Rattle.cs_keyed.specs.NormalForm.{keyed, normal_form, normal_form_any, IsNormalOf}
 use Rattle.cs_normal.specs.Headers.{headers, tables_of_headers, HasTwoShapes}
 use Rattle.cs_normal.specs.Normal.{FitsCatalog, IsNormalChangeset, groups_of}
 use Rattle.cs_normal.specs.declared.normal.TableChanges.{TableChanges}

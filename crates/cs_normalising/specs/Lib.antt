@@ -4,6 +4,3 @@ pub mod Lent
 pub mod NormalFormOf
 pub mod Steps
 pub mod UnfitChanges
-pub mod cs_keyed
-pub mod cs_normal
-pub mod cs_order

@@ -3,11 +3,11 @@ use Rattle.std.specs.Prelude.{◌≡◌, ◌≢◌, ℕ, List, [], ◌∷◌, �
 use Rattle.std.specs.List.{flat_map}
 use Rattle.std.specs.Str.{bytes_eq}
 use Rattle.cs_value.specs.declared.catalog.TableDef.{TableDef}
-use Rattle.cs_normal.specs.cs_change.Spelling.{marks_of}
-use Rattle.cs_normal.specs.cs_change.Change.{Change}
-use Rattle.cs_normal.specs.cs_change.Group.{Group}
+use Rattle.cs_change.specs.Spelling.{marks_of}
+use Rattle.cs_change.specs.declared.change.Change.{Change}
+use Rattle.cs_change.specs.declared.group.Group.{Group}
 use Rattle.cs_normal.specs.Normal.{FitsCatalog, IsNormalChangeset, changes_in}
-use Rattle.cs_normal.specs.cs_keyed.NormalForm.{AreKeyed, IsNormalOf}
+use Rattle.cs_keyed.specs.NormalForm.{AreKeyed, IsNormalOf}
 use Rattle.cs_normalising.specs.UnfitChanges.{HasFirstUnfitChange}
 use Rattle.cs_normal.specs.declared.normal.TableChanges.{TableChanges}
 use Rattle.cs_normalising.specs.declared.unfit.Unfit.{Unfit}

@@ -1,9 +1,9 @@
 //! Changesets as read, that stay in their bytes, brought into normal form.
 
 ghost use Rattle.std.specs.Prelude.{◌≡◌, ◌≢◌, ◌<◌, ◌≤◌, ◌↔◌, ◌++◌, ◌∷◌, [], ℕ, List, length, map, take, All, HoldsAt, IsTrue, IfOk, IfErr, MatchOption, OnOk};
-ghost use Rattle.cs_normal.specs.cs_change.Spelling.{FitsChangeset, changeset_spelling, marks_of};
+ghost use Rattle.cs_change.specs.Spelling.{FitsChangeset, changeset_spelling, marks_of};
 ghost use Rattle.cs_order.specs.Order.{keys_behind};
-ghost use Rattle.cs_normal.specs.cs_keyed.Prepared.{kept};
+ghost use Rattle.cs_keyed.specs.Prepared.{kept};
 ghost use Rattle.cs_normalising.specs.Lent.{table_of};
 ghost use Rattle.cs_normal.specs.Normal.{normal_spelling, table_changes};
 ghost use Rattle.cs_normalising.specs.NormalFormOf.{HasTable, HaveTables, HaveKeys, IsNormalFormOf, IsUnfit};
@@ -16,7 +16,7 @@ use crate::lent_normal::LentNormal;
 use crate::lent_table::{LentTable, Ordered, is_left};
 use crate::table_form::order_table;
 use crate::unfit::Unfit;
-use cs_normal::below::{Change, Changeset, Group};
+use cs_change::{Change, Changeset, Group};
 use cs_normal::{FEW_NAMES, NamePlaces, Normal, lend_table_names, same_shape};
 use cs_value::{Catalog, Memory, TableDef};
 use std::alloc::{AllocError, Global};

@@ -1,6 +1,6 @@
 //! The changes of a table as they were read.
 
-use cs_normal::below::Change;
+use cs_change::Change;
 use std::alloc::Global;
 use std::marker::Model;
 
@@ -14,7 +14,7 @@ pub(crate) struct LentList<'b, 'a> {
 
 impl<'b, 'a> Model for LentList<'b, 'a> {
     ghost use Rattle.std.specs.Prelude.{List};
-    ghost use Rattle.cs_normal.specs.cs_change.Change.{Change as One};
+    ghost use Rattle.cs_change.specs.declared.change.Change.{Change as One};
     ghost use Rattle.cs_normalising.specs.Steps.Standing.{gathered_or};
 
     ghost Value = { List One };

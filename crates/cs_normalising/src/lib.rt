@@ -7,7 +7,6 @@
 //! Its tests stand in `cs_changes_tests`.
 #![tactic(auto)]
 
-pub mod below;
 mod groups;
 mod key_order;
 mod lent_list;

@@ -4,20 +4,21 @@ ghost use Rattle.std.specs.Prelude.{◌≡◌, ◌<◌, ◌++◌, IfOk, IfErr, M
 ghost use Rattle.std.specs.List.{All, flat_map};
 ghost use Rattle.std.specs.Map.{keys_of};
 ghost use Rattle.std.specs.Str.{bytes_eq};
-ghost use Rattle.cs_normal.specs.cs_record.Spelling.{Extends};
+ghost use Rattle.cs_record.specs.Spelling.{Extends};
 ghost use Rattle.cs_normalising.specs.UnfitChanges.{AreUnfit};
 ghost use Rattle.cs_normalising.specs.NormalFormOf.{changes_of};
 ghost use Rattle.cs_normalising.specs.Steps.Named.{changes_at, names_of};
 ghost use Rattle.cs_normalising.specs.Steps.Lent.{entries_at, ordered_entries, AreBeside, IsKeptOf, IsOrderedBy};
-ghost use Rattle.cs_normal.specs.cs_keyed.Prepared.{all_keyed, kept, prepared};
+ghost use Rattle.cs_keyed.specs.Prepared.{all_keyed, kept, prepared};
 ghost use Rattle.cs_normalising.specs.Steps.TableByTable.{IsTableOf};
 
 use crate::key_order::KeyOrder;
 use crate::lent_list::LentList;
 use crate::lent_table::Ordered;
 use crate::unfit::Unfit;
+use cs_change::{Change, Group};
+use cs_keyed::gather_keys;
 use cs_normal::NamePlaces;
-use cs_normal::below::{Change, Group, gather_keys};
 use cs_order::Keys;
 use cs_value::{Memory, TableDef};
 use std::alloc::Global;

@@ -5,5 +5,3 @@ pub mod Said
 pub mod Opens
 pub mod Laws
 pub mod Steps
-pub mod cs_pending
-pub mod cs_position

@@ -7,9 +7,9 @@ use Rattle.cs_normal.specs.declared.normal.TableChanges.{TableChanges}
 use Rattle.cs_store.specs.Contents.{Contents}
 use Rattle.cs_conflict.specs.declared.conflict.Resolution.{Resolution}
 use Rattle.cs_blob.specs.Spelling.{blob_spelling}
-use Rattle.cs_apply.specs.cs_tasks.Blob.{blob_of}
+use Rattle.cs_tasks.specs.Blob.{blob_of}
 use Rattle.cs_store.specs.States.{Holds, AreEdits}
-use Rattle.cs_apply.specs.cs_tasks.Tasks.{tasks}
+use Rattle.cs_tasks.specs.Tasks.{tasks}
 use Rattle.cs_apply.specs.declared.applying.Applied.{Applied}
 use Rattle.cs_rebaser.specs.DiamondOfTables.{IsMerged}
 use Rattle.cs_rebaser.specs.Rebased.{rebased}

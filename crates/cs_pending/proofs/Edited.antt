@@ -12,20 +12,20 @@ use Rattle.cs_value.specs.declared.value.Field.{Field}
 use Rattle.cs_value.specs.declared.value.Field.TheVariants.{Undefined, Is}
 use Rattle.cs_record.specs.Spelling.{Fits}
 use Rattle.cs_change.specs.Columns.{set_columns, field_or}
-use Rattle.cs_group.specs.cs_normal.Changes.{key_bytes}
-use Rattle.cs_group.specs.cs_normal.State.{IsRowOf, MayStandAt}
+use Rattle.cs_normal.specs.Changes.{key_bytes}
+use Rattle.cs_normal.specs.State.{IsRowOf, MayStandAt}
 use Rattle.std.specs.FinMap.{len}
 use Rattle.std.specs.Prelude.{fold}
-use Rattle.cs_apply.specs.cs_store.Contents.{Contents}
-use Rattle.cs_apply.specs.cs_store.Laws.{KeepsOtherPending, KeepsOtherRows, WritesPending, WritesRows}
-use Rattle.cs_apply.specs.cs_store.Written.{after_batch, edit_body}
-use Rattle.cs_apply.specs.cs_store.Batch.{Batch}
+use Rattle.cs_store.specs.Contents.{Contents}
+use Rattle.cs_store.specs.Laws.{KeepsOtherPending, KeepsOtherRows, WritesPending, WritesRows}
+use Rattle.cs_store.specs.Written.{after_batch, edit_body}
+use Rattle.cs_store.specs.declared.batch.Batch.{Batch}
 use Rattle.cs_edits.specs.Edits.{BodyEdit}
 use Rattle.cs_pending.specs.Settling.{AreWithin, IsWithin, Settles}
 use Rattle.cs_pending.specs.declared.settling.Settling.{Settling}
 use Rattle.cs_pending.specs.Steps.{rest_after, settles_none, shows_after}
-use Rattle.cs_apply.specs.cs_store.StoreFault.{StoreFault}
-use Rattle.cs_apply.specs.cs_store.StoreFault.TheVariants as stored
+use Rattle.cs_store.specs.declared.fault.StoreFault.{StoreFault}
+use Rattle.cs_store.specs.declared.fault.StoreFault.TheVariants as stored
 use Rattle.cs_apply.specs.NormalTasks.{one_table}
 use Rattle.cs_pending.specs.Edits.{IsChangedBy, IsWantedAt, Leads, after_edit, edit_at, keeps_key, left_in}
 use Rattle.cs_pending.specs.Placing.{IsPutIn, IsStandingAt, MaySettle, StandsIn}

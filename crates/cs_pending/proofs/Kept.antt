@@ -5,7 +5,7 @@ use Rattle.cs_value.specs.Catalog.{AreTables}
 use Rattle.cs_value.specs.Key.{Place}
 use Rattle.cs_value.specs.Same.{same_place}
 use Rattle.cs_value.specs.declared.catalog.TableDef.{TableDef}
-use Rattle.cs_group.specs.cs_normal.State.{AreSame, IsStateOf, MayStandAt}
+use Rattle.cs_normal.specs.State.{AreSame, IsStateOf, MayStandAt}
 use Rattle.cs_apply.specs.Spots.{by_test, spot_refl}
 use Rattle.cs_pending.specs.Edits.{Asked, after_edit, edit_found, edit_table, has_set_key, has_widths, leaves_key, left_in, named, wanted_of}
 use Rattle.cs_pending.specs.Laws.{EditKeepsBefore}

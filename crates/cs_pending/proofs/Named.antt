@@ -10,8 +10,8 @@ use Rattle.cs_value.specs.Catalog.{AreTables, is_set, key_of, marked}
 use Rattle.cs_value.specs.Laws.{OnePlaceOfName}
 use Rattle.cs_value.specs.declared.catalog.TableDef.{TableDef}
 use Rattle.cs_value.specs.declared.value.Value.{Value}
-use Rattle.cs_group.specs.cs_normal.Changes.{key_bytes}
-use Rattle.cs_apply.specs.cs_store.Contents.{Contents}
+use Rattle.cs_normal.specs.Changes.{key_bytes}
+use Rattle.cs_store.specs.Contents.{Contents}
 use Rattle.cs_apply.specs.NormalTasks.{one_table}
 use Rattle.cs_apply.specs.Spots.{by_test, both_true, name_is, name_other, name_refl}
 use Rattle.cs_pending.specs.Edits.{Asked, IsChangedBy, Leads, asked_key, edit, edit_at, edit_found, IsOfStore, has_set_key, has_widths, leaves_key, named, wanted_of}

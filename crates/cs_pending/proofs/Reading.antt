@@ -7,9 +7,9 @@ use Rattle.cs_record.specs.Spelling.{row_bytes}
 use Rattle.cs_change.specs.Action.{action_any}
 use Rattle.cs_change.specs.Spelling.{change_spelling, FitsRow}
 use Rattle.cs_change.specs.declared.change.Change.{Change}
-use Rattle.cs_group.specs.cs_normal.State.{MayStandAt}
-use Rattle.cs_apply.specs.cs_store.Contents.{Contents, stored_pending, stored_tables}
-use Rattle.cs_apply.specs.cs_store.States.{IsStored}
+use Rattle.cs_normal.specs.State.{MayStandAt}
+use Rattle.cs_store.specs.Contents.{Contents, stored_pending, stored_tables}
+use Rattle.cs_store.specs.States.{IsStored}
 use Rattle.cs_apply.specs.NormalTasks.{one_table}
 use Rattle.cs_pending.specs.Placing.{StoresSome, StoresSomeChange}
 use Rattle.cs_pending.specs.Shows.{ShowsRows, ShowsSome}

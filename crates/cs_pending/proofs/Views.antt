@@ -7,9 +7,9 @@ use Rattle.cs_value.specs.declared.catalog.TableDef.{TableDef}
 use Rattle.cs_change.specs.Net.{net}
 use Rattle.cs_change.specs.Spelling.{change_spelling, FitsChange}
 use Rattle.cs_change.specs.declared.change.Change.{Change}
-use Rattle.cs_apply.specs.cs_changeset.Laws.{ChangesApart}
-use Rattle.cs_apply.specs.cs_store.Contents.{place_cmp}
-use Rattle.cs_apply.specs.cs_store.StateLaws.{HoldsOneState}
+use Rattle.cs_changeset.specs.Laws.{ChangesApart}
+use Rattle.cs_store.specs.Contents.{place_cmp}
+use Rattle.cs_store.specs.StateLaws.{HoldsOneState}
 use Rattle.cs_pending.specs.Laws.{NewShows, OneView}
 use Rattle.cs_pending.specs.View.{undo}
 

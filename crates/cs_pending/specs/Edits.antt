@@ -9,9 +9,9 @@ use Rattle.cs_value.specs.declared.value.Value.{Value}
 use Rattle.cs_value.specs.declared.value.Field.{Field}
 use Rattle.cs_record.specs.Spelling.{Fits}
 use Rattle.cs_change.specs.Columns.{is_defined, set_columns}
-use Rattle.cs_group.specs.cs_normal.Changes.{key_bytes}
-use Rattle.cs_group.specs.cs_normal.State.{IsRowOf}
-use Rattle.cs_apply.specs.cs_store.Contents.{Contents}
+use Rattle.cs_normal.specs.Changes.{key_bytes}
+use Rattle.cs_normal.specs.State.{IsRowOf}
+use Rattle.cs_store.specs.Contents.{Contents}
 use Rattle.cs_pending.specs.View.{View, edited}
 use Rattle.cs_pending.specs.Shows.{ShowsRows, SameRest}
 use Rattle.cs_pending.specs.declared.fault.EditFault.{EditFault}

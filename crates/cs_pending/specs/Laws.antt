@@ -2,8 +2,8 @@
 use Rattle.std.specs.Prelude.{◌≡◌, ℕ, List, None, Ok, Contains}
 use Rattle.cs_value.specs.Catalog.{AreTables}
 use Rattle.cs_value.specs.declared.catalog.TableDef.{TableDef}
-use Rattle.cs_group.specs.cs_normal.State.{AreSame, IsStateOf}
-use Rattle.cs_apply.specs.cs_store.Contents.{Contents, nothing}
+use Rattle.cs_normal.specs.State.{AreSame, IsStateOf}
+use Rattle.cs_store.specs.Contents.{Contents, nothing}
 use Rattle.cs_pending.specs.Edits.{Asked, edit}
 use Rattle.cs_pending.specs.View.{View, middle}
 use Rattle.cs_pending.specs.Shows.{IsSoundOf, ShowsRows}

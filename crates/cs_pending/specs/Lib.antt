@@ -12,7 +12,4 @@ pub mod Settled
 pub mod Steps
 pub use Rattle.cs_apply.specs.Spots
 pub use Rattle.cs_apply.specs.NormalTasks
-pub use Rattle.cs_apply.specs.cs_tasks.Tasks
-pub mod cs_net
-pub mod cs_normal
-pub mod cs_store
+pub use Rattle.cs_tasks.specs.Tasks

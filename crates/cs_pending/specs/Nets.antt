@@ -13,8 +13,8 @@ use Rattle.cs_change.specs.Net.{net, old_record, old_field}
 use Rattle.cs_change.specs.Normal.{IsNormalIfAny}
 use Rattle.cs_change.specs.Spelling.{FitsChange}
 use Rattle.cs_change.specs.declared.change.Change.{Change}
-use Rattle.cs_group.specs.cs_normal.Changes.{IsSpelled}
-use Rattle.cs_group.specs.cs_normal.InRange.{AreInRangeIfAny, normal_fits, net_in_range}
+use Rattle.cs_normal.specs.Changes.{IsSpelled}
+use Rattle.cs_normal.specs.InRange.{AreInRangeIfAny, normal_fits, net_in_range}
 use Rattle.cs_net.specs.Combine.{with_flag, with_flag_any}
 use Rattle.cs_apply.specs.Spots.{by_test}
 use Rattle.cs_pending.specs.View.{undo}

@@ -4,9 +4,9 @@ use Rattle.cs_value.specs.Key.{Place}
 use Rattle.cs_value.specs.declared.catalog.TableDef.{TableDef}
 use Rattle.cs_change.specs.Spelling.{change_spelling, FitsChange}
 use Rattle.cs_change.specs.declared.change.Change.{Change}
-use Rattle.cs_apply.specs.cs_store.Contents.{Contents}
-use Rattle.cs_apply.specs.cs_store.States.{IsStored}
-use Rattle.cs_group.specs.cs_normal.State.{MayStandAt}
+use Rattle.cs_store.specs.Contents.{Contents}
+use Rattle.cs_store.specs.States.{IsStored}
+use Rattle.cs_normal.specs.State.{MayStandAt}
 use Rattle.cs_pending.specs.View.{View, middle, settled}
 use Rattle.cs_pending.specs.Shows.{ShowsRows, SameRest}
 use Rattle.cs_pending.specs.declared.placing.Found.{Found}

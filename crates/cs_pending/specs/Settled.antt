@@ -9,7 +9,7 @@ use Rattle.cs_change.specs.Action.{action_any}
 use Rattle.cs_change.specs.Laws.{NetTakes}
 use Rattle.cs_change.specs.Net.{net}
 use Rattle.cs_change.specs.Spelling.{FitsChange}
-use Rattle.cs_group.specs.cs_normal.State.{State, MayStandAt, OneKeyStands}
+use Rattle.cs_normal.specs.State.{State, MayStandAt, OneKeyStands}
 use Rattle.cs_apply.specs.NormalTasks.{one_table}
 use Rattle.cs_pending.specs.Shows.{IsSoundOf}
 use Rattle.cs_pending.specs.View.{undo, put_at, View, middle, settled, direct_net}

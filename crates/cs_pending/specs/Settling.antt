@@ -5,9 +5,9 @@ use Rattle.std.specs.FinMap.{len}
 use Rattle.cs_value.specs.declared.catalog.TableDef.{TableDef}
 use Rattle.cs_record.specs.Spelling.{row_bytes}
 use Rattle.cs_change.specs.Spelling.{change_spelling, FitsChange}
-use Rattle.cs_apply.specs.cs_store.Contents.{Contents, stored_tables, stored_pending}
-use Rattle.cs_apply.specs.cs_store.Laws.{row_after}
-use Rattle.cs_apply.specs.cs_store.Written.{edit_body}
+use Rattle.cs_store.specs.Contents.{Contents, stored_tables, stored_pending}
+use Rattle.cs_store.specs.Laws.{row_after}
+use Rattle.cs_store.specs.Written.{edit_body}
 use Rattle.cs_edits.specs.Edits.{BodyEdit}
 use Rattle.cs_pending.specs.View.{View}
 use Rattle.cs_pending.specs.Shows.{IsSoundOf}

@@ -5,9 +5,9 @@ use Rattle.cs_value.specs.declared.catalog.TableDef.{TableDef}
 use Rattle.cs_change.specs.Action.{action_any}
 use Rattle.cs_change.specs.Net.{net}
 use Rattle.cs_change.specs.Spelling.{change_spelling, FitsChange}
-use Rattle.cs_group.specs.cs_normal.State.{State, IsStateOf}
-use Rattle.cs_apply.specs.cs_store.Contents.{Contents, StorePlace, stored_pending}
-use Rattle.cs_apply.specs.cs_store.States.{Holds}
+use Rattle.cs_normal.specs.State.{State, IsStateOf}
+use Rattle.cs_store.specs.Contents.{Contents, StorePlace, stored_pending}
+use Rattle.cs_store.specs.States.{Holds}
 use Rattle.cs_pending.specs.View.{View, Changed, before}
 
 -- the changes are the net changes from the rows before them, which are rows of the tables too

@@ -1,10 +1,10 @@
 -- Calls of a store one after another: from what each leaves to what all leave. Crates above cite it.
 use Rattle.std.proofs.Common.{◌≡◌, ◌⊎◌, ℕ, Result, Ok, Err, refl, sym, ap, subst, ◌∙◌, arith, inl, inr}
 use Rattle.std.specs.Prelude.{OnOk}
-use Rattle.cs_apply.specs.cs_store.Calls.{Commits, CountsMisread, MoreFailures}
-use Rattle.cs_apply.specs.cs_store.Contents.{Contents}
-use Rattle.cs_apply.specs.cs_store.StoreFault.{StoreFault}
-use Rattle.cs_apply.specs.cs_store.StoreFault.TheVariants.{Device}
+use Rattle.cs_store.specs.Calls.{Commits, CountsMisread, MoreFailures}
+use Rattle.cs_store.specs.Contents.{Contents}
+use Rattle.cs_store.specs.declared.fault.StoreFault.{StoreFault}
+use Rattle.cs_store.specs.declared.fault.StoreFault.TheVariants.{Device}
 use Rattle.cs_pending.specs.Calls.{ReadsStore, WritesStore}
 
 pub same_err : {T U E : Type 0} (a b : E) → ◌≡◌ {A = Result T E} (Err a) (Err b) → ◌≡◌ {A = Result U E} (Err a) (Err b)

@@ -7,7 +7,7 @@ use Rattle.cs_change.specs.Action.{Action, Inserts, Deletes, Updates, action_any
 use Rattle.cs_change.specs.Columns.{set_columns}
 use Rattle.cs_change.specs.Net.{net}
 use Rattle.cs_change.specs.declared.change.Change.{Change}
-use Rattle.cs_group.specs.cs_normal.State.{State}
+use Rattle.cs_normal.specs.State.{State}
 use Rattle.cs_net.specs.Combine.{with_flag_any}
 use Rattle.cs_apply.specs.Spots.{same_spot}
 

@@ -3,7 +3,7 @@
 ghost use Rattle.std.specs.Prelude.{◌≡◌, ◌⊎◌, Some, IfOk, IfErr, Err, slice_get};
 ghost use Rattle.std.specs.FinMap.{len};
 ghost use Rattle.std.specs.Option.{option_copied};
-ghost use Rattle.cs_apply.specs.cs_store.StoreFault.TheVariants as stored;
+ghost use Rattle.cs_store.specs.declared.fault.StoreFault.TheVariants as stored;
 ghost use Rattle.cs_pending.specs.Calls.{WritesStore};
 ghost use Rattle.cs_pending.specs.Edits.{IsChangedBy, IsOfStore, IsWantedAt, Leads, edit_at};
 ghost use Rattle.cs_pending.specs.Placing.{IsPutIn, MaySettle, standing_found};
@@ -16,8 +16,8 @@ use crate::places::{are_same, lent};
 use crate::placing::{Found, found_at};
 use crate::settling::Settling;
 use crate::wanted::{Wanted, left_by};
-use cs_apply::below::{Batch, RowStore, StoreFault};
 use cs_record::Row;
+use cs_store::{Batch, RowStore, StoreFault};
 use cs_value::{Catalog, TableDef};
 use std::alloc::Global;
 
@@ -44,9 +44,9 @@ fn put_place<S: RowStore>(
         → pending ≡ len (S.contents store.old).pending → IfOk result (λ count. count ≡ len (S.contents store.new).pending) }
 {
     cs_value::laws::catalogs();
-    cs_group::below::one_key_stands();
+    cs_normal::laws::one_key_stands();
     cs_change::laws::net_takes();
-    cs_apply::below::commits();
+    cs_store::laws::commits();
     let _tables = catalog.tables();
     let mut settling = Settling::new(alloc, pending);
     let stood = before.mine();

@@ -17,8 +17,8 @@ use crate::editing::edit_place;
 use crate::fault::EditFault;
 use crate::places::{record_with_room, row_with_room};
 use crate::wanted::Wanted;
-use cs_apply::below::RowStore;
 use cs_record::{RecordBuf, RowBuf};
+use cs_store::RowStore;
 use cs_value::{Catalog, Field, Key, Memory, Row, Value};
 use std::alloc::Global;
 

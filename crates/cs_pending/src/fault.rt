@@ -2,9 +2,9 @@
 
 ghost use Rattle.std.specs.Prelude.{◌≡◌};
 ghost use Rattle.cs_pending.specs.declared.fault.EditFault.TheVariants.{Memory, Device};
-ghost use Rattle.cs_apply.specs.cs_store.StoreFault.TheVariants as stored;
+ghost use Rattle.cs_store.specs.declared.fault.StoreFault.TheVariants as stored;
 
-use cs_apply::below::StoreFault;
+use cs_store::StoreFault;
 use std::alloc::{AllocError, AllocFailed};
 use thiserror::Error;
 

@@ -7,8 +7,8 @@ pub fn one_view()
     ensures one { OneView }
     ensures some { NewShows }
 {
-    cs_apply::below::states();
-    cs_apply::below::changesets();
+    cs_store::laws::states();
+    cs_changeset::laws::changesets();
 }
 
 /// An edit keeps the rows before what is pending.
@@ -16,6 +16,6 @@ pub fn edit_keeps_before()
     ensures { EditKeepsBefore }
 {
     cs_value::laws::catalogs();
-    cs_group::below::one_key_stands();
+    cs_normal::laws::one_key_stands();
     cs_change::laws::net_takes();
 }

@@ -8,7 +8,6 @@
 //! that a store shows one view, and that an edit leads to one view or has one fault. Its tests stand in `cs_stores_tests`.
 #![tactic(auto)]
 
-pub mod below;
 mod editing;
 mod edits;
 mod fault;

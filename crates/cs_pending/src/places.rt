@@ -6,7 +6,7 @@ ghost use Rattle.cs_value.specs.Same.{same_place};
 ghost use Rattle.cs_record.specs.Spelling.{row_bytes};
 ghost use Rattle.cs_change.specs.Action.{action_any};
 ghost use Rattle.cs_change.specs.Spelling.{change_spelling};
-ghost use Rattle.cs_apply.specs.cs_store.Written.{optional_bytes};
+ghost use Rattle.cs_store.specs.Written.{optional_bytes};
 ghost use Rattle.cs_pending.specs.View.{direct_net, undo};
 
 use cs_change::{Change, Scratch, put_set_columns, spell_change};

@@ -8,17 +8,18 @@ ghost use Rattle.cs_record.specs.Spelling.{row_bytes};
 ghost use Rattle.cs_change.specs.Action.{action_any};
 ghost use Rattle.cs_change.specs.Spelling.{change_spelling, FitsChange, FitsRow};
 ghost use Rattle.cs_change.specs.declared.change.Change.{Change as OneChange};
-ghost use Rattle.cs_apply.specs.cs_store.Contents.{stored_pending, stored_tables};
-ghost use Rattle.cs_apply.specs.cs_store.States.{IsStored};
-ghost use Rattle.cs_apply.specs.cs_store.StoreFault.TheVariants.{Device};
+ghost use Rattle.cs_store.specs.Contents.{stored_pending, stored_tables};
+ghost use Rattle.cs_store.specs.States.{IsStored};
+ghost use Rattle.cs_store.specs.declared.fault.StoreFault.TheVariants.{Device};
 ghost use Rattle.cs_pending.specs.Calls.{ReadsStore};
 ghost use Rattle.cs_pending.specs.Placing.{IsStandingAt, StoresSome, StoresSomeChange, base_found, standing_found};
 ghost use Rattle.cs_pending.specs.Shows.{ShowsSome};
 ghost use Rattle.cs_pending.specs.View.{undo};
 
 use crate::places::{copied, lent, undone};
-use cs_apply::below::{RowStore, StoreFault, mark_bytes, read_one, whole_row};
+use cs_changeset::read_one;
 use cs_record::{Row, RowBuf};
+use cs_store::{RowStore, StoreFault, mark_bytes, whole_row};
 use cs_value::{Catalog, TableDef};
 use std::alloc::Global;
 
@@ -140,7 +141,7 @@ pub(crate) fn found_at<S: RowStore>(
     ensures found { S.honest store.new → IfOk result (λ found. IsStandingAt catalog.now (S.contents store.old) table.now key.now (standing_found found)) }
 {
     cs_value::laws::catalogs();
-    cs_group::below::one_key_stands();
+    cs_normal::laws::one_key_stands();
     cs_change::laws::net_takes();
     let _tables = catalog.tables();
     let mine = match own_at(store, table, number, key) {

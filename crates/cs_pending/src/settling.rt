@@ -7,8 +7,8 @@ ghost use Rattle.cs_value.specs.declared.catalog.TableDef.{TableDef as Table};
 ghost use Rattle.cs_value.specs.Same.{same_place};
 ghost use Rattle.cs_record.specs.Spelling.{row_bytes};
 ghost use Rattle.cs_change.specs.Spelling.{change_spelling};
-ghost use Rattle.cs_group.specs.cs_normal.State.{MayStandAt};
-ghost use Rattle.cs_apply.specs.cs_store.Contents.{Contents};
+ghost use Rattle.cs_normal.specs.State.{MayStandAt};
+ghost use Rattle.cs_store.specs.Contents.{Contents};
 ghost use Rattle.cs_pending.specs.Placing.{StandsIn, standing_of};
 ghost use Rattle.cs_pending.specs.Settling.{IsPushed, IsWithin, Settles, recount};
 ghost use Rattle.cs_pending.specs.View.{View, direct_net, settled};
@@ -183,9 +183,9 @@ impl Settling {
             (settled table.now key.now (option_copied base.entry) (option_copied mine.entry) view)) }
     {
         cs_value::laws::catalogs();
-        cs_group::below::one_key_stands();
+        cs_normal::laws::one_key_stands();
         cs_change::laws::net_takes();
-        cs_apply::below::commits();
+        cs_store::laws::commits();
         let was = !are_same(stood_base, stood);
         push_row(&mut self.rows, number, key, stood, mine)?;
         let is = push_pending(

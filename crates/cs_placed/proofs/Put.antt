@@ -17,7 +17,7 @@ use Rattle.cs_normal.specs.Normal.{group_of}
 use Rattle.cs_normal.specs.declared.normal.TableChanges.{TableChanges}
 use Rattle.cs_apply.specs.NormalTasks.{IsOfOne, keyed_task, keyed_tasks, number_of, one_table, table_found}
 use Rattle.cs_apply.specs.Spots.{all_both, by_test, both_true, name_is}
-use Rattle.cs_apply.specs.cs_tasks.Tasks.{Task, fits_table, table_of}
+use Rattle.cs_tasks.specs.Tasks.{Task, fits_table, table_of}
 use Rattle.cs_placed.specs.Places.{ArePlaced, IsPlaced, task_of}
 use Rattle.cs_placed.specs.declared.placed.Placed.{Placed}
 

@@ -2,7 +2,7 @@
 use Rattle.std.specs.Prelude.{◌≡◌, List, Some, slice_get}
 use Rattle.std.specs.List.{AllByRecursion}
 use Rattle.cs_value.specs.declared.catalog.TableDef.{TableDef}
-use Rattle.cs_apply.specs.cs_tasks.Tasks.{Task}
+use Rattle.cs_tasks.specs.Tasks.{Task}
 use Rattle.cs_placed.specs.declared.placed.Placed.{Placed}
 
 abbrev pub task_of : Placed → Task

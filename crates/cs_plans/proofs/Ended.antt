@@ -6,7 +6,7 @@ use Rattle.cs_map_store.specs.Slots.{InMemory, held_by}
 use Rattle.cs_nodes.specs.Nodes.{NodeState}
 use Rattle.cs_opening.specs.Fresh.{first_position}
 use Rattle.cs_pending.specs.Laws.{empty_view}
-use Rattle.cs_nodes.specs.cs_following.Holding.{Shows}
+use Rattle.cs_following.specs.Holding.{Shows}
 use Rattle.cs_spine.specs.Known.{SpineCells}
 use Rattle.cs_value.specs.declared.catalog.TableDef.{TableDef}
 use Rattle.cs_plans.specs.Ends.{AreEnds, IsEnd, node_at}

@@ -3,11 +3,11 @@ use Rattle.std.proofs.Common.{◌≡◌, ◌≢◌, ◌+◌, ℕ, Bool, true, fa
 use Rattle.std.specs.Prelude.{◌↔◌, IsTrue, IsSome, Result, is_some}
 use Rattle.cs_conflict.specs.declared.clash.Clash.{Clash}
 use Rattle.cs_conflict.specs.declared.wish.Wish.{Wish}
-use Rattle.cs_nodes.specs.cs_following.Pulls.{PullsAll, PullsEach}
-use Rattle.cs_nodes.specs.cs_following.Pushes.{IsHeld, IsReady, PushesOn}
-use Rattle.cs_nodes.specs.cs_following.NodeFault.{NodeFault}
-use Rattle.cs_nodes.specs.cs_following.NodePush.{NodePush}
-use Rattle.cs_nodes.specs.cs_following.NodePush.TheVariants.{Nothing, Behind, Accepted, Other}
+use Rattle.cs_following.specs.Pulls.{PullsAll, PullsEach}
+use Rattle.cs_following.specs.Pushes.{IsHeld, IsReady, PushesOn}
+use Rattle.cs_following.specs.declared.fault.NodeFault.{NodeFault}
+use Rattle.cs_following.specs.declared.pushed.NodePush.{NodePush}
+use Rattle.cs_following.specs.declared.pushed.NodePush.TheVariants.{Nothing, Behind, Accepted, Other}
 use Rattle.cs_log.specs.Log.{entries_between}
 use Rattle.cs_log.specs.declared.entry.LogEntry.{LogEntry}
 use Rattle.cs_pending.specs.View.{View}

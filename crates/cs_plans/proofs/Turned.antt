@@ -3,14 +3,14 @@ use Rattle.std.proofs.Common.{◌≡◌, ◌≢◌, ◌<◌, ◌&&◌, ℕ, Bool
 use Rattle.std.specs.Prelude.{◌↔◌, ◌⊎◌, IsSome, IsTrue, Result}
 use Rattle.std.specs.FinMap.{len}
 use Rattle.cs_conflict.specs.declared.wish.Wish.{Wish}
-use Rattle.cs_nodes.specs.cs_following.Edits.{asked_of_edit, table_of_edit}
-use Rattle.cs_nodes.specs.cs_following.Pulls.{PullsAll}
-use Rattle.cs_nodes.specs.cs_following.Pushes.{IsAtRest, PushesOn}
-use Rattle.cs_nodes.specs.cs_following.Standing.{Begins}
-use Rattle.cs_nodes.specs.cs_following.NodeFault.{NodeFault}
-use Rattle.cs_nodes.specs.cs_following.NodeFault.TheVariants as moving
-use Rattle.cs_nodes.specs.cs_following.NodePush.{NodePush}
-use Rattle.cs_nodes.specs.cs_following.NodePush.TheVariants.{Nothing, Behind}
+use Rattle.cs_following.specs.Edits.{asked_of_edit, table_of_edit}
+use Rattle.cs_following.specs.Pulls.{PullsAll}
+use Rattle.cs_following.specs.Pushes.{IsAtRest, PushesOn}
+use Rattle.cs_following.specs.Standing.{Begins}
+use Rattle.cs_following.specs.declared.fault.NodeFault.{NodeFault}
+use Rattle.cs_following.specs.declared.fault.NodeFault.TheVariants as moving
+use Rattle.cs_following.specs.declared.pushed.NodePush.{NodePush}
+use Rattle.cs_following.specs.declared.pushed.NodePush.TheVariants.{Nothing, Behind}
 use Rattle.cs_map_store.specs.Slots.{InMemory, held_by}
 use Rattle.cs_nodes.specs.Nodes.{NodeState}
 use Rattle.cs_pending.specs.Edits.{IsOfStore, edit}
@@ -19,8 +19,8 @@ use Rattle.cs_pending.specs.declared.fault.EditFault.{EditFault}
 use Rattle.cs_pending.specs.declared.fault.EditFault.TheVariants as editing
 use Rattle.cs_position.specs.Shows.{ShowsAt, ShowsSomeAt}
 use Rattle.cs_position.specs.declared.position.Position.{Position}
-use Rattle.cs_nodes.specs.cs_following.Edited.{IsEditedIn, with_pending}
-use Rattle.cs_nodes.specs.cs_following.Holding.{Shows}
+use Rattle.cs_following.specs.Edited.{IsEditedIn, with_pending}
+use Rattle.cs_following.specs.Holding.{Shows}
 use Rattle.cs_spine.specs.Known.{Known, SpineCells}
 use Rattle.cs_store.specs.Calls.{MoreFailures}
 use Rattle.cs_store.specs.Contents.{Contents}

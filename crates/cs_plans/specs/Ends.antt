@@ -3,7 +3,7 @@ use Rattle.std.specs.Prelude.{◌≡◌, ℕ, List, Some, length, slice_get}
 use Rattle.cs_map_store.specs.Slots.{InMemory, held_by}
 use Rattle.cs_nodes.specs.Nodes.{NodeState}
 use Rattle.cs_pending.specs.View.{View}
-use Rattle.cs_nodes.specs.cs_following.Holding.{Shows}
+use Rattle.cs_following.specs.Holding.{Shows}
 use Rattle.cs_spine.specs.Known.{SpineCells}
 use Rattle.cs_value.specs.declared.catalog.TableDef.{TableDef}
 use Rattle.cs_plans.specs.declared.ending.NodeEnd.{NodeEnd}

@@ -1,7 +1,7 @@
 -- Whether a push was offered: no definition that a public clause cites.
 use Rattle.std.specs.Prelude.{Bool, true, false}
-use Rattle.cs_nodes.specs.cs_following.NodePush.{NodePush}
-use Rattle.cs_nodes.specs.cs_following.NodePush.TheVariants.{Nothing, Behind, Accepted, Other}
+use Rattle.cs_following.specs.declared.pushed.NodePush.{NodePush}
+use Rattle.cs_following.specs.declared.pushed.NodePush.TheVariants.{Nothing, Behind, Accepted, Other}
 
 -- the entry of its cell was taken
 abbrev pub is_taken : NodePush → Bool

@@ -1,14 +1,14 @@
 -- What a plan makes of a node (profile of this project).
 use Rattle.std.specs.Prelude.{◌≡◌, ◌≢◌, ◌⊎◌, ◌<◌, ◌↔◌, ℕ, IsTrue, List, [], ◌∷◌, length, Result, Ok, Err}
 use Rattle.cs_conflict.specs.declared.wish.Wish.{Wish}
-use Rattle.cs_nodes.specs.cs_following.Edits.{asked_of_edit, table_of_edit}
-use Rattle.cs_nodes.specs.cs_following.Pulls.{PullsAll}
-use Rattle.cs_nodes.specs.cs_following.Pushes.{IsAtRest, PushesOn}
-use Rattle.cs_nodes.specs.cs_following.Standing.{Begins}
-use Rattle.cs_nodes.specs.cs_following.NodeFault.{NodeFault}
-use Rattle.cs_nodes.specs.cs_following.NodeFault.TheVariants as moving
-use Rattle.cs_nodes.specs.cs_following.NodePush.{NodePush}
-use Rattle.cs_nodes.specs.cs_following.NodePush.TheVariants.{Nothing, Behind}
+use Rattle.cs_following.specs.Edits.{asked_of_edit, table_of_edit}
+use Rattle.cs_following.specs.Pulls.{PullsAll}
+use Rattle.cs_following.specs.Pushes.{IsAtRest, PushesOn}
+use Rattle.cs_following.specs.Standing.{Begins}
+use Rattle.cs_following.specs.declared.fault.NodeFault.{NodeFault}
+use Rattle.cs_following.specs.declared.fault.NodeFault.TheVariants as moving
+use Rattle.cs_following.specs.declared.pushed.NodePush.{NodePush}
+use Rattle.cs_following.specs.declared.pushed.NodePush.TheVariants.{Nothing, Behind}
 use Rattle.cs_log.specs.declared.entry.LogEntry.{LogEntry}
 use Rattle.cs_opening.specs.Fresh.{first_position}
 use Rattle.cs_pending.specs.Edits.{IsOfStore, edit}
@@ -17,7 +17,7 @@ use Rattle.cs_pending.specs.View.{View}
 use Rattle.cs_pending.specs.declared.fault.EditFault.TheVariants as editing
 use Rattle.cs_position.specs.Shows.{ShowsAt}
 use Rattle.cs_position.specs.declared.position.Position.{Position}
-use Rattle.cs_nodes.specs.cs_following.Edited.{with_pending}
+use Rattle.cs_following.specs.Edited.{with_pending}
 use Rattle.cs_store.specs.Contents.{Contents}
 use Rattle.cs_value.specs.declared.catalog.TableDef.{TableDef}
 use Rattle.cs_wishes.specs.Wished.{IsWished}

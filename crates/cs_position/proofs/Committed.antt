@@ -4,13 +4,13 @@ use Rattle.std.specs.FinMap.{get, len}
 use Rattle.cs_order.specs.Order.{same_bytes}
 use Rattle.cs_pending.specs.Spots.{by_test, key_is, key_refl}
 use Rattle.cs_value.specs.declared.catalog.TableDef.{TableDef}
-use Rattle.cs_pending.specs.cs_store.Contents.{Contents, name_text}
-use Rattle.cs_pending.specs.cs_store.Laws.{KeepsOtherNames, KeepsOtherPending, KeepsOtherRows, WritesMeta, value_after}
-use Rattle.cs_pending.specs.cs_store.Whole.{IsName}
-use Rattle.cs_pending.specs.cs_store.Written.{appended, optional_entry}
-use Rattle.cs_pending.specs.cs_store.StoredEntry.{StoredEntry}
-use Rattle.cs_pending.specs.cs_store.MetaName.{MetaName}
-use Rattle.cs_pending.specs.cs_store.MetaName.TheVariants.{Id, Version, Number, Flight, Pending, Catalog}
+use Rattle.cs_store.specs.Contents.{Contents, name_text}
+use Rattle.cs_store.specs.Laws.{KeepsOtherNames, KeepsOtherPending, KeepsOtherRows, WritesMeta, value_after}
+use Rattle.cs_store.specs.Whole.{IsName}
+use Rattle.cs_store.specs.Written.{appended, optional_entry}
+use Rattle.cs_store.specs.declared.batch.StoredEntry.{StoredEntry}
+use Rattle.cs_store.specs.declared.names.MetaName.{MetaName}
+use Rattle.cs_store.specs.declared.names.MetaName.TheVariants.{Id, Version, Number, Flight, Pending, Catalog}
 use Rattle.cs_pending.specs.Steps.{no_place}
 use Rattle.cs_position.specs.Laws.{CommitShows}
 

@@ -3,14 +3,14 @@ use Rattle.std.proofs.Common.{◌≡◌, ◌<◌, ◌≤◌, ◌^◌, ◌++◌, 
 use Rattle.std.proofs.lemmas.Option.{same_Some}
 use Rattle.cs_value.specs.Catalog.{AreTables}
 use Rattle.cs_value.specs.declared.catalog.TableDef.{TableDef}
-use Rattle.cs_pending.specs.cs_normal.Normal.{normal_spelling}
-use Rattle.cs_pending.specs.cs_normal.TableChanges.{TableChanges}
-use Rattle.cs_wire.specs.cs_log.Entry.{changes_of_body}
-use Rattle.cs_wire.specs.cs_log.Laws.{OneBody}
-use Rattle.cs_wire.specs.cs_log.Stored.{AreChangesOf}
-use Rattle.cs_wire.specs.cs_log.Body.{Body}
-use Rattle.cs_wire.specs.cs_log.Body.TheVariants.{Changes}
-use Rattle.cs_pending.specs.cs_store.MetaName.TheVariants.{Id, Version, Number, Flight}
+use Rattle.cs_normal.specs.Normal.{normal_spelling}
+use Rattle.cs_normal.specs.declared.normal.TableChanges.{TableChanges}
+use Rattle.cs_log.specs.Entry.{changes_of_body}
+use Rattle.cs_log.specs.Laws.{OneBody}
+use Rattle.cs_log.specs.Stored.{AreChangesOf}
+use Rattle.cs_log.specs.declared.body.Body.{Body}
+use Rattle.cs_log.specs.declared.body.Body.TheVariants.{Changes}
+use Rattle.cs_store.specs.declared.names.MetaName.TheVariants.{Id, Version, Number, Flight}
 use Rattle.cs_pending.specs.Laws.{OneView}
 use Rattle.cs_wire.specs.Numbers.{eight_bytes, four_bytes}
 use Rattle.cs_wire.specs.OneSpelling.{eight, eight_back, eight_rest, four, four_back}

@@ -2,13 +2,13 @@
 use Rattle.std.specs.Prelude.{◌≡◌, ◌≤◌, ℕ, List, [], length, Option, Some, None}
 use Rattle.std.specs.FinMap.{get, len}
 use Rattle.cs_value.specs.declared.catalog.TableDef.{TableDef}
-use Rattle.cs_pending.specs.cs_normal.Normal.{FitsCatalog, IsNormalChangeset, change_of, normal_spelling}
-use Rattle.cs_pending.specs.cs_normal.State.{State}
-use Rattle.cs_pending.specs.cs_normal.TableChanges.{TableChanges}
-use Rattle.cs_wire.specs.cs_log.TheConstants.{MAX_CHANGESET}
-use Rattle.cs_pending.specs.cs_store.Contents.{Contents, StorePlace, log_count, meta_value}
-use Rattle.cs_pending.specs.cs_store.Whole.{IsName}
-use Rattle.cs_pending.specs.cs_store.MetaName.{MetaName}
+use Rattle.cs_normal.specs.Normal.{FitsCatalog, IsNormalChangeset, change_of, normal_spelling}
+use Rattle.cs_normal.specs.State.{State}
+use Rattle.cs_normal.specs.declared.normal.TableChanges.{TableChanges}
+use Rattle.cs_log.specs.declared.entry.TheConstants.{MAX_CHANGESET}
+use Rattle.cs_store.specs.Contents.{Contents, StorePlace, log_count, meta_value}
+use Rattle.cs_store.specs.Whole.{IsName}
+use Rattle.cs_store.specs.declared.names.MetaName.{MetaName}
 use Rattle.cs_pending.specs.Shows.{IsElsewhere, IsSoundOf, ShowsRows}
 use Rattle.cs_pending.specs.View.{Changed, View, before, middle}
 use Rattle.cs_position.specs.Values.{value_of}

@@ -3,12 +3,12 @@ use Rattle.std.specs.Prelude.{ℕ, List, [], ◌++◌, map, option_map, Option, 
 use Rattle.std.specs.List.{flat_map}
 use Rattle.cs_value.specs.declared.catalog.TableDef.{TableDef}
 use Rattle.cs_change.specs.Spelling.{flag_byte, header_spelling}
-use Rattle.cs_pending.specs.cs_normal.Normal.{normal_spelling}
-use Rattle.cs_pending.specs.cs_normal.TableChanges.{TableChanges}
-use Rattle.cs_pending.specs.cs_store.Written.{optional_bytes}
-use Rattle.cs_pending.specs.cs_store.MetaEdit.{MetaEdit}
-use Rattle.cs_pending.specs.cs_store.MetaName.{MetaName}
-use Rattle.cs_pending.specs.cs_store.MetaName.TheVariants.{Id, Version, Number, Flight, Pending, Catalog}
+use Rattle.cs_normal.specs.Normal.{normal_spelling}
+use Rattle.cs_normal.specs.declared.normal.TableChanges.{TableChanges}
+use Rattle.cs_store.specs.Written.{optional_bytes}
+use Rattle.cs_store.specs.declared.batch.MetaEdit.{MetaEdit}
+use Rattle.cs_store.specs.declared.names.MetaName.{MetaName}
+use Rattle.cs_store.specs.declared.names.MetaName.TheVariants.{Id, Version, Number, Flight, Pending, Catalog}
 use Rattle.cs_wire.specs.Numbers.{eight_bytes, four_bytes}
 use Rattle.cs_position.specs.declared.position.Position.{Position}
 

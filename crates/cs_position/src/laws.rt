@@ -14,7 +14,7 @@ pub fn last_number()
 pub fn commit_shows()
     ensures { CommitShows }
 {
-    cs_pending::below::commits();
+    cs_store::laws::commits();
 }
 
 /// Contents show a replica at one position, and one view.
@@ -22,5 +22,5 @@ pub fn one_position()
     ensures { OnePosition }
 {
     cs_pending::laws::one_view();
-    cs_wire::below::one_body();
+    cs_log::laws::one_body();
 }

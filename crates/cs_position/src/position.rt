@@ -1,6 +1,6 @@
 //! What a replica holds in memory.
 
-use cs_pending::below::Normal;
+use cs_normal::Normal;
 
 /// The last number that a push may have. (Profile of this project.)
 pub const LAST_NUMBER: u64 = 9_223_372_036_854_775_807;

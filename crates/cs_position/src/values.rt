@@ -6,7 +6,7 @@ ghost use Rattle.cs_position.specs.Values.{catalog_bytes, flight_bytes};
 
 use cs_change::put_header;
 use cs_marks::flag_bytes;
-use cs_pending::below::Normal;
+use cs_normal::Normal;
 use cs_value::{Catalog, Memory, TableDef};
 use std::alloc::Global;
 

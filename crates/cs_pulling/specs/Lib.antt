@@ -4,6 +4,3 @@ pub mod Told
 pub mod Listed
 pub mod Steps
 pub mod Laws
-pub mod cs_outgoing
-pub mod cs_pushing
-pub mod cs_taking

@@ -6,7 +6,6 @@
 //! Its tests stand in `cs_replica_tests`.
 #![tactic(auto)]
 
-pub mod below;
 mod fault;
 pub mod laws;
 mod listing;

@@ -2,4 +2,3 @@ pub mod Pushes
 pub mod Batches
 pub mod Steps
 pub mod Laws
-pub mod cs_outgoing

@@ -6,7 +6,6 @@
 //! Its tests stand in `cs_replica_tests`.
 #![tactic(auto)]
 
-pub mod below;
 mod clearing;
 mod confirming;
 mod fault;

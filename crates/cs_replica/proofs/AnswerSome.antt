@@ -10,13 +10,13 @@ use Rattle.cs_conflict.specs.declared.wish.Wish.{Wish}
 use Rattle.cs_pending.specs.View.{View}
 use Rattle.cs_position.specs.Shows.{ShowsAt}
 use Rattle.cs_position.specs.declared.position.Position.{Position}
-use Rattle.cs_pulling.specs.cs_pushing.Pushes.{confirmed}
+use Rattle.cs_pushing.specs.Pushes.{confirmed}
 use Rattle.cs_pulling.specs.Laws.{IsOfList, ListHasResult}
 use Rattle.cs_pulling.specs.declared.fault.AnswerFault.{AnswerFault}
 use Rattle.cs_pulling.specs.declared.fault.AnswerFault.TheVariants.{Memory, Device, BadEntry}
 use Rattle.cs_pulling.specs.declared.listing.Pulled.{Pulled}
 use Rattle.cs_pulling.specs.declared.listing.Pulled.TheVariants as pulled
-use Rattle.cs_pulling.specs.cs_taking.Laws.{NextIsShown}
+use Rattle.cs_taking.specs.Laws.{NextIsShown}
 use Rattle.cs_wire.specs.declared.answer.Answer.{Answer}
 use Rattle.cs_wire.specs.declared.answer.Answer.TheVariants.{Short, Entries}
 use Rattle.cs_wire.specs.declared.short_answer.ShortAnswer.TheVariants as short

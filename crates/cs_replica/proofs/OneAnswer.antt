@@ -14,7 +14,7 @@ use Rattle.cs_pulling.specs.declared.fault.AnswerFault.{AnswerFault}
 use Rattle.cs_pulling.specs.declared.fault.AnswerFault.TheVariants.{Memory, Device, BadEntry}
 use Rattle.cs_pulling.specs.declared.listing.Pulled.{Pulled}
 use Rattle.cs_pulling.specs.declared.listing.Pulled.TheVariants as pulled
-use Rattle.cs_pulling.specs.cs_taking.Laws.{OneContents}
+use Rattle.cs_taking.specs.Laws.{OneContents}
 use Rattle.cs_wire.specs.declared.answer.Answer.TheVariants.{Short, Entries}
 use Rattle.cs_wire.specs.declared.short_answer.ShortAnswer.TheVariants as short
 use Rattle.cs_replica.specs.Answered.{KeepsRows, TellsAccepted, told_of}

@@ -9,11 +9,11 @@ use Rattle.cs_pending.specs.Calls.{WritesStore}
 use Rattle.cs_position.specs.Laws.{FitsPosition}
 use Rattle.cs_position.specs.Shows.{ShowsSomeAt}
 use Rattle.cs_position.specs.declared.position.Position.{Position}
-use Rattle.cs_moving.specs.cs_opening.Fresh.{IsSameOrFirst}
-use Rattle.cs_moving.specs.cs_opening.Laws.{NoFaultWhereOpened, NothingShowsNone, OneOpening}
-use Rattle.cs_moving.specs.cs_opening.Opens.{IsOpenFault, IsReplicaAt}
-use Rattle.cs_moving.specs.cs_opening.OpenFault.{OpenFault}
-use Rattle.cs_moving.specs.cs_opening.OpenFault.TheVariants.{Memory, Damaged, Device, Mismatch}
+use Rattle.cs_opening.specs.Fresh.{IsSameOrFirst}
+use Rattle.cs_opening.specs.Laws.{NoFaultWhereOpened, NothingShowsNone, OneOpening}
+use Rattle.cs_opening.specs.Opens.{IsOpenFault, IsReplicaAt}
+use Rattle.cs_opening.specs.declared.fault.OpenFault.{OpenFault}
+use Rattle.cs_opening.specs.declared.fault.OpenFault.TheVariants.{Memory, Damaged, Device, Mismatch}
 
 module _ (some : NothingShowsNone) (tables : List TableDef) (position : Position) (old : Contents) (shown : ShowsSomeAt tables position old) where
   -- it holds something, so it is as it was

@@ -7,7 +7,3 @@ pub mod Answered
 pub mod Stands
 pub mod Laws
 pub use Rattle.cs_moving.specs.Moved
-pub mod cs_opening
-pub mod cs_pulling
-pub mod cs_pushing
-pub mod cs_taking

@@ -3,8 +3,8 @@ use Rattle.std.specs.Prelude.{◌≡◌, ℕ, List, Result}
 use Rattle.cs_value.specs.declared.catalog.TableDef.{TableDef}
 use Rattle.cs_store.specs.Contents.{Contents}
 use Rattle.cs_pending.specs.Calls.{WritesStore}
-use Rattle.cs_moving.specs.cs_opening.OpenFault.{OpenFault}
-use Rattle.cs_moving.specs.cs_opening.OpenFault.TheVariants.{Device}
+use Rattle.cs_opening.specs.declared.fault.OpenFault.{OpenFault}
+use Rattle.cs_opening.specs.declared.fault.OpenFault.TheVariants.{Device}
 use Rattle.cs_moving.specs.Moved.{IsSameOrOpened}
 
 -- the store was laid out, or its value of pending changes moved, in one commit; or it was not written

@@ -6,13 +6,13 @@ ghost use Rattle.cs_position.specs.Shows.{ShowsAt, ShowsSomeAt};
 ghost use Rattle.cs_pulling.specs.Calls.{WritesInTurn};
 ghost use Rattle.cs_replica.specs.Accepted.{IsAccepted};
 ghost use Rattle.cs_replica.specs.Answered.{Answers, IsAnsweredAmong, IsAnsweredNext, IsDone, SaysDevice, TellsAccepted, KeepsRows};
-ghost use Rattle.cs_pulling.specs.cs_pushing.Pushes.{IsConfirmedIn};
+ghost use Rattle.cs_pushing.specs.Pushes.{IsConfirmedIn};
 
 use crate::told::Told;
 use cs_conflict::Picker;
 use cs_position::Position;
-use cs_pulling::below::confirm;
 use cs_pulling::{AnswerFault, Pulled, take_entries};
+use cs_pushing::confirm;
 use cs_store::{RowStore, StoreFault};
 use cs_value::Catalog;
 use cs_wire::{Answer, ShortAnswer};

@@ -50,7 +50,7 @@ pub fn one_answered<P: Picker>()
     ensures { OneAnswered P.picks }
 {
     cs_pending::laws::one_view();
-    cs_pulling::below::one_contents();
+    cs_taking::laws::one_contents();
     cs_pulling::laws::one_list::<P>();
 }
 
@@ -59,6 +59,6 @@ pub fn one_answered<P: Picker>()
 pub fn answer_has_result<P: Picker>()
     ensures { AnswerHasResult P.picks P.is_ready }
 {
-    cs_pulling::below::one_contents();
+    cs_taking::laws::one_contents();
     cs_pulling::laws::list_has_result::<P>();
 }

@@ -8,7 +8,6 @@
 #![tactic(auto)]
 
 mod answering;
-pub mod below;
 mod editing;
 pub mod laws;
 mod opening;

@@ -6,9 +6,9 @@ ghost use Rattle.cs_value.specs.declared.catalog.TableDef.{TableDef as Table};
 ghost use Rattle.cs_pending.specs.Calls.{WritesStore};
 ghost use Rattle.cs_position.specs.Laws.{FitsPosition};
 ghost use Rattle.cs_position.specs.Shows.{ShowsSomeAt};
-ghost use Rattle.cs_moving.specs.cs_opening.OpenFault.TheVariants.{Device, Memory};
+ghost use Rattle.cs_opening.specs.declared.fault.OpenFault.TheVariants.{Device, Memory};
 
-use cs_moving::below::{OpenFault, open_at};
+use cs_opening::{OpenFault, open_at};
 use cs_position::Position;
 use cs_store::RowStore;
 use cs_value::{Catalog, TableDef};
@@ -46,7 +46,7 @@ pub(crate) fn reopen_at<S: RowStore>(
     ensures refused { S.honest store.new → ShowsSomeAt catalog.now position.now (S.contents store.old)
         → IfErr result (λ fault. (fault ≡ Memory) ⊎ (fault ≡ Device)) }
 {
-    cs_moving::below::openings();
+    cs_opening::laws::openings();
     cs_position::laws::one_position();
     are_named(catalog.tables());
     in_range(position);

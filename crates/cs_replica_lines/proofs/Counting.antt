@@ -1,7 +1,7 @@
 -- Counts of failures, from one call to the next.
 use Rattle.std.proofs.Common.{◌≤◌, ℕ, arith}
 use Rattle.cs_member.specs.Leaves.{Counts}
-use Rattle.cs_member.specs.cs_replica.Holding.{Holding}
+use Rattle.cs_replica.specs.Holding.{Holding}
 use Rattle.cs_store.specs.Calls.{MoreFailures}
 use Rattle.cs_store.specs.declared.store.RowStore.{Ghosts}
 

@@ -4,7 +4,7 @@ use Rattle.std.specs.Prelude.{Some, None, slice_get}
 use Rattle.cs_member.specs.Member.{AreRowsIn, Member, Turns, member_of}
 use Rattle.cs_normal.specs.State.{State}
 use Rattle.cs_pending.specs.View.{View}
-use Rattle.cs_member.specs.cs_replica.Holding.{Holding, Shows}
+use Rattle.cs_replica.specs.Holding.{Holding, Shows}
 use Rattle.cs_store.specs.Contents.{Contents}
 use Rattle.cs_value.specs.Catalog.{AreTables}
 use Rattle.cs_value.specs.declared.catalog.TableDef.{TableDef}

@@ -14,7 +14,7 @@ use Rattle.cs_pending.specs.declared.fault.EditFault.{EditFault}
 use Rattle.cs_position.specs.Laws.{FitsPosition}
 use Rattle.cs_position.specs.Shows.{ShowsAt}
 use Rattle.cs_pushing.specs.declared.fault.PushFault.{PushFault}
-use Rattle.cs_member.specs.cs_replica.Holding.{Holding, Shows}
+use Rattle.cs_replica.specs.Holding.{Holding, Shows}
 use Rattle.cs_store.specs.declared.store.RowStore.{Ghosts}
 use Rattle.cs_value.specs.Catalog.{AreTables}
 use Rattle.cs_value.specs.declared.catalog.TableDef.{TableDef}

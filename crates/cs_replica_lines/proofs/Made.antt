@@ -7,12 +7,12 @@ use Rattle.cs_conflict.specs.declared.wish.Wish.{Wish}
 use Rattle.cs_lines.specs.Lines.{hex_line}
 use Rattle.cs_member.specs.Leaves.{Counts}
 use Rattle.cs_member.specs.Member.{Hears, IsPushedTo, IsResent, Member, Turns, member_of}
-use Rattle.cs_member.specs.cs_pulling.AnswerFault.{AnswerFault}
+use Rattle.cs_pulling.specs.declared.fault.AnswerFault.{AnswerFault}
 use Rattle.cs_pushing.specs.declared.fault.PushFault.{PushFault}
 use Rattle.cs_pushing.specs.declared.fault.PushFault.TheVariants as pushes
-use Rattle.cs_member.specs.cs_replica.Answered.{SaysDevice}
-use Rattle.cs_member.specs.cs_replica.Holding.{Holding}
-use Rattle.cs_member.specs.cs_replica.Told.{Told}
+use Rattle.cs_replica.specs.Answered.{SaysDevice}
+use Rattle.cs_replica.specs.Holding.{Holding}
+use Rattle.cs_replica.specs.declared.told.Told.{Told}
 use Rattle.cs_store.specs.declared.store.RowStore.{Ghosts}
 use Rattle.cs_value.specs.declared.catalog.TableDef.{TableDef}
 use Rattle.cs_wire.specs.Answers.{FitsAnswer, answer_spelling}

@@ -10,11 +10,11 @@ use Rattle.cs_member.specs.Same.{IsSameMember, IsShown}
 use Rattle.cs_normal.specs.State.{State}
 use Rattle.cs_pending.specs.declared.fault.EditFault.{EditFault}
 use Rattle.cs_position.specs.declared.position.Position.{Position}
-use Rattle.cs_member.specs.cs_pulling.AnswerFault.{AnswerFault}
-use Rattle.cs_member.specs.cs_pulling.AnswerFault.TheVariants as hearing
+use Rattle.cs_pulling.specs.declared.fault.AnswerFault.{AnswerFault}
+use Rattle.cs_pulling.specs.declared.fault.AnswerFault.TheVariants as hearing
 use Rattle.cs_pushing.specs.declared.fault.PushFault.{PushFault}
-use Rattle.cs_member.specs.cs_replica.Laws.{IsOfAnswer}
-use Rattle.cs_member.specs.cs_replica.Told.{Told}
+use Rattle.cs_replica.specs.Laws.{IsOfAnswer}
+use Rattle.cs_replica.specs.declared.told.Told.{Told}
 use Rattle.cs_rows.specs.Rows.{OneTableOfRows}
 use Rattle.cs_store.specs.declared.fault.StoreFault.{StoreFault}
 use Rattle.cs_store.specs.declared.fault.StoreFault.TheVariants as store

@@ -4,8 +4,8 @@ use Rattle.std.specs.List.{AllByRecursion}
 use Rattle.cs_asks.specs.declared.ask.Ask.{Ask}
 use Rattle.cs_member.specs.Member.{Member}
 use Rattle.cs_member.specs.Same.{IsSameMember, IsShown}
-use Rattle.cs_member.specs.cs_pulling.AnswerFault.{AnswerFault}
-use Rattle.cs_member.specs.cs_replica.Laws.{IsOfAnswer}
+use Rattle.cs_pulling.specs.declared.fault.AnswerFault.{AnswerFault}
+use Rattle.cs_replica.specs.Laws.{IsOfAnswer}
 use Rattle.cs_text.specs.Text.{line}
 use Rattle.cs_told.specs.Told.{fault_text}
 use Rattle.cs_value.specs.Catalog.{AreTables}

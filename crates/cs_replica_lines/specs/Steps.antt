@@ -5,7 +5,7 @@ use Rattle.std.specs.Io.KnownBytes.{Appends, Keeps}
 use Rattle.cs_asks.specs.declared.ask.Ask.{Ask}
 use Rattle.cs_lines.specs.Writing.{AppendsFront}
 use Rattle.cs_member.specs.Member.{Member, Turns}
-use Rattle.cs_member.specs.cs_replica.Holding.{Holding}
+use Rattle.cs_replica.specs.Holding.{Holding}
 use Rattle.cs_normal.specs.State.{State}
 use Rattle.cs_rows.specs.Rows.{AreRowsOf}
 use Rattle.cs_store.specs.declared.store.RowStore.{Ghosts}

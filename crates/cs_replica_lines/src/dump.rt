@@ -10,8 +10,8 @@ ghost use Rattle.cs_text.specs.Text.{line};
 ghost use Rattle.cs_told.specs.Dump.{PutsRows, flight_count, numbered_text, replica_text, rows_text};
 ghost use Rattle.cs_told.specs.Told.{place_text};
 
-use cs_member::below::Replica;
 use cs_member::rows_of;
+use cs_replica::Replica;
 use cs_rows::RowAtKey;
 use cs_store::{RowStore, StoreFault};
 use cs_told::{PlaceText, ReplicaText, RowsText};

@@ -10,7 +10,7 @@ use crate::reply::write_reply;
 use crate::working::work_ask;
 use cs_asks::{Ask, read_asks};
 use cs_lines::{LineInput, LineOutput};
-use cs_member::below::Replica;
+use cs_replica::Replica;
 use cs_store::RowStore;
 use cs_value::Catalog;
 use std::alloc::Global;

@@ -12,9 +12,9 @@ use Rattle.cs_pending.specs.Spots.{all_both}
 use Rattle.cs_change.specs.Spelling.{FitsRow}
 use Rattle.cs_record.specs.Laws.{OneSpelledRow}
 use Rattle.cs_record.specs.Spelling.{row_bytes}
-use Rattle.cs_pending.specs.cs_store.Contents.{Contents, IsListing}
-use Rattle.cs_pending.specs.cs_store.Written.{pairs_of}
-use Rattle.cs_pending.specs.cs_store.StoredBody.{StoredBody}
+use Rattle.cs_store.specs.Contents.{Contents, IsListing}
+use Rattle.cs_store.specs.Written.{pairs_of}
+use Rattle.cs_store.specs.declared.store.StoredBody.{StoredBody}
 use Rattle.cs_value.specs.Key.{Place}
 use Rattle.cs_value.specs.declared.value.Value.{Value}
 use Rattle.cs_value.specs.Catalog.{AreTables}

@@ -3,8 +3,8 @@ use Rattle.std.specs.Prelude.{◌≡◌, ℕ, List, map}
 use Rattle.std.specs.List.{AllByRecursion}
 use Rattle.cs_change.specs.Spelling.{FitsRow}
 use Rattle.cs_record.specs.Spelling.{row_bytes}
-use Rattle.cs_pending.specs.cs_store.Written.{pairs_of}
-use Rattle.cs_pending.specs.cs_store.StoredBody.{StoredBody}
+use Rattle.cs_store.specs.Written.{pairs_of}
+use Rattle.cs_store.specs.declared.store.StoredBody.{StoredBody}
 use Rattle.cs_value.specs.declared.value.Value.{Value}
 
 -- a row behind its key, in its bytes

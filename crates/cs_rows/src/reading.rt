@@ -5,16 +5,16 @@ ghost use Rattle.std.specs.List.{AllByRecursion};
 ghost use Rattle.cs_pending.specs.Calls.{ReadsStore};
 ghost use Rattle.cs_pending.specs.Shows.{ShowsRows, ShowsSome};
 ghost use Rattle.cs_pending.specs.View.{View};
-ghost use Rattle.cs_pending.specs.cs_store.Contents.{IsListing, stored_tables};
-ghost use Rattle.cs_pending.specs.cs_store.Written.{pairs_of};
-ghost use Rattle.cs_pending.specs.cs_store.StoreFault.TheVariants.{Device};
+ghost use Rattle.cs_store.specs.Contents.{IsListing, stored_tables};
+ghost use Rattle.cs_store.specs.Written.{pairs_of};
+ghost use Rattle.cs_store.specs.declared.fault.StoreFault.TheVariants.{Device};
 ghost use Rattle.cs_value.specs.declared.catalog.TableDef.{TableDef as Table};
 ghost use Rattle.cs_rows.specs.Rows.{AreRowsOf};
 ghost use Rattle.cs_rows.specs.Steps.{AreSpelled, IsRowBody};
 
 use cs_change::Bytes;
-use cs_pending::below::{RowStore, StoreFault, StoredBody, whole_row};
 use cs_record::RowBuf;
+use cs_store::{RowStore, StoreFault, StoredBody, whole_row};
 use cs_value::{Catalog, Items, Memory, TableDef};
 use std::alloc::Global;
 

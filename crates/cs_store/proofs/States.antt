@@ -4,8 +4,8 @@ use Rattle.std.specs.Prelude.{slice_get}
 use Rattle.std.proofs.lemmas.Option.{same_Some, slice_get-get_or}
 use Rattle.cs_value.specs.Key.{Place}
 use Rattle.cs_value.specs.declared.catalog.TableDef.{TableDef}
-use Rattle.cs_log.specs.cs_record.Spelling.{row_bytes}
-use Rattle.cs_log.specs.cs_record.OneSpelling.{one_spelled_row}
+use Rattle.cs_record.specs.Spelling.{row_bytes}
+use Rattle.cs_record.specs.OneSpelling.{one_spelled_row}
 use Rattle.cs_log.specs.State.{MayStandAt}
 use Rattle.cs_store.specs.StateLaws as law
 use Rattle.cs_store.proofs.StoreLaws.{writes_rows}

@@ -12,7 +12,7 @@ use Rattle.std.proofs.lemmas.Bool.{false_from_ne_true}
 use Rattle.std.specs.FinMap.Entries.{same_entries}
 use Rattle.std.proofs.lemmas.Cmp.{int_cmp_total, nat_list_cmp_total}
 use Rattle.std.proofs.lemmas.Map.Lookups.{exact_bytes}
-use Rattle.cs_log.specs.cs_order.Order.{by_bytes, same_bytes}
+use Rattle.cs_order.specs.Order.{by_bytes, same_bytes}
 use Rattle.cs_store.specs.Contents.{Contents, Log, LogItem, Bodies, Meta, StorePlace, place_cmp, name_text}
 use Rattle.cs_store.specs.Written.{edit_body, edit_meta, appended, optional_bytes, optional_entry, item_of, store_place, with_body}
 use Rattle.cs_store.specs.Laws as law

@@ -2,7 +2,7 @@
 use Rattle.std.specs.Prelude.{◌≡◌, ◌≢◌, ◌<◌, ◌+◌, ◌-◌, ◌^◌, ℕ, pos, if◌then◌else◌, nat_eq, ◌&&◌, List, [], ◌∷◌, Option, None, Result, Ok, IsOk, OnOk, OnErr, IfErr, fold, is_some}
 use Rattle.std.specs.FinMap.{empty, get, insert, len}
 use Rattle.std.specs.List.{AllByRecursion}
-use Rattle.cs_log.specs.cs_order.Order.{same_bytes}
+use Rattle.cs_order.specs.Order.{same_bytes}
 use Rattle.cs_edits.specs.Edits.{BodyEdit}
 use Rattle.cs_store.specs.declared.batch.MetaEdit.{MetaEdit}
 use Rattle.cs_store.specs.declared.batch.StoredEntry.{StoredEntry}

@@ -3,10 +3,10 @@ use Rattle.std.specs.Prelude.{◌≡◌, ◌≢◌, ◌<◌, ℕ, List, ◌++◌
 use Rattle.std.specs.Int.{to_be_bytes, w32}
 use Rattle.std.specs.List.Sorted.{IsStrictlySortedBy}
 use Rattle.cs_value.specs.Key.{Place}
-use Rattle.cs_log.specs.cs_change.Spelling.{FitsRow}
+use Rattle.cs_change.specs.Spelling.{FitsRow}
 use Rattle.cs_value.specs.declared.catalog.TableDef.{TableDef}
-use Rattle.cs_log.specs.cs_record.Spelling.{row_bytes}
-use Rattle.cs_log.specs.cs_order.Order.{by_bytes}
+use Rattle.cs_record.specs.Spelling.{row_bytes}
+use Rattle.cs_order.specs.Order.{by_bytes}
 use Rattle.cs_log.specs.State.{State, IsStateOf}
 use Rattle.cs_store.specs.Contents.{Contents, stored_tables}
 use Rattle.cs_store.specs.Laws.{row_after}

@@ -3,10 +3,10 @@ use Rattle.std.specs.Prelude.{◌≡◌, ℕ, ℤ, pos, true, List, Some, slice_
 use Rattle.std.specs.FinMap.{get}
 use Rattle.cs_value.specs.declared.catalog.TableDef.{TableDef}
 use Rattle.cs_value.specs.declared.value.Value.{Value}
-use Rattle.cs_log.specs.cs_record.Spelling.{row_bytes}
-use Rattle.cs_log.specs.cs_change.Spelling.{FitsChange, change_spelling}
-use Rattle.cs_log.specs.cs_change.Change.{Change}
-use Rattle.cs_log.specs.cs_keyed.NormalForm.{change_bytes, has_key}
+use Rattle.cs_record.specs.Spelling.{row_bytes}
+use Rattle.cs_change.specs.Spelling.{FitsChange, change_spelling}
+use Rattle.cs_change.specs.declared.change.Change.{Change}
+use Rattle.cs_keyed.specs.NormalForm.{change_bytes, has_key}
 use Rattle.cs_log.specs.State.{IsRowOf}
 use Rattle.cs_log.specs.Stored.{IsStoredBody}
 use Rattle.cs_store.specs.Contents.{Contents, LogItem, StorePlace, name_text}

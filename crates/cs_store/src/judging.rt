@@ -2,14 +2,16 @@
 
 ghost use Rattle.std.specs.Prelude.{◌≡◌, ◌↔◌, true, pos, List, Some, IfOk, IfSome, IsTrue};
 ghost use Rattle.cs_value.specs.declared.value.Value.{Value};
-ghost use Rattle.cs_log.specs.cs_record.Spelling.{row_bytes};
-ghost use Rattle.cs_log.specs.cs_change.Spelling.{FitsRow, is_nonzero, marks_of};
-ghost use Rattle.cs_log.specs.cs_keyed.NormalForm.{change_bytes, has_key};
+ghost use Rattle.cs_record.specs.Spelling.{row_bytes};
+ghost use Rattle.cs_change.specs.Spelling.{FitsRow, is_nonzero, marks_of};
+ghost use Rattle.cs_keyed.specs.NormalForm.{change_bytes, has_key};
 ghost use Rattle.cs_store.specs.Whole.{AtTable, IsName, StoresBody, StoresChange, StoresRow};
 
 use crate::MetaName;
-use cs_log::below::{Change, Row, put_key, read_one, read_row};
+use cs_changeset::{Change, read_one};
+use cs_keyed::put_key;
 use cs_log::is_stored_body;
+use cs_record::{Row, read_row};
 use cs_value::{Catalog, Memory, TableDef};
 use std::alloc::Global;
 

@@ -12,7 +12,6 @@
 #![tactic(auto)]
 
 mod batch;
-pub mod below;
 mod fault;
 mod judging;
 pub mod laws;

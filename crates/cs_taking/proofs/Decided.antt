@@ -13,7 +13,7 @@ use Rattle.cs_conflict.specs.declared.wish.Wish.{Wish}
 use Rattle.cs_conflict.specs.declared.wish.Wish.TheVariants.{Keep, Stop}
 use Rattle.cs_apply.specs.NormalTasks.{AreElsewhere, spot_of}
 use Rattle.cs_apply.specs.Spots.{same_spot, spots_apart}
-use Rattle.cs_apply.specs.cs_tasks.Tasks.{Task}
+use Rattle.cs_tasks.specs.Tasks.{Task}
 use Rattle.cs_rebaser.specs.Merge.{merge}
 use Rattle.cs_pending.specs.Settled.{Catalogs}
 use Rattle.cs_pending.specs.Shows.{IsSoundOf}

@@ -16,7 +16,7 @@ use Rattle.cs_normal.specs.State.{IsStateOf, MayStandAt, State, left_at}
 use Rattle.cs_normal.specs.declared.normal.TableChanges.{TableChanges}
 use Rattle.cs_apply.specs.NormalTasks.{IsKnown, all_known, entries_in, keyed_task, keyed_tasks, number_of, of_one, table_tasks, tasks_are}
 use Rattle.cs_apply.specs.Spots.{all_both}
-use Rattle.cs_apply.specs.cs_tasks.Tasks.{Task, tasks}
+use Rattle.cs_tasks.specs.Tasks.{Task, tasks}
 use Rattle.cs_pending.specs.OnePlace.{contained}
 use Rattle.cs_taking.proofs.Standing.{stands_keyed}
 use Rattle.cs_taking.proofs.Whole.{AreFound, all_found}

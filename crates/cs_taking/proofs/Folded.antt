@@ -9,7 +9,7 @@ use Rattle.cs_normal.specs.declared.normal.TableChanges.{TableChanges}
 use Rattle.cs_store.specs.Contents.{Contents}
 use Rattle.cs_apply.specs.NormalTasks.{AreElsewhere, spot_of}
 use Rattle.cs_apply.specs.Spots.{same_spot, spots_apart}
-use Rattle.cs_apply.specs.cs_tasks.Tasks.{Task}
+use Rattle.cs_tasks.specs.Tasks.{Task}
 use Rattle.cs_pending.specs.OnePlace.{by_spot, contained}
 use Rattle.cs_pending.specs.Placing.{StandsIn}
 use Rattle.cs_pending.specs.Settled.{Catalogs}

@@ -18,7 +18,7 @@ use Rattle.cs_conflict.specs.declared.conflict.Conflict.{Conflict}
 use Rattle.cs_conflict.specs.declared.wish.Wish.{Wish}
 use Rattle.cs_apply.specs.NormalTasks.{AreElsewhere, HaveOwnPlaces, are_apart, entries_in, keyed_task, keyed_tasks, number_of, of_one, table_tasks, tasks_are}
 use Rattle.cs_apply.specs.Spots.{all_both, by_test}
-use Rattle.cs_apply.specs.cs_tasks.Tasks.{Task, tasks}
+use Rattle.cs_tasks.specs.Tasks.{Task, tasks}
 use Rattle.cs_pending.specs.Calls.{ReadsStore}
 use Rattle.cs_pending.specs.Storing.{err_is}
 use Rattle.cs_pending.specs.View.{View, middle}

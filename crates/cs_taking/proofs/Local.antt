@@ -20,7 +20,7 @@ use Rattle.cs_conflict.specs.declared.wish.Wish.TheVariants.{Keep, Take, Stop}
 use Rattle.cs_net.specs.Combine.{with_flag_any}
 use Rattle.cs_apply.specs.Applies.{IsConflictOf}
 use Rattle.cs_apply.specs.Spots.{by_test}
-use Rattle.cs_apply.specs.cs_tasks.Tasks.{Task}
+use Rattle.cs_tasks.specs.Tasks.{Task}
 use Rattle.cs_pending.specs.Nets.{action_with_flag}
 use Rattle.cs_taking.specs.Takes.{IsClashOf}
 

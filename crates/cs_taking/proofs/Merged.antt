@@ -25,7 +25,7 @@ use Rattle.cs_conflict.specs.declared.conflict.Resolution.{Resolution}
 use Rattle.cs_conflict.specs.declared.conflict.Resolution.TheVariants.{Omit, Abort}
 use Rattle.cs_conflict.specs.declared.wish.Wish.{Wish}
 use Rattle.cs_conflict.specs.declared.wish.Wish.TheVariants.{Keep, Take, Stop}
-use Rattle.cs_apply.specs.cs_tasks.Tasks.{Task}
+use Rattle.cs_tasks.specs.Tasks.{Task}
 use Rattle.cs_rebaser.specs.Diamond.{Diamond, IsLawfulOver, outcome}
 use Rattle.cs_rebaser.specs.Merge.{merge}
 use Rattle.cs_taking.specs.Steps.{LeavesOwn}

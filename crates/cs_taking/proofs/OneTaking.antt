@@ -17,7 +17,7 @@ use Rattle.cs_conflict.specs.declared.kind.Kind.TheVariants.{NotFound}
 use Rattle.cs_conflict.specs.declared.wish.Wish.{Wish}
 use Rattle.cs_conflict.specs.declared.wish.Wish.TheVariants.{Stop}
 use Rattle.cs_apply.specs.Applies.{IsConflictOf}
-use Rattle.cs_apply.specs.cs_tasks.Tasks.{Task}
+use Rattle.cs_tasks.specs.Tasks.{Task}
 use Rattle.cs_rebaser.specs.Merge.{merge}
 use Rattle.cs_taking.specs.Laws.{OneClash, PicksOnce}
 use Rattle.cs_taking.specs.Takes.{Asks, StopsAt, StopsHere, TakeAll}

@@ -19,7 +19,7 @@ use Rattle.cs_store.specs.declared.names.MetaName.{MetaName}
 use Rattle.cs_store.specs.declared.names.MetaName.TheVariants.{Version, Flight}
 use Rattle.cs_apply.specs.NormalTasks.{AreElsewhere, IsKnown, spot_of}
 use Rattle.cs_apply.specs.Spots.{both_true, by_test, key_is, key_refl, same_spot, spot_is}
-use Rattle.cs_apply.specs.cs_tasks.Tasks.{Task}
+use Rattle.cs_tasks.specs.Tasks.{Task}
 use Rattle.cs_pending.specs.OnePlace.{tests_agree}
 use Rattle.cs_pending.specs.Shows.{IsElsewhere}
 use Rattle.cs_taking.proofs.OneContents.{place_exact, place_total}

@@ -4,7 +4,7 @@ use Rattle.std.proofs.lemmas.List.{append-nil}
 use Rattle.cs_value.specs.Key.{Place}
 use Rattle.cs_change.specs.Action.{action, after}
 use Rattle.cs_normal.specs.State.{State}
-use Rattle.cs_apply.specs.cs_tasks.Tasks.{Task}
+use Rattle.cs_tasks.specs.Tasks.{Task}
 use Rattle.cs_taking.specs.Steps.{HasBad}
 
 pub bad_here : (log : State) (t : Task) (ts : List Task) (place : Place) → place ≡ log t.name t.key → after (action t.change) place ≡ None → HasBad log (t ∷ ts)

@@ -21,7 +21,7 @@ use Rattle.cs_store.specs.declared.names.MetaName.TheVariants.{Id, Version, Numb
 use Rattle.cs_wire.specs.Numbers.{eight_bytes}
 use Rattle.cs_apply.specs.NormalTasks.{AreElsewhere, IsKnown, all_known, keyed_tasks, of_one}
 use Rattle.cs_apply.specs.Spots.{all_both}
-use Rattle.cs_apply.specs.cs_tasks.Tasks.{Task}
+use Rattle.cs_tasks.specs.Tasks.{Task}
 use Rattle.cs_pending.specs.Nets.{net_there, undo_none}
 use Rattle.cs_pending.specs.OnePlace.{contained}
 use Rattle.cs_pending.specs.Shows.{IsSoundOf}

@@ -19,7 +19,7 @@ use Rattle.cs_conflict.specs.declared.clash.Clash.{Clash}
 use Rattle.cs_conflict.specs.declared.wish.Wish.{Wish}
 use Rattle.cs_apply.specs.NormalTasks.{AreElsewhere, keyed_tasks}
 use Rattle.cs_apply.specs.Spots.{by_test}
-use Rattle.cs_apply.specs.cs_tasks.Tasks.{Task}
+use Rattle.cs_tasks.specs.Tasks.{Task}
 use Rattle.cs_rebaser.specs.Diamond.{MergesAlike, kind_any}
 use Rattle.cs_pending.specs.Laws.{OneView}
 use Rattle.cs_pending.specs.View.{View, direct_net, middle}

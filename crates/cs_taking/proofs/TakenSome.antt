@@ -20,7 +20,7 @@ use Rattle.cs_conflict.specs.declared.conflict.Conflict.{Conflict}
 use Rattle.cs_conflict.specs.declared.wish.Wish.{Wish}
 use Rattle.cs_apply.specs.NormalTasks.{AreElsewhere, are_apart, keyed_tasks, one_table}
 use Rattle.cs_apply.specs.Spots.{by_test}
-use Rattle.cs_apply.specs.cs_tasks.Tasks.{Task}
+use Rattle.cs_tasks.specs.Tasks.{Task}
 use Rattle.cs_pending.specs.Nets.{action_with_flag, net_fits, undo_net, undo_none}
 use Rattle.cs_pending.specs.Settled.{spelled_place}
 use Rattle.cs_pending.specs.Shows.{IsSoundOf}

@@ -19,7 +19,7 @@ use Rattle.cs_conflict.specs.declared.wish.Wish.{Wish}
 use Rattle.cs_conflict.specs.declared.wish.Wish.TheVariants.{Stop}
 use Rattle.cs_apply.specs.NormalTasks.{AreElsewhere, are_apart, keyed_tasks}
 use Rattle.cs_apply.specs.Spots.{by_test}
-use Rattle.cs_apply.specs.cs_tasks.Tasks.{Task}
+use Rattle.cs_tasks.specs.Tasks.{Task}
 use Rattle.cs_pending.specs.Laws.{OneView}
 use Rattle.cs_pending.specs.View.{Changed, View}
 use Rattle.cs_position.specs.Shows.{ShowsAt, base}

@@ -9,7 +9,7 @@ use Rattle.cs_normal.specs.declared.normal.TableChanges.{TableChanges}
 use Rattle.cs_store.specs.Contents.{Contents}
 use Rattle.cs_apply.specs.NormalTasks.{AreElsewhere, are_apart, each_found, found_at, found_is, keyed_tasks, spot_of}
 use Rattle.cs_apply.specs.Spots.{by_test, same_spot, spot_is}
-use Rattle.cs_apply.specs.cs_tasks.Tasks.{Task}
+use Rattle.cs_tasks.specs.Tasks.{Task}
 use Rattle.cs_pending.specs.Nets.{undo_none}
 use Rattle.cs_pending.specs.Shows.{ShowsRows}
 use Rattle.cs_pending.specs.View.{View, middle, undo}

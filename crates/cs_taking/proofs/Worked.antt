@@ -29,7 +29,7 @@ use Rattle.cs_conflict.specs.declared.wish.Wish.{Wish}
 use Rattle.cs_conflict.specs.declared.wish.Wish.TheVariants.{Keep, Take, Stop}
 use Rattle.cs_apply.specs.NormalTasks.{AreElsewhere, HaveOwnPlaces, spot_of}
 use Rattle.cs_apply.specs.Spots.{spots_apart}
-use Rattle.cs_apply.specs.cs_tasks.Tasks.{Task}
+use Rattle.cs_tasks.specs.Tasks.{Task}
 use Rattle.cs_rebaser.specs.Diamond.{Diamond}
 use Rattle.cs_rebaser.specs.Merge.{merge}
 use Rattle.cs_pending.specs.Nets.{action_with_flag}

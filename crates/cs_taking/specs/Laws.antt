@@ -16,7 +16,7 @@ use Rattle.cs_conflict.specs.declared.kind.Kind.{Kind}
 use Rattle.cs_conflict.specs.declared.kind.Kind.TheVariants.{DataDiffers, NotFound, KeyConflict}
 use Rattle.cs_conflict.specs.declared.wish.Wish.{Wish}
 use Rattle.cs_conflict.specs.declared.wish.Wish.TheVariants.{Keep, Take}
-use Rattle.cs_apply.specs.cs_tasks.Tasks.{Task}
+use Rattle.cs_tasks.specs.Tasks.{Task}
 use Rattle.cs_pending.specs.View.{View}
 use Rattle.cs_position.specs.Shows.{ShowsAt, ShowsSomeAt, base}
 use Rattle.cs_position.specs.declared.position.Position.{Position}

@@ -15,7 +15,7 @@ use Rattle.cs_conflict.specs.declared.clash.Clash.{Clash}
 use Rattle.cs_conflict.specs.declared.wish.Wish.{Wish}
 use Rattle.cs_conflict.specs.declared.wish.Wish.TheVariants.{Stop}
 use Rattle.cs_apply.specs.NormalTasks.{AreElsewhere, HaveOwnPlaces}
-use Rattle.cs_apply.specs.cs_tasks.Tasks.{Task}
+use Rattle.cs_tasks.specs.Tasks.{Task}
 use Rattle.cs_store.specs.Contents.{Contents}
 use Rattle.cs_store.specs.declared.batch.Batch.{Batch}
 use Rattle.cs_store.specs.declared.names.MetaName.TheVariants.{Flight, Version}

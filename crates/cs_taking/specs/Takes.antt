@@ -17,7 +17,7 @@ use Rattle.cs_conflict.specs.declared.conflict.Conflict.{Conflict}
 use Rattle.cs_conflict.specs.declared.wish.Wish.{Wish}
 use Rattle.cs_conflict.specs.declared.wish.Wish.TheVariants.{Stop}
 use Rattle.cs_apply.specs.Applies.{IsConflictOf}
-use Rattle.cs_apply.specs.cs_tasks.Tasks.{Task, tasks}
+use Rattle.cs_tasks.specs.Tasks.{Task, tasks}
 use Rattle.cs_net.specs.Combine.{with_flag_any}
 use Rattle.cs_rebaser.specs.Merge.{merge}
 use Rattle.cs_pending.specs.View.{View, direct_net, middle}

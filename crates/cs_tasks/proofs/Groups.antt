@@ -13,7 +13,7 @@ use Rattle.cs_tasks.specs.declared.tasks.TasksBuilder.{TasksBuilder}
 use Rattle.cs_tasks.specs.declared.fault.TasksFault.{TasksFault}
 use Rattle.cs_tasks.specs.declared.fault.TasksFault.TheVariants as why
 use Rattle.cs_change.specs.declared.change.Change.{Change}
-use Rattle.cs_store.specs.cs_keyed.NormalForm.{has_key}
+use Rattle.cs_keyed.specs.NormalForm.{has_key}
 use Rattle.std.specs.List.{list_all}
 use Rattle.std.specs.Prelude.{slice_get}
 use Rattle.std.specs.Str.{bytes_eq}

@@ -4,11 +4,3 @@ pub mod Found
 pub mod Laws
 pub mod Places
 pub mod Tasks
-pub mod cs_blob
-pub mod cs_change
-pub mod cs_changeset
-pub mod cs_keyed
-pub mod cs_normal
-pub mod cs_order
-pub mod cs_record
-pub mod cs_store

@@ -8,7 +8,6 @@
 //! group, and that the reader of blobs takes it. Its tests stand in `cs_operations_tests`.
 #![tactic(auto)]
 
-pub mod below;
 mod blob;
 mod change_list;
 mod fault;

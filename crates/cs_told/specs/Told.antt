@@ -1,14 +1,14 @@
 -- What is printed of a replica (format of this project).
 use Rattle.std.specs.Prelude.{ℕ, List, ◌++◌, codes}
 use Rattle.std.specs.Fmt.{decimal}
-use Rattle.cs_replica.specs.cs_opening.OpenFault.{OpenFault}
-use Rattle.cs_replica.specs.cs_opening.OpenFault.TheVariants as opening
+use Rattle.cs_opening.specs.declared.fault.OpenFault.{OpenFault}
+use Rattle.cs_opening.specs.declared.fault.OpenFault.TheVariants as opening
 use Rattle.cs_pending.specs.declared.fault.EditFault.{EditFault}
 use Rattle.cs_pending.specs.declared.fault.EditFault.TheVariants as edit
-use Rattle.cs_replica.specs.cs_pulling.AnswerFault.{AnswerFault}
-use Rattle.cs_replica.specs.cs_pulling.AnswerFault.TheVariants as answer
-use Rattle.cs_replica.specs.cs_pushing.PushFault.{PushFault}
-use Rattle.cs_replica.specs.cs_pushing.PushFault.TheVariants as push
+use Rattle.cs_pulling.specs.declared.fault.AnswerFault.{AnswerFault}
+use Rattle.cs_pulling.specs.declared.fault.AnswerFault.TheVariants as answer
+use Rattle.cs_pushing.specs.declared.fault.PushFault.{PushFault}
+use Rattle.cs_pushing.specs.declared.fault.PushFault.TheVariants as push
 use Rattle.cs_replica.specs.declared.told.Told.{Told}
 use Rattle.cs_replica.specs.declared.told.Told.TheVariants.{Confirmed, Ignored, Stale, Refused, Taken, Stopped}
 use Rattle.cs_text.specs.Text.{name_text, values_text}

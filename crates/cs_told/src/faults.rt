@@ -3,8 +3,10 @@
 ghost use Rattle.std.specs.Prelude.{◌≡◌, Some};
 ghost use Rattle.cs_told.specs.Told.{edit_fault_text, fault_text, open_fault_text, push_fault_text};
 
+use cs_opening::OpenFault;
 use cs_pending::EditFault;
-use cs_replica::below::{AnswerFault, OpenFault, PushFault};
+use cs_pulling::AnswerFault;
+use cs_pushing::PushFault;
 use std::fmt;
 
 /// The name of a fault of an edit.

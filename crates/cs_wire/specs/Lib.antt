@@ -7,4 +7,3 @@ pub mod OneSpelling
 pub mod Requests
 pub mod Spelled
 pub mod Told
-pub mod cs_log

@@ -7,7 +7,6 @@
 #![tactic(auto)]
 
 mod answer;
-pub mod below;
 mod entries;
 mod entry;
 mod fault;

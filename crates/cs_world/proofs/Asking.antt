@@ -4,7 +4,7 @@ use Rattle.std.specs.declared.alloc.Global.{Global}
 use Rattle.cs_conflict.specs.declared.wish.Wish.{Wish}
 use Rattle.cs_hub.specs.Calls.{AnswersHub}
 use Rattle.cs_hub.specs.Holding as hub
-use Rattle.cs_member.specs.cs_replica.Holding as replica
+use Rattle.cs_replica.specs.Holding as replica
 use Rattle.cs_store.specs.declared.store.RowStore.{Ghosts}
 use Rattle.cs_wire.specs.Requests.{Asked, request_spelling}
 use Rattle.cs_world.specs.Fails.{AsksHub}

@@ -11,11 +11,11 @@ use Rattle.cs_opening.specs.declared.fault.OpenFault.{OpenFault}
 use Rattle.cs_opening.specs.declared.fault.OpenFault.TheVariants as opening
 use Rattle.cs_pending.specs.declared.fault.EditFault.{EditFault}
 use Rattle.cs_position.specs.Shows.{flown}
-use Rattle.cs_member.specs.cs_pulling.AnswerFault.{AnswerFault}
+use Rattle.cs_pulling.specs.declared.fault.AnswerFault.{AnswerFault}
 use Rattle.cs_pushing.specs.Pushes.{grounded, pushed, request_of}
 use Rattle.cs_pushing.specs.declared.fault.PushFault.{PushFault}
-use Rattle.cs_member.specs.cs_replica.Edited.{with_pending}
-use Rattle.cs_member.specs.cs_replica.Told.{Told}
+use Rattle.cs_replica.specs.Edited.{with_pending}
+use Rattle.cs_replica.specs.declared.told.Told.{Told}
 use Rattle.cs_value.specs.declared.edit.Edit.{Edit}
 use Rattle.cs_wire.specs.Answers.{FitsAnswer, answer_spelling}
 use Rattle.cs_wire.specs.Requests.{Asked, AsksPull, request_spelling}

@@ -2,7 +2,7 @@
 use Rattle.std.proofs.Common.{◌≡◌, ◌≤◌, ◌∙◌, ℕ, List, [], ◌∷◌, Some, slice_get, slice_set, refl, sym, ap, subst, inl, inr, arith}
 use Rattle.cs_hub.specs.Holding as hub
 use Rattle.cs_member.specs.Leaves.{Counts}
-use Rattle.cs_member.specs.cs_replica.Holding as replica
+use Rattle.cs_replica.specs.Holding as replica
 use Rattle.cs_store.specs.Calls.{MoreFailures}
 use Rattle.cs_store.specs.declared.store.RowStore.{Ghosts}
 use Rattle.cs_world.specs.Fails.{CountsOn, HasFailed, SaysDevice, SomeSaysDevice}

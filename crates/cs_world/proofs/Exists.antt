@@ -27,16 +27,16 @@ use Rattle.cs_pending.specs.View.{View}
 use Rattle.cs_pending.specs.declared.fault.EditFault.{EditFault}
 use Rattle.cs_position.specs.Shows.{ShowsAt}
 use Rattle.cs_position.specs.declared.position.Position.{Position}
-use Rattle.cs_member.specs.cs_pulling.AnswerFault.{AnswerFault}
-use Rattle.cs_member.specs.cs_pulling.AnswerFault.TheVariants as hearing
+use Rattle.cs_pulling.specs.declared.fault.AnswerFault.{AnswerFault}
+use Rattle.cs_pulling.specs.declared.fault.AnswerFault.TheVariants as hearing
 use Rattle.cs_pushing.specs.Laws.{IsOfPush}
 use Rattle.cs_pushing.specs.Pushes.{grounded, pushed as pushed_position, request_of}
 use Rattle.cs_pushing.specs.declared.fault.PushFault.{PushFault}
 use Rattle.cs_pushing.specs.declared.fault.PushFault.TheVariants as pushing
-use Rattle.cs_member.specs.cs_replica.Answered.{Answers}
-use Rattle.cs_member.specs.cs_replica.Edited.{with_pending}
-use Rattle.cs_member.specs.cs_replica.Laws.{AnswerHasResult, IsInBytes, IsOfAnswer}
-use Rattle.cs_member.specs.cs_replica.Told.{Told}
+use Rattle.cs_replica.specs.Answered.{Answers}
+use Rattle.cs_replica.specs.Edited.{with_pending}
+use Rattle.cs_replica.specs.Laws.{AnswerHasResult, IsInBytes, IsOfAnswer}
+use Rattle.cs_replica.specs.declared.told.Told.{Told}
 use Rattle.cs_store.specs.Contents.{Contents}
 use Rattle.cs_taking.specs.Laws.{AnswersLawfully}
 use Rattle.cs_value.specs.declared.catalog.TableDef.{TableDef}

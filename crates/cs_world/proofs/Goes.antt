@@ -7,7 +7,7 @@ use Rattle.cs_log.specs.Log.{IsLog, tables_at}
 use Rattle.cs_log.specs.declared.entry.LogEntry.{LogEntry}
 use Rattle.cs_normal.specs.State.{IsDefinedOn, State}
 use Rattle.cs_normal.specs.declared.normal.TableChanges.{TableChanges}
-use Rattle.cs_member.specs.cs_replica.Laws.{StandsLonger}
+use Rattle.cs_replica.specs.Laws.{StandsLonger}
 use Rattle.cs_wire.specs.Requests.{Asked, AsksPull, AsksPush}
 use Rattle.cs_wire.specs.declared.answer.Answer.TheVariants.{Short, Entries}
 use Rattle.cs_wire.specs.declared.push_head.PushHead.{PushHead}

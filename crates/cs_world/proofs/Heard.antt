@@ -23,20 +23,20 @@ use Rattle.cs_pending.specs.Nets.{undo_none}
 use Rattle.cs_pending.specs.View.{View, middle}
 use Rattle.cs_position.specs.Shows.{ShowsAt, base, flown}
 use Rattle.cs_position.specs.declared.position.Position.{Position}
-use Rattle.cs_member.specs.cs_pulling.Laws.{OneRead, PulledLeads}
-use Rattle.cs_member.specs.cs_pulling.Listed.{Ends, EndsBad, IsToldAt, PullsList, PullsMany, count_of}
-use Rattle.cs_member.specs.cs_pulling.Told.{IsReadAs}
-use Rattle.cs_member.specs.cs_pulling.AnswerFault.{AnswerFault}
-use Rattle.cs_member.specs.cs_pulling.AnswerFault.TheVariants as fault
-use Rattle.cs_member.specs.cs_pulling.Pulled.{Pulled}
-use Rattle.cs_member.specs.cs_pulling.Pulled.TheVariants as pulled
+use Rattle.cs_pulling.specs.Laws.{OneRead, PulledLeads}
+use Rattle.cs_pulling.specs.Listed.{Ends, EndsBad, IsToldAt, PullsList, PullsMany, count_of}
+use Rattle.cs_pulling.specs.Told.{IsReadAs}
+use Rattle.cs_pulling.specs.declared.fault.AnswerFault.{AnswerFault}
+use Rattle.cs_pulling.specs.declared.fault.AnswerFault.TheVariants as fault
+use Rattle.cs_pulling.specs.declared.listing.Pulled.{Pulled}
+use Rattle.cs_pulling.specs.declared.listing.Pulled.TheVariants as pulled
 use Rattle.cs_pushing.specs.Pushes.{confirmed}
-use Rattle.cs_member.specs.cs_replica.Accepted.{IsAccepted}
-use Rattle.cs_member.specs.cs_replica.Answered.{Answers, TellsAccepted, told_of}
-use Rattle.cs_member.specs.cs_replica.Laws.{EntryStands, FlightFits, KeptStands}
-use Rattle.cs_member.specs.cs_replica.Stands.{StandsOn}
-use Rattle.cs_member.specs.cs_replica.Told.{Told}
-use Rattle.cs_member.specs.cs_replica.Told.TheVariants as told
+use Rattle.cs_replica.specs.Accepted.{IsAccepted}
+use Rattle.cs_replica.specs.Answered.{Answers, TellsAccepted, told_of}
+use Rattle.cs_replica.specs.Laws.{EntryStands, FlightFits, KeptStands}
+use Rattle.cs_replica.specs.Stands.{StandsOn}
+use Rattle.cs_replica.specs.declared.told.Told.{Told}
+use Rattle.cs_replica.specs.declared.told.Told.TheVariants as told
 use Rattle.cs_store.specs.Contents.{Contents}
 use Rattle.cs_taking.specs.Laws.{OneLogRows}
 use Rattle.cs_taking.specs.Takes.{taken}

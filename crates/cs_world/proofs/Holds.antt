@@ -15,7 +15,7 @@ use Rattle.cs_pending.specs.Shows.{IsSoundOf}
 use Rattle.cs_pending.specs.View.{Changed, before, middle}
 use Rattle.cs_position.specs.Shows.{base, flown}
 use Rattle.cs_position.specs.declared.position.Position.{Position}
-use Rattle.cs_member.specs.cs_replica.Laws.{EqualAtRest, FirstStands, FlightFits}
+use Rattle.cs_replica.specs.Laws.{EqualAtRest, FirstStands, FlightFits}
 use Rattle.cs_world.specs.Headline.{HasHubsRows, Headline, LeadTo}
 use Rattle.cs_world.specs.Laws.{FirstIsSound, IsFirstMember, SoundHasHeadline}
 use Rattle.cs_world.specs.Sound.{IsPlaced, IsSound, IsStoredEntry}

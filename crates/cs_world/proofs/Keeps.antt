@@ -14,12 +14,12 @@ use Rattle.cs_pending.specs.Edits.{edit}
 use Rattle.cs_pending.specs.View.{View}
 use Rattle.cs_position.specs.Shows.{ShowsAt}
 use Rattle.cs_position.specs.declared.position.TheConstants.{LAST_NUMBER}
-use Rattle.cs_member.specs.cs_pulling.AnswerFault.{AnswerFault}
+use Rattle.cs_pulling.specs.declared.fault.AnswerFault.{AnswerFault}
 use Rattle.cs_pushing.specs.Pushes.{IsPushMade, grounded, pushed, request_of}
-use Rattle.cs_member.specs.cs_replica.Edited.{with_pending}
-use Rattle.cs_member.specs.cs_replica.Stands.{StandsOn}
-use Rattle.cs_member.specs.cs_replica.Laws.{EditStands, FlightFits, KeptStands, StandsLonger}
-use Rattle.cs_member.specs.cs_replica.Told.{Told}
+use Rattle.cs_replica.specs.Edited.{with_pending}
+use Rattle.cs_replica.specs.Stands.{StandsOn}
+use Rattle.cs_replica.specs.Laws.{EditStands, FlightFits, KeptStands, StandsLonger}
+use Rattle.cs_replica.specs.declared.told.Told.{Told}
 use Rattle.cs_store.specs.Contents.{Contents}
 use Rattle.cs_wire.specs.Answers.{FitsAnswer, answer_spelling}
 use Rattle.cs_wire.specs.Requests.{Asked, AsksPull, AsksPush}

@@ -5,18 +5,18 @@ use Rattle.std.specs.declared.alloc.Global.{Global}
 use Rattle.std.specs.FinMap.{len}
 use Rattle.cs_value.specs.Catalog.{AreTables}
 use Rattle.cs_value.specs.declared.catalog.TableDef.{TableDef}
-use Rattle.cs_judging.specs.cs_appending.Appended.{IsAppendedIn}
+use Rattle.cs_appending.specs.Appended.{IsAppendedIn}
 use Rattle.cs_hub.specs.Calls.{IsSameOrGrown, IsServedIn, ServesStore}
 use Rattle.cs_hub.specs.Holding as hub
 use Rattle.cs_hub.specs.Serves.{ServesIf}
 use Rattle.cs_judging.specs.Judged.{hub_of}
 use Rattle.cs_member.specs.Leaves.{CallLeaves}
 use Rattle.cs_member.specs.Member.{Hears}
-use Rattle.cs_member.specs.cs_replica.Answered.{IsAnsweredNext}
-use Rattle.cs_member.specs.cs_replica.Holding as replica
-use Rattle.cs_member.specs.cs_pulling.AnswerFault.TheVariants as fault
-use Rattle.cs_member.specs.cs_replica.Edited.{with_pending}
-use Rattle.cs_member.specs.cs_replica.Told.TheVariants as what
+use Rattle.cs_replica.specs.Answered.{IsAnsweredNext}
+use Rattle.cs_replica.specs.Holding as replica
+use Rattle.cs_pulling.specs.declared.fault.AnswerFault.TheVariants as fault
+use Rattle.cs_replica.specs.Edited.{with_pending}
+use Rattle.cs_replica.specs.declared.told.Told.TheVariants as what
 use Rattle.cs_moving.specs.Laws.{OneStoreOpening}
 use Rattle.cs_moving.specs.Moved.{IsStoreOpened}
 use Rattle.cs_log.specs.declared.entry.LogEntry.{LogEntry}

@@ -4,7 +4,7 @@ use Rattle.std.specs.Prelude.{◌⊎◌}
 use Rattle.cs_value.specs.Key.{Place}
 use Rattle.cs_apply.specs.NormalTasks.{found_at, found_is, of_one, tasks_are}
 use Rattle.cs_apply.specs.Spots.{by_test, same_spot, spot_is}
-use Rattle.cs_apply.specs.cs_tasks.Tasks.{Task, tasks}
+use Rattle.cs_tasks.specs.Tasks.{Task, tasks}
 use Rattle.cs_change.specs.Action.{action_any, after_any}
 use Rattle.cs_change.specs.Net.{net}
 use Rattle.cs_change.specs.declared.change.Change.{Change}
@@ -22,16 +22,16 @@ use Rattle.cs_pending.specs.Nets.{undo_none}
 use Rattle.cs_pending.specs.View.{View, middle}
 use Rattle.cs_position.specs.Shows.{ShowsAt, base}
 use Rattle.cs_position.specs.declared.position.Position.{Position}
-use Rattle.cs_member.specs.cs_pulling.Listed.{PullsMany, count_of}
-use Rattle.cs_member.specs.cs_pulling.Pulls.{IsOwn, PullsOne}
-use Rattle.cs_member.specs.cs_pulling.AnswerFault.{AnswerFault}
-use Rattle.cs_member.specs.cs_pulling.AnswerFault.TheVariants as fault
-use Rattle.cs_member.specs.cs_pulling.Pulled.{Pulled}
-use Rattle.cs_member.specs.cs_pulling.Pulled.TheVariants as pulled
+use Rattle.cs_pulling.specs.Listed.{PullsMany, count_of}
+use Rattle.cs_pulling.specs.Pulls.{IsOwn, PullsOne}
+use Rattle.cs_pulling.specs.declared.fault.AnswerFault.{AnswerFault}
+use Rattle.cs_pulling.specs.declared.fault.AnswerFault.TheVariants as fault
+use Rattle.cs_pulling.specs.declared.listing.Pulled.{Pulled}
+use Rattle.cs_pulling.specs.declared.listing.Pulled.TheVariants as pulled
 use Rattle.cs_rebaser.specs.Merge.{MergesOneSide, merge}
-use Rattle.cs_member.specs.cs_replica.Answered.{told_of}
-use Rattle.cs_member.specs.cs_replica.Stands.{StandsOn}
-use Rattle.cs_member.specs.cs_replica.Told.{Told}
+use Rattle.cs_replica.specs.Answered.{told_of}
+use Rattle.cs_replica.specs.Stands.{StandsOn}
+use Rattle.cs_replica.specs.declared.told.Told.{Told}
 use Rattle.cs_store.specs.Contents.{Contents}
 use Rattle.cs_taking.specs.Takes.{IsTaken, TakeAll, taken}
 use Rattle.cs_wire.specs.Entries.{ToldEntry}

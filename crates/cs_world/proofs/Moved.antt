@@ -18,12 +18,12 @@ use Rattle.cs_position.specs.Shows.{flown}
 use Rattle.cs_position.specs.declared.position.Position.{Position}
 use Rattle.cs_member.specs.Leaves.{CallLeaves, Counts}
 use Rattle.cs_member.specs.Member.{IsEditedBy}
-use Rattle.cs_member.specs.cs_pulling.AnswerFault.{AnswerFault}
-use Rattle.cs_member.specs.cs_replica.Answered.{IsAnsweredNext}
+use Rattle.cs_pulling.specs.declared.fault.AnswerFault.{AnswerFault}
+use Rattle.cs_replica.specs.Answered.{IsAnsweredNext}
 use Rattle.cs_pushing.specs.Pushes.{IsPushMadeIn, IsResendFault, pushed, request_of}
 use Rattle.cs_pushing.specs.declared.fault.PushFault.{PushFault}
-use Rattle.cs_member.specs.cs_replica.Holding as replica
-use Rattle.cs_member.specs.cs_replica.Told.{Told}
+use Rattle.cs_replica.specs.Holding as replica
+use Rattle.cs_replica.specs.declared.told.Told.{Told}
 use Rattle.cs_store.specs.Calls.{MoreFailures}
 use Rattle.cs_store.specs.Contents.{Contents}
 use Rattle.cs_store.specs.declared.store.RowStore.{Ghosts}

@@ -5,7 +5,7 @@ use Rattle.cs_hub.specs.Holding as hub
 use Rattle.cs_member.specs.Leaves.{CallLeaves, Counts}
 use Rattle.cs_opening.specs.declared.fault.OpenFault.{OpenFault}
 use Rattle.cs_pending.specs.View.{View}
-use Rattle.cs_member.specs.cs_replica.Holding as replica
+use Rattle.cs_replica.specs.Holding as replica
 use Rattle.cs_replica.specs.Opened.{Reopens}
 use Rattle.cs_store.specs.Contents.{Contents}
 use Rattle.cs_store.specs.declared.store.RowStore.{Ghosts}

@@ -3,7 +3,7 @@ use Rattle.std.proofs.Common.{◌≡◌, ◌∙◌, ◌++◌, ℕ, List, [], ◌
 use Rattle.std.proofs.lemmas.List.{append_cancel_left}
 use Rattle.std.specs.Prelude.{IsSome}
 use Rattle.cs_log.specs.declared.entry.LogEntry.{LogEntry}
-use Rattle.cs_member.specs.cs_replica.Edited.{with_pending}
+use Rattle.cs_replica.specs.Edited.{with_pending}
 use Rattle.cs_pushing.specs.Pushes.{grounded, pushed, request_of}
 use Rattle.cs_wire.specs.Requests.{AsksPull}
 use Rattle.cs_world.specs.Steps as step

@@ -2,8 +2,8 @@
 use Rattle.std.specs.declared.alloc.Global.{Global}
 use Rattle.std.specs.Prelude.{Vec, ◌≡◌, ◌⊎◌, ◌≤◌, ◌++◌, ℕ, List, [], ◌∷◌, Some, length, slice_get}
 use Rattle.cs_hub.specs.Calls.{AnswersHub}
-use Rattle.cs_member.specs.cs_pulling.Listed.{IsDeviceFault}
-use Rattle.cs_member.specs.cs_replica.Holding as replica
+use Rattle.cs_pulling.specs.Listed.{IsDeviceFault}
+use Rattle.cs_replica.specs.Holding as replica
 use Rattle.cs_opening.specs.declared.fault.OpenFault.TheVariants as opening
 use Rattle.cs_pending.specs.declared.fault.EditFault.TheVariants as edits
 use Rattle.cs_pushing.specs.declared.fault.PushFault.TheVariants as pushes

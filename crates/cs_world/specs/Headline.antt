@@ -7,7 +7,7 @@ use Rattle.cs_log.specs.declared.entry.LogEntry.{LogEntry}
 use Rattle.cs_normal.specs.State.{State, IsApplied}
 use Rattle.cs_pending.specs.View.{Changed}
 use Rattle.cs_position.specs.Shows.{flown}
-use Rattle.cs_member.specs.cs_pulling.AnswerFault.TheVariants.{BadEntry}
+use Rattle.cs_pulling.specs.declared.fault.AnswerFault.TheVariants.{BadEntry}
 use Rattle.cs_wire.specs.declared.answer.Answer.TheVariants.{Short}
 use Rattle.cs_wire.specs.declared.short_answer.ShortAnswer.TheVariants.{Accepted, Refused}
 use Rattle.cs_world.specs.Sound.{IsAcceptedIn, conflict_code}

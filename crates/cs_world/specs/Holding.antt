@@ -2,7 +2,7 @@
 use Rattle.std.specs.Prelude.{◌≡◌, ℕ, List, length, Some, slice_get}
 use Rattle.cs_value.specs.declared.catalog.TableDef.{TableDef}
 use Rattle.cs_hub.specs.Holding as hub
-use Rattle.cs_member.specs.cs_replica.Holding as replica
+use Rattle.cs_replica.specs.Holding as replica
 use Rattle.cs_store.specs.Contents.{Contents}
 use Rattle.cs_wire.specs.Answers.{answer_spelling}
 use Rattle.cs_world.specs.Sound.{IsSound}

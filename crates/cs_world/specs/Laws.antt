@@ -12,7 +12,7 @@ use Rattle.cs_member.specs.Laws.{IsInRange}
 use Rattle.cs_opening.specs.Fresh.{first_position}
 use Rattle.cs_pending.specs.Laws.{empty_view}
 use Rattle.cs_position.specs.Shows.{ShowsAt}
-use Rattle.cs_member.specs.cs_replica.Laws.{IsInBytes}
+use Rattle.cs_replica.specs.Laws.{IsInBytes}
 use Rattle.cs_store.specs.Contents.{Contents}
 use Rattle.cs_taking.specs.Laws.{PicksOnce}
 use Rattle.cs_wire.specs.Answers.{FitsAnswer, answer_spelling}

@@ -7,9 +7,9 @@ use Rattle.cs_hub.specs.Calls.{IsServedIn}
 use Rattle.cs_log.specs.declared.entry.LogEntry.{LogEntry}
 use Rattle.cs_log_store.specs.Shows.{ShowsLog}
 use Rattle.cs_member.specs.Member.{IsEditedBy}
-use Rattle.cs_member.specs.cs_replica.Accepted.{IsAccepted}
-use Rattle.cs_member.specs.cs_replica.Holding as replica
-use Rattle.cs_member.specs.cs_pulling.Listed.{IsOneMoreIn}
+use Rattle.cs_replica.specs.Accepted.{IsAccepted}
+use Rattle.cs_replica.specs.Holding as replica
+use Rattle.cs_pulling.specs.Listed.{IsOneMoreIn}
 use Rattle.cs_position.specs.Shows.{ShowsAt}
 use Rattle.cs_position.specs.declared.position.Position.{Position}
 use Rattle.cs_pushing.specs.Pushes.{IsConfirmedIn, IsPushMadeIn}

@@ -1,7 +1,7 @@
 -- How a replica pulls the entries of the log: each is merged with its own rows over the log's tables (profile of this project).
 use Rattle.std.specs.Prelude.{◌≡◌, ◌⊎◌, ◌+◌, ℕ, zero, suc, List, [], ◌∷◌, Some, None, Contains, slice_get}
 use Rattle.cs_value.specs.declared.catalog.TableDef.{TableDef}
-use Rattle.cs_apply.specs.cs_tasks.Tasks.{tasks}
+use Rattle.cs_tasks.specs.Tasks.{tasks}
 use Rattle.cs_change.specs.Action.{action_any}
 use Rattle.cs_change.specs.Net.{net}
 use Rattle.cs_conflict.specs.declared.conflict.Resolution.{Resolution}
@@ -13,12 +13,12 @@ use Rattle.cs_member.specs.Same.{IsSameView}
 use Rattle.cs_normal.specs.Normal.{change_of, groups_of}
 use Rattle.cs_pending.specs.View.{View}
 use Rattle.cs_position.specs.declared.position.Position.{Position}
-use Rattle.cs_member.specs.cs_pulling.Pulls.{IsOwn}
-use Rattle.cs_member.specs.cs_pulling.AnswerFault.{AnswerFault}
-use Rattle.cs_member.specs.cs_pulling.AnswerFault.TheVariants as fault
+use Rattle.cs_pulling.specs.Pulls.{IsOwn}
+use Rattle.cs_pulling.specs.declared.fault.AnswerFault.{AnswerFault}
+use Rattle.cs_pulling.specs.declared.fault.AnswerFault.TheVariants as fault
 use Rattle.cs_rebaser.specs.Merge.{merge}
-use Rattle.cs_member.specs.cs_replica.Told.{Told}
-use Rattle.cs_member.specs.cs_replica.Told.TheVariants as what
+use Rattle.cs_replica.specs.declared.told.Told.{Told}
+use Rattle.cs_replica.specs.declared.told.Told.TheVariants as what
 use Rattle.cs_taking.specs.Takes.{TakeAll, taken}
 use Rattle.cs_wishes.specs.Wished.{IsWished}
 use Rattle.cs_wire.specs.Entries.{ToldEntry}

@@ -2,7 +2,7 @@
 use Rattle.std.specs.Prelude.{◌≡◌, ℕ, List}
 use Rattle.cs_value.specs.declared.catalog.TableDef.{TableDef}
 use Rattle.cs_opening.specs.Fresh.{IsFirst, first_position}
-use Rattle.cs_member.specs.cs_replica.Holding.{Holding}
+use Rattle.cs_replica.specs.Holding.{Holding}
 use Rattle.cs_store.specs.Contents.{Contents}
 use Rattle.cs_store.specs.declared.store.RowStore.{Ghosts}
 

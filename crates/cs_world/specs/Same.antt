@@ -4,7 +4,7 @@ use Rattle.cs_member.specs.Same.{IsSameMember}
 use Rattle.cs_opening.specs.declared.fault.OpenFault.TheVariants as opening
 use Rattle.cs_pending.specs.Edits.{IsOfStore}
 use Rattle.cs_pushing.specs.declared.fault.PushFault.TheVariants as pushing
-use Rattle.cs_member.specs.cs_replica.Laws.{IsOfAnswer}
+use Rattle.cs_replica.specs.Laws.{IsOfAnswer}
 use Rattle.cs_wire.specs.declared.answer.Answer.TheVariants.{Short}
 use Rattle.cs_wire.specs.declared.short_answer.ShortAnswer.TheVariants.{Refused}
 use Rattle.cs_world.specs.World.{IsMember, IsMessage, Member, Tells, World}

@@ -13,7 +13,7 @@ use Rattle.cs_normal.specs.declared.normal.TableChanges.{TableChanges}
 use Rattle.cs_position.specs.Laws.{FitsPosition}
 use Rattle.cs_position.specs.Shows.{ShowsAt}
 use Rattle.cs_pushing.specs.Pushes.{request_of}
-use Rattle.cs_member.specs.cs_replica.Stands.{StandsOn}
+use Rattle.cs_replica.specs.Stands.{StandsOn}
 use Rattle.cs_store.specs.Contents.{Contents}
 use Rattle.cs_wire.specs.Entries.{ToldEntry}
 use Rattle.cs_wire.specs.Laws.{HasNumbersInRange}

@@ -1,8 +1,8 @@
 -- Runs of a world in which processes stop (profile of this project).
 use Rattle.std.specs.Prelude.{◌≡◌, ◌≢◌, ◌⊎◌, ◌↔◌, ◌<◌, ◌≤◌, ◌++◌, ℕ, List, [], ◌∷◌, Contains, Option, Some, None, IsSome, length, slice_get}
 use Rattle.cs_conflict.specs.declared.wish.Wish.{Wish}
-use Rattle.cs_member.specs.cs_pulling.AnswerFault.TheVariants as fault
-use Rattle.cs_member.specs.cs_pulling.Listed.{PullsMany}
+use Rattle.cs_pulling.specs.declared.fault.AnswerFault.TheVariants as fault
+use Rattle.cs_pulling.specs.Listed.{PullsMany}
 use Rattle.cs_pending.specs.View.{View}
 use Rattle.cs_position.specs.declared.position.Position.{Position}
 use Rattle.cs_wire.specs.Entries.{ToldEntry}

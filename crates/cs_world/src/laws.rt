@@ -1,6 +1,6 @@
 //! The laws of worlds, each the contract of a function that does nothing.
 
-ghost use Rattle.cs_member.specs.cs_replica.Laws.{AnswerHasResult};
+ghost use Rattle.cs_replica.specs.Laws.{AnswerHasResult};
 ghost use Rattle.cs_world.specs.Laws.{AnswersFit, AskHasStep, DeliverHasStep, EditHasStep, EventsMerge, FirstIsSound, OneRun, OneStep, PullsMerge, PushHasStep, ResendHasStep, RestartHasStep, SoundHasHeadline, StepsAreSound, WishesPickOnce};
 ghost use Rattle.cs_world.specs.StopsLaws.{FoundIsStep, FoundIsStepOfHub, OpensAsLeft, RunWithStops, RunsWhole, StopOfHub, StopOfReplica};
 
@@ -12,7 +12,7 @@ pub fn first_is_sound()
     ensures { FirstIsSound }
 {
     cs_log::laws::empty_is_log();
-    cs_member::below::first_stands();
+    cs_replica::laws::first_stands();
 }
 
 /// Each event keeps a world sound, and hands no replica a bad entry.
@@ -33,13 +33,13 @@ pub fn steps_are_sound()
     cs_wire::laws::one_told_answer();
     cs_wire::laws::told_are_read();
     cs_taking::laws::one_contents();
-    cs_member::below::one_read();
+    cs_pulling::laws::one_read();
     let wishes = Wishes::new(&[]);
-    cs_member::below::pulled_leads(&wishes);
-    cs_member::below::stands_longer();
-    cs_member::below::edit_stands();
-    cs_member::below::steps_stand();
-    cs_member::below::flight_fits();
+    cs_pulling::laws::pulled_leads(&wishes);
+    cs_replica::laws::stands_longer();
+    cs_replica::laws::edit_stands();
+    cs_replica::laws::steps_stand();
+    cs_replica::laws::flight_fits();
 }
 
 /// What is sound has the headline.
@@ -48,8 +48,8 @@ pub fn sound_has_headline()
 {
     cs_change::laws::net_takes();
     cs_normal::laws::one_key_stands();
-    cs_member::below::flight_fits();
-    cs_member::below::equal_at_rest();
+    cs_replica::laws::flight_fits();
+    cs_replica::laws::equal_at_rest();
 }
 
 /// By wishes in a list each clash has one answer.
@@ -82,12 +82,12 @@ pub fn pulls_merge()
     cs_log::laws::one_body();
     cs_pending::laws::one_view();
     cs_taking::laws::one_contents();
-    cs_member::below::one_read();
+    cs_pulling::laws::one_read();
     let wishes = Wishes::new(&[]);
-    cs_member::below::pulled_leads(&wishes);
+    cs_pulling::laws::pulled_leads(&wishes);
     cs_rebaser::laws::merge_alike();
-    cs_member::below::steps_stand();
-    cs_member::below::flight_fits();
+    cs_replica::laws::steps_stand();
+    cs_replica::laws::flight_fits();
 }
 
 /// In a sound world an event has one outcome, and leaves one world: but where memory was refused or a device failed.
@@ -151,7 +151,7 @@ pub fn restart_has_step()
 fn answer_has_result_by<P: Picker>(_picker: &P)
     ensures { AnswerHasResult P.picks P.is_ready }
 {
-    cs_member::below::answer_has_result::<P>();
+    cs_replica::laws::answer_has_result::<P>();
 }
 
 /// So has, in a sound world, a message that arrives.

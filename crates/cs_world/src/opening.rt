@@ -8,7 +8,7 @@ ghost use Rattle.cs_world.specs.Opened.{IsNewReplica, LeavesAlone};
 use crate::fault::WorldFault;
 use cs_hub::Hub;
 use cs_map_store::MapStore;
-use cs_member::below::Replica;
+use cs_replica::Replica;
 use cs_store::RowStore;
 use cs_value::{Catalog, Memory};
 use std::alloc::Global;

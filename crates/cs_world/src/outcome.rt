@@ -1,9 +1,10 @@
 //! What an event comes to.
 
-use cs_member::below::{AnswerFault, Told};
 use cs_opening::OpenFault;
 use cs_pending::EditFault;
+use cs_pulling::AnswerFault;
 use cs_pushing::PushFault;
+use cs_replica::Told;
 
 /// What an event comes to. (Profile of this project.)
 #[derive(Clone, Copy, Debug, PartialEq, Eq)]

@@ -4,7 +4,7 @@ ghost use Rattle.std.specs.Prelude.{◌≡◌, [], None, Some, Err, IfOk, length
 ghost use Rattle.std.specs.Option.{option_copied};
 ghost use Rattle.cs_log.specs.declared.entry.TheConstants.{MAX_ENTRIES};
 ghost use Rattle.cs_log.specs.Log.{state_of};
-ghost use Rattle.cs_member.specs.cs_replica.Holding.{Holding as Held};
+ghost use Rattle.cs_replica.specs.Holding.{Holding as Held};
 ghost use Rattle.cs_store.specs.declared.fault.StoreFault.TheVariants.{Device};
 ghost use Rattle.cs_world.specs.Fails.{CountsOn};
 ghost use Rattle.cs_world.specs.Holding.{AreHonest, StandsAt};

@@ -5,8 +5,8 @@ ghost use Rattle.cs_member.specs.Leaves.{CallLeaves, Counts};
 ghost use Rattle.cs_opening.specs.declared.fault.OpenFault.TheVariants.{Device};
 ghost use Rattle.cs_world.specs.Turns.{IsReloadedTo, Turns};
 
-use cs_member::below::Replica;
 use cs_opening::OpenFault;
+use cs_replica::Replica;
 use cs_store::RowStore;
 use std::alloc::Global;
 

@@ -3,10 +3,10 @@ use Rattle.std.specs.Prelude.{◌≡◌, ◌<◌, ℕ, Bool, true, List, length,
 use Rattle.std.specs.List.Sorted.{IsPermutation}
 use Rattle.std.specs.Map.{keys_of}
 use Rattle.cs_order.specs.Order.{Keys}
-use Rattle.cs_normal.specs.cs_change.Change.{Change}
-use Rattle.cs_normal.specs.cs_keyed.Changes.{Changes}
-use Rattle.cs_normal.specs.cs_keyed.NormalForm.{change_bytes, normal_form}
-use Rattle.cs_normal.specs.cs_keyed.Prepared.{Entries, all_keyed, kept, prepared}
+use Rattle.cs_change.specs.declared.change.Change.{Change}
+use Rattle.cs_keyed.specs.Changes.{Changes}
+use Rattle.cs_keyed.specs.NormalForm.{change_bytes, normal_form}
+use Rattle.cs_keyed.specs.Prepared.{Entries, all_keyed, kept, prepared}
 use Rattle.cs_normalising.specs.Lent.{nth_entry}
 use Rattle.cs_normalising.specs.Steps.Prepared.{rises}
 use Rattle.cs_normalising.specs.declared.lent_table.Ordered.{Ordered}

@@ -2,7 +2,7 @@
 use Rattle.std.specs.Global.{Vec}
 use Rattle.std.specs.Prelude.{ℕ, List, [], ◌∷◌, Option, None, Some}
 use Rattle.std.specs.List.{range_with_len}
-use Rattle.cs_normal.specs.cs_change.Change.{Change}
+use Rattle.cs_change.specs.declared.change.Change.{Change}
 
 -- these places, or so many as they stand
 abbrev pub places_or_all : ℕ → Option (Vec ℕ) → List ℕ

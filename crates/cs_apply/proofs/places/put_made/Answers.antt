@@ -1,7 +1,7 @@
 use Rattle.std.proofs.Common.{◌≡◌, Option, Some, None, false, refl, sym, ap, ◌∙◌}
 use Rattle.std.specs.Option.{is_some}
 use Rattle.cs_value.specs.Key.{Place}
-use Rattle.cs_tasks.specs.cs_change.Action.{action}
+use Rattle.cs_change.specs.Action.{action}
 use Rattle.cs_conflict.specs.Conflict.{kind}
 use Rattle.cs_apply.specs.Slots.{left_or, slot_at}
 use Rattle.cs_apply.specs.declared.slots.Slot.{Slot}

@@ -1,5 +1,5 @@
 use Rattle.std.proofs.Common.{Some, ap, ◌∙◌}
-use Rattle.cs_tasks.specs.cs_record.OneSpelling.{one_spelled_row}
+use Rattle.cs_record.specs.OneSpelling.{one_spelled_row}
 use Rattle.cs_apply.proofs.slots.row_of.Goals as goal
 
 pub returns-then-eq : goal.returns-then-eq

@@ -1,7 +1,7 @@
 use Rattle.std.proofs.Common.{List, ap, subst, sym, ◌∙◌}
 use Rattle.cs_value.specs.declared.catalog.TableDef.{TableDef}
-use Rattle.cs_replica.specs.cs_pushing.PushFault.TheVariants as push
-use Rattle.cs_replica.specs.cs_pushing.Pushes.{grounded}
+use Rattle.cs_pushing.specs.declared.fault.PushFault.TheVariants as push
+use Rattle.cs_pushing.specs.Pushes.{grounded}
 use Rattle.cs_position.specs.Shows.{ShowsAt}
 use Rattle.cs_position.specs.declared.position.Position.{Position}
 use Rattle.cs_following.specs.InTurn.{failed_alone}

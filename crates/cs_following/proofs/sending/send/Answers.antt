@@ -7,7 +7,7 @@ use Rattle.cs_log.specs.Log.{tables_at}
 use Rattle.cs_log.specs.declared.entry.LogEntry.{LogEntry}
 use Rattle.cs_pending.specs.View.{View}
 use Rattle.cs_position.specs.Shows.{ShowsAt}
-use Rattle.cs_replica.specs.cs_pulling.Pulls.{IsPulledIn}
+use Rattle.cs_pulling.specs.Pulls.{IsPulledIn}
 use Rattle.cs_replica.specs.Flight.{flight_entry}
 use Rattle.cs_spine.specs.Known.{Known}
 use Rattle.cs_spine.specs.declared.fault.OfferFault.{OfferFault}

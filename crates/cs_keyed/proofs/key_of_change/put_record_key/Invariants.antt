@@ -1,6 +1,6 @@
 use Rattle.std.proofs.Common.{◌≡◌, ◌++◌, ◌&&◌, length}
 use Rattle.std.specs.List.{list_all}
-use Rattle.cs_change.specs.cs_record.Spelling.{Extends}
+use Rattle.cs_record.specs.Spelling.{Extends}
 use Rattle.cs_value.specs.Catalog.{is_set}
 use Rattle.cs_keyed.specs.Changes.{key_bytes}
 use Rattle.cs_keyed.specs.NormalForm.{marked_fields}

@@ -1,5 +1,5 @@
 use Rattle.std.proofs.Common.{◌≡◌, length, map}
-use Rattle.cs_changeset.specs.cs_change.Spelling.{flag_byte}
+use Rattle.cs_change.specs.Spelling.{flag_byte}
 use Rattle.cs_log.proofs.stored.are_written.Given as goal
 
 abbrev pub decreases-loop-byte : goal.decreases-loop-byte

@@ -1,5 +1,5 @@
 use Rattle.std.proofs.Common.{rules, ℕ, List, sym, subst}
-use Rattle.cs_changeset.specs.cs_record.Facts.{tail}
+use Rattle.cs_record.specs.Facts.{tail}
 use Rattle.cs_log.specs.Steps.{AreNextChanges, IsNextChange}
 use Rattle.cs_log.proofs.Seen.{AreSoFar, none_so_far, one_more, whole_group}
 use Rattle.cs_log.proofs.stored.behind_changes.Goals as goal

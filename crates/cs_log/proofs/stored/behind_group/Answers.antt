@@ -1,7 +1,7 @@
 use Rattle.std.proofs.Common.{rules, ◌≡◌, ◌-◌, ◌∷◌, ℕ, Bool, List, drop, length, take, ap, sym, subst, ◌∙◌}
-use Rattle.cs_changeset.specs.cs_change.Spelling.{group_byte, header_spelling, marks_of}
-use Rattle.cs_changeset.specs.cs_record.Facts.{tail}
-use Rattle.cs_changeset.specs.cs_record.Reading.{StandsAt}
+use Rattle.cs_change.specs.Spelling.{group_byte, header_spelling, marks_of}
+use Rattle.cs_record.specs.Facts.{tail}
+use Rattle.cs_record.specs.Reading.{StandsAt}
 use Rattle.cs_log.specs.Steps.{AreNextChanges, IsTableBefore}
 use Rattle.cs_log.proofs.Seen.{marks_stay, next_table}
 use Rattle.cs_log.proofs.stored.behind_group.Goals as goal

@@ -1,5 +1,5 @@
 use Rattle.std.proofs.Common.{rules, ◌≡◌, Bool, List, Some, subst}
-use Rattle.cs_normalising.specs.cs_keyed.NormalForm.{normal_form}
+use Rattle.cs_keyed.specs.NormalForm.{normal_form}
 use Rattle.cs_log.specs.Steps.{HasKeyAbove, IsChangeAt}
 use Rattle.cs_log.proofs.Seen.{next_change}
 use Rattle.cs_log.proofs.stored.next_change.Goals as goal

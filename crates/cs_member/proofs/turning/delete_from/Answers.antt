@@ -11,9 +11,7 @@ returns-clause-turned g c =
 pub returns-clause-left : goal.returns-clause-left
 returns-clause-left g c =
     edit_leaves g.S.RowStore c.one_position.ensures (Delete c.args.table.now c.args.key.now) c.delete-edited.result c.args.replica.now c.delete-edited.new.self
-    (edited g.S.RowStore.honest g.S.RowStore.contents g.S.RowStore.failed g.S.RowStore.may_leave g.S.RowStore.misreads c.args.replica.now c.delete-edited.new.self c.delete-edited.ensures.catalog
-    c.one_position.ensures c.shown.ensures (Delete c.args.table.now c.args.key.now) c.delete-edited.result
-    (rw c.as_str.ensures at c.delete-edited.ensures.writes) (rw c.as_str.ensures at c.delete-edited.ensures.refused) c.delete-edited.ensures.moved c.delete-edited.ensures.kept)
+    (returns-clause-turned g c)
     (rw c.as_str.ensures at c.delete-edited.ensures.writes) c.delete-edited.ensures.kept
 
 pub returns-clause-counts : goal.returns-clause-counts

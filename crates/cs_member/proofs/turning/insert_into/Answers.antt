@@ -11,9 +11,7 @@ returns-clause-turned g c =
 pub returns-clause-left : goal.returns-clause-left
 returns-clause-left g c =
     edit_leaves g.S.RowStore c.one_position.ensures (Insert c.args.table.now c.args.row.now) c.insert-edited.result c.args.replica.now c.insert-edited.new.self
-    (edited g.S.RowStore.honest g.S.RowStore.contents g.S.RowStore.failed g.S.RowStore.may_leave g.S.RowStore.misreads c.args.replica.now c.insert-edited.new.self c.insert-edited.ensures.catalog
-    c.one_position.ensures c.shown.ensures (Insert c.args.table.now c.args.row.now) c.insert-edited.result
-    (rw c.as_str.ensures at c.insert-edited.ensures.writes) (rw c.as_str.ensures at c.insert-edited.ensures.refused) c.insert-edited.ensures.moved c.insert-edited.ensures.kept)
+    (returns-clause-turned g c)
     (rw c.as_str.ensures at c.insert-edited.ensures.writes) c.insert-edited.ensures.kept
 
 pub returns-clause-counts : goal.returns-clause-counts

@@ -11,9 +11,7 @@ returns-clause-turned g c =
 pub returns-clause-left : goal.returns-clause-left
 returns-clause-left g c =
     edit_leaves g.S.RowStore c.one_position.ensures (Update c.args.table.now c.args.key.now c.args.fields.now) c.update-edited.result c.args.replica.now c.update-edited.new.self
-    (edited g.S.RowStore.honest g.S.RowStore.contents g.S.RowStore.failed g.S.RowStore.may_leave g.S.RowStore.misreads c.args.replica.now c.update-edited.new.self c.update-edited.ensures.catalog
-    c.one_position.ensures c.shown.ensures (Update c.args.table.now c.args.key.now c.args.fields.now) c.update-edited.result
-    (rw (c.as_str.ensures, c.as_slice.ensures) at c.update-edited.ensures.writes) (rw (c.as_str.ensures, c.as_slice.ensures) at c.update-edited.ensures.refused) c.update-edited.ensures.moved c.update-edited.ensures.kept)
+    (returns-clause-turned g c)
     (rw (c.as_str.ensures, c.as_slice.ensures) at c.update-edited.ensures.writes) c.update-edited.ensures.kept
 
 pub returns-clause-counts : goal.returns-clause-counts

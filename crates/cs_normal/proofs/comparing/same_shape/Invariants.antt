@@ -1,5 +1,5 @@
 use Rattle.std.proofs.Common.{◌≡◌, ◌↔◌, length}
-use Rattle.cs_keyed.specs.cs_change.Spelling.{marks_of}
+use Rattle.cs_change.specs.Spelling.{marks_of}
 use Rattle.cs_normal.proofs.comparing.same_shape.Given as goal
 
 abbrev pub invariant-loop-byte : goal.invariant-loop-byte

@@ -1,5 +1,5 @@
 use Rattle.std.proofs.Common.{◌≡◌, map, take}
-use Rattle.cs_keyed.specs.cs_order.Order.{keys_behind}
+use Rattle.cs_order.specs.Order.{keys_behind}
 use Rattle.cs_normal.specs.Placed.{table_name}
 use Rattle.cs_normal.proofs.headers.lend_table_names.Given as goal
 

@@ -1,6 +1,6 @@
 use Rattle.std.proofs.Common.{◌≡◌, List, ℕ, ap, sym, refl, ◌∙◌, arith, drop, length-drop}
-use Rattle.cs_keyed.specs.cs_order.Groups.{places_of}
-use Rattle.cs_keyed.specs.cs_order.Order.{Keys}
+use Rattle.cs_order.specs.Groups.{places_of}
+use Rattle.cs_order.specs.Order.{Keys}
 use Rattle.cs_normal.specs.Steps.FirstTables.{first_is, is_new, with_new}
 use Rattle.cs_normal.proofs.FirstByName.{front_next, new_is_first, seen_more}
 use Rattle.cs_normal.proofs.HeaderTables.{front_none, front_whole}

@@ -1,5 +1,5 @@
 use Rattle.std.proofs.Common.{◌≡◌, map, take}
-use Rattle.cs_keyed.specs.cs_order.Order.{keys_behind}
+use Rattle.cs_order.specs.Order.{keys_behind}
 use Rattle.cs_normal.specs.Placed.{name_first}
 use Rattle.cs_normal.proofs.name_places.names_once.Given as goal
 

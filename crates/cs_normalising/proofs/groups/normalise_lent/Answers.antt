@@ -1,5 +1,5 @@
 use Rattle.std.proofs.Common.{List, length, map, ◌≤◌, Some, None, sym, subst}
-use Rattle.cs_normal.specs.cs_change.Spelling.{changeset_spelling}
+use Rattle.cs_change.specs.Spelling.{changeset_spelling}
 use Rattle.cs_normalising.specs.Lent.{table_of}
 use Rattle.cs_normal.specs.Normal.{normal_spelling}
 use Rattle.cs_normalising.specs.NormalFormOf.{IsNormalFormOf}

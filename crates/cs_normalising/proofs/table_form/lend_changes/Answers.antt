@@ -1,4 +1,4 @@
-use Rattle.cs_normal.specs.cs_record.Facts.{extends_through}
+use Rattle.cs_record.specs.Facts.{extends_through}
 use Rattle.cs_normalising.proofs.table_form.lend_changes.Goals as goal
 
 pub returns-in_err-lend_group-clause-kept : goal.returns-in_err-lend_group-clause-kept

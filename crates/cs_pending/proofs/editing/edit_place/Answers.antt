@@ -1,6 +1,6 @@
 use Rattle.std.proofs.Common.{◌∙◌, ap, subst, sym}
 use Rattle.std.specs.FinMap.{len}
-use Rattle.cs_apply.specs.cs_store.Contents.{Contents}
+use Rattle.cs_store.specs.Contents.{Contents}
 use Rattle.cs_pending.specs.Placing.{IsPutIn, standing_found}
 use Rattle.cs_pending.specs.Shows.{ShowsRows, ShowsSome}
 use Rattle.cs_pending.proofs.Edited.{may_settle, put_changes, was_device}

@@ -1,7 +1,7 @@
 use Rattle.std.proofs.Common.{None, refl}
 use Rattle.std.specs.Option.{option_copied}
 use Rattle.std.proofs.lemmas.Option.{slice_get_within}
-use Rattle.cs_apply.specs.cs_store.Batch.{Batch}
+use Rattle.cs_store.specs.declared.batch.Batch.{Batch}
 use Rattle.cs_pending.specs.Placing.{standing_found}
 use Rattle.cs_pending.proofs.Edited.{none_within, put_counts, put_in}
 use Rattle.cs_pending.specs.Storing.{committed, not_committed}

@@ -1,6 +1,6 @@
 use Rattle.std.proofs.Common.{◌∙◌, ap, subst, sym}
 use Rattle.cs_change.specs.Action.{action_any}
-use Rattle.cs_apply.specs.cs_store.Contents.{Contents, stored_pending}
+use Rattle.cs_store.specs.Contents.{Contents, stored_pending}
 use Rattle.cs_pending.specs.Placing.{StoresSomeChange}
 use Rattle.cs_pending.specs.View.{undo}
 use Rattle.cs_pending.specs.OnePlace.{contained}

@@ -1,5 +1,5 @@
 use Rattle.std.proofs.Common.{◌∙◌, ap, sym}
-use Rattle.cs_apply.specs.cs_store.Written.{optional_bytes}
+use Rattle.cs_store.specs.Written.{optional_bytes}
 use Rattle.cs_pending.proofs.Reading.{none_there}
 use Rattle.cs_pending.proofs.placing.undone_at.Goals as goal
 

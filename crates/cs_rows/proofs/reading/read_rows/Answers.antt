@@ -1,7 +1,7 @@
 use Rattle.std.proofs.Common.{length}
 use Rattle.cs_pending.specs.Shows.{ShowsSome}
 use Rattle.cs_pending.specs.Storing.{misread_told}
-use Rattle.cs_pending.specs.cs_store.Contents.{stored_tables}
+use Rattle.cs_store.specs.Contents.{stored_tables}
 use Rattle.cs_rows.proofs.Spelled.{all_bodies, are_rows, shown_fits}
 use Rattle.cs_rows.proofs.reading.read_rows.Goals as goal
 

@@ -1,5 +1,5 @@
 use Rattle.std.proofs.Common.{◌≡◌, take}
-use Rattle.cs_log.specs.cs_change.Spelling.{marks_of}
+use Rattle.cs_change.specs.Spelling.{marks_of}
 use Rattle.cs_store.proofs.judging.mark_bytes.Given as goal
 
 abbrev pub invariant-loop-mark : goal.invariant-loop-mark

@@ -1,4 +1,4 @@
-use Rattle.cs_keyed.specs.cs_order.Order.{keys_behind}
+use Rattle.cs_order.specs.Order.{keys_behind}
 use Rattle.cs_normal.proofs.Placed.{grouped}
 use Rattle.cs_normal.proofs.name_places.NamePlaces.new.Goals as goal
 

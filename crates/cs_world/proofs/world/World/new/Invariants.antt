@@ -1,6 +1,6 @@
 use Rattle.std.proofs.Common.{◌≡◌, ◌+◌, ℕ, All, Some, length, slice_get}
 use Rattle.std.specs.Vec.Iter.{into_iter_items}
-use Rattle.cs_member.specs.cs_replica.Holding.{Holding}
+use Rattle.cs_replica.specs.Holding.{Holding}
 use Rattle.cs_store.specs.Contents.{nothing}
 use Rattle.cs_world.specs.Opened.{IsNewReplica}
 use Rattle.cs_world.proofs.world.World.new.Given as goal

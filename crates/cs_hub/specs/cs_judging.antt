@@ -1,2 +1,0 @@
--- What is handed on of cs_judging.
-pub use Rattle.cs_judging.specs.Judged

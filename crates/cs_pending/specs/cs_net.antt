@@ -1,2 +1,0 @@
--- What is handed on of cs_net.
-pub use Rattle.cs_net.specs.Combine

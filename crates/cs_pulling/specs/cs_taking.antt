@@ -1,3 +1,0 @@
--- What is handed on of cs_taking.
-pub use Rattle.cs_taking.specs.Laws
-pub use Rattle.cs_taking.specs.Takes

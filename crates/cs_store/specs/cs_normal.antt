@@ -1,5 +1,0 @@
--- What is handed on of cs_normal.
-pub use Rattle.cs_log.specs.cs_normal.Laws
-pub use Rattle.cs_log.specs.cs_normal.Normal
-pub use Rattle.cs_log.specs.cs_normal.State
-pub use Rattle.cs_log.specs.cs_normal.TableChanges

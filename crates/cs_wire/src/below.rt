@@ -1,3 +1,0 @@
-//! What this crate hands on of those below it.
-
-pub use cs_log::laws::one_body;
