@@ -16,6 +16,7 @@ use Rattle.cs_store.specs.declared.batch.Batch.{Batch}
 use Rattle.cs_edits.specs.Edits.{BodyEdit}
 use Rattle.cs_store.specs.declared.fault.StoreFault.{StoreFault}
 use Rattle.cs_store.specs.declared.fault.StoreFault.TheVariants as stored
+use Rattle.cs_store.specs.declared.store.RowStore.{Ghosts}
 use Rattle.cs_pending.specs.Calls.{ReadsStore, WritesStore}
 use Rattle.cs_pending.specs.Storing.{WasRead, committed, not_committed, same_err, then_not_written, then_written}
 use Rattle.cs_log_store.specs.Laws.{AppendShows}
@@ -65,50 +66,50 @@ pub was_device : (fault : StoreFault) (told : AppendFault) → (fault ≡ stored
 was_device stored.Memory told is at = absurd (let m = is.0 refl in cc)
 was_device stored.Device told is at = refl
 
-module _ {S : Type 0} (honest : S → Type 0) (contents : S → Contents) (failed : S → ℕ) (may_leave : S → Contents → Type 0) (misreads : S → ℕ) (opening : List TableDef) (entry : LogEntry) where
+module _ {S : Type 0} (g : Ghosts S) (opening : List TableDef) (entry : LogEntry) where
   -- whoever shows a log holds rows of its tables
-  pub holds_rows : (old : S) → ShowsSomeLog opening (contents old) → (before : State) × Holds opening (contents old) before
+  pub holds_rows : (old : S) → ShowsSomeLog opening (g.contents old) → (before : State) × Holds opening (g.contents old) before
   holds_rows old (log, shows) = (state_of log, shows.rows)
 
   -- a commit of a batch that appends the entry
-  pub wrote : (old new : S) (batch : Batch) (result : Result (Unit {0}) StoreFault) → (honest old → AppendsEntry opening entry (contents old) batch)
-      → Commits honest contents failed may_leave misreads (after_batch batch (contents old)) old new result
-      → WritesStore honest contents failed may_leave misreads stored.Device (ShowsSomeLog opening (contents old)) (IsAppendedIn opening entry (contents old)) old new result
+  pub wrote : (old new : S) (batch : Batch) (result : Result (Unit {0}) StoreFault) → (g.honest old → AppendsEntry opening entry (g.contents old) batch)
+      → Commits g.honest g.contents g.failed g.may_leave g.misreads (after_batch batch (g.contents old)) old new result
+      → WritesStore g stored.Device (ShowsSomeLog opening (g.contents old)) (IsAppendedIn opening entry (g.contents old)) old new result
   wrote old new batch (Ok t) tried commits =
-      committed honest contents failed may_leave misreads stored.Device (ShowsSomeLog opening (contents old)) (IsAppendedIn opening entry (contents old)) (after_batch batch (contents old)) old new t t tried commits
+      committed g stored.Device (ShowsSomeLog opening (g.contents old)) (IsAppendedIn opening entry (g.contents old)) (after_batch batch (g.contents old)) old new t t tried commits
   wrote old new batch (Err fault) tried commits =
-      not_committed honest contents failed may_leave misreads fault (ShowsSomeLog opening (contents old)) (IsAppendedIn opening entry (contents old)) (after_batch batch (contents old)) old new tried commits
+      not_committed g fault (ShowsSomeLog opening (g.contents old)) (IsAppendedIn opening entry (g.contents old)) (after_batch batch (g.contents old)) old new tried commits
 
-  module _ (old mid new : S) (read : WasRead honest contents failed may_leave misreads (ShowsSomeLog opening (contents old)) old mid) where
+  module _ (old mid new : S) (read : WasRead g (ShowsSomeLog opening (g.contents old)) old mid) where
     -- what was tried on what the store held is tried on what it holds
-    pub still : (batch : Batch) → (honest mid → AppendsEntry opening entry (contents old) batch) → honest mid → AppendsEntry opening entry (contents mid) batch
+    pub still : (batch : Batch) → (g.honest mid → AppendsEntry opening entry (g.contents old) batch) → g.honest mid → AppendsEntry opening entry (g.contents mid) batch
     still batch tried h = subst (λ (was : Contents). AppendsEntry opening entry was batch) (sym (read.same h)) (tried h)
 
-    there : honest mid → ShowsSomeLog opening (contents old) → ShowsSomeLog opening (contents mid)
+    there : g.honest mid → ShowsSomeLog opening (g.contents old) → ShowsSomeLog opening (g.contents mid)
     there h shows = subst (ShowsSomeLog opening) (sym (read.same h)) shows
 
-    since : honest mid → (c : Contents) → IsAppendedIn opening entry (contents mid) c → IsAppendedIn opening entry (contents old) c
+    since : g.honest mid → (c : Contents) → IsAppendedIn opening entry (g.contents mid) c → IsAppendedIn opening entry (g.contents old) c
     since h c i = subst (λ (was : Contents). IsAppendedIn opening entry was c) (read.same h) i
 
     abbrev Writes : {T E : Type 0} → E → S → Result T E → Type 0
     Writes device from result =
-        WritesStore honest contents failed may_leave misreads device (ShowsSomeLog opening (contents from)) (IsAppendedIn opening entry (contents from)) from new result
+        WritesStore g device (ShowsSomeLog opening (g.contents from)) (IsAppendedIn opening entry (g.contents from)) from new result
 
     pub then_wrote : {T U : Type 0} (t : T) (u : U) → Writes stored.Device mid (Ok t) → Writes Device old (Ok u)
     then_wrote t u writes =
-        then_written honest contents failed may_leave misreads (IsAppendedIn opening entry (contents mid)) (IsAppendedIn opening entry (contents old)) (ShowsSomeLog opening (contents old)) (ShowsSomeLog opening (contents mid)) (ShowsSomeLog opening (contents old))
+        then_written g (IsAppendedIn opening entry (g.contents mid)) (IsAppendedIn opening entry (g.contents old)) (ShowsSomeLog opening (g.contents old)) (ShowsSomeLog opening (g.contents mid)) (ShowsSomeLog opening (g.contents old))
         old mid new (λ r. r) there since read stored.Device Device t u writes
 
     pub then_wrote_not : {T U : Type 0} (fault : StoreFault) (told : AppendFault) → (told ≡ Device → fault ≡ stored.Device) → Writes {T = T} stored.Device mid (Err fault) → Writes {T = U} Device old (Err told)
     then_wrote_not {T} {U} fault told was writes =
-        then_not_written honest contents failed may_leave misreads (IsAppendedIn opening entry (contents mid)) (IsAppendedIn opening entry (contents old)) (ShowsSomeLog opening (contents old)) (ShowsSomeLog opening (contents mid)) (ShowsSomeLog opening (contents old))
+        then_not_written g (IsAppendedIn opening entry (g.contents mid)) (IsAppendedIn opening entry (g.contents old)) (ShowsSomeLog opening (g.contents old)) (ShowsSomeLog opening (g.contents mid)) (ShowsSomeLog opening (g.contents old))
         old mid new (λ r. r) there since read {T = T} {U = U} stored.Device fault Device told was writes
 
   -- ---- what was tried, told by the log that was shown
 
   -- reads of rows of the tables are reads of a log
-  pub as_log_read : {T U : Type 0} (old new : S) (t : T) (u : U) → ReadsStore honest contents failed may_leave misreads Device ((before : State) × Holds opening (contents old) before) old new (Ok t)
-      → ReadsStore honest contents failed may_leave misreads Device (ShowsSomeLog opening (contents old)) old new (Ok u)
+  pub as_log_read : {T U : Type 0} (old new : S) (t : T) (u : U) → ReadsStore g Device ((before : State) × Holds opening (g.contents old) before) old new (Ok t)
+      → ReadsStore g Device (ShowsSomeLog opening (g.contents old)) old new (Ok u)
   as_log_read old new t u reads = record {
     was_honest = reads.was_honest;
     same = reads.same;
@@ -119,8 +120,8 @@ module _ {S : Type 0} (honest : S → Type 0) (contents : S → Contents) (faile
     as_read = λ h r. reads.as_read h (holds_rows old r);
   }
 
-  pub as_log_refused : {T U : Type 0} (old new : S) (fault : AppendFault) → ReadsStore honest contents failed may_leave misreads {T = T} Device ((before : State) × Holds opening (contents old) before) old new (Err fault)
-      → ReadsStore honest contents failed may_leave misreads {T = U} Device (ShowsSomeLog opening (contents old)) old new (Err fault)
+  pub as_log_refused : {T U : Type 0} (old new : S) (fault : AppendFault) → ReadsStore g {T = T} Device ((before : State) × Holds opening (g.contents old) before) old new (Err fault)
+      → ReadsStore g {T = U} Device (ShowsSomeLog opening (g.contents old)) old new (Err fault)
   as_log_refused old new fault reads = record {
     was_honest = reads.was_honest;
     same = reads.same;
@@ -132,8 +133,8 @@ module _ {S : Type 0} (honest : S → Type 0) (contents : S → Contents) (faile
   }
 
   -- the same after a call of it that went well, where memory is told then
-  pub as_log_want : {T U : Type 0} (old new : S) (t : T) (result : Result U AppendFault) → (result ≡ Err Memory) → ReadsStore honest contents failed may_leave misreads Device ((before : State) × Holds opening (contents old) before) old new (Ok t)
-      → ReadsStore honest contents failed may_leave misreads Device (ShowsSomeLog opening (contents old)) old new result
+  pub as_log_want : {T U : Type 0} (old new : S) (t : T) (result : Result U AppendFault) → (result ≡ Err Memory) → ReadsStore g Device ((before : State) × Holds opening (g.contents old) before) old new (Ok t)
+      → ReadsStore g Device (ShowsSomeLog opening (g.contents old)) old new result
   as_log_want old new t (Ok u) is reads = absurd (let e = is in cc)
   as_log_want old new t (Err fault) is reads = record {
     was_honest = reads.was_honest;

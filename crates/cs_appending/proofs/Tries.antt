@@ -9,6 +9,7 @@ use Rattle.cs_conflict.specs.declared.conflict.Conflict.{Conflict}
 use Rattle.cs_conflict.specs.declared.conflict.Resolution.{Resolution}
 use Rattle.cs_conflict.specs.declared.conflict.Resolution.TheVariants.{Replace, Abort}
 use Rattle.cs_store.specs.States.{Holds}
+use Rattle.cs_store.specs.declared.store.RowStore.{Ghosts}
 use Rattle.cs_apply.specs.Calls.{IsCarriedOut, IsRefused, IsStoppedAt, LeavesStore}
 use Rattle.cs_apply.specs.Laws.{AlwaysAborts, AbortingIsApplied, AbortingIsRefused}
 use Rattle.cs_apply.specs.NormalTasks.{are_keyed, of_one, tasks_are}
@@ -45,13 +46,13 @@ module _ {F : Type 0} (asks : F → Conflict → Resolution → F → Type 0) (t
 
 -- ---- the store was only read
 
-module _ {S : Type 0} (honest : S → Type 0) (contents : S → Contents) (failed : S → ℕ) (may_leave : S → Contents → Type 0) (misreads : S → ℕ) (tables : List TableDef) (old new : S)
-    (right : honest new → (before : State) → Holds tables (contents old) before → misreads new ≡ misreads old) where
+module _ {S : Type 0} (g : Ghosts S) (tables : List TableDef) (old new : S)
+    (right : g.honest new → (before : State) → Holds tables (g.contents old) before → g.misreads new ≡ g.misreads old) where
   -- rows of the tables can be read
   abbrev CanBeRead : Type 0
-  CanBeRead = (before : State) × Holds tables (contents old) before
+  CanBeRead = (before : State) × Holds tables (g.contents old) before
 
-  pub went_on : {T U : Type 0} (t : T) (u : U) → LeavesStore honest contents failed may_leave old new (Ok t) → ReadsStore honest contents failed may_leave misreads Device CanBeRead old new (Ok u)
+  pub went_on : {T U : Type 0} (t : T) (u : U) → LeavesStore g old new (Ok t) → ReadsStore g Device CanBeRead old new (Ok u)
   went_on t u left = record {
     was_honest = left.was_honest;
     same = left.same;
@@ -62,8 +63,8 @@ module _ {S : Type 0} (honest : S → Type 0) (contents : S → Contents) (faile
     as_read = λ h r. right h r.0 r.1;
   }
 
-  pub gave_up : {T U : Type 0} (fault : ApplyFault) (told : AppendFault) → (told ≡ Device → fault ≡ apply.Device) → LeavesStore honest contents failed may_leave {T = T} old new (Err fault)
-      → ReadsStore honest contents failed may_leave misreads {T = U} Device CanBeRead old new (Err told)
+  pub gave_up : {T U : Type 0} (fault : ApplyFault) (told : AppendFault) → (told ≡ Device → fault ≡ apply.Device) → LeavesStore g {T = T} old new (Err fault)
+      → ReadsStore g {T = U} Device CanBeRead old new (Err told)
   gave_up fault told is left = record {
     was_honest = left.was_honest;
     same = left.same;

@@ -38,7 +38,7 @@ fn try_with<S: RowStore, H: FnMut(&Conflict<'_>) -> Resolution>(
     requires callable { H.IsAlwaysCallable answer.old }
     requires aborts { AlwaysAborts (CalledAt H.FnMut) }
     requires fits { FitsCatalog catalog.now changes.now }
-    ensures reads { ReadsStore S.honest S.contents S.failed S.may_leave S.misreads Device
+    ensures reads { ReadsStore S.RowStore Device
         ((before : State) × Holds catalog.now (S.contents store.old) before) store.old store.new result }
     ensures made { S.honest store.new → (before : State) → Holds catalog.now (S.contents store.old) before
         → IfOk result (λ edits. IsTried catalog.now changes.now (S.contents store.old) before edits) }
@@ -67,7 +67,7 @@ fn try_changes<S: RowStore>(
     changes: &Normal,
 ) -> Result<PlaceEdits, AppendFault>
     requires fits { FitsCatalog catalog.now changes.now }
-    ensures reads { ReadsStore S.honest S.contents S.failed S.may_leave S.misreads Device
+    ensures reads { ReadsStore S.RowStore Device
         ((before : State) × Holds catalog.now (S.contents store.old) before) store.old store.new result }
     ensures made { S.honest store.new → (before : State) → Holds catalog.now (S.contents store.old) before
         → IfOk result (λ edits. IsTried catalog.now changes.now (S.contents store.old) before edits) }
@@ -127,7 +127,7 @@ pub fn try_entry<S: RowStore>(
     requires fits { IsEntryOf catalog.now entry.now }
 
     // The store is only read.
-    ensures reads { ReadsStore S.honest S.contents S.failed S.may_leave S.misreads Device
+    ensures reads { ReadsStore S.RowStore Device
         (ShowsSomeLog catalog.now (S.contents store.old)) store.old store.new result }
 
     // A commit of the batch appends the entry; what is told instead holds of the log that the store shows.
@@ -160,7 +160,7 @@ pub fn append_tried<S: RowStore>(
     requires tried { S.honest store.old → AppendsEntry _catalog.now _entry.now (S.contents store.old) batch.now }
 
     // The entry is appended, in one commit; at `Err` nothing has changed.
-    ensures writes { WritesStore S.honest S.contents S.failed S.may_leave S.misreads stored.Device
+    ensures writes { WritesStore S.RowStore stored.Device
         (ShowsSomeLog _catalog.now (S.contents store.old)) (IsAppendedIn _catalog.now _entry.now (S.contents store.old)) store.old store.new result }
 {
     store.commit(batch)
@@ -181,7 +181,7 @@ pub fn append<S: RowStore>(
     requires fits { IsEntryOf catalog.now entry.now }
 
     // The entry is appended, in one commit; at `Err` nothing has changed.
-    ensures writes { WritesStore S.honest S.contents S.failed S.may_leave S.misreads Device
+    ensures writes { WritesStore S.RowStore Device
         (ShowsSomeLog catalog.now (S.contents store.old)) (IsAppendedIn catalog.now entry.now (S.contents store.old)) store.old store.new result }
 
     // What is told holds of the log that the store shows.

@@ -9,6 +9,7 @@ use Rattle.cs_value.specs.declared.catalog.TableDef.{TableDef}
 use Rattle.cs_log.specs.Stored.{IsEntryOf}
 use Rattle.cs_log.specs.declared.entry.LogEntry.{LogEntry}
 use Rattle.cs_store.specs.Contents.{Contents}
+use Rattle.cs_store.specs.declared.store.RowStore.{Ghosts}
 use Rattle.cs_pending.specs.Calls.{WritesStore}
 use Rattle.cs_log_store.specs.Shows.{ShowsLog}
 use Rattle.cs_appending.specs.Appended.{IsAppendedIn}
@@ -62,9 +63,9 @@ fits_behind tables log entry old left shows appended =
 
 -- ---- one step after another
 
-module _ {S : Type 0} (honest : S → Type 0) (contents : S → Contents) (failed : S → ℕ) (may_leave : S → Contents → Type 0) (misreads : S → ℕ) where
+module _ {S : Type 0} (g : Ghosts S) where
   abbrev Later : Type 0 → BookState S → BookState S → Type 0
-  Later finished = IsLater honest contents failed may_leave misreads finished
+  Later finished = IsLater g finished
 
   -- the log with the next entry
   abbrev OneMore : BookState S → Contents → Type 0
@@ -74,7 +75,7 @@ module _ {S : Type 0} (honest : S → Type 0) (contents : S → Contents) (faile
   -- what a stop may leave
   abbrev Left : Type 0 → BookState S → BookState S → Contents → Type 0
   Left finished old new left =
-      (left ≡ contents new.hub.store) ⊎ ((may_leave old.hub.store left × (contents new.hub.store ≡ contents old.hub.store)) ⊎ ((finished → ⊥) × (new.hub.newest < length new.pass.known) × ShowsLog new.hub.catalog left (take (new.hub.newest + 1) new.pass.known)))
+      (left ≡ g.contents new.hub.store) ⊎ ((g.may_leave old.hub.store left × (g.contents new.hub.store ≡ g.contents old.hub.store)) ⊎ ((finished → ⊥) × (new.hub.newest < length new.pass.known) × ShowsLog new.hub.catalog left (take (new.hub.newest + 1) new.pass.known)))
 
   -- the book knows more, and its hub is as it was
   pub knows_more : (finished : Type 0) (old new : BookState S) → new.row ≡ old.row → new.hub ≡ old.hub → Begins old.pass.known new.pass.known → Later finished old new
@@ -85,17 +86,17 @@ module _ {S : Type 0} (honest : S → Type 0) (contents : S → Contents) (faile
         catalog = ap (λ (h : Holding S). h.catalog) hub;
         begins = begins;
         onwards = (let n : new.hub.newest ≡ old.hub.newest = ap (λ (h : Holding S). h.newest) hub in omega (arith, n));
-        was_honest = λ h. subst honest store h;
-        crash = λ h left l. inr (inl (subst (λ (s : S). may_leave s left) store l, ap contents store));
-        later = (let f : failed new.hub.store ≡ failed old.hub.store = ap failed store in omega (arith, f));
-        as_read = λ h. ap misreads store;
+        was_honest = λ h. subst g.honest store h;
+        crash = λ h left l. inr (inl (subst (λ (s : S). g.may_leave s left) store l, ap g.contents store));
+        later = (let f : g.failed new.hub.store ≡ g.failed old.hub.store = ap g.failed store in omega (arith, f));
+        as_read = λ h. ap g.misreads store;
       }
 
   pub stays : (finished : Type 0) (book : BookState S) → Later finished book book
   stays finished book = knows_more finished book book refl refl (same_begins book.pass.known)
 
   -- its hub only judged
-  pub looks : (finished : Type 0) (old new : BookState S) → new.row ≡ old.row → new.pass ≡ old.pass → ReadsHub honest contents failed may_leave misreads old.hub new.hub → (honest new.hub.store → misreads new.hub.store ≡ misreads old.hub.store)
+  pub looks : (finished : Type 0) (old new : BookState S) → new.row ≡ old.row → new.pass ≡ old.pass → ReadsHub g old.hub new.hub → (g.honest new.hub.store → g.misreads new.hub.store ≡ g.misreads old.hub.store)
       → Later finished old new
   looks finished old new row pass reads same = record {
     row = row;
@@ -109,12 +110,12 @@ module _ {S : Type 0} (honest : S → Type 0) (contents : S → Contents) (faile
   }
 
   -- a step behind one that has finished
-  before_it : (finished : Type 0) (old mid new : BookState S) (left : Contents) → contents new.hub.store ≡ contents mid.hub.store → Left (Unit {0}) old mid left → Left finished old new left
+  before_it : (finished : Type 0) (old mid new : BookState S) (left : Contents) → g.contents new.hub.store ≡ g.contents mid.hub.store → Left (Unit {0}) old mid left → Left finished old new left
   before_it finished old mid new left same (inl is) = inl (is ∙ sym same)
   before_it finished old mid new left same (inr (inl (before, kept))) = inr (inl (before, same ∙ kept))
   before_it finished old mid new left same (inr (inr (not, room, shows))) = absurd (not tt)
 
-  behind : (finished : Type 0) (old mid new : BookState S) → Later (Unit {0}) old mid → honest mid.hub.store → (left : Contents) → Left finished mid new left → Left finished old new left
+  behind : (finished : Type 0) (old mid new : BookState S) → Later (Unit {0}) old mid → g.honest mid.hub.store → (left : Contents) → Left finished mid new left → Left finished old new left
   behind finished old mid new one h left (inl is) = inl is
   behind finished old mid new one h left (inr (inl (l, same))) = before_it finished old mid new left same (one.crash h left l)
   behind finished old mid new one h left (inr (inr more)) = inr (inr more)
@@ -152,20 +153,20 @@ module _ {S : Type 0} (honest : S → Type 0) (contents : S → Contents) (faile
   -- ---- it is a book again
 
   -- as its pass learns
-  pub wider_book : (book : BookState S) → IsBook honest contents book → (pass : Known) → pass.spine ≡ book.pass.spine → Begins book.pass.known pass.known → length pass.known ≤ MAX_ENTRIES
-      → IsBook honest contents (record { row = book.row; hub = book.hub; pass = pass })
+  pub wider_book : (book : BookState S) → IsBook g book → (pass : Known) → pass.spine ≡ book.pass.spine → Begins book.pass.known pass.known → length pass.known ≤ MAX_ENTRIES
+      → IsBook g (record { row = book.row; hub = book.hub; pass = pass })
   wider_book book is pass spine begins few =
       let w = wider book.pass.known pass.known begins book.hub.newest is.within in
       record {
         of = spine ∙ is.of;
         few = few;
         within = w.0;
-        shows = λ h. subst (Shows contents book.hub) (sym w.1) (is.shows h);
+        shows = λ h. subst (Shows g.contents book.hub) (sym w.1) (is.shows h);
       }
 
   -- as its hub stays as it was
-  pub same_book : (book : BookState S) → IsBook honest contents book → (hub : Holding S) → hub.catalog ≡ book.hub.catalog → hub.newest ≡ book.hub.newest → (honest hub.store → honest book.hub.store) → (honest hub.store → contents hub.store ≡ contents book.hub.store)
-      → IsBook honest contents (record { row = book.row; hub = hub; pass = book.pass })
+  pub same_book : (book : BookState S) → IsBook g book → (hub : Holding S) → hub.catalog ≡ book.hub.catalog → hub.newest ≡ book.hub.newest → (g.honest hub.store → g.honest book.hub.store) → (g.honest hub.store → g.contents hub.store ≡ g.contents book.hub.store)
+      → IsBook g (record { row = book.row; hub = hub; pass = book.pass })
   same_book book is hub catalog kept was_honest same = record {
     of = is.of;
     few = is.few;
@@ -174,8 +175,8 @@ module _ {S : Type 0} (honest : S → Type 0) (contents : S → Contents) (faile
         let shows = is.shows (was_honest h) in
         let front = take book.hub.newest book.pass.known in
         let log : take hub.newest book.pass.known ≡ front = ap (λ (n : ℕ). take n book.pass.known) kept in (
-          subst (λ (l : List LogEntry). ShowsLog hub.catalog (contents hub.store) l) (sym log)
-              (subst (λ (t : List TableDef). ShowsLog t (contents hub.store) front) (sym catalog) (subst (λ (c : Contents). ShowsLog book.hub.catalog c front) (sym (same h)) shows.0)),
+          subst (λ (l : List LogEntry). ShowsLog hub.catalog (g.contents hub.store) l) (sym log)
+              (subst (λ (t : List TableDef). ShowsLog t (g.contents hub.store) front) (sym catalog) (subst (λ (c : Contents). ShowsLog book.hub.catalog c front) (sym (same h)) shows.0)),
           kept ∙ shows.1 ∙ ap length (sym log),
         );
   }
@@ -186,18 +187,18 @@ module _ {S : Type 0} (honest : S → Type 0) (contents : S → Contents) (faile
       then_later finished old seen new (then_later (Unit {0}) old mid seen one (knows_more (Unit {0}) mid seen row hub begins)) two
 
   -- a book that has come to the last that is known shows all of it
-  pub shows_all : (book : BookState S) → IsBook honest contents book → book.hub.newest ≡ length book.pass.known → honest book.hub.store → Shows contents book.hub book.pass.known
+  pub shows_all : (book : BookState S) → IsBook g book → book.hub.newest ≡ length book.pass.known → g.honest book.hub.store → Shows g.contents book.hub book.pass.known
   shows_all book is level h =
       let all : take book.hub.newest book.pass.known ≡ book.pass.known = ap (λ (n : ℕ). take n book.pass.known) level ∙ take-length book.pass.known in
-      subst (Shows contents book.hub) all (is.shows h)
+      subst (Shows g.contents book.hub) all (is.shows h)
 
   -- ---- the next entry is taken
 
   -- what was taken is a log of the tables
-  pub has_taken : (book : BookState S) → IsBook honest contents book → honest book.hub.store → HasTaken book.hub.catalog book.pass.known book.hub.newest
+  pub has_taken : (book : BookState S) → IsBook g book → g.honest book.hub.store → HasTaken book.hub.catalog book.pass.known book.hub.newest
   has_taken book is h = let shows = is.shows h in record { is_log = shows.0.is_log; fit = shows.0.fit }
 
-  module _ (book : BookState S) (is : IsBook honest contents book) (entry : LogEntry) (here : slice_get book.pass.known book.hub.newest ≡ Some entry) (hub : Holding S) (catalog : hub.catalog ≡ book.hub.catalog) where
+  module _ (book : BookState S) (is : IsBook g book) (entry : LogEntry) (here : slice_get book.pass.known book.hub.newest ≡ Some entry) (hub : Holding S) (catalog : hub.catalog ≡ book.hub.catalog) where
     abbrev After : BookState S
     After = record { row = book.row; hub = hub; pass = book.pass }
 
@@ -205,9 +206,9 @@ module _ {S : Type 0} (honest : S → Type 0) (contents : S → Contents) (faile
     Front = take book.hub.newest book.pass.known
 
     abbrev Writes : {F : Type 0} → F → Result (Unit {0}) F → Type 0
-    Writes device result = WritesStore honest contents failed may_leave misreads device (ShowsSome contents book.hub) (IsAppendedIn book.hub.catalog entry (contents book.hub.store)) book.hub.store hub.store result
+    Writes device result = WritesStore g device (ShowsSome g.contents book.hub) (IsAppendedIn book.hub.catalog entry (g.contents book.hub.store)) book.hub.store hub.store result
 
-    one_taken : honest book.hub.store → hub.newest ≡ book.hub.newest → (left : Contents) → IsAppendedIn book.hub.catalog entry (contents book.hub.store) left → OneMore After left
+    one_taken : g.honest book.hub.store → hub.newest ≡ book.hub.newest → (left : Contents) → IsAppendedIn book.hub.catalog entry (g.contents book.hub.store) left → OneMore After left
     one_taken h kept left appended =
         let shows = (appended Front (is.shows h).0).1 in
         let within = slice_get_within book.pass.known book.hub.newest entry here in (
@@ -220,10 +221,10 @@ module _ {S : Type 0} (honest : S → Type 0) (contents : S → Contents) (faile
     -- where it has finished, and yet nothing was taken, nothing is appended
     abbrev Ends : {F : Type 0} → Type 0 → Result (Unit {0}) F → Type 0
     Ends finished result =
-        honest hub.store → finished → OnErr result ((left : Contents) → IsAppendedIn book.hub.catalog entry (contents book.hub.store) left → ⊥)
+        g.honest hub.store → finished → OnErr result ((left : Contents) → IsAppendedIn book.hub.catalog entry (g.contents book.hub.store) left → ⊥)
 
     left_so : {F : Type 0} (device : F) (result : Result (Unit {0}) F) (finished : Type 0) → Writes device result → OnErr result (hub.newest ≡ book.hub.newest) → Ends finished result
-        → honest hub.store → (left : Contents) → may_leave hub.store left → Left finished book After left
+        → g.honest hub.store → (left : Contents) → g.may_leave hub.store left → Left finished book After left
     left_so device (Ok t) finished writes kept ends h left l =
         elim (writes.durable h left l) [ inl now ↦ inl now | inr before ↦ inr (inl before) ]
     left_so device (Err fault) finished writes kept ends h left l =
@@ -245,14 +246,14 @@ module _ {S : Type 0} (honest : S → Type 0) (contents : S → Contents) (faile
     }
 
     -- it is a book again
-    pub taken_book : hub.newest ≡ book.hub.newest + 1 → (honest hub.store → honest book.hub.store)
-        → (honest hub.store → Shows contents book.hub Front → Shows contents hub (Front ++ entry ∷ [])) → IsBook honest contents After
+    pub taken_book : hub.newest ≡ book.hub.newest + 1 → (g.honest hub.store → g.honest book.hub.store)
+        → (g.honest hub.store → Shows g.contents book.hub Front → Shows g.contents hub (Front ++ entry ∷ [])) → IsBook g After
     taken_book counted was_honest shows = record {
       of = is.of;
       few = is.few;
       within = (let within = slice_get_within book.pass.known book.hub.newest entry here in omega (arith, counted, within));
       shows = λ h.
-          subst (λ (l : List LogEntry). Shows contents hub l) (sym (ap (λ (n : ℕ). take n book.pass.known) counted ∙ next_taken book.pass.known book.hub.newest entry here)) (shows h (is.shows (was_honest h)));
+          subst (λ (l : List LogEntry). Shows g.contents hub l) (sym (ap (λ (n : ℕ). take n book.pass.known) counted ∙ next_taken book.pass.known book.hub.newest entry here)) (shows h (is.shows (was_honest h)));
     }
 
     onwards_of : {F : Type 0} (result : Result (Unit {0}) F) → OnOk result (hub.newest ≡ book.hub.newest + 1) → OnErr result (hub.newest ≡ book.hub.newest) → book.hub.newest ≤ hub.newest
@@ -265,33 +266,33 @@ module _ {S : Type 0} (honest : S → Type 0) (contents : S → Contents) (faile
     goes_on device result finished writes counted kept ends = takes device result finished writes (onwards_of result counted kept) kept ends
 
     -- an entry that doesn't fit isn't appended
-    pub ends_follow : (result : Result (Unit {0}) FollowFault) → (honest hub.store → (log : List LogEntry) → Shows contents book.hub log → IfErr result (IsFollowFault book.hub.catalog log entry))
-        → (honest hub.store → honest book.hub.store) → Ends (IsFinished result) result
+    pub ends_follow : (result : Result (Unit {0}) FollowFault) → (g.honest hub.store → (log : List LogEntry) → Shows g.contents book.hub log → IfErr result (IsFollowFault book.hub.catalog log entry))
+        → (g.honest hub.store → g.honest book.hub.store) → Ends (IsFinished result) result
     ends_follow (Ok t) refused was_honest h finished = tt
     ends_follow (Err follow.Memory) refused was_honest h finished = absurd finished
     ends_follow (Err follow.Full) refused was_honest h finished = absurd finished
     ends_follow (Err follow.Device) refused was_honest h finished = absurd finished
     ends_follow (Err follow.Undefined) refused was_honest h finished = λ left appended.
         let shows = is.shows (was_honest h) in
-        refused h Front shows (fits_behind book.hub.catalog Front entry (contents book.hub.store) left shows.0 appended)
+        refused h Front shows (fits_behind book.hub.catalog Front entry (g.contents book.hub.store) left shows.0 appended)
 
     pub ends_append : {F : Type 0} (result : Result (Unit {0}) F) → Ends (OnErr result ⊥) result
     ends_append (Ok t) h finished = tt
     ends_append (Err fault) h finished = absurd finished
 
     pub book_again : {F : Type 0} (device : F) (result : Result (Unit {0}) F) → Writes device result → OnOk result (hub.newest ≡ book.hub.newest + 1) → OnErr result (hub.newest ≡ book.hub.newest)
-        → (honest hub.store → (log : List LogEntry) → Shows contents book.hub log → OnOk result (Shows contents hub (log ++ entry ∷ []))) → IsBook honest contents After
+        → (g.honest hub.store → (log : List LogEntry) → Shows g.contents book.hub log → OnOk result (Shows g.contents hub (log ++ entry ∷ []))) → IsBook g After
     book_again device (Ok t) writes counted kept shows_more = taken_book counted writes.was_honest (λ h shows. shows_more h Front shows)
     book_again device (Err fault) writes counted kept shows_more = same_book book is hub catalog kept writes.was_honest writes.err
 
     -- what follows shows the longer log
-    pub shown_of : {F : Type 0} (result : Result (Unit {0}) F) → (honest hub.store → (log : List LogEntry) → Shows contents book.hub log → OnOk result (FitsBehind book.hub.catalog log entry × Shows contents hub (log ++ entry ∷ [])))
-        → honest hub.store → (log : List LogEntry) → Shows contents book.hub log → OnOk result (Shows contents hub (log ++ entry ∷ []))
+    pub shown_of : {F : Type 0} (result : Result (Unit {0}) F) → (g.honest hub.store → (log : List LogEntry) → Shows g.contents book.hub log → OnOk result (FitsBehind book.hub.catalog log entry × Shows g.contents hub (log ++ entry ∷ [])))
+        → g.honest hub.store → (log : List LogEntry) → Shows g.contents book.hub log → OnOk result (Shows g.contents hub (log ++ entry ∷ []))
     shown_of (Ok t) followed h log shows = (followed h log shows).1
     shown_of (Err fault) followed h log shows = tt
 
     -- or it is stuck there
-    pub stuck : hub.newest ≡ book.hub.newest → honest book.hub.store → (FitsBehind book.hub.catalog Front entry → ⊥) → IsStuckAt hub.catalog book.pass.known hub.newest
+    pub stuck : hub.newest ≡ book.hub.newest → g.honest book.hub.store → (FitsBehind book.hub.catalog Front entry → ⊥) → IsStuckAt hub.catalog book.pass.known hub.newest
     stuck kept h unfit =
         let front = has_taken book is h in
         subst (λ (t : List TableDef). IsStuckAt t book.pass.known hub.newest) (sym catalog)

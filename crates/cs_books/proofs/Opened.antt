@@ -2,21 +2,21 @@
 use Rattle.std.proofs.Common.{◌≡◌, ◌≢◌, ℕ, List, Ok, Err, refl, ap, arith, ◌∙◌, inl}
 use Rattle.std.specs.Prelude.{Result}
 use Rattle.cs_value.specs.declared.catalog.TableDef.{TableDef}
-use Rattle.cs_store.specs.Contents.{Contents}
+use Rattle.cs_store.specs.declared.store.RowStore.{Ghosts}
 use Rattle.cs_pending.specs.Storing.{err_is}
 use Rattle.cs_hub.specs.Opened.{Opens}
 use Rattle.cs_log_opening.specs.Opens.{IsHubFault}
 use Rattle.cs_opening.specs.declared.fault.OpenFault.{OpenFault}
 use Rattle.cs_opening.specs.declared.fault.OpenFault.TheVariants.{Damaged, Device, Memory, Mismatch}
 
-module _ {S : Type 0} (honest : S → Type 0) (contents : S → Contents) (failed : S → ℕ) (may_leave : S → Contents → Type 0) (misreads : S → ℕ) (opening : List TableDef) where
+module _ {S : Type 0} (g : Ghosts S) (opening : List TableDef) where
   abbrev Opened : S → S → Result (Unit {0}) OpenFault → Type 0
-  Opened = Opens honest contents failed may_leave misreads opening
+  Opened = Opens g opening
 
   -- the store as it was let go, and what is told of it
   abbrev NotOpened : S → OpenFault → Type 0
   NotOpened store fault =
-      (last : S) × Opened store last (Err fault) × (honest last → IsHubFault opening (contents store) fault)
+      (last : S) × Opened store last (Err fault) × (g.honest last → IsHubFault opening (g.contents store) fault)
 
   -- nothing was asked of it
   pub not_asked : (store : S) (fault : OpenFault) → fault ≡ Memory → NotOpened store fault
@@ -40,7 +40,7 @@ module _ {S : Type 0} (honest : S → Type 0) (contents : S → Contents) (faile
   not_asked store Mismatch is = absurd (let e = is in cc)
 
   -- a hub was opened that no honest store has
-  pub not_so : (store last : S) (fault : OpenFault) → fault ≢ Device → (honest last → ⊥) → Opened store last (Ok tt) → NotOpened store fault
+  pub not_so : (store last : S) (fault : OpenFault) → fault ≢ Device → (g.honest last → ⊥) → Opened store last (Ok tt) → NotOpened store fault
   not_so store last fault no_device never opened = (
     last,
     record {

@@ -1,6 +1,7 @@
 -- A book: a hub over a store, and what its thread knows of a row of cells (profile of this project).
 use Rattle.std.specs.Prelude.{◌≡◌, ◌+◌, ◌<◌, ◌≤◌, ◌⊎◌, ℕ, length, min, take}
 use Rattle.cs_store.specs.Contents.{Contents}
+use Rattle.cs_store.specs.declared.store.RowStore.{Ghosts}
 use Rattle.cs_log_store.specs.Shows.{ShowsLog}
 use Rattle.cs_spine.specs.Known.{Known, SpineCells}
 use Rattle.cs_following.specs.Standing.{Begins}
@@ -19,25 +20,25 @@ most_cells row = min row.cap MAX_ENTRIES
 
 -- the pass is of the row, and knows no more entries than a hub has; the hub has taken no more than it knows; and where its store is
 -- honest, it shows the first of these, as many as it has taken
-pub record IsBook {S : Type 0} (honest : S → Type 0) (contents : S → Contents) (book : BookState S) : Type 0 where
+pub record IsBook {S : Type 0} (g : Ghosts S) (book : BookState S) : Type 0 where
   pub of : book.pass.spine ≡ book.row
   pub few : length book.pass.known ≤ MAX_ENTRIES
   pub within : book.hub.newest ≤ length book.pass.known
-  pub shows : honest book.hub.store → Shows contents book.hub (take book.hub.newest book.pass.known)
+  pub shows : g.honest book.hub.store → Shows g.contents book.hub (take book.hub.newest book.pass.known)
 
 -- the book has gone on: it is of the same row and the same tables; it knows what it knew, and maybe more; and it has taken what it had
 -- taken, and maybe more, each entry in a commit of its own. `finished` says that no commit failed
-pub record IsLater {S : Type 0} (honest : S → Type 0) (contents : S → Contents) (failed : S → ℕ) (may_leave : S → Contents → Type 0) (misreads : S → ℕ) (finished : Type 0) (old new : BookState S) : Type 0 where
+pub record IsLater {S : Type 0} (g : Ghosts S) (finished : Type 0) (old new : BookState S) : Type 0 where
   pub row : new.row ≡ old.row
   pub catalog : new.hub.catalog ≡ old.hub.catalog
   pub begins : Begins old.pass.known new.pass.known
   pub onwards : old.hub.newest ≤ new.hub.newest
-  pub was_honest : honest new.hub.store → honest old.hub.store
+  pub was_honest : g.honest new.hub.store → g.honest old.hub.store
   -- a stop leaves what the store holds; where nothing was written, what it could leave before; where a commit failed, the log with the next entry
-  pub crash : honest new.hub.store → (left : Contents) → may_leave new.hub.store left
-      → (left ≡ contents new.hub.store)
-      ⊎ ((may_leave old.hub.store left × (contents new.hub.store ≡ contents old.hub.store))
+  pub crash : g.honest new.hub.store → (left : Contents) → g.may_leave new.hub.store left
+      → (left ≡ g.contents new.hub.store)
+      ⊎ ((g.may_leave old.hub.store left × (g.contents new.hub.store ≡ g.contents old.hub.store))
       ⊎ ((finished → ⊥) × (new.hub.newest < length new.pass.known) × ShowsLog new.hub.catalog left (take (new.hub.newest + 1) new.pass.known)))
-  pub later : failed old.hub.store ≤ failed new.hub.store
+  pub later : g.failed old.hub.store ≤ g.failed new.hub.store
   -- nothing that can be read is told to be no such thing
-  pub as_read : honest new.hub.store → misreads new.hub.store ≡ misreads old.hub.store
+  pub as_read : g.honest new.hub.store → g.misreads new.hub.store ≡ g.misreads old.hub.store

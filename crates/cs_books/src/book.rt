@@ -47,7 +47,7 @@ impl<'s, S: RowStore> Model for Book<'s, S> {
 
     ghost view = { λ book. record { row = book.spine.now; hub = book.hub; pass = book.pass } };
 
-    ghost invariant = { λ book. IsBook S.honest S.contents (record { row = book.spine.now; hub = book.hub; pass = book.pass }) };
+    ghost invariant = { λ book. IsBook S.RowStore (record { row = book.spine.now; hub = book.hub; pass = book.pass }) };
 }
 
 impl<'s, S: RowStore + Drop> Book<'s, S> {
@@ -70,8 +70,8 @@ impl<'s, S: RowStore + Drop> Book<'s, S> {
 
         // What a stop leaves, and how the count of failures goes; at `Err` of the store as it was when it was let go, and what is told of it holds.
         ensures opens { MatchResult result
-            (λ book. Opens S.honest S.contents S.failed S.may_leave S.misreads catalog.now store book.hub.store (Ok tt))
-            (λ fault. (last : S) × Opens S.honest S.contents S.failed S.may_leave S.misreads catalog.now store last (Err fault)
+            (λ book. Opens S.RowStore catalog.now store book.hub.store (Ok tt))
+            (λ fault. (last : S) × Opens S.RowStore catalog.now store last (Err fault)
             × (S.honest last → IsHubFault catalog.now (S.contents store) fault)) }
     {
         let pass = spine.pass()?;
@@ -141,7 +141,7 @@ impl<'s, S: RowStore> Book<'s, S> {
     /// Takes the next entry that it knows.
     fn take_next(&mut self) -> Result<(), FollowFault>
         requires { self.old.hub.newest < length self.old.pass.known }
-        ensures later { IsLater S.honest S.contents S.failed S.may_leave S.misreads (IsFinished result) self.old self.new }
+        ensures later { IsLater S.RowStore (IsFinished result) self.old self.new }
         ensures pass { self.new.pass ≡ self.old.pass }
         ensures taken { OnOk result (self.new.hub.newest ≡ self.old.hub.newest + 1) }
         ensures front { S.honest self.new.hub.store → HasTaken self.new.hub.catalog self.new.pass.known self.new.hub.newest }
@@ -155,7 +155,7 @@ impl<'s, S: RowStore> Book<'s, S> {
 
     /// Takes all entries that it knows and sees.
     fn catch_up(&mut self) -> Result<(), FollowFault>
-        ensures later { IsLater S.honest S.contents S.failed S.may_leave S.misreads (IsFinished result) self.old self.new }
+        ensures later { IsLater S.RowStore (IsFinished result) self.old self.new }
         ensures level { OnOk result (self.new.hub.newest ≡ length self.new.pass.known) }
         ensures front { S.honest self.new.hub.store → HasTaken self.new.hub.catalog self.new.pass.known self.new.hub.newest }
         ensures full { result ≢ Err Full }
@@ -176,7 +176,7 @@ impl<'s, S: RowStore> Book<'s, S> {
         requires { self.old.hub.newest ≡ length self.old.pass.known }
         ensures row { self.new.row ≡ self.old.row }
         ensures pass { self.new.pass ≡ self.old.pass }
-        ensures reads { ReadsHub S.honest S.contents S.failed S.may_leave S.misreads self.old.hub self.new.hub }
+        ensures reads { ReadsHub S.RowStore self.old.hub self.new.hub }
         ensures same_reads { S.honest self.new.hub.store → S.misreads self.new.hub.store ≡ S.misreads self.old.hub.store }
         ensures room { IfOk result (HasRoom (length self.old.pass.known) (most_cells self.old.row)) }
         ensures appends { S.honest self.new.hub.store → IfOk result (AppendsJudged self.new.hub.catalog (S.contents self.new.hub.store)) }
@@ -208,7 +208,7 @@ impl<'s, S: RowStore> Book<'s, S> {
     fn take_judged(&mut self, entry: &LogEntry, batch: &Batch) -> Result<(), StoreFault>
         requires known { slice_get self.old.pass.known self.old.hub.newest ≡ Some entry.now }
         requires tried { S.honest self.old.hub.store → AppendsEntry self.old.hub.catalog entry.now (S.contents self.old.hub.store) batch.now }
-        ensures later { IsLater S.honest S.contents S.failed S.may_leave S.misreads (OnErr result ⊥) self.old self.new }
+        ensures later { IsLater S.RowStore (OnErr result ⊥) self.old self.new }
         ensures pass { self.new.pass ≡ self.old.pass }
         ensures taken { OnOk result (self.new.hub.newest ≡ self.old.hub.newest + 1) }
         ensures front { S.honest self.new.hub.store → HasTaken self.new.hub.catalog self.new.pass.known self.new.hub.newest }
@@ -229,7 +229,7 @@ impl<'s, S: RowStore> Book<'s, S> {
         requires tried { S.honest self.old.hub.store → AppendsEntry self.old.hub.catalog entry.now (S.contents self.old.hub.store) batch.now }
         requires room { vec_len room + SHORT ≤ vec_capacity room }
         requires empty { room.items ≡ [] }
-        ensures later { IsLater S.honest S.contents S.failed S.may_leave S.misreads (IsAnswered result) self.old self.new }
+        ensures later { IsLater S.RowStore (IsAnswered result) self.old self.new }
         ensures pass { self.new.pass ≡ self.old.pass }
         ensures front { S.honest self.new.hub.store → HasTaken self.new.hub.catalog self.new.pass.known self.new.hub.newest }
         ensures settled { IfOk result (λ answer. S.honest self.new.hub.store → ((answer.items ≡ reply.items) × (self.new.hub.newest ≡ self.old.hub.newest + 1))
@@ -247,7 +247,7 @@ impl<'s, S: RowStore> Book<'s, S> {
         requires room { vec_len room + SHORT ≤ vec_capacity room }
         requires empty { room.items ≡ [] }
         requires later { S.honest self.old.hub.store → CameLater (most_cells self.old.row) self.old.hub.catalog self.old.pass.known _request.now }
-        ensures later { IsLater S.honest S.contents S.failed S.may_leave S.misreads (IsAnswered result) self.old self.new }
+        ensures later { IsLater S.RowStore (IsAnswered result) self.old self.new }
         ensures served { IfOk result (λ answer. S.honest self.new.hub.store
             → AnswersOn (MoreFailures (S.failed self.old.hub.store) (S.failed self.new.hub.store)) (most_cells self.new.row) self.new.hub.catalog
             self.new.pass.known self.new.hub.newest _request.now answer.items) }
@@ -280,7 +280,7 @@ impl<'s, S: RowStore> Book<'s, S> {
         requires empty { room.items ≡ [] }
         requires judged { S.honest self.old.hub.store → Serves (most_cells self.old.row) (hub_of self.old.hub.catalog self.old.pass.known) request.now reply.items
             (hub_of self.old.hub.catalog (self.old.pass.known ++ entry.now ∷ [])) }
-        ensures later { IsLater S.honest S.contents S.failed S.may_leave S.misreads (IsAnswered result) self.old self.new }
+        ensures later { IsLater S.RowStore (IsAnswered result) self.old self.new }
         ensures served { IfOk result (λ answer. S.honest self.new.hub.store
             → AnswersOn (MoreFailures (S.failed self.old.hub.store) (S.failed self.new.hub.store)) (most_cells self.new.row) self.new.hub.catalog
             self.new.pass.known self.new.hub.newest request.now answer.items) }
@@ -303,7 +303,7 @@ impl<'s, S: RowStore> Book<'s, S> {
     pub fn serve(&mut self, request: &[u8]) -> Result<Vec<u8>, Memory>
         // The book is that of the same row of cells and tables; it knows more, and has taken more of it. Where it answers otherwise than that
         // the device failed, all that it has taken stands, also after a stop.
-        ensures later { IsLater S.honest S.contents S.failed S.may_leave S.misreads (IsAnswered result) self.old self.new }
+        ensures later { IsLater S.RowStore (IsAnswered result) self.old self.new }
 
         // The answer is the hub's on all that is known; or that the next entry doesn't fit; or that the device failed.
         ensures served { IfOk result (λ answer. S.honest self.new.hub.store

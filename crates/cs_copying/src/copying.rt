@@ -20,7 +20,7 @@ use std::alloc::{AllocError, Global};
 
 /// Whether all that a store holds is what its place says, and it has no log.
 fn has_no_log<S: RowStore>(store: &mut S, catalog: &Catalog) -> Result<bool, StoreFault>
-    ensures reads { ReadsStore S.honest S.contents S.failed S.may_leave S.misreads Device (Unit {0}) store.old store.new result }
+    ensures reads { ReadsStore S.RowStore Device (Unit {0}) store.old store.new result }
     ensures told { S.honest store.new → IfOk result (λ is. IsTrue is
         ↔ (IsWhole catalog.now (S.contents store.old) × ((S.contents store.old).log ≡ empty))) }
 {
@@ -38,7 +38,7 @@ fn read_values<S: RowStore>(
     names: &[MetaName],
     edits: &mut Vec<MetaEdit>,
 ) -> Result<(), StoreFault>
-    ensures reads { ReadsStore S.honest S.contents S.failed S.may_leave S.misreads Device (Unit {0}) store.old store.new result }
+    ensures reads { ReadsStore S.RowStore Device (Unit {0}) store.old store.new result }
     ensures read { S.honest store.new → OnOk result ((name : Name) → value_after edits.new.items name None
         ≡ value_read (S.contents store.old) names.now name (value_after edits.old.items name None)) }
 {
@@ -55,7 +55,7 @@ fn read_values<S: RowStore>(
 
 /// The values of a store, as edits that set them.
 fn values_of<S: RowStore>(alloc: Global, store: &mut S) -> Result<Vec<MetaEdit>, StoreFault>
-    ensures reads { ReadsStore S.honest S.contents S.failed S.may_leave S.misreads Device (Unit {0}) store.old store.new result }
+    ensures reads { ReadsStore S.RowStore Device (Unit {0}) store.old store.new result }
     ensures read { S.honest store.new → IfOk result (λ edits. (name : Name)
         → value_after edits.items name None ≡ meta_value (S.contents store.old) name) }
 {
@@ -95,7 +95,7 @@ fn store_of(alloc: Global, meta: Vec<MetaEdit>) -> Result<MapStore, Memory>
 
 /// A store in memory that holds the values of a store alone.
 fn copy_values<S: RowStore>(alloc: Global, store: &mut S) -> Result<MapStore, StoreFault>
-    ensures reads { ReadsStore S.honest S.contents S.failed S.may_leave S.misreads Device (Unit {0}) store.old store.new result }
+    ensures reads { ReadsStore S.RowStore Device (Unit {0}) store.old store.new result }
     ensures copied { S.honest store.new → HasOurNames (S.contents store.old)
         → IfOk result (λ copy. AreCopied (S.contents store.old) copy.held 0) }
 {
@@ -161,7 +161,7 @@ fn copy_table<S: RowStore>(
     copy: &mut MapStore,
     number: u32,
 ) -> Result<bool, StoreFault>
-    ensures reads { ReadsStore S.honest S.contents S.failed S.may_leave S.misreads Device (Unit {0}) store.old store.new result }
+    ensures reads { ReadsStore S.RowStore Device (Unit {0}) store.old store.new result }
     ensures told { S.honest store.new
         → IfOk result (IsCopied (S.contents store.old) copy.old.held copy.new.held number (number + 1)) }
 {
@@ -183,7 +183,7 @@ fn copy_tables<S: RowStore>(
     number: u32,
 ) -> Result<bool, StoreFault>
     requires { number + length tables.now < 2 ^ 32 }
-    ensures reads { ReadsStore S.honest S.contents S.failed S.may_leave S.misreads Device (Unit {0}) store.old store.new result }
+    ensures reads { ReadsStore S.RowStore Device (Unit {0}) store.old store.new result }
     ensures told { S.honest store.new
         → IfOk result (IsCopied (S.contents store.old) copy.old.held copy.new.held number (number + length tables.now)) }
 {
@@ -208,7 +208,7 @@ pub fn copy_of<S: RowStore>(
     store: &mut S,
     catalog: &Catalog,
 ) -> Result<Option<MapStore>, StoreFault>
-    ensures reads { ReadsStore S.honest S.contents S.failed S.may_leave S.misreads Device (Unit {0}) store.old store.new result }
+    ensures reads { ReadsStore S.RowStore Device (Unit {0}) store.old store.new result }
 
     // The copy holds what the store holds, which is rows and values alone.
     ensures copied { S.honest store.new → IfOk result (λ copied. IfSome copied (λ copy.

@@ -7,6 +7,7 @@ use Rattle.cs_value.specs.declared.catalog.TableDef.{TableDef}
 use Rattle.cs_log.specs.Log.{entries_between}
 use Rattle.cs_log.specs.declared.entry.LogEntry.{LogEntry}
 use Rattle.cs_store.specs.Contents.{Contents}
+use Rattle.cs_store.specs.declared.store.RowStore.{Ghosts}
 use Rattle.cs_conflict.specs.declared.clash.Clash.{Clash}
 use Rattle.cs_conflict.specs.declared.wish.Wish.{Wish}
 use Rattle.cs_pending.specs.Calls.{WritesStore}
@@ -73,18 +74,18 @@ module _ {P : Type 0} (picks : P → Clash → Wish → P → Type 0) (tables : 
           (pulls_more (entries_between known position.version other.version) position view p other end q so_far.pulls entry pending left next between one shows);
     }
 
-module _ {P S : Type 0} (picks : P → Clash → Wish → P → Type 0) (honest : S → Type 0) (contents : S → Contents) (failed : S → ℕ) (may_leave : S → Contents → Type 0) (misreads : S → ℕ)
+module _ {P S : Type 0} (picks : P → Clash → Wish → P → Type 0) (g : Ghosts S)
     (known : List LogEntry) (begun : Holding S) (p : P) where
   -- how far it has come
   pub record IsAlong (at : ℕ) (now : Holding S) (q : P) : Type 0 where
     pub at_is : now.position.version ≡ at
     pub from : begun.position.version ≤ at
     pub catalog : now.catalog ≡ begun.catalog
-    pub seen : honest now.store → (before : View) → Shows contents begun before
-        → (here : View) × PullsKnown picks begun.catalog known begun.position before p now.position here q × ShowsAt begun.catalog (contents now.store) now.position here
-    pub turn : WentOn honest contents failed may_leave misreads (ShowsSomeAt begun.catalog begun.position (contents begun.store))
-        (IsPulledAmong picks begun.catalog known begun.position (contents begun.store) p) (IsNextKnown picks begun.catalog known now.position (contents now.store)) begun.store now.store
-    pub stands : StandsWhereHonest honest contents known begun → StandsWhereHonest honest contents known now
+    pub seen : g.honest now.store → (before : View) → Shows g.contents begun before
+        → (here : View) × PullsKnown picks begun.catalog known begun.position before p now.position here q × ShowsAt begun.catalog (g.contents now.store) now.position here
+    pub turn : WentOn g (ShowsSomeAt begun.catalog begun.position (g.contents begun.store))
+        (IsPulledAmong picks begun.catalog known begun.position (g.contents begun.store) p) (IsNextKnown picks begun.catalog known now.position (g.contents now.store)) begun.store now.store
+    pub stands : StandsWhereHonest g known begun → StandsWhereHonest g known now
 
   -- at the start
   pub along_none : (at : ℕ) → at ≡ begun.position.version → begun.position.version ≤ length known → IsAlong at begun p
@@ -93,7 +94,7 @@ module _ {P S : Type 0} (picks : P → Clash → Wish → P → Type 0) (honest 
     from = omega (arith, is);
     catalog = refl;
     seen = λ h before shows. (before, known_none picks begun.catalog known begun.position before p within, shows);
-    turn = no_call_yet honest contents failed may_leave misreads _ _ _ begun.store;
+    turn = no_call_yet g _ _ _ begun.store;
     stands = λ s. s;
   }
 
@@ -101,14 +102,14 @@ module _ {P S : Type 0} (picks : P → Clash → Wish → P → Type 0) (honest 
     there : slice_get known mid.position.version ≡ Some entry
     there = ap (λ (n : ℕ). slice_get known n) a.at_is ∙ here
 
-    pub readable : honest mid.store → ShowsSomeAt begun.catalog begun.position (contents begun.store) → ShowsSomeAt mid.catalog mid.position (contents mid.store)
-    readable h (before, shows) = let s = a.seen h before shows in (s.0, subst (λ (t : List TableDef). ShowsAt t (contents mid.store) mid.position s.0) (sym a.catalog) s.2)
+    pub readable : g.honest mid.store → ShowsSomeAt begun.catalog begun.position (g.contents begun.store) → ShowsSomeAt mid.catalog mid.position (g.contents mid.store)
+    readable h (before, shows) = let s = a.seen h before shows in (s.0, subst (λ (t : List TableDef). ShowsAt t (g.contents mid.store) mid.position s.0) (sym a.catalog) s.2)
 
     -- what a stop may leave behind one more
-    pub among : honest mid.store → (left : Contents) → IsPulledIn picks mid.catalog mid.position entry q r (contents mid.store) left → IsPulledAmong picks begun.catalog known begun.position (contents begun.store) p left
+    pub among : g.honest mid.store → (left : Contents) → IsPulledIn picks mid.catalog mid.position entry q r (g.contents mid.store) left → IsPulledAmong picks begun.catalog known begun.position (g.contents begun.store) p left
     among h left pulled before shows =
         let s = a.seen h before shows in
-        let after = subst (λ (t : List TableDef). IsPulledIn picks t mid.position entry q r (contents mid.store) left) a.catalog pulled s.0 s.2 in (
+        let after = subst (λ (t : List TableDef). IsPulledIn picks t mid.position entry q r (g.contents mid.store) left) a.catalog pulled s.0 s.2 in (
           taken mid.position (len left.pending),
           after.0,
           r,
@@ -119,11 +120,11 @@ module _ {P S : Type 0} (picks : P → Clash → Wish → P → Type 0) (honest 
 
     -- one more was taken
     pub along_more : (done : Unit {0})
-        → WritesStore honest contents failed may_leave misreads {T = Unit {0}} {E = NodeFault} Device (ShowsSomeAt mid.catalog mid.position (contents mid.store)) (IsPulledIn picks mid.catalog mid.position entry q r (contents mid.store)) mid.store new.store (Ok done)
+        → WritesStore g {T = Unit {0}} {E = NodeFault} Device (ShowsSomeAt mid.catalog mid.position (g.contents mid.store)) (IsPulledIn picks mid.catalog mid.position entry q r (g.contents mid.store)) mid.store new.store (Ok done)
         → new.position ≡ taken mid.position new.position.pending
-        → (honest new.store → ShowsSomeAt mid.catalog mid.position (contents mid.store) → new.position.pending ≡ len (contents new.store).pending)
+        → (g.honest new.store → ShowsSomeAt mid.catalog mid.position (g.contents mid.store) → new.position.pending ≡ len (g.contents new.store).pending)
         → new.catalog ≡ mid.catalog
-        → ((known : List LogEntry) → slice_get known mid.position.version ≡ Some entry → StandsWhereHonest honest contents known mid → StandsWhereHonest honest contents known new)
+        → ((known : List LogEntry) → slice_get known mid.position.version ≡ Some entry → StandsWhereHonest g known mid → StandsWhereHonest g known new)
         → IsAlong (at + 1) new r
     along_more done writes moved counted catalog stands = record {
       at_is = ap (λ (x : Position). x.version) moved ∙ ap (λ (n : ℕ). n + 1) a.at_is;
@@ -132,29 +133,29 @@ module _ {P S : Type 0} (picks : P → Clash → Wish → P → Type 0) (honest 
       seen = λ h before shows.
           let h' = writes.was_honest h in
           let s = a.seen h' before shows in
-          let after = subst (λ (t : List TableDef). IsPulledIn picks t mid.position entry q r (contents mid.store) (contents new.store)) a.catalog (writes.ok h) s.0 s.2 in
-          let pending = len (contents new.store).pending in
+          let after = subst (λ (t : List TableDef). IsPulledIn picks t mid.position entry q r (g.contents mid.store) (g.contents new.store)) a.catalog (writes.ok h) s.0 s.2 in
+          let pending = len (g.contents new.store).pending in
           let is : new.position ≡ taken mid.position pending = moved ∙ ap (taken mid.position) (counted h (readable h' (before, shows))) in (
             after.0,
             subst (λ (x : Position). PullsKnown picks begun.catalog known begun.position before p x after.0 r) (sym is)
-                (known_more picks begun.catalog known begun.position before p mid.position s.0 q s.1 entry there pending (contents new.store) after.0 r after.2 after.1),
-            subst (λ (x : Position). ShowsAt begun.catalog (contents new.store) x after.0) (sym is) after.1,
+                (known_more picks begun.catalog known begun.position before p mid.position s.0 q s.1 entry there pending (g.contents new.store) after.0 r after.2 after.1),
+            subst (λ (x : Position). ShowsAt begun.catalog (g.contents new.store) x after.0) (sym is) after.1,
           );
-      turn = one_more honest contents failed may_leave misreads _ _ _ _ _ _ begun.store mid.store new.store readable among a.turn Device done writes;
+      turn = one_more g _ _ _ _ _ _ begun.store mid.store new.store readable among a.turn Device done writes;
       stands = λ s. stands known there (a.stands s);
     }
 
     module _ (fault : NodeFault) (kept : new.position ≡ mid.position)
-        (writes : WritesStore honest contents failed may_leave misreads {T = Unit {0}} {E = NodeFault} Device (ShowsSomeAt mid.catalog mid.position (contents mid.store)) (IsPulledIn picks mid.catalog mid.position entry q r (contents mid.store)) mid.store new.store (Err fault)) where
+        (writes : WritesStore g {T = Unit {0}} {E = NodeFault} Device (ShowsSomeAt mid.catalog mid.position (g.contents mid.store)) (IsPulledIn picks mid.catalog mid.position entry q r (g.contents mid.store)) mid.store new.store (Err fault)) where
       -- the next wasn't taken
-      pub along_stop : (honest new.store → (view : View) → Shows contents mid view → IsTakeFault picks mid.catalog fault mid.position entry view q r)
-          → honest new.store → (before : View) → Shows contents begun before
-          → PullsAll picks begun.catalog known (Err fault) begun.position before p new.position (contents new.store) r
+      pub along_stop : (g.honest new.store → (view : View) → Shows g.contents mid view → IsTakeFault picks mid.catalog fault mid.position entry view q r)
+          → g.honest new.store → (before : View) → Shows g.contents begun before
+          → PullsAll picks begun.catalog known (Err fault) begun.position before p new.position (g.contents new.store) r
       along_stop refused h before shows =
           let h' = writes.was_honest h in
           let s = a.seen h' before shows in
-          let told = refused h s.0 (subst (λ (t : List TableDef). ShowsAt t (contents mid.store) mid.position s.0) (sym a.catalog) s.2) in
-          subst (λ (x : Position). PullsAll picks begun.catalog known (Err fault) begun.position before p x (contents new.store) r) (sym kept) (
+          let told = refused h s.0 (subst (λ (t : List TableDef). ShowsAt t (g.contents mid.store) mid.position s.0) (sym a.catalog) s.2) in
+          subst (λ (x : Position). PullsAll picks begun.catalog known (Err fault) begun.position before p x (g.contents new.store) r) (sym kept) (
             s.0,
             q,
             s.1,
@@ -163,14 +164,14 @@ module _ {P S : Type 0} (picks : P → Clash → Wish → P → Type 0) (honest 
           )
 
       -- its commit, where that failed
-      next : contents new.store ≡ contents mid.store → (left : Contents) → IsPulledIn picks mid.catalog mid.position entry q r (contents mid.store) left
-          → IsNextKnown picks begun.catalog known new.position (contents new.store) left
+      next : g.contents new.store ≡ g.contents mid.store → (left : Contents) → IsPulledIn picks mid.catalog mid.position entry q r (g.contents mid.store) left
+          → IsNextKnown picks begun.catalog known new.position (g.contents new.store) left
       next same left pulled =
-          subst (λ (x : Position). IsNextKnown picks begun.catalog known x (contents new.store) left) (sym kept)
+          subst (λ (x : Position). IsNextKnown picks begun.catalog known x (g.contents new.store) left) (sym kept)
           (subst (λ (c : Contents). IsNextKnown picks begun.catalog known mid.position c left) (sym same)
-          (entry, there, (q, r, subst (λ (t : List TableDef). IsPulledIn picks t mid.position entry q r (contents mid.store) left) a.catalog pulled)))
+          (entry, there, (q, r, subst (λ (t : List TableDef). IsPulledIn picks t mid.position entry q r (g.contents mid.store) left) a.catalog pulled)))
 
       pub along_failed : (finished told : Type 0) → (finished → ⊥) → (told → fault ≡ Device)
-          → WritesInTurn honest contents failed may_leave misreads finished told (ShowsSomeAt begun.catalog begun.position (contents begun.store))
-          (IsPulledAmong picks begun.catalog known begun.position (contents begun.store) p) (IsNextKnown picks begun.catalog known new.position (contents new.store)) begun.store new.store
-      along_failed finished told undone is = one_failed honest contents failed may_leave misreads _ _ _ _ _ _ begun.store mid.store new.store readable among a.turn Device fault finished told undone is next writes
+          → WritesInTurn g finished told (ShowsSomeAt begun.catalog begun.position (g.contents begun.store))
+          (IsPulledAmong picks begun.catalog known begun.position (g.contents begun.store) p) (IsNextKnown picks begun.catalog known new.position (g.contents new.store)) begun.store new.store
+      along_failed finished told undone is = one_failed g _ _ _ _ _ _ begun.store mid.store new.store readable among a.turn Device fault finished told undone is next writes

@@ -16,7 +16,7 @@ use Rattle.cs_log.specs.Entry.{entry_changes}
 use Rattle.cs_log.specs.Laws.{AppendedIsLog}
 use Rattle.cs_log.specs.Log.{IsLog, after_entry, empty_state, state_of, tables_at}
 use Rattle.cs_log.specs.declared.entry.LogEntry.{LogEntry}
-use Rattle.cs_store.specs.Contents.{Contents}
+use Rattle.cs_store.specs.declared.store.RowStore.{Ghosts}
 use Rattle.cs_conflict.specs.declared.clash.Clash.{Clash}
 use Rattle.cs_conflict.specs.declared.wish.Wish.{Wish}
 use Rattle.cs_pending.specs.Edits.{Asked}
@@ -87,60 +87,60 @@ stood_longer law tables known more all position view is s = record {
   stands = subst (λ (l : List LogEntry). StandsOn l position view) (sym is) (law known more position view s.stands);
 }
 
-module _ {S : Type 0} (honest : S → Type 0) (contents : S → Contents) where
-  pub stands_longer : StandsLonger → (known more all : List LogEntry) (held : Holding S) → all ≡ known ++ more → StandsWhereHonest honest contents known held → StandsWhereHonest honest contents all held
+module _ {S : Type 0} (g : Ghosts S) where
+  pub stands_longer : StandsLonger → (known more all : List LogEntry) (held : Holding S) → all ≡ known ++ more → StandsWhereHonest g known held → StandsWhereHonest g all held
   stands_longer law known more all held is stands h =
       let s = stands h in (s.0, s.1, stood_longer law held.catalog known more all held.position s.0 is s.2)
 
   -- ---- what a step leaves
 
-  module _ (known : List LogEntry) (old new : Holding S) (was_honest : honest new.store → honest old.store) (catalog : new.catalog ≡ old.catalog) where
-    same_stands : (position : Position) (view : View) → honest new.store → new.position ≡ position → ShowsAt old.catalog (contents new.store) position view → StandsIn old.catalog known position view
-        → (view : View) × Shows contents new view × StandsIn new.catalog known new.position view
+  module _ (known : List LogEntry) (old new : Holding S) (was_honest : g.honest new.store → g.honest old.store) (catalog : new.catalog ≡ old.catalog) where
+    same_stands : (position : Position) (view : View) → g.honest new.store → new.position ≡ position → ShowsAt old.catalog (g.contents new.store) position view → StandsIn old.catalog known position view
+        → (view : View) × Shows g.contents new view × StandsIn new.catalog known new.position view
     same_stands position view h is shows stands = (
       view,
-      subst (λ (x : Position). ShowsAt new.catalog (contents new.store) x view) (sym is) (subst (λ (t : List TableDef). ShowsAt t (contents new.store) position view) (sym catalog) shows),
+      subst (λ (x : Position). ShowsAt new.catalog (g.contents new.store) x view) (sym is) (subst (λ (t : List TableDef). ShowsAt t (g.contents new.store) position view) (sym catalog) shows),
       subst (λ (x : Position). StandsIn new.catalog known x view) (sym is) (subst (λ (t : List TableDef). StandsIn t known position view) (sym catalog) stands),
     )
 
     -- an edit
     pub edited_stands : EditStands → (name : List ℕ) (asked : Asked)
-        → (honest new.store → IsEditedIn old.catalog old.position name asked (contents old.store) (contents new.store))
+        → (g.honest new.store → IsEditedIn old.catalog old.position name asked (g.contents old.store) (g.contents new.store))
         → new.position ≡ with_pending old.position new.position.pending
-        → (honest new.store → (view : View) × Shows contents new view)
-        → StandsWhereHonest honest contents known old → StandsWhereHonest honest contents known new
+        → (g.honest new.store → (view : View) × Shows g.contents new view)
+        → StandsWhereHonest g known old → StandsWhereHonest g known new
     edited_stands law name asked edited moved shown stands h =
         let s = stands (was_honest h) in
         let e = edited h s.0 s.1 in
-        let pending = len (contents new.store).pending in
+        let pending = len (g.contents new.store).pending in
         let is : new.position ≡ with_pending old.position pending = moved ∙ ap (with_pending old.position) ((shown h).1.counted) in
         same_stands (with_pending old.position pending) e.0 h is e.2 (record {
           of_catalog = s.2.of_catalog;
           front = s.2.front;
-          stands = law old.catalog known name asked (contents old.store) (contents new.store) old.position pending s.0 e.0 s.2.of_catalog s.1 e.1 e.2 s.2.stands;
+          stands = law old.catalog known name asked (g.contents old.store) (g.contents new.store) old.position pending s.0 e.0 s.2.of_catalog s.1 e.1 e.2 s.2.stands;
         })
 
     -- the entry at the version was taken
     pub taken_stands : {P : Type 0} (picks : P → Clash → Wish → P → Type 0) → PulledLeads picks → DefinedIsApplied → AppendedIsLog → (entry : LogEntry) (p q : P)
         → IsNormalChangeset (entry_changes entry)
         → slice_get known old.position.version ≡ Some entry
-        → (honest new.store → IsPulledIn picks old.catalog old.position entry p q (contents old.store) (contents new.store))
+        → (g.honest new.store → IsPulledIn picks old.catalog old.position entry p q (g.contents old.store) (g.contents new.store))
         → new.position ≡ taken old.position new.position.pending
-        → (honest new.store → ShowsSomeAt old.catalog old.position (contents old.store) → new.position.pending ≡ len (contents new.store).pending)
-        → StandsWhereHonest honest contents known old → StandsWhereHonest honest contents known new
+        → (g.honest new.store → ShowsSomeAt old.catalog old.position (g.contents old.store) → new.position.pending ≡ len (g.contents new.store).pending)
+        → StandsWhereHonest g known old → StandsWhereHonest g known new
     taken_stands picks leads defined appended entry p q normal here pulled moved counted stands h =
         let s = stands (was_honest h) in
         let e = pulled h s.0 s.1 in
-        let pending = len (contents new.store).pending in
+        let pending = len (g.contents new.store).pending in
         let is : new.position ≡ taken old.position pending = moved ∙ ap (taken old.position) (counted h (s.0, s.1)) in
         same_stands (taken old.position pending) e.0 h is e.1
         (stood_on defined appended old.catalog known entry old.position (taken old.position pending) s.0 e.0 normal here refl refl
-        (leads old.catalog (contents old.store) old.position entry s.0 e.0 p q s.2.of_catalog s.1 e.2) s.2)
+        (leads old.catalog (g.contents old.store) old.position entry s.0 e.0 p q s.2.of_catalog s.1 e.2) s.2)
 
     -- what is pending was made a push
-    pub readied_stands : KeptStands → (before view : View) → honest new.store → ShowsAt new.catalog (contents new.store) new.position view → new.position.version ≡ old.position.version
+    pub readied_stands : KeptStands → (before view : View) → g.honest new.store → ShowsAt new.catalog (g.contents new.store) new.position view → new.position.version ≡ old.position.version
         → AreSame (base old.position.flight before) (base new.position.flight view) → StandsIn old.catalog known old.position before
-        → (view : View) × Shows contents new view × StandsIn new.catalog known new.position view
+        → (view : View) × Shows g.contents new view × StandsIn new.catalog known new.position view
     readied_stands law before view h shows version same s = (
       view,
       shows,

@@ -6,6 +6,7 @@ use Rattle.cs_normal.specs.Normal.{IsNormalChangeset}
 use Rattle.cs_log.specs.Entry.{entry_changes}
 use Rattle.cs_log.specs.declared.entry.LogEntry.{LogEntry}
 use Rattle.cs_store.specs.Contents.{Contents}
+use Rattle.cs_store.specs.declared.store.RowStore.{Ghosts}
 use Rattle.cs_conflict.specs.declared.clash.Clash.{Clash}
 use Rattle.cs_conflict.specs.declared.wish.Wish.{Wish}
 use Rattle.cs_pending.specs.Laws.{empty_view}
@@ -31,12 +32,12 @@ FreshStands =
     → StandsIn tables known position empty_view
 
 -- one that stands on what is known stands there as more gets known
-abbrev pub StandsWider : {S : Type 0} → (S → Type 0) → (S → Contents) → Type 0
-StandsWider {S} honest contents =
+abbrev pub StandsWider : {S : Type 0} → Ghosts S → Type 0
+StandsWider {S} g =
     (known all : List LogEntry) (held : Holding S)
     → Begins known all
-    → StandsWhereHonest honest contents known held
-    → StandsWhereHonest honest contents all held
+    → StandsWhereHonest g known held
+    → StandsWhereHonest g all held
 
 -- two replicas at one version with nothing pending or under way, which stand on lists that are the same up to there, have the same rows
 abbrev pub EqualWhereMet : Type 0

@@ -6,7 +6,7 @@ use Rattle.cs_normal.specs.State.{IsDefinedOn}
 use Rattle.cs_log.specs.Entry.{entry_changes}
 use Rattle.cs_log.specs.Log.{IsLog, catalog_at, tables_at}
 use Rattle.cs_log.specs.declared.entry.LogEntry.{LogEntry}
-use Rattle.cs_store.specs.Contents.{Contents}
+use Rattle.cs_store.specs.declared.store.RowStore.{Ghosts}
 use Rattle.cs_pending.specs.View.{View}
 use Rattle.cs_position.specs.declared.position.Position.{Position}
 use Rattle.cs_replica.specs.Holding.{Holding, Shows}
@@ -24,9 +24,9 @@ pub record StandsIn (tables : List TableDef) (known : List LogEntry) (position :
   pub stands : StandsOn known position view
 
 -- where the store is honest, it shows a replica that stands there
-abbrev pub StandsWhereHonest : {S : Type 0} → (S → Type 0) → (S → Contents) → List LogEntry → Holding S → Type 0
-StandsWhereHonest honest contents known held =
-    honest held.store → (view : View) × Shows contents held view × StandsIn held.catalog known held.position view
+abbrev pub StandsWhereHonest : {S : Type 0} → Ghosts S → List LogEntry → Holding S → Type 0
+StandsWhereHonest g known held =
+    g.honest held.store → (view : View) × Shows g.contents held view × StandsIn held.catalog known held.position view
 
 -- the entry at a version is not defined on the tables that those before it make
 pub record IsBadAt (tables : List TableDef) (known : List LogEntry) (version : _) : Type 0 where

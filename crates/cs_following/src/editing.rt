@@ -24,7 +24,7 @@ fn edit_any<S: RowStore>(
     replica: &mut Replica<S>,
     edit: &Edit,
 ) -> Result<(), EditFault>
-    ensures writes { WritesStore S.honest S.contents S.failed S.may_leave S.misreads Device (ShowsSomeAt replica.old.catalog replica.old.position (S.contents replica.old.store))
+    ensures writes { WritesStore S.RowStore Device (ShowsSomeAt replica.old.catalog replica.old.position (S.contents replica.old.store))
         (IsEditedIn replica.old.catalog replica.old.position (table_of_edit edit.now) (asked_of_edit edit.now) (S.contents replica.old.store)) replica.old.store replica.new.store result }
     ensures refused { S.honest replica.new.store → (view : View) → Shows S.contents replica.old view
         → IfErr result (λ fault. IsOfStore fault ⊎ (edit_of replica.old.catalog (table_of_edit edit.now) (asked_of_edit edit.now) view ≡ Err fault)) }
@@ -52,7 +52,7 @@ pub fn edit_row<S: RowStore>(
     edit: &Edit,
 ) -> Result<(), EditFault>
     // The edit is made, in one commit; at `Err` nothing has changed.
-    ensures writes { WritesStore S.honest S.contents S.failed S.may_leave S.misreads Device (ShowsSomeAt replica.old.catalog replica.old.position (S.contents replica.old.store))
+    ensures writes { WritesStore S.RowStore Device (ShowsSomeAt replica.old.catalog replica.old.position (S.contents replica.old.store))
         (IsEditedIn replica.old.catalog replica.old.position (table_of_edit edit.now) (asked_of_edit edit.now) (S.contents replica.old.store)) replica.old.store replica.new.store result }
 
     // What is told is the fault of the edit, or one of the store.
@@ -65,7 +65,7 @@ pub fn edit_row<S: RowStore>(
     ensures kept { OnErr result (replica.new.position ≡ replica.old.position) }
 
     // It stands where it stood.
-    ensures stands { (known : List Entry) → StandsWhereHonest S.honest S.contents known replica.old → StandsWhereHonest S.honest S.contents known replica.new }
+    ensures stands { (known : List Entry) → StandsWhereHonest S.RowStore known replica.old → StandsWhereHonest S.RowStore known replica.new }
 {
     cs_replica::laws::edit_stands();
     match edit_any(alloc, replica, edit) {

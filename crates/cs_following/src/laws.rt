@@ -15,7 +15,7 @@ pub fn fresh_stands()
 
 /// One that stands on what is known stands there as more gets known.
 pub fn stands_wider<S: RowStore>()
-    ensures { StandsWider S.honest S.contents }
+    ensures { StandsWider S.RowStore }
 {
     cs_replica::laws::stands_longer();
 }

@@ -44,7 +44,7 @@ pub fn pull_known<'s, S: RowStore, P: Picker>(
 
     // Each in a commit of its own. Those that were taken stay, however it ended: a stop then leaves what the store holds, or, at an
     // `Err`, that with the next entry taken too. Where nothing was written, it may also leave what it could before.
-    ensures writes { WritesInTurn S.honest S.contents S.failed S.may_leave S.misreads (IsOk result) (result ≡ Err Device)
+    ensures writes { WritesInTurn S.RowStore (IsOk result) (result ≡ Err Device)
         (ShowsSomeAt replica.old.catalog replica.old.position (S.contents replica.old.store))
         (IsPulledAmong P.picks replica.old.catalog pass.new.known replica.old.position (S.contents replica.old.store) picker.old)
         (IsNextKnown P.picks replica.old.catalog pass.new.known replica.new.position (S.contents replica.new.store)) replica.old.store replica.new.store }
@@ -55,8 +55,8 @@ pub fn pull_known<'s, S: RowStore, P: Picker>(
     ensures catalog { replica.new.catalog ≡ replica.old.catalog }
 
     // It stands on what is known, where it did; and an entry that is told to be bad isn't defined there.
-    ensures stands { StandsWhereHonest S.honest S.contents pass.old.known replica.old → StandsWhereHonest S.honest S.contents pass.new.known replica.new }
-    ensures bad { StandsWhereHonest S.honest S.contents pass.old.known replica.old → result ≡ Err BadEntry → S.honest replica.new.store
+    ensures stands { StandsWhereHonest S.RowStore pass.old.known replica.old → StandsWhereHonest S.RowStore pass.new.known replica.new }
+    ensures bad { StandsWhereHonest S.RowStore pass.old.known replica.old → result ≡ Err BadEntry → S.honest replica.new.store
         → IsBadAt replica.new.catalog pass.new.known replica.new.position.version }
 {
     crate::laws::stands_wider::<S>();

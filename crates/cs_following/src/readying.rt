@@ -40,7 +40,7 @@ pub(crate) fn flight_entry<S: RowStore>(
     ensures entry { IfOk result (λ entry. entry ≡ entry_of replica.now.position) }
 
     // It is defined on the tables at the version of what the replica stands on.
-    ensures defined { (known : List Entry) → StandsWhereHonest S.honest S.contents known replica.now → S.honest replica.now.store
+    ensures defined { (known : List Entry) → StandsWhereHonest S.RowStore known replica.now → S.honest replica.now.store
         → IfOk result (λ found. IfSome found (λ entry. IsDefinedOn replica.now.catalog (entry_changes entry) (tables_at known replica.now.position.version))) }
 {
     cs_replica::laws::flight_fits();
@@ -65,7 +65,7 @@ fn not_made(fault: PushFault) -> Result<bool, NodeFault>
 /// Makes what is pending the push that is under way, and says whether there was something.
 fn make_one<S: RowStore>(alloc: Global, replica: &mut Replica<S>) -> Result<bool, NodeFault>
     requires { replica.old.position.flight ≡ None }
-    ensures writes { WritesInTurn S.honest S.contents S.failed S.may_leave S.misreads (result ≡ Ok true) (result ≡ Err Device)
+    ensures writes { WritesInTurn S.RowStore (result ≡ Ok true) (result ≡ Err Device)
         (ShowsSomeAt replica.old.catalog replica.old.position (S.contents replica.old.store))
         (IsPushMadeIn replica.old.catalog replica.old.position (S.contents replica.old.store))
         (IsPushMadeIn replica.old.catalog replica.new.position (S.contents replica.new.store)) replica.old.store replica.new.store }
@@ -76,7 +76,7 @@ fn make_one<S: RowStore>(alloc: Global, replica: &mut Replica<S>) -> Result<bool
     ensures version { replica.new.position.version ≡ replica.old.position.version }
     ensures catalog { replica.new.catalog ≡ replica.old.catalog }
     ensures kept { OnErr result (replica.new.position ≡ replica.old.position) }
-    ensures stands { (known : List Entry) → StandsWhereHonest S.honest S.contents known replica.old → StandsWhereHonest S.honest S.contents known replica.new }
+    ensures stands { (known : List Entry) → StandsWhereHonest S.RowStore known replica.old → StandsWhereHonest S.RowStore known replica.new }
     ensures full { result ≢ Err Full }
 {
     cs_log::laws::one_body();
@@ -95,7 +95,7 @@ pub(crate) fn make_ready<S: RowStore>(
     alloc: Global,
     replica: &mut Replica<S>,
 ) -> Result<bool, NodeFault>
-    ensures writes { WritesInTurn S.honest S.contents S.failed S.may_leave S.misreads (result ≡ Ok true) (result ≡ Err Device)
+    ensures writes { WritesInTurn S.RowStore (result ≡ Ok true) (result ≡ Err Device)
         (ShowsSomeAt replica.old.catalog replica.old.position (S.contents replica.old.store))
         (IsPushMadeIn replica.old.catalog replica.old.position (S.contents replica.old.store))
         (IsPushMadeIn replica.old.catalog replica.new.position (S.contents replica.new.store)) replica.old.store replica.new.store }
@@ -106,7 +106,7 @@ pub(crate) fn make_ready<S: RowStore>(
     ensures version { replica.new.position.version ≡ replica.old.position.version }
     ensures catalog { replica.new.catalog ≡ replica.old.catalog }
     ensures kept { OnErr result (replica.new.position ≡ replica.old.position) }
-    ensures stands { (known : List Entry) → StandsWhereHonest S.honest S.contents known replica.old → StandsWhereHonest S.honest S.contents known replica.new }
+    ensures stands { (known : List Entry) → StandsWhereHonest S.RowStore known replica.old → StandsWhereHonest S.RowStore known replica.new }
     ensures full { result ≢ Err Full }
 {
     if replica.in_flight().is_some() {

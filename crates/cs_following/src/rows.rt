@@ -29,11 +29,11 @@ pub fn rows_of<S: RowStore>(
     ensures none { length replica.old.catalog ≤ table → IfOk result (λ rows. rows.items ≡ []) }
 
     // The store is only read, and the replica stays as it is.
-    ensures reads { ReadsStore S.honest S.contents S.failed S.may_leave S.misreads Device
+    ensures reads { ReadsStore S.RowStore Device
         (ShowsSomeAt replica.old.catalog replica.old.position (S.contents replica.old.store)) replica.old.store replica.new.store result }
     ensures catalog { replica.new.catalog ≡ replica.old.catalog }
     ensures kept { replica.new.position ≡ replica.old.position }
-    ensures stands { (known : List Entry) → StandsWhereHonest S.honest S.contents known replica.old → StandsWhereHonest S.honest S.contents known replica.new }
+    ensures stands { (known : List Entry) → StandsWhereHonest S.RowStore known replica.old → StandsWhereHonest S.RowStore known replica.new }
 {
     match replica.rows(alloc, table) {
         Ok(rows) => Ok(rows),

@@ -37,12 +37,12 @@ fn send<'s, S: RowStore, P: Picker>(
     ensures ready { P.is_ready picker.new }
 
     // What is told, what it has made of the replica, and what the pass knows then.
-    ensures pushed { S.honest replica.new.store → StandsWhereHonest S.honest S.contents pass.old.known replica.old
+    ensures pushed { S.honest replica.new.store → StandsWhereHonest S.RowStore pass.old.known replica.old
         → (before : View) → Shows S.contents replica.old before
         → PushesOn P.picks replica.old.catalog pass.old.known replica.old.position before picker.old spine.now.cap result pass.new.known replica.new.position (S.contents replica.new.store) picker.new }
 
     // The push, and what comes of it, are commits of their own.
-    ensures writes { WritesInTurn S.honest S.contents S.failed S.may_leave S.misreads (HasTaken result) (result ≡ Err Device)
+    ensures writes { WritesInTurn S.RowStore (HasTaken result) (result ≡ Err Device)
         (ShowsSomeAt replica.old.catalog replica.old.position (S.contents replica.old.store))
         (IsSentAmong P.picks replica.old.catalog replica.old.position (S.contents replica.old.store) picker.old)
         (IsSentNext P.picks replica.old.catalog pass.new.known replica.new.position (S.contents replica.new.store)) replica.old.store replica.new.store }
@@ -52,8 +52,8 @@ fn send<'s, S: RowStore, P: Picker>(
     ensures catalog { replica.new.catalog ≡ replica.old.catalog }
 
     // It stands on what is known, where it did; and an entry that is told to be bad isn't defined there.
-    ensures stands { StandsWhereHonest S.honest S.contents pass.old.known replica.old → StandsWhereHonest S.honest S.contents pass.new.known replica.new }
-    ensures bad { StandsWhereHonest S.honest S.contents pass.old.known replica.old → result ≡ Err BadEntry → S.honest replica.new.store
+    ensures stands { StandsWhereHonest S.RowStore pass.old.known replica.old → StandsWhereHonest S.RowStore pass.new.known replica.new }
+    ensures bad { StandsWhereHonest S.RowStore pass.old.known replica.old → result ≡ Err BadEntry → S.honest replica.new.store
         → IsBadAt replica.new.catalog pass.new.known replica.new.position.version }
 {
     cs_replica::laws::stands_longer();
@@ -110,14 +110,14 @@ pub fn push_known<'s, S: RowStore, P: Picker>(
     ensures ready { P.is_ready picker.new }
 
     // What is told, what it has made of the replica, and what the pass knows then.
-    ensures pushed { S.honest replica.new.store → StandsWhereHonest S.honest S.contents pass.old.known replica.old
+    ensures pushed { S.honest replica.new.store → StandsWhereHonest S.RowStore pass.old.known replica.old
         → (before : View) → Shows S.contents replica.old before
         → PushesOn P.picks replica.old.catalog pass.old.known replica.old.position before picker.old spine.now.cap result pass.new.known replica.new.position (S.contents replica.new.store) picker.new }
 
     // The push, and what comes of it, are commits of their own. What was made stays, however it ended, at `Full` too: a stop then
     // leaves what the store holds, or, where no entry was taken, that with one commit more, which makes the push or takes the entry at
     // the version. Where nothing was written, it may also leave what it could before.
-    ensures writes { WritesInTurn S.honest S.contents S.failed S.may_leave S.misreads (HasTaken result) (result ≡ Err Device)
+    ensures writes { WritesInTurn S.RowStore (HasTaken result) (result ≡ Err Device)
         (ShowsSomeAt replica.old.catalog replica.old.position (S.contents replica.old.store))
         (IsSentAmong P.picks replica.old.catalog replica.old.position (S.contents replica.old.store) picker.old)
         (IsSentNext P.picks replica.old.catalog pass.new.known replica.new.position (S.contents replica.new.store)) replica.old.store replica.new.store }
@@ -132,8 +132,8 @@ pub fn push_known<'s, S: RowStore, P: Picker>(
     ensures catalog { replica.new.catalog ≡ replica.old.catalog }
 
     // It stands on what is known, where it did; and an entry that is told to be bad isn't defined there.
-    ensures stands { StandsWhereHonest S.honest S.contents pass.old.known replica.old → StandsWhereHonest S.honest S.contents pass.new.known replica.new }
-    ensures bad { StandsWhereHonest S.honest S.contents pass.old.known replica.old → result ≡ Err BadEntry → S.honest replica.new.store
+    ensures stands { StandsWhereHonest S.RowStore pass.old.known replica.old → StandsWhereHonest S.RowStore pass.new.known replica.new }
+    ensures bad { StandsWhereHonest S.RowStore pass.old.known replica.old → result ≡ Err BadEntry → S.honest replica.new.store
         → IsBadAt replica.new.catalog pass.new.known replica.new.position.version }
 {
     if is_at_rest(replica) {

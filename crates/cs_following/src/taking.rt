@@ -42,7 +42,7 @@ pub(crate) fn take_next<S: RowStore, P: Picker>(
 ) -> Result<(), NodeFault>
     requires ready { P.is_ready picker.old }
     ensures ready { P.is_ready picker.new }
-    ensures writes { WritesStore S.honest S.contents S.failed S.may_leave S.misreads Device (ShowsSomeAt replica.old.catalog replica.old.position (S.contents replica.old.store))
+    ensures writes { WritesStore S.RowStore Device (ShowsSomeAt replica.old.catalog replica.old.position (S.contents replica.old.store))
         (IsPulledIn P.picks replica.old.catalog replica.old.position entry.now picker.old picker.new (S.contents replica.old.store)) replica.old.store replica.new.store result }
     ensures moved { OnOk result (replica.new.position ≡ taken replica.old.position replica.new.position.pending) }
     ensures counted { S.honest replica.new.store → ShowsSomeAt replica.old.catalog replica.old.position (S.contents replica.old.store)
@@ -71,7 +71,7 @@ pub(crate) fn take_standing<S: RowStore, P: Picker>(
 ) -> Result<(), NodeFault>
     requires ready { P.is_ready picker.old }
     ensures ready { P.is_ready picker.new }
-    ensures writes { WritesStore S.honest S.contents S.failed S.may_leave S.misreads Device (ShowsSomeAt replica.old.catalog replica.old.position (S.contents replica.old.store))
+    ensures writes { WritesStore S.RowStore Device (ShowsSomeAt replica.old.catalog replica.old.position (S.contents replica.old.store))
         (IsPulledIn P.picks replica.old.catalog replica.old.position entry.now picker.old picker.new (S.contents replica.old.store)) replica.old.store replica.new.store result }
     ensures moved { OnOk result (replica.new.position ≡ taken replica.old.position replica.new.position.pending) }
     ensures counted { S.honest replica.new.store → ShowsSomeAt replica.old.catalog replica.old.position (S.contents replica.old.store)
@@ -84,11 +84,11 @@ pub(crate) fn take_standing<S: RowStore, P: Picker>(
 
     // Where the entry is the one that is known at its version, it stands on what is known.
     ensures stands { (known : List Entry) → slice_get known replica.old.position.version ≡ Some entry.now
-        → StandsWhereHonest S.honest S.contents known replica.old → StandsWhereHonest S.honest S.contents known replica.new }
+        → StandsWhereHonest S.RowStore known replica.old → StandsWhereHonest S.RowStore known replica.new }
 
     // An entry that is told to be bad isn't defined on the tables there.
     ensures bad { (known : List Entry) → slice_get known replica.old.position.version ≡ Some entry.now → length known < 2 ^ 64
-        → StandsWhereHonest S.honest S.contents known replica.old → result ≡ Err BadEntry → S.honest replica.new.store
+        → StandsWhereHonest S.RowStore known replica.old → result ≡ Err BadEntry → S.honest replica.new.store
         → IsBadAt replica.new.catalog known replica.new.position.version }
 {
     cs_pulling::laws::pulled_leads(&*picker);
@@ -123,7 +123,7 @@ pub(crate) fn take_known<S: RowStore, P: Picker>(
         → PullsAll P.picks replica.old.catalog pass.now.known result replica.old.position before picker.old replica.new.position (S.contents replica.new.store) picker.new }
 
     // Each in a commit of its own.
-    ensures writes { WritesInTurn S.honest S.contents S.failed S.may_leave S.misreads (IsOk result) (result ≡ Err Device)
+    ensures writes { WritesInTurn S.RowStore (IsOk result) (result ≡ Err Device)
         (ShowsSomeAt replica.old.catalog replica.old.position (S.contents replica.old.store))
         (IsPulledAmong P.picks replica.old.catalog pass.now.known replica.old.position (S.contents replica.old.store) picker.old)
         (IsNextKnown P.picks replica.old.catalog pass.now.known replica.new.position (S.contents replica.new.store)) replica.old.store replica.new.store }
@@ -134,8 +134,8 @@ pub(crate) fn take_known<S: RowStore, P: Picker>(
     ensures catalog { replica.new.catalog ≡ replica.old.catalog }
 
     // It stands on what is known, where it did; and an entry that is told to be bad isn't defined there.
-    ensures stands { StandsWhereHonest S.honest S.contents pass.now.known replica.old → StandsWhereHonest S.honest S.contents pass.now.known replica.new }
-    ensures bad { StandsWhereHonest S.honest S.contents pass.now.known replica.old → result ≡ Err BadEntry → S.honest replica.new.store
+    ensures stands { StandsWhereHonest S.RowStore pass.now.known replica.old → StandsWhereHonest S.RowStore pass.now.known replica.new }
+    ensures bad { StandsWhereHonest S.RowStore pass.now.known replica.old → result ≡ Err BadEntry → S.honest replica.new.store
         → IsBadAt replica.new.catalog pass.now.known replica.new.position.version }
 {
     let first = replica.version() as usize;

@@ -7,6 +7,7 @@ use Rattle.cs_value.specs.declared.catalog.TableDef.{TableDef}
 use Rattle.cs_log.specs.declared.entry.LogEntry.{LogEntry}
 use Rattle.cs_store.specs.Calls.{MoreFailures}
 use Rattle.cs_store.specs.Contents.{Contents}
+use Rattle.cs_store.specs.declared.store.RowStore.{Ghosts}
 use Rattle.cs_log_store.specs.Shows.{ShowsLog}
 use Rattle.cs_judging.specs.Hub.{entries_from}
 use Rattle.cs_judging.specs.Judged.{ShowsLogOf}
@@ -95,14 +96,14 @@ served_in limit opening request asked old left reads is log shows =
 pub read_as : (bytes : List ℕ) (read same : Request) → read ≡ same → FitsRequest (asked_by read) × (bytes ≡ request_spelling (asked_by read)) → ReadsRequest bytes (Ok (asked_by same))
 read_as bytes read same is found = subst (λ (r : Request). ReadsRequest bytes (Ok (asked_by r))) is found
 
-module _ {S : Type 0} (honest : S → Type 0) (contents : S → Contents) (failed : S → ℕ) (may_leave : S → Contents → Type 0) (misreads : S → ℕ) (old new : Holding S) (catalog : new.catalog ≡ old.catalog) (served : Contents → Type 0) where
+module _ {S : Type 0} (g : Ghosts S) (old new : Holding S) (catalog : new.catalog ≡ old.catalog) (served : Contents → Type 0) where
   abbrev Stores : {E : Type 0} → Result (Vec ℕ Global) E → Type 0
-  Stores result = ServesStore honest contents failed may_leave misreads old.catalog (ShowsLogOf old.catalog old.newest (contents old.store)) served old.store new.store result
+  Stores result = ServesStore g old.catalog (ShowsLogOf old.catalog old.newest (g.contents old.store)) served old.store new.store result
 
   pub answers : {E : Type 0} (limit : ℕ) (request : List ℕ) (asked : Result Asked WireFault) (result : Result (Vec ℕ Global) E) → ReadsRequest request asked → Stores result
-      → (honest new.store → (log : List LogEntry) → ShowsLog old.catalog (contents old.store) log → old.newest ≡ length log
-      → IfOk result (λ bytes. IsAnsweredOf (MoreFailures (failed old.store) (failed new.store)) limit old.catalog log asked bytes.items (contents new.store) new.newest))
-      → IfOk result (λ answer. AnswersHub honest contents failed may_leave misreads limit old request answer.items new)
+      → (g.honest new.store → (log : List LogEntry) → ShowsLog old.catalog (g.contents old.store) log → old.newest ≡ length log
+      → IfOk result (λ bytes. IsAnsweredOf (MoreFailures (g.failed old.store) (g.failed new.store)) limit old.catalog log asked bytes.items (g.contents new.store) new.newest))
+      → IfOk result (λ answer. AnswersHub g limit old request answer.items new)
   answers limit request asked (Err want) reads stores told = tt
   answers limit request asked (Ok answer) reads stores told = record {
     was_honest = stores.was_honest;
@@ -111,12 +112,12 @@ module _ {S : Type 0} (honest : S → Type 0) (contents : S → Contents) (faile
         let is = told h log shows.0 shows.1 in (
           is.0,
           elim is.1 [ inl right ↦ inl (asked, reads, right) | inr broken ↦ inr broken ],
-          (subst (λ (t : List TableDef). ShowsLog t (contents new.store) is.0) (sym catalog) is.2.0, is.2.1),
+          (subst (λ (t : List TableDef). ShowsLog t (g.contents new.store) is.0) (sym catalog) is.2.0, is.2.1),
         );
     as_read = λ h log shows. stores.as_read h (log, shows.0, shows.1);
   }
 
-  pub stays : {E : Type 0} (result : Result (Vec ℕ Global) E) → Stores result → OnErr result (new.newest ≡ old.newest) → OnErr result (StaysHub honest contents failed may_leave misreads old new)
+  pub stays : {E : Type 0} (result : Result (Vec ℕ Global) E) → Stores result → OnErr result (new.newest ≡ old.newest) → OnErr result (StaysHub g old new)
   stays (Ok answer) stores newest = tt
   stays (Err want) stores newest = record {
     was_honest = stores.was_honest;

@@ -17,6 +17,7 @@ use Rattle.cs_normal.specs.declared.normal.TableChanges.{TableChanges}
 use Rattle.cs_normalising.specs.declared.unfit.Unfit.{Unfit}
 use Rattle.cs_store.specs.Contents.{Contents}
 use Rattle.cs_store.specs.declared.batch.Batch.{Batch}
+use Rattle.cs_store.specs.declared.store.RowStore.{Ghosts}
 use Rattle.cs_pending.specs.Calls.{ReadsStore}
 use Rattle.cs_pending.specs.Storing.{err_is}
 use Rattle.cs_log_store.specs.Shows.{ShowsLog}
@@ -160,8 +161,8 @@ module _ (device_failed : Type 0) (limit : ℕ) (opening : List TableDef) (log :
 
 -- ---- the store
 
-module _ {S : Type 0} (honest : S → Type 0) (contents : S → Contents) (failed : S → ℕ) (may_leave : S → Contents → Type 0) (misreads : S → ℕ) where
-  pub looked : {T E : Type 0} (device : E) (inner outer : Type 0) (old new : S) (result : Result T E) → (outer → inner) → ReadsStore honest contents failed may_leave misreads device inner old new result → LooksAt honest contents failed may_leave misreads outer old new
+module _ {S : Type 0} (g : Ghosts S) where
+  pub looked : {T E : Type 0} (device : E) (inner outer : Type 0) (old new : S) (result : Result T E) → (outer → inner) → ReadsStore g device inner old new result → LooksAt g outer old new
   looked device inner outer old new result on reads = record {
     was_honest = reads.was_honest;
     same = reads.same;
@@ -170,7 +171,7 @@ module _ {S : Type 0} (honest : S → Type 0) (contents : S → Contents) (faile
     as_read = λ h r. reads.as_read h (on r);
   }
 
-  pub not_looked : (readable : Type 0) (store : S) → LooksAt honest contents failed may_leave misreads readable store store
+  pub not_looked : (readable : Type 0) (store : S) → LooksAt g readable store store
   not_looked readable store = record {
     was_honest = λ h. h;
     same = λ h. refl;
@@ -179,8 +180,8 @@ module _ {S : Type 0} (honest : S → Type 0) (contents : S → Contents) (faile
     as_read = λ h r. refl;
   }
 
-  pub reads_hub : (old new : Holding S) → new.catalog ≡ old.catalog → new.newest ≡ old.newest → LooksAt honest contents failed may_leave misreads (ShowsLogOf old.catalog old.newest (contents old.store)) old.store new.store
-      → ReadsHub honest contents failed may_leave misreads old new
+  pub reads_hub : (old new : Holding S) → new.catalog ≡ old.catalog → new.newest ≡ old.newest → LooksAt g (ShowsLogOf old.catalog old.newest (g.contents old.store)) old.store new.store
+      → ReadsHub g old new
   reads_hub old new catalog newest looks = record {
     catalog = catalog;
     newest = newest;
@@ -192,8 +193,8 @@ module _ {S : Type 0} (honest : S → Type 0) (contents : S → Contents) (faile
   }
 
   -- the device's failure alone is told as the device's
-  pub judged_read : {T U : Type 0} (readable : Type 0) (old new : S) (fault : HubFault) (told : Refusal) → told ≡ refusal_of_hub fault → ReadsStore honest contents failed may_leave misreads {T = T} hub.Device readable old new (Err fault)
-      → ReadsStore honest contents failed may_leave misreads {T = U} (ByHub hub.Device) readable old new (Err told)
+  pub judged_read : {T U : Type 0} (readable : Type 0) (old new : S) (fault : HubFault) (told : Refusal) → told ≡ refusal_of_hub fault → ReadsStore g {T = T} hub.Device readable old new (Err fault)
+      → ReadsStore g {T = U} (ByHub hub.Device) readable old new (Err told)
   judged_read readable old new fault told is reads = record {
     was_honest = reads.was_honest;
     same = reads.same;

@@ -5,6 +5,7 @@ use Rattle.std.specs.Prelude.{OnErr}
 use Rattle.cs_value.specs.declared.catalog.TableDef.{TableDef}
 use Rattle.cs_normal.specs.declared.normal.TableChanges.{TableChanges}
 use Rattle.cs_store.specs.Contents.{Contents}
+use Rattle.cs_store.specs.declared.store.RowStore.{Ghosts}
 use Rattle.cs_pending.specs.Calls.{ReadsStore, WritesStore}
 use Rattle.cs_pending.specs.Storing.{err_is, no_call, then_not_written, then_written}
 use Rattle.cs_log_store.specs.Shows.{ShowsLog}
@@ -72,36 +73,36 @@ pub tells_of : (head : PushHead) (pushed : Pushed) → answer_spelling (push_ans
 tells_of head (pushed.Accepted version) = λ e. (let t : ◌≡◌ {A = ℕ} 17 19 = same_tag 17 19 _ _ e in omega (arith, t))
 tells_of head (pushed.Stale newest) = λ e. (let t : ◌≡◌ {A = ℕ} 18 19 = same_tag 18 19 _ _ e in omega (arith, t))
 
-module _ {S : Type 0} (honest : S → Type 0) (contents : S → Contents) (failed : S → ℕ) (may_leave : S → Contents → Type 0) (misreads : S → ℕ) where
+module _ {S : Type 0} (g : Ghosts S) where
   -- ---- a push that was judged
 
   module _ (limit : ℕ) (opening : List TableDef) (count : ℕ) (head : PushHead) (bytes : List ℕ) (changes : List TableChanges) (has : HasForm opening bytes changes) (readable : Type 0) (old new : S) where
     abbrev Appended : Contents → Type 0
-    Appended = IsSameOrAppended limit opening count (push_of head changes) (contents old)
+    Appended = IsSameOrAppended limit opening count (push_of head changes) (g.contents old)
 
     abbrev Taken : Contents → Type 0
-    Taken = IsPushTakenIn limit opening count head bytes (contents old)
+    Taken = IsPushTakenIn limit opening count head bytes (g.contents old)
 
-    pub taken_so : (pushed : Pushed) → WritesStore honest contents failed may_leave misreads hub.Device readable Appended old new (Ok pushed)
-        → WritesStore honest contents failed may_leave misreads (ByHub hub.Device) readable Taken old new (Ok pushed)
+    pub taken_so : (pushed : Pushed) → WritesStore g hub.Device readable Appended old new (Ok pushed)
+        → WritesStore g (ByHub hub.Device) readable Taken old new (Ok pushed)
     taken_so pushed writes =
-        then_written honest contents failed may_leave misreads Appended Taken readable readable readable old old new (λ r. r) (λ h r. r)
-        (λ h c is. taken_in limit opening count head bytes changes (contents old) c has is) (no_call honest contents failed may_leave misreads readable old) hub.Device (ByHub hub.Device) pushed pushed writes
+        then_written g Appended Taken readable readable readable old old new (λ r. r) (λ h r. r)
+        (λ h c is. taken_in limit opening count head bytes changes (g.contents old) c has is) (no_call g readable old) hub.Device (ByHub hub.Device) pushed pushed writes
 
-    pub refused_so : (fault : HubFault) (told : Refusal) → told ≡ refusal_of_hub fault → WritesStore honest contents failed may_leave misreads {T = Pushed} hub.Device readable Appended old new (Err fault)
-        → WritesStore honest contents failed may_leave misreads {T = Pushed} (ByHub hub.Device) readable Taken old new (Err told)
+    pub refused_so : (fault : HubFault) (told : Refusal) → told ≡ refusal_of_hub fault → WritesStore g {T = Pushed} hub.Device readable Appended old new (Err fault)
+        → WritesStore g {T = Pushed} (ByHub hub.Device) readable Taken old new (Err told)
     refused_so fault told is writes =
-        then_not_written honest contents failed may_leave misreads Appended Taken readable readable readable old old new (λ r. r) (λ h r. r)
-        (λ h c i. taken_in limit opening count head bytes changes (contents old) c has i) (no_call honest contents failed may_leave misreads readable old) {T = Pushed} hub.Device fault (ByHub hub.Device) told (λ e. device_of_hub fault (sym is ∙ e)) writes
+        then_not_written g Appended Taken readable readable readable old old new (λ r. r) (λ h r. r)
+        (λ h c i. taken_in limit opening count head bytes changes (g.contents old) c has i) (no_call g readable old) {T = Pushed} hub.Device fault (ByHub hub.Device) told (λ e. device_of_hub fault (sym is ∙ e)) writes
 
   -- ---- a request that was served
 
   module _ (opening : List TableDef) (readable : Type 0) (served : Contents → Type 0) (old new : S) where
     abbrev Serve : {E : Type 0} → Result (Vec ℕ Global) E → Type 0
-    Serve result = ServesStore honest contents failed may_leave misreads opening readable served old new result
+    Serve result = ServesStore g opening readable served old new result
 
     -- the store was only read, whatever is told of it
-    pub served_read : {T E F : Type 0} (device : E) (read : Result T E) (inner : Type 0) (result : Result (Vec ℕ Global) F) → (readable → inner) → ReadsStore honest contents failed may_leave misreads device inner old new read → Serve result
+    pub served_read : {T E F : Type 0} (device : E) (read : Result T E) (inner : Type 0) (result : Result (Vec ℕ Global) F) → (readable → inner) → ReadsStore g device inner old new read → Serve result
     served_read device read inner result on reads = record {
       was_honest = reads.was_honest;
       grown = λ h. inl (reads.same h);
@@ -113,7 +114,7 @@ module _ {S : Type 0} (honest : S → Type 0) (contents : S → Contents) (faile
     }
 
     -- more is said of contents in which it was served
-    pub served_as : {E : Type 0} (others : Contents → Type 0) (result : Result (Vec ℕ Global) E) → ((c : Contents) → served c → others c) → Serve result → ServesStore honest contents failed may_leave misreads opening readable others old new result
+    pub served_as : {E : Type 0} (others : Contents → Type 0) (result : Result (Vec ℕ Global) E) → ((c : Contents) → served c → others c) → Serve result → ServesStore g opening readable others old new result
     served_as others result on serves = record {
       was_honest = serves.was_honest;
       grown = serves.grown;
@@ -128,16 +129,16 @@ module _ {S : Type 0} (honest : S → Type 0) (contents : S → Contents) (faile
 
   module _ (limit : ℕ) (opening : List TableDef) (count : ℕ) (head : PushHead) (bytes : List ℕ) (old new : S) where
     abbrev Shown : Type 0
-    Shown = ShowsLogOf opening count (contents old)
+    Shown = ShowsLogOf opening count (g.contents old)
 
     abbrev Asked : Contents → Type 0
-    Asked = IsAskedIn limit opening (Ok (AsksPush head bytes)) (contents old)
+    Asked = IsAskedIn limit opening (Ok (AsksPush head bytes)) (g.contents old)
 
     abbrev Takes : Outcome → Type 0
-    Takes outcome = WritesStore honest contents failed may_leave misreads (ByHub hub.Device) Shown (IsPushTakenIn limit opening count head bytes (contents old)) old new outcome
+    Takes outcome = WritesStore g (ByHub hub.Device) Shown (IsPushTakenIn limit opening count head bytes (g.contents old)) old new outcome
 
     abbrev Tells : {E : Type 0} → Result (Vec ℕ Global) E → Type 0
-    Tells result = ServesStore honest contents failed may_leave misreads opening Shown Asked old new result
+    Tells result = ServesStore g opening Shown Asked old new result
 
     -- want of memory is told
     pub not_served : {E : Type 0} (fault : Refusal) (want : E) → Takes (Err fault) → Tells (Err want)
@@ -153,7 +154,7 @@ module _ {S : Type 0} (honest : S → Type 0) (contents : S → Contents) (faile
 
     -- what became of a push is told
     pub served_push : {E : Type 0} (outcome : Outcome) (answer : Vec ℕ Global) → outcome ≢ Err Memory → answer.items ≡ answer_spelling (push_answer head outcome) → Takes outcome
-        → (honest new → outcome ≢ Err Memory → outcome ≢ Err (ByHub hub.Device) → OnErr outcome ((left : Contents) → may_leave new left → may_leave old left)) → Tells {E = E} (Ok answer)
+        → (g.honest new → outcome ≢ Err Memory → outcome ≢ Err (ByHub hub.Device) → OnErr outcome ((left : Contents) → g.may_leave new left → g.may_leave old left)) → Tells {E = E} (Ok answer)
     served_push (Ok pushed) answer some is writes unwritten = record {
       was_honest = writes.was_honest;
       grown = λ h. (writes.ok h).0;
@@ -175,8 +176,8 @@ module _ {S : Type 0} (honest : S → Type 0) (contents : S → Contents) (faile
     }
 
   -- the same reads, where more is asked of what is read
-  pub read_when : {T E : Type 0} (device : E) (inner outer : Type 0) (old new : S) (result : Result T E) → (outer → inner) → ReadsStore honest contents failed may_leave misreads device inner old new result
-      → ReadsStore honest contents failed may_leave misreads device outer old new result
+  pub read_when : {T E : Type 0} (device : E) (inner outer : Type 0) (old new : S) (result : Result T E) → (outer → inner) → ReadsStore g device inner old new result
+      → ReadsStore g device outer old new result
   read_when device inner outer old new result on reads = record {
     was_honest = reads.was_honest;
     same = reads.same;
@@ -189,7 +190,7 @@ module _ {S : Type 0} (honest : S → Type 0) (contents : S → Contents) (faile
 
   -- nothing was asked of the store
   pub served_none : {E : Type 0} (opening : List TableDef) (readable : Type 0) (served : Contents → Type 0) (store : S) (result : Result (Vec ℕ Global) E)
-      → ServesStore honest contents failed may_leave misreads opening readable served store store result
+      → ServesStore g opening readable served store store result
   served_none opening readable served store result = record {
     was_honest = λ h. h;
     grown = λ h. inl refl;

@@ -5,6 +5,7 @@ use Rattle.cs_value.specs.declared.catalog.TableDef.{TableDef}
 use Rattle.cs_log.specs.declared.entry.LogEntry.{LogEntry}
 use Rattle.cs_store.specs.Calls.{MoreFailures}
 use Rattle.cs_store.specs.Contents.{Contents}
+use Rattle.cs_store.specs.declared.store.RowStore.{Ghosts}
 use Rattle.cs_appending.specs.Appended.{IsAppendedIn}
 use Rattle.cs_judging.specs.Judged.{hub_of}
 use Rattle.cs_judging.specs.declared.fault.HubFault.{HubFault}
@@ -38,37 +39,37 @@ IsNotServed (Ok answer) = answer.items ≡ refused (ByHub Device)
 IsNotServed (Err fault) = Unit {0}
 
 -- `readable` says that what is read there is what its places say
-module _ {S : Type 0} (honest : S → Type 0) (contents : S → Contents) (failed : S → ℕ) (may_leave : S → Contents → Type 0) (misreads : S → ℕ) where
+module _ {S : Type 0} (g : Ghosts S) where
   -- a request was served, whatever was told: the store was only read, or one entry was appended, in one commit; `served` is what is said of
   -- contents in which the request was served
   pub record ServesStore {E : Type 0} (opening : List TableDef) (readable : Type 0) (served : Contents → Type 0) (old new : S) (result : Result (Vec ℕ Global) E) : Type 0 where
-    pub was_honest : honest new → honest old
-    pub grown : honest new → IsSameOrGrown opening (contents old) (contents new)
+    pub was_honest : g.honest new → g.honest old
+    pub grown : g.honest new → IsSameOrGrown opening (g.contents old) (g.contents new)
     -- where it wasn't served nothing has changed
-    pub err : honest new → IsNotServed result → contents new ≡ contents old
+    pub err : g.honest new → IsNotServed result → g.contents new ≡ g.contents old
     -- where it was, a stop leaves what the store holds, alone, where anything was written
-    pub durable : honest new → (IsNotServed result → ⊥) → (left : Contents) → may_leave new left
-        → (left ≡ contents new) ⊎ (may_leave old left × (contents new ≡ contents old))
+    pub durable : g.honest new → (IsNotServed result → ⊥) → (left : Contents) → g.may_leave new left
+        → (left ≡ g.contents new) ⊎ (g.may_leave old left × (g.contents new ≡ g.contents old))
     -- in any case a stop leaves what it could leave before, or one entry more: of a store that shows a log, that with which this request was served
-    pub crash : honest new → (left : Contents) → may_leave new left
-        → may_leave old left ⊎ (IsSameOrGrown opening (contents old) left × (readable → served left))
-    pub later : failed old ≤ failed new
+    pub crash : g.honest new → (left : Contents) → g.may_leave new left
+        → g.may_leave old left ⊎ (IsSameOrGrown opening (g.contents old) left × (readable → served left))
+    pub later : g.failed old ≤ g.failed new
     -- nothing that can be read is told to be no such thing
-    pub as_read : honest new → readable → misreads new ≡ misreads old
+    pub as_read : g.honest new → readable → g.misreads new ≡ g.misreads old
 
   -- the hub answered a request: by the log that its store showed, and the store shows the log after it
   pub record AnswersHub (limit : ℕ) (old : Holding S) (request answer : List ℕ) (new : Holding S) : Type 0 where
-    pub was_honest : honest new.store → honest old.store
+    pub was_honest : g.honest new.store → g.honest old.store
     pub catalog : new.catalog ≡ old.catalog
-    pub answered : honest new.store → (log : List LogEntry) → Shows contents old log
-        → (next : List LogEntry) × ServesIf (MoreFailures (failed old.store) (failed new.store)) limit (hub_of old.catalog log) request answer (hub_of old.catalog next)
-        × Shows contents new next
-    pub as_read : honest new.store → (log : List LogEntry) → Shows contents old log → misreads new.store ≡ misreads old.store
+    pub answered : g.honest new.store → (log : List LogEntry) → Shows g.contents old log
+        → (next : List LogEntry) × ServesIf (MoreFailures (g.failed old.store) (g.failed new.store)) limit (hub_of old.catalog log) request answer (hub_of old.catalog next)
+        × Shows g.contents new next
+    pub as_read : g.honest new.store → (log : List LogEntry) → Shows g.contents old log → g.misreads new.store ≡ g.misreads old.store
 
   -- memory was refused, and the hub is as it was
   pub record StaysHub (old new : Holding S) : Type 0 where
-    pub was_honest : honest new.store → honest old.store
+    pub was_honest : g.honest new.store → g.honest old.store
     pub catalog : new.catalog ≡ old.catalog
     pub newest : new.newest ≡ old.newest
-    pub same : honest new.store → contents new.store ≡ contents old.store
-    pub as_read : honest new.store → (log : List LogEntry) → Shows contents old log → misreads new.store ≡ misreads old.store
+    pub same : g.honest new.store → g.contents new.store ≡ g.contents old.store
+    pub as_read : g.honest new.store → (log : List LogEntry) → Shows g.contents old log → g.misreads new.store ≡ g.misreads old.store

@@ -3,6 +3,7 @@ use Rattle.std.specs.Prelude.{◌≡◌, ◌<◌, ◌≤◌, ℕ, List, ◌∷�
 use Rattle.cs_value.specs.declared.catalog.TableDef.{TableDef}
 use Rattle.cs_log.specs.declared.entry.LogEntry.{LogEntry}
 use Rattle.cs_store.specs.Contents.{Contents}
+use Rattle.cs_store.specs.declared.store.RowStore.{Ghosts}
 use Rattle.cs_appending.specs.Appended.{AppendsEntry}
 use Rattle.cs_judging.specs.Judged.{hub_of}
 use Rattle.cs_hub.specs.Follows.{FitsBehind}
@@ -30,13 +31,13 @@ AppendsJudged opening contents (Reply answer) = Unit {0}
 AppendsJudged opening contents (Append entry batch reply) = AppendsEntry opening entry contents batch
 
 -- the hub's store was only read, whatever was told, and the hub is as it was
-pub record ReadsHub {S : Type 0} (honest : S → Type 0) (contents : S → Contents) (failed : S → ℕ) (may_leave : S → Contents → Type 0) (misreads : S → ℕ) (old new : Holding S) : Type 0 where
+pub record ReadsHub {S : Type 0} (g : Ghosts S) (old new : Holding S) : Type 0 where
   pub catalog : new.catalog ≡ old.catalog
   pub newest : new.newest ≡ old.newest
-  pub was_honest : honest new.store → honest old.store
-  pub same : honest new.store → contents new.store ≡ contents old.store
+  pub was_honest : g.honest new.store → g.honest old.store
+  pub same : g.honest new.store → g.contents new.store ≡ g.contents old.store
   -- a stop now leaves nothing that it could not leave before
-  pub crash : honest new.store → (left : Contents) → may_leave new.store left → may_leave old.store left
-  pub later : failed old.store ≤ failed new.store
+  pub crash : g.honest new.store → (left : Contents) → g.may_leave new.store left → g.may_leave old.store left
+  pub later : g.failed old.store ≤ g.failed new.store
   -- nothing that can be read is told to be no such thing
-  pub as_read : honest new.store → (log : List LogEntry) → Shows contents old log → misreads new.store ≡ misreads old.store
+  pub as_read : g.honest new.store → (log : List LogEntry) → Shows g.contents old log → g.misreads new.store ≡ g.misreads old.store

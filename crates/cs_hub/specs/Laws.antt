@@ -7,6 +7,7 @@ use Rattle.cs_lines.specs.Laws.{AreInMemory}
 use Rattle.cs_lines.specs.Served.{AnswersAll}
 use Rattle.cs_log.specs.declared.entry.LogEntry.{LogEntry}
 use Rattle.cs_store.specs.Contents.{Contents, nothing}
+use Rattle.cs_store.specs.declared.store.RowStore.{Ghosts}
 use Rattle.cs_log_store.specs.Shows.{ShowsLog}
 use Rattle.cs_log_opening.specs.Opens.{IsHubAt}
 use Rattle.cs_judging.specs.Hub.{HubState, fresh}
@@ -74,13 +75,13 @@ RequestHasAnswer =
 
 -- lines that are answered over a store that never fails, but where what it gives was misread, are answered by the log that the store
 -- showed, and the store shows the log after them
-abbrev pub RunsByLog : {S : Type 0} → (S → Type 0) → (S → Contents) → (S → ℕ) → (S → Contents → Type 0) → (S → ℕ) → Type 0
-RunsByLog {S} honest contents failed may_leave misreads =
+abbrev pub RunsByLog : {S : Type 0} → Ghosts S → Type 0
+RunsByLog {S} g =
     (limit : ℕ) (old new : Holding S) (log : List LogEntry) (lines answers : List (List ℕ))
-    → ((store : S) → failed store ≡ misreads store)
-    → failed old.store < 2 ^ 64 - 1
-    → honest new.store
-    → Shows contents old log
-    → AnswersAll (AnswersHub honest contents failed may_leave misreads limit) (StaysHub honest contents failed may_leave misreads) old lines answers new
+    → ((store : S) → g.failed store ≡ g.misreads store)
+    → g.failed old.store < 2 ^ 64 - 1
+    → g.honest new.store
+    → Shows g.contents old log
+    → AnswersAll (AnswersHub g limit) (StaysHub g) old lines answers new
     → (end : List LogEntry) × AnswersAll (Serves limit) IsSame (hub_of old.catalog log) lines answers (hub_of old.catalog end)
-    × Shows contents new end
+    × Shows g.contents new end

@@ -4,6 +4,7 @@ use Rattle.cs_value.specs.declared.catalog.TableDef.{TableDef}
 use Rattle.cs_log.specs.Stored.{IsEntryOf}
 use Rattle.cs_log.specs.declared.entry.LogEntry.{LogEntry}
 use Rattle.cs_store.specs.Contents.{Contents}
+use Rattle.cs_store.specs.declared.store.RowStore.{Ghosts}
 use Rattle.cs_log_store.specs.Shows.{ShowsLog}
 use Rattle.cs_judging.specs.Hub.{HubState, with_entry}
 use Rattle.cs_judging.specs.Judged.{ShowsLogOf, hub_of}
@@ -88,9 +89,9 @@ IsJudgedAs device_failed limit opening log asked (Append entry batch reply) =
     FitsBehind opening log entry × AnswersAsked limit (hub_of opening log) asked reply.items (with_entry (hub_of opening log) entry)
 
 -- a store was only read, whatever was told
-pub record LooksAt {S : Type 0} (honest : S → Type 0) (contents : S → Contents) (failed : S → ℕ) (may_leave : S → Contents → Type 0) (misreads : S → ℕ) (readable : Type 0) (old new : S) : Type 0 where
-  pub was_honest : honest new → honest old
-  pub same : honest new → contents new ≡ contents old
-  pub crash : honest new → (left : Contents) → may_leave new left → may_leave old left
-  pub later : failed old ≤ failed new
-  pub as_read : honest new → readable → misreads new ≡ misreads old
+pub record LooksAt {S : Type 0} (g : Ghosts S) (readable : Type 0) (old new : S) : Type 0 where
+  pub was_honest : g.honest new → g.honest old
+  pub same : g.honest new → g.contents new ≡ g.contents old
+  pub crash : g.honest new → (left : Contents) → g.may_leave new left → g.may_leave old left
+  pub later : g.failed old ≤ g.failed new
+  pub as_read : g.honest new → readable → g.misreads new ≡ g.misreads old

@@ -93,8 +93,8 @@ impl<S: RowStore> Hub<S> {
 
         // What a stop leaves, and how the count of failures goes.
         ensures opens { MatchResult result
-            (λ hub. Opens S.honest S.contents S.failed S.may_leave S.misreads catalog.now store hub.store (Ok tt))
-            (λ told. Opens S.honest S.contents S.failed S.may_leave S.misreads catalog.now store told.0 (Err told.1)) }
+            (λ hub. Opens S.RowStore catalog.now store hub.store (Ok tt))
+            (λ told. Opens S.RowStore catalog.now store told.0 (Err told.1)) }
     {
         crate::laws::opened_shows();
         let _tables = catalog.tables();
@@ -142,7 +142,7 @@ impl<S: RowStore> Hub<S> {
             → IfErr result (IsEntriesFault log first) }
 
         // The store is only read, and the hub stays as it is.
-        ensures reads { ReadsStore S.honest S.contents S.failed S.may_leave S.misreads Device
+        ensures reads { ReadsStore S.RowStore Device
             (ShowsSome S.contents self.old) self.old.store self.new.store result }
         ensures catalog { self.new.catalog ≡ self.old.catalog }
         ensures newest { self.new.newest ≡ self.old.newest }
@@ -172,7 +172,7 @@ impl<S: RowStore> Hub<S> {
         ensures none { length self.old.catalog ≤ table → IfOk result (λ rows. rows.items ≡ []) }
 
         // The store is only read, and the hub stays as it is.
-        ensures reads { ReadsStore S.honest S.contents S.failed S.may_leave S.misreads stored.Device
+        ensures reads { ReadsStore S.RowStore stored.Device
             (ShowsSome S.contents self.old) self.old.store self.new.store result }
         ensures catalog { self.new.catalog ≡ self.old.catalog }
         ensures newest { self.new.newest ≡ self.old.newest }
@@ -199,7 +199,7 @@ impl<S: RowStore> Hub<S> {
             → IsPushedOf MAX_ENTRIES self.old.catalog log (record { head = head; changes = changes }) (S.contents self.new.store) self.new.newest result }
 
         // The store was only read, or the push appended, in one commit, and then it is accepted.
-        ensures writes { WritesStore S.honest S.contents S.failed S.may_leave S.misreads Device (ShowsSome S.contents self.old)
+        ensures writes { WritesStore S.RowStore Device (ShowsSome S.contents self.old)
             (IsSameOrAppended MAX_ENTRIES self.old.catalog self.old.newest (record { head = head; changes = changes }) (S.contents self.old.store))
             self.old.store self.new.store result }
 
@@ -228,11 +228,11 @@ impl<S: RowStore> Hub<S> {
     pub fn serve(&mut self, request: &[u8]) -> Result<Vec<u8>, Memory>
         // The answer is that to the request by the log that the store showed; the store then shows the log after it.
         ensures served { IfOk result (λ answer.
-            AnswersHub S.honest S.contents S.failed S.may_leave S.misreads MAX_ENTRIES self.old request.now answer.items self.new) }
-        ensures refused { OnErr result (StaysHub S.honest S.contents S.failed S.may_leave S.misreads self.old self.new) }
+            AnswersHub S.RowStore MAX_ENTRIES self.old request.now answer.items self.new) }
+        ensures refused { OnErr result (StaysHub S.RowStore self.old self.new) }
 
         // What becomes of the store: where the request was served, a stop leaves what it then holds; else maybe this very request served.
-        ensures store { ServesStore S.honest S.contents S.failed S.may_leave S.misreads self.old.catalog (ShowsSome S.contents self.old)
+        ensures store { ServesStore S.RowStore self.old.catalog (ShowsSome S.contents self.old)
             (IsServedIn MAX_ENTRIES self.old.catalog request.now (S.contents self.old.store)) self.old.store self.new.store result }
     {
         match Request::decode(request) {
@@ -273,7 +273,7 @@ impl<S: RowStore> Hub<S> {
         ensures appends { S.honest self.new.store → IfOk result (AppendsJudged self.new.catalog (S.contents self.new.store)) }
 
         // The store is only read, and the hub stays as it is.
-        ensures reads { ReadsHub S.honest S.contents S.failed S.may_leave S.misreads self.old self.new }
+        ensures reads { ReadsHub S.RowStore self.old self.new }
     {
         let limit = limit.min(MAX_ENTRIES);
         match Request::decode(request) {
@@ -325,7 +325,7 @@ impl<S: RowStore> Hub<S> {
         ensures full { IsErrOf result Full ↔ (MAX_ENTRIES ≤ self.old.newest) }
 
         // The entry is appended, in one commit.
-        ensures writes { WritesStore S.honest S.contents S.failed S.may_leave S.misreads follow.Device (ShowsSome S.contents self.old)
+        ensures writes { WritesStore S.RowStore follow.Device (ShowsSome S.contents self.old)
             (IsAppendedIn self.old.catalog entry.now (S.contents self.old.store)) self.old.store self.new.store result }
         ensures catalog { self.new.catalog ≡ self.old.catalog }
         ensures counted { OnOk result (self.new.newest ≡ self.old.newest + 1) }
@@ -359,7 +359,7 @@ impl<S: RowStore> Hub<S> {
         // The store then shows the log with the entry, which was appended in one commit.
         ensures appended { S.honest self.new.store → (log : List Entry) → Shows S.contents self.old log
             → OnOk result (Shows S.contents self.new (log ++ entry.now ∷ [])) }
-        ensures writes { WritesStore S.honest S.contents S.failed S.may_leave S.misreads stored.Device (ShowsSome S.contents self.old)
+        ensures writes { WritesStore S.RowStore stored.Device (ShowsSome S.contents self.old)
             (IsAppendedIn self.old.catalog entry.now (S.contents self.old.store)) self.old.store self.new.store result }
         ensures catalog { self.new.catalog ≡ self.old.catalog }
         ensures counted { OnOk result (self.new.newest ≡ self.old.newest + 1) }

@@ -58,7 +58,7 @@ fn judge_bytes<S: RowStore>(
     changeset: &[u8],
 ) -> Result<Judgement, Refusal>
     requires { length changeset.now ≤ MAX_CHANGESET }
-    ensures reads { ReadsStore S.honest S.contents S.failed S.may_leave S.misreads (ByHub Device)
+    ensures reads { ReadsStore S.RowStore (ByHub Device)
         (ShowsLogOf catalog.now newest (S.contents store.old)) store.old store.new result }
     ensures of { IfOk result (IsEntryToAppend catalog.now limit newest head) }
     ensures appends { S.honest store.new → IfOk result (CanBeAppended catalog.now (S.contents store.old)) }
@@ -100,7 +100,7 @@ pub(crate) fn judge_told<S: RowStore>(
     changeset: &[u8],
 ) -> Result<Judged, Memory>
     requires { length changeset.now ≤ MAX_CHANGESET }
-    ensures looks { LooksAt S.honest S.contents S.failed S.may_leave S.misreads (ShowsLogOf catalog.now newest (S.contents store.old)) store.old store.new }
+    ensures looks { LooksAt S.RowStore (ShowsLogOf catalog.now newest (S.contents store.old)) store.old store.new }
     ensures room { IfOk result (HasRoom newest limit) }
     ensures appends { S.honest store.new → IfOk result (AppendsJudged catalog.now (S.contents store.old)) }
     ensures judged { S.honest store.new → (log : List Entry) → ShowsLog catalog.now (S.contents store.old) log → newest ≡ length log

@@ -61,5 +61,5 @@ pub fn one_run()
 /// Lines that are answered over a store that doesn't fail are answered by the log that it shows. The hub at hand changes nothing: it
 /// names whose store it is.
 pub fn runs_by_log<S: RowStore>(_hub: &Hub<S>)
-    ensures { RunsByLog S.honest S.contents S.failed S.may_leave S.misreads }
+    ensures { RunsByLog S.RowStore }
 {}

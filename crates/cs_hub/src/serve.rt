@@ -9,9 +9,9 @@ impl<S: RowStore> Serve for Hub<S> {
     ghost use Rattle.cs_hub.specs.Calls.{AnswersHub, StaysHub};
     ghost use Rattle.cs_log.specs.declared.entry.TheConstants.{MAX_ENTRIES};
 
-    ghost serves = { AnswersHub S.honest S.contents S.failed S.may_leave S.misreads MAX_ENTRIES };
+    ghost serves = { AnswersHub S.RowStore MAX_ENTRIES };
 
-    ghost stays = { StaysHub S.honest S.contents S.failed S.may_leave S.misreads };
+    ghost stays = { StaysHub S.RowStore };
 
     fn serve(&mut self, request: &[u8]) -> Result<Vec<u8>, Memory> {
         Hub::serve(self, request)

@@ -39,9 +39,9 @@ pub(crate) fn pull_at<S: RowStore>(
     first: u64,
     limit: u32,
 ) -> Result<Vec<u8>, Memory>
-    ensures serves { ServesStore S.honest S.contents S.failed S.may_leave S.misreads catalog.now
+    ensures serves { ServesStore S.RowStore catalog.now
         (ShowsLogOf catalog.now newest (S.contents store.old)) (IsAskedIn MAX_ENTRIES catalog.now (Ok (AsksPull first limit)) (S.contents store.old)) store.old store.new result }
-    ensures looks { LooksAt S.honest S.contents S.failed S.may_leave S.misreads (ShowsLogOf catalog.now newest (S.contents store.old)) store.old store.new }
+    ensures looks { LooksAt S.RowStore (ShowsLogOf catalog.now newest (S.contents store.old)) store.old store.new }
     ensures answered { S.honest store.new → (log : List Entry) → ShowsLog catalog.now (S.contents store.old) log → newest ≡ length log
         → IfOk result (λ bytes. IsAnsweredOf (MoreFailures (S.failed store.old) (S.failed store.new)) MAX_ENTRIES catalog.now log (Ok (AsksPull first limit)) bytes.items (S.contents store.new) newest) }
 {
@@ -79,7 +79,7 @@ pub(crate) fn push_told<S: RowStore>(
     changeset: &[u8],
 ) -> Result<Vec<u8>, Memory>
     requires { length changeset.now ≤ MAX_CHANGESET }
-    ensures serves { ServesStore S.honest S.contents S.failed S.may_leave S.misreads catalog.now
+    ensures serves { ServesStore S.RowStore catalog.now
         (ShowsLogOf catalog.now newest.old (S.contents store.old)) (IsAskedIn MAX_ENTRIES catalog.now (Ok (AsksPush head changeset.now)) (S.contents store.old)) store.old store.new result }
     ensures answered { S.honest store.new → (log : List Entry) → ShowsLog catalog.now (S.contents store.old) log → newest.old ≡ length log
         → IfOk result (λ bytes. IsAnsweredOf (MoreFailures (S.failed store.old) (S.failed store.new)) MAX_ENTRIES catalog.now log (Ok (AsksPush head changeset.now)) bytes.items (S.contents store.new) newest.new) }

@@ -56,7 +56,7 @@ pub(crate) fn push_counted<S: RowStore>(
 ) -> Result<Pushed, HubFault>
     requires fits { FitsCatalog catalog.now changes }
     requires size { length (normal_spelling changes) ≤ MAX_CHANGESET }
-    ensures writes { WritesStore S.honest S.contents S.failed S.may_leave S.misreads Device
+    ensures writes { WritesStore S.RowStore Device
         (ShowsLogOf catalog.now newest.old (S.contents store.old))
         (IsSameOrAppended MAX_ENTRIES catalog.now newest.old (record { head = head; changes = changes }) (S.contents store.old)) store.old store.new result }
     ensures unwritten { S.honest store.new → result ≢ Err Memory → result ≢ Err Device
@@ -82,7 +82,7 @@ pub(crate) fn take_at<S: RowStore>(
     changeset: &[u8],
 ) -> Result<Pushed, Refusal>
     requires { length changeset.now ≤ MAX_CHANGESET }
-    ensures writes { WritesStore S.honest S.contents S.failed S.may_leave S.misreads (ByHub Device)
+    ensures writes { WritesStore S.RowStore (ByHub Device)
         (ShowsLogOf catalog.now newest.old (S.contents store.old))
         (IsPushTakenIn MAX_ENTRIES catalog.now newest.old head changeset.now (S.contents store.old)) store.old store.new result }
     ensures unwritten { S.honest store.new → result ≢ Err refusal.Memory → result ≢ Err (ByHub Device)

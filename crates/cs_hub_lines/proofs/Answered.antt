@@ -15,18 +15,18 @@ use Rattle.cs_lines.specs.Writing.{AppendsBroken}
 use Rattle.cs_lines.specs.declared.serve.Stop.{Stop}
 use Rattle.cs_lines.specs.declared.serve.Stop.TheVariants as stopped
 use Rattle.cs_lines.specs.declared.serve.TheConstants.{ASKS}
-use Rattle.cs_store.specs.Contents.{Contents}
+use Rattle.cs_store.specs.declared.store.RowStore.{Ghosts}
 use Rattle.cs_value.specs.declared.catalog.TableDef.{TableDef}
 use Rattle.cs_hub_lines.specs.Endings.{AnsweredOver, EndsServingOn, IsOpenedOver, of_stop}
 
-module _ {S : Type 0} (honest : S → Type 0) (contents : S → Contents) (failed : S → ℕ) (may_leave : S → Contents → Type 0) (misreads : S → ℕ) (tables : List TableDef)
-    (law : RunsByLog honest contents failed may_leave misreads) (store last : S) (first end : Holding S)
-    (opened : IsOpenedOver honest contents failed may_leave misreads tables store first) (left : last ≡ end.store) where
+module _ {S : Type 0} (g : Ghosts S) (tables : List TableDef)
+    (law : RunsByLog g) (store last : S) (first end : Holding S)
+    (opened : IsOpenedOver g tables store first) (left : last ≡ end.store) where
   abbrev Answered : List (List ℕ) → List (List ℕ) → Type 0
   Answered lines answers =
-      AnswersAll (AnswersHub honest contents failed may_leave misreads MAX_ENTRIES) (StaysHub honest contents failed may_leave misreads) first lines answers end
+      AnswersAll (AnswersHub g MAX_ENTRIES) (StaysHub g) first lines answers end
 
-  answered_over : (lines answers : List (List ℕ)) → Answered lines answers → AnsweredOver honest contents failed may_leave misreads tables store last lines answers
+  answered_over : (lines answers : List (List ℕ)) → Answered lines answers → AnsweredOver g tables store last lines answers
   answered_over lines answers all = record {
     first = first;
     end = end;
@@ -34,14 +34,14 @@ module _ {S : Type 0} (honest : S → Type 0) (contents : S → Contents) (faile
     answered = all;
     left = left;
     by_log = λ only few h log shows.
-        let run = law MAX_ENTRIES first end log lines answers only (subst (λ (n : ℕ). n < 2 ^ 64 - 1) (sym opened.kept) few) (subst honest left h) shows all in
+        let run = law MAX_ENTRIES first end log lines answers only (subst (λ (n : ℕ). n < 2 ^ 64 - 1) (sym opened.kept) few) (subst g.honest left h) shows all in
         (run.0, subst (λ (t : List TableDef). AnswersAll (Serves MAX_ENTRIES) IsSame (hub_of t log) lines answers (hub_of t run.0)) opened.tables_are run.1, run.2);
   }
 
   pub all_answered : (input old new : Option (List ℕ))
       → (lines : List (List ℕ)) × (answers : List (List ℕ)) × AreAllLines input lines × Answered lines answers × Appends old new (flat_map hex_line answers)
       → (lines : List (List ℕ)) × (answers : List (List ℕ)) × AreAllLines input lines
-      × AnsweredOver honest contents failed may_leave misreads tables store last lines answers × Appends old new (flat_map hex_line answers)
+      × AnsweredOver g tables store last lines answers × Appends old new (flat_map hex_line answers)
   all_answered input old new (lines, answers, all, answered, appends) = (lines, answers, all, answered_over lines answers answered, appends)
 
   pub broken_off : (input rest old new : Option (List ℕ)) (read_failed write_failed : Type 0) (stop : Stop)
@@ -49,7 +49,7 @@ module _ {S : Type 0} (honest : S → Type 0) (contents : S → Contents) (faile
       × Appends old new (flat_map hex_line answers) × (read_failed ⊎ (length lines ≡ ASKS)))
       → (stop ≡ stopped.Write → (lines : List (List ℕ)) × (answers : List (List ℕ)) × AreFirstLines input lines × Answered lines answers
       × AppendsBroken old new answers × write_failed)
-      → EndsServingOn honest contents failed may_leave misreads tables store last input rest read_failed write_failed old new (Err (of_stop stop))
+      → EndsServingOn g tables store last input rest read_failed write_failed old new (Err (of_stop stop))
   broken_off input rest old new read_failed write_failed stopped.Read read write =
       let (lines, answers, before, answered, appends, why) = read refl in (lines, answers, before, answered_over lines answers answered, appends, why)
   broken_off input rest old new read_failed write_failed stopped.Write read write =

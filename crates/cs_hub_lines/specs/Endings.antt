@@ -18,7 +18,8 @@ use Rattle.cs_log_opening.specs.Opens.{IsHubAt, IsHubFault}
 use Rattle.cs_log_store.specs.Shows.{ShowsLog}
 use Rattle.cs_opening.specs.declared.fault.OpenFault.{OpenFault}
 use Rattle.cs_opening.specs.declared.fault.OpenFault.TheVariants as opening
-use Rattle.cs_store.specs.Contents.{Contents, nothing}
+use Rattle.cs_store.specs.Contents.{nothing}
+use Rattle.cs_store.specs.declared.store.RowStore.{Ghosts}
 use Rattle.cs_value.specs.declared.catalog.TableDef.{TableDef}
 use Rattle.cs_hub_lines.specs.declared.fault.ServingFault.{ServingFault}
 use Rattle.cs_hub_lines.specs.declared.fault.ServingFault.TheVariants.{Memory, Open, Read, Write}
@@ -34,31 +35,31 @@ of_opening opening.Damaged = Open opening.Damaged
 of_opening opening.Device = Open opening.Device
 of_opening opening.Mismatch = Open opening.Mismatch
 
-module _ {S : Type 0} (honest : S → Type 0) (contents : S → Contents) (failed : S → ℕ) (may_leave : S → Contents → Type 0) (misreads : S → ℕ) (tables : List TableDef) where
+module _ {S : Type 0} (g : Ghosts S) (tables : List TableDef) where
   -- the hub of these tables was opened over the store, with the log that the store showed, or none where it held nothing
   pub record IsOpenedOver (store : S) (hub : Holding S) : Type 0 where
     pub tables_are : hub.catalog ≡ tables
-    pub was_honest : honest hub.store → honest store
-    pub opened : honest hub.store → IsHubAt tables (contents store) (contents hub.store) hub.newest
-    pub fresh : honest hub.store → contents store ≡ nothing → Shows contents hub []
-    pub shown : honest hub.store → (log : List LogEntry) → ShowsLog tables (contents store) log → Shows contents hub log
-    pub kept : failed hub.store ≡ failed store
+    pub was_honest : g.honest hub.store → g.honest store
+    pub opened : g.honest hub.store → IsHubAt tables (g.contents store) (g.contents hub.store) hub.newest
+    pub fresh : g.honest hub.store → g.contents store ≡ nothing → Shows g.contents hub []
+    pub shown : g.honest hub.store → (log : List LogEntry) → ShowsLog tables (g.contents store) log → Shows g.contents hub log
+    pub kept : g.failed hub.store ≡ g.failed store
 
   -- a hub opened over the store answered the lines by these answers, one after another, and the store is left as it then is
   pub record AnsweredOver (store last : S) (lines answers : List (List ℕ)) : Type 0 where
     pub first : Holding S
     pub end : Holding S
     pub opened : IsOpenedOver store first
-    pub answered : AnswersAll (AnswersHub honest contents failed may_leave misreads MAX_ENTRIES) (StaysHub honest contents failed may_leave misreads) first lines answers end
+    pub answered : AnswersAll (AnswersHub g MAX_ENTRIES) (StaysHub g) first lines answers end
     pub left : last ≡ end.store
     -- over a store that never fails, but where what it gives was misread, they are answered by the log that was shown
-    pub by_log : ((s : S) → failed s ≡ misreads s) → failed store < 2 ^ 64 - 1 → honest last → (log : List LogEntry) → Shows contents first log
-        → (next : List LogEntry) × AnswersAll (Serves MAX_ENTRIES) IsSame (hub_of tables log) lines answers (hub_of tables next) × Shows contents end next
+    pub by_log : ((s : S) → g.failed s ≡ g.misreads s) → g.failed store < 2 ^ 64 - 1 → g.honest last → (log : List LogEntry) → Shows g.contents first log
+        → (next : List LogEntry) × AnswersAll (Serves MAX_ENTRIES) IsSame (hub_of tables log) lines answers (hub_of tables next) × Shows g.contents end next
 
   -- where the store is honest, it holds what it held, and isn't opened for this reason
   pub record NotOpenedOver (store last : S) (fault : OpenFault) : Type 0 where
-    pub same : honest last → contents last ≡ contents store
-    pub refused : honest last → IsHubFault tables (contents store) fault
+    pub same : g.honest last → g.contents last ≡ g.contents store
+    pub refused : g.honest last → IsHubFault tables (g.contents store) fault
 
   -- all lines were answered
   abbrev pub EndsAnswered : S → S → Option (List ℕ) → Option (List ℕ) → Option (List ℕ) → Type 0

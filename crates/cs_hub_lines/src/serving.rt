@@ -24,7 +24,7 @@ pub fn serve_on<S: RowStore, R: LineInput, W: LineOutput>(
     reader: &mut R,
     writer: &mut W,
 ) -> (Result<(), ServingFault>, S)
-    ensures ends { EndsServingOn S.honest S.contents S.failed S.may_leave S.misreads catalog.now store result.1
+    ensures ends { EndsServingOn S.RowStore catalog.now store result.1
         (R.remaining reader.old) (R.remaining reader.new) (R.failed reader.new) (W.failed writer.new)
         (W.contents writer.old) (W.contents writer.new) result.0 }
     ensures sent { OnOk result.0 (W.sent writer.old → W.sent writer.new) }

@@ -6,6 +6,7 @@ use Rattle.cs_store.specs.Contents.{Contents}
 use Rattle.cs_store.specs.declared.batch.Batch.{Batch}
 use Rattle.cs_store.specs.declared.fault.StoreFault.{StoreFault}
 use Rattle.cs_store.specs.declared.fault.StoreFault.TheVariants as stored
+use Rattle.cs_store.specs.declared.store.RowStore.{Ghosts}
 use Rattle.cs_pending.specs.Calls.{ReadsStore, WritesStore}
 use Rattle.cs_pending.specs.Storing.{WasRead, same_err, then_not_written, then_written}
 use Rattle.cs_appending.specs.Shows.{ShowsLog, ShowsSomeLog}
@@ -60,16 +61,16 @@ module _ (limit : ℕ) (opening : List TableDef) (push : Push) (count : ℕ) (ol
 
 -- ---- the store
 
-module _ {S : Type 0} (honest : S → Type 0) (contents : S → Contents) (failed : S → ℕ) (may_leave : S → Contents → Type 0) (misreads : S → ℕ) (limit : ℕ) (opening : List TableDef) (push : Push) (count : ℕ) where
+module _ {S : Type 0} (g : Ghosts S) (limit : ℕ) (opening : List TableDef) (push : Push) (count : ℕ) where
   abbrev Readable : S → Type 0
-  Readable old = ShowsLogOf opening count (contents old)
+  Readable old = ShowsLogOf opening count (g.contents old)
 
   abbrev Writes : {T E : Type 0} → E → S → S → Result T E → Type 0
   Writes device old new result =
-      WritesStore honest contents failed may_leave misreads device (Readable old) (IsSameOrAppended limit opening count push (contents old)) old new result
+      WritesStore g device (Readable old) (IsSameOrAppended limit opening count push (g.contents old)) old new result
 
   -- it was told, and nothing was written
-  pub told_well : {T U : Type 0} (old new : S) (t : T) (u : U) → ReadsStore honest contents failed may_leave misreads Device (Readable old) old new (Ok t) → Writes Device old new (Ok u)
+  pub told_well : {T U : Type 0} (old new : S) (t : T) (u : U) → ReadsStore g Device (Readable old) old new (Ok t) → Writes Device old new (Ok u)
   told_well old new t u reads = record {
     was_honest = reads.was_honest;
     ok = λ h. inl (reads.same h);
@@ -82,7 +83,7 @@ module _ {S : Type 0} (honest : S → Type 0) (contents : S → Contents) (faile
     as_read = reads.as_read;
   }
 
-  pub refused_well : {T U : Type 0} (old new : S) (fault : HubFault) → ReadsStore honest contents failed may_leave misreads {T = T} Device (Readable old) old new (Err fault) → Writes {T = U} Device old new (Err fault)
+  pub refused_well : {T U : Type 0} (old new : S) (fault : HubFault) → ReadsStore g {T = T} Device (Readable old) old new (Err fault) → Writes {T = U} Device old new (Err fault)
   refused_well old new fault reads = record {
     was_honest = reads.was_honest;
     ok = λ h. tt;
@@ -95,36 +96,36 @@ module _ {S : Type 0} (honest : S → Type 0) (contents : S → Contents) (faile
     as_read = reads.as_read;
   }
 
-  module _ (entry : LogEntry) (of : entry ≡ entry_of_push push) (old mid new : S) (read : WasRead honest contents failed may_leave misreads (Readable old) old mid) where
+  module _ (entry : LogEntry) (of : entry ≡ entry_of_push push) (old mid new : S) (read : WasRead g (Readable old) old mid) where
     -- what was tried on what the store held is tried on what it holds
-    pub still : (batch : Batch) → (honest mid → AppendsEntry opening entry (contents old) batch) → honest mid → AppendsEntry opening entry (contents mid) batch
+    pub still : (batch : Batch) → (g.honest mid → AppendsEntry opening entry (g.contents old) batch) → g.honest mid → AppendsEntry opening entry (g.contents mid) batch
     still batch tried h = subst (λ (was : Contents). AppendsEntry opening entry was batch) (sym (read.same h)) (tried h)
 
-    there : honest mid → Readable old → ShowsSomeLog opening (contents mid)
+    there : g.honest mid → Readable old → ShowsSomeLog opening (g.contents mid)
     there h shown = (shown.0, subst (λ (c : Contents). ShowsLog opening c shown.0) (sym (read.same h)) shown.1)
 
-    pub since : honest mid → (c : Contents) → IsAppendedIn opening entry (contents mid) c → IsAppendedIn opening entry (contents old) c
+    pub since : g.honest mid → (c : Contents) → IsAppendedIn opening entry (g.contents mid) c → IsAppendedIn opening entry (g.contents old) c
     since h c i = subst (λ (was : Contents). IsAppendedIn opening entry was c) (read.same h) i
 
     abbrev Appends : {T : Type 0} → Result T StoreFault → Type 0
-    Appends result = WritesStore honest contents failed may_leave misreads stored.Device (ShowsSomeLog opening (contents mid)) (IsAppendedIn opening entry (contents mid)) mid new result
+    Appends result = WritesStore g stored.Device (ShowsSomeLog opening (g.contents mid)) (IsAppendedIn opening entry (g.contents mid)) mid new result
 
     -- it was judged that the push is accepted
-    module _ (judged : honest mid → Accepts limit opening push count (contents old) entry) where
-      as_push : honest mid → (c : Contents) → IsAppendedIn opening entry (contents mid) c → IsSameOrAppended limit opening count push (contents old) c
+    module _ (judged : g.honest mid → Accepts limit opening push count (g.contents old) entry) where
+      as_push : g.honest mid → (c : Contents) → IsAppendedIn opening entry (g.contents mid) c → IsSameOrAppended limit opening count push (g.contents old) c
       as_push h c i = inr (
-        subst (λ (e : LogEntry). IsAppendedIn opening e (contents old) c) of (since h c i),
-        accepted limit opening push count (contents old) c entry (judged h) (since h c i),
+        subst (λ (e : LogEntry). IsAppendedIn opening e (g.contents old) c) of (since h c i),
+        accepted limit opening push count (g.contents old) c entry (judged h) (since h c i),
       )
 
       pub then_wrote : {T U : Type 0} (t : T) (u : U) → Appends (Ok t) → Writes Device old new (Ok u)
       then_wrote t u writes =
-          then_written honest contents failed may_leave misreads (IsAppendedIn opening entry (contents mid)) (IsSameOrAppended limit opening count push (contents old)) (Readable old) (ShowsSomeLog opening (contents mid)) (Readable old)
+          then_written g (IsAppendedIn opening entry (g.contents mid)) (IsSameOrAppended limit opening count push (g.contents old)) (Readable old) (ShowsSomeLog opening (g.contents mid)) (Readable old)
           old mid new (λ r. r) there as_push read stored.Device Device t u writes
 
       pub then_wrote_not : {T U : Type 0} (fault : StoreFault) (told : HubFault) → (told ≡ Device → fault ≡ stored.Device) → Appends {T = T} (Err fault) → Writes {T = U} Device old new (Err told)
       then_wrote_not {T} {U} fault told was writes =
-          then_not_written honest contents failed may_leave misreads (IsAppendedIn opening entry (contents mid)) (IsSameOrAppended limit opening count push (contents old)) (Readable old) (ShowsSomeLog opening (contents mid)) (Readable old)
+          then_not_written g (IsAppendedIn opening entry (g.contents mid)) (IsSameOrAppended limit opening count push (g.contents old)) (Readable old) (ShowsSomeLog opening (g.contents mid)) (Readable old)
           old mid new (λ r. r) there as_push read {T = T} {U = U} stored.Device fault Device told was writes
 
 -- a fault of a store is told as itself

@@ -39,7 +39,7 @@ fn recall<S: RowStore>(
     requires of { entry.now ≡ entry_of_push (record { head = head; changes = entry_changes entry.now }) }
     requires some { entry_changes entry.now ≢ [] }
     requires below { head.base < newest }
-    ensures reads { ReadsStore S.honest S.contents S.failed S.may_leave S.misreads Device
+    ensures reads { ReadsStore S.RowStore Device
         (ShowsLogOf catalog.now newest (S.contents store.old)) store.old store.new result }
     ensures of { IfOk result (IsOfPush limit newest (record { head = head; changes = entry_changes entry.now })) }
     ensures appends { S.honest store.new → IfOk result (CanBeAppended catalog.now (S.contents store.old)) }
@@ -76,7 +76,7 @@ pub fn judge_at<S: RowStore>(
     requires size { length (normal_spelling changes) ≤ MAX_CHANGESET }
 
     // The store is only read.
-    ensures reads { ReadsStore S.honest S.contents S.failed S.may_leave S.misreads Device
+    ensures reads { ReadsStore S.RowStore Device
         (ShowsLogOf catalog.now newest (S.contents store.old)) store.old store.new result }
 
     // What is to be appended is the push, behind the newest version, and the batch appends it.
@@ -130,7 +130,7 @@ pub fn push_at<S: RowStore>(
     requires size { length (normal_spelling changes) ≤ MAX_CHANGESET }
 
     // The store was only read, or the push appended, in one commit.
-    ensures writes { WritesStore S.honest S.contents S.failed S.may_leave S.misreads Device
+    ensures writes { WritesStore S.RowStore Device
         (ShowsLogOf catalog.now newest (S.contents store.old))
         (IsSameOrAppended limit catalog.now newest (record { head = head; changes = changes }) (S.contents store.old)) store.old store.new result }
 

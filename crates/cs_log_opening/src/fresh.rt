@@ -32,7 +32,7 @@ fn hub_values(alloc: Global, catalog: &Catalog) -> Result<Vec<MetaEdit>, Memory>
 
 /// Writes the values of a hub.
 fn lay_out<S: RowStore>(alloc: Global, store: &mut S, catalog: &Catalog) -> Result<(), StoreFault>
-    ensures writes { WritesStore S.honest S.contents S.failed S.may_leave S.misreads Device (Unit {0})
+    ensures writes { WritesStore S.RowStore Device (Unit {0})
         (IsLaidOut catalog.now (S.contents store.old)) store.old store.new result }
 {
     cs_store::laws::commits();
@@ -57,7 +57,7 @@ pub(crate) fn open_fresh<S: RowStore>(
     catalog: &Catalog,
 ) -> Result<bool, StoreFault>
     // The store is as it was, or it held nothing and is laid out; at `Err` nothing has changed.
-    ensures writes { WritesStore S.honest S.contents S.failed S.may_leave S.misreads Device (Unit {0})
+    ensures writes { WritesStore S.RowStore Device (Unit {0})
         (IsSameOrFirst catalog.now (S.contents store.old)) store.old store.new result }
 
     // A store that held nothing is laid out; any other is as it was.

@@ -13,7 +13,7 @@ use cs_value::Catalog;
 
 /// Whether no change of the table with this number is pending.
 fn pends_none<S: RowStore>(store: &mut S, number: u32) -> Result<bool, StoreFault>
-    ensures reads { ReadsStore S.honest S.contents S.failed S.may_leave S.misreads Device (Unit {0}) store.old store.new result }
+    ensures reads { ReadsStore S.RowStore Device (Unit {0}) store.old store.new result }
     ensures told { S.honest store.new → IfOk result (λ none. IsTrue none ↔ PendsNone (S.contents store.old) number) }
 {
     let listed = store.pend_list(number)?;
@@ -22,7 +22,7 @@ fn pends_none<S: RowStore>(store: &mut S, number: u32) -> Result<bool, StoreFaul
 
 /// Whether no change of the tables with the numbers below this one is pending.
 fn pends_none_below<S: RowStore>(store: &mut S, end: u32) -> Result<bool, StoreFault>
-    ensures reads { ReadsStore S.honest S.contents S.failed S.may_leave S.misreads Device (Unit {0}) store.old store.new result }
+    ensures reads { ReadsStore S.RowStore Device (Unit {0}) store.old store.new result }
     ensures told { S.honest store.new → IfOk result (λ none. IsTrue none ↔ PendsNoneBelow (S.contents store.old) end) }
 {
     for number in 0..end {
@@ -41,7 +41,7 @@ pub(crate) fn count_entries<S: RowStore>(
     store: &mut S,
     catalog: &Catalog,
 ) -> Result<Option<u32>, StoreFault>
-    ensures reads { ReadsStore S.honest S.contents S.failed S.may_leave S.misreads Device (Unit {0}) store.old store.new result }
+    ensures reads { ReadsStore S.RowStore Device (Unit {0}) store.old store.new result }
     ensures told { S.honest store.new → AreOf catalog.now (S.contents store.old) This
         → IfOk result (IsCounted catalog.now (S.contents store.old)) }
 {

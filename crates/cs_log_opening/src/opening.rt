@@ -20,7 +20,7 @@ fn open_there<S: RowStore>(
     store: &mut S,
     catalog: &Catalog,
 ) -> Result<u32, OpenFault>
-    ensures reads { ReadsStore S.honest S.contents S.failed S.may_leave S.misreads Device (Unit {0}) store.old store.new result }
+    ensures reads { ReadsStore S.RowStore Device (Unit {0}) store.old store.new result }
     ensures opened { S.honest store.new → IfOk result (λ count.
         IsHubStore catalog.now (S.contents store.old) × (count ≡ log_count (S.contents store.old))) }
     ensures refused { S.honest store.new → S.contents store.old ≢ nothing
@@ -55,7 +55,7 @@ pub fn open_log<S: RowStore>(
     catalog: &Catalog,
 ) -> Result<u32, OpenFault>
     // The store is as it was, or it held nothing and is laid out; at `Err` nothing has changed.
-    ensures writes { WritesStore S.honest S.contents S.failed S.may_leave S.misreads Device (Unit {0})
+    ensures writes { WritesStore S.RowStore Device (Unit {0})
         (IsSameOrFirst catalog.now (S.contents store.old)) store.old store.new result }
 
     // It is a hub's.

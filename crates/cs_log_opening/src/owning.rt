@@ -48,7 +48,7 @@ pub(crate) fn owner_of_hub_store<S: RowStore>(
     catalog: &Catalog,
 ) -> Result<Owner, StoreFault>
     // The store is only read.
-    ensures reads { ReadsStore S.honest S.contents S.failed S.may_leave S.misreads Device (Unit {0}) store.old store.new result }
+    ensures reads { ReadsStore S.RowStore Device (Unit {0}) store.old store.new result }
 
     // It is told by the values of the store.
     ensures told { S.honest store.new → IfOk result (IsHubOwner catalog.now

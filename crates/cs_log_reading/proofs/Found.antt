@@ -19,6 +19,7 @@ use Rattle.cs_store.specs.declared.batch.StoredEntry.{StoredEntry}
 use Rattle.cs_store.specs.declared.fault.StoreFault.{StoreFault}
 use Rattle.cs_store.specs.declared.fault.StoreFault.TheVariants as store
 use Rattle.cs_store.specs.declared.fault.StoreFault.TheVariants.{Device}
+use Rattle.cs_store.specs.declared.store.RowStore.{Ghosts}
 use Rattle.cs_pending.specs.Calls.{ReadsStore}
 use Rattle.cs_pending.specs.Storing.{err_is, same_err}
 use Rattle.cs_wire.specs.Answers.{entries_numbers, entries_spelling, entries_tag}
@@ -220,9 +221,9 @@ all_told first count log head now within begun is =
 
 -- ---- what is read of a store for more than was asked of it
 
-module _ {S : Type 0} (honest : S → Type 0) (contents : S → Contents) (failed : S → ℕ) (may_leave : S → Contents → Type 0) (misreads : S → ℕ) (all first : Type 0) (one : all → first) (old new : S) where
-  pub read_well : {T U : Type 0} (t : T) (u : U) → ReadsStore honest contents failed may_leave misreads {T = T} {E = StoreFault} Device first old new (Ok t)
-      → ReadsStore honest contents failed may_leave misreads {T = U} {E = StoreFault} Device all old new (Ok u)
+module _ {S : Type 0} (g : Ghosts S) (all first : Type 0) (one : all → first) (old new : S) where
+  pub read_well : {T U : Type 0} (t : T) (u : U) → ReadsStore g {T = T} {E = StoreFault} Device first old new (Ok t)
+      → ReadsStore g {T = U} {E = StoreFault} Device all old new (Ok u)
   read_well t u reads = record {
     was_honest = reads.was_honest;
     same = reads.same;
@@ -233,8 +234,8 @@ module _ {S : Type 0} (honest : S → Type 0) (contents : S → Contents) (faile
     as_read = λ h r. reads.as_read h (one r);
   }
 
-  pub read_failed : {T U : Type 0} (fault : StoreFault) → ReadsStore honest contents failed may_leave misreads {T = T} Device first old new (Err fault)
-      → ReadsStore honest contents failed may_leave misreads {T = U} Device all old new (Err fault)
+  pub read_failed : {T U : Type 0} (fault : StoreFault) → ReadsStore g {T = T} Device first old new (Err fault)
+      → ReadsStore g {T = U} Device all old new (Err fault)
   read_failed fault reads = record {
     was_honest = reads.was_honest;
     same = reads.same;
@@ -245,8 +246,8 @@ module _ {S : Type 0} (honest : S → Type 0) (contents : S → Contents) (faile
     as_read = λ h r. reads.as_read h (one r);
   }
 
-  pub no_memory : {T U : Type 0} (t : T) → ReadsStore honest contents failed may_leave misreads {T = T} {E = StoreFault} Device first old new (Ok t)
-      → ReadsStore honest contents failed may_leave misreads {T = U} {E = StoreFault} Device all old new (Err store.Memory)
+  pub no_memory : {T U : Type 0} (t : T) → ReadsStore g {T = T} {E = StoreFault} Device first old new (Ok t)
+      → ReadsStore g {T = U} {E = StoreFault} Device all old new (Err store.Memory)
   no_memory t reads = record {
     was_honest = reads.was_honest;
     same = reads.same;

@@ -25,7 +25,7 @@ pub(crate) fn stored_from<S: RowStore>(
     count: u32,
 ) -> Result<Vec<StoredEntry>, StoreFault>
     requires { first + count < 2 ^ 32 }
-    ensures reads { ReadsStore S.honest S.contents S.failed S.may_leave S.misreads Device
+    ensures reads { ReadsStore S.RowStore Device
         (HasRange (S.contents store.old) first count) store.old store.new result }
     ensures found { S.honest store.new → IfOk result (λ stored.
         items_of stored.items ≡ log_range (S.contents store.old) first count) }
@@ -71,7 +71,7 @@ pub fn has_entry<S: RowStore>(
     requires { IsEntryOf catalog.now entry.now }
 
     // The store is only read.
-    ensures reads { ReadsStore S.honest S.contents S.failed S.may_leave S.misreads Device
+    ensures reads { ReadsStore S.RowStore Device
         (ShowsSomeLog catalog.now (S.contents store.old)) store.old store.new result }
 
     // It says whether the log that the store shows has it there.
@@ -133,7 +133,7 @@ pub fn entries_at<S: RowStore>(
     requires { first + count < 2 ^ 32 }
 
     // The store is only read.
-    ensures reads { ReadsStore S.honest S.contents S.failed S.may_leave S.misreads Device
+    ensures reads { ReadsStore S.RowStore Device
         (ShowsEntries catalog.now (S.contents store.old) first count) store.old store.new result }
 
     // They are those of the log that the store shows.

@@ -64,7 +64,7 @@ pub fn entries_told<S: RowStore>(
     requires { first + count < 2 ^ 32 }
 
     // The store is only read.
-    ensures reads { ReadsStore S.honest S.contents S.failed S.may_leave S.misreads Device
+    ensures reads { ReadsStore S.RowStore Device
         (ShowsEntries catalog.now (S.contents store.old) first count) store.old store.new result }
 
     // They are those of the log that the store shows.

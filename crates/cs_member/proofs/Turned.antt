@@ -72,15 +72,15 @@ answer_keeps_id tables (told.Short (short.Refused code)) result position before 
 answer_keeps_id tables (told.Entries first entries) result position before p other new q (pulled, is, list) =
     many_keeps_id tables first entries (count_of pulled) position before p other list.0 list.1 list.2
 
-module _ {S : Type 0} (honest : S → Type 0) (contents : S → Contents) (failed : S → ℕ) (may_leave : S → Contents → Type 0) (misreads : S → ℕ) (old new : Holding S) (catalog : new.catalog ≡ old.catalog) where
+module _ {S : Type 0} (g : Ghosts S) (old new : Holding S) (catalog : new.catalog ≡ old.catalog) where
   -- what is shown by the old tables at this position is shown
-  shown_as : (position : Position) (view : View) → new.position ≡ position → ShowsAt old.catalog (contents new.store) position view → Shows contents new view
+  shown_as : (position : Position) (view : View) → new.position ≡ position → ShowsAt old.catalog (g.contents new.store) position view → Shows g.contents new view
   shown_as position view same shows =
-      subst (λ (t : List TableDef). ShowsAt t (contents new.store) new.position view) (sym catalog)
-      (subst (λ (p : Position). ShowsAt old.catalog (contents new.store) p view) (sym same) shows)
+      subst (λ (t : List TableDef). ShowsAt t (g.contents new.store) new.position view) (sym catalog)
+      (subst (λ (p : Position). ShowsAt old.catalog (g.contents new.store) p view) (sym same) shows)
 
   -- where nothing has changed
-  still : (view : View) → contents new.store ≡ contents old.store → new.position ≡ old.position → Shows contents old view → Shows contents new view
+  still : (view : View) → g.contents new.store ≡ g.contents old.store → new.position ≡ old.position → Shows g.contents old view → Shows g.contents new view
   still view same position shows =
       shown_as old.position view position (subst (λ (c : Contents). ShowsAt old.catalog c old.position view) (sym same) shows)
 
@@ -89,32 +89,32 @@ module _ {S : Type 0} (honest : S → Type 0) (contents : S → Contents) (faile
 
   -- ---- an edit
 
-  module _ (one : OnePosition) (seen : honest new.store → (view : View) × Shows contents new view) where
+  module _ (one : OnePosition) (seen : g.honest new.store → (view : View) × Shows g.contents new view) where
     -- the position that is shown is the one that is held
-    there : honest new.store → AreTables old.catalog → (position : Position) (view : View) → FitsPosition position → FitsPosition new.position → ShowsAt old.catalog (contents new.store) position view → new.position ≡ position
+    there : g.honest new.store → AreTables old.catalog → (position : Position) (view : View) → FitsPosition position → FitsPosition new.position → ShowsAt old.catalog (g.contents new.store) position view → new.position ≡ position
     there h are position view fits its shows =
         let other = seen h in
-        let at_old = subst (λ (t : List TableDef). ShowsAt t (contents new.store) new.position other.0) catalog other.1 in
-        (one old.catalog (contents new.store) new.position position other.0 view are its fits at_old shows).0
+        let at_old = subst (λ (t : List TableDef). ShowsAt t (g.contents new.store) new.position other.0) catalog other.1 in
+        (one old.catalog (g.contents new.store) new.position position other.0 view are its fits at_old shows).0
 
     pub edited : (asked : Edit) (result : Result (Unit {0}) EditFault)
-        → WritesStore honest contents failed may_leave misreads edits.Device (ShowsSomeAt old.catalog old.position (contents old.store))
-        (IsEditedIn old.catalog old.position (table_of asked) (asked_of asked) (contents old.store)) old.store new.store result
-        → (honest new.store → (view : View) → Shows contents old view → IfErr result (λ fault. IsOfStore fault ⊎ (edit old.catalog (table_of asked) (asked_of asked) view ≡ Err fault)))
+        → WritesStore g edits.Device (ShowsSomeAt old.catalog old.position (g.contents old.store))
+        (IsEditedIn old.catalog old.position (table_of asked) (asked_of asked) (g.contents old.store)) old.store new.store result
+        → (g.honest new.store → (view : View) → Shows g.contents old view → IfErr result (λ fault. IsOfStore fault ⊎ (edit old.catalog (table_of asked) (asked_of asked) view ≡ Err fault)))
         → OnOk result (new.position ≡ with_pending old.position new.position.pending)
         → OnErr result (new.position ≡ old.position)
-        → Turns honest contents (IsEditedTo old.catalog asked result) old new
+        → Turns g (IsEditedTo old.catalog asked result) old new
     edited asked (Ok done) writes refused moved kept = record {
       was_honest = writes.was_honest;
       catalog = catalog;
       turned = λ h are fits view shows.
           let made = writes.ok h view shows in
           let ranged : FitsPosition new.position = subst FitsPosition (sym moved) (record { id = fits.id; version = fits.version }) in
-          let same = there h are (with_pending old.position (len (contents new.store).pending)) made.0 (record { id = fits.id; version = fits.version }) ranged made.2 in (
+          let same = there h are (with_pending old.position (len (g.contents new.store).pending)) made.0 (record { id = fits.id; version = fits.version }) ranged made.2 in (
             made.0,
-            shown_as (with_pending old.position (len (contents new.store).pending)) made.0 same made.2,
+            shown_as (with_pending old.position (len (g.contents new.store).pending)) made.0 same made.2,
             ranged,
-            (len (contents new.store).pending, made.0, contents new.store, ap (λ (p : Position). record { position = p; view = made.0 }) same, made.1, made.2),
+            (len (g.contents new.store).pending, made.0, g.contents new.store, ap (λ (p : Position). record { position = p; view = made.0 }) same, made.1, made.2),
           );
     }
     edited asked (Err fault) writes refused moved kept = record {
@@ -130,12 +130,12 @@ module _ {S : Type 0} (honest : S → Type 0) (contents : S → Contents) (faile
     push_changes some other same = let flight : Some some ≡ Some other = ap (λ (p : Position). p.flight) same in cc
 
     pub pushed_to : (result : Result RequestBuf PushFault)
-        → WritesStore honest contents failed may_leave misreads pushes.Device (ShowsSomeAt old.catalog old.position (contents old.store))
-        (IsPushMadeIn old.catalog old.position (contents old.store)) old.store new.store result
+        → WritesStore g pushes.Device (ShowsSomeAt old.catalog old.position (g.contents old.store))
+        (IsPushMadeIn old.catalog old.position (g.contents old.store)) old.store new.store result
         → IfOk result (IsPushOf old.position new.position)
-        → (honest new.store → (view : View) → Shows contents old view → IfErr result (λ fault. IsPushFault fault old.catalog old.position view))
+        → (g.honest new.store → (view : View) → Shows g.contents old view → IfErr result (λ fault. IsPushFault fault old.catalog old.position view))
         → OnErr result (new.position ≡ old.position)
-        → Turns honest contents (IsPushedTo old.catalog result) old new
+        → Turns g (IsPushedTo old.catalog result) old new
     pushed_to (Ok request) writes of refused kept = record {
       was_honest = writes.was_honest;
       catalog = catalog;
@@ -150,7 +150,7 @@ module _ {S : Type 0} (honest : S → Type 0) (contents : S → Contents) (faile
             grounded view,
             shown_as (pushed old.position made.0) (grounded view) same made.1.shows,
             ranged,
-            (made.0, contents new.store, ap (λ (p : Position). record { position = p; view = grounded view }) same, made.1, asked),
+            (made.0, g.contents new.store, ap (λ (p : Position). record { position = p; view = grounded view }) same, made.1, asked),
           );
     }
     pushed_to (Err fault) writes of refused kept = record {
@@ -162,34 +162,34 @@ module _ {S : Type 0} (honest : S → Type 0) (contents : S → Contents) (faile
 
   -- ---- an answer
 
-  pub heard : (honest new.store → (view : View) × Shows contents new view) → (answer : Answer) (wishes unused : List Wish) (result : Result Told AnswerFault)
+  pub heard : (g.honest new.store → (view : View) × Shows g.contents new view) → (answer : Answer) (wishes unused : List Wish) (result : Result Told AnswerFault)
       → new.position.version < 2 ^ 64
-      → (honest new.store → honest old.store)
-      → (honest new.store → (before : View) → Shows contents old before → Answers IsWished old.catalog answer result old.position before wishes new.position (contents new.store) unused)
-      → Turns honest contents (λ before after. Hears old.catalog before answer wishes result after) old new
+      → (g.honest new.store → g.honest old.store)
+      → (g.honest new.store → (before : View) → Shows g.contents old before → Answers IsWished old.catalog answer result old.position before wishes new.position (g.contents new.store) unused)
+      → Turns g (λ before after. Hears old.catalog before answer wishes result after) old new
   heard seen answer wishes unused result small was told = record {
     was_honest = was;
     catalog = catalog;
     turned = λ h are fits view shows.
         let next = seen h in
         let answers = told h view shows in
-        let same = answer_keeps_id old.catalog answer result old.position view wishes new.position (contents new.store) unused answers in (
+        let same = answer_keeps_id old.catalog answer result old.position view wishes new.position (g.contents new.store) unused answers in (
           next.0,
           next.1,
           record { id = rw same fits.id; version = small },
           record {
-            left = contents new.store;
+            left = g.contents new.store;
             unused = unused;
             answers = answers;
-            shows = subst (λ (t : List TableDef). ShowsAt t (contents new.store) new.position next.0) catalog next.1;
+            shows = subst (λ (t : List TableDef). ShowsAt t (g.contents new.store) new.position next.0) catalog next.1;
           },
         );
   }
 
   -- ---- what changes nothing
 
-  pub unturned : (honest new.store → honest old.store) → (honest new.store → contents new.store ≡ contents old.store) → new.position ≡ old.position
-      → Turns honest contents (λ before after. after ≡ before) old new
+  pub unturned : (g.honest new.store → g.honest old.store) → (g.honest new.store → g.contents new.store ≡ g.contents old.store) → new.position ≡ old.position
+      → Turns g (λ before after. after ≡ before) old new
   unturned was same kept = record {
     was_honest = was;
     catalog = catalog;
@@ -198,7 +198,7 @@ module _ {S : Type 0} (honest : S → Type 0) (contents : S → Contents) (faile
 
 -- ---- what a stop leaves
 
-module _ {S : Type 0} (g : Ghosts S) (one : OnePosition) (step : Member → Member → Type 0) (failed : Position → Contents → Contents → Type 0) (old new : Holding S) (turns : Turns g.honest g.contents step old new) where
+module _ {S : Type 0} (g : Ghosts S) (one : OnePosition) (step : Member → Member → Type 0) (failed : Position → Contents → Contents → Type 0) (old new : Holding S) (turns : Turns g step old new) where
   -- where the store holds what it held, the replica is where it was
   stays : g.honest new.store → AreTables old.catalog → FitsPosition old.position → (view : View) → Shows g.contents old view → g.contents new.store ≡ g.contents old.store → new.position ≡ old.position
   stays h are fits view shows same =
@@ -208,7 +208,7 @@ module _ {S : Type 0} (g : Ghosts S) (one : OnePosition) (step : Member → Memb
 
   -- behind a call that writes once
   pub once_leaves : {T E : Type 0} (device : E) (readable : Type 0) (once : Contents → Type 0) (result : Result T E)
-      → WritesStore g.honest g.contents g.failed g.may_leave g.misreads device readable once old.store new.store result
+      → WritesStore g device readable once old.store new.store result
       → OnErr result (new.position ≡ old.position)
       → (g.contents new.store ≡ g.contents old.store → new.position ≡ old.position → (left : Contents) → once left → failed new.position (g.contents new.store) left)
       → CallLeaves g failed old new
@@ -225,7 +225,7 @@ module _ {S : Type 0} (g : Ghosts S) (one : OnePosition) (step : Member → Memb
 
   -- behind one that writes in turn
   pub turns_leave : (finished device readable : Type 0) (between : Contents → Type 0)
-      → WritesInTurn g.honest g.contents g.failed g.may_leave g.misreads finished device readable between (failed new.position (g.contents new.store)) old.store new.store
+      → WritesInTurn g finished device readable between (failed new.position (g.contents new.store)) old.store new.store
       → CallLeaves g failed old new
   turns_leave finished device readable between writes = λ h are fits view shows left may.
       elim (writes.durable h left may) [
@@ -236,8 +236,8 @@ module _ {S : Type 0} (g : Ghosts S) (one : OnePosition) (step : Member → Memb
 
 -- behind an edit
 pub edit_leaves : {S : Type 0} (g : Ghosts S) (one : OnePosition) (asked : Edit) (result : Result (Unit {0}) EditFault) (old new : Holding S)
-    → Turns g.honest g.contents (IsEditedTo old.catalog asked result) old new
-    → WritesStore g.honest g.contents g.failed g.may_leave g.misreads edits.Device (ShowsSomeAt old.catalog old.position (g.contents old.store))
+    → Turns g (IsEditedTo old.catalog asked result) old new
+    → WritesStore g edits.Device (ShowsSomeAt old.catalog old.position (g.contents old.store))
     (IsEditedIn old.catalog old.position (table_of asked) (asked_of asked) (g.contents old.store)) old.store new.store result
     → OnErr result (new.position ≡ old.position)
     → CallLeaves g (IsEditedBy old.catalog asked) old new
@@ -247,8 +247,8 @@ edit_leaves g one asked result old new turns writes kept =
 
 -- behind a push
 pub push_leaves : {S : Type 0} (g : Ghosts S) (one : OnePosition) (result : Result RequestBuf PushFault) (old new : Holding S)
-    → Turns g.honest g.contents (IsPushedTo old.catalog result) old new
-    → WritesStore g.honest g.contents g.failed g.may_leave g.misreads pushes.Device (ShowsSomeAt old.catalog old.position (g.contents old.store))
+    → Turns g (IsPushedTo old.catalog result) old new
+    → WritesStore g pushes.Device (ShowsSomeAt old.catalog old.position (g.contents old.store))
     (IsPushMadeIn old.catalog old.position (g.contents old.store)) old.store new.store result
     → OnErr result (new.position ≡ old.position)
     → CallLeaves g (IsPushMadeIn old.catalog) old new
@@ -258,7 +258,7 @@ push_leaves g one result old new turns writes kept =
 
 -- behind one that only reads
 pub reads_leave : {S T E : Type 0} (g : Ghosts S) (old new : Holding S) (device : E) (readable : Type 0) (result : Result T E)
-    → ReadsStore g.honest g.contents g.failed g.may_leave g.misreads device readable old.store new.store result
+    → ReadsStore g device readable old.store new.store result
     → new.position ≡ old.position
     → CallLeaves g (λ position now left. ⊥) old new
 reads_leave g old new device readable result reads kept = λ h are fits view shows left may. inr (inl (reads.crash h left may, reads.same h, kept))

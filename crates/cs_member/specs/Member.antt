@@ -18,6 +18,7 @@ use Rattle.cs_replica.specs.Holding.{Holding, Shows}
 use Rattle.cs_replica.specs.declared.told.Told.{Told}
 use Rattle.cs_rows.specs.Rows.{AreRowsOf}
 use Rattle.cs_store.specs.Contents.{Contents}
+use Rattle.cs_store.specs.declared.store.RowStore.{Ghosts}
 use Rattle.cs_value.specs.Catalog.{AreTables}
 use Rattle.cs_value.specs.declared.catalog.TableDef.{TableDef}
 use Rattle.cs_value.specs.declared.edit.Edit.{Edit}
@@ -38,11 +39,11 @@ abbrev pub member_of : {S : Type 0} → Holding S → View → Member
 member_of held view = record { position = held.position; view = view }
 
 -- where its store is honest, what it showed has made this step. The numbers of where it stands stay in range
-pub record Turns {S : Type 0} (honest : S → Type 0) (contents : S → Contents) (step : Member → Member → Type 0) (old new : Holding S) : Type 0 where
-  pub was_honest : honest new.store → honest old.store
+pub record Turns {S : Type 0} (g : Ghosts S) (step : Member → Member → Type 0) (old new : Holding S) : Type 0 where
+  pub was_honest : g.honest new.store → g.honest old.store
   pub catalog : new.catalog ≡ old.catalog
-  pub turned : honest new.store → AreTables old.catalog → FitsPosition old.position → (view : View) → Shows contents old view
-      → (next : View) × Shows contents new next × FitsPosition new.position × step (member_of old view) (member_of new next)
+  pub turned : g.honest new.store → AreTables old.catalog → FitsPosition old.position → (view : View) → Shows g.contents old view
+      → (next : View) × Shows g.contents new next × FitsPosition new.position × step (member_of old view) (member_of new next)
 
 -- ---- an edit
 

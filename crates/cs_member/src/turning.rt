@@ -33,7 +33,7 @@ fn insert_into<S: RowStore>(
     table: &Text,
     row: &Row,
 ) -> Result<(), EditFault>
-    ensures turned { Turns S.honest S.contents (IsEditedTo replica.old.catalog (Insert table.now row.now) result) replica.old replica.new }
+    ensures turned { Turns S.RowStore (IsEditedTo replica.old.catalog (Insert table.now row.now) result) replica.old replica.new }
     ensures left { CallLeaves S.RowStore (IsEditedBy replica.old.catalog (Insert table.now row.now)) replica.old replica.new }
     ensures counts { Counts S.RowStore (result ≡ Err edits.Device) replica.old replica.new }
 {
@@ -51,7 +51,7 @@ fn update_in<S: RowStore>(
     key: &Key,
     fields: &Fields,
 ) -> Result<(), EditFault>
-    ensures turned { Turns S.honest S.contents (IsEditedTo replica.old.catalog (Update table.now key.now fields.now) result) replica.old replica.new }
+    ensures turned { Turns S.RowStore (IsEditedTo replica.old.catalog (Update table.now key.now fields.now) result) replica.old replica.new }
     ensures left { CallLeaves S.RowStore (IsEditedBy replica.old.catalog (Update table.now key.now fields.now)) replica.old replica.new }
     ensures counts { Counts S.RowStore (result ≡ Err edits.Device) replica.old replica.new }
 {
@@ -68,7 +68,7 @@ fn delete_from<S: RowStore>(
     table: &Text,
     key: &Key,
 ) -> Result<(), EditFault>
-    ensures turned { Turns S.honest S.contents (IsEditedTo replica.old.catalog (Delete table.now key.now) result) replica.old replica.new }
+    ensures turned { Turns S.RowStore (IsEditedTo replica.old.catalog (Delete table.now key.now) result) replica.old replica.new }
     ensures left { CallLeaves S.RowStore (IsEditedBy replica.old.catalog (Delete table.now key.now)) replica.old replica.new }
     ensures counts { Counts S.RowStore (result ≡ Err edits.Device) replica.old replica.new }
 {
@@ -88,7 +88,7 @@ pub fn edit_replica<S: RowStore>(
     replica: &mut Replica<S>,
     edit: &Edit,
 ) -> Result<(), EditFault>
-    ensures turned { Turns S.honest S.contents (IsEditedTo replica.old.catalog edit.now result) replica.old replica.new }
+    ensures turned { Turns S.RowStore (IsEditedTo replica.old.catalog edit.now result) replica.old replica.new }
 
     // What a stop leaves, and that a failed device is told only where its count rose.
     ensures left { CallLeaves S.RowStore (IsEditedBy replica.old.catalog edit.now) replica.old replica.new }
@@ -110,7 +110,7 @@ pub fn push_replica<S: RowStore>(
     alloc: Global,
     replica: &mut Replica<S>,
 ) -> Result<RequestBuf, PushFault>
-    ensures pushed { Turns S.honest S.contents (IsPushedTo replica.old.catalog result) replica.old replica.new }
+    ensures pushed { Turns S.RowStore (IsPushedTo replica.old.catalog result) replica.old replica.new }
     ensures left { CallLeaves S.RowStore (IsPushMadeIn replica.old.catalog) replica.old replica.new }
     ensures counts { Counts S.RowStore (result ≡ Err pushes.Device) replica.old replica.new }
     ensures short { IfOk result (λ request. HasShortChangeset (asked_by_owned request)) }
@@ -157,7 +157,7 @@ pub fn tell_replica<S: RowStore>(
     answer: &Answer<'_>,
     wishes: &[Wish],
 ) -> Result<Told, AnswerFault>
-    ensures turned { Turns S.honest S.contents (λ before after. Hears replica.old.catalog before answer.now wishes.now result after) replica.old replica.new }
+    ensures turned { Turns S.RowStore (λ before after. Hears replica.old.catalog before answer.now wishes.now result after) replica.old replica.new }
     ensures left { CallLeaves S.RowStore (IsAnsweredNext IsWished replica.old.catalog answer.now) replica.old replica.new }
     ensures counts { Counts S.RowStore (SaysDevice result) replica.old replica.new }
 {
@@ -180,7 +180,7 @@ pub fn rows_of<S: RowStore>(
     replica: &mut Replica<S>,
     table: usize,
 ) -> Result<Vec<RowAtKey>, StoreFault>
-    ensures kept { Turns S.honest S.contents (λ before after. after ≡ before) replica.old replica.new }
+    ensures kept { Turns S.RowStore (λ before after. after ≡ before) replica.old replica.new }
     ensures left { CallLeaves S.RowStore (λ position now left. ⊥) replica.old replica.new }
     ensures counts { Counts S.RowStore (result ≡ Err stored.Device) replica.old replica.new }
     ensures listed { S.honest replica.new.store → (view : View) → Shows S.contents replica.old view → IfOk result (λ rows. AreRowsIn replica.old.catalog view.tables table rows.items) }

@@ -27,7 +27,7 @@ pub fn open_store<S: RowStore>(
     id: u32,
 ) -> Result<Position, OpenFault>
     // The store is as it was, or laid out, or its value is moved, in one commit; at `Err` nothing has changed.
-    ensures writes { WritesStore S.honest S.contents S.failed S.may_leave S.misreads Device (Unit {0})
+    ensures writes { WritesStore S.RowStore Device (Unit {0})
         (IsSameOrOpened catalog.now id (S.contents store.old)) store.old store.new result }
 
     // The store is that of this replica at the position.

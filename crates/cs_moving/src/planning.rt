@@ -52,7 +52,7 @@ fn kept_value<S: RowStore>(
     store: &mut S,
     catalog: &Catalog,
 ) -> Result<Option<Normal>, StoreFault>
-    ensures reads { ReadsStore S.honest S.contents S.failed S.may_leave S.misreads stored.Device (Unit {0}) store.old store.new result }
+    ensures reads { ReadsStore S.RowStore stored.Device (Unit {0}) store.old store.new result }
     ensures found { S.honest store.new → IfOk result (λ read. IfSome read (IsKeptValue catalog.now (S.contents store.old))) }
     ensures only { S.honest store.new → (changes : List TableChanges) → IsKeptValue catalog.now (S.contents store.old) changes
         → IfOk result (λ read. read ≡ Some changes) }
@@ -97,7 +97,7 @@ pub(crate) fn plan_move<S: RowStore>(
     catalog: &Catalog,
     id: u32,
 ) -> Result<Option<Plan>, StoreFault>
-    ensures reads { ReadsStore S.honest S.contents S.failed S.may_leave S.misreads stored.Device (Unit {0}) store.old store.new result }
+    ensures reads { ReadsStore S.RowStore stored.Device (Unit {0}) store.old store.new result }
     ensures planned { S.honest store.new → IfOk result (λ planned. IfSome planned (λ planned. IsPlan catalog.now id (S.contents store.old) planned.position planned.batch)) }
     ensures none { S.honest store.new → IfOk result (λ planned. planned ≡ None → NeverMoves catalog.now id (S.contents store.old)) }
     ensures of { IfOk result (λ planned. IfSome planned (λ planned. planned.position.id ≡ id)) }

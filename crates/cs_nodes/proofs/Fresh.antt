@@ -8,6 +8,7 @@ use Rattle.cs_value.specs.declared.catalog.TableDef.{TableDef}
 use Rattle.cs_log.specs.declared.entry.LogEntry.{LogEntry}
 use Rattle.cs_store.specs.Contents.{Contents, meta_value, name_text, nothing}
 use Rattle.cs_store.specs.declared.names.MetaName.TheVariants.{Pending}
+use Rattle.cs_store.specs.declared.store.RowStore.{Ghosts}
 use Rattle.cs_pending.specs.Laws.{empty_view}
 use Rattle.cs_pending.specs.View.{View}
 use Rattle.cs_position.specs.Shows.{ShowsAt}
@@ -47,23 +48,23 @@ bare_fault tables id old Damaged bare told = absurd (told.0.0 bare)
 bare_fault tables id old Device bare told = inr refl
 bare_fault tables id old Mismatch bare told = absurd (told.0 bare)
 
-module _ {S : Type 0} (honest : S → Type 0) (contents : S → Contents) (tables : List TableDef) (id : ℕ) (old new last : S) (same : last ≡ new) where
+module _ {S : Type 0} (g : Ghosts S) (tables : List TableDef) (id : ℕ) (old new last : S) (same : last ≡ new) where
   -- what is opened over nothing is at version 0, where the store is honest
-  pub never_further : (position : Position) (version : ℕ) → contents old ≡ nothing → (honest new → IsStoreOpened tables id (contents old) (contents new) position) → version ≡ position.version → (version ≡ 0 → ⊥)
-      → honest last → ⊥
+  pub never_further : (position : Position) (version : ℕ) → g.contents old ≡ nothing → (g.honest new → IsStoreOpened tables id (g.contents old) (g.contents new) position) → version ≡ position.version → (version ≡ 0 → ⊥)
+      → g.honest last → ⊥
   never_further position version bare opened is further h =
-      further (is ∙ ap (λ (x : Position). x.version) (fresh_at tables id (contents old) (contents new) position bare (opened (subst honest same h))).0)
+      further (is ∙ ap (λ (x : Position). x.version) (fresh_at tables id (g.contents old) (g.contents new) position bare (opened (subst g.honest same h))).0)
 
   -- of a store that isn't honest something else is told than that it was opened
-  pub told_else : (failed : S → ℕ) (may_leave : S → Contents → Type 0) (misreads : S → ℕ) → Opens honest contents failed may_leave misreads tables id old new (Ok tt) → (honest last → ⊥)
-      → Opens honest contents failed may_leave misreads tables id old last (Err Damaged)
-  told_else failed may_leave misreads opens never =
-      subst (λ (s : S). Opens honest contents failed may_leave misreads tables id old s (Err Damaged)) (sym same) (record {
+  pub told_else : (failed : S → ℕ) (may_leave : S → Contents → Type 0) (misreads : S → ℕ) → Opens g tables id old new (Ok tt) → (g.honest last → ⊥)
+      → Opens g tables id old last (Err Damaged)
+  told_else g.failed g.may_leave g.misreads opens never =
+      subst (λ (s : S). Opens g tables id old s (Err Damaged)) (sym same) (record {
         was_honest = opens.was_honest;
         ok = λ h. tt;
-        err = λ h. absurd (never (subst honest (sym same) h));
+        err = λ h. absurd (never (subst g.honest (sym same) h));
         durable = λ h. tt;
-        crash = λ h left may. absurd (never (subst honest (sym same) h));
+        crash = λ h left may. absurd (never (subst g.honest (sym same) h));
         kept = tt;
         later = opens.later;
         cause = λ told. absurd (let no = told in cc);

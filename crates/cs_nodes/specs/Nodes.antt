@@ -1,6 +1,6 @@
 -- A node: a replica, and what its thread knows of a row of cells (profile of this project).
 use Rattle.std.specs.Prelude.{◌≡◌, ◌≤◌, length}
-use Rattle.cs_store.specs.Contents.{Contents}
+use Rattle.cs_store.specs.declared.store.RowStore.{Ghosts}
 use Rattle.cs_replica.specs.Holding.{Holding}
 use Rattle.cs_spine.specs.Known.{Known}
 use Rattle.cs_following.specs.Pushes.{IsAtRest}
@@ -12,9 +12,9 @@ pub record NodeState (S : Type 0) : Type 0 where
   pub pass : Known
 
 -- the replica has taken no more than the pass knows, and where its store is honest it stands on that
-pub record IsNode {S : Type 0} (honest : S → Type 0) (contents : S → Contents) (node : NodeState S) : Type 0 where
+pub record IsNode {S : Type 0} (g : Ghosts S) (node : NodeState S) : Type 0 where
   pub within : node.replica.position.version ≤ length node.pass.known
-  pub stands : StandsWhereHonest honest contents node.pass.known node.replica
+  pub stands : StandsWhereHonest g node.pass.known node.replica
 
 -- both are at one version, with nothing pending and nothing under way
 abbrev pub AreMet : {S T : Type 0} → NodeState S → NodeState T → Type 0

@@ -51,7 +51,7 @@ impl<'s, S: RowStore> Model for Node<'s, S> {
 
     ghost view = { λ node. record { replica = node.replica; pass = node.pass } };
 
-    ghost invariant = { λ node. IsNode S.honest S.contents (record { replica = node.replica; pass = node.pass }) };
+    ghost invariant = { λ node. IsNode S.RowStore (record { replica = node.replica; pass = node.pass }) };
 }
 
 impl<'s, S: RowStore> Node<'s, S> {
@@ -82,8 +82,8 @@ impl<'s, S: RowStore> Node<'s, S> {
 
         // What a stop leaves, and how the count of failures goes.
         ensures opens { MatchResult result
-            (λ node. Opens S.honest S.contents S.failed S.may_leave S.misreads catalog.now id store node.replica.store (Ok tt))
-            (λ told. Opens S.honest S.contents S.failed S.may_leave S.misreads catalog.now id store told.0 (Err told.1)) }
+            (λ node. Opens S.RowStore catalog.now id store node.replica.store (Ok tt))
+            (λ told. Opens S.RowStore catalog.now id store told.0 (Err told.1)) }
     {
         cs_following::laws::fresh_stands();
         let _tables = catalog.tables();
@@ -107,7 +107,7 @@ impl<'s, S: RowStore> Node<'s, S> {
     /// memory. (Profile of this project.)
     pub fn new(replica: Replica<S>, pass: Pass<'s>) -> Node<'s, S>
         requires within { replica.position.version ≤ length pass.known }
-        requires stands { StandsWhereHonest S.honest S.contents pass.known replica }
+        requires stands { StandsWhereHonest S.RowStore pass.known replica }
         ensures { result ≡ record { replica = replica; pass = pass.entry } }
     {
         Node { replica, pass }
@@ -115,7 +115,7 @@ impl<'s, S: RowStore> Node<'s, S> {
 
     /// The replica has taken no more than the pass knows, and where its store is honest it stands on that.
     pub fn stands(&self)
-        ensures { IsNode S.honest S.contents self.now }
+        ensures { IsNode S.RowStore self.now }
     {
         let _ = &self.replica;
     }
@@ -164,7 +164,7 @@ impl<'s, S: RowStore> Node<'s, S> {
         ensures none { length self.old.replica.catalog ≤ table → IfOk result (λ rows. rows.items ≡ []) }
 
         // The store is only read, and the node stays as it is.
-        ensures reads { ReadsStore S.honest S.contents S.failed S.may_leave S.misreads stored.Device
+        ensures reads { ReadsStore S.RowStore stored.Device
             (ShowsSomeAt self.old.replica.catalog self.old.replica.position (S.contents self.old.replica.store)) self.old.replica.store self.new.replica.store result }
         ensures catalog { self.new.replica.catalog ≡ self.old.replica.catalog }
         ensures kept { self.new.replica.position ≡ self.old.replica.position }
@@ -181,7 +181,7 @@ impl<'s, S: RowStore> Node<'s, S> {
     /// These, `Memory` and `Device`. Nothing has changed then.
     pub fn edit(&mut self, alloc: Global, edit: &Edit) -> Result<(), EditFault>
         // The edit is made, in one commit; at `Err` nothing has changed.
-        ensures writes { WritesStore S.honest S.contents S.failed S.may_leave S.misreads editing.Device
+        ensures writes { WritesStore S.RowStore editing.Device
             (ShowsSomeAt self.old.replica.catalog self.old.replica.position (S.contents self.old.replica.store))
             (IsEditedIn self.old.replica.catalog self.old.replica.position (table_of_edit edit.now) (asked_of_edit edit.now) (S.contents self.old.replica.store))
             self.old.replica.store self.new.replica.store result }
@@ -225,7 +225,7 @@ impl<'s, S: RowStore> Node<'s, S> {
 
         // Each in a commit of its own. Those that were taken stay, however it ended: a stop then leaves what the store holds, or, at an
         // `Err`, that with the next entry taken too. Where nothing was written, it may also leave what it could before.
-        ensures writes { WritesInTurn S.honest S.contents S.failed S.may_leave S.misreads (IsOk result) (result ≡ Err Device)
+        ensures writes { WritesInTurn S.RowStore (IsOk result) (result ≡ Err Device)
             (ShowsSomeAt self.old.replica.catalog self.old.replica.position (S.contents self.old.replica.store))
             (IsPulledAmong P.picks self.old.replica.catalog self.new.pass.known self.old.replica.position (S.contents self.old.replica.store) picker.old)
             (IsNextKnown P.picks self.old.replica.catalog self.new.pass.known self.new.replica.position (S.contents self.new.replica.store))
@@ -271,7 +271,7 @@ impl<'s, S: RowStore> Node<'s, S> {
         // The push, and what comes of it, are commits of their own. What was made stays, however it ended, at `Full` too: a stop then
         // leaves what the store holds, or, where no entry was taken, that with one commit more, which makes the push or takes the
         // entry at the version. Where nothing was written, it may also leave what it could before.
-        ensures writes { WritesInTurn S.honest S.contents S.failed S.may_leave S.misreads (HasTaken result) (result ≡ Err Device)
+        ensures writes { WritesInTurn S.RowStore (HasTaken result) (result ≡ Err Device)
             (ShowsSomeAt self.old.replica.catalog self.old.replica.position (S.contents self.old.replica.store))
             (IsSentAmong P.picks self.old.replica.catalog self.old.replica.position (S.contents self.old.replica.store) picker.old)
             (IsSentNext P.picks self.old.replica.catalog self.new.pass.known self.new.replica.position (S.contents self.new.replica.store))

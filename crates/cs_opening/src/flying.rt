@@ -33,7 +33,7 @@ fn leads_before<S: RowStore>(
     room: &mut Room,
 ) -> Result<bool, StoreFault>
     requires { slice_get catalog.now number ≡ Some table.now }
-    ensures reads { ReadsStore S.honest S.contents S.failed S.may_leave S.misreads Device
+    ensures reads { ReadsStore S.RowStore Device
         (ShowsSome catalog.now (S.contents store.old)) store.old store.new result }
     ensures told { S.honest store.new → (view : View) → ShowsRows catalog.now (S.contents store.old) view
         → IfOk result (λ is. IsTrue is ↔ IsNetTo table.now.key_marks change.now (middle view table.now.name key.now)) }
@@ -61,7 +61,7 @@ fn all_lead_before<S: RowStore>(
     room: &mut Room,
 ) -> Result<bool, StoreFault>
     requires { slice_get catalog.now number ≡ Some table.now }
-    ensures reads { ReadsStore S.honest S.contents S.failed S.may_leave S.misreads Device
+    ensures reads { ReadsStore S.RowStore Device
         (ShowsSome catalog.now (S.contents store.old)) store.old store.new result }
     ensures told { S.honest store.new → (view : View) → ShowsRows catalog.now (S.contents store.old) view
         → IfOk result (λ all. IsTrue all ↔ ChangesLead view table.now.name table.now.key_marks changes.now) }
@@ -88,7 +88,7 @@ fn tables_lead_before<S: RowStore>(
     room: &mut Room,
 ) -> Result<bool, StoreFault>
     requires { AllByRecursion (IsOfOne catalog.now) changes.now }
-    ensures reads { ReadsStore S.honest S.contents S.failed S.may_leave S.misreads Device
+    ensures reads { ReadsStore S.RowStore Device
         (ShowsSome catalog.now (S.contents store.old)) store.old store.new result }
     ensures told { S.honest store.new → (view : View) → ShowsRows catalog.now (S.contents store.old) view
         → IfOk result (λ all. IsTrue all ↔ FlightLeads view changes.now) }
@@ -128,7 +128,7 @@ pub(crate) fn flight_leads<S: RowStore>(
     flight: &Option<Normal>,
     room: &mut Room,
 ) -> Result<bool, StoreFault>
-    ensures reads { ReadsStore S.honest S.contents S.failed S.may_leave S.misreads Device
+    ensures reads { ReadsStore S.RowStore Device
         (ShowsSome catalog.now (S.contents store.old)) store.old store.new result }
     ensures told { S.honest store.new → (view : View) → ShowsRows catalog.now (S.contents store.old) view
         → FitsCatalog catalog.now (flown flight.now) → IfOk result (λ all. IsTrue all ↔ FlightLeads view (flown flight.now)) }

@@ -28,7 +28,7 @@ fn no_tables(alloc: Global) -> Catalog
 
 /// Whether none of these names has a value. (Profile of this project.)
 pub fn have_none<S: RowStore>(store: &mut S, names: &[MetaName]) -> Result<bool, StoreFault>
-    ensures reads { ReadsStore S.honest S.contents S.failed S.may_leave S.misreads Device (Unit {0}) store.old store.new result }
+    ensures reads { ReadsStore S.RowStore Device (Unit {0}) store.old store.new result }
     ensures found { S.honest store.new → IfOk result (λ none.
         IsTrue none ↔ AllByRecursion (λ (name : Name). meta_value (S.contents store.old) name ≡ None) names.now) }
 {
@@ -47,7 +47,7 @@ pub fn have_none<S: RowStore>(store: &mut S, names: &[MetaName]) -> Result<bool,
 
 /// Whether the store holds nothing: no row, no pending change, no value, no entry. (Profile of this project.)
 pub fn holds_nothing<S: RowStore>(alloc: Global, store: &mut S) -> Result<bool, StoreFault>
-    ensures reads { ReadsStore S.honest S.contents S.failed S.may_leave S.misreads Device (Unit {0}) store.old store.new result }
+    ensures reads { ReadsStore S.RowStore Device (Unit {0}) store.old store.new result }
     ensures nothing { S.honest store.new → IfOk result (λ is. IsTrue is ↔ (S.contents store.old ≡ nothing)) }
 {
     // A store that was laid out has a value, and no more of it is read.
@@ -113,7 +113,7 @@ fn lay_out<S: RowStore>(
     catalog: &Catalog,
     id: u32,
 ) -> Result<(), StoreFault>
-    ensures writes { WritesStore S.honest S.contents S.failed S.may_leave S.misreads Device (Unit {0})
+    ensures writes { WritesStore S.RowStore Device (Unit {0})
         (IsLaidOut catalog.now id (S.contents store.old)) store.old store.new result }
 {
     cs_store::laws::commits();
@@ -138,7 +138,7 @@ pub(crate) fn open_fresh<S: RowStore>(
     id: u32,
 ) -> Result<Option<Position>, StoreFault>
     // The store is as it was, or it held nothing and is laid out; at `Err` nothing has changed.
-    ensures writes { WritesStore S.honest S.contents S.failed S.may_leave S.misreads Device (Unit {0})
+    ensures writes { WritesStore S.RowStore Device (Unit {0})
         (IsSameOrFirst catalog.now id (S.contents store.old)) store.old store.new result }
 
     // A store that held nothing is laid out, and its position is the first; any other is as it was.

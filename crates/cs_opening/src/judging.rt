@@ -24,7 +24,7 @@ fn leads_there<S: RowStore>(
     room: &mut Room,
 ) -> Result<bool, StoreFault>
     requires { marks_of columns.now ≡ table.now.key_marks }
-    ensures reads { ReadsStore S.honest S.contents S.failed S.may_leave S.misreads Device (Unit {0}) store.old store.new result }
+    ensures reads { ReadsStore S.RowStore Device (Unit {0}) store.old store.new result }
     ensures told { S.honest store.new → IfOk result (λ is. IsTrue is
         ↔ IsLeading table.now (stored_tables (S.contents store.old) number listed.now.key.items) listed.now.body.items) }
 {
@@ -46,7 +46,7 @@ fn all_lead<S: RowStore>(
     room: &mut Room,
 ) -> Result<bool, StoreFault>
     requires { marks_of columns.now ≡ table.now.key_marks }
-    ensures reads { ReadsStore S.honest S.contents S.failed S.may_leave S.misreads Device (Unit {0}) store.old store.new result }
+    ensures reads { ReadsStore S.RowStore Device (Unit {0}) store.old store.new result }
     ensures told { S.honest store.new → IfOk result (λ all. IsTrue all
         ↔ AreLeading (S.contents store.old) number table.now (pairs_of listed.now)) }
 {
@@ -68,7 +68,7 @@ fn count_table<S: RowStore>(
     number: u32,
     room: &mut Room,
 ) -> Result<Option<u64>, StoreFault>
-    ensures reads { ReadsStore S.honest S.contents S.failed S.may_leave S.misreads Device (Unit {0}) store.old store.new result }
+    ensures reads { ReadsStore S.RowStore Device (Unit {0}) store.old store.new result }
     ensures counted { S.honest store.new → IfOk result (IsTableCount (S.contents store.old) number table.now) }
 {
     let columns = mark_bytes(alloc, table.key_marks.as_slice())?;
@@ -96,7 +96,7 @@ pub(crate) fn count_tables<S: RowStore>(
     room: &mut Room,
 ) -> Result<Option<u64>, StoreFault>
     requires { number + length tables.now < 2 ^ 32 }
-    ensures reads { ReadsStore S.honest S.contents S.failed S.may_leave S.misreads Device (Unit {0}) store.old store.new result }
+    ensures reads { ReadsStore S.RowStore Device (Unit {0}) store.old store.new result }
     ensures counted { S.honest store.new → IfOk result (IsCount (S.contents store.old) number tables.now) }
 {
     let Some((table, others)) = tables.split_first() else {

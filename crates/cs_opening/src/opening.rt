@@ -28,7 +28,7 @@ use std::alloc::Global;
 
 /// Whether all that a store holds is what its place says, it has no log, and no old value of pending changes.
 fn holds_places<S: RowStore>(store: &mut S, catalog: &Catalog) -> Result<bool, StoreFault>
-    ensures reads { ReadsStore S.honest S.contents S.failed S.may_leave S.misreads stored.Device (Unit {0}) store.old store.new result }
+    ensures reads { ReadsStore S.RowStore stored.Device (Unit {0}) store.old store.new result }
     ensures told { S.honest store.new → IfOk result (λ is. IsTrue is ↔ HoldsPlaces catalog.now (S.contents store.old)) }
 {
     let old = store.meta(MetaName::Pending)?;
@@ -51,7 +51,7 @@ fn count_sound<S: RowStore>(
     catalog: &Catalog,
     flight: &Option<Normal>,
 ) -> Result<Option<u64>, StoreFault>
-    ensures reads { ReadsStore S.honest S.contents S.failed S.may_leave S.misreads stored.Device (Unit {0}) store.old store.new result }
+    ensures reads { ReadsStore S.RowStore stored.Device (Unit {0}) store.old store.new result }
     ensures told { S.honest store.new → FitsCatalog catalog.now (flown flight.now)
         → IfOk result (IsJudged catalog.now (S.contents store.old) (flown flight.now)) }
 {
@@ -87,7 +87,7 @@ fn position_at<S: RowStore>(
     catalog: &Catalog,
     id: u32,
 ) -> Result<Option<Position>, StoreFault>
-    ensures reads { ReadsStore S.honest S.contents S.failed S.may_leave S.misreads stored.Device (Unit {0}) store.old store.new result }
+    ensures reads { ReadsStore S.RowStore stored.Device (Unit {0}) store.old store.new result }
     ensures told { S.honest store.new → AreOf catalog.now id (S.contents store.old) This
         → IfOk result (IsTold catalog.now id (S.contents store.old)) }
     ensures of { IfOk result (λ found. IfSome found (λ position. position.id ≡ id)) }
@@ -123,7 +123,7 @@ fn open_there<S: RowStore>(
     catalog: &Catalog,
     id: u32,
 ) -> Result<Position, OpenFault>
-    ensures reads { ReadsStore S.honest S.contents S.failed S.may_leave S.misreads Device (Unit {0}) store.old store.new result }
+    ensures reads { ReadsStore S.RowStore Device (Unit {0}) store.old store.new result }
     ensures opened { S.honest store.new → IfOk result (StandsAt catalog.now id (S.contents store.old)) }
     ensures of { IfOk result (λ position. position.id ≡ id) }
     ensures refused { S.honest store.new → S.contents store.old ≢ nothing
@@ -162,7 +162,7 @@ pub fn open_at<S: RowStore>(
     id: u32,
 ) -> Result<Position, OpenFault>
     // The store is as it was, or it held nothing and is laid out; at `Err` nothing has changed.
-    ensures writes { WritesStore S.honest S.contents S.failed S.may_leave S.misreads Device (Unit {0})
+    ensures writes { WritesStore S.RowStore Device (Unit {0})
         (IsSameOrFirst catalog.now id (S.contents store.old)) store.old store.new result }
 
     // The store is that of this replica at the position: the first where it held nothing.

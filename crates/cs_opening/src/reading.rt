@@ -95,7 +95,7 @@ pub(crate) fn read_position<S: RowStore>(
     id: u32,
 ) -> Result<Option<Position>, StoreFault>
     // The store is only read.
-    ensures reads { ReadsStore S.honest S.contents S.failed S.may_leave S.misreads Device (Unit {0}) store.old store.new result }
+    ensures reads { ReadsStore S.RowStore Device (Unit {0}) store.old store.new result }
 
     // What is read is what the values say.
     ensures found { S.honest store.new → IfOk result (λ read. IfSome read (SaysPosition catalog.now id (S.contents store.old))) }

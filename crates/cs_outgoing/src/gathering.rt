@@ -59,7 +59,7 @@ pub fn gather<S: RowStore>(
     catalog: &Catalog,
 ) -> Result<Outgoing, StoreFault>
     // The store is only read.
-    ensures reads { ReadsStore S.honest S.contents S.failed S.may_leave S.misreads Device
+    ensures reads { ReadsStore S.RowStore Device
         (ShowsSome catalog.now (S.contents store.old)) store.old store.new result }
 
     // It is what the store shows as pending.

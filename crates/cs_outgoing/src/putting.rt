@@ -50,7 +50,7 @@ fn put_table<S: RowStore>(
     number: u32,
     out: &mut Vec<u8>,
 ) -> Result<(), StoreFault>
-    ensures reads { ReadsStore S.honest S.contents S.failed S.may_leave S.misreads Device (Unit {0}) store.old store.new result }
+    ensures reads { ReadsStore S.RowStore Device (Unit {0}) store.old store.new result }
     ensures put { S.honest store.new → OnOk result (IsTablePut (S.contents store.old) number table.now out.old.items out.new.items) }
 {
     let _name = table.name.as_str();
@@ -70,7 +70,7 @@ pub(crate) fn put_tables<S: RowStore>(
     out: &mut Vec<u8>,
 ) -> Result<(), StoreFault>
     requires { number + length tables.now < 2 ^ 32 }
-    ensures reads { ReadsStore S.honest S.contents S.failed S.may_leave S.misreads Device (Unit {0}) store.old store.new result }
+    ensures reads { ReadsStore S.RowStore Device (Unit {0}) store.old store.new result }
     ensures put { S.honest store.new → OnOk result (AreAppended (S.contents store.old) number tables.now out.old.items out.new.items) }
 {
     let Some((table, others)) = tables.split_first() else {

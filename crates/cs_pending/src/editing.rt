@@ -37,7 +37,7 @@ fn put_place<S: RowStore>(
     pending: u64,
 ) -> Result<u64, StoreFault>
     requires there { slice_get catalog.now number ≡ Some table.now }
-    ensures writes { WritesStore S.honest S.contents S.failed S.may_leave S.misreads stored.Device (ShowsSome catalog.now (S.contents store.old))
+    ensures writes { WritesStore S.RowStore stored.Device (ShowsSome catalog.now (S.contents store.old))
         (IsPutIn catalog.now table.now key.now (standing_found before.now) (option_copied mine.entry) (S.contents store.old)) store.old store.new result }
     ensures counted { S.honest store.new → (view : View) → ShowsRows catalog.now (S.contents store.old) view
         → MaySettle catalog.now view table.now key.now (standing_found before.now) (option_copied mine.entry)
@@ -89,7 +89,7 @@ pub(crate) fn edit_place<S: RowStore>(
 ) -> Result<u64, EditFault>
     requires there { slice_get catalog.now number ≡ Some table.now }
     requires wanted { IsWantedAt table.now key.now wanted.now }
-    ensures writes { WritesStore S.honest S.contents S.failed S.may_leave S.misreads Device (ShowsSome catalog.now (S.contents store.old))
+    ensures writes { WritesStore S.RowStore Device (ShowsSome catalog.now (S.contents store.old))
         (IsChangedBy catalog.now (Leads (edit_at table.now key.now wanted.now)) (S.contents store.old)) store.old store.new result }
     ensures refused { S.honest store.new → (view : View) → ShowsRows catalog.now (S.contents store.old) view
         → IfErr result (λ fault. IsOfStore fault ⊎ (edit_at table.now key.now wanted.now view ≡ Err fault)) }

@@ -161,7 +161,7 @@ pub fn insert_row<S: RowStore>(
     pending: u64,
 ) -> Result<u64, EditFault>
     // The edit is made, in one commit; at `Err` nothing has changed.
-    ensures writes { WritesStore S.honest S.contents S.failed S.may_leave S.misreads Device
+    ensures writes { WritesStore S.RowStore Device
         (ShowsSome catalog.now (S.contents store.old))
         (IsChangedBy catalog.now (Leads (edit catalog.now name.now (AskInsert row.now))) (S.contents store.old)) store.old store.new result }
 
@@ -213,7 +213,7 @@ pub fn update_row<S: RowStore>(
     pending: u64,
 ) -> Result<u64, EditFault>
     // The edit is made, in one commit; at `Err` nothing has changed.
-    ensures writes { WritesStore S.honest S.contents S.failed S.may_leave S.misreads Device
+    ensures writes { WritesStore S.RowStore Device
         (ShowsSome catalog.now (S.contents store.old))
         (IsChangedBy catalog.now (Leads (edit catalog.now name.now (AskUpdate key.now fields.now))) (S.contents store.old)) store.old store.new result }
 
@@ -267,7 +267,7 @@ pub fn delete_row<S: RowStore>(
     pending: u64,
 ) -> Result<u64, EditFault>
     // The edit is made, in one commit; at `Err` nothing has changed.
-    ensures writes { WritesStore S.honest S.contents S.failed S.may_leave S.misreads Device
+    ensures writes { WritesStore S.RowStore Device
         (ShowsSome catalog.now (S.contents store.old))
         (IsChangedBy catalog.now (Leads (edit catalog.now name.now (AskDelete key.now))) (S.contents store.old)) store.old store.new result }
 

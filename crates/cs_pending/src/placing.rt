@@ -82,7 +82,7 @@ fn own_at<S: RowStore>(
     number: u32,
     key: &[u8],
 ) -> Result<Option<RowBuf>, StoreFault>
-    ensures reads { ReadsStore S.honest S.contents S.failed S.may_leave S.misreads Device
+    ensures reads { ReadsStore S.RowStore Device
         (StoresSome (length table.now.key_marks) (stored_tables (S.contents store.old) number key.now)) store.old store.new result }
     ensures found { S.honest store.new → (row : Place)
         → IsStored (length table.now.key_marks) (stored_tables (S.contents store.old) number key.now) row → IfOk result (λ found. found ≡ row) }
@@ -107,7 +107,7 @@ fn undone_at<S: RowStore>(
     key: &[u8],
     mine: Option<&Row<'_>>,
 ) -> Result<Option<Option<RowBuf>>, StoreFault>
-    ensures reads { ReadsStore S.honest S.contents S.failed S.may_leave S.misreads Device
+    ensures reads { ReadsStore S.RowStore Device
         (StoresSomeChange table.now.key_marks (stored_pending (S.contents store.old) number key.now)) store.old store.new result }
     ensures found { S.honest store.new → (change : Option OneChange)
         → stored_pending (S.contents store.old) number key.now ≡ option_map change_spelling change
@@ -136,7 +136,7 @@ pub(crate) fn found_at<S: RowStore>(
     key: &[u8],
 ) -> Result<Found, StoreFault>
     requires { slice_get catalog.now number ≡ Some table.now }
-    ensures reads { ReadsStore S.honest S.contents S.failed S.may_leave S.misreads Device
+    ensures reads { ReadsStore S.RowStore Device
         (ShowsSome catalog.now (S.contents store.old)) store.old store.new result }
     ensures found { S.honest store.new → IfOk result (λ found. IsStandingAt catalog.now (S.contents store.old) table.now key.now (standing_found found)) }
 {
@@ -172,7 +172,7 @@ pub fn standing_at<S: RowStore>(
     requires { slice_get catalog.now number ≡ Some table.now }
 
     // The store is only read.
-    ensures reads { ReadsStore S.honest S.contents S.failed S.may_leave S.misreads Device
+    ensures reads { ReadsStore S.RowStore Device
         (ShowsSome catalog.now (S.contents store.old)) store.old store.new result }
 
     // It is what the store shows there.

@@ -8,6 +8,7 @@ use Rattle.cs_normal.specs.declared.normal.TableChanges.{TableChanges}
 use Rattle.cs_log.specs.Entry.{entry_changes}
 use Rattle.cs_log.specs.declared.entry.LogEntry.{LogEntry}
 use Rattle.cs_store.specs.Contents.{Contents}
+use Rattle.cs_store.specs.declared.store.RowStore.{Ghosts}
 use Rattle.cs_conflict.specs.declared.clash.Clash.{Clash}
 use Rattle.cs_conflict.specs.declared.conflict.Conflict.{Conflict}
 use Rattle.cs_conflict.specs.declared.wish.Wish.{Wish}
@@ -28,24 +29,24 @@ was_device take.BadEntry told memory bad stopped is = absurd (let e = sym (bad r
 was_device (take.Stopped conflict) told memory bad stopped is = absurd (let e = sym (stopped conflict refl) ∙ is in cc)
 was_device take.Device told memory bad stopped is = refl
 
-module _ {P S : Type 0} (picks : P → Clash → Wish → P → Type 0) (honest : S → Type 0) (contents : S → Contents) (failed : S → ℕ) (may_leave : S → Contents → Type 0) (misreads : S → ℕ)
+module _ {P S : Type 0} (picks : P → Clash → Wish → P → Type 0) (g : Ghosts S)
     (tables : List TableDef) (position : Position) (entry : LogEntry) (changes : List TableChanges) (p q : P) (readable : Type 0) (old new : S)
     (same : changes ≡ entry_changes entry) (room : position.version < 2 ^ 64 - 1) (others : IsOwn position entry → ⊥) where
-  pulled : (left : Contents) → IsTakenIn picks tables position changes p q (contents old) left → IsPulledIn picks tables position entry p q (contents old) left
+  pulled : (left : Contents) → IsTakenIn picks tables position changes p q (g.contents old) left → IsPulledIn picks tables position entry p q (g.contents old) left
   pulled left is before shows =
-      let after = (subst (λ (c : List TableChanges). IsTakenIn picks tables position c p q (contents old) left) same is) before shows in
+      let after = (subst (λ (c : List TableChanges). IsTakenIn picks tables position c p q (g.contents old) left) same is) before shows in
       (after.0, after.1, (room, inr (others, after.2)))
 
-  stopped : (left : Contents) → may_leave old left ⊎ IsTakenIn picks tables position changes p q (contents old) left → may_leave old left ⊎ IsPulledIn picks tables position entry p q (contents old) left
+  stopped : (left : Contents) → g.may_leave old left ⊎ IsTakenIn picks tables position changes p q (g.contents old) left → g.may_leave old left ⊎ IsPulledIn picks tables position entry p q (g.contents old) left
   stopped left (inl before) = inl before
   stopped left (inr is) = inr (pulled left is)
 
   pub others_pulled : (done : Unit {0})
-      → WritesStore honest contents failed may_leave misreads {T = Unit {0}} {E = TakeFault} take.Device readable (IsTakenIn picks tables position changes p q (contents old)) old new (Ok done)
-      → WritesStore honest contents failed may_leave misreads {T = Unit {0}} {E = PullFault} Device readable (IsPulledIn picks tables position entry p q (contents old)) old new (Ok tt)
+      → WritesStore g {T = Unit {0}} {E = TakeFault} take.Device readable (IsTakenIn picks tables position changes p q (g.contents old)) old new (Ok done)
+      → WritesStore g {T = Unit {0}} {E = PullFault} Device readable (IsPulledIn picks tables position entry p q (g.contents old)) old new (Ok tt)
   others_pulled done w = record {
     was_honest = w.was_honest;
-    ok = λ h. pulled (contents new) (w.ok h);
+    ok = λ h. pulled (g.contents new) (w.ok h);
     err = λ h. tt;
     durable = w.durable;
     crash = λ h left may. stopped left (w.crash h left may);
@@ -56,8 +57,8 @@ module _ {P S : Type 0} (picks : P → Clash → Wish → P → Type 0) (honest 
   }
 
   pub others_not : (fault : TakeFault) (told : PullFault) → (told ≡ Device → fault ≡ take.Device)
-      → WritesStore honest contents failed may_leave misreads {T = Unit {0}} {E = TakeFault} take.Device readable (IsTakenIn picks tables position changes p q (contents old)) old new (Err fault)
-      → WritesStore honest contents failed may_leave misreads {T = Unit {0}} {E = PullFault} Device readable (IsPulledIn picks tables position entry p q (contents old)) old new (Err told)
+      → WritesStore g {T = Unit {0}} {E = TakeFault} take.Device readable (IsTakenIn picks tables position changes p q (g.contents old)) old new (Err fault)
+      → WritesStore g {T = Unit {0}} {E = PullFault} Device readable (IsPulledIn picks tables position entry p q (g.contents old)) old new (Err told)
   others_not fault told device w = record {
     was_honest = w.was_honest;
     ok = λ h. tt;

@@ -6,6 +6,7 @@ use Rattle.cs_value.specs.declared.catalog.TableDef.{TableDef}
 use Rattle.cs_log.specs.declared.entry.LogEntry.{LogEntry}
 use Rattle.cs_store.specs.Calls.{MoreFailures}
 use Rattle.cs_store.specs.Contents.{Contents}
+use Rattle.cs_store.specs.declared.store.RowStore.{Ghosts}
 use Rattle.cs_conflict.specs.declared.clash.Clash.{Clash}
 use Rattle.cs_conflict.specs.declared.wish.Wish.{Wish}
 use Rattle.cs_pending.specs.Calls.{WritesStore}
@@ -71,23 +72,23 @@ module _ {P : Type 0} (picks : P → Clash → Wish → P → Type 0) (tables : 
       (told', entry', pending', left', next', between', there', read', one', shows', pulls_more count (taken position pending') next' between' other end q rest told entry pending left next between there read one shows)
 
   -- where a list stands: what is left of it, and what was pulled
-  pub record IsWalked {S : Type 0} (honest : S → Type 0) (contents : S → Contents) (failed : S → ℕ) (may_leave : S → Contents → Type 0) (misreads : S → ℕ)
+  pub record IsWalked {S : Type 0} (g : Ghosts S)
       (begun : Position) (old : S) (p : P) (count index : ℕ) (rest : List ToldEntry) (position : Position) (now : S) (q : P) : Type 0 where
     pub at : ℕ
     pub place : index ≡ first + at
     pub rest_is : drop at entries ≡ rest
     pub behind : (index ≤ position.version) ⊎ (index ≡ first)
     pub counted : count + first ≤ index
-    pub seen : honest now → (before : View) → ShowsAt tables (contents old) begun before
-        → (here : View) × PullsMany picks tables first entries count begun before p position here q × ShowsAt tables (contents now) position here
-    pub turn : WritesInTurn honest contents failed may_leave misreads (Unit {0}) ⊥ (ShowsSomeAt tables begun (contents old))
-        (IsAmong picks tables first entries begun (contents old) p) (IsNextOf picks tables first entries position (contents now)) old now
+    pub seen : g.honest now → (before : View) → ShowsAt tables (g.contents old) begun before
+        → (here : View) × PullsMany picks tables first entries count begun before p position here q × ShowsAt tables (g.contents now) position here
+    pub turn : WritesInTurn g (Unit {0}) ⊥ (ShowsSomeAt tables begun (g.contents old))
+        (IsAmong picks tables first entries begun (g.contents old) p) (IsNextOf picks tables first entries position (g.contents now)) old now
 
   -- before the first
-  pub begins : {S : Type 0} (honest : S → Type 0) (contents : S → Contents) (failed : S → ℕ) (may_leave : S → Contents → Type 0) (misreads : S → ℕ) (begun : Position) (old : S) (p : P) (rest : List ToldEntry)
-      → entries ≡ rest → IsWalked honest contents failed may_leave misreads begun old p 0 first rest begun old p
+  pub begins : {S : Type 0} (g : Ghosts S) (begun : Position) (old : S) (p : P) (rest : List ToldEntry)
+      → entries ≡ rest → IsWalked g begun old p 0 first rest begun old p
   unfolding PullsMany
-  begins honest contents failed may_leave misreads begun old p rest is = record {
+  begins g begun old p rest is = record {
     at = 0;
     place = omega arith;
     rest_is = is;
@@ -105,9 +106,9 @@ module _ {P : Type 0} (picks : P → Clash → Wish → P → Type 0) (tables : 
     };
   }
 
-  module _ {S : Type 0} (honest : S → Type 0) (contents : S → Contents) (failed : S → ℕ) (may_leave : S → Contents → Type 0) (misreads : S → ℕ)
+  module _ {S : Type 0} (g : Ghosts S)
       (begun : Position) (old : S) (p : P) (count index : ℕ) (rest : List ToldEntry) (position : Position) (mid : S) (q : P)
-      (walked : IsWalked honest contents failed may_leave misreads begun old p count index rest position mid q) where
+      (walked : IsWalked g begun old p count index rest position mid q) where
     -- at the end
     end_there : (rest ≡ []) ⊎ (position.version < index) → EndsThere picks tables first entries position
     end_there (inl none) told is =
@@ -122,15 +123,15 @@ module _ {P : Type 0} (picks : P → Clash → Wish → P → Type 0) (tables : 
         far (inl less) = omega (arith, less, gap)
         far (inr same) = omega (arith, same, gap, is.place)
 
-    pub end_pulls : (rest ≡ []) ⊎ (position.version < index) → honest mid → (before : View) → ShowsAt tables (contents old) begun before
-        → PullsList picks tables first entries (Ok (Taken count)) begun before p position (contents mid) q
+    pub end_pulls : (rest ≡ []) ⊎ (position.version < index) → g.honest mid → (before : View) → ShowsAt tables (g.contents old) begun before
+        → PullsList picks tables first entries (Ok (Taken count)) begun before p position (g.contents mid) q
     end_pulls none h before shows =
         let here = walked.seen h before shows in
         (here.0, q, here.1, here.2, (end_there none, refl))
 
     -- one is passed over
     pub passed : (told : ToldEntry) (others left : List ToldEntry) → rest ≡ told ∷ others → others ≡ left → index < position.version
-        → IsWalked honest contents failed may_leave misreads begun old p count (index + 1) left position mid q
+        → IsWalked g begun old p count (index + 1) left position mid q
     passed told others left is onwards less = record {
       at = walked.at + 1;
       place = omega (arith, walked.place);
@@ -148,12 +149,12 @@ module _ {P : Type 0} (picks : P → Clash → Wish → P → Type 0) (tables : 
       there = (at_front entries walked.at told others (walked.rest_is ∙ is)).0;
     }
 
-    readable_mid : honest mid → ShowsSomeAt tables begun (contents old) → ShowsSomeAt tables position (contents mid)
+    readable_mid : g.honest mid → ShowsSomeAt tables begun (g.contents old) → ShowsSomeAt tables position (g.contents mid)
     readable_mid h (before, shows) = let here = walked.seen h before shows in (here.0, here.2)
 
     -- what a stop may leave behind one more
-    left_among : (told : ToldEntry) (others : List ToldEntry) → rest ≡ told ∷ others → index ≡ position.version → (next : P) (left : Contents) → honest mid
-        → IsToldPulled picks tables position told q next (contents mid) left → IsAmong picks tables first entries begun (contents old) p left
+    left_among : (told : ToldEntry) (others : List ToldEntry) → rest ≡ told ∷ others → index ≡ position.version → (next : P) (left : Contents) → g.honest mid
+        → IsToldPulled picks tables position told q next (g.contents mid) left → IsAmong picks tables first entries begun (g.contents old) p left
     left_among told others is same next left h (entry, read, pulled) before shows =
         let here = walked.seen h before shows in
         let after = pulled here.0 here.2 in
@@ -161,7 +162,7 @@ module _ {P : Type 0} (picks : P → Clash → Wish → P → Type 0) (tables : 
 
     -- or its commit, where that failed
     next_of : (told : ToldEntry) (others : List ToldEntry) → rest ≡ told ∷ others → index ≡ position.version → (next : P) (left : Contents)
-        → IsToldPulled picks tables position told q next (contents mid) left → IsNextOf picks tables first entries position (contents mid) left
+        → IsToldPulled picks tables position told q next (g.contents mid) left → IsNextOf picks tables first entries position (g.contents mid) left
     unfolding PullsMany
     next_of told others is same next left (entry, read, pulled) = (
       q,
@@ -172,10 +173,10 @@ module _ {P : Type 0} (picks : P → Clash → Wish → P → Type 0) (tables : 
 
     -- one is pulled
     pub pulled_on : (told : ToldEntry) (others left : List ToldEntry) → rest ≡ told ∷ others → others ≡ left → index ≡ position.version → (done : Unit {0}) (other : Position) (new : S) (next : P)
-        → WritesStore honest contents failed may_leave misreads Device (ShowsSomeAt tables position (contents mid)) (IsToldPulled picks tables position told q next (contents mid)) mid new (Ok done)
+        → WritesStore g Device (ShowsSomeAt tables position (g.contents mid)) (IsToldPulled picks tables position told q next (g.contents mid)) mid new (Ok done)
         → other ≡ taken position other.pending
-        → (honest new → ShowsSomeAt tables position (contents mid) → other.pending ≡ len (contents new).pending)
-        → IsWalked honest contents failed may_leave misreads begun old p (count + 1) (index + 1) left other new next
+        → (g.honest new → ShowsSomeAt tables position (g.contents mid) → other.pending ≡ len (g.contents new).pending)
+        → IsWalked g begun old p (count + 1) (index + 1) left other new next
     pulled_on told others left is onwards same done other new next writes moved right = record {
       at = walked.at + 1;
       place = omega (arith, walked.place);
@@ -188,13 +189,13 @@ module _ {P : Type 0} (picks : P → Clash → Wish → P → Type 0) (tables : 
           let told_one = writes.ok h in
           let after = told_one.2 here.0 here.2 in
           let pending = right h (here.0, here.2) in
-          let where_is : other ≡ taken position (len (contents new).pending) = moved ∙ ap (taken position) pending in
+          let where_is : other ≡ taken position (len (g.contents new).pending) = moved ∙ ap (taken position) pending in
           let suc_is : suc count ≡ count + 1 = omega arith in (
             after.0,
             subst (λ (n : ℕ). PullsMany picks tables first entries n begun before p other after.0 next) suc_is
                 (subst (λ (x : Position). PullsMany picks tables first entries (suc count) begun before p x after.0 next) (sym where_is)
-                (pulls_more count begun before p position here.0 q here.1 told told_one.0 (len (contents new).pending) (contents new) after.0 next (told_there told others is same) told_one.1 after.2 after.1)),
-            subst (λ (x : Position). ShowsAt tables (contents new) x after.0) (sym where_is) after.1,
+                (pulls_more count begun before p position here.0 q here.1 told told_one.0 (len (g.contents new).pending) (g.contents new) after.0 next (told_there told others is same) told_one.1 after.2 after.1)),
+            subst (λ (x : Position). ShowsAt tables (g.contents new) x after.0) (sym where_is) after.1,
           );
       turn = record {
         was_honest = λ h. walked.turn.was_honest (writes.was_honest h);
@@ -207,8 +208,8 @@ module _ {P : Type 0} (picks : P → Clash → Wish → P → Type 0) (tables : 
       };
     }
       where
-        twice : honest mid → (left : Contents) → (left ≡ contents new) ⊎ (may_leave mid left × (contents new ≡ contents mid))
-            → (left ≡ contents new) ⊎ ((may_leave old left × (contents new ≡ contents old)) ⊎ ((Unit {0} → ⊥) × IsNextOf picks tables first entries other (contents new) left))
+        twice : g.honest mid → (left : Contents) → (left ≡ g.contents new) ⊎ (g.may_leave mid left × (g.contents new ≡ g.contents mid))
+            → (left ≡ g.contents new) ⊎ ((g.may_leave old left × (g.contents new ≡ g.contents old)) ⊎ ((Unit {0} → ⊥) × IsNextOf picks tables first entries other (g.contents new) left))
         twice h left (inl now) = inl now
         twice h left (inr (may, kept)) =
             elim (walked.turn.durable h left may) [
@@ -217,8 +218,8 @@ module _ {P : Type 0} (picks : P → Clash → Wish → P → Type 0) (tables : 
               | inr (inr (undone, next_one)) ↦ absurd (undone tt)
             ]
 
-        either : honest mid → (left : Contents) → may_leave mid left ⊎ IsToldPulled picks tables position told q next (contents mid) left
-            → may_leave old left ⊎ IsAmong picks tables first entries begun (contents old) p left
+        either : g.honest mid → (left : Contents) → g.may_leave mid left ⊎ IsToldPulled picks tables position told q next (g.contents mid) left
+            → g.may_leave old left ⊎ IsAmong picks tables first entries begun (g.contents old) p left
         either h left (inl may) = walked.turn.crash h left may
         either h left (inr one) = inr (left_among told others is same next left h one)
 
@@ -269,21 +270,21 @@ of_device (Stopped conflict) count result is told = absurd (subst (λ (r : Resul
 of_device Device count result is told = refl
 
 module _ {P S : Type 0} (picks : P → Clash → Wish → P → Type 0) (tables : List TableDef) (first : ℕ) (entries : List ToldEntry)
-    (honest : S → Type 0) (contents : S → Contents) (failed : S → ℕ) (may_leave : S → Contents → Type 0) (misreads : S → ℕ)
+    (g : Ghosts S)
     (begun : Position) (old : S) (p : P) (count index : ℕ) (rest : List ToldEntry) (position : Position) (mid : S) (q : P)
-    (walked : IsWalked picks tables first entries honest contents failed may_leave misreads begun old p count index rest position mid q)
+    (walked : IsWalked picks tables first entries g begun old p count index rest position mid q)
     (told : ToldEntry) (others : List ToldEntry) (is : rest ≡ told ∷ others) (same : index ≡ position.version)
     (fault : PullFault) (new : S) (next : P) (result : Result Pulled AnswerFault) (ended : EndsAt fault count result)
-    (writes : WritesStore honest contents failed may_leave misreads {T = Unit {0}} {E = PullFault} Device (ShowsSomeAt tables position (contents mid)) (IsToldPulled picks tables position told q next (contents mid)) mid new (Err fault)) where
+    (writes : WritesStore g {T = Unit {0}} {E = PullFault} Device (ShowsSomeAt tables position (g.contents mid)) (IsToldPulled picks tables position told q next (g.contents mid)) mid new (Err fault)) where
   -- the list ended at a fault of the next entry
-  pub stopped_pulls : (honest new → (view : View) → ShowsAt tables (contents mid) position view → IsToldFault picks tables position told view q next fault)
-      → honest new → (before : View) → ShowsAt tables (contents old) begun before
-      → PullsList picks tables first entries result begun before p position (contents new) next
+  pub stopped_pulls : (g.honest new → (view : View) → ShowsAt tables (g.contents mid) position view → IsToldFault picks tables position told view q next fault)
+      → g.honest new → (before : View) → ShowsAt tables (g.contents old) begun before
+      → PullsList picks tables first entries result begun before p position (g.contents new) next
   stopped_pulls refused h before shows =
       let mid_honest = writes.was_honest h in
       let here = walked.seen mid_honest before shows in
       let end = ends_at picks tables first entries fault count result told position here.0 q next ended
-      (told_there picks tables first entries honest contents failed may_leave misreads begun old p count index rest position mid q walked told others is same)
+      (told_there picks tables first entries g begun old p count index rest position mid q walked told others is same)
       (refused h here.0 here.2) in (
         here.0,
         q,
@@ -293,8 +294,8 @@ module _ {P S : Type 0} (picks : P → Clash → Wish → P → Type 0) (tables 
       )
 
   pub stopped_turn : fault ≢ Behind → fault ≢ Gap
-      → WritesInTurn honest contents failed may_leave misreads (TakesAll result) (TellsDevice result) (ShowsSomeAt tables begun (contents old))
-      (IsAmong picks tables first entries begun (contents old) p) (IsNextOf picks tables first entries position (contents new)) old new
+      → WritesInTurn g (TakesAll result) (TellsDevice result) (ShowsSomeAt tables begun (g.contents old))
+      (IsAmong picks tables first entries begun (g.contents old) p) (IsNextOf picks tables first entries position (g.contents new)) old new
   stopped_turn behind gap = record {
     was_honest = λ h. walked.turn.was_honest (writes.was_honest h);
     durable = λ h left may. third h left (writes.crash h left may);
@@ -302,18 +303,18 @@ module _ {P S : Type 0} (picks : P → Clash → Wish → P → Type 0) (tables 
     kept = λ finished. absurd (unfinished fault count result behind gap ended finished);
     later = omega (arith, walked.turn.later, writes.later);
     cause = λ device.
-        subst (λ (n : ℕ). MoreFailures n (failed new)) (walked.turn.kept tt)
+        subst (λ (n : ℕ). MoreFailures n (g.failed new)) (walked.turn.kept tt)
         (writes.cause (ap (λ (f : PullFault). Err f) (of_device fault count result ended device)));
-    as_read = λ h readable. writes.as_read h (readable_mid picks tables first entries honest contents failed may_leave misreads begun old p count index rest position mid q walked (writes.was_honest h) readable) ∙ walked.turn.as_read (writes.was_honest h) readable;
+    as_read = λ h readable. writes.as_read h (readable_mid picks tables first entries g begun old p count index rest position mid q walked (writes.was_honest h) readable) ∙ walked.turn.as_read (writes.was_honest h) readable;
   }
     where
-      either : honest mid → (left : Contents) → may_leave mid left ⊎ IsToldPulled picks tables position told q next (contents mid) left
-          → may_leave old left ⊎ IsAmong picks tables first entries begun (contents old) p left
+      either : g.honest mid → (left : Contents) → g.may_leave mid left ⊎ IsToldPulled picks tables position told q next (g.contents mid) left
+          → g.may_leave old left ⊎ IsAmong picks tables first entries begun (g.contents old) p left
       either h left (inl may) = walked.turn.crash h left may
-      either h left (inr one) = inr (left_among picks tables first entries honest contents failed may_leave misreads begun old p count index rest position mid q walked told others is same next left h one)
+      either h left (inr one) = inr (left_among picks tables first entries g begun old p count index rest position mid q walked told others is same next left h one)
 
-      third : honest new → (left : Contents) → may_leave mid left ⊎ IsToldPulled picks tables position told q next (contents mid) left
-          → (left ≡ contents new) ⊎ ((may_leave old left × (contents new ≡ contents old)) ⊎ ((TakesAll result → ⊥) × IsNextOf picks tables first entries position (contents new) left))
+      third : g.honest new → (left : Contents) → g.may_leave mid left ⊎ IsToldPulled picks tables position told q next (g.contents mid) left
+          → (left ≡ g.contents new) ⊎ ((g.may_leave old left × (g.contents new ≡ g.contents old)) ⊎ ((TakesAll result → ⊥) × IsNextOf picks tables first entries position (g.contents new) left))
       third h left (inl may) =
           elim (walked.turn.durable (writes.was_honest h) left may) [
             | inl now ↦ inl (now ∙ sym (writes.err h))
@@ -324,5 +325,5 @@ module _ {P S : Type 0} (picks : P → Clash → Wish → P → Type 0) (tables 
           inr (inr (
             unfinished fault count result behind gap ended,
             subst (λ (c : Contents). IsNextOf picks tables first entries position c left) (sym (writes.err h))
-                (next_of picks tables first entries honest contents failed may_leave misreads begun old p count index rest position mid q walked told others is same next left one),
+                (next_of picks tables first entries g begun old p count index rest position mid q walked told others is same next left one),
           ))

@@ -42,7 +42,7 @@ fn pull_told<S: RowStore, P: Picker>(
 ) -> Result<(), PullFault>
     requires ready { P.is_ready picker.old }
     ensures ready { P.is_ready picker.new }
-    ensures writes { WritesStore S.honest S.contents S.failed S.may_leave S.misreads Device
+    ensures writes { WritesStore S.RowStore Device
         (ShowsSomeAt catalog.now position.old (S.contents store.old))
         (IsToldPulled P.picks catalog.now position.old told.now picker.old picker.new (S.contents store.old)) store.old store.new result }
     ensures room { OnOk result (position.old.version < 2 ^ 64 - 1) }
@@ -103,7 +103,7 @@ pub fn take_entries<S: RowStore, P: Picker>(
         → PullsList P.picks catalog.now first entries.now result position.old before picker.old position.new (S.contents store.new) picker.new }
 
     // Each in a commit of its own.
-    ensures writes { WritesInTurn S.honest S.contents S.failed S.may_leave S.misreads (TakesAll result) (TellsDevice result)
+    ensures writes { WritesInTurn S.RowStore (TakesAll result) (TellsDevice result)
         (ShowsSomeAt catalog.now position.old (S.contents store.old))
         (IsAmong P.picks catalog.now first entries.now position.old (S.contents store.old) picker.old)
         (IsNextOf P.picks catalog.now first entries.now position.new (S.contents store.new)) store.old store.new }

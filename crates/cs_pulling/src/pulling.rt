@@ -64,7 +64,7 @@ pub(crate) fn take_next<S: RowStore, P: Picker>(
 ) -> Result<(), PullFault>
     requires ready { P.is_ready picker.old }
     ensures ready { P.is_ready picker.new }
-    ensures writes { WritesStore S.honest S.contents S.failed S.may_leave S.misreads Device
+    ensures writes { WritesStore S.RowStore Device
         (ShowsSomeAt catalog.now position.old (S.contents store.old))
         (IsPulledIn P.picks catalog.now position.old entry.now picker.old picker.new (S.contents store.old)) store.old store.new result }
     ensures room { OnOk result (position.old.version < 2 ^ 64 - 1) }
@@ -109,7 +109,7 @@ pub fn take_entry<S: RowStore, P: Picker>(
     ensures ready { P.is_ready picker.new }
 
     // The entry was pulled, in one commit, or nothing has changed.
-    ensures writes { WritesStore S.honest S.contents S.failed S.may_leave S.misreads Device
+    ensures writes { WritesStore S.RowStore Device
         (ShowsSomeAt catalog.now position.old (S.contents store.old))
         (IsPulledAt P.picks catalog.now position.old index entry.now picker.old picker.new (S.contents store.old)) store.old store.new result }
 

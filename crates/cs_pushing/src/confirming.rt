@@ -28,7 +28,7 @@ pub fn confirm<S: RowStore>(
     requires room { position.old.version < 2 ^ 64 - 1 }
 
     // The store was written once and whole, or not at all.
-    ensures writes { WritesStore S.honest S.contents S.failed S.may_leave S.misreads Device
+    ensures writes { WritesStore S.RowStore Device
         (ShowsSomeAt catalog.now position.old (S.contents store.old))
         (IsConfirmedIn catalog.now position.old (S.contents store.old)) store.old store.new result }
 

@@ -43,7 +43,7 @@ fn outgoing<S: RowStore>(
     store: &mut S,
     catalog: &Catalog,
 ) -> Result<Normal, PushFault>
-    ensures reads { ReadsStore S.honest S.contents S.failed S.may_leave S.misreads Device
+    ensures reads { ReadsStore S.RowStore Device
         (ShowsSome catalog.now (S.contents store.old)) store.old store.new result }
     ensures gathered { S.honest store.new → (view : View) → ShowsRows catalog.now (S.contents store.old) view
         → IfOk result (IsSent catalog.now view) }
@@ -66,7 +66,7 @@ fn store_push<S: RowStore>(
     position: &Position,
 ) -> Result<(RequestBuf, Normal), PushFault>
     requires { IsReady position.now }
-    ensures writes { WritesStore S.honest S.contents S.failed S.may_leave S.misreads Device
+    ensures writes { WritesStore S.RowStore Device
         (ShowsSomeAt catalog.now position.now (S.contents store.old))
         (IsPushMadeIn catalog.now position.now (S.contents store.old)) store.old store.new result }
     ensures request { IfOk result (λ made. asked_by_owned made.0 ≡ request_of (pushed position.now made.1) made.1) }
@@ -115,7 +115,7 @@ pub fn make_push<S: RowStore>(
     position: &mut Position,
 ) -> Result<RequestBuf, PushFault>
     // The store was written once and whole, or not at all.
-    ensures writes { WritesStore S.honest S.contents S.failed S.may_leave S.misreads Device
+    ensures writes { WritesStore S.RowStore Device
         (ShowsSomeAt catalog.now position.old (S.contents store.old))
         (IsPushMadeIn catalog.now position.old (S.contents store.old)) store.old store.new result }
 

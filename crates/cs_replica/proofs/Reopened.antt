@@ -5,6 +5,7 @@ use Rattle.std.specs.List.{AllByRecursion}
 use Rattle.cs_value.specs.Catalog.{AreTables}
 use Rattle.cs_value.specs.declared.catalog.TableDef.{TableDef}
 use Rattle.cs_store.specs.Contents.{Contents}
+use Rattle.cs_store.specs.declared.store.RowStore.{Ghosts}
 use Rattle.cs_pending.specs.Calls.{WritesStore}
 use Rattle.cs_position.specs.Laws.{FitsPosition}
 use Rattle.cs_position.specs.Shows.{ShowsSomeAt}
@@ -38,18 +39,18 @@ module _ (some : NothingShowsNone) (tables : List TableDef) (position : Position
   none_told none are named fits Mismatch told =
       absurd (none tables position.id old old position Mismatch are named (opened_there fits) ((λ e. cc), (λ e. cc)) told)
 
-module _ {S : Type 0} (honest : S → Type 0) (contents : S → Contents) (failed : S → ℕ) (may_leave : S → Contents → Type 0) (misreads : S → ℕ)
-    (some : NothingShowsNone) (tables : List TableDef) (position : Position) (old new : S) (id : ℕ) (shown : honest old → ShowsSomeAt tables position (contents old)) where
-  crash_same : (w : honest old) (left : Contents) → may_leave old left ⊎ IsSameOrFirst tables id (contents old) left → may_leave old left ⊎ (left ≡ contents old)
+module _ {S : Type 0} (g : Ghosts S)
+    (some : NothingShowsNone) (tables : List TableDef) (position : Position) (old new : S) (id : ℕ) (shown : g.honest old → ShowsSomeAt tables position (g.contents old)) where
+  crash_same : (w : g.honest old) (left : Contents) → g.may_leave old left ⊎ IsSameOrFirst tables id (g.contents old) left → g.may_leave old left ⊎ (left ≡ g.contents old)
   crash_same h left (inl may) = inl may
-  crash_same h left (inr is) = inr (as_it_was some tables position (contents old) (shown h) id left is)
+  crash_same h left (inr is) = inr (as_it_was some tables position (g.contents old) (shown h) id left is)
 
   pub reopened : (read : Position)
-      → WritesStore honest contents failed may_leave misreads {T = Position} {E = OpenFault} Device (Unit {0}) (IsSameOrFirst tables id (contents old)) old new (Ok read)
-      → WritesStore honest contents failed may_leave misreads {T = Position} {E = OpenFault} Device (Unit {0}) (λ left. left ≡ contents old) old new (Ok read)
+      → WritesStore g {T = Position} {E = OpenFault} Device (Unit {0}) (IsSameOrFirst tables id (g.contents old)) old new (Ok read)
+      → WritesStore g {T = Position} {E = OpenFault} Device (Unit {0}) (λ left. left ≡ g.contents old) old new (Ok read)
   reopened read w = record {
     was_honest = w.was_honest;
-    ok = λ h. as_it_was some tables position (contents old) (shown (w.was_honest h)) id (contents new) (w.ok h);
+    ok = λ h. as_it_was some tables position (g.contents old) (shown (w.was_honest h)) id (g.contents new) (w.ok h);
     err = w.err;
     durable = w.durable;
     crash = λ h left may. crash_same (w.was_honest h) left (w.crash h left may);
@@ -60,8 +61,8 @@ module _ {S : Type 0} (honest : S → Type 0) (contents : S → Contents) (faile
   }
 
   pub not_reopened : (fault : OpenFault)
-      → WritesStore honest contents failed may_leave misreads {T = Position} {E = OpenFault} Device (Unit {0}) (IsSameOrFirst tables id (contents old)) old new (Err fault)
-      → WritesStore honest contents failed may_leave misreads {T = Position} {E = OpenFault} Device (Unit {0}) (λ left. left ≡ contents old) old new (Err fault)
+      → WritesStore g {T = Position} {E = OpenFault} Device (Unit {0}) (IsSameOrFirst tables id (g.contents old)) old new (Err fault)
+      → WritesStore g {T = Position} {E = OpenFault} Device (Unit {0}) (λ left. left ≡ g.contents old) old new (Err fault)
   not_reopened fault w = record {
     was_honest = w.was_honest;
     ok = w.ok;

@@ -2,6 +2,7 @@
 use Rattle.std.specs.Prelude.{List}
 use Rattle.cs_value.specs.declared.catalog.TableDef.{TableDef}
 use Rattle.cs_store.specs.Contents.{Contents}
+use Rattle.cs_store.specs.declared.store.RowStore.{Ghosts}
 use Rattle.cs_pending.specs.View.{View}
 use Rattle.cs_position.specs.Shows.{ShowsAt, ShowsSomeAt}
 use Rattle.cs_position.specs.declared.position.Position.{Position}
@@ -17,5 +18,5 @@ abbrev pub Shows : {S : Type 0} → (S → Contents) → Holding S → View → 
 Shows contents held view = ShowsAt held.catalog (contents held.store) held.position view
 
 -- where the store is honest, it shows a replica at the position
-abbrev pub ShowsWhereHonest : {S : Type 0} → (S → Type 0) → (S → Contents) → Holding S → Type 0
-ShowsWhereHonest honest contents held = honest held.store → ShowsSomeAt held.catalog held.position (contents held.store)
+abbrev pub ShowsWhereHonest : {S : Type 0} → Ghosts S → Holding S → Type 0
+ShowsWhereHonest g held = g.honest held.store → ShowsSomeAt held.catalog held.position (g.contents held.store)

@@ -44,7 +44,7 @@ fn accept_at<S: RowStore>(
 ) -> Result<Told, AnswerFault>
     ensures told { S.honest store.new → (before : View) → ShowsAt catalog.now (S.contents store.old) position.old before
         → TellsAccepted origin number version result position.old position.new × ShowsAt catalog.now (S.contents store.new) position.new before }
-    ensures writes { WritesInTurn S.honest S.contents S.failed S.may_leave S.misreads (IsDone result) (SaysDevice result)
+    ensures writes { WritesInTurn S.RowStore (IsDone result) (SaysDevice result)
         (ShowsSomeAt catalog.now position.old (S.contents store.old))
         (λ left. IsAccepted position.old origin number version × IsConfirmedIn catalog.now position.old (S.contents store.old) left)
         (λ left. IsAccepted position.new origin number version × IsConfirmedIn catalog.now position.new (S.contents store.new) left) store.old store.new }
@@ -73,7 +73,7 @@ pub(crate) fn answer_at<S: RowStore, P: Picker>(
     ensures ready { P.is_ready picker.new }
     ensures told { S.honest store.new → (before : View) → ShowsAt catalog.now (S.contents store.old) position.old before
         → Answers P.picks catalog.now answer.now result position.old before picker.old position.new (S.contents store.new) picker.new }
-    ensures writes { WritesInTurn S.honest S.contents S.failed S.may_leave S.misreads (IsDone result) (SaysDevice result)
+    ensures writes { WritesInTurn S.RowStore (IsDone result) (SaysDevice result)
         (ShowsSomeAt catalog.now position.old (S.contents store.old))
         (IsAnsweredAmong P.picks catalog.now answer.now position.old (S.contents store.old) picker.old)
         (IsAnsweredNext P.picks catalog.now answer.now position.new (S.contents store.new)) store.old store.new }

@@ -25,7 +25,7 @@ pub(crate) fn insert_at<S: RowStore>(
     name: &str,
     row: &Row,
 ) -> Result<(), EditFault>
-    ensures writes { WritesStore S.honest S.contents S.failed S.may_leave S.misreads Device (ShowsSomeAt catalog.now position.old (S.contents store.old))
+    ensures writes { WritesStore S.RowStore Device (ShowsSomeAt catalog.now position.old (S.contents store.old))
         (IsEditedIn catalog.now position.old name.now (AskInsert row.now) (S.contents store.old)) store.old store.new result }
     ensures refused { S.honest store.new → (view : View) → ShowsAt catalog.now (S.contents store.old) position.old view
         → IfErr result (λ fault. IsOfStore fault ⊎ (edit catalog.now name.now (AskInsert row.now) view ≡ Err fault)) }
@@ -56,7 +56,7 @@ pub(crate) fn update_at<S: RowStore>(
     key: &Key,
     fields: &[Field],
 ) -> Result<(), EditFault>
-    ensures writes { WritesStore S.honest S.contents S.failed S.may_leave S.misreads Device (ShowsSomeAt catalog.now position.old (S.contents store.old))
+    ensures writes { WritesStore S.RowStore Device (ShowsSomeAt catalog.now position.old (S.contents store.old))
         (IsEditedIn catalog.now position.old name.now (AskUpdate key.now fields.now) (S.contents store.old)) store.old store.new result }
     ensures refused { S.honest store.new → (view : View) → ShowsAt catalog.now (S.contents store.old) position.old view
         → IfErr result (λ fault. IsOfStore fault ⊎ (edit catalog.now name.now (AskUpdate key.now fields.now) view ≡ Err fault)) }
@@ -86,7 +86,7 @@ pub(crate) fn delete_at<S: RowStore>(
     name: &str,
     key: &Key,
 ) -> Result<(), EditFault>
-    ensures writes { WritesStore S.honest S.contents S.failed S.may_leave S.misreads Device (ShowsSomeAt catalog.now position.old (S.contents store.old))
+    ensures writes { WritesStore S.RowStore Device (ShowsSomeAt catalog.now position.old (S.contents store.old))
         (IsEditedIn catalog.now position.old name.now (AskDelete key.now) (S.contents store.old)) store.old store.new result }
     ensures refused { S.honest store.new → (view : View) → ShowsAt catalog.now (S.contents store.old) position.old view
         → IfErr result (λ fault. IsOfStore fault ⊎ (edit catalog.now name.now (AskDelete key.now) view ≡ Err fault)) }

@@ -41,7 +41,7 @@ pub(crate) fn reopen_at<S: RowStore>(
     position: &Position,
 ) -> Result<Position, OpenFault>
     ensures reopens { (S.honest store.old → ShowsSomeAt catalog.now position.now (S.contents store.old))
-        → WritesStore S.honest S.contents S.failed S.may_leave S.misreads Device (Unit {0}) (λ left. left ≡ S.contents store.old) store.old store.new result }
+        → WritesStore S.RowStore Device (Unit {0}) (λ left. left ≡ S.contents store.old) store.old store.new result }
     ensures same { S.honest store.new → ShowsSomeAt catalog.now position.now (S.contents store.old) → IfOk result (λ read. read ≡ position.now) }
     ensures refused { S.honest store.new → ShowsSomeAt catalog.now position.now (S.contents store.old)
         → IfErr result (λ fault. (fault ≡ Memory) ⊎ (fault ≡ Device)) }

@@ -63,7 +63,7 @@ impl<S: RowStore> Model for Replica<S> {
 
     ghost view = { λ r. record { store = r.store; catalog = r.catalog; position = r.position } };
 
-    ghost invariant = { λ r. ShowsWhereHonest S.honest S.contents (record { store = r.store; catalog = r.catalog; position = r.position }) };
+    ghost invariant = { λ r. ShowsWhereHonest S.RowStore (record { store = r.store; catalog = r.catalog; position = r.position }) };
 }
 
 impl<S: RowStore> Replica<S> {
@@ -98,8 +98,8 @@ impl<S: RowStore> Replica<S> {
 
         // What a stop leaves, and how the count of failures goes.
         ensures opens { MatchResult result
-            (λ replica. Opens S.honest S.contents S.failed S.may_leave S.misreads catalog.now id store replica.store (Ok tt))
-            (λ told. Opens S.honest S.contents S.failed S.may_leave S.misreads catalog.now id store told.0 (Err told.1)) }
+            (λ replica. Opens S.RowStore catalog.now id store replica.store (Ok tt))
+            (λ told. Opens S.RowStore catalog.now id store told.0 (Err told.1)) }
     {
         let mut store = store;
         let copied = match catalog.copy(alloc) {
@@ -123,7 +123,7 @@ impl<S: RowStore> Replica<S> {
     /// `Memory` and `Device`, and of a store that isn't as it was left those of `open`. What it holds in memory stays then.
     pub fn reload(&mut self, alloc: Global) -> Result<(), OpenFault>
         // The store holds what it held, and the replica is where it was.
-        ensures reopens { Reopens S.honest S.contents S.failed S.may_leave S.misreads self.old.store self.new.store result }
+        ensures reopens { Reopens S.RowStore self.old.store self.new.store result }
         ensures same { S.honest self.new.store → self.new.position ≡ self.old.position }
 
         // Of a store that is as it was left nothing else is told.
@@ -170,7 +170,7 @@ impl<S: RowStore> Replica<S> {
             → IfOk result (IsOutgoing self.old.catalog view.pending) }
 
         // The store is only read, and the replica stays as it is.
-        ensures reads { ReadsStore S.honest S.contents S.failed S.may_leave S.misreads stored.Device
+        ensures reads { ReadsStore S.RowStore stored.Device
             (ShowsSomeAt self.old.catalog self.old.position (S.contents self.old.store)) self.old.store self.new.store result }
         ensures catalog { self.new.catalog ≡ self.old.catalog }
         ensures kept { self.new.position ≡ self.old.position }
@@ -187,7 +187,7 @@ impl<S: RowStore> Replica<S> {
         ensures none { length self.old.catalog ≤ table → IfOk result (λ rows. rows.items ≡ []) }
 
         // The store is only read, and the replica stays as it is.
-        ensures reads { ReadsStore S.honest S.contents S.failed S.may_leave S.misreads stored.Device
+        ensures reads { ReadsStore S.RowStore stored.Device
             (ShowsSomeAt self.old.catalog self.old.position (S.contents self.old.store)) self.old.store self.new.store result }
         ensures catalog { self.new.catalog ≡ self.old.catalog }
         ensures kept { self.new.position ≡ self.old.position }
@@ -199,7 +199,7 @@ impl<S: RowStore> Replica<S> {
     /// told: `NoTable`, `Width`, `NullKey`, `Exists`. (Profile of this project.)
     pub fn insert(&mut self, alloc: Global, table: &str, row: &Row) -> Result<(), EditFault>
         // The edit is made, in one commit; at `Err` nothing has changed.
-        ensures writes { WritesStore S.honest S.contents S.failed S.may_leave S.misreads Device (ShowsSomeAt self.old.catalog self.old.position (S.contents self.old.store))
+        ensures writes { WritesStore S.RowStore Device (ShowsSomeAt self.old.catalog self.old.position (S.contents self.old.store))
             (IsEditedIn self.old.catalog self.old.position table.now (AskInsert row.now) (S.contents self.old.store)) self.old.store self.new.store result }
 
         // What is told is the fault of the edit, or one of the store.
@@ -232,7 +232,7 @@ impl<S: RowStore> Replica<S> {
         fields: &[Field],
     ) -> Result<(), EditFault>
         // The edit is made, in one commit; at `Err` nothing has changed.
-        ensures writes { WritesStore S.honest S.contents S.failed S.may_leave S.misreads Device (ShowsSomeAt self.old.catalog self.old.position (S.contents self.old.store))
+        ensures writes { WritesStore S.RowStore Device (ShowsSomeAt self.old.catalog self.old.position (S.contents self.old.store))
             (IsEditedIn self.old.catalog self.old.position table.now (AskUpdate key.now fields.now) (S.contents self.old.store)) self.old.store self.new.store result }
 
         // What is told is the fault of the edit, or one of the store.
@@ -259,7 +259,7 @@ impl<S: RowStore> Replica<S> {
     /// project.)
     pub fn delete(&mut self, alloc: Global, table: &str, key: &Key) -> Result<(), EditFault>
         // The edit is made, in one commit; at `Err` nothing has changed.
-        ensures writes { WritesStore S.honest S.contents S.failed S.may_leave S.misreads Device (ShowsSomeAt self.old.catalog self.old.position (S.contents self.old.store))
+        ensures writes { WritesStore S.RowStore Device (ShowsSomeAt self.old.catalog self.old.position (S.contents self.old.store))
             (IsEditedIn self.old.catalog self.old.position table.now (AskDelete key.now) (S.contents self.old.store)) self.old.store self.new.store result }
 
         // What is told is the fault of the edit, or one of the store.
@@ -285,7 +285,7 @@ impl<S: RowStore> Replica<S> {
     /// of it. The first fault that holds is told: `Nothing`, `InFlight`, `Spent`, `TooLarge`. (Profile of this project.)
     pub fn make_push(&mut self, alloc: Global) -> Result<RequestBuf, PushFault>
         // What was pending is under way, in one commit; at `Err` nothing has changed.
-        ensures writes { WritesStore S.honest S.contents S.failed S.may_leave S.misreads push.Device (ShowsSomeAt self.old.catalog self.old.position (S.contents self.old.store))
+        ensures writes { WritesStore S.RowStore push.Device (ShowsSomeAt self.old.catalog self.old.position (S.contents self.old.store))
             (IsPushMadeIn self.old.catalog self.old.position (S.contents self.old.store)) self.old.store self.new.store result }
 
         // The request is of the push that is under way, and can be written.
@@ -350,7 +350,7 @@ impl<S: RowStore> Replica<S> {
         ensures ready { P.is_ready picker.new }
 
         // The entry was taken, in one commit, or nothing has changed.
-        ensures writes { WritesStore S.honest S.contents S.failed S.may_leave S.misreads pull.Device (ShowsSomeAt self.old.catalog self.old.position (S.contents self.old.store))
+        ensures writes { WritesStore S.RowStore pull.Device (ShowsSomeAt self.old.catalog self.old.position (S.contents self.old.store))
             (IsPulledAt P.picks self.old.catalog self.old.position index entry.now picker.old picker.new (S.contents self.old.store)) self.old.store self.new.store result }
 
         // It was the one at the version, and the replica is behind it.
@@ -394,7 +394,7 @@ impl<S: RowStore> Replica<S> {
             → Answers P.picks self.old.catalog answer.now result self.old.position before picker.old self.new.position (S.contents self.new.store) picker.new }
 
         // In whole commits, one after another.
-        ensures writes { WritesInTurn S.honest S.contents S.failed S.may_leave S.misreads (IsDone result) (SaysDevice result)
+        ensures writes { WritesInTurn S.RowStore (IsDone result) (SaysDevice result)
             (ShowsSomeAt self.old.catalog self.old.position (S.contents self.old.store))
             (IsAnsweredAmong P.picks self.old.catalog answer.now self.old.position (S.contents self.old.store) picker.old)
             (IsAnsweredNext P.picks self.old.catalog answer.now self.new.position (S.contents self.new.store)) self.old.store self.new.store }

@@ -23,7 +23,7 @@ pub(crate) fn gather_at<S: RowStore>(
     catalog: &Catalog,
     _position: &Position,
 ) -> Result<Outgoing, StoreFault>
-    ensures reads { ReadsStore S.honest S.contents S.failed S.may_leave S.misreads Device
+    ensures reads { ReadsStore S.RowStore Device
         (ShowsSomeAt catalog.now _position.now (S.contents store.old)) store.old store.new result }
     ensures gathered { S.honest store.new → (view : View) → ShowsAt catalog.now (S.contents store.old) _position.now view
         → IfOk result (IsOutgoing catalog.now view.pending) }
@@ -42,7 +42,7 @@ pub(crate) fn rows_at<S: RowStore>(
     _position: &Position,
     table: usize,
 ) -> Result<Vec<RowAtKey>, StoreFault>
-    ensures reads { ReadsStore S.honest S.contents S.failed S.may_leave S.misreads Device
+    ensures reads { ReadsStore S.RowStore Device
         (ShowsSomeAt catalog.now _position.now (S.contents store.old)) store.old store.new result }
     ensures listed { S.honest store.new → (view : View) → ShowsAt catalog.now (S.contents store.old) _position.now view → (def : TableDef)
         → slice_get catalog.now table ≡ Some def → IfOk result (λ rows. AreRowsOf (view.tables def.name) rows.items) }

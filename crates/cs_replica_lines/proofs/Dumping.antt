@@ -5,7 +5,7 @@ use Rattle.cs_member.specs.Member.{AreRowsIn, Member, Turns, member_of}
 use Rattle.cs_normal.specs.State.{State}
 use Rattle.cs_pending.specs.View.{View}
 use Rattle.cs_replica.specs.Holding.{Holding, Shows}
-use Rattle.cs_store.specs.Contents.{Contents}
+use Rattle.cs_store.specs.declared.store.RowStore.{Ghosts}
 use Rattle.cs_value.specs.Catalog.{AreTables}
 use Rattle.cs_value.specs.declared.catalog.TableDef.{TableDef}
 use Rattle.cs_value.specs.declared.value.Value.{Value}
@@ -35,12 +35,12 @@ pub drop_all : {A : Type 0} (xs : List A) → drop (length xs) xs ≡ []
 drop_all [] = refl
 drop_all (x ∷ xs) = drop_all xs
 
-module _ {S : Type 0} (honest : S → Type 0) (contents : S → Contents) where
+module _ {S : Type 0} (g : Ghosts S) where
   -- a table's lines were put behind a text
   pub put_one : (tables : List TableDef) (old new : Holding S) (table : ℕ) (def : TableDef) (rows : List (List ℕ × List Value)) (start now : List ℕ)
-      → slice_get old.catalog table ≡ Some def → Turns honest contents (λ before after. after ≡ before) old new
-      → (honest new.store → (view : View) → Shows contents old view → AreRowsIn old.catalog view.tables table rows) → now ≡ start ++ rows_text def.name rows
-      → Turns honest contents (λ (before : Member) (after : Member). (after ≡ before) × PutsTable before.view.tables def.name start now) old new
+      → slice_get old.catalog table ≡ Some def → Turns g (λ before after. after ≡ before) old new
+      → (g.honest new.store → (view : View) → Shows g.contents old view → AreRowsIn old.catalog view.tables table rows) → now ≡ start ++ rows_text def.name rows
+      → Turns g (λ (before : Member) (after : Member). (after ≡ before) × PutsTable before.view.tables def.name start now) old new
   put_one tables old new table def rows start now there kept listed is = record {
     was_honest = kept.was_honest;
     catalog = kept.catalog;
@@ -56,7 +56,7 @@ module _ {S : Type 0} (honest : S → Type 0) (contents : S → Contents) where
 
   abbrev pub IsDumping : List TableDef → ℕ → List ℕ → List ℕ → Holding S → Holding S → Type 0
   IsDumping tables table start now old held =
-      Turns honest contents (λ (before : Member) (after : Member). (after ≡ before) × PutsRest tables table before.view.tables start now) old held
+      Turns g (λ (before : Member) (after : Member). (after ≡ before) × PutsRest tables table before.view.tables start now) old held
 
   pub dumping_first : (tables : List TableDef) (start : List ℕ) (held : Holding S) → IsDumping tables 0 start start held held
   dumping_first tables start held = record {
@@ -67,7 +67,7 @@ module _ {S : Type 0} (honest : S → Type 0) (contents : S → Contents) where
 
   pub dumping_on : (tables : List TableDef) (table : ℕ) (def : TableDef) (start now next : List ℕ) (old mid new : Holding S)
       → slice_get tables table ≡ Some def → IsDumping tables table start now old mid
-      → Turns honest contents (λ (before : Member) (after : Member). (after ≡ before) × PutsTable before.view.tables def.name now next) mid new
+      → Turns g (λ (before : Member) (after : Member). (after ≡ before) × PutsTable before.view.tables def.name now next) mid new
       → IsDumping tables (table + 1) start next old new
   dumping_on tables table def start now next old mid new there some one = record {
     was_honest = λ h. some.was_honest (one.was_honest h);
@@ -92,7 +92,7 @@ module _ {S : Type 0} (honest : S → Type 0) (contents : S → Contents) where
 
   -- none are left
   pub dumping_last : (tables : List TableDef) (table : ℕ) (start now : List ℕ) (old new : Holding S) → drop table tables ≡ [] → IsDumping tables table start now old new
-      → Turns honest contents (λ (before : Member) (after : Member). (after ≡ before) × PutsRows tables before.view.tables start now) old new
+      → Turns g (λ (before : Member) (after : Member). (after ≡ before) × PutsRows tables before.view.tables start now) old new
   dumping_last tables table start now old new none some = record {
     was_honest = some.was_honest;
     catalog = some.catalog;
@@ -104,8 +104,8 @@ module _ {S : Type 0} (honest : S → Type 0) (contents : S → Contents) where
 
   -- nothing more is known where it ended early
   pub dumping_failed : (tables : List TableDef) (table : ℕ) (start now : List ℕ) (P Q : Member → Type 0) (old mid new : Holding S) → IsDumping tables table start now old mid
-      → Turns honest contents (λ (before : Member) (after : Member). (after ≡ before) × P before) mid new → ((m : Member) → Q m)
-      → Turns honest contents (λ (before : Member) (after : Member). (after ≡ before) × Q before) old new
+      → Turns g (λ (before : Member) (after : Member). (after ≡ before) × P before) mid new → ((m : Member) → Q m)
+      → Turns g (λ (before : Member) (after : Member). (after ≡ before) × Q before) old new
   dumping_failed tables table start now P Q old mid new some one any = record {
     was_honest = λ h. some.was_honest (one.was_honest h);
     catalog = one.catalog ∙ some.catalog;

@@ -30,7 +30,7 @@ module _ {S : Type 0} (g : Ghosts S) where
   -- what a call's step leads to, between the counts
   pub counted_as : (old new : Holding S) (P : Member → Member → Type 0) (Q : ℕ → ℕ → Member → Member → Type 0) → g.failed old.store ≤ g.failed new.store
       → ((before after : Member) → P before after → Q (g.failed old.store) (g.failed new.store) before after)
-      → Turns g.honest g.contents P old new → Counted g Q old new
+      → Turns g P old new → Counted g Q old new
   counted_as old new P Q later leads turns = record {
     later = later;
     turns = record {
@@ -76,7 +76,7 @@ module _ {S : Type 0} (g : Ghosts S) where
   -- ---- a push
 
   pub push_made : (result : Result RequestBuf PushFault) (text : List ℕ) (old new : Holding S) → text ≡ pushed_text result
-      → Turns g.honest g.contents (IsPushedTo old.catalog result) old new → Counts g (result ≡ Err pushes.Device) old new
+      → Turns g (IsPushedTo old.catalog result) old new → Counts g (result ≡ Err pushes.Device) old new
       → Counted g (λ had has before after. LineStep old.catalog had has before line.Push text after) old new
   push_made result text old new says turns counts =
       counted_as old new (IsPushedTo old.catalog result) (λ had has before after. LineStep old.catalog had has before line.Push text after) counts.later
@@ -86,7 +86,7 @@ module _ {S : Type 0} (g : Ghosts S) where
 
   pub answer_told : (bytes : List ℕ) (wishes : List Wish) (answer : Answer) (result : Result Told AnswerFault) (version : ℕ) (old new : Holding S)
       → FitsAnswer answer → bytes ≡ answer_spelling answer → version ≡ new.position.version
-      → Turns g.honest g.contents (λ before after. Hears old.catalog before answer wishes result after) old new → Counts g (SaysDevice result) old new
+      → Turns g (λ before after. Hears old.catalog before answer wishes result after) old new → Counts g (SaysDevice result) old new
       → Counted g (λ had has before after. LineStep old.catalog had has before (line.Answer bytes wishes) (heard_text result version) after) old new
   answer_told bytes wishes answer result version old new fits is at turns counts = record {
     later = counts.later;

@@ -29,7 +29,7 @@ AreSteps id tables asks texts had has before after = before.position.id ≡ id �
 -- the step was made between the store's counts of failures, which didn't fall
 pub record Counted {S : Type 0} (g : Ghosts S) (step : ℕ → ℕ → Member → Member → Type 0) (old new : Holding S) : Type 0 where
   pub later : g.failed old.store ≤ g.failed new.store
-  pub turns : Turns g.honest g.contents (step (g.failed old.store) (g.failed new.store)) old new
+  pub turns : Turns g (step (g.failed old.store) (g.failed new.store)) old new
 
 -- the reply has the text
 abbrev pub Says : Result Reply AllocError → List ℕ → Type 0

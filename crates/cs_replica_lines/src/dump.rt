@@ -70,7 +70,7 @@ fn put_table<S: RowStore>(
     text: &mut String,
 ) -> Result<(), StoreFault>
     requires { slice_get replica.old.catalog table ≡ Some def.now }
-    ensures turned { Turns S.honest S.contents (λ (before : Member) (after : Member). (after ≡ before)
+    ensures turned { Turns S.RowStore (λ (before : Member) (after : Member). (after ≡ before)
         × OnOk result (PutsTable before.view.tables def.now.name (string_bytes text.old) (string_bytes text.new))) replica.old replica.new }
     ensures counts { Counts S.RowStore (result ≡ Err stored.Device) replica.old replica.new }
 {
@@ -88,7 +88,7 @@ fn put_tables<S: RowStore>(
     text: &mut String,
 ) -> Result<(), StoreFault>
     requires { replica.old.catalog ≡ catalog.now }
-    ensures turned { Turns S.honest S.contents (λ (before : Member) (after : Member). (after ≡ before)
+    ensures turned { Turns S.RowStore (λ (before : Member) (after : Member). (after ≡ before)
         × OnOk result (PutsRows catalog.now before.view.tables (string_bytes text.old) (string_bytes text.new))) replica.old replica.new }
     ensures counts { Counts S.RowStore (result ≡ Err stored.Device) replica.old replica.new }
 {
@@ -113,7 +113,7 @@ pub(crate) fn dump_of<S: RowStore>(
     id: u32,
 ) -> Result<String, StoreFault>
     requires { replica.old.catalog ≡ catalog.now }
-    ensures turned { Turns S.honest S.contents (λ (before : Member) (after : Member). (after ≡ before)
+    ensures turned { Turns S.RowStore (λ (before : Member) (after : Member). (after ≡ before)
         × (before.position.id ≡ id → IfOk result (λ text. IsDumped catalog.now before (string_bytes text)))) replica.old replica.new }
     ensures counts { Counts S.RowStore (result ≡ Err stored.Device) replica.old replica.new }
 {

@@ -54,7 +54,7 @@ fn rows_in(
 
 /// The bodies of the rows of a table, by its number.
 fn list_bodies<S: RowStore>(store: &mut S, number: u32) -> Result<Vec<StoredBody>, StoreFault>
-    ensures reads { ReadsStore S.honest S.contents S.failed S.may_leave S.misreads Device (Unit {0}) store.old store.new result }
+    ensures reads { ReadsStore S.RowStore Device (Unit {0}) store.old store.new result }
     ensures listed { S.honest store.new → IfOk result (λ listed. IsListing (stored_tables (S.contents store.old) number) (pairs_of listed.items)) }
 {
     match store.list(number) {
@@ -72,7 +72,7 @@ fn read_rows<S: RowStore>(
     number: u32,
 ) -> Result<Vec<RowAtKey>, StoreFault>
     requires { slice_get catalog.now number ≡ Some table.now }
-    ensures reads { ReadsStore S.honest S.contents S.failed S.may_leave S.misreads Device
+    ensures reads { ReadsStore S.RowStore Device
         (ShowsSome catalog.now (S.contents store.old)) store.old store.new result }
     ensures listed { S.honest store.new → (view : View) → ShowsRows catalog.now (S.contents store.old) view
         → IfOk result (λ rows. AreRowsOf (view.tables table.now.name) rows.items) }
@@ -100,7 +100,7 @@ pub fn rows_of<S: RowStore>(
     table: usize,
 ) -> Result<Vec<RowAtKey>, StoreFault>
     // The store is only read.
-    ensures reads { ReadsStore S.honest S.contents S.failed S.may_leave S.misreads Device
+    ensures reads { ReadsStore S.RowStore Device
         (ShowsSome catalog.now (S.contents store.old)) store.old store.new result }
 
     // They are the rows that the store shows.

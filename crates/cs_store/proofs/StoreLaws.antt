@@ -26,6 +26,7 @@ use Rattle.cs_store.specs.declared.names.MetaName.TheVariants.{Id, Version, Numb
 use Rattle.cs_store.specs.declared.fault.StoreFault.TheVariants.{Memory, Device}
 use Rattle.cs_store.proofs.Maps.{place_exact, place_total, get-with_body, get-with_meta}
 use Rattle.cs_store.proofs.Numbers.{tie_pos}
+use Rattle.cs_store.specs.declared.store.RowStore.{Ghosts}
 
 -- ---- one answer
 
@@ -41,13 +42,13 @@ lists_two_rows = record {
       (get-insert place_total empty (pos 5, 98 ∷ []) (2 ∷ []) (pos 5, key) ∙ ap (cond (same_bytes key (98 ∷ [])) (Some (2 ∷ []))) (get-empty place_cmp (pos 5, key))));
 }
 
-module _ {S : Type 0} (honest : S → Type 0) (contents : S → Contents) (failed : S → ℕ) (may_leave : S → Contents → Type 0) (misreads : S → ℕ) where
-  pub one_commit : law.OneCommit honest contents failed may_leave misreads
+module _ {S : Type 0} (g : Ghosts S) where
+  pub one_commit : law.OneCommit g
   one_commit after old new next (Ok x) (Ok y) a b h k = (a.ok h ∙ sym (b.ok k), λ some others m n. a.durable h some m ∙ sym (b.durable k others n))
   one_commit after old new next (Ok x) (Err f) a b h k = tt
   one_commit after old new next (Err e) other a b h k = tt
 
-  pub one_refusal : law.OneRefusal honest contents failed may_leave misreads
+  pub one_refusal : law.OneRefusal g
   one_refusal after old new next (Err e) (Err f) a b h k = a.err h ∙ sym (b.err k)
   one_refusal after old new next (Err e) (Ok y) a b h k = tt
   one_refusal after old new next (Ok x) other a b h k = tt
@@ -65,28 +66,28 @@ pub counts_on : {T U : Type 0} (first : Result T StoreFault) (second : Result U 
 counts_on (Err e) second old middle new a is b = absurd cc
 counts_on (Ok x) second old middle new a is b = subst (λ n. CountsFailures second n new) a.kept b
 
-module _ {S : Type 0} (honest : S → Type 0) (contents : S → Contents) (failed : S → ℕ) (may_leave : S → Contents → Type 0) (misreads : S → ℕ) where
-  pub reads_then_reads : (T U : Type 0) → law.ReadsThenReads honest contents failed may_leave misreads T U
+module _ {S : Type 0} (g : Ghosts S) where
+  pub reads_then_reads : (T U : Type 0) → law.ReadsThenReads g T U
   reads_then_reads T U old middle new first second a is b = record {
     was_honest = λ h. a.was_honest (b.was_honest h);
     same = λ h. b.same h ∙ a.same (b.was_honest h);
     crash = λ h left may. a.crash (b.was_honest h) left (b.crash h left may);
-    failures = counts_on first second (failed old) (failed middle) (failed new) a.failures is b.failures;
+    failures = counts_on first second (g.failed old) (g.failed middle) (g.failed new) a.failures is b.failures;
     as_read = b.as_read ∙ a.as_read;
   }
 
-  pub reads_then_commits : (T U : Type 0) → law.ReadsThenCommits honest contents failed may_leave misreads T U
+  pub reads_then_commits : (T U : Type 0) → law.ReadsThenCommits g T U
   reads_then_commits T U after old middle new first second a is b = record {
     was_honest = λ h. a.was_honest (b.was_honest h);
-    ok = λ h. subst (λ was. OnOk second (contents new ≡ after was)) (a.same (b.was_honest h)) (b.ok h);
-    err = λ h. subst (λ was. OnErr second (contents new ≡ was)) (a.same (b.was_honest h)) (b.err h);
-    durable = λ h. subst (λ was. OnOk second ((left : Contents) → may_leave new left → left ≡ after was)) (a.same (b.was_honest h)) (b.durable h);
+    ok = λ h. subst (λ was. OnOk second (g.contents new ≡ after was)) (a.same (b.was_honest h)) (b.ok h);
+    err = λ h. subst (λ was. OnErr second (g.contents new ≡ was)) (a.same (b.was_honest h)) (b.err h);
+    durable = λ h. subst (λ was. OnOk second ((left : Contents) → g.may_leave new left → left ≡ after was)) (a.same (b.was_honest h)) (b.durable h);
     crash = λ h left may. ⊎_elim (λ before. inl (a.crash (b.was_honest h) left before)) (λ is_after. inr (is_after ∙ ap after (a.same (b.was_honest h)))) (b.crash h left may);
-    failures = counts_on first second (failed old) (failed middle) (failed new) a.failures is b.failures;
+    failures = counts_on first second (g.failed old) (g.failed middle) (g.failed new) a.failures is b.failures;
     as_read = b.as_read ∙ a.as_read;
   }
 
-  pub commits_then_reads : (T U : Type 0) → law.CommitsThenReads honest contents failed may_leave misreads T U
+  pub commits_then_reads : (T U : Type 0) → law.CommitsThenReads g T U
   commits_then_reads T U after old middle new (Err e) second a is b done = absurd cc
   commits_then_reads T U after old middle new (Ok x) (Err e) a is b done = absurd cc
   commits_then_reads T U after old middle new (Ok x) (Ok y) a is b done = record {
@@ -95,25 +96,25 @@ module _ {S : Type 0} (honest : S → Type 0) (contents : S → Contents) (faile
     err = λ h. tt;
     durable = λ h left may. a.durable (b.was_honest h) left (b.crash h left may);
     crash = λ h left may. a.crash (b.was_honest h) left (b.crash h left may);
-    failures = counts_on (Ok x) (Ok y) (failed old) (failed middle) (failed new) a.failures is b.failures;
+    failures = counts_on (Ok x) (Ok y) (g.failed old) (g.failed middle) (g.failed new) a.failures is b.failures;
     as_read = b.as_read ∙ a.as_read;
   }
 
-  pub fails_to_commit : (T U : Type 0) → law.FailsToCommit honest contents failed may_leave misreads T U
+  pub fails_to_commit : (T U : Type 0) → law.FailsToCommit g T U
   fails_to_commit T U after old new fault a = record {
     was_honest = a.was_honest;
     ok = λ h. tt;
     err = a.same;
     durable = λ h. tt;
     crash = λ h left may. inl (a.crash h left may);
-    failures = fault_counts fault (failed old) (failed new) a.failures;
+    failures = fault_counts fault (g.failed old) (g.failed new) a.failures;
     as_read = a.as_read;
   }
 
-  pub reads_alike : (T U : Type 0) → law.ReadsAlike honest contents failed may_leave misreads T U
+  pub reads_alike : (T U : Type 0) → law.ReadsAlike g T U
   reads_alike T U old new = (
     λ answer other a. record { was_honest = a.was_honest; same = a.same; crash = a.crash; failures = record { kept = a.failures.kept; later = a.failures.later; cause = λ e. absurd cc }; as_read = a.as_read },
-    λ fault a. record { was_honest = a.was_honest; same = a.same; crash = a.crash; failures = fault_counts fault (failed old) (failed new) a.failures; as_read = a.as_read },
+    λ fault a. record { was_honest = a.was_honest; same = a.same; crash = a.crash; failures = fault_counts fault (g.failed old) (g.failed new) a.failures; as_read = a.as_read },
   )
 
 -- ---- what is written

@@ -13,6 +13,7 @@ use Rattle.cs_store.specs.declared.fault.StoreFault.TheVariants.{Memory}
 use Rattle.cs_store.specs.Contents.{Bodies, Contents, HasNoGaps, IsListing, LogItem, StorePlace, name_text, nothing, stored_tables, stored_pending, meta_value, log_entry, log_count}
 use Rattle.cs_store.specs.Written.{after_batch, edit_body, optional_bytes, optional_entry, store_place}
 use Rattle.cs_store.specs.Calls.{Commits, CountsFailures, OnlyReads, refusal}
+use Rattle.cs_store.specs.declared.store.RowStore.{Ghosts}
 
 -- ---- one answer
 
@@ -29,24 +30,24 @@ TwoRows = record nothing { rows = insert (insert empty (pos 5, 98 ∷ []) (2 ∷
 abbrev pub ListsTwoRows : Type 0
 ListsTwoRows = IsListing (stored_tables TwoRows 5) ((97 ∷ [], 1 ∷ []) ∷ (98 ∷ [], 2 ∷ []) ∷ [])
 
-module _ {S : Type 0} (honest : S → Type 0) (contents : S → Contents) (failed : S → ℕ) (may_leave : S → Contents → Type 0) (misreads : S → ℕ) where
+module _ {S : Type 0} (g : Ghosts S) where
   -- commits of one batch that succeed leave one store, and a stop then leaves one
   abbrev pub OneCommit : Type 0
   OneCommit =
       (after : Contents) (old new next : S) (result other : Result (Unit {0}) StoreFault)
-      → Commits honest contents failed may_leave misreads after old new result
-      → Commits honest contents failed may_leave misreads after old next other
-      → honest new → honest next
-      → OnOk result (OnOk other ((contents new ≡ contents next)
-      × ((some others : Contents) → may_leave new some → may_leave next others → some ≡ others)))
+      → Commits g.honest g.contents g.failed g.may_leave g.misreads after old new result
+      → Commits g.honest g.contents g.failed g.may_leave g.misreads after old next other
+      → g.honest new → g.honest next
+      → OnOk result (OnOk other ((g.contents new ≡ g.contents next)
+      × ((some others : Contents) → g.may_leave new some → g.may_leave next others → some ≡ others)))
 
   -- commits of one batch that are refused leave one store
   abbrev pub OneRefusal : Type 0
   OneRefusal =
       (after : Contents) (old new next : S) (result other : Result (Unit {0}) StoreFault)
-      → Commits honest contents failed may_leave misreads after old new result
-      → Commits honest contents failed may_leave misreads after old next other
-      → honest new → honest next → OnErr result (OnErr other (contents new ≡ contents next))
+      → Commits g.honest g.contents g.failed g.may_leave g.misreads after old new result
+      → Commits g.honest g.contents g.failed g.may_leave g.misreads after old next other
+      → g.honest new → g.honest next → OnErr result (OnErr other (g.contents new ≡ g.contents next))
 
   -- ---- calls after calls
 
@@ -54,39 +55,39 @@ module _ {S : Type 0} (honest : S → Type 0) (contents : S → Contents) (faile
   abbrev pub ReadsThenReads : Type 0 → Type 0 → Type 0
   ReadsThenReads T U =
       (old middle new : S) (first : Result T StoreFault) (second : Result U StoreFault)
-      → OnlyReads honest contents failed may_leave misreads old middle first → IsOk first
-      → OnlyReads honest contents failed may_leave misreads middle new second
-      → OnlyReads honest contents failed may_leave misreads old new second
+      → OnlyReads g.honest g.contents g.failed g.may_leave g.misreads old middle first → IsOk first
+      → OnlyReads g.honest g.contents g.failed g.may_leave g.misreads middle new second
+      → OnlyReads g.honest g.contents g.failed g.may_leave g.misreads old new second
 
   -- a read and then a commit of what is made of the contents are that commit, also in what a stop may leave
   abbrev pub ReadsThenCommits : Type 0 → Type 0 → Type 0
   ReadsThenCommits T U =
       (after : Contents → Contents) (old middle new : S) (first : Result T StoreFault) (second : Result U StoreFault)
-      → OnlyReads honest contents failed may_leave misreads old middle first → IsOk first
-      → Commits honest contents failed may_leave misreads (after (contents middle)) middle new second
-      → Commits honest contents failed may_leave misreads (after (contents old)) old new second
+      → OnlyReads g.honest g.contents g.failed g.may_leave g.misreads old middle first → IsOk first
+      → Commits g.honest g.contents g.failed g.may_leave g.misreads (after (g.contents middle)) middle new second
+      → Commits g.honest g.contents g.failed g.may_leave g.misreads (after (g.contents old)) old new second
 
   -- reads after a commit that succeeded, where they succeed, are that commit
   abbrev pub CommitsThenReads : Type 0 → Type 0 → Type 0
   CommitsThenReads T U =
       (after : Contents) (old middle new : S) (first : Result T StoreFault) (second : Result U StoreFault)
-      → Commits honest contents failed may_leave misreads after old middle first → IsOk first
-      → OnlyReads honest contents failed may_leave misreads middle new second → IsOk second
-      → Commits honest contents failed may_leave misreads after old new second
+      → Commits g.honest g.contents g.failed g.may_leave g.misreads after old middle first → IsOk first
+      → OnlyReads g.honest g.contents g.failed g.may_leave g.misreads middle new second → IsOk second
+      → Commits g.honest g.contents g.failed g.may_leave g.misreads after old new second
 
   -- a read that fails, told as the failure of a commit, is that commit
   abbrev pub FailsToCommit : Type 0 → Type 0 → Type 0
   FailsToCommit T U =
       (after : Contents) (old new : S) (fault : StoreFault)
-      → OnlyReads honest contents failed may_leave misreads old new (refusal T fault)
-      → Commits honest contents failed may_leave misreads after old new (refusal U fault)
+      → OnlyReads g.honest g.contents g.failed g.may_leave g.misreads old new (refusal T fault)
+      → Commits g.honest g.contents g.failed g.may_leave g.misreads after old new (refusal U fault)
 
   -- a read that answers something else, or whose fault is told of another answer, is that read
   abbrev pub ReadsAlike : Type 0 → Type 0 → Type 0
   ReadsAlike T U =
       (old new : S)
-      → ((answer : T) (other : U) → OnlyReads honest contents failed may_leave misreads old new (Ok answer) → OnlyReads honest contents failed may_leave misreads old new (Ok other))
-      × ((fault : StoreFault) → OnlyReads honest contents failed may_leave misreads old new (refusal T fault) → OnlyReads honest contents failed may_leave misreads old new (refusal U fault))
+      → ((answer : T) (other : U) → OnlyReads g.honest g.contents g.failed g.may_leave g.misreads old new (Ok answer) → OnlyReads g.honest g.contents g.failed g.may_leave g.misreads old new (Ok other))
+      × ((fault : StoreFault) → OnlyReads g.honest g.contents g.failed g.may_leave g.misreads old new (refusal T fault) → OnlyReads g.honest g.contents g.failed g.may_leave g.misreads old new (refusal U fault))
 
 abbrev pub success : Result (Unit {0}) StoreFault
 success = Ok tt

@@ -14,19 +14,19 @@ pub fn listings()
 /// Commits of one batch to one store leave one store where they succeed, and a stop then leaves one; so do those that are
 /// refused.
 pub fn one_commit<S: RowStore>(_store: &S)
-    ensures taken { OneCommit S.honest S.contents S.failed S.may_leave S.misreads }
-    ensures refused { OneRefusal S.honest S.contents S.failed S.may_leave S.misreads }
+    ensures taken { OneCommit S.RowStore }
+    ensures refused { OneRefusal S.RowStore }
 {}
 
 /// Calls that follow one another, the first answering a `T` and the second a `U`: where the first succeeds, reads are reads
 /// together, a read and a commit are that commit, and so are a commit and reads that succeed; all of this also of what a stop
 /// may leave. A read that fails changes as little as a commit that fails.
 pub fn calls<S: RowStore, T, U>(_store: &S)
-    ensures reads { ReadsThenReads S.honest S.contents S.failed S.may_leave S.misreads T U }
-    ensures commits { ReadsThenCommits S.honest S.contents S.failed S.may_leave S.misreads T U }
-    ensures read_again { CommitsThenReads S.honest S.contents S.failed S.may_leave S.misreads T U }
-    ensures fails { FailsToCommit S.honest S.contents S.failed S.may_leave S.misreads T U }
-    ensures alike { ReadsAlike S.honest S.contents S.failed S.may_leave S.misreads T U }
+    ensures reads { ReadsThenReads S.RowStore T U }
+    ensures commits { ReadsThenCommits S.RowStore T U }
+    ensures read_again { CommitsThenReads S.RowStore T U }
+    ensures fails { FailsToCommit S.RowStore T U }
+    ensures alike { ReadsAlike S.RowStore T U }
 {}
 
 /// What a commit leaves at each place of the tables and of the pending changes, at each name and at each version, and that what

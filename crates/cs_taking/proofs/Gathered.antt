@@ -10,9 +10,9 @@ use Rattle.cs_keyed.specs.Changes.{Changes, IsEntry}
 use Rattle.cs_normal.specs.Normal.{FitsCatalog, IsNormalChangeset, change_of, groups_of}
 use Rattle.cs_normal.specs.State.{AreSame, IsDefinedOn, IsStateOf, State, left_at}
 use Rattle.cs_normal.specs.declared.normal.TableChanges.{TableChanges}
-use Rattle.cs_store.specs.Contents.{Contents}
 use Rattle.cs_store.specs.declared.fault.StoreFault.{StoreFault}
 use Rattle.cs_store.specs.declared.fault.StoreFault.TheVariants as stored
+use Rattle.cs_store.specs.declared.store.RowStore.{Ghosts}
 use Rattle.cs_conflict.specs.declared.clash.Clash.{Clash}
 use Rattle.cs_conflict.specs.declared.conflict.Conflict.{Conflict}
 use Rattle.cs_conflict.specs.declared.wish.Wish.{Wish}
@@ -195,11 +195,11 @@ pub bad_never : {T : Type 0} (fault : StoreFault) (told : TakeFault) → (fault 
 bad_never stored.Memory told gives is = absurd (let no = sym (gives.0 refl) ∙ err_is told BadEntry is in cc)
 bad_never stored.Device told gives is = absurd (let no = sym (gives.1 refl) ∙ err_is told BadEntry is in cc)
 
-module _ {S : Type 0} (honest : S → Type 0) (contents : S → Contents) (failed : S → ℕ) (may_leave : S → Contents → Type 0) (misreads : S → ℕ) (readable : Type 0) (old new : S) where
+module _ {S : Type 0} (g : Ghosts S) (readable : Type 0) (old new : S) where
   -- reads that failed, told by another name
   pub reads_told : {T U : Type 0} (fault : StoreFault) (told : TakeFault) → (told ≡ Device → fault ≡ stored.Device)
-      → ReadsStore honest contents failed may_leave misreads {T = T} stored.Device readable old new (Err fault)
-      → ReadsStore honest contents failed may_leave misreads {T = U} Device readable old new (Err told)
+      → ReadsStore g {T = T} stored.Device readable old new (Err fault)
+      → ReadsStore g {T = U} Device readable old new (Err told)
   reads_told fault told is reads = record {
     was_honest = reads.was_honest;
     same = reads.same;
@@ -212,8 +212,8 @@ module _ {S : Type 0} (honest : S → Type 0) (contents : S → Contents) (faile
 
   -- a fault after reads that isn't the device's
   pub reads_then_fault : {T U : Type 0} (t : T) (told : TakeFault) → (◌≡◌ {A = Result U TakeFault} (Err told) (Err Device) → ⊥)
-      → ReadsStore honest contents failed may_leave misreads {T = T} {E = StoreFault} stored.Device readable old new (Ok t)
-      → ReadsStore honest contents failed may_leave misreads {T = U} Device readable old new (Err told)
+      → ReadsStore g {T = T} {E = StoreFault} stored.Device readable old new (Ok t)
+      → ReadsStore g {T = U} Device readable old new (Err told)
   reads_then_fault t told never reads = record {
     was_honest = reads.was_honest;
     same = reads.same;

@@ -4,6 +4,7 @@ use Rattle.std.specs.List.{AllByRecursion}
 use Rattle.std.proofs.lemmas.List.{drop_more}
 use Rattle.cs_value.specs.declared.catalog.TableDef.{TableDef}
 use Rattle.cs_store.specs.Contents.{Contents}
+use Rattle.cs_store.specs.declared.store.RowStore.{Ghosts}
 use Rattle.cs_pending.specs.Calls.{ReadsStore}
 use Rattle.cs_pending.specs.Shows.{ShowsRows, ShowsSome}
 use Rattle.cs_pending.specs.Storing.{WasRead, reads_well, then_reads_failed, then_well, went_well}
@@ -23,23 +24,23 @@ all_here P xs i x less is all =
 
 -- ---- reads of a store
 
-module _ {S : Type 0} (honest : S → Type 0) (contents : S → Contents) (failed : S → ℕ) (may_leave : S → Contents → Type 0) (misreads : S → ℕ) (tables : List TableDef) (old mid : S)
-    (so_far : WasRead honest contents failed may_leave misreads (ShowsSome tables (contents old)) old mid) where
-  still_some : honest mid → ShowsSome tables (contents old) → ShowsSome tables (contents mid)
+module _ {S : Type 0} (g : Ghosts S) (tables : List TableDef) (old mid : S)
+    (so_far : WasRead g (ShowsSome tables (g.contents old)) old mid) where
+  still_some : g.honest mid → ShowsSome tables (g.contents old) → ShowsSome tables (g.contents mid)
   still_some h some = subst (λ (c : Contents). ShowsSome tables c) (sym (so_far.same h)) some
 
-  pub still_shows : honest mid → (seen : View) → ShowsRows tables (contents old) seen → ShowsRows tables (contents mid) seen
+  pub still_shows : g.honest mid → (seen : View) → ShowsRows tables (g.contents old) seen → ShowsRows tables (g.contents mid) seen
   still_shows h seen shows = subst (λ (c : Contents). ShowsRows tables c seen) (sym (so_far.same h)) shows
 
-  pub read_more : {T E : Type 0} (device : E) (new : S) (t : T) → ReadsStore honest contents failed may_leave misreads device (ShowsSome tables (contents mid)) mid new (Ok t)
-      → WasRead honest contents failed may_leave misreads (ShowsSome tables (contents old)) old new
+  pub read_more : {T E : Type 0} (device : E) (new : S) (t : T) → ReadsStore g device (ShowsSome tables (g.contents mid)) mid new (Ok t)
+      → WasRead g (ShowsSome tables (g.contents old)) old new
   read_more device new t reads =
-      then_well honest contents failed may_leave misreads _ _ _ old mid new (λ some. some) still_some so_far (went_well honest contents failed may_leave misreads device _ mid new t reads)
+      then_well g _ _ _ old mid new (λ some. some) still_some so_far (went_well g device _ mid new t reads)
 
-  pub read_failed : {T U E : Type 0} (device fault : E) (new : S) → ReadsStore honest contents failed may_leave misreads {T = T} device (ShowsSome tables (contents mid)) mid new (Err fault)
-      → ReadsStore honest contents failed may_leave misreads {T = U} device (ShowsSome tables (contents old)) old new (Err fault)
-  read_failed device fault new reads = then_reads_failed honest contents failed may_leave misreads device fault _ _ _ old mid new (λ some. some) still_some so_far reads
+  pub read_failed : {T U E : Type 0} (device fault : E) (new : S) → ReadsStore g {T = T} device (ShowsSome tables (g.contents mid)) mid new (Err fault)
+      → ReadsStore g {T = U} device (ShowsSome tables (g.contents old)) old new (Err fault)
+  read_failed device fault new reads = then_reads_failed g device fault _ _ _ old mid new (λ some. some) still_some so_far reads
 
-  pub read_then : {T U E : Type 0} (device : E) (new : S) (t : T) (u : U) → ReadsStore honest contents failed may_leave misreads device (ShowsSome tables (contents mid)) mid new (Ok t)
-      → ReadsStore honest contents failed may_leave misreads device (ShowsSome tables (contents old)) old new (Ok u)
-  read_then device new t u reads = reads_well honest contents failed may_leave misreads device _ old new u (read_more device new t reads)
+  pub read_then : {T U E : Type 0} (device : E) (new : S) (t : T) (u : U) → ReadsStore g device (ShowsSome tables (g.contents mid)) mid new (Ok t)
+      → ReadsStore g device (ShowsSome tables (g.contents old)) old new (Ok u)
+  read_then device new t u reads = reads_well g device _ old new u (read_more device new t reads)

@@ -58,7 +58,7 @@ pub(crate) fn commit_taken<S: RowStore>(
 ) -> Result<u64, StoreFault>
     requires room { position.now.version < 2 ^ 64 - 1 }
     requires within { IsWithin catalog.now settling }
-    ensures writes { WritesStore S.honest S.contents S.failed S.may_leave S.misreads Device
+    ensures writes { WritesStore S.RowStore Device
         (ShowsSomeAt catalog.now position.now (S.contents store.old))
         (IsCommitted catalog.now position.now settling (S.contents store.old)) store.old store.new result }
     ensures counted { IfOk result (λ count. count ≡ settling.count) }

@@ -45,7 +45,7 @@ pub(crate) fn fold_all<S: RowStore>(
     flight: &Option<Normal>,
     settling: &mut Settling,
 ) -> Result<(), StoreFault>
-    ensures reads { ReadsStore S.honest S.contents S.failed S.may_leave S.misreads Device
+    ensures reads { ReadsStore S.RowStore Device
         (ShowsSome catalog.now (S.contents store.old)) store.old store.new result }
     ensures within { IsWithin catalog.now settling.old → OnOk result (IsWithin catalog.now settling.new) }
     ensures folded { S.honest store.new → (seen : View) → ShowsRows catalog.now (S.contents store.old) seen → IsUnderWay catalog.now flight.now seen

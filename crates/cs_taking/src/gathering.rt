@@ -36,7 +36,7 @@ fn find_sites<'a, S: RowStore>(
     changes: &'a Normal,
 ) -> Result<Option<Vec<Site<'a>>>, StoreFault>
     requires { FitsCatalog catalog.now changes.now }
-    ensures reads { ReadsStore S.honest S.contents S.failed S.may_leave S.misreads stored.Device
+    ensures reads { ReadsStore S.RowStore stored.Device
         (ShowsSome catalog.now (S.contents store.old)) store.old store.new result }
     ensures tasks { IfOk result (λ found. IfSome found (λ sites. map site_task sites.items ≡ keyed_tasks catalog.now changes.now)) }
     ensures placed { IfOk result (λ found. IfSome found (λ sites. AreSitesPlaced catalog.now sites.items)) }
@@ -64,7 +64,7 @@ fn fold_and_find<'a, S: RowStore>(
     settling: &mut Settling,
 ) -> Result<Option<Vec<Site<'a>>>, StoreFault>
     requires { FitsCatalog catalog.now changes.now }
-    ensures reads { ReadsStore S.honest S.contents S.failed S.may_leave S.misreads stored.Device
+    ensures reads { ReadsStore S.RowStore stored.Device
         (ShowsSome catalog.now (S.contents store.old)) store.old store.new result }
     ensures within { IsWithin catalog.now settling.old → OnOk result (IsWithin catalog.now settling.new) }
     ensures tasks { IfOk result (λ found. IfSome found (λ sites. map site_task sites.items ≡ keyed_tasks catalog.now changes.now)) }
@@ -101,7 +101,7 @@ pub(crate) fn gather_edits<S: RowStore, P: Picker>(
     requires ready { P.is_ready picker.old }
     requires fits { FitsCatalog catalog.now changes.now }
     ensures ready { P.is_ready picker.new }
-    ensures reads { ReadsStore S.honest S.contents S.failed S.may_leave S.misreads Device
+    ensures reads { ReadsStore S.RowStore Device
         (ShowsSome catalog.now (S.contents store.old)) store.old store.new result }
     ensures within { IsWithin catalog.now settling.old → OnOk result (IsWithin catalog.now settling.new) }
     ensures settled { S.honest store.new → (seen : View) → ShowsRows catalog.now (S.contents store.old) seen → IsUnderWay catalog.now flight.now seen

@@ -34,7 +34,7 @@ fn own_and_log<S: RowStore>(
     placed: &Placed<'_>,
 ) -> Result<(Standing, Option<RowBuf>), StoreFault>
     requires { IsPlaced catalog.now placed.now }
-    ensures reads { ReadsStore S.honest S.contents S.failed S.may_leave S.misreads Device
+    ensures reads { ReadsStore S.RowStore Device
         (ShowsSome catalog.now (S.contents store.old)) store.old store.new result }
     ensures found { S.honest store.new → (view : View) → ShowsRows catalog.now (S.contents store.old) view
         → IfOk result (λ found. StandsIn view placed.now.table.now placed.now.key.now found.0
@@ -101,7 +101,7 @@ fn fold_one<S: RowStore>(
     settling: &mut Settling,
 ) -> Result<(), StoreFault>
     requires { IsPlaced catalog.now placed.now }
-    ensures reads { ReadsStore S.honest S.contents S.failed S.may_leave S.misreads Device
+    ensures reads { ReadsStore S.RowStore Device
         (ShowsSome catalog.now (S.contents store.old)) store.old store.new result }
     ensures within { IsWithin catalog.now settling.old → OnOk result (IsWithin catalog.now settling.new) }
     ensures folded { S.honest store.new → (seen : View) → ShowsRows catalog.now (S.contents store.old) seen
@@ -131,7 +131,7 @@ pub(crate) fn fold_flight<S: RowStore>(
     settling: &mut Settling,
 ) -> Result<(), StoreFault>
     requires { ArePlaced catalog.now places.now }
-    ensures reads { ReadsStore S.honest S.contents S.failed S.may_leave S.misreads Device
+    ensures reads { ReadsStore S.RowStore Device
         (ShowsSome catalog.now (S.contents store.old)) store.old store.new result }
     ensures within { IsWithin catalog.now settling.old → OnOk result (IsWithin catalog.now settling.new) }
     ensures folded { S.honest store.new → (seen : View) → ShowsRows catalog.now (S.contents store.old) seen
@@ -165,7 +165,7 @@ fn survey_one<'a, S: RowStore>(
     sites: &mut Vec<Site<'a>>,
 ) -> Result<bool, StoreFault>
     requires { IsPlaced catalog.now placed.now }
-    ensures reads { ReadsStore S.honest S.contents S.failed S.may_leave S.misreads Device
+    ensures reads { ReadsStore S.RowStore Device
         (ShowsSome catalog.now (S.contents store.old)) store.old store.new result }
     ensures tasks { IfOk result (λ all. all ≡ true → map site_task sites.new.items ≡ map site_task sites.old.items ++ task_of placed.now ∷ []) }
     ensures placed { IfOk result (λ all. AreSitesPlaced catalog.now sites.old.items → AreSitesPlaced catalog.now sites.new.items) }
@@ -209,7 +209,7 @@ pub(crate) fn survey<'a, S: RowStore>(
     sites: &mut Vec<Site<'a>>,
 ) -> Result<bool, StoreFault>
     requires { ArePlaced catalog.now places.now }
-    ensures reads { ReadsStore S.honest S.contents S.failed S.may_leave S.misreads Device
+    ensures reads { ReadsStore S.RowStore Device
         (ShowsSome catalog.now (S.contents store.old)) store.old store.new result }
     ensures tasks { IfOk result (λ all. all ≡ true → map site_task sites.new.items ≡ map site_task sites.old.items ++ map task_of places.now) }
     ensures placed { IfOk result (λ all. AreSitesPlaced catalog.now sites.old.items → AreSitesPlaced catalog.now sites.new.items) }

@@ -35,7 +35,7 @@ fn take_at<S: RowStore, P: Picker>(
     requires fits { FitsCatalog catalog.now changes.now }
     requires room { position.now.version < 2 ^ 64 - 1 }
     ensures ready { P.is_ready picker.new }
-    ensures writes { WritesStore S.honest S.contents S.failed S.may_leave S.misreads Device
+    ensures writes { WritesStore S.RowStore Device
         (ShowsSomeAt catalog.now position.now (S.contents store.old))
         (IsTakenIn P.picks catalog.now position.now changes.now picker.old picker.new (S.contents store.old)) store.old store.new result }
     ensures counted { S.honest store.new → ShowsSomeAt catalog.now position.now (S.contents store.old)
@@ -89,7 +89,7 @@ pub fn take_changes<S: RowStore, P: Picker>(
     ensures ready { P.is_ready picker.new }
 
     // The entry was taken, in one commit, or nothing has changed.
-    ensures writes { WritesStore S.honest S.contents S.failed S.may_leave S.misreads Device
+    ensures writes { WritesStore S.RowStore Device
         (ShowsSomeAt catalog.now position.old (S.contents store.old))
         (IsTakenIn P.picks catalog.now position.old changes.now picker.old picker.new (S.contents store.old)) store.old store.new result }
 

@@ -35,7 +35,7 @@ module _ {S : Type 0} (g : Ghosts S) (limit k : ℕ) (wishes : List Wish) (h new
   -- the hub answered
   pub asks_hub : (outcome : Outcome) (q : ℕ) (asked : Asked) (bytes : List ℕ) (answer : Vec ℕ Global) (ls : List Letter) → slice_get letters k ≡ Some (letter.Asks q asked)
       → bytes ≡ request_spelling asked → ls ≡ letters → all ≡ ls ++ letter.Tells q answer ∷ []
-      → AnswersHub g.honest g.contents g.failed g.may_leave g.misreads limit h bytes answer.items new
+      → AnswersHub g limit h bytes answer.items new
       → Asks outcome
   asks_hub outcome q asked bytes answer ls there spelled same is answers r request at =
       let both : Some (letter.Asks q asked) ≡ Some (letter.Asks r request) = sym there ∙ at in
@@ -44,5 +44,5 @@ module _ {S : Type 0} (g : Ghosts S) (limit k : ℕ) (wishes : List Wish) (h new
       inr (
         answer,
         is ∙ (ap (λ (l : List Letter). l ++ letter.Tells q answer ∷ []) same ∙ ap (λ (x : ℕ). letters ++ letter.Tells x answer ∷ []) who),
-        subst (λ (b : List ℕ). AnswersHub g.honest g.contents g.failed g.may_leave g.misreads limit h b answer.items new) (spelled ∙ ap request_spelling what) answers,
+        subst (λ (b : List ℕ). AnswersHub g limit h b answer.items new) (spelled ∙ ap request_spelling what) answers,
       )

@@ -45,7 +45,7 @@ shows_some tables contents bytes there none =
     absurd (let e = sym gone ∙ there in cc)
 
 module _ {S T E : Type 0} (g : Ghosts S) (device : E) (readable : Type 0) (after : Contents → Type 0) (old new : S) (value : T)
-    (writes : WritesStore g.honest g.contents g.failed g.may_leave g.misreads device readable after old new (Ok value)) (bare : g.contents old ≡ nothing) where
+    (writes : WritesStore g device readable after old new (Ok value)) (bare : g.contents old ≡ nothing) where
   alone : (g.honest new → g.contents new ≡ nothing → ⊥) → LeavesAlone g new
   alone some h left may =
       elim (writes.durable h left may) [ inl is ↦ is | inr (before, same) ↦ absurd (some h (same ∙ bare)) ]
@@ -73,7 +73,7 @@ module _ {S : Type 0} (g : Ghosts S) (limit : ℕ) (tables : List TableDef) (are
 
   pub is_new : (letters : List Letter) → letters ≡ [] → (count : ℕ) → length replicas ≡ count → count ≤ 2 ^ 32 - 1 → h.catalog ≡ tables → (g.honest h.store → hub.Shows g.contents h [])
       → ((r : ℕ) (one : replica.Holding S) → slice_get replicas r ≡ Some one → IsNewReplica g tables r one)
-      → IsNew g.honest g.contents limit tables count (record { hub = h; replicas = replicas; letters = letters })
+      → IsNew g limit tables count (record { hub = h; replicas = replicas; letters = letters })
   is_new letters bare count counted few catalog log news all =
       let firsts : (r : ℕ) (member : Member) → IsMember (first_world tables members) r member → IsFirstMember tables r member = (λ r member at.
       let f = found r member at in
@@ -130,8 +130,8 @@ one_more g tables replicas new news is all same r one at =
     ]
 
 -- where it is new, it stands at a world
-pub new_stands : {S : Type 0} (g : Ghosts S) (limit : ℕ) (tables : List TableDef) (count : ℕ) (held : Holding S) → IsNew g.honest g.contents limit tables count held
-    → AreHonest g.honest g.contents held → (world : World) × StandsAt g.honest g.contents limit held world
+pub new_stands : {S : Type 0} (g : Ghosts S) (limit : ℕ) (tables : List TableDef) (count : ℕ) (held : Holding S) → IsNew g limit tables count held
+    → AreHonest g held → (world : World) × StandsAt g limit held world
 new_stands g limit tables count held is all =
     let n = is all in
     (first_world tables n.0, n.3)
@@ -139,7 +139,7 @@ new_stands g limit tables count held is all =
 -- and a stop leaves of each of its stores what it holds
 pub new_leaves : {S : Type 0} (g : Ghosts S) (limit : ℕ) (tables : List TableDef) (h : hub.Holding S) (replicas : List (replica.Holding S)) (letters : List Letter) → LeavesAlone g h.store
     → ((r : ℕ) (one : replica.Holding S) → slice_get replicas r ≡ Some one → IsNewReplica g tables r one)
-    → AreHonest g.honest g.contents (record { hub = h; replicas = replicas; letters = letters }) → (world : World) → Leaves g limit world (record { hub = h; replicas = replicas; letters = letters })
+    → AreHonest g (record { hub = h; replicas = replicas; letters = letters }) → (world : World) → Leaves g limit world (record { hub = h; replicas = replicas; letters = letters })
 new_leaves g limit tables h replicas letters alone news all world = record {
   hub = λ left may. inl (alone all.hub left may);
   replicas = λ r one at left may.

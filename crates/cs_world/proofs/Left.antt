@@ -203,7 +203,7 @@ module _ {S : Type 0} (g : Ghosts S) (limit : ℕ) where
 
     -- a replica's was
     pub left_of_replica : (r : ℕ) (old new : replica.Holding S) → slice_get replicas r ≡ Some old → (failed : List TableDef → Position → Contents → Contents → Type 0) → CallLeaves g (failed old.catalog) old new
-        → ((world : World) → StandsAt g.honest g.contents limit (held h replicas letters) world → (position : Position) (now left : Contents) → failed world.tables position now left → (event : Event) × WouldLeave world r position now left event)
+        → ((world : World) → StandsAt g limit (held h replicas letters) world → (position : Position) (now left : Contents) → failed world.tables position now left → (event : Event) × WouldLeave world r position now left event)
         → (ls : List Letter) → KeepsLeft g limit (held h replicas letters) (held h (slice_set replicas r new) ls)
     left_of_replica r old new was failed call found_as ls all world stands next on leaves = record {
       hub = hub_on world next h.store on leaves.hub;
@@ -231,7 +231,7 @@ module _ {S : Type 0} (g : Ghosts S) (limit : ℕ) where
             ]
 
     -- the hub's was
-    pub left_of_hub : (new : hub.Holding S) → ((world : World) → AreHonest g.honest g.contents (held new replicas letters) → StandsAt g.honest g.contents limit (held h replicas letters) world → (left : Contents) → g.may_leave new.store left
+    pub left_of_hub : (new : hub.Holding S) → ((world : World) → AreHonest g (held new replicas letters) → StandsAt g limit (held h replicas letters) world → (left : Contents) → g.may_leave new.store left
         → (left ≡ g.contents new.store) ⊎ ((g.may_leave h.store left × (g.contents new.store ≡ g.contents h.store)) ⊎ WouldServe limit world (g.contents new.store) left))
         → (ls : List Letter) → KeepsLeft g limit (held h replicas letters) (held new replicas ls)
     left_of_hub new served ls all world stands next on leaves = record {
@@ -267,7 +267,7 @@ another opening entry old new log shown appended same =
     omega (arith, before, after, n, both)
 
 pub hub_leaves : {S E : Type 0} (g : Ghosts S) (limit : ℕ) (old new : hub.Holding S) (request : List ℕ) (result : Result (Vec ℕ Global) E)
-    → ServesStore g.honest g.contents g.failed g.may_leave g.misreads old.catalog (hub.ShowsSome g.contents old) (IsServedIn limit old.catalog request (g.contents old.store)) old.store new.store result
+    → ServesStore g old.catalog (hub.ShowsSome g.contents old) (IsServedIn limit old.catalog request (g.contents old.store)) old.store new.store result
     → HubLeaves g limit request old new
 hub_leaves g limit old new request result serves h log shown left may = of_what (serves.grown h)
   where
@@ -302,7 +302,7 @@ says_one law (letter.Tells r bytes) (Tells q answer) (Tells p its) says also fit
 
 module _ {S : Type 0} (g : Ghosts S) (limit : ℕ) (fit : AnswersFit) (steps : StepsAreSound) (headline : SoundHasHeadline) (one : OneToldAnswer) (small : limit < 2 ^ 32) (held : Holding S) where
   -- two worlds at which it stands were sent the same
-  alike : (world other : World) → StandsAt g.honest g.contents limit held world → StandsAt g.honest g.contents limit held other → HasGoneOn world other
+  alike : (world other : World) → StandsAt g limit held world → StandsAt g limit held other → HasGoneOn world other
   alike world other stands also = record {
     tables = sym also.0.catalog ∙ stands.0.catalog;
     messages = λ k message at.
@@ -314,7 +314,7 @@ module _ {S : Type 0} (g : Ghosts S) (limit : ℕ) (fit : AnswersFit) (steps : S
         o.1 ∙ ap Some (sym same ∙ first);
   }
 
-  pub stops_have_headline : (AreHonest g.honest g.contents held → (standing : World) × StandsAt g.honest g.contents limit held standing × Leaves g limit standing held) → StopsHaveHeadline g limit held
+  pub stops_have_headline : (AreHonest g held → (standing : World) × StandsAt g limit held standing × Leaves g limit standing held) → StopsHaveHeadline g limit held
   stops_have_headline stood all world stands AtHub left may =
       let s = stood all in
       stop_of_hub fit steps headline limit world (g.contents held.hub.store) left small stands.1 (rw stands.0.catalog at stands.0.log.0)

@@ -59,8 +59,8 @@ module _ {S : Type 0} (g : Ghosts S) (limit : ℕ) where
 
   -- ---- a message more
 
-  pub says_more : (h : hub.Holding S) (replicas : List (replica.Holding S)) (letters : List Letter) (world : World) (one : Letter) (message : Sent) → ShowsWorld g.honest g.contents (held h replicas letters) world → Says one message
-      → ShowsWorld g.honest g.contents (held h replicas (letters ++ one ∷ [])) (with_message world message)
+  pub says_more : (h : hub.Holding S) (replicas : List (replica.Holding S)) (letters : List Letter) (world : World) (one : Letter) (message : Sent) → ShowsWorld g (held h replicas letters) world → Says one message
+      → ShowsWorld g (held h replicas (letters ++ one ∷ [])) (with_message world message)
   says_more h replicas letters world one message shows says =
       let n = length-append letters (one ∷ []) in
       let m = length-append world.messages (message ∷ []) in
@@ -84,7 +84,7 @@ module _ {S : Type 0} (g : Ghosts S) (limit : ℕ) where
     -- ---- nothing changes
 
     pub stays : (event : Event) (outcome : Outcome) → (SaysDevice outcome → ⊥) → (ls : List Letter) → ls ≡ letters
-        → ((world : World) → StandsAt g.honest g.contents limit (held h replicas letters) world → Step limit world event outcome world)
+        → ((world : World) → StandsAt g limit (held h replicas letters) world → Step limit world event outcome world)
         → Moves g limit (held h replicas letters) event outcome (held h replicas ls)
     stays event outcome quiet ls same steps =
         subst (λ (l : List Letter). Moves g limit (held h replicas letters) event outcome (held h replicas l)) (sym same) (record {
@@ -98,7 +98,7 @@ module _ {S : Type 0} (g : Ghosts S) (limit : ℕ) where
     no_room event ls same = stays event told.Memory (λ none. none) ls same (λ world stands. step.no_memory)
 
     pub none_there : (event : Event) (r : ℕ) (ls : List Letter) → ls ≡ letters → length replicas ≤ r
-        → ((world : World) → StandsAt g.honest g.contents limit (held h replicas letters) world → addressee world event ≡ Some r)
+        → ((world : World) → StandsAt g limit (held h replicas letters) world → addressee world event ≡ Some r)
         → Moves g limit (held h replicas letters) event told.NoReplica (held h replicas ls)
     none_there event r ls same few to =
         stays event told.NoReplica (λ none. none) ls same (λ world stands. step.no_replica (to world stands) (none_too replicas world.members r stands.0.members_count few))
@@ -109,7 +109,7 @@ module _ {S : Type 0} (g : Ghosts S) (limit : ℕ) where
         stays (Deliver k wishes) told.NoMessage (λ none. none) ls same (λ world stands. step.no_message (none_too letters world.messages k stands.0.messages_count few))
 
     pub sends : (event : Event) (one : Letter) (outcome : Outcome) (ls all : List Letter) → ls ≡ letters → all ≡ ls ++ one ∷ [] → outcome ≡ told.Sent (length ls)
-        → ((world : World) → StandsAt g.honest g.contents limit (held h replicas letters) world
+        → ((world : World) → StandsAt g limit (held h replicas letters) world
         → (message : Sent) × Says one message × Step limit world event (told.Sent (length world.messages)) (with_message world message))
         → Moves g limit (held h replicas letters) event outcome (held h replicas all)
     sends event one outcome ls all same is as_told steps =
@@ -152,12 +152,12 @@ module _ {S : Type 0} (g : Ghosts S) (limit : ℕ) where
 
     module _ (r : ℕ) (old : replica.Holding S) (was : slice_get replicas r ≡ Some old) where
       -- it is shown, and placed
-      pub member_there : (world : World) → StandsAt g.honest g.contents limit (held h replicas letters) world
-          → (before : Member) × IsMember world r before × ShowsMember g.honest g.contents world.tables old before
+      pub member_there : (world : World) → StandsAt g limit (held h replicas letters) world
+          → (before : Member) × IsMember world r before × ShowsMember g world.tables old before
       member_there world stands = stands.0.members r old was
 
       module _ (new : replica.Holding S) where
-        pub honest_back : (ls : List Letter) → (g.honest new.store → g.honest old.store) → AreHonest g.honest g.contents (held h (slice_set replicas r new) ls) → AreHonest g.honest g.contents (held h replicas letters)
+        pub honest_back : (ls : List Letter) → (g.honest new.store → g.honest old.store) → AreHonest g (held h (slice_set replicas r new) ls) → AreHonest g (held h replicas letters)
         honest_back ls back all = record {
           hub = all.hub;
           replicas = λ j one at. elim (same_or_other replicas r new j one at) [
@@ -169,8 +169,8 @@ module _ {S : Type 0} (g : Ghosts S) (limit : ℕ) where
           ];
         }
 
-        pub shows_turned : (world : World) (before after : Member) → ShowsWorld g.honest g.contents (held h replicas letters) world → IsMember world r before → ShowsMember g.honest g.contents world.tables new after
-            → ShowsWorld g.honest g.contents (held h (slice_set replicas r new) letters) (with_member world r after)
+        pub shows_turned : (world : World) (before after : Member) → ShowsWorld g (held h replicas letters) world → IsMember world r before → ShowsMember g world.tables new after
+            → ShowsWorld g (held h (slice_set replicas r new) letters) (with_member world r after)
         shows_turned world before after shows is there = record {
           catalog = shows.catalog;
           log = shows.log;
@@ -179,7 +179,7 @@ module _ {S : Type 0} (g : Ghosts S) (limit : ℕ) where
             | inl same ↦ (
               after,
               subst (λ (i : ℕ). slice_get (slice_set world.members r after) i ≡ Some after) (sym same.0) (set_there world.members r after before is),
-              subst (λ (x : replica.Holding S). ShowsMember g.honest g.contents world.tables x after) (sym same.1) there,
+              subst (λ (x : replica.Holding S). ShowsMember g world.tables x after) (sym same.1) there,
             )
             | inr other ↦
                 let m = shows.members j one other.1 in
@@ -189,8 +189,8 @@ module _ {S : Type 0} (g : Ghosts S) (limit : ℕ) where
           messages = shows.messages;
         }
 
-        module _ (turn : List TableDef → Member → Member → Type 0) (turns : Turns g.honest g.contents (turn old.catalog) old new) (ls : List Letter) (all : AreHonest g.honest g.contents (held h (slice_set replicas r new) ls)) (world : World) (stands : StandsAt g.honest g.contents limit (held h replicas letters) world) where
-          pub turned_there : (before : Member) × IsMember world r before × ((after : Member) × turn world.tables before after × ShowsMember g.honest g.contents world.tables new after)
+        module _ (turn : List TableDef → Member → Member → Type 0) (turns : Turns g (turn old.catalog) old new) (ls : List Letter) (all : AreHonest g (held h (slice_set replicas r new) ls)) (world : World) (stands : StandsAt g limit (held h replicas letters) world) where
+          pub turned_there : (before : Member) × IsMember world r before × ((after : Member) × turn world.tables before after × ShowsMember g world.tables new after)
           turned_there =
               let m = member_there world stands in
               let placed = stands.1.placed r m.0 m.1 in
@@ -208,12 +208,12 @@ module _ {S : Type 0} (g : Ghosts S) (limit : ℕ) where
         -- what a commit that failed would have left is what that of an event would
         abbrev Would : (List TableDef → Position → Contents → Contents → Type 0) → Type 0
         Would failed =
-            (world : World) → StandsAt g.honest g.contents limit (held h replicas letters) world → (position : Position) (now left : Contents) → failed world.tables position now left
+            (world : World) → StandsAt g limit (held h replicas letters) world → (position : Position) (now left : Contents) → failed world.tables position now left
             → (event : Event) × WouldLeave world r position now left event
 
         -- the replica is as it was
         pub unturned : (failed : List TableDef → Position → Contents → Contents → Type 0) → CallLeaves g (failed old.catalog) old new → Would failed
-            → (event : Event) (outcome : Outcome) → Counts g (SaysDevice outcome) old new → (ls : List Letter) → ls ≡ letters → (turn : List TableDef → Member → Member → Type 0) → Turns g.honest g.contents (turn old.catalog) old new
+            → (event : Event) (outcome : Outcome) → Counts g (SaysDevice outcome) old new → (ls : List Letter) → ls ≡ letters → (turn : List TableDef → Member → Member → Type 0) → Turns g (turn old.catalog) old new
             → ((world : World) (before after : Member) → IsMember world r before → turn world.tables before after → (after ≡ before) × Step limit world event outcome world)
             → Moves g limit (held h replicas letters) event outcome (held h (slice_set replicas r new) ls)
         unturned failed leaves would event outcome counts ls same turn turns steps =
@@ -226,7 +226,7 @@ module _ {S : Type 0} (g : Ghosts S) (limit : ℕ) where
                   ap (λ (m : Member). with_member world r m) s.0 ∙ ap (λ (ms : List Member). record world { members = ms }) (set_same world.members r t.0 t.1) in (
                     world,
                     s.1,
-                    subst (ShowsWorld g.honest g.contents (held h (slice_set replicas r new) letters)) back (shows_turned world t.0 t.2.0 stands.0 t.1 t.2.2),
+                    subst (ShowsWorld g (held h (slice_set replicas r new) letters)) back (shows_turned world t.0 t.2.0 stands.0 t.1 t.2.2),
                   );
               left = left_of_replica g limit h replicas letters r old new was failed leaves would letters;
               counts = counts_replica g (SaysDevice outcome) (SaysDevice outcome) (λ says. says) h replicas r old new was counts letters letters;
@@ -234,8 +234,8 @@ module _ {S : Type 0} (g : Ghosts S) (limit : ℕ) where
 
         -- the replica is another, and nothing is sent
         pub turned : (failed : List TableDef → Position → Contents → Contents → Type 0) → CallLeaves g (failed old.catalog) old new → Would failed
-            → (event : Event) (outcome : Outcome) → Counts g (SaysDevice outcome) old new → (ls : List Letter) → ls ≡ letters → (turn : List TableDef → Member → Member → Type 0) → Turns g.honest g.contents (turn old.catalog) old new
-            → ((world : World) (before after : Member) → StandsAt g.honest g.contents limit (held h replicas letters) world → IsMember world r before → turn world.tables before after → Step limit world event outcome (with_member world r after))
+            → (event : Event) (outcome : Outcome) → Counts g (SaysDevice outcome) old new → (ls : List Letter) → ls ≡ letters → (turn : List TableDef → Member → Member → Type 0) → Turns g (turn old.catalog) old new
+            → ((world : World) (before after : Member) → StandsAt g limit (held h replicas letters) world → IsMember world r before → turn world.tables before after → Step limit world event outcome (with_member world r after))
             → Moves g limit (held h replicas letters) event outcome (held h (slice_set replicas r new) ls)
         turned failed leaves would event outcome counts ls same turn turns steps =
             subst (λ (l : List Letter). Moves g limit (held h replicas letters) event outcome (held h (slice_set replicas r new) l)) (sym same) (record {
@@ -262,34 +262,34 @@ module _ {S : Type 0} (g : Ghosts S) (limit : ℕ) where
         edit_step asked world before after is (count, next, left, same, made, shows) =
             subst (λ (m : Member). Step limit world (OnEdit r asked) told.Done (with_member world r m)) (sym same) (step.edits {left = left} count is made shows)
 
-        pub edits : (asked : Edit) (ls : List Letter) → ls ≡ letters → Counts g ⊥ old new → CallLeaves g (IsEditedBy old.catalog asked) old new → Turns g.honest g.contents (IsEditedTo old.catalog asked (Ok tt)) old new
+        pub edits : (asked : Edit) (ls : List Letter) → ls ≡ letters → Counts g ⊥ old new → CallLeaves g (IsEditedBy old.catalog asked) old new → Turns g (IsEditedTo old.catalog asked (Ok tt)) old new
             → Moves g limit (held h replicas letters) (OnEdit r asked) told.Done (held h (slice_set replicas r new) ls)
         edits asked ls same counts leaves turns =
             turned (λ tables. IsEditedBy tables asked) leaves (by_edit asked) (OnEdit r asked) told.Done counts ls same (λ tables. IsEditedTo tables asked (Ok tt)) turns (λ world before after stands is t. edit_step asked world before after is t)
 
-        pub edits_not : (asked : Edit) (fault : EditFault) (ls : List Letter) → ls ≡ letters → Counts g (SaysDevice (told.NotEdited fault)) old new → CallLeaves g (IsEditedBy old.catalog asked) old new → Turns g.honest g.contents (IsEditedTo old.catalog asked (Err fault)) old new
+        pub edits_not : (asked : Edit) (fault : EditFault) (ls : List Letter) → ls ≡ letters → Counts g (SaysDevice (told.NotEdited fault)) old new → CallLeaves g (IsEditedBy old.catalog asked) old new → Turns g (IsEditedTo old.catalog asked (Err fault)) old new
             → Moves g limit (held h replicas letters) (OnEdit r asked) (told.NotEdited fault) (held h (slice_set replicas r new) ls)
         edits_not asked fault ls same counts leaves turns =
             unturned (λ tables. IsEditedBy tables asked) leaves (by_edit asked) (OnEdit r asked) (told.NotEdited fault) counts ls same (λ tables. IsEditedTo tables asked (Err fault)) turns (λ world before after is t. (t.0, step.edits_not is t.1))
 
-        pub pushes_not : (fault : PushFault) (ls : List Letter) → ls ≡ letters → Counts g (SaysDevice (told.NotPushed fault)) old new → CallLeaves g (IsPushMadeIn old.catalog) old new → Turns g.honest g.contents (IsPushedTo old.catalog (Err fault)) old new
+        pub pushes_not : (fault : PushFault) (ls : List Letter) → ls ≡ letters → Counts g (SaysDevice (told.NotPushed fault)) old new → CallLeaves g (IsPushMadeIn old.catalog) old new → Turns g (IsPushedTo old.catalog (Err fault)) old new
             → Moves g limit (held h replicas letters) (MakePush r) (told.NotPushed fault) (held h (slice_set replicas r new) ls)
         pushes_not fault ls same counts leaves turns =
             unturned IsPushMadeIn leaves by_push (MakePush r) (told.NotPushed fault) counts ls same (λ tables. IsPushedTo tables (Err fault)) turns (λ world before after is t. (t.0, step.pushes_not is t.1))
 
-        pub restarts : (ls : List Letter) → ls ≡ letters → Counts g ⊥ old new → CallLeaves g (λ position now left. ⊥) old new → Turns g.honest g.contents (IsReloadedTo (Ok tt)) old new
+        pub restarts : (ls : List Letter) → ls ≡ letters → Counts g ⊥ old new → CallLeaves g (λ position now left. ⊥) old new → Turns g (IsReloadedTo (Ok tt)) old new
             → Moves g limit (held h replicas letters) (Restart r) told.Done (held h (slice_set replicas r new) ls)
         restarts ls same counts leaves turns =
             unturned (λ tables position now left. ⊥) leaves (λ world stands position now left none. absurd none) (Restart r) told.Done counts ls same (λ tables. IsReloadedTo (Ok tt)) turns (λ world before after is t. (t.0, step.restarts is))
 
-        pub restarts_not : (fault : OpenFault) (ls : List Letter) → ls ≡ letters → Counts g (SaysDevice (told.NotReloaded fault)) old new → CallLeaves g (λ position now left. ⊥) old new → Turns g.honest g.contents (IsReloadedTo (Err fault)) old new
+        pub restarts_not : (fault : OpenFault) (ls : List Letter) → ls ≡ letters → Counts g (SaysDevice (told.NotReloaded fault)) old new → CallLeaves g (λ position now left. ⊥) old new → Turns g (IsReloadedTo (Err fault)) old new
             → Moves g limit (held h replicas letters) (Restart r) (told.NotReloaded fault) (held h (slice_set replicas r new) ls)
         restarts_not fault ls same counts leaves turns =
             unturned (λ tables position now left. ⊥) leaves (λ world stands position now left none. absurd none) (Restart r) (told.NotReloaded fault) counts ls same (λ tables. IsReloadedTo (Err fault)) turns (λ world before after is t. (t.0, step.restarts_not is t.1))
 
         -- a push is made
         pub pushes : (request : RequestBuf) (asked : Asked) (outcome : Outcome) (ls all : List Letter) → asked ≡ asked_by_owned request → ls ≡ letters → all ≡ ls ++ letter.Asks r asked ∷ [] → outcome ≡ told.Sent (length ls)
-            → Counts g ⊥ old new → CallLeaves g (IsPushMadeIn old.catalog) old new → Turns g.honest g.contents (IsPushedTo old.catalog (Ok request)) old new
+            → Counts g ⊥ old new → CallLeaves g (IsPushMadeIn old.catalog) old new → Turns g (IsPushedTo old.catalog (Ok request)) old new
             → Moves g limit (held h replicas letters) (MakePush r) outcome (held h (slice_set replicas r new) all)
         pushes request asked outcome ls all asks same is as_told counts leaves turns =
             subst (λ (l : List Letter). Moves g limit (held h replicas letters) (MakePush r) outcome (held h (slice_set replicas r new) l)) (sym (is ∙ ap (λ (l : List Letter). l ++ letter.Asks r asked ∷ []) same)) (record {
@@ -309,8 +309,8 @@ module _ {S : Type 0} (g : Ghosts S) (limit : ℕ) where
               counts = counts_replica g (SaysDevice outcome) ⊥ (λ says. subst SaysDevice as_told says) h replicas r old new was counts letters (letters ++ letter.Asks r asked ∷ []);
             })
           where
-            shown_and_said : (world : World) (before after : Member) (message : Sent) → ShowsWorld g.honest g.contents (held h replicas letters) world → IsMember world r before → ShowsMember g.honest g.contents world.tables new after
-                → {its : Asked} → asked ≡ its → ShowsWorld g.honest g.contents (held h (slice_set replicas r new) (letters ++ letter.Asks r asked ∷ [])) (with_message (with_member world r after) (Asks r its))
+            shown_and_said : (world : World) (before after : Member) (message : Sent) → ShowsWorld g (held h replicas letters) world → IsMember world r before → ShowsMember g world.tables new after
+                → {its : Asked} → asked ≡ its → ShowsWorld g (held h (slice_set replicas r new) (letters ++ letter.Asks r asked ∷ [])) (with_message (with_member world r after) (Asks r its))
             shown_and_said world before after message shows at there {its = its} same_asked =
                 says_more h (slice_set replicas r new) letters (with_member world r after) (letter.Asks r asked) (Asks r its) (shows_turned world before after shows at there) (refl, same_asked)
 
@@ -320,13 +320,13 @@ module _ {S : Type 0} (g : Ghosts S) (limit : ℕ) where
             → OneToldAnswer
             → Counts g (SaysDevice (heard result)) old new
             → CallLeaves g (IsAnsweredNext IsWished old.catalog answer) old new
-            → Turns g.honest g.contents (λ before after. Hears old.catalog before answer wishes result after) old new
+            → Turns g (λ before after. Hears old.catalog before answer wishes result after) old new
             → Moves g limit (held h replicas letters) (Deliver k wishes) (heard result) (held h (slice_set replicas r new) ls)
         hears k wishes bytes answer result ls same at fits spelled one counts leaves turns =
             turned (λ tables. IsAnsweredNext IsWished tables answer) leaves by_answer (Deliver k wishes) (heard result) counts ls same (λ tables before after. Hears tables before answer wishes result after) turns
             (λ world before after stands is t. told_step world before after stands is t (told_of world k r bytes (stands.0.messages k (letter.Tells r bytes) at)))
           where
-            message_is : (world : World) → StandsAt g.honest g.contents limit (held h replicas letters) world → (its : Answer) × IsMessage world k (Tells r its) × (bytes.items ≡ answer_spelling its) → IsMessage world k (Tells r answer)
+            message_is : (world : World) → StandsAt g limit (held h replicas letters) world → (its : Answer) × IsMessage world k (Tells r its) × (bytes.items ≡ answer_spelling its) → IsMessage world k (Tells r answer)
             message_is world stands (its, there, its_spelled) =
                 let both : Ok its ≡ Ok answer = one bytes.items (Ok its) (Ok answer) (stands.1.spelled k (Tells r its) there, its_spelled) (fits, spelled) in
                 let same_answer : its ≡ answer = cc in
@@ -336,7 +336,7 @@ module _ {S : Type 0} (g : Ghosts S) (limit : ℕ) where
             by_answer world stands position now left next =
                 next_of_answer world k r answer position now left (message_is world stands (told_of world k r bytes (stands.0.messages k (letter.Tells r bytes) at))) next
 
-            told_step : (world : World) (before after : Member) → StandsAt g.honest g.contents limit (held h replicas letters) world → IsMember world r before → Hears world.tables before answer wishes result after
+            told_step : (world : World) (before after : Member) → StandsAt g limit (held h replicas letters) world → IsMember world r before → Hears world.tables before answer wishes result after
                 → (its : Answer) × IsMessage world k (Tells r its) × (bytes.items ≡ answer_spelling its) → Step limit world (Deliver k wishes) (heard result) (with_member world r after)
             told_step world before after stands is t (its, there, its_spelled) =
                 step.hears (message_is world stands (its, there, its_spelled)) is t
@@ -390,7 +390,7 @@ module _ {S : Type 0} (g : Ghosts S) (limit : ℕ) where
           there ∙ (ap (λ (x : ℕ). Some (Asks x asked)) (sym who) ∙ ap (λ (a : Asked). Some (Asks r a)) (sym is))
       what_was_asked world (Tells q answer, there, says) = absurd says
 
-      would_serve : (world : World) → StandsAt g.honest g.contents limit (held h replicas letters) world → (bytes : List ℕ) → bytes ≡ request_spelling request → (now left : Contents) → IsServedIn limit h.catalog bytes now left → WouldServe limit world now left
+      would_serve : (world : World) → StandsAt g limit (held h replicas letters) world → (bytes : List ℕ) → bytes ≡ request_spelling request → (now left : Contents) → IsServedIn limit h.catalog bytes now left → WouldServe limit world now left
       would_serve world stands bytes spelled now left served = record {
         message = k;
         who = r;
@@ -409,7 +409,7 @@ module _ {S : Type 0} (g : Ghosts S) (limit : ℕ) where
           ])
 
       pub serves : (wishes : List Wish) (bytes : List ℕ) (answer : Vec ℕ Global) (new : hub.Holding S) (outcome : Outcome) (ls all : List Letter) → bytes ≡ request_spelling request
-          → AnswersHub g.honest g.contents g.failed g.may_leave g.misreads limit h bytes answer.items new
+          → AnswersHub g limit h bytes answer.items new
           → HubLeaves g limit bytes h new → g.failed h.store ≤ g.failed new.store
           → ls ≡ letters → all ≡ ls ++ letter.Tells r answer ∷ [] → outcome ≡ told.Sent (length ls)
           → Moves g limit (held h replicas letters) (Deliver k wishes) outcome (held new replicas all)
@@ -425,7 +425,7 @@ module _ {S : Type 0} (g : Ghosts S) (limit : ℕ) where
                 let f = fit limit world k r request answer.items s.0 small stands.1 there by_asked in
                 let number : told.Sent (length world.messages) ≡ outcome = ap (λ (n : ℕ). told.Sent n) (sym stands.0.messages_count ∙ ap (λ (l : List Letter). length l) (sym same)) ∙ sym as_told in
                 let next : World = with_log world s.0 in
-                let shown : ShowsWorld g.honest g.contents (held new replicas letters) next = record {
+                let shown : ShowsWorld g (held new replicas letters) next = record {
                   catalog = answers.catalog ∙ stands.0.catalog;
                   log = s.2;
                   members_count = stands.0.members_count;
@@ -442,7 +442,7 @@ module _ {S : Type 0} (g : Ghosts S) (limit : ℕ) where
             counts = counts_hub g (SaysDevice outcome) h new (λ says. absurd (subst SaysDevice as_told says)) replicas letters (letters ++ letter.Tells r answer ∷ []) later;
           })
 
-      pub serves_not : (wishes : List Wish) (bytes : List ℕ) (new : hub.Holding S) (ls : List Letter) → bytes ≡ request_spelling request → StaysHub g.honest g.contents g.failed g.may_leave g.misreads h new → HubLeaves g limit bytes h new → g.failed h.store ≤ g.failed new.store → ls ≡ letters
+      pub serves_not : (wishes : List Wish) (bytes : List ℕ) (new : hub.Holding S) (ls : List Letter) → bytes ≡ request_spelling request → StaysHub g h new → HubLeaves g limit bytes h new → g.failed h.store ≤ g.failed new.store → ls ≡ letters
           → Moves g limit (held h replicas letters) (Deliver k wishes) told.Memory (held new replicas ls)
       serves_not wishes bytes new ls spelled kept leaves later same =
           subst (λ (l : List Letter). Moves g limit (held h replicas letters) (Deliver k wishes) told.Memory (held new replicas l)) (sym same) (record {

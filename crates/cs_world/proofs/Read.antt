@@ -24,7 +24,7 @@ use Rattle.cs_world.proofs.Left.{left_of_hub}
 use Rattle.cs_world.proofs.Moved.{held, member_there, unturned}
 
 -- what a stop leaves of a store that was read again
-pub reloaded_leaves : {S : Type 0} (g : Ghosts S) (old new : replica.Holding S) (result : Result (Unit {0}) OpenFault) → Reopens g.honest g.contents g.failed g.may_leave g.misreads old.store new.store result
+pub reloaded_leaves : {S : Type 0} (g : Ghosts S) (old new : replica.Holding S) (result : Result (Unit {0}) OpenFault) → Reopens g old.store new.store result
     → (g.honest new.store → new.position ≡ old.position) → CallLeaves g (λ position now left. ⊥) old new
 reloaded_leaves g old new (Ok done) reopens position h are fits view shows left may =
     elim (reopens.durable h left may) [ inl now ↦ inl now | inr (before, same) ↦ inr (inl (before, same, position h)) ]
@@ -41,29 +41,29 @@ module _ {S : Type 0} (g : Ghosts S) (limit : ℕ) where
 
   module _ (h : hub.Holding S) (replicas : List (replica.Holding S)) (letters : List Letter) where
     module _ (r : ℕ) (old : replica.Holding S) (was : slice_get replicas r ≡ Some old) (new : replica.Holding S) where
-      reads_as : Counts g ⊥ old new → CallLeaves g (λ position now left. ⊥) old new → Turns g.honest g.contents (λ before after. after ≡ before) old new
+      reads_as : Counts g ⊥ old new → CallLeaves g (λ position now left. ⊥) old new → Turns g (λ before after. after ≡ before) old new
           → Moves g limit (all_of h replicas letters) (Restart r) told.Done (all_of h (slice_set replicas r new) letters)
       reads_as counts leaves turns =
           unturned g limit h replicas letters r old was new (λ tables position now left. ⊥) leaves (λ world stands position now left none. absurd none)
           (Restart r) told.Done counts letters refl (λ tables before after. after ≡ before) turns (λ world before after is t. (t, step.restarts is))
 
-      pub replica_left : Counts g ⊥ old new → CallLeaves g (λ position now left. ⊥) old new → Turns g.honest g.contents (λ before after. after ≡ before) old new
+      pub replica_left : Counts g ⊥ old new → CallLeaves g (λ position now left. ⊥) old new → Turns g (λ before after. after ≡ before) old new
           → KeepsLeft g limit (all_of h replicas letters) (all_of h (slice_set replicas r new) letters)
       replica_left counts leaves turns = (reads_as counts leaves turns).left
 
-      pub reads_replica : Counts g ⊥ old new → CallLeaves g (λ position now left. ⊥) old new → Turns g.honest g.contents (λ before after. after ≡ before) old new
-          → Reads g.honest g.contents limit (all_of h replicas letters) (all_of h (slice_set replicas r new) letters)
+      pub reads_replica : Counts g ⊥ old new → CallLeaves g (λ position now left. ⊥) old new → Turns g (λ before after. after ≡ before) old new
+          → Reads g limit (all_of h replicas letters) (all_of h (slice_set replicas r new) letters)
       reads_replica counts leaves turns =
           let m = reads_as counts leaves turns in
           record {
             was_honest = m.was_honest;
             stands = λ all world stands.
                 let n = m.moved all world stands in
-                (subst (ShowsWorld g.honest g.contents (all_of h (slice_set replicas r new) letters)) (sym (same_world world n.0 r n.1)) n.2, stands.1);
+                (subst (ShowsWorld g (all_of h (slice_set replicas r new) letters)) (sym (same_world world n.0 r n.1)) n.2, stands.1);
           }
 
       pub listed : (P : List TableDef → View → Type 0) → (g.honest new.store → (view : View) → replica.Shows g.contents old view → P old.catalog view)
-          → AreHonest g.honest g.contents (all_of h (slice_set replicas r new) letters) → (world : World) → StandsAt g.honest g.contents limit (all_of h replicas letters) world
+          → AreHonest g (all_of h (slice_set replicas r new) letters) → (world : World) → StandsAt g limit (all_of h replicas letters) world
           → (member : Member) → IsMember world r member → P world.tables member.view
       listed P tells all world stands member is =
           let m = member_there g limit h replicas letters r old was world stands in

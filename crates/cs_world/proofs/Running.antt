@@ -17,10 +17,10 @@ use Rattle.cs_world.proofs.StopsLocal.{framed, framed_is}
 
 module _ {S : Type 0} (g : Ghosts S) (limit : ℕ) where
   abbrev pub Stands : Holding S → Type 0
-  Stands held = AreHonest g.honest g.contents held → (world : World) × StandsAt g.honest g.contents limit held world × Leaves g limit world held
+  Stands held = AreHonest g held → (world : World) × StandsAt g limit held world × Leaves g limit world held
 
   pub runs_one : StepsAreSound → limit < 2 ^ 32 → (old new : Holding S) (event : Event) (outcome : Outcome) → Moves g limit old event outcome new
-      → Runs g.honest g.contents limit old (event ∷ []) (outcome ∷ []) new
+      → Runs g limit old (event ∷ []) (outcome ∷ []) new
   runs_one sound small old new event outcome moves = record {
     was_honest = moves.was_honest;
     ran = λ all world stands.
@@ -38,18 +38,18 @@ module _ {S : Type 0} (g : Ghosts S) (limit : ℕ) where
       (m.0, (m.2, s.0), moves.left all before.0 before.1 m.0 (framed m.1) before.2)
 
   -- and so after what is only read
-  pub stands_as_read : (old new : Holding S) → Reads g.honest g.contents limit old new → KeepsLeft g limit old new → Stands old → Stands new
+  pub stands_as_read : (old new : Holding S) → Reads g limit old new → KeepsLeft g limit old new → Stands old → Stands new
   stands_as_read old new reads left stood all =
       let before = stood (reads.was_honest all) in
       (before.0, reads.stands all before.0 before.1, left all before.0 before.1 before.0 (framed_is before.0 before.0 refl) before.2)
 
-  pub has_headline : SoundHasHeadline → (held : Holding S) → Stands held → HasHeadline g.honest g.contents limit held
+  pub has_headline : SoundHasHeadline → (held : Holding S) → Stands held → HasHeadline g limit held
   has_headline sound held stood all =
       let s = stood all in
       (s.0, s.1, sound limit s.0 s.1.1)
 
-  runs_more : (old mid new : Holding S) (event : Event) (outcome : Outcome) (events : List Event) (outcomes : List Outcome) → Runs g.honest g.contents limit old (event ∷ []) (outcome ∷ []) mid
-      → Runs g.honest g.contents limit mid events outcomes new → Runs g.honest g.contents limit old (event ∷ events) (outcome ∷ outcomes) new
+  runs_more : (old mid new : Holding S) (event : Event) (outcome : Outcome) (events : List Event) (outcomes : List Outcome) → Runs g limit old (event ∷ []) (outcome ∷ []) mid
+      → Runs g limit mid events outcomes new → Runs g limit old (event ∷ events) (outcome ∷ outcomes) new
   runs_more old mid new event outcome events outcomes first rest = record {
     was_honest = λ all. first.was_honest (rest.was_honest all);
     ran = λ all world stands.
@@ -59,7 +59,7 @@ module _ {S : Type 0} (g : Ghosts S) (limit : ℕ) where
         (r.0, (f.0, one, r.1), (f.2.0, r.2), r.3);
   }
 
-  runs_none : (old : Holding S) → Runs g.honest g.contents limit old [] [] old
+  runs_none : (old : Holding S) → Runs g limit old [] [] old
   runs_none old = record { was_honest = λ all. all; ran = λ all world stands. (world, refl, tt, stands) }
 
   -- so it is with the counts of failures
@@ -76,15 +76,15 @@ module _ {S : Type 0} (g : Ghosts S) (limit : ℕ) where
   -- what follows from here, follows from the start
   abbrev pub Running : Holding S → List Event → Holding S → List Event → List Outcome → Type 0
   Running old all now rest outcomes =
-      (new : Holding S) (more : List Outcome) → Runs g.honest g.contents limit now rest more new → Runs g.honest g.contents limit old all (outcomes ++ more) new
+      (new : Holding S) (more : List Outcome) → Runs g limit now rest more new → Runs g limit old all (outcomes ++ more) new
 
   pub running_on : (old : Holding S) (all : List Event) (now next : Holding S) (event : Event) (rest : List Event) (outcomes others : List Outcome) (outcome : Outcome)
-      → Running old all now (event ∷ rest) outcomes → Runs g.honest g.contents limit now (event ∷ []) (outcome ∷ []) next → others ≡ outcomes ++ outcome ∷ []
+      → Running old all now (event ∷ rest) outcomes → Runs g limit now (event ∷ []) (outcome ∷ []) next → others ≡ outcomes ++ outcome ∷ []
       → Running old all next rest others
   running_on old all now next event rest outcomes others outcome so one is new more runs =
       rw (is, append_assoc) (so new (outcome ∷ more) (runs_more now next new event outcome rest more one runs))
 
   pub ran : (old : Holding S) (all : List Event) (now : Holding S) (rest : List Event) (outcomes : List Outcome) → length rest ≡ 0 → Running old all now rest outcomes
-      → Runs g.honest g.contents limit old all outcomes now
-  ran old all now [] outcomes none so = subst (λ (os : List Outcome). Runs g.honest g.contents limit old all os now) (append-nil outcomes) (so now [] (runs_none now))
+      → Runs g limit old all outcomes now
+  ran old all now [] outcomes none so = subst (λ (os : List Outcome). Runs g limit old all os now) (append-nil outcomes) (so now [] (runs_none now))
   ran old all now (event ∷ rest) outcomes none so = absurd (omega (arith, none))

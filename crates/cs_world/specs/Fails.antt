@@ -52,5 +52,5 @@ module _ {S : Type 0} (g : Ghosts S) where
       (r : ℕ) (request : Asked) → slice_get old.letters k ≡ Some (letter.Asks r request)
       → (outcome ≡ Memory)
       ⊎ ((answer : Vec ℕ Global) × (new.letters ≡ old.letters ++ letter.Tells r answer ∷ [])
-      × AnswersHub g.honest g.contents g.failed g.may_leave g.misreads limit old.hub (request_spelling request) answer.items new.hub)
+      × AnswersHub g limit old.hub (request_spelling request) answer.items new.hub)
   AsksHub limit event outcome old new = Unit {0}

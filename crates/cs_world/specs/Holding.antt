@@ -3,7 +3,7 @@ use Rattle.std.specs.Prelude.{◌≡◌, ℕ, List, length, Some, slice_get}
 use Rattle.cs_value.specs.declared.catalog.TableDef.{TableDef}
 use Rattle.cs_hub.specs.Holding as hub
 use Rattle.cs_replica.specs.Holding as replica
-use Rattle.cs_store.specs.Contents.{Contents}
+use Rattle.cs_store.specs.declared.store.RowStore.{Ghosts}
 use Rattle.cs_wire.specs.Answers.{answer_spelling}
 use Rattle.cs_world.specs.Sound.{IsSound}
 use Rattle.cs_world.specs.World.{Asks, IsMember, IsMessage, Member, Sent, Tells, World}
@@ -23,22 +23,22 @@ Says (letter.Asks r request) (Tells other answer) = ⊥
 Says (letter.Tells r bytes) (Asks other asked) = ⊥
 Says (letter.Tells r bytes) (Tells other answer) = (r ≡ other) × (bytes.items ≡ answer_spelling answer)
 
-module _ {S : Type 0} (honest : S → Type 0) (contents : S → Contents) where
+module _ {S : Type 0} (g : Ghosts S) where
   -- each of its stores is honest
   pub record AreHonest (held : Holding S) : Type 0 where
-    pub hub : honest held.hub.store
-    pub replicas : (r : ℕ) (one : replica.Holding S) → slice_get held.replicas r ≡ Some one → honest one.store
+    pub hub : g.honest held.hub.store
+    pub replicas : (r : ℕ) (one : replica.Holding S) → slice_get held.replicas r ≡ Some one → g.honest one.store
 
   -- a replica's store shows it: where it stands, its rows, and what is pending
   pub record ShowsMember (tables : List TableDef) (one : replica.Holding S) (member : Member) : Type 0 where
     pub catalog : one.catalog ≡ tables
     pub position : one.position ≡ member.position
-    pub shows : replica.Shows contents one member.view
+    pub shows : replica.Shows g.contents one member.view
 
   -- the stores show the log and the replicas, number by number, and the letters say the messages
   pub record ShowsWorld (held : Holding S) (world : World) : Type 0 where
     pub catalog : held.hub.catalog ≡ world.tables
-    pub log : hub.Shows contents held.hub world.log
+    pub log : hub.Shows g.contents held.hub world.log
     pub members_count : length held.replicas ≡ length world.members
     pub members : (r : ℕ) (one : replica.Holding S) → slice_get held.replicas r ≡ Some one
         → (member : Member) × IsMember world r member × ShowsMember world.tables one member

@@ -123,5 +123,5 @@ pub record Survives (limit : ℕ) (world : World) (place : Place) (left : Conten
 -- where the stores are honest, so is it of whatever a stop now leaves of one of them
 abbrev pub StopsHaveHeadline : {S : Type 0} → Ghosts S → ℕ → Holding S → Type 0
 StopsHaveHeadline g limit held =
-    AreHonest g.honest g.contents held → (world : World) → StandsAt g.honest g.contents limit held world
+    AreHonest g held → (world : World) → StandsAt g limit held world
     → (place : Place) (left : Contents) → MayLeaveAt g held place left → Survives limit world place left

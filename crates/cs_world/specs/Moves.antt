@@ -18,13 +18,13 @@ module _ {S : Type 0} (g : Ghosts S) where
   -- what a stop may leave of its stores goes on with the world
   abbrev pub KeepsLeft : ℕ → Holding S → Holding S → Type 0
   KeepsLeft limit old new =
-      AreHonest g.honest g.contents new → (world : World) → StandsAt g.honest g.contents limit old world
+      AreHonest g new → (world : World) → StandsAt g limit old world
       → (next : World) → HasGoneOn world next → Leaves g limit world old → Leaves g limit next new
 
   -- where the stores are honest, the world at which it stood made the step of the event, with this outcome
   pub record Moves (limit : ℕ) (old : Holding S) (event : Event) (outcome : Outcome) (new : Holding S) : Type 0 where
-    pub was_honest : AreHonest g.honest g.contents new → AreHonest g.honest g.contents old
-    pub moved : AreHonest g.honest g.contents new → (world : World) → StandsAt g.honest g.contents limit old world
-        → (next : World) × Step limit world event outcome next × ShowsWorld g.honest g.contents new next
+    pub was_honest : AreHonest g new → AreHonest g old
+    pub moved : AreHonest g new → (world : World) → StandsAt g limit old world
+        → (next : World) × Step limit world event outcome next × ShowsWorld g new next
     pub left : KeepsLeft limit old new
     pub counts : CountsOn g (SaysDevice outcome) old new

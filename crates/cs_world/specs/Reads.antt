@@ -1,7 +1,7 @@
 -- What is read of a world over stores (profile of this project).
 use Rattle.std.specs.Prelude.{ℕ, Option, Some, None}
 pub use Rattle.cs_member.specs.Member.{AreRowsIn}
-use Rattle.cs_store.specs.Contents.{Contents}
+use Rattle.cs_store.specs.declared.store.RowStore.{Ghosts}
 use Rattle.cs_world.specs.World.{World}
 use Rattle.cs_world.specs.declared.letter.Letter.{Letter}
 use Rattle.cs_world.specs.declared.letter.Letter.TheVariants as letter
@@ -13,8 +13,8 @@ letter_receiver (Some (letter.Tells r bytes)) = Some r
 letter_receiver (Some (letter.Asks r request)) = None
 letter_receiver None = None
 
-module _ {S : Type 0} (honest : S → Type 0) (contents : S → Contents) where
+module _ {S : Type 0} (g : Ghosts S) where
   -- where the stores are honest, it stands at each world at which it stood
   pub record Reads (limit : ℕ) (old new : Holding S) : Type 0 where
-    pub was_honest : AreHonest honest contents new → AreHonest honest contents old
-    pub stands : AreHonest honest contents new → (world : World) → StandsAt honest contents limit old world → StandsAt honest contents limit new world
+    pub was_honest : AreHonest g new → AreHonest g old
+    pub stands : AreHonest g new → (world : World) → StandsAt g limit old world → StandsAt g limit new world

@@ -23,10 +23,10 @@ use cs_store::{RowStore, StoreFault};
 impl<S: RowStore> Core<S> {
     /// The rows of a replica's table; none where there is no such replica.
     fn rows(&mut self, replica: usize, table: usize) -> Result<Vec<RowAtKey>, StoreFault>
-        ensures reads { Reads S.honest S.contents MAX_ENTRIES self.old self.new }
+        ensures reads { Reads S.RowStore MAX_ENTRIES self.old self.new }
         ensures left { KeepsLeft S.RowStore MAX_ENTRIES self.old self.new }
         ensures counts { CountsOn S.RowStore (result ≡ Err Device) self.old self.new }
-        ensures listed { AreHonest S.honest S.contents self.new → (world : Standing) → StandsAt S.honest S.contents MAX_ENTRIES self.old world → (member : Member) → IsMember world replica member → IfOk result (λ rows. AreRowsIn world.tables member.view.tables table rows.items) }
+        ensures listed { AreHonest S.RowStore self.new → (world : Standing) → StandsAt S.RowStore MAX_ENTRIES self.old world → (member : Member) → IsMember world replica member → IfOk result (λ rows. AreRowsIn world.tables member.view.tables table rows.items) }
         ensures none { slice_get self.old.replicas replica ≡ None → IfOk result (λ rows. rows.items ≡ []) }
     {
         let Some(one) = self.replicas.get_mut(replica) else {
@@ -40,10 +40,10 @@ impl<S: RowStore> Core<S> {
 
     /// The rows of the hub's table.
     fn hub_rows(&mut self, table: usize) -> Result<Vec<RowAtKey>, StoreFault>
-        ensures reads { Reads S.honest S.contents MAX_ENTRIES self.old self.new }
+        ensures reads { Reads S.RowStore MAX_ENTRIES self.old self.new }
         ensures left { KeepsLeft S.RowStore MAX_ENTRIES self.old self.new }
         ensures counts { CountsOn S.RowStore (result ≡ Err Device) self.old self.new }
-        ensures listed { AreHonest S.honest S.contents self.new → (world : Standing) → StandsAt S.honest S.contents MAX_ENTRIES self.old world → IfOk result (λ rows. AreRowsIn world.tables (state_of world.log) table rows.items) }
+        ensures listed { AreHonest S.RowStore self.new → (world : Standing) → StandsAt S.RowStore MAX_ENTRIES self.old world → IfOk result (λ rows. AreRowsIn world.tables (state_of world.log) table rows.items) }
     {
         match self.hub.rows(table) {
             Ok(rows) => return Ok(rows),
@@ -119,9 +119,9 @@ impl<S: RowStore> World<S> {
     /// `Memory` and `Device`.
     pub fn rows(&mut self, replica: usize, table: usize) -> Result<Vec<RowAtKey>, StoreFault>
         // Nothing has happened, and a failed device is told only where its count rose.
-        ensures reads { Reads S.honest S.contents MAX_ENTRIES self.old self.new }
+        ensures reads { Reads S.RowStore MAX_ENTRIES self.old self.new }
         ensures counts { CountsOn S.RowStore (result ≡ Err Device) self.old self.new }
-        ensures listed { AreHonest S.honest S.contents self.new → (world : Standing) → StandsAt S.honest S.contents MAX_ENTRIES self.old world → (member : Member) → IsMember world replica member → IfOk result (λ rows. AreRowsIn world.tables member.view.tables table rows.items) }
+        ensures listed { AreHonest S.RowStore self.new → (world : Standing) → StandsAt S.RowStore MAX_ENTRIES self.old world → (member : Member) → IsMember world replica member → IfOk result (λ rows. AreRowsIn world.tables member.view.tables table rows.items) }
         ensures none { slice_get self.old.replicas replica ≡ None → IfOk result (λ rows. rows.items ≡ []) }
     {
         self.core.rows(replica, table)
@@ -134,9 +134,9 @@ impl<S: RowStore> World<S> {
     /// `Memory` and `Device`.
     pub fn hub_rows(&mut self, table: usize) -> Result<Vec<RowAtKey>, StoreFault>
         // Nothing has happened, and a failed device is told only where its count rose.
-        ensures reads { Reads S.honest S.contents MAX_ENTRIES self.old self.new }
+        ensures reads { Reads S.RowStore MAX_ENTRIES self.old self.new }
         ensures counts { CountsOn S.RowStore (result ≡ Err Device) self.old self.new }
-        ensures listed { AreHonest S.honest S.contents self.new → (world : Standing) → StandsAt S.honest S.contents MAX_ENTRIES self.old world → IfOk result (λ rows. AreRowsIn world.tables (state_of world.log) table rows.items) }
+        ensures listed { AreHonest S.RowStore self.new → (world : Standing) → StandsAt S.RowStore MAX_ENTRIES self.old world → IfOk result (λ rows. AreRowsIn world.tables (state_of world.log) table rows.items) }
     {
         self.core.hub_rows(table)
     }

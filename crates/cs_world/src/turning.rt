@@ -15,7 +15,7 @@ pub(crate) fn reload_replica<S: RowStore>(
     alloc: Global,
     replica: &mut Replica<S>,
 ) -> Result<(), OpenFault>
-    ensures turned { Turns S.honest S.contents (IsReloadedTo result) replica.old replica.new }
+    ensures turned { Turns S.RowStore (IsReloadedTo result) replica.old replica.new }
     ensures left { CallLeaves S.RowStore (λ position now left. ⊥) replica.old replica.new }
     ensures counts { Counts S.RowStore (result ≡ Err Device) replica.old replica.new }
 {

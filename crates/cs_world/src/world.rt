@@ -36,8 +36,8 @@ impl<S: RowStore> Model for World<S> {
 
     ghost view = { λ world. world.core };
 
-    ghost invariant = { λ world. AreHonest S.honest S.contents world.core
-        → (standing : Standing) × StandsAt S.honest S.contents MAX_ENTRIES world.core standing × Leaves S.RowStore MAX_ENTRIES standing world.core };
+    ghost invariant = { λ world. AreHonest S.RowStore world.core
+        → (standing : Standing) × StandsAt S.RowStore MAX_ENTRIES world.core standing × Leaves S.RowStore MAX_ENTRIES standing world.core };
 }
 
 impl<S: RowStore + Drop> World<S> {
@@ -56,7 +56,7 @@ impl<S: RowStore + Drop> World<S> {
         requires hub { S.contents hub ≡ nothing }
         requires replicas { All (λ store. S.contents store ≡ nothing) replicas.items }
         requires count { length replicas.items < 2 ^ 32 }
-        ensures { IfOk result (IsNew S.honest S.contents MAX_ENTRIES catalog.now (length replicas.items)) }
+        ensures { IfOk result (IsNew S.RowStore MAX_ENTRIES catalog.now (length replicas.items)) }
     {
         crate::laws::first_is_sound();
         let _tables = catalog.tables();
@@ -101,7 +101,7 @@ impl World<MapStore> {
 impl<S: RowStore> World<S> {
     /// What is so of every world, whatever has happened in it: the headline, also behind a stop. It takes no memory, and does nothing.
     pub fn headline(&self)
-        ensures headline { HasHeadline S.honest S.contents MAX_ENTRIES self.now }
+        ensures headline { HasHeadline S.RowStore MAX_ENTRIES self.now }
 
         // Whatever a stop now leaves of one of its stores, that and the others show a world that has the headline: this one, or one to
         // which a step leads.
@@ -117,7 +117,7 @@ impl<S: RowStore> World<S> {
 
     /// Makes an event happen. (Profile of this project.)
     pub fn step(&mut self, event: &Event) -> Outcome
-        ensures ran { Runs S.honest S.contents MAX_ENTRIES self.old (event.now ∷ []) (result ∷ []) self.new }
+        ensures ran { Runs S.RowStore MAX_ENTRIES self.old (event.now ∷ []) (result ∷ []) self.new }
 
         // A failed device is told only where its count rose.
         ensures counts { CountsOn S.RowStore (SaysDevice result) self.old self.new }
@@ -137,17 +137,17 @@ impl<S: RowStore> World<S> {
     /// `Memory`, and nothing has happened.
     pub fn run(&mut self, events: &[Event]) -> Result<Vec<Outcome>, Memory>
         // The steps of the events are made, with these outcomes.
-        ensures ran { IfOk result (λ outcomes. Runs S.honest S.contents MAX_ENTRIES self.old events.now outcomes.items self.new) }
+        ensures ran { IfOk result (λ outcomes. Runs S.RowStore MAX_ENTRIES self.old events.now outcomes.items self.new) }
 
         // A failed device is told only where its count rose.
         ensures counts { IfOk result (λ outcomes. CountsOn S.RowStore (SomeSaysDevice outcomes.items) self.old self.new) }
 
         // Each pull is the three-way merge of the log's tables at the replica's version, its own, and the log's at the next.
-        ensures merges { IfOk result (λ outcomes. RunMerges S.honest S.contents MAX_ENTRIES self.old events.now outcomes.items) }
+        ensures merges { IfOk result (λ outcomes. RunMerges S.RowStore MAX_ENTRIES self.old events.now outcomes.items) }
 
         // Each replica's tables are the hub's at its version with its own changes on top, no push conflicts, each counts once, and replicas
         // at rest at one version have the same rows.
-        ensures headline { HasHeadline S.honest S.contents MAX_ENTRIES self.new }
+        ensures headline { HasHeadline S.RowStore MAX_ENTRIES self.new }
 
         // So it is of whatever a stop now leaves of one of its stores.
         ensures stops { StopsHaveHeadline S.RowStore MAX_ENTRIES self.new }

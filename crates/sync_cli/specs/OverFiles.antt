@@ -26,7 +26,7 @@ module _ {S : Type 0} (g : Ghosts S) (gave : List ℕ → S → Type 0) (refused
   abbrev pub EndsServingFile : List ℕ → List TableDef → Option (List ℕ) → Option (List ℕ) → Type 0 → Type 0 → Option (List ℕ) → Option (List ℕ)
       → Result ⊤ RunFault → Type 0
   EndsServingFile path tables input left read_failed write_failed old new result =
-      OverStore path (λ store last. EndsAs of_serving (EndsServingOn g.honest g.contents g.failed g.may_leave g.misreads tables store last input left read_failed write_failed old new) result) old new result
+      OverStore path (λ store last. EndsAs of_serving (EndsServingOn g tables store last input left read_failed write_failed old new) result) old new result
 
   -- over a file or not
   abbrev pub EndsHub : Option (List ℕ) → List TableDef → Option (List ℕ) → Option (List ℕ) → Type 0 → Type 0 → Option (List ℕ) → Option (List ℕ)

@@ -3,6 +3,6 @@ use Rattle.cs_appending.proofs.appending.append_tried.Goals as goal
 
 pub returns : goal.returns
 returns g c = record {
-  writes = wrote g.S.RowStore.honest g.S.RowStore.contents g.S.RowStore.failed g.S.RowStore.may_leave g.S.RowStore.misreads c.args._catalog.now c.args._entry.now
+  writes = wrote g.S.RowStore c.args._catalog.now c.args._entry.now
       c.args.store.now c.commit.new.self c.args.batch.now c.commit.result c.requires.tried c.commit.ensures;
 }

@@ -4,7 +4,7 @@ use Rattle.cs_appending.proofs.appending.try_entry.Goals as goal
 
 pub returns-in-Err-clause-reads : goal.returns-in-Err-clause-reads
 returns-in-Err-clause-reads g c =
-    as_log_refused g.S.RowStore.honest g.S.RowStore.contents g.S.RowStore.failed g.S.RowStore.may_leave g.S.RowStore.misreads c.args.catalog.now c.args.entry.now
+    as_log_refused g.S.RowStore c.args.catalog.now c.args.entry.now
     c.args.store.now c.try_changes.new.store c.in-Err.fault c.in-Err.ensures.reads
 
 pub returns-in-Err-clause-refused : goal.returns-in-Err-clause-refused
@@ -14,7 +14,7 @@ returns-in-Err-clause-refused g c = λ honest log shows.
 
 pub returns-clause-reads : goal.returns-clause-reads
 returns-clause-reads g c =
-    as_log_read g.S.RowStore.honest g.S.RowStore.contents g.S.RowStore.failed g.S.RowStore.may_leave g.S.RowStore.misreads c.args.catalog.now c.args.entry.now
+    as_log_read g.S.RowStore c.args.catalog.now c.args.entry.now
     c.args.store.now c.try_changes.new.store _ _ c.in-Ok.ensures.reads
 
 pub returns-clause-tried : goal.returns-clause-tried

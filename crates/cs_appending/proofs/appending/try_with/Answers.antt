@@ -5,7 +5,7 @@ use Rattle.cs_appending.proofs.appending.try_with.Goals as goal
 
 pub returns-in-Ok-clause-reads : goal.returns-in-Ok-clause-reads
 returns-in-Ok-clause-reads g c =
-    tries.went_on g.S.RowStore.honest g.S.RowStore.contents g.S.RowStore.failed g.S.RowStore.may_leave g.S.RowStore.misreads _ c.args.store.now c.apply.new.store
+    tries.went_on g.S.RowStore _ c.args.store.now c.apply.new.store
     c.in-Ok.ensures.read_rightly _ _ c.in-Ok.ensures.reads
 
 pub returns-in-Ok-clause-made : goal.returns-in-Ok-clause-made
@@ -15,7 +15,7 @@ returns-in-Ok-clause-made g c = λ honest before holds.
 
 pub returns-in-Err-Aborted-clause-reads : goal.returns-in-Err-Aborted-clause-reads
 returns-in-Err-Aborted-clause-reads g c =
-    tries.gave_up g.S.RowStore.honest g.S.RowStore.contents g.S.RowStore.failed g.S.RowStore.may_leave g.S.RowStore.misreads _ c.args.store.now c.apply.new.store
+    tries.gave_up g.S.RowStore _ c.args.store.now c.apply.new.store
     c.in-Err-Aborted.ensures.read_rightly _ _ (λ e. absurd (let no = e in cc)) c.in-Err-Aborted.ensures.reads
 
 pub returns-in-Err-Aborted-clause-refused : goal.returns-in-Err-Aborted-clause-refused
@@ -25,7 +25,7 @@ returns-in-Err-Aborted-clause-refused g c = λ honest before holds.
 
 pub returns-in-Err-Misuse-clause-reads : goal.returns-in-Err-Misuse-clause-reads
 returns-in-Err-Misuse-clause-reads g c =
-    tries.gave_up g.S.RowStore.honest g.S.RowStore.contents g.S.RowStore.failed g.S.RowStore.may_leave g.S.RowStore.misreads _ c.args.store.now c.apply.new.store
+    tries.gave_up g.S.RowStore _ c.args.store.now c.apply.new.store
     c.in-Err-Misuse.ensures.read_rightly _ _ (λ e. absurd (let no = e in cc)) c.in-Err-Misuse.ensures.reads
 
 pub returns-in-Err-Misuse-clause-refused : goal.returns-in-Err-Misuse-clause-refused
@@ -35,12 +35,12 @@ returns-in-Err-Misuse-clause-refused g c = λ honest before holds.
 
 pub returns-in-Err-Device-clause-reads : goal.returns-in-Err-Device-clause-reads
 returns-in-Err-Device-clause-reads g c =
-    tries.gave_up g.S.RowStore.honest g.S.RowStore.contents g.S.RowStore.failed g.S.RowStore.may_leave g.S.RowStore.misreads _ c.args.store.now c.apply.new.store
+    tries.gave_up g.S.RowStore _ c.args.store.now c.apply.new.store
     c.in-Err-Device.ensures.read_rightly _ _ (λ e. c.in-Err-Device.field-0-is) c.in-Err-Device.ensures.reads
 
 pub returns-in-Err-Memory-clause-reads : goal.returns-in-Err-Memory-clause-reads
 returns-in-Err-Memory-clause-reads g c =
-    tries.gave_up g.S.RowStore.honest g.S.RowStore.contents g.S.RowStore.failed g.S.RowStore.may_leave g.S.RowStore.misreads _ c.args.store.now c.apply.new.store
+    tries.gave_up g.S.RowStore _ c.args.store.now c.apply.new.store
     c.in-Err-Memory.ensures.read_rightly _ _ (λ e. absurd (let no = e in cc)) c.in-Err-Memory.ensures.reads
 
 pub unreachable-requires : goal.unreachable-requires

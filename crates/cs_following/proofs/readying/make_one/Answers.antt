@@ -24,7 +24,7 @@ returns-in-Ok-clause-stands g c = λ known stands h.
     let moved = c.in-Ok.ensures.moved in
     let seen = c.shown.ensures h in
     let shown = subst (λ (t : List TableDef). ShowsAt t (g.S.RowStore.contents c.make_push.new.self.store) c.make_push.new.self.position seen.0) c.make_push.ensures.catalog seen.1 in
-    readied_stands g.S.RowStore.honest g.S.RowStore.contents known c.args.replica.now c.make_push.new.self c.in-Ok.ensures.writes.was_honest c.make_push.ensures.catalog
+    readied_stands g.S.RowStore known c.args.replica.now c.make_push.new.self c.in-Ok.ensures.writes.was_honest c.make_push.ensures.catalog
     c.steps_stand.ensures.kept s.0 (grounded s.0) h
     (subst (λ (t : List TableDef). ShowsAt t (g.S.RowStore.contents c.make_push.new.self.store) c.make_push.new.self.position (grounded s.0)) (sym c.make_push.ensures.catalog)
     (made_shows c.one_body.ensures c.args.replica.now.catalog s.2.of_catalog c.args.replica.now.position c.make_push.new.self.position (g.S.RowStore.contents c.args.replica.now.store) (g.S.RowStore.contents c.make_push.new.self.store) s.0
@@ -36,7 +36,7 @@ returns-in-Ok-clause-stands g c = λ known stands h.
 
 pub returns-in-Err-clause-writes : goal.returns-in-Err-clause-writes
 returns-in-Err-clause-writes g c =
-    failed_alone g.S.RowStore.honest g.S.RowStore.contents g.S.RowStore.failed g.S.RowStore.may_leave g.S.RowStore.misreads push.Device c.in-Err.fault _ _ _ c.args.replica.now.store c.make_push.new.self.store _ _
+    failed_alone g.S.RowStore push.Device c.in-Err.fault _ _ _ c.args.replica.now.store c.make_push.new.self.store _ _
     (λ made. never_made c.in-Err.fault (sym c.not_made.ensures ∙ made)) (λ told. device_made c.in-Err.fault (sym c.not_made.ensures ∙ told))
     (made_next c.args.replica.now.catalog c.args.replica.now.position c.make_push.new.self.position (g.S.RowStore.contents c.args.replica.now.store) (g.S.RowStore.contents c.make_push.new.self.store) c.in-Err.ensures.kept)
     c.in-Err.ensures.writes

@@ -23,32 +23,32 @@ use Rattle.cs_following.proofs.sending.send.Goals as goal
 
 pub returns-in-Err-clause-writes : goal.returns-in-Err-clause-writes
 returns-in-Err-clause-writes g c =
-    turned_early g.S.RowStore.honest g.S.RowStore.contents g.S.RowStore.failed g.S.RowStore.may_leave g.S.RowStore.misreads _ _ _ _ _ c.args.replica.now.store c.make_ready.new.replica.store (made_leaves g.P.Picker.picks c.args.replica.now.catalog c.args.replica.now.position (g.S.RowStore.contents c.args.replica.now.store) c.args.picker.now)
+    turned_early g.S.RowStore _ _ _ _ _ c.args.replica.now.store c.make_ready.new.replica.store (made_leaves g.P.Picker.picks c.args.replica.now.catalog c.args.replica.now.position (g.S.RowStore.contents c.args.replica.now.store) c.args.picker.now)
     _ _ c.in-Err.ensures.writes (λ left made. inl made) _ _ (λ d. d) (λ t. let e : c.in-Err.fault ≡ Device = (let i = t in cc) in ap (λ (f : NodeFault). Err f) e)
 
 pub returns-then-not-ready-clause-writes : goal.returns-then-not-ready-clause-writes
 returns-then-not-ready-clause-writes g c =
-    turned_early g.S.RowStore.honest g.S.RowStore.contents g.S.RowStore.failed g.S.RowStore.may_leave g.S.RowStore.misreads _ _ _ _ _ c.args.replica.now.store c.make_ready.new.replica.store (made_leaves g.P.Picker.picks c.args.replica.now.catalog c.args.replica.now.position (g.S.RowStore.contents c.args.replica.now.store) c.args.picker.now)
+    turned_early g.S.RowStore _ _ _ _ _ c.args.replica.now.store c.make_ready.new.replica.store (made_leaves g.P.Picker.picks c.args.replica.now.catalog c.args.replica.now.position (g.S.RowStore.contents c.args.replica.now.store) c.args.picker.now)
     _ _ c.in-Ok.ensures.writes (λ left made. inl made) _ _ (λ d. d) (λ t. absurd (let i = t in cc))
 
 pub returns-in-Err-flight_entry-clause-writes : goal.returns-in-Err-flight_entry-clause-writes
 returns-in-Err-flight_entry-clause-writes g c =
-    turned_early g.S.RowStore.honest g.S.RowStore.contents g.S.RowStore.failed g.S.RowStore.may_leave g.S.RowStore.misreads _ _ _ _ _ c.args.replica.now.store c.make_ready.new.replica.store (made_leaves g.P.Picker.picks c.args.replica.now.catalog c.args.replica.now.position (g.S.RowStore.contents c.args.replica.now.store) c.args.picker.now)
+    turned_early g.S.RowStore _ _ _ _ _ c.args.replica.now.store c.make_ready.new.replica.store (made_leaves g.P.Picker.picks c.args.replica.now.catalog c.args.replica.now.position (g.S.RowStore.contents c.args.replica.now.store) c.args.picker.now)
     _ _ c.in-Ok.ensures.writes (λ left made. inl made) _ _ (λ d. d) (λ t. absurd (let i = t in cc))
 
 pub returns-in_default-clause-writes : goal.returns-in_default-clause-writes
 returns-in_default-clause-writes g c =
-    turned_early g.S.RowStore.honest g.S.RowStore.contents g.S.RowStore.failed g.S.RowStore.may_leave g.S.RowStore.misreads _ _ _ _ _ c.args.replica.now.store c.make_ready.new.replica.store (made_leaves g.P.Picker.picks c.args.replica.now.catalog c.args.replica.now.position (g.S.RowStore.contents c.args.replica.now.store) c.args.picker.now)
+    turned_early g.S.RowStore _ _ _ _ _ c.args.replica.now.store c.make_ready.new.replica.store (made_leaves g.P.Picker.picks c.args.replica.now.catalog c.args.replica.now.position (g.S.RowStore.contents c.args.replica.now.store) c.args.picker.now)
     _ _ c.in-Ok.ensures.writes (λ left made. inl made) _ _ (λ d. d) (λ t. absurd (let i = t in cc))
 
 pub returns-in-Err-Full-clause-writes : goal.returns-in-Err-Full-clause-writes
 returns-in-Err-Full-clause-writes g c =
-    turned_early g.S.RowStore.honest g.S.RowStore.contents g.S.RowStore.failed g.S.RowStore.may_leave g.S.RowStore.misreads _ _ _ _ _ c.args.replica.now.store c.make_ready.new.replica.store (made_leaves g.P.Picker.picks c.args.replica.now.catalog c.args.replica.now.position (g.S.RowStore.contents c.args.replica.now.store) c.args.picker.now)
+    turned_early g.S.RowStore _ _ _ _ _ c.args.replica.now.store c.make_ready.new.replica.store (made_leaves g.P.Picker.picks c.args.replica.now.catalog c.args.replica.now.position (g.S.RowStore.contents c.args.replica.now.store) c.args.picker.now)
     _ _ c.in-Ok.ensures.writes (λ left made. inl made) _ _ (λ d. d) (λ t. absurd (let i = t in cc))
 
 pub returns-in-Err-Memory-clause-writes : goal.returns-in-Err-Memory-clause-writes
 returns-in-Err-Memory-clause-writes g c =
-    turned_early g.S.RowStore.honest g.S.RowStore.contents g.S.RowStore.failed g.S.RowStore.may_leave g.S.RowStore.misreads _ _ _ _ _ c.args.replica.now.store c.make_ready.new.replica.store (made_leaves g.P.Picker.picks c.args.replica.now.catalog c.args.replica.now.position (g.S.RowStore.contents c.args.replica.now.store) c.args.picker.now)
+    turned_early g.S.RowStore _ _ _ _ _ c.args.replica.now.store c.make_ready.new.replica.store (made_leaves g.P.Picker.picks c.args.replica.now.catalog c.args.replica.now.position (g.S.RowStore.contents c.args.replica.now.store) c.args.picker.now)
     _ _ c.in-Ok.ensures.writes (λ left made. inl made) _ _ (λ d. d) (λ t. absurd (let i = t in cc))
 
 pub returns-in-Err-Full-clause-pushed : goal.returns-in-Err-Full-clause-pushed
@@ -81,7 +81,7 @@ returns-in-Err-take_standing-clause-stands g c = λ stands.
     let at : slice_get c.offer.new.pass.known (length c.args.pass.now.known) ≡ Some c.entry.result.now = rw c.len-at.ensures.len at c.entry.ensures in
     let level : c.make_ready.new.replica.position.version ≡ length c.args.pass.now.known = c.make_ready.ensures.version ∙ c.requires.level in
     let here : slice_get c.offer.new.pass.known c.make_ready.new.replica.position.version ≡ Some c.entry.result.now = ap (λ n. slice_get c.offer.new.pass.known n) level ∙ at in
-    let further = stands_longer g.S.RowStore.honest g.S.RowStore.contents c.stands_longer.ensures c.args.pass.now.known (held.0 ∷ []) c.offer.new.pass.known c.make_ready.new.replica held.1 (c.in-Ok.ensures.stands c.args.pass.now.known stands) in
+    let further = stands_longer g.S.RowStore c.stands_longer.ensures c.args.pass.now.known (held.0 ∷ []) c.offer.new.pass.known c.make_ready.new.replica held.1 (c.in-Ok.ensures.stands c.args.pass.now.known stands) in
     c.take_standing.ensures.stands c.offer.new.pass.known here further
 
 pub returns-in-Err-take_standing-clause-bad : goal.returns-in-Err-take_standing-clause-bad
@@ -90,7 +90,7 @@ returns-in-Err-take_standing-clause-bad g c = λ stands is h.
     let at : slice_get c.offer.new.pass.known (length c.args.pass.now.known) ≡ Some c.entry.result.now = rw c.len-at.ensures.len at c.entry.ensures in
     let level : c.make_ready.new.replica.position.version ≡ length c.args.pass.now.known = c.make_ready.ensures.version ∙ c.requires.level in
     let here : slice_get c.offer.new.pass.known c.make_ready.new.replica.position.version ≡ Some c.entry.result.now = ap (λ n. slice_get c.offer.new.pass.known n) level ∙ at in
-    let further = stands_longer g.S.RowStore.honest g.S.RowStore.contents c.stands_longer.ensures c.args.pass.now.known (held.0 ∷ []) c.offer.new.pass.known c.make_ready.new.replica held.1 (c.in-Ok.ensures.stands c.args.pass.now.known stands) in
+    let further = stands_longer g.S.RowStore c.stands_longer.ensures c.args.pass.now.known (held.0 ∷ []) c.offer.new.pass.known c.make_ready.new.replica held.1 (c.in-Ok.ensures.stands c.args.pass.now.known stands) in
     let bad : c.in-Err-take_standing.fault ≡ BadEntry = (let i = is in cc) in
     c.in-Err-take_standing.ensures.bad c.offer.new.pass.known here (let short : length c.offer.new.pass.known < 2 ^ 64 = omega (arith, c.len-known.ensures.len, c.len-known.type_inv) in short) further (ap (λ (f : NodeFault). Err f) bad) h
 
@@ -140,7 +140,7 @@ returns-in-Mine-clause-stands g c = λ stands.
     let at : slice_get c.offer.new.pass.known (length c.args.pass.now.known) ≡ Some c.entry.result.now = rw c.len-at.ensures.len at c.entry.ensures in
     let level : c.make_ready.new.replica.position.version ≡ length c.args.pass.now.known = c.make_ready.ensures.version ∙ c.requires.level in
     let here : slice_get c.offer.new.pass.known c.make_ready.new.replica.position.version ≡ Some c.entry.result.now = ap (λ n. slice_get c.offer.new.pass.known n) level ∙ at in
-    let further = stands_longer g.S.RowStore.honest g.S.RowStore.contents c.stands_longer.ensures c.args.pass.now.known (held.0 ∷ []) c.offer.new.pass.known c.make_ready.new.replica held.1 (c.in-Ok.ensures.stands c.args.pass.now.known stands) in
+    let further = stands_longer g.S.RowStore c.stands_longer.ensures c.args.pass.now.known (held.0 ∷ []) c.offer.new.pass.known c.make_ready.new.replica held.1 (c.in-Ok.ensures.stands c.args.pass.now.known stands) in
     c.take_standing.ensures.stands c.offer.new.pass.known here further
 
 pub returns-clause-stands : goal.returns-clause-stands
@@ -149,17 +149,17 @@ returns-clause-stands g c = λ stands.
     let at : slice_get c.offer.new.pass.known (length c.args.pass.now.known) ≡ Some c.entry.result.now = rw c.len-at.ensures.len at c.entry.ensures in
     let level : c.make_ready.new.replica.position.version ≡ length c.args.pass.now.known = c.make_ready.ensures.version ∙ c.requires.level in
     let here : slice_get c.offer.new.pass.known c.make_ready.new.replica.position.version ≡ Some c.entry.result.now = ap (λ n. slice_get c.offer.new.pass.known n) level ∙ at in
-    let further = stands_longer g.S.RowStore.honest g.S.RowStore.contents c.stands_longer.ensures c.args.pass.now.known (held.0 ∷ []) c.offer.new.pass.known c.make_ready.new.replica held.1 (c.in-Ok.ensures.stands c.args.pass.now.known stands) in
+    let further = stands_longer g.S.RowStore c.stands_longer.ensures c.args.pass.now.known (held.0 ∷ []) c.offer.new.pass.known c.make_ready.new.replica held.1 (c.in-Ok.ensures.stands c.args.pass.now.known stands) in
     c.take_standing.ensures.stands c.offer.new.pass.known here further
 
 pub returns-in-Err-take_standing-clause-writes : goal.returns-in-Err-take_standing-clause-writes
 returns-in-Err-take_standing-clause-writes g c =
-    one_failed g.S.RowStore.honest g.S.RowStore.contents g.S.RowStore.failed g.S.RowStore.may_leave g.S.RowStore.misreads _ _ _ _ _ _ c.args.replica.now.store c.make_ready.new.replica.store c.take_standing.new.replica.store
+    one_failed g.S.RowStore _ _ _ _ _ _ c.args.replica.now.store c.make_ready.new.replica.store c.take_standing.new.replica.store
     (λ h some. c.shown.ensures h)
     (λ h left pulled. taken_leaves g.P.Picker.picks c.args.replica.now.catalog c.args.replica.now.position c.make_ready.new.replica.position (g.S.RowStore.contents c.args.replica.now.store) (g.S.RowStore.contents c.make_ready.new.replica.store) c.args.picker.now c.take_standing.new.picker c.entry.result.now
     (λ are before shows. subst (λ (b : Bool). IsReadied c.args.replica.now.catalog c.args.replica.now.position before b c.make_ready.new.replica.position (g.S.RowStore.contents c.make_ready.new.replica.store)) c.if-not-ready.false (c.in-Ok.ensures.readied h are before shows)) left
     (subst (λ (t : List TableDef). IsPulledIn g.P.Picker.picks t c.make_ready.new.replica.position c.entry.result.now c.args.picker.now c.take_standing.new.picker (g.S.RowStore.contents c.make_ready.new.replica.store) left) c.make_ready.ensures.catalog pulled))
-    (turned_on g.S.RowStore.honest g.S.RowStore.contents g.S.RowStore.failed g.S.RowStore.may_leave g.S.RowStore.misreads _ _ _ _ (λ left. ⊥) c.args.replica.now.store c.make_ready.new.replica.store (made_leaves g.P.Picker.picks c.args.replica.now.catalog c.args.replica.now.position (g.S.RowStore.contents c.args.replica.now.store) c.args.picker.now) _ _ c.in-Ok.ensures.writes (ap (λ (b : Bool). Ok b) c.if-not-ready.false))
+    (turned_on g.S.RowStore _ _ _ _ (λ left. ⊥) c.args.replica.now.store c.make_ready.new.replica.store (made_leaves g.P.Picker.picks c.args.replica.now.catalog c.args.replica.now.position (g.S.RowStore.contents c.args.replica.now.store) c.args.picker.now) _ _ c.in-Ok.ensures.writes (ap (λ (b : Bool). Ok b) c.if-not-ready.false))
     Device c.in-Err-take_standing.fault _ _ (λ d. d) (λ t. let i = t in cc)
     (taken_next g.P.Picker.picks c.args.replica.now.catalog c.make_ready.new.replica.catalog c.make_ready.new.replica.position c.take_standing.new.replica.position (g.S.RowStore.contents c.make_ready.new.replica.store) (g.S.RowStore.contents c.take_standing.new.replica.store) c.args.picker.now c.take_standing.new.picker
     c.offer.new.pass.known c.entry.result.now c.make_ready.ensures.catalog c.in-Err-take_standing.ensures.kept
@@ -169,24 +169,24 @@ returns-in-Err-take_standing-clause-writes g c =
 
 pub returns-in-Mine-clause-writes : goal.returns-in-Mine-clause-writes
 returns-in-Mine-clause-writes g c =
-    all_well g.S.RowStore.honest g.S.RowStore.contents g.S.RowStore.failed g.S.RowStore.may_leave g.S.RowStore.misreads _ _ _ c.args.replica.now.store c.take_standing.new.replica.store _ _ (λ t. let i = t in cc)
-    (one_more g.S.RowStore.honest g.S.RowStore.contents g.S.RowStore.failed g.S.RowStore.may_leave g.S.RowStore.misreads _ _ _ _ _ _ c.args.replica.now.store c.make_ready.new.replica.store c.take_standing.new.replica.store
+    all_well g.S.RowStore _ _ _ c.args.replica.now.store c.take_standing.new.replica.store _ _ (λ t. let i = t in cc)
+    (one_more g.S.RowStore _ _ _ _ _ _ c.args.replica.now.store c.make_ready.new.replica.store c.take_standing.new.replica.store
     (λ h some. c.shown.ensures h)
     (λ h left pulled. taken_leaves g.P.Picker.picks c.args.replica.now.catalog c.args.replica.now.position c.make_ready.new.replica.position (g.S.RowStore.contents c.args.replica.now.store) (g.S.RowStore.contents c.make_ready.new.replica.store) c.args.picker.now c.take_standing.new.picker c.entry.result.now
     (λ are before shows. subst (λ (b : Bool). IsReadied c.args.replica.now.catalog c.args.replica.now.position before b c.make_ready.new.replica.position (g.S.RowStore.contents c.make_ready.new.replica.store)) c.if-not-ready.false (c.in-Ok.ensures.readied h are before shows)) left
     (subst (λ (t : List TableDef). IsPulledIn g.P.Picker.picks t c.make_ready.new.replica.position c.entry.result.now c.args.picker.now c.take_standing.new.picker (g.S.RowStore.contents c.make_ready.new.replica.store) left) c.make_ready.ensures.catalog pulled))
-    (turned_on g.S.RowStore.honest g.S.RowStore.contents g.S.RowStore.failed g.S.RowStore.may_leave g.S.RowStore.misreads _ _ _ _ (λ left. ⊥) c.args.replica.now.store c.make_ready.new.replica.store (made_leaves g.P.Picker.picks c.args.replica.now.catalog c.args.replica.now.position (g.S.RowStore.contents c.args.replica.now.store) c.args.picker.now) _ _ c.in-Ok.ensures.writes (ap (λ (b : Bool). Ok b) c.if-not-ready.false))
+    (turned_on g.S.RowStore _ _ _ _ (λ left. ⊥) c.args.replica.now.store c.make_ready.new.replica.store (made_leaves g.P.Picker.picks c.args.replica.now.catalog c.args.replica.now.position (g.S.RowStore.contents c.args.replica.now.store) c.args.picker.now) _ _ c.in-Ok.ensures.writes (ap (λ (b : Bool). Ok b) c.if-not-ready.false))
     Device c.in-Ok-take_standing.field-0 c.in-Ok-take_standing.ensures.writes)
 
 pub returns-clause-writes : goal.returns-clause-writes
 returns-clause-writes g c =
-    all_well g.S.RowStore.honest g.S.RowStore.contents g.S.RowStore.failed g.S.RowStore.may_leave g.S.RowStore.misreads _ _ _ c.args.replica.now.store c.take_standing.new.replica.store _ _ (λ t. let i = t in cc)
-    (one_more g.S.RowStore.honest g.S.RowStore.contents g.S.RowStore.failed g.S.RowStore.may_leave g.S.RowStore.misreads _ _ _ _ _ _ c.args.replica.now.store c.make_ready.new.replica.store c.take_standing.new.replica.store
+    all_well g.S.RowStore _ _ _ c.args.replica.now.store c.take_standing.new.replica.store _ _ (λ t. let i = t in cc)
+    (one_more g.S.RowStore _ _ _ _ _ _ c.args.replica.now.store c.make_ready.new.replica.store c.take_standing.new.replica.store
     (λ h some. c.shown.ensures h)
     (λ h left pulled. taken_leaves g.P.Picker.picks c.args.replica.now.catalog c.args.replica.now.position c.make_ready.new.replica.position (g.S.RowStore.contents c.args.replica.now.store) (g.S.RowStore.contents c.make_ready.new.replica.store) c.args.picker.now c.take_standing.new.picker c.entry.result.now
     (λ are before shows. subst (λ (b : Bool). IsReadied c.args.replica.now.catalog c.args.replica.now.position before b c.make_ready.new.replica.position (g.S.RowStore.contents c.make_ready.new.replica.store)) c.if-not-ready.false (c.in-Ok.ensures.readied h are before shows)) left
     (subst (λ (t : List TableDef). IsPulledIn g.P.Picker.picks t c.make_ready.new.replica.position c.entry.result.now c.args.picker.now c.take_standing.new.picker (g.S.RowStore.contents c.make_ready.new.replica.store) left) c.make_ready.ensures.catalog pulled))
-    (turned_on g.S.RowStore.honest g.S.RowStore.contents g.S.RowStore.failed g.S.RowStore.may_leave g.S.RowStore.misreads _ _ _ _ (λ left. ⊥) c.args.replica.now.store c.make_ready.new.replica.store (made_leaves g.P.Picker.picks c.args.replica.now.catalog c.args.replica.now.position (g.S.RowStore.contents c.args.replica.now.store) c.args.picker.now) _ _ c.in-Ok.ensures.writes (ap (λ (b : Bool). Ok b) c.if-not-ready.false))
+    (turned_on g.S.RowStore _ _ _ _ (λ left. ⊥) c.args.replica.now.store c.make_ready.new.replica.store (made_leaves g.P.Picker.picks c.args.replica.now.catalog c.args.replica.now.position (g.S.RowStore.contents c.args.replica.now.store) c.args.picker.now) _ _ c.in-Ok.ensures.writes (ap (λ (b : Bool). Ok b) c.if-not-ready.false))
     Device c.in-Ok-take_standing.field-0 c.in-Ok-take_standing.ensures.writes)
 
 pub returns-in-Err-clause-pushed : goal.returns-in-Err-clause-pushed

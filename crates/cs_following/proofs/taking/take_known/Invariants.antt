@@ -5,6 +5,6 @@ use Rattle.cs_following.proofs.taking.take_known.Given as goal
 abbrev pub invariant-loop-at : goal.invariant-loop-at
 invariant-loop-at g l = record {
   ready : g.P.Picker.is_ready l.picker;
-  along : IsAlong g.P.Picker.picks g.S.RowStore.honest g.S.RowStore.contents g.S.RowStore.failed g.S.RowStore.may_leave g.S.RowStore.misreads
+  along : IsAlong g.P.Picker.picks g.S.RowStore
       l.pass.known l.fn.replica l.fn.picker l.at l.replica l.picker;
 }

@@ -5,7 +5,7 @@ use Rattle.cs_following.proofs.taking.take_standing.Goals as goal
 
 pub returns-in-Ok-clause-stands : goal.returns-in-Ok-clause-stands
 returns-in-Ok-clause-stands g c = λ known here stands.
-    taken_stands g.S.RowStore.honest g.S.RowStore.contents known c.args.replica.now c.take_next.new.replica c.in-Ok.ensures.writes.was_honest c.take_next.ensures.catalog
+    taken_stands g.S.RowStore known c.args.replica.now c.take_next.new.replica c.in-Ok.ensures.writes.was_honest c.take_next.ensures.catalog
     g.P.Picker.picks c.pulled_leads.ensures c.defined_is_applied.ensures c.appended_is_log.ensures c.args.entry.now c.args.picker.now c.take_next.new.picker
     (rw c.changeset.ensures at c.tables-changes.ensures.normal) here c.in-Ok.ensures.writes.ok c.in-Ok.ensures.moved c.in-Ok.ensures.counted stands
 

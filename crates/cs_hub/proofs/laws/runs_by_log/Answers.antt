@@ -2,4 +2,4 @@ use Rattle.cs_hub.proofs.Runs.{runs_by_log}
 use Rattle.cs_hub.proofs.laws.runs_by_log.Goals as goal
 
 pub returns : goal.returns
-returns g c = runs_by_log g.S.RowStore.honest g.S.RowStore.contents g.S.RowStore.failed g.S.RowStore.may_leave g.S.RowStore.misreads
+returns g c = runs_by_log g.S.RowStore

@@ -8,7 +8,7 @@ use Rattle.cs_hub.proofs.serving.push_told.Goals as goal
 
 pub returns-clause-serves : goal.returns-clause-serves
 returns-clause-serves g c =
-    served_push g.S.RowStore.honest g.S.RowStore.contents g.S.RowStore.failed g.S.RowStore.may_leave g.S.RowStore.misreads MAX_ENTRIES c.args.catalog.now _ c.args.head c.args.changeset.now
+    served_push g.S.RowStore MAX_ENTRIES c.args.catalog.now _ c.args.head c.args.changeset.now
     c.args.store.now c.take_at-taken.new.store c.take_at-taken.result _ c.in-Some.ensures.0
     (c.put.ensures ∙ ap (λ (xs : List ℕ). xs ++ short_spelling c.in-Some.answer) c.in_ok-told.ensures.items ∙ ap answer_spelling c.in-Some.ensures.1)
     c.take_at-taken.ensures.writes c.take_at-taken.ensures.unwritten

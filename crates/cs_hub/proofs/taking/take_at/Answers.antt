@@ -7,7 +7,7 @@ use Rattle.cs_hub.proofs.taking.take_at.Goals as goal
 
 pub returns-in-Ok-clause-writes : goal.returns-in-Ok-clause-writes
 returns-in-Ok-clause-writes g c =
-    taken_so g.S.RowStore.honest g.S.RowStore.contents g.S.RowStore.failed g.S.RowStore.may_leave g.S.RowStore.misreads MAX_ENTRIES _ _ c.args.head c.args.changeset.now c.in_ok-changes.changes
+    taken_so g.S.RowStore MAX_ENTRIES _ _ c.args.head c.args.changeset.now c.in_ok-changes.changes
     (has_form _ _ _ _ c.in_ok-groups.ensures.reads c.in_ok-changes.ensures.normal) _ _ _ _ c.in-Ok.ensures.writes
 
 pub returns-in-Ok-clause-taken : goal.returns-in-Ok-clause-taken
@@ -18,7 +18,7 @@ returns-in-Ok-clause-taken g c = λ honest log shows same.
 
 pub returns-clause-writes : goal.returns-clause-writes
 returns-clause-writes g c =
-    refused_so g.S.RowStore.honest g.S.RowStore.contents g.S.RowStore.failed g.S.RowStore.may_leave g.S.RowStore.misreads MAX_ENTRIES _ _ c.args.head c.args.changeset.now c.in_ok-changes.changes
+    refused_so g.S.RowStore MAX_ENTRIES _ _ c.args.head c.args.changeset.now c.in_ok-changes.changes
     (has_form _ _ _ _ c.in_ok-groups.ensures.reads c.in_ok-changes.ensures.normal) _ _ _ c.in-Err.fault _ c.from.ensures c.in-Err.ensures.writes
 
 pub returns-clause-unwritten : goal.returns-clause-unwritten

@@ -5,9 +5,9 @@ use Rattle.cs_log_opening.proofs.judging.pends_none_below.Goals as goal
 
 pub loop-number-preserved : goal.loop-number-preserved
 loop-number-preserved g c = record {
-  read = then_well g.S.RowStore.honest g.S.RowStore.contents g.S.RowStore.failed g.S.RowStore.may_leave g.S.RowStore.misreads (Unit {0}) (Unit {0}) (Unit {0}) c.args.store.now c.loop-number.store c.pends_none.new.store (λ t. t) (λ honest t. t)
+  read = then_well g.S.RowStore (Unit {0}) (Unit {0}) (Unit {0}) c.args.store.now c.loop-number.store c.pends_none.new.store (λ t. t) (λ honest t. t)
       c.loop-number.invariant.read
-      (went_well g.S.RowStore.honest g.S.RowStore.contents g.S.RowStore.failed g.S.RowStore.may_leave g.S.RowStore.misreads _ _ _ _ _ c.in-Ok-true.ensures.reads);
+      (went_well g.S.RowStore _ _ _ _ _ c.in-Ok-true.ensures.reads);
   told = λ honest.
       let was = c.in-Ok-true.ensures.reads.was_honest honest in
       let here = (rw c.in-Ok-true.field-0-test at c.in-Ok-true.ensures.told) honest in

@@ -5,6 +5,6 @@ use Rattle.cs_log_opening.proofs.judging.pends_none_below.Given as goal
 -- the store was only read so far, and it is so below this one
 abbrev pub invariant-loop-number : goal.invariant-loop-number
 invariant-loop-number g l = record {
-  read : WasRead g.S.RowStore.honest g.S.RowStore.contents g.S.RowStore.failed g.S.RowStore.may_leave g.S.RowStore.misreads (Unit {0}) l.fn.store l.store;
+  read : WasRead g.S.RowStore (Unit {0}) l.fn.store l.store;
   told : g.S.RowStore.honest l.store → PendsNoneBelow (g.S.RowStore.contents l.fn.store) l.number;
 }

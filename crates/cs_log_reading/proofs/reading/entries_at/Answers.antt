@@ -11,11 +11,11 @@ use Rattle.cs_log_reading.proofs.reading.entries_at.Goals as goal
 
 pub returns-in-Err-clause-reads : goal.returns-in-Err-clause-reads
 returns-in-Err-clause-reads g c =
-    read_failed g.S.RowStore.honest g.S.RowStore.contents g.S.RowStore.failed g.S.RowStore.may_leave g.S.RowStore.misreads _ _ (has_range c.args.catalog.now (g.S.RowStore.contents c.args.store.now) c.args.first c.args.count) c.args.store.now c.stored_from.new.store c.in-Err.fault c.in-Err.ensures.reads
+    read_failed g.S.RowStore _ _ (has_range c.args.catalog.now (g.S.RowStore.contents c.args.store.now) c.args.first c.args.count) c.args.store.now c.stored_from.new.store c.in-Err.fault c.in-Err.ensures.reads
 
 pub returns-in-Ok-read_each-clause-reads : goal.returns-in-Ok-read_each-clause-reads
 returns-in-Ok-read_each-clause-reads g c =
-    read_well g.S.RowStore.honest g.S.RowStore.contents g.S.RowStore.failed g.S.RowStore.may_leave g.S.RowStore.misreads _ _ (has_range c.args.catalog.now (g.S.RowStore.contents c.args.store.now) c.args.first c.args.count) c.args.store.now c.stored_from.new.store c.in-Ok.stored c.in-Ok-read_each.entries c.in-Ok.ensures.reads
+    read_well g.S.RowStore _ _ (has_range c.args.catalog.now (g.S.RowStore.contents c.args.store.now) c.args.first c.args.count) c.args.store.now c.stored_from.new.store c.in-Ok.stored c.in-Ok-read_each.entries c.in-Ok.ensures.reads
 
 pub returns-in-Ok-read_each-clause-found : goal.returns-in-Ok-read_each-clause-found
 returns-in-Ok-read_each-clause-found g c = λ honest log shows within.
@@ -25,7 +25,7 @@ returns-in-Ok-read_each-clause-found g c = λ honest log shows within.
 
 pub returns-in-Err-NoBody-clause-reads : goal.returns-in-Err-NoBody-clause-reads
 returns-in-Err-NoBody-clause-reads g c =
-    misread_told g.S.RowStore.honest g.S.RowStore.contents g.S.RowStore.failed g.S.RowStore.may_leave g.S.RowStore.misreads c.misread.result _ _ c.args.store.now c.stored_from.new.store c.misread.new.self c.in-Ok.stored
+    misread_told g.S.RowStore c.misread.result _ _ c.args.store.now c.stored_from.new.store c.misread.new.self c.in-Ok.stored
     (λ honest (some : ShowsEntries c.args.catalog.now (g.S.RowStore.contents c.args.store.now) c.args.first c.args.count).
     let entries = take c.args.count (drop c.args.first some.0) in
     c.in-Err-NoBody.ensures.unread entries
@@ -35,4 +35,4 @@ returns-in-Err-NoBody-clause-reads g c =
 
 pub returns-clause-reads : goal.returns-clause-reads
 returns-clause-reads g c =
-    no_memory g.S.RowStore.honest g.S.RowStore.contents g.S.RowStore.failed g.S.RowStore.may_leave g.S.RowStore.misreads _ _ (has_range c.args.catalog.now (g.S.RowStore.contents c.args.store.now) c.args.first c.args.count) c.args.store.now c.stored_from.new.store c.in-Ok.stored c.in-Ok.ensures.reads
+    no_memory g.S.RowStore _ _ (has_range c.args.catalog.now (g.S.RowStore.contents c.args.store.now) c.args.first c.args.count) c.args.store.now c.stored_from.new.store c.in-Ok.stored c.in-Ok.ensures.reads

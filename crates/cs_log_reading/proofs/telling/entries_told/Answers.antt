@@ -11,11 +11,11 @@ use Rattle.cs_log_reading.proofs.telling.entries_told.Goals as goal
 
 pub returns-in-Err-clause-reads : goal.returns-in-Err-clause-reads
 returns-in-Err-clause-reads g c =
-    read_failed g.S.RowStore.honest g.S.RowStore.contents g.S.RowStore.failed g.S.RowStore.may_leave g.S.RowStore.misreads _ _ (has_range c.args.catalog.now (g.S.RowStore.contents c.args.store.now) c.args.first c.args.count) c.args.store.now c.stored_from.new.store c.in-Err.fault c.in-Err.ensures.reads
+    read_failed g.S.RowStore _ _ (has_range c.args.catalog.now (g.S.RowStore.contents c.args.store.now) c.args.first c.args.count) c.args.store.now c.stored_from.new.store c.in-Err.fault c.in-Err.ensures.reads
 
 pub returns-in-Ok-true-clause-reads : goal.returns-in-Ok-true-clause-reads
 returns-in-Ok-true-clause-reads g c =
-    read_well g.S.RowStore.honest g.S.RowStore.contents g.S.RowStore.failed g.S.RowStore.may_leave g.S.RowStore.misreads _ _ (has_range c.args.catalog.now (g.S.RowStore.contents c.args.store.now) c.args.first c.args.count) c.args.store.now c.stored_from.new.store c.in-Ok.stored c.put_each.new.out c.in-Ok.ensures.reads
+    read_well g.S.RowStore _ _ (has_range c.args.catalog.now (g.S.RowStore.contents c.args.store.now) c.args.first c.args.count) c.args.store.now c.stored_from.new.store c.in-Ok.stored c.put_each.new.out c.in-Ok.ensures.reads
 
 pub returns-in-Ok-true-clause-told : goal.returns-in-Ok-true-clause-told
 returns-in-Ok-true-clause-told g c = λ honest log shows within.
@@ -27,7 +27,7 @@ returns-in-Ok-true-clause-told g c = λ honest log shows within.
 
 pub returns-in-Ok-false-clause-reads : goal.returns-in-Ok-false-clause-reads
 returns-in-Ok-false-clause-reads g c =
-    misread_told g.S.RowStore.honest g.S.RowStore.contents g.S.RowStore.failed g.S.RowStore.may_leave g.S.RowStore.misreads c.misread.result _ _ c.args.store.now c.stored_from.new.store c.misread.new.self c.in-Ok.stored
+    misread_told g.S.RowStore c.misread.result _ _ c.args.store.now c.stored_from.new.store c.misread.new.self c.in-Ok.stored
     (λ honest (some : ShowsEntries c.args.catalog.now (g.S.RowStore.contents c.args.store.now) c.args.first c.args.count).
     let log : List LogEntry = some.0 in
     let entries = take c.args.count (drop c.args.first log) in
@@ -39,4 +39,4 @@ returns-in-Ok-false-clause-reads g c =
 
 pub returns-in-Err-put_each-clause-reads : goal.returns-in-Err-put_each-clause-reads
 returns-in-Err-put_each-clause-reads g c =
-    no_memory g.S.RowStore.honest g.S.RowStore.contents g.S.RowStore.failed g.S.RowStore.may_leave g.S.RowStore.misreads _ _ (has_range c.args.catalog.now (g.S.RowStore.contents c.args.store.now) c.args.first c.args.count) c.args.store.now c.stored_from.new.store c.in-Ok.stored c.in-Ok.ensures.reads
+    no_memory g.S.RowStore _ _ (has_range c.args.catalog.now (g.S.RowStore.contents c.args.store.now) c.args.first c.args.count) c.args.store.now c.stored_from.new.store c.in-Ok.stored c.in-Ok.ensures.reads

@@ -4,7 +4,7 @@ use Rattle.cs_member.proofs.turning.delete_from.Goals as goal
 
 pub returns-clause-turned : goal.returns-clause-turned
 returns-clause-turned g c =
-    edited g.S.RowStore.honest g.S.RowStore.contents g.S.RowStore.failed g.S.RowStore.may_leave g.S.RowStore.misreads c.args.replica.now c.delete-edited.new.self c.delete-edited.ensures.catalog
+    edited g.S.RowStore c.args.replica.now c.delete-edited.new.self c.delete-edited.ensures.catalog
     c.one_position.ensures c.shown.ensures (Delete c.args.table.now c.args.key.now) c.delete-edited.result
     (rw c.as_str.ensures at c.delete-edited.ensures.writes) (rw c.as_str.ensures at c.delete-edited.ensures.refused) c.delete-edited.ensures.moved c.delete-edited.ensures.kept
 

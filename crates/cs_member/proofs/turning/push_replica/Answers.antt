@@ -3,13 +3,13 @@ use Rattle.cs_member.proofs.turning.push_replica.Goals as goal
 
 pub returns-clause-pushed : goal.returns-clause-pushed
 returns-clause-pushed g c =
-    pushed_to g.S.RowStore.honest g.S.RowStore.contents g.S.RowStore.failed g.S.RowStore.may_leave g.S.RowStore.misreads c.args.replica.now c.make_push-pushed.new.self c.make_push-pushed.ensures.catalog
+    pushed_to g.S.RowStore c.args.replica.now c.make_push-pushed.new.self c.make_push-pushed.ensures.catalog
     c.one_position.ensures c.shown.ensures c.make_push-pushed.result c.make_push-pushed.ensures.writes c.make_push-pushed.ensures.moved c.make_push-pushed.ensures.refused c.make_push-pushed.ensures.kept
 
 pub returns-clause-left : goal.returns-clause-left
 returns-clause-left g c =
     push_leaves g.S.RowStore c.one_position.ensures c.make_push-pushed.result c.args.replica.now c.make_push-pushed.new.self
-    (pushed_to g.S.RowStore.honest g.S.RowStore.contents g.S.RowStore.failed g.S.RowStore.may_leave g.S.RowStore.misreads c.args.replica.now c.make_push-pushed.new.self c.make_push-pushed.ensures.catalog
+    (pushed_to g.S.RowStore c.args.replica.now c.make_push-pushed.new.self c.make_push-pushed.ensures.catalog
     c.one_position.ensures c.shown.ensures c.make_push-pushed.result c.make_push-pushed.ensures.writes c.make_push-pushed.ensures.moved c.make_push-pushed.ensures.refused c.make_push-pushed.ensures.kept)
     c.make_push-pushed.ensures.writes c.make_push-pushed.ensures.kept
 

@@ -3,7 +3,7 @@ use Rattle.cs_member.proofs.turning.rows_of.Goals as goal
 
 pub returns-clause-kept : goal.returns-clause-kept
 returns-clause-kept g c =
-    unturned g.S.RowStore.honest g.S.RowStore.contents g.S.RowStore.failed g.S.RowStore.may_leave g.S.RowStore.misreads c.args.replica.now c.rows.new.self c.rows.ensures.catalog
+    unturned g.S.RowStore c.args.replica.now c.rows.new.self c.rows.ensures.catalog
     c.rows.ensures.reads.was_honest c.rows.ensures.reads.same c.rows.ensures.kept
 
 pub returns-clause-left : goal.returns-clause-left

@@ -4,7 +4,7 @@ use Rattle.cs_member.proofs.turning.update_in.Goals as goal
 
 pub returns-clause-turned : goal.returns-clause-turned
 returns-clause-turned g c =
-    edited g.S.RowStore.honest g.S.RowStore.contents g.S.RowStore.failed g.S.RowStore.may_leave g.S.RowStore.misreads c.args.replica.now c.update-edited.new.self c.update-edited.ensures.catalog
+    edited g.S.RowStore c.args.replica.now c.update-edited.new.self c.update-edited.ensures.catalog
     c.one_position.ensures c.shown.ensures (Update c.args.table.now c.args.key.now c.args.fields.now) c.update-edited.result
     (rw (c.as_str.ensures, c.as_slice.ensures) at c.update-edited.ensures.writes) (rw (c.as_str.ensures, c.as_slice.ensures) at c.update-edited.ensures.refused) c.update-edited.ensures.moved c.update-edited.ensures.kept
 

@@ -13,11 +13,11 @@ loop-at-preserved g c =
     let changes = c.args.changes.now in
     let at = c.loop-at.at in
     record {
-      read = then_well g.S.RowStore.honest g.S.RowStore.contents g.S.RowStore.failed g.S.RowStore.may_leave g.S.RowStore.misreads _ _ _ c.args.store.now c.loop-at.store c.leads_before.new.store
+      read = then_well g.S.RowStore _ _ _ c.args.store.now c.loop-at.store c.leads_before.new.store
           (λ some. some)
           (λ honest some. subst (λ (left : Contents). ShowsSome c.args.catalog.now left) (sym (c.loop-at.invariant.read.same honest)) some)
           c.loop-at.invariant.read
-          (went_well g.S.RowStore.honest g.S.RowStore.contents g.S.RowStore.failed g.S.RowStore.may_leave g.S.RowStore.misreads _ _ _ _ _ c.in-Ok-true.ensures.reads);
+          (went_well g.S.RowStore _ _ _ _ _ c.in-Ok-true.ensures.reads);
       told = λ honest view shows.
           let was = c.in-Ok-true.ensures.reads.was_honest honest in
           let still = subst (λ (left : Contents). ShowsRows c.args.catalog.now left view) (sym (c.loop-at.invariant.read.same was)) shows in

@@ -8,7 +8,7 @@ pub returns-in-Ok : goal.returns-in-Ok
 returns-in-Ok g c =
     let batch : Batch = record { rows = c.new.result; pending = c.new-2.result; meta = c.in_ok-first_values.field-0; log = None } in
     record {
-      writes = committed g.S.RowStore.honest g.S.RowStore.contents g.S.RowStore.failed g.S.RowStore.may_leave g.S.RowStore.misreads _ _ _ _ c.args.store.now c.commit.new.self _ _
+      writes = committed g.S.RowStore _ _ _ _ c.args.store.now c.commit.new.self _ _
           (λ honest. laid_out c.args.catalog.now c.args.id batch c.commits.ensures.meta c.commits.ensures.other_names c.new.ensures c.new-2.ensures refl c.in_ok-first_values.ensures (g.S.RowStore.contents c.args.store.now))
           c.in-Ok.ensures;
     }
@@ -17,7 +17,7 @@ pub returns : goal.returns
 returns g c =
     let batch : Batch = record { rows = c.new.result; pending = c.new-2.result; meta = c.in_ok-first_values.field-0; log = None } in
     record {
-      writes = not_committed g.S.RowStore.honest g.S.RowStore.contents g.S.RowStore.failed g.S.RowStore.may_leave g.S.RowStore.misreads _ _ _ _ c.args.store.now c.commit.new.self
+      writes = not_committed g.S.RowStore _ _ _ _ c.args.store.now c.commit.new.self
           (λ honest. laid_out c.args.catalog.now c.args.id batch c.commits.ensures.meta c.commits.ensures.other_names c.new.ensures c.new-2.ensures refl c.in_ok-first_values.ensures (g.S.RowStore.contents c.args.store.now))
           c.in-Err.ensures;
     }

@@ -23,7 +23,7 @@ returns-then-written-clause-gathered g c = λ honest view shows.
 pub returns-in_default-clause-reads : goal.returns-in_default-clause-reads
 returns-in_default-clause-reads g c =
     let laws : Laws c.args.catalog.now = record { are = c.tables.ensures.tables; one = c.catalogs.ensures.place; key = c.one_key_stands.ensures; net_takes = c.net_takes.ensures; headers = c.headers_fit.ensures } in
-    misread_told g.S.RowStore.honest g.S.RowStore.contents g.S.RowStore.failed g.S.RowStore.may_leave g.S.RowStore.misreads _ _ _ c.args.store.now c.put_tables.new.store c.misread.new.self _
+    misread_told g.S.RowStore _ _ _ c.args.store.now c.put_tables.new.store c.misread.new.self _
     (λ honest some.
     let read = read_pending c.args.catalog.now some.0.pending c.put_tables.new.out.items c.in_ok-changes.field-0 (λ one. c.if-written-eq1.false (ap length c.as_slice-written.ensures.value ∙ one))
     (λ more. omega (arith, more, c.if-written.false, ap length c.as_slice-written.ensures.value))

@@ -10,7 +10,7 @@ use Rattle.cs_pending.proofs.editing.put_place.Goals as goal
 pub returns-in-Ok-clause-writes : goal.returns-in-Ok-clause-writes
 returns-in-Ok-clause-writes g c =
     let batch : Batch = record { rows = c.settle_at.new.self.rows; pending = c.settle_at.new.self.pending; meta = c.new.result; log = None } in
-    committed g.S.RowStore.honest g.S.RowStore.contents g.S.RowStore.failed g.S.RowStore.may_leave g.S.RowStore.misreads _ _ _ _ c.args.store.now c.commit.new.self _ _
+    committed g.S.RowStore _ _ _ _ c.args.store.now c.commit.new.self _ _
     (λ honest. put_in c.args.catalog.now c.args.number c.args.table.now c.args.key.now (standing_found c.args.before.now) (option_copied c.args.mine) _ c.args.pending c.new-settling.result c.settle_at.new.self
     c.new-settling.ensures.rows c.new-settling.ensures.pending c.new-settling.ensures.count
     (λ view base mine stands settles. (rw (c.as_ref.ensures.value, c.mine-stood.ensures, c.as_ref-2.ensures.value, c.as_ref-3.ensures.value, c.base-base.ensures) at c.in_ok-settle_at.ensures.settled) c.args.catalog.now _ c.args.pending view c.tables-tables.ensures.tables c.requires.there base mine stands settles)
@@ -30,7 +30,7 @@ returns-in-Ok-clause-counted g c = λ honest view shows may right.
 pub returns-clause-writes : goal.returns-clause-writes
 returns-clause-writes g c =
     let batch : Batch = record { rows = c.settle_at.new.self.rows; pending = c.settle_at.new.self.pending; meta = c.new.result; log = None } in
-    not_committed g.S.RowStore.honest g.S.RowStore.contents g.S.RowStore.failed g.S.RowStore.may_leave g.S.RowStore.misreads _ _ _ _ c.args.store.now c.commit.new.self
+    not_committed g.S.RowStore _ _ _ _ c.args.store.now c.commit.new.self
     (λ honest. put_in c.args.catalog.now c.args.number c.args.table.now c.args.key.now (standing_found c.args.before.now) (option_copied c.args.mine) _ c.args.pending c.new-settling.result c.settle_at.new.self
     c.new-settling.ensures.rows c.new-settling.ensures.pending c.new-settling.ensures.count
     (λ view base mine stands settles. (rw (c.as_ref.ensures.value, c.mine-stood.ensures, c.as_ref-2.ensures.value, c.as_ref-3.ensures.value, c.base-base.ensures) at c.in_ok-settle_at.ensures.settled) c.args.catalog.now _ c.args.pending view c.tables-tables.ensures.tables c.requires.there base mine stands settles)

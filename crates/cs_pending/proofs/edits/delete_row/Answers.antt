@@ -34,7 +34,7 @@ returns-clause-writes g c =
     let wide = rw (c.as_slice.ensures, c.key_width.ensures, c.as_slice-2.ensures) at c.if-as_slice-key_width.false in
     let set = rw c.as_slice-3.ensures at (sym c.are_set.ensures ∙ c.if-not-are_set.false) in
     let key_is = c.as_slice-5.ensures.value ∙ c.in_ok-key.ensures ∙ ap row_bytes c.as_slice-4.ensures in
-    writes_as g.S.RowStore.honest g.S.RowStore.contents g.S.RowStore.failed g.S.RowStore.may_leave g.S.RowStore.misreads _ _ _ _ c.args.store.now c.edit_place.new.store c.edit_place.result
+    writes_as g.S.RowStore _ _ _ _ c.args.store.now c.edit_place.new.store c.edit_place.result
     (λ left changed. changed_alike c.args.catalog.now _ _ _ left (λ view. (at_place c.args.catalog.now c.args.name.now (AskDelete c.args.key.now) c.index-tables-place.result here (same_count _ _ wide) set refl view
     ∙ ap (λ (key : List ℕ). edit_at c.index-tables-place.result key Delete view) (sym key_is))) changed)
     c.edit_place.ensures.writes

@@ -37,7 +37,7 @@ returns-clause-writes g c =
     let set = key_set c.index-tables-place.result c.args.row.now c.in-Some-2.key (sym c.in_ok-key.ensures ∙ c.in-Some-2.is) in
     let key_is = c.as_slice-5.ensures.value ∙ c.in_ok-key-2.ensures ∙ ap row_bytes (c.as_slice-3.ensures ∙ sym set.1) in
     let row_is = c.as_row.ensures ∙ c.in_ok-row.ensures.row ∙ c.as_slice-4.ensures in
-    writes_as g.S.RowStore.honest g.S.RowStore.contents g.S.RowStore.failed g.S.RowStore.may_leave g.S.RowStore.misreads _ _ _ _ c.args.store.now c.edit_place.new.store c.edit_place.result
+    writes_as g.S.RowStore _ _ _ _ c.args.store.now c.edit_place.new.store c.edit_place.result
     (λ left changed. changed_alike c.args.catalog.now _ _ _ left
     (λ view. at_place c.args.catalog.now c.args.name.now (AskInsert c.args.row.now) c.index-tables-place.result here (same_count _ _ wide) set.0 refl view
     ∙ ap₂ (λ (key : List ℕ) (row : List Value). edit_at c.index-tables-place.result key (Insert row) view) (sym key_is) (sym row_is)) changed)

@@ -45,7 +45,7 @@ returns-clause-writes g c =
     let kept = rw c.as_slice-marks.ensures at (sym c.are_kept.ensures ∙ c.if-not-are_kept.false) in
     let key_is = c.as_slice-4.ensures.value ∙ c.in_ok-key.ensures ∙ ap row_bytes c.as_slice-3.ensures in
     let fields_are = c.as_record.ensures ∙ c.in_ok-fields.ensures.fields in
-    writes_as g.S.RowStore.honest g.S.RowStore.contents g.S.RowStore.failed g.S.RowStore.may_leave g.S.RowStore.misreads _ _ _ _ c.args.store.now c.edit_place.new.store c.edit_place.result
+    writes_as g.S.RowStore _ _ _ _ c.args.store.now c.edit_place.new.store c.edit_place.result
     (λ left changed. changed_alike c.args.catalog.now _ _ _ left (λ view. (at_place c.args.catalog.now c.args.name.now (AskUpdate c.args.key.now c.args.fields.now) c.index-tables-place.result here wide set kept view
     ∙ ap₂ (λ (key : List ℕ) (fields : List Field). edit_at c.index-tables-place.result key (Update fields) view) (sym key_is) (sym fields_are))) changed)
     c.edit_place.ensures.writes

@@ -12,31 +12,31 @@ use Rattle.cs_pending.proofs.placing.found_at.Goals as goal
 pub returns-in-Err-clause-reads : goal.returns-in-Err-clause-reads
 returns-in-Err-clause-reads g c =
     let law : Catalogs c.args.catalog.now = record { are = c.tables-tables.ensures.tables; one = c.catalogs.ensures.place; key = c.one_key_stands.ensures; net_takes = c.net_takes.ensures } in
-    then_reads_failed g.S.RowStore.honest g.S.RowStore.contents g.S.RowStore.failed g.S.RowStore.may_leave g.S.RowStore.misreads _ _ (Unit {0}) _ _ c.args.store.now c.args.store.now c.own_at.new.store
+    then_reads_failed g.S.RowStore _ _ (Unit {0}) _ _ c.args.store.now c.args.store.now c.own_at.new.store
     (λ some. tt) (λ honest some. some_row c.args.catalog.now law c.args.number c.args.table.now c.args.key.now _ c.requires some)
-    (no_call g.S.RowStore.honest g.S.RowStore.contents g.S.RowStore.failed g.S.RowStore.may_leave g.S.RowStore.misreads _ _)
+    (no_call g.S.RowStore _ _)
     c.in-Err.ensures.reads
 
 pub returns-in-Err-undone_at-clause-reads : goal.returns-in-Err-undone_at-clause-reads
 returns-in-Err-undone_at-clause-reads g c =
     let law : Catalogs c.args.catalog.now = record { are = c.tables-tables.ensures.tables; one = c.catalogs.ensures.place; key = c.one_key_stands.ensures; net_takes = c.net_takes.ensures } in
-    then_reads_failed g.S.RowStore.honest g.S.RowStore.contents g.S.RowStore.failed g.S.RowStore.may_leave g.S.RowStore.misreads _ _ _ _ _ c.args.store.now c.own_at.new.store c.undone_at.new.store
+    then_reads_failed g.S.RowStore _ _ _ _ _ c.args.store.now c.own_at.new.store c.undone_at.new.store
     (λ some. some_row c.args.catalog.now law c.args.number c.args.table.now c.args.key.now _ c.requires some)
     (λ honest some. subst (λ (left : Contents). StoresSomeChange c.args.table.now.key_marks (stored_pending left c.args.number c.args.key.now)) (sym (c.in-Ok.ensures.reads.same honest))
     (some_change c.args.catalog.now c.args.number c.args.table.now c.args.key.now _ c.requires some))
-    (went_well g.S.RowStore.honest g.S.RowStore.contents g.S.RowStore.failed g.S.RowStore.may_leave g.S.RowStore.misreads _ _ _ _ _ c.in-Ok.ensures.reads)
+    (went_well g.S.RowStore _ _ _ _ _ c.in-Ok.ensures.reads)
     c.in-Err-undone_at.ensures.reads
 
 pub returns-clause-reads : goal.returns-clause-reads
 returns-clause-reads g c =
     let law : Catalogs c.args.catalog.now = record { are = c.tables-tables.ensures.tables; one = c.catalogs.ensures.place; key = c.one_key_stands.ensures; net_takes = c.net_takes.ensures } in
-    reads_well g.S.RowStore.honest g.S.RowStore.contents g.S.RowStore.failed g.S.RowStore.may_leave g.S.RowStore.misreads _ _ _ _ _
-    (then_well g.S.RowStore.honest g.S.RowStore.contents g.S.RowStore.failed g.S.RowStore.may_leave g.S.RowStore.misreads _ _ _ c.args.store.now c.own_at.new.store c.undone_at.new.store
+    reads_well g.S.RowStore _ _ _ _ _
+    (then_well g.S.RowStore _ _ _ c.args.store.now c.own_at.new.store c.undone_at.new.store
     (λ some. some_row c.args.catalog.now law c.args.number c.args.table.now c.args.key.now _ c.requires some)
     (λ honest some. subst (λ (left : Contents). StoresSomeChange c.args.table.now.key_marks (stored_pending left c.args.number c.args.key.now)) (sym (c.in-Ok.ensures.reads.same honest))
     (some_change c.args.catalog.now c.args.number c.args.table.now c.args.key.now _ c.requires some))
-    (went_well g.S.RowStore.honest g.S.RowStore.contents g.S.RowStore.failed g.S.RowStore.may_leave g.S.RowStore.misreads _ _ _ _ _ c.in-Ok.ensures.reads)
-    (went_well g.S.RowStore.honest g.S.RowStore.contents g.S.RowStore.failed g.S.RowStore.may_leave g.S.RowStore.misreads _ _ _ _ _ c.in-Ok-undone_at.ensures.reads))
+    (went_well g.S.RowStore _ _ _ _ _ c.in-Ok.ensures.reads)
+    (went_well g.S.RowStore _ _ _ _ _ c.in-Ok-undone_at.ensures.reads))
 
 pub returns-clause-found : goal.returns-clause-found
 returns-clause-found g c = λ honest view shows.

@@ -9,7 +9,7 @@ use Rattle.cs_pulling.proofs.listing.take_entries.Goals as goal
 pub loop-next-init : goal.loop-next-init
 loop-next-init g c = (
   c.requires.ready,
-  begins g.P.Picker.picks c.args.catalog.now c.args.first c.args.entries.now g.S.RowStore.honest g.S.RowStore.contents g.S.RowStore.failed g.S.RowStore.may_leave g.S.RowStore.misreads
+  begins g.P.Picker.picks c.args.catalog.now c.args.first c.args.entries.now g.S.RowStore
       c.args.position.now c.args.store.now c.args.picker.now (left_of c.split_first-next.result) (split_left c.split_first-next.result c.args.entries.now c.split_first-next.ensures),
 )
 
@@ -21,7 +21,7 @@ loop-next-smaller-then-index-position-2 g c =
 pub loop-next-preserved-then-index-position-2 : goal.loop-next-preserved-then-index-position-2
 loop-next-preserved-then-index-position-2 g c = (
   c.loop-next.invariant.0,
-  passed g.P.Picker.picks c.args.catalog.now c.args.first c.args.entries.now g.S.RowStore.honest g.S.RowStore.contents g.S.RowStore.failed g.S.RowStore.may_leave g.S.RowStore.misreads
+  passed g.P.Picker.picks c.args.catalog.now c.args.first c.args.entries.now g.S.RowStore
       c.args.position.now c.args.store.now c.args.picker.now c.loop-next.count c.loop-next.index (left_of c.loop-next.next) c.loop-next.position c.loop-next.store c.loop-next.picker c.loop-next.invariant.1
       c.in-Some.told c.in-Some.others (left_of c.split_first-next-in-Some.result) (ap left_of c.in-Some.is)
       (split_left c.split_first-next-in-Some.result c.in-Some.others c.split_first-next-in-Some.ensures) c.if-index-position-2.true,
@@ -35,7 +35,7 @@ loop-next-smaller g c =
 pub loop-next-preserved : goal.loop-next-preserved
 loop-next-preserved g c = (
   c.in-Ok.ensures.ready,
-  pulled_on g.P.Picker.picks c.args.catalog.now c.args.first c.args.entries.now g.S.RowStore.honest g.S.RowStore.contents g.S.RowStore.failed g.S.RowStore.may_leave g.S.RowStore.misreads
+  pulled_on g.P.Picker.picks c.args.catalog.now c.args.first c.args.entries.now g.S.RowStore
       c.args.position.now c.args.store.now c.args.picker.now c.loop-next.count c.loop-next.index (left_of c.loop-next.next) c.loop-next.position c.loop-next.store c.loop-next.picker c.loop-next.invariant.1
       c.in-Some.told c.in-Some.others (left_of c.split_first-next-in-Some.result) (ap left_of c.in-Some.is)
       (split_left c.split_first-next-in-Some.result c.in-Some.others c.split_first-next-in-Some.ensures)
@@ -47,7 +47,7 @@ pub returns-in-Err-clause-pulls : goal.returns-in-Err-clause-pulls
 returns-in-Err-clause-pulls g c = λ honest before shows.
     subst (λ (x : Position). PullsList g.P.Picker.picks c.args.catalog.now c.args.first c.args.entries.now c.ended.result c.args.position.now before c.args.picker.now x (g.S.RowStore.contents c.pull_told.new.store) c.pull_told.new.picker)
     (sym c.in-Err.ensures.kept)
-    (stopped_pulls g.P.Picker.picks c.args.catalog.now c.args.first c.args.entries.now g.S.RowStore.honest g.S.RowStore.contents g.S.RowStore.failed g.S.RowStore.may_leave g.S.RowStore.misreads
+    (stopped_pulls g.P.Picker.picks c.args.catalog.now c.args.first c.args.entries.now g.S.RowStore
     c.args.position.now c.args.store.now c.args.picker.now c.loop-next.count c.loop-next.index (left_of c.loop-next.next) c.loop-next.position c.loop-next.store c.loop-next.picker c.loop-next.invariant.1
     c.in-Some.told c.in-Some.others (ap left_of c.in-Some.is) (omega (arith, c.if-index-position.false, c.if-index-position-2.false))
     c.in-Err.fault c.pull_told.new.store c.pull_told.new.picker c.ended.result c.ended.ensures c.in-Err.ensures.writes
@@ -55,12 +55,12 @@ returns-in-Err-clause-pulls g c = λ honest before shows.
 
 pub returns-in-Err-clause-writes : goal.returns-in-Err-clause-writes
 returns-in-Err-clause-writes g c =
-    subst (λ (x : Position). WritesInTurn g.S.RowStore.honest g.S.RowStore.contents g.S.RowStore.failed g.S.RowStore.may_leave g.S.RowStore.misreads (TakesAll c.ended.result) (TellsDevice c.ended.result)
+    subst (λ (x : Position). WritesInTurn g.S.RowStore (TakesAll c.ended.result) (TellsDevice c.ended.result)
     (ShowsSomeAt c.args.catalog.now c.args.position.now (g.S.RowStore.contents c.args.store.now))
     (IsAmong g.P.Picker.picks c.args.catalog.now c.args.first c.args.entries.now c.args.position.now (g.S.RowStore.contents c.args.store.now) c.args.picker.now)
     (IsNextOf g.P.Picker.picks c.args.catalog.now c.args.first c.args.entries.now x (g.S.RowStore.contents c.pull_told.new.store)) c.args.store.now c.pull_told.new.store)
     (sym c.in-Err.ensures.kept)
-    (stopped_turn g.P.Picker.picks c.args.catalog.now c.args.first c.args.entries.now g.S.RowStore.honest g.S.RowStore.contents g.S.RowStore.failed g.S.RowStore.may_leave g.S.RowStore.misreads
+    (stopped_turn g.P.Picker.picks c.args.catalog.now c.args.first c.args.entries.now g.S.RowStore
     c.args.position.now c.args.store.now c.args.picker.now c.loop-next.count c.loop-next.index (left_of c.loop-next.next) c.loop-next.position c.loop-next.store c.loop-next.picker c.loop-next.invariant.1
     c.in-Some.told c.in-Some.others (ap left_of c.in-Some.is) (omega (arith, c.if-index-position.false, c.if-index-position-2.false))
     c.in-Err.fault c.pull_told.new.store c.pull_told.new.picker c.ended.result c.ended.ensures c.in-Err.ensures.writes
@@ -68,6 +68,6 @@ returns-in-Err-clause-writes g c =
 
 pub returns-in_default-clause-pulls : goal.returns-in_default-clause-pulls
 returns-in_default-clause-pulls g c =
-    end_pulls g.P.Picker.picks c.args.catalog.now c.args.first c.args.entries.now g.S.RowStore.honest g.S.RowStore.contents g.S.RowStore.failed g.S.RowStore.may_leave g.S.RowStore.misreads
+    end_pulls g.P.Picker.picks c.args.catalog.now c.args.first c.args.entries.now g.S.RowStore
     c.args.position.now c.args.store.now c.args.picker.now c.loop-next.count c.loop-next.index (left_of c.loop-next.next) c.loop-next.position c.loop-next.store c.loop-next.picker c.loop-next.invariant.1
     (inl (ap left_of c.in_default.is))

@@ -4,12 +4,12 @@ use Rattle.cs_pushing.proofs.confirming.confirm.Goals as goal
 
 pub returns-in-Err-clause-writes : goal.returns-in-Err-clause-writes
 returns-in-Err-clause-writes g c =
-    not_committed g.S.RowStore.honest g.S.RowStore.contents g.S.RowStore.failed g.S.RowStore.may_leave g.S.RowStore.misreads _ _ _ _ c.args.store.now c.commit.new.self
+    not_committed g.S.RowStore _ _ _ _ c.args.store.now c.commit.new.self
     (λ honest. confirmed_in c.commit_shows.ensures c.args.catalog.now c.args.position.now _ c.in_ok-batch.batch c.in_ok-batch.ensures)
     c.in-Err.ensures
 
 pub returns-clause-writes : goal.returns-clause-writes
 returns-clause-writes g c =
-    committed g.S.RowStore.honest g.S.RowStore.contents g.S.RowStore.failed g.S.RowStore.may_leave g.S.RowStore.misreads _ _ _ _ c.args.store.now c.commit.new.self _ _
+    committed g.S.RowStore _ _ _ _ c.args.store.now c.commit.new.self _ _
     (λ honest. confirmed_in c.commit_shows.ensures c.args.catalog.now c.args.position.now _ c.in_ok-batch.batch c.in_ok-batch.ensures)
     c.in-Ok.ensures

@@ -10,28 +10,28 @@ use Rattle.cs_pushing.proofs.making.store_push.Goals as goal
 
 pub returns-in-Ok-commit-clause-writes : goal.returns-in-Ok-commit-clause-writes
 returns-in-Ok-commit-clause-writes g c =
-    then_written g.S.RowStore.honest g.S.RowStore.contents g.S.RowStore.failed g.S.RowStore.may_leave g.S.RowStore.misreads
+    then_written g.S.RowStore
     (IsPushMadeIn c.args.catalog.now c.args.position.now (g.S.RowStore.contents c.outgoing.new.store)) _ _ (ShowsSomeAt c.args.catalog.now c.args.position.now (g.S.RowStore.contents c.outgoing.new.store)) _ c.args.store.now c.outgoing.new.store c.commit.new.self
     (λ some. (some.0, some.1.rows))
     (λ honest some. subst (λ (left : Contents). ShowsSomeAt c.args.catalog.now c.args.position.now left) (sym (c.in-Ok.ensures.reads.same honest)) some)
     (λ honest after made. subst (λ (old : Contents). IsPushMadeIn c.args.catalog.now c.args.position.now old after) (c.in-Ok.ensures.reads.same honest) made)
-    (went_well g.S.RowStore.honest g.S.RowStore.contents g.S.RowStore.failed g.S.RowStore.may_leave g.S.RowStore.misreads _ _ _ _ _ c.in-Ok.ensures.reads)
+    (went_well g.S.RowStore _ _ _ _ _ c.in-Ok.ensures.reads)
     stored.Device _ _ _
-    (committed g.S.RowStore.honest g.S.RowStore.contents g.S.RowStore.failed g.S.RowStore.may_leave g.S.RowStore.misreads stored.Device _ _ _ c.outgoing.new.store c.commit.new.self _ c.in-Ok-commit.field-0
+    (committed g.S.RowStore stored.Device _ _ _ c.outgoing.new.store c.commit.new.self _ c.in-Ok-commit.field-0
     (λ honest. made_in c.args.catalog.now (g.S.RowStore.contents c.outgoing.new.store) c.in_ok-batch.batch c.args.position.now c.in-Ok.changes (rw c.tables-tables.ensures.same at c.in_ok-batch.ensures) c.commit_shows.ensures c.commits.ensures.pending c.commits.ensures.other_pending c.requires
     (λ view shows. c.in-Ok.ensures.gathered honest view (subst (λ (left : Contents). ShowsRows c.args.catalog.now left view) (c.in-Ok.ensures.reads.same honest) shows)))
     c.in-Ok-commit.ensures)
 
 pub returns-in-Err-commit-clause-writes : goal.returns-in-Err-commit-clause-writes
 returns-in-Err-commit-clause-writes g c =
-    then_not_written g.S.RowStore.honest g.S.RowStore.contents g.S.RowStore.failed g.S.RowStore.may_leave g.S.RowStore.misreads
+    then_not_written g.S.RowStore
     (IsPushMadeIn c.args.catalog.now c.args.position.now (g.S.RowStore.contents c.outgoing.new.store)) _ _ (ShowsSomeAt c.args.catalog.now c.args.position.now (g.S.RowStore.contents c.outgoing.new.store)) _ c.args.store.now c.outgoing.new.store c.commit.new.self
     (λ some. (some.0, some.1.rows))
     (λ honest some. subst (λ (left : Contents). ShowsSomeAt c.args.catalog.now c.args.position.now left) (sym (c.in-Ok.ensures.reads.same honest)) some)
     (λ honest after made. subst (λ (old : Contents). IsPushMadeIn c.args.catalog.now c.args.position.now old after) (c.in-Ok.ensures.reads.same honest) made)
-    (went_well g.S.RowStore.honest g.S.RowStore.contents g.S.RowStore.failed g.S.RowStore.may_leave g.S.RowStore.misreads _ _ _ _ _ c.in-Ok.ensures.reads)
+    (went_well g.S.RowStore _ _ _ _ _ c.in-Ok.ensures.reads)
     {T = Unit {0}} stored.Device c.in-Err-commit.fault _ c.from.result (was_device c.in-Err-commit.fault c.from.result c.from.ensures.0)
-    (not_committed g.S.RowStore.honest g.S.RowStore.contents g.S.RowStore.failed g.S.RowStore.may_leave g.S.RowStore.misreads c.in-Err-commit.fault _ _ _ c.outgoing.new.store c.commit.new.self
+    (not_committed g.S.RowStore c.in-Err-commit.fault _ _ _ c.outgoing.new.store c.commit.new.self
     (λ honest. made_in c.args.catalog.now (g.S.RowStore.contents c.outgoing.new.store) c.in_ok-batch.batch c.args.position.now c.in-Ok.changes (rw c.tables-tables.ensures.same at c.in_ok-batch.ensures) c.commit_shows.ensures c.commits.ensures.pending c.commits.ensures.other_pending c.requires
     (λ view shows. c.in-Ok.ensures.gathered honest view (subst (λ (left : Contents). ShowsRows c.args.catalog.now left view) (c.in-Ok.ensures.reads.same honest) shows)))
     c.in-Err-commit.ensures)

@@ -6,14 +6,14 @@ use Rattle.cs_replica.proofs.editing.insert_at.Goals as goal
 
 pub returns-in-Ok-clause-writes : goal.returns-in-Ok-clause-writes
 returns-in-Ok-clause-writes g c =
-    then_written g.S.RowStore.honest g.S.RowStore.contents g.S.RowStore.failed g.S.RowStore.may_leave g.S.RowStore.misreads _ _ (Unit {0}) _ _ c.args.store.now c.args.store.now c.insert_row.new.store (λ some. tt) (λ honest some. (some.0, some.1.rows))
+    then_written g.S.RowStore _ _ (Unit {0}) _ _ c.args.store.now c.args.store.now c.insert_row.new.store (λ some. tt) (λ honest some. (some.0, some.1.rows))
     (λ honest contents is. is_edited c.edit_keeps_before.ensures c.args.catalog.now c.tables-tables.ensures.tables c.args.position.now c.args.name.now (AskInsert c.args.row.now) (g.S.RowStore.contents c.args.store.now) contents is)
-    (no_call g.S.RowStore.honest g.S.RowStore.contents g.S.RowStore.failed g.S.RowStore.may_leave g.S.RowStore.misreads (Unit {0}) c.args.store.now)
+    (no_call g.S.RowStore (Unit {0}) c.args.store.now)
     Device Device c.in-Ok.count tt c.in-Ok.ensures.writes
 
 pub returns-in-Err-clause-writes : goal.returns-in-Err-clause-writes
 returns-in-Err-clause-writes g c =
-    then_not_written g.S.RowStore.honest g.S.RowStore.contents g.S.RowStore.failed g.S.RowStore.may_leave g.S.RowStore.misreads _ _ (Unit {0}) _ _ c.args.store.now c.args.store.now c.insert_row.new.store (λ some. tt) (λ honest some. (some.0, some.1.rows))
+    then_not_written g.S.RowStore _ _ (Unit {0}) _ _ c.args.store.now c.args.store.now c.insert_row.new.store (λ some. tt) (λ honest some. (some.0, some.1.rows))
     (λ honest contents is. is_edited c.edit_keeps_before.ensures c.args.catalog.now c.tables-tables.ensures.tables c.args.position.now c.args.name.now (AskInsert c.args.row.now) (g.S.RowStore.contents c.args.store.now) contents is)
-    (no_call g.S.RowStore.honest g.S.RowStore.contents g.S.RowStore.failed g.S.RowStore.may_leave g.S.RowStore.misreads (Unit {0}) c.args.store.now)
+    (no_call g.S.RowStore (Unit {0}) c.args.store.now)
     Device c.in-Err.fault Device c.in-Err.fault (λ is. is) c.in-Err.ensures.writes

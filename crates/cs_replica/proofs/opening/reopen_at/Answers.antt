@@ -3,7 +3,7 @@ use Rattle.cs_replica.proofs.opening.reopen_at.Goals as goal
 
 pub returns-in-Ok-clause-reopens : goal.returns-in-Ok-clause-reopens
 returns-in-Ok-clause-reopens g c = λ shown.
-    reopened g.S.RowStore.honest g.S.RowStore.contents g.S.RowStore.failed g.S.RowStore.may_leave g.S.RowStore.misreads c.openings.ensures.some c.args.catalog.now c.args.position.now c.args.store.now c.open_at.new.store c.args.position.now.id shown c.in-Ok.read c.in-Ok.ensures.writes
+    reopened g.S.RowStore c.openings.ensures.some c.args.catalog.now c.args.position.now c.args.store.now c.open_at.new.store c.args.position.now.id shown c.in-Ok.read c.in-Ok.ensures.writes
 
 pub returns-in-Ok-clause-same : goal.returns-in-Ok-clause-same
 returns-in-Ok-clause-same g c = λ honest shown.
@@ -12,7 +12,7 @@ returns-in-Ok-clause-same g c = λ honest shown.
 
 pub returns-in-Err-clause-reopens : goal.returns-in-Err-clause-reopens
 returns-in-Err-clause-reopens g c = λ shown.
-    not_reopened g.S.RowStore.honest g.S.RowStore.contents g.S.RowStore.failed g.S.RowStore.may_leave g.S.RowStore.misreads c.openings.ensures.some c.args.catalog.now c.args.position.now c.args.store.now c.open_at.new.store c.args.position.now.id shown c.in-Err.fault c.in-Err.ensures.writes
+    not_reopened g.S.RowStore c.openings.ensures.some c.args.catalog.now c.args.position.now c.args.store.now c.open_at.new.store c.args.position.now.id shown c.in-Err.fault c.in-Err.ensures.writes
 
 pub returns-in-Err-clause-refused : goal.returns-in-Err-clause-refused
 returns-in-Err-clause-refused g c = λ honest shown.

@@ -5,6 +5,6 @@ use Rattle.cs_replica_lines.proofs.dump.put_tables.Given as goal
 
 abbrev pub invariant-loop-table : goal.invariant-loop-table
 invariant-loop-table g l =
-    IsDumping g.S.RowStore.honest g.S.RowStore.contents l.catalog l.table (string_bytes l.initial.text) (string_bytes l.text) l.initial.replica l.replica
+    IsDumping g.S.RowStore l.catalog l.table (string_bytes l.initial.text) (string_bytes l.text) l.initial.replica l.replica
     × (l.replica.catalog ≡ l.catalog)
     × (g.S.RowStore.failed l.initial.replica.store ≤ g.S.RowStore.failed l.replica.store)

@@ -16,7 +16,7 @@ returns-in-Some-clause-listed g c = λ honest view shows.
 
 pub returns-clause-reads : goal.returns-clause-reads
 returns-clause-reads g c =
-    misread_told g.S.RowStore.honest g.S.RowStore.contents g.S.RowStore.failed g.S.RowStore.may_leave g.S.RowStore.misreads c.misread.result
+    misread_told g.S.RowStore c.misread.result
     (ShowsSome c.args.catalog.now (g.S.RowStore.contents c.args.store.now)) (Unit {0}) c.args.store.now c.list_bodies.new.store c.misread.new.self c.in-Ok.listed
     (λ honest some.
     let only = rw (c.as_slice-columns.ensures, c.as_slice.ensures.value) at c.in_ok-rows.ensures.only in

@@ -10,7 +10,7 @@ use Rattle.cs_taking.proofs.reading.fold_flight.Goals as goal
 
 pub loop-placed-init : goal.loop-placed-init
 loop-placed-init g c = record {
-  read = no_call g.S.RowStore.honest g.S.RowStore.contents g.S.RowStore.failed g.S.RowStore.may_leave g.S.RowStore.misreads _ c.args.store.now;
+  read = no_call g.S.RowStore _ c.args.store.now;
   within = λ within. within;
   folds = λ honest seen shows contents begun view ready settles.
       folds_begin c.args.catalog.now c.args.flight.now seen contents begun c.args.places.now view c.args.settling.now ready settles;
@@ -30,11 +30,11 @@ loop-placed-preserved g c =
     let so_far = c.loop-placed.invariant.read in
     let law : Catalogs tables = record { are = c.tables-tables.ensures.tables; one = c.catalogs.ensures.place; key = c.one_key_stands.ensures; net_takes = c.net_takes.ensures } in
     record {
-      read = read_more g.S.RowStore.honest g.S.RowStore.contents g.S.RowStore.failed g.S.RowStore.may_leave g.S.RowStore.misreads tables c.args.store.now c.loop-placed.store so_far Device c.fold_one.new.store c.in-Ok.field-0 c.in-Ok.ensures.reads;
+      read = read_more g.S.RowStore tables c.args.store.now c.loop-placed.store so_far Device c.fold_one.new.store c.in-Ok.field-0 c.in-Ok.ensures.reads;
       within = λ within. c.in-Ok.ensures.within (c.loop-placed.invariant.within within);
       folds = λ honest seen shows contents begun view ready settles.
           let was = c.in-Ok.ensures.reads.was_honest honest in
-          let still = still_shows g.S.RowStore.honest g.S.RowStore.contents g.S.RowStore.failed g.S.RowStore.may_leave g.S.RowStore.misreads tables c.args.store.now c.loop-placed.store so_far was seen shows in
+          let still = still_shows g.S.RowStore tables c.args.store.now c.loop-placed.store so_far was seen shows in
           folds_more tables c.args.flight.now seen contents begun places view law (drop at places) x (drop (at + 1) places) c.loop-placed.settling c.fold_one.new.settling
           (drop_here places at x less c.placed-item.is) (all_here (IsPlaced tables) places at x less c.placed-item.is c.requires)
           (λ mid ts one settled. c.in-Ok.ensures.folded honest seen still contents begun mid ts one settled)
@@ -43,7 +43,7 @@ loop-placed-preserved g c =
 
 pub returns-in-Err-clause-reads : goal.returns-in-Err-clause-reads
 returns-in-Err-clause-reads g c =
-    read_failed g.S.RowStore.honest g.S.RowStore.contents g.S.RowStore.failed g.S.RowStore.may_leave g.S.RowStore.misreads c.args.catalog.now c.args.store.now c.loop-placed.store c.loop-placed.invariant.read Device c.in-Err.fault c.fold_one.new.store c.in-Err.ensures.reads
+    read_failed g.S.RowStore c.args.catalog.now c.args.store.now c.loop-placed.store c.loop-placed.invariant.read Device c.in-Err.fault c.fold_one.new.store c.in-Err.ensures.reads
 
 pub returns-clause-folded : goal.returns-clause-folded
 returns-clause-folded g c = λ honest seen shows contents begun view ready settles.

@@ -11,7 +11,7 @@ use Rattle.cs_taking.proofs.reading.fold_flight.Given as goal
 -- the store was only read so far, and what the places that are left lead to, all lead to
 abbrev pub invariant-loop-placed : goal.invariant-loop-placed
 invariant-loop-placed g l = record {
-  read : WasRead g.S.RowStore.honest g.S.RowStore.contents g.S.RowStore.failed g.S.RowStore.may_leave g.S.RowStore.misreads (ShowsSome l.fn.catalog (g.S.RowStore.contents l.fn.store)) l.fn.store l.store;
+  read : WasRead g.S.RowStore (ShowsSome l.fn.catalog (g.S.RowStore.contents l.fn.store)) l.fn.store l.store;
   within : IsWithin l.fn.catalog l.fn.settling → IsWithin l.fn.catalog l.settling;
   folds : g.S.RowStore.honest l.store → (seen : View) → ShowsRows l.fn.catalog (g.S.RowStore.contents l.fn.store) seen
       → (contents : Contents) (begun : ℕ) (view : View) → IsFoldReady l.fn.catalog l.fn.flight seen (map task_of l.fn.places) view

@@ -23,13 +23,13 @@ loop-placed-preserved g c =
     let parts = drop_here places at x less c.placed-item.is in
     let so_far = c.loop-placed.invariant.read in
     record {
-      read = read_more g.S.RowStore.honest g.S.RowStore.contents g.S.RowStore.failed g.S.RowStore.may_leave g.S.RowStore.misreads tables c.args.store.now c.loop-placed.store so_far Device c.survey_one.new.store c.in-Ok-true.field-0 c.in-Ok-true.ensures.reads;
+      read = read_more g.S.RowStore tables c.args.store.now c.loop-placed.store so_far Device c.survey_one.new.store c.in-Ok-true.field-0 c.in-Ok-true.ensures.reads;
       tasks = sites_more (map site_task c.loop-placed.sites.items) (map site_task c.survey_one.new.sites.items) (task_of x) rest (map task_of (drop at places)) _
           (c.in-Ok-true.ensures.tasks c.in-Ok-true.field-0-test) (ap (λ (ps : List Placed). map task_of ps) parts) c.loop-placed.invariant.tasks;
       placed = λ old. c.in-Ok-true.ensures.placed (c.loop-placed.invariant.placed old);
       on = λ honest seen shows on.
           let was = c.in-Ok-true.ensures.reads.was_honest honest in
-          let still = still_shows g.S.RowStore.honest g.S.RowStore.contents g.S.RowStore.failed g.S.RowStore.may_leave g.S.RowStore.misreads tables c.args.store.now c.loop-placed.store so_far was seen shows in
+          let still = still_shows g.S.RowStore tables c.args.store.now c.loop-placed.store so_far was seen shows in
           (rw c.in-Ok-true.field-0-test at c.in-Ok-true.ensures.surveyed) honest seen still (c.loop-placed.invariant.on was seen shows on);
       bad = λ log bad. c.loop-placed.invariant.bad log
           (subst (λ (ps : List Placed). HasBad log (map task_of ps)) (sym parts) (bad_behind log (task_of x) rest bad));
@@ -37,7 +37,7 @@ loop-placed-preserved g c =
 
 pub returns-in-Ok-false-clause-reads : goal.returns-in-Ok-false-clause-reads
 returns-in-Ok-false-clause-reads g c =
-    read_then g.S.RowStore.honest g.S.RowStore.contents g.S.RowStore.failed g.S.RowStore.may_leave g.S.RowStore.misreads c.args.catalog.now c.args.store.now c.loop-placed.store c.loop-placed.invariant.read Device c.survey_one.new.store c.in-Ok-false.field-0 _ c.in-Ok-false.ensures.reads
+    read_then g.S.RowStore c.args.catalog.now c.args.store.now c.loop-placed.store c.loop-placed.invariant.read Device c.survey_one.new.store c.in-Ok-false.field-0 _ c.in-Ok-false.ensures.reads
 
 pub returns-in-Ok-false-clause-surveyed : goal.returns-in-Ok-false-clause-surveyed
 returns-in-Ok-false-clause-surveyed g c = λ honest seen shows on.
@@ -48,14 +48,14 @@ returns-in-Ok-false-clause-surveyed g c = λ honest seen shows on.
     let less : at < length places = omega (arith, c.loop-placed-test.true) in
     let so_far = c.loop-placed.invariant.read in
     let was = c.in-Ok-false.ensures.reads.was_honest honest in
-    let still = still_shows g.S.RowStore.honest g.S.RowStore.contents g.S.RowStore.failed g.S.RowStore.may_leave g.S.RowStore.misreads c.args.catalog.now c.args.store.now c.loop-placed.store so_far was seen shows in
+    let still = still_shows g.S.RowStore c.args.catalog.now c.args.store.now c.loop-placed.store so_far was seen shows in
     let bad = (rw c.in-Ok-false.field-0-test at c.in-Ok-false.ensures.surveyed) honest seen still (c.loop-placed.invariant.on was seen shows on) in
     c.loop-placed.invariant.bad log
     (subst (λ (ps : List Placed). HasBad log (map task_of ps)) (sym (drop_here places at x less c.placed-item.is)) (bad_first log (task_of x) (map task_of (drop (at + 1) places)) bad))
 
 pub returns-in-Err-clause-reads : goal.returns-in-Err-clause-reads
 returns-in-Err-clause-reads g c =
-    read_failed g.S.RowStore.honest g.S.RowStore.contents g.S.RowStore.failed g.S.RowStore.may_leave g.S.RowStore.misreads c.args.catalog.now c.args.store.now c.loop-placed.store c.loop-placed.invariant.read Device c.in-Err.fault c.survey_one.new.store c.in-Err.ensures.reads
+    read_failed g.S.RowStore c.args.catalog.now c.args.store.now c.loop-placed.store c.loop-placed.invariant.read Device c.in-Err.fault c.survey_one.new.store c.in-Err.ensures.reads
 
 pub returns-clause-tasks : goal.returns-clause-tasks
 returns-clause-tasks g c = λ all.

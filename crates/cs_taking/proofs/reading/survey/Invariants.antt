@@ -10,7 +10,7 @@ use Rattle.cs_taking.proofs.reading.survey.Given as goal
 -- the store was only read so far, the places before have their sites, and a bad change of those that are left is one of all
 abbrev pub invariant-loop-placed : goal.invariant-loop-placed
 invariant-loop-placed g l = record {
-  read : WasRead g.S.RowStore.honest g.S.RowStore.contents g.S.RowStore.failed g.S.RowStore.may_leave g.S.RowStore.misreads (ShowsSome l.fn.catalog (g.S.RowStore.contents l.fn.store)) l.fn.store l.store;
+  read : WasRead g.S.RowStore (ShowsSome l.fn.catalog (g.S.RowStore.contents l.fn.store)) l.fn.store l.store;
   tasks : map site_task l.sites.items ++ map task_of (drop l.placed-index l.fn.places) ≡ map site_task l.fn.sites.items ++ map task_of l.fn.places;
   placed : AreSitesPlaced l.fn.catalog l.fn.sites.items → AreSitesPlaced l.fn.catalog l.sites.items;
   on : g.S.RowStore.honest l.store → (seen : View) → ShowsRows l.fn.catalog (g.S.RowStore.contents l.fn.store) seen

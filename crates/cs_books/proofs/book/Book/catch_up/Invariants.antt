@@ -6,7 +6,7 @@ use Rattle.cs_books.proofs.book.Book.catch_up.Given as goal
 -- what was taken so far
 abbrev pub invariant-entries : goal.invariant-entries
 invariant-entries g l = record {
-  later : IsLater g.S.RowStore.honest g.S.RowStore.contents g.S.RowStore.failed g.S.RowStore.may_leave g.S.RowStore.misreads (Unit {0}) l.fn.self l.self;
+  later : IsLater g.S.RowStore (Unit {0}) l.fn.self l.self;
 }
 
 abbrev pub decreases-entries : goal.decreases-entries

@@ -14,4 +14,4 @@ returns-clause-judged g c =
     (λ h.
     judged_here c.judge.result (MoreFailures (g.S.RowStore.failed book.hub.store) (g.S.RowStore.failed c.judge.new.self.store)) c.limit-limit.result book.row book.hub.catalog book.pass.known c.args.request.now least
     (c.judge.ensures.judged h book.pass.known
-    (shows_all g.S.RowStore.honest g.S.RowStore.contents g.S.RowStore.failed g.S.RowStore.may_leave g.S.RowStore.misreads book c.self.invariant level (c.judge.ensures.reads.was_honest h))))
+    (shows_all g.S.RowStore book c.self.invariant level (c.judge.ensures.reads.was_honest h))))

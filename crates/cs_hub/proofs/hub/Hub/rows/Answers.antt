@@ -11,5 +11,5 @@ returns-clause-listed g c =
 pub returns-clause-reads : goal.returns-clause-reads
 returns-clause-reads g c =
     rw (← c.self.view_is)
-    (read_when g.S.RowStore.honest g.S.RowStore.contents g.S.RowStore.failed g.S.RowStore.may_leave g.S.RowStore.misreads _ _ _ _ _ _
+    (read_when g.S.RowStore _ _ _ _ _ _
     (λ shown. (at_rest (state_of shown.0), log_rows c.log_states.ensures c.self.inside.catalog (g.S.RowStore.contents c.self.inside.store) shown.0 c.tables-tables.ensures.tables shown.1)) c.rows_of.ensures.reads)

@@ -7,22 +7,22 @@ use Rattle.cs_hub.proofs.hub.Hub.serve.Goals as goal
 
 pub returns-in-Err-clause-served : goal.returns-in-Err-clause-served
 returns-in-Err-clause-served g c =
-    answers g.S.RowStore.honest g.S.RowStore.contents g.S.RowStore.failed g.S.RowStore.may_leave g.S.RowStore.misreads c.args.self.now c.args.self.now refl (λ left. Unit {0})
+    answers g.S.RowStore c.args.self.now c.args.self.now refl (λ left. Unit {0})
     MAX_ENTRIES c.args.request.now (Err c.in-Err.fault) c.refuse.result ((c.decode.ensures.fault c.in-Err.fault).0 c.in-Err.is)
-    (served_none g.S.RowStore.honest g.S.RowStore.contents g.S.RowStore.failed g.S.RowStore.may_leave g.S.RowStore.misreads _ _ _ c.args.self.now.store c.refuse.result)
+    (served_none g.S.RowStore _ _ _ c.args.self.now.store c.refuse.result)
     (λ honest log shows same. no_request _ MAX_ENTRIES _ log _ _ shows same c.in-Err.fault c.refuse.result c.refuse.ensures)
 
 pub returns-in-Ok-Pull-clause-served : goal.returns-in-Ok-Pull-clause-served
 returns-in-Ok-Pull-clause-served g c =
     rw (← c.self.view_is)
-    (answers g.S.RowStore.honest g.S.RowStore.contents g.S.RowStore.failed g.S.RowStore.may_leave g.S.RowStore.misreads _ _ refl _
+    (answers g.S.RowStore _ _ refl _
     MAX_ENTRIES c.args.request.now (Ok (AsksPull c.in-Ok-Pull.first c.in-Ok-Pull.limit)) c.pull_at.result
     (read_as _ _ _ c.in-Ok-Pull.field-0-is c.in-Ok-Pull.ensures.found) c.pull_at.ensures.serves c.pull_at.ensures.answered)
 
 pub returns-in-Ok-Pull-clause-store : goal.returns-in-Ok-Pull-clause-store
 returns-in-Ok-Pull-clause-store g c =
     rw (← c.self.view_is)
-    (served_as g.S.RowStore.honest g.S.RowStore.contents g.S.RowStore.failed g.S.RowStore.may_leave g.S.RowStore.misreads _ _ _ _ _ _ c.pull_at.result
+    (served_as g.S.RowStore _ _ _ _ _ _ c.pull_at.result
     (λ left is. served_in MAX_ENTRIES _ c.args.request.now (Ok (AsksPull c.in-Ok-Pull.first c.in-Ok-Pull.limit)) _ left
     (read_as _ _ _ c.in-Ok-Pull.field-0-is c.in-Ok-Pull.ensures.found) is)
     c.pull_at.ensures.serves)
@@ -30,14 +30,14 @@ returns-in-Ok-Pull-clause-store g c =
 pub returns-in-Ok-Push-clause-served : goal.returns-in-Ok-Push-clause-served
 returns-in-Ok-Push-clause-served g c =
     rw (← c.self.view_is)
-    (answers g.S.RowStore.honest g.S.RowStore.contents g.S.RowStore.failed g.S.RowStore.may_leave g.S.RowStore.misreads _ _ refl _
+    (answers g.S.RowStore _ _ refl _
     MAX_ENTRIES c.args.request.now (Ok (AsksPush c.in-Ok-Push.head c.in-Ok-Push.changeset.now)) c.push_told.result
     (read_as _ _ _ c.in-Ok-Push.field-0-is c.in-Ok-Push.ensures.found) c.push_told.ensures.serves c.push_told.ensures.answered)
 
 pub returns-in-Ok-Push-clause-store : goal.returns-in-Ok-Push-clause-store
 returns-in-Ok-Push-clause-store g c =
     rw (← c.self.view_is)
-    (served_as g.S.RowStore.honest g.S.RowStore.contents g.S.RowStore.failed g.S.RowStore.may_leave g.S.RowStore.misreads _ _ _ _ _ _ c.push_told.result
+    (served_as g.S.RowStore _ _ _ _ _ _ c.push_told.result
     (λ left is. served_in MAX_ENTRIES _ c.args.request.now (Ok (AsksPush c.in-Ok-Push.head c.in-Ok-Push.changeset.now)) _ left
     (read_as _ _ _ c.in-Ok-Push.field-0-is c.in-Ok-Push.ensures.found) is)
     c.push_told.ensures.serves)

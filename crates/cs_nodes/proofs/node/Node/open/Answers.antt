@@ -16,13 +16,13 @@ returns-clause-refused g c = λ h. bare_fault c.args.catalog.now c.args.id (g.S.
 
 pub returns-then-version-ne0-clause-kept : goal.returns-then-version-ne0-clause-kept
 returns-then-version-ne0-clause-kept g c = λ h.
-    absurd (never_further g.S.RowStore.honest g.S.RowStore.contents c.args.catalog.now c.args.id c.args.store c.in-Ok-open.replica.store c.close.result c.close.ensures c.in-Ok-open.replica.position c.version.result c.requires.bare c.in-Ok-open.ensures.opened c.version.ensures c.if-version-ne0.true h)
+    absurd (never_further g.S.RowStore c.args.catalog.now c.args.id c.args.store c.in-Ok-open.replica.store c.close.result c.close.ensures c.in-Ok-open.replica.position c.version.result c.requires.bare c.in-Ok-open.ensures.opened c.version.ensures c.if-version-ne0.true h)
 
 pub returns-then-version-ne0-clause-refused : goal.returns-then-version-ne0-clause-refused
 returns-then-version-ne0-clause-refused g c = λ h.
-    absurd (never_further g.S.RowStore.honest g.S.RowStore.contents c.args.catalog.now c.args.id c.args.store c.in-Ok-open.replica.store c.close.result c.close.ensures c.in-Ok-open.replica.position c.version.result c.requires.bare c.in-Ok-open.ensures.opened c.version.ensures c.if-version-ne0.true h)
+    absurd (never_further g.S.RowStore c.args.catalog.now c.args.id c.args.store c.in-Ok-open.replica.store c.close.result c.close.ensures c.in-Ok-open.replica.position c.version.result c.requires.bare c.in-Ok-open.ensures.opened c.version.ensures c.if-version-ne0.true h)
 
 pub returns-then-version-ne0-clause-opens : goal.returns-then-version-ne0-clause-opens
 returns-then-version-ne0-clause-opens g c =
-    told_else g.S.RowStore.honest g.S.RowStore.contents c.args.catalog.now c.args.id c.args.store c.in-Ok-open.replica.store c.close.result c.close.ensures g.S.RowStore.failed g.S.RowStore.may_leave g.S.RowStore.misreads c.in-Ok-open.ensures.opens
-    (never_further g.S.RowStore.honest g.S.RowStore.contents c.args.catalog.now c.args.id c.args.store c.in-Ok-open.replica.store c.close.result c.close.ensures c.in-Ok-open.replica.position c.version.result c.requires.bare c.in-Ok-open.ensures.opened c.version.ensures c.if-version-ne0.true)
+    told_else g.S.RowStore c.args.catalog.now c.args.id c.args.store c.in-Ok-open.replica.store c.close.result c.close.ensures g.S.RowStore.failed g.S.RowStore.may_leave g.S.RowStore.misreads c.in-Ok-open.ensures.opens
+    (never_further g.S.RowStore c.args.catalog.now c.args.id c.args.store c.in-Ok-open.replica.store c.close.result c.close.ensures c.in-Ok-open.replica.position c.version.result c.requires.bare c.in-Ok-open.ensures.opened c.version.ensures c.if-version-ne0.true)
