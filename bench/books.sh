@@ -6,7 +6,7 @@ set -eu
 bench="$(cd "$(dirname "$0")" && pwd)"
 . "$bench/common.sh"
 mkdir -p "$out"
-[ -x "$out/books_bench" ] && [ -n "${BOOKS_BENCH_BUILT:-}" ] || build_rattle books_bench cs_books cs_hub cs_map_store cs_spine cs_value
+[ -x "$out/books_bench" ] && [ -n "${BOOKS_BENCH_BUILT:-}" ] || build_rattle books_bench cs_nodes cs_hub cs_map_store cs_spine cs_value
 print_machine
 : > "$out/books_times"
 for turn in 1 2 3; do

@@ -126,7 +126,7 @@ copy_crates() {
 }
 
 # Proves and builds the Rattle program NAME.rattle of this folder, with rows.rattle where that is a module of it. It uses these crates
-# and libraries of the kit: build_rattle NAME USED ... It is made over copies of them and of all crates below, in a repository of its
+# and libraries of the kit: build_rattle NAME USED... It is made over copies of them and of all crates below, in a repository of its
 # own outside this one, since the gate takes no source that is no crate's. A crate is copied with what its proof left: behind `rt check`
 # or `rt lib` it isn't proved again; what `rt ci` leaves isn't taken. The invariants of its loops stand in NAME.invariants, each behind a
 # line `== FUNCTION`.

@@ -7,7 +7,7 @@ set -eu
 bench="$(cd "$(dirname "$0")" && pwd)"
 . "$bench/common.sh"
 need_sqlite || { echo "SQLite's library can't be had"; exit 1; }
-build_rattle edits_bench cs_edits cs_map_store cs_pending cs_store cs_value
+build_rattle edits_bench cs_store cs_map_store cs_pending cs_value
 cc -O2 -Wall -Wextra $sqlite_flags "$bench/edits.c" -o "$out/edits" -lsqlite3
 print_machine_and_sqlite
 : > "$out/edits_times"

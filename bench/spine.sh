@@ -6,7 +6,7 @@ set -eu
 bench="$(cd "$(dirname "$0")" && pwd)"
 . "$bench/common.sh"
 mkdir -p "$out"
-[ -x "$out/spine_bench" ] && [ -n "${SPINE_BENCH_BUILT:-}" ] || build_rattle spine_bench cs_log cs_spine cs_value
+[ -x "$out/spine_bench" ] && [ -n "${SPINE_BENCH_BUILT:-}" ] || build_rattle spine_bench cs_store cs_spine cs_value
 rustc -O --edition 2021 -o "$out/spine_plain" "$bench/spine_plain.rs"
 print_machine
 echo "nanoseconds an entry, the least of 5: the spine / the plain list = ratio"

@@ -10,7 +10,7 @@ bench="$(cd "$(dirname "$0")" && pwd)"
 . "$bench/common.sh"
 need_sqlite || { echo "SQLite's library can't be had"; exit 1; }
 mkdir -p "$out"
-[ -x "$out/sql_bench" ] && [ -n "${SQL_BENCH_BUILT:-}" ] || build_rattle sql_bench cs_edits cs_replica cs_sql cs_store cs_value sqlite_disk
+[ -x "$out/sql_bench" ] && [ -n "${SQL_BENCH_BUILT:-}" ] || build_rattle sql_bench cs_store cs_replica cs_sql cs_value sqlite_disk
 cc -O2 -Wall -Wextra "$bench/sql_speed.c" -o "$out/sql_speed" -lsqlite3
 print_machine_and_sqlite
 folder="$(mktemp -d "${1:-$out}/sql_speed.XXXXXX")"

@@ -6,7 +6,7 @@
 set -eu
 bench="$(cd "$(dirname "$0")" && pwd)"
 . "$bench/common.sh"
-build_rattle store_bench cs_edits cs_map_store cs_store
+build_rattle store_bench cs_store cs_map_store
 rustc -O --edition 2021 -o "$out/store_plain" "$bench/store_plain.rs"
 print_machine
 "$out/store_bench" > "$out/store_times"

@@ -8,7 +8,7 @@ set -eu
 bench="$(cd "$(dirname "$0")" && pwd)"
 . "$bench/common.sh"
 need_sqlite || { echo "SQLite's library can't be had"; exit 1; }
-build_rattle takes_bench cs_changeset cs_conflict cs_edits cs_log cs_map_store cs_normal cs_normalising cs_replica cs_store cs_value
+build_rattle takes_bench cs_changeset cs_conflict cs_store cs_map_store cs_normal cs_normalising cs_replica cs_value
 cc -O2 -Wall -Wextra $sqlite_flags "$bench/takes.c" -o "$out/takes" -lsqlite3
 print_machine_and_sqlite
 : > "$out/takes_times"

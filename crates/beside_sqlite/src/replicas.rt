@@ -14,14 +14,14 @@ use cs_change::{Change, Changeset, Group};
 use cs_changeset::read;
 use cs_column_bytes::{Header, encode, put_headers};
 use cs_conflict::{Clash, Guard, Resolution, Wish};
-use cs_log::{Body, LogEntry};
+use cs_exchange::pushing::PushFault;
 use cs_map_store::MapStore;
 use cs_normal::Normal;
 use cs_normalising::normalise;
-use cs_outgoing::Outgoing;
-use cs_pushing::PushFault;
+use cs_pending::outgoing::Outgoing;
 use cs_record::Record;
 use cs_replica::Replica;
+use cs_store::log::{Body, LogEntry};
 use cs_value::{Catalog, Field, Items, Key, Row, TableDef, Value};
 use std::alloc::{AllocError, Global};
 

@@ -6,7 +6,7 @@ use Rattle.std.proofs.lemmas.List.Edits.{between_more, between_none}
 use Rattle.std.proofs.lemmas.List.Folds.{drop_split}
 use Rattle.std.proofs.Math.Seq.{drop-cons}
 use Rattle.std.proofs.lemmas.Option.{get_or_from_slice_get}
-use Rattle.cs_edits.specs.Edits.{BodyEdit}
+use Rattle.cs_store.specs.edits.Edits.{BodyEdit}
 use Rattle.cs_apply.specs.Edited.{edit_list, edit_for, edits_for}
 use Rattle.cs_apply.specs.Woven.{weave, count_waiting, made_edits, stand_in, stands_from, stands_of, RiseBetween}
 use Rattle.cs_apply.specs.declared.slots.Slot.{Slot}

@@ -7,7 +7,7 @@ use Rattle.cs_value.specs.declared.catalog.TableDef.{TableDef}
 use Rattle.cs_change.specs.Action.{action, action_any, after, after_any}
 use Rattle.cs_change.specs.declared.change.Change.{Change}
 use Rattle.cs_normal.specs.Normal.{IsNormalChangeset, FitsCatalog, change_of, groups_of}
-use Rattle.cs_keyed.specs.NormalForm.{change_bytes}
+use Rattle.cs_normal.specs.keyed.NormalForm.{change_bytes}
 use Rattle.cs_normal.specs.State.{State, left_at}
 use Rattle.cs_normal.specs.declared.normal.TableChanges.{TableChanges}
 use Rattle.cs_conflict.specs.Conflict.{answered}

@@ -3,7 +3,7 @@ use Rattle.std.specs.Prelude.{◌≡◌, List, Some, slice_get}
 use Rattle.cs_value.specs.declared.catalog.TableDef.{TableDef}
 use Rattle.cs_change.specs.Action.{action}
 use Rattle.cs_normal.specs.Normal.{change_of}
-use Rattle.cs_keyed.specs.NormalForm.{change_bytes}
+use Rattle.cs_normal.specs.keyed.NormalForm.{change_bytes}
 use Rattle.cs_normal.specs.State.{State}
 use Rattle.cs_normal.specs.declared.normal.TableChanges.{TableChanges}
 use Rattle.cs_conflict.specs.Conflict.{kind}

@@ -3,7 +3,7 @@ use Rattle.std.specs.Prelude.{◌≡◌, ◌≢◌, ◌<◌, ◌⊎◌, ℕ, Lis
 use Rattle.std.specs.List.{AllByRecursion}
 use Rattle.cs_change.specs.declared.change.Change.{Change}
 use Rattle.cs_order.specs.Order.{Keys}
-use Rattle.cs_edits.specs.Edits.{BodyEdit}
+use Rattle.cs_store.specs.edits.Edits.{BodyEdit}
 use Rattle.cs_apply.specs.Edited.{edit_list, edit_for}
 use Rattle.cs_apply.specs.Found.{AreSlots, IsNumbering, heads}
 use Rattle.cs_apply.specs.Meeting.{blank, IsMadeBy}

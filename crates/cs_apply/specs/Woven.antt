@@ -1,7 +1,7 @@
 -- Places in order, of which some wait for the turns of their changes. A place that is made stands as its slot, and one
 -- that waits as none: it has the next of the slots that wait.
 use Rattle.std.specs.Prelude.{◌≤◌, ◌+◌, ℕ, zero, suc, List, [], ◌∷◌, ◌++◌, length, map, Option, Some, None, option_map}
-use Rattle.cs_edits.specs.Edits.{BodyEdit}
+use Rattle.cs_store.specs.edits.Edits.{BodyEdit}
 use Rattle.cs_apply.specs.Edited.{edit_list, edit_for}
 use Rattle.cs_apply.specs.Meeting.{blank}
 use Rattle.cs_apply.specs.declared.slots.Slot.{Slot}

@@ -1,6 +1,6 @@
 //! Words sorted digit by digit, beside std's sort of the same words.
 
-use cs_digits::*;
+use cs_order::digits::*;
 use std::alloc::{AllocError, Global};
 
 /// Words as a row of the table tells them.

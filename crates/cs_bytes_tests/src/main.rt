@@ -1,5 +1,5 @@
 //! Tests of bytes and what they spell, by public calls: varints (`cs_varint`), values and records (`cs_value`, `cs_record`), order by words
-//! (`cs_digits`, `cs_order`), lines (`cs_lines`), and requests and answers (`cs_wire`). Changesets and values as text (`cs_text`), and faults
+//! (`cs_order::digits`, `cs_order`), lines (`cs_lines`), and requests and answers (`cs_wire`). Changesets and values as text (`cs_text`), and faults
 //! of records with their offsets, are rows of `bench/check_tools.sh`.
 #![tactic(auto)]
 

@@ -1,7 +1,7 @@
 //! Bodies of entries beside bytes that were written by hand, and entries.
 
 use crate::given::catalog;
-use cs_log::{Body, BodyFault, LogEntry, is_stored_body, put_body, read_body};
+use cs_store::log::{Body, BodyFault, LogEntry, is_stored_body, put_body, read_body};
 use cs_value::Memory;
 use std::alloc::Global;
 

@@ -1,5 +1,5 @@
 //! Tests of changes, by public calls: as values (`cs_change`), the readers of changesets and blobs (`cs_changeset`, `cs_blob`), normal forms
-//! (`cs_keyed`, `cs_normal`, `cs_normalising`), their columns beside SQLite's (`cs_column_bytes`), and entries of a log (`cs_log`). What is
+//! (`cs_normal::keyed`, `cs_normal`, `cs_normalising`), their columns beside SQLite's (`cs_column_bytes`), and entries of a log (`cs_store::log`). What is
 //! read of bytes and each of their faults, and what a normal form is, are rows of `bench/check_tools.sh`.
 #![tactic(auto)]
 

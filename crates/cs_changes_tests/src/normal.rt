@@ -6,7 +6,7 @@ ghost use Rattle.cs_change.specs.Spelling.{FitsChangeset};
 use crate::given::{catalog, table};
 use cs_change::{Change, Changeset, Group};
 use cs_changeset::read;
-use cs_keyed::{KeysBuilder, key_front};
+use cs_normal::keyed::{KeysBuilder, key_front};
 use cs_normal::*;
 use cs_normalising::*;
 use cs_order::Keys;

@@ -1,16 +1,15 @@
 -- Bytes in a change's place that don't begin the next group begin with a change, or have a fault.
-use Rattle.std.proofs.Common.{◌≡◌, ℕ, zero, suc, ◌+◌, ◌<◌, ◌≤◌, Bool, true, false, List, [], ◌∷◌, ◌++◌, length, map, refl, sym, ap, ◌∙◌, append_assoc, arith, inl, inr, subst}
-use Rattle.std.specs.Prelude.{◌≢◌, ◌⊎◌}
+use Rattle.std.proofs.Common.{◌≡◌, ℕ, zero, suc, ◌+◌, ◌≤◌, Bool, true, false, List, [], ◌∷◌, ◌++◌, length, map, refl, sym, ap, ◌∙◌, append_assoc, arith, inl, inr, subst}
+use Rattle.std.specs.Prelude.{◌⊎◌}
 use Rattle.std.proofs.lemmas.Bool.{cases_eq}
 use Rattle.cs_varint.specs.Bytes.{AreBytes, bytes_rest}
 use Rattle.cs_value.specs.declared.value.Value.{Value}
 use Rattle.cs_value.specs.declared.value.Field.{Field}
 use Rattle.cs_value.specs.declared.value.Field.TheVariants.{Undefined, Is}
 use Rattle.cs_record.specs.Spelling.{record_of, row_bytes}
-use Rattle.cs_change.specs.declared.change.Change.{Change}
 use Rattle.cs_change.specs.declared.change.Change.TheVariants.{Insert, Delete, Update}
 use Rattle.cs_change.specs.Spelling.{flag_byte, change_spelling, FitsChange, FitsRow}
-use Rattle.cs_changeset.specs.Facts.{flag_small}
+use Rattle.cs_changeset.specs.Facts.{flag_small, right_columns}
 use Rattle.cs_changeset.specs.Laws.{ColumnsOrFault, ChangeOrFault}
 use Rattle.cs_changeset.specs.Reading.{BeginsWith, HasFault, IsUpdateFault, IsRecordsFault, IsOperation, IsChangeFault}
 use Rattle.cs_changeset.specs.Records.{AreRight, row_rules, old_rules, new_rules}

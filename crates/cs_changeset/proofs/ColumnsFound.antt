@@ -1,7 +1,7 @@
 -- Columns that may stand there begin bytes, or there is a fault.
 use Rattle.std.proofs.Common.{◌≡◌, ℕ, ◌+◌, List, [], ◌∷◌, ◌++◌, length, drop, Option, Some, None, refl, sym, ap, ◌∙◌, append_assoc, inl, inr}
 use Rattle.std.specs.Prelude.{◌⊎◌}
-use Rattle.cs_varint.specs.Bytes.{AreBytes, bytes_rest}
+use Rattle.cs_varint.specs.Bytes.{bytes_rest}
 use Rattle.cs_value.specs.declared.value.Field.{Field}
 use Rattle.cs_record.specs.Facts.{parts}
 use Rattle.cs_record.specs.Laws.{FieldLaws}

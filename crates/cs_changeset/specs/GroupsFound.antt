@@ -1,6 +1,6 @@
 -- Bytes spell a list of groups, or have a fault, whatever the entries of a group are. Crates above cite it.
-use Rattle.std.proofs.Common.{◌≡◌, ℕ, zero, suc, ◌+◌, ◌<◌, ◌≤◌, Bool, List, [], ◌∷◌, ◌++◌, length, refl, sym, ap, ◌∙◌, append_assoc, append-nil, arith, inl, inr, subst, length-append}
-use Rattle.std.specs.Prelude.{◌≢◌, ◌⊎◌}
+use Rattle.std.proofs.Common.{◌≡◌, ℕ, zero, suc, ◌+◌, ◌<◌, ◌≤◌, Bool, List, [], ◌∷◌, ◌++◌, length, refl, sym, ap, ◌∙◌, append_assoc, arith, inl, inr, length-append}
+use Rattle.std.specs.Prelude.{◌⊎◌}
 use Rattle.std.specs.List.{flat_map, AllByRecursion}
 use Rattle.std.proofs.lemmas.Bool.{cases_eq}
 use Rattle.cs_varint.specs.Bytes.{AreBytes, bytes_rest, byte_before}
@@ -8,7 +8,7 @@ use Rattle.cs_record.specs.Reading.{FaultBehind}
 use Rattle.cs_change.specs.Spelling.{marks_of, header_spelling, FitsHeader}
 use Rattle.cs_changeset.specs.Groups.{EntryLaws}
 use Rattle.cs_changeset.specs.Laws.{HeaderLaws}
-use Rattle.cs_changeset.specs.Reading.{BeginsWith, HasFault, group_bytes, IsEntriesFault, IsGroupOf, IsGroupFaultOf, IsFileFault}
+use Rattle.cs_changeset.specs.Reading.{HasFault, group_bytes, IsEntriesFault, IsGroupOf, IsGroupFaultOf, IsFileFault}
 use Rattle.cs_changeset.specs.Steps.{EndsGroup}
 use Rattle.cs_changeset.specs.declared.fault.Fault.{Fault}
 use Rattle.cs_changeset.specs.declared.fault.Fault.TheVariants.{Patchset, BadMark}

@@ -1,10 +1,10 @@
 -- Marks, digit by digit, and the last colon.
-use Rattle.std.proofs.Common.{◌≡◌, ◌≢◌, ℕ, zero, suc, ◌+◌, ◌<◌, Bool, true, false, eqb, cond, List, [], ◌∷◌, ◌++◌, All, length, map, take, drop, get_or, refl, sym, ap, ◌∙◌, arith, subst, append_assoc, ap₂, ◌-◌, take_all, length-drop}
+use Rattle.std.proofs.Common.{◌≡◌, ◌≢◌, ℕ, zero, suc, ◌+◌, ◌<◌, Bool, true, false, List, [], ◌∷◌, ◌++◌, All, length, map, take, get_or, refl, sym, ap, ◌∙◌, arith, subst, ap₂, ◌-◌}
 use Rattle.std.specs.Prelude.{Some, None}
 use Rattle.std.proofs.lemmas.List.Elements.{All-head, All-tail}
 use Rattle.cs_value.specs.declared.catalog.TableDef.{TableDef}
 use Rattle.std.proofs.lemmas.List.{take_more, map-append}
-use Rattle.cs_words.specs.Texts.{text_in}
+use Rattle.cs_text.specs.parse.Texts.{text_in}
 use Rattle.cs_command.specs.TableWord.{mark_digit, SpellsTable}
 
 pub marks_more : (marks : List Bool) (mark : Bool) (digits : List ℕ) (i digit : ℕ) → i < length digits → digit ≡ get_or digits i 0

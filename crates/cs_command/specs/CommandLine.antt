@@ -11,7 +11,7 @@ use Rattle.cs_tools.specs.declared.tool.Form.{Form}
 use Rattle.cs_tools.specs.declared.tool.Form.TheVariants.{Normal, Sqlite}
 use Rattle.cs_tools.specs.declared.tool.Tool.{Tool}
 use Rattle.cs_tools.specs.declared.tool.Tool.TheVariants.{Combine, Rebase, ShowBlob, ShowChangeset}
-use Rattle.cs_words.specs.Numbers.{small_in}
+use Rattle.cs_text.specs.parse.Numbers.{small_in}
 use Rattle.cs_command.specs.Wanted.{Wanted, Hub, World, Node, Run}
 
 -- ---- what the parser takes

@@ -1,7 +1,7 @@
 -- A table as a word of the command line: `NAME:MARKS` (profile of this project).
 use Rattle.std.specs.Prelude.{◌≡◌, ℕ, Bool, true, false, List, ◌∷◌, ◌++◌, map, Some}
 use Rattle.cs_value.specs.declared.catalog.TableDef.{TableDef}
-use Rattle.cs_words.specs.Texts.{text_in}
+use Rattle.cs_text.specs.parse.Texts.{text_in}
 
 -- `1` for a key column and `0` for another
 abbrev pub mark_digit : Bool → ℕ

@@ -3,7 +3,7 @@
 ghost use Rattle.std.specs.Prelude.{◌≡◌};
 ghost use Rattle.cs_command.specs.CommandLine.{number_in};
 
-use cs_words::small;
+use cs_text::parse::small;
 
 /// The number that a word spells in decimal digits, behind a plus or not, where 32 bits hold it.
 pub(crate) fn number_in(word: &str) -> Option<u32>

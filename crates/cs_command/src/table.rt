@@ -8,8 +8,8 @@ ghost use Rattle.cs_command.specs.CommandLine.{tables_in};
 ghost use Rattle.cs_command.specs.CatalogWords.{IsCatalogOf, IsFirstRefused};
 
 use clap::ArgMatches;
+use cs_text::parse::read_text;
 use cs_value::{Catalog, Items, Memory, TableDef};
-use cs_words::read_text;
 use std::alloc::Global;
 
 /// Why table words are no catalog.

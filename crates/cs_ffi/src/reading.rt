@@ -6,8 +6,7 @@ ghost use Rattle.cs_change.specs.declared.group.Group.{Group as GroupRead};
 ghost use Rattle.cs_changeset.specs.Reading.{IsChangesetFault};
 ghost use Rattle.cs_changeset.specs.declared.fault.Fault.{Fault};
 ghost use Rattle.cs_normal.specs.Normal.{normal_spelling};
-ghost use Rattle.cs_ffi.specs.Answers.{AnswersAgain, AnswersCount, change_count, Hands, IsHanded, no_memory, Spell, TellsCount, TellsFault};
-ghost use Rattle.cs_ffi.specs.Answers.{read as read_of};
+ghost use Rattle.cs_ffi.specs.Answers.{AnswersAgain, AnswersCount, change_count, Hands, IsHanded, no_memory, Spell, TellsCount, TellsFault, read as read_of};
 
 use crate::answer::Answer;
 use cs_changeset::{Change, Group, read};

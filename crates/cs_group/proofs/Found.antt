@@ -17,10 +17,10 @@ use Rattle.cs_change.specs.declared.change.Change.{Change}
 use Rattle.cs_change.specs.declared.group.Group.{Group}
 use Rattle.cs_order.specs.Order.{Keys, by_bytes, same_bytes}
 use Rattle.cs_order.specs.Facts.{same_is, Above, above_more, cons_sorted}
-use Rattle.cs_keyed.specs.Changes.{Changes, change_at}
+use Rattle.cs_normal.specs.keyed.Changes.{Changes, change_at}
 use Rattle.cs_normal.specs.Headers.{header, headers, has_other_name, tables_of_headers, CatalogOrHeaderFault}
 use Rattle.cs_normalising.specs.Laws.{FormOrUnfit}
-use Rattle.cs_keyed.specs.NormalForm.{keyed, AreKeyed}
+use Rattle.cs_normal.specs.keyed.NormalForm.{keyed, AreKeyed}
 use Rattle.cs_normalising.specs.NormalFormOf.{changes_of, HaveKeys}
 use Rattle.cs_normal.specs.declared.normal.TableChanges.{TableChanges}
 use Rattle.cs_normalising.specs.declared.unfit.Unfit.{Unfit}

@@ -16,8 +16,8 @@ use Rattle.cs_change.specs.Listed.{one_there}
 use Rattle.cs_change.specs.Then.{inverse, inverse_old_fields, inverse_new_fields, turned}
 use Rattle.cs_change.specs.declared.change.Change.{Change}
 use Rattle.cs_change.specs.declared.change.Change.TheVariants.{Insert, Delete, Update}
-use Rattle.cs_keyed.specs.Changes.{Changes, IsEntry}
-use Rattle.cs_keyed.specs.Keyed.{beside}
+use Rattle.cs_normal.specs.keyed.Changes.{Changes, IsEntry}
+use Rattle.cs_normal.specs.keyed.Keyed.{beside}
 use Rattle.cs_normal.specs.Normal.{IsNormalChangeset}
 use Rattle.cs_normal.specs.declared.normal.TableChanges.{TableChanges}
 use Rattle.cs_group.specs.Inverse.{inverse_change, inverse_changes}

@@ -8,9 +8,9 @@ use Rattle.std.proofs.lemmas.List.Folds.{list_all-append}
 use Rattle.cs_change.specs.declared.change.Change.{Change}
 use Rattle.cs_change.specs.declared.group.Group.{Group}
 use Rattle.cs_order.specs.Order.{Keys}
-use Rattle.cs_keyed.specs.Facts.{all_keyed_is, prepared_keys}
-use Rattle.cs_keyed.specs.NormalForm.{change_bytes, has_key}
-use Rattle.cs_keyed.specs.Prepared.{all_keyed, prepared}
+use Rattle.cs_normal.specs.keyed.Facts.{all_keyed_is, prepared_keys}
+use Rattle.cs_normal.specs.keyed.NormalForm.{change_bytes, has_key}
+use Rattle.cs_normal.specs.keyed.Prepared.{all_keyed, prepared}
 use Rattle.cs_group.specs.Steps.Gathering.{IsGathered}
 use Rattle.cs_group.specs.Steps.Numbering.{changes_in_group, NumberedGroup}
 use Rattle.cs_group.specs.declared.gathered.Gathered.{Gathered}

@@ -4,8 +4,8 @@ use Rattle.std.specs.Prelude.{IsUtf8}
 use Rattle.std.specs.List.{All, flat_map, list_all}
 use Rattle.cs_change.specs.declared.change.Change.{Change}
 use Rattle.cs_change.specs.declared.group.Group.{Group}
-use Rattle.cs_keyed.specs.Changes.{Changes}
-use Rattle.cs_keyed.specs.NormalForm.{change_bytes, has_key, keyed}
+use Rattle.cs_normal.specs.keyed.Changes.{Changes}
+use Rattle.cs_normal.specs.keyed.NormalForm.{change_bytes, has_key, keyed}
 use Rattle.cs_value.specs.declared.catalog.TableDef.{TableDef}
 use Rattle.cs_group.specs.Steps.Gathering.{lent_changes, lent_numbers}
 use Rattle.cs_group.specs.Steps.Joining.{entry_left}

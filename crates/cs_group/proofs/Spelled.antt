@@ -4,7 +4,7 @@ use Rattle.std.proofs.lemmas.List.Concat.{flat_map-append}
 use Rattle.cs_change.specs.Listed.{listed}
 use Rattle.cs_change.specs.Spelling.{change_spelling, changes_spelling, flag_byte, header_spelling}
 use Rattle.cs_change.specs.declared.change.Change.{Change}
-use Rattle.cs_keyed.specs.Changes.{Changes}
+use Rattle.cs_normal.specs.keyed.Changes.{Changes}
 use Rattle.cs_normal.specs.Normal.{normal_spelling, table_changes}
 use Rattle.cs_value.specs.declared.catalog.TableDef.{TableDef}
 use Rattle.cs_group.specs.Steps.Folding.{AreSpelled, HasBegun, spelled_behind, spelled_changes}

@@ -5,7 +5,7 @@ ghost use Rattle.cs_group.specs.Steps.Gathering.{IsGathered};
 ghost use Rattle.cs_group.specs.Steps.Numbering.{numbered_behind, NumberedGroup};
 
 use cs_change::{Group, room_of};
-use cs_keyed::{KeysBuilder, keys_for, push_keys};
+use cs_normal::keyed::{KeysBuilder, keys_for, push_keys};
 use cs_value::Memory;
 use std::alloc::Global;
 

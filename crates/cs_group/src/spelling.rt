@@ -22,7 +22,7 @@ pub(crate) struct Spelling {
 impl Spelling {
     ghost use Rattle.std.specs.Prelude.{◌≡◌, ◌++◌, [], IfOk, List, ℕ, OnOk};
     ghost use Rattle.cs_change.specs.Spelling.{changes_spelling};
-    ghost use Rattle.cs_keyed.specs.Changes.{Changes};
+    ghost use Rattle.cs_normal.specs.keyed.Changes.{Changes};
     ghost use Rattle.cs_group.specs.Steps.Folding.{IsSpelling, spelled_behind};
 
     /// No group so far; changes that are left go behind what stands there, and behind this header.
@@ -65,7 +65,7 @@ impl Spelling {
 
 impl Folds for Spelling {
     ghost use Rattle.std.specs.Prelude.{◌++◌, List, ℕ};
-    ghost use Rattle.cs_keyed.specs.Changes.{Changes};
+    ghost use Rattle.cs_normal.specs.keyed.Changes.{Changes};
     ghost use Rattle.cs_order.specs.Order.{Keys as GatheredKeys};
     ghost use Rattle.cs_group.specs.Steps.Folding.{IsSpelling};
     ghost use Rattle.cs_group.specs.Steps.Joining.{entry_left};

@@ -6,9 +6,9 @@ use Rattle.cs_change.specs.declared.group.Group.{Group}
 use Rattle.cs_normalising.specs.Laws.{FormOrUnfit}
 use Rattle.cs_changeset.specs.Laws.{ChangesetOrFault}
 use Rattle.cs_varint.specs.Bytes.{AreBytes, bytes_behind}
-use Rattle.cs_judging.specs.Hub.{HubState, entries_from}
-use Rattle.cs_judging.specs.Laws.{IsOfHub, PushHasAnswer}
-use Rattle.cs_judging.specs.declared.fault.HubFault.TheVariants.{Ahead}
+use Rattle.cs_hub.specs.judgement.Hub.{HubState, entries_from}
+use Rattle.cs_hub.specs.judgement.Laws.{IsOfHub, PushHasAnswer}
+use Rattle.cs_hub.specs.declared.judgement.fault.HubFault.TheVariants.{Ahead}
 use Rattle.cs_wire.specs.Laws.{AsksSomething}
 use Rattle.cs_wire.specs.Requests.{Asked, AsksPush, AsksPull, ReadsRequest, push_numbers, push_tag}
 use Rattle.cs_wire.specs.Answers.{answer_spelling}

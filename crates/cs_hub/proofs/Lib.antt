@@ -9,3 +9,8 @@ pub mod Answered
 pub mod Shown
 pub mod Again
 pub mod Looked
+pub mod LogStoreLemmas
+pub mod LogReadingLemmas
+pub mod LogOpeningLemmas
+pub mod AppendingLemmas
+pub mod JudgementLemmas

@@ -8,9 +8,9 @@ use Rattle.cs_change.specs.Spelling.{FitsChangeset, changeset_spelling}
 use Rattle.cs_change.specs.declared.group.Group.{Group}
 use Rattle.cs_changeset.specs.Reading.{ReadsChangeset}
 use Rattle.cs_changeset.specs.declared.fault.CodecFault.{CodecFault}
-use Rattle.cs_log.specs.Stored.{IsEntryOf}
-use Rattle.cs_log.specs.declared.entry.LogEntry.{LogEntry}
-use Rattle.cs_log.specs.declared.entry.TheConstants.{MAX_CHANGESET}
+use Rattle.cs_store.specs.log.Stored.{IsEntryOf}
+use Rattle.cs_store.specs.declared.log.entry.LogEntry.{LogEntry}
+use Rattle.cs_store.specs.declared.log.entry.TheConstants.{MAX_CHANGESET}
 use Rattle.cs_normal.specs.Normal.{FitsCatalog, IsNormalChangeset, normal_spelling}
 use Rattle.cs_normalising.specs.NormalFormOf.{IsUnfit}
 use Rattle.cs_normal.specs.declared.normal.TableChanges.{TableChanges}
@@ -20,16 +20,16 @@ use Rattle.cs_store.specs.declared.batch.Batch.{Batch}
 use Rattle.cs_store.specs.declared.store.RowStore.{Ghosts}
 use Rattle.cs_pending.specs.Calls.{ReadsStore}
 use Rattle.cs_pending.specs.Storing.{err_is}
-use Rattle.cs_log_store.specs.Shows.{ShowsLog}
-use Rattle.cs_judging.specs.Hub.{HubState, with_entry}
-use Rattle.cs_judging.specs.Judged.{CanBeAppended, IsJudgement, IsOfPush, ShowsLogOf, hub_of}
-use Rattle.cs_judging.specs.Pushes.{Pushes}
-use Rattle.cs_judging.specs.declared.fault.HubFault.{HubFault}
-use Rattle.cs_judging.specs.declared.fault.HubFault.TheVariants as hub
-use Rattle.cs_judging.specs.declared.push.Judgement.{Judgement}
-use Rattle.cs_judging.specs.declared.push.Judgement.TheVariants as judged
-use Rattle.cs_judging.specs.declared.push.Pushed.{Pushed}
-use Rattle.cs_judging.specs.declared.push.Pushed.TheVariants as pushed
+use Rattle.cs_hub.specs.log_store.Shows.{ShowsLog}
+use Rattle.cs_hub.specs.judgement.Hub.{HubState, with_entry}
+use Rattle.cs_hub.specs.judgement.Judged.{CanBeAppended, IsJudgement, IsOfPush, ShowsLogOf, hub_of}
+use Rattle.cs_hub.specs.judgement.Pushes.{Pushes}
+use Rattle.cs_hub.specs.declared.judgement.fault.HubFault.{HubFault}
+use Rattle.cs_hub.specs.declared.judgement.fault.HubFault.TheVariants as hub
+use Rattle.cs_hub.specs.declared.judgement.push.Judgement.{Judgement}
+use Rattle.cs_hub.specs.declared.judgement.push.Judgement.TheVariants as judged
+use Rattle.cs_hub.specs.declared.judgement.push.Pushed.{Pushed}
+use Rattle.cs_hub.specs.declared.judgement.push.Pushed.TheVariants as pushed
 use Rattle.cs_wire.specs.Answers.{answer_spelling}
 use Rattle.cs_wire.specs.Requests.{Asked, AsksPull, AsksPush, ReadsRequest}
 use Rattle.cs_wire.specs.declared.answer.Answer.TheVariants.{Short}

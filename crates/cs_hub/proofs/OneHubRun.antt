@@ -7,10 +7,10 @@ use Rattle.cs_change.specs.declared.group.Group.{Group}
 use Rattle.cs_lines.specs.Laws.{HasOneAnswerAlong}
 use Rattle.cs_lines.specs.OneRun as once_run
 use Rattle.cs_lines.specs.Served.{Answers, AnswersDecoded}
-use Rattle.cs_judging.specs.Hub.{HubState, fresh}
-use Rattle.cs_judging.specs.Pushes.{Push, Pushes}
-use Rattle.cs_judging.specs.declared.fault.HubFault.{HubFault}
-use Rattle.cs_judging.specs.declared.push.Pushed.{Pushed}
+use Rattle.cs_hub.specs.judgement.Hub.{HubState, fresh}
+use Rattle.cs_hub.specs.judgement.Pushes.{Push, Pushes}
+use Rattle.cs_hub.specs.declared.judgement.fault.HubFault.{HubFault}
+use Rattle.cs_hub.specs.declared.judgement.push.Pushed.{Pushed}
 use Rattle.cs_hub.specs.Laws.{OneHubRun, OneService}
 use Rattle.cs_wire.specs.Requests.{Asked, AsksPush, AsksPull}
 use Rattle.cs_wire.specs.declared.fault.WireFault.{WireFault}

@@ -7,9 +7,9 @@ use Rattle.cs_changeset.specs.Laws.{ChangesetLaws}
 use Rattle.cs_normalising.specs.Laws.{NoFaultWhereFit, OneNormalForm, OneUnfit}
 use Rattle.cs_normalising.specs.declared.unfit.Unfit.{Unfit}
 use Rattle.cs_normal.specs.declared.normal.TableChanges.{TableChanges}
-use Rattle.cs_judging.specs.Hub.{HubState}
-use Rattle.cs_judging.specs.Laws.{OneAnswer}
-use Rattle.cs_judging.specs.Pushes.{Push}
+use Rattle.cs_hub.specs.judgement.Hub.{HubState}
+use Rattle.cs_hub.specs.judgement.Laws.{OneAnswer}
+use Rattle.cs_hub.specs.judgement.Pushes.{Push}
 use Rattle.cs_wire.specs.Laws.{OneRequest}
 use Rattle.cs_hub.specs.Laws.{OneService}
 use Rattle.cs_wire.specs.Requests.{Asked, AsksPush, AsksPull}

@@ -1,8 +1,8 @@
 -- What is opened shows the log that the store showed.
 use Rattle.std.proofs.Common.{inl, inr, sym, subst, ◌∙◌}
 use Rattle.cs_store.specs.Contents.{Contents}
-use Rattle.cs_log_store.specs.Shows.{ShowsLog}
-use Rattle.cs_log_opening.specs.Laws.{HubIsOpened}
+use Rattle.cs_hub.specs.log_store.Shows.{ShowsLog}
+use Rattle.cs_hub.specs.log_opening.Laws.{HubIsOpened}
 use Rattle.cs_hub.specs.Laws.{OpenedShows}
 
 pub opened_shows : HubIsOpened → OpenedShows

@@ -8,12 +8,12 @@ use Rattle.cs_value.specs.Key.{Place}
 use Rattle.cs_value.specs.declared.catalog.TableDef.{TableDef}
 use Rattle.std.specs.Prelude.{Bool, pos}
 use Rattle.cs_change.specs.Net.{net}
-use Rattle.cs_log.specs.Laws.{LogStates}
-use Rattle.cs_log.specs.Log.{state_of}
-use Rattle.cs_log.specs.declared.entry.LogEntry.{LogEntry}
+use Rattle.cs_store.specs.log.Laws.{LogStates}
+use Rattle.cs_store.specs.log.Log.{state_of}
+use Rattle.cs_store.specs.declared.log.entry.LogEntry.{LogEntry}
 use Rattle.cs_normal.specs.State.{State, IsStateOf}
 use Rattle.cs_store.specs.Contents.{Bodies, Contents, place_cmp}
-use Rattle.cs_log_store.specs.Shows.{ShowsLog}
+use Rattle.cs_hub.specs.log_store.Shows.{ShowsLog}
 use Rattle.cs_pending.specs.Shows.{ShowsRows}
 use Rattle.cs_pending.specs.View.{View, undo}
 

@@ -8,13 +8,13 @@ use Rattle.cs_store.specs.Contents.{Contents}
 use Rattle.cs_store.specs.declared.store.RowStore.{Ghosts}
 use Rattle.cs_pending.specs.Calls.{ReadsStore, WritesStore}
 use Rattle.cs_pending.specs.Storing.{err_is, no_call, then_not_written, then_written}
-use Rattle.cs_log_store.specs.Shows.{ShowsLog}
-use Rattle.cs_judging.specs.Judged.{IsSameOrAppended, ShowsLogOf, hub_of}
-use Rattle.cs_judging.specs.Pushes.{entry_of_push}
-use Rattle.cs_judging.specs.declared.fault.HubFault.{HubFault}
-use Rattle.cs_judging.specs.declared.fault.HubFault.TheVariants as hub
-use Rattle.cs_judging.specs.declared.push.Pushed.{Pushed}
-use Rattle.cs_judging.specs.declared.push.Pushed.TheVariants as pushed
+use Rattle.cs_hub.specs.log_store.Shows.{ShowsLog}
+use Rattle.cs_hub.specs.judgement.Judged.{IsSameOrAppended, ShowsLogOf, hub_of}
+use Rattle.cs_hub.specs.judgement.Pushes.{entry_of_push}
+use Rattle.cs_hub.specs.declared.judgement.fault.HubFault.{HubFault}
+use Rattle.cs_hub.specs.declared.judgement.fault.HubFault.TheVariants as hub
+use Rattle.cs_hub.specs.declared.judgement.push.Pushed.{Pushed}
+use Rattle.cs_hub.specs.declared.judgement.push.Pushed.TheVariants as pushed
 use Rattle.cs_wire.specs.Answers.{answer_spelling}
 use Rattle.cs_wire.specs.Requests.{AsksPush}
 use Rattle.cs_wire.specs.declared.push_head.PushHead.{PushHead}

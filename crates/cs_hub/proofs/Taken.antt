@@ -8,26 +8,26 @@ use Rattle.cs_change.specs.declared.group.Group.{Group}
 use Rattle.cs_changeset.specs.Reading.{ReadsChangeset}
 use Rattle.cs_changeset.specs.declared.fault.CodecFault.{CodecFault}
 use Rattle.cs_changeset.specs.declared.fault.CodecFault.TheVariants as codec
-use Rattle.cs_log.specs.declared.entry.LogEntry.{LogEntry}
+use Rattle.cs_store.specs.declared.log.entry.LogEntry.{LogEntry}
 use Rattle.cs_normalising.specs.NormalFormOf.{IsNormalFormOf, IsUnfit}
 use Rattle.cs_normal.specs.declared.normal.TableChanges.{TableChanges}
 use Rattle.cs_normalising.specs.declared.unfit.Unfit.{Unfit}
 use Rattle.cs_normalising.specs.declared.unfit.Unfit.TheVariants as unfit
 use Rattle.cs_store.specs.Contents.{Contents}
-use Rattle.cs_log_store.specs.Shows.{ShowsLog}
-use Rattle.cs_judging.specs.Hub.{HubState}
-use Rattle.cs_judging.specs.Judged.{IsPushedIn, ShowsLogOf, hub_of}
-use Rattle.cs_judging.specs.Pushes.{Push, Pushes, PushesIf, entry_of_push}
-use Rattle.cs_judging.specs.declared.fault.HubFault.{HubFault}
-use Rattle.cs_judging.specs.declared.fault.HubFault.TheVariants as hub
-use Rattle.cs_judging.specs.declared.push.Pushed.{Pushed}
-use Rattle.cs_judging.specs.declared.push.Pushed.TheVariants as pushed
+use Rattle.cs_hub.specs.log_store.Shows.{ShowsLog}
+use Rattle.cs_hub.specs.judgement.Hub.{HubState}
+use Rattle.cs_hub.specs.judgement.Judged.{IsPushedIn, ShowsLogOf, hub_of}
+use Rattle.cs_hub.specs.judgement.Pushes.{Push, Pushes, PushesIf, entry_of_push}
+use Rattle.cs_hub.specs.declared.judgement.fault.HubFault.{HubFault}
+use Rattle.cs_hub.specs.declared.judgement.fault.HubFault.TheVariants as hub
+use Rattle.cs_hub.specs.declared.judgement.push.Pushed.{Pushed}
+use Rattle.cs_hub.specs.declared.judgement.push.Pushed.TheVariants as pushed
 use Rattle.cs_wire.specs.declared.push_head.PushHead.{PushHead}
 use Rattle.cs_hub.specs.Refusals.{refusal_of_codec, refusal_of_hub, refusal_of_unfit}
 use Rattle.cs_hub.specs.Serves.{Outcome, TakesBytes, or_refusal}
 use Rattle.cs_hub.specs.PushedOf.{IsPushedOf}
 use Rattle.cs_hub.specs.Steps.{IsTakenOf, TakesBytesIf}
-use Rattle.cs_log.specs.declared.entry.TheConstants.{MAX_ENTRIES}
+use Rattle.cs_store.specs.declared.log.entry.TheConstants.{MAX_ENTRIES}
 use Rattle.cs_hub.specs.declared.refusal.Refusal.{Refusal}
 use Rattle.cs_hub.specs.declared.refusal.Refusal.TheVariants.{ByHub}
 

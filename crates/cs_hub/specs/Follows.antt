@@ -1,14 +1,14 @@
 -- An entry that others decided, behind a hub's log. (Profile of this project.)
 use Rattle.std.specs.Prelude.{◌≤◌, List, length}
 use Rattle.cs_value.specs.declared.catalog.TableDef.{TableDef}
-use Rattle.cs_log.specs.Log.{IsNextEntry}
-use Rattle.cs_log.specs.Stored.{IsEntryOf}
-use Rattle.cs_log.specs.declared.entry.LogEntry.{LogEntry}
-use Rattle.cs_appending.specs.declared.fault.AppendFault.{AppendFault}
-use Rattle.cs_appending.specs.declared.fault.AppendFault.TheVariants as append
+use Rattle.cs_store.specs.log.Log.{IsNextEntry}
+use Rattle.cs_store.specs.log.Stored.{IsEntryOf}
+use Rattle.cs_store.specs.declared.log.entry.LogEntry.{LogEntry}
+use Rattle.cs_hub.specs.declared.appending.fault.AppendFault.{AppendFault}
+use Rattle.cs_hub.specs.declared.appending.fault.AppendFault.TheVariants as append
 use Rattle.cs_hub.specs.declared.follow_fault.FollowFault.{FollowFault}
 use Rattle.cs_hub.specs.declared.follow_fault.FollowFault.TheVariants.{Memory, Full, Undefined, Device}
-use Rattle.cs_log.specs.declared.entry.TheConstants.{MAX_ENTRIES}
+use Rattle.cs_store.specs.declared.log.entry.TheConstants.{MAX_ENTRIES}
 
 -- it fits behind a log: it is one of the tables, no larger than one may be, and each of its changes is defined on the tables there
 abbrev pub FitsBehind : List TableDef → List LogEntry → LogEntry → Type 0

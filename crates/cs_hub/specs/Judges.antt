@@ -1,11 +1,11 @@
 -- A request that is judged by a hub, which stays as it is. (Profile of this project.)
 use Rattle.std.specs.Prelude.{◌≡◌, ◌<◌, ◌≤◌, ℕ, List, ◌∷◌, [], ◌++◌}
 use Rattle.cs_value.specs.declared.catalog.TableDef.{TableDef}
-use Rattle.cs_log.specs.declared.entry.LogEntry.{LogEntry}
+use Rattle.cs_store.specs.declared.log.entry.LogEntry.{LogEntry}
 use Rattle.cs_store.specs.Contents.{Contents}
 use Rattle.cs_store.specs.declared.store.RowStore.{Ghosts}
-use Rattle.cs_appending.specs.Appended.{AppendsEntry}
-use Rattle.cs_judging.specs.Judged.{hub_of}
+use Rattle.cs_hub.specs.appending.Appended.{AppendsEntry}
+use Rattle.cs_hub.specs.judgement.Judged.{hub_of}
 use Rattle.cs_hub.specs.Follows.{FitsBehind}
 use Rattle.cs_hub.specs.Holding.{Holding, Shows}
 use Rattle.cs_hub.specs.Serves.{Serves, ServesIf}

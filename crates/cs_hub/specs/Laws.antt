@@ -5,14 +5,14 @@ use Rattle.cs_value.specs.Catalog.{AreTables}
 use Rattle.cs_value.specs.declared.catalog.TableDef.{TableDef}
 use Rattle.cs_lines.specs.Laws.{AreInMemory}
 use Rattle.cs_lines.specs.Served.{AnswersAll}
-use Rattle.cs_log.specs.declared.entry.LogEntry.{LogEntry}
+use Rattle.cs_store.specs.declared.log.entry.LogEntry.{LogEntry}
 use Rattle.cs_store.specs.Contents.{Contents, nothing}
 use Rattle.cs_store.specs.declared.store.RowStore.{Ghosts}
-use Rattle.cs_log_store.specs.Shows.{ShowsLog}
-use Rattle.cs_log_opening.specs.Opens.{IsHubAt}
-use Rattle.cs_judging.specs.Hub.{HubState, fresh}
-use Rattle.cs_judging.specs.Judged.{hub_of}
-use Rattle.cs_judging.specs.Laws.{IsOfHub}
+use Rattle.cs_hub.specs.log_store.Shows.{ShowsLog}
+use Rattle.cs_hub.specs.log_opening.Opens.{IsHubAt}
+use Rattle.cs_hub.specs.judgement.Hub.{HubState, fresh}
+use Rattle.cs_hub.specs.judgement.Judged.{hub_of}
+use Rattle.cs_hub.specs.judgement.Laws.{IsOfHub}
 use Rattle.cs_hub.specs.Calls.{AnswersHub, StaysHub}
 use Rattle.cs_hub.specs.Holding.{Holding, Shows}
 use Rattle.cs_hub.specs.Serves.{IsSame, Serves}

@@ -8,3 +8,8 @@ pub mod Judges
 pub mod Steps
 pub mod Laws
 pub mod Opened
+pub mod log_store
+pub mod log_reading
+pub mod log_opening
+pub mod appending
+pub mod judgement

@@ -1,13 +1,13 @@
 -- What a push over a store came to.
 use Rattle.std.specs.Prelude.{◌≡◌, ℕ, List, length, Result}
 use Rattle.cs_value.specs.declared.catalog.TableDef.{TableDef}
-use Rattle.cs_log.specs.declared.entry.LogEntry.{LogEntry}
+use Rattle.cs_store.specs.declared.log.entry.LogEntry.{LogEntry}
 use Rattle.cs_store.specs.Contents.{Contents}
-use Rattle.cs_log_store.specs.Shows.{ShowsLog}
-use Rattle.cs_judging.specs.Judged.{hub_of}
-use Rattle.cs_judging.specs.Pushes.{Push, PushesIf}
-use Rattle.cs_judging.specs.declared.fault.HubFault.{HubFault}
-use Rattle.cs_judging.specs.declared.push.Pushed.{Pushed}
+use Rattle.cs_hub.specs.log_store.Shows.{ShowsLog}
+use Rattle.cs_hub.specs.judgement.Judged.{hub_of}
+use Rattle.cs_hub.specs.judgement.Pushes.{Push, PushesIf}
+use Rattle.cs_hub.specs.declared.judgement.fault.HubFault.{HubFault}
+use Rattle.cs_hub.specs.declared.judgement.push.Pushed.{Pushed}
 
 -- contents show a log of so many entries after these
 abbrev pub Leads : List TableDef → Contents → ℕ → List LogEntry → Type 0

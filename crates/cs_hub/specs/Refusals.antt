@@ -6,8 +6,8 @@ use Rattle.cs_changeset.specs.declared.fault.CodecFault.TheVariants as codec
 use Rattle.cs_normalising.specs.Codes.{unfit_code}
 use Rattle.cs_normalising.specs.declared.unfit.Unfit.{Unfit}
 use Rattle.cs_normalising.specs.declared.unfit.Unfit.TheVariants as unfit
-use Rattle.cs_judging.specs.declared.fault.HubFault.{HubFault}
-use Rattle.cs_judging.specs.declared.fault.HubFault.TheVariants as hub
+use Rattle.cs_hub.specs.declared.judgement.fault.HubFault.{HubFault}
+use Rattle.cs_hub.specs.declared.judgement.fault.HubFault.TheVariants as hub
 use Rattle.cs_hub.specs.declared.refusal.Refusal.{Refusal}
 use Rattle.cs_hub.specs.declared.refusal.Refusal.TheVariants.{Memory, NoRequest, NoChangeset, NoForm, ByHub}
 use Rattle.cs_wire.specs.Codes.{wire_code}

@@ -8,12 +8,12 @@ use Rattle.cs_change.specs.Spelling.{FitsChangeset, changeset_spelling}
 use Rattle.cs_change.specs.declared.group.Group.{Group}
 use Rattle.cs_changeset.specs.Reading.{IsChangesetFault}
 use Rattle.cs_changeset.specs.declared.fault.Fault.{Fault}
-use Rattle.cs_judging.specs.Hub.{HubState, entries_from, judging}
-use Rattle.cs_judging.specs.Pushes.{Push, Pushes}
-use Rattle.cs_judging.specs.declared.fault.HubFault.{HubFault}
-use Rattle.cs_judging.specs.declared.fault.HubFault.TheVariants.{Ahead, Device}
-use Rattle.cs_judging.specs.declared.push.Pushed.{Pushed}
-use Rattle.cs_judging.specs.declared.push.Pushed.TheVariants as pushed
+use Rattle.cs_hub.specs.judgement.Hub.{HubState, entries_from, judging}
+use Rattle.cs_hub.specs.judgement.Pushes.{Push, Pushes}
+use Rattle.cs_hub.specs.declared.judgement.fault.HubFault.{HubFault}
+use Rattle.cs_hub.specs.declared.judgement.fault.HubFault.TheVariants.{Ahead, Device}
+use Rattle.cs_hub.specs.declared.judgement.push.Pushed.{Pushed}
+use Rattle.cs_hub.specs.declared.judgement.push.Pushed.TheVariants as pushed
 use Rattle.cs_hub.specs.Refusals.{refusal_of_hub, refusal_code}
 use Rattle.cs_hub.specs.declared.refusal.Refusal.{Refusal}
 use Rattle.cs_hub.specs.declared.refusal.Refusal.TheVariants.{NoRequest, NoChangeset, NoForm, ByHub}

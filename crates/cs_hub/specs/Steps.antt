@@ -1,17 +1,17 @@
 -- What the code has found on its way: no definition that a public clause cites.
 use Rattle.std.specs.Prelude.{◌≡◌, ◌≢◌, ◌⊎◌, ◌+◌, ◌<◌, ◌≤◌, ℕ, List, Result, Ok, Err, Option, Some, None}
 use Rattle.cs_value.specs.declared.catalog.TableDef.{TableDef}
-use Rattle.cs_log.specs.Stored.{IsEntryOf}
-use Rattle.cs_log.specs.declared.entry.LogEntry.{LogEntry}
+use Rattle.cs_store.specs.log.Stored.{IsEntryOf}
+use Rattle.cs_store.specs.declared.log.entry.LogEntry.{LogEntry}
 use Rattle.cs_store.specs.Contents.{Contents}
 use Rattle.cs_store.specs.declared.store.RowStore.{Ghosts}
-use Rattle.cs_log_store.specs.Shows.{ShowsLog}
-use Rattle.cs_judging.specs.Hub.{HubState, with_entry}
-use Rattle.cs_judging.specs.Judged.{ShowsLogOf, hub_of}
-use Rattle.cs_judging.specs.declared.fault.HubFault.TheVariants.{Device}
-use Rattle.cs_judging.specs.declared.push.Judgement.{Judgement}
-use Rattle.cs_judging.specs.declared.push.Judgement.TheVariants as judged
-use Rattle.cs_judging.specs.declared.push.Pushed.TheVariants.{Accepted}
+use Rattle.cs_hub.specs.log_store.Shows.{ShowsLog}
+use Rattle.cs_hub.specs.judgement.Hub.{HubState, with_entry}
+use Rattle.cs_hub.specs.judgement.Judged.{ShowsLogOf, hub_of}
+use Rattle.cs_hub.specs.declared.judgement.fault.HubFault.TheVariants.{Device}
+use Rattle.cs_hub.specs.declared.judgement.push.Judgement.{Judgement}
+use Rattle.cs_hub.specs.declared.judgement.push.Judgement.TheVariants as judged
+use Rattle.cs_hub.specs.declared.judgement.push.Pushed.TheVariants.{Accepted}
 use Rattle.cs_wire.specs.Requests.{Asked, AsksPush}
 use Rattle.cs_wire.specs.declared.answer.Answer.TheVariants.{Short}
 use Rattle.cs_wire.specs.declared.fault.WireFault.{WireFault}

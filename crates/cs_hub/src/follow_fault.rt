@@ -4,7 +4,7 @@ ghost use Rattle.std.specs.Prelude.{◌≡◌};
 ghost use Rattle.cs_hub.specs.Follows.{follow_fault_of};
 ghost use Rattle.cs_hub.specs.declared.follow_fault.FollowFault.TheVariants.{Memory};
 
-use cs_appending::AppendFault;
+use crate::appending::AppendFault;
 use std::alloc::{AllocError, AllocFailed};
 use thiserror::Error;
 

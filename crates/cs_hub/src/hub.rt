@@ -1,23 +1,23 @@
 //! The hub over any store, and what it answers.
 
 ghost use Rattle.std.specs.Prelude.{◌≡◌, ◌≢◌, ◌↔◌, ◌+◌, ◌<◌, ◌≤◌, ◌∷◌, ◌++◌, [], List, Some, IfErr, IfOk, IsErrOf, MatchResult, OnErr, OnOk, Ok, Err, length, min, slice_get};
-ghost use Rattle.cs_appending.specs.Appended.{AppendsEntry, IsAppendedIn};
-ghost use Rattle.cs_log.specs.Log.{state_of};
-ghost use Rattle.cs_log.specs.declared.entry.LogEntry.{LogEntry as Entry};
-ghost use Rattle.cs_log.specs.declared.entry.TheConstants.{MAX_CHANGESET, MAX_ENTRIES};
-ghost use Rattle.cs_log_opening.specs.Opens.{IsHubAt, IsHubFault};
-ghost use Rattle.cs_log_store.specs.Shows.{ShowsLog};
+ghost use Rattle.cs_hub.specs.appending.Appended.{AppendsEntry, IsAppendedIn};
+ghost use Rattle.cs_store.specs.log.Log.{state_of};
+ghost use Rattle.cs_store.specs.declared.log.entry.LogEntry.{LogEntry as Entry};
+ghost use Rattle.cs_store.specs.declared.log.entry.TheConstants.{MAX_CHANGESET, MAX_ENTRIES};
+ghost use Rattle.cs_hub.specs.log_opening.Opens.{IsHubAt, IsHubFault};
+ghost use Rattle.cs_hub.specs.log_store.Shows.{ShowsLog};
 ghost use Rattle.cs_normal.specs.Normal.{FitsCatalog, normal_spelling};
 ghost use Rattle.cs_pending.specs.Calls.{ReadsStore, WritesStore};
-ghost use Rattle.cs_rows.specs.Rows.{AreRowsOf};
+ghost use Rattle.cs_pending.specs.rows.Rows.{AreRowsOf};
 ghost use Rattle.cs_store.specs.Contents.{Contents, nothing};
 ghost use Rattle.cs_store.specs.declared.fault.StoreFault.TheVariants as stored;
 ghost use Rattle.cs_value.specs.Catalog.{AreTables};
 ghost use Rattle.cs_value.specs.declared.catalog.TableDef.{TableDef as Table};
-ghost use Rattle.cs_judging.specs.Hub.{entries_from};
-ghost use Rattle.cs_judging.specs.Judged.{IsSameOrAppended};
-ghost use Rattle.cs_judging.specs.Pushes.{Push};
-ghost use Rattle.cs_judging.specs.declared.fault.HubFault.TheVariants.{Device, Memory};
+ghost use Rattle.cs_hub.specs.judgement.Hub.{entries_from};
+ghost use Rattle.cs_hub.specs.judgement.Judged.{IsSameOrAppended};
+ghost use Rattle.cs_hub.specs.judgement.Pushes.{Push};
+ghost use Rattle.cs_hub.specs.declared.judgement.fault.HubFault.TheVariants.{Device, Memory};
 ghost use Rattle.cs_hub.specs.Calls.{AnswersHub, IsEntriesFault, IsServedIn, ServesStore, StaysHub};
 ghost use Rattle.cs_hub.specs.Follows.{FitsBehind, IsFollowFault};
 ghost use Rattle.cs_hub.specs.Holding.{Shows, ShowsSome};
@@ -28,20 +28,20 @@ ghost use Rattle.cs_store.specs.Calls.{MoreFailures};
 ghost use Rattle.cs_hub.specs.Opened.{Opens};
 ghost use Rattle.cs_hub.specs.PushedOf.{IsPushedOf};
 
+use crate::appending::{append, append_tried};
 use crate::follow_fault::FollowFault;
 use crate::judged::Judged;
+use crate::judgement::{HubFault, Pushed};
 use crate::judging::{is_entry_of, judge_told};
+use crate::log_opening::open_log;
+use crate::log_reading::entries_at;
 use crate::refusal::Refusal;
 use crate::serving::{pull_at, push_told, refuse};
 use crate::taking::push_counted;
-use cs_appending::{append, append_tried};
-use cs_judging::{HubFault, Pushed};
-use cs_log::{LogEntry, MAX_ENTRIES};
-use cs_log_opening::open_log;
-use cs_log_reading::entries_at;
 use cs_normal::Normal;
 use cs_opening::OpenFault;
-use cs_rows::{RowAtKey, rows_of};
+use cs_pending::rows::{RowAtKey, rows_of};
+use cs_store::log::{LogEntry, MAX_ENTRIES};
 use cs_store::{Batch, RowStore, StoreFault};
 use cs_value::{Catalog, Memory, TableDef};
 use cs_wire::{PushHead, Request};
@@ -177,7 +177,7 @@ impl<S: RowStore> Hub<S> {
         ensures catalog { self.new.catalog ≡ self.old.catalog }
         ensures newest { self.new.newest ≡ self.old.newest }
     {
-        cs_log::laws::log_states();
+        cs_store::log::laws::log_states();
         let _tables = self.catalog.tables();
         rows_of(self.alloc, &mut self.store, &self.catalog, table)
     }

@@ -1,7 +1,7 @@
 //! A request that was judged.
 
-use cs_log::LogEntry;
 use cs_store::Batch;
+use cs_store::log::LogEntry;
 
 /// What a request is to be answered. (Profile of this project.)
 #[derive(Drop)]

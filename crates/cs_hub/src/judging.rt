@@ -1,14 +1,14 @@
 //! Requests, judged: what they are to be answered, with nothing changed.
 
 ghost use Rattle.std.specs.Prelude.{◌≡◌, ◌≢◌, ◌↔◌, ◌+◌, ◌≤◌, [], List, IfOk, IsTrue, Ok, Err, length, vec_capacity, vec_len};
-ghost use Rattle.cs_log.specs.Stored.{IsEntryOf};
-ghost use Rattle.cs_log.specs.declared.entry.LogEntry.{LogEntry as Entry};
-ghost use Rattle.cs_log.specs.declared.entry.TheConstants.{MAX_CHANGESET};
-ghost use Rattle.cs_log_store.specs.Shows.{ShowsLog};
+ghost use Rattle.cs_store.specs.log.Stored.{IsEntryOf};
+ghost use Rattle.cs_store.specs.declared.log.entry.LogEntry.{LogEntry as Entry};
+ghost use Rattle.cs_store.specs.declared.log.entry.TheConstants.{MAX_CHANGESET};
+ghost use Rattle.cs_hub.specs.log_store.Shows.{ShowsLog};
 ghost use Rattle.cs_pending.specs.Calls.{ReadsStore};
 ghost use Rattle.cs_store.specs.Calls.{MoreFailures};
-ghost use Rattle.cs_judging.specs.Judged.{CanBeAppended, ShowsLogOf, hub_of};
-ghost use Rattle.cs_judging.specs.declared.fault.HubFault.TheVariants.{Device};
+ghost use Rattle.cs_hub.specs.judgement.Judged.{CanBeAppended, ShowsLogOf, hub_of};
+ghost use Rattle.cs_hub.specs.declared.judgement.fault.HubFault.TheVariants.{Device};
 ghost use Rattle.cs_wire.specs.Requests.{AsksPush};
 ghost use Rattle.cs_wire.specs.Answers.{answer_spelling};
 ghost use Rattle.cs_hub.specs.Judges.{AppendsJudged, HasRoom};
@@ -17,13 +17,13 @@ ghost use Rattle.cs_hub.specs.Steps.{IsEntryToAppend, IsJudgedAs, JudgesBytes, L
 ghost use Rattle.cs_hub.specs.declared.refusal.Refusal.TheVariants.{ByHub, Memory};
 
 use crate::judged::Judged;
+use crate::judgement::{Judgement, Pushed, judge_at};
 use crate::refusal::Refusal;
 use crate::serving::answer_to;
 use cs_changeset::read;
-use cs_judging::{Judgement, Pushed, judge_at};
-use cs_log::{Body, LogEntry, MAX_CHANGESET};
 use cs_normalising::normalise;
 use cs_store::RowStore;
+use cs_store::log::{Body, LogEntry, MAX_CHANGESET};
 use cs_value::{Catalog, Memory};
 use cs_wire::{PushHead, SHORT, ShortAnswer};
 use std::alloc::{AllocError, Global};

@@ -2,11 +2,11 @@
 
 ghost use Rattle.std.specs.Prelude.{◌≡◌};
 ghost use Rattle.cs_hub.specs.Laws.{OneHubRun, OneService, OpenedShows, RequestHasAnswer, RunsByLog, ServedAgain, StaleBehindAnother};
-ghost use Rattle.cs_log.specs.declared.entry.TheConstants.{MAX_ENTRIES};
+ghost use Rattle.cs_store.specs.declared.log.entry.TheConstants.{MAX_ENTRIES};
 
 use crate::hub::Hub;
+use crate::judgement::laws::{one_answer, push_has_answer};
 use cs_changeset::laws::changesets;
-use cs_judging::laws::{one_answer, push_has_answer};
 use cs_normalising::laws::{form_or_unfit, no_fault_where_fit, one_normal_form, one_unfit};
 use cs_store::RowStore;
 use cs_wire::laws::{asks_something, one_request};
@@ -15,7 +15,7 @@ use cs_wire::laws::{asks_something, one_request};
 pub fn opened_shows()
     ensures { OpenedShows }
 {
-    cs_log_opening::laws::hub_is_opened();
+    crate::log_opening::laws::hub_is_opened();
 }
 
 /// There is an answer to each request, whatever its bytes.

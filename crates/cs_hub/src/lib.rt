@@ -2,15 +2,20 @@
 //! opens a store as a hub's, `Hub::push` gives exactly the definition's answer to a push by the log that the store shows, and `Hub::serve`
 //! the answer to the bytes of a request (`specs/Serves.antt`); a failed device is told by a code of its own, want of memory changes
 //! nothing. `laws` says that there is one answer to each request, that there is one at all, and that lines answered over a store in memory
-//! are those of the log alone. The crate stands on judging pushes (`cs_judging`), opening and reading a log (`cs_log_opening`,
-//! `cs_log_reading`) and requests and answers as bytes (`cs_wire`). Its tests stand in `cs_world_tests`.
+//! are those of the log alone. `judgement` judges a push and `appending` appends it; `log_store` says what a store
+//! shows of a hub, `log_opening` and `log_reading` open and read that. The crate stands on requests and answers as bytes (`cs_wire`). Its tests stand in `cs_world_tests`.
 #![tactic(auto)]
 
+pub mod appending;
 mod follow_fault;
 mod hub;
 mod judged;
+pub mod judgement;
 mod judging;
 pub mod laws;
+pub mod log_opening;
+pub mod log_reading;
+pub mod log_store;
 mod refusal;
 mod serve;
 mod serving;

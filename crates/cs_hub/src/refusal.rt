@@ -3,8 +3,8 @@
 ghost use Rattle.std.specs.Prelude.{◌≡◌};
 ghost use Rattle.cs_hub.specs.Refusals.{refusal_code, refusal_of_codec, refusal_of_hub, refusal_of_unfit};
 
+use crate::judgement::HubFault;
 use cs_changeset::{CodecFault, Fault};
-use cs_judging::HubFault;
 use cs_normalising::Unfit;
 use cs_wire::WireFault;
 

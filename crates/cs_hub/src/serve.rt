@@ -7,7 +7,7 @@ use cs_value::Memory;
 
 impl<S: RowStore> Serve for Hub<S> {
     ghost use Rattle.cs_hub.specs.Calls.{AnswersHub, StaysHub};
-    ghost use Rattle.cs_log.specs.declared.entry.TheConstants.{MAX_ENTRIES};
+    ghost use Rattle.cs_store.specs.declared.log.entry.TheConstants.{MAX_ENTRIES};
 
     ghost serves = { AnswersHub S.RowStore MAX_ENTRIES };
 

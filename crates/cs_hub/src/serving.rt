@@ -1,20 +1,20 @@
 //! Requests, answered.
 
 ghost use Rattle.std.specs.Prelude.{◌≡◌, ◌≤◌, List, Ok, IfOk, OnErr, length};
-ghost use Rattle.cs_log.specs.declared.entry.LogEntry.{LogEntry as Entry};
-ghost use Rattle.cs_log.specs.declared.entry.TheConstants.{MAX_CHANGESET, MAX_ENTRIES};
-ghost use Rattle.cs_log_store.specs.Shows.{ShowsLog};
+ghost use Rattle.cs_store.specs.declared.log.entry.LogEntry.{LogEntry as Entry};
+ghost use Rattle.cs_store.specs.declared.log.entry.TheConstants.{MAX_CHANGESET, MAX_ENTRIES};
+ghost use Rattle.cs_hub.specs.log_store.Shows.{ShowsLog};
 ghost use Rattle.cs_store.specs.Calls.{MoreFailures};
-ghost use Rattle.cs_judging.specs.Judged.{ShowsLogOf};
+ghost use Rattle.cs_hub.specs.judgement.Judged.{ShowsLogOf};
 ghost use Rattle.cs_wire.specs.Requests.{AsksPull, AsksPush};
 ghost use Rattle.cs_hub.specs.Calls.{ServesStore};
 ghost use Rattle.cs_hub.specs.Serves.{refused};
 ghost use Rattle.cs_hub.specs.Steps.{IsAnsweredOf, IsAskedIn, LooksAt, TellsOutcome};
 
+use crate::judgement::{HubFault, Pushed};
+use crate::log_reading::entries_told;
 use crate::refusal::Refusal;
 use crate::taking::take_at;
-use cs_judging::{HubFault, Pushed};
-use cs_log_reading::entries_told;
 use cs_store::{RowStore, StoreFault};
 use cs_value::{Catalog, Memory};
 use cs_wire::{PushHead, SHORT, ShortAnswer};

@@ -1,29 +1,29 @@
 //! A push, taken: its changeset is read, brought into normal form, and judged.
 
 ghost use Rattle.std.specs.Prelude.{◌≡◌, ◌≢◌, ◌+◌, ◌-◌, ◌^◌, ◌<◌, ◌≤◌, ℕ, List, Err, Ok, OnErr, length};
-ghost use Rattle.cs_log.specs.declared.entry.LogEntry.{LogEntry as Entry};
-ghost use Rattle.cs_log.specs.declared.entry.TheConstants.{MAX_CHANGESET, MAX_ENTRIES};
-ghost use Rattle.cs_log_store.specs.Shows.{ShowsLog};
+ghost use Rattle.cs_store.specs.declared.log.entry.LogEntry.{LogEntry as Entry};
+ghost use Rattle.cs_store.specs.declared.log.entry.TheConstants.{MAX_CHANGESET, MAX_ENTRIES};
+ghost use Rattle.cs_hub.specs.log_store.Shows.{ShowsLog};
 ghost use Rattle.cs_normal.specs.Normal.{FitsCatalog, normal_spelling};
 ghost use Rattle.cs_pending.specs.Calls.{WritesStore};
 ghost use Rattle.cs_store.specs.Calls.{MoreFailures};
 ghost use Rattle.cs_store.specs.Contents.{Contents};
-ghost use Rattle.cs_judging.specs.Judged.{IsSameOrAppended, ShowsLogOf};
-ghost use Rattle.cs_judging.specs.Pushes.{Push};
-ghost use Rattle.cs_judging.specs.declared.fault.HubFault.TheVariants.{Device, Memory};
-ghost use Rattle.cs_judging.specs.declared.push.Pushed.TheVariants.{Accepted};
+ghost use Rattle.cs_hub.specs.judgement.Judged.{IsSameOrAppended, ShowsLogOf};
+ghost use Rattle.cs_hub.specs.judgement.Pushes.{Push};
+ghost use Rattle.cs_hub.specs.declared.judgement.fault.HubFault.TheVariants.{Device, Memory};
+ghost use Rattle.cs_hub.specs.declared.judgement.push.Pushed.TheVariants.{Accepted};
 ghost use Rattle.cs_hub.specs.PushedOf.{IsPushedOf};
 ghost use Rattle.cs_hub.specs.Steps.{IsPushTakenIn, IsTakenOf};
 ghost use Rattle.cs_hub.specs.declared.refusal.Refusal.TheVariants as refusal;
 ghost use Rattle.cs_hub.specs.declared.refusal.Refusal.TheVariants.{ByHub};
 
+use crate::judgement::{HubFault, Pushed, push_at};
 use crate::refusal::Refusal;
 use cs_changeset::read;
-use cs_judging::{HubFault, Pushed, push_at};
-use cs_log::MAX_ENTRIES;
 use cs_normal::Normal;
 use cs_normalising::normalise;
 use cs_store::RowStore;
+use cs_store::log::MAX_ENTRIES;
 use cs_value::Catalog;
 use cs_wire::PushHead;
 use std::alloc::Global;
@@ -65,7 +65,7 @@ pub(crate) fn push_counted<S: RowStore>(
         → IsPushedOf MAX_ENTRIES catalog.now log (record { head = head; changes = changes }) (S.contents store.new) newest.new result }
     ensures kept { OnErr result (newest.new ≡ newest.old) }
 {
-    cs_log::laws::most_entries();
+    cs_store::log::laws::most_entries();
     let told = push_at(alloc, store, catalog, *newest, MAX_ENTRIES, head, changes);
     *newest = count_after(*newest, &told);
     told

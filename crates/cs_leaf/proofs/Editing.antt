@@ -15,7 +15,7 @@ use Rattle.cs_store.specs.Contents.{StorePlace, Bodies, place_cmp}
 use Rattle.cs_store.specs.Written.{with_body, edit_body}
 use Rattle.cs_leaf.specs.Entries.{Entry, no_entry, nth, written, IsPlaceFor}
 use Rattle.cs_leaf.specs.Edits.{put_row, store_place, edited, AreBelow, AreEditsAbove, AreEditsBelow, IsBehind, IsMerged}
-use Rattle.cs_edits.specs.Edits.{BodyEdit}
+use Rattle.cs_store.specs.edits.Edits.{BodyEdit}
 use Rattle.cs_leaf.proofs.Places.{place_total, place_exact, get-with_body}
 
 pub first : (a b : Bool) → T (a && b) → T a

@@ -5,7 +5,7 @@ use Rattle.std.specs.declared.cmp.Ordering.TheVariants.{Less}
 use Rattle.std.proofs.lemmas.List.{append_assoc, drop_more, take-append-drop}
 use Rattle.std.proofs.lemmas.Option.{get_or_from_slice_get, same_Some, slice_get_within}
 use Rattle.cs_store.specs.Contents.{StorePlace, place_cmp}
-use Rattle.cs_edits.specs.Edits.{BodyEdit}
+use Rattle.cs_store.specs.edits.Edits.{BodyEdit}
 use Rattle.cs_leaf.specs.Entries.{Entry}
 use Rattle.cs_leaf.specs.Edits.{AreBelow, AreEditsAbove, Follow, IsMerged, Rise, edited, store_place}
 use Rattle.cs_leaf.proofs.Editing.{fold_behind}

@@ -5,7 +5,7 @@ use Rattle.std.specs.declared.cmp.Ordering.TheVariants.{Less, Equal}
 use Rattle.std.specs.FinMap.Entries.{below_all, put, where_key}
 use Rattle.cs_store.specs.Contents.{StorePlace, place_cmp}
 pub use Rattle.cs_store.specs.Written.{store_place}
-use Rattle.cs_edits.specs.Edits.{BodyEdit}
+use Rattle.cs_store.specs.edits.Edits.{BodyEdit}
 use Rattle.cs_leaf.specs.Entries.{Entry, nth}
 
 -- entries in which a row is set, or with none removed

@@ -1,7 +1,7 @@
 -- How edits of lists of entries go together.
 use Rattle.std.specs.Prelude.{◌≡◌, List, ◌++◌, T, fold}
 use Rattle.std.specs.FinMap.{from_sorted, is_sorted}
-use Rattle.cs_edits.specs.Edits.{BodyEdit}
+use Rattle.cs_store.specs.edits.Edits.{BodyEdit}
 use Rattle.cs_store.specs.Contents.{Bodies, place_cmp}
 use Rattle.cs_store.specs.Written.{edit_body}
 use Rattle.cs_leaf.specs.Entries.{Entry}

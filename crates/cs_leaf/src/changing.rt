@@ -7,7 +7,7 @@ ghost use Rattle.cs_leaf.specs.Edits.{Rise, edited, store_place};
 
 use crate::leaf::{Amendment, Leaf, Place, Why};
 use crate::merging::{merged, merged_one};
-use cs_edits::{LentEdits, PlaceEdit};
+use cs_store::edits::{LentEdits, PlaceEdit};
 use std::alloc::{AllocError, Global};
 use std::marker::Model;
 

@@ -5,7 +5,7 @@ ghost use Rattle.std.specs.List.{All};
 ghost use Rattle.cs_leaf.specs.Entries.{HasRoomFor, IsFrontOf, IsPacked, IsRun, IsSpotIn, IsSpotEditAt, IsSpotEditFor, bytes_of, entries_at, entry_at, shifted, size_of, spots_after, written};
 
 use crate::heads::{compare_keys, head};
-use cs_edits::PlaceEdit;
+use cs_store::edits::PlaceEdit;
 use std::alloc::{AllocError, Global};
 use std::cmp::Ordering;
 use std::marker::Model;

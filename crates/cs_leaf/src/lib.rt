@@ -3,7 +3,7 @@
 //! answers is then made or left, which takes none; `merge_some` is for leaves that are all made anew. Rows that are gone leave
 //! their bytes behind, and yet a leaf's bytes are at most twice those of its rows: an invariant of the type (`IsTight`). `laws`
 //! says how edits of lists of bodies go together.
-//! The crate stands on edits (`cs_edits`), on their places (`cs_store`) and on the order of keys (`cs_order`).
+//! The crate stands on edits (`cs_store::edits`), on their places (`cs_store`) and on the order of keys (`cs_order`).
 //! Its tests stand in `cs_stores_tests`.
 #![tactic(auto)]
 

@@ -7,7 +7,7 @@ ghost use Rattle.cs_leaf.specs.Edits.{IsMerged, Rise, edited};
 ghost use Rattle.cs_leaf.specs.Entries.{written};
 
 use crate::leaf::{Leaf, Place};
-use cs_edits::{LentEdits, PlaceEdit};
+use cs_store::edits::{LentEdits, PlaceEdit};
 use std::alloc::{AllocError, Global};
 
 /// Appends the row that an edit sets at its place, if it sets one.

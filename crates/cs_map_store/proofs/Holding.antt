@@ -6,7 +6,7 @@ use Rattle.std.specs.FinMap.{get, empty, get-empty, same_map, is_sorted, from_so
 use Rattle.cs_leaf.specs.Entries.{Entry}
 use Rattle.cs_leaf.specs.Edits.{edited}
 use Rattle.cs_map_store.specs.Leaves.{AreLeaves, flat, in_table, bodies_in}
-use Rattle.cs_edits.specs.Edits.{BodyEdit}
+use Rattle.cs_store.specs.edits.Edits.{BodyEdit}
 use Rattle.cs_store.specs.declared.batch.MetaEdit.{MetaEdit}
 use Rattle.cs_leaf.specs.Laws.{EditsAreOfMaps, EditsKeepOrder}
 use Rattle.std.proofs.lemmas.Cmp.{nat_list_cmp_total}

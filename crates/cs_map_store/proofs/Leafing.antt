@@ -24,7 +24,7 @@ use Rattle.cs_leaf.specs.Entries.{Entry, no_entry, nth}
 use Rattle.cs_leaf.specs.Edits.{AreBelow, AreEditsAbove, AreEditsBelow, store_place, edited, Rise, Follow}
 use Rattle.cs_map_store.specs.Leaves.{AreBefore, AreLeaves, BeginsBehind, BeginsBy, ReachLeaf, first_place, flat, in_table, nth_leaf, bodies_in, patched, ArePatches}
 use Rattle.cs_map_store.specs.declared.leaves.Patch.{Patch}
-use Rattle.cs_edits.specs.Edits.{BodyEdit}
+use Rattle.cs_store.specs.edits.Edits.{BodyEdit}
 use Rattle.cs_leaf.specs.Laws.{EditsBeforeKeep, EditsBehindKeep}
 use Rattle.cs_map_store.proofs.Maps.{place_total, place_exact}
 use Rattle.cs_map_store.proofs.Rising.{first, second, both, less, is_less, below_split, sorted_back, sorted_front, below_most, below_less, above_less}

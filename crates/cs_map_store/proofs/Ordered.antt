@@ -1,6 +1,6 @@
 -- Edits in the order of their places.
 use Rattle.std.proofs.Common.{◌≡◌, ℕ, zero, suc, ◌+◌, ◌<◌, ◌≤◌, ◌⊎◌, inl, inr, Bool, true, false, cond, not, ◌&&◌, List, [], ◌∷◌, ◌++◌, Option, Some, None, refl, sym, ap, subst, ◌∙◌, length, get_or, take, drop, fold, filter, arith, ⊎_elim}
-use Rattle.cs_edits.specs.Edits.{BodyEdit}
+use Rattle.cs_store.specs.edits.Edits.{BodyEdit}
 use Rattle.std.specs.Prelude.{IfSome, is_some}
 use Rattle.std.specs.declared.cmp.Ordering.{Ordering}
 use Rattle.std.specs.declared.cmp.Ordering.TheVariants.{Less, Equal, Greater}

@@ -2,7 +2,7 @@
 use Rattle.std.proofs.Common.{◌≡◌, ℕ, ◌+◌, ◌<◌, ◌⊎◌, List, [], ◌∷◌, ◌++◌, sym, ap, subst, ◌∙◌, T, length, take, drop, fold, arith, ⊎_elim}
 use Rattle.std.specs.FinMap.{is_sorted}
 use Rattle.std.proofs.lemmas.List.{append_assoc, take-append-drop, drop_more}
-use Rattle.cs_edits.specs.Edits.{BodyEdit}
+use Rattle.cs_store.specs.edits.Edits.{BodyEdit}
 use Rattle.cs_store.specs.Contents.{place_cmp}
 use Rattle.cs_leaf.specs.Entries.{Entry, nth}
 use Rattle.cs_leaf.specs.Edits.{AreBelow, AreEditsAbove, AreEditsBelow, Rise, edited, store_place}

@@ -9,7 +9,7 @@ use Rattle.cs_leaf.specs.Entries.{Entry, nth}
 use Rattle.cs_leaf.specs.Edits.{store_place}
 use Rattle.cs_map_store.specs.Leaves.{AreBefore, BeginsBy, ReachLeaf, nth_leaf, patched, restored, undone}
 use Rattle.cs_map_store.specs.declared.leaves.Patch.{Patch}
-use Rattle.cs_edits.specs.Edits.{BodyEdit}
+use Rattle.cs_store.specs.edits.Edits.{BodyEdit}
 use Rattle.cs_map_store.proofs.Leafing.{nth_later, patched_push}
 
 pub set_set : (leaves : List (List Entry)) (at : ℕ) (x y : List Entry) → slice_set (slice_set leaves at x) at y ≡ slice_set leaves at y

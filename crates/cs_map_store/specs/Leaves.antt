@@ -7,7 +7,7 @@ use Rattle.std.specs.Ordering.{int_eq, is_eq, is_lt, is_gt}
 use Rattle.std.specs.FinMap.{from_sorted, is_sorted}
 use Rattle.cs_store.specs.Contents.{StorePlace, Bodies, place_cmp}
 use Rattle.cs_store.specs.Written.{store_place}
-use Rattle.cs_edits.specs.Edits.{BodyEdit}
+use Rattle.cs_store.specs.edits.Edits.{BodyEdit}
 use Rattle.cs_leaf.specs.Entries.{Entry, nth}
 use Rattle.cs_map_store.specs.declared.leaves.Patch.{Patch}
 use Rattle.cs_map_store.specs.declared.leaves.Staged.{Staged}

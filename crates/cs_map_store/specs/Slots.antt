@@ -12,6 +12,7 @@ use Rattle.cs_store.specs.Whole.{IsName}
 use Rattle.cs_store.specs.declared.batch.MetaEdit.{MetaEdit}
 use Rattle.cs_store.specs.Contents.{Contents, StorePlace, Bodies, Meta, Log, LogItem, contents_code, name_text, nothing}
 use Rattle.cs_store.specs.Written.{optional_bytes, with_body}
+use Rattle.cs_store.specs.declared.store.RowStore.{Ghosts}
 
 abbrev pub SlotKey : Type 0
 SlotKey = ℕ × Vec ℕ Global
@@ -96,6 +97,11 @@ misreads_of store = store.misreads
 -- a stop leaves what is held
 abbrev pub leaves_held : InMemory → Contents → Type 0
 leaves_held store left = left ≡ store.held
+
+-- what clauses on stores say of one in memory
+abbrev pub in_map_store : Ghosts InMemory
+in_map_store =
+    record { contents = held_by; honest = is_honest; failed = misreads_of; may_leave = leaves_held; misreads = misreads_of }
 
 -- values have no names but ours
 unfoldable pub HasOwnNames : Meta → Type 0

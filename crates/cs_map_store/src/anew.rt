@@ -10,8 +10,8 @@ ghost use Rattle.cs_store.specs.Contents.{place_cmp};
 ghost use Rattle.cs_map_store.specs.Leaves.{AreBefore, AreLeaves, ReachLeaf, flat};
 
 use crate::leaves::{LEAF, edits_before, is_before};
-use cs_edits::LentEdits;
 use cs_leaf::{Leaf, Place, laws, merge_some};
+use cs_store::edits::LentEdits;
 use std::alloc::{AllocError, Global};
 
 /// How many of these edits are before the leaf there; none, where the places of those don't rise. Behind the last leaf all are.

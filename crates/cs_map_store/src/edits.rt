@@ -6,8 +6,8 @@ ghost use Rattle.cs_store.specs.Written.{edit_body};
 ghost use Rattle.cs_leaf.specs.Edits.{Rise, store_place};
 ghost use Rattle.cs_map_store.specs.Leaves.{DontFall, is_last_of};
 
-use cs_edits::{LentEdits, PlaceEdit, PlaceEdits};
 use cs_order::compare_bytes;
+use cs_store::edits::{LentEdits, PlaceEdit, PlaceEdits};
 use std::alloc::{AllocError, Global};
 use std::cmp::Ordering;
 

@@ -14,9 +14,9 @@ ghost use Rattle.cs_map_store.specs.Leaves.{AreBefore, AreLeaves, ArePatches, Be
 
 use crate::anew::{make_leaves, push_edited};
 use crate::edits::in_order;
-use cs_edits::{LentEdits, PlaceEdit};
 use cs_leaf::{Change, Leaf, Place, laws};
 use cs_store::StoredBody;
+use cs_store::edits::{LentEdits, PlaceEdit};
 use std::alloc::{AllocError, Global};
 use std::mem;
 

@@ -11,9 +11,9 @@ use crate::checking::{Shelf, check_leaves};
 use crate::leaves::{
     Near, Staged, find_row, list_rows, put_row, put_staged, stage_edits, take_back,
 };
-use cs_edits::LentEdits;
 use cs_leaf::{Leaf, Place};
 use cs_store::StoredBody;
+use cs_store::edits::LentEdits;
 use cs_value::Catalog;
 use std::alloc::{AllocError, Global};
 use std::marker::Model;

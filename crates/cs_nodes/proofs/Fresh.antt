@@ -5,21 +5,21 @@ use Rattle.std.specs.FinMap.{get-empty}
 use Rattle.cs_order.specs.Order.{by_bytes}
 use Rattle.cs_value.specs.Catalog.{AreTables}
 use Rattle.cs_value.specs.declared.catalog.TableDef.{TableDef}
-use Rattle.cs_log.specs.declared.entry.LogEntry.{LogEntry}
+use Rattle.cs_store.specs.declared.log.entry.LogEntry.{LogEntry}
 use Rattle.cs_store.specs.Contents.{Contents, meta_value, name_text, nothing}
 use Rattle.cs_store.specs.declared.names.MetaName.TheVariants.{Pending}
 use Rattle.cs_store.specs.declared.store.RowStore.{Ghosts}
 use Rattle.cs_pending.specs.Laws.{empty_view}
 use Rattle.cs_pending.specs.View.{View}
-use Rattle.cs_position.specs.Shows.{ShowsAt}
-use Rattle.cs_position.specs.declared.position.Position.{Position}
+use Rattle.cs_pending.specs.position.Shows.{ShowsAt}
+use Rattle.cs_pending.specs.declared.position.position.Position.{Position}
 use Rattle.cs_opening.specs.Fresh.{first_position}
 use Rattle.cs_opening.specs.declared.fault.OpenFault.{OpenFault}
 use Rattle.cs_opening.specs.declared.fault.OpenFault.TheVariants.{Memory, Damaged, Device, Mismatch}
 use Rattle.cs_replica.specs.Moved.{IsStoreFault, IsStoreOpened}
 use Rattle.cs_replica.specs.Opened.{Opens}
-use Rattle.cs_following.specs.Laws.{FreshStands}
-use Rattle.cs_following.specs.Standing.{StandsIn}
+use Rattle.cs_nodes.specs.following.Laws.{FreshStands}
+use Rattle.cs_nodes.specs.following.Standing.{StandsIn}
 
 -- what is opened is at the first position
 pub fresh_at : (tables : List TableDef) (id : ℕ) (old new : Contents) (position : Position) → old ≡ nothing → IsStoreOpened tables id old new position

@@ -2,15 +2,15 @@
 use Rattle.std.proofs.Common.{◌≡◌, ◌≤◌, ℕ, List, length, min, take, sym, subst, ◌∙◌, arith}
 use Rattle.std.specs.Prelude.{Contains}
 use Rattle.cs_value.specs.declared.catalog.TableDef.{TableDef}
-use Rattle.cs_log.specs.declared.entry.LogEntry.{LogEntry}
+use Rattle.cs_store.specs.declared.log.entry.LogEntry.{LogEntry}
 use Rattle.cs_store.specs.Contents.{Contents}
 use Rattle.cs_pending.specs.View.{View}
-use Rattle.cs_position.specs.Shows.{ShowsAt}
-use Rattle.cs_position.specs.declared.position.Position.{Position}
-use Rattle.cs_taking.specs.Laws.{OneLogRows}
-use Rattle.cs_following.specs.Laws.{EqualWhereMet}
-use Rattle.cs_following.specs.Pushes.{IsAtRest}
-use Rattle.cs_following.specs.Standing.{StandsIn}
+use Rattle.cs_pending.specs.position.Shows.{ShowsAt}
+use Rattle.cs_pending.specs.declared.position.position.Position.{Position}
+use Rattle.cs_exchange.specs.taking.Laws.{OneLogRows}
+use Rattle.cs_nodes.specs.following.Laws.{EqualWhereMet}
+use Rattle.cs_nodes.specs.following.Pushes.{IsAtRest}
+use Rattle.cs_nodes.specs.following.Standing.{StandsIn}
 
 -- `first` and `second` are what each is known to show, where it stands on what its pass knows
 pub same_rows : EqualWhereMet → OneLogRows → (tables others : List TableDef) → tables ≡ others → (known more : List LogEntry) (both : ℕ) (contents held : Contents) (position other : Position) (view first seen second : View)

@@ -3,8 +3,8 @@ use Rattle.std.specs.Prelude.{◌≡◌, ◌≤◌, length}
 use Rattle.cs_store.specs.declared.store.RowStore.{Ghosts}
 use Rattle.cs_replica.specs.Holding.{Holding}
 use Rattle.cs_spine.specs.Known.{Known}
-use Rattle.cs_following.specs.Pushes.{IsAtRest}
-use Rattle.cs_following.specs.Standing.{StandsWhereHonest}
+use Rattle.cs_nodes.specs.following.Pushes.{IsAtRest}
+use Rattle.cs_nodes.specs.following.Standing.{StandsWhereHonest}
 
 -- the replica, and the pass
 pub record NodeState (S : Type 0) : Type 0 where

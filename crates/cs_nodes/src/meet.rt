@@ -6,11 +6,11 @@ ghost use Rattle.cs_replica.specs.Holding.{Shows};
 ghost use Rattle.cs_value.specs.declared.catalog.TableDef.{TableDef};
 ghost use Rattle.cs_nodes.specs.Nodes.{AreMet};
 
+use crate::following::laws::equal_where_met;
 use crate::node::Node;
-use cs_following::laws::equal_where_met;
+use cs_exchange::taking::laws::one_contents;
 use cs_spine::Spine;
 use cs_store::RowStore;
-use cs_taking::laws::one_contents;
 
 /// Whether both nodes are at one version, with nothing pending and nothing under way. Where they are, and they are nodes of one catalog,
 /// they have the same rows. It takes no memory. (Profile of this project.)

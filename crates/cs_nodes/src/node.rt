@@ -9,28 +9,30 @@ ghost use Rattle.cs_pending.specs.Laws.{empty_view};
 ghost use Rattle.cs_pending.specs.View.{View};
 ghost use Rattle.cs_store.specs.Contents.{nothing};
 ghost use Rattle.cs_pending.specs.declared.fault.EditFault.TheVariants as editing;
-ghost use Rattle.cs_position.specs.Shows.{ShowsSomeAt};
-ghost use Rattle.cs_following.specs.Calls.{WritesInTurn};
+ghost use Rattle.cs_pending.specs.position.Shows.{ShowsSomeAt};
+ghost use Rattle.cs_nodes.specs.following.Calls.{WritesInTurn};
 ghost use Rattle.cs_replica.specs.Edited.{IsEditedIn, with_pending};
 ghost use Rattle.cs_replica.specs.Holding.{Shows};
 ghost use Rattle.cs_replica.specs.Opened.{Opens};
-ghost use Rattle.cs_rows.specs.Rows.{AreRowsOf};
+ghost use Rattle.cs_pending.specs.rows.Rows.{AreRowsOf};
 ghost use Rattle.cs_store.specs.declared.fault.StoreFault.TheVariants as stored;
 ghost use Rattle.cs_value.specs.declared.catalog.TableDef.{TableDef};
-ghost use Rattle.cs_following.specs.Edits.{asked_of_edit, table_of_edit};
-ghost use Rattle.cs_following.specs.Pulls.{IsNextKnown, IsPulledAmong, PullsAll};
-ghost use Rattle.cs_following.specs.Pushes.{HasTaken, IsAtRest, IsSentAmong, IsSentNext, PushesOn};
-ghost use Rattle.cs_following.specs.Standing.{Begins, IsBadAt, StandsWhereHonest};
-ghost use Rattle.cs_following.specs.declared.fault.NodeFault.TheVariants.{BadEntry, Device, Full};
-ghost use Rattle.cs_following.specs.declared.pushed.NodePush.TheVariants.{Behind, Nothing};
+ghost use Rattle.cs_replica.specs.member.Member.{asked_of_edit, table_of_edit};
+ghost use Rattle.cs_nodes.specs.following.Pulls.{IsNextKnown, IsPulledAmong, PullsAll};
+ghost use Rattle.cs_nodes.specs.following.Pushes.{HasTaken, IsAtRest, IsSentAmong, IsSentNext, PushesOn};
+ghost use Rattle.cs_nodes.specs.following.Standing.{Begins, IsBadAt, StandsWhereHonest};
+ghost use Rattle.cs_nodes.specs.declared.following.fault.NodeFault.TheVariants.{BadEntry, Device, Full};
+ghost use Rattle.cs_nodes.specs.declared.following.pushed.NodePush.TheVariants.{Behind, Nothing};
 ghost use Rattle.cs_nodes.specs.Nodes.{IsNode};
 
+use crate::following::{
+    NodeFault, NodePush, edit_row, is_at_rest, pull_known, push_known, rows_of,
+};
 use cs_conflict::Picker;
-use cs_following::{NodeFault, NodePush, edit_row, is_at_rest, pull_known, push_known, rows_of};
 use cs_opening::OpenFault;
 use cs_pending::EditFault;
+use cs_pending::rows::RowAtKey;
 use cs_replica::Replica;
-use cs_rows::RowAtKey;
 use cs_spine::{Pass, Spine};
 use cs_store::{RowStore, StoreFault};
 use cs_value::{Catalog, Edit};
@@ -85,7 +87,7 @@ impl<'s, S: RowStore> Node<'s, S> {
             (λ node. Opens S.RowStore catalog.now id store node.replica.store (Ok tt))
             (λ told. Opens S.RowStore catalog.now id store told.0 (Err told.1)) }
     {
-        cs_following::laws::fresh_stands();
+        crate::following::laws::fresh_stands();
         let _tables = catalog.tables();
         let pass = match spine.pass() {
             Ok(pass) => pass,
@@ -103,7 +105,7 @@ impl<'s, S: RowStore> Node<'s, S> {
         }
     }
 
-    /// A node of a replica that stands on what the pass knows, as a new one does (`cs_following::laws::fresh_stands`). It takes no
+    /// A node of a replica that stands on what the pass knows, as a new one does (`crate::following::laws::fresh_stands`). It takes no
     /// memory. (Profile of this project.)
     pub fn new(replica: Replica<S>, pass: Pass<'s>) -> Node<'s, S>
         requires within { replica.position.version ≤ length pass.known }

@@ -5,7 +5,7 @@ ghost use Rattle.std.specs.Prelude.{◌≡◌, IfOk, IfSome, vec_len};
 use crate::given::{begun, pulls_second};
 use crate::planned::{has_mark, idle, insert_and_push, is_edited, is_pushed};
 use cs_nodes::NodePush;
-use cs_plans::{Mark, NodeEnd, Plan, Port, run_nodes};
+use cs_nodes::plans::{Mark, NodeEnd, Plan, Port, run_nodes};
 use cs_spine::Spine;
 use cs_store_cases::catalog;
 use cs_value::{Catalog, Memory};

@@ -6,7 +6,7 @@ use cs_conflict::{Clash, Guard, Wish};
 use cs_map_store::MapStore;
 use cs_nodes::{Node, NodeFault, NodePush};
 use cs_pending::EditFault;
-use cs_rows::RowAtKey;
+use cs_pending::rows::RowAtKey;
 use cs_spine::Spine;
 use cs_store::{RowStore, StoreFault, Trip};
 use cs_store_cases::catalog;

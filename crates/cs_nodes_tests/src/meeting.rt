@@ -6,7 +6,7 @@ use crate::given::{Here, ROW_1, ROW_2, ROW_3, pulled, shows};
 use crate::planned::{idle, insert_and_push};
 use cs_conflict::Wish;
 use cs_nodes::meet_nodes;
-use cs_plans::{NodeEnd, Plan, Port, RunFault, run_nodes};
+use cs_nodes::plans::{NodeEnd, Plan, Port, RunFault, run_nodes};
 use cs_spine::Spine;
 use cs_store_cases::catalog;
 use cs_value::{Catalog, Memory};

@@ -3,7 +3,7 @@
 use crate::given::inserting;
 use cs_conflict::Wish;
 use cs_nodes::NodePush;
-use cs_plans::{Mark, NodeEnd, Plan, Step, StepOutcome};
+use cs_nodes::plans::{Mark, NodeEnd, Plan, Step, StepOutcome};
 use cs_value::{Items, Memory};
 use std::alloc::Global;
 

@@ -4,9 +4,9 @@ ghost use Rattle.std.specs.Prelude.{◌≡◌};
 
 use crate::given::{Here, begun, pulled, shows};
 use cs_conflict::Wish;
-use cs_log::{LogEntry, read_body};
 use cs_nodes::NodeFault;
 use cs_spine::Spine;
+use cs_store::log::{LogEntry, read_body};
 use cs_store_cases::catalog;
 use std::alloc::Global;
 

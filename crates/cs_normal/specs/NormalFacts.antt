@@ -30,9 +30,9 @@ use Rattle.cs_change.specs.Then.{is_idle}
 use Rattle.cs_order.specs.Order.{same_bytes, Keys, key_at, places}
 use Rattle.cs_order.specs.Facts.{Above}
 use Rattle.cs_order.specs.Groups.{has_bytes, places_of}
-use Rattle.cs_keyed.specs.Changes.{Changes, change_at, key_bytes, IsSpelled}
-use Rattle.cs_keyed.specs.NormalForm.{marked_fields, change_key, normal_olds, normal_news, normal_form}
-use Rattle.cs_keyed.specs.Laws.{BytesTellKeys}
+use Rattle.cs_normal.specs.keyed.Changes.{Changes, change_at, key_bytes, IsSpelled}
+use Rattle.cs_normal.specs.keyed.NormalForm.{marked_fields, change_key, normal_olds, normal_news, normal_form}
+use Rattle.cs_normal.specs.keyed.Laws.{BytesTellKeys}
 use Rattle.cs_normal.specs.Laws.{CatalogIsApart}
 use Rattle.cs_normal.specs.Normal.{AreApart, IsOfTable, FitsCatalog, IsNormalTable, IsNormalChangeset, changes_in}
 use Rattle.cs_normal.specs.declared.normal.TableChanges.{TableChanges}

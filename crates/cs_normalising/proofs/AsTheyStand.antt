@@ -9,10 +9,10 @@ use Rattle.std.proofs.lemmas.List.FromFn.{length-range_with_len}
 use Rattle.std.proofs.lemmas.List.Sorted.{All-permutation, IsPermutation-refl, length_permutation}
 use Rattle.cs_order.specs.Order.{IsOrder, Keys, by_bytes, places}
 use Rattle.cs_change.specs.declared.change.Change.{Change}
-use Rattle.cs_keyed.specs.Changes.{Changes}
-use Rattle.cs_keyed.specs.Keyed.{beside}
-use Rattle.cs_keyed.specs.NormalForm.{change_bytes}
-use Rattle.cs_keyed.specs.Prepared.{AreForms, Entries, IsForm, all_keyed, kept, prepared}
+use Rattle.cs_normal.specs.keyed.Changes.{Changes}
+use Rattle.cs_normal.specs.keyed.Keyed.{beside}
+use Rattle.cs_normal.specs.keyed.NormalForm.{change_bytes}
+use Rattle.cs_normal.specs.keyed.Prepared.{AreForms, Entries, IsForm, all_keyed, kept, prepared}
 use Rattle.cs_normalising.specs.Steps.Lent.{entries_at, entries_of, AreBeside, IsKeptOf}
 use Rattle.cs_order.specs.Steps.Rising.{ascend}
 use Rattle.cs_order.specs.Facts.{ascend_tells, places_within}

@@ -13,10 +13,10 @@ use Rattle.cs_change.specs.Normal.{IsNormalIfAny}
 use Rattle.cs_change.specs.Spelling.{FitsChange, AreUpdateColumns}
 use Rattle.cs_change.specs.declared.change.Change.{Change}
 use Rattle.cs_change.specs.declared.change.Change.TheVariants.{Insert, Delete, Update}
-use Rattle.cs_keyed.specs.Changes.{key_bytes, IsEntry}
+use Rattle.cs_normal.specs.keyed.Changes.{key_bytes, IsEntry}
 use Rattle.cs_normalising.specs.Laws.{LenientUpdate, no_column, key_column, key_again, unmodified, modified, IsLenient}
-use Rattle.cs_keyed.specs.NormalForm.{marked_fields, change_key, has_key, normal_form}
-use Rattle.cs_keyed.specs.Prepared.{Entries, prepared, kept}
+use Rattle.cs_normal.specs.keyed.NormalForm.{marked_fields, change_key, has_key, normal_form}
+use Rattle.cs_normal.specs.keyed.Prepared.{Entries, prepared, kept}
 use Rattle.cs_normalising.proofs.Fitted.{FitsIfAny, form_fits}
 use Rattle.cs_normalising.proofs.Keeps.{keeps}
 use Rattle.cs_normal.specs.NormalFacts.{by_test}

@@ -14,9 +14,9 @@ use Rattle.std.proofs.lemmas.Cmp.{nat_list_cmp_total}
 use Rattle.cs_change.specs.declared.change.Change.{Change}
 use Rattle.cs_normalising.specs.declared.unfit.Unfit.TheVariants.{KeyTwice, NullKey}
 use Rattle.cs_order.specs.Order.{by_bytes, same_bytes}
-use Rattle.cs_keyed.specs.NormalForm.{has_key, change_bytes, AreKeyed}
+use Rattle.cs_normal.specs.keyed.NormalForm.{has_key, change_bytes, AreKeyed}
 use Rattle.cs_normalising.specs.UnfitChanges.{HasFirstUnfitChange}
-use Rattle.cs_keyed.specs.Prepared.{Entries, prepared, all_keyed}
+use Rattle.cs_normal.specs.keyed.Prepared.{Entries, prepared, all_keyed}
 use Rattle.cs_normalising.specs.Steps.Prepared.{rises, rises_from, is_below}
 use Rattle.cs_normal.specs.NormalFacts.{by_test}
 

@@ -16,21 +16,20 @@ use Rattle.cs_value.specs.declared.catalog.TableDef.{TableDef}
 use Rattle.cs_change.specs.declared.change.Change.{Change}
 use Rattle.cs_change.specs.declared.group.Group.{Group}
 use Rattle.cs_order.specs.Order.{by_bytes, same_bytes}
-use Rattle.cs_keyed.specs.Changes.{Changes}
+use Rattle.cs_normal.specs.keyed.Changes.{Changes}
 use Rattle.cs_normalising.specs.Laws.{FitHasForm}
-use Rattle.cs_keyed.specs.NormalForm.{AreKeyed}
+use Rattle.cs_normal.specs.keyed.NormalForm.{AreKeyed}
 use Rattle.cs_normalising.specs.NormalFormOf.{changes_of}
-use Rattle.cs_keyed.specs.Prepared.{Entries, all_keyed, kept, prepared}
+use Rattle.cs_normal.specs.keyed.Prepared.{Entries, all_keyed, kept, prepared}
 use Rattle.cs_normalising.specs.Steps.Prepared.{rises, rises_from}
 use Rattle.cs_normalising.specs.Steps.TableByTable.{AreTablesOf, no_table, next, IsTableOf}
 use Rattle.cs_normal.specs.declared.normal.TableChanges.{TableChanges}
 use Rattle.cs_normalising.proofs.Gathered.{is_table_of}
 use Rattle.cs_order.specs.Facts.{Above, above_more, cons_sorted}
-use Rattle.cs_keyed.specs.Facts.{all_keyed_is, prepared_keys}
+use Rattle.cs_normal.specs.keyed.Facts.{all_keyed_is, prepared_keys}
 use Rattle.cs_normal.specs.NormalFacts.{by_test}
 use Rattle.cs_normalising.proofs.NormalLaws.{distinct_on}
-use Rattle.cs_normalising.proofs.Whole.{IsFront}
-use Rattle.cs_normalising.proofs.Whole.{all_form}
+use Rattle.cs_normalising.proofs.Whole.{IsFront, all_form}
 
 abbrev Entry : Type 0
 Entry = List ℕ × Option Change

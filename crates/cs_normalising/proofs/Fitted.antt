@@ -8,7 +8,7 @@ use Rattle.cs_change.specs.Columns.{is_blank}
 use Rattle.cs_change.specs.Spelling.{FitsChange, AreUpdateColumns, IsUpdateColumn}
 use Rattle.cs_change.specs.declared.change.Change.{Change}
 use Rattle.cs_change.specs.declared.change.Change.TheVariants.{Insert, Delete, Update}
-use Rattle.cs_keyed.specs.NormalForm.{changes_value, normal_old, normal_new, normal_olds, normal_news, normal_form}
+use Rattle.cs_normal.specs.keyed.NormalForm.{changes_value, normal_old, normal_new, normal_olds, normal_news, normal_form}
 use Rattle.cs_normal.specs.NormalFacts.{by_test}
 
 old_fits : (m : Bool) (o n : Field) → Fits o → Fits (normal_old m o n)

@@ -17,7 +17,7 @@ use Rattle.cs_change.specs.Spelling.{marks_of}
 use Rattle.cs_change.specs.declared.change.Change.{Change}
 use Rattle.cs_change.specs.declared.group.Group.{Group}
 use Rattle.cs_order.specs.Order.{same_bytes}
-use Rattle.cs_keyed.specs.NormalForm.{has_key, change_bytes, AreKeyed}
+use Rattle.cs_normal.specs.keyed.NormalForm.{has_key, change_bytes, AreKeyed}
 use Rattle.cs_normal.specs.NormalFacts.{here, behind, same_or_not}
 use Rattle.cs_normalising.specs.Laws.{FitHasForm, FormOrUnfit}
 use Rattle.cs_normalising.specs.UnfitChanges.{HasFirstUnfitChange}

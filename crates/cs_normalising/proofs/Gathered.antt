@@ -7,10 +7,10 @@ use Rattle.cs_value.specs.declared.catalog.TableDef.{TableDef}
 use Rattle.cs_change.specs.declared.change.Change.{Change}
 use Rattle.cs_change.specs.declared.group.Group.{Group}
 use Rattle.cs_order.specs.Order.{by_bytes, same_bytes}
-use Rattle.cs_keyed.specs.Changes.{change_at}
-use Rattle.cs_keyed.specs.NormalForm.{change_bytes, has_key, IsNormalOf, normal_form_any, keyed}
+use Rattle.cs_normal.specs.keyed.Changes.{change_at}
+use Rattle.cs_normal.specs.keyed.NormalForm.{change_bytes, has_key, IsNormalOf, normal_form_any, keyed}
 use Rattle.cs_normalising.specs.NormalFormOf.{changes_of}
-use Rattle.cs_keyed.specs.Prepared.{Entries, prepared, all_keyed, kept}
+use Rattle.cs_normal.specs.keyed.Prepared.{Entries, prepared, all_keyed, kept}
 use Rattle.cs_normalising.specs.Steps.Prepared.{rises}
 use Rattle.cs_normalising.specs.Steps.TableByTable.{IsTableOf}
 use Rattle.cs_normalising.proofs.Entries.{are_entries}

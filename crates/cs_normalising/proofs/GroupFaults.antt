@@ -15,7 +15,7 @@ use Rattle.cs_value.specs.declared.catalog.TableDef.{TableDef}
 use Rattle.cs_change.specs.declared.change.Change.{Change}
 use Rattle.cs_change.specs.declared.group.Group.{Group}
 use Rattle.cs_order.specs.Order.{same_bytes}
-use Rattle.cs_keyed.specs.NormalForm.{has_key, change_bytes, AreKeyed}
+use Rattle.cs_normal.specs.keyed.NormalForm.{has_key, change_bytes, AreKeyed}
 use Rattle.cs_normalising.specs.UnfitChanges.{HasFirstUnfitChange}
 use Rattle.cs_normalising.specs.NormalFormOf.{changes_of, HasTable, HaveTables, HaveKeys, AreFit, IsGroupOf, IsUnfitGroup, IsUnfit}
 use Rattle.cs_normalising.specs.Steps.TableByTable.{HasTableFault, AnyUnfit, IsUnfitHeader}

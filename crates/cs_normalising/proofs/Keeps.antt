@@ -13,7 +13,7 @@ use Rattle.cs_change.specs.Normal.{NormalUpdate, IsNormalIfAny}
 use Rattle.cs_change.specs.Normal as n
 use Rattle.cs_change.specs.Then.{is_idle}
 use Rattle.cs_change.specs.declared.change.Change.TheVariants.{Insert, Delete, Update}
-use Rattle.cs_keyed.specs.NormalForm.{normal_form, normal_olds, normal_news, update_unless_blank}
+use Rattle.cs_normal.specs.keyed.NormalForm.{normal_form, normal_olds, normal_news, update_unless_blank}
 use Rattle.cs_normalising.specs.Laws.{LenientUpdate, no_column, key_column, key_again, unmodified, modified, NormalFormKeeps}
 use Rattle.cs_normal.specs.NormalFacts.{by_test}
 use Rattle.cs_order.specs.Facts.{both_true}

@@ -10,7 +10,7 @@ use Rattle.std.proofs.lemmas.List.FromFn.{get_or-map-range_with_len, length-map-
 use Rattle.std.proofs.lemmas.List.Sorted.{IsPermutation-map}
 use Rattle.cs_change.specs.declared.change.Change.{Change}
 use Rattle.cs_order.specs.Order.{key_at, IsOrder, by_bytes}
-use Rattle.cs_keyed.specs.Prepared.{Entries}
+use Rattle.cs_normal.specs.keyed.Prepared.{Entries}
 use Rattle.cs_normalising.specs.Lent.{nth_entry}
 use Rattle.cs_normalising.specs.Steps.Prepared.{is_below}
 

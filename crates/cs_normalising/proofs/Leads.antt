@@ -15,9 +15,9 @@ use Rattle.cs_change.specs.declared.change.Change.{Change}
 use Rattle.cs_change.specs.declared.group.Group.{Group}
 use Rattle.cs_order.specs.Order.{same_bytes}
 use Rattle.cs_order.specs.Facts.{same_is}
-use Rattle.cs_keyed.specs.Changes.{key_bytes, IsSpelled, change_at}
-use Rattle.cs_keyed.specs.Laws.{BytesTellKeys}
-use Rattle.cs_keyed.specs.NormalForm.{change_key, change_bytes, AreKeyed, IsNormalOf, normal_form_any, keyed}
+use Rattle.cs_normal.specs.keyed.Changes.{key_bytes, IsSpelled, change_at}
+use Rattle.cs_normal.specs.keyed.Laws.{BytesTellKeys}
+use Rattle.cs_normal.specs.keyed.NormalForm.{change_key, change_bytes, AreKeyed, IsNormalOf, normal_form_any, keyed}
 use Rattle.cs_normal.specs.Normal.{change_of, changes_in}
 use Rattle.cs_normal.specs.State.{State, IsStateOf, left_at, IsAfterChanges, IsAfterGroups}
 use Rattle.cs_normal.specs.declared.normal.TableChanges.{TableChanges}

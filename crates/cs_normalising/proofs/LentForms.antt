@@ -9,9 +9,9 @@ use Rattle.std.proofs.lemmas.List.{get_or_default, length-map, take_all, take_mo
 use Rattle.std.proofs.lemmas.List.Elements.{recursion_from_All}
 use Rattle.cs_order.specs.Order.{Keys, key_at}
 use Rattle.cs_change.specs.declared.change.Change.{Change}
-use Rattle.cs_keyed.specs.Changes.{Changes}
-use Rattle.cs_keyed.specs.NormalForm.{normal_form}
-use Rattle.cs_keyed.specs.Prepared.{Entries, kept}
+use Rattle.cs_normal.specs.keyed.Changes.{Changes}
+use Rattle.cs_normal.specs.keyed.NormalForm.{normal_form}
+use Rattle.cs_normal.specs.keyed.Prepared.{Entries, kept}
 use Rattle.cs_normalising.specs.Steps.Lent.{entries_of, ordered_entries}
 use Rattle.cs_normalising.specs.Lent.{nth_entry}
 use Rattle.cs_normalising.specs.declared.lent_table.Ordered.{Ordered}

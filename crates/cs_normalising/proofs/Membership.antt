@@ -10,8 +10,8 @@ use Rattle.std.proofs.lemmas.Map.Views.{Contains-from_lookup, lookup-from_Contai
 use Rattle.cs_change.specs.declared.change.Change.{Change}
 use Rattle.cs_order.specs.Order.{by_bytes, same_bytes}
 use Rattle.cs_order.specs.Facts.{same_is}
-use Rattle.cs_keyed.specs.Changes.{Changes, change_at, IsOrdered}
-use Rattle.cs_keyed.specs.NormalForm.{change_bytes, keyed, normal_form, normal_form_any, AreKeyed, IsNormalOf}
+use Rattle.cs_normal.specs.keyed.Changes.{Changes, change_at, IsOrdered}
+use Rattle.cs_normal.specs.keyed.NormalForm.{change_bytes, keyed, normal_form, normal_form_any, AreKeyed, IsNormalOf}
 use Rattle.cs_normalising.specs.Laws.{FormAtKey}
 
 abbrev pub pair_of : List Bool → Change → List ℕ × Change

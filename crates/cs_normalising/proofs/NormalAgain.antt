@@ -11,8 +11,8 @@ use Rattle.cs_value.specs.declared.catalog.TableDef.{TableDef}
 use Rattle.cs_change.specs.Facts.{marks_stay}
 use Rattle.cs_change.specs.declared.change.Change.{Change}
 use Rattle.cs_order.specs.Order.{by_bytes, same_bytes}
-use Rattle.cs_keyed.specs.Changes.{Changes, change_at, key_bytes, IsEntry, AreNormal}
-use Rattle.cs_keyed.specs.NormalForm.{change_bytes, has_key, AreKeyed, IsNormalOf, normal_form_any, keyed}
+use Rattle.cs_normal.specs.keyed.Changes.{Changes, change_at, key_bytes, IsEntry, AreNormal}
+use Rattle.cs_normal.specs.keyed.NormalForm.{change_bytes, has_key, AreKeyed, IsNormalOf, normal_form_any, keyed}
 use Rattle.cs_normal.specs.Normal.{AreApart, IsOfTable, FitsCatalog, IsNormalChangeset, changes_in, group_of, groups_of}
 use Rattle.cs_normal.specs.declared.normal.TableChanges.{TableChanges}
 use Rattle.cs_normal.specs.NormalFacts.{HasOtherName, are_apart, named, other_named, by_test, change_stays, conjoin, only_changes}

@@ -13,10 +13,10 @@ use Rattle.cs_change.specs.declared.change.Change.{Change}
 use Rattle.cs_order.specs.Order.{by_bytes, same_bytes}
 use Rattle.cs_order.specs.Facts.{Above, ascend_tells, cons_sorted, same_is}
 use Rattle.cs_order.specs.Steps.Rising.{ascend, ascend_from}
-use Rattle.cs_keyed.specs.Changes.{Changes, change_at, IsOrdered}
-use Rattle.cs_keyed.specs.NormalForm.{AreKeyed}
-use Rattle.cs_keyed.specs.Facts.{all_keyed_is, prepared_keys}
-use Rattle.cs_keyed.specs.Prepared.{Entries, prepared, all_keyed, kept}
+use Rattle.cs_normal.specs.keyed.Changes.{Changes, change_at, IsOrdered}
+use Rattle.cs_normal.specs.keyed.NormalForm.{AreKeyed}
+use Rattle.cs_normal.specs.keyed.Facts.{all_keyed_is, prepared_keys}
+use Rattle.cs_normal.specs.keyed.Prepared.{Entries, prepared, all_keyed, kept}
 use Rattle.cs_normal.specs.NormalFacts.{by_test, none_above}
 use Rattle.cs_normalising.specs.Steps.Prepared.{rises, rises_from}
 

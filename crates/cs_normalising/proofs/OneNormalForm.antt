@@ -2,7 +2,7 @@
 use Rattle.std.proofs.Common.{sym, ◌∙◌}
 use Rattle.std.proofs.lemmas.List.Elements.{All-contains}
 use Rattle.cs_value.specs.declared.catalog.TableDef.{TableDef}
-use Rattle.cs_keyed.specs.NormalForm.{IsNormalOf}
+use Rattle.cs_normal.specs.keyed.NormalForm.{IsNormalOf}
 use Rattle.cs_normal.specs.Laws.{OneNormal}
 use Rattle.cs_normal.specs.Normal.{changes_in}
 use Rattle.cs_normalising.specs.Laws.{OneNormalForm}

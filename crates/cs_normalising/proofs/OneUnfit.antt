@@ -9,7 +9,7 @@ use Rattle.cs_value.specs.declared.catalog.TableDef.{TableDef}
 use Rattle.cs_change.specs.declared.change.Change.{Change}
 use Rattle.cs_change.specs.declared.group.Group.{Group}
 use Rattle.cs_normalising.specs.Laws.{NoFaultWhereFit, OneUnfit}
-use Rattle.cs_keyed.specs.NormalForm.{has_key, AreKeyed}
+use Rattle.cs_normal.specs.keyed.NormalForm.{has_key, AreKeyed}
 use Rattle.cs_normalising.specs.UnfitChanges.{HasFirstUnfitChange}
 use Rattle.cs_normalising.specs.NormalFormOf.{changes_of, HasTable, AreFit, IsGroupOf, IsUnfitGroup, HasFirstUnfitGroup, IsUnfit}
 use Rattle.cs_normalising.specs.declared.unfit.Unfit.{Unfit}

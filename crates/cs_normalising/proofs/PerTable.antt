@@ -6,9 +6,9 @@ use Rattle.std.proofs.lemmas.List.Elements.{All-from_recursion}
 use Rattle.cs_value.specs.declared.catalog.TableDef.{TableDef}
 use Rattle.cs_change.specs.Spelling.{FitsChange}
 use Rattle.cs_change.specs.declared.group.Group.{Group}
-use Rattle.cs_keyed.specs.Changes.{Changes}
+use Rattle.cs_normal.specs.keyed.Changes.{Changes}
 use Rattle.cs_normal.specs.Normal.{AreApart, FitsCatalog, changes_in, table_changes}
-use Rattle.cs_keyed.specs.NormalForm.{AreKeyed, IsNormalOf}
+use Rattle.cs_normal.specs.keyed.NormalForm.{AreKeyed, IsNormalOf}
 use Rattle.cs_normalising.specs.NormalFormOf.{changes_of, HaveKeys}
 use Rattle.cs_normalising.specs.Steps.TableByTable.{AreTablesOf, no_table, next, IsTableOf}
 use Rattle.cs_normal.specs.declared.normal.TableChanges.{TableChanges}

@@ -11,7 +11,7 @@ use Rattle.cs_change.specs.Spelling.{flag_byte, is_nonzero, marks_of, change_spe
 use Rattle.cs_change.specs.declared.change.Change.{Change}
 use Rattle.cs_change.specs.declared.change.Change.TheVariants.{Insert, Delete, Update}
 use Rattle.cs_change.specs.declared.group.Group.{Group}
-use Rattle.cs_keyed.specs.Changes.{Changes}
+use Rattle.cs_normal.specs.keyed.Changes.{Changes}
 use Rattle.cs_normal.specs.Normal.{AreApart, table_spelling, normal_spelling}
 use Rattle.cs_normalising.specs.NormalFormOf.{changes_of}
 use Rattle.cs_normalising.specs.Steps.TableByTable.{IsTableOf, AreTablesOf, no_table, next}

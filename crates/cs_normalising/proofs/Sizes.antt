@@ -12,8 +12,8 @@ use Rattle.cs_change.specs.Columns.{is_blank}
 use Rattle.cs_change.specs.Spelling.{change_spelling, changes_spelling}
 use Rattle.cs_change.specs.declared.change.Change.{Change}
 use Rattle.cs_change.specs.declared.change.Change.TheVariants.{Insert, Delete, Update}
-use Rattle.cs_keyed.specs.NormalForm.{change_bytes, has_key, normal_form, normal_old, normal_new, normal_olds, normal_news, changes_value}
-use Rattle.cs_keyed.specs.Prepared.{Entries, prepared, kept}
+use Rattle.cs_normal.specs.keyed.NormalForm.{change_bytes, has_key, normal_form, normal_old, normal_new, normal_olds, normal_news, changes_value}
+use Rattle.cs_normal.specs.keyed.Prepared.{Entries, prepared, kept}
 use Rattle.cs_normal.specs.NormalFacts.{by_test}
 
 field_takes_a_byte : (f : Field) → 1 ≤ length (field f)

@@ -4,11 +4,11 @@ use Rattle.std.proofs.lemmas.List.{take_more, map-append}
 use Rattle.cs_value.specs.declared.catalog.TableDef.{TableDef}
 use Rattle.cs_change.specs.declared.change.Change.{Change}
 use Rattle.cs_change.specs.declared.group.Group.{Group}
-use Rattle.cs_keyed.specs.Changes.{Changes}
-use Rattle.cs_keyed.specs.NormalForm.{change_bytes, has_key, normal_form}
+use Rattle.cs_normal.specs.keyed.Changes.{Changes}
+use Rattle.cs_normal.specs.keyed.NormalForm.{change_bytes, has_key, normal_form}
 use Rattle.cs_normalising.specs.NormalFormOf.{changes_of}
 use Rattle.cs_normalising.specs.Steps.Lent.{entries_of, IsKeptOf}
-use Rattle.cs_keyed.specs.Prepared.{Entries, all_keyed, kept, prepared}
+use Rattle.cs_normal.specs.keyed.Prepared.{Entries, all_keyed, kept, prepared}
 use Rattle.cs_normalising.specs.Lent.{nth_entry}
 use Rattle.cs_normalising.specs.Steps.TableByTable.{IsTableOf}
 use Rattle.cs_normalising.proofs.Gathered.{is_table_of}

@@ -13,8 +13,8 @@ use Rattle.cs_change.specs.Spelling.{FitsChangeset}
 use Rattle.cs_change.specs.declared.change.Change.{Change}
 use Rattle.cs_change.specs.declared.change.Change.TheVariants.{Insert, Delete, Update}
 use Rattle.cs_change.specs.declared.group.Group.{Group}
-use Rattle.cs_keyed.specs.Changes.{Changes, change_at, IsEntry}
-use Rattle.cs_keyed.specs.NormalForm.{keyed, normal_form, normal_form_any, IsNormalOf}
+use Rattle.cs_normal.specs.keyed.Changes.{Changes, change_at, IsEntry}
+use Rattle.cs_normal.specs.keyed.NormalForm.{keyed, normal_form, normal_form_any, IsNormalOf}
 use Rattle.cs_normal.specs.Headers.{headers, tables_of_headers, HasTwoShapes}
 use Rattle.cs_normal.specs.Normal.{FitsCatalog, IsNormalChangeset, groups_of}
 use Rattle.cs_normal.specs.declared.normal.TableChanges.{TableChanges}

@@ -1,7 +1,7 @@
 -- A table's changes in normal form that stay in the bytes where they were read.
 use Rattle.std.specs.Prelude.{ℕ, Bool, List, [], Option, None, slice_index_or}
 use Rattle.cs_change.specs.declared.change.Change.{Change}
-use Rattle.cs_keyed.specs.Prepared.{Entries, kept}
+use Rattle.cs_normal.specs.keyed.Prepared.{Entries, kept}
 use Rattle.cs_normal.specs.declared.normal.TableChanges.{TableChanges}
 
 -- the entry at a place; an empty one past the end

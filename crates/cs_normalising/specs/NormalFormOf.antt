@@ -7,7 +7,7 @@ use Rattle.cs_change.specs.Spelling.{marks_of}
 use Rattle.cs_change.specs.declared.change.Change.{Change}
 use Rattle.cs_change.specs.declared.group.Group.{Group}
 use Rattle.cs_normal.specs.Normal.{FitsCatalog, IsNormalChangeset, changes_in}
-use Rattle.cs_keyed.specs.NormalForm.{AreKeyed, IsNormalOf}
+use Rattle.cs_normal.specs.keyed.NormalForm.{AreKeyed, IsNormalOf}
 use Rattle.cs_normalising.specs.UnfitChanges.{HasFirstUnfitChange}
 use Rattle.cs_normal.specs.declared.normal.TableChanges.{TableChanges}
 use Rattle.cs_normalising.specs.declared.unfit.Unfit.{Unfit}

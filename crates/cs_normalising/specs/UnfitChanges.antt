@@ -3,7 +3,7 @@ use Rattle.std.specs.Prelude.{◌≡◌, Bool, true, false, List, ◌∷◌, ◌
 use Rattle.std.specs.List.{list_any}
 use Rattle.cs_change.specs.declared.change.Change.{Change}
 use Rattle.cs_order.specs.Order.{same_bytes}
-use Rattle.cs_keyed.specs.NormalForm.{change_bytes, has_key, AreKeyed}
+use Rattle.cs_normal.specs.keyed.NormalForm.{change_bytes, has_key, AreKeyed}
 use Rattle.cs_normalising.specs.declared.unfit.Unfit.{Unfit}
 use Rattle.cs_normalising.specs.declared.unfit.Unfit.TheVariants as unfit
 

@@ -3,7 +3,7 @@
 ghost use Rattle.std.specs.Prelude.{◌≡◌, ◌≢◌, ◌<◌, ◌≤◌, ◌↔◌, ◌++◌, ◌∷◌, [], ℕ, List, length, map, take, All, HoldsAt, IsTrue, IfOk, IfErr, MatchOption, OnOk};
 ghost use Rattle.cs_change.specs.Spelling.{FitsChangeset, changeset_spelling, marks_of};
 ghost use Rattle.cs_order.specs.Order.{keys_behind};
-ghost use Rattle.cs_keyed.specs.Prepared.{kept};
+ghost use Rattle.cs_normal.specs.keyed.Prepared.{kept};
 ghost use Rattle.cs_normalising.specs.Lent.{table_of};
 ghost use Rattle.cs_normal.specs.Normal.{normal_spelling, table_changes};
 ghost use Rattle.cs_normalising.specs.NormalFormOf.{HasTable, HaveTables, HaveKeys, IsNormalFormOf, IsUnfit};

@@ -12,7 +12,7 @@ pub fn normal_form_keeps()
 pub fn normal_form_leads()
     ensures { NormalFormLeads }
 {
-    cs_keyed::laws::bytes_tell_keys();
+    cs_normal::keyed::laws::bytes_tell_keys();
 }
 
 /// A changeset that fits a catalog has no fault.

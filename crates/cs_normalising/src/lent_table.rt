@@ -4,9 +4,9 @@ ghost use Rattle.std.specs.Prelude.{◌≡◌, ◌≢◌, ◌<◌, [], IfOk, Mat
 ghost use Rattle.std.specs.List.{All};
 ghost use Rattle.std.specs.Map.{keys_of};
 ghost use Rattle.cs_order.specs.Order.{key_at};
-ghost use Rattle.cs_keyed.specs.Keyed.{beside};
-ghost use Rattle.cs_keyed.specs.NormalForm.{normal_form};
-ghost use Rattle.cs_keyed.specs.Prepared.{kept};
+ghost use Rattle.cs_normal.specs.keyed.Keyed.{beside};
+ghost use Rattle.cs_normal.specs.keyed.NormalForm.{normal_form};
+ghost use Rattle.cs_normal.specs.keyed.Prepared.{kept};
 ghost use Rattle.cs_normalising.specs.Steps.Lent.{entries_at, entries_of, ordered_entries, AreBeside, IsOrderedBy};
 ghost use Rattle.cs_normalising.specs.Lent.{nth_entry};
 
@@ -14,8 +14,8 @@ use crate::key_order::KeyOrder;
 use crate::lent_list::LentList;
 use crate::written_forms::write_forms;
 use cs_change::{Change, ChangesBuf, Scratch};
-use cs_keyed::{KeyedChanges, is_normal, lend_form};
 use cs_normal::TableChanges;
+use cs_normal::keyed::{KeyedChanges, is_normal, lend_form};
 use cs_order::{Keys, PickedKeys};
 use cs_value::{Marks, Memory, Text};
 use std::alloc::Global;
@@ -123,8 +123,8 @@ impl<'b, 'a> LentTable<'b, 'a> {
     ghost use Rattle.std.specs.List.{All};
     ghost use Rattle.std.specs.Map.{keys_of};
     ghost use Rattle.cs_order.specs.Order.{key_at};
-    ghost use Rattle.cs_keyed.specs.Keyed.{beside};
-    ghost use Rattle.cs_keyed.specs.NormalForm.{normal_form};
+    ghost use Rattle.cs_normal.specs.keyed.Keyed.{beside};
+    ghost use Rattle.cs_normal.specs.keyed.NormalForm.{normal_form};
     ghost use Rattle.cs_normalising.specs.Lent.{nth_entry, table_of};
     ghost use Rattle.cs_normalising.specs.Steps.Lent.{ordered_entries, IsOrderedBy};
 

@@ -1,5 +1,5 @@
 //! How the normal form of a changeset as read is made, by a catalog. It stands on changesets in normal form and names' places
-//! (`cs_normal`), changes behind their keys (`cs_keyed`), changes and groups as read (`cs_change`), the order of keys (`cs_order`) and
+//! (`cs_normal`), changes behind their keys (`cs_normal::keyed`), changes and groups as read (`cs_change`), the order of keys (`cs_order`) and
 //! catalogs (`cs_value`). `normalise` makes the normal form, or tells what is wrong with the first group that is wrong. `normalise_lent`
 //! makes the same form over the bytes where it was read: `LentNormal`, whose changes are brought into normal form one by one, where
 //! each is asked for. `laws` says that a normal form means what was read, over whole states too, that there is one, also when it is

@@ -9,7 +9,7 @@ ghost use Rattle.cs_normalising.specs.UnfitChanges.{AreUnfit};
 ghost use Rattle.cs_normalising.specs.NormalFormOf.{changes_of};
 ghost use Rattle.cs_normalising.specs.Steps.Named.{changes_at, names_of};
 ghost use Rattle.cs_normalising.specs.Steps.Lent.{entries_at, ordered_entries, AreBeside, IsKeptOf, IsOrderedBy};
-ghost use Rattle.cs_keyed.specs.Prepared.{all_keyed, kept, prepared};
+ghost use Rattle.cs_normal.specs.keyed.Prepared.{all_keyed, kept, prepared};
 ghost use Rattle.cs_normalising.specs.Steps.TableByTable.{IsTableOf};
 
 use crate::key_order::KeyOrder;
@@ -17,8 +17,8 @@ use crate::lent_list::LentList;
 use crate::lent_table::Ordered;
 use crate::unfit::Unfit;
 use cs_change::{Change, Group};
-use cs_keyed::gather_keys;
 use cs_normal::NamePlaces;
+use cs_normal::keyed::gather_keys;
 use cs_order::Keys;
 use cs_value::{Memory, TableDef};
 use std::alloc::Global;

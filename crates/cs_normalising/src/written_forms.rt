@@ -2,14 +2,14 @@
 
 ghost use Rattle.std.specs.Prelude.{◌≡◌, ◌++◌, ◌∷◌, [], IfOk, OnOk, length};
 ghost use Rattle.std.specs.Map.{keys_of};
-ghost use Rattle.cs_keyed.specs.Keyed.{beside};
-ghost use Rattle.cs_keyed.specs.Prepared.{kept};
+ghost use Rattle.cs_normal.specs.keyed.Keyed.{beside};
+ghost use Rattle.cs_normal.specs.keyed.Prepared.{kept};
 ghost use Rattle.cs_normalising.specs.Steps.Lent.{entries_at, entries_of, AreBeside};
 ghost use Rattle.cs_normalising.specs.Lent.{nth_entry};
 
 use crate::key_order::KeyOrder;
 use cs_change::{Change, ChangesBuf, Scratch};
-use cs_keyed::{KeyedChanges, all_normal, pick_form};
+use cs_normal::keyed::{KeyedChanges, all_normal, pick_form};
 use cs_order::{Keys, PickedKeys};
 use cs_value::Memory;
 use std::alloc::Global;

@@ -16,8 +16,8 @@ use Rattle.cs_change.specs.Normal.{IsNormal, IsNormalIfAny}
 use Rattle.cs_change.specs.Spelling.{AreUpdateColumns, FitsChange}
 use Rattle.cs_change.specs.declared.change.Change.{Change}
 use Rattle.cs_change.specs.declared.change.Change.TheVariants.{Insert, Delete, Update}
-use Rattle.cs_keyed.specs.Changes.{key_bytes}
-use Rattle.cs_keyed.specs.NormalForm.{change_bytes, change_key, has_key, marked_fields}
+use Rattle.cs_normal.specs.keyed.Changes.{key_bytes}
+use Rattle.cs_normal.specs.keyed.NormalForm.{change_bytes, change_key, has_key, marked_fields}
 use Rattle.cs_normal.specs.Laws.{SetColumnsFit}
 use Rattle.cs_normal.specs.State.{IsRowOf, MayStandAt}
 use Rattle.cs_pending.specs.NormalTasks.{normal_key, one_table}

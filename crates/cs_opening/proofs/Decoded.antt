@@ -11,15 +11,15 @@ use Rattle.cs_normal.specs.Headers.{header}
 use Rattle.cs_normal.specs.Laws.{HeadersFit}
 use Rattle.cs_normal.specs.Normal.{normal_spelling}
 use Rattle.cs_normal.specs.declared.normal.TableChanges.{TableChanges}
-use Rattle.cs_log.specs.Entry.{changes_of_body}
-use Rattle.cs_log.specs.Stored.{FitsBody}
-use Rattle.cs_log.specs.declared.body.Body.{Body}
-use Rattle.cs_log.specs.declared.body.Body.TheVariants.{Changes}
-use Rattle.cs_log.specs.declared.fault.BodyFault.{BodyFault}
-use Rattle.cs_log.specs.declared.fault.BodyFault.TheVariants.{Memory, NoBody}
+use Rattle.cs_store.specs.log.Entry.{changes_of_body}
+use Rattle.cs_store.specs.log.Stored.{FitsBody}
+use Rattle.cs_store.specs.declared.log.body.Body.{Body}
+use Rattle.cs_store.specs.declared.log.body.Body.TheVariants.{Changes}
+use Rattle.cs_store.specs.declared.log.fault.BodyFault.{BodyFault}
+use Rattle.cs_store.specs.declared.log.fault.BodyFault.TheVariants.{Memory, NoBody}
 use Rattle.cs_wire.specs.Numbers.{eight_bytes}
 use Rattle.cs_wire.specs.OneSpelling.{after_eight, eight, eight_back, eight_length, eight_rest}
-use Rattle.cs_position.specs.Values.{catalog_bytes}
+use Rattle.cs_pending.specs.position.Values.{catalog_bytes}
 use Rattle.cs_opening.specs.Kept.{IsCatalogValue, IsFlightValue}
 
 -- ---- numbers

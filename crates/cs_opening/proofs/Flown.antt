@@ -11,8 +11,8 @@ use Rattle.cs_value.specs.declared.catalog.TableDef.{TableDef}
 use Rattle.cs_change.specs.Action.{action, action_any}
 use Rattle.cs_change.specs.Net.{net}
 use Rattle.cs_change.specs.declared.change.Change.{Change}
-use Rattle.cs_keyed.specs.Changes.{Changes, IsEntry, change_at}
-use Rattle.cs_keyed.specs.NormalForm.{has_key}
+use Rattle.cs_normal.specs.keyed.Changes.{Changes, IsEntry, change_at}
+use Rattle.cs_normal.specs.keyed.NormalForm.{has_key}
 use Rattle.cs_normal.specs.Laws.{SetColumnsFit}
 use Rattle.cs_normal.specs.Normal.{FitsCatalog, IsNormalChangeset, change_of}
 use Rattle.cs_normal.specs.State.{IsStateOf, MayStandAt}
@@ -25,7 +25,7 @@ use Rattle.cs_pending.specs.Nets.{undo_none}
 use Rattle.cs_pending.specs.Settled.{Catalogs}
 use Rattle.cs_pending.specs.Shows.{IsSoundOf}
 use Rattle.cs_pending.specs.View.{View, middle, undo}
-use Rattle.cs_position.specs.Shows.{changes_at}
+use Rattle.cs_pending.specs.position.Shows.{changes_at}
 use Rattle.cs_opening.specs.Steps.{ChangesLead, FlightLeads, IsNetTo}
 use Rattle.cs_opening.proofs.Bases.{base_stands, may_stand, no_net, stands_in}
 

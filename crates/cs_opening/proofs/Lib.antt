@@ -10,3 +10,5 @@ pub mod Lowered
 pub mod Judged
 pub mod Opened
 pub mod OpenLaws
+pub mod CopyingLemmas
+pub mod MovingLemmas

@@ -18,15 +18,15 @@ use Rattle.cs_store.specs.Laws.{KeepsOtherNames, WritesMeta, value_after}
 use Rattle.cs_store.specs.Whole.{AtTable, IsName, IsWhole, StoresChange, StoresRow}
 use Rattle.cs_store.specs.Written.{after_batch, appended, edit_body, optional_entry}
 use Rattle.cs_store.specs.declared.batch.Batch.{Batch}
-use Rattle.cs_edits.specs.Edits.{BodyEdit}
+use Rattle.cs_store.specs.edits.Edits.{BodyEdit}
 use Rattle.cs_store.specs.declared.batch.StoredEntry.{StoredEntry}
 use Rattle.cs_store.specs.declared.names.MetaName.{MetaName}
 use Rattle.cs_store.specs.declared.names.MetaName.TheVariants.{Id, Version, Number, Flight, Pending, Catalog}
 use Rattle.cs_pending.specs.Spots.{by_test, name_is, name_not}
 use Rattle.cs_pending.specs.Shows.{IsSoundOf}
 use Rattle.cs_pending.specs.View.{undo, middle}
-use Rattle.cs_position.specs.Shows.{changes_at}
-use Rattle.cs_position.specs.Values.{value_of}
+use Rattle.cs_pending.specs.position.Shows.{changes_at}
+use Rattle.cs_pending.specs.position.Values.{value_of}
 use Rattle.cs_pending.specs.Laws.{empty_view}
 use Rattle.cs_opening.specs.Fresh.{IsFirst, IsLaidOut, first_position}
 

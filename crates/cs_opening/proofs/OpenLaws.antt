@@ -16,10 +16,10 @@ use Rattle.cs_wire.specs.Numbers.{eight_bytes, four_bytes}
 use Rattle.cs_wire.specs.OneSpelling.{four_length}
 use Rattle.cs_pending.specs.Spots.{by_test, key_is}
 use Rattle.cs_pending.specs.View.{View}
-use Rattle.cs_position.specs.Laws.{OnePosition}
-use Rattle.cs_position.specs.Shows.{ShowsAt, ShowsSomeAt}
-use Rattle.cs_position.specs.Values.{catalog_bytes, value_of}
-use Rattle.cs_position.specs.declared.position.Position.{Position}
+use Rattle.cs_pending.specs.position.Laws.{OnePosition}
+use Rattle.cs_pending.specs.position.Shows.{ShowsAt, ShowsSomeAt}
+use Rattle.cs_pending.specs.position.Values.{catalog_bytes, value_of}
+use Rattle.cs_pending.specs.declared.position.position.Position.{Position}
 use Rattle.cs_opening.specs.Fresh.{IsFirst, first_position}
 use Rattle.cs_opening.specs.Laws.{FirstCanBe, IsOfContents, NoFaultWhereOpened, NothingShowsNone, OneOpenFault, OneOpening, OpensOrFails}
 use Rattle.cs_opening.specs.Opens.{AreOf, IsOpenFault, StandsAt, StandsNowhere}

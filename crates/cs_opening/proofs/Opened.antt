@@ -3,7 +3,7 @@ use Rattle.std.proofs.Common.{◌≡◌, ◌≤◌, ◌<◌, ◌^◌, ◌∙◌,
 use Rattle.std.specs.FinMap.{get}
 use Rattle.std.proofs.lemmas.Option.{slice_get_within}
 use Rattle.cs_value.specs.declared.catalog.TableDef.{TableDef}
-use Rattle.cs_log.specs.declared.entry.TheConstants.{MAX_CHANGESET}
+use Rattle.cs_store.specs.declared.log.entry.TheConstants.{MAX_CHANGESET}
 use Rattle.cs_normal.specs.Laws.{SetColumnsFit}
 use Rattle.cs_normal.specs.Normal.{FitsCatalog, IsNormalChangeset, normal_spelling}
 use Rattle.cs_normal.specs.declared.normal.TableChanges.{TableChanges}
@@ -14,10 +14,10 @@ use Rattle.cs_store.specs.declared.names.MetaName.TheVariants.{Id, Version, Numb
 use Rattle.cs_pending.specs.Settled.{Catalogs}
 use Rattle.cs_pending.specs.Shows.{IsElsewhere}
 use Rattle.cs_pending.specs.View.{View}
-use Rattle.cs_position.specs.Laws.{FitsPosition}
-use Rattle.cs_position.specs.Shows.{IsUnderWay, ShowsAt, flown}
-use Rattle.cs_position.specs.Values.{flight_bytes, value_of}
-use Rattle.cs_position.specs.declared.position.Position.{Position}
+use Rattle.cs_pending.specs.position.Laws.{FitsPosition}
+use Rattle.cs_pending.specs.position.Shows.{IsUnderWay, ShowsAt, flown}
+use Rattle.cs_pending.specs.position.Values.{flight_bytes, value_of}
+use Rattle.cs_pending.specs.declared.position.position.Position.{Position}
 use Rattle.cs_opening.specs.Opens.{AreOf, StandsAt, StandsNowhere}
 use Rattle.cs_opening.specs.Said.{IsFlightOf, SaysPosition}
 use Rattle.cs_opening.specs.Steps.{AreListed, IsSound}

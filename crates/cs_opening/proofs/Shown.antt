@@ -19,8 +19,8 @@ use Rattle.cs_pending.specs.OnePlace.{contained}
 use Rattle.cs_pending.specs.Settled.{Catalogs}
 use Rattle.cs_pending.specs.Shows.{IsElsewhere, ShowsRows}
 use Rattle.cs_pending.specs.View.{View, middle, undo}
-use Rattle.cs_position.specs.Shows.{ShowsAt}
-use Rattle.cs_position.specs.declared.position.Position.{Position}
+use Rattle.cs_pending.specs.position.Shows.{ShowsAt}
+use Rattle.cs_pending.specs.declared.position.position.Position.{Position}
 use Rattle.cs_opening.specs.Steps.{HoldsPlaces, IsLeading, IsNetTo, TablesLead}
 use Rattle.cs_opening.proofs.Bases.{StandsIn, net_keyed, stands_in}
 

@@ -9,7 +9,7 @@ use Rattle.cs_store.specs.Contents.{Contents, IsListing, stored_pending, stored_
 use Rattle.cs_value.specs.declared.catalog.TableDef.{TableDef}
 use Rattle.cs_store.specs.Written.{pairs_of}
 use Rattle.cs_store.specs.declared.store.StoredBody.{StoredBody}
-use Rattle.cs_rows.specs.Listings.{Listing, each_found, found_each}
+use Rattle.cs_pending.specs.rows.Listings.{Listing, each_found, found_each}
 use Rattle.cs_opening.specs.Steps.{AreLeading, IsLeading, IsTableCount, TableLeads}
 
 -- ---- the element where the rest begins

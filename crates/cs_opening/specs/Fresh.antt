@@ -3,8 +3,8 @@ use Rattle.std.specs.Prelude.{◌≡◌, ◌≢◌, ◌⊎◌, ℕ, List, Option
 use Rattle.cs_value.specs.declared.catalog.TableDef.{TableDef}
 use Rattle.cs_store.specs.Contents.{Contents, nothing}
 use Rattle.cs_pending.specs.Laws.{empty_view}
-use Rattle.cs_position.specs.Shows.{ShowsAt}
-use Rattle.cs_position.specs.declared.position.Position.{Position}
+use Rattle.cs_pending.specs.position.Shows.{ShowsAt}
+use Rattle.cs_pending.specs.declared.position.position.Position.{Position}
 
 -- a replica that has come to no version, with nothing pushed and nothing pending
 abbrev pub first_position : ℕ → Position

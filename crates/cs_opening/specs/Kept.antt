@@ -3,10 +3,10 @@ use Rattle.std.specs.Prelude.{◌≡◌, ◌≤◌, ℕ, List, length, IsUtf8}
 use Rattle.std.specs.List.{AllByRecursion}
 use Rattle.cs_value.specs.Catalog.{AreTables}
 use Rattle.cs_value.specs.declared.catalog.TableDef.{TableDef}
-use Rattle.cs_log.specs.declared.entry.TheConstants.{MAX_CHANGESET}
+use Rattle.cs_store.specs.declared.log.entry.TheConstants.{MAX_CHANGESET}
 use Rattle.cs_normal.specs.Normal.{FitsCatalog, IsNormalChangeset, normal_spelling}
 use Rattle.cs_normal.specs.declared.normal.TableChanges.{TableChanges}
-use Rattle.cs_position.specs.Values.{catalog_bytes, flight_bytes}
+use Rattle.cs_pending.specs.position.Values.{catalog_bytes, flight_bytes}
 
 -- the bytes are the headers of these tables, which are a catalog
 pub record IsCatalogValue (bytes : List ℕ) (tables : List TableDef) : Type 0 where

@@ -5,8 +5,8 @@ use Rattle.cs_value.specs.Catalog.{AreTables}
 use Rattle.cs_value.specs.declared.catalog.TableDef.{TableDef}
 use Rattle.cs_store.specs.Contents.{Contents, nothing}
 use Rattle.cs_store.specs.Whole.{IsWhole}
-use Rattle.cs_position.specs.Shows.{ShowsSomeAt}
-use Rattle.cs_position.specs.declared.position.Position.{Position}
+use Rattle.cs_pending.specs.position.Shows.{ShowsSomeAt}
+use Rattle.cs_pending.specs.declared.position.position.Position.{Position}
 use Rattle.cs_opening.specs.Fresh.{IsFirst}
 use Rattle.cs_opening.specs.Opens.{IsOpenFault, IsReplicaAt}
 use Rattle.cs_opening.specs.declared.fault.OpenFault.{OpenFault}

@@ -5,3 +5,5 @@ pub mod Said
 pub mod Opens
 pub mod Laws
 pub mod Steps
+pub mod copying
+pub mod moving

@@ -3,9 +3,9 @@ use Rattle.std.specs.Prelude.{◌≡◌, ◌≢◌, ◌⊎◌, ℕ, List}
 use Rattle.cs_value.specs.declared.catalog.TableDef.{TableDef}
 use Rattle.cs_store.specs.Contents.{Contents, meta_value, nothing}
 use Rattle.cs_store.specs.declared.names.MetaName.TheVariants as named
-use Rattle.cs_position.specs.Laws.{FitsPosition}
-use Rattle.cs_position.specs.Shows.{ShowsSomeAt}
-use Rattle.cs_position.specs.declared.position.Position.{Position}
+use Rattle.cs_pending.specs.position.Laws.{FitsPosition}
+use Rattle.cs_pending.specs.position.Shows.{ShowsSomeAt}
+use Rattle.cs_pending.specs.declared.position.position.Position.{Position}
 use Rattle.cs_opening.specs.Fresh.{IsFirst, first_position}
 use Rattle.cs_opening.specs.Owner.{IsOwner}
 use Rattle.cs_opening.specs.declared.fault.OpenFault.{OpenFault}

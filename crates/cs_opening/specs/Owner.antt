@@ -2,7 +2,7 @@
 use Rattle.std.specs.Prelude.{◌≡◌, ℕ, List, length, Option, Some, None}
 use Rattle.cs_value.specs.declared.catalog.TableDef.{TableDef}
 use Rattle.cs_wire.specs.Numbers.{four_bytes}
-use Rattle.cs_position.specs.Values.{catalog_bytes}
+use Rattle.cs_pending.specs.position.Values.{catalog_bytes}
 use Rattle.cs_opening.specs.Kept.{IsCatalogValue}
 use Rattle.cs_opening.specs.declared.owning.Owner.{Owner}
 use Rattle.cs_opening.specs.declared.owning.Owner.TheVariants.{This, Other, Unreadable}

@@ -5,8 +5,8 @@ use Rattle.cs_normal.specs.declared.normal.TableChanges.{TableChanges}
 use Rattle.cs_store.specs.Contents.{Contents, meta_value}
 use Rattle.cs_store.specs.declared.names.MetaName.TheVariants.{Version, Number, Flight}
 use Rattle.cs_wire.specs.Numbers.{eight_bytes}
-use Rattle.cs_position.specs.declared.position.Position.{Position}
-use Rattle.cs_position.specs.declared.position.TheConstants.{LAST_NUMBER}
+use Rattle.cs_pending.specs.declared.position.position.Position.{Position}
+use Rattle.cs_pending.specs.declared.position.position.TheConstants.{LAST_NUMBER}
 use Rattle.cs_opening.specs.Kept.{IsFlightValue}
 
 -- the value is the push with this number, of these changes; or there is none, and none is under way

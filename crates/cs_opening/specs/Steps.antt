@@ -14,7 +14,7 @@ use Rattle.cs_store.specs.Whole.{IsWhole}
 use Rattle.cs_store.specs.declared.names.MetaName.TheVariants.{Pending}
 use Rattle.cs_pending.specs.Shows.{ShowsRows}
 use Rattle.cs_pending.specs.View.{View, middle, undo}
-use Rattle.cs_position.specs.declared.position.Position.{Position}
+use Rattle.cs_pending.specs.declared.position.position.Position.{Position}
 use Rattle.cs_opening.specs.Opens.{StandsAt, StandsNowhere}
 
 -- ---- changes and the rows that they lead to

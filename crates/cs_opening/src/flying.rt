@@ -8,12 +8,12 @@ ghost use Rattle.cs_store.specs.declared.fault.StoreFault.TheVariants.{Device};
 ghost use Rattle.cs_pending.specs.Calls.{ReadsStore};
 ghost use Rattle.cs_pending.specs.Shows.{ShowsRows, ShowsSome};
 ghost use Rattle.cs_pending.specs.View.{View, middle};
-ghost use Rattle.cs_position.specs.Shows.{flown};
+ghost use Rattle.cs_pending.specs.position.Shows.{flown};
 ghost use Rattle.cs_opening.specs.Steps.{ChangesLead, FlightLeads, IsNetTo};
 
 use crate::leading::{Room, is_net_to};
 use cs_change::Change;
-use cs_keyed::KeyedChanges;
+use cs_normal::keyed::KeyedChanges;
 use cs_normal::{Normal, TableChanges};
 use cs_pending::{lent, standing_at};
 use cs_store::{RowStore, StoreFault};

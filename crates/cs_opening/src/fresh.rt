@@ -7,11 +7,11 @@ ghost use Rattle.cs_store.specs.Laws.{value_after};
 ghost use Rattle.cs_store.specs.declared.fault.StoreFault.TheVariants.{Device};
 ghost use Rattle.cs_store.specs.declared.names.MetaName.{MetaName as Name};
 ghost use Rattle.cs_pending.specs.Calls.{ReadsStore, WritesStore};
-ghost use Rattle.cs_position.specs.Values.{value_of};
+ghost use Rattle.cs_pending.specs.position.Values.{value_of};
 ghost use Rattle.cs_opening.specs.Fresh.{IsLaidOut, IsOpenedFresh, IsSameOrFirst, first_position};
 
-use cs_edits::PlaceEdits;
-use cs_position::{Position, catalog_value, id_value, number_value};
+use cs_pending::position::{Position, catalog_value, id_value, number_value};
+use cs_store::edits::PlaceEdits;
 use cs_store::{Batch, MetaEdit, MetaName, RowStore, StoreFault};
 use cs_value::{Catalog, Memory};
 use std::alloc::Global;

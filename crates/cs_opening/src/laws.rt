@@ -12,7 +12,7 @@ pub fn openings()
     ensures some { NothingShowsNone }
     ensures first { FirstCanBe }
 {
-    cs_position::laws::one_position();
+    cs_pending::position::laws::one_position();
 }
 
 /// Where a store shows a replica, all that it holds is what its place says.

@@ -7,13 +7,13 @@ ghost use Rattle.cs_change.specs.Columns.{set_columns};
 ghost use Rattle.cs_change.specs.Listed.{listed};
 ghost use Rattle.cs_change.specs.Net.{net};
 ghost use Rattle.cs_change.specs.Spelling.{marks_of};
-ghost use Rattle.cs_net.specs.Combine.{with_flag_any};
+ghost use Rattle.cs_change.specs.netting.Combine.{with_flag_any};
 ghost use Rattle.cs_store.specs.Written.{optional_bytes};
 ghost use Rattle.cs_opening.specs.Steps.{IsLeading, IsNetTo};
 
+use cs_change::netting::push_net;
 use cs_change::{Change, ChangesBuf, Scratch, put_set_columns};
 use cs_changeset::read_one;
-use cs_net::push_net;
 use cs_record::{Record, Row, RowBuf};
 use cs_store::whole_row;
 use cs_value::{Memory, TableDef};

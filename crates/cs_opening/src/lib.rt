@@ -1,17 +1,20 @@
 //! Opening a replica over a store. `open_at` opens any store: one that holds nothing is laid out, in one commit, and any other is only
 //! read, and opened exactly where all that it holds is that of this replica at one position: its values, its rows, its pending
 //! changes, each the net change to the row at its place, and the push under way. Where it isn't, the fault says whether the
-//! store is another's or damaged. The crate stands on positions (`cs_position`), pending changes (`cs_pending`) and stores
+//! store is another's or damaged. The crate stands on positions (`cs_pending::position`), pending changes (`cs_pending`) and stores
 //! (`cs_store`). `laws` says that what a store held has one position or one fault.
+//! `moving` opens also a store of an older form, and `copying` serves it.
 //! Its tests stand in `cs_replica_tests`.
 #![tactic(auto)]
 
+pub mod copying;
 mod fault;
 mod flying;
 mod fresh;
 mod judging;
 pub mod laws;
 mod leading;
+pub mod moving;
 mod opening;
 mod owning;
 mod reading;

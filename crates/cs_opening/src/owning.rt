@@ -9,7 +9,7 @@ ghost use Rattle.cs_pending.specs.Calls.{ReadsStore};
 ghost use Rattle.cs_opening.specs.Owner.{IsIdOrNone, IsOwner, TellsTables};
 
 use crate::values::catalog_in;
-use cs_position::{catalog_value, id_value};
+use cs_pending::position::{catalog_value, id_value};
 use cs_store::{MetaName, RowStore, StoreFault};
 use cs_value::{Catalog, Memory};
 use std::alloc::Global;

@@ -6,13 +6,13 @@ ghost use Rattle.cs_store.specs.Written.{optional_bytes};
 ghost use Rattle.cs_store.specs.declared.fault.StoreFault.TheVariants.{Device};
 ghost use Rattle.cs_wire.specs.Numbers.{eight_bytes};
 ghost use Rattle.cs_pending.specs.Calls.{ReadsStore};
-ghost use Rattle.cs_position.specs.Laws.{FitsPosition};
-ghost use Rattle.cs_position.specs.declared.position.Position.{Position as OnePosition};
+ghost use Rattle.cs_pending.specs.position.Laws.{FitsPosition};
+ghost use Rattle.cs_pending.specs.declared.position.position.Position.{Position as OnePosition};
 ghost use Rattle.cs_opening.specs.Said.{SayPosition, IsFlightOf, SaysPosition};
 
 use crate::values::{flight_in, number_in};
 use cs_normal::Normal;
-use cs_position::{LAST_NUMBER, Position};
+use cs_pending::position::{LAST_NUMBER, Position};
 use cs_store::{MetaName, RowStore, StoreFault};
 use cs_value::{Catalog, Memory};
 use std::alloc::Global;
@@ -64,7 +64,7 @@ fn position_of(
         → SayPosition catalog.now id (optional_bytes version.now) (optional_bytes number.now) (optional_bytes flight.now) position
         → IfOk result (λ read. read ≡ Some position) }
 {
-    cs_position::laws::last_number();
+    cs_pending::position::laws::last_number();
     let Some(version) = number_of(version) else {
         return Ok(None);
     };

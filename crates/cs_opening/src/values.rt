@@ -2,7 +2,7 @@
 
 ghost use Rattle.std.specs.Prelude.{◌≡◌, ◌↔◌, ◌≤◌, ◌<◌, ◌^◌, ◌++◌, ℕ, List, length, map, Some, IfOk, IfSome, IsTrue, OnOk};
 ghost use Rattle.cs_value.specs.declared.catalog.TableDef.{TableDef as OneTable};
-ghost use Rattle.cs_log.specs.Entry.{changes_of_body};
+ghost use Rattle.cs_store.specs.log.Entry.{changes_of_body};
 ghost use Rattle.cs_normal.specs.Headers.{header};
 ghost use Rattle.cs_normal.specs.declared.normal.TableChanges.{TableChanges};
 ghost use Rattle.cs_wire.specs.Numbers.{eight_bytes};
@@ -10,9 +10,9 @@ ghost use Rattle.cs_opening.specs.Kept.{IsCatalogValue, IsFlightValue};
 
 use cs_change::Group;
 use cs_changeset::{CodecFault, read};
-use cs_log::{Body, BodyFault, read_body};
 use cs_normal::{Normal, read_marks};
-use cs_position::catalog_value;
+use cs_pending::position::catalog_value;
+use cs_store::log::{Body, BodyFault, read_body};
 use cs_value::{Catalog, Memory, TableDef};
 use cs_wire::split_u64;
 use std::alloc::{AllocError, Global};

@@ -1,15 +1,15 @@
 -- Answers that are lawful.
-use Rattle.std.proofs.Common.{◌≡◌, ◌≢◌, ℕ, Bool, true, false, List, [], ◌∷◌, Option, Some, None, refl, sym, subst, ap, ◌∙◌}
-use Rattle.std.specs.Prelude.{slice_get, IfSome, length, nat_lt}
+use Rattle.std.proofs.Common.{◌≡◌, ◌≢◌, true, List, [], Option, Some, None, refl, sym, subst, ap, ◌∙◌}
+use Rattle.std.specs.Prelude.{IfSome, length, nat_lt}
 use Rattle.std.proofs.lemmas.Option.{same_Some}
 use Rattle.cs_value.specs.Key.{Place}
 use Rattle.cs_value.specs.Same.{same_row}
 use Rattle.cs_value.specs.declared.catalog.TableDef.{TableDef}
 use Rattle.cs_value.specs.declared.value.Value.{Value}
 use Rattle.cs_record.specs.Spelling.{row_bytes}
-use Rattle.cs_change.specs.Action.{Action, Inserts, Deletes, Updates, action, action_any, after, after_any}
+use Rattle.cs_change.specs.Action.{Action, Inserts, Deletes, Updates, action, after, after_any}
 use Rattle.cs_change.specs.Columns.{fits}
-use Rattle.cs_keyed.specs.NormalForm.{change_bytes}
+use Rattle.cs_normal.specs.keyed.NormalForm.{change_bytes}
 use Rattle.cs_normal.specs.State.{State, IsApplied}
 use Rattle.cs_normal.specs.declared.normal.TableChanges.{TableChanges}
 use Rattle.cs_conflict.specs.Conflict.{kind}

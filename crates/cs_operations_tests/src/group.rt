@@ -11,10 +11,10 @@ ghost use Rattle.cs_value.specs.Key.{FitsPlace, HasKey};
 ghost use Rattle.cs_value.specs.declared.value.Value.TheVariants.{Int};
 ghost use Rattle.cs_normal.specs.Normal.{FitsCatalog};
 
+use cs_change::netting::net;
 use cs_change::{Change, ChangesBuf, Changeset};
 use cs_changeset::read;
 use cs_group::*;
-use cs_net::net;
 use cs_normal::{BytePieces, Normal};
 use cs_normalising::{Unfit, normalise};
 use cs_record::{Row, RowBuf};

@@ -14,7 +14,7 @@ ghost use Rattle.cs_operations_tests.specs.Closes.{Closes};
 use cs_apply::{Applied, ApplyFault, apply};
 use cs_change::Change;
 use cs_conflict::{Conflict, Kind, Resolution};
-use cs_keyed::put_key;
+use cs_normal::keyed::put_key;
 use cs_normal::{Normal, changes_of};
 use cs_store::RowStore;
 use cs_value::{Catalog, Memory};

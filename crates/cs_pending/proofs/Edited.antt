@@ -1,6 +1,6 @@
 -- Edits of one place: what they leave, and that it is a row of the table.
 use Rattle.std.proofs.Common.{◌≡◌, ℕ, suc, Bool, true, false, List, [], ◌∷◌, length, Some, None, Ok, refl, sym, ap, ◌∙◌, subst}
-use Rattle.std.specs.Prelude.{Contains}
+use Rattle.std.specs.Prelude.{Contains, fold}
 use Rattle.std.specs.List.{AllByRecursion, list_all}
 use Rattle.cs_value.specs.Catalog.{AreTables, marked, is_set}
 use Rattle.cs_value.specs.Laws.{OnePlaceOfName}
@@ -15,12 +15,11 @@ use Rattle.cs_change.specs.Columns.{set_columns, field_or}
 use Rattle.cs_normal.specs.Changes.{key_bytes}
 use Rattle.cs_normal.specs.State.{IsRowOf, MayStandAt}
 use Rattle.std.specs.FinMap.{len}
-use Rattle.std.specs.Prelude.{fold}
 use Rattle.cs_store.specs.Contents.{Contents}
 use Rattle.cs_store.specs.Laws.{KeepsOtherPending, KeepsOtherRows, WritesPending, WritesRows}
 use Rattle.cs_store.specs.Written.{after_batch, edit_body}
 use Rattle.cs_store.specs.declared.batch.Batch.{Batch}
-use Rattle.cs_edits.specs.Edits.{BodyEdit}
+use Rattle.cs_store.specs.edits.Edits.{BodyEdit}
 use Rattle.cs_pending.specs.Settling.{AreWithin, IsWithin, Settles}
 use Rattle.cs_pending.specs.declared.settling.Settling.{Settling}
 use Rattle.cs_pending.specs.Steps.{rest_after, settles_none, shows_after}

@@ -13,3 +13,6 @@ pub mod Steps
 pub use Rattle.cs_apply.specs.Spots
 pub use Rattle.cs_apply.specs.NormalTasks
 pub use Rattle.cs_tasks.specs.Tasks
+pub mod rows
+pub mod position
+pub mod outgoing

@@ -15,7 +15,7 @@ use Rattle.cs_change.specs.Spelling.{FitsChange}
 use Rattle.cs_change.specs.declared.change.Change.{Change}
 use Rattle.cs_normal.specs.Changes.{IsSpelled}
 use Rattle.cs_normal.specs.InRange.{AreInRangeIfAny, normal_fits, net_in_range}
-use Rattle.cs_net.specs.Combine.{with_flag, with_flag_any}
+use Rattle.cs_change.specs.netting.Combine.{with_flag, with_flag_any}
 use Rattle.cs_apply.specs.Spots.{by_test}
 use Rattle.cs_pending.specs.View.{undo}
 

@@ -8,7 +8,7 @@ use Rattle.cs_change.specs.Spelling.{change_spelling, FitsChange}
 use Rattle.cs_store.specs.Contents.{Contents, stored_tables, stored_pending}
 use Rattle.cs_store.specs.Laws.{row_after}
 use Rattle.cs_store.specs.Written.{edit_body}
-use Rattle.cs_edits.specs.Edits.{BodyEdit}
+use Rattle.cs_store.specs.edits.Edits.{BodyEdit}
 use Rattle.cs_pending.specs.View.{View}
 use Rattle.cs_pending.specs.Shows.{IsSoundOf}
 use Rattle.cs_pending.specs.declared.settling.Settling.{Settling}

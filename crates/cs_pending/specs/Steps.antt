@@ -14,9 +14,9 @@ use Rattle.cs_change.specs.Spelling.{change_spelling}
 use Rattle.cs_normal.specs.State.{MayStandAt}
 use Rattle.cs_store.specs.Contents.{Bodies, Contents, StorePlace, stored_tables, stored_pending}
 use Rattle.cs_store.specs.Laws.{CountsBodies, IsNoPlaceOf, KeepsOtherPending, KeepsOtherRows, ReadsEdits, WritesPending, WritesRows, one_if_some, row_after}
-use Rattle.cs_store.specs.Written.{after_batch, appended, edit_body, edit_meta, optional_bytes, optional_entry, store_place}
+use Rattle.cs_store.specs.Written.{after_batch, appended, edit_body, edit_meta, optional_entry, store_place}
 use Rattle.cs_store.specs.declared.batch.Batch.{Batch}
-use Rattle.cs_edits.specs.Edits.{BodyEdit}
+use Rattle.cs_store.specs.edits.Edits.{BodyEdit}
 use Rattle.cs_store.specs.declared.batch.StoredEntry.{StoredEntry}
 use Rattle.cs_apply.specs.Spots.{same_spot}
 use Rattle.cs_pending.specs.Placing.{StandsIn}

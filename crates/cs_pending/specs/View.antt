@@ -8,7 +8,7 @@ use Rattle.cs_change.specs.Columns.{set_columns}
 use Rattle.cs_change.specs.Net.{net}
 use Rattle.cs_change.specs.declared.change.Change.{Change}
 use Rattle.cs_normal.specs.State.{State}
-use Rattle.cs_net.specs.Combine.{with_flag_any}
+use Rattle.cs_change.specs.netting.Combine.{with_flag_any}
 use Rattle.cs_apply.specs.Spots.{same_spot}
 
 -- a change or none at each place: at a table's name and the bytes of a key

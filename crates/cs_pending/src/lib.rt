@@ -4,7 +4,8 @@
 //! and refuse by the first fault that holds. For a replica above, `standing_at` reads what stands at a place and what stood
 //! there before what is pending, and `Settling` gathers the edits of several places for one commit; `lent`, `copied` and `undone`
 //! are of rows or none in their bytes.
-//! The crate stands on stores (`cs_store`), on net changes (`cs_net`) and on the places of tables (`cs_apply`). `laws` says
+//! The crate stands on stores (`cs_store`), on net changes (`cs_change::netting`) and on the places of tables (`cs_apply`). `rows` lists rows, `position` is where a
+//! replica stands, `outgoing` what is pending as a changeset. `laws` says
 //! that a store shows one view, and that an edit leads to one view or has one fault. Its tests stand in `cs_stores_tests`.
 #![tactic(auto)]
 
@@ -12,8 +13,11 @@ mod editing;
 mod edits;
 mod fault;
 pub mod laws;
+pub mod outgoing;
 mod places;
 mod placing;
+pub mod position;
+pub mod rows;
 mod settling;
 mod wanted;
 

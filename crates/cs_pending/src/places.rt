@@ -9,8 +9,8 @@ ghost use Rattle.cs_change.specs.Spelling.{change_spelling};
 ghost use Rattle.cs_store.specs.Written.{optional_bytes};
 ghost use Rattle.cs_pending.specs.View.{direct_net, undo};
 
+use cs_change::netting::net_change;
 use cs_change::{Change, Scratch, put_set_columns, spell_change};
-use cs_net::net_change;
 use cs_record::{RecordBuf, Row, RowBuf};
 use cs_value::{Memory, TableDef};
 use std::alloc::Global;

@@ -15,8 +15,8 @@ ghost use Rattle.cs_pending.specs.View.{View, direct_net, settled};
 
 use crate::places::{are_same, lent, lent_body, net_body, row_body};
 use crate::placing::Standing;
-use cs_edits::{PlaceEdit, PlaceEdits};
 use cs_record::Row;
+use cs_store::edits::{PlaceEdit, PlaceEdits};
 use cs_value::{Memory, TableDef};
 use std::alloc::{AllocError, Global};
 

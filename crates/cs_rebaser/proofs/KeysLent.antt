@@ -1,7 +1,7 @@
 -- The keys of entries by two lists of marks.
 use Rattle.std.proofs.Common.{◌≡◌, ◌∙◌, ℕ, Bool, List, [], ◌∷◌, map, refl, ap}
-use Rattle.cs_keyed.specs.Changes.{key_bytes}
-use Rattle.cs_keyed.specs.NormalForm.{HaveSameKeys}
+use Rattle.cs_normal.specs.keyed.Changes.{key_bytes}
+use Rattle.cs_normal.specs.keyed.NormalForm.{HaveSameKeys}
 use Rattle.cs_value.specs.declared.value.Value.{Value}
 use Rattle.cs_blob.specs.declared.blob.Entry.{Entry}
 use Rattle.cs_rebaser.specs.Rebased.{entry_key}

@@ -8,8 +8,8 @@ use Rattle.std.proofs.lemmas.List.Elements.{All-push}
 use Rattle.cs_change.specs.Listed.{listed}
 use Rattle.cs_change.specs.declared.change.Change.{Change}
 use Rattle.cs_blob.specs.declared.blob.BlobGroup.{BlobGroup}
-use Rattle.cs_keyed.specs.Changes.{Changes}
-use Rattle.cs_keyed.specs.Prepared.{Entries, kept}
+use Rattle.cs_normal.specs.keyed.Changes.{Changes}
+use Rattle.cs_normal.specs.keyed.Prepared.{Entries, kept}
 use Rattle.cs_normalising.specs.Lent.{nth_entry}
 use Rattle.cs_order.specs.Order.{Keys, key_at}
 use Rattle.cs_rebaser.specs.Rebase.{rebased_change}

@@ -9,8 +9,8 @@ use Rattle.cs_change.specs.Columns.{is_blank}
 use Rattle.cs_change.specs.Listed.{listed}
 use Rattle.cs_change.specs.Then.{update_if_any}
 use Rattle.cs_change.specs.declared.change.Change.TheVariants.{Update}
-use Rattle.cs_keyed.specs.NormalForm.{normal_form, normal_news, normal_olds}
-use Rattle.cs_net.specs.Combine.{with_flag_any}
+use Rattle.cs_normal.specs.keyed.NormalForm.{normal_form, normal_news, normal_olds}
+use Rattle.cs_change.specs.netting.Combine.{with_flag_any}
 use Rattle.cs_blob.specs.declared.blob.Entry.{Entry}
 use Rattle.cs_rebaser.specs.Rebase.{new_fields_over, old_fields_over, rebase_over, stays, whole_row}
 use Rattle.cs_rebaser.specs.Steps.{rebased_at}

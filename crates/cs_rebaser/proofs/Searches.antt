@@ -8,8 +8,8 @@ use Rattle.std.proofs.lemmas.Option.{slice_get-get_or}
 use Rattle.std.specs.declared.cmp.Ordering.{Ordering}
 use Rattle.std.specs.declared.cmp.Ordering.TheVariants.{Equal}
 use Rattle.cs_value.specs.declared.value.Value.{Value}
-use Rattle.cs_keyed.specs.Changes.{key_bytes}
-use Rattle.cs_keyed.specs.NormalForm.{HaveSameKeys, marked_fields}
+use Rattle.cs_normal.specs.keyed.Changes.{key_bytes}
+use Rattle.cs_normal.specs.keyed.NormalForm.{HaveSameKeys, marked_fields}
 use Rattle.cs_order.specs.Order.{by_bytes}
 use Rattle.cs_change.specs.Spelling.{marks_of}
 use Rattle.cs_blob.specs.declared.blob.BlobGroup.{BlobGroup}

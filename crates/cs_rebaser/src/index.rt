@@ -2,7 +2,7 @@
 
 ghost use Rattle.std.specs.Prelude.{◌≡◌, ◌<◌, length, slice_get, None, Some, IfOk, IfErr, MatchOption};
 ghost use Rattle.cs_changeset.specs.Reading.{HasNoZero};
-ghost use Rattle.cs_keyed.specs.NormalForm.{HaveSameKeys};
+ghost use Rattle.cs_normal.specs.keyed.NormalForm.{HaveSameKeys};
 ghost use Rattle.cs_blob.specs.Spelling.{FitsBlob};
 ghost use Rattle.cs_rebaser.specs.Faults.{IsConfigureFault};
 ghost use Rattle.cs_rebaser.specs.Rebased.{entry_at, placed, placed_in, HasEachOnce};
@@ -13,7 +13,7 @@ use crate::keys::compare_key;
 use crate::orders::{GroupOrder, are_apart, group_orders};
 use crate::places::{PlaceIndex, at_from_high, at_from_low, entry_in, place_index_of, put_place};
 use cs_blob::{BlobGroup, Entry};
-use cs_keyed::key_front;
+use cs_normal::keyed::key_front;
 use cs_value::Memory;
 use std::alloc::Global;
 use std::cmp::Ordering;

@@ -2,14 +2,14 @@
 
 ghost use Rattle.std.specs.Prelude.{◌≡◌, ◌↔◌, map, IsTrue, IfOk, MatchOption};
 ghost use Rattle.std.specs.List.Sorted.{IsStrictlySortedBy};
-ghost use Rattle.cs_keyed.specs.Changes.{key_bytes};
-ghost use Rattle.cs_keyed.specs.NormalForm.{marked_fields};
+ghost use Rattle.cs_normal.specs.keyed.Changes.{key_bytes};
+ghost use Rattle.cs_normal.specs.keyed.NormalForm.{marked_fields};
 ghost use Rattle.cs_order.specs.Order.{by_bytes, keys_behind};
 ghost use Rattle.cs_order.specs.Steps.Rising.{ascend};
 ghost use Rattle.cs_rebaser.specs.Rebased.{entry_key};
 
 use cs_blob::Entry;
-use cs_keyed::{KeysBuilder, lend_record_key, put_record_key};
+use cs_normal::keyed::{KeysBuilder, lend_record_key, put_record_key};
 use cs_order::{Keys, compare_bytes};
 use cs_record::Record;
 use cs_value::Memory;

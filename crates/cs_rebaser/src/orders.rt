@@ -9,7 +9,7 @@ ghost use Rattle.cs_rebaser.specs.Steps.{entry_keys, names_in, AreApart, AreInOr
 
 use crate::keys::{copy_keys, lend_keys, rise};
 use cs_blob::{BlobGroup, Entry};
-use cs_keyed::key_front;
+use cs_normal::keyed::key_front;
 use cs_normal::read_marks;
 use cs_order::{Keys, distinct_order};
 use cs_value::{Marks, Memory};

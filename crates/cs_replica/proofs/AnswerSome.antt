@@ -8,15 +8,15 @@ use Rattle.cs_store.specs.Contents.{Contents}
 use Rattle.cs_conflict.specs.declared.clash.Clash.{Clash}
 use Rattle.cs_conflict.specs.declared.wish.Wish.{Wish}
 use Rattle.cs_pending.specs.View.{View}
-use Rattle.cs_position.specs.Shows.{ShowsAt}
-use Rattle.cs_position.specs.declared.position.Position.{Position}
-use Rattle.cs_pushing.specs.Pushes.{confirmed}
-use Rattle.cs_pulling.specs.Laws.{IsOfList, ListHasResult}
-use Rattle.cs_pulling.specs.declared.fault.AnswerFault.{AnswerFault}
-use Rattle.cs_pulling.specs.declared.fault.AnswerFault.TheVariants.{Memory, Device, BadEntry}
-use Rattle.cs_pulling.specs.declared.listing.Pulled.{Pulled}
-use Rattle.cs_pulling.specs.declared.listing.Pulled.TheVariants as pulled
-use Rattle.cs_taking.specs.Laws.{NextIsShown}
+use Rattle.cs_pending.specs.position.Shows.{ShowsAt}
+use Rattle.cs_pending.specs.declared.position.position.Position.{Position}
+use Rattle.cs_exchange.specs.pushing.Pushes.{confirmed}
+use Rattle.cs_exchange.specs.pulling.Laws.{IsOfList, ListHasResult}
+use Rattle.cs_exchange.specs.declared.pulling.fault.AnswerFault.{AnswerFault}
+use Rattle.cs_exchange.specs.declared.pulling.fault.AnswerFault.TheVariants.{Memory, Device, BadEntry}
+use Rattle.cs_exchange.specs.declared.pulling.listing.Pulled.{Pulled}
+use Rattle.cs_exchange.specs.declared.pulling.listing.Pulled.TheVariants as pulled
+use Rattle.cs_exchange.specs.taking.Laws.{NextIsShown}
 use Rattle.cs_wire.specs.declared.answer.Answer.{Answer}
 use Rattle.cs_wire.specs.declared.answer.Answer.TheVariants.{Short, Entries}
 use Rattle.cs_wire.specs.declared.short_answer.ShortAnswer.TheVariants as short

@@ -14,8 +14,8 @@ use Rattle.cs_pending.specs.Edits.{Asked, IsChangedBy, Leads, edit}
 use Rattle.cs_pending.specs.Laws.{EditKeepsBefore}
 use Rattle.cs_pending.specs.Shows.{IsSoundOf}
 use Rattle.cs_pending.specs.View.{Changed, undo}
-use Rattle.cs_position.specs.Values.{value_of}
-use Rattle.cs_position.specs.declared.position.Position.{Position}
+use Rattle.cs_pending.specs.position.Values.{value_of}
+use Rattle.cs_pending.specs.declared.position.position.Position.{Position}
 use Rattle.cs_replica.specs.Edited.{IsEditedIn, with_pending}
 
 -- changes that are sound on rows are sound on the same rows

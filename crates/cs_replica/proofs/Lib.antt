@@ -4,3 +4,4 @@ mod Answered
 mod Reopened
 mod OneAnswer
 mod AnswerSome
+pub mod MemberLemmas

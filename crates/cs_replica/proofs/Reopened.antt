@@ -7,9 +7,9 @@ use Rattle.cs_value.specs.declared.catalog.TableDef.{TableDef}
 use Rattle.cs_store.specs.Contents.{Contents}
 use Rattle.cs_store.specs.declared.store.RowStore.{Ghosts}
 use Rattle.cs_pending.specs.Calls.{WritesStore}
-use Rattle.cs_position.specs.Laws.{FitsPosition}
-use Rattle.cs_position.specs.Shows.{ShowsSomeAt}
-use Rattle.cs_position.specs.declared.position.Position.{Position}
+use Rattle.cs_pending.specs.position.Laws.{FitsPosition}
+use Rattle.cs_pending.specs.position.Shows.{ShowsSomeAt}
+use Rattle.cs_pending.specs.declared.position.position.Position.{Position}
 use Rattle.cs_opening.specs.Fresh.{IsSameOrFirst}
 use Rattle.cs_opening.specs.Laws.{NoFaultWhereOpened, NothingShowsNone, OneOpening}
 use Rattle.cs_opening.specs.Opens.{IsOpenFault, IsReplicaAt}

@@ -2,9 +2,8 @@
 use Rattle.std.proofs.Common.{◌≡◌, ◌+◌, ℕ, zero, suc, List, [], ◌∷◌, map, take, drop, Option, Some, None, option_map, refl, sym, ap, subst, ◌∙◌, arith, length-append}
 use Rattle.std.specs.Prelude.{slice_get, Contains, pos}
 use Rattle.std.specs.FinMap.{empty, empty_of_len, get, get-empty}
-use Rattle.std.proofs.lemmas.List.{drop-take}
+use Rattle.std.proofs.lemmas.List.{drop-take, get_or_default}
 use Rattle.std.proofs.lemmas.Option.{same_Some, slice_get_within, slice_get-get_or}
-use Rattle.std.proofs.lemmas.List.{get_or_default}
 use Rattle.cs_value.specs.declared.catalog.TableDef.{TableDef}
 use Rattle.cs_change.specs.Action.{action_any, after_any}
 use Rattle.cs_change.specs.Spelling.{change_spelling}
@@ -12,17 +11,17 @@ use Rattle.cs_change.specs.declared.change.Change.{Change}
 use Rattle.cs_normal.specs.Normal.{FitsCatalog, change_of}
 use Rattle.cs_normal.specs.State.{AreApplied, AreSame, IsApplied, NetIsApplied, State}
 use Rattle.cs_normal.specs.declared.normal.TableChanges.{TableChanges}
-use Rattle.cs_log.specs.Entry.{entry_changes}
-use Rattle.cs_log.specs.Laws.{LongerLog, Slices}
-use Rattle.cs_log.specs.Log.{entries_between, tables_at}
-use Rattle.cs_log.specs.declared.entry.LogEntry.{LogEntry}
+use Rattle.cs_store.specs.log.Entry.{entry_changes}
+use Rattle.cs_store.specs.log.Laws.{LongerLog, Slices}
+use Rattle.cs_store.specs.log.Log.{entries_between, tables_at}
+use Rattle.cs_store.specs.declared.log.entry.LogEntry.{LogEntry}
 use Rattle.cs_store.specs.Contents.{Bodies, Contents, place_cmp, stored_pending}
 use Rattle.cs_pending.specs.Laws.{EditKeepsBefore}
 use Rattle.cs_pending.specs.Nets.{undo_none}
 use Rattle.cs_pending.specs.Shows.{IsSoundOf}
 use Rattle.cs_pending.specs.View.{View, before, middle, undo}
-use Rattle.cs_position.specs.Shows.{ShowsAt, base, changes_at, flown}
-use Rattle.cs_position.specs.declared.position.Position.{Position}
+use Rattle.cs_pending.specs.position.Shows.{ShowsAt, base, changes_at, flown}
+use Rattle.cs_pending.specs.declared.position.position.Position.{Position}
 use Rattle.cs_replica.specs.Laws.{EditStands, EntryStands, EqualAtRest, FirstStands, FlightFits, KeptStands, StandsLonger}
 
 -- ---- where it stands

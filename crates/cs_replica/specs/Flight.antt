@@ -1,9 +1,9 @@
 -- The push that is under way, as an entry of the log (profile of this project).
 use Rattle.std.specs.Prelude.{ℕ, List, Option, Some, None}
 use Rattle.cs_normal.specs.declared.normal.TableChanges.{TableChanges}
-use Rattle.cs_log.specs.declared.body.Body.TheVariants.{Changes}
-use Rattle.cs_log.specs.declared.entry.LogEntry.{LogEntry}
-use Rattle.cs_position.specs.declared.position.Position.{Position}
+use Rattle.cs_store.specs.declared.log.body.Body.TheVariants.{Changes}
+use Rattle.cs_store.specs.declared.log.entry.LogEntry.{LogEntry}
+use Rattle.cs_pending.specs.declared.position.position.Position.{Position}
 
 -- the entry that changes under way would be
 abbrev pub entry_under_way : ℕ → ℕ → Option (List TableChanges) → Option LogEntry

@@ -4,8 +4,8 @@ use Rattle.cs_value.specs.declared.catalog.TableDef.{TableDef}
 use Rattle.cs_store.specs.Contents.{Contents}
 use Rattle.cs_store.specs.declared.store.RowStore.{Ghosts}
 use Rattle.cs_pending.specs.View.{View}
-use Rattle.cs_position.specs.Shows.{ShowsAt, ShowsSomeAt}
-use Rattle.cs_position.specs.declared.position.Position.{Position}
+use Rattle.cs_pending.specs.position.Shows.{ShowsAt, ShowsSomeAt}
+use Rattle.cs_pending.specs.declared.position.position.Position.{Position}
 
 -- a store, the tables that are synced, and where the replica stands
 pub record Holding (S : Type 0) : Type 0 where

@@ -6,20 +6,20 @@ use Rattle.cs_value.specs.Catalog.{AreTables}
 use Rattle.cs_value.specs.declared.catalog.TableDef.{TableDef}
 use Rattle.cs_normal.specs.State.{AreSame, IsApplied}
 use Rattle.cs_normal.specs.declared.normal.TableChanges.{TableChanges}
-use Rattle.cs_log.specs.Entry.{entry_changes}
-use Rattle.cs_log.specs.Log.{IsLog, tables_at}
-use Rattle.cs_log.specs.declared.entry.LogEntry.{LogEntry}
+use Rattle.cs_store.specs.log.Entry.{entry_changes}
+use Rattle.cs_store.specs.log.Log.{IsLog, tables_at}
+use Rattle.cs_store.specs.declared.log.entry.LogEntry.{LogEntry}
 use Rattle.cs_store.specs.Contents.{Contents}
 use Rattle.cs_conflict.specs.declared.clash.Clash.{Clash}
 use Rattle.cs_conflict.specs.declared.wish.Wish.{Wish}
 use Rattle.cs_pending.specs.Edits.{Asked, edit}
 use Rattle.cs_pending.specs.Laws.{empty_view}
 use Rattle.cs_pending.specs.View.{View, middle}
-use Rattle.cs_position.specs.Shows.{ShowsAt, base}
-use Rattle.cs_position.specs.declared.position.Position.{Position}
-use Rattle.cs_pulling.specs.declared.fault.AnswerFault.{AnswerFault}
-use Rattle.cs_pulling.specs.declared.fault.AnswerFault.TheVariants.{Memory, Device, BadEntry}
-use Rattle.cs_taking.specs.Laws.{AnswersLawfully, PicksOnce}
+use Rattle.cs_pending.specs.position.Shows.{ShowsAt, base}
+use Rattle.cs_pending.specs.declared.position.position.Position.{Position}
+use Rattle.cs_exchange.specs.declared.pulling.fault.AnswerFault.{AnswerFault}
+use Rattle.cs_exchange.specs.declared.pulling.fault.AnswerFault.TheVariants.{Memory, Device, BadEntry}
+use Rattle.cs_exchange.specs.taking.Laws.{AnswersLawfully, PicksOnce}
 use Rattle.cs_wire.specs.Entries.{ToldEntry}
 use Rattle.cs_wire.specs.declared.answer.Answer.{Answer}
 use Rattle.cs_wire.specs.declared.answer.Answer.TheVariants.{Short, Entries}

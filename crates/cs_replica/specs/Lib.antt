@@ -6,4 +6,5 @@ pub mod Accepted
 pub mod Answered
 pub mod Stands
 pub mod Laws
-pub use Rattle.cs_moving.specs.Moved
+pub use Rattle.cs_opening.specs.moving.Moved
+pub mod member

@@ -5,7 +5,7 @@ use Rattle.cs_store.specs.declared.store.RowStore.{Ghosts}
 use Rattle.cs_pending.specs.Calls.{WritesStore}
 use Rattle.cs_opening.specs.declared.fault.OpenFault.{OpenFault}
 use Rattle.cs_opening.specs.declared.fault.OpenFault.TheVariants.{Device}
-use Rattle.cs_moving.specs.Moved.{IsSameOrOpened}
+use Rattle.cs_opening.specs.moving.Moved.{IsSameOrOpened}
 
 -- the store was laid out, or its value of pending changes moved, in one commit; or it was not written
 abbrev pub Opens : {S : Type 0} → Ghosts S → List TableDef → ℕ → S → S → Result (Unit {0}) OpenFault → Type 0

@@ -1,11 +1,11 @@
 -- A replica that stands on a log (profile of this project).
 use Rattle.std.specs.Prelude.{◌≤◌, List, length}
 use Rattle.cs_normal.specs.State.{AreSame}
-use Rattle.cs_log.specs.Log.{tables_at}
-use Rattle.cs_log.specs.declared.entry.LogEntry.{LogEntry}
+use Rattle.cs_store.specs.log.Log.{tables_at}
+use Rattle.cs_store.specs.declared.log.entry.LogEntry.{LogEntry}
 use Rattle.cs_pending.specs.View.{View}
-use Rattle.cs_position.specs.Shows.{base}
-use Rattle.cs_position.specs.declared.position.Position.{Position}
+use Rattle.cs_pending.specs.position.Shows.{base}
+use Rattle.cs_pending.specs.declared.position.position.Position.{Position}
 
 -- its version is one of the log's, and what is left where what is pending and what is under way are taken back from its rows are
 -- the log's tables there

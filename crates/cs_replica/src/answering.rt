@@ -2,17 +2,17 @@
 
 ghost use Rattle.std.specs.Prelude.{◌≡◌, ◌↔◌, Err, IsTrue};
 ghost use Rattle.cs_pending.specs.View.{View};
-ghost use Rattle.cs_position.specs.Shows.{ShowsAt, ShowsSomeAt};
-ghost use Rattle.cs_pulling.specs.Calls.{WritesInTurn};
+ghost use Rattle.cs_pending.specs.position.Shows.{ShowsAt, ShowsSomeAt};
+ghost use Rattle.cs_exchange.specs.pulling.Calls.{WritesInTurn};
 ghost use Rattle.cs_replica.specs.Accepted.{IsAccepted};
 ghost use Rattle.cs_replica.specs.Answered.{Answers, IsAnsweredAmong, IsAnsweredNext, IsDone, SaysDevice, TellsAccepted, KeepsRows};
-ghost use Rattle.cs_pushing.specs.Pushes.{IsConfirmedIn};
+ghost use Rattle.cs_exchange.specs.pushing.Pushes.{IsConfirmedIn};
 
 use crate::told::Told;
 use cs_conflict::Picker;
-use cs_position::Position;
-use cs_pulling::{AnswerFault, Pulled, take_entries};
-use cs_pushing::confirm;
+use cs_exchange::pulling::{AnswerFault, Pulled, take_entries};
+use cs_exchange::pushing::confirm;
+use cs_pending::position::Position;
 use cs_store::{RowStore, StoreFault};
 use cs_value::Catalog;
 use cs_wire::{Answer, ShortAnswer};

@@ -6,11 +6,11 @@ ghost use Rattle.cs_pending.specs.Calls.{WritesStore};
 ghost use Rattle.cs_pending.specs.Edits.{AskDelete, AskInsert, AskUpdate, IsOfStore, edit};
 ghost use Rattle.cs_pending.specs.View.{View};
 ghost use Rattle.cs_pending.specs.declared.fault.EditFault.TheVariants.{Device};
-ghost use Rattle.cs_position.specs.Shows.{ShowsAt, ShowsSomeAt};
+ghost use Rattle.cs_pending.specs.position.Shows.{ShowsAt, ShowsSomeAt};
 ghost use Rattle.cs_replica.specs.Edited.{IsEditedIn, with_pending};
 
+use cs_pending::position::Position;
 use cs_pending::{EditFault, delete_row, insert_row, update_row};
-use cs_position::Position;
 use cs_store::RowStore;
 use cs_value::{Catalog, Field, Key, Row};
 use std::alloc::Global;

@@ -13,7 +13,7 @@ pub fn first_stands()
 pub fn stands_longer()
     ensures { StandsLonger }
 {
-    cs_log::laws::longer_log();
+    cs_store::log::laws::longer_log();
 }
 
 /// An edit leaves it there.
@@ -29,7 +29,7 @@ pub fn steps_stand()
     ensures kept { KeptStands }
     ensures entry { EntryStands }
 {
-    cs_log::laws::slices();
+    cs_store::log::laws::slices();
 }
 
 /// What is under way is defined on the log's tables at the version.
@@ -50,8 +50,8 @@ pub fn one_answered<P: Picker>()
     ensures { OneAnswered P.picks }
 {
     cs_pending::laws::one_view();
-    cs_taking::laws::one_contents();
-    cs_pulling::laws::one_list::<P>();
+    cs_exchange::taking::laws::one_contents();
+    cs_exchange::pulling::laws::one_list::<P>();
 }
 
 /// Where a picker has a lawful answer to each clash, an answer of the hub in bytes has a result, and there is a store that holds what is
@@ -59,6 +59,6 @@ pub fn one_answered<P: Picker>()
 pub fn answer_has_result<P: Picker>()
     ensures { AnswerHasResult P.picks P.is_ready }
 {
-    cs_taking::laws::one_contents();
-    cs_pulling::laws::list_has_result::<P>();
+    cs_exchange::taking::laws::one_contents();
+    cs_exchange::pulling::laws::list_has_result::<P>();
 }

@@ -4,12 +4,12 @@ ghost use Rattle.std.specs.Prelude.{◌≡◌, ◌⊎◌, IfErr, IfOk, IsUtf8};
 ghost use Rattle.std.specs.List.{AllByRecursion};
 ghost use Rattle.cs_value.specs.declared.catalog.TableDef.{TableDef as Table};
 ghost use Rattle.cs_pending.specs.Calls.{WritesStore};
-ghost use Rattle.cs_position.specs.Laws.{FitsPosition};
-ghost use Rattle.cs_position.specs.Shows.{ShowsSomeAt};
+ghost use Rattle.cs_pending.specs.position.Laws.{FitsPosition};
+ghost use Rattle.cs_pending.specs.position.Shows.{ShowsSomeAt};
 ghost use Rattle.cs_opening.specs.declared.fault.OpenFault.TheVariants.{Device, Memory};
 
 use cs_opening::{OpenFault, open_at};
-use cs_position::Position;
+use cs_pending::position::Position;
 use cs_store::RowStore;
 use cs_value::{Catalog, TableDef};
 use std::alloc::Global;
@@ -47,7 +47,7 @@ pub(crate) fn reopen_at<S: RowStore>(
         → IfErr result (λ fault. (fault ≡ Memory) ⊎ (fault ≡ Device)) }
 {
     cs_opening::laws::openings();
-    cs_position::laws::one_position();
+    cs_pending::position::laws::one_position();
     are_named(catalog.tables());
     in_range(position);
     match open_at(alloc, store, catalog, position.id) {

@@ -1,17 +1,17 @@
 //! What a replica shows: what is pending, and rows.
 
 ghost use Rattle.std.specs.Prelude.{◌≡◌, ◌≤◌, [], IfOk, Some, length, slice_get};
-ghost use Rattle.cs_rows.specs.Rows.{AreRowsOf};
+ghost use Rattle.cs_pending.specs.rows.Rows.{AreRowsOf};
 ghost use Rattle.cs_value.specs.declared.catalog.TableDef.{TableDef};
 ghost use Rattle.cs_store.specs.declared.fault.StoreFault.TheVariants.{Device};
 ghost use Rattle.cs_pending.specs.Calls.{ReadsStore};
 ghost use Rattle.cs_pending.specs.View.{View};
-ghost use Rattle.cs_outgoing.specs.Outgoing.{IsOutgoing};
-ghost use Rattle.cs_position.specs.Shows.{ShowsAt, ShowsSomeAt};
+ghost use Rattle.cs_pending.specs.outgoing.Outgoing.{IsOutgoing};
+ghost use Rattle.cs_pending.specs.position.Shows.{ShowsAt, ShowsSomeAt};
 
-use cs_outgoing::{Outgoing, gather};
-use cs_position::Position;
-use cs_rows::{RowAtKey, rows_of};
+use cs_pending::outgoing::{Outgoing, gather};
+use cs_pending::position::Position;
+use cs_pending::rows::{RowAtKey, rows_of};
 use cs_store::{RowStore, StoreFault};
 use cs_value::Catalog;
 use std::alloc::Global;

@@ -4,10 +4,10 @@ ghost use Rattle.std.specs.Prelude.{◌≡◌};
 ghost use Rattle.cs_conflict.specs.Pickers.{IsLawfulAt};
 
 use cs_conflict::{Chooser, Clash, Guard, Wish};
-use cs_log::LogEntry;
-use cs_pulling::PullFault;
+use cs_exchange::pulling::PullFault;
 use cs_replica::Replica;
 use cs_store::RowStore;
+use cs_store::log::LogEntry;
 use std::alloc::Global;
 
 /// The own row wherever the own change covers the other's, else the other's change.

@@ -3,17 +3,17 @@
 
 use cs_changeset::read;
 use cs_conflict::{Clash, Guard, Wish};
-use cs_log::{Body, LogEntry};
+use cs_exchange::pulling::{AnswerFault, PullFault};
+use cs_exchange::pushing::PushFault;
 use cs_map_store::MapStore;
 use cs_normal::Normal;
 use cs_normalising::normalise;
 use cs_opening::OpenFault;
-use cs_outgoing::Outgoing;
 use cs_pending::EditFault;
-use cs_pulling::{AnswerFault, PullFault};
-use cs_pushing::PushFault;
+use cs_pending::outgoing::Outgoing;
+use cs_pending::rows::RowAtKey;
 use cs_replica::{Replica, Told};
-use cs_rows::RowAtKey;
+use cs_store::log::{Body, LogEntry};
 use cs_store::{RowStore, Trip};
 use cs_store_cases::catalog;
 use cs_value::{Field, Items, Memory, Text, Value};

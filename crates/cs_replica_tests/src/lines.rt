@@ -1,7 +1,7 @@
 //! The lines of a node over a store in memory. What they print is rows of `bench/check_node.sh`.
 
 use cs_map_store::MapStore;
-use cs_replica_lines::{NodeFault, node_on};
+use cs_node_lines::working::{NodeFault, node_on};
 use cs_store_cases::catalog;
 use std::alloc::Global;
 

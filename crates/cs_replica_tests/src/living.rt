@@ -1,10 +1,10 @@
 //! Each call of a replica, its answer, and what it shows then; and how much its store is written.
 
 use crate::given::*;
-use cs_log::{Body, LogEntry};
 use cs_map_store::MapStore;
 use cs_pending::EditFault;
 use cs_replica::{Replica, Told};
+use cs_store::log::{Body, LogEntry};
 use cs_store::{RowStore, Written};
 use cs_value::{Field, Value};
 use std::alloc::Global;

@@ -1,11 +1,11 @@
 //! Memory that is refused, at opening, edits, a push and its answer: it is told, leaves everything, and the same call is then made.
 
 use crate::given::*;
+use cs_exchange::pulling::AnswerFault;
+use cs_exchange::pushing::PushFault;
 use cs_map_store::MapStore;
 use cs_opening::OpenFault;
 use cs_pending::EditFault;
-use cs_pulling::AnswerFault;
-use cs_pushing::PushFault;
 use cs_replica::{Replica, Told};
 use cs_store::Trip;
 use cs_store_cases::catalog;

@@ -2,8 +2,8 @@
 //! opening then moves it to the places of its changes, in one commit.
 
 use crate::given::*;
-use cs_edits::{PlaceEdit, PlaceEdits};
 use cs_opening::OpenFault;
+use cs_store::edits::{PlaceEdit, PlaceEdits};
 use cs_store::{Batch, MetaEdit, MetaName, RowStore, StoreFault, Trip, Written};
 use std::alloc::Global;
 

@@ -1,11 +1,11 @@
 //! Calls that the device refuses, one after another: each is told, leaves everything, and is made when it comes again.
 
 use crate::given::*;
+use cs_exchange::pulling::AnswerFault;
+use cs_exchange::pushing::PushFault;
 use cs_map_store::MapStore;
 use cs_opening::OpenFault;
 use cs_pending::EditFault;
-use cs_pulling::AnswerFault;
-use cs_pushing::PushFault;
 use cs_replica::Told;
 use cs_store::Trip;
 use std::alloc::Global;

@@ -6,17 +6,17 @@ use Rattle.std.proofs.lemmas.List.{take_more}
 use Rattle.std.proofs.lemmas.Option.{slice_get-get_or, slice_get_cases}
 use Rattle.cs_value.specs.declared.catalog.TableDef.{TableDef}
 use Rattle.cs_value.specs.declared.value.Value.{Value}
-use Rattle.cs_log.specs.Log.{state_of}
+use Rattle.cs_store.specs.log.Log.{state_of}
 use Rattle.cs_normal.specs.State.{State}
-use Rattle.cs_position.specs.declared.position.Position.{Position}
-use Rattle.cs_rows.specs.Rows.{AreRowsOf}
+use Rattle.cs_pending.specs.declared.position.position.Position.{Position}
+use Rattle.cs_pending.specs.rows.Rows.{AreRowsOf}
 use Rattle.cs_text.specs.Text.{line}
-use Rattle.cs_told.specs.Told.{place_text}
+use Rattle.cs_node_lines.specs.told.Told.{place_text}
 use Rattle.cs_world.specs.Reads.{AreRowsIn}
 use Rattle.cs_world.specs.World.{Member, World}
 use Rattle.cs_script.specs.Dump.{AreReplicaLines}
 use Rattle.cs_script.specs.Turns.{PutsDump, PutsReplica, PutsReplicas}
-use Rattle.cs_told.specs.Dump.{AreRowLines, PutsRows, flight_count, numbered_text, replica_text, rows_text}
+use Rattle.cs_node_lines.specs.told.Dump.{AreRowLines, PutsRows, flight_count, numbered_text, replica_text, rows_text}
 
 rows_push : (tables : List TableDef) (table : TableDef) (state : State) (text : List ℕ) (rows : List (List ℕ × List Value))
     → AreRowLines tables state text → AreRowsOf (state table.name) rows

@@ -1,7 +1,7 @@
 -- Events, one after another.
 use Rattle.std.proofs.Common.{◌≡◌, ℕ, List, [], ◌∷◌, ◌++◌, refl, sym, ap, subst, ◌∙◌, append_assoc, append-nil}
-use Rattle.cs_log.specs.declared.entry.TheConstants.{MAX_ENTRIES}
-use Rattle.cs_map_store.specs.Slots.{InMemory, held_by, is_honest}
+use Rattle.cs_store.specs.declared.log.entry.TheConstants.{MAX_ENTRIES}
+use Rattle.cs_map_store.specs.Slots.{InMemory, in_map_store}
 use Rattle.cs_text.specs.Text.{line}
 use Rattle.cs_world.specs.Holding.{Holding}
 use Rattle.cs_world.specs.Runs.{Runs}
@@ -16,14 +16,14 @@ use Rattle.cs_script.proofs.WorldLemmas.{all_honest}
 
 -- an event made a step
 pub stepped : (old new : Holding InMemory) (event : Event) (outcome : Outcome) (world : World)
-    → Runs is_honest held_by MAX_ENTRIES old (event ∷ []) (outcome ∷ []) new → StandsAt old world
+    → Runs in_map_store MAX_ENTRIES old (event ∷ []) (outcome ∷ []) new → StandsAt old world
     → (next : World) × Step MAX_ENTRIES world event outcome next × StandsAt new next
 stepped old new event outcome world runs stands =
     let ran = runs.ran (all_honest new) world stands in
     let made = subst (λ (w : World). Step MAX_ENTRIES world event outcome w) (sym ran.1.2) ran.1.1 in (ran.0, made, ran.3)
 
 pub plays_one : (old new : Holding InMemory) (event : Event) (outcome : Outcome) (world : World) (version : ℕ) (before after : List ℕ)
-    → Runs is_honest held_by MAX_ENTRIES old (event ∷ []) (outcome ∷ []) new → StandsAt old world
+    → Runs in_map_store MAX_ENTRIES old (event ∷ []) (outcome ∷ []) new → StandsAt old world
     → ((next : World) → StandsAt new next → version ≡ version_told next event)
     → after ≡ before ++ line (outcome_text outcome version)
     → PlaysOne world event before after new

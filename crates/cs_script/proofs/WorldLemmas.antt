@@ -1,7 +1,7 @@
 -- A world in memory.
-use Rattle.cs_map_store.specs.Slots.{InMemory, held_by, is_honest}
+use Rattle.cs_map_store.specs.Slots.{InMemory, in_map_store}
 use Rattle.cs_world.specs.Holding.{AreHonest, Holding}
 
 -- memory is honest
-pub all_honest : (held : Holding InMemory) → AreHonest is_honest held_by held
+pub all_honest : (held : Holding InMemory) → AreHonest in_map_store held
 all_honest held = record { hub = tt; replicas = λ r one e. tt }

@@ -2,9 +2,9 @@
 use Rattle.std.specs.Prelude.{◌≡◌, ◌+◌, ℕ, List, [], ◌∷◌, ◌++◌, codes, length}
 use Rattle.std.specs.Fmt.{decimal}
 use Rattle.cs_value.specs.declared.catalog.TableDef.{TableDef}
-use Rattle.cs_log.specs.Log.{state_of}
+use Rattle.cs_store.specs.log.Log.{state_of}
 use Rattle.cs_text.specs.Text.{line}
-use Rattle.cs_told.specs.Dump.{AreRowLines, replica_text}
+use Rattle.cs_node_lines.specs.told.Dump.{AreRowLines, replica_text}
 use Rattle.cs_world.specs.World.{Member, World}
 
 -- replicas, of which the first has number r: where each stands, and its rows

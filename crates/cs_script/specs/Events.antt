@@ -2,10 +2,10 @@
 use Rattle.std.specs.Prelude.{ℕ, if◌then◌else◌, List, [], ◌∷◌, Option, Some, None, option_map, codes}
 use Rattle.std.specs.Str.{bytes_eq}
 use Rattle.cs_value.specs.declared.catalog.TableDef.{TableDef}
-use Rattle.cs_words.specs.Edits.{edit_in}
-use Rattle.cs_words.specs.Numbers.{small_in, unsigned_in}
-use Rattle.cs_words.specs.Wishes.{wishes_in}
-use Rattle.cs_words.specs.Words.{words_in}
+use Rattle.cs_text.specs.parse.Edits.{edit_in}
+use Rattle.cs_text.specs.parse.Numbers.{small_in, unsigned_in}
+use Rattle.cs_text.specs.parse.Wishes.{wishes_in}
+use Rattle.cs_text.specs.parse.Words.{words_in}
 use Rattle.cs_world.specs.declared.event.Event.{Event}
 use Rattle.cs_world.specs.declared.event.Event.TheVariants.{AskPull, Deliver, MakePush, OnEdit, Resend, Restart}
 

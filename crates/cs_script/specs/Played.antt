@@ -2,7 +2,7 @@
 use Rattle.std.specs.Prelude.{◌≡◌, ℕ, List, [], ◌∷◌, ◌++◌, Option, Some, None, codes, slice_get}
 use Rattle.std.specs.Fmt.{decimal}
 use Rattle.cs_text.specs.Text.{line}
-use Rattle.cs_told.specs.Told.{edit_fault_text, fault_text, open_fault_text, push_fault_text, told_text}
+use Rattle.cs_node_lines.specs.told.Told.{edit_fault_text, fault_text, open_fault_text, push_fault_text, told_text}
 use Rattle.cs_world.specs.Steps.{Step, receiver}
 use Rattle.cs_world.specs.World.{Member, World}
 use Rattle.cs_world.specs.declared.event.Event.{Event}

@@ -1,13 +1,13 @@
 -- Steps on the way from lines to a text: no definition that a public clause cites.
 use Rattle.std.specs.Prelude.{◌≡◌, ◌+◌, ℕ, List, [], ◌++◌, Option, Some, None}
 use Rattle.std.specs.Io.KnownBytes.{IsAtEnd, Keeps}
-use Rattle.cs_log.specs.declared.entry.TheConstants.{MAX_ENTRIES}
+use Rattle.cs_store.specs.declared.log.entry.TheConstants.{MAX_ENTRIES}
 use Rattle.cs_lines.specs.Reading.{StaysInLine, TakesLine}
-use Rattle.cs_log.specs.Log.{state_of}
-use Rattle.cs_map_store.specs.Slots.{InMemory, held_by, is_honest}
+use Rattle.cs_store.specs.log.Log.{state_of}
+use Rattle.cs_map_store.specs.Slots.{InMemory, in_map_store}
 use Rattle.cs_normal.specs.State.{State}
 use Rattle.cs_text.specs.Text.{line}
-use Rattle.cs_told.specs.Dump.{AreRowLines, replica_text}
+use Rattle.cs_node_lines.specs.told.Dump.{AreRowLines, replica_text}
 use Rattle.cs_value.specs.declared.catalog.TableDef.{TableDef}
 use Rattle.cs_world.specs.Holding.{Holding, StandsAt as StandsAtOver}
 use Rattle.cs_world.specs.Steps.{Step}
@@ -35,7 +35,7 @@ IsNoEvent tables read_failed before old new (fault.Line number) =
 
 -- what a world in memory stands at
 abbrev pub StandsAt : Holding InMemory → World → Type 0
-StandsAt held world = StandsAtOver is_honest held_by MAX_ENTRIES held world
+StandsAt held world = StandsAtOver in_map_store MAX_ENTRIES held world
 
 -- the event was made, and is told on a line behind a text
 abbrev pub PlaysOne : World → Event → List ℕ → List ℕ → Holding InMemory → Type 0

@@ -5,14 +5,14 @@ ghost use Rattle.std.specs.Fmt.{decimal};
 ghost use Rattle.cs_normal.specs.State.{State};
 ghost use Rattle.cs_script.specs.Turns.{IsStateOf, PutsDump, PutsReplica, PutsReplicas, StandsAt};
 ghost use Rattle.cs_text.specs.Text.{line};
-ghost use Rattle.cs_told.specs.Dump.{PutsRows, flight_count, numbered_text, rows_text};
-ghost use Rattle.cs_told.specs.Told.{place_text};
+ghost use Rattle.cs_node_lines.specs.told.Dump.{PutsRows, flight_count, numbered_text, rows_text};
+ghost use Rattle.cs_node_lines.specs.told.Told.{place_text};
 ghost use Rattle.cs_world.specs.Reads.{AreRowsIn};
 ghost use Rattle.cs_world.specs.World.{IsMember, Member, World as Standing};
 
 use cs_map_store::MapStore;
-use cs_rows::RowAtKey;
-use cs_told::{PlaceText, ReplicaText, RowsText};
+use cs_node_lines::told::{PlaceText, ReplicaText, RowsText};
+use cs_pending::rows::RowAtKey;
 use cs_value::{Catalog, Memory, Text};
 use cs_world::World;
 use std::alloc::{AllocError, Global};

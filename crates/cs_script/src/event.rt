@@ -2,13 +2,13 @@
 
 ghost use Rattle.std.specs.Prelude.{◌≡◌, IfOk};
 ghost use Rattle.cs_script.specs.Events.{alone, both_in, event_in, event_of, last_in};
-ghost use Rattle.cs_words.specs.Edits.{edit_in};
-ghost use Rattle.cs_words.specs.Numbers.{small_in, unsigned_in};
-ghost use Rattle.cs_words.specs.Wishes.{wishes_in};
+ghost use Rattle.cs_text.specs.parse.Edits.{edit_in};
+ghost use Rattle.cs_text.specs.parse.Numbers.{small_in, unsigned_in};
+ghost use Rattle.cs_text.specs.parse.Wishes.{wishes_in};
 
 use cs_conflict::Wish;
+use cs_text::parse::{Words, is_word, read_edit, read_wishes, small, unsigned};
 use cs_value::{Catalog, Items, Memory};
-use cs_words::{Words, is_word, read_edit, read_wishes, small, unsigned};
 use cs_world::{Event, WishList};
 use std::alloc::Global;
 

@@ -2,7 +2,7 @@
 //! replicas, each with its rows. `read_event` reads a line, exactly (`specs/Events.antt`). `run_script` carries the promise, end by end
 //! (`specs/Endings.antt`): the script is read whole before any event is made, a line that names none is told by its number and nothing
 //! is written; else what is written is the text of a run, step by step, of a new world in memory, and of the world at its end, which has the
-//! headline of `cs_world`. The crate stands on `cs_world`, on `cs_words` for the words of a line, on `cs_told` and `cs_text` for what is
+//! headline of `cs_world`. The crate stands on `cs_world`, on `cs_text::parse` for the words of a line, on `cs_node_lines::told` and `cs_text` for what is
 //! printed, and on `cs_lines` for its lines. Its tests stand in `cs_world_tests`.
 #![tactic(auto)]
 

@@ -3,7 +3,7 @@
 ghost use Rattle.std.specs.Prelude.{Some};
 ghost use Rattle.cs_script.specs.Played.{outcome_text};
 
-use cs_told::{FaultText, ToldText, edit_fault_name, open_fault_name, push_fault_name};
+use cs_node_lines::told::{FaultText, ToldText, edit_fault_name, open_fault_name, push_fault_name};
 use cs_world::Outcome;
 use std::fmt;
 

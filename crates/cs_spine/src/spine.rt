@@ -4,7 +4,7 @@ use crate::fault::{OfferFault, SpineFault};
 use crate::pass::Pass;
 use crate::segment::{SEGMENT_CELLS, Segment, follow, follow_or_make};
 use crate::sight::{Held, Sight};
-use cs_log::{LogEntry, MAX_ENTRIES};
+use cs_store::log::{LogEntry, MAX_ENTRIES};
 use cs_value::Memory;
 use once_cell::race::OnceBox;
 use std::alloc::Global;
@@ -43,8 +43,8 @@ impl Model for Spine {
 impl Spine {
     ghost use Rattle.std.specs.Prelude.{◌≡◌, ◌<◌, ◌↔◌, ◌∷◌, ◌++◌, ◌/◌, [], IfOk, IfSome, IsErrOf, MatchOption, OnErr, Some, length, min, slice_get, take};
     ghost use Rattle.once_cell.specs.Once.{cell_name};
-    ghost use Rattle.cs_log.specs.declared.entry.LogEntry.{LogEntry as Entry};
-    ghost use Rattle.cs_log.specs.declared.entry.TheConstants.{MAX_ENTRIES};
+    ghost use Rattle.cs_store.specs.declared.log.entry.LogEntry.{LogEntry as Entry};
+    ghost use Rattle.cs_store.specs.declared.log.entry.TheConstants.{MAX_ENTRIES};
     ghost use Rattle.cs_spine.specs.Known.{segment_cells};
     ghost use Rattle.cs_spine.specs.Sights.{IsSightOf};
 

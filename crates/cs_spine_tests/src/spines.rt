@@ -3,8 +3,8 @@
 ghost use Rattle.std.specs.Prelude.{◌≡◌};
 
 use crate::entries::insert;
-use cs_log::{LogEntry, MAX_ENTRIES};
 use cs_spine::{OfferFault, Offered, Pass, Spine, SpineFault};
+use cs_store::log::{LogEntry, MAX_ENTRIES};
 use std::alloc::Global;
 
 /// Whether the next cell holds this entry, as the pass sees it.

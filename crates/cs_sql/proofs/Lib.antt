@@ -1,2 +1,4 @@
 pub mod Whole
 pub mod OneSchema
+pub mod SchemaLemmas
+pub mod StatementsLemmas

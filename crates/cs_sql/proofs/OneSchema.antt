@@ -13,8 +13,8 @@ use Rattle.sqlite_schema.specs.declared.schema.Index.{Index}
 use Rattle.sqlite_schema.specs.Names.{same_name}
 use Rattle.sqlite_value.specs.declared.value.Value.{Value}
 use Rattle.sqlite_value.specs.declared.value.Value.TheVariants.{Null, Int, Real, Text, Blob}
-use Rattle.cs_sql_schema.specs.Schemas.{store_schema}
-use Rattle.cs_sql_statements.specs.Tables.{store_over}
+use Rattle.cs_sql.specs.schema.Schemas.{store_schema}
+use Rattle.cs_sql.specs.statements.Tables.{store_over}
 
 same_text : (a b : List ℕ) → ◌≡◌ {A = Value} (Text a) (Text b) → a ≡ b
 same_text a b e = cc

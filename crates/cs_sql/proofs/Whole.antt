@@ -23,12 +23,12 @@ use Rattle.cs_store.specs.declared.batch.StoredEntry.{StoredEntry}
 use Rattle.cs_store.specs.declared.batch.Batch.{Batch}
 use Rattle.cs_store.specs.declared.fault.StoreFault.{StoreFault}
 use Rattle.cs_store.specs.declared.fault.StoreFault.TheVariants.{Device}
-use Rattle.cs_sql_schema.specs.Schemas.{no_schema, front_schema, store_schema}
-use Rattle.cs_sql_schema.specs.Making.{AddsPending, IsCompleted, IsEmptyIn, IsLaidOut, IsUndone}
-use Rattle.cs_sql_statements.specs.Tables.{AreKept, IsKept, contents_in, store_over}
-use Rattle.cs_sql_statements.specs.Steps.{HasBatch, IsReady, IsWritten, Stays, with_batch}
-use Rattle.cs_sql_statements.specs.declared.counting.LogFound.{LogFound}
-use Rattle.cs_sql_statements.specs.Found.{IsFrontKept, IsFrontOf, IsLogOf, IsStoreOf, IsUntouched, front_in}
+use Rattle.cs_sql.specs.schema.Schemas.{no_schema, front_schema, store_schema}
+use Rattle.cs_sql.specs.schema.Making.{AddsPending, IsCompleted, IsEmptyIn, IsLaidOut, IsUndone}
+use Rattle.cs_sql.specs.statements.Tables.{AreKept, IsKept, contents_in, store_over}
+use Rattle.cs_sql.specs.statements.Steps.{HasBatch, IsReady, IsWritten, Stays, with_batch}
+use Rattle.cs_sql.specs.declared.statements.counting.LogFound.{LogFound}
+use Rattle.cs_sql.specs.statements.Found.{IsFrontKept, IsFrontOf, IsLogOf, IsStoreOf, IsUntouched, front_in}
 use Rattle.cs_sql.specs.Keeping.{Kept, IsSteady, IsFresh, IsAdopted, IsAt, IsGivenBack, IsMadeOf, IsToldAs, LeavesStore, MayLeave, OpenAsStore, count_with, holds, made_over}
 
 -- ---- a commit

@@ -11,11 +11,11 @@ use Rattle.cs_store.specs.Contents.{Contents, LogItem, nothing}
 use Rattle.cs_store.specs.Calls.{MoreFailures}
 use Rattle.cs_store.specs.declared.fault.StoreFault.{StoreFault}
 use Rattle.cs_store.specs.declared.fault.StoreFault.TheVariants.{Device}
-use Rattle.cs_sql_statements.specs.Tables.{AreKept, contents_in}
-use Rattle.cs_sql_statements.specs.Steps.{IsReady, Stays}
-use Rattle.cs_sql_statements.specs.declared.counting.LogFound.{LogFound}
-use Rattle.cs_sql_statements.specs.declared.looking.Found.TheVariants.{Fresh, Front, Ours}
-use Rattle.cs_sql_statements.specs.Found.{IsFound, IsLogOf, front_in}
+use Rattle.cs_sql.specs.statements.Tables.{AreKept, contents_in}
+use Rattle.cs_sql.specs.statements.Steps.{IsReady, Stays}
+use Rattle.cs_sql.specs.declared.statements.counting.LogFound.{LogFound}
+use Rattle.cs_sql.specs.declared.statements.looking.Found.TheVariants.{Fresh, Front, Ours}
+use Rattle.cs_sql.specs.statements.Found.{IsFound, IsLogOf, front_in}
 
 -- the count never falls, and rises with `Device`
 pub record IsToldAs (fault : StoreFault) (old new : ℕ) : Type 0 where

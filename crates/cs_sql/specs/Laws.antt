@@ -6,10 +6,10 @@ use Rattle.sqlite.specs.Store.{Ghosts}
 use Rattle.sqlite.specs.Held.{state}
 use Rattle.sqlite.specs.State.{State, HasCleanDisk}
 use Rattle.cs_store.specs.Contents.{Contents}
-use Rattle.cs_sql_statements.specs.Found.{IsFound}
-use Rattle.cs_sql_statements.specs.declared.counting.LogFound.{LogFound}
-use Rattle.cs_sql_statements.specs.declared.looking.Found.{Found}
-use Rattle.cs_sql_statements.specs.declared.looking.Found.TheVariants.{Foreign, Ours}
+use Rattle.cs_sql.specs.statements.Found.{IsFound}
+use Rattle.cs_sql.specs.declared.statements.counting.LogFound.{LogFound}
+use Rattle.cs_sql.specs.declared.statements.looking.Found.{Found}
+use Rattle.cs_sql.specs.declared.statements.looking.Found.TheVariants.{Foreign, Ours}
 use Rattle.cs_sql.specs.Keeping.{IsAdopted, IsHeldIn, Kept, MayLeave, holds}
 
 -- a store holds one thing of what a database shows

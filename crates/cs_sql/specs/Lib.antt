@@ -1,3 +1,5 @@
 pub mod Keeping
 pub mod Opening
 pub mod Laws
+pub mod schema
+pub mod statements

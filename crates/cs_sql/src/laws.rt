@@ -4,7 +4,7 @@ ghost use Rattle.sqlite.specs.Held.{state};
 ghost use Rattle.cs_sql.specs.Laws.{LeftOpens, NoneIsForeign, OneIsAdopted, OneIsFound, OneIsHeld, SomeIsFound};
 
 use crate::SqlStore;
-use cs_sql_schema::laws::judgements;
+use crate::schema::laws::judgements;
 use sqlite::{Alter, Connection};
 
 /// What a store holds of a database is one.

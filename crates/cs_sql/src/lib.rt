@@ -2,12 +2,14 @@
 //! opens. It meets what any store owes (`cs_store`'s `RowStore`); every commit is one transaction, so a stop leaves what the
 //! store held or the whole commit. `open_memory` makes one in memory, `open_path` opens a file, `adopt` takes a connection
 //! that the caller opened; each judges what it finds, and refuses another's database untouched; `laws` says that what a store
-//! then holds is one, and that whatever a stop leaves of a store opens as one that holds what was left. The crate stands on the
-//! statements (`cs_sql_statements`), on the schema (`cs_sql_schema`), on what stores owe (`cs_store`) and on `sqlite`.
+//! then holds is one, and that whatever a stop leaves of a store opens as one that holds what was left. `schema` has the tables, `statements` what is read and
+//! written of them. The crate stands on what stores owe (`cs_store`) and on `sqlite`.
 //! Its tests stand in `cs_sqlite_tests`.
 #![tactic(auto)]
 
 pub mod laws;
+pub mod schema;
+pub mod statements;
 mod store;
 
 pub use store::SqlStore;

@@ -8,15 +8,15 @@ ghost use Rattle.sqlite.specs.Steps.{over_memory};
 ghost use Rattle.sqlite.specs.WalFiles.{image_at};
 ghost use Rattle.cs_store.specs.Contents.{nothing};
 ghost use Rattle.cs_store.specs.Written.{optional_entry};
-ghost use Rattle.cs_sql_schema.specs.Schemas.{no_schema, front_schema};
-ghost use Rattle.cs_sql_statements.specs.Tables.{contents_in};
-ghost use Rattle.cs_sql_statements.specs.Steps.{IsReady};
-ghost use Rattle.cs_sql_statements.specs.Found.{IsFrontKept, IsLogOf, front_in};
+ghost use Rattle.cs_sql.specs.schema.Schemas.{no_schema, front_schema};
+ghost use Rattle.cs_sql.specs.statements.Tables.{contents_in};
+ghost use Rattle.cs_sql.specs.statements.Steps.{IsReady};
+ghost use Rattle.cs_sql.specs.statements.Found.{IsFrontKept, IsLogOf, front_in};
 ghost use Rattle.cs_sql.specs.Keeping.{IsAdopted, IsAt, IsFresh, IsGivenBack, IsMadeOf, IsToldAs, LeavesStore, count_with, made_over};
 ghost use Rattle.cs_sql.specs.Opening.{IsOpenedAt};
 
-use cs_sql_schema::{complete, lay_out};
-use cs_sql_statements::{
+use crate::schema::{complete, lay_out};
+use crate::statements::{
     Found, LogFound, check_store, commit_batch, list_log, list_pending, list_rows, look, read_log,
     read_meta, read_pending, read_row,
 };
@@ -231,7 +231,7 @@ impl<A: Alter> RowStore for SqlStore<A> {
     ghost use Rattle.std.proofs.Math.Logic.{∥∥₁_map};
     ghost use Rattle.sqlite.specs.Held.{state};
     ghost use Rattle.sqlite.specs.State.{HasCleanDisk};
-    ghost use Rattle.cs_sql_statements.specs.Tables.{contents_in};
+    ghost use Rattle.cs_sql.specs.statements.Tables.{contents_in};
     ghost use Rattle.cs_sql.specs.Keeping.{holds, MayLeave};
 
     ghost contents = { λ s. holds A.Store s };

@@ -6,7 +6,7 @@ use Rattle.cs_value.specs.Key.{Place}
 use Rattle.cs_value.specs.declared.catalog.TableDef.{TableDef}
 use Rattle.cs_record.specs.Spelling.{row_bytes}
 use Rattle.cs_record.specs.OneSpelling.{one_spelled_row}
-use Rattle.cs_log.specs.State.{MayStandAt}
+use Rattle.cs_store.specs.log.State.{MayStandAt}
 use Rattle.cs_store.specs.StateLaws as law
 use Rattle.cs_store.proofs.StoreLaws.{writes_rows}
 

@@ -1,25 +1,24 @@
 -- The laws of stores: one answer for each input, and what a commit leaves at each place.
-use Rattle.std.proofs.Common.{◌≡◌, ◌≢◌, ◌≤◌, ◌-◌, zero, suc, ℕ, ◌&&◌, cond, List, [], ◌∷◌, Option, Some, None, is_some, refl, sym, ap, ◌∙◌, fold, arith, Result, Ok, Err, IsOk, OnOk, OnErr, IsSome, true, inl, inr, ⊎_elim, subst, ◌+◌, ◌<◌}
-use Rattle.std.specs.Prelude.{pos, nat_eq, false, ◌↔◌}
-use Rattle.std.proofs.Math.Dec.{eqb}
+use Rattle.std.proofs.Common.{◌≡◌, ◌≢◌, ◌≤◌, ◌-◌, zero, suc, ℕ, ◌&&◌, cond, List, [], ◌∷◌, Option, Some, None, is_some, refl, sym, ap, ◌∙◌, fold, arith, Result, Ok, Err, IsOk, OnOk, OnErr, IsSome, inl, inr, ⊎_elim, subst, ◌+◌}
+use Rattle.std.specs.Prelude.{pos, nat_eq, false}
 use borrow.Author.Tests.{eqb-true, eqb-false}
 use Rattle.std.specs.declared.cmp.Ordering.{Ordering}
 use Rattle.std.specs.declared.cmp.Ordering.TheVariants.{Less, Equal, Greater}
 use Rattle.std.specs.Ordering.{is_eq, eq_by_cmp, int_cmp, ordering_then}
-use Rattle.std.specs.FinMap.{empty, empty_of_len, get, len, insert, get-empty, get-insert, len-insert, len-remove, len-empty}
+use Rattle.std.specs.FinMap.{empty, empty_of_len, get, len, insert, get-empty, get-insert, len-insert, len-remove}
 use Rattle.std.specs.Cmp.{Equal-is}
 use Rattle.std.proofs.lemmas.Bool.{false_from_ne_true}
 use Rattle.std.specs.FinMap.Entries.{same_entries}
 use Rattle.std.proofs.lemmas.Cmp.{int_cmp_total, nat_list_cmp_total}
 use Rattle.std.proofs.lemmas.Map.Lookups.{exact_bytes}
 use Rattle.cs_order.specs.Order.{by_bytes, same_bytes}
-use Rattle.cs_store.specs.Contents.{Contents, Log, LogItem, Bodies, Meta, StorePlace, place_cmp, name_text}
+use Rattle.cs_store.specs.Contents.{Contents, LogItem, Bodies, Meta, StorePlace, place_cmp, name_text}
 use Rattle.cs_store.specs.Written.{edit_body, edit_meta, appended, optional_bytes, optional_entry, item_of, store_place, with_body}
 use Rattle.cs_store.specs.Laws as law
 use Rattle.cs_store.specs.Calls as call
 use Rattle.cs_store.specs.Calls.{CountsFailures}
 use Rattle.cs_store.specs.declared.fault.StoreFault.{StoreFault}
-use Rattle.cs_edits.specs.Edits.{BodyEdit}
+use Rattle.cs_store.specs.edits.Edits.{BodyEdit}
 use Rattle.cs_store.specs.declared.batch.MetaEdit.{MetaEdit}
 use Rattle.cs_store.specs.declared.names.MetaName.{MetaName}
 use Rattle.cs_store.specs.declared.names.MetaName.TheVariants.{Id, Version, Number, Flight, Pending, Catalog}
@@ -263,41 +262,3 @@ commit_can_be before after = record {
   failures = record { kept = refl; later = omega arith; cause = λ e. absurd cc };
   as_read = refl;
 }
-
--- ---- a log without gaps
-
-pub starts_with_no_gaps : law.StartsWithNoGaps
-starts_with_no_gaps version = (
-  λ some. absurd (let none : is_some {T = LogItem} None ≡ true = ap is_some (sym (get-empty int_cmp (pos version))) ∙ some in cc),
-  λ less. absurd (let none = len-empty int_cmp LogItem in omega (arith, less, none)),
-)
-
-none_from : (o : Option LogItem) → (IsSome o → ⊥) → o ≡ None
-none_from None h = refl
-none_from (Some item) h = absurd (h refl)
-
--- entries at the versions below n, and one at n
-below_next : (n version : ℕ) (o : Option LogItem) (item : LogItem) → (IsSome o ↔ (version < n)) → IsSome (cond (eqb version n) (Some item) o) ↔ (version < n + 1)
-below_next n version o item gapless =
-    elim (eqb version n) as (λ b. eqb version n ≡ b → IsSome (cond b (Some item) o) ↔ (version < n + 1)) [
-      | true ↦ λ p. (λ some. let is = eqb-true version n p in omega (arith, is), λ less. refl)
-      | false ↦ λ p. (λ some. let less = gapless.0 some in omega (arith, less), λ less. let apart = eqb-false version n p in gapless.1 (omega (arith, less, apart)))
-    ] refl
-
-one_more : (log : Log) (item : LogItem) → ((version : ℕ) → IsSome (get log (pos version)) ↔ (version < len log))
-    → (version : ℕ) → IsSome (get (insert log (pos (len log)) item) (pos version)) ↔ (version < len (insert log (pos (len log)) item))
-one_more log item gapless version =
-    let free : get log (pos (len log)) ≡ None = none_from _ (λ some. absurd (let less = (gapless (len log)).0 some in omega (arith, less))) in
-    let count : len (insert log (pos (len log)) item) ≡ len log + 1 =
-    len-insert int_cmp_total log (pos (len log)) item ∙ ap (λ (o : Option LogItem). cond (is_some o) (len log) (len log + 1)) free in
-    let at : get (insert log (pos (len log)) item) (pos version) ≡ cond (eqb version (len log)) (Some item) (get log (pos version)) =
-    get-insert int_cmp_total log (pos (len log)) item (pos version) ∙ ap (λ b. cond b (Some item) (get log (pos version))) (tie_pos version (len log)) in
-    let below = below_next (len log) version (get log (pos version)) item (gapless version) in
-    (λ some. subst (λ n. version < n) (sym count) (below.0 (subst IsSome at some)), λ less. subst IsSome (sym at) (below.1 (subst (λ n. version < n) count less)))
-
-pub keeps_no_gaps : law.KeepsNoGaps
-keeps_no_gaps batch before gapless version =
-    elim batch.log as (λ o. IsSome (get (appended before.log (optional_entry o)) (pos version)) ↔ (version < len (appended before.log (optional_entry o)))) [
-      | None ↦ gapless version
-      | Some entry ↦ one_more before.log (item_of entry) gapless version
-    ]

@@ -1,5 +1,5 @@
 -- What a store holds, whatever it is kept in (profile of this project).
-use Rattle.std.specs.Prelude.{◌≡◌, ◌<◌, ◌+◌, ◌↔◌, refl, ℕ, zero, suc, ℤ, pos, T, List, [], ◌∷◌, Option, Some, None, IsSome, codes}
+use Rattle.std.specs.Prelude.{◌≡◌, ◌<◌, ◌+◌, refl, ℕ, zero, suc, ℤ, pos, T, List, [], ◌∷◌, Option, Some, None, IsSome, codes}
 use Rattle.std.specs.Coded.{Coded, code_by, coded×, coded_list, coded_ℕ, coded_ℤ}
 use Rattle.std.specs.declared.cmp.Ordering.{Ordering}
 use Rattle.std.specs.Ordering.{int_cmp, on, then_cmp}
@@ -109,7 +109,3 @@ pub record IsListing (table : List ℕ → Option (List ℕ)) (rows : List (List
 -- an entry stands at each version below their count
 abbrev pub HasEachEntry : Contents → Type 0
 HasEachEntry contents = (version : ℕ) → version < log_count contents → IsSome (log_entry contents version)
-
--- entries stand at exactly the versions below their count
-abbrev pub HasNoGaps : Contents → Type 0
-HasNoGaps contents = (version : ℕ) → IsSome (log_entry contents version) ↔ (version < log_count contents)

@@ -3,14 +3,14 @@ use Rattle.std.specs.Prelude.{◌≡◌, ◌≢◌, ◌<◌, ◌+◌, ◌-◌, �
 use Rattle.std.specs.FinMap.{empty, get, insert, len}
 use Rattle.std.specs.List.{AllByRecursion}
 use Rattle.cs_order.specs.Order.{same_bytes}
-use Rattle.cs_edits.specs.Edits.{BodyEdit}
+use Rattle.cs_store.specs.edits.Edits.{BodyEdit}
 use Rattle.cs_store.specs.declared.batch.MetaEdit.{MetaEdit}
 use Rattle.cs_store.specs.declared.batch.StoredEntry.{StoredEntry}
 use Rattle.cs_store.specs.declared.batch.Batch.{Batch}
 use Rattle.cs_store.specs.declared.names.MetaName.{MetaName}
 use Rattle.cs_store.specs.declared.fault.StoreFault.{StoreFault}
 use Rattle.cs_store.specs.declared.fault.StoreFault.TheVariants.{Memory}
-use Rattle.cs_store.specs.Contents.{Bodies, Contents, HasNoGaps, IsListing, LogItem, StorePlace, name_text, nothing, stored_tables, stored_pending, meta_value, log_entry, log_count}
+use Rattle.cs_store.specs.Contents.{Bodies, Contents, IsListing, LogItem, StorePlace, name_text, nothing, stored_tables, stored_pending, meta_value, log_entry, log_count}
 use Rattle.cs_store.specs.Written.{after_batch, edit_body, optional_bytes, optional_entry, store_place}
 use Rattle.cs_store.specs.Calls.{Commits, CountsFailures, OnlyReads, refusal}
 use Rattle.cs_store.specs.declared.store.RowStore.{Ghosts}
@@ -203,12 +203,3 @@ CountsBodies =
 -- no two names have one text
 abbrev pub NamesApart : Type 0
 NamesApart = (some other : MetaName) → name_text some ≡ name_text other → some ≡ other
-
--- ---- a log without gaps
-
--- a new store has one, and a commit keeps it
-abbrev pub StartsWithNoGaps : Type 0
-StartsWithNoGaps = HasNoGaps nothing
-
-abbrev pub KeepsNoGaps : Type 0
-KeepsNoGaps = (batch : Batch) (before : Contents) → HasNoGaps before → HasNoGaps (after_batch batch before)

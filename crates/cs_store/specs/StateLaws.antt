@@ -1,7 +1,7 @@
 -- The laws of stores that hold the rows of tables.
 use Rattle.std.specs.Prelude.{List}
 use Rattle.cs_value.specs.declared.catalog.TableDef.{TableDef}
-use Rattle.cs_log.specs.State.{State, AreSame, IsStateOf}
+use Rattle.cs_store.specs.log.State.{State, AreSame, IsStateOf}
 use Rattle.cs_store.specs.Contents.{Contents}
 use Rattle.cs_store.specs.Written.{after_batch}
 use Rattle.cs_store.specs.States.{Holds, AreEdits}

@@ -7,10 +7,10 @@ use Rattle.cs_change.specs.Spelling.{FitsRow}
 use Rattle.cs_value.specs.declared.catalog.TableDef.{TableDef}
 use Rattle.cs_record.specs.Spelling.{row_bytes}
 use Rattle.cs_order.specs.Order.{by_bytes}
-use Rattle.cs_log.specs.State.{State, IsStateOf}
+use Rattle.cs_store.specs.log.State.{State, IsStateOf}
 use Rattle.cs_store.specs.Contents.{Contents, stored_tables}
 use Rattle.cs_store.specs.Laws.{row_after}
-use Rattle.cs_edits.specs.Edits.{BodyEdit}
+use Rattle.cs_store.specs.edits.Edits.{BodyEdit}
 
 -- the store holds these rows, and they are rows of the tables: at a table's place in the catalog and the bytes of a key
 -- it has the bytes of the row that stands there, or none

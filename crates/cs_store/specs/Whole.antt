@@ -6,9 +6,9 @@ use Rattle.cs_value.specs.declared.value.Value.{Value}
 use Rattle.cs_record.specs.Spelling.{row_bytes}
 use Rattle.cs_change.specs.Spelling.{FitsChange, change_spelling}
 use Rattle.cs_change.specs.declared.change.Change.{Change}
-use Rattle.cs_keyed.specs.NormalForm.{change_bytes, has_key}
-use Rattle.cs_log.specs.State.{IsRowOf}
-use Rattle.cs_log.specs.Stored.{IsStoredBody}
+use Rattle.cs_normal.specs.keyed.NormalForm.{change_bytes, has_key}
+use Rattle.cs_store.specs.log.State.{IsRowOf}
+use Rattle.cs_store.specs.log.Stored.{IsStoredBody}
 use Rattle.cs_store.specs.Contents.{Contents, LogItem, StorePlace, name_text}
 use Rattle.cs_store.specs.declared.names.MetaName.{MetaName}
 

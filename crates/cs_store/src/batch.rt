@@ -1,7 +1,7 @@
 //! What one commit writes.
 
 use crate::MetaName;
-use cs_edits::PlaceEdits;
+use crate::edits::PlaceEdits;
 
 /// A value that is set, or with no value removed. (Profile of this project.)
 #[derive(Debug, Drop)]

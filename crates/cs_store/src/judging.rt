@@ -4,13 +4,13 @@ ghost use Rattle.std.specs.Prelude.{◌≡◌, ◌↔◌, true, pos, List, Some,
 ghost use Rattle.cs_value.specs.declared.value.Value.{Value};
 ghost use Rattle.cs_record.specs.Spelling.{row_bytes};
 ghost use Rattle.cs_change.specs.Spelling.{FitsRow, is_nonzero, marks_of};
-ghost use Rattle.cs_keyed.specs.NormalForm.{change_bytes, has_key};
+ghost use Rattle.cs_normal.specs.keyed.NormalForm.{change_bytes, has_key};
 ghost use Rattle.cs_store.specs.Whole.{AtTable, IsName, StoresBody, StoresChange, StoresRow};
 
 use crate::MetaName;
+use crate::log::is_stored_body;
 use cs_changeset::{Change, read_one};
-use cs_keyed::put_key;
-use cs_log::is_stored_body;
+use cs_normal::keyed::put_key;
 use cs_record::{Row, read_row};
 use cs_value::{Catalog, Memory, TableDef};
 use std::alloc::Global;

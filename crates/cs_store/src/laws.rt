@@ -1,6 +1,6 @@
 //! The laws of stores, each the contract of a function that does nothing.
 
-ghost use Rattle.cs_store.specs.Laws.{CommitCanBe, CommitsThenReads, CountsBodies, CountsLog, FailsToCommit, KeepsNoGaps, KeepsOtherNames, KeepsOtherPending, KeepsOtherRows, ListsTwoRows, NamesApart, OneCommit, OneListing, OneRefusal, OnlyMemory, ReadsAlike, ReadsEdits, ReadsThenCommits, ReadsThenReads, StartsWithNoGaps, WritesLog, WritesMeta, WritesPending, WritesRows};
+ghost use Rattle.cs_store.specs.Laws.{CommitCanBe, CommitsThenReads, CountsBodies, CountsLog, FailsToCommit, KeepsOtherNames, KeepsOtherPending, KeepsOtherRows, ListsTwoRows, NamesApart, OneCommit, OneListing, OneRefusal, OnlyMemory, ReadsAlike, ReadsEdits, ReadsThenCommits, ReadsThenReads, WritesLog, WritesMeta, WritesPending, WritesRows};
 ghost use Rattle.cs_store.specs.StateLaws.{EditsLeadToState, HoldsOneState};
 
 use crate::RowStore;
@@ -50,12 +50,6 @@ pub fn commits()
 pub fn states()
     ensures one { HoldsOneState }
     ensures edited { EditsLeadToState }
-{}
-
-/// A new store's log has no gaps, and a commit keeps it so.
-pub fn no_gaps()
-    ensures new { StartsWithNoGaps }
-    ensures kept { KeepsNoGaps }
 {}
 
 /// Where the count of failures stood still below its last value, a fault is `Memory`.

@@ -5,16 +5,18 @@
 //! `cs_map_store`.
 //! `check` says whether all that a store holds is what its places say, by a catalog; `is_row`, `is_change`, `is_body` and
 //! `is_name` judge one piece of it. The crate stands on rows and changes (`cs_record`, `cs_change`, `cs_changeset`), on normal
-//! changesets and states (`cs_normal`), on entries (`cs_log`) and on the order of keys (`cs_order`). `laws` says that a listing
-//! and a commit have one answer, what a commit leaves at each place, how calls follow one another, that a log without gaps
-//! stays so, and that a store holds one state of the tables.
+//! changesets and states (`cs_normal`), and on the order of keys (`cs_order`). `edits` are edits at places, `log` has the entries of a log. `laws` says that a listing
+//! and a commit have one answer, what a commit leaves at each place, how calls follow one another, and that a store holds
+//! one state of the tables.
 //! Its tests stand in `cs_stores_tests`.
 #![tactic(auto)]
 
 mod batch;
+pub mod edits;
 mod fault;
 mod judging;
 pub mod laws;
+pub mod log;
 mod names;
 mod store;
 mod trip;

@@ -1,6 +1,6 @@
 //! Batches that are made of parts.
 
-use cs_edits::{LentEdits, PlaceEdit, PlaceEdits};
+use cs_store::edits::{LentEdits, PlaceEdit, PlaceEdits};
 use cs_store::{Batch, MetaEdit, MetaName, RowStore, StoreFault, StoredEntry};
 use std::alloc::{AllocError, Global};
 

@@ -1,5 +1,5 @@
-//! Tests of stores, by public calls: batches and the store in memory (`cs_edits`, `cs_store`, `cs_leaf`, `cs_map_store`), and rows with
-//! pending changes in it (`cs_pending`, `cs_outgoing`).
+//! Tests of stores, by public calls: batches and the store in memory (`cs_store::edits`, `cs_store`, `cs_leaf`, `cs_map_store`), and rows with
+//! pending changes in it (`cs_pending`, `cs_pending::outgoing`).
 #![tactic(auto)]
 
 #[cfg(test)]

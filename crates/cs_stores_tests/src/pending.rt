@@ -1,11 +1,11 @@
 //! Edits as calls: refusals that no line can ask for, what an edit writes, and calls that are refused, by the device, for want of memory or
 //! for bytes that are no row, which leave everything. What edits leave one after another is rows of `bench/check_node.sh`.
 
-use cs_edits::{PlaceEdit, PlaceEdits};
 use cs_map_store::MapStore;
-use cs_outgoing::{Outgoing, gather};
+use cs_pending::outgoing::{Outgoing, gather};
 use cs_pending::*;
 use cs_record::{RowBuf, read_row};
+use cs_store::edits::{PlaceEdit, PlaceEdits};
 use cs_store::{Batch, RowStore, StoreFault, Trip, Written};
 use cs_value::{Catalog, Field, Items, TableDef, Text, Value};
 use std::alloc::{AllocError, Global};

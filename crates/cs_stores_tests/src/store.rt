@@ -3,8 +3,8 @@
 
 ghost use Rattle.std.specs.Prelude.{◌≡◌, IfErr};
 
-use cs_edits::{LentEdits, PlaceEdit, PlaceEdits};
 use cs_map_store::MapStore;
+use cs_store::edits::{LentEdits, PlaceEdit, PlaceEdits};
 use cs_store::*;
 use cs_store_cases::*;
 use cs_value::Catalog;

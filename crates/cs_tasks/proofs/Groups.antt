@@ -1,6 +1,6 @@
 -- Groups and the tables that they fit.
 use Rattle.std.proofs.lemmas.List.{take_more, append_assoc, map-append}
-use Rattle.std.specs.Prelude.{get_or, Result, IfErr}
+use Rattle.std.specs.Prelude.{get_or, Result, IfErr, slice_get}
 use Rattle.std.proofs.Common.{append-nil, ◌<◌, take, ◌≡◌, ◌++◌, ◌+◌, ◌≤◌, ℕ, zero, suc, map, Bool, true, false, not, ◌&&◌, List, [], ◌∷◌, length, Option, Some, None, is_some, option_map, refl, sym, ap, ◌∙◌, arith}
 use Rattle.std.proofs.lemmas.Bool.Decides.{same_from_decides}
 use Rattle.std.proofs.lemmas.Option.{same_Some}
@@ -13,9 +13,8 @@ use Rattle.cs_tasks.specs.declared.tasks.TasksBuilder.{TasksBuilder}
 use Rattle.cs_tasks.specs.declared.fault.TasksFault.{TasksFault}
 use Rattle.cs_tasks.specs.declared.fault.TasksFault.TheVariants as why
 use Rattle.cs_change.specs.declared.change.Change.{Change}
-use Rattle.cs_keyed.specs.NormalForm.{has_key}
+use Rattle.cs_normal.specs.keyed.NormalForm.{has_key}
 use Rattle.std.specs.List.{list_all}
-use Rattle.std.specs.Prelude.{slice_get}
 use Rattle.std.specs.Str.{bytes_eq}
 use Rattle.std.specs.Bool.{Decides}
 use Rattle.std.specs.Cmp.{booleans_Decides}

@@ -10,7 +10,7 @@ use Rattle.cs_change.specs.declared.change.Change.{Change}
 use Rattle.cs_change.specs.declared.group.Group.{Group}
 use Rattle.cs_order.specs.Order.{Keys}
 use Rattle.cs_store.specs.States.{place_bytes}
-use Rattle.cs_keyed.specs.NormalForm.{change_bytes, marked_fields}
+use Rattle.cs_normal.specs.keyed.NormalForm.{change_bytes, marked_fields}
 use Rattle.cs_tasks.specs.Tasks.{task}
 
 no_marks : (fields : List Field) → marked_fields [] fields ≡ []

@@ -13,8 +13,8 @@ use Rattle.cs_change.specs.Spelling.{marks_of}
 use Rattle.cs_change.specs.declared.change.Change.{Change}
 use Rattle.cs_change.specs.declared.change.Change.TheVariants.{Insert, Delete, Update}
 use Rattle.cs_change.specs.declared.group.Group.{Group}
-use Rattle.cs_keyed.specs.Changes.{key_bytes}
-use Rattle.cs_keyed.specs.NormalForm.{HaveSameKeys, change_bytes, has_key}
+use Rattle.cs_normal.specs.keyed.Changes.{key_bytes}
+use Rattle.cs_normal.specs.keyed.NormalForm.{HaveSameKeys, change_bytes, has_key}
 use Rattle.cs_tasks.specs.Tasks.{fits_table}
 
 and_right : (a b : Bool) → (a && b) ≡ true → b ≡ true

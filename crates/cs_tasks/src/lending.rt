@@ -4,10 +4,10 @@ ghost use Rattle.std.specs.Prelude.{◌≡◌, true, map, IfOk, IfSome};
 ghost use Rattle.std.specs.List.{list_all};
 ghost use Rattle.cs_value.specs.Catalog.{is_set};
 ghost use Rattle.cs_order.specs.Order.{keys_behind};
-ghost use Rattle.cs_keyed.specs.NormalForm.{change_bytes, has_key, marked_fields};
+ghost use Rattle.cs_normal.specs.keyed.NormalForm.{change_bytes, has_key, marked_fields};
 
 use cs_change::Change;
-use cs_keyed::{key_front, lend_key};
+use cs_normal::keyed::{key_front, lend_key};
 use cs_record::{Cell, Record};
 use cs_value::Memory;
 use std::alloc::Global;
@@ -60,7 +60,7 @@ pub(crate) struct ChangeKeys<'a> {
 impl<'a> Model for ChangeKeys<'a> {
     ghost use Rattle.std.specs.Prelude.{◌≡◌, map};
     ghost use Rattle.cs_order.specs.Order.{Keys, keys_behind};
-    ghost use Rattle.cs_keyed.specs.NormalForm.{change_bytes};
+    ghost use Rattle.cs_normal.specs.keyed.NormalForm.{change_bytes};
 
     ghost Value = { Keys };
 

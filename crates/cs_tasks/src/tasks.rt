@@ -3,7 +3,7 @@
 ghost use Rattle.std.specs.Prelude.{◌≡◌, ◌<◌, ◌+◌, ◌++◌, ◌∷◌, [], List, length, map, option_map, OnOk, IfOk, IfErr, IfSome};
 ghost use Rattle.std.specs.List.{list_all};
 ghost use Rattle.cs_change.specs.Spelling.{marks_of};
-ghost use Rattle.cs_keyed.specs.NormalForm.{HaveSameKeys, change_bytes, has_key};
+ghost use Rattle.cs_normal.specs.keyed.NormalForm.{HaveSameKeys, change_bytes, has_key};
 ghost use Rattle.cs_store.specs.States.{place_bytes};
 ghost use Rattle.cs_tasks.specs.Tasks.{Task, all_keyed, fits_table, table_of, task, tasks, tasks_at, one_if_none, skipped};
 ghost use Rattle.cs_tasks.specs.Found.{AreFound, AreGathered, TellsNullKey};
@@ -14,7 +14,7 @@ use crate::lending::lend_keys;
 use crate::only::{Only, count_skipped, find_only};
 use crate::task_places::TaskPlaces;
 use cs_change::{Change, Changeset, Group};
-use cs_keyed::{KeysBuilder, key_front};
+use cs_normal::keyed::{KeysBuilder, key_front};
 use cs_normal::same_shape;
 use cs_value::{Catalog, Memory, TableDef};
 use std::alloc::Global;

@@ -3,12 +3,14 @@
 //! its own. The definitions of `Text` state each text exactly, and each type here promises its own: what `{}` writes of a
 //! `ChangesetText`, a `BlobText`, a `NameText`, a `ValueText` or a `FieldText` is that text and nothing else, so `format!`
 //! ensures it where it succeeds. The text is a format of this project, described in docs/FORMATS.md.
+//! `parse` reads what the words of a line spell.
 //! Its texts are compared by `bench/check_tools.sh`.
 #![tactic(auto)]
 
 mod blobs;
 mod changesets;
 mod common;
+pub mod parse;
 mod words;
 
 pub use blobs::BlobText;

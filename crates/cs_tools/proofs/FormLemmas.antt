@@ -5,7 +5,7 @@ use Rattle.std.proofs.lemmas.List.{append-nil}
 use Rattle.std.proofs.lemmas.List.Elements.{All-from_recursion, recursion_from_All}
 use Rattle.cs_blob.specs.Spelling.{FitsBlob}
 use Rattle.cs_blob.specs.declared.blob.BlobGroup.{BlobGroup}
-use Rattle.cs_keyed.specs.Changes.{Changes}
+use Rattle.cs_normal.specs.keyed.Changes.{Changes}
 use Rattle.cs_normal.specs.declared.normal.TableChanges.{TableChanges}
 use Rattle.cs_rebaser.specs.Rebased.{HasShapeOf, HaveShapes, rebased, rebased_changes, with_changes}
 use Rattle.cs_rebaser.specs.RebasedLaws.{RebasedIsNormal}

@@ -3,10 +3,10 @@ use Rattle.std.proofs.Common.{◌≡◌, List, [], ◌∷◌, map, refl, arith}
 use Rattle.std.specs.List.{AllByRecursion}
 use Rattle.std.proofs.lemmas.List.{length-map}
 use Rattle.std.proofs.lemmas.List.Elements.{recursion_from_All}
-use Rattle.cs_log.specs.Entry.{kind_of}
-use Rattle.cs_log.specs.declared.body.Body.{Body}
-use Rattle.cs_log.specs.declared.body.Body.TheVariants.{Changes}
-use Rattle.cs_log.specs.declared.entry.LogEntry.{LogEntry}
+use Rattle.cs_store.specs.log.Entry.{kind_of}
+use Rattle.cs_store.specs.declared.log.body.Body.{Body}
+use Rattle.cs_store.specs.declared.log.body.Body.TheVariants.{Changes}
+use Rattle.cs_store.specs.declared.log.entry.LogEntry.{LogEntry}
 use Rattle.cs_wire.specs.Entries.{FitsEntry}
 use Rattle.cs_wire.specs.Laws.{HasNumbersInRange, ToldAreRead}
 use Rattle.cs_wire.specs.Told.{FitsMessage, told_entry}

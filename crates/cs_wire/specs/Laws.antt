@@ -1,6 +1,6 @@
 -- The laws of requests and answers.
 use Rattle.std.specs.Prelude.{◌≡◌, ◌≢◌, ℕ, ◌<◌, ◌^◌, List, [], ◌++◌, length, map, All, Result}
-use Rattle.cs_log.specs.declared.entry.LogEntry.{LogEntry}
+use Rattle.cs_store.specs.declared.log.entry.LogEntry.{LogEntry}
 use Rattle.cs_varint.specs.Bytes.{AreBytes}
 use Rattle.cs_wire.specs.Answers.{FitsAnswer, IsAnswerFault, ReadsAnswer, answer_spelling}
 use Rattle.cs_wire.specs.Requests.{Asked, FitsRequest, IsRequestFault, ReadsRequest, request_spelling}

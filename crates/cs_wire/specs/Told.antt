@@ -1,7 +1,7 @@
 -- How an answer tells an entry of the log. (Profile of this project.)
-use Rattle.cs_log.specs.Entry.{body_spelling, kind_of}
-use Rattle.cs_log.specs.Stored.{IsWithinBound}
-use Rattle.cs_log.specs.declared.entry.LogEntry.{LogEntry}
+use Rattle.cs_store.specs.log.Entry.{body_spelling, kind_of}
+use Rattle.cs_store.specs.log.Stored.{IsWithinBound}
+use Rattle.cs_store.specs.declared.log.entry.LogEntry.{LogEntry}
 use Rattle.cs_wire.specs.Entries.{ToldEntry}
 
 -- its kind, whose push it was, its number, and the bytes of what it does

@@ -7,7 +7,7 @@ use crate::fault::WireFault;
 use crate::numbers::{split_u32, split_u64};
 use std::marker::Model;
 
-/// The kind of an entry that does a changeset, which is that of a log's body with changes as it stands there (`Body::kind` of `cs_log`).
+/// The kind of an entry that does a changeset, which is that of a log's body with changes as it stands there (`Body::kind` of `cs_store::log`).
 /// There is no other. (Profile of this project.)
 const CHANGESET: u8 = 0;
 

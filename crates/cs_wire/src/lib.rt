@@ -3,7 +3,7 @@
 //! in no memory: a changeset and entries stay in the bytes that came, and `Entries::split_first` walks them. `Request::encode`,
 //! `ShortAnswer::put`, `entries_head` and `put_entry` append exactly the spelling. `laws` says that bytes are one message or have one
 //! fault, that there is one or the other, that a front of a message is Truncated, and that entries of a log are read as they
-//! were told. The crate stands on the log's entries (`cs_log`); its tests stand in `cs_bytes_tests`.
+//! were told. The crate stands on the log's entries (`cs_store::log`); its tests stand in `cs_bytes_tests`.
 #![tactic(auto)]
 
 mod answer;

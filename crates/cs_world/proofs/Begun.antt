@@ -6,15 +6,15 @@ use Rattle.std.proofs.lemmas.List.{length-map}
 use Rattle.cs_value.specs.Catalog.{AreTables}
 use Rattle.cs_value.specs.declared.catalog.TableDef.{TableDef}
 use Rattle.cs_hub.specs.Holding as hub
-use Rattle.cs_log.specs.declared.entry.LogEntry.{LogEntry}
-use Rattle.cs_log_store.specs.Shows.{ShowsLog}
+use Rattle.cs_store.specs.declared.log.entry.LogEntry.{LogEntry}
+use Rattle.cs_hub.specs.log_store.Shows.{ShowsLog}
 use Rattle.cs_replica.specs.Moved.{IsStoreOpened}
 use Rattle.cs_opening.specs.Fresh.{IsFirst, first_position}
 use Rattle.cs_order.specs.Order.{by_bytes}
 use Rattle.cs_pending.specs.Calls.{WritesStore}
 use Rattle.cs_pending.specs.Laws.{empty_view}
-use Rattle.cs_position.specs.Shows.{ShowsAt}
-use Rattle.cs_position.specs.declared.position.Position.{Position}
+use Rattle.cs_pending.specs.position.Shows.{ShowsAt}
+use Rattle.cs_pending.specs.declared.position.position.Position.{Position}
 use Rattle.cs_replica.specs.Holding as replica
 use Rattle.cs_pending.specs.View.{View}
 use Rattle.cs_store.specs.Contents.{Contents, meta_value, name_text, nothing}

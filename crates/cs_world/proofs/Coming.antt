@@ -3,17 +3,17 @@ use Rattle.std.proofs.Common.{◌≡◌, ◌∙◌, ◌++◌, ℕ, zero, suc, Li
 use Rattle.cs_conflict.specs.declared.wish.Wish.{Wish}
 use Rattle.cs_hub.specs.Laws.{OneService}
 use Rattle.cs_hub.specs.Serves.{Serves, ServesIf}
-use Rattle.cs_judging.specs.Hub.{HubState}
-use Rattle.cs_judging.specs.Judged.{hub_of}
-use Rattle.cs_log.specs.declared.entry.LogEntry.{LogEntry}
-use Rattle.cs_member.specs.Laws.{IsOfEdit, IsOfPushed, OneEdited, OneHeard, OnePushed, OneResent}
-use Rattle.cs_member.specs.Same.{IsSameMember, IsShown}
+use Rattle.cs_hub.specs.judgement.Hub.{HubState}
+use Rattle.cs_hub.specs.judgement.Judged.{hub_of}
+use Rattle.cs_store.specs.declared.log.entry.LogEntry.{LogEntry}
+use Rattle.cs_replica.specs.member.Laws.{IsOfEdit, IsOfPushed, OneEdited, OneHeard, OnePushed, OneResent}
+use Rattle.cs_replica.specs.member.Same.{IsSameMember, IsShown}
 use Rattle.cs_opening.specs.declared.fault.OpenFault.{OpenFault}
 use Rattle.cs_pending.specs.declared.fault.EditFault.{EditFault}
-use Rattle.cs_position.specs.declared.position.Position.{Position}
-use Rattle.cs_pulling.specs.declared.fault.AnswerFault.{AnswerFault}
-use Rattle.cs_pulling.specs.declared.fault.AnswerFault.TheVariants as hearing
-use Rattle.cs_pushing.specs.declared.fault.PushFault.{PushFault}
+use Rattle.cs_pending.specs.declared.position.position.Position.{Position}
+use Rattle.cs_exchange.specs.declared.pulling.fault.AnswerFault.{AnswerFault}
+use Rattle.cs_exchange.specs.declared.pulling.fault.AnswerFault.TheVariants as hearing
+use Rattle.cs_exchange.specs.declared.pushing.fault.PushFault.{PushFault}
 use Rattle.cs_replica.specs.Laws.{IsOfAnswer}
 use Rattle.cs_replica.specs.declared.told.Told.{Told}
 use Rattle.cs_value.specs.declared.catalog.TableDef.{TableDef}

@@ -8,37 +8,37 @@ use Rattle.cs_conflict.specs.Wishes.{guarded}
 use Rattle.cs_conflict.specs.declared.wish.Wish.{Wish}
 use Rattle.cs_hub.specs.Refusals.{refusal_code, refusal_of_hub}
 use Rattle.cs_hub.specs.Serves.{Serves, or_refusal, push_answer, refused}
-use Rattle.cs_judging.specs.Hub.{HubState, entries_from}
-use Rattle.cs_judging.specs.Judged.{hub_of}
-use Rattle.cs_judging.specs.Laws.{PushHasAnswer}
-use Rattle.cs_judging.specs.Pushes.{Push, Pushes, entry_of_push}
-use Rattle.cs_judging.specs.declared.fault.HubFault.{HubFault}
-use Rattle.cs_judging.specs.declared.fault.HubFault.TheVariants as hub
-use Rattle.cs_judging.specs.declared.push.Pushed.{Pushed}
-use Rattle.cs_judging.specs.declared.push.Pushed.TheVariants as pushed
-use Rattle.cs_log.specs.declared.entry.LogEntry.{LogEntry}
-use Rattle.cs_member.specs.Laws.{EditHasResult, IsInRange, IsOfEdit, IsOfPushed, PushHasResult}
-use Rattle.cs_member.specs.Member.{IsEditedTo, IsPushAsked}
+use Rattle.cs_hub.specs.judgement.Hub.{HubState, entries_from}
+use Rattle.cs_hub.specs.judgement.Judged.{hub_of}
+use Rattle.cs_hub.specs.judgement.Laws.{PushHasAnswer}
+use Rattle.cs_hub.specs.judgement.Pushes.{Push, Pushes, entry_of_push}
+use Rattle.cs_hub.specs.declared.judgement.fault.HubFault.{HubFault}
+use Rattle.cs_hub.specs.declared.judgement.fault.HubFault.TheVariants as hub
+use Rattle.cs_hub.specs.declared.judgement.push.Pushed.{Pushed}
+use Rattle.cs_hub.specs.declared.judgement.push.Pushed.TheVariants as pushed
+use Rattle.cs_store.specs.declared.log.entry.LogEntry.{LogEntry}
+use Rattle.cs_replica.specs.member.Laws.{EditHasResult, IsInRange, IsOfEdit, IsOfPushed, PushHasResult}
+use Rattle.cs_replica.specs.member.Member.{IsEditedTo, IsPushAsked}
 use Rattle.cs_normalising.specs.Laws.{NormalAgain}
 use Rattle.cs_normal.specs.Laws.{NormalIsTaken}
 use Rattle.cs_normal.specs.Normal.{groups_of}
 use Rattle.cs_normal.specs.declared.normal.TableChanges.{TableChanges}
 use Rattle.cs_pending.specs.View.{View}
 use Rattle.cs_pending.specs.declared.fault.EditFault.{EditFault}
-use Rattle.cs_position.specs.Shows.{ShowsAt}
-use Rattle.cs_position.specs.declared.position.Position.{Position}
-use Rattle.cs_pulling.specs.declared.fault.AnswerFault.{AnswerFault}
-use Rattle.cs_pulling.specs.declared.fault.AnswerFault.TheVariants as hearing
-use Rattle.cs_pushing.specs.Laws.{IsOfPush}
-use Rattle.cs_pushing.specs.Pushes.{grounded, pushed as pushed_position, request_of}
-use Rattle.cs_pushing.specs.declared.fault.PushFault.{PushFault}
-use Rattle.cs_pushing.specs.declared.fault.PushFault.TheVariants as pushing
+use Rattle.cs_pending.specs.position.Shows.{ShowsAt}
+use Rattle.cs_pending.specs.declared.position.position.Position.{Position}
+use Rattle.cs_exchange.specs.declared.pulling.fault.AnswerFault.{AnswerFault}
+use Rattle.cs_exchange.specs.declared.pulling.fault.AnswerFault.TheVariants as hearing
+use Rattle.cs_exchange.specs.pushing.Laws.{IsOfPush}
+use Rattle.cs_exchange.specs.pushing.Pushes.{grounded, pushed as pushed_position, request_of}
+use Rattle.cs_exchange.specs.declared.pushing.fault.PushFault.{PushFault}
+use Rattle.cs_exchange.specs.declared.pushing.fault.PushFault.TheVariants as pushing
 use Rattle.cs_replica.specs.Answered.{Answers}
 use Rattle.cs_replica.specs.Edited.{with_pending}
 use Rattle.cs_replica.specs.Laws.{AnswerHasResult, IsInBytes, IsOfAnswer}
 use Rattle.cs_replica.specs.declared.told.Told.{Told}
 use Rattle.cs_store.specs.Contents.{Contents}
-use Rattle.cs_taking.specs.Laws.{AnswersLawfully}
+use Rattle.cs_exchange.specs.taking.Laws.{AnswersLawfully}
 use Rattle.cs_value.specs.declared.catalog.TableDef.{TableDef}
 use Rattle.cs_value.specs.declared.edit.Edit.{Edit}
 use Rattle.cs_wire.specs.Answers.{answer_spelling}
@@ -50,7 +50,7 @@ use Rattle.cs_wire.specs.declared.answer.Answer.TheVariants.{Entries, Short}
 use Rattle.cs_wire.specs.declared.push_head.PushHead.{PushHead}
 use Rattle.cs_wire.specs.declared.short_answer.ShortAnswer.TheVariants as short
 use Rattle.cs_wire.specs.declared.short_answer.ShortAnswer.TheVariants.{Refused}
-use Rattle.cs_wishes.specs.Wished.{IsWished, next_wish, wishes_left}
+use Rattle.cs_conflict.specs.wish_list.Wished.{IsWished, next_wish, wishes_left}
 use Rattle.cs_world.specs.Laws.{AnswersFit, AskHasStep, DeliverHasStep, EditHasStep, HasStep, PushHasStep, ResendHasStep, RestartHasStep}
 use Rattle.cs_world.specs.Same.{IsRefused, device_code}
 use Rattle.cs_world.specs.Sound.{IsSound, IsTrueAsked, IsTruePush}

@@ -2,9 +2,9 @@
 use Rattle.std.proofs.Common.{◌≡◌, ◌≢◌, ◌≤◌, ◌+◌, ◌∙◌, ◌++◌, ℕ, List, [], ◌∷◌, Some, length, slice_get, slice_set, refl, sym, ap, subst, inl, inr, arith, append-nil, length-append}
 use Rattle.std.specs.Prelude.{◌⊎◌, All}
 use Rattle.cs_value.specs.declared.catalog.TableDef.{TableDef}
-use Rattle.cs_log.specs.Laws.{LongerLog}
-use Rattle.cs_log.specs.Log.{IsLog, tables_at}
-use Rattle.cs_log.specs.declared.entry.LogEntry.{LogEntry}
+use Rattle.cs_store.specs.log.Laws.{LongerLog}
+use Rattle.cs_store.specs.log.Log.{IsLog, tables_at}
+use Rattle.cs_store.specs.declared.log.entry.LogEntry.{LogEntry}
 use Rattle.cs_normal.specs.State.{IsDefinedOn, State}
 use Rattle.cs_normal.specs.declared.normal.TableChanges.{TableChanges}
 use Rattle.cs_replica.specs.Laws.{StandsLonger}

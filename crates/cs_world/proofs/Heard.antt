@@ -7,13 +7,13 @@ use Rattle.cs_value.specs.Key.{Place}
 use Rattle.cs_value.specs.declared.catalog.TableDef.{TableDef}
 use Rattle.cs_change.specs.Action.{action_any, after_any}
 use Rattle.cs_conflict.specs.declared.wish.Wish.{Wish}
-use Rattle.cs_log.specs.Entry.{body_spelling, changes_of_body, entry_changes}
-use Rattle.cs_log.specs.Laws.{OneBody}
-use Rattle.cs_log.specs.Log.{tables_at}
-use Rattle.cs_log.specs.Stored.{AreChangesOf}
-use Rattle.cs_log.specs.declared.body.Body.{Body}
-use Rattle.cs_log.specs.declared.body.Body.TheVariants.{Changes}
-use Rattle.cs_log.specs.declared.entry.LogEntry.{LogEntry}
+use Rattle.cs_store.specs.log.Entry.{body_spelling, changes_of_body, entry_changes}
+use Rattle.cs_store.specs.log.Laws.{OneBody}
+use Rattle.cs_store.specs.log.Log.{tables_at}
+use Rattle.cs_store.specs.log.Stored.{AreChangesOf}
+use Rattle.cs_store.specs.declared.log.body.Body.{Body}
+use Rattle.cs_store.specs.declared.log.body.Body.TheVariants.{Changes}
+use Rattle.cs_store.specs.declared.log.entry.LogEntry.{LogEntry}
 use Rattle.cs_normalising.specs.Laws.{NormalAgain}
 use Rattle.cs_normal.specs.Laws.{NormalIsTaken}
 use Rattle.cs_normal.specs.Normal.{change_of, groups_of, normal_spelling}
@@ -21,16 +21,16 @@ use Rattle.cs_normal.specs.State.{AreSame, IsApplied, IsDefinedOn, State}
 use Rattle.cs_normal.specs.declared.normal.TableChanges.{TableChanges}
 use Rattle.cs_pending.specs.Nets.{undo_none}
 use Rattle.cs_pending.specs.View.{View, middle}
-use Rattle.cs_position.specs.Shows.{ShowsAt, base, flown}
-use Rattle.cs_position.specs.declared.position.Position.{Position}
-use Rattle.cs_pulling.specs.Laws.{OneRead, PulledLeads}
-use Rattle.cs_pulling.specs.Listed.{Ends, EndsBad, IsToldAt, PullsList, PullsMany, count_of}
-use Rattle.cs_pulling.specs.Told.{IsReadAs}
-use Rattle.cs_pulling.specs.declared.fault.AnswerFault.{AnswerFault}
-use Rattle.cs_pulling.specs.declared.fault.AnswerFault.TheVariants as fault
-use Rattle.cs_pulling.specs.declared.listing.Pulled.{Pulled}
-use Rattle.cs_pulling.specs.declared.listing.Pulled.TheVariants as pulled
-use Rattle.cs_pushing.specs.Pushes.{confirmed}
+use Rattle.cs_pending.specs.position.Shows.{ShowsAt, base, flown}
+use Rattle.cs_pending.specs.declared.position.position.Position.{Position}
+use Rattle.cs_exchange.specs.pulling.Laws.{OneRead, PulledLeads}
+use Rattle.cs_exchange.specs.pulling.Listed.{Ends, EndsBad, IsToldAt, PullsList, PullsMany, count_of}
+use Rattle.cs_exchange.specs.pulling.Told.{IsReadAs}
+use Rattle.cs_exchange.specs.declared.pulling.fault.AnswerFault.{AnswerFault}
+use Rattle.cs_exchange.specs.declared.pulling.fault.AnswerFault.TheVariants as fault
+use Rattle.cs_exchange.specs.declared.pulling.listing.Pulled.{Pulled}
+use Rattle.cs_exchange.specs.declared.pulling.listing.Pulled.TheVariants as pulled
+use Rattle.cs_exchange.specs.pushing.Pushes.{confirmed}
 use Rattle.cs_replica.specs.Accepted.{IsAccepted}
 use Rattle.cs_replica.specs.Answered.{Answers, TellsAccepted, told_of}
 use Rattle.cs_replica.specs.Laws.{EntryStands, FlightFits, KeptStands}
@@ -38,14 +38,14 @@ use Rattle.cs_replica.specs.Stands.{StandsOn}
 use Rattle.cs_replica.specs.declared.told.Told.{Told}
 use Rattle.cs_replica.specs.declared.told.Told.TheVariants as told
 use Rattle.cs_store.specs.Contents.{Contents}
-use Rattle.cs_taking.specs.Laws.{OneLogRows}
-use Rattle.cs_taking.specs.Takes.{taken}
+use Rattle.cs_exchange.specs.taking.Laws.{OneLogRows}
+use Rattle.cs_exchange.specs.taking.Takes.{taken}
 use Rattle.cs_wire.specs.Entries.{ToldEntry}
 use Rattle.cs_wire.specs.Told.{told_entry}
 use Rattle.cs_wire.specs.declared.answer.Answer.{Answer}
 use Rattle.cs_wire.specs.declared.answer.Answer.TheVariants.{Short, Entries}
 use Rattle.cs_wire.specs.declared.short_answer.ShortAnswer.TheVariants.{Accepted, Stale, Refused}
-use Rattle.cs_wishes.specs.Wished.{IsWished}
+use Rattle.cs_conflict.specs.wish_list.Wished.{IsWished}
 use Rattle.cs_world.specs.Headline.{IsGood}
 use Rattle.cs_world.specs.Sound.{ArePartOf, IsAcceptedIn, IsPlaced, IsSound, IsStoredEntry, IsTrueAnswer}
 use Rattle.cs_world.specs.Steps.{Hears, heard}

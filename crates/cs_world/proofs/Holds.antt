@@ -4,17 +4,17 @@ use Rattle.std.proofs.lemmas.List.Elements.{All-nil}
 use Rattle.cs_value.specs.Key.{Place}
 use Rattle.cs_change.specs.Action.{Action, after_any}
 use Rattle.cs_change.specs.Laws.{NetTakes}
-use Rattle.cs_log.specs.Entry.{entry_changes}
-use Rattle.cs_log.specs.Laws.{EmptyIsLog}
-use Rattle.cs_log.specs.Log.{tables_at}
+use Rattle.cs_store.specs.log.Entry.{entry_changes}
+use Rattle.cs_store.specs.log.Laws.{EmptyIsLog}
+use Rattle.cs_store.specs.log.Log.{tables_at}
 use Rattle.cs_normal.specs.Normal.{normal_spelling}
 use Rattle.cs_normal.specs.State.{IsApplied, OneKeyStands, State}
 use Rattle.cs_normal.specs.declared.normal.TableChanges.{TableChanges}
 use Rattle.cs_pending.specs.Nets.{undo_none}
 use Rattle.cs_pending.specs.Shows.{IsSoundOf}
 use Rattle.cs_pending.specs.View.{Changed, before, middle}
-use Rattle.cs_position.specs.Shows.{base, flown}
-use Rattle.cs_position.specs.declared.position.Position.{Position}
+use Rattle.cs_pending.specs.position.Shows.{base, flown}
+use Rattle.cs_pending.specs.declared.position.position.Position.{Position}
 use Rattle.cs_replica.specs.Laws.{EqualAtRest, FirstStands, FlightFits}
 use Rattle.cs_world.specs.Headline.{HasHubsRows, Headline, LeadTo}
 use Rattle.cs_world.specs.Laws.{FirstIsSound, IsFirstMember, SoundHasHeadline}

@@ -3,19 +3,19 @@ use Rattle.std.proofs.Common.{◌≡◌, ◌≤◌, ◌<◌, ◌+◌, ◌^◌, �
 use Rattle.std.specs.Prelude.{IsSome}
 use Rattle.cs_value.specs.declared.edit.Edit.{Edit}
 use Rattle.cs_conflict.specs.declared.wish.Wish.{Wish}
-use Rattle.cs_log.specs.Laws.{LongerLog}
-use Rattle.cs_log.specs.Log.{tables_at}
-use Rattle.cs_log.specs.declared.entry.LogEntry.{LogEntry}
-use Rattle.cs_log.specs.declared.entry.TheConstants.{MAX_CHANGESET}
+use Rattle.cs_store.specs.log.Laws.{LongerLog}
+use Rattle.cs_store.specs.log.Log.{tables_at}
+use Rattle.cs_store.specs.declared.log.entry.LogEntry.{LogEntry}
+use Rattle.cs_store.specs.declared.log.entry.TheConstants.{MAX_CHANGESET}
 use Rattle.cs_normal.specs.Normal.{normal_spelling}
 use Rattle.cs_normal.specs.State.{IsDefinedOn}
 use Rattle.cs_normal.specs.declared.normal.TableChanges.{TableChanges}
 use Rattle.cs_pending.specs.Edits.{edit}
 use Rattle.cs_pending.specs.View.{View}
-use Rattle.cs_position.specs.Shows.{ShowsAt}
-use Rattle.cs_position.specs.declared.position.TheConstants.{LAST_NUMBER}
-use Rattle.cs_pulling.specs.declared.fault.AnswerFault.{AnswerFault}
-use Rattle.cs_pushing.specs.Pushes.{IsPushMade, grounded, pushed, request_of}
+use Rattle.cs_pending.specs.position.Shows.{ShowsAt}
+use Rattle.cs_pending.specs.declared.position.position.TheConstants.{LAST_NUMBER}
+use Rattle.cs_exchange.specs.declared.pulling.fault.AnswerFault.{AnswerFault}
+use Rattle.cs_exchange.specs.pushing.Pushes.{IsPushMade, grounded, pushed, request_of}
 use Rattle.cs_replica.specs.Edited.{with_pending}
 use Rattle.cs_replica.specs.Stands.{StandsOn}
 use Rattle.cs_replica.specs.Laws.{EditStands, FlightFits, KeptStands, StandsLonger}
@@ -56,7 +56,7 @@ module _ (laws : Below) (limit : ℕ) (small : limit < 2 ^ 32) (w : World) (s : 
   -- ---- an edit
 
   edited : (r count : ℕ) (asked : Edit) (before : Member) (next : View) (left : Contents) → IsMember w r before
-      → edit w.tables (step.table_of asked) (step.asked_of asked) before.view ≡ Ok next
+      → edit w.tables (step.table_of_edit asked) (step.asked_of_edit asked) before.view ≡ Ok next
       → ShowsAt w.tables left (with_pending before.position count) next
       → IsSound limit (with_member w r (record { position = with_pending before.position count; view = next }))
   edited r count asked before next left was made shows =
@@ -66,7 +66,7 @@ module _ (laws : Below) (limit : ℕ) (small : limit < 2 ^ 32) (w : World) (s : 
         fits = record { id = p.fits.id; version = p.fits.version };
         contents = left;
         shown = shows;
-        stands = laws.edit w.tables w.log (step.table_of asked) (step.asked_of asked) p.contents left before.position count before.view next s.tables p.shown made shows p.stands;
+        stands = laws.edit w.tables w.log (step.table_of_edit asked) (step.asked_of_edit asked) p.contents left before.position count before.view next s.tables p.shown made shows p.stands;
         sent = λ changes flight. p.sent changes flight;
       })
 

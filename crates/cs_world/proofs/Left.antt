@@ -5,29 +5,29 @@ use Rattle.std.specs.declared.alloc.Global.{Global}
 use Rattle.std.specs.FinMap.{len}
 use Rattle.cs_value.specs.Catalog.{AreTables}
 use Rattle.cs_value.specs.declared.catalog.TableDef.{TableDef}
-use Rattle.cs_appending.specs.Appended.{IsAppendedIn}
+use Rattle.cs_hub.specs.appending.Appended.{IsAppendedIn}
 use Rattle.cs_hub.specs.Calls.{IsSameOrGrown, IsServedIn, ServesStore}
 use Rattle.cs_hub.specs.Holding as hub
 use Rattle.cs_hub.specs.Serves.{ServesIf}
-use Rattle.cs_judging.specs.Judged.{hub_of}
-use Rattle.cs_member.specs.Leaves.{CallLeaves}
-use Rattle.cs_member.specs.Member.{Hears}
+use Rattle.cs_hub.specs.judgement.Judged.{hub_of}
+use Rattle.cs_replica.specs.member.Leaves.{CallLeaves}
+use Rattle.cs_replica.specs.member.Member.{Hears}
 use Rattle.cs_replica.specs.Answered.{IsAnsweredNext}
 use Rattle.cs_replica.specs.Holding as replica
-use Rattle.cs_pulling.specs.declared.fault.AnswerFault.TheVariants as fault
+use Rattle.cs_exchange.specs.declared.pulling.fault.AnswerFault.TheVariants as fault
 use Rattle.cs_replica.specs.Edited.{with_pending}
 use Rattle.cs_replica.specs.declared.told.Told.TheVariants as what
-use Rattle.cs_moving.specs.Laws.{OneStoreOpening}
-use Rattle.cs_moving.specs.Moved.{IsStoreOpened}
-use Rattle.cs_log.specs.declared.entry.LogEntry.{LogEntry}
-use Rattle.cs_log_store.specs.Shows.{ShowsLog}
+use Rattle.cs_opening.specs.moving.Laws.{OneStoreOpening}
+use Rattle.cs_opening.specs.moving.Moved.{IsStoreOpened}
+use Rattle.cs_store.specs.declared.log.entry.LogEntry.{LogEntry}
+use Rattle.cs_hub.specs.log_store.Shows.{ShowsLog}
 use Rattle.cs_opening.specs.Laws.{NothingShowsNone}
 use Rattle.cs_opening.specs.Opens.{IsReplicaAt}
 use Rattle.cs_pending.specs.View.{View}
-use Rattle.cs_position.specs.Laws.{FitsPosition}
-use Rattle.cs_position.specs.Shows.{ShowsAt}
-use Rattle.cs_position.specs.declared.position.Position.{Position}
-use Rattle.cs_pushing.specs.Pushes.{confirmed, grounded, pushed, request_of}
+use Rattle.cs_pending.specs.position.Laws.{FitsPosition}
+use Rattle.cs_pending.specs.position.Shows.{ShowsAt}
+use Rattle.cs_pending.specs.declared.position.position.Position.{Position}
+use Rattle.cs_exchange.specs.pushing.Pushes.{confirmed, grounded, pushed, request_of}
 use Rattle.cs_store.specs.Contents.{Contents, log_count}
 use Rattle.cs_store.specs.declared.names.MetaName.TheVariants.{Pending}
 use Rattle.cs_store.specs.declared.store.RowStore.{Ghosts}
@@ -37,7 +37,7 @@ use Rattle.cs_wire.specs.Requests.{Asked, request_spelling}
 use Rattle.cs_wire.specs.declared.answer.Answer.{Answer}
 use Rattle.cs_wire.specs.declared.answer.Answer.TheVariants.{Entries, Short}
 use Rattle.cs_wire.specs.declared.short_answer.ShortAnswer.TheVariants.{Accepted, Refused, Stale}
-use Rattle.cs_wishes.specs.Wished.{IsWished}
+use Rattle.cs_conflict.specs.wish_list.Wished.{IsWished}
 use Rattle.cs_world.specs.Laws.{AnswersFit, SoundHasHeadline, StepsAreSound}
 use Rattle.cs_world.specs.Sound.{IsSound}
 use Rattle.cs_world.specs.Steps as step
@@ -49,7 +49,7 @@ use Rattle.cs_world.specs.declared.outcome.Outcome.{Outcome}
 use Rattle.cs_world.specs.declared.outcome.Outcome.TheVariants as told
 use Rattle.cs_world.specs.Holding.{AreHonest, Holding, Says, StandsAt}
 use Rattle.cs_world.specs.Left as found
-use Rattle.cs_world.specs.Left.{AtHub, AtReplica, Kept, Leaves, LeavesHub, LeavesReplica, MayLeaveAt, Place, ShowsKept, StopsHaveHeadline, Survives, WouldLeave, WouldServe, turned}
+use Rattle.cs_world.specs.Left.{AtHub, AtReplica, Kept, Leaves, LeavesHub, LeavesReplica, Place, ShowsKept, StopsHaveHeadline, Survives, WouldLeave, WouldServe, turned}
 use Rattle.cs_world.specs.Moves.{HasGoneOn, KeepsLeft}
 use Rattle.cs_world.specs.StopsLaws.{FoundIsStep, FoundIsStepOfHub, OpensAsLeft, StopOfHub, StopOfReplica}
 use Rattle.cs_world.specs.declared.letter.Letter.{Letter}

@@ -12,32 +12,32 @@ use Rattle.cs_conflict.specs.Wishes.{resolution_of}
 use Rattle.cs_conflict.specs.declared.conflict.Resolution.{Resolution}
 use Rattle.cs_conflict.specs.declared.conflict.Resolution.TheVariants.{Omit}
 use Rattle.cs_conflict.specs.declared.wish.Wish.{Wish}
-use Rattle.cs_log.specs.Entry.{entry_changes}
-use Rattle.cs_log.specs.Log.{tables_at}
-use Rattle.cs_log.specs.declared.entry.LogEntry.{LogEntry}
+use Rattle.cs_store.specs.log.Entry.{entry_changes}
+use Rattle.cs_store.specs.log.Log.{tables_at}
+use Rattle.cs_store.specs.declared.log.entry.LogEntry.{LogEntry}
 use Rattle.cs_normal.specs.Normal.{change_of, groups_of}
 use Rattle.cs_normal.specs.State.{State}
 use Rattle.cs_pending.specs.Laws.{OneView}
 use Rattle.cs_pending.specs.Nets.{undo_none}
 use Rattle.cs_pending.specs.View.{View, middle}
-use Rattle.cs_position.specs.Shows.{ShowsAt, base}
-use Rattle.cs_position.specs.declared.position.Position.{Position}
-use Rattle.cs_pulling.specs.Listed.{PullsMany, count_of}
-use Rattle.cs_pulling.specs.Pulls.{IsOwn, PullsOne}
-use Rattle.cs_pulling.specs.declared.fault.AnswerFault.{AnswerFault}
-use Rattle.cs_pulling.specs.declared.fault.AnswerFault.TheVariants as fault
-use Rattle.cs_pulling.specs.declared.listing.Pulled.{Pulled}
-use Rattle.cs_pulling.specs.declared.listing.Pulled.TheVariants as pulled
+use Rattle.cs_pending.specs.position.Shows.{ShowsAt, base}
+use Rattle.cs_pending.specs.declared.position.position.Position.{Position}
+use Rattle.cs_exchange.specs.pulling.Listed.{PullsMany, count_of}
+use Rattle.cs_exchange.specs.pulling.Pulls.{IsOwn, PullsOne}
+use Rattle.cs_exchange.specs.declared.pulling.fault.AnswerFault.{AnswerFault}
+use Rattle.cs_exchange.specs.declared.pulling.fault.AnswerFault.TheVariants as fault
+use Rattle.cs_exchange.specs.declared.pulling.listing.Pulled.{Pulled}
+use Rattle.cs_exchange.specs.declared.pulling.listing.Pulled.TheVariants as pulled
 use Rattle.cs_rebaser.specs.Merge.{MergesOneSide, merge}
 use Rattle.cs_replica.specs.Answered.{told_of}
 use Rattle.cs_replica.specs.Stands.{StandsOn}
 use Rattle.cs_replica.specs.declared.told.Told.{Told}
 use Rattle.cs_store.specs.Contents.{Contents}
-use Rattle.cs_taking.specs.Takes.{IsTaken, TakeAll, taken}
+use Rattle.cs_exchange.specs.taking.Takes.{IsTaken, TakeAll, taken}
 use Rattle.cs_wire.specs.Entries.{ToldEntry}
 use Rattle.cs_wire.specs.declared.answer.Answer.{Answer}
 use Rattle.cs_wire.specs.declared.answer.Answer.TheVariants.{Entries}
-use Rattle.cs_wishes.specs.Wished.{IsWished}
+use Rattle.cs_conflict.specs.wish_list.Wished.{IsWished}
 use Rattle.cs_world.specs.Laws.{EventsMerge, PullsMerge, StepsAreSound}
 use Rattle.cs_world.specs.Merges.{IsConfirmed, IsMerged, PullEntries, PullsAsMerges, PullsEntry, count_in}
 use Rattle.cs_world.specs.Sound.{ArePartOf, IsSound}

@@ -9,19 +9,19 @@ use Rattle.cs_conflict.specs.declared.wish.Wish.{Wish}
 use Rattle.cs_hub.specs.Calls.{AnswersHub, IsServedIn, StaysHub}
 use Rattle.cs_hub.specs.Holding as hub
 use Rattle.cs_hub.specs.Serves.{ServesIf}
-use Rattle.cs_judging.specs.Judged.{hub_of}
+use Rattle.cs_hub.specs.judgement.Judged.{hub_of}
 use Rattle.cs_normal.specs.declared.normal.TableChanges.{TableChanges}
 use Rattle.cs_opening.specs.declared.fault.OpenFault.{OpenFault}
 use Rattle.cs_pending.specs.declared.fault.EditFault.{EditFault}
-use Rattle.cs_position.specs.Laws.{FitsPosition}
-use Rattle.cs_position.specs.Shows.{flown}
-use Rattle.cs_position.specs.declared.position.Position.{Position}
-use Rattle.cs_member.specs.Leaves.{CallLeaves, Counts}
-use Rattle.cs_member.specs.Member.{IsEditedBy}
-use Rattle.cs_pulling.specs.declared.fault.AnswerFault.{AnswerFault}
+use Rattle.cs_pending.specs.position.Laws.{FitsPosition}
+use Rattle.cs_pending.specs.position.Shows.{flown}
+use Rattle.cs_pending.specs.declared.position.position.Position.{Position}
+use Rattle.cs_replica.specs.member.Leaves.{CallLeaves, Counts}
+use Rattle.cs_replica.specs.member.Member.{IsEditedBy}
+use Rattle.cs_exchange.specs.declared.pulling.fault.AnswerFault.{AnswerFault}
 use Rattle.cs_replica.specs.Answered.{IsAnsweredNext}
-use Rattle.cs_pushing.specs.Pushes.{IsPushMadeIn, IsResendFault, pushed, request_of}
-use Rattle.cs_pushing.specs.declared.fault.PushFault.{PushFault}
+use Rattle.cs_exchange.specs.pushing.Pushes.{IsPushMadeIn, IsResendFault, pushed, request_of}
+use Rattle.cs_exchange.specs.declared.pushing.fault.PushFault.{PushFault}
 use Rattle.cs_replica.specs.Holding as replica
 use Rattle.cs_replica.specs.declared.told.Told.{Told}
 use Rattle.cs_store.specs.Calls.{MoreFailures}
@@ -32,7 +32,7 @@ use Rattle.cs_wire.specs.Laws.{OneToldAnswer}
 use Rattle.cs_wire.specs.Requests.{Asked, AsksPull, asked_by_owned, request_spelling}
 use Rattle.cs_wire.specs.declared.answer.Answer.{Answer}
 use Rattle.cs_wire.specs.declared.request.RequestBuf.{RequestBuf}
-use Rattle.cs_wishes.specs.Wished.{IsWished}
+use Rattle.cs_conflict.specs.wish_list.Wished.{IsWished}
 use Rattle.cs_world.specs.Laws.{AnswersFit}
 use Rattle.cs_world.specs.Steps as step
 use Rattle.cs_world.specs.Steps.{Hears, Step, addressee, heard}

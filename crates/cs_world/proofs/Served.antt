@@ -7,16 +7,16 @@ use Rattle.std.proofs.lemmas.Option.{slice_get-map}
 use Rattle.cs_change.specs.declared.group.Group.{Group}
 use Rattle.cs_changeset.specs.Laws.{ChangesetLaws}
 use Rattle.cs_hub.specs.Serves.{AnswersAsked, Outcome, ServesIf, TakesBytes, TakesGroups, TakesNormal, or_refusal, push_answer}
-use Rattle.cs_judging.specs.Hub.{HubState, entries_from}
-use Rattle.cs_judging.specs.Judged.{hub_of}
-use Rattle.cs_judging.specs.Pushes.{CanFollow, Push, Pushes, entry_of_push}
-use Rattle.cs_judging.specs.declared.fault.HubFault.{HubFault}
-use Rattle.cs_judging.specs.declared.fault.HubFault.TheVariants as hub
-use Rattle.cs_judging.specs.declared.push.Pushed.{Pushed}
-use Rattle.cs_judging.specs.declared.push.Pushed.TheVariants as pushed
-use Rattle.cs_log.specs.Laws.{AppendedIsLog}
-use Rattle.cs_log.specs.Log.{IsLog, state_of}
-use Rattle.cs_log.specs.declared.entry.LogEntry.{LogEntry}
+use Rattle.cs_hub.specs.judgement.Hub.{HubState, entries_from}
+use Rattle.cs_hub.specs.judgement.Judged.{hub_of}
+use Rattle.cs_hub.specs.judgement.Pushes.{CanFollow, Push, Pushes, entry_of_push}
+use Rattle.cs_hub.specs.declared.judgement.fault.HubFault.{HubFault}
+use Rattle.cs_hub.specs.declared.judgement.fault.HubFault.TheVariants as hub
+use Rattle.cs_hub.specs.declared.judgement.push.Pushed.{Pushed}
+use Rattle.cs_hub.specs.declared.judgement.push.Pushed.TheVariants as pushed
+use Rattle.cs_store.specs.log.Laws.{AppendedIsLog}
+use Rattle.cs_store.specs.log.Log.{IsLog, state_of}
+use Rattle.cs_store.specs.declared.log.entry.LogEntry.{LogEntry}
 use Rattle.cs_normalising.specs.Laws.{NoFaultWhereFit, NormalAgain, OneNormalForm}
 use Rattle.cs_normal.specs.Laws.{NormalIsTaken}
 use Rattle.cs_normal.specs.Normal.{groups_of}

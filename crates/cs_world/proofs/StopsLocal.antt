@@ -2,9 +2,9 @@
 use Rattle.std.proofs.Common.{◌≡◌, ◌∙◌, ◌++◌, ℕ, List, [], ◌∷◌, Option, Some, None, length, slice_get, slice_set, refl, sym, ap, subst, append-nil}
 use Rattle.std.proofs.lemmas.List.{append_cancel_left}
 use Rattle.std.specs.Prelude.{IsSome}
-use Rattle.cs_log.specs.declared.entry.LogEntry.{LogEntry}
+use Rattle.cs_store.specs.declared.log.entry.LogEntry.{LogEntry}
 use Rattle.cs_replica.specs.Edited.{with_pending}
-use Rattle.cs_pushing.specs.Pushes.{grounded, pushed, request_of}
+use Rattle.cs_exchange.specs.pushing.Pushes.{grounded, pushed, request_of}
 use Rattle.cs_wire.specs.Requests.{AsksPull}
 use Rattle.cs_world.specs.Steps as step
 use Rattle.cs_world.specs.Steps.{Step, addressee, receiver}

@@ -2,11 +2,11 @@
 use Rattle.std.specs.declared.alloc.Global.{Global}
 use Rattle.std.specs.Prelude.{Vec, ◌≡◌, ◌⊎◌, ◌≤◌, ◌++◌, ℕ, List, [], ◌∷◌, Some, length, slice_get}
 use Rattle.cs_hub.specs.Calls.{AnswersHub}
-use Rattle.cs_pulling.specs.Listed.{IsDeviceFault}
+use Rattle.cs_exchange.specs.pulling.Listed.{IsDeviceFault}
 use Rattle.cs_replica.specs.Holding as replica
 use Rattle.cs_opening.specs.declared.fault.OpenFault.TheVariants as opening
 use Rattle.cs_pending.specs.declared.fault.EditFault.TheVariants as edits
-use Rattle.cs_pushing.specs.declared.fault.PushFault.TheVariants as pushes
+use Rattle.cs_exchange.specs.declared.pushing.fault.PushFault.TheVariants as pushes
 use Rattle.cs_store.specs.Calls.{MoreFailures}
 use Rattle.cs_store.specs.declared.store.RowStore.{Ghosts}
 use Rattle.cs_wire.specs.Requests.{Asked, request_spelling}

@@ -2,12 +2,12 @@
 use Rattle.std.specs.Prelude.{◌≡◌, ◌≢◌, ◌≤◌, ℕ, List, Contains, length, Some, None, slice_get}
 use Rattle.cs_value.specs.declared.catalog.TableDef.{TableDef}
 use Rattle.cs_change.specs.Action.{action_any, after_any}
-use Rattle.cs_log.specs.Log.{tables_at}
-use Rattle.cs_log.specs.declared.entry.LogEntry.{LogEntry}
+use Rattle.cs_store.specs.log.Log.{tables_at}
+use Rattle.cs_store.specs.declared.log.entry.LogEntry.{LogEntry}
 use Rattle.cs_normal.specs.State.{State, IsApplied}
 use Rattle.cs_pending.specs.View.{Changed}
-use Rattle.cs_position.specs.Shows.{flown}
-use Rattle.cs_pulling.specs.declared.fault.AnswerFault.TheVariants.{BadEntry}
+use Rattle.cs_pending.specs.position.Shows.{flown}
+use Rattle.cs_exchange.specs.declared.pulling.fault.AnswerFault.TheVariants.{BadEntry}
 use Rattle.cs_wire.specs.declared.answer.Answer.TheVariants.{Short}
 use Rattle.cs_wire.specs.declared.short_answer.ShortAnswer.TheVariants.{Accepted, Refused}
 use Rattle.cs_world.specs.Sound.{IsAcceptedIn, conflict_code}

@@ -6,21 +6,21 @@ use Rattle.cs_value.specs.declared.catalog.TableDef.{TableDef}
 use Rattle.cs_value.specs.declared.edit.Edit.{Edit}
 use Rattle.cs_conflict.specs.declared.wish.Wish.{Wish}
 use Rattle.cs_hub.specs.Serves.{ServesIf}
-use Rattle.cs_judging.specs.Judged.{hub_of}
-use Rattle.cs_log.specs.declared.entry.LogEntry.{LogEntry}
-use Rattle.cs_member.specs.Laws.{IsInRange}
+use Rattle.cs_hub.specs.judgement.Judged.{hub_of}
+use Rattle.cs_store.specs.declared.log.entry.LogEntry.{LogEntry}
+use Rattle.cs_replica.specs.member.Laws.{IsInRange}
 use Rattle.cs_opening.specs.Fresh.{first_position}
 use Rattle.cs_pending.specs.Laws.{empty_view}
-use Rattle.cs_position.specs.Shows.{ShowsAt}
+use Rattle.cs_pending.specs.position.Shows.{ShowsAt}
 use Rattle.cs_replica.specs.Laws.{IsInBytes}
 use Rattle.cs_store.specs.Contents.{Contents}
-use Rattle.cs_taking.specs.Laws.{PicksOnce}
+use Rattle.cs_exchange.specs.taking.Laws.{PicksOnce}
 use Rattle.cs_wire.specs.Answers.{FitsAnswer, answer_spelling}
 use Rattle.cs_wire.specs.Requests.{Asked, request_spelling}
 use Rattle.cs_wire.specs.Entries.{ToldEntry}
 use Rattle.cs_wire.specs.declared.answer.Answer.{Answer}
 use Rattle.cs_wire.specs.declared.answer.Answer.TheVariants.{Entries}
-use Rattle.cs_wishes.specs.Wished.{IsWished}
+use Rattle.cs_conflict.specs.wish_list.Wished.{IsWished}
 use Rattle.cs_world.specs.Headline.{Headline, IsGood}
 use Rattle.cs_world.specs.Merges.{EachMerges, PullsAsMerges, count_in}
 use Rattle.cs_world.specs.Sound.{IsSound}

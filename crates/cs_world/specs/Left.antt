@@ -4,22 +4,22 @@ use Rattle.cs_value.specs.declared.catalog.TableDef.{TableDef}
 use Rattle.cs_value.specs.declared.edit.Edit.{Edit}
 use Rattle.cs_conflict.specs.declared.wish.Wish.{Wish}
 use Rattle.cs_hub.specs.Calls.{IsServedIn}
-use Rattle.cs_log.specs.declared.entry.LogEntry.{LogEntry}
-use Rattle.cs_log_store.specs.Shows.{ShowsLog}
-use Rattle.cs_member.specs.Member.{IsEditedBy}
+use Rattle.cs_store.specs.declared.log.entry.LogEntry.{LogEntry}
+use Rattle.cs_hub.specs.log_store.Shows.{ShowsLog}
+use Rattle.cs_replica.specs.member.Member.{IsEditedBy}
 use Rattle.cs_replica.specs.Accepted.{IsAccepted}
 use Rattle.cs_replica.specs.Holding as replica
-use Rattle.cs_pulling.specs.Listed.{IsOneMoreIn}
-use Rattle.cs_position.specs.Shows.{ShowsAt}
-use Rattle.cs_position.specs.declared.position.Position.{Position}
-use Rattle.cs_pushing.specs.Pushes.{IsConfirmedIn, IsPushMadeIn}
+use Rattle.cs_exchange.specs.pulling.Listed.{IsOneMoreIn}
+use Rattle.cs_pending.specs.position.Shows.{ShowsAt}
+use Rattle.cs_pending.specs.declared.position.position.Position.{Position}
+use Rattle.cs_exchange.specs.pushing.Pushes.{IsConfirmedIn, IsPushMadeIn}
 use Rattle.cs_store.specs.Contents.{Contents}
 use Rattle.cs_store.specs.declared.store.RowStore.{Ghosts}
 use Rattle.cs_wire.specs.Entries.{ToldEntry}
 use Rattle.cs_wire.specs.Requests.{Asked, request_spelling}
 use Rattle.cs_wire.specs.declared.answer.Answer.TheVariants.{Entries, Short}
 use Rattle.cs_wire.specs.declared.short_answer.ShortAnswer.TheVariants.{Accepted}
-use Rattle.cs_wishes.specs.Wished.{IsWished}
+use Rattle.cs_conflict.specs.wish_list.Wished.{IsWished}
 use Rattle.cs_world.specs.Headline.{Headline}
 use Rattle.cs_world.specs.Holding.{AreHonest, Holding, StandsAt}
 use Rattle.cs_world.specs.Sound.{IsSound}

@@ -6,21 +6,21 @@ use Rattle.cs_change.specs.Action.{action_any}
 use Rattle.cs_change.specs.Net.{net}
 use Rattle.cs_conflict.specs.declared.conflict.Resolution.{Resolution}
 use Rattle.cs_conflict.specs.declared.wish.Wish.{Wish}
-use Rattle.cs_log.specs.Entry.{entry_changes}
-use Rattle.cs_log.specs.Log.{tables_at}
-use Rattle.cs_log.specs.declared.entry.LogEntry.{LogEntry}
-use Rattle.cs_member.specs.Same.{IsSameView}
+use Rattle.cs_store.specs.log.Entry.{entry_changes}
+use Rattle.cs_store.specs.log.Log.{tables_at}
+use Rattle.cs_store.specs.declared.log.entry.LogEntry.{LogEntry}
+use Rattle.cs_replica.specs.member.Same.{IsSameView}
 use Rattle.cs_normal.specs.Normal.{change_of, groups_of}
 use Rattle.cs_pending.specs.View.{View}
-use Rattle.cs_position.specs.declared.position.Position.{Position}
-use Rattle.cs_pulling.specs.Pulls.{IsOwn}
-use Rattle.cs_pulling.specs.declared.fault.AnswerFault.{AnswerFault}
-use Rattle.cs_pulling.specs.declared.fault.AnswerFault.TheVariants as fault
+use Rattle.cs_pending.specs.declared.position.position.Position.{Position}
+use Rattle.cs_exchange.specs.pulling.Pulls.{IsOwn}
+use Rattle.cs_exchange.specs.declared.pulling.fault.AnswerFault.{AnswerFault}
+use Rattle.cs_exchange.specs.declared.pulling.fault.AnswerFault.TheVariants as fault
 use Rattle.cs_rebaser.specs.Merge.{merge}
 use Rattle.cs_replica.specs.declared.told.Told.{Told}
 use Rattle.cs_replica.specs.declared.told.Told.TheVariants as what
-use Rattle.cs_taking.specs.Takes.{TakeAll, taken}
-use Rattle.cs_wishes.specs.Wished.{IsWished}
+use Rattle.cs_exchange.specs.taking.Takes.{TakeAll, taken}
+use Rattle.cs_conflict.specs.wish_list.Wished.{IsWished}
 use Rattle.cs_wire.specs.Entries.{ToldEntry}
 use Rattle.cs_wire.specs.declared.answer.Answer.TheVariants.{Entries}
 use Rattle.cs_world.specs.Steps.{Step}

@@ -1,13 +1,13 @@
 -- Runs of a world in which processes stop (profile of this project).
 use Rattle.std.specs.Prelude.{◌≡◌, ◌≢◌, ◌⊎◌, ◌↔◌, ◌<◌, ◌≤◌, ◌++◌, ℕ, List, [], ◌∷◌, Contains, Option, Some, None, IsSome, length, slice_get}
 use Rattle.cs_conflict.specs.declared.wish.Wish.{Wish}
-use Rattle.cs_pulling.specs.declared.fault.AnswerFault.TheVariants as fault
-use Rattle.cs_pulling.specs.Listed.{PullsMany}
+use Rattle.cs_exchange.specs.declared.pulling.fault.AnswerFault.TheVariants as fault
+use Rattle.cs_exchange.specs.pulling.Listed.{PullsMany}
 use Rattle.cs_pending.specs.View.{View}
-use Rattle.cs_position.specs.declared.position.Position.{Position}
+use Rattle.cs_pending.specs.declared.position.position.Position.{Position}
 use Rattle.cs_wire.specs.Entries.{ToldEntry}
 use Rattle.cs_wire.specs.declared.answer.Answer.TheVariants.{Entries}
-use Rattle.cs_wishes.specs.Wished.{IsWished}
+use Rattle.cs_conflict.specs.wish_list.Wished.{IsWished}
 use Rattle.cs_world.specs.Left.{AtHub, AtReplica, Kept, Place, kept_at, turned}
 use Rattle.cs_world.specs.Merges.{count_in}
 use Rattle.cs_world.specs.Same.{IsRefused}

@@ -5,13 +5,13 @@ ghost use Rattle.cs_world.specs.Laws.{AnswersFit, AskHasStep, DeliverHasStep, Ed
 ghost use Rattle.cs_world.specs.StopsLaws.{FoundIsStep, FoundIsStepOfHub, OpensAsLeft, RunWithStops, RunsWhole, StopOfHub, StopOfReplica};
 
 use cs_conflict::Picker;
-use cs_wishes::Wishes;
+use cs_conflict::wish_list::Wishes;
 
 /// A world in which nothing has happened is sound.
 pub fn first_is_sound()
     ensures { FirstIsSound }
 {
-    cs_log::laws::empty_is_log();
+    cs_store::log::laws::empty_is_log();
     cs_replica::laws::first_stands();
 }
 
@@ -24,18 +24,18 @@ pub fn steps_are_sound()
     cs_normalising::laws::no_fault_where_fit();
     cs_normal::laws::normal_is_taken();
     cs_normalising::laws::normal_again();
-    cs_log::laws::most_bytes();
-    cs_position::laws::last_number();
-    cs_log::laws::appended_is_log();
-    cs_log::laws::longer_log();
-    cs_log::laws::one_body();
+    cs_store::log::laws::most_bytes();
+    cs_pending::position::laws::last_number();
+    cs_store::log::laws::appended_is_log();
+    cs_store::log::laws::longer_log();
+    cs_store::log::laws::one_body();
     cs_wire::laws::one_request();
     cs_wire::laws::one_told_answer();
     cs_wire::laws::told_are_read();
-    cs_taking::laws::one_contents();
-    cs_pulling::laws::one_read();
+    cs_exchange::taking::laws::one_contents();
+    cs_exchange::pulling::laws::one_read();
     let wishes = Wishes::new(&[]);
-    cs_pulling::laws::pulled_leads(&wishes);
+    cs_exchange::pulling::laws::pulled_leads(&wishes);
     cs_replica::laws::stands_longer();
     cs_replica::laws::edit_stands();
     cs_replica::laws::steps_stand();
@@ -66,7 +66,7 @@ pub fn answers_fit()
     cs_normalising::laws::no_fault_where_fit();
     cs_normal::laws::normal_is_taken();
     cs_normalising::laws::normal_again();
-    cs_log::laws::appended_is_log();
+    cs_store::log::laws::appended_is_log();
     cs_wire::laws::one_request();
     cs_wire::laws::one_told_answer();
     cs_wire::laws::told_are_read();
@@ -79,12 +79,12 @@ pub fn pulls_merge()
 {
     cs_normal::laws::normal_is_taken();
     cs_normalising::laws::normal_again();
-    cs_log::laws::one_body();
+    cs_store::log::laws::one_body();
     cs_pending::laws::one_view();
-    cs_taking::laws::one_contents();
-    cs_pulling::laws::one_read();
+    cs_exchange::taking::laws::one_contents();
+    cs_exchange::pulling::laws::one_read();
     let wishes = Wishes::new(&[]);
-    cs_pulling::laws::pulled_leads(&wishes);
+    cs_exchange::pulling::laws::pulled_leads(&wishes);
     cs_rebaser::laws::merge_alike();
     cs_replica::laws::steps_stand();
     cs_replica::laws::flight_fits();
@@ -95,10 +95,10 @@ pub fn one_step()
     ensures { OneStep }
 {
     cs_hub::laws::one_service();
-    cs_member::laws::one_edited();
-    cs_member::laws::one_pushed();
-    cs_member::laws::one_resent();
-    cs_member::laws::one_heard();
+    cs_replica::member::laws::one_edited();
+    cs_replica::member::laws::one_pushed();
+    cs_replica::member::laws::one_resent();
+    cs_replica::member::laws::one_heard();
     cs_wire::laws::one_told_answer();
 }
 
@@ -114,7 +114,7 @@ pub fn one_run()
 pub fn edit_has_step()
     ensures { EditHasStep }
 {
-    cs_member::laws::edit_has_result();
+    cs_replica::member::laws::edit_has_result();
 }
 
 /// So does each event that makes its step behind others.
@@ -129,7 +129,7 @@ pub fn events_merge()
 pub fn push_has_step()
     ensures { PushHasStep }
 {
-    cs_member::laws::push_has_result();
+    cs_replica::member::laws::push_has_result();
 }
 
 /// So has a push that is to be sent once more.
@@ -160,7 +160,7 @@ pub fn deliver_has_step()
 {
     answers_fit();
     cs_conflict::laws::guarded_is_lawful();
-    cs_judging::laws::push_has_answer();
+    cs_hub::judgement::laws::push_has_answer();
     cs_normal::laws::normal_is_taken();
     cs_normalising::laws::normal_again();
     let wishes = Wishes::new(&[]);
@@ -208,6 +208,6 @@ pub fn stops_keep_headline()
 pub fn opens_as_left()
     ensures { OpensAsLeft }
 {
-    cs_moving::laws::store_openings();
+    cs_opening::moving::laws::store_openings();
     cs_opening::laws::openings();
 }

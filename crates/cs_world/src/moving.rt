@@ -3,7 +3,7 @@
 ghost use Rattle.std.specs.Prelude.{◌≡◌, ◌<◌, ◌++◌, [], ◌∷◌, List, Some, IfOk, OnErr, length, vec_capacity, vec_len};
 ghost use Rattle.cs_world.specs.declared.event.Event.TheVariants.{AskPull, Deliver, MakePush, OnEdit, Resend, Restart};
 ghost use Rattle.cs_world.specs.declared.outcome.Outcome.TheVariants as told;
-ghost use Rattle.cs_log.specs.declared.entry.TheConstants.{MAX_ENTRIES};
+ghost use Rattle.cs_store.specs.declared.log.entry.TheConstants.{MAX_ENTRIES};
 ghost use Rattle.cs_world.specs.Fails.{AsksHub};
 ghost use Rattle.cs_world.specs.Moves.{Moves};
 
@@ -13,8 +13,8 @@ use crate::outcome::Outcome;
 use crate::turning::reload_replica;
 use cs_conflict::Wish;
 use cs_hub::Hub;
-use cs_member::{edit_replica, push_replica, tell_replica};
 use cs_replica::Replica;
+use cs_replica::member::{edit_replica, push_replica, tell_replica};
 use cs_store::RowStore;
 use cs_value::Edit;
 use cs_wire::{Answer, RequestBuf};
@@ -158,7 +158,7 @@ impl<S: RowStore> Core<S> {
         ensures asks { AsksHub S.RowStore MAX_ENTRIES (Deliver which wishes.now) result self.old self.new }
     {
         crate::laws::answers_fit();
-        cs_log::laws::most_entries();
+        cs_store::log::laws::most_entries();
         cs_wire::laws::one_told_answer();
         if self.letters.reserve(1).is_err() {
             return Outcome::Memory;

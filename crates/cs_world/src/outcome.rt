@@ -1,9 +1,9 @@
 //! What an event comes to.
 
+use cs_exchange::pulling::AnswerFault;
+use cs_exchange::pushing::PushFault;
 use cs_opening::OpenFault;
 use cs_pending::EditFault;
-use cs_pulling::AnswerFault;
-use cs_pushing::PushFault;
 use cs_replica::Told;
 
 /// What an event comes to. (Profile of this project.)

@@ -2,8 +2,8 @@
 
 ghost use Rattle.std.specs.Prelude.{◌≡◌, [], None, Some, Err, IfOk, length, slice_get};
 ghost use Rattle.std.specs.Option.{option_copied};
-ghost use Rattle.cs_log.specs.declared.entry.TheConstants.{MAX_ENTRIES};
-ghost use Rattle.cs_log.specs.Log.{state_of};
+ghost use Rattle.cs_store.specs.declared.log.entry.TheConstants.{MAX_ENTRIES};
+ghost use Rattle.cs_store.specs.log.Log.{state_of};
 ghost use Rattle.cs_replica.specs.Holding.{Holding as Held};
 ghost use Rattle.cs_store.specs.declared.fault.StoreFault.TheVariants.{Device};
 ghost use Rattle.cs_world.specs.Fails.{CountsOn};
@@ -15,9 +15,9 @@ ghost use Rattle.cs_world.specs.World.{IsMember, Member, World as Standing};
 use crate::letter::Letter;
 use crate::moving::Core;
 use crate::world::World;
-use cs_member::rows_of;
 use cs_normal::Normal;
-use cs_rows::RowAtKey;
+use cs_pending::rows::RowAtKey;
+use cs_replica::member::rows_of;
 use cs_store::{RowStore, StoreFault};
 
 impl<S: RowStore> Core<S> {

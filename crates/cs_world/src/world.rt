@@ -1,7 +1,7 @@
 //! The world over stores.
 
 ghost use Rattle.std.specs.Prelude.{◌≡◌, ◌<◌, ◌^◌, [], ◌∷◌, All, IfOk, OnErr, length};
-ghost use Rattle.cs_log.specs.declared.entry.TheConstants.{MAX_ENTRIES};
+ghost use Rattle.cs_store.specs.declared.log.entry.TheConstants.{MAX_ENTRIES};
 ghost use Rattle.cs_store.specs.Contents.{nothing};
 ghost use Rattle.cs_world.specs.Fails.{AsksHub, CountsOn, SaysDevice, SomeSaysDevice};
 ghost use Rattle.cs_world.specs.Left.{StopsHaveHeadline};
@@ -28,7 +28,7 @@ pub struct World<S: RowStore> {
 
 impl<S: RowStore> Model for World<S> {
     ghost use Rattle.cs_world.specs.World.{World as Standing};
-    ghost use Rattle.cs_log.specs.declared.entry.TheConstants.{MAX_ENTRIES};
+    ghost use Rattle.cs_store.specs.declared.log.entry.TheConstants.{MAX_ENTRIES};
     ghost use Rattle.cs_world.specs.Holding.{AreHonest, Holding, StandsAt};
     ghost use Rattle.cs_world.specs.Left.{Leaves};
 
@@ -88,7 +88,7 @@ impl World<MapStore> {
         catalog: &Catalog,
         count: u32,
     ) -> Result<World<MapStore>, Memory>
-        ensures { IfOk result (IsNew ⟦<MapStore as RowStore>⟧.honest ⟦<MapStore as RowStore>⟧.contents MAX_ENTRIES catalog.now count) }
+        ensures { IfOk result (IsNew ⟦<MapStore as RowStore>⟧ MAX_ENTRIES catalog.now count) }
     {
         let stores = bare_stores(alloc, count)?;
         match World::new(alloc, catalog, MapStore::new(alloc), stores) {
@@ -110,7 +110,7 @@ impl<S: RowStore> World<S> {
         crate::laws::answers_fit();
         crate::laws::steps_are_sound();
         crate::laws::sound_has_headline();
-        cs_log::laws::most_entries();
+        cs_store::log::laws::most_entries();
         cs_wire::laws::one_told_answer();
         let _core = &self.core;
     }
@@ -126,7 +126,7 @@ impl<S: RowStore> World<S> {
         ensures asks { AsksHub S.RowStore MAX_ENTRIES event.now result self.old self.new }
     {
         crate::laws::steps_are_sound();
-        cs_log::laws::most_entries();
+        cs_store::log::laws::most_entries();
         self.core.step(event)
     }
 
@@ -154,7 +154,7 @@ impl<S: RowStore> World<S> {
         ensures refused { OnErr result (self.new ≡ self.old) }
     {
         crate::laws::events_merge();
-        cs_log::laws::most_entries();
+        cs_store::log::laws::most_entries();
         self.headline();
         let mut outcomes = Vec::with_capacity(self.core.alloc, events.len())?;
         let mut rest = events;

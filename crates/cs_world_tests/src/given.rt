@@ -1,14 +1,14 @@
 //! Stores of a hub of `t1(a, b)`, whose first column is the key: what is appended there, and what they show.
 
 ghost use Rattle.std.specs.Prelude.{◌≡◌, IfSome};
-ghost use Rattle.cs_log.specs.Stored.{IsEntryOf};
+ghost use Rattle.cs_store.specs.log.Stored.{IsEntryOf};
 ghost use Rattle.cs_store.specs.Contents.{nothing};
 
-use cs_appending::{AppendFault, append};
 use cs_conflict::Kind;
-use cs_log::{LogEntry, read_body};
-use cs_log_opening::open_log;
+use cs_hub::appending::{AppendFault, append};
+use cs_hub::log_opening::open_log;
 use cs_map_store::MapStore;
+use cs_store::log::{LogEntry, read_body};
 use cs_store::{RowStore, StoreFault, Trip};
 use cs_store_cases::catalog;
 use cs_value::Catalog;

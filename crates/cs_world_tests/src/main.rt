@@ -1,4 +1,4 @@
-//! Tests of a hub's log (`cs_log_opening`, `cs_log_reading`, `cs_appending`, `cs_judging`), of hubs (`cs_hub`), of worlds of a hub and its replicas
+//! Tests of a hub's log (`cs_hub::log_opening`, `cs_hub::log_reading`, `cs_hub::appending`, `cs_hub::judgement`), of hubs (`cs_hub`), of worlds of a hub and its replicas
 //! (`cs_world`) and of their scripts (`cs_script`), over stores in memory, by public calls: what only a call shows. Sessions, scripts and stores that
 //! are found are rows of `bench/check_sessions.sh`, `bench/check_worlds.sh` and `bench/check_files.sh`.
 #![tactic(auto)]

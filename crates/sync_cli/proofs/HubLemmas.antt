@@ -2,14 +2,14 @@
 use Rattle.std.proofs.Common.{◌≡◌, ℕ, List, [], arith, refl}
 use Rattle.std.specs.Prelude.{⊤, Option, Result, Ok, Err}
 use Rattle.cs_hub.specs.Serves.{IsSame, Serves}
-use Rattle.cs_log.specs.declared.entry.TheConstants.{MAX_ENTRIES}
-use Rattle.cs_hub_lines.specs.Endings.{AnsweredOver, EndsAnswered, EndsReading, EndsServingOn, EndsWriting}
-use Rattle.cs_hub_lines.specs.declared.fault.ServingFault.{ServingFault}
-use Rattle.cs_hub_lines.specs.declared.fault.ServingFault.TheVariants as serving
-use Rattle.cs_judging.specs.Hub.{HubState, fresh}
-use Rattle.cs_judging.specs.Judged.{hub_of}
+use Rattle.cs_store.specs.declared.log.entry.TheConstants.{MAX_ENTRIES}
+use Rattle.cs_node_lines.specs.hub.Endings.{AnsweredOver, EndsAnswered, EndsReading, EndsServingOn, EndsWriting}
+use Rattle.cs_node_lines.specs.declared.hub.fault.ServingFault.{ServingFault}
+use Rattle.cs_node_lines.specs.declared.hub.fault.ServingFault.TheVariants as serving
+use Rattle.cs_hub.specs.judgement.Hub.{HubState, fresh}
+use Rattle.cs_hub.specs.judgement.Judged.{hub_of}
 use Rattle.cs_lines.specs.Served.{AnswersAll}
-use Rattle.cs_map_store.specs.Slots.{InMemory, held_by, is_honest, leaves_held, misreads_of}
+use Rattle.cs_map_store.specs.Slots.{InMemory, held_by, in_map_store, misreads_of}
 use Rattle.cs_store.specs.Contents.{nothing}
 use Rattle.cs_value.specs.declared.catalog.TableDef.{TableDef}
 use Rattle.sync_cli.specs.Endings.{EndsServing, told_as}
@@ -18,7 +18,7 @@ use Rattle.sync_cli.specs.declared.fault.RunFault.TheVariants.{Read, Write}
 
 -- over a store in memory that held nothing, and of which nothing was misread, lines are answered by the log of a new hub
 by_log : (tables : List TableDef) (store last : InMemory) (lines answers : List (List ℕ)) → held_by store ≡ nothing → misreads_of store ≡ 0
-    → AnsweredOver is_honest held_by misreads_of leaves_held misreads_of tables store last lines answers
+    → AnsweredOver in_map_store tables store last lines answers
     → (end : HubState) × AnswersAll (Serves MAX_ENTRIES) IsSame (fresh tables) lines answers end
 by_log tables store last lines answers bare none over =
     let run = over.by_log (λ s. refl) (omega (arith, none)) tt [] (over.opened.fresh tt bare) in (hub_of tables run.0, run.1)
@@ -27,19 +27,19 @@ by_log tables store last lines answers bare none over =
 module _ (tables : List TableDef) (store last : InMemory) (input left : Option (List ℕ)) (read_failed write_failed : Type 0) (before after : Option (List ℕ))
     (bare : held_by store ≡ nothing) (none : misreads_of store ≡ 0) where
   abbrev Ended : Result ⊤ ServingFault → Type 0
-  Ended ended = EndsServingOn is_honest held_by misreads_of leaves_held misreads_of tables store last input left read_failed write_failed before after ended
+  Ended ended = EndsServingOn in_map_store tables store last input left read_failed write_failed before after ended
 
-  all_answered : EndsAnswered is_honest held_by misreads_of leaves_held misreads_of tables store last input before after
+  all_answered : EndsAnswered in_map_store tables store last input before after
       → EndsServing tables input left read_failed write_failed before after (Ok tt)
   all_answered (lines, answers, all, over, appends) =
       let run = by_log tables store last lines answers bare none over in (lines, answers, run.0, all, run.1, appends)
 
-  read_stopped : EndsReading is_honest held_by misreads_of leaves_held misreads_of tables store last input left read_failed before after
+  read_stopped : EndsReading in_map_store tables store last input left read_failed before after
       → EndsServing tables input left read_failed write_failed before after (Err Read)
   read_stopped (lines, answers, all, over, appends, why) =
       let run = by_log tables store last lines answers bare none over in (lines, answers, run.0, all, run.1, appends, why)
 
-  write_stopped : EndsWriting is_honest held_by misreads_of leaves_held misreads_of tables store last input write_failed before after
+  write_stopped : EndsWriting in_map_store tables store last input write_failed before after
       → EndsServing tables input left read_failed write_failed before after (Err Write)
   write_stopped (lines, answers, first, over, broken, failed) =
       let run = by_log tables store last lines answers bare none over in (lines, answers, run.0, first, run.1, broken, failed)

@@ -7,8 +7,8 @@ use Rattle.clap.specs.declared.error.kind.ErrorKind.TheVariants as kind
 use Rattle.cs_command.specs.CatalogWords.{IsCatalogOf, IsFirstRefused}
 use Rattle.cs_command.specs.declared.table.TableFault.{TableFault}
 use Rattle.cs_hub.specs.Serves.{IsSame, Serves}
-use Rattle.cs_log.specs.declared.entry.TheConstants.{MAX_ENTRIES}
-use Rattle.cs_judging.specs.Hub.{HubState, fresh}
+use Rattle.cs_store.specs.declared.log.entry.TheConstants.{MAX_ENTRIES}
+use Rattle.cs_hub.specs.judgement.Hub.{HubState, fresh}
 use Rattle.cs_lines.specs.Lines.{hex_line}
 use Rattle.cs_lines.specs.Reading.{AreAllBefore}
 use Rattle.cs_lines.specs.Served.{AnswersAll, AreAllLines, AreFirstLines}

@@ -1,13 +1,13 @@
 -- Faults of what the program wires together, as the run's. Want of memory and a failed read or write are told as such, whoever meets them.
-use Rattle.cs_asks.specs.declared.fault.ReadFault.{ReadFault}
-use Rattle.cs_asks.specs.declared.fault.ReadFault.TheVariants as reading
+use Rattle.cs_node_lines.specs.declared.asks.fault.ReadFault.{ReadFault}
+use Rattle.cs_node_lines.specs.declared.asks.fault.ReadFault.TheVariants as reading
 use Rattle.cs_command.specs.declared.table.TableFault.{TableFault}
 use Rattle.cs_command.specs.declared.table.TableFault.TheVariants as table
-use Rattle.cs_hub_lines.specs.declared.fault.ServingFault.{ServingFault}
-use Rattle.cs_hub_lines.specs.declared.fault.ServingFault.TheVariants as serving
+use Rattle.cs_node_lines.specs.declared.hub.fault.ServingFault.{ServingFault}
+use Rattle.cs_node_lines.specs.declared.hub.fault.ServingFault.TheVariants as serving
 use Rattle.cs_opening.specs.declared.fault.OpenFault.TheVariants.{Device}
-use Rattle.cs_replica_lines.specs.declared.fault.NodeFault.{NodeFault}
-use Rattle.cs_replica_lines.specs.declared.fault.NodeFault.TheVariants as node
+use Rattle.cs_node_lines.specs.declared.working.fault.NodeFault.{NodeFault}
+use Rattle.cs_node_lines.specs.declared.working.fault.NodeFault.TheVariants as node
 use Rattle.cs_script.specs.declared.fault.ScriptFault.{ScriptFault}
 use Rattle.cs_script.specs.declared.fault.ScriptFault.TheVariants as script
 use Rattle.cs_store.specs.declared.fault.StoreFault.{StoreFault}

@@ -1,12 +1,12 @@
 -- How a run ends that was asked for (profile of this project). No clause says what the file at a path held.
 use Rattle.std.specs.Prelude.{◌≡◌, ◌⊎◌, ⊤, ℕ, List, Option, Some, None, Result, Err}
 use Rattle.std.specs.Io.KnownBytes.{Keeps}
-use Rattle.cs_asks.specs.Reading.{AreAllAsks, IsReadFault}
-use Rattle.cs_asks.specs.declared.ask.Ask.{Ask}
-use Rattle.cs_asks.specs.declared.fault.ReadFault.{ReadFault}
+use Rattle.cs_node_lines.specs.asks.Reading.{AreAllAsks, IsReadFault}
+use Rattle.cs_node_lines.specs.declared.asks.ask.Ask.{Ask}
+use Rattle.cs_node_lines.specs.declared.asks.fault.ReadFault.{ReadFault}
 use Rattle.cs_command.specs.Wanted.{Hub, Node, Run, Wanted, World}
-use Rattle.cs_hub_lines.specs.Endings.{EndsServingOn}
-use Rattle.cs_replica_lines.specs.Endings.{EndsWorking}
+use Rattle.cs_node_lines.specs.hub.Endings.{EndsServingOn}
+use Rattle.cs_node_lines.specs.working.Endings.{EndsWorking}
 use Rattle.cs_store.specs.declared.fault.StoreFault.{StoreFault}
 use Rattle.cs_store.specs.declared.store.RowStore.{Ghosts}
 use Rattle.cs_value.specs.declared.catalog.TableDef.{TableDef}

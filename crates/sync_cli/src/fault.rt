@@ -4,11 +4,11 @@ ghost use Rattle.std.specs.Prelude.{◌≡◌};
 ghost use Rattle.sync_cli.specs.Faults.{of_node, of_reading, of_script, of_serving, of_store, of_table, of_tool};
 ghost use Rattle.sync_cli.specs.declared.fault.RunFault.TheVariants.{Memory as NoMemory};
 
-use cs_asks::ReadFault;
 use cs_command::TableFault;
-use cs_hub_lines::ServingFault;
+use cs_node_lines::asks::ReadFault;
+use cs_node_lines::hub::ServingFault;
+use cs_node_lines::working::NodeFault;
 use cs_opening::OpenFault;
-use cs_replica_lines::NodeFault;
 use cs_script::ScriptFault;
 use cs_store::StoreFault;
 use cs_tools::ToolFault;

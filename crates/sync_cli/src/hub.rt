@@ -7,9 +7,9 @@ ghost use Rattle.sync_cli.specs.OverFiles.{EndsHub, EndsServingFile};
 
 use crate::fault::RunFault;
 use crate::opener::Opener;
-use cs_hub_lines::{ServingFault, serve_on};
 use cs_lines::{LineInput, LineOutput};
 use cs_map_store::MapStore;
+use cs_node_lines::hub::{ServingFault, serve_on};
 use cs_store::RowStore;
 use cs_value::Catalog;
 use std::alloc::Global;

@@ -1,7 +1,7 @@
 //! The program `sync`: a hub that answers requests line by line, over memory or a file; a replica over a file, worked by lines; worlds that
 //! run scripts; and tools for changesets.
 //!
-//! It stands on `cs_command` for the command line, on `cs_hub_lines`, `cs_asks` and `cs_replica_lines`, `cs_script` and `cs_tools` for what is asked
+//! It stands on `cs_command` for the command line, on `cs_node_lines::hub`, `cs_node_lines::asks` and `cs_node_lines::working`, `cs_script` and `cs_tools` for what is asked
 //! for, on `cs_map_store` and `cs_sql` for the stores, and only wires them. `run` carries the promise, end by end (`specs/Endings.antt`,
 //! `specs/OverFiles.antt`): what the words ask for was done, over the tables that they spell, or why not; and the words that are refused are
 //! those that name no catalog or that the command line doesn't take. `tell_end` turns each end into its status.

@@ -7,9 +7,9 @@ ghost use Rattle.sync_cli.specs.OverFiles.{EndsNodeFile};
 
 use crate::fault::RunFault;
 use crate::opener::Opener;
-use cs_asks::read_asks;
 use cs_lines::{LineInput, LineOutput};
-use cs_replica_lines::{NodeFault, work_on};
+use cs_node_lines::asks::read_asks;
+use cs_node_lines::working::{NodeFault, work_on};
 use cs_store::RowStore;
 use cs_value::Catalog;
 use std::alloc::Global;

@@ -4,8 +4,8 @@ use Rattle.std.specs.List.{flat_map}
 use Rattle.cs_change.specs.Spelling.{change_spelling, changes_spelling}
 use Rattle.cs_change.specs.declared.change.Change.{Change}
 use Rattle.cs_order.specs.Order.{Keys}
-use Rattle.cs_keyed.specs.Changes.{Changes}
-use Rattle.cs_keyed.specs.Keyed.{beside}
+use Rattle.cs_normal.specs.keyed.Changes.{Changes}
+use Rattle.cs_normal.specs.keyed.Keyed.{beside}
 use Rattle.cs_group.specs.declared.folding.Folding.{Folding}
 use Rattle.cs_group.specs.declared.spelling.Spelling.{Spelling}
 

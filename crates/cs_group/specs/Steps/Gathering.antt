@@ -2,7 +2,7 @@
 use Rattle.std.specs.Prelude.{◌≡◌, ◌+◌, ◌<◌, ℕ, Bool, true, List, Some, length, map, slice_get, slice_index_or}
 use Rattle.std.specs.List.{flat_map, list_all}
 use Rattle.cs_change.specs.declared.change.Change.{Change}
-use Rattle.cs_keyed.specs.NormalForm.{change_bytes, has_key}
+use Rattle.cs_normal.specs.keyed.NormalForm.{change_bytes, has_key}
 use Rattle.cs_group.specs.Steps.Numbering.{changes_in_group, numbers_in_group, NumberedGroup}
 use Rattle.cs_group.specs.declared.gathered.Gathered.{Gathered}
 use Rattle.cs_group.specs.declared.lent.Part.{Part}

@@ -1,7 +1,7 @@
 -- The order of the changes of one table over changesets as read.
 use Rattle.std.specs.Prelude.{◌≡◌, Bool, true, List, map}
 use Rattle.std.specs.List.{flat_map, list_all}
-use Rattle.cs_keyed.specs.NormalForm.{change_bytes, has_key}
+use Rattle.cs_normal.specs.keyed.NormalForm.{change_bytes, has_key}
 use Rattle.cs_order.specs.Groups.{IsGrouping}
 use Rattle.cs_group.specs.Steps.Gathering.{lent_changes, lent_numbers}
 use Rattle.cs_group.specs.Steps.Numbering.{changes_in_group, numbers_in_group, NumberedGroup}

@@ -4,9 +4,9 @@ use Rattle.std.specs.List.Sorted.{IsPermutation}
 use Rattle.std.specs.Map.{keys_of}
 use Rattle.cs_order.specs.Order.{Keys}
 use Rattle.cs_change.specs.declared.change.Change.{Change}
-use Rattle.cs_keyed.specs.Changes.{Changes}
-use Rattle.cs_keyed.specs.NormalForm.{change_bytes, normal_form}
-use Rattle.cs_keyed.specs.Prepared.{Entries, all_keyed, kept, prepared}
+use Rattle.cs_normal.specs.keyed.Changes.{Changes}
+use Rattle.cs_normal.specs.keyed.NormalForm.{change_bytes, normal_form}
+use Rattle.cs_normal.specs.keyed.Prepared.{Entries, all_keyed, kept, prepared}
 use Rattle.cs_normalising.specs.Lent.{nth_entry}
 use Rattle.cs_normalising.specs.Steps.Prepared.{rises}
 use Rattle.cs_normalising.specs.declared.lent_table.Ordered.{Ordered}

@@ -4,9 +4,9 @@ use Rattle.std.specs.List.{flat_map, AllByRecursion}
 use Rattle.cs_value.specs.declared.catalog.TableDef.{TableDef}
 use Rattle.cs_change.specs.Spelling.{marks_of, change_spelling, changes_spelling, FitsChange}
 use Rattle.cs_change.specs.declared.group.Group.{Group}
-use Rattle.cs_keyed.specs.Changes.{Changes, IsEntry}
+use Rattle.cs_normal.specs.keyed.Changes.{Changes, IsEntry}
 use Rattle.cs_normal.specs.Normal.{table_changes}
-use Rattle.cs_keyed.specs.NormalForm.{AreKeyed, IsNormalOf}
+use Rattle.cs_normal.specs.keyed.NormalForm.{AreKeyed, IsNormalOf}
 use Rattle.cs_normalising.specs.UnfitChanges.{HasFirstUnfitChange}
 use Rattle.cs_normalising.specs.NormalFormOf.{changes_of}
 use Rattle.cs_normal.specs.declared.normal.TableChanges.{TableChanges}

@@ -2,7 +2,7 @@
 
 use crate::given::*;
 use cs_conflict::{Clash, Guard, Wish};
-use cs_pulling::{AnswerFault, PullFault};
+use cs_exchange::pulling::{AnswerFault, PullFault};
 use cs_replica::Told;
 use cs_store::{RowStore, Trip};
 use cs_wire::Answer;

@@ -5,9 +5,9 @@ use crate::choosing::{take_always, take_own_first};
 use crate::given::*;
 use cs_change::Change;
 use cs_conflict::{Clash, ConflictBuf, Guard, Kind, Wish};
-use cs_log::LogEntry;
-use cs_pulling::PullFault;
+use cs_exchange::pulling::PullFault;
 use cs_record::Row;
+use cs_store::log::LogEntry;
 use std::alloc::Global;
 
 /// A row that both sides insert, and one that the own side takes away and the other changes.

@@ -1,8 +1,8 @@
 //! Memory that is refused, at opening, at appending and at reading: it is told, leaves everything, and the same call is then made.
 
 use crate::given::{INSERT, Push, ROW_1, ROW_2, Store, Told, UPDATE, appends, bare, entry_of, has};
-use cs_log_opening::open_log;
-use cs_log_reading::{entries_at, entries_told, has_entry};
+use cs_hub::log_opening::open_log;
+use cs_hub::log_reading::{entries_at, entries_told, has_entry};
 use cs_opening::OpenFault;
 use cs_store::{RowStore, StoreFault};
 use cs_store_cases::catalog;

@@ -1,7 +1,7 @@
 //! A store that is opened as a hub's: laid out where it held nothing, as it was left, as another's, and damaged in each of its parts.
 
 use crate::given::{INSERT, KEY, ROW_1, bare, opened};
-use cs_log_opening::open_log;
+use cs_hub::log_opening::open_log;
 use cs_opening::OpenFault;
 use cs_store::{MetaName, RowStore, StoreFault, Written};
 use cs_store_cases::{Spelled, commit_of};

@@ -3,8 +3,8 @@
 use crate::given::{
     DELETE, INSERT, NO_CHANGE, Push, Store, Told, UPDATE, appends, entry_of, opened,
 };
-use cs_log::LogEntry;
-use cs_log_reading::{entries_at, entries_told, has_entry};
+use cs_hub::log_reading::{entries_at, entries_told, has_entry};
+use cs_store::log::LogEntry;
 use cs_store::{RowStore, StoreFault};
 use cs_store_cases::commit_of;
 use cs_value::Catalog;

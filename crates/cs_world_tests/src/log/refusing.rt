@@ -1,7 +1,7 @@
 //! Calls that the device refuses, one after another: each is told, leaves everything, and is made when it comes again.
 
 use crate::given::{ROW_1, ROW_2, Store, Told, UPDATE, appends, bare, filled, has, refusing};
-use cs_log_opening::open_log;
+use cs_hub::log_opening::open_log;
 use cs_opening::OpenFault;
 use cs_store::{MetaName, RowStore};
 use cs_store_cases::catalog;

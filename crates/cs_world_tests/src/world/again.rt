@@ -1,10 +1,10 @@
 //! Events that are made once more where they were refused.
 
 use cs_conflict::Wish;
+use cs_exchange::pulling::AnswerFault;
+use cs_exchange::pushing::PushFault;
 use cs_opening::OpenFault;
 use cs_pending::EditFault;
-use cs_pulling::AnswerFault;
-use cs_pushing::PushFault;
 use cs_replica::Told;
 use cs_script::read_event;
 use cs_store::{RowStore, StoreFault};

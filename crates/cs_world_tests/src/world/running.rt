@@ -1,6 +1,6 @@
 //! Events that are made at once.
 
-use cs_pushing::PushFault;
+use cs_exchange::pushing::PushFault;
 use cs_store_cases::catalog;
 use cs_world::{Event, Outcome, World};
 use std::alloc::Global;

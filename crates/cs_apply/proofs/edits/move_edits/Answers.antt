@@ -3,7 +3,7 @@ use Rattle.std.specs.Prelude.{slice_set, slice_range}
 use Rattle.std.proofs.lemmas.List.{length-set, take_more_set, drop-set-lt, append_assoc}
 use Rattle.std.proofs.lemmas.List.Edits.{between_more}
 use Rattle.std.proofs.lemmas.Option.{slice_get-get_or}
-use Rattle.cs_edits.specs.Edits.{BodyEdit}
+use Rattle.cs_store.specs.edits.Edits.{BodyEdit}
 use Rattle.cs_apply.specs.Woven.{stand_in}
 use Rattle.cs_apply.proofs.Meshing.{rest_at, same_behind}
 use Rattle.cs_apply.proofs.edits.move_edits.Goals as goal

@@ -1,6 +1,6 @@
 use Rattle.std.proofs.Common.{rules, ◌≡◌, ◌≢◌, ◌∷◌, ◌++◌, All}
 use Rattle.std.specs.Prelude.{None}
-use Rattle.cs_words.specs.Texts.{text_in}
+use Rattle.cs_text.specs.parse.Texts.{text_in}
 use Rattle.cs_command.proofs.WordLemmas.{no_table_without_colon, no_table_without_marks, no_table_without_name}
 use Rattle.cs_command.proofs.table.read_table.Goals as goal
 

@@ -1,6 +1,5 @@
-use Rattle.std.proofs.Common.{◌∙◌, sym}
+use Rattle.std.proofs.Common.{◌∙◌, sym, ap}
 use Rattle.cs_group.proofs.laws.one_combined_spelling.Goals as goal
-use Rattle.std.proofs.Common.{ap}
 use Rattle.cs_normal.specs.Normal.{normal_spelling}
 
 pub returns : goal.returns

@@ -1,4 +1,4 @@
-use Rattle.cs_log.specs.declared.entry.TheConstants.{MAX_ENTRIES}
+use Rattle.cs_store.specs.declared.log.entry.TheConstants.{MAX_ENTRIES}
 use Rattle.cs_hub.proofs.OneHubRun.{one_hub_run}
 use Rattle.cs_hub.proofs.laws.one_run.Goals as goal
 

@@ -1,8 +1,8 @@
 use Rattle.std.proofs.Common.{◌∙◌, ◌-◌, ℕ, ap, arith, min, subst, sym}
 use Rattle.cs_store.specs.Calls.{MoreFailures}
 use Rattle.cs_store.specs.Contents.{Contents}
-use Rattle.cs_log_store.specs.Shows.{ShowsLog}
-use Rattle.cs_log.specs.declared.entry.TheConstants.{MAX_ENTRIES}
+use Rattle.cs_hub.specs.log_store.Shows.{ShowsLog}
+use Rattle.cs_store.specs.declared.log.entry.TheConstants.{MAX_ENTRIES}
 use Rattle.cs_hub.proofs.Answered.{entries}
 use Rattle.cs_hub.proofs.serving.pull_at.Goals as goal
 

@@ -1,7 +1,7 @@
 use Rattle.std.proofs.Common.{List, ℕ, ◌++◌, ◌∙◌, ap}
 use Rattle.cs_store.specs.Calls.{MoreFailures}
 use Rattle.cs_wire.specs.Answers.{answer_spelling, short_spelling}
-use Rattle.cs_log.specs.declared.entry.TheConstants.{MAX_ENTRIES}
+use Rattle.cs_store.specs.declared.log.entry.TheConstants.{MAX_ENTRIES}
 use Rattle.cs_hub.proofs.Answered.{told}
 use Rattle.cs_hub.proofs.Stored.{served_push}
 use Rattle.cs_hub.proofs.serving.push_told.Goals as goal

@@ -1,6 +1,6 @@
 use Rattle.std.proofs.Common.{Err, ap}
 use Rattle.cs_store.specs.Calls.{MoreFailures}
-use Rattle.cs_log.specs.declared.entry.TheConstants.{MAX_ENTRIES}
+use Rattle.cs_store.specs.declared.log.entry.TheConstants.{MAX_ENTRIES}
 use Rattle.cs_hub.proofs.Stored.{refused_so, taken_so, unwritten_so}
 use Rattle.cs_hub.proofs.Taken.{has_form, refused_by, taken}
 use Rattle.cs_hub.proofs.taking.take_at.Goals as goal

@@ -1,5 +1,5 @@
 use Rattle.std.proofs.Common.{◌≡◌, List, fold, subst, arith, IfOk}
-use Rattle.cs_edits.specs.Edits.{BodyEdit}
+use Rattle.cs_store.specs.edits.Edits.{BodyEdit}
 use Rattle.cs_leaf.specs.Edits.{edited}
 use Rattle.cs_leaf.proofs.Merges.{only_one}
 use Rattle.cs_leaf.proofs.changing.stage.Goals as goal

@@ -1,5 +1,5 @@
 use Rattle.std.proofs.Common.{◌≡◌, ◌+◌, ◌∷◌, List, fold, drop, ap, sym, subst, ◌∙◌, ◌++◌, arith}
-use Rattle.cs_edits.specs.Edits.{BodyEdit}
+use Rattle.cs_store.specs.edits.Edits.{BodyEdit}
 use Rattle.cs_leaf.specs.Edits.{Rise, edited}
 use Rattle.cs_leaf.proofs.Merges.{drop_here, merge_more, rise_drop}
 use Rattle.cs_leaf.proofs.merging.merge_some.Goals as goal

@@ -1,7 +1,7 @@
 use Rattle.std.proofs.Common.{[], ◌≡◌, ◌+◌, ◌-◌, ◌++◌, inr, List, T, take, drop, fold, length, ap, sym, subst, ◌∙◌, arith}
 use Rattle.std.specs.FinMap.{is_sorted}
 use Rattle.std.proofs.lemmas.List.{get_or_default, length-drop}
-use Rattle.cs_edits.specs.Edits.{BodyEdit}
+use Rattle.cs_store.specs.edits.Edits.{BodyEdit}
 use Rattle.cs_store.specs.Contents.{place_cmp}
 use Rattle.cs_leaf.specs.Entries.{Entry}
 use Rattle.cs_leaf.specs.Edits.{Rise, edited}

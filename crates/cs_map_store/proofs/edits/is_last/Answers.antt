@@ -1,7 +1,7 @@
 use Rattle.std.proofs.Common.{◌≡◌, ◌+◌, ◌∷◌, ◌∙◌, List, not, drop, ap, sym, arith}
 use Rattle.std.specs.Ordering.{is_eq}
 use Rattle.std.proofs.lemmas.List.{drop_more}
-use Rattle.cs_edits.specs.Edits.{BodyEdit}
+use Rattle.cs_store.specs.edits.Edits.{BodyEdit}
 use Rattle.cs_map_store.specs.Leaves.{is_last_of}
 use Rattle.cs_map_store.proofs.Ordered.{last_none}
 use Rattle.cs_map_store.proofs.edits.is_last.Goals as goal

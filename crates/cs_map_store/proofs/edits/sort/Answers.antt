@@ -2,7 +2,7 @@ use Rattle.std.proofs.Common.{rules}
 use Rattle.std.proofs.lemmas.Fn.{always_returns_same}
 use Rattle.std.proofs.lemmas.List.Sorted.{ranks_by}
 use Rattle.cs_leaf.specs.Edits.{store_place}
-use Rattle.cs_edits.specs.Edits.{BodyEdit}
+use Rattle.cs_store.specs.edits.Edits.{BodyEdit}
 use Rattle.cs_map_store.proofs.Maps.{place_total}
 use Rattle.cs_map_store.proofs.Ordered.{comes_before, sorted_edits_dont_fall, sorted_same}
 use Rattle.cs_map_store.proofs.edits.sort.Goals as goal

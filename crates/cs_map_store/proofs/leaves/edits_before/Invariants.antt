@@ -1,6 +1,6 @@
 use Rattle.std.proofs.Common.{◌≡◌, ◌-◌, ◌≤◌, ◌<◌, Some, length, take}
 use Rattle.std.specs.List.{slice_get}
-use Rattle.cs_edits.specs.Edits.{BodyEdit}
+use Rattle.cs_store.specs.edits.Edits.{BodyEdit}
 use Rattle.cs_leaf.specs.Edits.{Rise, store_place}
 use Rattle.cs_map_store.specs.Leaves.{AreBefore}
 use Rattle.cs_map_store.proofs.leaves.edits_before.Given as goal

@@ -6,7 +6,7 @@ use Rattle.cs_store.specs.Contents.{place_cmp}
 use Rattle.cs_leaf.specs.Entries.{Entry}
 use Rattle.cs_leaf.specs.Edits.{Rise, edited, store_place}
 use Rattle.cs_map_store.specs.Leaves.{AreBefore, ArePatches, BeginsBehind, BeginsBy, ReachLeaf, flat, nth_leaf, patched}
-use Rattle.cs_edits.specs.Edits.{BodyEdit}
+use Rattle.cs_store.specs.edits.Edits.{BodyEdit}
 use Rattle.cs_map_store.specs.declared.leaves.Patch.{Patch}
 use Rattle.cs_map_store.proofs.Leafing.{from_there, reach_begins, leaf_sorted, rise_drop, patch_more, length_patched, patched_push, drop_set, drop_drop, length_set, later, nth_later, rest_of}
 use Rattle.cs_map_store.proofs.Taking.{before_same, begins_back, begins_same, patched_more, reach_same, restored_more}

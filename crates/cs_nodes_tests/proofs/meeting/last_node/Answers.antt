@@ -1,6 +1,6 @@
 use Rattle.std.proofs.Common.{◌≡◌, Some}
 use Rattle.std.proofs.lemmas.List.Elements.{All-pop}
-use Rattle.cs_plans.specs.declared.ending.NodeEnd.{NodeEnd}
+use Rattle.cs_nodes.specs.declared.plans.ending.NodeEnd.{NodeEnd}
 use Rattle.cs_nodes_tests.proofs.meeting.last_node.Goals as goal
 
 pub returns-clause-others : goal.returns-clause-others

@@ -1,5 +1,5 @@
 use Rattle.std.proofs.Common.{List, ap, map}
-use Rattle.cs_keyed.specs.Prepared.{kept}
+use Rattle.cs_normal.specs.keyed.Prepared.{kept}
 use Rattle.cs_normalising.specs.Lent.{LentForm, table_of}
 use Rattle.cs_normalising.specs.Steps.Lent.{ordered_entries}
 use Rattle.std.specs.List.{Contains}

@@ -1,5 +1,5 @@
 use Rattle.std.proofs.Common.{◌≡◌, [], take}
-use Rattle.cs_keyed.specs.Prepared.{kept}
+use Rattle.cs_normal.specs.keyed.Prepared.{kept}
 use Rattle.cs_normalising.specs.Steps.Lent.{ordered_entries}
 use Rattle.cs_normalising.proofs.lent_table.is_left.Given as goal
 

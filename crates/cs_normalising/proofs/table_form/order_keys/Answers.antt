@@ -1,5 +1,5 @@
 use Rattle.std.proofs.Common.{List, ℕ, refl, subst, sym, ◌∙◌}
-use Rattle.cs_keyed.specs.Prepared.{kept}
+use Rattle.cs_normal.specs.keyed.Prepared.{kept}
 use Rattle.cs_normalising.specs.Steps.Lent.{entries_at, AreBeside, IsKeptOf}
 use Rattle.cs_normalising.proofs.AsTheyStand.{stand_beside, stand_kept}
 use Rattle.cs_normalising.proofs.table_form.order_keys.Goals as goal

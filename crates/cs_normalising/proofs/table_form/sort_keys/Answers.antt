@@ -2,7 +2,7 @@ use Rattle.std.proofs.Common.{List, ℕ, map, sym, ap, subst, ◌∙◌}
 use Rattle.std.specs.Map.{keys_of}
 use Rattle.cs_order.specs.Groups.{HasTwins, IsDistinctOrder}
 use Rattle.cs_normalising.specs.Steps.Lent.{entries_at, AreBeside, IsKeptOf}
-use Rattle.cs_keyed.specs.Prepared.{Entries, kept, prepared}
+use Rattle.cs_normal.specs.keyed.Prepared.{Entries, kept, prepared}
 use Rattle.cs_normalising.specs.Lent.{nth_entry}
 use Rattle.cs_normalising.proofs.AsTheyStand.{ordered_beside}
 use Rattle.cs_normalising.proofs.Faults.{none_twice, null_fault, sorted_rises}

@@ -1,8 +1,8 @@
 use Rattle.std.proofs.Common.{◌≡◌, length, take}
 use Rattle.std.specs.Map.{keys_of}
 use Rattle.cs_normalising.specs.Steps.Lent.{entries_at, entries_of}
-use Rattle.cs_keyed.specs.Keyed.{beside}
-use Rattle.cs_keyed.specs.Prepared.{kept}
+use Rattle.cs_normal.specs.keyed.Keyed.{beside}
+use Rattle.cs_normal.specs.keyed.Prepared.{kept}
 use Rattle.cs_normalising.proofs.written_forms.keep.Given as goal
 
 abbrev pub invariant-loop-at : goal.invariant-loop-at

@@ -1,5 +1,5 @@
 use Rattle.std.proofs.Common.{arith}
-use Rattle.cs_keyed.specs.Keyed.{beside}
+use Rattle.cs_normal.specs.keyed.Keyed.{beside}
 use Rattle.cs_normalising.proofs.TableForms.{nothing_there}
 use Rattle.cs_normalising.proofs.written_forms.keep_at.Goals as goal
 

@@ -1,5 +1,5 @@
 use Rattle.std.proofs.Common.{Some, subst, sym}
-use Rattle.cs_position.specs.Shows.{flown}
+use Rattle.cs_pending.specs.position.Shows.{flown}
 use Rattle.cs_store.specs.Contents.{Contents}
 use Rattle.cs_pending.specs.Settled.{Catalogs}
 use Rattle.cs_opening.specs.Steps.{IsJudged, IsSound}

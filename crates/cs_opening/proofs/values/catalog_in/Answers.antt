@@ -1,7 +1,7 @@
 use Rattle.std.proofs.Common.{List, Some, ap, subst, sym, ◌∙◌}
 use Rattle.cs_value.specs.Catalog.{AreTables}
 use Rattle.cs_value.specs.declared.catalog.TableDef.{TableDef}
-use Rattle.cs_position.specs.Values.{catalog_bytes}
+use Rattle.cs_pending.specs.position.Values.{catalog_bytes}
 use Rattle.cs_opening.proofs.Decoded.{groups_of, is_catalog, made, read_tables, spells_groups}
 use Rattle.cs_opening.proofs.values.catalog_in.Goals as goal
 

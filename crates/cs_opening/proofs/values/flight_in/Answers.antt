@@ -1,5 +1,5 @@
 use Rattle.std.proofs.Common.{Some, ap, ◌∙◌}
-use Rattle.cs_log.specs.declared.body.Body.TheVariants.{Changes}
+use Rattle.cs_store.specs.declared.log.body.Body.TheVariants.{Changes}
 use Rattle.cs_opening.proofs.Decoded.{body_bytes, body_fits, flight_parts, no_flight, not_refused, read_is}
 use Rattle.cs_opening.proofs.values.flight_in.Goals as goal
 

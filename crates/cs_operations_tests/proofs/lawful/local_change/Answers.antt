@@ -3,9 +3,9 @@ use Rattle.std.proofs.Common.{◌≡◌, ◌<◌, ℕ, List, length, ◌++◌, S
 use Rattle.std.specs.Prelude.{slice_get}
 use Rattle.std.proofs.lemmas.Option.{slice_get-get_or}
 use Rattle.cs_value.specs.declared.catalog.TableDef.{TableDef}
-use Rattle.cs_keyed.specs.Changes.{Changes, change_at}
+use Rattle.cs_normal.specs.keyed.Changes.{change_at}
 use Rattle.cs_normal.specs.Normal.{changes_in}
-use Rattle.cs_keyed.specs.NormalForm.{change_bytes}
+use Rattle.cs_normal.specs.keyed.NormalForm.{change_bytes}
 use Rattle.cs_operations_tests.proofs.Beside.{found_ordered, beside_is}
 use Rattle.cs_operations_tests.proofs.lawful.local_change.Goals as goal
 

@@ -1,7 +1,7 @@
 use Rattle.std.proofs.Common.{ap, sym, ◌∙◌}
 use Rattle.std.proofs.lemmas.Result.{IfOk-weaker}
-use Rattle.cs_keyed.specs.Changes.{Changes}
-use Rattle.cs_keyed.specs.Prepared.{kept}
+use Rattle.cs_normal.specs.keyed.Changes.{Changes}
+use Rattle.cs_normal.specs.keyed.Prepared.{kept}
 use Rattle.cs_normal.specs.declared.normal.TableChanges.{TableChanges}
 use Rattle.cs_rebaser.specs.Steps.{Finds}
 use Rattle.cs_rebaser.specs.declared.index.Sought.TheVariants.{Nowhere}

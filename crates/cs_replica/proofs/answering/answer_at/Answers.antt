@@ -1,6 +1,6 @@
 use Rattle.std.proofs.Common.{Err}
-use Rattle.cs_position.specs.Shows.{ShowsSomeAt}
-use Rattle.cs_pulling.specs.Listed.{IsDeviceFault}
+use Rattle.cs_pending.specs.position.Shows.{ShowsSomeAt}
+use Rattle.cs_exchange.specs.pulling.Listed.{IsDeviceFault}
 use Rattle.cs_replica.proofs.Answered.{entries_tell, entries_write}
 use Rattle.cs_replica.proofs.answering.answer_at.Goals as goal
 

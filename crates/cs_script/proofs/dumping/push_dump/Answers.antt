@@ -1,6 +1,6 @@
 use Rattle.std.proofs.Common.{◌∙◌, refl}
 use Rattle.std.specs.Prelude.{string_bytes}
-use Rattle.cs_log.specs.Log.{state_of}
+use Rattle.cs_store.specs.log.Log.{state_of}
 use Rattle.cs_script.proofs.DumpLemmas.{on_ok, puts_dump}
 use Rattle.cs_script.proofs.dumping.push_dump.Goals as goal
 

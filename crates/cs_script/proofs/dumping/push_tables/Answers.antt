@@ -2,7 +2,7 @@ use Rattle.std.proofs.Common.{◌≡◌, ◌<◌, ◌++◌, List, length, get_or
 use Rattle.std.specs.Prelude.{string_bytes}
 use Rattle.cs_value.specs.declared.catalog.TableDef.{TableDef}
 use Rattle.cs_world.specs.Reads.{AreRowsIn}
-use Rattle.cs_told.specs.Dump.{rows_text}
+use Rattle.cs_node_lines.specs.told.Dump.{rows_text}
 use Rattle.cs_script.proofs.DumpLemmas.{puts_rows_at}
 use Rattle.cs_script.proofs.dumping.push_tables.Goals as goal
 

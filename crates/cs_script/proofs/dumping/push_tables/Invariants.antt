@@ -3,7 +3,7 @@ use Rattle.std.proofs.Common.{◌≡◌, take}
 use Rattle.std.specs.Prelude.{string_bytes}
 use Rattle.cs_normal.specs.State.{State}
 use Rattle.cs_script.specs.Turns.{IsStateOf, StandsAt}
-use Rattle.cs_told.specs.Dump.{PutsRows}
+use Rattle.cs_node_lines.specs.told.Dump.{PutsRows}
 use Rattle.cs_world.specs.World.{World}
 use Rattle.cs_script.proofs.dumping.push_tables.Given as goal
 

@@ -1,6 +1,6 @@
 use Rattle.std.proofs.Common.{◌≡◌, ◌++◌, ◌∙◌, [], ap, sym, rules}
 use Rattle.std.specs.Prelude.{string_bytes}
-use Rattle.cs_log.specs.declared.entry.TheConstants.{MAX_ENTRIES}
+use Rattle.cs_store.specs.declared.log.entry.TheConstants.{MAX_ENTRIES}
 use Rattle.cs_world.specs.World.{first_world}
 use Rattle.cs_script.proofs.PlayingLemmas.{plays_tables}
 use Rattle.cs_script.proofs.WorldLemmas.{all_honest}

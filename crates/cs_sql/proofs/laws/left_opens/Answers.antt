@@ -1,6 +1,6 @@
 use Rattle.std.proofs.Common.{inr, sym, subst}
-use Rattle.cs_sql_statements.specs.Tables.{store_over}
-use Rattle.cs_sql_statements.specs.declared.looking.Found.TheVariants.{Ours}
+use Rattle.cs_sql.specs.statements.Tables.{store_over}
+use Rattle.cs_sql.specs.declared.statements.looking.Found.TheVariants.{Ours}
 use Rattle.cs_sql.specs.Laws.{OpensAs}
 use Rattle.cs_sql.proofs.OneSchema.{shows_store}
 use Rattle.cs_sql.proofs.laws.left_opens.Goals as goal

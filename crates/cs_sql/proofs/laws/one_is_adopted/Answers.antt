@@ -2,8 +2,8 @@ use Rattle.std.proofs.Common.{inl, inr, sym, ◌∙◌}
 use Rattle.sqlite.specs.Effect.{Database}
 use Rattle.sqlite.specs.Held.{state}
 use Rattle.cs_store.specs.Contents.{Contents}
-use Rattle.cs_sql_statements.specs.Found.{IsFound}
-use Rattle.cs_sql_statements.specs.declared.looking.Found.TheVariants.{Foreign}
+use Rattle.cs_sql.specs.statements.Found.{IsFound}
+use Rattle.cs_sql.specs.declared.statements.looking.Found.TheVariants.{Foreign}
 use Rattle.cs_sql.specs.Keeping.{IsHeldIn, holds}
 use Rattle.cs_sql.proofs.laws.one_is_adopted.Goals as goal
 

@@ -2,12 +2,12 @@ use Rattle.std.specs.Prelude.{◌↔◌}
 use Rattle.std.proofs.Common.{◌≡◌, Bool, true, false, IsTrue, refl, sym, ◌∙◌}
 use Rattle.sqlite.specs.Effect.{Database}
 use Rattle.cs_store.specs.Contents.{Contents}
-use Rattle.cs_sql_schema.specs.Judged.{OneJudgement}
-use Rattle.cs_sql_schema.specs.declared.judging.Judged.TheVariants as judged
-use Rattle.cs_sql_statements.specs.Found.{IsFound, IsLogOf}
-use Rattle.cs_sql_statements.specs.declared.counting.LogFound.{LogFound}
-use Rattle.cs_sql_statements.specs.declared.looking.Found.{Found}
-use Rattle.cs_sql_statements.specs.declared.looking.Found.TheVariants.{Fresh, Front, Ours, Foreign}
+use Rattle.cs_sql.specs.schema.Judged.{OneJudgement}
+use Rattle.cs_sql.specs.declared.schema.judging.Judged.TheVariants as judged
+use Rattle.cs_sql.specs.statements.Found.{IsFound, IsLogOf}
+use Rattle.cs_sql.specs.declared.statements.counting.LogFound.{LogFound}
+use Rattle.cs_sql.specs.declared.statements.looking.Found.{Found}
+use Rattle.cs_sql.specs.declared.statements.looking.Found.TheVariants.{Fresh, Front, Ours, Foreign}
 use Rattle.cs_sql.proofs.laws.one_is_found.Goals as goal
 
 same_truth : (P : Type 0) (a b : Bool) → IsTrue a ↔ P → IsTrue b ↔ P → a ≡ b

@@ -1,8 +1,8 @@
 use Rattle.std.proofs.Common.{◌≡◌, inl, inr, sym, ◌∙◌}
 use Rattle.sqlite.specs.Effect.{Database}
 use Rattle.cs_store.specs.Contents.{Contents}
-use Rattle.cs_sql_schema.specs.Judged.{OneJudgement}
-use Rattle.cs_sql_schema.specs.declared.judging.Judged.TheVariants.{Fresh, Ours, Front}
+use Rattle.cs_sql.specs.schema.Judged.{OneJudgement}
+use Rattle.cs_sql.specs.declared.schema.judging.Judged.TheVariants.{Fresh, Ours, Front}
 use Rattle.cs_sql.specs.Keeping.{IsHeldIn}
 use Rattle.cs_sql.proofs.laws.one_is_held.Goals as goal
 

@@ -1,7 +1,7 @@
 use Rattle.std.proofs.Common.{◌≡◌, length}
 use Rattle.std.specs.List.{list_all}
 use Rattle.cs_value.specs.Catalog.{is_set}
-use Rattle.cs_keyed.specs.NormalForm.{marked_fields}
+use Rattle.cs_normal.specs.keyed.NormalForm.{marked_fields}
 use Rattle.cs_tasks.proofs.lending.are_set.Given as goal
 
 abbrev pub invariant-loop-mark : goal.invariant-loop-mark

@@ -3,7 +3,7 @@ use Rattle.std.specs.List.{list_all}
 use Rattle.cs_value.specs.Catalog.{is_set}
 use Rattle.cs_value.specs.declared.value.Field.{Field}
 use Rattle.cs_change.specs.declared.change.Change.{Change}
-use Rattle.cs_keyed.specs.NormalForm.{has_key, marked_fields}
+use Rattle.cs_normal.specs.keyed.NormalForm.{has_key, marked_fields}
 use Rattle.cs_tasks.proofs.LentKeys.{row_fields}
 use Rattle.cs_tasks.proofs.lending.is_keyed.Goals as goal
 

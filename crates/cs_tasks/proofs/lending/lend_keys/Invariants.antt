@@ -1,7 +1,7 @@
 use Rattle.std.proofs.Common.{◌≡◌, true, map, take}
 use Rattle.std.specs.List.{list_all}
 use Rattle.cs_order.specs.Order.{keys_behind}
-use Rattle.cs_keyed.specs.NormalForm.{change_bytes, has_key}
+use Rattle.cs_normal.specs.keyed.NormalForm.{change_bytes, has_key}
 use Rattle.cs_tasks.proofs.lending.lend_keys.Given as goal
 
 abbrev pub invariant-loop-change : goal.invariant-loop-change

@@ -1,7 +1,7 @@
 use Rattle.std.proofs.Common.{◌≡◌, [], map, sym, ◌∙◌}
 use Rattle.std.proofs.lemmas.Result.{err_from_is_err_and}
 use Rattle.cs_change.specs.Spelling.{marks_of}
-use Rattle.cs_keyed.specs.NormalForm.{change_bytes}
+use Rattle.cs_normal.specs.keyed.NormalForm.{change_bytes}
 use Rattle.cs_tasks.proofs.Groups.{all_keyed_of, all_of}
 use Rattle.cs_tasks.proofs.LentKeys.{places_lent, tables_lent}
 use Rattle.cs_tasks.proofs.tasks.tasks_of_one.Goals as goal

@@ -1,7 +1,7 @@
 use Rattle.std.proofs.Common.{◌≡◌, ◌++◌, ◌∷◌, [], List, ℕ, ap, ◌∙◌, None, arith}
 use Rattle.std.specs.Prelude.{slice_index}
 use Rattle.cs_order.specs.Order.{Keys, key_at}
-use Rattle.cs_keyed.specs.Changes.{Changes}
+use Rattle.cs_normal.specs.keyed.Changes.{Changes}
 use Rattle.cs_group.specs.Steps.Joining.{behind, fold_places}
 use Rattle.cs_group.proofs.Folds.{pushed}
 use Rattle.cs_group.proofs.folding.Folding.fold.Goals as goal

@@ -1,6 +1,6 @@
 use Rattle.std.proofs.Common.{Err, Ok, min}
 use Rattle.cs_wire.specs.Requests.{AsksPull, AsksPush}
-use Rattle.cs_log.specs.declared.entry.TheConstants.{MAX_ENTRIES}
+use Rattle.cs_store.specs.declared.log.entry.TheConstants.{MAX_ENTRIES}
 use Rattle.cs_hub.specs.declared.judged.Judged.TheVariants.{Reply}
 use Rattle.cs_hub.proofs.Answered.{read_as}
 use Rattle.cs_hub.proofs.Looked.{asked_so, each_so, no_request_so, pulled_so}

@@ -1,4 +1,4 @@
-use Rattle.cs_log.specs.Log.{state_of}
+use Rattle.cs_store.specs.log.Log.{state_of}
 use Rattle.cs_hub.proofs.Shown.{at_rest, log_rows}
 use Rattle.cs_hub.proofs.Stored.{read_when}
 use Rattle.cs_hub.proofs.hub.Hub.rows.Goals as goal

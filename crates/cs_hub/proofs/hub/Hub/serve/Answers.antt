@@ -1,6 +1,6 @@
 use Rattle.std.proofs.Common.{Err, Ok, refl}
 use Rattle.cs_wire.specs.Requests.{AsksPull, AsksPush}
-use Rattle.cs_log.specs.declared.entry.TheConstants.{MAX_ENTRIES}
+use Rattle.cs_store.specs.declared.log.entry.TheConstants.{MAX_ENTRIES}
 use Rattle.cs_hub.proofs.Answered.{answers, no_request, read_as, served_in}
 use Rattle.cs_hub.proofs.Stored.{served_as, served_none}
 use Rattle.cs_hub.proofs.hub.Hub.serve.Goals as goal

@@ -1,8 +1,8 @@
 use Rattle.std.proofs.Common.{sym, subst}
 use Rattle.sqlite.specs.Held.{state}
 use Rattle.sqlite.specs.State.{HasCleanDisk}
-use Rattle.cs_sql_schema.specs.Schemas.{front_schema}
-use Rattle.cs_sql_statements.specs.Found.{front_in}
+use Rattle.cs_sql.specs.schema.Schemas.{front_schema}
+use Rattle.cs_sql.specs.statements.Found.{front_in}
 use Rattle.cs_sql.specs.Keeping.{IsFresh}
 use Rattle.cs_sql.proofs.Whole.{completed_fresh, completed_survives, given_back}
 use Rattle.cs_sql.proofs.store.SqlStore.extend.Goals as goal

@@ -1,6 +1,6 @@
 use Rattle.std.proofs.Common.{length, refl, arith}
 use Rattle.std.proofs.lemmas.Option.{slice_get_read}
-use Rattle.cs_log.specs.declared.entry.TheConstants.{MAX_ENTRIES}
+use Rattle.cs_store.specs.declared.log.entry.TheConstants.{MAX_ENTRIES}
 use Rattle.cs_world.specs.declared.event.Event.TheVariants.{AskPull}
 use Rattle.cs_world.proofs.Moved.{asks, no_room, none_there}
 use Rattle.cs_world.proofs.moving.Core.ask_pull.Goals as goal

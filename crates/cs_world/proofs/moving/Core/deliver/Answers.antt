@@ -1,8 +1,7 @@
-use Rattle.std.proofs.Common.{◌∙◌, Some, Ok, refl, sym, ap, arith}
+use Rattle.std.proofs.Common.{◌∙◌, Some, Ok, refl, sym, ap, arith, Err, length}
 use Rattle.std.proofs.lemmas.Option.{slice_get_read}
-use Rattle.cs_log.specs.declared.entry.TheConstants.{MAX_ENTRIES}
+use Rattle.cs_store.specs.declared.log.entry.TheConstants.{MAX_ENTRIES}
 use Rattle.cs_world.specs.declared.event.Event.TheVariants.{Deliver}
-use Rattle.std.proofs.Common.{Err, length}
 use Rattle.cs_world.proofs.Asking.{asks_hub, asks_nobody, asks_none, asks_replica}
 use Rattle.cs_world.proofs.Counted.{told_as}
 use Rattle.cs_world.proofs.Left.{hub_leaves}

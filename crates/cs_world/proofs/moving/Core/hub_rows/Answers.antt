@@ -1,4 +1,4 @@
-use Rattle.cs_log.specs.declared.entry.TheConstants.{MAX_ENTRIES}
+use Rattle.cs_store.specs.declared.log.entry.TheConstants.{MAX_ENTRIES}
 use Rattle.std.proofs.Common.{◌∙◌}
 use Rattle.cs_world.proofs.Counted.{counts_hub}
 use Rattle.cs_world.proofs.Read.{hub_left}

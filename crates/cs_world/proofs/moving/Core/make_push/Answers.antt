@@ -1,6 +1,6 @@
 use Rattle.std.proofs.Common.{◌∙◌, Err, length, refl, ap}
 use Rattle.std.proofs.lemmas.Option.{slice_get_read}
-use Rattle.cs_log.specs.declared.entry.TheConstants.{MAX_ENTRIES}
+use Rattle.cs_store.specs.declared.log.entry.TheConstants.{MAX_ENTRIES}
 use Rattle.cs_world.specs.declared.event.Event.TheVariants.{MakePush}
 use Rattle.cs_world.proofs.Counted.{told_as}
 use Rattle.cs_world.proofs.Moved.{no_room, none_there, pushes, pushes_not}

@@ -1,6 +1,6 @@
 use Rattle.std.proofs.Common.{◌∙◌, length, refl}
 use Rattle.std.proofs.lemmas.Option.{slice_get_read}
-use Rattle.cs_log.specs.declared.entry.TheConstants.{MAX_ENTRIES}
+use Rattle.cs_store.specs.declared.log.entry.TheConstants.{MAX_ENTRIES}
 use Rattle.cs_world.specs.declared.event.Event.TheVariants.{Resend}
 use Rattle.cs_world.proofs.Moved.{no_room, none_there, resends, resends_not}
 use Rattle.cs_world.proofs.moving.Core.resend.Goals as goal

@@ -4,7 +4,7 @@ use Rattle.cs_world.proofs.Counted.{counts_replica, counts_same, told_as}
 use Rattle.cs_world.proofs.Left.{left_as_it_was}
 use Rattle.cs_world.proofs.Read.{listed, reads_replica, replica_left}
 use Rattle.cs_world.specs.Reads.{AreRowsIn}
-use Rattle.cs_log.specs.declared.entry.TheConstants.{MAX_ENTRIES}
+use Rattle.cs_store.specs.declared.log.entry.TheConstants.{MAX_ENTRIES}
 use Rattle.cs_world.proofs.moving.Core.rows.Goals as goal
 
 pub returns-in-Ok-clause-reads : goal.returns-in-Ok-clause-reads

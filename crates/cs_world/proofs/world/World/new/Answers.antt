@@ -1,7 +1,7 @@
 use Rattle.std.proofs.Common.{◌≡◌, ◌∷◌, [], length, ap, subst, sym, ◌∙◌, arith, length-append}
 use Rattle.std.specs.Vec.Iter.{into_iter_items}
 use Rattle.std.proofs.lemmas.List.Elements.{All-head, All-tail}
-use Rattle.cs_log.specs.declared.entry.TheConstants.{MAX_ENTRIES}
+use Rattle.cs_store.specs.declared.log.entry.TheConstants.{MAX_ENTRIES}
 use Rattle.cs_store.specs.Contents.{nothing}
 use Rattle.cs_world.specs.Opened.{IsNewReplica}
 use Rattle.cs_world.proofs.Begun.{is_new, new_leaves, new_stands, none_yet, one_more}

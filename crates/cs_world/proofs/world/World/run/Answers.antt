@@ -1,5 +1,5 @@
 use Rattle.std.proofs.Common.{◌+◌, ◌≤◌, ◌∷◌, List, length, vec_capacity, vec_len, subst, arith}
-use Rattle.cs_log.specs.declared.entry.TheConstants.{MAX_ENTRIES}
+use Rattle.cs_store.specs.declared.log.entry.TheConstants.{MAX_ENTRIES}
 use Rattle.cs_world.specs.declared.event.Event.{Event}
 use Rattle.cs_world.proofs.Running.{Running, counted, counting_on, ran, running_on}
 use Rattle.cs_world.proofs.world.World.run.Goals as goal

@@ -1,4 +1,0 @@
-pub mod Appended
-pub mod Laws
-pub mod Steps
-pub use Rattle.cs_log_store.specs.Shows

@@ -1,7 +1,0 @@
-use Rattle.std.proofs.Common.{◌≡◌, length}
-use Rattle.cs_asks.specs.Reading.{AreRead}
-use Rattle.cs_asks.proofs.input.read_asks.Given as goal
-
-abbrev pub invariant-loop-asked : goal.invariant-loop-asked
-invariant-loop-asked g l =
-    AreRead l.catalog (g.R.Read.remaining l.initial.reader) (g.R.Read.remaining l.reader) l.asks.items × (length l.asks.items ≡ l.asked)

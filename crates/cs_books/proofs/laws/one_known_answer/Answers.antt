@@ -1,5 +1,0 @@
-use Rattle.cs_books.proofs.Once.{one_known_answer}
-use Rattle.cs_books.proofs.laws.one_known_answer.Goals as goal
-
-pub returns : goal.returns
-returns c = one_known_answer c.one_service.ensures

@@ -1,0 +1,3 @@
+pub mod PushingLemmas
+pub mod TakingLemmas
+pub mod PullingLemmas

@@ -1,0 +1,138 @@
+-- An entry is pulled once, or has one fault.
+use Rattle.std.proofs.Common.{◌≡◌, ◌<◌, ℕ, List, refl, sym, ap, ◌∙◌, arith, inl, inr}
+use Rattle.std.specs.FinMap.{len}
+use Rattle.cs_value.specs.Catalog.{AreTables}
+use Rattle.cs_value.specs.declared.catalog.TableDef.{TableDef}
+use Rattle.cs_normal.specs.Normal.{IsNormalChangeset}
+use Rattle.cs_store.specs.log.Entry.{entry_changes}
+use Rattle.cs_store.specs.declared.log.entry.LogEntry.{LogEntry}
+use Rattle.cs_store.specs.Contents.{Contents}
+use Rattle.cs_conflict.specs.declared.clash.Clash.{Clash}
+use Rattle.cs_conflict.specs.declared.conflict.Conflict.{Conflict}
+use Rattle.cs_conflict.specs.declared.wish.Wish.{Wish}
+use Rattle.cs_pending.specs.Laws.{OneView}
+use Rattle.cs_pending.specs.View.{View}
+use Rattle.cs_pending.specs.position.Shows.{ShowsAt}
+use Rattle.cs_pending.specs.declared.position.position.Position.{Position}
+use Rattle.cs_exchange.specs.taking.Laws.{BadIsNeither, NoStopWhereTaken, OneContents, OneStopTaking, OneTaken, OneTakenIn, PicksOnce}
+use Rattle.cs_exchange.specs.taking.Takes.{IsTaken, IsTakenIn, taken}
+use Rattle.cs_exchange.specs.pulling.Laws.{IsOfEntry, NoPullFaultWherePulled, OnePull, OnePullFault, OnePullIn}
+use Rattle.cs_exchange.specs.pulling.Pulls.{IsBad, IsOwn, IsPullFault, IsPulledIn, PullsOne, StopsPull}
+use Rattle.cs_exchange.specs.declared.pulling.fault.PullFault.{PullFault}
+use Rattle.cs_exchange.specs.declared.pulling.fault.PullFault.TheVariants.{Memory, Behind, Gap, BadEntry, Stopped, Device}
+
+-- ---- pulled once
+
+module _ {P : Type 0} (picks : P → Clash → Wish → P → Type 0) where
+  pub one_pull : OneView → OneTaken picks → OnePull picks
+  one_pull one_view law tables contents position entry before seen some other p q r are normal once b s (room, inl (own, same, asked)) (more, inl (mine, alike, still)) =
+      let views = one_view tables contents before seen b.rows s.rows in (
+        λ name key. ap (λ (v : View). v.tables name key) alike ∙ views.0 name key ∙ sym (ap (λ (v : View). v.tables name key) same),
+        λ table key inside. ap (λ (v : View). v.pending table.name key) alike ∙ views.1 table key inside ∙ sym (ap (λ (v : View). v.pending table.name key) same),
+        asked ∙ sym still,
+      )
+  one_pull one_view law tables contents position entry before seen some other p q r are normal once b s (room, inl (own, same, asked)) (more, inr (others, takes)) = absurd (others own)
+  one_pull one_view law tables contents position entry before seen some other p q r are normal once b s (room, inr (others, takes)) (more, inl (own, same, asked)) = absurd (others own)
+  one_pull one_view law tables contents position entry before seen some other p q r are normal once b s (room, inr (others, takes)) (more, inr (away, took)) =
+      law tables contents position (entry_changes entry) before seen some other p q r are normal once b s takes took
+
+  -- another's entry that is pulled is taken
+  others_taken : (tables : List TableDef) (position : Position) (entry : LogEntry) (before after : View) (p q : P) → (IsOwn position entry → ⊥) → PullsOne picks tables position entry before p after q
+      → IsTaken picks tables position.flight (entry_changes entry) before after p q
+  others_taken tables position entry before after p q others (room, inl (own, same, asked)) = absurd (others own)
+  others_taken tables position entry before after p q others (room, inr (away, takes)) = takes
+
+  taken_in : (tables : List TableDef) (position : Position) (entry : LogEntry) (old new : Contents) (p q : P) → (IsOwn position entry → ⊥) → IsPulledIn picks tables position entry p q old new
+      → IsTakenIn picks tables position (entry_changes entry) p q old new
+  taken_in tables position entry old new p q others is before shows =
+      let one = is before shows in (one.0, one.1, others_taken tables position entry before one.0 p q others one.2)
+
+  module _ (law : OneTakenIn picks) (contents : OneContents) (tables : List TableDef) (position : Position) (entry : LogEntry) (old some other : Contents) (p q r : P) (are : AreTables tables) (normal : IsNormalChangeset (entry_changes entry))
+      (once : PicksOnce picks) (before : View) (shows : ShowsAt tables old position before) (s : IsPulledIn picks tables position entry p q old some) (o : IsPulledIn picks tables position entry p r old other) where
+    one_left : (after end : View) → ShowsAt tables some (taken position (len some.pending)) after → ShowsAt tables other (taken position (len other.pending)) end
+        → PullsOne picks tables position entry before p after q → PullsOne picks tables position entry before p end r → (some ≡ other) × (q ≡ r)
+    one_left after end a e (room, inl (own, same, asked)) (more, inl (mine, alike, still)) = (
+      contents tables (taken position 0) some other after end a e (λ name key. ap (λ (v : View). v.tables name key) (alike ∙ sym same)) (λ table key inside. ap (λ (v : View). v.pending table.name key) (alike ∙ sym same)),
+      asked ∙ sym still,
+    )
+    one_left after end a e (room, inl (own, same, asked)) (more, inr (others, takes)) = absurd (others own)
+    one_left after end a e (room, inr (others, takes)) (more, inl (own, same, asked)) = absurd (others own)
+    one_left after end a e (room, inr (others, takes)) (more, inr (away, took)) =
+        law tables position (entry_changes entry) old some other p q r are normal once (before, shows) (taken_in tables position entry old some p q others s) (taken_in tables position entry old other p r others o)
+
+  pub one_pull_in : OneTakenIn picks → OneContents → OnePullIn picks
+  one_pull_in law contents tables position entry old some other p q r are normal once (before, shows) s o =
+      let one = s before shows in
+      let two = o before shows in
+      one_left law contents tables position entry old some other p q r are normal once before shows s o one.0 two.0 one.1 two.1 one.2 two.2
+
+-- ---- one fault
+
+-- a bad entry isn't stopped at
+pub bad_or_stop : {P : Type 0} (picks : P → Clash → Wish → P → Type 0) (tables : List TableDef) (position : Position) (entry : LogEntry) (view : View) (p : P) (conflict : Conflict) (q : P)
+    → IsBad tables position entry view → StopsPull picks tables position entry view p conflict q → ⊥
+bad_or_stop picks tables position entry view p conflict q (inl last) stops = let room = stops.room in absurd (omega (arith, last, room))
+bad_or_stop picks tables position entry view p conflict q (inr (others, undefined)) stops = undefined stops.stops.defined
+
+module _ {P : Type 0} (picks : P → Clash → Wish → P → Type 0) (law : OneStopTaking picks) (tables : List TableDef) (position : Position) (index : ℕ) (entry : LogEntry) (view : View) (p q r : P) (once : PicksOnce picks) where
+  one_behind : (other : PullFault) → IsOfEntry other → (index < position.version) × (q ≡ p) → IsPullFault picks tables position index entry view p r other → (Behind ≡ other) × (q ≡ r)
+  one_behind Memory of s o = absurd (of.0 refl)
+  one_behind Behind of s o = (refl, s.1 ∙ sym o.1)
+  one_behind Gap of s o = absurd (omega (arith, s.0, o.0))
+  one_behind BadEntry of s o = absurd (omega (arith, s.0, o.0))
+  one_behind (Stopped conflict) of s o = absurd (omega (arith, s.0, o.0))
+  one_behind Device of s o = absurd (of.1 refl)
+
+  one_gap : (other : PullFault) → IsOfEntry other → (position.version < index) × (q ≡ p) → IsPullFault picks tables position index entry view p r other → (Gap ≡ other) × (q ≡ r)
+  one_gap Memory of s o = absurd (of.0 refl)
+  one_gap Behind of s o = absurd (omega (arith, s.0, o.0))
+  one_gap Gap of s o = (refl, s.1 ∙ sym o.1)
+  one_gap BadEntry of s o = absurd (omega (arith, s.0, o.0))
+  one_gap (Stopped conflict) of s o = absurd (omega (arith, s.0, o.0))
+  one_gap Device of s o = absurd (of.1 refl)
+
+  one_bad : (other : PullFault) → IsOfEntry other → (index ≡ position.version) × IsBad tables position entry view × (q ≡ p) → IsPullFault picks tables position index entry view p r other → (BadEntry ≡ other) × (q ≡ r)
+  one_bad Memory of s o = absurd (of.0 refl)
+  one_bad Behind of s o = absurd (omega (arith, s.0, o.0))
+  one_bad Gap of s o = absurd (omega (arith, s.0, o.0))
+  one_bad BadEntry of s o = (refl, s.2 ∙ sym o.2)
+  one_bad (Stopped conflict) of s o = absurd (bad_or_stop picks tables position entry view p conflict r s.1 o.1)
+  one_bad Device of s o = absurd (of.1 refl)
+
+  one_stopped : (conflict : Conflict) (other : PullFault) → IsOfEntry other → (index ≡ position.version) × StopsPull picks tables position entry view p conflict q → IsPullFault picks tables position index entry view p r other
+      → (Stopped conflict ≡ other) × (q ≡ r)
+  one_stopped conflict Memory of s o = absurd (of.0 refl)
+  one_stopped conflict Behind of s o = absurd (omega (arith, s.0, o.0))
+  one_stopped conflict Gap of s o = absurd (omega (arith, s.0, o.0))
+  one_stopped conflict BadEntry of s o = absurd (bad_or_stop picks tables position entry view p conflict q o.1 s.1)
+  one_stopped conflict (Stopped other) of s o =
+      let same = law tables position.flight (entry_changes entry) view p q r conflict other once s.1.stops o.1.stops in (ap (λ (c : Conflict). Stopped c) same.0, same.1)
+  one_stopped conflict Device of s o = absurd (of.1 refl)
+
+pub one_pull_fault : {P : Type 0} (picks : P → Clash → Wish → P → Type 0) → OneStopTaking picks → OnePullFault picks
+one_pull_fault picks law tables position index entry view Memory other p q r once of so s o = absurd (of.0 refl)
+one_pull_fault picks law tables position index entry view Behind other p q r once of so s o = one_behind picks law tables position index entry view p q r once other so s o
+one_pull_fault picks law tables position index entry view Gap other p q r once of so s o = one_gap picks law tables position index entry view p q r once other so s o
+one_pull_fault picks law tables position index entry view BadEntry other p q r once of so s o = one_bad picks law tables position index entry view p q r once other so s o
+one_pull_fault picks law tables position index entry view (Stopped conflict) other p q r once of so s o = one_stopped picks law tables position index entry view p q r once conflict other so s o
+one_pull_fault picks law tables position index entry view Device other p q r once of so s o = absurd (of.1 refl)
+
+-- ---- none where it is pulled
+
+module _ {P : Type 0} (picks : P → Clash → Wish → P → Type 0) (bad : BadIsNeither picks) (stop : NoStopWhereTaken picks) (tables : List TableDef) (position : Position) (entry : LogEntry) (before after : View) (p q r : P) where
+  pub bad_or_pull : IsBad tables position entry before → PullsOne picks tables position entry before p after q → ⊥
+  bad_or_pull (inl last) (room, how) = absurd (omega (arith, last, room))
+  bad_or_pull (inr (others, undefined)) (room, inl (own, same, asked)) = others own
+  bad_or_pull (inr (others, undefined)) (room, inr (away, takes)) = (bad tables position.flight (entry_changes entry) before p q undefined).0 after takes
+
+  pub stop_or_pull : (conflict : Conflict) → PicksOnce picks → StopsPull picks tables position entry before p conflict r → PullsOne picks tables position entry before p after q → ⊥
+  stop_or_pull conflict once stops (room, inl (own, same, asked)) = stops.others own
+  stop_or_pull conflict once stops (room, inr (away, takes)) = stop tables position.flight (entry_changes entry) before after p q r conflict once takes stops.stops
+
+pub no_fault : {P : Type 0} (picks : P → Clash → Wish → P → Type 0) → BadIsNeither picks → NoStopWhereTaken picks → NoPullFaultWherePulled picks
+no_fault picks bad stop tables position entry before after Memory p q r once of pulls wrong = absurd (of.0 refl)
+no_fault picks bad stop tables position entry before after Behind p q r once of pulls wrong = absurd (omega (arith, wrong.0))
+no_fault picks bad stop tables position entry before after Gap p q r once of pulls wrong = absurd (omega (arith, wrong.0))
+no_fault picks bad stop tables position entry before after BadEntry p q r once of pulls wrong = bad_or_pull picks bad stop tables position entry before after p q r wrong.1 pulls
+no_fault picks bad stop tables position entry before after (Stopped conflict) p q r once of pulls wrong = stop_or_pull picks bad stop tables position entry before after p q r conflict once wrong.1 pulls
+no_fault picks bad stop tables position entry before after Device p q r once of pulls wrong = absurd (of.1 refl)

@@ -1,0 +1,3 @@
+pub mod pushing
+pub mod taking
+pub mod pulling

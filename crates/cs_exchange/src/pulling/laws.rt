@@ -1,0 +1,86 @@
+//! The laws of entries that are pulled, each the contract of a function that does nothing.
+
+ghost use Rattle.cs_exchange.specs.pulling.Laws.{ListHasResult, NoPullFaultWherePulled, OneList, OnePull, OnePullFault, OnePullIn, OneRead, PulledLeads, PulledOrRefused, ReadOrNot};
+
+use cs_conflict::Picker;
+
+/// An answer's entry is read as one entry of the log.
+pub fn one_read()
+    ensures { OneRead }
+{
+    cs_changeset::laws::changesets();
+    cs_normalising::laws::one_normal_form();
+}
+
+/// An answer's entry in bytes is read as an entry of the log, or can't be read.
+pub fn read_or_not()
+    ensures { ReadOrNot }
+{
+    cs_changeset::laws::changesets();
+    cs_normalising::laws::form_or_unfit();
+    cs_normalising::laws::no_fault_where_fit();
+}
+
+/// An entry that is pulled leads from the log's rows to those that it leaves of them.
+pub fn pulled_leads<P: Picker>(_picker: &P)
+    ensures { PulledLeads P.picks }
+{
+    cs_normal::laws::net_is_applied();
+}
+
+/// Where a picker has one answer to each clash, an entry that is pulled from what one store shows leaves one view and one state of the
+/// picker; and that store then holds one thing.
+pub fn one_pull<P: Picker>()
+    ensures view { OnePull P.picks }
+    ensures contents { OnePullIn P.picks }
+{
+    cs_pending::laws::one_view();
+    crate::taking::laws::one_taken::<P>();
+    crate::taking::laws::one_contents();
+}
+
+/// Where a picker has one answer to each clash, an entry that is told at an index has one fault, and one that is pulled has none.
+pub fn one_pull_fault<P: Picker>()
+    ensures one { OnePullFault P.picks }
+    ensures pulled { NoPullFaultWherePulled P.picks }
+{
+    crate::taking::laws::one_stop_taking::<P>();
+    crate::taking::laws::no_stop_where_taken::<P>();
+    crate::taking::laws::bad_is_neither::<P>();
+}
+
+/// Where a picker has a lawful answer to each clash, each entry that is told at an index is pulled, and there is a store that holds what
+/// is left, or it has a fault.
+pub fn pulled_or_refused<P: Picker>()
+    ensures { PulledOrRefused P.picks P.is_ready }
+{
+    cs_store::log::laws::defined_or_not();
+    cs_store::log::laws::one_body();
+    cs_normal::laws::net_is_applied();
+    cs_normal::laws::defined_is_applied();
+    crate::taking::laws::one_contents();
+    crate::taking::laws::taken_or_stopped::<P>();
+}
+
+/// Where a picker has one answer to each clash, a list of entries has one result, and leaves one position, one thing in the store, and
+/// one state of the picker.
+pub fn one_list<P: Picker>()
+    ensures { OneList P.picks }
+{
+    one_read();
+    one_pull::<P>();
+    cs_pending::laws::one_view();
+    crate::taking::laws::one_contents();
+    crate::taking::laws::one_stop_taking::<P>();
+    crate::taking::laws::no_stop_where_taken::<P>();
+    crate::taking::laws::bad_is_neither::<P>();
+}
+
+/// Where a picker has a lawful answer to each clash, a list of entries in bytes has a result, and there is a store that holds what is left.
+pub fn list_has_result<P: Picker>()
+    ensures { ListHasResult P.picks P.is_ready }
+{
+    one_read();
+    read_or_not();
+    pulled_or_refused::<P>();
+}

@@ -1,0 +1,137 @@
+//! An entry of the hub's log, pulled.
+
+ghost use Rattle.std.specs.Prelude.{◌≡◌, ◌≢◌, ◌↔◌, true, false, ◌<◌, ◌-◌, ◌^◌, Err, IfErr, IsTrue, OnErr, OnOk};
+ghost use Rattle.std.specs.FinMap.{len};
+ghost use Rattle.cs_store.specs.log.Entry.{entry_changes};
+ghost use Rattle.cs_pending.specs.Calls.{WritesStore};
+ghost use Rattle.cs_pending.specs.View.{View};
+ghost use Rattle.cs_pending.specs.position.Shows.{ShowsAt, ShowsSomeAt};
+ghost use Rattle.cs_exchange.specs.taking.Takes.{taken};
+ghost use Rattle.cs_exchange.specs.pulling.Pulls.{IsOwn, IsPullFault, IsPulledAt, IsPulledIn};
+ghost use Rattle.cs_exchange.specs.declared.pulling.fault.PullFault.TheVariants.{Behind, Gap, Device};
+
+use crate::pulling::fault::PullFault;
+use crate::pushing::confirm;
+use crate::taking::take_changes;
+use cs_conflict::Picker;
+use cs_normal::Normal;
+use cs_pending::position::Position;
+use cs_store::RowStore;
+use cs_store::log::{Body, LogEntry};
+use cs_value::Catalog;
+use std::alloc::Global;
+
+/// The changes of an entry.
+fn changes_in(entry: &LogEntry) -> &Normal
+    ensures { result.now ≡ entry_changes entry.now }
+{
+    match &entry.body {
+        Body::Changes(changes) => changes,
+    }
+}
+
+/// Whether the entry is the push that is under way.
+fn is_own(position: &Position, entry: &LogEntry) -> bool
+    ensures { IsTrue result ↔ IsOwn position.now entry.now }
+{
+    match &position.flight {
+        None => false,
+        Some(changes) => {
+            entry.origin == position.id
+                && entry.number == position.number
+                && changes.same(changes_in(entry))
+        }
+    }
+}
+
+/// Whether no version is behind this one.
+fn is_last(version: u64) -> bool
+    ensures last { result ≡ true → version ≡ 2 ^ 64 - 1 }
+    ensures next { result ≡ false → version < 2 ^ 64 - 1 }
+{
+    version == u64::MAX
+}
+
+/// Pulls the entry at the position's version.
+// Six parameters: the allocator, the replica's store, catalog and position, which it lends apart, the entry, and the picker.
+pub(crate) fn take_next<S: RowStore, P: Picker>(
+    alloc: Global,
+    store: &mut S,
+    catalog: &Catalog,
+    position: &mut Position,
+    entry: &LogEntry,
+    picker: &mut P,
+) -> Result<(), PullFault>
+    requires ready { P.is_ready picker.old }
+    ensures ready { P.is_ready picker.new }
+    ensures writes { WritesStore S.RowStore Device
+        (ShowsSomeAt catalog.now position.old (S.contents store.old))
+        (IsPulledIn P.picks catalog.now position.old entry.now picker.old picker.new (S.contents store.old)) store.old store.new result }
+    ensures room { OnOk result (position.old.version < 2 ^ 64 - 1) }
+    ensures moved { OnOk result (position.new ≡ taken position.old position.new.pending) }
+    ensures counted { S.honest store.new → ShowsSomeAt catalog.now position.old (S.contents store.old)
+        → OnOk result (position.new.pending ≡ len (S.contents store.new).pending) }
+    ensures kept { OnErr result (position.new ≡ position.old) }
+    ensures refused { S.honest store.new → (view : View) → ShowsAt catalog.now (S.contents store.old) position.old view
+        → IfErr result (IsPullFault P.picks catalog.now position.old position.old.version entry.now view picker.old picker.new) }
+    ensures behind { result ≢ Err Behind }
+    ensures gap { result ≢ Err Gap }
+{
+    if is_last(position.version) {
+        return Err(PullFault::BadEntry);
+    }
+    if is_own(position, entry) {
+        return match confirm(alloc, store, catalog, position) {
+            Ok(()) => Ok(()),
+            Err(fault) => Err(PullFault::from(fault)),
+        };
+    }
+    match take_changes(alloc, store, catalog, position, changes_in(entry), picker) {
+        Ok(()) => Ok(()),
+        Err(fault) => Err(PullFault::from(fault)),
+    }
+}
+
+/// Pulls the entry of the hub's log that is told at an index: where it is the push that is under way, that is confirmed; another's
+/// is taken, by the three-way merge (`crate::taking::take_changes`). It is one commit. The first fault that holds is told: `Behind`,
+/// `Gap`, `BadEntry`, `Stopped`. (Profile of this project.)
+// Seven parameters: those of `take_next`, and the index that is told with the entry.
+pub fn take_entry<S: RowStore, P: Picker>(
+    alloc: Global,
+    store: &mut S,
+    catalog: &Catalog,
+    position: &mut Position,
+    index: u64,
+    entry: &LogEntry,
+    picker: &mut P,
+) -> Result<(), PullFault>
+    requires ready { P.is_ready picker.old }
+    ensures ready { P.is_ready picker.new }
+
+    // The entry was pulled, in one commit, or nothing has changed.
+    ensures writes { WritesStore S.RowStore Device
+        (ShowsSomeAt catalog.now position.old (S.contents store.old))
+        (IsPulledAt P.picks catalog.now position.old index entry.now picker.old picker.new (S.contents store.old)) store.old store.new result }
+
+    // It was the one at the position's version, and the position is behind it.
+    ensures next { OnOk result ((index ≡ position.old.version) × (position.old.version < 2 ^ 64 - 1)) }
+    ensures moved { OnOk result (position.new ≡ taken position.old position.new.pending) }
+    ensures counted { S.honest store.new → ShowsSomeAt catalog.now position.old (S.contents store.old)
+        → OnOk result (position.new.pending ≡ len (S.contents store.new).pending) }
+    ensures kept { OnErr result (position.new ≡ position.old) }
+
+    // What is told holds.
+    ensures refused { S.honest store.new → (view : View) → ShowsAt catalog.now (S.contents store.old) position.old view
+        → IfErr result (IsPullFault P.picks catalog.now position.old index entry.now view picker.old picker.new) }
+{
+    if index < position.version {
+        return Err(PullFault::Behind);
+    }
+    if index > position.version {
+        return Err(PullFault::Gap);
+    }
+    match take_next(alloc, store, catalog, position, entry, picker) {
+        Ok(()) => Ok(()),
+        Err(fault) => Err(fault),
+    }
+}

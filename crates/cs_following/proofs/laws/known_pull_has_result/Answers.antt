@@ -1,5 +1,0 @@
-use Rattle.cs_following.proofs.KnownSome.{known_some}
-use Rattle.cs_following.proofs.laws.known_pull_has_result.Goals as goal
-
-pub returns : goal.returns
-returns g c = known_some g.P.Picker.picks g.P.Picker.is_ready c.pulled_or_refused.ensures

@@ -1,5 +1,0 @@
-use Rattle.cs_following.proofs.Stood.{stands_longer}
-use Rattle.cs_following.proofs.laws.stands_wider.Goals as goal
-
-pub returns : goal.returns
-returns g c known all held begins = stands_longer g.S.RowStore c.stands_longer.ensures known begins.0 all held begins.1

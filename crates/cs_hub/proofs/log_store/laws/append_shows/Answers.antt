@@ -1,0 +1,5 @@
+use Rattle.cs_hub.proofs.LogStoreLemmas.Appended.{append_shows}
+use Rattle.cs_hub.proofs.log_store.laws.append_shows.Goals as goal
+
+pub returns : goal.returns
+returns c = append_shows c.appended_is_log.ensures c.log_states.ensures c.commits.ensures.rows c.commits.ensures.log c.commits.ensures.count c.commits.ensures.other_rows

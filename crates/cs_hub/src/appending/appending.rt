@@ -1,0 +1,199 @@
+//! An entry appended to the log of a hub's store.
+
+ghost use Rattle.std.specs.Prelude.{◌≡◌, List, IfOk, IfErr};
+ghost use Rattle.std.specs.Fn.{CalledAt};
+ghost use Rattle.cs_normal.specs.Normal.{FitsCatalog};
+ghost use Rattle.cs_normal.specs.State.{State};
+ghost use Rattle.cs_store.specs.log.Entry.{entry_changes};
+ghost use Rattle.cs_store.specs.log.Stored.{IsEntryOf};
+ghost use Rattle.cs_store.specs.declared.log.entry.LogEntry.{LogEntry as Entry};
+ghost use Rattle.cs_conflict.specs.declared.conflict.Resolution.TheVariants.{Abort};
+ghost use Rattle.cs_apply.specs.Laws.{AlwaysAborts};
+ghost use Rattle.cs_store.specs.States.{Holds};
+ghost use Rattle.cs_pending.specs.Calls.{ReadsStore, WritesStore};
+ghost use Rattle.cs_hub.specs.log_store.Shows.{ShowsLog, ShowsSomeLog};
+ghost use Rattle.cs_hub.specs.appending.Appended.{AppendsEntry, IsAppendFault, IsAppendedIn};
+ghost use Rattle.cs_hub.specs.appending.Steps.{IsBatchOf, IsNotTried, IsTried};
+ghost use Rattle.cs_hub.specs.declared.appending.fault.AppendFault.TheVariants.{Device};
+ghost use Rattle.cs_store.specs.declared.fault.StoreFault.TheVariants as stored;
+
+use crate::appending::fault::AppendFault;
+use cs_apply::{ApplyFault, apply};
+use cs_conflict::{Conflict, Resolution};
+use cs_normal::Normal;
+use cs_store::edits::PlaceEdits;
+use cs_store::log::{Body, LogEntry, put_body};
+use cs_store::{Batch, RowStore, StoreFault, StoredEntry};
+use cs_value::{Catalog, Memory};
+use std::alloc::Global;
+
+/// Applies a changeset in normal form with a closure that always aborts, and answers the edits of rows.
+fn try_with<S: RowStore, H: FnMut(&Conflict<'_>) -> Resolution>(
+    alloc: Global,
+    store: &mut S,
+    catalog: &Catalog,
+    changes: &Normal,
+    answer: &mut H,
+) -> Result<PlaceEdits, AppendFault>
+    requires callable { H.IsAlwaysCallable answer.old }
+    requires aborts { AlwaysAborts (CalledAt H.FnMut) }
+    requires fits { FitsCatalog catalog.now changes.now }
+    ensures reads { ReadsStore S.RowStore Device
+        ((before : State) × Holds catalog.now (S.contents store.old) before) store.old store.new result }
+    ensures made { S.honest store.new → (before : State) → Holds catalog.now (S.contents store.old) before
+        → IfOk result (λ edits. IsTried catalog.now changes.now (S.contents store.old) before edits) }
+    ensures refused { S.honest store.new → (before : State) → Holds catalog.now (S.contents store.old) before
+        → IfErr result (IsNotTried catalog.now changes.now before) }
+{
+    cs_apply::laws::aborting_tries::<H>();
+    let _changes = changes.tables();
+    let changeset = changes.lend(alloc)?;
+    match apply(alloc, store, catalog, &changeset, answer) {
+        Ok(applied) => Ok(applied.edits),
+        Err(ApplyFault::Aborted(conflict)) => Err(AppendFault::Conflict(conflict)),
+        // By such a closure this never comes of a store that holds rows of the tables.
+        Err(ApplyFault::Misuse(conflict)) => Err(AppendFault::Conflict(conflict)),
+        Err(ApplyFault::Device) => Err(AppendFault::Device),
+        Err(ApplyFault::Memory) => Err(AppendFault::Memory),
+        Err(ApplyFault::NullKey) => unreachable!(),
+    }
+}
+
+/// Tries a changeset in normal form on the rows of a store, and answers the edits of rows by which it is made.
+fn try_changes<S: RowStore>(
+    alloc: Global,
+    store: &mut S,
+    catalog: &Catalog,
+    changes: &Normal,
+) -> Result<PlaceEdits, AppendFault>
+    requires fits { FitsCatalog catalog.now changes.now }
+    ensures reads { ReadsStore S.RowStore Device
+        ((before : State) × Holds catalog.now (S.contents store.old) before) store.old store.new result }
+    ensures made { S.honest store.new → (before : State) → Holds catalog.now (S.contents store.old) before
+        → IfOk result (λ edits. IsTried catalog.now changes.now (S.contents store.old) before edits) }
+    ensures refused { S.honest store.new → (before : State) → Holds catalog.now (S.contents store.old) before
+        → IfErr result (IsNotTried catalog.now changes.now before) }
+{
+    try_with(
+        alloc,
+        store,
+        catalog,
+        changes,
+        &mut |_shown: &Conflict<'_>| -> Resolution
+            ensures { result ≡ Abort }
+        { Resolution::Abort },
+    )
+}
+
+/// The changes of an entry.
+fn changes_of(entry: &LogEntry) -> &Normal
+    ensures { result.now ≡ entry_changes entry.now }
+{
+    match &entry.body {
+        Body::Changes(changes) => changes,
+    }
+}
+
+/// What writes these edits of rows, and the entry.
+fn batch_of(alloc: Global, entry: &LogEntry, edits: PlaceEdits) -> Result<Batch, Memory>
+    ensures { IfOk result (IsBatchOf entry.now edits) }
+{
+    let mut body = Vec::new(alloc);
+    put_body(&entry.body, &mut body)?;
+    Ok(Batch {
+        rows: edits,
+        pending: PlaceEdits::new(alloc),
+        meta: Vec::new(alloc),
+        log: Some(StoredEntry {
+            origin: entry.origin,
+            number: entry.number,
+            body,
+        }),
+    })
+}
+
+/// Tries an entry on the rows of a hub's store, and answers the batch by which it is appended to the log. The store is only read.
+/// (Profile of this project.)
+///
+/// # Errors
+///
+/// `Conflict` where a change isn't defined on the rows, with the first that isn't; `Memory` and `Device`.
+pub fn try_entry<S: RowStore>(
+    alloc: Global,
+    store: &mut S,
+    catalog: &Catalog,
+    entry: &LogEntry,
+) -> Result<Batch, AppendFault>
+    requires fits { IsEntryOf catalog.now entry.now }
+
+    // The store is only read.
+    ensures reads { ReadsStore S.RowStore Device
+        (ShowsSomeLog catalog.now (S.contents store.old)) store.old store.new result }
+
+    // A commit of the batch appends the entry; what is told instead holds of the log that the store shows.
+    ensures tried { S.honest store.new → IfOk result (λ batch. AppendsEntry catalog.now entry.now (S.contents store.old) batch) }
+    ensures refused { S.honest store.new → (log : List Entry) → ShowsLog catalog.now (S.contents store.old) log
+        → IfErr result (IsAppendFault catalog.now log entry.now) }
+{
+    crate::log_store::laws::append_shows();
+    let _tables = catalog.tables();
+    let edits = match try_changes(alloc, store, catalog, changes_of(entry)) {
+        Ok(edits) => edits,
+        Err(fault) => return Err(fault),
+    };
+    let batch = batch_of(alloc, entry, edits)?;
+    Ok(batch)
+}
+
+/// Appends an entry that was tried on what the store holds, by a commit of the batch. The tables and the entry name what is appended.
+/// (Profile of this project.)
+///
+/// # Errors
+///
+/// `Memory` and `Device`. Nothing has changed then.
+pub fn append_tried<S: RowStore>(
+    store: &mut S,
+    _catalog: &Catalog,
+    _entry: &LogEntry,
+    batch: &Batch,
+) -> Result<(), StoreFault>
+    requires tried { S.honest store.old → AppendsEntry _catalog.now _entry.now (S.contents store.old) batch.now }
+
+    // The entry is appended, in one commit; at `Err` nothing has changed.
+    ensures writes { WritesStore S.RowStore stored.Device
+        (ShowsSomeLog _catalog.now (S.contents store.old)) (IsAppendedIn _catalog.now _entry.now (S.contents store.old)) store.old store.new result }
+{
+    store.commit(batch)
+}
+
+/// Appends an entry to the log of a hub's store, where each of its changes is defined on the rows: the entry and what it makes of the
+/// rows are one commit. (Profile of this project.)
+///
+/// # Errors
+///
+/// `Conflict` where a change isn't defined on the rows, with the first that isn't; `Memory` and `Device`. Nothing has changed then.
+pub fn append<S: RowStore>(
+    alloc: Global,
+    store: &mut S,
+    catalog: &Catalog,
+    entry: &LogEntry,
+) -> Result<(), AppendFault>
+    requires fits { IsEntryOf catalog.now entry.now }
+
+    // The entry is appended, in one commit; at `Err` nothing has changed.
+    ensures writes { WritesStore S.RowStore Device
+        (ShowsSomeLog catalog.now (S.contents store.old)) (IsAppendedIn catalog.now entry.now (S.contents store.old)) store.old store.new result }
+
+    // What is told holds of the log that the store shows.
+    ensures refused { S.honest store.new → (log : List Entry) → ShowsLog catalog.now (S.contents store.old) log
+        → IfErr result (IsAppendFault catalog.now log entry.now) }
+{
+    let batch = match try_entry(alloc, store, catalog, entry) {
+        Ok(batch) => batch,
+        Err(fault) => return Err(fault),
+    };
+    match append_tried(store, catalog, entry, &batch) {
+        Ok(()) => Ok(()),
+        Err(fault) => Err(AppendFault::from(fault)),
+    }
+}

@@ -1,0 +1,155 @@
+//! A push, judged by the log and the rows of a hub's store.
+
+ghost use Rattle.std.specs.Prelude.{◌≡◌, ◌<◌, ◌≤◌, ◌≢◌, [], Err, IfOk, List, Ok, OnErr, length};
+ghost use Rattle.cs_store.specs.log.Entry.{entry_changes};
+ghost use Rattle.cs_store.specs.log.Stored.{IsEntryOf};
+ghost use Rattle.cs_store.specs.declared.log.entry.LogEntry.{LogEntry as Entry};
+ghost use Rattle.cs_store.specs.declared.log.entry.TheConstants.{MAX_CHANGESET};
+ghost use Rattle.cs_hub.specs.appending.Shows.{ShowsLog};
+ghost use Rattle.cs_normal.specs.Normal.{FitsCatalog, normal_spelling};
+ghost use Rattle.cs_pending.specs.Calls.{ReadsStore, WritesStore};
+ghost use Rattle.cs_store.specs.Contents.{Contents};
+ghost use Rattle.cs_hub.specs.judgement.Judged.{CanBeAppended, IsJudgement, IsOfPush, IsPushedIn, IsSameOrAppended, ShowsLogOf, hub_of};
+ghost use Rattle.cs_hub.specs.judgement.Pushes.{Push, entry_of_push};
+ghost use Rattle.cs_hub.specs.declared.judgement.fault.HubFault.TheVariants.{Device, Memory};
+
+use crate::appending::{append_tried, try_entry};
+use crate::judgement::fault::HubFault;
+use crate::judgement::push::{Judgement, Pushed};
+use crate::log_reading::has_entry;
+use cs_normal::Normal;
+use cs_store::RowStore;
+use cs_store::log::{Body, LogEntry};
+use cs_value::Catalog;
+use cs_wire::PushHead;
+use std::alloc::Global;
+
+/// The judgement of a push whose base is below the newest version: it is the entry there, or another is.
+// Seven parameters: what `judge_at` was lent of the hub, the limit (named for the clauses), the push's head, and the entry that it would be.
+fn recall<S: RowStore>(
+    alloc: Global,
+    store: &mut S,
+    catalog: &Catalog,
+    newest: u32,
+    limit: u32,
+    head: PushHead,
+    entry: &LogEntry,
+) -> Result<Judgement, HubFault>
+    requires fits { IsEntryOf catalog.now entry.now }
+    requires of { entry.now ≡ entry_of_push (record { head = head; changes = entry_changes entry.now }) }
+    requires some { entry_changes entry.now ≢ [] }
+    requires below { head.base < newest }
+    ensures reads { ReadsStore S.RowStore Device
+        (ShowsLogOf catalog.now newest (S.contents store.old)) store.old store.new result }
+    ensures of { IfOk result (IsOfPush limit newest (record { head = head; changes = entry_changes entry.now })) }
+    ensures appends { S.honest store.new → IfOk result (CanBeAppended catalog.now (S.contents store.old)) }
+    ensures judged { S.honest store.new → (log : List Entry) → ShowsLog catalog.now (S.contents store.old) log → newest ≡ length log
+        → IsJudgement limit (hub_of catalog.now log) (record { head = head; changes = entry_changes entry.now }) result }
+{
+    match has_entry(alloc, store, catalog, head.base as u32, entry) {
+        Ok(true) => Ok(Judgement::Told(Pushed::Accepted(head.base + 1))),
+        Ok(false) => Ok(Judgement::Told(Pushed::Stale(newest as u64))),
+        Err(fault) => Err(HubFault::from(fault)),
+    }
+}
+
+/// Judges a push: a changeset that the replica `head.origin` made as its push `head.number` on the tables of the version `head.base`.
+/// The log of the store has `newest` entries, and may have `limit`. The first case that fits holds: no change; a base above the newest
+/// version; below it, the same push again or another one; a full log; a change that isn't defined on the tables; else the push is to be
+/// appended. The store is only read. (Profile of this project.)
+///
+/// # Errors
+///
+/// `Empty`, `Ahead`, `Full` and `Conflict` in these cases; `Memory` and `Device`.
+// Seven parameters: what a hub, a type of the crate above, lends of itself (allocator, store, tables, count), the limit, and the push: its
+// head as it was told, its changes in normal form.
+pub fn judge_at<S: RowStore>(
+    alloc: Global,
+    store: &mut S,
+    catalog: &Catalog,
+    newest: u32,
+    limit: u32,
+    head: PushHead,
+    changes: Normal,
+) -> Result<Judgement, HubFault>
+    requires fits { FitsCatalog catalog.now changes }
+    requires size { length (normal_spelling changes) ≤ MAX_CHANGESET }
+
+    // The store is only read.
+    ensures reads { ReadsStore S.RowStore Device
+        (ShowsLogOf catalog.now newest (S.contents store.old)) store.old store.new result }
+
+    // What is to be appended is the push, behind the newest version, and the batch appends it.
+    ensures of { IfOk result (IsOfPush limit newest (record { head = head; changes = changes })) }
+    ensures appends { S.honest store.new → IfOk result (CanBeAppended catalog.now (S.contents store.old)) }
+
+    // What is told is the answer to the push by the log that the store shows, and what is to be appended leads to the log after it.
+    ensures judged { S.honest store.new → (log : List Entry) → ShowsLog catalog.now (S.contents store.old) log → newest ≡ length log
+        → IsJudgement limit (hub_of catalog.now log) (record { head = head; changes = changes }) result }
+{
+    let _tables = catalog.tables();
+    if changes.tables().is_empty() {
+        return Err(HubFault::Empty);
+    }
+    if head.base > newest as u64 {
+        return Err(HubFault::Ahead);
+    }
+    let entry = LogEntry {
+        origin: head.origin,
+        number: head.number,
+        body: Body::Changes(changes),
+    };
+    if head.base < newest as u64 {
+        return recall(alloc, store, catalog, newest, limit, head, &entry);
+    }
+    if newest >= limit {
+        return Err(HubFault::Full);
+    }
+    match try_entry(alloc, store, catalog, &entry) {
+        Ok(batch) => Ok(Judgement::Append { entry, batch }),
+        Err(fault) => Err(HubFault::from(fault)),
+    }
+}
+
+/// Takes a push: it is judged (`judge_at`), and appended where it is to be. (Profile of this project.)
+///
+/// # Errors
+///
+/// `Empty`, `Ahead`, `Full` and `Conflict` as it is judged; `Memory` and `Device`. Nothing has changed then.
+// Seven parameters: those of `judge_at`, by which it judges.
+pub fn push_at<S: RowStore>(
+    alloc: Global,
+    store: &mut S,
+    catalog: &Catalog,
+    newest: u32,
+    limit: u32,
+    head: PushHead,
+    changes: Normal,
+) -> Result<Pushed, HubFault>
+    requires fits { FitsCatalog catalog.now changes }
+    requires size { length (normal_spelling changes) ≤ MAX_CHANGESET }
+
+    // The store was only read, or the push appended, in one commit.
+    ensures writes { WritesStore S.RowStore Device
+        (ShowsLogOf catalog.now newest (S.contents store.old))
+        (IsSameOrAppended limit catalog.now newest (record { head = head; changes = changes }) (S.contents store.old)) store.old store.new result }
+
+    // A push that is refused, but for want of memory or by a failed device, is refused before anything is written: a stop leaves nothing more.
+    ensures unwritten { S.honest store.new → result ≢ Err Memory → result ≢ Err Device
+        → OnErr result ((left : Contents) → S.may_leave store.new left → S.may_leave store.old left) }
+
+    // The answer is that to the push, by the log that the store showed; and the log after it is shown.
+    ensures answered { S.honest store.new → ShowsLogOf catalog.now newest (S.contents store.old)
+        → IsPushedIn limit catalog.now (record { head = head; changes = changes }) (S.contents store.old) (S.contents store.new) result }
+{
+    match judge_at(alloc, store, catalog, newest, limit, head, changes) {
+        Ok(Judgement::Told(pushed)) => Ok(pushed),
+        Ok(Judgement::Append { entry, batch }) => {
+            match append_tried(store, catalog, &entry, &batch) {
+                Ok(()) => Ok(Pushed::Accepted(newest as u64 + 1)),
+                Err(fault) => Err(HubFault::from(fault)),
+            }
+        }
+        Err(fault) => Err(fault),
+    }
+}

@@ -1,0 +1,76 @@
+//! Opening a hub over any store.
+
+ghost use Rattle.std.specs.Prelude.{◌≡◌, ◌≢◌, IfOk, IfErr};
+ghost use Rattle.cs_store.specs.Contents.{log_count, nothing};
+ghost use Rattle.cs_pending.specs.Calls.{ReadsStore, WritesStore};
+ghost use Rattle.cs_opening.specs.declared.fault.OpenFault.TheVariants.{Device};
+ghost use Rattle.cs_hub.specs.log_opening.Opens.{IsHubAt, IsHubFault, IsHubStore, IsSameOrFirst};
+
+use crate::log_opening::fresh::open_fresh;
+use crate::log_opening::judging::count_entries;
+use crate::log_opening::owning::owner_of_hub_store;
+use cs_opening::{OpenFault, Owner};
+use cs_store::RowStore;
+use cs_value::Catalog;
+use std::alloc::Global;
+
+/// How many entries a store that holds something has as a hub's, or why it can't be opened.
+fn open_there<S: RowStore>(
+    alloc: Global,
+    store: &mut S,
+    catalog: &Catalog,
+) -> Result<u32, OpenFault>
+    ensures reads { ReadsStore S.RowStore Device (Unit {0}) store.old store.new result }
+    ensures opened { S.honest store.new → IfOk result (λ count.
+        IsHubStore catalog.now (S.contents store.old) × (count ≡ log_count (S.contents store.old))) }
+    ensures refused { S.honest store.new → S.contents store.old ≢ nothing
+        → IfErr result (IsHubFault catalog.now (S.contents store.old)) }
+{
+    let owner = match owner_of_hub_store(alloc, store, catalog) {
+        Ok(owner) => owner,
+        Err(fault) => return Err(OpenFault::from(fault)),
+    };
+    match owner {
+        Owner::Unreadable => return Err(OpenFault::Damaged),
+        Owner::Other => return Err(OpenFault::Mismatch),
+        Owner::This => {}
+    }
+    match count_entries(store, catalog) {
+        Ok(Some(count)) => Ok(count),
+        Ok(None) => Err(OpenFault::Damaged),
+        Err(fault) => Err(OpenFault::from(fault)),
+    }
+}
+
+/// Opens a store as that of a hub with these tables, and answers how many entries its log has. A store that holds nothing is laid
+/// out in one commit; any other is only read. (Profile of this project.)
+///
+/// # Errors
+///
+/// `Damaged` where the store's id or tables can't be read; `Mismatch` where they are a replica's or another hub's; `Damaged` where it
+/// is not what a hub's store is; `Memory` and `Device`. Nothing has changed then.
+pub fn open_log<S: RowStore>(
+    alloc: Global,
+    store: &mut S,
+    catalog: &Catalog,
+) -> Result<u32, OpenFault>
+    // The store is as it was, or it held nothing and is laid out; at `Err` nothing has changed.
+    ensures writes { WritesStore S.RowStore Device (Unit {0})
+        (IsSameOrFirst catalog.now (S.contents store.old)) store.old store.new result }
+
+    // It is a hub's.
+    ensures opened { S.honest store.new → IfOk result (IsHubAt catalog.now (S.contents store.old) (S.contents store.new)) }
+
+    // What is told holds of it.
+    ensures refused { S.honest store.new → IfErr result (IsHubFault catalog.now (S.contents store.old)) }
+{
+    match open_fresh(alloc, store, catalog) {
+        Ok(true) => return Ok(0),
+        Ok(false) => {}
+        Err(fault) => return Err(OpenFault::from(fault)),
+    }
+    match open_there(alloc, store, catalog) {
+        Ok(count) => Ok(count),
+        Err(fault) => Err(fault),
+    }
+}

@@ -1,5 +1,0 @@
-use Rattle.cs_judging.proofs.Once.{one_answer}
-use Rattle.cs_judging.proofs.laws.one_answer.Goals as goal
-
-pub returns : goal.returns
-returns c = one_answer c.one_first_conflict.ensures

@@ -1,6 +1,0 @@
-use Rattle.std.proofs.Common.{◌≡◌, take}
-use Rattle.cs_keyed.specs.Changes.{key_bytes}
-use Rattle.cs_keyed.proofs.key_bytes.encode_key.Given as goal
-
-abbrev pub invariant-loop-value : goal.invariant-loop-value
-invariant-loop-value l = l.bytes.items ≡ key_bytes (take l.value-index l.key)

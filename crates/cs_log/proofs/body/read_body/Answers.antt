@@ -1,8 +1,0 @@
-use Rattle.std.proofs.Common.{rules}
-use Rattle.cs_log.specs.declared.body.Body.TheVariants.{Changes}
-use Rattle.cs_log.proofs.Bodies.{only_body}
-use Rattle.cs_log.proofs.body.read_body.Goals as goal
-
-pub returns-clause-only : goal.returns-clause-only
-returns-clause-only c =
-    only_body c.one_body.ensures _ c.args.bytes.now (Changes c.in_ok-changes.changes) c.tables.ensures.tables c.in_ok-changes.ensures.0 (search rules)

@@ -1,5 +1,0 @@
-use Rattle.cs_log.proofs.Bodies.{one_body}
-use Rattle.cs_log.proofs.laws.one_body.Goals as goal
-
-pub returns : goal.returns
-returns c = one_body c.changesets.ensures c.normal_is_taken.ensures c.normal_again.ensures c.one_normal_form.ensures

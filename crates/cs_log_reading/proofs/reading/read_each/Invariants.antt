@@ -1,9 +1,0 @@
-use Rattle.std.proofs.Common.{◌≡◌, List, take}
-use Rattle.cs_log.specs.declared.entry.LogEntry.{LogEntry as Entry}
-use Rattle.cs_log_reading.specs.Steps.{AreStoredAs}
-use Rattle.cs_store.specs.Written.{items_of}
-use Rattle.cs_log_reading.proofs.reading.read_each.Given as goal
-
--- the first of the entries are read
-abbrev pub invariant-loop-entry : goal.invariant-loop-entry
-invariant-loop-entry l = (entries : List Entry) → AreStoredAs l.fn.catalog (items_of l.fn.stored) entries → l.entries.items ≡ take l.entry-index entries

@@ -1,8 +1,0 @@
-//! The marks of key columns, as a header has them: `flag_bytes`. It stands apart since both what is to be sent (`cs_outgoing`) and the values that
-//! a store keeps of a replica (`cs_position`) write headers, and neither stands on the other. The crate stands on how a header is spelled (`cs_change`).
-//! Its tests are those of `cs_replica_tests` and `cs_stores_tests`, through these.
-#![tactic(auto)]
-
-mod marks;
-
-pub use marks::flag_bytes;

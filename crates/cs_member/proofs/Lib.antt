@@ -1,6 +1,0 @@
-mod Turned
-mod OneEdit
-mod EditCan
-mod OnePush
-mod OneAnswer
-mod PushCan

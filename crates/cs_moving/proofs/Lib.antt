@@ -1,4 +1,0 @@
-mod Bodies
-mod Batches
-mod Planned
-mod StoreLaws

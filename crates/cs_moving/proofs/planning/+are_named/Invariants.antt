@@ -1,5 +1,0 @@
-use Rattle.std.proofs.Common.{length}
-use Rattle.cs_moving.proofs.planning.+are_named.Given as goal
-
-abbrev pub decreases-are_named : goal.decreases-are_named
-decreases-are_named l = length l.tables.now

@@ -1,0 +1,4 @@
+pub mod ToldLemmas
+pub mod AsksLemmas
+pub mod WorkingLemmas
+pub mod HubLemmas

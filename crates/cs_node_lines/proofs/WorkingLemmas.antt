@@ -1,0 +1,6 @@
+pub mod Counting
+pub mod Printing
+pub mod Going
+pub mod Dumping
+pub mod Made
+pub mod OneLine

@@ -1,0 +1,116 @@
+-- Rows of tables, one table after another.
+use Rattle.std.proofs.Common.{◌≡◌, ◌∙◌, ◌<◌, ◌+◌, ℕ, zero, suc, List, [], ◌∷◌, ◌++◌, get_or, refl, sym, ap, append_assoc, append-nil, subst, drop, length, arith}
+use Rattle.std.specs.Prelude.{Some, None, slice_get}
+use Rattle.cs_replica.specs.member.Member.{AreRowsIn, Member, Turns, member_of}
+use Rattle.cs_normal.specs.State.{State}
+use Rattle.cs_pending.specs.View.{View}
+use Rattle.cs_replica.specs.Holding.{Holding, Shows}
+use Rattle.cs_store.specs.declared.store.RowStore.{Ghosts}
+use Rattle.cs_value.specs.Catalog.{AreTables}
+use Rattle.cs_value.specs.declared.catalog.TableDef.{TableDef}
+use Rattle.cs_value.specs.declared.value.Value.{Value}
+use Rattle.cs_node_lines.specs.working.Steps.{PutsTable}
+use Rattle.cs_node_lines.specs.told.Dump.{AreRowLines, PutsRows, rows_text}
+
+drop_suc : {A : Type 0} (xs : List A) (at : ℕ) (x : A) → slice_get xs at ≡ Some x → drop at xs ≡ x ∷ drop (suc at) xs
+drop_suc [] at x there = absurd (cc)
+drop_suc (y ∷ ys) zero x there = let is : y ≡ x = cc in ap (λ z. z ∷ ys) is
+drop_suc (y ∷ ys) (suc at) x there = drop_suc ys at x there
+
+pub drop_next : {A : Type 0} (xs : List A) (at : ℕ) (x : A) → slice_get xs at ≡ Some x → drop at xs ≡ x ∷ drop (at + 1) xs
+drop_next xs at x there = let next : at + 1 ≡ suc at = omega arith in rw next (drop_suc xs at x there)
+
+pub drop_past : {A : Type 0} (xs : List A) (at : ℕ) → slice_get xs at ≡ None → drop at xs ≡ []
+drop_past [] zero none = refl
+drop_past [] (suc at) none = refl
+drop_past (y ∷ ys) zero none = absurd (cc)
+drop_past (y ∷ ys) (suc at) none = drop_past ys at none
+
+pub get_is : {A : Type 0} (xs : List A) (at : ℕ) (x d : A) → at < length xs → x ≡ get_or xs at d → slice_get xs at ≡ Some x
+get_is [] at x d less is = absurd (omega (arith, less))
+get_is (y ∷ ys) zero x d less is = ap Some (sym is)
+get_is (y ∷ ys) (suc at) x d less is = get_is ys at x d (omega (arith, less)) is
+
+pub drop_all : {A : Type 0} (xs : List A) → drop (length xs) xs ≡ []
+drop_all [] = refl
+drop_all (x ∷ xs) = drop_all xs
+
+module _ {S : Type 0} (g : Ghosts S) where
+  -- a table's lines were put behind a text
+  pub put_one : (tables : List TableDef) (old new : Holding S) (table : ℕ) (def : TableDef) (rows : List (List ℕ × List Value)) (start now : List ℕ)
+      → slice_get old.catalog table ≡ Some def → Turns g (λ before after. after ≡ before) old new
+      → (g.honest new.store → (view : View) → Shows g.contents old view → AreRowsIn old.catalog view.tables table rows) → now ≡ start ++ rows_text def.name rows
+      → Turns g (λ (before : Member) (after : Member). (after ≡ before) × PutsTable before.view.tables def.name start now) old new
+  put_one tables old new table def rows start now there kept listed is = record {
+    was_honest = kept.was_honest;
+    catalog = kept.catalog;
+    turned = λ h are fits view shows.
+        let k = kept.turned h are fits view shows in
+        (k.0, k.1, k.2, (k.3, (rows, (listed h view shows).there def there, is)));
+  }
+
+  -- where the lines of the tables from one on stand behind what was put, those of all stand behind the start
+  abbrev pub PutsRest : List TableDef → ℕ → State → List ℕ → List ℕ → Type 0
+  PutsRest tables table state start now =
+      (rest : List ℕ) → AreRowLines (drop table tables) state rest → (lines : List ℕ) × AreRowLines tables state lines × (start ++ lines ≡ now ++ rest)
+
+  abbrev pub IsDumping : List TableDef → ℕ → List ℕ → List ℕ → Holding S → Holding S → Type 0
+  IsDumping tables table start now old held =
+      Turns g (λ (before : Member) (after : Member). (after ≡ before) × PutsRest tables table before.view.tables start now) old held
+
+  pub dumping_first : (tables : List TableDef) (start : List ℕ) (held : Holding S) → IsDumping tables 0 start start held held
+  dumping_first tables start held = record {
+    was_honest = λ h. h;
+    catalog = refl;
+    turned = λ h are fits view shows. (view, shows, fits, (refl, λ rest lines. (rest, lines, refl)));
+  }
+
+  pub dumping_on : (tables : List TableDef) (table : ℕ) (def : TableDef) (start now next : List ℕ) (old mid new : Holding S)
+      → slice_get tables table ≡ Some def → IsDumping tables table start now old mid
+      → Turns g (λ (before : Member) (after : Member). (after ≡ before) × PutsTable before.view.tables def.name now next) mid new
+      → IsDumping tables (table + 1) start next old new
+  dumping_on tables table def start now next old mid new there some one = record {
+    was_honest = λ h. some.was_honest (one.was_honest h);
+    catalog = one.catalog ∙ some.catalog;
+    turned = λ h are fits view shows.
+        let s = some.turned (one.was_honest h) are fits view shows in
+        let o = one.turned h (subst AreTables (sym some.catalog) are) s.2 s.0 s.1 in
+        let puts : PutsTable view.tables def.name now next = subst (λ (m : Member). PutsTable m.view.tables def.name now next) s.3.0 o.3.1 in (
+          o.0,
+          o.1,
+          o.2,
+          (
+            o.3.0 ∙ s.3.0,
+            λ rest lines.
+                let text = rows_text def.name puts.0 ++ rest in
+                let whole : AreRowLines (drop table tables) view.tables text = subst (λ (ts : List TableDef). AreRowLines ts view.tables text) (sym (drop_next tables table def there)) (puts.0, rest, puts.1, lines, refl) in
+                let all = s.3.1 text whole in
+                (all.0, all.1, all.2 ∙ sym (append_assoc now (rows_text def.name puts.0) rest) ∙ ap (λ l. l ++ rest) (sym puts.2)),
+          ),
+        );
+  }
+
+  -- none are left
+  pub dumping_last : (tables : List TableDef) (table : ℕ) (start now : List ℕ) (old new : Holding S) → drop table tables ≡ [] → IsDumping tables table start now old new
+      → Turns g (λ (before : Member) (after : Member). (after ≡ before) × PutsRows tables before.view.tables start now) old new
+  dumping_last tables table start now old new none some = record {
+    was_honest = some.was_honest;
+    catalog = some.catalog;
+    turned = λ h are fits view shows.
+        let s = some.turned h are fits view shows in
+        let all = s.3.1 [] (subst (λ (ts : List TableDef). AreRowLines ts view.tables []) (sym none) refl) in
+        (s.0, s.1, s.2, (s.3.0, (all.0, all.1, sym (all.2 ∙ append-nil now))));
+  }
+
+  -- nothing more is known where it ended early
+  pub dumping_failed : (tables : List TableDef) (table : ℕ) (start now : List ℕ) (P Q : Member → Type 0) (old mid new : Holding S) → IsDumping tables table start now old mid
+      → Turns g (λ (before : Member) (after : Member). (after ≡ before) × P before) mid new → ((m : Member) → Q m)
+      → Turns g (λ (before : Member) (after : Member). (after ≡ before) × Q before) old new
+  dumping_failed tables table start now P Q old mid new some one any = record {
+    was_honest = λ h. some.was_honest (one.was_honest h);
+    catalog = one.catalog ∙ some.catalog;
+    turned = λ h are fits view shows.
+        let s = some.turned (one.was_honest h) are fits view shows in
+        let o = one.turned h (subst AreTables (sym some.catalog) are) s.2 s.0 s.1 in
+        (o.0, o.1, o.2, (o.3.0 ∙ s.3.0, any (member_of old view)));
+  }

@@ -1,0 +1,113 @@
+-- What the calls give, as the step of a line.
+use Rattle.std.proofs.Common.{◌≡◌, ◌≤◌, ℕ, List, refl, ap, inl, inr, arith}
+use Rattle.std.specs.Prelude.{◌⊎◌, Result, Ok, Err}
+use Rattle.cs_node_lines.specs.declared.asks.ask.Ask.{Ask}
+use Rattle.cs_node_lines.specs.declared.asks.ask.Ask.TheVariants as line
+use Rattle.cs_conflict.specs.declared.wish.Wish.{Wish}
+use Rattle.cs_lines.specs.Lines.{hex_line}
+use Rattle.cs_replica.specs.member.Leaves.{Counts}
+use Rattle.cs_replica.specs.member.Member.{Hears, IsPushedTo, IsResent, Member, Turns, member_of}
+use Rattle.cs_exchange.specs.declared.pulling.fault.AnswerFault.{AnswerFault}
+use Rattle.cs_exchange.specs.declared.pushing.fault.PushFault.{PushFault}
+use Rattle.cs_exchange.specs.declared.pushing.fault.PushFault.TheVariants as pushes
+use Rattle.cs_replica.specs.Answered.{SaysDevice}
+use Rattle.cs_replica.specs.Holding.{Holding}
+use Rattle.cs_replica.specs.declared.told.Told.{Told}
+use Rattle.cs_store.specs.declared.store.RowStore.{Ghosts}
+use Rattle.cs_value.specs.declared.catalog.TableDef.{TableDef}
+use Rattle.cs_wire.specs.Answers.{FitsAnswer, answer_spelling}
+use Rattle.cs_wire.specs.Requests.{asked_by_owned, request_spelling}
+use Rattle.cs_wire.specs.declared.answer.Answer.{Answer}
+use Rattle.cs_wire.specs.declared.request.RequestBuf.{RequestBuf}
+use Rattle.std.specs.declared.alloc.AllocError.{AllocError}
+use Rattle.cs_node_lines.specs.working.LineStep.{LineStep, SaysMemory}
+use Rattle.cs_node_lines.specs.working.Replies.{reply_text}
+use Rattle.cs_node_lines.specs.working.Steps.{Counted, IsStep, Makes, Replies}
+use Rattle.cs_node_lines.specs.working.Texts.{heard_text, pushed_text}
+use Rattle.cs_node_lines.specs.declared.working.reply.Reply.{Reply}
+
+module _ {S : Type 0} (g : Ghosts S) where
+  -- what a call's step leads to, between the counts
+  pub counted_as : (old new : Holding S) (P : Member → Member → Type 0) (Q : ℕ → ℕ → Member → Member → Type 0) → g.failed old.store ≤ g.failed new.store
+      → ((before after : Member) → P before after → Q (g.failed old.store) (g.failed new.store) before after)
+      → Turns g P old new → Counted g Q old new
+  counted_as old new P Q later leads turns = record {
+    later = later;
+    turns = record {
+      was_honest = turns.was_honest;
+      catalog = turns.catalog;
+      turned = λ h are fits view shows.
+          let t = turns.turned h are fits view shows in
+          (t.0, t.1, t.2, leads (member_of old view) (member_of new t.0) t.3);
+    };
+  }
+
+  -- what isn't touched
+  pub counted_still : (held : Holding S) (Q : ℕ → ℕ → Member → Member → Type 0) → ((had has : ℕ) (m : Member) → m.position ≡ held.position → Q had has m m) → Counted g Q held held
+  counted_still held Q so = record {
+    later = omega arith;
+    turns = record {
+      was_honest = λ h. h;
+      catalog = refl;
+      turned = λ h are fits view shows. (view, shows, fits, so (g.failed held.store) (g.failed held.store) (member_of held view) refl);
+    };
+  }
+
+  -- ---- a line of any replica is one of the replica with the id
+
+  pub replies_made : (id : ℕ) (ask : Ask) (result : Result Reply AllocError) (old new : Holding S) → Makes g ask result old new → Replies g id ask result old new
+  replies_made id ask result old new (text, counted, says) = (
+    text,
+    counted_as old new (λ before after. LineStep old.catalog (g.failed old.store) (g.failed new.store) before ask text after) (IsStep id old.catalog ask text) counted.later
+        (λ before after step is. step) counted.turns,
+    says,
+  )
+
+  pub replies_counted : (id : ℕ) (ask : Ask) (reply : Reply) (old new : Holding S)
+      → Counted g (λ had has before after. LineStep old.catalog had has before ask (reply_text reply) after) old new → Replies g id ask (Ok reply) old new
+  replies_counted id ask reply old new counted =
+      replies_made id ask (Ok reply) old new (reply_text reply, counted, refl)
+
+  pub replies_still : (id : ℕ) (ask : Ask) (reply : Reply) (held : Holding S)
+      → ((had has : ℕ) (m : Member) → m.position ≡ held.position → LineStep held.catalog had has m ask (reply_text reply) m) → Replies g id ask (Ok reply) held held
+  replies_still id ask reply held so =
+      replies_counted id ask reply held held (counted_still held (λ had has before after. LineStep held.catalog had has before ask (reply_text reply) after) so)
+
+  -- ---- a push
+
+  pub push_made : (result : Result RequestBuf PushFault) (text : List ℕ) (old new : Holding S) → text ≡ pushed_text result
+      → Turns g (IsPushedTo old.catalog result) old new → Counts g (result ≡ Err pushes.Device) old new
+      → Counted g (λ had has before after. LineStep old.catalog had has before line.Push text after) old new
+  push_made result text old new says turns counts =
+      counted_as old new (IsPushedTo old.catalog result) (λ had has before after. LineStep old.catalog had has before line.Push text after) counts.later
+      (λ before after pushed. (result, pushed, counts.cause, says)) turns
+
+  -- ---- an answer
+
+  pub answer_told : (bytes : List ℕ) (wishes : List Wish) (answer : Answer) (result : Result Told AnswerFault) (version : ℕ) (old new : Holding S)
+      → FitsAnswer answer → bytes ≡ answer_spelling answer → version ≡ new.position.version
+      → Turns g (λ before after. Hears old.catalog before answer wishes result after) old new → Counts g (SaysDevice result) old new
+      → Counted g (λ had has before after. LineStep old.catalog had has before (line.Answer bytes wishes) (heard_text result version) after) old new
+  answer_told bytes wishes answer result version old new fits is at turns counts = record {
+    later = counts.later;
+    turns = record {
+      was_honest = turns.was_honest;
+      catalog = turns.catalog;
+      turned = λ h are in_range view shows.
+          let t = turns.turned h are in_range view shows in
+          (t.0, t.1, t.2, inl (answer, result, fits, is, t.3, counts.cause, ap (heard_text result) at));
+    };
+  }
+
+-- ---- a push that is given again, and a pull
+
+pub resent : (tables : List TableDef) (had has : ℕ) (before : Member) (request : RequestBuf) (text : List ℕ) → IsResent (Ok request) before.position
+    → (text ≡ hex_line (request_spelling (asked_by_owned request))) ⊎ SaysMemory text → LineStep tables had has before line.Resend text before
+resent tables had has before request text is (inl says) = (refl, inl (Ok request, is, says))
+resent tables had has before request text is (inr memory) = (refl, inr memory)
+
+pub pulled : (tables : List TableDef) (had has : ℕ) (before : Member) (limit : ℕ) (text : List ℕ) (asked : _)
+    → (text ≡ hex_line (request_spelling asked)) ⊎ SaysMemory text → (text ≡ hex_line (request_spelling asked) → LineStep tables had has before (line.Pull limit) text before)
+    → LineStep tables had has before (line.Pull limit) text before
+pulled tables had has before limit text asked (inl says) step = step says
+pulled tables had has before limit text asked (inr memory) step = (refl, inr memory)

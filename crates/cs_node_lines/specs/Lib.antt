@@ -1,0 +1,4 @@
+pub mod told
+pub mod asks
+pub mod working
+pub mod hub

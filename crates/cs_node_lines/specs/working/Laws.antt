@@ -1,0 +1,49 @@
+-- The laws of lines: each has one text, and leaves one replica.
+use Rattle.std.specs.Prelude.{◌≡◌, ◌⊎◌, ℕ, List, Err, codes}
+use Rattle.std.specs.List.{AllByRecursion}
+use Rattle.cs_node_lines.specs.declared.asks.ask.Ask.{Ask}
+use Rattle.cs_replica.specs.member.Member.{Member}
+use Rattle.cs_replica.specs.member.Same.{IsSameMember, IsShown}
+use Rattle.cs_exchange.specs.declared.pulling.fault.AnswerFault.{AnswerFault}
+use Rattle.cs_replica.specs.Laws.{IsOfAnswer}
+use Rattle.cs_text.specs.Text.{line}
+use Rattle.cs_node_lines.specs.told.Told.{fault_text}
+use Rattle.cs_value.specs.Catalog.{AreTables}
+use Rattle.cs_value.specs.declared.catalog.TableDef.{TableDef}
+use Rattle.cs_node_lines.specs.working.LineStep.{LineStep, LineSteps, SaysMemory}
+use Rattle.cs_node_lines.specs.working.Texts.{refused_text}
+
+-- the text says nothing of its line: that memory was refused or a device failed, of an answer behind so many entries
+abbrev pub SaysRefused : List ℕ → Type 0
+SaysRefused text =
+    SaysMemory text
+    ⊎ ((text ≡ refused_text (codes "Device"))
+    ⊎ ((fault : AnswerFault) × (IsOfAnswer (Err fault) → ⊥) × (text ≡ line (fault_text fault))))
+
+-- a line has one text at the same replica, and leaves the same replica: but where its text says nothing of it
+abbrev pub OneLineStep : Type 0
+OneLineStep =
+    (tables : List TableDef) (ask : Ask) (some other : List ℕ) (had has its_had its_has : ℕ) (before its one last : Member)
+    → AreTables tables
+    → IsShown tables before
+    → IsShown tables its
+    → IsSameMember tables before its
+    → (SaysRefused some → ⊥)
+    → (SaysRefused other → ⊥)
+    → LineStep tables had has before ask some one
+    → LineStep tables its_had its_has its ask other last
+    → (some ≡ other) × IsSameMember tables one last
+
+-- so do lines one behind another, where no text says nothing
+abbrev pub OneLineRun : Type 0
+OneLineRun =
+    (tables : List TableDef) (asks : List Ask) (some other : List (List ℕ)) (had has its_had its_has : ℕ) (before its one last : Member)
+    → AreTables tables
+    → IsShown tables before
+    → IsShown tables its
+    → IsSameMember tables before its
+    → AllByRecursion (λ (text : List ℕ). SaysRefused text → ⊥) some
+    → AllByRecursion (λ (text : List ℕ). SaysRefused text → ⊥) other
+    → LineSteps tables had has before asks some one
+    → LineSteps tables its_had its_has its asks other last
+    → (some ≡ other) × IsSameMember tables one last

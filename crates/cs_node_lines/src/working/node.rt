@@ -1,0 +1,130 @@
+//! One run of a node.
+
+ghost use Rattle.std.specs.Prelude.{◌≡◌, ◌<◌, ◌-◌, ◌^◌, OnOk};
+ghost use Rattle.cs_pending.specs.position.Laws.{FitsPosition};
+ghost use Rattle.cs_node_lines.specs.working.Endings.{EndsNode, EndsWorking};
+ghost use Rattle.cs_node_lines.specs.working.Steps.{Tells, TellsAll};
+
+use crate::asks::{Ask, read_asks};
+use crate::working::fault::NodeFault;
+use crate::working::reply::write_reply;
+use crate::working::working::work_ask;
+use cs_lines::{LineInput, LineOutput};
+use cs_replica::Replica;
+use cs_store::RowStore;
+use cs_value::Catalog;
+use std::alloc::Global;
+
+/// Does what a line asks, and prints its text and sends it.
+// Six parameters: the allocator, the replica, its tables and id, which no call of it gives, what is asked, and the output.
+fn do_ask<S: RowStore, W: LineOutput>(
+    alloc: Global,
+    replica: &mut Replica<S>,
+    catalog: &Catalog,
+    id: u32,
+    ask: &Ask,
+    writer: &mut W,
+) -> Result<(), NodeFault>
+    requires { replica.old.catalog ≡ catalog.now }
+    ensures told { Tells S.RowStore id ask.now result (W.failed writer.new) (W.contents writer.old) (W.contents writer.new) replica.old replica.new }
+    ensures sent { OnOk result (W.sent writer.new) }
+{
+    let reply = work_ask(alloc, replica, catalog, id, ask)?;
+    match write_reply(writer, &reply) {
+        Ok(()) => Ok(()),
+        Err(_) => Err(NodeFault::Write),
+    }
+}
+
+/// Does what lines ask, one behind another.
+// Six parameters: those of `do_ask`, with all that is asked.
+fn do_asks<S: RowStore, W: LineOutput>(
+    alloc: Global,
+    replica: &mut Replica<S>,
+    catalog: &Catalog,
+    id: u32,
+    asks: &[Ask],
+    writer: &mut W,
+) -> Result<(), NodeFault>
+    requires { replica.old.catalog ≡ catalog.now }
+    ensures told { TellsAll S.RowStore id asks.now result (W.failed writer.new) (W.contents writer.old) (W.contents writer.new) replica.old replica.new }
+    ensures sent { OnOk result (W.sent writer.old → W.sent writer.new) }
+{
+    cs_replica::member::laws::hears_keeps_id();
+    let mut rest = asks;
+    while let Some((ask, more)) = rest.split_first() {
+        match do_ask(alloc, replica, catalog, id, ask, writer) {
+            Ok(()) => rest = more,
+            Err(fault) => return Err(fault),
+        }
+    }
+    Ok(())
+}
+
+/// The numbers of where a replica stands are in range.
+fn position_fits<S: RowStore>(replica: &Replica<S>, id: u32)
+    requires { replica.now.position.id ≡ id }
+    ensures { FitsPosition replica.now.position }
+{
+    let _version = replica.version();
+}
+
+/// Opens the replica with this id over a store and does what lines ask, one behind another; the text of each is printed and sent before the
+/// next is worked on, and what it commits is committed before. A failed device is told of a line only where the store's count of failures
+/// rose at it. An id is at most 4,294,967,294. The store comes back in any case. (Profile of this project.)
+///
+/// # Errors
+///
+/// `Open` and `Memory` where the replica isn't opened: then nothing is printed, and the store holds what it held. `Write`, and `Memory` for a
+/// text, at a line: what was done stays done, the line's own step too.
+// Six parameters: the four that a replica is opened by, what is asked, and the output.
+pub fn work_on<S: RowStore, W: LineOutput>(
+    alloc: Global,
+    store: S,
+    catalog: &Catalog,
+    id: u32,
+    asks: &[Ask],
+    writer: &mut W,
+) -> (Result<(), NodeFault>, S)
+    requires { id < 2 ^ 32 - 1 }
+    ensures ends { EndsWorking S.RowStore catalog.now id asks.now store result.1
+        (W.failed writer.new) (W.contents writer.old) (W.contents writer.new) result.0 }
+    ensures sent { OnOk result.0 (W.sent writer.old → W.sent writer.new) }
+{
+    let _tables = catalog.tables();
+    match Replica::open(alloc, store, catalog, id) {
+        Ok(mut replica) => {
+            replica.shown();
+            position_fits(&replica, id);
+            let ended = do_asks(alloc, &mut replica, catalog, id, asks, writer);
+            (ended, replica.close())
+        }
+        Err((store, fault)) => (Err(NodeFault::from(fault)), store),
+    }
+}
+
+/// Reads an input whole, and then works a replica by its lines, as `work_on` does. (Profile of this project.)
+///
+/// # Errors
+///
+/// `Line` tells the first line that can't be read, from 1 on, and `Read` that the reader failed or was asked too often: then, and where memory
+/// is refused for the lines, the store wasn't touched and nothing is printed. Else those of `work_on`.
+// Six parameters: the four that a replica is opened by, the input and the output.
+pub fn node_on<S: RowStore, R: LineInput, W: LineOutput>(
+    alloc: Global,
+    store: S,
+    catalog: &Catalog,
+    id: u32,
+    reader: &mut R,
+    writer: &mut W,
+) -> (Result<(), NodeFault>, S)
+    requires { id < 2 ^ 32 - 1 }
+    ensures ends { EndsNode S.RowStore catalog.now id (R.remaining reader.old) (R.remaining reader.new) (R.failed reader.new) store result.1
+        (W.failed writer.new) (W.contents writer.old) (W.contents writer.new) result.0 }
+    ensures sent { OnOk result.0 (W.sent writer.old → W.sent writer.new) }
+{
+    match read_asks(alloc, catalog, reader) {
+        Ok(asks) => work_on(alloc, store, catalog, id, asks.as_slice(), writer),
+        Err(fault) => (Err(NodeFault::from(fault)), store),
+    }
+}

@@ -1,0 +1,153 @@
+//! What a line does.
+
+ghost use Rattle.std.specs.Prelude.{◌≡◌, ◌⊎◌, ◌++◌, ℕ, IfOk, OnOk, string_bytes};
+ghost use Rattle.cs_node_lines.specs.declared.asks.ask.Ask.TheVariants as line;
+ghost use Rattle.cs_lines.specs.Lines.{hex_line};
+ghost use Rattle.cs_replica.specs.member.Member.{Member};
+ghost use Rattle.cs_node_lines.specs.working.LineStep.{LineStep, SaysMemory};
+ghost use Rattle.cs_node_lines.specs.working.Replies.{reply_text};
+ghost use Rattle.cs_node_lines.specs.working.Texts.{heard_text};
+ghost use Rattle.cs_wire.specs.Requests.{HasShortChangeset, asked_by_owned, request_spelling};
+ghost use Rattle.cs_node_lines.specs.working.Steps.{Counted, IsStep, Makes, Replies};
+
+use crate::asks::Ask;
+use crate::told::{FaultText, ToldText, edit_fault_name, push_fault_name};
+use crate::working::dump::dump_of;
+use crate::working::names::{store_fault_name, wire_fault_name};
+use crate::working::reply::Reply;
+use cs_conflict::Wish;
+use cs_exchange::pulling::AnswerFault;
+use cs_exchange::pushing::PushFault;
+use cs_replica::member::{edit_replica, push_replica, resend_replica, tell_replica};
+use cs_replica::{Replica, Told};
+use cs_store::RowStore;
+use cs_value::{Catalog, Edit, Memory};
+use cs_wire::{Answer, RequestBuf};
+use std::alloc::Global;
+use std::fmt::Write;
+
+/// The room of the longest text of an answer; it is taken before the answer is.
+const ROOM: usize = 96;
+
+/// The bytes of a request.
+fn spelled(alloc: Global, request: &RequestBuf) -> Result<Vec<u8>, Memory>
+    requires { HasShortChangeset (asked_by_owned request.now) }
+    ensures { IfOk result (λ bytes. bytes.items ≡ request_spelling (asked_by_owned request.now)) }
+{
+    let mut bytes = Vec::new(alloc);
+    request.encode(&mut bytes)?;
+    Ok(bytes)
+}
+
+/// A request in hex, or that memory was refused for it.
+fn asked(alloc: Global, request: &RequestBuf) -> Reply
+    requires { HasShortChangeset (asked_by_owned request.now) }
+    ensures { (reply_text result ≡ hex_line (request_spelling (asked_by_owned request.now))) ⊎ SaysMemory (reply_text result) }
+{
+    match spelled(alloc, request) {
+        Ok(bytes) => Reply::Hex(bytes),
+        Err(_) => Reply::Refused("Memory"),
+    }
+}
+
+fn edit_line<S: RowStore>(alloc: Global, replica: &mut Replica<S>, edit: &Edit) -> Reply
+    ensures { Counted S.RowStore (λ (had : ℕ) (has : ℕ) (before : Member) (after : Member). LineStep replica.old.catalog had has before (line.OnEdit edit.now) (reply_text result) after) replica.old replica.new }
+{
+    match edit_replica(alloc, replica, edit) {
+        Ok(()) => Reply::Done,
+        Err(fault) => Reply::Refused(edit_fault_name(fault)),
+    }
+}
+
+fn push_line<S: RowStore>(alloc: Global, replica: &mut Replica<S>) -> Result<Reply, Memory>
+    ensures { Makes S.RowStore line.Push result replica.old replica.new }
+{
+    match push_replica(alloc, replica) {
+        Ok(request) => Ok(Reply::Hex(spelled(alloc, &request)?)),
+        Err(fault) => Ok(Reply::Refused(push_fault_name(fault))),
+    }
+}
+
+fn resend_line<S: RowStore>(alloc: Global, replica: &Replica<S>) -> Reply
+    ensures { (had : ℕ) → (has : ℕ) → (before : Member) → before.position ≡ replica.now.position → LineStep replica.now.catalog had has before line.Resend (reply_text result) before }
+{
+    match resend_replica(alloc, replica) {
+        Ok(request) => asked(alloc, &request),
+        Err(fault) => Reply::Refused(push_fault_name(fault)),
+    }
+}
+
+fn pull_line<S: RowStore>(alloc: Global, replica: &Replica<S>, limit: u32) -> Reply
+    ensures { (had : ℕ) → (has : ℕ) → (before : Member) → before.position ≡ replica.now.position → LineStep replica.now.catalog had has before (line.Pull limit) (reply_text result) before }
+{
+    let first = replica.version();
+    asked(alloc, &RequestBuf::Pull { first, limit })
+}
+
+/// Puts what became of an answer behind a text.
+fn put_heard(told: Result<Told, AnswerFault>, version: u64, text: &mut String) -> Result<(), Memory>
+    ensures { OnOk result (string_bytes text.new ≡ string_bytes text.old ++ heard_text told version) }
+{
+    match told {
+        Ok(told) => Ok(write!(text, "{}\n", ToldText { told, version })?),
+        Err(fault) => Ok(write!(text, "{}\n", FaultText(fault))?),
+    }
+}
+
+fn answer_line<S: RowStore>(
+    alloc: Global,
+    replica: &mut Replica<S>,
+    bytes: &[u8],
+    wishes: &[Wish],
+) -> Result<Reply, Memory>
+    ensures { Makes S.RowStore (line.Answer bytes.now wishes.now) result replica.old replica.new }
+{
+    let answer = match Answer::decode(bytes) {
+        Ok(answer) => answer,
+        Err(fault) => return Ok(Reply::Refused(wire_fault_name(fault))),
+    };
+    let Ok(mut text) = String::with_capacity(alloc, ROOM) else {
+        return Ok(Reply::Refused("Memory"));
+    };
+    let told = tell_replica(alloc, replica, &answer, wishes);
+    put_heard(told, replica.version(), &mut text)?;
+    Ok(Reply::Text(text))
+}
+
+fn dump_line<S: RowStore>(
+    alloc: Global,
+    replica: &mut Replica<S>,
+    catalog: &Catalog,
+    id: u32,
+) -> Reply
+    requires { replica.old.catalog ≡ catalog.now }
+    ensures { Counted S.RowStore (IsStep id replica.old.catalog line.Dump (reply_text result)) replica.old replica.new }
+{
+    match dump_of(alloc, replica, catalog, id) {
+        Ok(text) => Reply::Text(text),
+        Err(fault) => Reply::Refused(store_fault_name(fault)),
+    }
+}
+
+/// Does what a line asks, and gives what is printed of it. Where memory is refused for that, it was done.
+pub(crate) fn work_ask<S: RowStore>(
+    alloc: Global,
+    replica: &mut Replica<S>,
+    catalog: &Catalog,
+    id: u32,
+    ask: &Ask,
+) -> Result<Reply, Memory>
+    requires { replica.old.catalog ≡ catalog.now }
+    ensures { Replies S.RowStore id ask.now result replica.old replica.new }
+{
+    match ask {
+        Ask::OnEdit(edit) => Ok(edit_line(alloc, replica, edit)),
+        Ask::Push => push_line(alloc, replica),
+        Ask::Resend => Ok(resend_line(alloc, replica)),
+        Ask::Pull(limit) => Ok(pull_line(alloc, replica, *limit)),
+        Ask::Answer { bytes, wishes } => {
+            answer_line(alloc, replica, bytes.as_slice(), wishes.as_slice())
+        }
+        Ask::Dump => Ok(dump_line(alloc, replica, catalog, id)),
+    }
+}

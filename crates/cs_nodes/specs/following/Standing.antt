@@ -1,0 +1,35 @@
+-- A replica that stands on the entries that a thread knows of a log (profile of this project).
+use Rattle.std.specs.Prelude.{◌≡◌, List, ◌++◌, Some, slice_get, take}
+use Rattle.cs_value.specs.Catalog.{AreTables}
+use Rattle.cs_value.specs.declared.catalog.TableDef.{TableDef}
+use Rattle.cs_normal.specs.State.{IsDefinedOn}
+use Rattle.cs_store.specs.log.Entry.{entry_changes}
+use Rattle.cs_store.specs.log.Log.{IsLog, catalog_at, tables_at}
+use Rattle.cs_store.specs.declared.log.entry.LogEntry.{LogEntry}
+use Rattle.cs_store.specs.declared.store.RowStore.{Ghosts}
+use Rattle.cs_pending.specs.View.{View}
+use Rattle.cs_pending.specs.declared.position.position.Position.{Position}
+use Rattle.cs_replica.specs.Holding.{Holding, Shows}
+use Rattle.cs_replica.specs.Stands.{StandsOn}
+
+-- the second list begins with the first
+abbrev pub Begins : List LogEntry → List LogEntry → Type 0
+Begins first second = (more : List LogEntry) × (second ≡ first ++ more)
+
+-- the tables are a catalog's; each of the first entries, as many as the version, is defined on the tables that those before it
+-- make; and what is left where what is pending and what is under way are taken back is what they make together
+pub record StandsIn (tables : List TableDef) (known : List LogEntry) (position : Position) (view : View) : Type 0 where
+  pub of_catalog : AreTables tables
+  pub front : IsLog tables (take position.version known)
+  pub stands : StandsOn known position view
+
+-- where the store is honest, it shows a replica that stands there
+abbrev pub StandsWhereHonest : {S : Type 0} → Ghosts S → List LogEntry → Holding S → Type 0
+StandsWhereHonest g known held =
+    g.honest held.store → (view : View) × Shows g.contents held view × StandsIn held.catalog known held.position view
+
+-- the entry at a version is not defined on the tables that those before it make
+pub record IsBadAt (tables : List TableDef) (known : List LogEntry) (version : _) : Type 0 where
+  pub entry : LogEntry
+  pub here : slice_get known version ≡ Some entry
+  pub undefined : IsDefinedOn (catalog_at tables known version) (entry_changes entry) (tables_at known version) → ⊥

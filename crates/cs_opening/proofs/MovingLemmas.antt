@@ -1,0 +1,4 @@
+pub mod Bodies
+pub mod Batches
+pub mod Planned
+pub mod StoreLaws

@@ -1,0 +1,26 @@
+//! The laws of positions, each the contract of a function that does nothing.
+
+ghost use Rattle.std.specs.Prelude.{◌≡◌};
+ghost use Rattle.cs_pending.specs.position.Laws.{CommitShows, OnePosition};
+ghost use Rattle.cs_pending.specs.declared.position.position.TheConstants.{LAST_NUMBER};
+
+/// The last number that a push may have.
+pub fn last_number()
+    ensures { LAST_NUMBER ≡ 9223372036854775807 }
+{}
+
+/// What a commit shows whose edits of rows and pending changes make a view, and whose edits of values are those from one
+/// position to another: a replica there.
+pub fn commit_shows()
+    ensures { CommitShows }
+{
+    cs_store::laws::commits();
+}
+
+/// Contents show a replica at one position, and one view.
+pub fn one_position()
+    ensures { OnePosition }
+{
+    crate::laws::one_view();
+    cs_store::log::laws::one_body();
+}

@@ -1,8 +1,0 @@
-//! The changes of a changeset in normal form, each with its place: its table, the table's number in a catalog, and the bytes of its key.
-//! `place_all` lists them in order, table by table; they are those that are applied (`cs_apply`), on whose list the crate stands.
-//! Its tests are those of `cs_replica_tests`, through `cs_taking` and `cs_moving`.
-#![tactic(auto)]
-
-mod placed;
-
-pub use placed::{Placed, place_all};

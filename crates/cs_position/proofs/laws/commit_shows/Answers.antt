@@ -1,5 +1,0 @@
-use Rattle.cs_position.proofs.Committed.{commit_shows}
-use Rattle.cs_position.proofs.laws.commit_shows.Goals as goal
-
-pub returns : goal.returns
-returns c = commit_shows c.commits.ensures.meta c.commits.ensures.other_rows c.commits.ensures.other_pending c.commits.ensures.other_names

@@ -1,5 +1,0 @@
-use Rattle.cs_position.proofs.OnePosition.{one_position}
-use Rattle.cs_position.proofs.laws.one_position.Goals as goal
-
-pub returns : goal.returns
-returns c = one_position c.one_view.ensures.one c.one_body.ensures

@@ -1,7 +1,0 @@
-use Rattle.std.proofs.Common.{refl}
-use Rattle.cs_wire.specs.Numbers.{eight_bytes}
-use Rattle.cs_position.proofs.values.number_value.Goals as goal
-
-pub returns : goal.returns
-unfolding eight_bytes
-returns c = rw (c.in_ok-from_slice.ensures.items, c.to_be_bytes.ensures) refl

@@ -1,6 +1,0 @@
-use Rattle.std.proofs.Common.{◌≡◌, ◌++◌, take}
-use Rattle.cs_position.specs.Values.{catalog_bytes}
-use Rattle.cs_position.proofs.values.put_table_headers.Given as goal
-
-abbrev pub invariant-loop-table : goal.invariant-loop-table
-invariant-loop-table l = l.out.items ≡ l.fn.out.items ++ catalog_bytes (take l.table-index l.tables)

@@ -1,8 +1,0 @@
-mod Reading
-mod Next
-mod Walk
-mod Leading
-mod OnePulling
-mod PulledSome
-mod OneListing
-mod ListedSome

@@ -1,5 +1,0 @@
-use Rattle.cs_pulling.proofs.ListedSome.{list_has_result}
-use Rattle.cs_pulling.proofs.laws.list_has_result.Goals as goal
-
-pub returns : goal.returns
-returns g c = list_has_result c.one_read.ensures c.read_or_not.ensures g.P.Picker.picks g.P.Picker.is_ready c.pulled_or_refused.ensures

@@ -1,8 +1,0 @@
-use Rattle.cs_pulling.proofs.OnePulling as law
-use Rattle.cs_pulling.proofs.laws.one_pull.Goals as goal
-
-pub returns : goal.returns
-returns g c = record {
-  view = law.one_pull g.P.Picker.picks c.one_view.ensures.one c.one_taken.ensures.view;
-  contents = law.one_pull_in g.P.Picker.picks c.one_taken.ensures.contents c.one_contents.ensures.contents;
-}

@@ -1,8 +1,0 @@
-use Rattle.cs_pulling.proofs.OnePulling as law
-use Rattle.cs_pulling.proofs.laws.one_pull_fault.Goals as goal
-
-pub returns : goal.returns
-returns g c = record {
-  one = law.one_pull_fault g.P.Picker.picks c.one_stop_taking.ensures;
-  pulled = law.no_fault g.P.Picker.picks c.bad_is_neither.ensures c.no_stop_where_taken.ensures;
-}

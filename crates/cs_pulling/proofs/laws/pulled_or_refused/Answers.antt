@@ -1,7 +1,0 @@
-use Rattle.cs_pulling.proofs.PulledSome.{pulled_or_refused}
-use Rattle.cs_pulling.proofs.laws.pulled_or_refused.Goals as goal
-
-pub returns : goal.returns
-returns g c =
-    pulled_or_refused c.defined_or_not.ensures c.one_body.ensures c.net_is_applied.ensures c.defined_is_applied.ensures c.one_contents.ensures.next g.P.Picker.picks g.P.Picker.is_ready
-    c.taken_or_stopped.ensures.contents

@@ -1,5 +1,0 @@
-use Rattle.cs_pushing.proofs.Exists.{made_or_push_fault}
-use Rattle.cs_pushing.proofs.laws.made_or_push_fault.Goals as goal
-
-pub returns : goal.returns
-returns c = made_or_push_fault c.pending_is_outgoing.ensures

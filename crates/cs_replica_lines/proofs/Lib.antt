@@ -1,6 +1,0 @@
-mod Counting
-mod Printing
-mod Going
-mod Dumping
-mod Made
-mod OneLine

@@ -1,7 +1,0 @@
-use Rattle.std.proofs.Common.{take}
-use Rattle.cs_rows.specs.Steps.{AreSpelled}
-use Rattle.cs_rows.proofs.reading.rows_in.Given as goal
-
--- the rows are those of the bodies before
-abbrev pub invariant-loop-stored : goal.invariant-loop-stored
-invariant-loop-stored l = AreSpelled l.fn.columns (take l.stored-index l.fn.listed) l.rows.items

@@ -1,8 +1,0 @@
-//! The law of rows as a list, the contract of a function that does nothing.
-
-ghost use Rattle.cs_rows.specs.Rows.{OneTableOfRows};
-
-/// What stands at the places of a table is one list of rows.
-pub fn one_table_of_rows()
-    ensures { OneTableOfRows }
-{}

@@ -1,0 +1,133 @@
+-- Steps after one another.
+use Rattle.std.proofs.Common.{◌≡◌, inl, inr, Result, Ok, Err, OnOk, OnErr, ℕ, ℤ, List, [], ◌∷◌, ◌++◌, ◌+◌, ◌<◌, length, take, get_or, Option, Some, None, IsTrue, IfSome, refl, sym, ap, subst, ◌∙◌, arith, cond, Bool, true, false}
+use Rattle.std.specs.FinMap.{get, insert, remove, get-insert, get-remove, same_map}
+use Rattle.std.specs.Cmp.{eq_by_cmp_equiv}
+use Rattle.std.specs.Ordering.{eq_by_cmp}
+use Rattle.std.proofs.lemmas.Cmp.{nat_list_cmp_total}
+use Rattle.std.proofs.lemmas.Map.Lookups.{exact_bytes}
+use Rattle.sqlite.specs.State.{State, HasCleanDisk, KeepsCommit, IsUnchanged, IsNotRun, Survives}
+use Rattle.sqlite.specs.Effect.{Database, IsDatabase}
+use Rattle.sqlite.specs.Order.{Row}
+use Rattle.sqlite.specs.declared.error.Error.{Error}
+use Rattle.sqlite.proofs.StateLemmas.{survives_then}
+use Rattle.cs_order.specs.Order.{by_bytes}
+use Rattle.cs_store.specs.Contents.{Contents, place_cmp, StorePlace, Bodies, Meta}
+use Rattle.cs_store.specs.Written.{edit_body, edit_meta}
+use Rattle.cs_store.specs.edits.Edits.{BodyEdit}
+use Rattle.cs_store.specs.declared.batch.Batch.{Batch}
+use Rattle.cs_store.specs.declared.batch.MetaEdit.{MetaEdit}
+use Rattle.std.specs.List.{fold, slice_get}
+use Rattle.std.proofs.lemmas.List.{take_more}
+use Rattle.std.proofs.lemmas.List.Sums.{fold-append}
+use Rattle.std.proofs.lemmas.Option.{slice_get_within, get_or_from_slice_get}
+use Rattle.cs_sql.specs.statements.Tables.{AreKept, IsKept, contents_in, store_over}
+use Rattle.cs_sql.specs.statements.Steps.{Edits, HasBatch, with_batch, with_edit, with_edits, with_change, with_changes, with_value, with_values}
+use Rattle.cs_sql.proofs.StatementsLemmas.Answers.{place_total, place_exact}
+
+pub removed : (rows : Bodies) (place : StorePlace) → get (remove rows place) place ≡ None
+removed rows place = get-remove place_total rows place place ∙ ap (λ b. cond b None (get rows place)) ((eq_by_cmp_equiv place_total).refl place)
+
+passed : {A : Type 0} (b : Bool) (x y : Option A) → cond b x (cond b None y) ≡ cond b x y
+passed true x y = refl
+passed false x y = refl
+
+-- a row that is removed first and then set
+pub set_anew : (rows : Bodies) (place : StorePlace) (body : List ℕ) → insert (remove rows place) place body ≡ insert rows place body
+set_anew rows place body = same_map place_total place_exact _ _ (λ q.
+    get-insert place_total (remove rows place) place body q ∙ ap (cond (eq_by_cmp place_cmp q place) (Some body)) (get-remove place_total rows place q)
+    ∙ passed (eq_by_cmp place_cmp q place) (Some body) (get rows q) ∙ sym (get-insert place_total rows place body q))
+
+pub meta_removed : (meta : Meta) (name : List ℕ) → get (remove meta name) name ≡ None
+meta_removed meta name = get-remove nat_list_cmp_total meta name name ∙ ap (λ b. cond b None (get meta name)) ((eq_by_cmp_equiv nat_list_cmp_total).refl name)
+
+pub meta_set_anew : (meta : Meta) (name value : List ℕ) → insert (remove meta name) name value ≡ insert meta name value
+meta_set_anew meta name value = same_map nat_list_cmp_total exact_bytes _ _ (λ q.
+    get-insert nat_list_cmp_total (remove meta name) name value q ∙ ap (cond (eq_by_cmp (by_bytes) q name) (Some value)) (get-remove nat_list_cmp_total meta name q)
+    ∙ passed (eq_by_cmp (by_bytes) q name) (Some value) (get meta q) ∙ sym (get-insert nat_list_cmp_total meta name value q))
+
+pub quiet_then : (a b c : State) → Survives a b (λ _. ⊥) → Survives b c (λ _. ⊥) → Survives a c (λ _. ⊥)
+quiet_then a b c p q = survives_then a b c (λ _. ⊥) (λ _. ⊥) (λ _. ⊥) (λ _ db none. none) (λ _ db none. none) p q
+
+-- a step that reads what the steps before it left
+pub then_edits : (a b c : State) (was : Contents) (f : Contents → Contents) → Edits was a b → Edits (f (contents_in b.now.trees)) b c → Edits (f was) a c
+then_edits a b c was f p q = record {
+  inside = q.inside;
+  kept = record { was_open = λ o. p.kept.was_open (q.kept.was_open o); committed = λ o. q.kept.committed o ∙ p.kept.committed (q.kept.was_open o) };
+  stays = λ o. q.stays (p.stays o);
+  contents = λ o. q.contents o ∙ ap f (p.contents (q.kept.was_open o));
+}
+
+pub then_ok : {T E : Type 0} (r : Result T E) (a b c : State) (was : Contents) (f : Contents → Contents) → Edits was a b → OnOk r (Edits (f (contents_in b.now.trees)) b c) → OnOk r (Edits (f was) a c)
+then_ok (Ok x) a b c was f p q = then_edits a b c was f p q
+then_ok (Err e) a b c was f p q = tt
+
+-- one element more, which stands there
+take_there : {X : Type 0} (xs : List X) (i : ℕ) (x : X) → slice_get xs i ≡ Some x → take (i + 1) xs ≡ take i xs ++ x ∷ []
+take_there xs i x there = take_more xs i x (slice_get_within xs i x there) ∙ ap (λ e. take i xs ++ e ∷ []) (get_or_from_slice_get xs i x x there)
+
+-- one edit more
+pub one_more : (a b c : State) (was : Contents) (edits : List BodyEdit) (i : ℕ) (edit : BodyEdit) → slice_get edits i ≡ Some edit → Edits (with_edits (take i edits) was) a b
+    → Edits (with_edit edit (contents_in b.now.trees)) b c → Edits (with_edits (take (i + 1) edits) was) a c
+one_more a b c was edits i edit there p q =
+    let all : take (i + 1) edits ≡ take i edits ++ edit ∷ [] = take_there edits i edit there in
+    let same : with_edit edit (with_edits (take i edits) was) ≡ with_edits (take (i + 1) edits) was =
+    ap (λ (m : Bodies). record was { rows = m }) (sym (ap (fold edit_body was.rows) all ∙ fold-append edit_body was.rows (take i edits) (edit ∷ []))) in
+    subst (λ k. Edits k a c) same (then_edits a b c (with_edits (take i edits) was) (with_edit edit) p q)
+
+-- one edit of pending changes more
+pub one_change_more : (a b c : State) (was : Contents) (edits : List BodyEdit) (i : ℕ) (edit : BodyEdit) → slice_get edits i ≡ Some edit → Edits (with_changes (take i edits) was) a b
+    → Edits (with_change edit (contents_in b.now.trees)) b c → Edits (with_changes (take (i + 1) edits) was) a c
+one_change_more a b c was edits i edit there p q =
+    let all : take (i + 1) edits ≡ take i edits ++ edit ∷ [] = take_there edits i edit there in
+    let same : with_change edit (with_changes (take i edits) was) ≡ with_changes (take (i + 1) edits) was =
+    ap (λ (m : Bodies). record was { pending = m }) (sym (ap (fold edit_body was.pending) all ∙ fold-append edit_body was.pending (take i edits) (edit ∷ []))) in
+    subst (λ k. Edits k a c) same (then_edits a b c (with_changes (take i edits) was) (with_change edit) p q)
+
+pub one_value_more : (a b c : State) (was : Contents) (edits : List MetaEdit) (i : ℕ) (edit : MetaEdit) → i < length edits → edit ≡ get_or edits i edit → Edits (with_values (take i edits) was) a b
+    → Edits (with_value edit (contents_in b.now.trees)) b c → Edits (with_values (take (i + 1) edits) was) a c
+one_value_more a b c was edits i edit low is p q =
+    let all : take (i + 1) edits ≡ take i edits ++ edit ∷ [] = take_more edits i edit low ∙ ap (λ e. take i edits ++ e ∷ []) (sym is) in
+    let same : with_value edit (with_values (take i edits) was) ≡ with_values (take (i + 1) edits) was =
+    ap (λ (m : Meta). record was { meta = m }) (sym (ap (fold edit_meta was.meta) all ∙ fold-append edit_meta was.meta (take i edits) (edit ∷ []))) in
+    subst (λ k. Edits k a c) same (then_edits a b c (with_values (take i edits) was) (with_value edit) p q)
+
+-- ---- failures
+
+pub keeps_unchanged : (a b : State) → IsUnchanged a b → KeepsCommit a b
+keeps_unchanged a b h = record { was_open = λ _. h.0.was_open; committed = λ _. h.0.committed_is }
+
+pub keeps_unrun : (a b : State) (sql : List ℕ) (params : Row) (e : Error) → IsNotRun a b sql params e → KeepsCommit a b
+unfolding IsNotRun
+keeps_unrun a b sql params e (inl h) = keeps_unchanged a b h.1
+keeps_unrun a b sql params e (inr h) = record { was_open = h.3.was_open; committed = λ o. (h.3.undone o).1 }
+
+-- ---- the whole commit
+
+-- what a database that is kept has, its trees have
+pub trees_kept : (db : Database) → IsDatabase db → IsKept db → AreKept db.trees
+trees_kept db sound kept = let same : db ≡ store_over db.trees = λ i. record { schema = kept.schema i; trees = db.trees } in record { sound = subst IsDatabase same sound; kept = subst IsKept same kept }
+
+-- what a stop may leave of a transaction that began, wrote and was committed
+pub survives_commit : (was start probed last end : State) (batch : Batch) (version : ℤ) → Survives start probed (λ _. ⊥) → (HasCleanDisk probed → IsTrue probed.is_open)
+    → Survives probed last (λ _. ⊥) → (HasCleanDisk last → Edits (with_batch batch version (contents_in was.now.trees)) probed last)
+    → (HasCleanDisk last → IsTrue last.is_open → IfSome batch.log (λ _. get (contents_in was.now.trees).log version ≡ None)) → Survives last end (λ db. db ≡ last.now.trees)
+    → (HasCleanDisk probed → IsTrue was.is_open) → Survives start end (HasBatch batch version was)
+survives_commit was start probed last end batch version p serves q writes free r opened =
+    survives_then start last end (λ _. ⊥) (λ db. db ≡ last.now.trees) (HasBatch batch version was) (λ _ db none. absurd none)
+    (λ clean db is.
+    let late : HasCleanDisk last = omega (arith, r.clean) in
+    let early : HasCleanDisk probed = omega (arith, r.clean, q.clean) in
+    let it = writes late in
+    let stays = it.stays (serves early) in
+    record {
+      was_open = opened early;
+      kept = subst AreKept (sym is) (trees_kept last.now (it.inside.sound stays) (it.inside.kept stays));
+      contents = ap contents_in is ∙ it.contents stays;
+      free = free late stays;
+    })
+    (quiet_then start probed last p q) r
+
+-- what holds in any case holds at `Err`
+pub on_err : {T E : Type 0} {P : Type 0} (r : Result T E) → P → OnErr r P
+on_err (Ok x) p = tt
+on_err (Err e) p = p

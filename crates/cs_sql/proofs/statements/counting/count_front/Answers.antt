@@ -1,0 +1,55 @@
+use Rattle.std.proofs.Common.{◌≡◌, ◌∙◌, true, false, sym, subst, arith}
+use Rattle.sqlite.specs.Effect.{Database}
+use Rattle.sqlite.specs.Held.{state}
+use Rattle.sqlite.specs.State.{HasCleanDisk}
+use Rattle.cs_sql.specs.statements.Found.{HasFront}
+use Rattle.cs_sql.proofs.StatementsLemmas.Adopting.{rows_plain, meta_plain, log_plain, front_counted, front_rises, match_then}
+use Rattle.cs_sql.proofs.statements.counting.count_front.Goals as goal
+use Rattle.cs_sql.proofs.statements.counting.count_front.Goals.{else-rows-via-then-rows+then-meta+else-log, else-rows-via-then-rows+else-meta, else-rows-via-else-rows}
+
+pub read_ids-requires-clause-plain : goal.read_ids-requires-clause-plain
+read_ids-requires-clause-plain g c clean = rows_plain (state g.S.Store c.args.conn.now).now.schema (c.requires.front clean)
+
+pub read_ids-requires-2-clause-plain : goal.read_ids-requires-2-clause-plain
+read_ids-requires-2-clause-plain g c clean =
+    let front = c.requires.front (omega (arith, clean, c.read_ids.ensures.survives.clean)) in
+    meta_plain (state g.S.Store c.read_ids.new.conn).now.schema (subst (λ (d : Database). HasFront d.schema) (sym (c.in_ok-rows.ensures.ok clean).0.now_is) front)
+
+pub read_ids-requires-3-clause-plain : goal.read_ids-requires-3-clause-plain
+read_ids-requires-3-clause-plain g c clean =
+    let c1 : HasCleanDisk (state g.S.Store c.read_ids.new.conn) = omega (arith, clean, c.read_ids-2.ensures.survives.clean) in
+    let front = c.requires.front (omega (arith, c1, c.read_ids.ensures.survives.clean)) in
+    let same = (c.in_ok-meta.ensures.ok clean).0.now_is ∙ (c.in_ok-rows.ensures.ok c1).0.now_is in
+    log_plain (state g.S.Store c.read_ids-2.new.conn).now.schema (subst (λ (d : Database). HasFront d.schema) (sym same) front)
+
+pub returns-then-log-clause-counted : goal.returns-then-log-clause-counted
+returns-then-log-clause-counted g c clean =
+    let s0 = state g.S.Store c.args.conn.now in
+    let s1 = state g.S.Store c.read_ids.new.conn in
+    let s2 = state g.S.Store c.read_ids-2.new.conn in
+    let s3 = state g.S.Store c.read_ids-3.new.conn in
+    let c2 : HasCleanDisk s2 = omega (arith, clean, c.read_ids-3.ensures.survives.clean) in
+    let c1 : HasCleanDisk s1 = omega (arith, c2, c.read_ids-2.ensures.survives.clean) in
+    let c0 : HasCleanDisk s0 = omega (arith, c1, c.read_ids.ensures.survives.clean) in
+    let rises = front_rises s0 s1 s2 s3 c.in_ok-rows.rows c.in_ok-meta.meta c.in_ok-log.log (c.requires.front c0) (c.in_ok-rows.ensures.ok c1).0.now_is (c.in_ok-meta.ensures.ok c2).0.now_is
+    (c.in_ok-rows.ensures.shown c1) (c.in_ok-meta.ensures.shown c2) (c.in_ok-log.ensures.shown clean) in
+    match_then _ _ _ _ c.of_log.result (λ many can. let few = (rises can).3 in absurd (omega (arith, many, few)))
+    (λ found is. front_counted s0 s1 s2 s3 c.in_ok-rows.rows c.in_ok-meta.meta c.in_ok-log.log found (c.requires.front c0) (c.in_ok-rows.ensures.ok c1).0.now_is (c.in_ok-meta.ensures.ok c2).0.now_is
+    (c.in_ok-rows.ensures.shown c1) (c.in_ok-meta.ensures.shown c2) (c.in_ok-log.ensures.shown clean) c.if-rows.true c.if-meta.true c.if-log.true is.0 is.1 is.2) c.of_log.ensures
+
+pub returns-else-rows-clause-counted : goal.returns-else-rows-clause-counted
+returns-else-rows-clause-counted g c clean can =
+    let s0 = state g.S.Store c.args.conn.now in
+    let s1 = state g.S.Store c.read_ids.new.conn in
+    let s2 = state g.S.Store c.read_ids-2.new.conn in
+    let s3 = state g.S.Store c.read_ids-3.new.conn in
+    let c2 : HasCleanDisk s2 = omega (arith, clean, c.read_ids-3.ensures.survives.clean) in
+    let c1 : HasCleanDisk s1 = omega (arith, c2, c.read_ids-2.ensures.survives.clean) in
+    let c0 : HasCleanDisk s0 = omega (arith, c1, c.read_ids.ensures.survives.clean) in
+    let rises = front_rises s0 s1 s2 s3 c.in_ok-rows.rows c.in_ok-meta.meta c.in_ok-log.log (c.requires.front c0) (c.in_ok-rows.ensures.ok c1).0.now_is (c.in_ok-meta.ensures.ok c2).0.now_is
+    (c.in_ok-rows.ensures.shown c1) (c.in_ok-meta.ensures.shown c2) (c.in_ok-log.ensures.shown clean) can in
+    elim c.else-rows.branch [
+      | else-rows-via-then-rows+then-meta+else-log w ↦ let e : true ≡ false = sym rises.2 ∙ w.if-log.false in absurd cc
+      | else-rows-via-then-rows+else-meta w ↦ let e : true ≡ false = sym rises.1 ∙ w.if-meta.false in absurd cc
+      | else-rows-via-else-rows w ↦ let e : true ≡ false = sym rises.0 ∙ w.if-rows.false in absurd cc
+    ]

@@ -1,0 +1,11 @@
+use Rattle.std.proofs.Common.{arith}
+use Rattle.sqlite.specs.Held.{state}
+use Rattle.cs_sql.proofs.StatementsLemmas.Adopting.{pending_plain, pending_apart}
+use Rattle.cs_sql.proofs.statements.counting.is_pending_apart.Goals as goal
+
+pub read_ids-requires-clause-plain : goal.read_ids-requires-clause-plain
+read_ids-requires-clause-plain g c clean = pending_plain (state g.S.Store c.args.conn.now).now.schema (c.requires.ours clean)
+
+pub returns-clause-apart : goal.returns-clause-apart
+returns-clause-apart g c clean =
+    pending_apart (state g.S.Store c.args.conn.now) (state g.S.Store c.read_ids.new.conn) c.in_ok-ids.ids (c.requires.ours (omega (arith, clean, c.read_ids.ensures.survives.clean))) (c.in_ok-ids.ensures.shown clean)

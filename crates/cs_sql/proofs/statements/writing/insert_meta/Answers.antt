@@ -1,0 +1,10 @@
+use Rattle.std.proofs.Common.{arith}
+use Rattle.sqlite.specs.Held.{state}
+use Rattle.cs_sql.proofs.StatementsLemmas.Statements.{inserts_meta_inside}
+use Rattle.cs_sql.proofs.statements.writing.insert_meta.Goals as goal
+
+pub returns-clause-ok : goal.returns-clause-ok
+returns-clause-ok g c clean =
+    let inside = c.requires.inside (omega (arith, c.execute.ensures.survives.clean)) in
+    inserts_meta_inside (state g.S.Store c.args.tx.now.conn.now) (state g.S.Store c.execute.new.self.conn.now) c.args.name.now c.args.value.now c.execute.result inside
+    (c.requires.absent (omega (arith, c.execute.ensures.survives.clean))) (rw (c.params-to_sql.ensures, c.params-to_sql-2.ensures) at (c.execute.ensures.runs clean inside.writes))

@@ -1,0 +1,38 @@
+-- Whether what the tables hold is what its places say (profile of this project).
+use Rattle.std.specs.Prelude.{◌≡◌, ℕ, ℤ, List, Some}
+use Rattle.std.specs.FinMap.{get}
+use Rattle.cs_value.specs.declared.catalog.TableDef.{TableDef}
+use Rattle.sqlite.specs.Order.{Row, column}
+use Rattle.sqlite.specs.Edit.{id_in}
+use Rattle.sqlite_value.specs.Order.{bytes}
+use Rattle.cs_store.specs.Contents.{Contents, LogItem, StorePlace}
+use Rattle.cs_store.specs.Whole.{AtTable, IsName, StoresBody, StoresChange, StoresRow}
+use Rattle.cs_sql.specs.statements.Tables.{all_bodies_text, all_names_text, all_pending_text, all_rows_text}
+use Rattle.cs_sql.specs.declared.statements.checking.Part.{Part}
+use Rattle.cs_sql.specs.declared.statements.checking.Part.TheVariants.{Rows, Pending, Meta, Log}
+
+-- a place and a body, as a row of an answer shows them
+abbrev pub place_read : Row → StorePlace
+place_read row = (id_in (column row 0), bytes (column row 1))
+
+-- the row of an answer is of the catalog's tables: a row or a pending change at its own place, a name of ours, the body of an
+-- entry
+abbrev pub ShowsOwn : Part → List TableDef → Row → Type 0
+ShowsOwn Rows tables row = AtTable StoresRow tables (place_read row) (bytes (column row 2))
+ShowsOwn Pending tables row = AtTable StoresChange tables (place_read row) (bytes (column row 2))
+ShowsOwn Meta tables row = IsName (bytes (column row 0))
+ShowsOwn Log tables row = StoresBody tables (bytes (column row 0))
+
+-- all that one of the tables holds is
+abbrev pub HasOwn : Part → List TableDef → Contents → Type 0
+HasOwn Rows tables contents = (place : StorePlace) (body : List ℕ) → get contents.rows place ≡ Some body → AtTable StoresRow tables place body
+HasOwn Pending tables contents = (place : StorePlace) (body : List ℕ) → get contents.pending place ≡ Some body → AtTable StoresChange tables place body
+HasOwn Meta tables contents = (name value : List ℕ) → get contents.meta name ≡ Some value → IsName name
+HasOwn Log tables contents = (version : ℤ) (item : LogItem) → get contents.log version ≡ Some item → StoresBody tables item.body
+
+-- the query that shows all that the table holds
+abbrev pub all_text : Part → List ℕ
+all_text Rows = all_rows_text
+all_text Pending = all_pending_text
+all_text Meta = all_names_text
+all_text Log = all_bodies_text

@@ -1,0 +1,213 @@
+//! Whether all that the tables hold is what its places say.
+
+ghost use Rattle.std.specs.Prelude.{◌≡◌, ◌↔◌, ◌≤◌, ℕ, [], pos, length, false, IfOk, MatchOption, IsTrue, OnOk};
+ghost use Rattle.sqlite.specs.Held.{state};
+ghost use Rattle.sqlite.specs.State.{HasCleanDisk, Survives};
+ghost use Rattle.sqlite_value.specs.Order.{bytes};
+ghost use Rattle.sqlite_value.specs.Value.{owned};
+ghost use Rattle.cs_store.specs.Whole.{IsWhole};
+ghost use Rattle.cs_sql.specs.declared.statements.checking.Part.TheVariants.{Rows, Pending, Meta, Log};
+ghost use Rattle.cs_sql.specs.statements.Tables.{contents_in};
+ghost use Rattle.cs_sql.specs.statements.Steps.{IsReady, Stays};
+ghost use Rattle.cs_sql.specs.statements.Checked.{HasOwn, ShowsOwn, all_text};
+
+use crate::statements::streaming::{Reader, read_ready};
+use cs_store::{is_body, is_change, is_name, is_row};
+use cs_value::Catalog;
+use sqlite::{Alter, Connection, Error, Row};
+use sqlite_value::value::ValueRef;
+use std::alloc::Global;
+
+/// One of the tables of a store.
+#[derive(Clone, Copy)]
+pub enum Part {
+    /// Rows.
+    Rows,
+    /// Pending changes.
+    Pending,
+    /// Values by name.
+    Meta,
+    /// Entries of the log.
+    Log,
+}
+
+impl Part {
+    /// The query that shows all that the table holds.
+    fn query(self) -> &'static str
+        ensures { result.now ≡ all_text self }
+    {
+        match self {
+            Part::Rows => "SELECT tab, key, body FROM rows",
+            Part::Pending => "SELECT tab, key, body FROM pending",
+            Part::Meta => "SELECT name FROM meta",
+            Part::Log => "SELECT body FROM log",
+        }
+    }
+}
+
+/// The number of a table of the catalog, if it is one.
+fn table_number(catalog: &Catalog, number: i64) -> Option<u32>
+    ensures { MatchOption result ((table : ℕ) → number ≡ pos table → length catalog.now ≤ table) (λ table. number ≡ pos table) }
+{
+    let tables = catalog.tables();
+    if number >= 0 && number < tables.len() as i64 {
+        Some(number as u32)
+    } else {
+        None
+    }
+}
+
+/// The bytes of a text or a blob; none of another value.
+fn bytes_of<'a>(value: &ValueRef<'a>) -> &'a [u8]
+    ensures { result.now ≡ bytes (owned value.now) }
+{
+    match value {
+        ValueRef::Text(text) => text,
+        ValueRef::Blob(blob) => blob,
+        _ => &[],
+    }
+}
+
+/// Whether a row is one of the catalog's table that it names, at its own key.
+fn shows_row(alloc: Global, catalog: &Catalog, row: &Row) -> Result<bool, Error>
+    ensures { IfOk result (λ own. IsTrue own ↔ ShowsOwn Rows catalog.now row.now) }
+{
+    let number: i64 = row.get(0)?;
+    let key = row.get_ref(1)?;
+    let body = row.get_ref(2)?;
+    let Some(table) = table_number(catalog, number) else {
+        return Ok(false);
+    };
+    Ok(is_row(alloc, catalog, table, bytes_of(&key), bytes_of(&body))?)
+}
+
+/// The same of a pending change.
+fn shows_change(alloc: Global, catalog: &Catalog, row: &Row) -> Result<bool, Error>
+    ensures { IfOk result (λ own. IsTrue own ↔ ShowsOwn Pending catalog.now row.now) }
+{
+    let number: i64 = row.get(0)?;
+    let key = row.get_ref(1)?;
+    let body = row.get_ref(2)?;
+    let Some(table) = table_number(catalog, number) else {
+        return Ok(false);
+    };
+    Ok(is_change(alloc, catalog, table, bytes_of(&key), bytes_of(&body))?)
+}
+
+/// Whether a name is one of ours.
+fn shows_name(row: &Row) -> Result<bool, Error>
+    ensures { IfOk result (λ own. IsTrue own ↔ ShowsOwn Meta [] row.now) }
+{
+    let value = row.get_ref(0)?;
+    Ok(is_name(bytes_of(&value)))
+}
+
+/// Whether the body of an entry decodes.
+fn shows_body(alloc: Global, catalog: &Catalog, row: &Row) -> Result<bool, Error>
+    ensures { IfOk result (λ own. IsTrue own ↔ ShowsOwn Log catalog.now row.now) }
+{
+    let body = row.get_ref(0)?;
+    Ok(is_body(alloc, catalog, bytes_of(&body))?)
+}
+
+fn shows_own(alloc: Global, catalog: &Catalog, part: Part, row: &Row) -> Result<bool, Error>
+    ensures { IfOk result (λ own. IsTrue own ↔ ShowsOwn part catalog.now row.now) }
+{
+    match part {
+        Part::Rows => shows_row(alloc, catalog, row),
+        Part::Pending => shows_change(alloc, catalog, row),
+        Part::Meta => shows_name(row),
+        Part::Log => shows_body(alloc, catalog, row),
+    }
+}
+
+/// Judges the rows of one of the tables, one after another.
+#[derive(Drop)]
+struct Judge<'a> {
+    alloc: Global,
+    catalog: &'a Catalog,
+    part: Part,
+    /// Whether each so far is one that the table may hold.
+    all_own: bool,
+}
+
+impl<'a> Judge<'a> {
+    fn new(alloc: Global, catalog: &'a Catalog, part: Part) -> Judge<'a>
+        ensures { (result.part ≡ part) × (result.catalog.now ≡ catalog.now) × IsTrue result.all_own }
+    {
+        Judge {
+            alloc,
+            catalog,
+            part,
+            all_own: true,
+        }
+    }
+
+    /// Judges one more.
+    fn judge(&mut self, row: &Row) -> Result<(), Error>
+        ensures same { OnOk result ((self.new.part ≡ self.old.part) × (self.new.catalog.now ≡ self.old.catalog.now)) }
+        ensures own { OnOk result (IsTrue self.new.all_own ↔ (IsTrue self.old.all_own × ShowsOwn self.old.part self.old.catalog.now row.now)) }
+    {
+        if self.all_own {
+            self.all_own = shows_own(self.alloc, self.catalog, self.part, row)?;
+        }
+        Ok(())
+    }
+}
+
+impl Reader for Judge<'_> {
+    ghost use Rattle.std.specs.Prelude.{◌≡◌, ◌↔◌, IsTrue};
+    ghost use Rattle.std.specs.List.{AllByRecursion};
+    ghost use Rattle.cs_sql.specs.statements.Checked.{ShowsOwn};
+
+    ghost has_read = { λ start judge rows. (judge.part ≡ start.part) × (judge.catalog.now ≡ start.catalog.now) × (IsTrue start.all_own → (IsTrue judge.all_own ↔ AllByRecursion (ShowsOwn start.part start.catalog.now) rows)) };
+
+    fn read(&mut self, row: &Row) -> Result<(), Error> {
+        self.judge(row)
+    }
+}
+
+/// Whether all that one of the tables holds is what its places say.
+fn check_part<S: Alter>(
+    alloc: Global,
+    conn: &mut Connection<S>,
+    catalog: &Catalog,
+    part: Part,
+) -> Result<bool, Error>
+    requires idle { conn.old.in_transaction ≡ false }
+    requires ready { HasCleanDisk (state S.Store conn.old) → IsTrue (state S.Store conn.old).is_open → IsReady (state S.Store conn.old) }
+    ensures idle { conn.new.in_transaction ≡ false }
+    ensures ok { HasCleanDisk (state S.Store conn.new) → IfOk result (λ own. IsTrue (state S.Store conn.old).is_open × (IsTrue own ↔ HasOwn part catalog.now (contents_in (state S.Store conn.old).now.trees))) }
+    ensures same { HasCleanDisk (state S.Store conn.new) → Stays (state S.Store conn.old) (state S.Store conn.new) }
+    ensures survives { Survives (state S.Store conn.old) (state S.Store conn.new) (λ _. ⊥) }
+{
+    let mut judge = Judge::new(alloc, catalog, part);
+    read_ready(conn, part.query(), &[], &mut judge)?;
+    Ok(judge.all_own)
+}
+
+fn all_four(rows: bool, pending: bool, meta: bool, log: bool) -> bool
+    ensures { IsTrue result ↔ (IsTrue rows × IsTrue pending × IsTrue meta × IsTrue log) }
+{
+    rows && pending && meta && log
+}
+
+/// Whether all that the store holds is what its places say.
+pub fn check_store<S: Alter>(
+    alloc: Global,
+    conn: &mut Connection<S>,
+    catalog: &Catalog,
+) -> Result<bool, Error>
+    requires idle { conn.old.in_transaction ≡ false }
+    requires ready { HasCleanDisk (state S.Store conn.old) → IsTrue (state S.Store conn.old).is_open → IsReady (state S.Store conn.old) }
+    ensures idle { conn.new.in_transaction ≡ false }
+    ensures ok { HasCleanDisk (state S.Store conn.new) → IfOk result (λ good. IsTrue (state S.Store conn.old).is_open × (IsTrue good ↔ IsWhole catalog.now (contents_in (state S.Store conn.old).now.trees))) }
+    ensures same { HasCleanDisk (state S.Store conn.new) → Stays (state S.Store conn.old) (state S.Store conn.new) }
+    ensures survives { Survives (state S.Store conn.old) (state S.Store conn.new) (λ _. ⊥) }
+{
+    let rows = check_part(alloc, conn, catalog, Part::Rows)?;
+    let pending = check_part(alloc, conn, catalog, Part::Pending)?;
+    let meta = check_part(alloc, conn, catalog, Part::Meta)?;
+    let log = check_part(alloc, conn, catalog, Part::Log)?;
+    Ok(all_four(rows, pending, meta, log))
+}

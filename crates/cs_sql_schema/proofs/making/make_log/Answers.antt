@@ -1,9 +1,0 @@
-use Rattle.std.proofs.Common.{arith}
-use Rattle.sqlite.specs.Held.{state}
-use Rattle.cs_sql_schema.proofs.Laying.{lays_log}
-use Rattle.cs_sql_schema.proofs.making.make_log.Goals as goal
-
-pub returns-clause-ok : goal.returns-clause-ok
-returns-clause-ok g c clean =
-    let was = c.requires (omega (arith, c.execute.ensures.survives.clean)) in
-    lays_log (state g.S.Store c.args.tx.now.conn.now) (state g.S.Store c.execute.new.self.conn.now) c.execute.result was (c.execute.ensures.runs clean was.writes)

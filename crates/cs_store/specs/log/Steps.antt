@@ -1,0 +1,66 @@
+-- What the code holds on the way to whether bytes are a stored body: no definition that a public clause cites.
+use Rattle.std.specs.Prelude.{◌≡◌, ◌≢◌, ℕ, ◌<◌, Bool, true, List, [], ◌∷◌, ◌++◌, map}
+use Rattle.std.specs.List.{flat_map}
+use Rattle.std.specs.declared.cmp.Ordering.TheVariants.{Less}
+use Rattle.cs_value.specs.declared.catalog.TableDef.{TableDef}
+use Rattle.cs_change.specs.declared.change.Change.{Change}
+use Rattle.cs_change.specs.Spelling.{FitsChange, change_spelling, flag_byte}
+use Rattle.cs_record.specs.Reading.{StandsAt}
+use Rattle.cs_order.specs.Order.{by_bytes}
+use Rattle.cs_normal.specs.keyed.Changes.{AreNormal, Changes, IsEntry}
+use Rattle.cs_normal.specs.keyed.NormalForm.{change_bytes, has_key}
+use Rattle.cs_normal.specs.Normal.{FitsCatalog, IsNormalTable, normal_spelling, table_spelling}
+use Rattle.cs_normal.specs.declared.normal.TableChanges.{TableChanges}
+use Rattle.cs_store.specs.log.Stored.{AreChangesOf}
+
+-- how the changes of a table are written
+abbrev pub changes_bytes : Changes → List ℕ
+changes_bytes changes = flat_map (λ keyed. change_spelling keyed.1) changes
+
+-- the change has a key without NULL, of these bytes, above those
+pub record HasKeyAbove (marks : List Bool) (last key : List ℕ) (change : Change) : Type 0 where
+  pub set : has_key marks change ≡ true
+  pub bytes : key ≡ change_bytes marks change
+  pub above : by_bytes last key ≡ Less
+
+-- so many bytes at the front are this change of a table
+pub record IsChangeAt (marks : List Bool) (bytes : List ℕ) (change : Change) (len : ℕ) : Type 0 where
+  pub fits : FitsChange marks change
+  pub stands : StandsAt bytes (change_spelling change) len
+  pub some : 0 < len
+
+-- so many bytes at the front are a change of a table in normal form, with this key above that one
+pub record IsNextChange (marks : List Bool) (last key bytes : List ℕ) (len : ℕ) : Type 0 where
+  pub change : Change
+  pub entry : IsEntry marks (key, change)
+  pub above : by_bytes last key ≡ Less
+  pub stands : StandsAt bytes (change_spelling change) len
+  pub some : 0 < len
+
+-- some changes of a table in normal form stand in front of the rest
+pub record AreNextChanges (marks : List Bool) (bytes rest : List ℕ) : Type 0 where
+  pub changes : Changes
+  pub normal : AreNormal marks changes
+  pub some : changes ≢ []
+  pub spelled : bytes ≡ changes_bytes changes ++ rest
+
+-- the name and the column bytes are those of a table, behind which these stand
+pub record IsTableBefore (tables more : List TableDef) (table : TableDef) (name marks : List ℕ) : Type 0 where
+  pub before : List TableDef
+  pub parts : tables ≡ before ++ table ∷ more
+  pub named : table.name ≡ name
+  pub marked : map flag_byte table.key_marks ≡ marks
+
+-- a table in normal form stands in front of the rest: one of these tables, behind which others are left
+pub record IsNextTable (tables more : List TableDef) (bytes rest : List ℕ) : Type 0 where
+  pub before : List TableDef
+  pub changes : TableChanges
+  pub parts : tables ≡ before ++ more
+  pub of_catalog : FitsCatalog before (changes ∷ [])
+  pub normal : IsNormalTable changes
+  pub spelled : bytes ≡ table_spelling changes ++ rest
+
+-- the bytes spell a changeset of these tables in normal form
+abbrev pub SpellsChanges : List TableDef → List ℕ → Type 0
+SpellsChanges tables bytes =
+    (changes : List TableChanges) × AreChangesOf tables changes × (bytes ≡ normal_spelling changes)

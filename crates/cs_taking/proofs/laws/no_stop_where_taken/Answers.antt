@@ -1,5 +1,0 @@
-use Rattle.cs_taking.proofs.TakenOnce as law
-use Rattle.cs_taking.proofs.laws.no_stop_where_taken.Goals as goal
-
-pub returns : goal.returns
-returns g c = law.no_stop_where_taken g.P.Picker.picks

@@ -1,5 +1,0 @@
-use Rattle.cs_taking.proofs.TakenOnce as law
-use Rattle.cs_taking.proofs.laws.one_stop_taking.Goals as goal
-
-pub returns : goal.returns
-returns g c = law.one_stop_taking g.P.Picker.picks

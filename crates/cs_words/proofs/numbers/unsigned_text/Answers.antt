@@ -1,5 +1,0 @@
-use Rattle.cs_words.proofs.NumberLemmas.{no_text}
-use Rattle.cs_words.proofs.numbers.unsigned_text.Goals as goal
-
-pub returns-in-Err : goal.returns-in-Err
-returns-in-Err c = no_text c.args.word.now c.in-Err.ensures.cases.0

@@ -1,7 +1,0 @@
-use Rattle.std.proofs.lemmas.Bool.Decides.{Decides-eqb}
-use Rattle.std.proofs.lemmas.Slice.Eq.{strip_prefix_is}
-use Rattle.cs_words.proofs.ValueLemmas.{behind_is}
-use Rattle.cs_words.proofs.values.behind.Goals as goal
-
-pub returns : goal.returns
-returns c = behind_is _ _ _ (strip_prefix_is Decides-eqb c.args.word.now c.args.front.now _ c.strip_prefix.ensures.cases)

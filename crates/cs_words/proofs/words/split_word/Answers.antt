@@ -1,8 +1,0 @@
-use Rattle.cs_words.proofs.WordLemmas.{words_split, words_whole}
-use Rattle.cs_words.proofs.words.split_word.Goals as goal
-
-pub returns-in-Some : goal.returns-in-Some
-returns-in-Some c = words_split c.args.line.now c.in-Some.at c.in-Some.ensures
-
-pub returns-in-None : goal.returns-in-None
-returns-in-None c = words_whole c.args.line.now c.in-None.ensures
