@@ -11,7 +11,7 @@ A list stands between the lines `<!-- list KIND WORD.. -->` and `<!-- end -->` o
 
 Besides, it always judges
 
-  - docs/TRUST.md: each definition under the public clauses of the files in COMPLETE stands in a point that links to its file
+  - docs/TRUST.md: each definition under the public clauses of the files in COMPLETE stands in a point that links to its file, and so does each that those of the files in CITED cite
   - the documents in NAMED: each name in code font is in the sources
   - each link of README.md, docs/ and bench/README.md to a file: the file is there
   - each crate of crates.txt but those of tests: it stands in one list of crates
@@ -28,6 +28,15 @@ NAMES = [line.split(":")[0].split()[0] for line in (ROOT / "crates.txt").read_te
 
 # Whose public clauses docs/TRUST.md has to follow to the end.
 COMPLETE = ["cs_world/src/world.rt", "cs_store/src/store.rt"]
+
+# Of whose public clauses it has to say what they cite themselves.
+CITED = """
+    cs_apply/src/applying.rt cs_blob/src/reading.rt cs_changeset/src/reading.rt cs_column_bytes/src/spelling.rt cs_conflict/src/chooser.rt
+    cs_conflict/src/clash.rt cs_conflict/src/guard.rt cs_conflict/src/kind.rt cs_conflict/src/picker.rt cs_group/src/adding.rt
+    cs_group/src/combining.rt cs_group/src/group.rt cs_group/src/inverting.rt cs_hub/src/hub.rt cs_nodes/src/books/book.rt
+    cs_nodes/src/meet.rt cs_nodes/src/node.rt cs_nodes/src/plans/ending.rt cs_pending/src/edits.rt cs_rebaser/src/rebaser.rt
+    cs_replica/src/replica.rt cs_spine/src/spine.rt cs_sql/src/store.rt cs_tools/src/tool.rt sync_cli/src/run.rt
+""".split()
 
 # Whose names in code font are names of the sources.
 NAMED = ["DECISIONS.md", "HEADLINE.md", "TOUR.md", "TRUST.md"]
@@ -241,8 +250,9 @@ def trust(definitions):
     for bullet in bullets(path.read_text()):
         for link in re.findall(r"\(\.\./crates/([\w/]+\.antt)\)", bullet):
             said[link].update(re.findall(r"`(\w+)`", bullet))
-    roots = set().union(*(roots_of(definitions, path) for path in COMPLETE))
-    for key in sorted(definitions.under(roots), key=lambda key: definitions.file[key]):
+    cited = set().union(*(roots_of(definitions, path) for path in CITED))
+    under = definitions.under(set().union(*(roots_of(definitions, path) for path in COMPLETE)))
+    for key in sorted(under | {key for key in cited if "/Steps" not in definitions.file[key]}, key=lambda key: definitions.file[key]):
         if key[1] not in said[definitions.file[key]]:
             yield f"docs/TRUST.md: {definitions.file[key]} has {key[1]}, which no point says"
     for link, names in said.items():
