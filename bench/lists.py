@@ -174,7 +174,7 @@ def crates(definitions, words):
 def fields(definitions, key):
     """The laws that a record of laws puts together."""
     found = re.findall(r"^\s+pub \w+ : ([A-Z]\w+)$", "\n".join(definitions.body[key]), re.M)
-    return [word for word in found if definitions.find(key[0], word)]
+    return [it for it in (definitions.find(key[0], word) for word in found) if it]
 
 
 def laws_of(definitions, path):
@@ -183,8 +183,9 @@ def laws_of(definitions, path):
     for clause in clauses(text):
         word = WORD.search(clause)
         key = definitions.find(*names[word.group()]) if word and word.group() in names else None
-        if key and definitions.file[key].split("/")[0] == path.relative_to(CRATES).parts[0]:
-            yield from fields(definitions, key) or [key[1]]
+        for law in (fields(definitions, key) or [key]) if key else []:
+            if definitions.file[law].split("/")[0] == path.relative_to(CRATES).parts[0]:
+                yield law[1]
 
 
 def laws(definitions, words):
