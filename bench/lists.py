@@ -264,9 +264,11 @@ def trust(definitions):
 def names():
     """Names in code font that no source has."""
     there = set()
-    for path in [*CRATES.rglob("*.rt"), *CRATES.rglob("*.antt"), *CRATES.rglob("*.edit"), *(ROOT / "bench").iterdir()]:
-        if path.is_file() and "out" not in path.parts:
-            there.update(re.findall(r"\w+", path.stem + " " + path.read_text(errors="replace")))
+    folders = [CRATES / crate / part for crate in NAMES for part in ("src", "specs", "proofs", "must-fail")]
+    files = [path for folder in folders for path in folder.rglob("*.*")] + [path for path in (ROOT / "bench").glob("*.*")]
+    for path in files + list(CRATES.glob("*/*.h")):
+        there.update(re.findall(r"\w+", path.stem + " " + path.read_text(errors="replace")))
+    there.update(NAMES)
     for name in NAMED:
         path = ROOT / "docs" / name
         if not path.exists():
