@@ -52,7 +52,6 @@ class Definitions:
 
     def __init__(self):
         self.body = {}
-        self.says = {}
         self.file = {}
         self.uses = {}
         self.alias = {}
@@ -69,22 +68,17 @@ class Definitions:
         for whole in re.findall(r"^pub use (Rattle\.[\w.]+)$", text, re.M):
             home = module[: -len(".Lib")] if parts == ("Lib",) else module
             self.alias[home + "." + whole.rsplit(".", 1)[1]] = whole
-        now, fields, comment = None, False, []
+        now, in_record = None, False
         for line in text.splitlines():
-            found = MARKED.match(line) or (None if fields else PLAIN.match(line))
+            found = MARKED.match(line) or (None if in_record else PLAIN.match(line))
             if found:
-                now, fields = (module, found.group(1)), "pub record " in line
+                now, in_record = (module, found.group(1)), "pub record " in line
                 self.body[now] = [line]
-                self.says[now] = " ".join(comment)
                 self.file[now] = path.relative_to(CRATES).as_posix()
-            elif line.strip().startswith("--"):
-                comment.append(line.strip()[2:].strip())
-                continue
             elif re.match(r"\s*module ", line):
-                fields = False
-            elif now and not line.startswith("use "):
+                in_record = False
+            elif now and not line.startswith("use ") and not line.strip().startswith("--"):
                 self.body[now].append(line)
-            comment = []
 
     def find(self, module, name):
         """The definition that a name is in a module, or None."""
