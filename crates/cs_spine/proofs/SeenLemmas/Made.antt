@@ -13,7 +13,7 @@ use denote.Struct.Owning.{shape}
 use Rattle.once_cell.specs.Once.{mark}
 use Rattle.once_cell.proofs.Moves.{second}
 use Rattle.cs_spine.specs.seen.Holds.{held}
-use Rattle.cs_spine.specs.seen.contracts.Seen as Seen
+use Rattle.cs_spine.specs.contracts.seen.Seen as Seen
 
 abbrev pub token_val : Val
 token_val = vstruct (vcons (vstruct vnil) vnil)

@@ -3,7 +3,7 @@ use denote.RattleType.{RattleType}
 use denote.Param.Send.{IsSend, IsSync, sendable}
 use denote.Struct.Owning
 use denote.Struct.Struct
-use Rattle.cs_spine.specs.seen.contracts.Seen as Seen
+use Rattle.cs_spine.specs.contracts.seen.Seen as Seen
 
 pub seen_send : (R : RattleType) → IsSend (Seen.the_row R)
 seen_send R = record { owned = λ d vs. ((λ vss. (tt, ((λ uss. (tt, tt)), tt))), tt); leaving = λ k f vs. tt }

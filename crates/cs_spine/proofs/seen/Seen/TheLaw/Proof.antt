@@ -15,7 +15,7 @@ use denote.Struct.Lending.{Lends, of_Lends}
 use Rattle.once_cell.specs.Once.{mark}
 use Rattle.cs_spine.specs.seen.Holds.{held}
 use Rattle.std.specs.contracts.marker.PhantomData as P
-use Rattle.cs_spine.specs.seen.contracts.Seen as C
+use Rattle.cs_spine.specs.contracts.seen.Seen as C
 use Rattle.cs_spine.proofs.seen.Seen.TheLaw.Statement.{statement}
 
 lends_twice : {M : Type 1} {𝓤 : Ura M} (𝓛 : Logic 𝓤) (P : Fml) → ent 𝓤 (sem 𝓛 P) (sep 𝓤 (sem 𝓛 P) (sem 𝓛 P)) → (l : Lft) → Lends 𝓛 P (said P) l

@@ -20,10 +20,10 @@ use denote.Builtin.{RefOf}
 use denote.Ref.{shr_vals, shr_Tells}
 use denote.Triple.Walked.{Stays, stay_dropped, walk_of, Goes-dropped}
 use Rattle.std.proofs.raw_atomic.Walks.{proved, leaves}
-use Rattle.cs_spine.specs.seen.contracts.Seen as Seen
+use Rattle.cs_spine.specs.contracts.seen.Seen as Seen
 use Rattle.cs_spine.proofs.SeenLemmas.Made.{token_val, seen_made}
-use Rattle.cs_spine.specs.seen.contracts.Seen.again.{ended, clauses}
-use Rattle.cs_spine.specs.seen.contracts.Seen.again.Key.{name as #self}
+use Rattle.cs_spine.specs.contracts.seen.Seen.again.{ended, clauses}
+use Rattle.cs_spine.specs.contracts.seen.Seen.again.Key.{name as #self}
 use Rattle.cs_spine.proofs.seen.Seen.again.Statement.{statement}
 use Rattle.cs_spine.proofs.seen.Seen.again.Code as code
 

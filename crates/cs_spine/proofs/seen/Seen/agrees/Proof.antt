@@ -20,10 +20,10 @@ use denote.Ref.{shr_vals, shr_Tells}
 use denote.Triple.Walked.{Stays, stay_dropped, walk_of, Goes-dropped}
 use Rattle.std.proofs.raw_atomic.Walks.{proved, leaves}
 use Rattle.cs_spine.specs.seen.Holds.{held}
-use Rattle.cs_spine.specs.seen.contracts.Seen as Seen
+use Rattle.cs_spine.specs.contracts.seen.Seen as Seen
 use Rattle.cs_spine.proofs.SeenLemmas.Made.{one_held}
-use Rattle.cs_spine.specs.seen.contracts.Seen.agrees.{ended, clauses}
-use Rattle.cs_spine.specs.seen.contracts.Seen.agrees.Key.{name as #self}
+use Rattle.cs_spine.specs.contracts.seen.Seen.agrees.{ended, clauses}
+use Rattle.cs_spine.specs.contracts.seen.Seen.agrees.Key.{name as #self}
 use Rattle.cs_spine.proofs.seen.Seen.agrees.Statement.{statement}
 use Rattle.cs_spine.proofs.seen.Seen.agrees.Code as code
 

@@ -25,10 +25,10 @@ use Rattle.std.proofs.raw_atomic.Walks.{proved_at, leaves}
 use Rattle.once_cell.proofs.Notes as notes
 use Rattle.once_cell.proofs.Notes.{Note}
 use Rattle.std.specs.Prelude.{Option, Some, None, IsSome}
-use Rattle.cs_spine.specs.seen.contracts.Seen as Seen
+use Rattle.cs_spine.specs.contracts.seen.Seen as Seen
 use Rattle.cs_spine.proofs.SeenLemmas.Made.{token_val, seen_made}
-use Rattle.cs_spine.specs.seen.contracts.Seen.of.{ended, clauses}
-use Rattle.cs_spine.specs.seen.contracts.Seen.of.Key.{name as #self}
+use Rattle.cs_spine.specs.contracts.seen.Seen.of.{ended, clauses}
+use Rattle.cs_spine.specs.contracts.seen.Seen.of.Key.{name as #self}
 use Rattle.cs_spine.proofs.seen.Seen.of.Statement.{statement}
 use Rattle.cs_spine.proofs.seen.Seen.of.Code as code
 

@@ -26,9 +26,9 @@ use Rattle.std.proofs.raw_atomic.Walks.{proved_at, leaves}
 use Rattle.once_cell.proofs.Notes as notes
 use Rattle.once_cell.proofs.Notes.{Note}
 use Rattle.std.specs.Prelude.{Some}
-use Rattle.cs_spine.specs.seen.contracts.Seen as Seen
-use Rattle.cs_spine.specs.seen.contracts.Seen.teach.{ended, clauses}
-use Rattle.cs_spine.specs.seen.contracts.Seen.teach.Key.{name as #self}
+use Rattle.cs_spine.specs.contracts.seen.Seen as Seen
+use Rattle.cs_spine.specs.contracts.seen.Seen.teach.{ended, clauses}
+use Rattle.cs_spine.specs.contracts.seen.Seen.teach.Key.{name as #self}
 use Rattle.cs_spine.proofs.seen.Seen.teach.Statement.{statement}
 use Rattle.cs_spine.proofs.seen.Seen.teach.Code as code
 
