@@ -1,5 +1,5 @@
 #!/bin/sh
-# Asks the tools of the built program `sync` what they make of lines, and compares each run's status, output and errors with what they
+# Asks the tools of the built program `sync` what they make of lines and of files, and compares each run's status, output and errors with what they
 # have to be: what changesets are together by SQLite's rules for a changegroup, what is left of a local changeset over a rebase blob,
 # SQLite's form of both, a changeset and a blob as text, and each refusal by its name and offset. One case is one run.
 # Usage: bench/check_tools.sh PROGRAM
@@ -435,6 +435,123 @@ ${h1}|table t1 10|1200${k1}${v2}|change omit 1 t=v2|0901${k1}${v1}|delete replac
 ${h1}|table t1 10|${h1}|table t1 10|${h2}|table t2 1000
 5401027400|table t 1|120105|change replace null
 END
+
+# ---- files: changesets and blobs as their bytes; the input is left unread
+
+# put FILE BYTES: the file holds these bytes, given in hex.
+put() {
+    printf %b "$(printf %s "$2" | awk '{
+        digits = "0123456789abcdef"
+        for (at = 1; at < length($0); at += 2) {
+            printf "\\0%03o", 16 * (index(digits, substr($0, at, 1)) - 1) + index(digits, substr($0, at + 1, 1)) - 1
+        }
+    }')" > "$dir/$1"
+}
+
+# each_file WORD..: of each line `BYTES|OUTPUT` the program on these words and a file that holds the bytes writes the output.
+each_file() {
+    while IFS='|' read -r bytes output; do
+        put one "$bytes"
+        expect 0 'zz\n' "$output" '' "$@" --file "$dir/one"
+    done
+}
+
+# each_refused_file WORD..: of each line `BYTES|NAME` it writes nothing, and tells the name.
+each_refused_file() {
+    while IFS='|' read -r bytes name; do
+        put one "$bytes"
+        expect 1 'zz\n' '' "sync: $name\n" "$@" --file "$dir/one"
+    done
+}
+
+each_file show changeset << END
+|
+${h1}|table t1 10\n
+${h1}1701${k1}${v1}${k1}${v2}|table t1 10\nupdate 1 1 t=v1 > 1 t=v2\n
+${h1}0901${k1}05${h2}${h1}0900${k2}0401ff|table t1 10\ndelete 1 1 null\ntable t2 1000\ntable t1 10\ndelete 0 2 x=ff\n
+${h2}1700${k1}03000500000400030000|table t2 1000\nupdate 0 1 t= null - > - x= t= -\n
+54010100120005540109610009010554020100743100|table  1\ninsert 0 null\ntable a 1\ndelete 1 null\ntable t1 10\n
+END
+each_file show blob << END
+|
+${h2}1201${k1}${b_theirs}${c_theirs}00${h1}0900${k1}${v1}|table t2 1000\nchange replace 1 t=b2 t=c2 -\ntable t1 10\ndelete omit 1 t=v1\n
+END
+each_file combine << END
+|\n
+${h1}${two_v2}${one_v1}|${h1}${one_v1}${two_v2}\n
+END
+
+# Bytes that are refused, and where: the first fault, also behind whole changes.
+insert=1200${k1}${v1}
+update=1700${k1}${v1}
+each_refused_file show changeset << END
+50|Patchset at 0
+55|BadMark at 0
+54|Truncated at 1
+5400|Columns at 1
+54ff7f|Columns at 1
+548f50|Truncated at 3
+548f51|Columns at 1
+548001|NotShortest at 1
+54020000|NoKeyColumn at 2
+54020100ff00|NotUtf8 at 4
+${h1}13|BadOperation at 7
+${h1}50|Patchset at 7
+${h1}1202|BadFlag at 8
+${h1}120000|UndefinedHere at 9
+${h1}170000|UndefinedHere at 9
+${h1}1200${k1}06|BadType at 18
+${h1}1200${k1}02|Real at 18
+${h1}1200${k1}038002|NotShortest at 19
+${h1}1200${k1}0301ff|NotUtf8 at 20
+${h1}1200${k1}03ffffffffffffffffff|Truncated at 28
+${h1}1700${k1}0000${v2}|UndefinedHere at 20
+${h1}${update}${k2}${v2}|KeyChanged at 22
+${h1}${update}05${v2}|KeyChanged at 22
+${h1}${update}0004030102|Truncated at 27
+${h1}${insert}5400|Columns at 23
+${h1}${insert}01|BadOperation at 22
+${h1}${insert}${h1}1200${k1}02|Real at 40
+END
+each_refused_file show blob << END
+54|Truncated at 1
+${h1}17|BadOperation at 7
+${h1}1202|BadFlag at 8
+END
+each_refused_file combine << END
+${h1}12000503027631|NullKey
+${h1}${one_v1}${one_v1}|KeyTwice
+${h1}${insert}01|BadOperation at 22
+END
+
+# A changeset that is longer than the buffer through which it is read.
+awk -v header=$h1 -v text=$v1 'BEGIN {
+    printf "%s", header
+    for (key = 0; key < 6000; key++) printf "12000100000000%08x%s", key, text
+}' > "$dir/hex"
+put one "$(cat "$dir/hex")"
+: > "$dir/input"
+awk 'BEGIN { print "table t1 10"; for (key = 0; key < 6000; key++) printf "insert 0 %d t=v1\n", key }' > "$dir/output_wanted"
+: > "$dir/errors_wanted"
+expect_files 0 show changeset --file "$dir/one"
+
+# Several files, as one: in their order, whose first header it is in SQLite's form. The first that is refused is told of.
+put one $insert_v1
+put two $update_v1_v2
+put three 54020200743100120001000000000000000203027631
+put cut 5402
+expect 0 'zz\n' "$insert_v2\n" '' combine --file "$dir/one" --file "$dir/two"
+expect 0 '' "$update_v1_v2\n" '' combine --file "$dir/two" --file "$dir/one"
+expect 0 '' "${h1}${one_v1}${two_v1}\n" '' combine --file "$dir/three" --file "$dir/one"
+expect 0 '' "54020200743100${two_v1}\n" '' combine --sqlite --file "$dir/three"
+expect 1 '' '' 'sync: Truncated at 2\n' combine --file "$dir/one" --file "$dir/cut" --file "$dir/nothing"
+expect 1 '' '' 'sync: Read\n' combine --file "$dir/one" --file "$dir/nothing" --file "$dir/cut"
+
+# No file, and a folder.
+for what in changeset blob; do
+    expect 1 '' '' 'sync: Read\n' show $what --file "$dir/nothing"
+    expect 1 '' '' 'sync: Read\n' show $what --file "$dir"
+done
 
 # ---- SQLite's form: it writes each key column's place in the PRIMARY KEY as its column byte, and so the tools write what came in
 # ("changeset format", table header). Headers of t1 with a key of two columns, in normal form and in the key's two orders; the same

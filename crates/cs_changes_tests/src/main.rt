@@ -1,4 +1,5 @@
-//! Tests of changes, by public calls: as values (`cs_change`), the readers of changesets and blobs (`cs_changeset`, `cs_blob`), normal forms
+//! Tests of changes, by public calls: as values (`cs_change`), the readers of changesets and blobs (`cs_changeset`, `cs_blob`), changesets
+//! in pieces (`cs_feed`), normal forms
 //! (`cs_normal::keyed`, `cs_normal`, `cs_normalising`), their columns beside SQLite's (`cs_column_bytes`), and entries of a log (`cs_store::log`). What is
 //! read of bytes and each of their faults, and what a normal form is, are rows of `bench/check_tools.sh`.
 #![tactic(auto)]
@@ -7,6 +8,8 @@
 mod change;
 #[cfg(test)]
 mod column_bytes;
+#[cfg(test)]
+mod feeding;
 #[cfg(test)]
 mod given;
 #[cfg(test)]

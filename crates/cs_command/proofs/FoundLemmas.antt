@@ -1,15 +1,16 @@
 -- What a subcommand's matches say, from its parts.
 use Rattle.std.proofs.Common.{◌≡◌, ℕ, Bool, List, [], sym, ap, ap₂, ◌∙◌, cond, codes, true, false, refl}
-use Rattle.std.specs.Prelude.{Option, Some, None, option_map, unwrap_or}
+use Rattle.std.specs.Prelude.{MatchOption, Option, Some, None, option_and_then, option_map, unwrap_or}
 use Rattle.std.specs.Bool.{Decides}
 use Rattle.std.specs.Str.Parse.{ParsesBool}
 use Rattle.std.proofs.lemmas.Bool.Decides.{same_from_decides}
 use Rattle.std.proofs.lemmas.Slice.Eq.{bytes_eq-Decides}
 use Rattle.std.specs.Str.{bytes_eq}
 use Rattle.clap.specs.Words.{ReadsOne, Row, Text, all_of, first_of, one_of}
-use Rattle.cs_command.specs.CommandLine.{form_of, id_at, node_of, node_wanted, number_at, tables_in, tool_by, tool_of_what, wanted_by}
-use Rattle.cs_command.specs.Wanted.{Hub, Node, Run, World}
+use Rattle.cs_command.specs.CommandLine.{form_of, id_at, node_of, node_wanted, number_at, over_file, tool_by, tool_of_what, wanted_by, words_in}
+use Rattle.cs_command.specs.Wanted.{Hub, Node, World}
 use Rattle.cs_tools.specs.declared.tool.Form.TheVariants.{Normal, Sqlite}
+use Rattle.cs_tools.specs.declared.tool.Tool.{Tool}
 use Rattle.cs_tools.specs.declared.tool.Tool.TheVariants.{ShowBlob, ShowChangeset}
 
 pub both_parts : {B X Y : Type 0} (o : Option B) (f : B → X) (g : B → Y) (x : X) (y : Y)
@@ -22,16 +23,21 @@ both_parts {B} {X} {Y} (Some b) f g x y name rows =
     let pair : X → Y → X × Y = λ m n. (m, n) in
     ap Some (ap₂ pair (sym a) (sym d))
 
--- the table words, where there are some and where there are none
-pub tables_given : (found : Option (Text × List Row)) (name : Text) (rows : List Row) (tables : List Text)
-    → found ≡ Some (name, rows) → Some tables ≡ all_of (codes "TABLE") rows → tables ≡ tables_in found
-tables_given found name rows tables is all =
-    sym (ap tables_in is ∙ ap (λ (t : Option (List Text)). unwrap_or t []) (sym all))
+-- the words with an id, where there are some and where there are none
+pub words_given : (id : Text) (found : Option (Text × List Row)) (name : Text) (rows : List Row) (words : List Text)
+    → found ≡ Some (name, rows) → Some words ≡ all_of id rows → words ≡ words_in id found
+words_given id found name rows words is all =
+    sym (ap (words_in id) is ∙ ap (λ (t : Option (List Text)). unwrap_or t []) (sym all))
 
-pub no_tables_given : (found : Option (Text × List Row)) (name : Text) (rows : List Row)
-    → found ≡ Some (name, rows) → None ≡ all_of (codes "TABLE") rows → [] ≡ tables_in found
-no_tables_given found name rows is all =
-    sym (ap tables_in is ∙ ap (λ (t : Option (List Text)). unwrap_or t []) (sym all))
+pub no_words_given : (id : Text) (found : Option (Text × List Row)) (name : Text) (rows : List Row)
+    → found ≡ Some (name, rows) → None ≡ all_of id rows → [] ≡ words_in id found
+no_words_given id found name rows is all =
+    sym (ap (words_in id) is ∙ ap (λ (t : Option (List Text)). unwrap_or t []) (sym all))
+
+pub words_or_none : {X : Type 0} (see : X → List Text) (id : Text) (found : Option (Text × List Row)) (name : Text) (rows : List Row) (given : Option X)
+    → found ≡ Some (name, rows) → option_map see given ≡ all_of id rows → MatchOption given ([] ≡ words_in id found) (λ words. see words ≡ words_in id found)
+words_or_none see id found name rows None is all = no_words_given id found name rows is all
+words_or_none see id found name rows (Some words) is all = words_given id found name rows (see words) is all
 
 decided : (b : Bool) (some other : Text) → Decides b (some ≡ other) → b ≡ bytes_eq some other
 decided b some other decides = same_from_decides b (bytes_eq some other) decides (bytes_eq-Decides some other)
@@ -79,7 +85,7 @@ pub hub_asked : (name : Text) (rows : List Row) (file : Option Text) → true �
     → Some (Hub file) ≡ wanted_by name rows
 hub_asked name rows file is found =
     let rest = cond (bytes_eq name (codes "world")) (option_map World (number_at (codes "N") rows))
-    (cond (bytes_eq name (codes "node")) (node_wanted rows) (option_map Run (tool_by name rows))) in
+    (cond (bytes_eq name (codes "node")) (node_wanted rows) (option_and_then (over_file (first_of (codes "FILE") rows)) (tool_by name rows))) in
     ap (λ (f : Option Text). Some (Hub f)) found ∙ ap (λ b. cond b (Some (Hub (first_of (codes "FILE") rows))) rest) is
 
 pub node_has_no_file : (rows : List Row) → None ≡ first_of (codes "FILE") rows → None ≡ node_wanted rows
@@ -89,3 +95,16 @@ pub node_found : (rows : List Row) (file : Text) (id : ℕ) → Some file ≡ fi
     → Some (Node file id) ≡ node_wanted rows
 node_found rows file id named numbered =
     ap (λ (f : Option Text). node_of f (Some id)) named ∙ ap (λ (n : Option ℕ). node_of (first_of (codes "FILE") rows) n) numbered
+
+-- what a tool is asked for over
+pub tool_wanted : (name : Text) (rows : List Row) (tool : Tool) (file : Option Text) → false ≡ bytes_eq name (codes "hub") → false ≡ bytes_eq name (codes "world")
+    → false ≡ bytes_eq name (codes "node") → Some tool ≡ tool_by name rows → file ≡ first_of (codes "FILE") rows → over_file file tool ≡ wanted_by name rows
+tool_wanted name rows tool file no_hub no_world no_node is found =
+    let run = option_and_then (over_file (first_of (codes "FILE") rows)) (tool_by name rows) in
+    let node = cond (bytes_eq name (codes "node")) (node_wanted rows) run in
+    let world = cond (bytes_eq name (codes "world")) (option_map World (number_at (codes "N") rows)) node in
+    ap (λ (f : Option Text). over_file f tool) found
+    ∙ ap (λ (t : Option Tool). option_and_then (over_file (first_of (codes "FILE") rows)) t) is
+    ∙ ap (λ b. cond b (node_wanted rows) run) no_node
+    ∙ ap (λ b. cond b (option_map World (number_at (codes "N") rows)) node) no_world
+    ∙ ap (λ b. cond b (Some (Hub (first_of (codes "FILE") rows))) world) no_hub

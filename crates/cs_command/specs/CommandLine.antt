@@ -7,12 +7,13 @@ use Rattle.clap.specs.Kinds.{Kinds}
 use Rattle.clap.specs.Words.{App, Row, Rule, Text, all_of, first_of, new_app, new_rule, one_of, subcommand_of, with_rule, with_subcommand}
 use Rattle.clap.specs.declared.builder.action.ArgAction.TheVariants.{Append, SetTrue}
 use Rattle.clap.specs.declared.builder.value_parser.ValueParser.TheVariants.{Unsigned}
+use Rattle.cs_tools.specs.declared.show.Shown.TheVariants.{Blob, Changeset}
 use Rattle.cs_tools.specs.declared.tool.Form.{Form}
 use Rattle.cs_tools.specs.declared.tool.Form.TheVariants.{Normal, Sqlite}
 use Rattle.cs_tools.specs.declared.tool.Tool.{Tool}
 use Rattle.cs_tools.specs.declared.tool.Tool.TheVariants.{Combine, Rebase, ShowBlob, ShowChangeset}
 use Rattle.cs_text.specs.parse.Numbers.{small_in}
-use Rattle.cs_command.specs.Wanted.{Wanted, Hub, World, Node, Run}
+use Rattle.cs_command.specs.Wanted.{Wanted, Hub, World, Node, Run, ShowFile, CombineFiles}
 
 -- ---- what the parser takes
 
@@ -50,7 +51,7 @@ abbrev pub what_rule : Rule
 what_rule = record (new_rule (codes "WHAT")) { required = true }
 
 abbrev pub show_app : App
-show_app = with_rule (new_app (codes "show")) what_rule
+show_app = with_rule (with_rule (new_app (codes "show")) what_rule) file_option
 
 -- `--sqlite`, a flag
 abbrev pub sqlite_rule : Rule
@@ -59,8 +60,15 @@ sqlite_rule = record (new_rule (codes "sqlite")) {
   action = Some SetTrue;
 }
 
+-- `--file FILE`, so often as there are files
+abbrev pub files_option : Rule
+files_option = record (new_rule (codes "FILE")) {
+  long = Some (codes "file");
+  action = Some Append;
+}
+
 abbrev pub combine_app : App
-combine_app = with_rule (new_app (codes "combine")) sqlite_rule
+combine_app = with_rule (with_rule (new_app (codes "combine")) sqlite_rule) files_option
 
 abbrev pub rebase_app : App
 rebase_app = with_rule (new_app (codes "rebase")) sqlite_rule
@@ -80,14 +88,26 @@ faults_of words = fault_of sync_app words
 
 -- ---- what is asked for
 
--- the table words of a subcommand
+-- the words of a subcommand with this id
+abbrev pub words_in : Text → Option (Text × List Row) → List Text
+words_in id None = []
+words_in id (Some found) = unwrap_or (all_of id found.1) []
+
+-- its table words
 abbrev pub tables_in : Option (Text × List Row) → List Text
-tables_in None = []
-tables_in (Some found) = unwrap_or (all_of (codes "TABLE") found.1) []
+tables_in found = words_in (codes "TABLE") found
+
+-- its files
+abbrev pub files_in : Option (Text × List Row) → List Text
+files_in found = words_in (codes "FILE") found
 
 -- the table words of a whole command line
 abbrev pub table_words_of : List Text → List Text
 table_words_of words = tables_in (subcommand_of sync_app words)
+
+-- the files that it names
+abbrev pub file_words_of : List Text → List Text
+file_words_of words = files_in (subcommand_of sync_app words)
 
 -- a number of 32 bits in decimal digits, behind a plus or not, as the parser's readers of numbers take it
 abbrev pub number_in : Text → Option ℕ
@@ -136,13 +156,21 @@ tool_by name rows =
     else if bytes_eq name (codes "show") then shown_tool rows
     else None
 
+-- a tool, over the lines of the input, or over files where one is named
+abbrev pub over_file : Option Text → Tool → Option Wanted
+over_file None tool = Some (Run tool)
+over_file (Some file) (Combine form) = Some (CombineFiles form)
+over_file (Some file) (Rebase form) = None
+over_file (Some file) ShowChangeset = Some (ShowFile Changeset file)
+over_file (Some file) ShowBlob = Some (ShowFile Blob file)
+
 -- what a subcommand and its words ask for
 abbrev pub wanted_by : Text → List Row → Option Wanted
 wanted_by name rows =
     if bytes_eq name (codes "hub") then Some (Hub (first_of (codes "FILE") rows))
     else if bytes_eq name (codes "world") then option_map World (number_at (codes "N") rows)
     else if bytes_eq name (codes "node") then node_wanted rows
-    else option_map Run (tool_by name rows)
+    else option_and_then (over_file (first_of (codes "FILE") rows)) (tool_by name rows)
 
 abbrev pub wanted_in : Option (Text × List Row) → Option Wanted
 wanted_in None = None

@@ -3,12 +3,13 @@
 use Rattle.std.specs.Prelude.{◌≡◌, ℕ, List, [], ◌∷◌, Some, None, codes}
 use Rattle.clap.specs.Words.{Text}
 use Rattle.clap.specs.declared.error.kind.ErrorKind.TheVariants as kind
+use Rattle.cs_tools.specs.declared.show.Shown.TheVariants.{Blob, Changeset}
 use Rattle.cs_tools.specs.declared.tool.Form.TheVariants.{Normal, Sqlite}
 use Rattle.cs_tools.specs.declared.tool.Tool.TheVariants.{Combine, Rebase, ShowBlob, ShowChangeset}
 use Rattle.cs_value.specs.declared.catalog.TableDef.{TableDef}
 use Rattle.cs_command.specs.CatalogWords.{IsCatalogOf, IsRefusedAt}
-use Rattle.cs_command.specs.CommandLine.{faults_of, table_words_of, wanted_of}
-use Rattle.cs_command.specs.Wanted.{Hub, Node, Run, World}
+use Rattle.cs_command.specs.CommandLine.{faults_of, file_words_of, table_words_of, wanted_of}
+use Rattle.cs_command.specs.Wanted.{CombineFiles, Hub, Node, Run, ShowFile, World}
 
 -- table words are one catalog
 abbrev pub OneCatalog : Type 0
@@ -44,6 +45,9 @@ combine_words = codes "sync" ∷ codes "combine" ∷ []
 abbrev pub combine_sqlite_words : List Text
 combine_sqlite_words = codes "sync" ∷ codes "combine" ∷ codes "--sqlite" ∷ []
 
+abbrev pub combine_file_words : List Text
+combine_file_words = codes "sync" ∷ codes "combine" ∷ codes "--file" ∷ codes "f" ∷ codes "--file" ∷ codes "g" ∷ []
+
 abbrev pub rebase_words : List Text
 rebase_words = codes "sync" ∷ codes "rebase" ∷ []
 
@@ -55,6 +59,12 @@ show_words = codes "sync" ∷ codes "show" ∷ codes "changeset" ∷ []
 
 abbrev pub blob_words : List Text
 blob_words = codes "sync" ∷ codes "show" ∷ codes "blob" ∷ []
+
+abbrev pub show_file_words : List Text
+show_file_words = codes "sync" ∷ codes "show" ∷ codes "changeset" ∷ codes "--file" ∷ codes "f" ∷ []
+
+abbrev pub blob_file_words : List Text
+blob_file_words = codes "sync" ∷ codes "show" ∷ codes "blob" ∷ codes "--file" ∷ codes "f" ∷ []
 
 abbrev pub nothing_words : List Text
 nothing_words = codes "sync" ∷ codes "show" ∷ codes "nothing" ∷ []
@@ -87,6 +97,11 @@ abbrev pub AsksToCombineForSqlite : Type 0
 AsksToCombineForSqlite =
     (faults_of combine_sqlite_words ≡ []) × (wanted_of combine_sqlite_words ≡ Some (Run (Combine Sqlite)))
 
+abbrev pub AsksToCombineFiles : Type 0
+AsksToCombineFiles =
+    (faults_of combine_file_words ≡ []) × (wanted_of combine_file_words ≡ Some (CombineFiles Normal))
+    × (file_words_of combine_file_words ≡ codes "f" ∷ codes "g" ∷ [])
+
 abbrev pub AsksToRebase : Type 0
 AsksToRebase = (faults_of rebase_words ≡ []) × (wanted_of rebase_words ≡ Some (Run (Rebase Normal)))
 
@@ -99,6 +114,14 @@ AsksToShow = (faults_of show_words ≡ []) × (wanted_of show_words ≡ Some (Ru
 
 abbrev pub AsksToShowBlob : Type 0
 AsksToShowBlob = (faults_of blob_words ≡ []) × (wanted_of blob_words ≡ Some (Run ShowBlob))
+
+abbrev pub AsksToShowAFile : Type 0
+AsksToShowAFile =
+    (faults_of show_file_words ≡ []) × (wanted_of show_file_words ≡ Some (ShowFile Changeset (codes "f")))
+
+abbrev pub AsksToShowABlobFile : Type 0
+AsksToShowABlobFile =
+    (faults_of blob_file_words ≡ []) × (wanted_of blob_file_words ≡ Some (ShowFile Blob (codes "f")))
 
 abbrev pub AsksForNothing : Type 0
 AsksForNothing =

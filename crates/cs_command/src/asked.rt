@@ -1,15 +1,15 @@
 //! What a command line asks for.
 
-ghost use Rattle.std.specs.Prelude.{◌≡◌, ◌<◌, ◌-◌, ◌^◌, IfSome, option_map};
+ghost use Rattle.std.specs.Prelude.{◌≡◌, [], ◌<◌, ◌-◌, ◌^◌, IfSome, MatchOption, map, option_map};
 ghost use Rattle.clap.specs.Words.{found_of, rows_of, subcommand_rows_of};
-ghost use Rattle.cs_command.specs.CommandLine.{form_of, id_among, id_at, node_wanted, number_at, shown_tool, tool_by, wanted_by, wanted_in};
+ghost use Rattle.cs_command.specs.CommandLine.{form_of, files_in, id_among, id_at, node_wanted, number_at, over_file, shown_tool, tool_by, wanted_by, wanted_in};
 ghost use Rattle.cs_command.specs.Wanted.{HasId, wanted};
 
 use crate::number::number_in;
 use clap::ArgMatches;
-use cs_tools::{Form, Tool};
+use cs_tools::{Form, Shown, Tool};
 
-/// What a command line asks for, beside its table words. (Profile of this project.)
+/// What a command line asks for, beside its table words and lists of files. (Profile of this project.)
 #[derive(Clone, Copy, Debug)]
 pub enum Asked<'a> {
     /// A hub.
@@ -29,8 +29,17 @@ pub enum Asked<'a> {
         /// The replica's id.
         id: u32,
     },
-    /// A tool.
+    /// A tool over the input.
     Tool(Tool),
+    /// A file is shown.
+    ShowFile {
+        /// What it is shown as.
+        shown: Shown,
+        /// The file.
+        file: &'a str,
+    },
+    /// The changesets of files are taken together as one, in this form.
+    CombineFiles(Form),
 }
 
 /// The number that the word with this id spells.
@@ -115,6 +124,28 @@ fn tool_asked(name: &str, found: &ArgMatches<'_>) -> Option<Tool>
     }
 }
 
+/// A tool, over the input, or over files where one is named.
+fn over_file<'a>(tool: Tool, file: Option<&'a str>) -> Option<Asked<'a>>
+    ensures id { IfSome result HasId }
+    ensures asked { option_map wanted result ≡ over_file (option_map (λ word. word.now) file.entry) tool }
+{
+    let Some(file) = file else {
+        return Some(Asked::Tool(tool));
+    };
+    match tool {
+        Tool::Combine(form) => Some(Asked::CombineFiles(form)),
+        Tool::Rebase(_) => None,
+        Tool::ShowChangeset => Some(Asked::ShowFile {
+            shown: Shown::Changeset,
+            file,
+        }),
+        Tool::ShowBlob => Some(Asked::ShowFile {
+            shown: Shown::Blob,
+            file,
+        }),
+    }
+}
+
 /// What a subcommand and its words ask for.
 fn asked_by<'a>(name: &str, found: &ArgMatches<'a>) -> Option<Asked<'a>>
     ensures id { IfSome result HasId }
@@ -130,7 +161,7 @@ fn asked_by<'a>(name: &str, found: &ArgMatches<'a>) -> Option<Asked<'a>>
         node_asked(found)
     } else {
         let tool = tool_asked(name, found)?;
-        Some(Asked::Tool(tool))
+        over_file(tool, found.get_str("FILE"))
     }
 }
 
@@ -143,6 +174,17 @@ pub fn asked_of<'a>(matches: &ArgMatches<'a>) -> Option<Asked<'a>>
 {
     match matches.subcommand() {
         Some((name, found)) => asked_by(name, found),
+        None => None,
+    }
+}
+
+/// The files that a command line names that the parser took, in their order; none where it names none.
+pub fn files_of<'m, 'a>(matches: &'m ArgMatches<'a>) -> Option<&'m [&'a str]>
+    ensures { MatchOption result ([] ≡ files_in (subcommand_rows_of matches.now))
+        (λ files. map (λ word. word.now) files.now ≡ files_in (subcommand_rows_of matches.now)) }
+{
+    match matches.subcommand() {
+        Some((_, found)) => found.get_strs("FILE"),
         None => None,
     }
 }

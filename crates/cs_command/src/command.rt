@@ -93,11 +93,17 @@ fn show_command<'a>(alloc: Global) -> Result<Command<'a>, AllocError>
 {
     let what = Arg::new(alloc, "WHAT")
         .required(true)
-        .help("What the line is: changeset or blob");
+        .help("What it is: changeset or blob");
+    let file = Arg::new(alloc, "FILE")
+        .long("file")
+        .help("The file that holds it, as its bytes");
     Command::new(alloc, "show")
-        .about("Show the changeset or rebase blob that the first line spells in hex")
-        .override_usage("sync show <WHAT>")
-        .arg(what)
+        .about(
+            "Show the changeset or rebase blob that the first line spells in hex, or that a file holds",
+        )
+        .override_usage("sync show [--file FILE] <WHAT>")
+        .arg(what)?
+        .arg(file)
 }
 
 fn sqlite_flag<'a>(alloc: Global) -> Arg<'a>
@@ -114,10 +120,17 @@ fn combine_command<'a>(alloc: Global) -> Result<Command<'a>, AllocError>
     ensures { IfOk result (λ command. app_of command ≡ combine_app) }
 {
     let sqlite = sqlite_flag(alloc);
+    let files = Arg::new(alloc, "FILE")
+        .long("file")
+        .action(ArgAction::Append)
+        .help("A file that holds a changeset, as its bytes");
     Command::new(alloc, "combine")
-        .about("Take the changesets that the lines spell in hex together as one")
-        .override_usage("sync combine [--sqlite]")
-        .arg(sqlite)
+        .about(
+            "Take the changesets that the lines spell in hex, or that files hold, together as one",
+        )
+        .override_usage("sync combine [--sqlite] [--file FILE]...")
+        .arg(sqlite)?
+        .arg(files)
 }
 
 fn rebase_command<'a>(alloc: Global) -> Result<Command<'a>, AllocError>

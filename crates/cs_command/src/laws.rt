@@ -1,7 +1,7 @@
 //! The laws of the program, and what some command lines ask for, by computation: each is the contract of a function
 //! that does nothing.
 
-ghost use Rattle.cs_command.specs.Laws.{AsksForAFile, AsksForAHub, AsksForANode, AsksForAWorld, AsksForHelp, AsksForNothing, AsksToCombine, AsksToCombineForSqlite, AsksToRebase, AsksToRebaseForSqlite, AsksToShow, AsksToShowBlob, IsNotTaken, NoCatalogRefused, OneCatalog, OneRefusedWord};
+ghost use Rattle.cs_command.specs.Laws.{AsksForAFile, AsksForAHub, AsksForANode, AsksForAWorld, AsksForHelp, AsksForNothing, AsksToCombine, AsksToCombineFiles, AsksToCombineForSqlite, AsksToRebase, AsksToRebaseForSqlite, AsksToShow, AsksToShowABlobFile, AsksToShowAFile, AsksToShowBlob, IsNotTaken, NoCatalogRefused, OneCatalog, OneRefusedWord};
 
 /// Table words are one catalog.
 pub fn one_catalog()
@@ -48,6 +48,11 @@ pub fn asks_to_combine_for_sqlite()
     ensures { AsksToCombineForSqlite }
 {}
 
+/// `sync combine --file f --file g` is taken and asks to combine the files `f` and `g`.
+pub fn asks_to_combine_files()
+    ensures { AsksToCombineFiles }
+{}
+
 /// `sync rebase` is taken and asks to rebase.
 pub fn asks_to_rebase()
     ensures { AsksToRebase }
@@ -66,6 +71,16 @@ pub fn asks_to_show()
 /// `sync show blob` is taken and asks to show a rebase blob.
 pub fn asks_to_show_blob()
     ensures { AsksToShowBlob }
+{}
+
+/// `sync show changeset --file f` is taken and asks to show the file `f` as a changeset.
+pub fn asks_to_show_a_file()
+    ensures { AsksToShowAFile }
+{}
+
+/// `sync show blob --file f` is taken and asks to show the file `f` as a rebase blob.
+pub fn asks_to_show_a_blob_file()
+    ensures { AsksToShowABlobFile }
 {}
 
 /// `sync show nothing` is taken and asks for nothing.

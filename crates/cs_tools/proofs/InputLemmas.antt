@@ -35,13 +35,13 @@ use Rattle.cs_tools.specs.declared.tool.Form.{Form}
 use Rattle.cs_tools.specs.declared.fault.ToolFault.{ToolFault}
 use Rattle.cs_tools.specs.declared.fault.ToolFault.TheVariants.{Memory, Read}
 
-zip_push : {A B : Type 0} (R : A → B → Type 0) (xs : List A) (ys : List B) (x : A) (y : B) → AllZip R xs ys → R x y → AllZip R (xs ++ x ∷ []) (ys ++ y ∷ [])
+pub zip_push : {A B : Type 0} (R : A → B → Type 0) (xs : List A) (ys : List B) (x : A) (y : B) → AllZip R xs ys → R x y → AllZip R (xs ++ x ∷ []) (ys ++ y ∷ [])
 zip_push R [] [] x y all now = (now, tt)
 zip_push R [] (b ∷ ys) x y all now = absurd all
 zip_push R (a ∷ xs) [] x y all now = absurd all
 zip_push R (a ∷ xs) (b ∷ ys) x y all now = (all.0, zip_push R xs ys x y all.1 now)
 
-fit_push : (changesets : List (List Group)) (groups : List Group) → AllByRecursion FitsChangeset changesets → FitsChangeset groups → AllByRecursion FitsChangeset (changesets ++ groups ∷ [])
+pub fit_push : (changesets : List (List Group)) (groups : List Group) → AllByRecursion FitsChangeset changesets → FitsChangeset groups → AllByRecursion FitsChangeset (changesets ++ groups ∷ [])
 fit_push [] groups all now = (now, tt)
 fit_push (first ∷ changesets) groups all now = (all.0, fit_push changesets groups all.1 now)
 

@@ -1,5 +1,6 @@
 pub mod EndingLemmas
 pub mod FaultLaws
+pub mod FileLemmas
 pub mod FormLemmas
 pub mod FoundLaws
 pub mod InputLemmas

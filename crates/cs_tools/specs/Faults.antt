@@ -6,6 +6,8 @@ use Rattle.cs_changeset.specs.declared.fault.Fault.{Fault}
 use Rattle.cs_changeset.specs.declared.fault.CodecFault.{CodecFault}
 use Rattle.cs_changeset.specs.declared.fault.CodecFault.TheVariants.{At}
 use Rattle.cs_changeset.specs.declared.fault.CodecFault.TheVariants as codec
+use Rattle.cs_feed.specs.declared.stream.StreamFault.{StreamFault}
+use Rattle.cs_feed.specs.declared.stream.StreamFault.TheVariants as stream
 use Rattle.cs_group.specs.declared.combining.CombineFault.{CombineFault}
 use Rattle.cs_group.specs.declared.combining.CombineFault.TheVariants as combining
 use Rattle.cs_rebaser.specs.declared.faults.ConfigureFault.{ConfigureFault}
@@ -20,6 +22,11 @@ use Rattle.cs_tools.specs.declared.fault.ToolFault.TheVariants.{Memory, Read, Ba
 abbrev pub of_codec : CodecFault → ToolFault
 of_codec codec.Memory = Memory
 of_codec (At fault offset) = Codec (At fault offset)
+
+abbrev pub of_stream : StreamFault → ToolFault
+of_stream stream.Memory = Memory
+of_stream stream.Read = Read
+of_stream (stream.At fault offset) = Codec (At fault offset)
 
 abbrev pub of_combine : CombineFault → ToolFault
 of_combine combining.Memory = Memory

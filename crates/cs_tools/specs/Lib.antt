@@ -1,4 +1,5 @@
 pub mod Faults
+pub mod Files
 pub mod LinesRead
 pub mod SpelledLine
 pub mod WrittenForm

@@ -1,21 +1,28 @@
-//! `combine`: changesets in hex, one a line, taken together as one.
+//! `combine`: changesets in hex, one a line, or in files, taken together as one.
 
-ghost use Rattle.std.specs.Prelude.{◌≡◌, ◌⊎◌, List, ℕ, IfErr, IfOk, OnOk, flat_map};
+ghost use Rattle.std.specs.Prelude.{◌≡◌, ◌⊎◌, List, ℕ, IfErr, IfOk, OnOk, flat_map, map};
+ghost use Rattle.std.specs.List.{AllByRecursion, AllZip};
+ghost use Rattle.cs_change.specs.Spelling.{FitsChangeset, changeset_spelling};
+ghost use Rattle.cs_lines.specs.Lines.{hex_line};
 ghost use Rattle.cs_lines.specs.Served.{AreAllLines};
 ghost use Rattle.cs_column_bytes.specs.KeyPlaces.{heads_of};
 ghost use Rattle.cs_column_bytes.specs.Steps.{heads_behind};
 ghost use Rattle.cs_tools.specs.CombinedLines.{CombinesAll, RefusesToCombine, SpellsCombined};
 ghost use Rattle.cs_tools.specs.Endings.{Ends};
+ghost use Rattle.cs_tools.specs.Files.{CombinesFiles, RefusesFiles};
+ghost use Rattle.cs_tools.specs.SpelledLine.{Spells};
 ghost use Rattle.cs_tools.specs.WrittenForm.{IsNotWritten, SpellsIn};
 ghost use Rattle.cs_tools.specs.declared.fault.ToolFault.TheVariants.{Memory as NoMemory};
 
 use crate::fault::ToolFault;
+use crate::files::{InputFiles, changesets_at};
 use crate::input::{all_bytes, read_all};
 use crate::output::end_with_line;
 use crate::tool::Form;
 use crate::written::{spelled_for_sqlite, spelled_normal};
 use cs_changeset::Changeset;
 use cs_column_bytes::{Header, put_headers};
+use cs_feed::ChangesetBuf;
 use cs_group::combine;
 use cs_lines::{LineInput, LineOutput};
 use cs_normal::Normal;
@@ -88,5 +95,55 @@ pub fn combine_lines<R: LineInput, W: LineOutput>(
     ensures sent { OnOk result (W.sent writer.new) }
 {
     let bytes = combined_bytes(alloc, form, reader);
+    end_with_line(bytes, writer)
+}
+
+/// The changesets that own their bytes, lent.
+fn lend_all<'a>(alloc: Global, owned: &'a [ChangesetBuf]) -> Result<Vec<Changeset<'a>>, Memory>
+    ensures fit { IfOk result (λ changesets. AllByRecursion FitsChangeset changesets.items) }
+    ensures spelled { IfOk result (λ changesets. AllZip (Spells FitsChangeset changeset_spelling) owned.now changesets.items) }
+{
+    let mut changesets = Vec::with_capacity(alloc, owned.len())?;
+    for one in owned {
+        changesets.push(one.lend(alloc)?)?;
+    }
+    Ok(changesets)
+}
+
+/// The spelling of the changesets in the files at these paths, as one, in this form.
+fn combined_at<F: InputFiles>(
+    alloc: Global,
+    form: Form,
+    files: &mut F,
+    paths: &[&str],
+) -> Result<Vec<u8>, ToolFault>
+    ensures ok { IfOk result (λ bytes. CombinesFiles F.Input.remaining F.Input.failed (F.opened files.new) (F.unopened files.new)
+        form (map (λ path. path.now) paths.now) (hex_line bytes.items)) }
+    ensures err { IfErr result (RefusesFiles F.Input.remaining F.Input.failed (F.opened files.new) (F.unopened files.new)
+        form (map (λ path. path.now) paths.now)) }
+{
+    let owned = changesets_at(alloc, files, paths)?;
+    let changesets = lend_all(alloc, owned.as_slice())?;
+    let both = combine(alloc, &changesets)?;
+    spelled_in(alloc, form, &both, changesets.as_slice())
+}
+
+/// Takes the changesets in the files at these paths, as their bytes, together as one, and writes it in this form as a line of lower case
+/// hex. Nothing is written before all files were judged, in their order. (Profile of this project over SQLite's changegroup.)
+pub fn combine_files<F: InputFiles, W: LineOutput>(
+    alloc: Global,
+    form: Form,
+    files: &mut F,
+    paths: &[&str],
+    writer: &mut W,
+) -> Result<(), ToolFault>
+    ensures ends { Ends (CombinesFiles F.Input.remaining F.Input.failed (F.opened files.new) (F.unopened files.new)
+        form (map (λ path. path.now) paths.now))
+        (RefusesFiles F.Input.remaining F.Input.failed (F.opened files.new) (F.unopened files.new)
+        form (map (λ path. path.now) paths.now))
+        (W.failed writer.new) (W.contents writer.old) (W.contents writer.new) result }
+    ensures sent { OnOk result (W.sent writer.new) }
+{
+    let bytes = combined_at(alloc, form, files, paths);
     end_with_line(bytes, writer)
 }

@@ -1,10 +1,11 @@
 //! Why a tool ends early.
 
 ghost use Rattle.std.specs.Prelude.{◌≡◌};
-ghost use Rattle.cs_tools.specs.Faults.{of_codec, of_combine, of_configure, of_rebase};
+ghost use Rattle.cs_tools.specs.Faults.{of_codec, of_combine, of_configure, of_rebase, of_stream};
 ghost use Rattle.cs_tools.specs.declared.fault.ToolFault.TheVariants.{Memory as NoMemory};
 
 use cs_changeset::CodecFault;
+use cs_feed::StreamFault;
 use cs_group::CombineFault;
 use cs_rebaser::{ConfigureFault, RebaseFault};
 use std::alloc::{AllocError, AllocFailed};
@@ -16,7 +17,7 @@ use thiserror::Error;
 pub enum ToolFault {
     #[error("Memory")]
     Memory,
-    /// The reader failed, or was asked too often.
+    /// The reader failed, or was asked too often; or a file couldn't be opened.
     #[error("Read")]
     Read,
     /// The writer failed.
@@ -25,7 +26,7 @@ pub enum ToolFault {
     /// A line is no hex.
     #[error("BadHex")]
     BadHex,
-    /// A line spells no changeset, or no rebase blob.
+    /// A line or a file spells no changeset, or no rebase blob.
     #[error("{0}")]
     Codec(CodecFault),
     /// The changesets can't be taken together.
@@ -65,6 +66,18 @@ impl From<CodecFault> for ToolFault {
         match fault {
             CodecFault::Memory => ToolFault::Memory,
             other => ToolFault::Codec(other),
+        }
+    }
+}
+
+impl From<StreamFault> for ToolFault {
+    ghost from_gives = { λ fault told. told ≡ of_stream fault };
+
+    fn from(fault: StreamFault) -> ToolFault {
+        match fault {
+            StreamFault::Memory => ToolFault::Memory,
+            StreamFault::Read => ToolFault::Read,
+            StreamFault::At { fault, offset } => ToolFault::Codec(CodecFault::At { fault, offset }),
         }
     }
 }

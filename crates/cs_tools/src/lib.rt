@@ -4,12 +4,14 @@
 //! rebased ones, on `cs_column_bytes` for the column bytes that came in and on `cs_text` for what is shown, and only wires them.
 //! `run_tool` promises for each tool which text is written (`specs/Endings.antt`, `Owes`), and where none is, which fault of the
 //! lines is the reason (`Refuses`): the first one, in the order in which they are judged. `laws` say that an input has one
-//! text or one such fault.
+//! text or one such fault. `show_file` and `combine_files` promise the same of files, which hold changesets (`cs_feed`) and blobs as their
+//! bytes (`specs/Files.antt`).
 //! Its tests stand in `cs_operations_tests`.
 #![tactic(auto)]
 
 mod combine;
 mod fault;
+mod files;
 mod input;
 pub mod laws;
 mod output;
@@ -18,5 +20,8 @@ mod show;
 mod tool;
 mod written;
 
+pub use combine::combine_files;
 pub use fault::ToolFault;
+pub use files::InputFiles;
+pub use show::{Shown, show_file};
 pub use tool::{Form, Tool, run_tool};

@@ -1,4 +1,4 @@
-//! `show`: a changeset or a rebase blob in hex, as text.
+//! `show`: a changeset or a rebase blob, in hex or in a file, as text.
 
 ghost use Rattle.std.specs.Prelude.{◌≡◌, ◌⊎◌, IfErr, IfOk, OnOk};
 ghost use Rattle.cs_blob.specs.Spelling.{FitsBlob, blob_spelling};
@@ -6,12 +6,15 @@ ghost use Rattle.cs_change.specs.Spelling.{FitsChangeset, changeset_spelling};
 ghost use Rattle.cs_text.specs.Text.{blob_text, changeset_text};
 ghost use Rattle.cs_tools.specs.Endings.{Ends};
 ghost use Rattle.cs_tools.specs.Faults.{AreBadBytes};
+ghost use Rattle.cs_tools.specs.Files.{IsBadFile, RefusesFile, ShowsFile};
 ghost use Rattle.cs_tools.specs.ShownLine.{RefusesToShow, ShowsBlob, ShowsBytes, ShowsChangeset};
 ghost use Rattle.cs_tools.specs.declared.fault.ToolFault.TheVariants.{Memory};
+ghost use Rattle.cs_tools.specs.declared.show.Shown.TheVariants.{Blob, Changeset};
 ghost use Rattle.cs_blob.specs.Reading.{IsBlobFault};
 ghost use Rattle.cs_changeset.specs.Reading.{IsChangesetFault};
 
 use crate::fault::ToolFault;
+use crate::files::{InputFiles, bytes_at, changeset_at};
 use crate::input::next_or_empty;
 use crate::output::end_with_text;
 use cs_blob::BlobGroup;
@@ -100,5 +103,81 @@ pub fn show_blob<R: LineInput, W: LineOutput>(
     ensures sent { OnOk result (W.sent writer.new) }
 {
     let text = shown_blob(alloc, reader);
+    end_with_text(text, writer)
+}
+
+/// What a file is shown as.
+#[derive(Clone, Copy, Debug, PartialEq, Eq)]
+pub enum Shown {
+    /// A changeset.
+    Changeset,
+    /// A rebase blob.
+    Blob,
+}
+
+/// The text of the changeset in the file at a path.
+fn text_of_changeset_at<F: InputFiles>(
+    alloc: Global,
+    files: &mut F,
+    path: &str,
+) -> Result<String, ToolFault>
+    ensures ok { IfOk result (λ text. ShowsFile F.Input.remaining F.Input.failed (F.opened files.new) (F.unopened files.new)
+        Changeset path.now text.bytes.items) }
+    ensures err { IfErr result
+        (IsBadFile F.Input.remaining F.Input.failed (F.opened files.new) (F.unopened files.new) IsChangesetFault path.now) }
+{
+    let owned = changeset_at(alloc, files, path)?;
+    let changeset = owned.lend(alloc)?;
+    Ok(text_of_groups(alloc, changeset.as_slice())?)
+}
+
+/// The text of the rebase blob in the file at a path.
+fn text_of_blob_at<F: InputFiles>(
+    alloc: Global,
+    files: &mut F,
+    path: &str,
+) -> Result<String, ToolFault>
+    ensures ok { IfOk result (λ text. ShowsFile F.Input.remaining F.Input.failed (F.opened files.new) (F.unopened files.new)
+        Blob path.now text.bytes.items) }
+    ensures err { IfErr result
+        (IsBadFile F.Input.remaining F.Input.failed (F.opened files.new) (F.unopened files.new) IsBlobFault path.now) }
+{
+    let bytes = bytes_at(alloc, files, path)?;
+    text_of_blob(alloc, bytes.as_slice())
+}
+
+/// What is shown of the file at a path.
+fn text_at<F: InputFiles>(
+    alloc: Global,
+    shown: Shown,
+    files: &mut F,
+    path: &str,
+) -> Result<String, ToolFault>
+    ensures ok { IfOk result (λ text. ShowsFile F.Input.remaining F.Input.failed (F.opened files.new) (F.unopened files.new)
+        shown path.now text.bytes.items) }
+    ensures err { IfErr result
+        (RefusesFile F.Input.remaining F.Input.failed (F.opened files.new) (F.unopened files.new) shown path.now) }
+{
+    match shown {
+        Shown::Changeset => text_of_changeset_at(alloc, files, path),
+        Shown::Blob => text_of_blob_at(alloc, files, path),
+    }
+}
+
+/// Shows the changeset or the rebase blob in the file at a path, as its bytes, as text. Nothing is written before the whole file was judged.
+/// (Profile of this project.)
+pub fn show_file<F: InputFiles, W: LineOutput>(
+    alloc: Global,
+    shown: Shown,
+    files: &mut F,
+    path: &str,
+    writer: &mut W,
+) -> Result<(), ToolFault>
+    ensures ends { Ends (ShowsFile F.Input.remaining F.Input.failed (F.opened files.new) (F.unopened files.new) shown path.now)
+        (RefusesFile F.Input.remaining F.Input.failed (F.opened files.new) (F.unopened files.new) shown path.now)
+        (W.failed writer.new) (W.contents writer.old) (W.contents writer.new) result }
+    ensures sent { OnOk result (W.sent writer.new) }
+{
+    let text = text_at(alloc, shown, files, path);
     end_with_text(text, writer)
 }

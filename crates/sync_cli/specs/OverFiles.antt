@@ -4,14 +4,16 @@ use Rattle.std.specs.Io.KnownBytes.{Keeps}
 use Rattle.cs_node_lines.specs.asks.Reading.{AreAllAsks, IsReadFault}
 use Rattle.cs_node_lines.specs.declared.asks.ask.Ask.{Ask}
 use Rattle.cs_node_lines.specs.declared.asks.fault.ReadFault.{ReadFault}
-use Rattle.cs_command.specs.Wanted.{Hub, Node, Run, Wanted, World}
+use Rattle.cs_command.specs.Wanted.{CombineFiles, Hub, Node, Run, ShowFile, Wanted, World}
 use Rattle.cs_node_lines.specs.hub.Endings.{EndsServingOn}
 use Rattle.cs_node_lines.specs.working.Endings.{EndsWorking}
 use Rattle.cs_store.specs.declared.fault.StoreFault.{StoreFault}
 use Rattle.cs_store.specs.declared.store.RowStore.{Ghosts}
+use Rattle.cs_tools.specs.Endings.{Ends}
+use Rattle.cs_tools.specs.Files.{CombinesFiles, RefusesFile, RefusesFiles, ShowsFile}
 use Rattle.cs_value.specs.declared.catalog.TableDef.{TableDef}
 use Rattle.sync_cli.specs.Endings.{EndsAs, EndsServing, EndsTool, EndsWorld, LacksMemory, OnTables}
-use Rattle.sync_cli.specs.Faults.{of_node, of_reading, of_serving, of_store}
+use Rattle.sync_cli.specs.Faults.{of_node, of_reading, of_serving, of_store, of_tool}
 use Rattle.sync_cli.specs.declared.fault.RunFault.{RunFault}
 
 -- `gave`, `refused` and `took` are what the opener of stores told: for a path this store, or this fault, and the store that it took back
@@ -43,20 +45,27 @@ module _ {S : Type 0} (g : Ghosts S) (gave : List ℕ → S → Type 0) (refused
       × OverStore path (λ store last. EndsAs of_node (EndsWorking g tables id asks store last write_failed old new) result) old new result)
       ⊎ ((why : ReadFault) × IsReadFault tables read_failed input left why × (result ≡ Err (of_reading why)) × Keeps old new)
 
-  -- what the command line wants was done over the tables that its words spell
-  abbrev pub EndsWanted : Wanted → List (List ℕ) → Option (List ℕ) → Option (List ℕ) → Type 0 → Type 0 → Option (List ℕ) → Option (List ℕ)
+-- `remaining` and `failed` are what the opener's readers of files tell, `opened` and `unopened` what it told of a path: this reader, or none
+module _ {S : Type 0} (g : Ghosts S) (gave : List ℕ → S → Type 0) (refused : List ℕ → StoreFault → Type 0) (took : S → Type 0)
+    {I : Type 0} (remaining : I → Option (List ℕ)) (failed : I → Type 0) (opened : List ℕ → I → Type 0) (unopened : List ℕ → Type 0) where
+  -- what the command line wants was done over the tables that its words spell, or the files that they name
+  abbrev pub EndsWanted : Wanted → List (List ℕ) → List (List ℕ) → Option (List ℕ) → Option (List ℕ) → Type 0 → Type 0 → Option (List ℕ) → Option (List ℕ)
       → Result ⊤ RunFault → Type 0
-  EndsWanted (Hub file) words input left read_failed write_failed old new result =
-      OnTables words (λ tables. EndsHub file tables input left read_failed write_failed old new result) old new result
-  EndsWanted (World count) words input left read_failed write_failed old new result =
+  EndsWanted (Hub file) words files input left read_failed write_failed old new result =
+      OnTables words (λ tables. EndsHub g gave refused took file tables input left read_failed write_failed old new result) old new result
+  EndsWanted (World count) words files input left read_failed write_failed old new result =
       OnTables words (λ tables. EndsWorld count tables input left read_failed write_failed old new result) old new result
-  EndsWanted (Node path id) words input left read_failed write_failed old new result =
-      OnTables words (λ tables. EndsNodeFile path id tables input left read_failed write_failed old new result) old new result
-  EndsWanted (Run tool) words input left read_failed write_failed old new result =
+  EndsWanted (Node path id) words files input left read_failed write_failed old new result =
+      OnTables words (λ tables. EndsNodeFile g gave refused took path id tables input left read_failed write_failed old new result) old new result
+  EndsWanted (Run tool) words files input left read_failed write_failed old new result =
       EndsTool tool input left read_failed write_failed old new result
+  EndsWanted (ShowFile shown path) words files input left read_failed write_failed old new result =
+      EndsAs of_tool (Ends (ShowsFile remaining failed opened unopened shown path) (RefusesFile remaining failed opened unopened shown path) write_failed old new) result
+  EndsWanted (CombineFiles form) words files input left read_failed write_failed old new result =
+      EndsAs of_tool (Ends (CombinesFiles remaining failed opened unopened form files) (RefusesFiles remaining failed opened unopened form files) write_failed old new) result
 
   -- or memory was refused before
-  abbrev pub EndsAsked : Wanted → List (List ℕ) → Option (List ℕ) → Option (List ℕ) → Type 0 → Type 0 → Option (List ℕ) → Option (List ℕ)
+  abbrev pub EndsAsked : Wanted → List (List ℕ) → List (List ℕ) → Option (List ℕ) → Option (List ℕ) → Type 0 → Type 0 → Option (List ℕ) → Option (List ℕ)
       → Result ⊤ RunFault → Type 0
-  EndsAsked wanted words input left read_failed write_failed old new result =
-      LacksMemory old new result ⊎ EndsWanted wanted words input left read_failed write_failed old new result
+  EndsAsked wanted words files input left read_failed write_failed old new result =
+      LacksMemory old new result ⊎ EndsWanted wanted words files input left read_failed write_failed old new result

@@ -1,12 +1,19 @@
-//! Where stores in files come from.
+//! Where stores in files come from, and readers of files.
 
 ghost use Rattle.std.specs.Prelude.{List, ℕ, IfErr, IfOk};
 ghost use Rattle.cs_store.specs.declared.fault.StoreFault.{StoreFault as Fault};
 
 use cs_sql::SqlStore;
 use cs_store::{RowStore, StoreFault};
+use cs_tools::InputFiles;
 use sqlite::{FileFrom, FileStore, Unknown};
+use std::fs::File;
+use std::io;
+use std::io::BufReader;
 use std::rt::HostRuntime;
+
+/// The bytes of the buffer through which a file is read.
+const INPUT_BUFFER: usize = 65_536;
 
 /// Opens stores in files, and lets them go.
 pub trait Opener {
@@ -66,5 +73,19 @@ impl<'r> Opener for Paths<'r> {
     fn close(&mut self, store: SqlStore<FileStore<FileFrom<Unknown>>>) {
         // Each commit stands in the file's log by now, so a failure here loses nothing.
         let _ = store.close().close();
+    }
+}
+
+impl<'r> InputFiles for Paths<'r> {
+    type Input = BufReader<File>;
+
+    // What a path's file held is known to the file system alone.
+    ghost opened = { λ paths path input. Unit {0} };
+
+    ghost unopened = { λ paths path. Unit {0} };
+
+    fn open_input(&mut self, path: &str) -> io::Result<BufReader<File>> {
+        let file = File::open(self.rt, path)?;
+        BufReader::with_capacity(self.rt.alloc(), INPUT_BUFFER, file)
     }
 }

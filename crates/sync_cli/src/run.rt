@@ -2,8 +2,10 @@
 
 ghost use Rattle.std.specs.Prelude.{◌≡◌, ◌≢◌, [], List, ℕ, None, OnOk, Some, map, option_map};
 ghost use Rattle.clap.specs.Words.{kind_of, subcommand_rows_of};
-ghost use Rattle.cs_command.specs.CommandLine.{faults_of, table_words_of, tables_in, wanted_of};
+ghost use Rattle.cs_command.specs.CommandLine.{faults_of, file_words_of, files_in, table_words_of, tables_in, wanted_of};
 ghost use Rattle.cs_command.specs.Wanted.{HasId, Wanted, wanted};
+ghost use Rattle.cs_tools.specs.Endings.{Ends};
+ghost use Rattle.cs_tools.specs.Files.{CombinesFiles, RefusesFiles};
 ghost use Rattle.sync_cli.specs.Endings.{EndsHelping, EndsRefused, EndsUnasked, EndsUntaken};
 ghost use Rattle.sync_cli.specs.OverFiles.{EndsAsked, EndsWanted};
 
@@ -14,16 +16,16 @@ use crate::opener::Opener;
 use crate::world::play_script;
 use clap::error::ErrorKind;
 use clap::{ArgMatches, Error};
-use cs_command::{Asked, asked_of, catalog_of, parse};
+use cs_command::{Asked, asked_of, catalog_of, files_of, parse};
 use cs_lines::{LineInput, LineOutput, write_text};
 use cs_store::RowStore;
-use cs_tools::run_tool;
+use cs_tools::{Form, InputFiles, ToolFault, combine_files, run_tool, show_file};
 use std::alloc::Global;
 use std::convert::AsStr;
 
-/// Runs `sync` on its words, of which the first is the program's name. Stores in files come from the opener. Where all was done, also where
+/// Runs `sync` on its words, of which the first is the program's name. Stores in files and readers of files come from the opener. Where all was done, also where
 /// help was asked for, what was written is sent. (Profile of this project.)
-pub fn run<'w, S: AsStr, O: Opener, R: LineInput, W: LineOutput>(
+pub fn run<'w, S: AsStr, O: Opener + InputFiles, R: LineInput, W: LineOutput>(
     alloc: Global,
     opener: &mut O,
     words: &'w [S],
@@ -39,11 +41,12 @@ pub fn run<'w, S: AsStr, O: Opener, R: LineInput, W: LineOutput>(
         (W.contents writer.old) (W.contents writer.new) result }
 
     // What the words ask for was done: a hub answered the lines, a world ran the script, a replica was worked by the lines, or a tool wrote
-    // what it owes; or why not.
+    // what it owes for the lines or the files; or why not.
     ensures asked { (asked : Wanted) → faults_of (map S.text words.entry.now) ≡ []
         → wanted_of (map S.text words.entry.now) ≡ Some asked
         → EndsAsked O.Store.RowStore (O.gave opener.new) (O.refused opener.new) (O.took opener.new)
-        asked (table_words_of (map S.text words.entry.now)) (R.remaining reader.old) (R.remaining reader.new)
+        O.Input.remaining O.Input.failed (O.opened opener.new) (O.unopened opener.new)
+        asked (table_words_of (map S.text words.entry.now)) (file_words_of (map S.text words.entry.now)) (R.remaining reader.old) (R.remaining reader.new)
         (R.failed reader.new) (W.failed writer.new) (W.contents writer.old) (W.contents writer.new) result }
 
     // Words that the command line takes and that ask for nothing.
@@ -61,7 +64,7 @@ pub fn run<'w, S: AsStr, O: Opener, R: LineInput, W: LineOutput>(
 }
 
 // Does what the words ask for.
-fn run_asked<'w, O: Opener, R: LineInput, W: LineOutput>(
+fn run_asked<'w, O: Opener + InputFiles, R: LineInput, W: LineOutput>(
     alloc: Global,
     opener: &mut O,
     asked: &Asked<'_>,
@@ -71,19 +74,49 @@ fn run_asked<'w, O: Opener, R: LineInput, W: LineOutput>(
 ) -> Result<(), RunFault<'w>>
     requires id { HasId asked.now }
     ensures ends { EndsWanted O.Store.RowStore (O.gave opener.new) (O.refused opener.new) (O.took opener.new)
-        (wanted asked.now) (tables_in (subcommand_rows_of matches.now)) (R.remaining reader.old) (R.remaining reader.new)
+        O.Input.remaining O.Input.failed (O.opened opener.new) (O.unopened opener.new)
+        (wanted asked.now) (tables_in (subcommand_rows_of matches.now)) (files_in (subcommand_rows_of matches.now)) (R.remaining reader.old) (R.remaining reader.new)
         (R.failed reader.new) (W.failed writer.new) (W.contents writer.old) (W.contents writer.new) result }
     ensures sent { OnOk result (W.sent writer.old → W.sent writer.new) }
 {
     if let Asked::Tool(tool) = asked {
         return Ok(run_tool(alloc, *tool, reader, writer)?);
     }
+    if let Asked::ShowFile { shown, file } = asked {
+        return Ok(show_file(alloc, *shown, opener, file, writer)?);
+    }
+    if let Asked::CombineFiles(form) = asked {
+        return Ok(combine_named(alloc, *form, opener, matches, writer)?);
+    }
     let catalog = catalog_of(alloc, matches)?;
     match asked {
         Asked::Hub { file } => serve_asked(alloc, opener, *file, &catalog, reader, writer),
         Asked::World { count } => play_script(alloc, *count, &catalog, reader, writer),
         Asked::Node { file, id } => work_file(alloc, opener, file, *id, &catalog, reader, writer),
-        Asked::Tool(_) => Err(RunFault::CommandLine),
+        Asked::Tool(_) | Asked::ShowFile { .. } | Asked::CombineFiles(_) => {
+            Err(RunFault::CommandLine)
+        }
+    }
+}
+
+// Takes the changesets of the files that the words name together as one.
+fn combine_named<F: InputFiles, W: LineOutput>(
+    alloc: Global,
+    form: Form,
+    files: &mut F,
+    matches: &ArgMatches<'_>,
+    writer: &mut W,
+) -> Result<(), ToolFault>
+    ensures ends { Ends (CombinesFiles F.Input.remaining F.Input.failed (F.opened files.new) (F.unopened files.new)
+        form (files_in (subcommand_rows_of matches.now)))
+        (RefusesFiles F.Input.remaining F.Input.failed (F.opened files.new) (F.unopened files.new)
+        form (files_in (subcommand_rows_of matches.now)))
+        (W.failed writer.new) (W.contents writer.old) (W.contents writer.new) result }
+    ensures sent { OnOk result (W.sent writer.new) }
+{
+    match files_of(matches) {
+        Some(paths) => combine_files(alloc, form, files, paths, writer),
+        None => combine_files(alloc, form, files, &[], writer),
     }
 }
 

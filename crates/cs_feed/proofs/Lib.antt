@@ -1,0 +1,9 @@
+pub mod FieldSteps
+pub mod Following
+pub mod Groups
+pub mod Operations
+pub mod Pushed
+pub mod Reached
+pub mod Stages
+pub mod Streamed
+pub mod Told
