@@ -56,9 +56,9 @@ module _ {S : Type 0} (g : Ghosts S) (tables : List TableDef) (id : ℕ) (old ne
       further (is ∙ ap (λ (x : Position). x.version) (fresh_at tables id (g.contents old) (g.contents new) position bare (opened (subst g.honest same h))).0)
 
   -- of a store that isn't honest something else is told than that it was opened
-  pub told_else : (failed : S → ℕ) (may_leave : S → Contents → Type 0) (misreads : S → ℕ) → Opens g tables id old new (Ok tt) → (g.honest last → ⊥)
+  pub told_else : Opens g tables id old new (Ok tt) → (g.honest last → ⊥)
       → Opens g tables id old last (Err Damaged)
-  told_else g.failed g.may_leave g.misreads opens never =
+  told_else opens never =
       subst (λ (s : S). Opens g tables id old s (Err Damaged)) (sym same) (record {
         was_honest = opens.was_honest;
         ok = λ h. tt;

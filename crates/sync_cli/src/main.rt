@@ -1,16 +1,14 @@
 //! The program `sync`: a hub that answers requests line by line, over memory or a file; a replica over a file, worked by lines; worlds that
 //! run scripts; and tools for changesets.
 //!
-//! It stands on `cs_command` for the command line, on `cs_node_lines::hub`, `cs_node_lines::asks` and `cs_node_lines::working`, `cs_script` and `cs_tools` for what is asked
-//! for, on `cs_map_store` and `cs_sql` for the stores, and only wires them. `run` carries the promise, end by end (`specs/Endings.antt`,
+//! It stands on `cs_command` for the command line, on `cs_node_lines`, `cs_script` and `cs_tools` for what is asked for, on `cs_map_store` and `cs_sql` for the stores, and only wires them. `run` carries the promise, end by end (`specs/Endings.antt`,
 //! `specs/OverFiles.antt`): what the words ask for was done, over the tables that they spell, or why not; and the words that are refused are
 //! those that name no catalog or that the command line doesn't take. `tell_end` turns each end into its status.
 //!
 //! `run`'s clauses stand over a reader and a writer whose bytes are known, as those of slices and vectors are. Standard
-//! input and output are none such in the toolchain: of `main`, which hands `run` the words, the standard streams and the
-//! runtime, the clauses say which end may come for which words, and nothing of the bytes. What the built program
-//! reads and writes on files and pipes is shown by runs instead: the stored run (`stdin`, `stdout`), and `bench/check_program.sh`,
-//! `bench/check_sessions.sh` and `bench/check_files.sh`, which are its tests.
+//! input and output are none such in the toolchain, and `main`, which hands `run` the words and the streams, has no clause.
+//! What the built program reads and writes on files and pipes is shown by runs instead: the stored run (`stdin`, `stdout`),
+//! and `bench/check_program.sh`, `bench/check_sessions.sh` and `bench/check_files.sh`, which are its tests.
 #![tactic(auto)]
 
 mod fault;

@@ -3,7 +3,7 @@ use Rattle.cs_node_lines.proofs.hub.serving.serve_on.Goals as goal
 
 pub returns-in-Ok-ended-clause-ends : goal.returns-in-Ok-ended-clause-ends
 returns-in-Ok-ended-clause-ends g c =
-    all_answered _ _ _ _ _ _ c.runs_by_log.ensures _ _ _ _ (record {
+    all_answered _ _ c.runs_by_log.ensures _ _ _ _ (record {
       tables_are = c.in-Ok.ensures.tables;
       was_honest = c.in-Ok.ensures.opens.was_honest;
       opened = c.in-Ok.ensures.opened;
@@ -15,7 +15,7 @@ returns-in-Ok-ended-clause-ends g c =
 pub returns-in-Err-ended-clause-ends : goal.returns-in-Err-ended-clause-ends
 returns-in-Err-ended-clause-ends g c =
     rw c.from-in-Err-ended.ensures (
-    broken_off _ _ _ _ _ _ c.runs_by_log.ensures _ _ _ _ (record {
+    broken_off _ _ c.runs_by_log.ensures _ _ _ _ (record {
       tables_are = c.in-Ok.ensures.tables;
       was_honest = c.in-Ok.ensures.opens.was_honest;
       opened = c.in-Ok.ensures.opened;

@@ -24,5 +24,5 @@ returns-then-version-ne0-clause-refused g c = λ h.
 
 pub returns-then-version-ne0-clause-opens : goal.returns-then-version-ne0-clause-opens
 returns-then-version-ne0-clause-opens g c =
-    told_else g.S.RowStore c.args.catalog.now c.args.id c.args.store c.in-Ok-open.replica.store c.close.result c.close.ensures g.S.RowStore.failed g.S.RowStore.may_leave g.S.RowStore.misreads c.in-Ok-open.ensures.opens
+    told_else g.S.RowStore c.args.catalog.now c.args.id c.args.store c.in-Ok-open.replica.store c.close.result c.close.ensures c.in-Ok-open.ensures.opens
     (never_further g.S.RowStore c.args.catalog.now c.args.id c.args.store c.in-Ok-open.replica.store c.close.result c.close.ensures c.in-Ok-open.replica.position c.version.result c.requires.bare c.in-Ok-open.ensures.opened c.version.ensures c.if-version-ne0.true)
