@@ -1,4 +1,6 @@
+pub mod CauseLemmas
 pub mod Whole
+pub mod OpeningLemmas
 pub mod OneSchema
 pub mod SchemaLemmas
 pub mod StatementsLemmas

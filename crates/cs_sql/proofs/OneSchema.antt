@@ -13,8 +13,7 @@ use Rattle.sqlite_schema.specs.declared.schema.Index.{Index}
 use Rattle.sqlite_schema.specs.Names.{same_name}
 use Rattle.sqlite_value.specs.declared.value.Value.{Value}
 use Rattle.sqlite_value.specs.declared.value.Value.TheVariants.{Null, Int, Real, Text, Blob}
-use Rattle.cs_sql.specs.schema.Schemas.{store_schema}
-use Rattle.cs_sql.specs.statements.Tables.{store_over}
+use Rattle.cs_sql.specs.schema.Schemas.{store_over}
 
 same_text : (a b : List ℕ) → ◌≡◌ {A = Value} (Text a) (Text b) → a ≡ b
 same_text a b e = cc
@@ -70,17 +69,21 @@ one_index tables apart row i j a b =
     let tree : i.tree ≡ j.tree = same_tree i.tree j.tree (sym a.described.id ∙ b.described.id) in
     one_defined b.table i j (column row 4) name tree (subst (λ t. IsDefined t i (column row 4)) table a.defined) b.defined
 
-listed_one : (objects : List Row) (schema : Schema) → AreListed objects store_schema → AreListed objects schema → schema ≡ store_schema
-listed_one objects schema a b =
-    let tables : schema.tables ≡ store_schema.tables = zip_one IsTableRow one_table _ schema.tables store_schema.tables b.tables a.tables in
-    let indexes : schema.indexes ≡ store_schema.indexes =
-    zip_one (IsIndexRow store_schema.tables) (one_index store_schema.tables a.named) _ schema.indexes store_schema.indexes (subst (λ ts. AllZip (IsIndexRow ts) (filter is_index_row objects) schema.indexes) tables b.indexes) a.indexes in
-    let views : schema.views ≡ [] = zip_none IsViewRow _ schema.views a.views b.views in
+listed_one : (objects : List Row) (own schema : Schema) → own.views ≡ [] → AreListed objects own → AreListed objects schema → schema ≡ own
+listed_one objects own schema bare a b =
+    let tables : schema.tables ≡ own.tables = zip_one IsTableRow one_table _ schema.tables own.tables b.tables a.tables in
+    let indexes : schema.indexes ≡ own.indexes =
+    zip_one (IsIndexRow own.tables) (one_index own.tables a.named) _ schema.indexes own.indexes (subst (λ ts. AllZip (IsIndexRow ts) (filter is_index_row objects) schema.indexes) tables b.indexes) a.indexes in
+    let views : schema.views ≡ own.views = zip_none IsViewRow _ schema.views (subst (AllZip IsViewRow _) bare a.views) b.views ∙ sym bare in
     λ i. record { tables = tables i; indexes = indexes i; views = views i }
+
+-- databases that show the same trees are the same, where there is no view
+pub shows_same : (own db : Database) → own.schema.views ≡ [] → IsDatabase own → IsDatabase db → db.trees ≡ own.trees → db ≡ own
+shows_same own db bare sound is same =
+    let here : IsDatabase (record { schema = db.schema; trees = own.trees }) = subst (λ (t : Trees). IsDatabase (record { schema = db.schema; trees = t })) same is in
+    let schema : db.schema ≡ own.schema = listed_one _ own.schema db.schema bare sound.lists.listed here.lists.listed in
+    λ i. record { schema = schema i; trees = same i }
 
 -- a database that shows a store's trees is that store's
 pub shows_store : (trees : Trees) (db : Database) → IsDatabase (store_over trees) → IsDatabase db → db.trees ≡ trees → db ≡ store_over trees
-shows_store trees db sound is same =
-    let here : IsDatabase (record { schema = db.schema; trees = trees }) = subst (λ (t : Trees). IsDatabase (record { schema = db.schema; trees = t })) same is in
-    let schema : db.schema ≡ store_schema = listed_one _ db.schema sound.lists.listed here.lists.listed in
-    λ i. record { schema = schema i; trees = same i }
+shows_store trees db sound is same = shows_same (store_over trees) db refl sound is same

@@ -9,6 +9,7 @@ pub mod Finding
 pub mod Orders
 pub mod Listed
 pub mod Adopting
+pub mod Granting
 pub mod Holding
 pub mod Streams
 pub mod Ranges

@@ -1,6 +1,6 @@
 -- The store after a commit, and as it is made.
 use Rattle.std.specs.Prelude.{◌↔◌, is_some, IsSome}
-use Rattle.std.proofs.Common.{◌≡◌, inl, inr, ℕ, pos, ◌+◌, ◌<◌, ◌^◌, true, Option, Some, None, Result, Ok, Err, IfOk, IfErr, IfSome, IsTrue, false, refl, sym, ap, subst, ◌∙◌, arith, cond}
+use Rattle.std.proofs.Common.{◌≡◌, ◌⊎◌, inl, inr, [], ℕ, pos, ◌+◌, ◌<◌, ◌^◌, true, Option, Some, None, Result, Ok, Err, IfOk, IfErr, IfSome, IsTrue, false, refl, sym, ap, subst, ◌∙◌, arith, cond}
 use Rattle.std.specs.declared.cmp.Ordering.{Ordering}
 use Rattle.std.specs.declared.cmp.Ordering.TheVariants.{Less, Equal, Greater}
 use Rattle.std.specs.FinMap.{get, len, contains_key, get-insert, len-insert, len-empty}
@@ -13,8 +13,13 @@ use Rattle.sqlite.specs.Store.{Ghosts}
 use Rattle.sqlite.specs.State.{State, HasCleanDisk, IsLive, Survives}
 use Rattle.sqlite.specs.Effect.{Database, IsDatabase}
 use Rattle.sqlite.specs.Schema.{Schema}
+use Rattle.sqlite.specs.declared.error.Error.{Error}
+use Rattle.sqlite.specs.declared.error.Error.TheVariants.{SqliteFailure}
+use Rattle.sqlite.specs.declared.error.ErrorCode.TheVariants.{OutOfMemory}
 use Rattle.sqlite.specs.Tree.{Trees}
-use Rattle.sqlite.specs.Held.{Held, state}
+use Rattle.sqlite.specs.Held.{Held, IsNew, state}
+use Rattle.sqlite.specs.Steps.{IsEmpty, over_memory}
+use Rattle.sqlite_trees.specs.declared.memory.MemStore.{MemStore}
 use Rattle.sqlite.proofs.StateLemmas.{survives_then}
 use Rattle.cs_store.specs.Contents.{Contents, HasEachEntry, Log, LogItem, nothing}
 use Rattle.cs_store.specs.Calls.{Commits}
@@ -22,14 +27,18 @@ use Rattle.cs_store.specs.Written.{after_batch, with_entry, optional_entry, item
 use Rattle.cs_store.specs.declared.batch.StoredEntry.{StoredEntry}
 use Rattle.cs_store.specs.declared.batch.Batch.{Batch}
 use Rattle.cs_store.specs.declared.fault.StoreFault.{StoreFault}
-use Rattle.cs_store.specs.declared.fault.StoreFault.TheVariants.{Device}
-use Rattle.cs_sql.specs.schema.Schemas.{no_schema, front_schema, store_schema}
-use Rattle.cs_sql.specs.schema.Making.{AddsPending, IsCompleted, IsEmptyIn, IsLaidOut, IsUndone}
-use Rattle.cs_sql.specs.statements.Tables.{AreKept, IsKept, contents_in, store_over}
+use Rattle.cs_store.specs.declared.fault.StoreFault.TheVariants.{Device, Memory}
+use Rattle.cs_sql.specs.schema.Schemas.{no_schema, front_schema, store_over, store_schema}
+use Rattle.cs_sql.specs.schema.Making.{AddsPending, AreCompleted, AreLaidOut, IsCompleted, IsEmptyIn, IsLaidOut, IsUndone}
+use Rattle.cs_sql.specs.statements.Tables.{AreKept, IsKept, contents_in}
 use Rattle.cs_sql.specs.statements.Steps.{HasBatch, IsReady, IsWritten, Stays, with_batch}
 use Rattle.cs_sql.specs.declared.statements.counting.LogFound.{LogFound}
 use Rattle.cs_sql.specs.statements.Found.{IsFrontKept, IsFrontOf, IsLogOf, IsStoreOf, IsUntouched, front_in}
-use Rattle.cs_sql.specs.Keeping.{Kept, IsSteady, IsFresh, IsAdopted, IsAt, IsGivenBack, IsMadeOf, IsToldAs, LeavesStore, MayLeave, OpenAsStore, count_with, holds, made_over}
+use Rattle.cs_sql.specs.Causes.{EngineFails, IsCaused}
+use Rattle.cs_sql.specs.Keeping.{Kept, IsSteady, IsFresh, IsAdopted, IsAt, IsGivenBack, IsHeldIn, IsMadeOf, IsToldAs, LeavesHeld, LeavesStore, MayLeave, OpenAsStore, ShowsForeign, count_with, holds, made_over}
+use Rattle.cs_sql.proofs.CauseLemmas.{fails_later}
+use Rattle.cs_sql.proofs.OneSchema.{shows_same, shows_store}
+use Rattle.cs_sql.proofs.StatementsLemmas.Adopting.{front_some, store_apart, store_some}
 
 -- ---- a commit
 
@@ -192,21 +201,31 @@ laid_ready old new laid = record { kept = laid_kept new.now laid.schema_is laid.
 abbrev pub empty_log : LogFound
 empty_log = record { entries = 0; is_whole = true }
 
-pub laid_log : (old new : State) → IsLaidOut old new → IsLogOf (contents_in new.now.trees) empty_log
-laid_log old new laid = subst (λ (k : Contents). IsLogOf k empty_log) (sym (laid_is new.now.trees laid.empty)) (record {
+laid_log_is : (trees : Trees) → IsEmptyIn store_schema trees → IsLogOf (contents_in trees) empty_log
+laid_log_is trees empty = subst (λ (k : Contents). IsLogOf k empty_log) (sym (laid_is trees empty)) (record {
   counted = sym (len-empty int_cmp LogItem);
   whole = (λ _ version less. absurd (let none = len-empty int_cmp LogItem in omega (arith, less, none)), λ _. refl);
   fits = omega arith;
 })
 
-pub laid_survives : (old new : State) → (HasCleanDisk old → IsAt no_schema old) → Survives old new (IsEmptyIn store_schema) → Survives old new (IsMadeOf old.now)
+pub laid_log : (old new : State) → IsLaidOut old new → IsLogOf (contents_in new.now.trees) empty_log
+laid_log old new laid = laid_log_is new.now.trees laid.empty
+
+laid_opens : (trees : Trees) → AreLaidOut trees → OpenAsStore trees
+laid_opens trees laid = record {
+  kept = record { sound = laid.0; kept = laid_kept (store_over trees) refl laid.1 };
+  log = empty_log;
+  log_is = laid_log_is trees laid.1;
+}
+
+pub laid_survives : (old new : State) → (HasCleanDisk old → IsAt no_schema old) → Survives old new AreLaidOut → Survives old new (IsMadeOf old.now)
 laid_survives old new at s = record {
   clean = s.clean;
   shield = s.shield;
   counts = s.counts;
   limit = s.limit;
   closes = s.closes;
-  crash = λ clean db left. elim (s.crash clean db left) [ inl before ↦ inl before | inr empty ↦ inr (inl ((at (omega (arith, clean, s.clean))).schema_is, laid_is db empty)) ];
+  crash = λ clean db left. elim (s.crash clean db left) [ inl before ↦ inl before | inr laid ↦ inr (laid_opens db laid, inl ((at (omega (arith, clean, s.clean))).schema_is, laid_is db laid.1)) ];
 }
 
 completed_is : (old new : Trees) → AddsPending old new → contents_in new ≡ front_in old
@@ -227,8 +246,15 @@ completed_ready old new kept done = record { kept = completed_kept old.now new.n
 pub completed_log : (old new : State) (log : LogFound) → IsLogOf (front_in old.now.trees) log → IsCompleted old new → IsLogOf (contents_in new.now.trees) log
 completed_log old new log is done = subst (λ (k : Contents). IsLogOf k log) (sym (completed_is old.now.trees new.now.trees done.added)) is
 
+completed_opens : (old : Database) (trees : Trees) (log : LogFound) → IsFrontKept old.trees → IsLogOf (front_in old.trees) log → AreCompleted old.trees trees → OpenAsStore trees
+completed_opens old trees log kept is done = record {
+  kept = record { sound = done.0; kept = completed_kept old (store_over trees) kept refl done.1 };
+  log = log;
+  log_is = subst (λ (k : Contents). IsLogOf k log) (sym (completed_is old.trees trees done.1)) is;
+}
+
 pub completed_survives : (old new : State) (log : LogFound) → (HasCleanDisk old → IsAt front_schema old) → (HasCleanDisk old → IsFrontKept old.now.trees) → (HasCleanDisk old → IsLogOf (front_in old.now.trees) log)
-    → Survives old new (λ db. AddsPending old.now.trees db) → Survives old new (IsMadeOf old.now)
+    → Survives old new (AreCompleted old.now.trees) → Survives old new (IsMadeOf old.now)
 completed_survives old new log at kept is s = record {
   clean = s.clean;
   shield = s.shield;
@@ -237,7 +263,7 @@ completed_survives old new log at kept is s = record {
   closes = s.closes;
   crash = λ clean db left.
       let early : HasCleanDisk old = omega (arith, clean, s.clean) in
-      elim (s.crash clean db left) [ inl before ↦ inl before | inr adds ↦ inr (inr (log, ((at early).schema_is, kept early, is early), completed_is old.now.trees db adds)) ];
+      elim (s.crash clean db left) [ inl before ↦ inl before | inr done ↦ inr (completed_opens old.now db log (kept early) (is early) done, inr (log, ((at early).schema_is, kept early, is early), completed_is old.now.trees db done.1)) ];
 }
 
 -- a store just made over a connection that is open holds what it shows, and a stop leaves that alone
@@ -349,3 +375,67 @@ ours_ready old new kept u = record { kept = subst IsKept (sym u.now) kept; settl
 
 pub ours_log : (old new : State) (log : LogFound) → IsLogOf (contents_in old.now.trees) log → IsUntouched old new → IsLogOf (contents_in new.now.trees) log
 ours_log old new log is u = subst (λ (d : Database). IsLogOf (contents_in d.trees) log) (sym u.now) is
+
+-- ---- what a connection that is given back leaves
+
+-- what a store over what was made holds is what a store over what was shown would
+holds_made : (db : Database) (trees : Trees) (held : Contents) → IsHeldIn db held
+    → ((db.schema ≡ no_schema) × (contents_in trees ≡ nothing)) ⊎ ((log : LogFound) × IsFrontOf log db × (contents_in trees ≡ front_in db.trees)) → held ≡ contents_in trees
+holds_made db trees held (inl fresh) (inl none) = fresh.1 ∙ sym none.1
+holds_made db trees held (inl fresh) (inr front) = absurd (front_some (sym front.1.0 ∙ fresh.0))
+holds_made db trees held (inr (inl was)) (inl none) = absurd (front_some (sym was.1.0 ∙ none.0))
+holds_made db trees held (inr (inl was)) (inr front) = was.2 ∙ sym front.2
+holds_made db trees held (inr (inr ours)) (inl none) = absurd (store_some (sym ours.1.0.schema ∙ none.0))
+holds_made db trees held (inr (inr ours)) (inr front) = absurd (store_apart (sym ours.1.0.schema ∙ front.1.0))
+
+-- no view is in a database that a store takes
+held_bare : (db : Database) (held : Contents) → IsHeldIn db held → db.schema.views ≡ []
+held_bare db held (inl fresh) = ap (λ (s : Schema). s.views) fresh.0
+held_bare db held (inr (inl front)) = ap (λ (s : Schema). s.views) front.1.0
+held_bare db held (inr (inr ours)) = ap (λ (s : Schema). s.views) ours.1.0.schema
+
+pub leaves_held : (old new : State) → IsLive old → (IsTrue old.is_open → old.now ≡ old.committed) → ((db : Trees) → IsTrue old.is_open → old.may_leave db → db ≡ old.committed.trees) → Survives old new (IsMadeOf old.now) → HasCleanDisk new
+    → LeavesHeld old new
+leaves_held old new live settled leaves survives clean opened db sound left held is = elim (survives.crash clean db.trees left) [
+  | inl before ↦
+      let same : db.trees ≡ old.now.trees = leaves db.trees opened before ∙ ap (λ (d : Database). d.trees) (sym (settled opened)) in
+      subst (λ d. IsHeldIn d held) (sym (shows_same old.now db (held_bare old.now held is) (live opened).0 sound same)) is
+  | inr made ↦
+      let opens = made.0 in
+      let shows = shows_store db.trees db opens.kept.sound sound refl in
+      inr (inr (opens.log, subst (IsStoreOf opens.log) (sym shows) (opens.kept.kept, opens.log_is), holds_made old.now db.trees held is made.1))
+]
+
+pub all_leave : {S F : Type 0} (g : Ghosts S) (start : State) (r : Result (Kept S) (Held S × F)) → IsLive start → (IsTrue start.is_open → start.now ≡ start.committed) → ((db : Trees) → IsTrue start.is_open → start.may_leave db → db ≡ start.committed.trees)
+    → IfErr r (λ e. IsGivenBack g start e.0) → IfErr r (λ e. HasCleanDisk (state g e.0) → LeavesHeld start (state g e.0))
+all_leave g start (Ok s) live settled leaves back = tt
+all_leave g start (Err e) live settled leaves back = leaves_held start (state g e.0) live settled leaves back.survives
+
+-- ---- why a connection is given back
+
+-- a fault that isn't told as want of memory is one of the engine's
+pub told_fails : (old new : State) (e : Error) (fault : StoreFault) → (e ≡ SqliteFailure OutOfMemory → fault ≡ Memory) → IsCaused old new e → fault ≡ Device → EngineFails old new
+told_fails old new e fault memory (inl is) told = absurd (let same : Memory ≡ Device = sym (memory is) ∙ told in cc)
+told_fails old new e fault memory (inr fails) told = fails
+
+pub all_caused : {S : Type 0} (g : Ghosts S) (start mid : State) (r : Result (Kept S) (Held S × StoreFault)) → Survives start mid (λ _. ⊥) → (HasCleanDisk mid → IsUntouched start mid) → IfErr r (λ e. IsGivenBack g mid e.0)
+    → IfErr r (λ e. HasCleanDisk (state g e.0) → e.1 ≡ Device → EngineFails mid (state g e.0)) → IfErr r (λ e. HasCleanDisk (state g e.0) → e.1 ≡ Device → EngineFails start (state g e.0) ⊎ ShowsForeign start)
+all_caused g start mid (Ok s) first untouched back fails = tt
+all_caused g start mid (Err e) first untouched back fails = λ clean told.
+    let early : HasCleanDisk mid = let later = back.survives.clean in omega (arith, clean, later) in
+    inl (fails_later start mid (state g e.0) (λ _. ⊥) first (λ _. (untouched early).is_open) (fails clean told))
+
+-- ---- a store in memory
+
+only_fault : (fault : StoreFault) → ¬ (fault ≡ Device) → fault ≡ Memory
+only_fault Memory none = refl
+only_fault Device none = absurd (none refl)
+
+memory_serves : (conn given : Held MemStore) → IsEmpty (state over_memory conn) → IsNew conn → ¬ EngineFails (state over_memory conn) (state over_memory given)
+memory_serves conn given empty fresh (inl disk) = absurd (omega (arith, disk))
+memory_serves conn given empty fresh (inr (inl shut)) = absurd (let both : true ≡ false = sym empty.0.is_open ∙ shut in cc)
+memory_serves conn given empty fresh (inr (inr limit)) = absurd (let none = subst IsSome fresh.unlimited limit in cc)
+
+-- no store in memory is refused but for want of memory
+pub only_memory : (conn given : Held MemStore) (fault : StoreFault) → IsEmpty (state over_memory conn) → IsNew conn → (fault ≡ Device → EngineFails (state over_memory conn) (state over_memory given)) → fault ≡ Memory
+only_memory conn given fault empty fresh fails = only_fault fault (λ told. memory_serves conn given empty fresh (fails told))

@@ -2,7 +2,7 @@
 use Rattle.std.specs.Prelude.{◌≡◌, ◌⊎◌, ℕ, Bool, ◌≤◌, ◌+◌, Option, Some, None, false, IsTrue, refl}
 use Rattle.std.specs.Coded.{Coded, code_by, coded×, coded_ℕ, coded_bool}
 use Rattle.sqlite.specs.Store.{Ghosts}
-use Rattle.sqlite.specs.Effect.{Database}
+use Rattle.sqlite.specs.Effect.{Database, IsDatabase}
 use Rattle.sqlite.specs.Schema.{Schema}
 use Rattle.sqlite.specs.Tree.{Trees}
 use Rattle.sqlite.specs.State.{State, HasCleanDisk, Survives}
@@ -14,7 +14,7 @@ use Rattle.cs_store.specs.declared.fault.StoreFault.TheVariants.{Device}
 use Rattle.cs_sql.specs.statements.Tables.{AreKept, contents_in}
 use Rattle.cs_sql.specs.statements.Steps.{IsReady, Stays}
 use Rattle.cs_sql.specs.declared.statements.counting.LogFound.{LogFound}
-use Rattle.cs_sql.specs.declared.statements.looking.Found.TheVariants.{Fresh, Front, Ours}
+use Rattle.cs_sql.specs.declared.statements.looking.Found.TheVariants.{Foreign, Fresh, Front, Ours}
 use Rattle.cs_sql.specs.statements.Found.{IsFound, IsLogOf, front_in}
 
 -- the count never falls, and rises with `Device`
@@ -96,11 +96,23 @@ IsHeldIn db held =
     ⊎ (((log : LogFound) × IsFound (Front log) db × (held ≡ front_in db.trees))
     ⊎ ((log : LogFound) × IsFound (Ours log) db × (held ≡ contents_in db.trees)))
 
--- what a stop may leave where the tables that the database lacks are made; of one that is a store's, or foreign, nothing
+-- what a stop may leave where the tables that the database lacks are made, which opens as a store; of a database that is a
+-- store's, or foreign, nothing
 abbrev pub IsMadeOf : Database → Trees → Type 0
 IsMadeOf db left =
-    (IsFound Fresh db × (contents_in left ≡ nothing))
-    ⊎ ((log : LogFound) × IsFound (Front log) db × (contents_in left ≡ front_in db.trees))
+    OpenAsStore left
+    × ((IsFound Fresh db × (contents_in left ≡ nothing))
+    ⊎ ((log : LogFound) × IsFound (Front log) db × (contents_in left ≡ front_in db.trees)))
+
+-- a store over whatever a stop leaves, once a connection shows it, holds what a store over what was shown before would
+abbrev pub LeavesHeld : State → State → Type 0
+LeavesHeld shown s =
+    IsTrue shown.is_open → (db : Database) → IsDatabase db → s.may_leave db.trees → (held : Contents) → IsHeldIn shown.now held → IsHeldIn db held
+
+-- a connection on a database that no store takes
+pub record ShowsForeign (s : State) : Type 0 where
+  pub is_open : IsTrue s.is_open
+  pub found : IsFound Foreign s.now
 
 module _ {S : Type 0} (g : Ghosts S) (shown : State) where
   -- the store holds what the connection showed, and a stop now leaves that alone, which opens as a store

@@ -1,3 +1,4 @@
+pub mod Causes
 pub mod Keeping
 pub mod Opening
 pub mod Laws

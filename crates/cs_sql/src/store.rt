@@ -1,6 +1,6 @@
 //! A store over a connection.
 
-ghost use Rattle.std.specs.Prelude.{◌≡◌, ◌<◌, ◌^◌, false, IfErr, IfOk, IfSome, IsTrue};
+ghost use Rattle.std.specs.Prelude.{◌≡◌, ◌⊎◌, ◌<◌, ◌^◌, false, IfErr, IfOk, IfSome, IsTrue};
 ghost use Rattle.sqlite.specs.Files.{file_state};
 ghost use Rattle.sqlite.specs.Held.{state};
 ghost use Rattle.sqlite.specs.State.{HasCleanDisk, Survives};
@@ -12,8 +12,9 @@ ghost use Rattle.cs_sql.specs.schema.Schemas.{no_schema, front_schema};
 ghost use Rattle.cs_sql.specs.statements.Tables.{contents_in};
 ghost use Rattle.cs_sql.specs.statements.Steps.{IsReady};
 ghost use Rattle.cs_sql.specs.statements.Found.{IsFrontKept, IsLogOf, front_in};
-ghost use Rattle.cs_sql.specs.Keeping.{IsAdopted, IsAt, IsFresh, IsGivenBack, IsMadeOf, IsToldAs, LeavesStore, count_with, made_over};
-ghost use Rattle.cs_sql.specs.Opening.{IsOpenedAt};
+ghost use Rattle.cs_sql.specs.Causes.{EngineFails};
+ghost use Rattle.cs_sql.specs.Keeping.{IsAdopted, IsAt, IsFresh, IsGivenBack, IsMadeOf, IsToldAs, LeavesHeld, LeavesStore, ShowsForeign, count_with, made_over};
+ghost use Rattle.cs_sql.specs.Opening.{IsOpenedAt, TellsWhy};
 
 use crate::schema::{complete, lay_out};
 use crate::statements::{
@@ -57,7 +58,8 @@ impl<A: Alter> Model for SqlStore<A> {
 
 /// What a fault of `sqlite` is told as. One that isn't want of memory is counted.
 fn fault_of(error: &Error, failures: &mut u64) -> StoreFault
-    ensures { IsToldAs result failures.old failures.new }
+    ensures told { IsToldAs result failures.old failures.new }
+    ensures memory { error.now ≡ Error.SqliteFailure ErrorCode.OutOfMemory → result ≡ StoreFault.Memory }
 {
     if let Error::SqliteFailure(ErrorCode::OutOfMemory) = error {
         return StoreFault::Memory;
@@ -81,9 +83,10 @@ impl SqlStore<MemStore> {
     ///
     /// # Errors
     ///
-    /// `Memory`, where memory was refused, and `Device`, where `sqlite` answered another fault as the tables were made.
+    /// `Memory` alone, where memory was refused.
     pub fn open_memory(alloc: Global) -> Result<SqlStore<MemStore>, StoreFault>
-        ensures { IfOk result (λ s. IsFresh over_memory s nothing) }
+        ensures made { IfOk result (λ s. IsFresh over_memory s nothing) }
+        ensures memory { IfErr result (λ fault. fault ≡ StoreFault.Memory) }
     {
         let conn = Connection::open_in_memory(alloc)?;
         match SqlStore::make(alloc, conn) {
@@ -125,6 +128,7 @@ impl<A: Alter> SqlStore<A> {
         ensures made { IfOk result (λ s. HasCleanDisk (state A.Store s.conn) → IsFresh A.Store s nothing) }
         ensures survives { IfOk result (λ s. Survives (state A.Store conn) (state A.Store s.conn) (IsMadeOf (state A.Store conn).now)) }
         ensures kept { IfErr result (λ e. IsGivenBack A.Store (state A.Store conn) e.0) }
+        ensures cause { IfErr result (λ e. HasCleanDisk (state A.Store e.0) → e.1 ≡ StoreFault.Device → EngineFails (state A.Store conn) (state A.Store e.0)) }
     {
         match lay_out(&mut conn) {
             Ok(()) => {
@@ -151,6 +155,7 @@ impl<A: Alter> SqlStore<A> {
         ensures made { IfOk result (λ s. HasCleanDisk (state A.Store s.conn) → IsFresh A.Store s (front_in (state A.Store conn).now.trees)) }
         ensures survives { IfOk result (λ s. Survives (state A.Store conn) (state A.Store s.conn) (IsMadeOf (state A.Store conn).now)) }
         ensures kept { IfErr result (λ e. IsGivenBack A.Store (state A.Store conn) e.0) }
+        ensures cause { IfErr result (λ e. HasCleanDisk (state A.Store e.0) → e.1 ≡ StoreFault.Device → EngineFails (state A.Store conn) (state A.Store e.0)) }
     {
         match complete(&mut conn) {
             Ok(()) => Ok(SqlStore::over(alloc, conn, log)),
@@ -163,10 +168,12 @@ impl<A: Alter> SqlStore<A> {
     ///
     /// # Errors
     ///
-    /// `Memory`, where `sqlite` answered that, and `Device`, where it answered another fault or where the database is another's
-    /// (`IsFound Foreign`): its schema isn't the store's, rowids aren't apart, or the log has more entries than there are
+    /// `Memory`, where `sqlite` answered that. `Device`, where it failed otherwise: its disk failed, the connection was shut, or
+    /// a query took more steps than the caller allows (`EngineFails`). `Device` too, where the database is another's
+    /// (`IsFound Foreign`): its schema isn't the store's, rowids aren't numbers apart, or the log has more entries than there are
     /// versions. No database of another is taken, and nothing is written to one. A log whose versions have gaps is taken as it
-    /// is, and `log_is_whole` tells. The connection is given back as it was.
+    /// is, and `log_is_whole` tells. The connection is given back as it was, and what a stop leaves of it opens as it would have
+    /// before (`LeavesHeld`).
     pub fn adopt(
         alloc: Global,
         mut conn: Connection<A>,
@@ -175,8 +182,11 @@ impl<A: Alter> SqlStore<A> {
         ensures adopted { IfOk result (λ s. HasCleanDisk (state A.Store s.conn) → IsAdopted A.Store (state A.Store conn) s) }
         ensures survives { IfOk result (λ s. Survives (state A.Store conn) (state A.Store s.conn) (IsMadeOf (state A.Store conn).now)) }
         ensures kept { IfErr result (λ e. IsGivenBack A.Store (state A.Store conn) e.0) }
+        ensures cause { IfErr result (λ e. HasCleanDisk (state A.Store e.0) → e.1 ≡ StoreFault.Device → EngineFails (state A.Store conn) (state A.Store e.0) ⊎ ShowsForeign (state A.Store conn)) }
+        ensures leaves { IfErr result (λ e. HasCleanDisk (state A.Store e.0) → LeavesHeld (state A.Store conn) (state A.Store e.0)) }
     {
         let _ = conn.is_autocommit();
+        let _ = conn.schema();
         match look(&mut conn) {
             Ok(Found::Fresh) => SqlStore::make(alloc, conn),
             Ok(Found::Front(log)) => SqlStore::extend(alloc, conn, log),
@@ -214,7 +224,8 @@ impl<S: Start> SqlStore<FileStore<FileFrom<S>>> {
         path: &str,
         start: S,
     ) -> Result<SqlStore<FileStore<FileFrom<S>>>, StoreFault>
-        ensures { IfOk result (λ s. HasCleanDisk (file_state s.conn) → IsOpenedAt (image_at S.Start) s) }
+        ensures opened { IfOk result (λ s. HasCleanDisk (file_state s.conn) → IsOpenedAt (image_at S.Start) s) }
+        ensures cause { TellsWhy (image_at S.Start) result }
     {
         match Connection::open_from(rt, path, false, start) {
             Ok(conn) => match SqlStore::adopt(rt.alloc(), conn) {

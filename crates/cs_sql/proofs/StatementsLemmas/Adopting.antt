@@ -111,6 +111,11 @@ rise_shown tree es rows ordered given_are sorted shown_are same apart =
     (map (shown (one_column 0) []) es) rows moved (apart_map tie_first (shown (one_column 0) []) es apart) in
     rise_level rows (subst Level (sym shown_are) (level_of tree ordered keyed sorted)) ties
 
+-- what is shown of rows that are numbered is numbered
+all_shown : (es : List Row) → AllByRecursion ShowsNumber es → AllByRecursion ShowsNumber (map (shown (one_column 0) []) es)
+all_shown [] all = tt
+all_shown (e ∷ es) all = (all.0, all_shown es all.1)
+
 -- a text that asks for the rowids of the table at the tree
 abbrev pub AsksIds : Schema → List ℕ → ℕ → List (List ℕ) → Type 0
 AsksIds schema sql tree names = (command_of (understood schema sql) ≡ Select (record { lets = []; body = ids_in tree }) names) × (reads_listing schema sql ≡ false) × IsPlain (understood schema sql)
@@ -120,13 +125,16 @@ module _ (schema : Schema) (sql : List ℕ) (tree : ℕ) (names : List (List ℕ
   ids_same = let a = reads_as sql [] old new schema has _ asks.0 asks.2 asks.1 it.rows it.shown in answer_is tree [] (one_column 0) (rising_by 0) old.now.trees [] it.rows (a.answer Null)
 
   ids_apart : IsTrue ids.rise → AreApart (overlay old.now.trees [] tree)
-  ids_apart rise = apart_from (overlay old.now.trees [] tree) it.rows ids_same it.are.whole (it.are.rise.0 rise)
+  ids_apart rise = let are = it.are.rise.0 rise in apart_from (overlay old.now.trees [] tree) it.rows ids_same are.0 are.1
 
-  ids_rise : Apart same_id (overlay old.now.trees [] tree) → IsTrue ids.rise
-  ids_rise apart =
+  ids_rise : AreApart (overlay old.now.trees [] tree) → IsTrue ids.rise
+  ids_rise are =
+      let es = overlay old.now.trees [] tree in
+      let moved : IsPermutation (map (shown (one_column 0) []) es) it.rows = subst (λ xs. IsPermutation (map (shown (one_column 0) []) xs) it.rows) (filter_none [] es) ids_same in
+      let whole : AllByRecursion ShowsNumber it.rows = all_permutation ShowsNumber (map (shown (one_column 0) []) es) it.rows moved (all_shown es are.whole) in
       let a = reads_as sql [] old new schema has _ asks.0 asks.2 asks.1 it.rows it.shown in
       let o = ordered_is tree [] (one_column 0) (rising_by 0) old.now.trees [] it.rows (a.answer Null) in
-      it.are.rise.1 (rise_shown tree (overlay old.now.trees [] tree) it.rows o.ordered o.same o.sorted o.shown_are ids_same apart)
+      it.are.rise.1 (whole, rise_shown tree es it.rows o.ordered o.same o.sorted o.shown_are ids_same are.apart)
 
   ids_count : ids.count ≡ length (overlay old.now.trees [] tree)
   ids_count =
@@ -267,17 +275,38 @@ last_less (Some was) id rows row last is rise =
     let two : rows ++ row ∷ [] ≡ last.0 ++ last.1 ∷ row ∷ [] = ap (λ (es : List Row). es ++ row ∷ []) last.2 ∙ append_assoc last.0 (last.1 ∷ []) (row ∷ []) in
     sym (value_cmp-Int was id) ∙ (λ i. value_cmp (sym last.3 i) (sym is i)) ∙ rise_pair last.0 last.1 row (subst Rise two rise)
 
+fewer_whole : (es : List Row) (row : Row) → AllByRecursion ShowsNumber (es ++ row ∷ []) → AllByRecursion ShowsNumber es
+fewer_whole [] row all = tt
+fewer_whole (e ∷ es) row all = (all.0, fewer_whole es row all.1)
+
+last_whole : (es : List Row) (row : Row) → AllByRecursion ShowsNumber (es ++ row ∷ []) → ShowsNumber row
+last_whole [] row all = all.0
+last_whole (e ∷ es) row all = last_whole es row all.1
+
+-- and with one more that isn't a number
+pub other_seen : (ids more : Ids) → more.count ≡ ids.count + 1 → more.rise ≡ false → more.are_numbered ≡ false → (rows : List Row) (row : Row) → AreSeen ids rows → ¬ ShowsNumber row → AreSeen more (rows ++ row ∷ [])
+other_seen ids more count rise are rows row seen isnt = record {
+  count_is = let n = seen.count_is in let m = length-append rows (row ∷ []) in omega (arith, count, n, m);
+  rise = (λ t. absurd (let e : true ≡ false = sym t ∙ rise in cc), λ all. absurd (isnt (last_whole rows row all.0)));
+  last_is = λ t. absurd (let e : true ≡ false = sym t ∙ rise in cc);
+  numbered = (λ t. absurd (let e : true ≡ false = sym t ∙ are in cc), λ all. absurd (isnt (pos (0 + length rows), (numbered_front 0 rows row all).1)));
+}
+
 -- what is told of rowids is so with one more
 pub one_more_seen : (ids more : Ids) (id : ℤ) (is_above numbered : Bool) → more.count ≡ ids.count + 1 → more.last ≡ Some id → more.rise ≡ (ids.rise && is_above) → more.are_numbered ≡ (ids.are_numbered && numbered)
     → (IsTrue is_above ↔ IfSome ids.last (λ (was : ℤ). int_cmp was id ≡ Less)) → (IsTrue numbered ↔ (id ≡ pos ids.count))
     → (rows : List Row) (row : Row) → AreSeen ids rows → column row 0 ≡ Int id → AreSeen more (rows ++ row ∷ [])
 one_more_seen ids more id is_above numbered count last rise are above place rows row seen is = record {
-  whole = more_whole rows row seen.whole (id, is);
   count_is = let n = seen.count_is in let m = length-append rows (row ∷ []) in omega (arith, count, n, m);
-  last_is = subst (λ (o : Option ℤ). ShowsLast o (rows ++ row ∷ [])) (sym last) (rows, row, refl, is);
+  last_is = λ _. subst (λ (o : Option ℤ). ShowsLast o (rows ++ row ∷ [])) (sym last) (rows, row, refl, is);
   rise = (
-    λ t. let both = both_true ids.rise is_above (sym rise ∙ t) in more_rise ids.last id rows row seen.last_is is (above.0 both.1) (seen.rise.0 both.0),
-    λ all. rise ∙ and_true ids.rise is_above (seen.rise.1 (rise_front rows row all)) (above.1 (last_less ids.last id rows row seen.last_is is all)),
+    λ t.
+        let both = both_true ids.rise is_above (sym rise ∙ t) in
+        let was = seen.rise.0 both.0 in
+        (more_whole rows row was.0 (id, is), more_rise ids.last id rows row (seen.last_is both.0) is (above.0 both.1) was.1),
+    λ all.
+        let before = seen.rise.1 (fewer_whole rows row all.0, rise_front rows row all.1) in
+        rise ∙ and_true ids.rise is_above before (above.1 (last_less ids.last id rows row (seen.last_is before) is all.1)),
   );
   numbered = (
     λ t.
@@ -311,7 +340,8 @@ entries_from es rows ids found same apart are rise entries whole fits =
     let moved : IsPermutation (map (shown (one_column 0) []) es) rows = subst (λ xs. IsPermutation (map (shown (one_column 0) []) xs) rows) (filter_none [] es) same in
     let count : length es ≡ length rows = sym (length_permutation (map (shown (one_column 0) []) es) rows moved ∙ length-map es _) in
     let there = λ (version : ℕ). sym (any_map (is_version version) (shown (one_column 0) []) es) ∙ list_any-IsPermutation (is_version version) (map (shown (one_column 0) []) es) rows moved in
-    let each = numbered_each rows are.whole (are.rise.0 rise) in
+    let were = are.rise.0 rise in
+    let each = numbered_each rows were.0 were.1 in
     record {
       apart = apart;
       count_is = entries ∙ are.count_is ∙ sym count;
@@ -372,14 +402,14 @@ front_rises s0 s1 s2 s3 rows meta log front e1 e2 r m l can =
     let asks = front_ids s0.now.schema front in
     let has = λ (s : State) (e : s.now ≡ s0.now). ap (λ (d : Database). d.schema) e in (
       ids_rise s0.now.schema rows_ids_text 0 _ asks.0 s0 s1 refl rows r can.rows,
-      ids_rise s0.now.schema meta_ids_text 2 _ asks.1 s1 s2 (has s1 e1) meta m (subst (λ (d : Database). Apart same_id (d.trees 2)) (sym e1) can.meta),
-      ids_rise s0.now.schema log_ids_text 4 _ asks.2 s2 s3 (has s2 f2) log l (subst (λ (d : Database). Apart same_id (d.trees 4)) (sym f2) can.log),
+      ids_rise s0.now.schema meta_ids_text 2 _ asks.1 s1 s2 (has s1 e1) meta m (subst (λ (d : Database). AreApart (d.trees 2)) (sym e1) can.meta),
+      ids_rise s0.now.schema log_ids_text 4 _ asks.2 s2 s3 (has s2 f2) log l (subst (λ (d : Database). AreApart (d.trees 4)) (sym f2) can.log),
       subst (λ (n : ℕ). n < 2 ^ 32) (sym (ids_count s0.now.schema log_ids_text 4 _ asks.2 s2 s3 (has s2 f2) log l ∙ ap (λ (d : Database). length (d.trees 4)) f2)) can.fits,
     )
 
 pub pending_apart : (s0 s1 : State) (ids : Ids) → s0.now.schema ≡ store_schema → ShowsIds pending_ids_text s0 s1 ids → IsTrue ids.rise ↔ AreApart (s0.now.trees 5)
 pending_apart s0 s1 ids is shown =
-    (λ rise. ids_apart store_schema pending_ids_text 5 _ pending_ids_store s0 s1 is ids shown rise, λ are. ids_rise store_schema pending_ids_text 5 _ pending_ids_store s0 s1 is ids shown are.apart)
+    (λ rise. ids_apart store_schema pending_ids_text 5 _ pending_ids_store s0 s1 is ids shown rise, λ are. ids_rise store_schema pending_ids_text 5 _ pending_ids_store s0 s1 is ids shown are)
 
 -- ---- what the columns of a row are
 
@@ -676,36 +706,42 @@ found_ours db found schema sound counted apart =
 abbrev tables_in : Schema → ℕ
 tables_in schema = length schema.tables
 
-store_apart : store_schema ≢ front_schema
+pub store_apart : store_schema ≢ front_schema
 store_apart e = let n : 4 ≡ 3 = ap tables_in e in absurd (omega (arith, n))
 
-store_some : store_schema ≢ no_schema
+pub store_some : store_schema ≢ no_schema
 store_some e = let n : 4 ≡ 0 = ap tables_in e in absurd (omega (arith, n))
 
-front_some : front_schema ≢ no_schema
+pub front_some : front_schema ≢ no_schema
 front_some e = let n : 3 ≡ 0 = ap tables_in e in absurd (omega (arith, n))
 
 log_fits : (es : List Row) (log : LogFound) (contents : Contents) → contents.log ≡ from_entries (map entry_pair es) → IsMapped int_cmp entry_pair IsLog es → IsLogOf contents log → length es < 2 ^ 32
 log_fits es log contents is m found = subst (λ (n : ℕ). n < 2 ^ 32) (found.counted ∙ ap (λ (l : Log). len l) is ∙ log_counted es m.typed m.keys_apart) found.fits
 
+rows_apart : (es : List Row) → IsMapped place_cmp row_pair IsRow es → AreApart es
+rows_apart es m = record { whole = all_from ShowsNumber es (λ r h. let it = all_has IsRow es r m.typed h in (it.0, ap (λ (q : Row). column q 0) it.4)); apart = m.ids_apart }
+
+meta_apart : (es : List Row) → IsMapped by_bytes value_pair IsMeta es → AreApart es
+meta_apart es m = record { whole = all_from ShowsNumber es (λ r h. let it = all_has IsMeta es r m.typed h in (it.0, ap (λ (q : Row). column q 0) it.3)); apart = m.ids_apart }
+
+log_ids_apart : (es : List Row) → IsMapped int_cmp entry_pair IsLog es → AreApart es
+log_ids_apart es m = record { whole = all_from ShowsNumber es (λ r h. let it = all_has IsLog es r m.typed h in (it.0, ap (λ (q : Row). column q 0) it.4)); apart = m.ids_apart }
+
 front_countable : (log : LogFound) (db : Database) → IsFrontOf log db → AreCountable db.trees
 front_countable log db is = record {
-  rows = is.1.rows.ids_apart;
-  meta = is.1.meta.ids_apart;
-  log = is.1.log.ids_apart;
+  rows = rows_apart (db.trees 0) is.1.rows;
+  meta = meta_apart (db.trees 2) is.1.meta;
+  log = log_ids_apart (db.trees 4) is.1.log;
   fits = log_fits (db.trees 4) log (front_in db.trees) refl is.1.log is.2;
 }
 
 store_countable : (log : LogFound) (db : Database) → IsStoreOf log db → AreCountable db.trees
 store_countable log db is = record {
-  rows = is.0.rows.ids_apart;
-  meta = is.0.meta.ids_apart;
-  log = is.0.log.ids_apart;
+  rows = rows_apart (db.trees 0) is.0.rows;
+  meta = meta_apart (db.trees 2) is.0.meta;
+  log = log_ids_apart (db.trees 4) is.0.log;
   fits = log_fits (db.trees 4) log (contents_in db.trees) refl is.0.log is.1;
 }
-
-rows_apart : (es : List Row) → IsMapped place_cmp row_pair IsRow es → AreApart es
-rows_apart es m = record { whole = all_from ShowsNumber es (λ r h. let it = all_has IsRow es r m.typed h in (it.0, ap (λ (q : Row). column q 0) it.4)); apart = m.ids_apart }
 
 pub foreign_schema : (db : Database) → IsForeign db.schema → IsFound Foreign db
 foreign_schema db is = (is.0, λ log front. is.1 front.0, λ log store. is.2 store.0.schema)

@@ -20,7 +20,8 @@ use Rattle.std.specs.List.{fold, slice_get}
 use Rattle.std.proofs.lemmas.List.{take_more}
 use Rattle.std.proofs.lemmas.List.Sums.{fold-append}
 use Rattle.std.proofs.lemmas.Option.{slice_get_within, get_or_from_slice_get}
-use Rattle.cs_sql.specs.statements.Tables.{AreKept, IsKept, contents_in, store_over}
+use Rattle.cs_sql.specs.schema.Schemas.{store_over}
+use Rattle.cs_sql.specs.statements.Tables.{AreKept, IsKept, contents_in}
 use Rattle.cs_sql.specs.statements.Steps.{Edits, HasBatch, with_batch, with_edit, with_edits, with_change, with_changes, with_value, with_values}
 use Rattle.cs_sql.proofs.StatementsLemmas.Answers.{place_total, place_exact}
 

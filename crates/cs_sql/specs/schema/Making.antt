@@ -1,10 +1,11 @@
 -- What is left where the tables of a store are made (profile of this project).
 use Rattle.std.specs.Prelude.{◌≡◌, [], List, ℕ, IsTrue, codes}
 use Rattle.std.specs.List.{AllByRecursion}
+use Rattle.sqlite.specs.Effect.{IsDatabase}
 use Rattle.sqlite.specs.Schema.{Schema}
 use Rattle.sqlite.specs.State.{State}
 use Rattle.sqlite.specs.Tree.{Trees}
-use Rattle.cs_sql.specs.schema.Schemas.{front_schema, store_schema}
+use Rattle.cs_sql.specs.schema.Schemas.{front_schema, store_over, store_schema}
 
 -- ---- the statements
 
@@ -36,6 +37,7 @@ pub record IsLaid (schema : Schema) (s : State) : Type 0 where
 pub record Lays (schema : Schema) (old new : State) : Type 0 where
   pub was_open : IsTrue old.is_open
   pub is_open : IsTrue new.is_open
+  pub sound : IsDatabase new.now
   pub laid : IsLaid schema new
   pub committed : new.committed ≡ old.committed
 
@@ -52,12 +54,21 @@ pub record AddsPending (old new : Trees) : Type 0 where
 pub record Adds (old new : State) : Type 0 where
   pub was_open : IsTrue old.is_open
   pub is_open : IsTrue new.is_open
+  pub sound : IsDatabase new.now
   pub writes : IsTrue new.in_transaction
   pub schema_is : new.now.schema ≡ store_schema
   pub added : AddsPending old.now.trees new.now.trees
   pub committed : new.committed ≡ old.committed
 
 -- ---- after it
+
+-- a store's tables with no row
+abbrev pub AreLaidOut : Trees → Type 0
+AreLaidOut trees = IsDatabase (store_over trees) × IsEmptyIn store_schema trees
+
+-- a store's tables, of which `pending` has no row and the others are as they were
+abbrev pub AreCompleted : Trees → Trees → Type 0
+AreCompleted old new = IsDatabase (store_over new) × AddsPending old new
 
 -- the tables of a store are there, with no row, and are committed
 pub record IsLaidOut (old new : State) : Type 0 where

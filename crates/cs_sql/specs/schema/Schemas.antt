@@ -4,9 +4,11 @@ use Rattle.sqlite.specs.Collation.TheVariants.{Binary}
 use Rattle.sqlite_value.specs.declared.value.Value.TheVariants.{Null}
 use Rattle.sqlite_value.specs.Keys.{plain}
 use Rattle.sqlite.specs.Change.{created}
+use Rattle.sqlite.specs.Effect.{Database}
 use Rattle.sqlite.specs.Table.{Table}
 use Rattle.sqlite.specs.Schema.{Schema}
 use Rattle.sqlite.specs.Kind.{Kind}
+use Rattle.sqlite.specs.Tree.{Trees}
 use Rattle.sqlite_schema.specs.declared.schema.Column.{Column}
 use Rattle.sqlite_schema.specs.declared.schema.Index.{Index}
 use Rattle.sqlite.specs.Kind.TheVariants.{Integer, Text, Blob}
@@ -88,6 +90,10 @@ front_schema = created two_schema log_table
 
 abbrev pub store_schema : Schema
 store_schema = created front_schema pending_table
+
+-- a database with the store's tables over these trees
+abbrev pub store_over : Trees → Database
+store_over trees = record { schema = store_schema; trees = trees }
 
 -- ---- the parts of a schema, as they are compared
 

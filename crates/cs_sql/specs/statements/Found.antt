@@ -42,13 +42,12 @@ AreNumbered from (row ∷ rows) = (column row 0 ≡ Int (pos from)) × AreNumber
 
 -- what is told of rowids that were read is so
 pub record AreSeen (seen : Ids) (rows : List Row) : Type 0 where
-  pub whole : AllByRecursion ShowsNumber rows
   pub count_is : seen.count ≡ length rows
-  pub last_is : ShowsLast seen.last rows
-  pub rise : IsTrue seen.rise ↔ Rise rows
+  pub rise : IsTrue seen.rise ↔ (AllByRecursion ShowsNumber rows × Rise rows)
+  pub last_is : IsTrue seen.rise → ShowsLast seen.last rows
   pub numbered : IsTrue seen.are_numbered ↔ AreNumbered 0 rows
 
--- the query showed numbers, of which that is told
+-- the query showed rowids, of which that is told
 pub record ShowsIds (sql : List ℕ) (old new : State) (seen : Ids) : Type 0 where
   pub rows : List Row
   pub shown : Shown sql [] old new rows
@@ -84,11 +83,11 @@ pub record IsCounted (trees : Trees) (found : LogFound) : Type 0 where
   pub meta : AreApart (trees 2)
   pub log : AreEntries (trees 4) found
 
--- the tables but `pending` have no rowid twice, and the log has no more rows than there are versions
+-- the tables but `pending` are numbered apart, and the log has no more rows than there are versions
 pub record AreCountable (trees : Trees) : Type 0 where
-  pub rows : Apart same_id (trees 0)
-  pub meta : Apart same_id (trees 2)
-  pub log : Apart same_id (trees 4)
+  pub rows : AreApart (trees 0)
+  pub meta : AreApart (trees 2)
+  pub log : AreApart (trees 4)
   pub fits : length (trees 4) < 2 ^ 32
 
 -- ---- what was found

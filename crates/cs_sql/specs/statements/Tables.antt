@@ -12,7 +12,7 @@ use Rattle.sqlite.specs.Effect.{Database, IsDatabase}
 use Rattle.sqlite.specs.Edit.{id_in}
 use Rattle.cs_order.specs.Order.{by_bytes}
 use Rattle.cs_store.specs.Contents.{StorePlace, LogItem, Contents, place_cmp}
-use Rattle.cs_sql.specs.schema.Schemas.{store_schema}
+use Rattle.cs_sql.specs.schema.Schemas.{store_over, store_schema}
 
 -- ---- the statements
 
@@ -143,10 +143,6 @@ pub record IsKept (db : Database) : Type 0 where
   pub meta : IsMapped (by_bytes) value_pair IsMeta (db.trees 2)
   pub log : IsMapped int_cmp entry_pair IsLog (db.trees 4)
   pub pending : IsMapped place_cmp row_pair IsRow (db.trees 5)
-
--- a database with the store's tables over these trees
-abbrev pub store_over : Trees → Database
-store_over trees = record { schema = store_schema; trees = trees }
 
 -- the trees are those of a store: they list its tables and nothing else, and each of these is a map
 pub record AreKept (trees : Trees) : Type 0 where

@@ -162,6 +162,8 @@ impl Reader for Judge<'_> {
 
     ghost has_read = { λ start judge rows. (judge.part ≡ start.part) × (judge.catalog.now ≡ start.catalog.now) × (IsTrue start.all_own → (IsTrue judge.all_own ↔ AllByRecursion (ShowsOwn start.part start.catalog.now) rows)) };
 
+    ghost tells = { λ _. Unit {0} };
+
     fn read(&mut self, row: &Row) -> Result<(), Error> {
         self.judge(row)
     }

@@ -1,6 +1,6 @@
 //! The rowids of a file that was found are read one at a time and shown to be apart, and the entries of its log are counted.
 
-ghost use Rattle.std.specs.Prelude.{◌≡◌, ◌↔◌, ◌<◌, ◌≤◌, ◌^◌, ◌&&◌, ◌++◌, [], ◌∷◌, List, false, IsTrue, IfOk, IfSome, MatchOption, OnOk};
+ghost use Rattle.std.specs.Prelude.{◌≡◌, ◌↔◌, ◌<◌, ◌≤◌, ◌^◌, ◌&&◌, ◌++◌, [], ◌∷◌, List, false, IsTrue, IfErr, IfOk, IfSome, MatchOption, OnOk};
 ghost use Rattle.std.specs.declared.cmp.Ordering.TheVariants.{Less};
 ghost use Rattle.std.specs.Ordering.{int_cmp};
 ghost use Rattle.sqlite.specs.Held.{state};
@@ -11,10 +11,12 @@ ghost use Rattle.sqlite.specs.State.{HasCleanDisk, IsUnchanged, Survives};
 ghost use Rattle.sqlite_value.specs.declared.value.Value.TheVariants.{Int};
 ghost use Rattle.cs_sql.specs.schema.Schemas.{store_schema};
 ghost use Rattle.cs_sql.specs.statements.Steps.{Serves, Stays};
-ghost use Rattle.cs_sql.specs.statements.Found.{AreApart, AreCountable, AreSeen, HasFront, IsCounted, ShowsIds};
+ghost use Rattle.cs_sql.specs.Causes.{IsCaused, IsGranted};
+ghost use Rattle.cs_sql.specs.statements.Found.{AreApart, AreCountable, AreSeen, HasFront, IsCounted, ShowsIds, ShowsNumber};
 
 use crate::statements::streaming::{Reader, is_place, one_more, read_each};
-use sqlite::{Alter, Connection, Error, Row};
+use sqlite::{Alter, Connection, Error, ErrorCode, Row};
+use sqlite_value::value::ValueRef;
 
 /// What was found of a log.
 #[derive(Clone, Copy)]
@@ -31,7 +33,7 @@ pub(crate) struct Ids {
     /// How many they are.
     count: u64,
     last: Option<i64>,
-    /// Whether each is below the next.
+    /// Whether each is a number, below the next.
     rise: bool,
     /// Whether each is the number of its place, the first being 0.
     are_numbered: bool,
@@ -53,10 +55,21 @@ fn both(some: bool, other: bool) -> bool
     some && other
 }
 
+/// The number that a row shows, if it is one.
+fn number_in(row: &Row) -> Option<i64>
+    ensures { MatchOption result (¬ ShowsNumber row.now) (λ id. column row.now 0 ≡ Int id) }
+{
+    match row.get_ref(0) {
+        Ok(ValueRef::Int(id)) => Some(id),
+        _ => None,
+    }
+}
+
 impl Ids {
     /// What is told with one more.
     fn with(&self, id: i64) -> Result<Ids, Error>
-        ensures { IfOk result (λ more. (rows : List Values) (row : Values) → AreSeen self.now rows → column row 0 ≡ Int id → AreSeen more (rows ++ row ∷ [])) }
+        ensures more { IfOk result (λ more. (rows : List Values) (row : Values) → AreSeen self.now rows → column row 0 ≡ Int id → AreSeen more (rows ++ row ∷ [])) }
+        ensures memory { IfErr result (λ e. e ≡ Error.SqliteFailure ErrorCode.OutOfMemory) }
     {
         Ok(Ids {
             count: one_more(self.count)?,
@@ -64,6 +77,30 @@ impl Ids {
             rise: both(self.rise, is_above(self.last, id)),
             are_numbered: both(self.are_numbered, is_place(id, self.count)),
         })
+    }
+
+    /// What is told with one more, which isn't a number.
+    fn with_other(&self) -> Result<Ids, Error>
+        ensures more { IfOk result (λ more. (rows : List Values) (row : Values) → AreSeen self.now rows → ¬ ShowsNumber row → AreSeen more (rows ++ row ∷ [])) }
+        ensures memory { IfErr result (λ e. e ≡ Error.SqliteFailure ErrorCode.OutOfMemory) }
+    {
+        Ok(Ids {
+            count: one_more(self.count)?,
+            last: None,
+            rise: false,
+            are_numbered: false,
+        })
+    }
+
+    /// What is told with the rowid of one more row.
+    fn with_row(&self, row: &Row) -> Result<Ids, Error>
+        ensures more { IfOk result (λ more. (rows : List Values) → AreSeen self.now rows → AreSeen more (rows ++ row.now ∷ [])) }
+        ensures memory { IfErr result (λ e. e ≡ Error.SqliteFailure ErrorCode.OutOfMemory) }
+    {
+        match number_in(row) {
+            Some(id) => self.with(id),
+            None => self.with_other(),
+        }
     }
 
     /// What was found of a log with these rowids, if their count fits the versions.
@@ -82,12 +119,17 @@ impl Ids {
 }
 
 impl Reader for Ids {
+    ghost use Rattle.std.specs.Prelude.{◌≡◌};
     ghost use Rattle.cs_sql.specs.statements.Found.{AreSeen};
+    ghost use Rattle.sqlite.specs.declared.error.Error.TheVariants.{SqliteFailure};
+    ghost use Rattle.sqlite.specs.declared.error.ErrorCode.TheVariants.{OutOfMemory};
 
     ghost has_read = { λ start seen rows. AreSeen seen rows };
 
+    ghost tells = { λ e. e ≡ SqliteFailure OutOfMemory };
+
     fn read(&mut self, row: &Row) -> Result<(), Error> {
-        *self = self.with(row.get(0)?)?;
+        *self = self.with_row(row)?;
         Ok(())
     }
 }
@@ -100,6 +142,7 @@ fn read_ids<S: Alter>(conn: &mut Connection<S>, sql: &str) -> Result<Ids, Error>
     ensures shown { HasCleanDisk (state S.Store conn.new) → IfOk result (ShowsIds sql.now (state S.Store conn.old) (state S.Store conn.new)) }
     ensures ok { HasCleanDisk (state S.Store conn.new) → OnOk result (IsUnchanged (state S.Store conn.old) (state S.Store conn.new)) }
     ensures same { HasCleanDisk (state S.Store conn.new) → Stays (state S.Store conn.old) (state S.Store conn.new) }
+    ensures cause { HasCleanDisk (state S.Store conn.new) → IsGranted sql.now [] (state S.Store conn.old).now → IfErr result (IsCaused (state S.Store conn.old) (state S.Store conn.new)) }
     ensures survives { Survives (state S.Store conn.old) (state S.Store conn.new) (λ _. ⊥) }
 {
     let mut ids = Ids {
@@ -112,8 +155,8 @@ fn read_ids<S: Alter>(conn: &mut Connection<S>, sql: &str) -> Result<Ids, Error>
     Ok(ids)
 }
 
-/// What is found of the log, if the rowids of each table but `pending` are apart and the log's count fits the versions, and
-/// nothing where that isn't so.
+/// What is found of the log, if the rowids of each table but `pending` are numbers apart and the log's count fits the versions,
+/// and nothing where that isn't so.
 pub(crate) fn count_front<S: Alter>(conn: &mut Connection<S>) -> Result<Option<LogFound>, Error>
     requires serves { HasCleanDisk (state S.Store conn.old) → Serves (state S.Store conn.old) }
     requires front { HasCleanDisk (state S.Store conn.old) → HasFront (state S.Store conn.old).now.schema }
@@ -121,6 +164,7 @@ pub(crate) fn count_front<S: Alter>(conn: &mut Connection<S>) -> Result<Option<L
     ensures counted { HasCleanDisk (state S.Store conn.new) → IfOk result (λ o. MatchOption o (¬ AreCountable (state S.Store conn.old).now.trees) (IsCounted (state S.Store conn.old).now.trees)) }
     ensures ok { HasCleanDisk (state S.Store conn.new) → OnOk result (IsUnchanged (state S.Store conn.old) (state S.Store conn.new)) }
     ensures same { HasCleanDisk (state S.Store conn.new) → Stays (state S.Store conn.old) (state S.Store conn.new) }
+    ensures cause { HasCleanDisk (state S.Store conn.new) → IfErr result (IsCaused (state S.Store conn.old) (state S.Store conn.new)) }
     ensures survives { Survives (state S.Store conn.old) (state S.Store conn.new) (λ _. ⊥) }
 {
     let rows = read_ids(conn, "SELECT rowid FROM rows ORDER BY rowid")?;
@@ -133,7 +177,7 @@ pub(crate) fn count_front<S: Alter>(conn: &mut Connection<S>) -> Result<Option<L
     }
 }
 
-/// Whether the rowids of `pending` are apart.
+/// Whether the rowids of `pending` are numbers apart.
 pub(crate) fn is_pending_apart<S: Alter>(conn: &mut Connection<S>) -> Result<bool, Error>
     requires serves { HasCleanDisk (state S.Store conn.old) → Serves (state S.Store conn.old) }
     requires ours { HasCleanDisk (state S.Store conn.old) → (state S.Store conn.old).now.schema ≡ store_schema }
@@ -141,6 +185,7 @@ pub(crate) fn is_pending_apart<S: Alter>(conn: &mut Connection<S>) -> Result<boo
     ensures apart { HasCleanDisk (state S.Store conn.new) → IfOk result (λ are. IsTrue are ↔ AreApart ((state S.Store conn.old).now.trees 5)) }
     ensures ok { HasCleanDisk (state S.Store conn.new) → OnOk result (IsUnchanged (state S.Store conn.old) (state S.Store conn.new)) }
     ensures same { HasCleanDisk (state S.Store conn.new) → Stays (state S.Store conn.old) (state S.Store conn.new) }
+    ensures cause { HasCleanDisk (state S.Store conn.new) → IfErr result (IsCaused (state S.Store conn.old) (state S.Store conn.new)) }
     ensures survives { Survives (state S.Store conn.old) (state S.Store conn.new) (λ _. ⊥) }
 {
     let ids = read_ids(conn, "SELECT rowid FROM pending ORDER BY rowid")?;

@@ -1,9 +1,10 @@
 //! What a connection that a caller opened shows.
 
-ghost use Rattle.std.specs.Prelude.{◌≡◌, false, IsTrue, IfOk};
+ghost use Rattle.std.specs.Prelude.{◌≡◌, false, IsTrue, IfErr, IfOk};
 ghost use Rattle.sqlite.specs.Held.{state};
 ghost use Rattle.sqlite.specs.Effect.{IsDatabase};
 ghost use Rattle.sqlite.specs.State.{HasCleanDisk, Survives};
+ghost use Rattle.cs_sql.specs.Causes.{IsCaused};
 ghost use Rattle.cs_sql.specs.schema.Schemas.{front_schema, store_schema};
 ghost use Rattle.cs_sql.specs.statements.Steps.{Serves, Stays};
 ghost use Rattle.cs_sql.specs.statements.Found.{IsFound, IsUntouched};
@@ -21,7 +22,7 @@ pub enum Found {
     Front(LogFound),
     /// It has a store's tables, and that was found of its log.
     Ours(LogFound),
-    /// It has another schema, or rowids that aren't apart, or more entries of the log than there are versions.
+    /// It has another schema, or rowids that aren't numbers apart, or more entries of the log than there are versions.
     Foreign,
 }
 
@@ -33,6 +34,7 @@ fn look_front<S: Alter>(conn: &mut Connection<S>) -> Result<Found, Error>
     ensures mode { conn.old.in_transaction ≡ false → conn.new.in_transaction ≡ false }
     ensures found { HasCleanDisk (state S.Store conn.new) → IfOk result (λ found. IsFound found (state S.Store conn.old).now × IsUntouched (state S.Store conn.old) (state S.Store conn.new)) }
     ensures same { HasCleanDisk (state S.Store conn.new) → Stays (state S.Store conn.old) (state S.Store conn.new) }
+    ensures cause { HasCleanDisk (state S.Store conn.new) → IfErr result (IsCaused (state S.Store conn.old) (state S.Store conn.new)) }
     ensures survives { Survives (state S.Store conn.old) (state S.Store conn.new) (λ _. ⊥) }
 {
     match count_front(conn)? {
@@ -49,6 +51,7 @@ fn look_ours<S: Alter>(conn: &mut Connection<S>) -> Result<Found, Error>
     ensures mode { conn.old.in_transaction ≡ false → conn.new.in_transaction ≡ false }
     ensures found { HasCleanDisk (state S.Store conn.new) → IfOk result (λ found. IsFound found (state S.Store conn.old).now × IsUntouched (state S.Store conn.old) (state S.Store conn.new)) }
     ensures same { HasCleanDisk (state S.Store conn.new) → Stays (state S.Store conn.old) (state S.Store conn.new) }
+    ensures cause { HasCleanDisk (state S.Store conn.new) → IfErr result (IsCaused (state S.Store conn.old) (state S.Store conn.new)) }
     ensures survives { Survives (state S.Store conn.old) (state S.Store conn.new) (λ _. ⊥) }
 {
     let Some(log) = count_front(conn)? else {
@@ -68,6 +71,7 @@ pub fn look<S: Alter>(conn: &mut Connection<S>) -> Result<Found, Error>
     ensures idle { conn.new.in_transaction ≡ false }
     ensures found { HasCleanDisk (state S.Store conn.new) → IfOk result (λ found. IsFound found (state S.Store conn.old).now × IsUntouched (state S.Store conn.old) (state S.Store conn.new)) }
     ensures same { HasCleanDisk (state S.Store conn.new) → Stays (state S.Store conn.old) (state S.Store conn.new) }
+    ensures cause { HasCleanDisk (state S.Store conn.new) → IfErr result (IsCaused (state S.Store conn.old) (state S.Store conn.new)) }
     ensures survives { Survives (state S.Store conn.old) (state S.Store conn.new) (λ _. ⊥) }
 {
     probe(conn)?;

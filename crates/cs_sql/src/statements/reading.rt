@@ -122,6 +122,8 @@ impl Reader for Entries {
 
     ghost has_read = { λ start taken rows. (first : ℕ) → AreTaken first start [] → AreTaken first taken rows };
 
+    ghost tells = { λ _. Unit {0} };
+
     fn read(&mut self, row: &Row) -> Result<(), Error> {
         self.take(row)
     }

@@ -1,5 +1,5 @@
 use Rattle.std.proofs.Common.{inr, sym, subst}
-use Rattle.cs_sql.specs.statements.Tables.{store_over}
+use Rattle.cs_sql.specs.schema.Schemas.{store_over}
 use Rattle.cs_sql.specs.declared.statements.looking.Found.TheVariants.{Ours}
 use Rattle.cs_sql.specs.Laws.{OpensAs}
 use Rattle.cs_sql.proofs.OneSchema.{shows_store}

@@ -1,9 +1,12 @@
 use Rattle.std.proofs.Common.{◌≡◌, ◌∙◌, true, false, sym, subst, arith}
+use Rattle.std.proofs.lemmas.Result.{err_from_is_err_and}
 use Rattle.sqlite.specs.Effect.{Database}
 use Rattle.sqlite.specs.Held.{state}
 use Rattle.sqlite.specs.State.{HasCleanDisk}
 use Rattle.cs_sql.specs.statements.Found.{HasFront}
 use Rattle.cs_sql.proofs.StatementsLemmas.Adopting.{rows_plain, meta_plain, log_plain, front_counted, front_rises, match_then}
+use Rattle.cs_sql.proofs.CauseLemmas.{caused_unchanged}
+use Rattle.cs_sql.proofs.StatementsLemmas.Granting.{rows_granted, meta_granted, log_granted}
 use Rattle.cs_sql.proofs.statements.counting.count_front.Goals as goal
 use Rattle.cs_sql.proofs.statements.counting.count_front.Goals.{else-rows-via-then-rows+then-meta+else-log, else-rows-via-then-rows+else-meta, else-rows-via-else-rows}
 
@@ -53,3 +56,36 @@ returns-else-rows-clause-counted g c clean can =
       | else-rows-via-then-rows+else-meta w ↦ let e : true ≡ false = sym rises.1 ∙ w.if-meta.false in absurd cc
       | else-rows-via-else-rows w ↦ let e : true ≡ false = sym rises.0 ∙ w.if-rows.false in absurd cc
     ]
+
+pub returns-in_err-rows-clause-cause : goal.returns-in_err-rows-clause-cause
+returns-in_err-rows-clause-cause g c clean =
+    let p = err_from_is_err_and c.from_residual.result c.from_residual.ensures.1 in
+    rw (p.1, p.2) (c.in_err-rows.ensures.cause clean (rows_granted (state g.S.Store c.args.conn.now).now (c.requires.front (omega (arith, clean, c.read_ids.ensures.survives.clean)))))
+
+pub returns-in_err-meta-clause-cause : goal.returns-in_err-meta-clause-cause
+returns-in_err-meta-clause-cause g c clean =
+    let s0 = state g.S.Store c.args.conn.now in
+    let s1 = state g.S.Store c.read_ids.new.conn in
+    let s2 = state g.S.Store c.read_ids-2.new.conn in
+    let c1 : HasCleanDisk s1 = omega (arith, clean, c.read_ids-2.ensures.survives.clean) in
+    let c0 : HasCleanDisk s0 = omega (arith, c1, c.read_ids.ensures.survives.clean) in
+    let u = c.in_ok-rows.ensures.ok c1 in
+    let front = subst (λ (d : Database). HasFront d.schema) (sym u.0.now_is) (c.requires.front c0) in
+    let p = err_from_is_err_and c.from_residual-in_err-meta.result c.from_residual-in_err-meta.ensures.1 in
+    rw (p.1, p.2) (caused_unchanged s0 s1 s2 (λ _. ⊥) c.in_err-meta.field-0.0 c.read_ids.ensures.survives u (c.in_err-meta.ensures.cause clean (meta_granted s1.now front)))
+
+pub returns-in_err-log-clause-cause : goal.returns-in_err-log-clause-cause
+returns-in_err-log-clause-cause g c clean =
+    let s0 = state g.S.Store c.args.conn.now in
+    let s1 = state g.S.Store c.read_ids.new.conn in
+    let s2 = state g.S.Store c.read_ids-2.new.conn in
+    let s3 = state g.S.Store c.read_ids-3.new.conn in
+    let c2 : HasCleanDisk s2 = omega (arith, clean, c.read_ids-3.ensures.survives.clean) in
+    let c1 : HasCleanDisk s1 = omega (arith, c2, c.read_ids-2.ensures.survives.clean) in
+    let c0 : HasCleanDisk s0 = omega (arith, c1, c.read_ids.ensures.survives.clean) in
+    let u = c.in_ok-rows.ensures.ok c1 in
+    let w = c.in_ok-meta.ensures.ok c2 in
+    let front = subst (λ (d : Database). HasFront d.schema) (sym (w.0.now_is ∙ u.0.now_is)) (c.requires.front c0) in
+    let p = err_from_is_err_and c.from_residual-in_err-log.result c.from_residual-in_err-log.ensures.1 in
+    rw (p.1, p.2) (caused_unchanged s0 s1 s3 (λ _. ⊥) c.in_err-log.field-0.0 c.read_ids.ensures.survives u
+    (caused_unchanged s1 s2 s3 (λ _. ⊥) c.in_err-log.field-0.0 c.read_ids-2.ensures.survives w (c.in_err-log.ensures.cause clean (log_granted s2.now front))))

@@ -1,5 +1,6 @@
-use Rattle.std.proofs.Common.{◌≡◌, ◌∙◌, [], refl, sym, ap, subst, arith, rules}
+use Rattle.std.proofs.Common.{inl, inr, ◌≡◌, ◌∙◌, [], refl, sym, ap, subst, arith, rules}
 use Rattle.std.specs.Prelude.{option_copied}
+use Rattle.std.proofs.lemmas.Result.{err_from_is_err_and}
 use Rattle.sqlite.specs.Held.{Held, state}
 use Rattle.sqlite.specs.State.{HasCleanDisk, IsUnchanged, Survives, Shown}
 use Rattle.sqlite.specs.Values.{bound}
@@ -7,6 +8,8 @@ use Rattle.sqlite.proofs.Callers.{begun_plain}
 use Rattle.cs_sql.specs.statements.Steps.{Stays}
 use Rattle.cs_sql.proofs.StatementsLemmas.Finding.{stays_unchanged}
 use Rattle.cs_sql.proofs.StatementsLemmas.Streams.{begun_quiet, refused_stays, read_quiet, failed_stays, on_unchanged, ended_shown, read_on}
+use Rattle.cs_sql.specs.Causes.{IsCaused}
+use Rattle.cs_sql.proofs.CauseLemmas.{query_caused, reading_caused}
 use Rattle.cs_sql.proofs.statements.streaming.read_each.Goals as goal
 
 pub returns-in_err-rows-clause-same : goal.returns-in_err-rows-clause-same
@@ -41,7 +44,7 @@ rows-preserved g c =
       λ idle. c.advance.ensures.mode (way.1 idle),
       read_quiet c.args.sql.now (bound c.args.params.now) start c.requires.plain c.requires.serves (state g.S.Store c.rows.rows.conn.now) (state g.S.Store c.advance.new.self.conn.now) way.2 c.advance.ensures.survives,
       read_on g.S.Store g.R.Reader.has_read c.args.sql.now (bound c.args.params.now) start c.args.reader.now c.rows.rows.conn.now c.advance.new.self.conn.now c.rows.reader c.advance.ensures.survives way.3 c.in_ok-advance.ensures.same
-          _ c.in-Some.row.now c.read.new.self here c.in_ok-advance.ensures.ok c.in_ok-read.ensures,
+          _ c.in-Some.row.now c.read.new.self here c.in_ok-advance.ensures.ok c.in_ok-read.ensures.more,
     )
 
 pub returns-in_err-advance-clause-mode : goal.returns-in_err-advance-clause-mode
@@ -147,3 +150,30 @@ returns-clause-survives g c =
     let start = state g.S.Store c.args.conn.now in
     let same : c.rows.rows.conn.now ≡ c.conn-2-1.given.0 = search rules in
     subst (λ h. Survives start (state g.S.Store h) (λ _. ⊥)) same c.rows.invariant.2
+
+pub returns-in_err-rows-clause-cause : goal.returns-in_err-rows-clause-cause
+returns-in_err-rows-clause-cause g c clean grants =
+    let held = rw c.in_err-rows.was at c.query.follows.holds-at-none in
+    let plain = c.requires.plain (omega (arith, clean, held.survives.clean)) in
+    let p = err_from_is_err_and c.from_residual.result c.from_residual.ensures.1 in
+    rw (p.1, p.2) (inl (query_caused c.args.sql.now (bound c.args.params.now) (state g.S.Store c.args.conn.now) (state g.S.Store c.query.follows.lender-at-none) plain grants c.in_err-rows.field-0.0 (held.err clean)))
+
+pub returns-in_err-advance-clause-cause : goal.returns-in_err-advance-clause-cause
+returns-in_err-advance-clause-cause g c clean grants =
+    let start = state g.S.Store c.args.conn.now in
+    let old = state g.S.Store c.rows.rows.conn.now in
+    let new = state g.S.Store c.advance.new.self.conn.now in
+    let same : c.advance.new.self.conn.now ≡ c.conn-in_err-advance-1.given.0 = search rules in
+    let late : HasCleanDisk new = subst (λ h. HasCleanDisk (state g.S.Store h)) (sym same) clean in
+    let early : HasCleanDisk old = omega (arith, late, c.advance.ensures.survives.clean) in
+    let was = c.rows.invariant.3 early in
+    let first = c.rows.invariant.2 in
+    let plain = c.requires.plain (omega (arith, early, first.clean)) in
+    let failed = c.in_err-advance.ensures.err late c.args.sql.now (bound c.args.params.now) was.0 was.1 in
+    let p = err_from_is_err_and c.from_residual-in_err-advance.result c.from_residual-in_err-advance.ensures.1 in
+    rw (p.1, p.2) (inl (subst (λ h. IsCaused start (state g.S.Store h) c.in_err-advance.field-0.0) same
+    (reading_caused c.args.sql.now (bound c.args.params.now) start old new (λ _. ⊥) plain grants c.in_err-advance.field-0.0 first was.2 failed)))
+
+pub returns-in_err-read-clause-cause : goal.returns-in_err-read-clause-cause
+returns-in_err-read-clause-cause g c clean grants =
+    let p = err_from_is_err_and c.from_residual-in_err-read.result c.from_residual-in_err-read.ensures.1 in rw (p.1, p.2) (inr c.in_err-read.ensures.told)

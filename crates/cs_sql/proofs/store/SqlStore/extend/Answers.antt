@@ -4,7 +4,7 @@ use Rattle.sqlite.specs.State.{HasCleanDisk}
 use Rattle.cs_sql.specs.schema.Schemas.{front_schema}
 use Rattle.cs_sql.specs.statements.Found.{front_in}
 use Rattle.cs_sql.specs.Keeping.{IsFresh}
-use Rattle.cs_sql.proofs.Whole.{completed_fresh, completed_survives, given_back}
+use Rattle.cs_sql.proofs.Whole.{completed_fresh, completed_survives, given_back, told_fails}
 use Rattle.cs_sql.proofs.store.SqlStore.extend.Goals as goal
 
 pub returns-in-Ok-clause-made : goal.returns-in-Ok-clause-made
@@ -20,3 +20,6 @@ pub returns-in-Err-clause-kept : goal.returns-in-Err-clause-kept
 returns-in-Err-clause-kept g c =
     given_back g.A.Store front_schema (state g.A.Store c.args.conn) c.complete.new.conn c.complete.ensures.idle c.requires.front
     (completed_survives (state g.A.Store c.args.conn) (state g.A.Store c.complete.new.conn) c.args.log c.requires.front c.requires.kept c.requires.log c.complete.ensures.survives) c.in-Err.ensures.err
+
+pub returns-in-Err-clause-cause : goal.returns-in-Err-clause-cause
+returns-in-Err-clause-cause g c clean = told_fails (state g.A.Store c.args.conn) (state g.A.Store c.complete.new.conn) c.in-Err.error c.fault_of.result c.fault_of.ensures.memory (c.in-Err.ensures.cause clean)

@@ -19,4 +19,4 @@ pub returns-in-Err : goal.returns-in-Err
 returns-in-Err g c =
     let inside = c.self.inside in
     rw (← c.self.view_is) (commit_failed g.A.Store (record { conn = inside.conn; last = inside.last.value; log = inside.log; failures = inside.failures; misreads = inside.misreads }) c.commit_batch.new.conn c.args.batch.now
-    c.fault_of.new.failures c.fault_of.result c.self.invariant c.commit_batch.ensures.survives c.fault_of.ensures)
+    c.fault_of.new.failures c.fault_of.result c.self.invariant c.commit_batch.ensures.survives c.fault_of.ensures.told)
