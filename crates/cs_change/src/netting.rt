@@ -3,7 +3,7 @@
 //! (`cs_group`) and rebase (`cs_rebaser`) stand on it. `then_into` takes two changes together by SQLite's rules for a changegroup; `net`,
 //! `net_change`, `net_into` and `push_net` are the one change from a row or none to another; `defined`, `keeps_value`, `overlaid` and
 //! `make_inverse_columns` are about the columns of two records. What each result is, is a function of `cs_change`'s definitions, and of
-//! its own of the flag (`with_flag`, `then_change` of its `specs/Combine.antt`).
+//! its own of the flag (`with_flag`, `then_change` of its `specs/netting/Combine.antt`).
 //! Its tests stand in `cs_operations_tests`.
 
 mod record_columns;
