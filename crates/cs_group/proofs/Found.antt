@@ -148,7 +148,7 @@ none_together marks q (changes ∷ lists) none =
     let first : change_at q changes ≡ None = none_at q changes (λ h. none (among_front q (keys_of changes) (all_keys lists) h)) in
     ap (λ (o : Option Change). fold (then_form marks) (then_form marks None o) (map (change_at q) lists)) first ∙ none_together marks q lists (λ h. none (among_behind q (keys_of changes) (all_keys lists) h))
 
-together : (marks : List Bool) (lists : List Changes) → (joined : Changes) × AreTakenTogether marks lists joined
+pub together : (marks : List Bool) (lists : List Changes) → (joined : Changes) × AreTakenTogether marks lists joined
 together marks lists =
     let left : List ℕ → Option Change = λ q. fold (then_form marks) None (map (change_at q) lists) in
     let ordered = in_order (all_keys lists) in (
