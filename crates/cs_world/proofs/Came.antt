@@ -11,6 +11,7 @@ use Rattle.cs_opening.specs.declared.fault.OpenFault.{OpenFault}
 use Rattle.cs_opening.specs.declared.fault.OpenFault.TheVariants as opening
 use Rattle.cs_pending.specs.declared.fault.EditFault.{EditFault}
 use Rattle.cs_pending.specs.position.Shows.{flown}
+use Rattle.cs_pending.specs.declared.position.position.Position.{Position}
 use Rattle.cs_exchange.specs.declared.pulling.fault.AnswerFault.{AnswerFault}
 use Rattle.cs_exchange.specs.pushing.Pushes.{grounded, pushed, request_of}
 use Rattle.cs_exchange.specs.declared.pushing.fault.PushFault.{PushFault}
@@ -18,13 +19,13 @@ use Rattle.cs_replica.specs.Edited.{with_pending}
 use Rattle.cs_replica.specs.declared.told.Told.{Told}
 use Rattle.cs_value.specs.declared.edit.Edit.{Edit}
 use Rattle.cs_wire.specs.Answers.{FitsAnswer, answer_spelling}
-use Rattle.cs_wire.specs.Requests.{Asked, AsksPull, request_spelling}
+use Rattle.cs_wire.specs.Requests.{Asked, AsksCatch, AsksPull, request_spelling}
 use Rattle.cs_wire.specs.declared.answer.Answer.{Answer}
 use Rattle.cs_world.specs.Steps as step
 use Rattle.cs_world.specs.Steps.{Hears, Step, addressee, heard}
 use Rattle.cs_world.specs.World.{Asks, IsMember, IsMessage, Member, Sent, Tells, World, with_log, with_member, with_message}
 use Rattle.cs_world.specs.declared.event.Event.{Event}
-use Rattle.cs_world.specs.declared.event.Event.TheVariants.{AskPull, Deliver, MakePush, OnEdit, Resend, Restart}
+use Rattle.cs_world.specs.declared.event.Event.TheVariants.{AskCatch, AskPull, Deliver, MakePush, OnEdit, Resend, Restart}
 use Rattle.cs_world.specs.declared.outcome.Outcome.{Outcome}
 use Rattle.cs_world.specs.declared.outcome.Outcome.TheVariants as told
 use Rattle.cs_world.proofs.Found.{set_same}
@@ -82,11 +83,11 @@ module _ (limit : ℕ) (old : World) where
     pub outcome_is : outcome ≡ ask_outcome (length old.messages) result
     pub new_is : new ≡ with_asked old r result
 
-  pub record AskedFrom (r count : ℕ) (outcome : Outcome) (new : World) : Type 0 where
+  pub record AskedFrom (r : ℕ) (asks : Position → Asked) (outcome : Outcome) (new : World) : Type 0 where
     pub before : Member
     pub was : IsMember old r before
     pub outcome_is : outcome ≡ told.Sent (length old.messages)
-    pub new_is : new ≡ with_message old (Asks r (AsksPull before.position.version count))
+    pub new_is : new ≡ with_message old (Asks r (asks before.position))
 
   pub record Reread (r : ℕ) (outcome : Outcome) (new : World) : Type 0 where
     pub before : Member
@@ -128,7 +129,8 @@ module _ (limit : ℕ) (old : World) where
   Came (OnEdit r asked) outcome new = Edited r asked outcome new
   Came (MakePush r) outcome new = Pushed r outcome new
   Came (Resend r) outcome new = AskedOnceMore r outcome new
-  Came (AskPull r count) outcome new = AskedFrom r count outcome new
+  Came (AskPull r count) outcome new = AskedFrom r (λ position. AsksPull position.version count) outcome new
+  Came (AskCatch r count) outcome new = AskedFrom r (λ position. AsksCatch position.id position.version count) outcome new
   Came (Deliver k wishes) outcome new = Missed k outcome new ⊎ (Answered k outcome new ⊎ HeardOf k wishes outcome new)
   Came (Restart r) outcome new = Reread r outcome new
 
@@ -141,7 +143,7 @@ module _ (limit : ℕ) (old : World) where
     pub new_is : new ≡ old
 
   abbrev pub Comes : Event → Outcome → World → Type 0
-  Comes event outcome new = (outcome ≡ told.Memory) ⊎ (Lacks event outcome new ⊎ Came event outcome new)
+  Comes event outcome new = ((outcome ≡ told.Memory) × (new ≡ old)) ⊎ (Lacks event outcome new ⊎ Came event outcome new)
 
   -- ---- each step is such a one
 
@@ -207,6 +209,7 @@ module _ (limit : ℕ) (old : World) where
     new_is = refl;
   }))
   came (step.asks {r = r} {count = count} {before = before} few was) = inr (inr (record { before = before; was = was; outcome_is = refl; new_is = refl }))
+  came (step.catches {r = r} {count = count} {before = before} few was) = inr (inr (record { before = before; was = was; outcome_is = refl; new_is = refl }))
   came (step.restarts {r = r} {before = before} was) = inr (inr (record { before = before; was = was; result = Ok tt; goes = tt; outcome_is = refl; new_is = refl }))
   came (step.restarts_not {r = r} {before = before} {fault = fault} was why) = inr (inr (record { before = before; was = was; result = Err fault; goes = why; outcome_is = refl; new_is = refl }))
   came (step.serves {k = k} {r = r} {wishes = wishes} {asked = asked} {log = log} answer there fits serves) = inr (inr (inr (inl (record {
@@ -234,7 +237,7 @@ module _ (limit : ℕ) (old : World) where
   }))))
   came (step.no_replica {event = event} {r = r} to none) = inr (inl (record { r = r; to = to; none = none; outcome_is = refl; new_is = refl }))
   came (step.no_message {k = k} {wishes = wishes} none) = inr (inr (inl (record { none = none; outcome_is = refl; new_is = refl })))
-  came (step.no_memory {event = event}) = inl refl
+  came (step.no_memory {event = event}) = inl (refl, refl)
 
   -- ---- what comes to something has its replica
 
@@ -261,6 +264,7 @@ module _ (limit : ℕ) (old : World) where
   has_replica (MakePush r) outcome new s came to none = member_there r s came.before to came.was none
   has_replica (Resend r) outcome new s came to none = member_there r s came.before to came.was none
   has_replica (AskPull r count) outcome new s came to none = member_there r s came.before to came.was none
+  has_replica (AskCatch r count) outcome new s came to none = member_there r s came.before to came.was none
   has_replica (Restart r) outcome new s came to none = member_there r s came.before to came.was none
   has_replica (Deliver k wishes) outcome new s (inl missed) to none = not_to_one k s None missed.none refl to
   has_replica (Deliver k wishes) outcome new s (inr (inl served)) to none = not_to_one k s (Some (Asks served.r served.asked)) served.there refl to

@@ -31,7 +31,7 @@ use Rattle.cs_world.specs.Steps as step
 use Rattle.cs_world.specs.Steps.{Step, Steps, addressee, heard}
 use Rattle.cs_world.specs.World.{Asks, IsMember, IsMessage, Member, Sent, Tells, World, with_log, with_member, with_message}
 use Rattle.cs_world.specs.declared.event.Event.{Event}
-use Rattle.cs_world.specs.declared.event.Event.TheVariants.{AskPull, Deliver, MakePush, OnEdit, Resend, Restart}
+use Rattle.cs_world.specs.declared.event.Event.TheVariants.{AskCatch, AskPull, Deliver, MakePush, OnEdit, Resend, Restart}
 use Rattle.cs_world.specs.declared.outcome.Outcome.{Outcome}
 use Rattle.cs_world.specs.declared.outcome.Outcome.TheVariants as told
 use Rattle.cs_world.proofs.Came.{Answered, AskedFrom, AskedOnceMore, Came, Comes, Edited, HeardOf, IsRead, Missed, Pushed, Reread, ask_outcome, came, edit_outcome, has_replica, read_outcome, with_asked}
@@ -167,14 +167,13 @@ module _ (laws : Below) (limit : ℕ) (old : World) (ms : List Member) where
           same_as (with_asked old r one.result) (with_asked twin r two.result) new last one.new_is two.new_is (asked_same old twin r one.result two.result results same),
         )
 
-    asked_from_once : (r count : ℕ) (some other : Outcome) (new last : World) → AskedFrom limit old r count some new → AskedFrom limit twin r count other last → (some ≡ other) × IsSameWorld new last
-    asked_from_once r count some other new last one two =
+    asked_from_once : (r : ℕ) (asks : Position → Asked) (some other : Outcome) (new last : World) → AskedFrom limit old r asks some new → AskedFrom limit twin r asks other last → (some ≡ other) × IsSameWorld new last
+    asked_from_once r asks some other new last one two =
         let alike = same.members r one.before two.before one.was two.was in
-        let versions : two.before.position.version ≡ one.before.position.version = ap (λ (p : Position). p.version) alike.position in
-        let there : last ≡ with_message twin (Asks r (AsksPull one.before.position.version count)) = two.new_is ∙ ap (λ (v : ℕ). with_message twin (Asks r (AsksPull v count))) versions in (
+        let there : last ≡ with_message twin (Asks r (asks one.before.position)) = two.new_is ∙ ap (λ (p : Position). with_message twin (Asks r (asks p))) alike.position in (
           one.outcome_is ∙ sym two.outcome_is,
-          same_as (with_message old (Asks r (AsksPull one.before.position.version count))) (with_message twin (Asks r (AsksPull one.before.position.version count))) new last one.new_is there
-              (sent_same old twin (Asks r (AsksPull one.before.position.version count)) same),
+          same_as (with_message old (Asks r (asks one.before.position))) (with_message twin (Asks r (asks one.before.position))) new last one.new_is there
+              (sent_same old twin (Asks r (asks one.before.position)) same),
         )
 
     read_once : (r : ℕ) (some other : Outcome) (new last : World) → (IsRefused some new → ⊥) → (IsRefused other last → ⊥) → Reread limit old r some new → Reread limit twin r other last → (some ≡ other) × IsSameWorld new last
@@ -271,7 +270,9 @@ module _ (laws : Below) (limit : ℕ) (old : World) (ms : List Member) where
     came_once (OnEdit r asked) some other new last not never one two = edited_once r asked some other new last not never one two
     came_once (MakePush r) some other new last not never one two = pushed_once r some other new last not never one two
     came_once (Resend r) some other new last not never one two = asked_again_once r some other new last not never one two
-    came_once (AskPull r count) some other new last not never one two = asked_from_once r count some other new last one two
+    came_once (AskPull r count) some other new last not never one two = asked_from_once r (λ position. AsksPull position.version count) some other new last one two
+    came_once (AskCatch r count) some other new last not never one two =
+        asked_from_once r (λ position. AsksCatch position.id position.version count) some other new last one two
     came_once (Restart r) some other new last not never one two = read_once r some other new last not never one two
     came_once (Deliver k wishes) some other new last not never (inl one) (inl two) = missed_once k some other new last one two
     came_once (Deliver k wishes) some other new last not never (inl one) (inr (inl two)) = absurd (never_missed k (Asks two.r two.asked) one.none two.there)
@@ -289,12 +290,13 @@ module _ (laws : Below) (limit : ℕ) (old : World) (ms : List Member) where
     to_same (MakePush r) = refl
     to_same (Resend r) = refl
     to_same (AskPull r count) = refl
+    to_same (AskCatch r count) = refl
     to_same (Deliver k wishes) = refl
     to_same (Restart r) = refl
 
     comes_once : (event : Event) (some other : Outcome) (new last : World) → (IsRefused some new → ⊥) → (IsRefused other last → ⊥) → Comes limit old event some new → Comes limit twin event other last → (some ≡ other) × IsSameWorld new last
-    comes_once event some other new last not never (inl memory) two = absurd (not_as some told.Memory new memory not tt)
-    comes_once event some other new last not never (inr one) (inl memory) = absurd (not_as other told.Memory last memory never tt)
+    comes_once event some other new last not never (inl (memory, stays)) two = absurd (not_as some told.Memory new memory not tt)
+    comes_once event some other new last not never (inr one) (inl (memory, stays)) = absurd (not_as other told.Memory last memory never tt)
     comes_once event some other new last not never (inr (inl one)) (inr (inl two)) = (one.outcome_is ∙ sym two.outcome_is, same_as old twin new last one.new_is two.new_is same)
     comes_once event some other new last not never (inr (inl one)) (inr (inr two)) =
         absurd (has_replica limit twin event other last one.r two (to_same event ∙ one.to) (none_there old.members ms one.r same.count one.none))
@@ -329,6 +331,7 @@ step_keeps limit old new event outcome k message one there = keeps one there
     keeps (step.resends was flight) there = still old.messages _ message k there
     keeps (step.resends_not was why) there = there
     keeps (step.asks few was) there = still old.messages _ message k there
+    keeps (step.catches few was) there = still old.messages _ message k there
     keeps (step.restarts was) there = there
     keeps (step.restarts_not was why) there = there
     keeps (step.serves answer at fits serves) there = still old.messages _ message k there

@@ -1,13 +1,17 @@
 -- An event has an outcome that is no refusal.
 use Rattle.std.proofs.Common.{◌≡◌, ◌∙◌, ◌++◌, ◌<◌, ◌^◌, ℕ, List, [], ◌∷◌, map, Option, Some, None, Result, Ok, Err, length, slice_get, refl, sym, ap, subst, inl, inr, arith}
-use Rattle.std.specs.Prelude.{◌⊎◌, IsUtf8}
+use Rattle.std.specs.Prelude.{◌⊎◌, IsUtf8, drop}
 use Rattle.std.specs.List.{AllByRecursion}
 use Rattle.std.proofs.lemmas.Bool.{cases_lt}
+use Rattle.std.proofs.lemmas.List.Elements.{All-drop, All-weaker}
 use Rattle.cs_conflict.specs.Laws.{GuardedIsLawful}
 use Rattle.cs_conflict.specs.Wishes.{guarded}
 use Rattle.cs_conflict.specs.declared.wish.Wish.{Wish}
 use Rattle.cs_hub.specs.Refusals.{refusal_code, refusal_of_hub}
-use Rattle.cs_hub.specs.Serves.{Serves, or_refusal, push_answer, refused}
+use Rattle.cs_hub.specs.Serves.{Serves, caught_answer, or_refusal, push_answer, refused}
+use Rattle.cs_hub.specs.catching.Laws.{CatchHasAnswer}
+use Rattle.cs_hub.specs.declared.catching.caught.Caught.{Caught}
+use Rattle.cs_hub.specs.declared.catching.caught.Caught.TheVariants as caught
 use Rattle.cs_hub.specs.judgement.Hub.{HubState, entries_from}
 use Rattle.cs_hub.specs.judgement.Judged.{hub_of}
 use Rattle.cs_hub.specs.judgement.Laws.{PushHasAnswer}
@@ -17,6 +21,7 @@ use Rattle.cs_hub.specs.declared.judgement.fault.HubFault.TheVariants as hub
 use Rattle.cs_hub.specs.declared.judgement.push.Pushed.{Pushed}
 use Rattle.cs_hub.specs.declared.judgement.push.Pushed.TheVariants as pushed
 use Rattle.cs_store.specs.declared.log.entry.LogEntry.{LogEntry}
+use Rattle.cs_store.specs.log.Stored.{IsEntryOf}
 use Rattle.cs_replica.specs.member.Laws.{EditHasResult, IsInRange, IsOfEdit, IsOfPushed, PushHasResult}
 use Rattle.cs_replica.specs.member.Member.{IsEditedTo, IsPushAsked}
 use Rattle.cs_normalising.specs.Laws.{NormalAgain}
@@ -43,22 +48,22 @@ use Rattle.cs_value.specs.declared.catalog.TableDef.{TableDef}
 use Rattle.cs_value.specs.declared.edit.Edit.{Edit}
 use Rattle.cs_wire.specs.Answers.{answer_spelling}
 use Rattle.cs_wire.specs.Entries.{ToldEntry}
-use Rattle.cs_wire.specs.Requests.{Asked, AsksPull, AsksPush, FitsRequest, request_spelling}
+use Rattle.cs_wire.specs.Requests.{Asked, AsksCatch, AsksPull, AsksPush, FitsRequest, request_spelling}
 use Rattle.cs_wire.specs.Told.{told_entry}
 use Rattle.cs_wire.specs.declared.answer.Answer.{Answer}
-use Rattle.cs_wire.specs.declared.answer.Answer.TheVariants.{Entries, Short}
+use Rattle.cs_wire.specs.declared.answer.Answer.TheVariants.{Entries, Merged, Short}
 use Rattle.cs_wire.specs.declared.push_head.PushHead.{PushHead}
 use Rattle.cs_wire.specs.declared.short_answer.ShortAnswer.TheVariants as short
 use Rattle.cs_wire.specs.declared.short_answer.ShortAnswer.TheVariants.{Refused}
 use Rattle.cs_conflict.specs.wish_list.Wished.{IsWished, next_wish, wishes_left}
-use Rattle.cs_world.specs.Laws.{AnswersFit, AskHasStep, DeliverHasStep, EditHasStep, HasStep, PushHasStep, ResendHasStep, RestartHasStep}
+use Rattle.cs_world.specs.Laws.{AnswersFit, AskHasStep, CatchHasStep, DeliverHasStep, EditHasStep, HasStep, PushHasStep, ResendHasStep, RestartHasStep}
 use Rattle.cs_world.specs.Same.{IsRefused, device_code}
-use Rattle.cs_world.specs.Sound.{IsSound, IsTrueAsked, IsTruePush}
+use Rattle.cs_world.specs.Sound.{IsSound, IsStoredEntry, IsTrueAsked, IsTruePush}
 use Rattle.cs_world.specs.Steps as step
 use Rattle.cs_world.specs.Steps.{addressee, heard}
 use Rattle.cs_world.specs.World.{Asks, IsMember, IsMessage, Member, Sent, Tells, World, with_log, with_member, with_message}
 use Rattle.cs_world.specs.declared.event.Event.{Event}
-use Rattle.cs_world.specs.declared.event.Event.TheVariants.{AskPull, Deliver, MakePush, OnEdit, Resend, Restart}
+use Rattle.cs_world.specs.declared.event.Event.TheVariants.{AskCatch, AskPull, Deliver, MakePush, OnEdit, Resend, Restart}
 use Rattle.cs_world.specs.declared.outcome.Outcome.TheVariants as told
 use Rattle.cs_world.proofs.Found.{added}
 
@@ -70,6 +75,7 @@ pub record Below : Type 0 where
   pub taken : NormalIsTaken
   pub again : NormalAgain
   pub answer : AnswerHasResult IsWished (λ wishes. Unit {0})
+  pub catch : CatchHasAnswer
 
 there_or_not : {A : Type 0} (o : Option A) → (o ≡ None) ⊎ ((a : A) × (o ≡ Some a))
 there_or_not None = inl refl
@@ -171,6 +177,19 @@ module _ (limit : ℕ) (world : World) where
           not_sent world (Asks r (AsksPull before.position.version count)) (λ q. asks_nothing_failed r q (AsksPull before.position.version count)),
           step.asks few was,
         )
+      ]
+
+  pub catch_exists : (r count : ℕ) → count < 2 ^ 32 → HasStep limit world (AskCatch r count)
+  catch_exists r count few =
+      elim (there_or_not (slice_get world.members r)) [
+        | inl none ↦ no_replica (AskCatch r count) r refl none
+        | inr (before, was) ↦
+            let asked : Asked = AsksCatch before.position.id before.position.version count in (
+              told.Sent (length world.messages),
+              with_message world (Asks r asked),
+              not_sent world (Asks r asked) (λ q. asks_nothing_failed r q asked),
+              step.catches few was,
+            )
       ]
 
   pub restart_exists : (r : ℕ) → HasStep limit world (Restart r)
@@ -275,8 +294,33 @@ module _ (laws : Below) (limit : ℕ) (small : limit < 2 ^ 32) (world : World) (
         }
       ]
 
+  catch_well : (asker first : ℕ) (told : Caught) → answer_spelling (caught_answer asker first world.log told) ≡ answer_spelling (Short (Refused device_code)) → ⊥
+  catch_well asker first caught.Own is = entries_well first (map told_entry (entries_from first 1 world.log)) is
+  catch_well asker first (caught.Merged count changes) is = let tags = same_first 21 19 _ _ is in omega (arith, tags)
+
+  catch_served : (asker first count : ℕ) → FitsRequest (AsksCatch asker first count) → Served limit world (AsksCatch asker first count)
+  catch_served asker first count fits =
+      elim (cases_lt (length world.log) first) [
+        | inl above ↦ record {
+          bytes = refused (refusal_of_hub hub.Ahead);
+          log = world.log;
+          serves = (Ok (AsksCatch asker first count), (fits, refl), (inl (above, refl), refl));
+          well = refusal_well hub.Ahead (λ e. cc);
+        }
+        | inr within ↦
+            let of_tables = All-weaker (IsStoredEntry world.tables) (IsEntryOf world.tables) (λ e stored. stored.0) (drop first world.log) (All-drop (IsStoredEntry world.tables) first world.log s.entries) in
+            let told = laws.catch world.tables asker count (drop first world.log) s.tables of_tables in
+            record {
+              bytes = answer_spelling (caught_answer asker first world.log told.0);
+              log = world.log;
+              serves = (Ok (AsksCatch asker first count), (fits, refl), (inr (within, told.0, told.1, refl), refl));
+              well = catch_well asker first told.0;
+            }
+      ]
+
   asked_served : (asked : Asked) → FitsRequest asked → IsTrueAsked world asked → Served limit world asked
   asked_served (AsksPull first count) fits t = pull_served first count fits
+  asked_served (AsksCatch asker first count) fits t = catch_served asker first count fits
   asked_served (AsksPush head changeset) fits t = push_served head changeset fits t
 
   serve_exists : (k r : ℕ) (wishes : List Wish) (asked : Asked) → IsMessage world k (Asks r asked) → HasStep limit world (Deliver k wishes)
@@ -343,6 +387,9 @@ resend_has_step limit r world = resend_exists limit world r
 
 pub ask_has_step : AskHasStep
 ask_has_step limit r count world few = ask_exists limit world r count few
+
+pub catch_has_step : CatchHasStep
+catch_has_step limit r count world few = catch_exists limit world r count few
 
 pub restart_has_step : RestartHasStep
 restart_has_step limit r world = restart_exists limit world r

@@ -7,9 +7,10 @@ use Rattle.cs_store.specs.log.Log.{IsLog, tables_at}
 use Rattle.cs_store.specs.declared.log.entry.LogEntry.{LogEntry}
 use Rattle.cs_normal.specs.State.{IsDefinedOn, State}
 use Rattle.cs_normal.specs.declared.normal.TableChanges.{TableChanges}
+use Rattle.cs_hub.specs.catching.Laws.{OthersAsLogGrows}
 use Rattle.cs_replica.specs.Laws.{StandsLonger}
-use Rattle.cs_wire.specs.Requests.{Asked, AsksPull, AsksPush}
-use Rattle.cs_wire.specs.declared.answer.Answer.TheVariants.{Short, Entries}
+use Rattle.cs_wire.specs.Requests.{Asked, AsksCatch, AsksPull, AsksPush}
+use Rattle.cs_wire.specs.declared.answer.Answer.TheVariants.{Short, Entries, Merged}
 use Rattle.cs_wire.specs.declared.push_head.PushHead.{PushHead}
 use Rattle.cs_wire.specs.declared.short_answer.ShortAnswer.TheVariants.{Accepted, Stale, Refused}
 use Rattle.cs_world.specs.Sound.{IsAcceptedIn, IsPlaced, IsSound, IsStoredEntry, IsTrue, IsTruePush, WasAsked, push_of}
@@ -44,7 +45,7 @@ asked_none asked there = nowhere (Asks there.1 asked) there.0 there.2
 abbrev pub AreOne : PushHead → PushHead → List ℕ → List ℕ → Type 0
 AreOne head other changeset its = (head.base ≡ other.base) × (changeset ≡ its)
 
-module _ (longer : LongerLog) (stands : StandsLonger) where
+module _ (longer : LongerLog) (stands : StandsLonger) (others : OthersAsLogGrows) where
   module _ (w w' : World) (sent : List Sent) (goes : Goes w w' sent) where
     pub asked_on : (asked : Asked) → WasAsked w asked → WasAsked w' asked
     asked_on asked there =
@@ -90,12 +91,15 @@ module _ (longer : LongerLog) (stands : StandsLonger) where
     pub true_on : (message : Sent) → IsTrue w message → IsTrue w' message
     true_on (Asks r (AsksPush head changeset)) t = push_on head changeset t
     true_on (Asks r (AsksPull first count)) t = tt
+    true_on (Asks r (AsksCatch origin first count)) t = tt
     true_on (Tells r (Short (Accepted origin number version))) t = accepted_on origin number version t
     true_on (Tells r (Short (Stale newest))) t = tt
     true_on (Tells r (Short (Refused code))) t = t
     true_on (Tells r (Entries first entries)) t = λ at told there.
         let e = t at told there in
         (e.0, entry_on e.0 (first + at) e.1, e.2)
+    true_on (Tells r (Merged origin first next changeset)) t =
+        rw (goes.tables_same, goes.log_is) (others w.tables w.log goes.more origin first next changeset t)
 
     -- a replica that stays is placed as it was
     pub placed_on : (r : ℕ) (m : Member) → IsPlaced w r m → IsPlaced w' r m

@@ -14,7 +14,12 @@ use Rattle.cs_store.specs.log.Stored.{AreChangesOf}
 use Rattle.cs_store.specs.declared.log.body.Body.{Body}
 use Rattle.cs_store.specs.declared.log.body.Body.TheVariants.{Changes}
 use Rattle.cs_store.specs.declared.log.entry.LogEntry.{LogEntry}
-use Rattle.cs_normalising.specs.Laws.{NormalAgain}
+use Rattle.cs_normalising.specs.Laws.{NormalAgain, OneNormalForm}
+use Rattle.cs_normalising.specs.NormalFormOf.{IsNormalFormOf}
+use Rattle.cs_change.specs.declared.group.Group.{Group}
+use Rattle.cs_changeset.specs.Laws.{OneChangeset}
+use Rattle.cs_hub.specs.catching.Laws.{ConsolidatedLeads}
+use Rattle.cs_hub.specs.catching.Told.{AreOthersAsOne}
 use Rattle.cs_normal.specs.Laws.{NormalIsTaken}
 use Rattle.cs_normal.specs.Normal.{change_of, groups_of, normal_spelling}
 use Rattle.cs_normal.specs.State.{AreSame, IsApplied, IsDefinedOn, State}
@@ -25,7 +30,8 @@ use Rattle.cs_pending.specs.position.Shows.{ShowsAt, base, flown}
 use Rattle.cs_pending.specs.declared.position.position.Position.{Position}
 use Rattle.cs_exchange.specs.pulling.Laws.{OneRead, PulledLeads}
 use Rattle.cs_exchange.specs.pulling.Listed.{Ends, EndsBad, IsToldAt, PullsList, PullsMany, count_of}
-use Rattle.cs_exchange.specs.pulling.Told.{IsReadAs}
+use Rattle.cs_exchange.specs.pulling.Merged.{TakesTold}
+use Rattle.cs_exchange.specs.pulling.Told.{IsFormOf, IsReadAs}
 use Rattle.cs_exchange.specs.declared.pulling.fault.AnswerFault.{AnswerFault}
 use Rattle.cs_exchange.specs.declared.pulling.fault.AnswerFault.TheVariants as fault
 use Rattle.cs_exchange.specs.declared.pulling.listing.Pulled.{Pulled}
@@ -33,23 +39,24 @@ use Rattle.cs_exchange.specs.declared.pulling.listing.Pulled.TheVariants as pull
 use Rattle.cs_exchange.specs.pushing.Pushes.{confirmed}
 use Rattle.cs_replica.specs.Accepted.{IsAccepted}
 use Rattle.cs_replica.specs.Answered.{Answers, TellsAccepted, told_of}
-use Rattle.cs_replica.specs.Laws.{EntryStands, FlightFits, KeptStands}
+use Rattle.cs_replica.specs.Laws.{EntryStands, FlightFits, KeptStands, LeadStands}
 use Rattle.cs_replica.specs.Stands.{StandsOn}
 use Rattle.cs_replica.specs.declared.told.Told.{Told}
 use Rattle.cs_replica.specs.declared.told.Told.TheVariants as told
 use Rattle.cs_store.specs.Contents.{Contents}
 use Rattle.cs_exchange.specs.taking.Laws.{OneLogRows}
-use Rattle.cs_exchange.specs.taking.Takes.{taken}
+use Rattle.cs_exchange.specs.taking.Takes.{IsTaken, brought, taken}
 use Rattle.cs_wire.specs.Entries.{ToldEntry}
 use Rattle.cs_wire.specs.Told.{told_entry}
 use Rattle.cs_wire.specs.declared.answer.Answer.{Answer}
-use Rattle.cs_wire.specs.declared.answer.Answer.TheVariants.{Short, Entries}
+use Rattle.cs_wire.specs.declared.answer.Answer.TheVariants.{Short, Entries, Merged}
 use Rattle.cs_wire.specs.declared.short_answer.ShortAnswer.TheVariants.{Accepted, Stale, Refused}
 use Rattle.cs_conflict.specs.wish_list.Wished.{IsWished}
 use Rattle.cs_world.specs.Headline.{IsGood}
 use Rattle.cs_world.specs.Sound.{ArePartOf, IsAcceptedIn, IsPlaced, IsSound, IsStoredEntry, IsTrueAnswer}
 use Rattle.cs_world.specs.Steps.{Hears, heard}
 use Rattle.cs_world.specs.World.{Member, World}
+use Rattle.cs_world.proofs.Found.{some_is}
 
 -- the laws below
 pub record Below : Type 0 where
@@ -62,6 +69,10 @@ pub record Below : Type 0 where
   pub again : NormalAgain
   pub body : OneBody
   pub rows : OneLogRows
+  pub lead : LeadStands
+  pub consolidated : ConsolidatedLeads
+  pub changesets : OneChangeset
+  pub form : OneNormalForm
 
 -- what a replica is like after an answer: it stands on the log; what is under way is what was, at the same version
 pub record IsOn (log : List LogEntry) (position other : Position) (end : View) : Type 0 where
@@ -118,10 +129,12 @@ module _ (laws : Below) (limit : ℕ) (small : limit < 2 ^ 32) (world : World) (
         kind = refl;
         origin = refl;
         number = refl;
-        groups = groups_of (entry_changes entry);
-        fits = own.0;
-        spelled = spelled_body entry.body ∙ sym own.1;
-        form = laws.again world.tables (entry_changes entry) s.tables stored.0.changes.0 stored.0.changes.1;
+        read = record {
+          groups = groups_of (entry_changes entry);
+          fits = own.0;
+          spelled = spelled_body entry.body ∙ sym own.1;
+          form = laws.again world.tables (entry_changes entry) s.tables stored.0.changes.0 stored.0.changes.1;
+        };
       }
 
   module _ (first : ℕ) (entries : List ToldEntry) (part : ArePartOf world.log first entries) where
@@ -169,6 +182,44 @@ module _ (laws : Below) (limit : ℕ) (small : limit < 2 ^ 32) (world : World) (
           | inl last ↦ omega (arith, last, within, s.short, small)
           | inr wrong ↦ wrong.1 (defined_same world.tables (entry_changes e.0) (tables_at world.log position.version) (base position.flight view) stands.on_tables (s.log position.version e.0 e.1).defined)
         ]
+
+  -- ---- entries that were taken together
+
+  module _ (origin next : ℕ) (bytes : List ℕ) (position : Position) (view : View) (is : AreOthersAsOne world.tables world.log origin position.version next bytes) (stands : StandsOn world.log position view) where
+    leads : IsApplied world.tables is.changes (tables_at world.log position.version) (tables_at world.log next)
+    leads = laws.consolidated world.tables world.log position.version next is.changes s.tables s.log is.rising is.within is.together
+
+    -- they are defined on the log's rows as the replica has them
+    defined_there : IsDefinedOn world.tables is.changes (base position.flight view)
+    defined_there =
+        defined_same world.tables is.changes (tables_at world.log position.version) (base position.flight view) stands.on_tables
+        (leads.0, λ n k. some_is (leads.1 n k))
+
+    -- the bytes are read as them
+    own_form : IsFormOf world.tables bytes is.changes
+    own_form =
+        let own = laws.taken is.changes is.together.of_tables.0 in
+        record {
+          groups = groups_of is.changes;
+          fits = own.0;
+          spelled = is.spelled ∙ sym own.1;
+          form = laws.again world.tables is.changes s.tables is.together.of_tables.0 is.together.of_tables.1;
+        }
+
+    -- and as nothing else
+    pub form_is : (changes : List TableChanges) → IsFormOf world.tables bytes changes → changes ≡ is.changes
+    form_is changes read =
+        let same : read.groups ≡ own_form.groups = laws.changesets read.groups own_form.groups read.fits own_form.fits (sym read.spelled ∙ own_form.spelled) in
+        laws.form world.tables own_form.groups changes is.changes s.tables (subst (λ (gs : List Group). IsNormalFormOf world.tables gs changes) same read.form) own_form.form
+
+    -- where they were taken it stands behind them
+    pub taken_on : (changes : List TableChanges) (pending : ℕ) (after : View) (wishes unused : List Wish) → IsFormOf world.tables bytes changes → IsTaken IsWished world.tables position.flight changes view after wishes unused
+        → StandsOn world.log (brought position next pending) after
+    taken_on changes pending after wishes unused read t =
+        let applied = subst (λ (c : List TableChanges). IsApplied world.tables c (base position.flight view) (middle after)) (form_is changes read) t.applied in
+        laws.lead world.tables world.log next is.changes position (brought position next pending) view after is.within leads refl
+        (applied.0, λ n k. applied.1 n k ∙ ap (λ (place : Place). Some place) (sym (undo_none (middle after n k))))
+        stands
 
   -- ---- a push is confirmed
 
@@ -252,6 +303,27 @@ module _ (laws : Below) (limit : ℕ) (small : limit < 2 ^ 32) (world : World) (
         good_list (Err (fault.Memory count)) e stands n is = cc
         good_list (Err (fault.Device count)) e stands n is = cc
         good_list (Err (fault.BadEntry count)) e stands n is = absurd (none_bad first entries part other end stands e.0)
+
+    merged_left : (origin next : ℕ) (bytes : List ℕ) (wishes unused : List Wish) (result : Result Pulled AnswerFault) (other : Position) (left : Contents)
+        → AreOthersAsOne world.tables world.log origin before.position.version next bytes
+        → TakesTold IsWished world.tables next bytes result before.position before.view wishes other left unused
+        → IsLeft (told_of result) other left
+    merged_left origin next bytes wishes unused (Ok (pulled.Taken count)) other left is (sum, changes, after, read, moved, shows, takes) =
+        let stands = taken_on origin next bytes before.position before.view is p.stands changes other.pending after wishes unused read takes in
+        record {
+          end = after;
+          shows = shows;
+          on = subst (λ (o : Position). IsOn world.log before.position o after) (sym moved) (record { stands = stands; id = refl; number = refl; flight = λ cs gone. absurd (cc) });
+          good = λ n e. cc;
+        }
+    merged_left origin next bytes wishes unused (Ok (pulled.Stopped count)) other left is (none, changes, conflict, read, stops, (same, shows)) =
+        record { end = before.view; shows = subst (λ (o : Position). ShowsAt world.tables left o before.view) (sym same) shows; on = kept_on other same; good = λ n e. cc }
+    merged_left origin next bytes wishes unused (Err (fault.Memory count)) other left is (none, (same, shows)) =
+        record { end = before.view; shows = subst (λ (o : Position). ShowsAt world.tables left o before.view) (sym same) shows; on = kept_on other same; good = λ n e. cc }
+    merged_left origin next bytes wishes unused (Err (fault.Device count)) other left is (none, (same, shows)) =
+        record { end = before.view; shows = subst (λ (o : Position). ShowsAt world.tables left o before.view) (sym same) shows; on = kept_on other same; good = λ n e. cc }
+    merged_left origin next bytes wishes unused (Err (fault.BadEntry count)) other left is (none, bad, unasked, stays) =
+        absurd (bad (is.changes, own_form origin next bytes before.position before.view is p.stands, defined_there origin next bytes before.position before.view is p.stands))
 
     left_by : (answer : Answer) (wishes unused : List Wish) (result : Result Told AnswerFault) (other : Position) (left : Contents) → IsTrueAnswer world answer
         → Answers IsWished world.tables answer result before.position before.view wishes other left unused

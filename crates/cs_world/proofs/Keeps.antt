@@ -1,6 +1,5 @@
 -- Each event keeps a world sound, and hands no replica a bad entry.
 use Rattle.std.proofs.Common.{◌≡◌, ◌≤◌, ◌<◌, ◌+◌, ◌^◌, ◌∙◌, ℕ, List, [], ◌∷◌, Option, Some, Result, Ok, length, refl, sym, ap, subst, inl, inr, arith}
-use Rattle.std.specs.Prelude.{IsSome}
 use Rattle.cs_value.specs.declared.edit.Edit.{Edit}
 use Rattle.cs_conflict.specs.declared.wish.Wish.{Wish}
 use Rattle.cs_store.specs.log.Laws.{LongerLog}
@@ -18,11 +17,12 @@ use Rattle.cs_exchange.specs.declared.pulling.fault.AnswerFault.{AnswerFault}
 use Rattle.cs_exchange.specs.pushing.Pushes.{IsPushMade, grounded, pushed, request_of}
 use Rattle.cs_replica.specs.Edited.{with_pending}
 use Rattle.cs_replica.specs.Stands.{StandsOn}
+use Rattle.cs_hub.specs.catching.Laws.{OthersAsLogGrows}
 use Rattle.cs_replica.specs.Laws.{EditStands, FlightFits, KeptStands, StandsLonger}
 use Rattle.cs_replica.specs.declared.told.Told.{Told}
 use Rattle.cs_store.specs.Contents.{Contents}
 use Rattle.cs_wire.specs.Answers.{FitsAnswer, answer_spelling}
-use Rattle.cs_wire.specs.Requests.{Asked, AsksPull, AsksPush}
+use Rattle.cs_wire.specs.Requests.{Asked, AsksCatch, AsksPull, AsksPush}
 use Rattle.cs_wire.specs.declared.answer.Answer.{Answer}
 use Rattle.cs_wire.specs.declared.push_head.PushHead.{PushHead}
 use Rattle.cs_world.specs.Headline.{IsGood}
@@ -33,7 +33,7 @@ use Rattle.cs_world.specs.Steps.{Step, Hears}
 use Rattle.cs_world.specs.World.{Asks, FitsSent, IsMember, IsMessage, Member, Sent, Tells, World, with_log, with_member, with_message}
 use Rattle.cs_world.specs.declared.event.Event.{Event}
 use Rattle.cs_world.specs.declared.outcome.Outcome.{Outcome}
-use Rattle.cs_world.proofs.Found.{added, in_append, in_one}
+use Rattle.cs_world.proofs.Found.{added, in_append, in_one, some_is}
 use Rattle.cs_world.proofs.Goes.{AreOne, AskedIn, Goes, again_sound, asked_on, asked_one, moved, moved_at, moved_sound, next_sound, no_push, placed_on, quiet_sound, said_sound}
 use Rattle.cs_world.proofs.Heard as answers
 use Rattle.cs_world.proofs.Served as service
@@ -41,6 +41,7 @@ use Rattle.cs_world.proofs.Served as service
 pub record Below : Type 0 where
   pub longer : LongerLog
   pub stands : StandsLonger
+  pub others : OthersAsLogGrows
   pub edit : EditStands
   pub kept : KeptStands
   pub flight : FlightFits
@@ -48,9 +49,6 @@ pub record Below : Type 0 where
   pub last : LAST_NUMBER ≡ 9223372036854775807
   pub service : service.Below
   pub answers : answers.Below
-
-some_is : {X : Type 0} {o : Option X} {x : X} → o ≡ Some x → IsSome o
-some_is {o = o} {x = x} is = rw is refl
 
 module _ (laws : Below) (limit : ℕ) (small : limit < 2 ^ 32) (w : World) (s : IsSound limit w) where
   -- ---- an edit
@@ -61,7 +59,7 @@ module _ (laws : Below) (limit : ℕ) (small : limit < 2 ^ 32) (w : World) (s : 
       → IsSound limit (with_member w r (record { position = with_pending before.position count; view = next }))
   edited r count asked before next left was made shows =
       let p = s.placed r before was in
-      quiet_sound laws.longer laws.stands limit w r before (record { position = with_pending before.position count; view = next }) s was (omega arith) (record {
+      quiet_sound laws.longer laws.stands laws.others limit w r before (record { position = with_pending before.position count; view = next }) s was (omega arith) (record {
         id = p.id;
         fits = record { id = p.fits.id; version = p.fits.version };
         contents = left;
@@ -83,7 +81,7 @@ module _ (laws : Below) (limit : ℕ) (small : limit < 2 ^ 32) (w : World) (s : 
     message = Asks r (AsksPush head (normal_spelling changes))
 
     abbrev next : World
-    next = moved laws.longer laws.stands w r after (message ∷ [])
+    next = moved laws.longer laws.stands laws.others w r after (message ∷ [])
 
     p : IsPlaced w r before
     p = s.placed r before was
@@ -129,7 +127,7 @@ module _ (laws : Below) (limit : ℕ) (small : limit < 2 ^ 32) (w : World) (s : 
       within = p.stands.within;
       defined = defined;
       counted = λ m at.
-          elim (moved_at laws.longer laws.stands limit w r before after (message ∷ []) s was counts before.position.id m at) [
+          elim (moved_at laws.longer laws.stands laws.others limit w r before after (message ∷ []) s was counts before.position.id m at) [
             | inl q ↦ subst (λ (x : Member). before.position.number + 1 ≤ x.position.number) (sym q.1) (omega arith)
             | inr q ↦ absurd (q.0 p.id)
           ];
@@ -156,7 +154,7 @@ module _ (laws : Below) (limit : ℕ) (small : limit < 2 ^ 32) (w : World) (s : 
 
     pushed_sound : IsSound limit next
     pushed_sound =
-        moved_sound laws.longer laws.stands limit w r before after (message ∷ []) s was counts after_placed
+        moved_sound laws.longer laws.stands laws.others limit w r before after (message ∷ []) s was counts after_placed
         (λ m k at. let is = (in_one m message k at).1 in (rw is fits_message, rw is true_message)) one_push
 
   -- ---- the hub serves
@@ -172,13 +170,13 @@ module _ (laws : Below) (limit : ℕ) (small : limit < 2 ^ 32) (w : World) (s : 
         messages_are = refl;
         counts = λ j m at. (m, at, omega arith);
       } in
-      next_sound laws.longer laws.stands w new (Tells r answer ∷ []) goes limit s v.is_log v.entries v.short
-      (λ j m at. placed_on laws.longer laws.stands w new (Tells r answer ∷ []) goes j m (s.placed j m at))
+      next_sound laws.longer laws.stands laws.others w new (Tells r answer ∷ []) goes limit s v.is_log v.entries v.short
+      (λ j m at. placed_on laws.longer laws.stands laws.others w new (Tells r answer ∷ []) goes j m (s.placed j m at))
       (λ m j at. let is = (in_one m (Tells r answer) j at).1 in (rw is fits, rw is (service.served_true laws.service limit small w s asked answer log fits v)))
-      (no_push laws.longer laws.stands new (Tells r answer) (λ j head changeset e. cc))
+      (no_push laws.longer laws.stands laws.others new (Tells r answer) (λ j head changeset e. cc))
       (λ at entry is. elim (v.new_at at entry is) [
-        | inl old ↦ asked_on laws.longer laws.stands w new (Tells r answer ∷ []) goes (push_of at entry) (s.pushed at entry old)
-        | inr same ↦ asked_on laws.longer laws.stands w new (Tells r answer ∷ []) goes (push_of at entry) (subst (WasAsked w) same (k, r, there))
+        | inl old ↦ asked_on laws.longer laws.stands laws.others w new (Tells r answer ∷ []) goes (push_of at entry) (s.pushed at entry old)
+        | inr same ↦ asked_on laws.longer laws.stands laws.others w new (Tells r answer ∷ []) goes (push_of at entry) (subst (WasAsked w) same (k, r, there))
       ])
 
   -- ---- a replica hears an answer
@@ -188,7 +186,7 @@ module _ (laws : Below) (limit : ℕ) (small : limit < 2 ^ 32) (w : World) (s : 
   heard k r wishes answer before after result there was hears =
       let p = s.placed r before was in
       let on = answers.hears_on laws.answers limit small w s r before p answer wishes result after (s.true k (Tells r answer) there) hears in (
-        quiet_sound laws.longer laws.stands limit w r before after s was (omega (arith, on.0.number)) (record {
+        quiet_sound laws.longer laws.stands laws.others limit w r before after s was (omega (arith, on.0.number)) (record {
           id = on.0.id ∙ p.id;
           fits = record { id = rw on.0.id p.fits.id; version = omega (arith, on.0.stands.within, s.short, small) };
           contents = hears.left;
@@ -207,13 +205,20 @@ module _ (laws : Below) (limit : ℕ) (small : limit < 2 ^ 32) (w : World) (s : 
   step_sound (step.pushes {r = r} {before = before} {left = left} {changes = changes} was made) = (pushed_sound r before left changes was made, λ n e. cc)
   step_sound (step.pushes_not was why) = (s, λ n e. cc)
   step_sound (step.resends {r = r} {before = before} {changes = changes} was flight) =
-      (again_sound laws.longer laws.stands limit w r (request_of before.position changes) s ((s.placed r before was).sent changes flight), λ n e. cc)
+      (again_sound laws.longer laws.stands laws.others limit w r (request_of before.position changes) s ((s.placed r before was).sent changes flight), λ n e. cc)
   step_sound (step.resends_not was why) = (s, λ n e. cc)
   step_sound (step.asks {r = r} {count = count} {before = before} few was) = (
-    said_sound laws.longer laws.stands limit w (Asks r (AsksPull before.position.version count)) s (record { first_fits = (s.placed r before was).fits.version; limit_fits = few }) tt
-        (no_push laws.longer laws.stands (with_message w (Asks r (AsksPull before.position.version count))) (Asks r (AsksPull before.position.version count)) (λ j head changeset e. cc)),
+    said_sound laws.longer laws.stands laws.others limit w (Asks r (AsksPull before.position.version count)) s (record { first_fits = (s.placed r before was).fits.version; limit_fits = few }) tt
+        (no_push laws.longer laws.stands laws.others (with_message w (Asks r (AsksPull before.position.version count))) (Asks r (AsksPull before.position.version count)) (λ j head changeset e. cc)),
     λ n e. cc,
   )
+  step_sound (step.catches {r = r} {count = count} {before = before} few was) =
+      let p = s.placed r before was in
+      let message : Sent = Asks r (AsksCatch before.position.id before.position.version count) in (
+        said_sound laws.longer laws.stands laws.others limit w message s (record { origin_fits = p.fits.id; first_fits = p.fits.version; limit_fits = few }) tt
+            (no_push laws.longer laws.stands laws.others (with_message w message) message (λ j head changeset e. cc)),
+        λ n e. cc,
+      )
   step_sound (step.restarts was) = (s, λ n e. cc)
   step_sound (step.restarts_not was why) = (s, λ n e. cc)
   step_sound (step.serves {k = k} {r = r} {asked = asked} {log = log} answer there fits serves) =

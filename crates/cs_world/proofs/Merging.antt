@@ -14,9 +14,11 @@ use Rattle.cs_conflict.specs.declared.conflict.Resolution.TheVariants.{Omit}
 use Rattle.cs_conflict.specs.declared.wish.Wish.{Wish}
 use Rattle.cs_store.specs.log.Entry.{entry_changes}
 use Rattle.cs_store.specs.log.Log.{tables_at}
+use Rattle.cs_store.specs.log.Stored.{AreChangesOf}
 use Rattle.cs_store.specs.declared.log.entry.LogEntry.{LogEntry}
 use Rattle.cs_normal.specs.Normal.{change_of, groups_of}
 use Rattle.cs_normal.specs.State.{State}
+use Rattle.cs_normal.specs.declared.normal.TableChanges.{TableChanges}
 use Rattle.cs_pending.specs.Laws.{OneView}
 use Rattle.cs_pending.specs.Nets.{undo_none}
 use Rattle.cs_pending.specs.View.{View, middle}
@@ -33,13 +35,13 @@ use Rattle.cs_replica.specs.Answered.{told_of}
 use Rattle.cs_replica.specs.Stands.{StandsOn}
 use Rattle.cs_replica.specs.declared.told.Told.{Told}
 use Rattle.cs_store.specs.Contents.{Contents}
-use Rattle.cs_exchange.specs.taking.Takes.{IsTaken, TakeAll, taken}
+use Rattle.cs_exchange.specs.taking.Takes.{IsTaken, TakeAll, brought, taken}
 use Rattle.cs_wire.specs.Entries.{ToldEntry}
 use Rattle.cs_wire.specs.declared.answer.Answer.{Answer}
 use Rattle.cs_wire.specs.declared.answer.Answer.TheVariants.{Entries}
 use Rattle.cs_conflict.specs.wish_list.Wished.{IsWished}
 use Rattle.cs_world.specs.Laws.{EventsMerge, PullsMerge, StepsAreSound}
-use Rattle.cs_world.specs.Merges.{IsConfirmed, IsMerged, PullEntries, PullsAsMerges, PullsEntry, count_in}
+use Rattle.cs_world.specs.Merges.{IsConfirmed, IsMerged, IsPendingFrom, PullEntries, PullsAsMerges, PullsEntry, count_in}
 use Rattle.cs_world.specs.Sound.{ArePartOf, IsSound}
 use Rattle.cs_world.specs.Steps as step
 use Rattle.cs_world.specs.Steps.{Hears, Step, heard, receiver}
@@ -71,32 +73,32 @@ merged_at log own theirs left (t ∷ ts) p q (wish, between, going, asks, is, mo
     (λ other. merged_at log own theirs left ts between q more name key change (rw other at found))
 
 module _ (laws : Below) (limit : ℕ) (small : limit < 2 ^ 32) (world : World) (s : IsSound limit world) where
-  -- ---- one entry
+  -- ---- changes that lead from the replica's version to a later one
 
-  module _ (position : Position) (entry : LogEntry) (before after : View) (wishes unused : List Wish) (stood : StandsOn world.log position before) (pending : ℕ) (stands : StandsOn world.log (taken position pending) after)
-      (there : slice_get world.log position.version ≡ Some entry) where
+  module _ (position : Position) (next : ℕ) (changes : List TableChanges) (fits : AreChangesOf world.tables changes) (before after : View) (wishes unused : List Wish) (stood : StandsOn world.log position before) (pending : ℕ)
+      (stands : StandsOn world.log (brought position next pending) after) where
     log_is : (name key : List ℕ) → base position.flight before name key ≡ tables_at world.log position.version name key
     log_is name key = stood.on_tables name key
 
-    next_is : (name key : List ℕ) → middle after name key ≡ tables_at world.log (position.version + 1) name key
+    next_is : (name key : List ℕ) → middle after name key ≡ tables_at world.log next name key
     next_is name key = sym (undo_none (middle after name key)) ∙ stands.on_tables name key
 
-    -- where the entry has no change the log's row stays
-    log_stays : IsTaken IsWished world.tables position.flight (entry_changes entry) before after wishes unused → (name key : List ℕ) → change_of name key (entry_changes entry) ≡ None
-        → tables_at world.log (position.version + 1) name key ≡ tables_at world.log position.version name key
+    -- where they have none the log's row stays
+    log_stays : IsTaken IsWished world.tables position.flight changes before after wishes unused → (name key : List ℕ) → change_of name key changes ≡ None
+        → tables_at world.log next name key ≡ tables_at world.log position.version name key
     log_stays t name key none =
         let left : Some (base position.flight before name key) ≡ Some (middle after name key) =
         ap (λ (c : Option Change). after_any (action_any c) (base position.flight before name key)) (sym none) ∙ t.applied.1 name key in
         let same : base position.flight before name key ≡ middle after name key = (let e = left in cc) in
         sym (next_is name key) ∙ (sym same ∙ log_is name key)
 
-    each_merged : IsTaken IsWished world.tables position.flight (entry_changes entry) before after wishes unused
-        → TakeAll IsWished (tables_at world.log position.version) before.tables (middle after) after.tables (tasks world.tables (groups_of (entry_changes entry))) wishes unused → (name key : List ℕ) → (answer : Resolution)
-        × (after.tables name key ≡ merge answer (tables_at world.log position.version name key) (before.tables name key) (tables_at world.log (position.version + 1) name key))
-    each_merged t over name key = by_change (change_of name key (entry_changes entry)) refl
+    each_merged : IsTaken IsWished world.tables position.flight changes before after wishes unused
+        → TakeAll IsWished (tables_at world.log position.version) before.tables (middle after) after.tables (tasks world.tables (groups_of changes)) wishes unused → (name key : List ℕ) → (answer : Resolution)
+        × (after.tables name key ≡ merge answer (tables_at world.log position.version name key) (before.tables name key) (tables_at world.log next name key))
+    each_merged t over name key = by_change (change_of name key changes) refl
       where
-        by_change : (found : Option Change) → change_of name key (entry_changes entry) ≡ found → (answer : Resolution)
-            × (after.tables name key ≡ merge answer (tables_at world.log position.version name key) (before.tables name key) (tables_at world.log (position.version + 1) name key))
+        by_change : (found : Option Change) → change_of name key changes ≡ found → (answer : Resolution)
+            × (after.tables name key ≡ merge answer (tables_at world.log position.version name key) (before.tables name key) (tables_at world.log next name key))
         by_change None is = (
           Omit,
           t.others name key is
@@ -104,17 +106,15 @@ module _ (laws : Below) (limit : ℕ) (small : limit < 2 ^ 32) (world : World) (
               ∙ (laws.side Omit (tables_at world.log position.version name key) (before.tables name key)).1),
         )
         by_change (Some change) is =
-            let stored = answers.stored_at laws.answers limit small world s position.version entry there in
-            let changes = entry_changes entry in
             let found : found_at (name, key) (tasks world.tables (groups_of changes)) ≡ Some change =
-            ap (λ (all : List Task). found_at (name, key) all) (tasks_are world.tables changes (of_one world.tables changes stored.0.changes.1) stored.0.changes.0)
-            ∙ found_is world.tables name key changes stored.0.changes.0 ∙ is in
+            ap (λ (all : List Task). found_at (name, key) all) (tasks_are world.tables changes (of_one world.tables changes fits.1) fits.0)
+            ∙ found_is world.tables name key changes fits.0 ∙ is in
             let at = merged_at (tables_at world.log position.version) before.tables (middle after) after.tables (tasks world.tables (groups_of changes)) wishes unused over name key change found in
             (at.0, at.1 ∙ ap (λ (theirs : Place). merge at.0 (tables_at world.log position.version name key) (before.tables name key) theirs) (next_is name key))
 
-    merged : IsTaken IsWished world.tables position.flight (entry_changes entry) before after wishes unused → IsMerged world position.version entry before after wishes unused
+    merged : IsTaken IsWished world.tables position.flight changes before after wishes unused → IsMerged world position.version next changes before after wishes unused
     merged t =
-        let all = tasks world.tables (groups_of (entry_changes entry)) in
+        let all = tasks world.tables (groups_of changes) in
         let over : TakeAll IsWished (tables_at world.log position.version) before.tables (middle after) after.tables all wishes unused =
         subst (λ (log : State). TakeAll IsWished log before.tables (middle after) after.tables all wishes unused) (λ i n k. log_is n k i) t.takes in
         record {
@@ -123,10 +123,21 @@ module _ (laws : Below) (limit : ℕ) (small : limit < 2 ^ 32) (world : World) (
           others = t.others;
         }
 
+    pending_from : (left : Contents) → ShowsAt world.tables left (brought position next pending) after → IsPendingFrom world next after
+    pending_from left shows table key inside =
+        shows.rows.sound.net_of table key inside ∙ ap (λ (b : Place). net table.key_marks b (after.tables table.name key)) (next_is table.name key)
+
+  -- ---- one entry
+
+  module _ (position : Position) (entry : LogEntry) (before after : View) (wishes unused : List Wish) (stood : StandsOn world.log position before) (pending : ℕ) (stands : StandsOn world.log (taken position pending) after)
+      (there : slice_get world.log position.version ≡ Some entry) where
+    of_tables : AreChangesOf world.tables (entry_changes entry)
+    of_tables = (answers.stored_at laws.answers limit small world s position.version entry there).0.changes
+
     pulls_so : PullsOne IsWished world.tables position entry before wishes after unused
-        → IsConfirmed position entry before after wishes unused ⊎ ((IsOwn position entry → ⊥) × IsMerged world position.version entry before after wishes unused)
+        → IsConfirmed position entry before after wishes unused ⊎ ((IsOwn position entry → ⊥) × IsMerged world position.version (position.version + 1) (entry_changes entry) before after wishes unused)
     pulls_so (room, inl (own, rows, asked)) = inl (record { own = own; rows = rows; unasked = asked })
-    pulls_so (room, inr (others, t)) = inr (others, merged t)
+    pulls_so (room, inr (others, t)) = inr (others, merged position (position.version + 1) (entry_changes entry) of_tables before after wishes unused stood pending stands t)
 
     pulls_entry : (left : Contents) → PullsOne IsWished world.tables position entry before wishes after unused → ShowsAt world.tables left (taken position pending) after
         → PullsEntry world position before after wishes unused
@@ -134,7 +145,7 @@ module _ (laws : Below) (limit : ℕ) (small : limit < 2 ^ 32) (world : World) (
       entry = entry;
       there = there;
       pulled = pulls_so pulls;
-      pending = λ table key inside. shows.rows.sound.net_of table key inside ∙ ap (λ (b : Place). net table.key_marks b (after.tables table.name key)) (next_is table.name key);
+      pending = pending_from position (position.version + 1) (entry_changes entry) of_tables before after wishes unused stood pending stands left shows;
     }
 
   -- ---- one behind another
@@ -157,14 +168,49 @@ module _ (laws : Below) (limit : ℕ) (small : limit < 2 ^ 32) (world : World) (
           pull_entries count left (taken position pending) next between other end q shown stood more,
         )
 
-  -- ---- an answer
-
   counted : (list : Result Pulled AnswerFault) → count_of list ≡ count_in (heard (told_of list))
   counted (Ok (pulled.Taken count)) = refl
   counted (Ok (pulled.Stopped count)) = refl
   counted (Err (fault.Memory count)) = refl
   counted (Err (fault.Device count)) = refl
   counted (Err (fault.BadEntry count)) = refl
+
+  -- ---- an answer
+
+  -- what came of an answer that was delivered to a replica: memory was refused, or it heard it
+  module _ (k r : ℕ) (answer : Answer) (wishes : List Wish) (before after : Member) (said : IsMessage world k (Tells r answer)) (was : IsMember world r before) where
+    abbrev IsHeard : Outcome → Type 0
+    IsHeard outcome = ((outcome ≡ Memory) × (after ≡ before)) ⊎ ((result : Result Told AnswerFault) × (outcome ≡ heard result) × Hears world.tables before answer wishes result after)
+
+    is_heard : (outcome : Outcome) (new : World) → Comes limit world (Deliver k wishes) outcome new → IsMember new r after → IsHeard outcome
+    is_heard outcome new (inl (is, stays)) now =
+        let at : slice_get world.members r ≡ Some after = subst (λ (w : World). IsMember w r after) stays now in
+        inl (is, (let e = sym at ∙ was in cc))
+    is_heard outcome new (inr (inl lacks)) now =
+        absurd (let both : Some lacks.r ≡ Some r = sym lacks.to ∙ ap receiver said in
+        let same : lacks.r ≡ r = (let e = both in cc) in
+        let none : slice_get world.members r ≡ None = subst (λ (i : ℕ). slice_get world.members i ≡ None) same lacks.none in
+        let no = sym none ∙ was in cc)
+    is_heard outcome new (inr (inr (inl missed))) now = absurd (let no = sym missed.none ∙ said in cc)
+    is_heard outcome new (inr (inr (inr (inl served)))) now = absurd (let no = sym served.there ∙ said in cc)
+    is_heard outcome new (inr (inr (inr (inr h)))) now =
+        let both : Some (Tells h.r h.answer) ≡ Some (Tells r answer) = sym h.there ∙ said in
+        let to : h.r ≡ r = (let e = both in cc) in
+        let what : h.answer ≡ answer = (let e = both in cc) in
+        let mine_at : slice_get world.members r ≡ Some h.before = subst (λ (i : ℕ). slice_get world.members i ≡ Some h.before) to h.was in
+        let mine_is : h.before ≡ before = (let e = sym mine_at ∙ was in cc) in
+        let new_at : slice_get (slice_set world.members h.r h.after) r ≡ Some after = subst (λ (w : World). IsMember w r after) h.new_is now in
+        let now_at : slice_get (slice_set world.members r h.after) r ≡ Some after = subst (λ (i : ℕ). slice_get (slice_set world.members i h.after) r ≡ Some after) to new_at in
+        let after_is : h.after ≡ after = (let e = sym (set_there world.members r h.after before was) ∙ now_at in cc) in
+        inr (
+          h.result,
+          h.outcome_is,
+          subst (λ (m : Member). Hears world.tables before answer wishes h.result m) after_is
+              (subst (λ (m : Member). Hears world.tables m answer wishes h.result h.after) mine_is
+              (subst (λ (a : Answer). Hears world.tables h.before a wishes h.result h.after) what h.goes)),
+        )
+
+  -- ---- entries, one by one
 
   module _ (k r first : ℕ) (entries : List ToldEntry) (wishes : List Wish) (before after : Member) (said : IsMessage world k (Tells r (Entries first entries))) (was : IsMember world r before) where
     hears_so : (result : Result Told AnswerFault) → Hears world.tables before (Entries first entries) wishes result after → PullsAsMerges world (count_in (heard result)) wishes before after
@@ -191,58 +237,24 @@ module _ (laws : Below) (limit : ℕ) (small : limit < 2 ^ 32) (world : World) (
       same = record { rows = λ n k. ap (λ (m : Member). m.view.tables n k) same; pending = λ table key inside. ap (λ (m : Member). m.view.pending table.name key) same };
     }
 
-    step_so : {event : Event} {outcome : Outcome} {new : World} → Step limit world event outcome new → event ≡ Deliver k wishes → IsMember new r after → PullsAsMerges world (count_in outcome) wishes before after
-    step_so (step.edits count its made shows) is now = absurd (let no = is in cc)
-    step_so (step.edits_not its why) is now = absurd (let no = is in cc)
-    step_so (step.pushes its made) is now = absurd (let no = is in cc)
-    step_so (step.pushes_not its why) is now = absurd (let no = is in cc)
-    step_so (step.resends its flight) is now = absurd (let no = is in cc)
-    step_so (step.resends_not its why) is now = absurd (let no = is in cc)
-    step_so (step.asks few its) is now = absurd (let no = is in cc)
-    step_so (step.restarts its) is now = absurd (let no = is in cc)
-    step_so (step.restarts_not its why) is now = absurd (let no = is in cc)
-    step_so (step.serves {k = j} {r = q} {asked = asked} answer there fits serves) is now =
-        let same : j ≡ k = (let e = is in cc) in
-        let at : slice_get world.messages k ≡ Some (Asks q asked) = subst (λ (i : ℕ). slice_get world.messages i ≡ Some (Asks q asked)) same there in
-        absurd (let no = sym at ∙ said in cc)
-    step_so (step.hears {k = j} {r = q} {wishes = its} {answer = answer} {before = mine} {after = next} {result = result} there there_was hears) is now =
-        let same : j ≡ k = (let e = is in cc) in
-        let by : its ≡ wishes = (let e = is in cc) in
-        let at : slice_get world.messages k ≡ Some (Tells q answer) = subst (λ (i : ℕ). slice_get world.messages i ≡ Some (Tells q answer)) same there in
-        let both : Some (Tells q answer) ≡ Some (Tells r (Entries first entries)) = sym at ∙ said in
-        let to : q ≡ r = (let e = both in cc) in
-        let what : answer ≡ Entries first entries = (let e = both in cc) in
-        let mine_at : slice_get world.members r ≡ Some mine = subst (λ (i : ℕ). slice_get world.members i ≡ Some mine) to there_was in
-        let mine_is : mine ≡ before = (let e = sym mine_at ∙ was in cc) in
-        let now_at : slice_get (slice_set world.members r next) r ≡ Some after = subst (λ (i : ℕ). slice_get (slice_set world.members i next) r ≡ Some after) to now in
-        let next_is : next ≡ after = (let e = sym (set_there world.members r next before was) ∙ now_at in cc) in
-        hears_so result
-        (subst (λ (m : Member). Hears world.tables before (Entries first entries) wishes result m) next_is
-        (subst (λ (m : Member). Hears world.tables m (Entries first entries) wishes result next) mine_is
-        (subst (λ (ws : List Wish). Hears world.tables mine (Entries first entries) ws result next) by
-        (subst (λ (a : Answer). Hears world.tables mine a its result next) what hears))))
-    step_so (step.no_replica {r = q} to none) is now =
-        absurd (let no : Some q ≡ Some r = sym to ∙ ap (λ (e : Event). step.addressee world e) is ∙ ap receiver said in
-        let same : q ≡ r = (let e = no in cc) in
-        let at : slice_get world.members r ≡ None = subst (λ (i : ℕ). slice_get world.members i ≡ None) same none in
-        let bad = sym at ∙ was in cc)
-    step_so (step.no_message {k = j} none) is now =
-        let same : j ≡ k = (let e = is in cc) in
-        let at : slice_get world.messages k ≡ None = subst (λ (i : ℕ). slice_get world.messages i ≡ None) same none in
-        absurd (let no = sym at ∙ said in cc)
-    step_so step.no_memory is now = nothing_so (let e = sym now ∙ was in cc)
+    pulls_so_far : (outcome : Outcome) → IsHeard k r (Entries first entries) wishes before after said was outcome → PullsAsMerges world (count_in outcome) wishes before after
+    pulls_so_far outcome (inl (is, same)) = subst (λ (o : Outcome). PullsAsMerges world (count_in o) wishes before after) (sym is) (nothing_so same)
+    pulls_so_far outcome (inr (result, is, hears)) = subst (λ (o : Outcome). PullsAsMerges world (count_in o) wishes before after) (sym is) (hears_so result hears)
 
 pub pulls_merge : Below → PullsMerge
 pulls_merge laws limit k r first entries wishes outcome old new before after small s said was now step =
-    step_so laws limit small old s k r first entries wishes before after said was step refl now
+    pulls_so_far laws limit small old s k r first entries wishes before after said was outcome
+    (is_heard laws limit small old s k r (Entries first entries) wishes before after said was outcome new (came limit old step) now)
 
 -- ---- events one behind another
 
-pub events_merge : PullsMerge → StepsAreSound → EventsMerge
-events_merge pulls sound limit world [] outcomes small is = tt
-events_merge pulls sound limit world (event ∷ events) [] small is = tt
-events_merge pulls sound limit world (event ∷ events) (outcome ∷ outcomes) small is = λ between step. (
+pub events_merge : PullsMerge → CatchesMerge → StepsAreSound → EventsMerge
+events_merge pulls catches sound limit world [] outcomes small is = tt
+events_merge pulls catches sound limit world (event ∷ events) [] small is = tt
+events_merge pulls catches sound limit world (event ∷ events) (outcome ∷ outcomes) small is = λ between step. (
   λ k r first entries wishes before after same said was now.
       pulls limit k r first entries wishes outcome world between before after small is said was now (subst (λ (e : Event). Step limit world e outcome between) same step),
-  events_merge pulls sound limit between events outcomes small (sound limit world between event outcome small is step).0,
+  λ k r origin first next changeset wishes before after same said was now.
+      catches limit k r origin first next changeset wishes outcome world between before after small is said was now (subst (λ (e : Event). Step limit world e outcome between) same step),
+  events_merge pulls catches sound limit between events outcomes small (sound limit world between event outcome small is step).0,
 )

@@ -29,7 +29,7 @@ use Rattle.cs_store.specs.Contents.{Contents}
 use Rattle.cs_store.specs.declared.store.RowStore.{Ghosts}
 use Rattle.cs_wire.specs.Answers.{FitsAnswer, answer_spelling}
 use Rattle.cs_wire.specs.Laws.{OneToldAnswer}
-use Rattle.cs_wire.specs.Requests.{Asked, AsksPull, asked_by_owned, request_spelling}
+use Rattle.cs_wire.specs.Requests.{Asked, asked_by_owned, request_spelling}
 use Rattle.cs_wire.specs.declared.answer.Answer.{Answer}
 use Rattle.cs_wire.specs.declared.request.RequestBuf.{RequestBuf}
 use Rattle.cs_conflict.specs.wish_list.Wished.{IsWished}
@@ -38,7 +38,7 @@ use Rattle.cs_world.specs.Steps as step
 use Rattle.cs_world.specs.Steps.{Hears, Step, addressee, heard}
 use Rattle.cs_world.specs.World.{Asks, IsMember, IsMessage, Member, Sent, Tells, World, with_log, with_member, with_message}
 use Rattle.cs_world.specs.declared.event.Event.{Event}
-use Rattle.cs_world.specs.declared.event.Event.TheVariants.{AskPull, Deliver, MakePush, OnEdit, Resend, Restart}
+use Rattle.cs_world.specs.declared.event.Event.TheVariants.{Deliver, MakePush, OnEdit, Resend, Restart}
 use Rattle.cs_world.specs.declared.outcome.Outcome.{Outcome}
 use Rattle.cs_world.specs.declared.outcome.Outcome.TheVariants as told
 use Rattle.cs_world.specs.Holding.{AreHonest, Holding, Says, ShowsMember, ShowsWorld, StandsAt}
@@ -343,16 +343,14 @@ module _ {S : Type 0} (g : Ghosts S) (limit : ℕ) where
 
     -- ---- requests
 
-    pub asks : (r version count : ℕ) (old : replica.Holding S) (asked : Asked) (outcome : Outcome) (ls all : List Letter) → slice_get replicas r ≡ Some old → version ≡ old.position.version → count < 2 ^ 32
-        → asked ≡ AsksPull version count → ls ≡ letters → all ≡ ls ++ letter.Asks r asked ∷ [] → outcome ≡ told.Sent (length ls)
-        → Moves g limit (held h replicas letters) (AskPull r count) outcome (held h replicas all)
-    asks r version count old asked outcome ls all was is_version few is same is_all as_told =
-        sends (AskPull r count) (letter.Asks r asked) outcome ls all same is_all as_told (λ world stands.
-        let m = member_there r old was world stands in (
-          Asks r (AsksPull m.0.position.version count),
-          (refl, is ∙ ap (λ (v : ℕ). AsksPull v count) (is_version ∙ ap (λ (p : Position). p.version) m.2.position)),
-          step.asks few m.1,
-        ))
+    pub asks : (event : Event) (what : Position → Asked) (r : ℕ) (old : replica.Holding S) (asked : Asked) (outcome : Outcome) (ls all : List Letter) → slice_get replicas r ≡ Some old → asked ≡ what old.position
+        → ls ≡ letters → all ≡ ls ++ letter.Asks r asked ∷ [] → outcome ≡ told.Sent (length ls)
+        → ((world : World) (before : Member) → IsMember world r before → Step limit world event (told.Sent (length world.messages)) (with_message world (Asks r (what before.position))))
+        → Moves g limit (held h replicas letters) event outcome (held h replicas all)
+    asks event what r old asked outcome ls all was is same is_all as_told steps =
+        sends event (letter.Asks r asked) outcome ls all same is_all as_told (λ world stands.
+        let m = member_there r old was world stands in
+        (Asks r (what m.0.position), (refl, is ∙ ap what m.2.position), steps world m.0 m.1))
 
     resent : (position : Position) (flight : Option (List TableChanges)) → position.flight ≡ flight → IsSome flight → (changes : List TableChanges) × (position.flight ≡ Some changes) × (request_of position (flown position.flight) ≡ request_of position changes)
     resent position None is some = let e = some in absurd (cc)

@@ -6,7 +6,11 @@ use Rattle.std.proofs.lemmas.List.Elements.{All-append, All-cons, All-drop, All-
 use Rattle.std.proofs.lemmas.Option.{slice_get-map}
 use Rattle.cs_change.specs.declared.group.Group.{Group}
 use Rattle.cs_changeset.specs.Laws.{ChangesetLaws}
-use Rattle.cs_hub.specs.Serves.{AnswersAsked, Outcome, ServesIf, TakesBytes, TakesGroups, TakesNormal, or_refusal, push_answer}
+use Rattle.cs_hub.specs.Serves.{AnswersAsked, Outcome, ServesIf, TakesBytes, TakesGroups, TakesNormal, caught_answer, or_refusal, push_answer}
+use Rattle.cs_hub.specs.catching.Catches.{Catches}
+use Rattle.cs_hub.specs.catching.Laws.{CaughtAreOthers, OneConsolidated}
+use Rattle.cs_hub.specs.declared.catching.caught.Caught.{Caught}
+use Rattle.cs_hub.specs.declared.catching.caught.Caught.TheVariants as caught
 use Rattle.cs_hub.specs.judgement.Hub.{HubState, entries_from}
 use Rattle.cs_hub.specs.judgement.Judged.{hub_of}
 use Rattle.cs_hub.specs.judgement.Pushes.{CanFollow, Push, Pushes, entry_of_push}
@@ -17,18 +21,19 @@ use Rattle.cs_hub.specs.declared.judgement.push.Pushed.TheVariants as pushed
 use Rattle.cs_store.specs.log.Laws.{AppendedIsLog}
 use Rattle.cs_store.specs.log.Log.{IsLog, state_of}
 use Rattle.cs_store.specs.declared.log.entry.LogEntry.{LogEntry}
+use Rattle.cs_store.specs.declared.log.entry.TheConstants.{MAX_CHANGESET}
 use Rattle.cs_normalising.specs.Laws.{NoFaultWhereFit, NormalAgain, OneNormalForm}
 use Rattle.cs_normal.specs.Laws.{NormalIsTaken}
-use Rattle.cs_normal.specs.Normal.{groups_of}
+use Rattle.cs_normal.specs.Normal.{groups_of, normal_spelling}
 use Rattle.cs_normal.specs.State.{IsDefinedOn}
 use Rattle.cs_normal.specs.declared.normal.TableChanges.{TableChanges}
 use Rattle.cs_wire.specs.Answers.{FitsAnswer, answer_spelling}
 use Rattle.cs_wire.specs.Entries.{ToldEntry}
 use Rattle.cs_wire.specs.Laws.{HasNumbersInRange, OneRequest, OneToldAnswer, ToldAreRead}
-use Rattle.cs_wire.specs.Requests.{Asked, AsksPull, AsksPush, FitsRequest, request_spelling}
+use Rattle.cs_wire.specs.Requests.{Asked, AsksCatch, AsksPull, AsksPush, FitsRequest, request_spelling}
 use Rattle.cs_wire.specs.Told.{FitsMessage, told_entry}
 use Rattle.cs_wire.specs.declared.answer.Answer.{Answer}
-use Rattle.cs_wire.specs.declared.answer.Answer.TheVariants.{Short, Entries}
+use Rattle.cs_wire.specs.declared.answer.Answer.TheVariants.{Short, Entries, Merged}
 use Rattle.cs_wire.specs.declared.fault.WireFault.{WireFault}
 use Rattle.cs_wire.specs.declared.push_head.PushHead.{PushHead}
 use Rattle.cs_wire.specs.declared.short_answer.ShortAnswer.TheVariants.{Accepted, Stale, Refused}
@@ -47,6 +52,9 @@ pub record Below : Type 0 where
   pub answer : OneToldAnswer
   pub read : ToldAreRead
   pub appended : AppendedIsLog
+  pub caught : CaughtAreOthers
+  pub consolidated : OneConsolidated
+  pub most : MAX_CHANGESET ≡ 4294967295
 
 -- the bytes that answer what was asked of a world spell an answer that is true of the log after it
 pub record IsServed (limit : ℕ) (world : World) (asked : Asked) (bytes : List ℕ) (log : List LogEntry) : Type 0 where
@@ -105,6 +113,30 @@ module _ (laws : Below) (limit : ℕ) (small : limit < 2 ^ 32) (world : World) (
       laws.read first (entries_from first count world.log) in_range (omega (arith, n, m, s.short, small))
       (All-weaker (IsStoredEntry world.tables) FitsMessage (λ e stored. stored.0.size) (entries_from first count world.log) some)
       (All-weaker (IsStoredEntry world.tables) HasNumbersInRange (λ e stored. stored.1) (entries_from first count world.log) some)
+
+  -- ---- entries are told together
+
+  module _ (asker first count : ℕ) (bytes : List ℕ) (log : List LogEntry) (fits : FitsRequest (AsksCatch asker first count)) (within : first ≤ length world.log) (same : log ≡ world.log) where
+    merged_so : (taken : ℕ) (changes : List TableChanges) → Catches world.tables asker count (drop first world.log) (caught.Merged taken changes)
+        → bytes ≡ answer_spelling (Merged asker first (first + taken) (normal_spelling changes))
+        → IsServed limit world (AsksCatch asker first count) bytes log
+    merged_so taken changes (not_own, run, one) is =
+        let others = laws.caught world.tables world.log asker count first taken changes within (not_own, run, one) in
+        let short = (run.each taken (omega arith)).short in
+        let alike : short.0 ≡ changes = laws.consolidated world.tables (take taken (drop first world.log)) short.0 changes s.tables short.1 one in
+        let size : length (normal_spelling changes) ≤ MAX_CHANGESET = subst (λ (c : List TableChanges). length (normal_spelling c) ≤ MAX_CHANGESET) alike short.2 in
+        kept (AsksCatch asker first count) bytes (Merged asker first (first + taken) (normal_spelling changes)) log same
+        (record {
+          origin_fits = fits.origin_fits;
+          first_fits = fits.first_fits;
+          next_fits = omega (arith, others.within, s.short, small);
+          size_fits = omega (arith, size, laws.most);
+        }) is others
+
+    caught_so : (told : Caught) → Catches world.tables asker count (drop first world.log) told → bytes ≡ answer_spelling (caught_answer asker first world.log told) → IsServed limit world (AsksCatch asker first count) bytes log
+    caught_so caught.Own own is =
+        kept (AsksCatch asker first count) bytes (Entries first (map told_entry (entries_from first 1 world.log))) log same (fits_entries first 1 fits.first_fits) is (told_are_part first 1)
+    caught_so (caught.Merged taken changes) catches is = merged_so taken changes catches is
 
   -- ---- a push is judged
 
@@ -254,6 +286,10 @@ module _ (laws : Below) (limit : ℕ) (small : limit < 2 ^ 32) (world : World) (
   answered (AsksPull first count) bytes log fits t (inr (within, is), same) =
       kept (AsksPull first count) bytes (Entries first (map told_entry (entries_from first count world.log))) log (ap (λ (h : HubState). h.log) same)
       (fits_entries first count fits.first_fits) is (told_are_part first count)
+  answered (AsksCatch asker first count) bytes log fits t (inl (above, is), same) =
+      kept (AsksCatch asker first count) bytes (Short (Refused 40)) log (ap (λ (h : HubState). h.log) same) (omega arith) is (λ e. omega (arith, e))
+  answered (AsksCatch asker first count) bytes log fits t (inr (within, told, catches, is), same) =
+      caught_so asker first count bytes log fits within (ap (λ (h : HubState). h.log) same) told catches is
   answered (AsksPush head changeset) bytes log fits t (outcome, taken, is) =
       bytes_taken head changeset t fits bytes log outcome is taken
 

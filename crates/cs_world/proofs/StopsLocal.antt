@@ -5,12 +5,12 @@ use Rattle.std.specs.Prelude.{IsSome}
 use Rattle.cs_store.specs.declared.log.entry.LogEntry.{LogEntry}
 use Rattle.cs_replica.specs.Edited.{with_pending}
 use Rattle.cs_exchange.specs.pushing.Pushes.{grounded, pushed, request_of}
-use Rattle.cs_wire.specs.Requests.{AsksPull}
+use Rattle.cs_wire.specs.Requests.{AsksCatch, AsksPull}
 use Rattle.cs_world.specs.Steps as step
 use Rattle.cs_world.specs.Steps.{Step, addressee, receiver}
 use Rattle.cs_world.specs.World.{Asks, IsMember, IsMessage, Member, Sent, Tells, World, with_member, with_message}
 use Rattle.cs_world.specs.declared.event.Event.{Event}
-use Rattle.cs_world.specs.declared.event.Event.TheVariants.{AskPull, Deliver, MakePush, OnEdit, Resend, Restart}
+use Rattle.cs_world.specs.declared.event.Event.TheVariants.{AskCatch, AskPull, Deliver, MakePush, OnEdit, Resend, Restart}
 use Rattle.cs_world.specs.declared.outcome.Outcome.{Outcome}
 use Rattle.cs_world.specs.declared.outcome.Outcome.TheVariants as told
 use Rattle.cs_world.specs.Left.{AtHub, AtReplica, Kept, Place, kept_at, turned}
@@ -26,6 +26,7 @@ to_replica world (OnEdit r asked) q is = cc
 to_replica world (MakePush r) q is = cc
 to_replica world (Resend r) q is = cc
 to_replica world (AskPull r limit) q is = cc
+to_replica world (AskCatch r limit) q is = cc
 to_replica world (Deliver k wishes) q is = of_message (slice_get world.messages k) is
   where
     of_message : (message : Option Sent) → reader_of message ≡ Some (AtReplica q) → receiver message ≡ Some q
@@ -39,6 +40,7 @@ to_hub world (OnEdit r asked) is = absurd (let no = is in cc)
 to_hub world (MakePush r) is = absurd (let no = is in cc)
 to_hub world (Resend r) is = absurd (let no = is in cc)
 to_hub world (AskPull r limit) is = absurd (let no = is in cc)
+to_hub world (AskCatch r limit) is = absurd (let no = is in cc)
 to_hub world (Deliver k wishes) is = of_message (slice_get world.messages k) is
   where
     of_message : (message : Option Sent) → reader_of message ≡ Some AtHub → receiver message ≡ None
@@ -144,6 +146,10 @@ module _ (limit : ℕ) (w : World) (q : ℕ) (m : Member) (there : IsMember w q 
       let message : Sent = Asks r (AsksPull before.position.version count) in
       of_replica r (AskPull r count) (with_message w message) by
       (only_sent limit w r before was (AskPull r count) message (λ w2 a. (told.Sent (length w2.messages), step.asks few (a.same ∙ was))))
+  made_at (step.catches {r = r} {count = count} {before = before} few was) by =
+      let message : Sent = Asks r (AsksCatch before.position.id before.position.version count) in
+      of_replica r (AskCatch r count) (with_message w message) by
+      (only_sent limit w r before was (AskCatch r count) message (λ w2 a. (told.Sent (length w2.messages), step.catches few (a.same ∙ was))))
   made_at (step.restarts {r = r} {before = before} was) by =
       of_replica r (Restart r) w by
       (nothing_made limit w r before was (Restart r) (λ w2 a. (told.Done, step.restarts (a.same ∙ was))))
@@ -193,6 +199,7 @@ module _ (limit : ℕ) (w : World) where
   made_by_hub (step.resends {r = r} was flight) by = absurd (no_replicas r by)
   made_by_hub (step.resends_not {r = r} was why) by = absurd (no_replicas r by)
   made_by_hub (step.asks {r = r} few was) by = absurd (no_replicas r by)
+  made_by_hub (step.catches {r = r} few was) by = absurd (no_replicas r by)
   made_by_hub (step.restarts {r = r} was) by = absurd (no_replicas r by)
   made_by_hub (step.restarts_not {r = r} was why) by = absurd (no_replicas r by)
   made_by_hub (step.serves {k = k} {r = r} {asked = asked} {log = log} answer at fits serves) by = record {
@@ -244,6 +251,7 @@ place_on w w2 more (OnEdit r asked) place is = is
 place_on w w2 more (MakePush r) place is = is
 place_on w w2 more (Resend r) place is = is
 place_on w w2 more (AskPull r limit) place is = is
+place_on w w2 more (AskCatch r limit) place is = is
 place_on w w2 more (Deliver k wishes) place is = of_message (slice_get w.messages k) refl is
   where
     of_message : (message : Option Sent) → slice_get w.messages k ≡ message → reader_of message ≡ Some place → reader_of (slice_get w2.messages k) ≡ Some place
@@ -283,6 +291,8 @@ framed {w = w} (step.pushes_not was why) = framed_same w
 framed {w = w} {new = new} (step.resends {r = r} {before = before} {changes = changes} was flight) = framed_sent w new (Asks r (request_of before.position changes)) refl refl
 framed {w = w} (step.resends_not was why) = framed_same w
 framed {w = w} {new = new} (step.asks {r = r} {count = count} {before = before} few was) = framed_sent w new (Asks r (AsksPull before.position.version count)) refl refl
+framed {w = w} {new = new} (step.catches {r = r} {count = count} {before = before} few was) =
+    framed_sent w new (Asks r (AsksCatch before.position.id before.position.version count)) refl refl
 framed {w = w} (step.restarts was) = framed_same w
 framed {w = w} (step.restarts_not was why) = framed_same w
 framed {w = w} {new = new} (step.serves {r = r} answer at fits serves) = framed_sent w new (Tells r answer) refl refl

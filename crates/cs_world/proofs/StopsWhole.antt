@@ -2,7 +2,7 @@
 use Rattle.std.proofs.Common.{[], ◌∷◌, refl, ap, inl, arith}
 use Rattle.cs_world.specs.World.{World}
 use Rattle.cs_world.specs.declared.event.Event.{Event}
-use Rattle.cs_world.specs.declared.event.Event.TheVariants.{AskPull, Deliver, MakePush, OnEdit, Resend, Restart}
+use Rattle.cs_world.specs.declared.event.Event.TheVariants.{AskCatch, AskPull, Deliver, MakePush, OnEdit, Resend, Restart}
 use Rattle.cs_world.specs.StopsLaws.{RunsWhole}
 use Rattle.cs_world.specs.Stops.{IsNotLost, opened}
 use Rattle.cs_world.specs.Stops as stops
@@ -12,6 +12,7 @@ none_lost world (OnEdit r asked) = tt
 none_lost world (MakePush r) = tt
 none_lost world (Resend r) = tt
 none_lost world (AskPull r limit) = tt
+none_lost world (AskCatch r limit) = tt
 none_lost world (Deliver k wishes) = λ at. let few = at.1 in omega (arith, few)
 none_lost world (Restart r) = tt
 

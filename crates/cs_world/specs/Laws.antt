@@ -19,16 +19,16 @@ use Rattle.cs_wire.specs.Answers.{FitsAnswer, answer_spelling}
 use Rattle.cs_wire.specs.Requests.{Asked, request_spelling}
 use Rattle.cs_wire.specs.Entries.{ToldEntry}
 use Rattle.cs_wire.specs.declared.answer.Answer.{Answer}
-use Rattle.cs_wire.specs.declared.answer.Answer.TheVariants.{Entries}
+use Rattle.cs_wire.specs.declared.answer.Answer.TheVariants.{Entries, Merged}
 use Rattle.cs_conflict.specs.wish_list.Wished.{IsWished}
 use Rattle.cs_world.specs.Headline.{Headline, IsGood}
-use Rattle.cs_world.specs.Merges.{EachMerges, PullsAsMerges, count_in}
+use Rattle.cs_world.specs.Merges.{CatchesAsMerge, EachMerges, PullsAsMerges, count_in}
 use Rattle.cs_world.specs.Sound.{IsSound}
 use Rattle.cs_world.specs.Same.{IsRefused, IsSameWorld}
 use Rattle.cs_world.specs.Steps.{Step, Steps}
 use Rattle.cs_world.specs.World.{Asks, IsMember, IsMessage, Member, Tells, World, first_world}
 use Rattle.cs_world.specs.declared.event.Event.{Event}
-use Rattle.cs_world.specs.declared.event.Event.TheVariants.{AskPull, Deliver, MakePush, OnEdit, Resend, Restart}
+use Rattle.cs_world.specs.declared.event.Event.TheVariants.{AskCatch, AskPull, Deliver, MakePush, OnEdit, Resend, Restart}
 use Rattle.cs_world.specs.declared.outcome.Outcome.{Outcome}
 
 -- a replica to which nothing has happened, shown by some store
@@ -86,6 +86,18 @@ PullsMerge =
     → IsMember new r after
     → Step limit old (Deliver k wishes) outcome new
     → PullsAsMerges old (count_in outcome) wishes before after
+
+-- entries that reach it taken together are merged at once, as many as the outcome tells, or none is
+abbrev pub CatchesMerge : Type 0
+CatchesMerge =
+    (limit k r origin first next : ℕ) (changeset : List ℕ) (wishes : List Wish) (outcome : Outcome) (old new : World) (before after : Member)
+    → limit < 2 ^ 32
+    → IsSound limit old
+    → IsMessage old k (Tells r (Merged origin first next changeset))
+    → IsMember old r before
+    → IsMember new r after
+    → Step limit old (Deliver k wishes) outcome new
+    → CatchesAsMerge old next (count_in outcome) changeset wishes before after
 
 -- and so each event does that makes its step behind others
 abbrev pub EventsMerge : Type 0
@@ -153,6 +165,10 @@ ResendHasStep = (limit r : ℕ) (world : World) → HasStep limit world (Resend 
 -- and a question for entries
 abbrev pub AskHasStep : Type 0
 AskHasStep = (limit r count : ℕ) (world : World) → count < 2 ^ 32 → HasStep limit world (AskPull r count)
+
+-- taken together too
+abbrev pub CatchHasStep : Type 0
+CatchHasStep = (limit r count : ℕ) (world : World) → count < 2 ^ 32 → HasStep limit world (AskCatch r count)
 
 -- and a store that is read again
 abbrev pub RestartHasStep : Type 0

@@ -1,4 +1,5 @@
--- How a replica pulls the entries of the log: each is merged with its own rows over the log's tables (profile of this project).
+-- How a replica pulls the entries of the log, one by one or taken together: they are merged with its own rows over the log's tables
+-- (profile of this project).
 use Rattle.std.specs.Prelude.{◌≡◌, ◌⊎◌, ◌+◌, ℕ, zero, suc, List, [], ◌∷◌, Some, None, Contains, slice_get}
 use Rattle.cs_value.specs.declared.catalog.TableDef.{TableDef}
 use Rattle.cs_tasks.specs.Tasks.{tasks}
@@ -9,8 +10,10 @@ use Rattle.cs_conflict.specs.declared.wish.Wish.{Wish}
 use Rattle.cs_store.specs.log.Entry.{entry_changes}
 use Rattle.cs_store.specs.log.Log.{tables_at}
 use Rattle.cs_store.specs.declared.log.entry.LogEntry.{LogEntry}
-use Rattle.cs_replica.specs.member.Same.{IsSameView}
+use Rattle.cs_hub.specs.catching.Told.{AreOthersAsOne}
+use Rattle.cs_replica.specs.member.Same.{IsSameMember, IsSameView}
 use Rattle.cs_normal.specs.Normal.{change_of, groups_of}
+use Rattle.cs_normal.specs.declared.normal.TableChanges.{TableChanges}
 use Rattle.cs_pending.specs.View.{View}
 use Rattle.cs_pending.specs.declared.position.position.Position.{Position}
 use Rattle.cs_exchange.specs.pulling.Pulls.{IsOwn}
@@ -22,7 +25,7 @@ use Rattle.cs_replica.specs.declared.told.Told.TheVariants as what
 use Rattle.cs_exchange.specs.taking.Takes.{TakeAll, taken}
 use Rattle.cs_conflict.specs.wish_list.Wished.{IsWished}
 use Rattle.cs_wire.specs.Entries.{ToldEntry}
-use Rattle.cs_wire.specs.declared.answer.Answer.TheVariants.{Entries}
+use Rattle.cs_wire.specs.declared.answer.Answer.TheVariants.{Entries, Merged}
 use Rattle.cs_world.specs.Steps.{Step}
 use Rattle.cs_world.specs.World.{IsMember, IsMessage, Member, Tells, World}
 use Rattle.cs_world.specs.declared.event.Event.{Event}
@@ -30,14 +33,23 @@ use Rattle.cs_world.specs.declared.event.Event.TheVariants.{Deliver}
 use Rattle.cs_world.specs.declared.outcome.Outcome.{Outcome}
 use Rattle.cs_world.specs.declared.outcome.Outcome.TheVariants.{Done, Heard, Memory, NoMessage, NoReplica, NotEdited, NotHeard, NotPushed, NotReloaded, Sent}
 
--- at each place the own row has become the three-way merge of the log's row at the version, the own row, and the log's row at the next
--- version; at the places of the entry at that version, in order, by the wishes for its conflicts; each other own row is as it was
-pub record IsMerged (world : World) (version : ℕ) (entry : LogEntry) (before after : View) (wishes unused : List Wish) : Type 0 where
+-- at each place the own row has become the three-way merge of the log's row at the one version, the own row, and the log's row at the
+-- other; at the places of the changes that lead from the one to the other, in order, by the wishes for their conflicts; each other own row
+-- is as it was
+pub record IsMerged (world : World) (from to : ℕ) (changes : List TableChanges) (before after : View) (wishes unused : List Wish) : Type 0 where
   pub each : (name key : List ℕ) → (answer : Resolution)
-      × (after.tables name key ≡ merge answer (tables_at world.log version name key) (before.tables name key) (tables_at world.log (version + 1) name key))
-  pub by_wishes : TakeAll IsWished (tables_at world.log version) before.tables (tables_at world.log (version + 1)) after.tables
-      (tasks world.tables (groups_of (entry_changes entry))) wishes unused
-  pub others : (name key : List ℕ) → change_of name key (entry_changes entry) ≡ None → after.tables name key ≡ before.tables name key
+      × (after.tables name key ≡ merge answer (tables_at world.log from name key) (before.tables name key) (tables_at world.log to name key))
+  pub by_wishes : TakeAll IsWished (tables_at world.log from) before.tables (tables_at world.log to) after.tables
+      (tasks world.tables (groups_of changes)) wishes unused
+  pub others : (name key : List ℕ) → change_of name key changes ≡ None → after.tables name key ≡ before.tables name key
+
+-- what is pending is the net change from the log's tables at a version to the own rows
+abbrev pub IsPendingFrom : World → ℕ → View → Type 0
+IsPendingFrom world version view =
+    (table : TableDef) (key : List ℕ) → Contains world.tables table
+    → action_any (view.pending table.name key) ≡ net table.key_marks (tables_at world.log version table.name key) (view.tables table.name key)
+
+-- ---- one by one
 
 -- the entry is the push that was under way: the own rows are as they were, and no wish is used
 pub record IsConfirmed (position : Position) (entry : LogEntry) (before after : View) (wishes unused : List Wish) : Type 0 where
@@ -45,15 +57,14 @@ pub record IsConfirmed (position : Position) (entry : LogEntry) (before after : 
   pub rows : after ≡ before
   pub unasked : unused ≡ wishes
 
--- the log's entry at the replica's version was pulled: it is the replica's own, or was merged; what is pending then is the net change
--- from the log's tables at the next version to the own rows
+-- the log's entry at the replica's version was pulled: it is the replica's own, or was merged
 pub record PullsEntry (world : World) (position : Position) (before after : View) (wishes unused : List Wish) : Type 0 where
   pub entry : LogEntry
   pub there : slice_get world.log position.version ≡ Some entry
   pub pulled : IsConfirmed position entry before after wishes unused
-      ⊎ ((IsOwn position entry → ⊥) × IsMerged world position.version entry before after wishes unused)
-  pub pending : (table : TableDef) (key : List ℕ) → Contains world.tables table
-      → action_any (after.pending table.name key) ≡ net table.key_marks (tables_at world.log (position.version + 1) table.name key) (after.tables table.name key)
+      ⊎ ((IsOwn position entry → ⊥)
+      × IsMerged world position.version (position.version + 1) (entry_changes entry) before after wishes unused)
+  pub pending : IsPendingFrom world (position.version + 1) after
 
 -- so many entries were, one behind another
 abbrev pub PullEntries : World → ℕ → Position → View → List Wish → Position → View → List Wish → Type 0
@@ -69,6 +80,24 @@ pub record PullsAsMerges (world : World) (count : ℕ) (wishes : List Wish) (bef
   pub unused : List Wish
   pub pulls : PullEntries world count before.position before.view wishes after.position end unused
   pub same : IsSameView world.tables end after.view
+
+-- ---- taken together
+
+-- entries of others from the replica's version on, so many, were taken together: they were merged, and it stands behind them
+pub record TakesMerged (world : World) (next count : ℕ) (changeset : List ℕ) (wishes : List Wish) (before after : Member) : Type 0 where
+  pub told : AreOthersAsOne world.tables world.log before.position.id before.position.version next changeset
+  pub moved : after.position.version ≡ next
+  pub all : next ≡ before.position.version + count
+  pub end : View
+  pub unused : List Wish
+  pub merged : IsMerged world before.position.version next told.changes before.view end wishes unused
+  pub pending : IsPendingFrom world next end
+  pub same : IsSameView world.tables end after.view
+
+-- so many were, or none: then it is as it was
+abbrev pub CatchesAsMerge : World → ℕ → ℕ → List ℕ → List Wish → Member → Member → Type 0
+CatchesAsMerge world next zero changeset wishes before after = IsSameMember world.tables before after
+CatchesAsMerge world next (suc count) changeset wishes before after = TakesMerged world next (suc count) changeset wishes before after
 
 -- ---- how many entries an outcome tells
 
@@ -109,10 +138,20 @@ StepMerges old event outcome new =
     → IsMember new r after
     → PullsAsMerges old (count_in outcome) wishes before after
 
+-- where it hands entries to it that were taken together, these are merged at once, or none is
+abbrev pub StepCatches : World → Event → Outcome → World → Type 0
+StepCatches old event outcome new =
+    (k r origin first next : ℕ) (changeset : List ℕ) (wishes : List Wish) (before after : Member)
+    → event ≡ Deliver k wishes
+    → IsMessage old k (Tells r (Merged origin first next changeset))
+    → IsMember old r before
+    → IsMember new r after
+    → CatchesAsMerge old next (count_in outcome) changeset wishes before after
+
 -- so does each of the events, where they make their steps one behind another
 abbrev pub EachMerges : ℕ → World → List Event → List Outcome → Type 0
 EachMerges limit old [] outcomes = Unit {0}
 EachMerges limit old (event ∷ events) [] = Unit {0}
 EachMerges limit old (event ∷ events) (outcome ∷ outcomes) =
     (between : World) → Step limit old event outcome between
-    → StepMerges old event outcome between × EachMerges limit between events outcomes
+    → StepMerges old event outcome between × StepCatches old event outcome between × EachMerges limit between events outcomes

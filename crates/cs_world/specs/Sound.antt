@@ -13,14 +13,15 @@ use Rattle.cs_normal.specs.declared.normal.TableChanges.{TableChanges}
 use Rattle.cs_pending.specs.position.Laws.{FitsPosition}
 use Rattle.cs_pending.specs.position.Shows.{ShowsAt}
 use Rattle.cs_exchange.specs.pushing.Pushes.{request_of}
+use Rattle.cs_hub.specs.catching.Told.{AreOthersAsOne}
 use Rattle.cs_replica.specs.Stands.{StandsOn}
 use Rattle.cs_store.specs.Contents.{Contents}
 use Rattle.cs_wire.specs.Entries.{ToldEntry}
 use Rattle.cs_wire.specs.Laws.{HasNumbersInRange}
-use Rattle.cs_wire.specs.Requests.{Asked, AsksPull, AsksPush}
+use Rattle.cs_wire.specs.Requests.{Asked, AsksCatch, AsksPull, AsksPush}
 use Rattle.cs_wire.specs.Told.{told_entry}
 use Rattle.cs_wire.specs.declared.answer.Answer.{Answer}
-use Rattle.cs_wire.specs.declared.answer.Answer.TheVariants.{Short, Entries}
+use Rattle.cs_wire.specs.declared.answer.Answer.TheVariants.{Short, Entries, Merged}
 use Rattle.cs_wire.specs.declared.push_head.PushHead.{PushHead}
 use Rattle.cs_wire.specs.declared.short_answer.ShortAnswer.{ShortAnswer}
 use Rattle.cs_wire.specs.declared.short_answer.ShortAnswer.TheVariants.{Accepted, Stale, Refused}
@@ -75,10 +76,12 @@ IsTrueShort world (Refused code) = code ≢ conflict_code
 abbrev pub IsTrueAnswer : World → Answer → Type 0
 IsTrueAnswer world (Short short) = IsTrueShort world short
 IsTrueAnswer world (Entries first entries) = ArePartOf world.log first entries
+IsTrueAnswer world (Merged origin first next changeset) = AreOthersAsOne world.tables world.log origin first next changeset
 
 abbrev pub IsTrueAsked : World → Asked → Type 0
 IsTrueAsked world (AsksPush head changeset) = IsTruePush world head changeset
 IsTrueAsked world (AsksPull first count) = Unit {0}
+IsTrueAsked world (AsksCatch origin first count) = Unit {0}
 
 abbrev pub IsTrue : World → Sent → Type 0
 IsTrue world (Asks r asked) = IsTrueAsked world asked

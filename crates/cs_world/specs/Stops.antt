@@ -14,7 +14,7 @@ use Rattle.cs_world.specs.Same.{IsRefused}
 use Rattle.cs_world.specs.Steps.{Step}
 use Rattle.cs_world.specs.World.{Asks, IsMember, IsMessage, Member, Sent, Tells, World}
 use Rattle.cs_world.specs.declared.event.Event.{Event}
-use Rattle.cs_world.specs.declared.event.Event.TheVariants.{AskPull, Deliver, MakePush, OnEdit, Resend, Restart}
+use Rattle.cs_world.specs.declared.event.Event.TheVariants.{AskCatch, AskPull, Deliver, MakePush, OnEdit, Resend, Restart}
 use Rattle.cs_world.specs.declared.outcome.Outcome.{Outcome}
 use Rattle.cs_world.specs.declared.outcome.Outcome.TheVariants.{NotHeard}
 
@@ -32,6 +32,7 @@ place_of world (OnEdit r asked) = Some (AtReplica r)
 place_of world (MakePush r) = Some (AtReplica r)
 place_of world (Resend r) = Some (AtReplica r)
 place_of world (AskPull r limit) = Some (AtReplica r)
+place_of world (AskCatch r limit) = Some (AtReplica r)
 place_of world (Deliver k wishes) = reader_of (slice_get world.messages k)
 place_of world (Restart r) = Some (AtReplica r)
 
@@ -77,6 +78,7 @@ IsAgain world count (OnEdit r asked) again = again ≡ OnEdit r asked
 IsAgain world count (MakePush r) again = again ≡ MakePush r
 IsAgain world count (Resend r) again = again ≡ Resend r
 IsAgain world count (AskPull r limit) again = again ≡ AskPull r limit
+IsAgain world count (AskCatch r limit) again = again ≡ AskCatch r limit
 IsAgain world count (Restart r) again = again ≡ Restart r
 
 -- by a step of this event the store would keep what the failed commit would have left, in this world
@@ -103,6 +105,7 @@ IsNotLost old (OnEdit r asked) = Unit {0}
 IsNotLost old (MakePush r) = Unit {0}
 IsNotLost old (Resend r) = Unit {0}
 IsNotLost old (AskPull r limit) = Unit {0}
+IsNotLost old (AskCatch r limit) = Unit {0}
 IsNotLost old (Restart r) = Unit {0}
 
 -- the store there was stopped and opened again: it holds what it keeps, alone; and what would have been sent never is

@@ -1,7 +1,7 @@
 //! The laws of worlds, each the contract of a function that does nothing.
 
 ghost use Rattle.cs_replica.specs.Laws.{AnswerHasResult};
-ghost use Rattle.cs_world.specs.Laws.{AnswersFit, AskHasStep, DeliverHasStep, EditHasStep, EventsMerge, FirstIsSound, OneRun, OneStep, PullsMerge, PushHasStep, ResendHasStep, RestartHasStep, SoundHasHeadline, StepsAreSound, WishesPickOnce};
+ghost use Rattle.cs_world.specs.Laws.{AnswersFit, AskHasStep, CatchHasStep, DeliverHasStep, EditHasStep, EventsMerge, FirstIsSound, OneRun, OneStep, PullsMerge, PushHasStep, ResendHasStep, RestartHasStep, SoundHasHeadline, StepsAreSound, WishesPickOnce};
 ghost use Rattle.cs_world.specs.StopsLaws.{FoundIsStep, FoundIsStepOfHub, OpensAsLeft, RunWithStops, RunsWhole, StopOfHub, StopOfReplica};
 
 use cs_conflict::Picker;
@@ -40,6 +40,10 @@ pub fn steps_are_sound()
     cs_replica::laws::edit_stands();
     cs_replica::laws::steps_stand();
     cs_replica::laws::flight_fits();
+    cs_hub::catching::laws::caught_are_others();
+    cs_hub::catching::laws::one_consolidated();
+    cs_hub::catching::laws::consolidated_leads();
+    cs_normal::laws::defined_is_applied();
 }
 
 /// What is sound has the headline.
@@ -67,9 +71,12 @@ pub fn answers_fit()
     cs_normal::laws::normal_is_taken();
     cs_normalising::laws::normal_again();
     cs_store::log::laws::appended_is_log();
+    cs_store::log::laws::most_bytes();
     cs_wire::laws::one_request();
     cs_wire::laws::one_told_answer();
     cs_wire::laws::told_are_read();
+    cs_hub::catching::laws::caught_are_others();
+    cs_hub::catching::laws::one_consolidated();
 }
 
 /// In a sound world each entry that is pulled is the three-way merge of the log's tables at the replica's version, its own rows, and the
@@ -137,9 +144,10 @@ pub fn resend_has_step()
     ensures { ResendHasStep }
 {}
 
-/// So has a question for entries.
+/// So has a question for entries, and one for entries taken together.
 pub fn ask_has_step()
-    ensures { AskHasStep }
+    ensures pull { AskHasStep }
+    ensures catch { CatchHasStep }
 {}
 
 /// So has a store that is read again.
@@ -160,6 +168,7 @@ pub fn deliver_has_step()
 {
     answers_fit();
     cs_conflict::laws::guarded_is_lawful();
+    cs_hub::catching::laws::catch_has_answer();
     cs_hub::judgement::laws::push_has_answer();
     cs_normal::laws::normal_is_taken();
     cs_normalising::laws::normal_again();

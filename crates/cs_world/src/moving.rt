@@ -1,7 +1,7 @@
 //! The hub, the replicas and the messages, moved by events.
 
 ghost use Rattle.std.specs.Prelude.{◌≡◌, ◌<◌, ◌++◌, [], ◌∷◌, List, Some, IfOk, OnErr, length, vec_capacity, vec_len};
-ghost use Rattle.cs_world.specs.declared.event.Event.TheVariants.{AskPull, Deliver, MakePush, OnEdit, Resend, Restart};
+ghost use Rattle.cs_world.specs.declared.event.Event.TheVariants.{AskCatch, AskPull, Deliver, MakePush, OnEdit, Resend, Restart};
 ghost use Rattle.cs_world.specs.declared.outcome.Outcome.TheVariants as told;
 ghost use Rattle.cs_store.specs.declared.log.entry.TheConstants.{MAX_ENTRIES};
 ghost use Rattle.cs_world.specs.Fails.{AsksHub};
@@ -60,6 +60,7 @@ impl<S: RowStore> Core<S> {
             Event::MakePush { replica } => self.make_push(*replica),
             Event::Resend { replica } => self.resend(*replica),
             Event::AskPull { replica, limit } => self.ask_pull(*replica, *limit),
+            Event::AskCatch { replica, limit } => self.ask_catch(*replica, *limit),
             Event::Deliver { message, wishes } => self.deliver(*message, wishes.as_slice()),
             Event::Restart { replica } => self.restart(*replica),
         }
@@ -129,6 +130,29 @@ impl<S: RowStore> Core<S> {
             return Outcome::NoReplica;
         };
         let request = RequestBuf::Pull {
+            first: replica.version(),
+            limit,
+        };
+        send(
+            &mut self.letters,
+            Letter::Asks {
+                replica: which,
+                request: Posted::new(request),
+            },
+        )
+    }
+
+    fn ask_catch(&mut self, which: u32, limit: u32) -> Outcome
+        ensures { Moves S.RowStore MAX_ENTRIES self.old (AskCatch which limit) result self.new }
+    {
+        if self.letters.reserve(1).is_err() {
+            return Outcome::Memory;
+        }
+        let Some(replica) = self.replicas.get(which as usize) else {
+            return Outcome::NoReplica;
+        };
+        let request = RequestBuf::Catch {
+            origin: replica.id(),
             first: replica.version(),
             limit,
         };

@@ -13,4 +13,7 @@ returns c =
       answer = c.one_told_answer.ensures;
       read = c.told_are_read.ensures;
       appended = c.appended_is_log.ensures;
+      caught = c.caught_are_others.ensures.told;
+      consolidated = c.one_consolidated.ensures.one;
+      most = c.most_bytes.ensures;
     })

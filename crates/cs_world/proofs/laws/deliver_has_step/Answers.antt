@@ -10,4 +10,5 @@ returns c =
       taken = c.normal_is_taken.ensures;
       again = c.normal_again.ensures;
       answer = c.answer_has_result_by.ensures;
+      catch = c.catch_has_answer.ensures;
     })

@@ -6,6 +6,7 @@ returns c =
     steps_are_sound (record {
       longer = c.longer_log.ensures;
       stands = c.stands_longer.ensures;
+      others = c.caught_are_others.ensures.grows;
       edit = c.edit_stands.ensures;
       kept = c.steps_stand.ensures.kept;
       flight = c.flight_fits.ensures;
@@ -21,6 +22,9 @@ returns c =
         answer = c.one_told_answer.ensures;
         read = c.told_are_read.ensures;
         appended = c.appended_is_log.ensures;
+        caught = c.caught_are_others.ensures.told;
+        consolidated = c.one_consolidated.ensures.one;
+        most = c.most_bytes.ensures;
       };
       answers = record {
         entry = c.steps_stand.ensures.entry;

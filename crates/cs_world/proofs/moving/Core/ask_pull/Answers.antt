@@ -1,6 +1,9 @@
-use Rattle.std.proofs.Common.{length, refl, arith}
+use Rattle.std.proofs.Common.{◌≡◌, ◌∙◌, ap, length, refl, arith}
 use Rattle.std.proofs.lemmas.Option.{slice_get_read}
 use Rattle.cs_store.specs.declared.log.entry.TheConstants.{MAX_ENTRIES}
+use Rattle.cs_pending.specs.declared.position.position.Position.{Position}
+use Rattle.cs_wire.specs.Requests.{Asked, AsksPull}
+use Rattle.cs_world.specs.Steps as step
 use Rattle.cs_world.specs.declared.event.Event.TheVariants.{AskPull}
 use Rattle.cs_world.proofs.Moved.{asks, no_room, none_there}
 use Rattle.cs_world.proofs.moving.Core.ask_pull.Goals as goal
@@ -15,4 +18,6 @@ returns-in_default g c =
 
 pub returns : goal.returns
 returns g c =
-    rw (← c.self.view_is) (asks g.S.RowStore MAX_ENTRIES c.self.inside.hub c.self.inside.replicas.items c.self.inside.letters.items c.args.which c.version.result c.args.limit c.in-Some.replica.now c.new.result c.send.result c.reserve.new.self.items c.send.new.letters.items (rw c.deref.ensures.value at (slice_get_read c.deref.result.now (length c.deref.result.now) c.args.which c.in-Some.replica.now refl c.in-Some.ensures.lookup.3.0 c.in-Some.ensures.lookup.1)) c.version.ensures (omega (arith, c.ranges.limit.fits)) c.new.ensures c.reserve.ensures.items c.send.ensures.items c.send.ensures.sent)
+    let what : Position → Asked = λ position. AsksPull position.version c.args.limit in
+    let asked : c.new.result ≡ what c.in-Some.replica.now.position = c.new.ensures ∙ ap (λ v. AsksPull v c.args.limit) c.version.ensures in
+    rw (← c.self.view_is) (asks g.S.RowStore MAX_ENTRIES c.self.inside.hub c.self.inside.replicas.items c.self.inside.letters.items (AskPull c.args.which c.args.limit) what c.args.which c.in-Some.replica.now c.new.result c.send.result c.reserve.new.self.items c.send.new.letters.items (rw c.deref.ensures.value at (slice_get_read c.deref.result.now (length c.deref.result.now) c.args.which c.in-Some.replica.now refl c.in-Some.ensures.lookup.3.0 c.in-Some.ensures.lookup.1)) asked c.reserve.ensures.items c.send.ensures.items c.send.ensures.sent (λ world before was. step.asks (omega (arith, c.ranges.limit.fits)) was))
