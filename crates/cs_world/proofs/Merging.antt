@@ -1,5 +1,5 @@
 -- Entries that a replica of a sound world pulls are merges over the log's tables.
-use Rattle.std.proofs.Common.{◌≡◌, ◌<◌, ◌^◌, ◌+◌, ◌∙◌, ℕ, zero, suc, List, [], ◌∷◌, Option, Some, None, Result, Ok, Err, slice_get, slice_set, refl, sym, ap, subst, inl, inr}
+use Rattle.std.proofs.Common.{◌≡◌, ◌<◌, ◌^◌, ◌+◌, ◌∙◌, ℕ, zero, suc, List, [], ◌∷◌, Option, Some, None, Result, Ok, Err, slice_get, slice_set, refl, sym, ap, subst, inl, inr, arith}
 use Rattle.std.specs.Prelude.{◌⊎◌}
 use Rattle.cs_value.specs.Key.{Place}
 use Rattle.cs_apply.specs.NormalTasks.{found_at, found_is, of_one, tasks_are}
@@ -25,6 +25,8 @@ use Rattle.cs_pending.specs.View.{View, middle}
 use Rattle.cs_pending.specs.position.Shows.{ShowsAt, base}
 use Rattle.cs_pending.specs.declared.position.position.Position.{Position}
 use Rattle.cs_exchange.specs.pulling.Listed.{PullsMany, count_of}
+use Rattle.cs_exchange.specs.pulling.Merged.{TakesTold}
+use Rattle.cs_hub.specs.catching.Told.{AreOthersAsOne}
 use Rattle.cs_exchange.specs.pulling.Pulls.{IsOwn, PullsOne}
 use Rattle.cs_exchange.specs.declared.pulling.fault.AnswerFault.{AnswerFault}
 use Rattle.cs_exchange.specs.declared.pulling.fault.AnswerFault.TheVariants as fault
@@ -38,17 +40,19 @@ use Rattle.cs_store.specs.Contents.{Contents}
 use Rattle.cs_exchange.specs.taking.Takes.{IsTaken, TakeAll, brought, taken}
 use Rattle.cs_wire.specs.Entries.{ToldEntry}
 use Rattle.cs_wire.specs.declared.answer.Answer.{Answer}
-use Rattle.cs_wire.specs.declared.answer.Answer.TheVariants.{Entries}
+use Rattle.cs_wire.specs.declared.answer.Answer.TheVariants.{Entries, Merged}
 use Rattle.cs_conflict.specs.wish_list.Wished.{IsWished}
-use Rattle.cs_world.specs.Laws.{EventsMerge, PullsMerge, StepsAreSound}
-use Rattle.cs_world.specs.Merges.{IsConfirmed, IsMerged, IsPendingFrom, PullEntries, PullsAsMerges, PullsEntry, count_in}
+use Rattle.cs_world.specs.Laws.{CatchesMerge, EventsMerge, PullsMerge, StepsAreSound}
+use Rattle.cs_replica.specs.member.Same.{IsSameMember}
+use Rattle.cs_world.specs.Merges.{CatchesAsMerge, IsConfirmed, IsMerged, IsPendingFrom, PullEntries, PullsAsMerges, PullsEntry, count_in}
 use Rattle.cs_world.specs.Sound.{ArePartOf, IsSound}
-use Rattle.cs_world.specs.Steps as step
 use Rattle.cs_world.specs.Steps.{Hears, Step, heard, receiver}
 use Rattle.cs_world.specs.World.{Asks, IsMember, IsMessage, Member, Tells, World}
 use Rattle.cs_world.specs.declared.event.Event.{Event}
 use Rattle.cs_world.specs.declared.event.Event.TheVariants.{Deliver}
 use Rattle.cs_world.specs.declared.outcome.Outcome.{Outcome}
+use Rattle.cs_world.specs.declared.outcome.Outcome.TheVariants.{Memory}
+use Rattle.cs_world.proofs.Came.{Comes, came}
 use Rattle.cs_world.proofs.Found.{set_there}
 use Rattle.cs_world.proofs.Heard as answers
 
@@ -241,10 +245,63 @@ module _ (laws : Below) (limit : ℕ) (small : limit < 2 ^ 32) (world : World) (
     pulls_so_far outcome (inl (is, same)) = subst (λ (o : Outcome). PullsAsMerges world (count_in o) wishes before after) (sym is) (nothing_so same)
     pulls_so_far outcome (inr (result, is, hears)) = subst (λ (o : Outcome). PullsAsMerges world (count_in o) wishes before after) (sym is) (hears_so result hears)
 
+  -- ---- entries, taken together
+
+  module _ (k r origin first next : ℕ) (changeset : List ℕ) (wishes : List Wish) (before after : Member) (said : IsMessage world k (Tells r (Merged origin first next changeset))) (was : IsMember world r before) where
+    same_so : after ≡ before → IsSameMember world.tables before after
+    same_so same = record {
+      position = ap (λ (m : Member). m.position) same;
+      view = record { rows = λ n q. ap (λ (m : Member). m.view.tables n q) (sym same); pending = λ table q inside. ap (λ (m : Member). m.view.pending table.name q) same };
+    }
+
+    -- what the store shows of the replica as it was is the replica after
+    stays_so : (left : Contents) → after.position ≡ before.position → ShowsAt world.tables left after.position before.view → ShowsAt world.tables left after.position after.view → IsSameMember world.tables before after
+    stays_so left same shows now =
+        let one = laws.view world.tables left before.view after.view shows.rows now.rows in
+        record { position = same; view = record { rows = one.0; pending = one.1 } }
+
+    nothing_taken : (left : Contents) (count : ℕ) → count ≡ 0 → ShowsAt world.tables left after.position after.view → after.position ≡ before.position → ShowsAt world.tables left before.position before.view
+        → CatchesAsMerge world next count changeset wishes before after
+    nothing_taken left count none now same shows =
+        subst (λ (n : ℕ). CatchesAsMerge world next n changeset wishes before after) (sym none)
+        (stays_so left same (subst (λ (o : Position). ShowsAt world.tables left o before.view) (sym same) shows) now)
+
+    takes_so : (left : Contents) (unused : List Wish) (result : Result Pulled AnswerFault) → AreOthersAsOne world.tables world.log before.position.id before.position.version next changeset → before.position.version < next
+        → ShowsAt world.tables left after.position after.view
+        → TakesTold IsWished world.tables next changeset result before.position before.view wishes after.position left unused
+        → CatchesAsMerge world next (count_in (heard (told_of result))) changeset wishes before after
+    takes_so left unused (Ok (pulled.Taken zero)) is above now (sum, changes, end, read, moved, shows, takes) = absurd (omega (arith, above, sum))
+    takes_so left unused (Ok (pulled.Taken (suc count))) is above now (sum, changes, end, read, moved, shows, takes) =
+        let p = s.placed r before was in
+        let same : changes ≡ is.changes = answers.form_is laws.answers limit small world s before.position.id next changeset before.position before.view is p.stands changes read in
+        let stands = answers.taken_on laws.answers limit small world s before.position.id next changeset before.position before.view is p.stands changes after.position.pending end wishes unused read takes in
+        let takes_told = subst (λ (c : List TableChanges). IsTaken IsWished world.tables before.position.flight c before.view end wishes unused) same takes in
+        let shows_moved = subst (λ (o : Position). ShowsAt world.tables left o end) moved shows in
+        let one = laws.view world.tables left end after.view shows.rows now.rows in
+        record {
+          told = is;
+          moved = ap (λ (o : Position). o.version) moved;
+          all = sym sum;
+          end = end;
+          unused = unused;
+          merged = merged before.position next is.changes is.together.of_tables before.view end wishes unused p.stands after.position.pending stands takes_told;
+          pending = pending_from before.position next is.changes is.together.of_tables before.view end wishes unused p.stands after.position.pending stands left shows_moved;
+          same = record { rows = one.0; pending = one.1 };
+        }
+    takes_so left unused (Ok (pulled.Stopped count)) is above now (none, changes, conflict, read, stops, (same, shows)) = nothing_taken left count none now same shows
+    takes_so left unused (Err (fault.Memory count)) is above now (none, (same, shows)) = nothing_taken left count none now same shows
+    takes_so left unused (Err (fault.Device count)) is above now (none, (same, shows)) = nothing_taken left count none now same shows
+    takes_so left unused (Err (fault.BadEntry count)) is above now (none, bad, unasked, (same, shows)) = nothing_taken left count none now same shows
+
 pub pulls_merge : Below → PullsMerge
 pulls_merge laws limit k r first entries wishes outcome old new before after small s said was now step =
     pulls_so_far laws limit small old s k r first entries wishes before after said was outcome
     (is_heard laws limit small old s k r (Entries first entries) wishes before after said was outcome new (came limit old step) now)
+
+pub catches_merge : Below → CatchesMerge
+catches_merge laws limit k r origin first next changeset wishes outcome old new before after small s said was now step =
+    catches_so_far laws limit small old s k r origin first next changeset wishes before after said was outcome
+    (is_heard laws limit small old s k r (Merged origin first next changeset) wishes before after said was outcome new (came limit old step) now)
 
 -- ---- events one behind another
 

@@ -1,7 +1,7 @@
 //! The laws of worlds, each the contract of a function that does nothing.
 
 ghost use Rattle.cs_replica.specs.Laws.{AnswerHasResult};
-ghost use Rattle.cs_world.specs.Laws.{AnswersFit, AskHasStep, CatchHasStep, DeliverHasStep, EditHasStep, EventsMerge, FirstIsSound, OneRun, OneStep, PullsMerge, PushHasStep, ResendHasStep, RestartHasStep, SoundHasHeadline, StepsAreSound, WishesPickOnce};
+ghost use Rattle.cs_world.specs.Laws.{AnswersFit, AskHasStep, CatchHasStep, CatchesMerge, DeliverHasStep, EditHasStep, EventsMerge, FirstIsSound, OneRun, OneStep, PullsMerge, PushHasStep, ResendHasStep, RestartHasStep, SoundHasHeadline, StepsAreSound, WishesPickOnce};
 ghost use Rattle.cs_world.specs.StopsLaws.{FoundIsStep, FoundIsStepOfHub, OpensAsLeft, RunWithStops, RunsWhole, StopOfHub, StopOfReplica};
 
 use cs_conflict::Picker;
@@ -43,7 +43,6 @@ pub fn steps_are_sound()
     cs_hub::catching::laws::caught_are_others();
     cs_hub::catching::laws::one_consolidated();
     cs_hub::catching::laws::consolidated_leads();
-    cs_normal::laws::defined_is_applied();
 }
 
 /// What is sound has the headline.
@@ -80,9 +79,10 @@ pub fn answers_fit()
 }
 
 /// In a sound world each entry that is pulled is the three-way merge of the log's tables at the replica's version, its own rows, and the
-/// log's tables at the next version.
+/// log's tables at the next version; and what is told taken together is so at once, over the log's tables at the version to which it leads.
 pub fn pulls_merge()
-    ensures { PullsMerge }
+    ensures each { PullsMerge }
+    ensures together { CatchesMerge }
 {
     cs_normal::laws::normal_is_taken();
     cs_normalising::laws::normal_again();
@@ -95,6 +95,9 @@ pub fn pulls_merge()
     cs_rebaser::laws::merge_alike();
     cs_replica::laws::steps_stand();
     cs_replica::laws::flight_fits();
+    cs_changeset::laws::changesets();
+    cs_normalising::laws::one_normal_form();
+    cs_hub::catching::laws::consolidated_leads();
 }
 
 /// In a sound world an event has one outcome, and leaves one world: but where memory was refused or a device failed.

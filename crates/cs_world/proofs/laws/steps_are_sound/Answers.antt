@@ -36,5 +36,9 @@ returns c =
         again = c.normal_again.ensures;
         body = c.one_body.ensures;
         rows = c.one_contents.ensures.log_rows;
+        lead = c.steps_stand.ensures.lead;
+        consolidated = c.consolidated_leads.ensures;
+        changesets = c.changesets.ensures.one;
+        form = c.one_normal_form.ensures;
       };
     })
