@@ -20,6 +20,9 @@ const PUSH: [u8; 47] = [
 /// A Pull: from entry 0, at most 10.
 const PULL: [u8; 13] = [2, 0, 0, 0, 0, 0, 0, 0, 0, 0, 0, 0, 0x0a];
 
+/// A Catch: of replica 9, from entry 0, at most 10.
+const CATCH: [u8; 17] = [3, 0, 0, 0, 9, 0, 0, 0, 0, 0, 0, 0, 0, 0, 0, 0, 0x0a];
+
 /// Accepted: 7, 1, version 1.
 const ACCEPTED: [u8; 21] = [
     0x11, 0, 0, 0, 7, 0, 0, 0, 0, 0, 0, 0, 1, 0, 0, 0, 0, 0, 0, 0, 1,
@@ -35,6 +38,12 @@ const REFUSED: [u8; 2] = [0x13, 0x29];
 const ENTRIES: [u8; 52] = [
     0x14, 0, 0, 0, 0, 0, 0, 0, 0, 0, 0, 0, 1, 0, 0, 0, 0, 7, 0, 0, 0, 0, 0, 0, 0, 1, 0, 0, 0, 0x16,
     0x54, 2, 1, 0, 0x74, 0x31, 0, 0x12, 0, 1, 0, 0, 0, 0, 0, 0, 0, 1, 3, 2, 0x76, 0x31,
+];
+
+/// Merged: for replica 9, from 0 to 2, the changeset of the push above.
+const MERGED: [u8; 47] = [
+    0x15, 0, 0, 0, 9, 0, 0, 0, 0, 0, 0, 0, 0, 0, 0, 0, 0, 0, 0, 0, 2, 0, 0, 0, 0x16, 0x54, 2, 1, 0,
+    0x74, 0x31, 0, 0x12, 0, 1, 0, 0, 0, 0, 0, 0, 0, 1, 3, 2, 0x76, 0x31,
 ];
 
 /// Whether the bytes are read as the push above.
@@ -53,10 +62,25 @@ fn is_the_pull(bytes: &[u8]) -> bool {
     }
 }
 
+/// Whether the bytes are read as the catch above.
+fn is_the_catch(bytes: &[u8]) -> bool {
+    match Request::decode(bytes) {
+        Ok(
+            Request::Catch {
+                origin,
+                first,
+                limit,
+            },
+        ) => origin == 9 && first == 0 && limit == 10,
+        _ => false,
+    }
+}
+
 #[test]
 fn requests_are_read(rt: HostRuntime) {
     assert!(rt; is_the_push(&PUSH));
     assert!(rt; is_the_pull(&PULL));
+    assert!(rt; is_the_catch(&CATCH));
 }
 
 /// Whether these are the bytes.
@@ -89,6 +113,18 @@ fn written_pull(alloc: Global) -> Result<Vec<u8>, Memory> {
     Ok(out)
 }
 
+/// The catch above, written.
+fn written_catch(alloc: Global) -> Result<Vec<u8>, Memory> {
+    let mut out = Vec::new(alloc);
+    let catch = RequestBuf::Catch {
+        origin: 9,
+        first: 0,
+        limit: 10,
+    };
+    catch.encode(&mut out)?;
+    Ok(out)
+}
+
 /// The push above, written out of a request that owns its changeset.
 fn written_owned_push(alloc: Global) -> Result<Vec<u8>, Memory> {
     let mut out = Vec::new(alloc);
@@ -105,6 +141,7 @@ fn requests_are_written(rt: HostRuntime) {
     assert!(rt; are(written_push(rt.alloc()), &PUSH));
     assert!(rt; are(written_owned_push(rt.alloc()), &PUSH));
     assert!(rt; are(written_pull(rt.alloc()), &PULL));
+    assert!(rt; are(written_catch(rt.alloc()), &CATCH));
 }
 
 /// Whether the bytes are no request, for this fault.
@@ -126,11 +163,13 @@ fn is_no_answer(bytes: &[u8], fault: WireFault) -> bool {
 #[test]
 fn faults_of_requests(rt: HostRuntime) {
     let longer_pull = [2, 0, 0, 0, 0, 0, 0, 0, 0, 0, 0, 0, 0x0a, 0];
+    let longer_catch = [3, 0, 0, 0, 9, 0, 0, 0, 0, 0, 0, 0, 0, 0, 0, 0, 0x0a, 0];
     let mut longer_push = PUSH;
     longer_push[24] = 0x15;
     assert!(rt; is_no_request(&[], WireFault::Truncated));
     assert!(rt; is_no_request(&[0x99], WireFault::BadTag));
     assert!(rt; is_no_request(&longer_pull, WireFault::TooLong));
+    assert!(rt; is_no_request(&longer_catch, WireFault::TooLong));
     assert!(rt; is_no_request(&longer_push, WireFault::TooLong));
     assert!(rt; is_no_request(&ACCEPTED, WireFault::BadTag));
 }
@@ -157,10 +196,12 @@ fn are_truncated_answers(bytes: &[u8]) -> bool {
 fn fronts(rt: HostRuntime) {
     assert!(rt; are_truncated_requests(&PUSH));
     assert!(rt; are_truncated_requests(&PULL));
+    assert!(rt; are_truncated_requests(&CATCH));
     assert!(rt; are_truncated_answers(&ACCEPTED));
     assert!(rt; are_truncated_answers(&STALE));
     assert!(rt; are_truncated_answers(&REFUSED));
     assert!(rt; are_truncated_answers(&ENTRIES));
+    assert!(rt; are_truncated_answers(&MERGED));
 }
 
 /// Whether the bytes are read as this answer.
@@ -234,8 +275,30 @@ fn entries_are_read(rt: HostRuntime) {
     assert!(rt; tells_the_push(&ENTRIES));
 }
 
+/// Whether the bytes tell replica 9 what two entries from 0 on do together, the changeset of the push above.
+fn tells_together(bytes: &[u8]) -> bool {
+    match Answer::decode(bytes) {
+        Ok(
+            Answer::Merged {
+                origin,
+                first,
+                next,
+                changeset,
+            },
+        ) => origin == 9 && first == 0 && next == 2 && changeset.bytes() == &PUSH[25..],
+        _ => false,
+    }
+}
+
+#[test]
+fn merged_is_read(rt: HostRuntime) {
+    assert!(rt; tells_together(&MERGED));
+}
+
 #[test]
 fn faults_of_answers(rt: HostRuntime) {
+    let mut longer_merged = MERGED;
+    longer_merged[24] = 0x15;
     let mut other_kind = ENTRIES;
     other_kind[13] = 1;
     let mut one_more = ENTRIES;
@@ -250,6 +313,7 @@ fn faults_of_answers(rt: HostRuntime) {
     assert!(rt; is_no_answer(&other_kind[..14], WireFault::BadKind));
     assert!(rt; is_no_answer(&one_more, WireFault::Truncated));
     assert!(rt; is_no_answer(&none, WireFault::TooLong));
+    assert!(rt; is_no_answer(&longer_merged, WireFault::TooLong));
     assert!(rt; is_no_answer(&PUSH, WireFault::BadTag));
 }
 
@@ -260,9 +324,17 @@ fn told_of_log(alloc: Global) -> Result<Vec<u8>, Memory> {
     Ok(answer)
 }
 
+/// The answer that tells replica 9 what two entries do together, with the changeset put behind its head.
+fn told_together(alloc: Global) -> Result<Vec<u8>, Memory> {
+    let mut answer = merged_head(alloc, 9, 0, 2, 22)?;
+    answer.extend_from_slice(&PUSH[25..])?;
+    Ok(answer)
+}
+
 #[test]
 fn entries_are_written(rt: HostRuntime) {
     assert!(rt; are(told_of_log(rt.alloc()), &ENTRIES));
+    assert!(rt; are(told_together(rt.alloc()), &MERGED));
 }
 
 /// Whether the fault has this name and this code.

@@ -4,7 +4,7 @@ use Rattle.std.specs.List.{flat_map, AllByRecursion}
 use Rattle.cs_wire.specs.Entries.{ToldEntry, FitsEntry, IsFaultOfEntries, entry_spelling}
 use Rattle.cs_wire.specs.Numbers.{four_bytes, eight_bytes}
 use Rattle.cs_wire.specs.declared.answer.Answer.{Answer}
-use Rattle.cs_wire.specs.declared.answer.Answer.TheVariants.{Short, Entries}
+use Rattle.cs_wire.specs.declared.answer.Answer.TheVariants.{Short, Entries, Merged}
 use Rattle.cs_wire.specs.declared.fault.WireFault.{WireFault}
 use Rattle.cs_wire.specs.declared.fault.WireFault.TheVariants.{Truncated, BadTag, TooLong, BadKind}
 use Rattle.cs_wire.specs.declared.short_answer.ShortAnswer.{ShortAnswer}
@@ -24,12 +24,15 @@ refused_tag = 19
 abbrev pub entries_tag : ℕ
 entries_tag = 20
 
+abbrev pub merged_tag : ℕ
+merged_tag = 21
+
 -- the numbers of Accepted, and what follows them
 abbrev pub accepted_numbers : ℕ → ℕ → ℕ → List ℕ → List ℕ
 accepted_numbers origin number version rest =
     four_bytes origin ++ (eight_bytes number ++ (eight_bytes version ++ rest))
 
--- the answers but entries, and what follows one. A push was taken: its origin, its number, and the version that it made; it
+-- the answers that are a few numbers, and what follows one. A push was taken: its origin, its number, and the version that it made; it
 -- came too late: the newest version; a refusal: its code
 abbrev pub short_before : ShortAnswer → List ℕ → List ℕ
 short_before (Accepted origin number version) rest = accepted_tag ∷ accepted_numbers origin number version rest
@@ -48,9 +51,20 @@ abbrev pub entries_spelling : ℕ → List ToldEntry → List ℕ
 entries_spelling first entries =
     entries_tag ∷ entries_numbers first (length entries) (flat_map entry_spelling entries)
 
+-- the numbers before a changeset that entries make together, and what follows them: who asked, the first entry's place in the
+-- log, the place behind the last one, and how many bytes the changeset has
+abbrev pub merged_numbers : ℕ → ℕ → ℕ → ℕ → List ℕ → List ℕ
+merged_numbers origin first next size rest =
+    four_bytes origin ++ (eight_bytes first ++ (eight_bytes next ++ (four_bytes size ++ rest)))
+
+-- a tag, the numbers, and the changeset behind its length
+abbrev pub merged_spelling : ℕ → ℕ → ℕ → List ℕ → List ℕ
+merged_spelling origin first next changeset = merged_tag ∷ merged_numbers origin first next (length changeset) changeset
+
 abbrev pub answer_spelling : Answer → List ℕ
 answer_spelling (Short answer) = short_spelling answer
 answer_spelling (Entries first entries) = entries_spelling first entries
+answer_spelling (Merged origin first next changeset) = merged_spelling origin first next changeset
 
 -- ---- what can be spelled
 
@@ -63,13 +77,21 @@ FitsShort (Refused code) = code < 256
 abbrev pub FitsEntriesNumbers : ℕ → ℕ → Type 0
 FitsEntriesNumbers first count = (first < 2 ^ 64) × (count < 2 ^ 32)
 
+-- the numbers before a changeset that entries make together are in range
+pub record FitsMerged (origin first next size : ℕ) : Type 0 where
+  pub origin_fits : origin < 2 ^ 32
+  pub first_fits : first < 2 ^ 64
+  pub next_fits : next < 2 ^ 64
+  pub size_fits : size < 2 ^ 32
+
 abbrev pub FitsAnswer : Answer → Type 0
 FitsAnswer (Short answer) = FitsShort answer
 FitsAnswer (Entries first entries) = FitsEntriesNumbers first (length entries) × AllByRecursion FitsEntry entries
+FitsAnswer (Merged origin first next changeset) = FitsMerged origin first next (length changeset)
 
 -- ---- what is wrong with bytes that spell none
 
--- the front of an answer: before its tag, or within its numbers
+-- the front of an answer: before its tag, within its numbers, or within its changeset
 abbrev pub IsPartialAnswer : List ℕ → Type 0
 IsPartialAnswer bytes =
     (bytes ≡ [])
@@ -77,11 +99,16 @@ IsPartialAnswer bytes =
     ⊎ ((rest : List ℕ) × (bytes ≡ stale_tag ∷ rest) × (length rest < 8))
     ⊎ (bytes ≡ refused_tag ∷ [])
     ⊎ ((rest : List ℕ) × (bytes ≡ entries_tag ∷ rest) × (length rest < 12))
+    ⊎ ((rest : List ℕ) × (bytes ≡ merged_tag ∷ rest) × (length rest < 24))
+    ⊎ ((origin : ℕ) × (first : ℕ) × (next : ℕ) × (size : ℕ) × (part : List ℕ) × FitsMerged origin first next size
+    × (bytes ≡ merged_tag ∷ merged_numbers origin first next size part) × (length part < size))
 
 -- an answer but entries, and bytes behind it
 abbrev pub IsLongerAnswer : List ℕ → Type 0
 IsLongerAnswer bytes =
-    (answer : ShortAnswer) × (more : List ℕ) × FitsShort answer × (bytes ≡ short_before answer more) × (0 < length more)
+    ((answer : ShortAnswer) × (more : List ℕ) × FitsShort answer × (bytes ≡ short_before answer more) × (0 < length more))
+    ⊎ ((origin : ℕ) × (first : ℕ) × (next : ℕ) × (size : ℕ) × (more : List ℕ) × FitsMerged origin first next size
+    × (bytes ≡ merged_tag ∷ merged_numbers origin first next size more) × (size < length more))
 
 -- the numbers before entries, and a fault behind them, where so many entries are to stand
 abbrev pub HasEntriesFault : WireFault → List ℕ → Type 0
@@ -95,6 +122,7 @@ pub record IsNoTag (tag : ℕ) : Type 0 where
   pub no_stale : tag ≢ stale_tag
   pub no_refused : tag ≢ refused_tag
   pub no_entries : tag ≢ entries_tag
+  pub no_merged : tag ≢ merged_tag
 
 abbrev pub IsAnswerFault : WireFault → List ℕ → Type 0
 IsAnswerFault Truncated bytes = IsPartialAnswer bytes ⊎ HasEntriesFault Truncated bytes

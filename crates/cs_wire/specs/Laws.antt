@@ -16,7 +16,7 @@ OneRequest =
     (bytes : List ℕ) (one other : Result Asked WireFault) → ReadsRequest bytes one → ReadsRequest bytes other
     → one ≡ other
 
--- bytes ask something: a push, a pull, or nothing, where they have a fault
+-- bytes ask something: a push, a pull, a catch, or nothing, where they have a fault
 abbrev pub AsksSomething : Type 0
 AsksSomething = (bytes : List ℕ) → AreBytes bytes → (asked : Result Asked WireFault) × ReadsRequest bytes asked
 

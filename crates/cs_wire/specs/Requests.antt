@@ -13,6 +13,7 @@ use Rattle.cs_wire.specs.declared.request.RequestBuf.TheVariants as owned
 pub data Asked : Type 0 where
   AsksPush : (head : PushHead) (changeset : List ℕ) → Asked
   AsksPull : (first limit : ℕ) → Asked
+  AsksCatch : (origin first limit : ℕ) → Asked
 
 -- ---- how each is spelled
 
@@ -21,6 +22,9 @@ push_tag = 1
 
 abbrev pub pull_tag : ℕ
 pull_tag = 2
+
+abbrev pub catch_tag : ℕ
+catch_tag = 3
 
 -- the numbers of a Push, and what follows them
 abbrev pub push_numbers : PushHead → ℕ → List ℕ → List ℕ
@@ -39,9 +43,18 @@ pull_numbers first limit rest = eight_bytes first ++ (four_bytes limit ++ rest)
 abbrev pub pull_spelling : ℕ → ℕ → List ℕ
 pull_spelling first limit = pull_tag ∷ pull_numbers first limit []
 
+-- the numbers of a Catch, and what follows them
+abbrev pub catch_numbers : ℕ → ℕ → ℕ → List ℕ → List ℕ
+catch_numbers origin first limit rest = four_bytes origin ++ (eight_bytes first ++ (four_bytes limit ++ rest))
+
+-- a tag, who asks, the first entry that is asked for, and how many at most
+abbrev pub catch_spelling : ℕ → ℕ → ℕ → List ℕ
+catch_spelling origin first limit = catch_tag ∷ catch_numbers origin first limit []
+
 abbrev pub request_spelling : Asked → List ℕ
 request_spelling (AsksPush head changeset) = push_spelling head changeset
 request_spelling (AsksPull first limit) = pull_spelling first limit
+request_spelling (AsksCatch origin first limit) = catch_spelling origin first limit
 
 -- ---- what can be spelled
 
@@ -57,14 +70,22 @@ pub record FitsPull (first limit : ℕ) : Type 0 where
   pub first_fits : first < 2 ^ 64
   pub limit_fits : limit < 2 ^ 32
 
+-- the numbers of a Catch are in range
+pub record FitsCatch (origin first limit : ℕ) : Type 0 where
+  pub origin_fits : origin < 2 ^ 32
+  pub first_fits : first < 2 ^ 64
+  pub limit_fits : limit < 2 ^ 32
+
 abbrev pub FitsRequest : Asked → Type 0
 FitsRequest (AsksPush head changeset) = FitsPush head (length changeset)
 FitsRequest (AsksPull first limit) = FitsPull first limit
+FitsRequest (AsksCatch origin first limit) = FitsCatch origin first limit
 
 -- the length of its changeset, if it has one, is in range
 abbrev pub HasShortChangeset : Asked → Type 0
 HasShortChangeset (AsksPush head changeset) = length changeset < 2 ^ 32
 HasShortChangeset (AsksPull first limit) = Unit {0}
+HasShortChangeset (AsksCatch origin first limit) = Unit {0}
 
 -- ---- what is wrong with bytes that spell none
 
@@ -74,6 +95,7 @@ IsPartialRequest bytes =
     (bytes ≡ [])
     ⊎ ((rest : List ℕ) × (bytes ≡ push_tag ∷ rest) × (length rest < 24))
     ⊎ ((rest : List ℕ) × (bytes ≡ pull_tag ∷ rest) × (length rest < 12))
+    ⊎ ((rest : List ℕ) × (bytes ≡ catch_tag ∷ rest) × (length rest < 16))
     ⊎ ((head : PushHead) × (size : ℕ) × (part : List ℕ) × FitsPush head size
     × (bytes ≡ push_tag ∷ push_numbers head size part) × (length part < size))
 
@@ -84,10 +106,18 @@ IsLongerRequest bytes =
     × (bytes ≡ push_tag ∷ push_numbers head size more) × (size < length more))
     ⊎ ((first : ℕ) × (limit : ℕ) × (more : List ℕ) × FitsPull first limit
     × (bytes ≡ pull_tag ∷ pull_numbers first limit more) × (0 < length more))
+    ⊎ ((origin : ℕ) × (first : ℕ) × (limit : ℕ) × (more : List ℕ) × FitsCatch origin first limit
+    × (bytes ≡ catch_tag ∷ catch_numbers origin first limit more) × (0 < length more))
+
+-- no request has this tag
+pub record IsNoRequestTag (tag : ℕ) : Type 0 where
+  pub no_push : tag ≢ push_tag
+  pub no_pull : tag ≢ pull_tag
+  pub no_catch : tag ≢ catch_tag
 
 abbrev pub IsRequestFault : WireFault → List ℕ → Type 0
 IsRequestFault Truncated bytes = IsPartialRequest bytes
-IsRequestFault BadTag bytes = (tag : ℕ) × (rest : List ℕ) × (bytes ≡ tag ∷ rest) × (tag ≢ push_tag) × (tag ≢ pull_tag)
+IsRequestFault BadTag bytes = (tag : ℕ) × (rest : List ℕ) × (bytes ≡ tag ∷ rest) × IsNoRequestTag tag
 IsRequestFault TooLong bytes = IsLongerRequest bytes
 IsRequestFault BadKind bytes = ⊥
 
@@ -102,11 +132,13 @@ ReadsRequest bytes (Err fault) = IsRequestFault fault bytes
 abbrev pub asked_by : Request → Asked
 asked_by (borrowed.Push head changeset) = AsksPush head changeset.now
 asked_by (borrowed.Pull first limit) = AsksPull first limit
+asked_by (borrowed.Catch origin first limit) = AsksCatch origin first limit
 
 -- what is asked by a request with a changeset of its own
 abbrev pub asked_by_owned : RequestBuf → Asked
 asked_by_owned (owned.Push head changeset) = AsksPush head changeset.items
 asked_by_owned (owned.Pull first limit) = AsksPull first limit
+asked_by_owned (owned.Catch origin first limit) = AsksCatch origin first limit
 
 -- what is asked by a request as read
 abbrev pub asked_of : Result Request WireFault → Result Asked WireFault

@@ -1,21 +1,32 @@
 //! Answers: what the hub tells a replica.
 
 ghost use Rattle.std.specs.Prelude.{◌≡◌, ◌<◌, ◌∷◌, ◌++◌, length, MatchOption};
-ghost use Rattle.cs_wire.specs.Answers.{ReadsAnswer, accepted_numbers, accepted_tag, entries_numbers, entries_tag, refused_tag, stale_tag};
+ghost use Rattle.cs_wire.specs.Answers.{ReadsAnswer, accepted_numbers, accepted_tag, entries_numbers, entries_tag, merged_tag, refused_tag, stale_tag};
 
+use crate::changeset_bytes::ChangesetBytes;
 use crate::entries::Entries;
 use crate::fault::WireFault;
-use crate::numbers::{split_u32, split_u64};
+use crate::numbers::{split_sized, split_u32, split_u64};
 use crate::short_answer::{ACCEPTED, REFUSED, STALE, ShortAnswer};
-use crate::writing::ENTRIES;
+use crate::writing::{ENTRIES, MERGED};
 
-/// An answer, with entries that stay in their bytes. (Profile of this project.)
+/// An answer, with entries and a changeset that stay in their bytes. (Profile of this project.)
 #[derive(Drop)]
 pub enum Answer<'a> {
     /// What became of a push, or a refusal.
     Short(ShortAnswer),
     /// The entries of the log from `first` on.
-    Entries { first: u64, entries: Entries<'a> },
+    Entries {
+        first: u64,
+        entries: Entries<'a>,
+    },
+    /// What the entries of the log from `first` on do together, up to the one at `next`, as one changeset. It answers a Catch of `origin`.
+    Merged {
+        origin: u32,
+        first: u64,
+        next: u64,
+        changeset: ChangesetBytes<'a>,
+    },
 }
 
 /// The numbers of Accepted: origin, number, version; and the rest.
@@ -93,6 +104,28 @@ fn read_entries(rest: &[u8]) -> Result<Answer<'_>, WireFault>
     Ok(Answer::Entries { first, entries })
 }
 
+/// Merged behind its tag.
+fn read_merged(rest: &[u8]) -> Result<Answer<'_>, WireFault>
+    ensures { ReadsAnswer (merged_tag ∷ rest.now) result }
+{
+    let Some((origin, first, next, size, changeset)) = split_sized(rest) else {
+        return Err(WireFault::Truncated);
+    };
+    if changeset.len() < size as usize {
+        return Err(WireFault::Truncated);
+    }
+    if changeset.len() > size as usize {
+        return Err(WireFault::TooLong);
+    }
+    let changeset = ChangesetBytes::new(changeset);
+    Ok(Answer::Merged {
+        origin,
+        first,
+        next,
+        changeset,
+    })
+}
+
 /// Reads an answer: the whole of the bytes.
 fn read_answer(bytes: &[u8]) -> Result<Answer<'_>, WireFault>
     ensures { ReadsAnswer bytes.now result }
@@ -103,6 +136,7 @@ fn read_answer(bytes: &[u8]) -> Result<Answer<'_>, WireFault>
         Some((&STALE, rest)) => read_stale(rest),
         Some((&REFUSED, rest)) => read_refused(rest),
         Some((&ENTRIES, rest)) => read_entries(rest),
+        Some((&MERGED, rest)) => read_merged(rest),
         Some(_) => Err(WireFault::BadTag),
     }
 }
@@ -114,7 +148,7 @@ impl<'a> Answer<'a> {
     ghost use Rattle.cs_wire.specs.declared.fault.WireFault.{WireFault as Wrong};
     ghost use Rattle.cs_wire.specs.declared.fault.WireFault.TheVariants.{Truncated};
 
-    /// Reads an answer: the whole of the bytes. It takes no memory; entries stay where they are.
+    /// Reads an answer: the whole of the bytes. It takes no memory; entries and a changeset stay where they are.
     ///
     /// # Errors
     ///

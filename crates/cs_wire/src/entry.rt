@@ -61,8 +61,8 @@ impl<'a> WireEntry<'a> {
     }
 }
 
-/// The numbers of an entry: origin, number, the length of its body; and the rest.
-fn split_numbers(bytes: &[u8]) -> Option<(u32, u64, u32, &[u8])>
+/// The numbers of an entry, and of a Catch: origin, number, the length of its body; and the rest.
+pub(crate) fn split_numbers(bytes: &[u8]) -> Option<(u32, u64, u32, &[u8])>
     ensures { MatchOption result (length bytes.now < 16)
         (λ split. bytes.now ≡ entry_numbers split.0 split.1 split.2 split.3.now) }
 {

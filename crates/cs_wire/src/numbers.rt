@@ -19,6 +19,18 @@ pub fn split_u64(bytes: &[u8]) -> Option<(u64, &[u8])>
     Some((u64::from_be_bytes(*front), rest))
 }
 
+/// The numbers before a changeset, in a Push and in a Merged: four bytes, twice eight, and the length of the changeset; and the rest.
+pub(crate) fn split_sized(bytes: &[u8]) -> Option<(u32, u64, u64, u32, &[u8])>
+    ensures { MatchOption result (length bytes.now < 24)
+        (λ split. bytes.now ≡ four_bytes split.0 ++ (eight_bytes split.1 ++ (eight_bytes split.2 ++ (four_bytes split.3 ++ split.4.now)))) }
+{
+    let (origin, rest) = split_u32(bytes)?;
+    let (second, rest) = split_u64(rest)?;
+    let (third, rest) = split_u64(rest)?;
+    let (size, rest) = split_u32(rest)?;
+    Some((origin, second, third, size, rest))
+}
+
 /// Appends bytes for which there is room.
 pub(crate) fn put(bytes: &[u8], out: &mut Vec<u8>)
     requires { vec_len out.old + length bytes.now ≤ vec_capacity out.old }

@@ -1,10 +1,11 @@
 //! Requests: what a replica asks of the hub.
 
 ghost use Rattle.std.specs.Prelude.{◌≡◌, ◌<◌, ◌^◌, ◌∷◌, ◌++◌, length, MatchOption, OnOk, OnErr};
-ghost use Rattle.cs_wire.specs.Requests.{ReadsRequest, asked_of, push_numbers, pull_numbers, push_spelling, pull_spelling, pull_tag, push_tag};
+ghost use Rattle.cs_wire.specs.Requests.{ReadsRequest, asked_of, catch_spelling, catch_tag, pull_numbers, pull_spelling, pull_tag, push_spelling, push_tag};
 
+use crate::entry::split_numbers;
 use crate::fault::WireFault;
-use crate::numbers::{put, put_u8, put_u32, put_u64, split_u32, split_u64};
+use crate::numbers::{put, put_u8, put_u32, put_u64, split_sized, split_u32, split_u64};
 use crate::push_head::PushHead;
 use cs_value::Memory;
 
@@ -13,6 +14,8 @@ const PUSH: u8 = 1;
 
 const PULL: u8 = 2;
 
+const CATCH: u8 = 3;
+
 /// A request, with the bytes of a changeset that stand elsewhere. (Profile of this project.)
 #[derive(Clone, Copy, Debug)]
 pub enum Request<'a> {
@@ -20,6 +23,8 @@ pub enum Request<'a> {
     Push { head: PushHead, changeset: &'a [u8] },
     /// Tell the entries from `first` on, at most `limit`.
     Pull { first: u64, limit: u32 },
+    /// Tell what the entries from `first` on do together, at most `limit`, up to the first that is of this origin.
+    Catch { origin: u32, first: u64, limit: u32 },
 }
 
 /// A request that owns the bytes of its changeset. (Profile of this project.)
@@ -29,22 +34,8 @@ pub enum RequestBuf {
     Push { head: PushHead, changeset: Vec<u8> },
     /// Tell the entries from `first` on, at most `limit`.
     Pull { first: u64, limit: u32 },
-}
-
-/// The head of a Push, the length of its changeset, and the rest.
-fn split_push(bytes: &[u8]) -> Option<(PushHead, u32, &[u8])>
-    ensures { MatchOption result (length bytes.now < 24) (λ split. bytes.now ≡ push_numbers split.0 split.1 split.2.now) }
-{
-    let (origin, rest) = split_u32(bytes)?;
-    let (number, rest) = split_u64(rest)?;
-    let (base, rest) = split_u64(rest)?;
-    let (size, rest) = split_u32(rest)?;
-    let head = PushHead {
-        origin,
-        number,
-        base,
-    };
-    Some((head, size, rest))
+    /// Tell what the entries from `first` on do together, at most `limit`, up to the first that is of this origin.
+    Catch { origin: u32, first: u64, limit: u32 },
 }
 
 /// The numbers of a Pull: first, limit; and the rest.
@@ -60,7 +51,7 @@ fn split_pull(bytes: &[u8]) -> Option<(u64, u32, &[u8])>
 fn read_push(rest: &[u8]) -> Result<Request<'_>, WireFault>
     ensures { ReadsRequest (push_tag ∷ rest.now) (asked_of result) }
 {
-    let Some((head, size, changeset)) = split_push(rest) else {
+    let Some((origin, number, base, size, changeset)) = split_sized(rest) else {
         return Err(WireFault::Truncated);
     };
     if changeset.len() < size as usize {
@@ -69,6 +60,11 @@ fn read_push(rest: &[u8]) -> Result<Request<'_>, WireFault>
     if changeset.len() > size as usize {
         return Err(WireFault::TooLong);
     }
+    let head = PushHead {
+        origin,
+        number,
+        base,
+    };
     Ok(Request::Push { head, changeset })
 }
 
@@ -85,6 +81,23 @@ fn read_pull(rest: &[u8]) -> Result<Request<'_>, WireFault>
     Ok(Request::Pull { first, limit })
 }
 
+/// The Catch behind its tag. Its numbers stand as those of an entry do.
+fn read_catch(rest: &[u8]) -> Result<Request<'_>, WireFault>
+    ensures { ReadsRequest (catch_tag ∷ rest.now) (asked_of result) }
+{
+    let Some((origin, first, limit, more)) = split_numbers(rest) else {
+        return Err(WireFault::Truncated);
+    };
+    if !more.is_empty() {
+        return Err(WireFault::TooLong);
+    }
+    Ok(Request::Catch {
+        origin,
+        first,
+        limit,
+    })
+}
+
 /// Reads a request: the whole of the bytes.
 fn read_request(bytes: &[u8]) -> Result<Request<'_>, WireFault>
     ensures { ReadsRequest bytes.now (asked_of result) }
@@ -93,6 +106,7 @@ fn read_request(bytes: &[u8]) -> Result<Request<'_>, WireFault>
         None => Err(WireFault::Truncated),
         Some((&PUSH, rest)) => read_push(rest),
         Some((&PULL, rest)) => read_pull(rest),
+        Some((&CATCH, rest)) => read_catch(rest),
         Some(_) => Err(WireFault::BadTag),
     }
 }
@@ -120,6 +134,19 @@ fn put_pull(first: u64, limit: u32, out: &mut Vec<u8>) -> Result<(), Memory>
 {
     out.reserve(13)?;
     put_u8(PULL, out);
+    put_u64(first, out);
+    put_u32(limit, out);
+    Ok(())
+}
+
+/// Appends a Catch. An `Err` changes nothing.
+fn put_catch(origin: u32, first: u64, limit: u32, out: &mut Vec<u8>) -> Result<(), Memory>
+    ensures ok { OnOk result (out.new.items ≡ out.old.items ++ catch_spelling origin first limit) }
+    ensures err { OnErr result (out.new.items ≡ out.old.items) }
+{
+    out.reserve(17)?;
+    put_u8(CATCH, out);
+    put_u32(origin, out);
     put_u64(first, out);
     put_u32(limit, out);
     Ok(())
@@ -168,6 +195,11 @@ impl<'a> Request<'a> {
         match self {
             Request::Push { head, changeset } => put_push(*head, changeset, out),
             Request::Pull { first, limit } => put_pull(*first, *limit, out),
+            Request::Catch {
+                origin,
+                first,
+                limit,
+            } => put_catch(*origin, *first, *limit, out),
         }
     }
 }
@@ -186,6 +218,15 @@ impl RequestBuf {
                 changeset: changeset.as_slice(),
             },
             RequestBuf::Pull { first, limit } => Request::Pull {
+                first: *first,
+                limit: *limit,
+            },
+            RequestBuf::Catch {
+                origin,
+                first,
+                limit,
+            } => Request::Catch {
+                origin: *origin,
                 first: *first,
                 limit: *limit,
             },

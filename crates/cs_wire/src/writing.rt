@@ -1,7 +1,7 @@
-//! Answers with entries, as the hub writes them, entry by entry.
+//! Answers with entries, as the hub writes them: entry by entry, or as one changeset.
 
-ghost use Rattle.std.specs.Prelude.{◌≡◌, ◌<◌, ◌^◌, ◌∷◌, ◌++◌, [], length, IfOk, OnOk, OnErr};
-ghost use Rattle.cs_wire.specs.Answers.{entries_numbers, entries_tag};
+ghost use Rattle.std.specs.Prelude.{◌≡◌, ◌+◌, ◌≤◌, ◌<◌, ◌^◌, ◌∷◌, ◌++◌, [], length, IfOk, OnOk, OnErr, vec_capacity};
+ghost use Rattle.cs_wire.specs.Answers.{entries_numbers, entries_tag, merged_numbers, merged_tag};
 ghost use Rattle.cs_wire.specs.Entries.{entry_spelling};
 
 use crate::numbers::{put, put_u8, put_u32, put_u64};
@@ -24,6 +24,34 @@ pub fn entries_head(alloc: Global, first: u64, count: u32) -> Result<Vec<u8>, Me
     put_u8(ENTRIES, &mut out);
     put_u64(first, &mut out);
     put_u32(count, &mut out);
+    Ok(out)
+}
+
+/// The first byte of an answer with a changeset that entries make together. (Profile of this project.)
+pub(crate) const MERGED: u8 = 21;
+
+/// An answer to a Catch of this origin, up to where a changeset of so many bytes is to be put: what the entries from `first` on do
+/// together, up to the one at `next`. There is room for the changeset behind it. (Profile of this project.)
+///
+/// # Errors
+///
+/// Memory was refused.
+pub fn merged_head(
+    alloc: Global,
+    origin: u32,
+    first: u64,
+    next: u64,
+    size: u32,
+) -> Result<Vec<u8>, Memory>
+    ensures items { IfOk result (λ head. head.items ≡ merged_tag ∷ merged_numbers origin first next size []) }
+    ensures room { IfOk result (λ head. 25 + size ≤ vec_capacity head) }
+{
+    let mut out = Vec::with_capacity(alloc, 25 + size as usize)?;
+    put_u8(MERGED, &mut out);
+    put_u32(origin, &mut out);
+    put_u64(first, &mut out);
+    put_u64(next, &mut out);
+    put_u32(size, &mut out);
     Ok(out)
 }
 
