@@ -18,8 +18,8 @@ use Rattle.cs_column_bytes.specs.KeyPlaces.{Head, heads_of}
 use Rattle.cs_column_bytes.specs.Laws.{OneOrderOrTwo}
 use Rattle.cs_tools.specs.CombinedLines.{AreNotCombined, HasBadLine, HasFaultToCombine, RefusesToCombine, SpellChangesets, SpellsCombined}
 use Rattle.cs_tools.specs.Endings.{Owes}
-use Rattle.cs_tools.specs.Faults.{AreBadBytes, IsBadLine, IsBadNext, IsFailure, IsNoHex}
-use Rattle.cs_tools.specs.Laws.{IsOfNoLine, NoFaultWhereOwed, OneFault}
+use Rattle.cs_tools.specs.Faults.{AreBadBytes, IsBadLine, IsBadNext, IsFailure, IsNoHex, IsOfNoLine}
+use Rattle.cs_tools.specs.Laws.{NoFaultWhereOwed, OneFault}
 use Rattle.cs_tools.specs.RebasedLine.{heads_of_both, HasFaultToRebase, IsRebased, Rebases, RefusesToRebase, TakesChangeset}
 use Rattle.cs_tools.specs.ShownLine.{RefusesToShow}
 use Rattle.cs_tools.specs.SpelledLine.{IsHexOf, SpellsBlob, SpellsInHex, TakesNext}
@@ -44,11 +44,11 @@ pub record Below : Type 0 where
 -- ---- one line
 
 -- bytes have one fault
-abbrev HasOneFault : (Fault → ℕ → List ℕ → Type 0) → Type 0
+abbrev pub HasOneFault : (Fault → ℕ → List ℕ → Type 0) → Type 0
 HasOneFault IsFault = (f g : Fault) (o p : ℕ) (bytes : List ℕ) → IsFault f o bytes → IsFault g p bytes → (f ≡ g) × (o ≡ p)
 
 -- and none where they spell something
-abbrev HasNoFault : {A : Type 0} → (A → Type 0) → (A → List ℕ) → (Fault → ℕ → List ℕ → Type 0) → Type 0
+abbrev pub HasNoFault : {A : Type 0} → (A → Type 0) → (A → List ℕ) → (Fault → ℕ → List ℕ → Type 0) → Type 0
 HasNoFault {A} Fits spelling IsFault = (thing : A) (fault : Fault) (offset : ℕ) → Fits thing → IsFault fault offset (spelling thing) → ⊥
 
 same_bytes : (line bytes other : List ℕ) → IsHexOf line bytes → IsHexOf line other → bytes ≡ other
@@ -84,11 +84,11 @@ spelled_not_bad Fits spelling IsFault right line thing why spells (inr bad) =
 
 -- ---- what lines spell together
 
-not_combined_too : Below → (changesets : List (List Group)) (both : List TableChanges) (why : ToolFault) → IsCombined changesets both
+pub not_combined_too : Below → (changesets : List (List Group)) (both : List TableChanges) (why : ToolFault) → IsCombined changesets both
     → AreNotCombined changesets why → ⊥
 not_combined_too laws changesets both why combined not = not.2 (laws.none changesets both not.0 combined not.1)
 
-one_not_combined : Below → (changesets : List (List Group)) (some other : ToolFault) → AreNotCombined changesets some
+pub one_not_combined : Below → (changesets : List (List Group)) (some other : ToolFault) → AreNotCombined changesets some
     → AreNotCombined changesets other → some ≡ other
 one_not_combined laws changesets some other first second =
     first.3 ∙ ap told.Combine (laws.one changesets first.0 second.0 first.1 second.1 first.2 second.2) ∙ sym second.3

@@ -29,8 +29,8 @@ use Rattle.cs_rebaser.specs.declared.faults.RebaseFault.TheVariants.{WrongShape}
 use Rattle.cs_text.specs.Text.{blob_text, changeset_text}
 use Rattle.cs_tools.specs.CombinedLines.{AreNotCombined, HasBadLine, HasFaultToCombine, SpellChangesets, SpellsCombined}
 use Rattle.cs_tools.specs.Endings.{Owes, Refuses}
-use Rattle.cs_tools.specs.Faults.{IsBadLine, IsNoHex}
-use Rattle.cs_tools.specs.Laws.{IsOfNoLine, TextOrFault}
+use Rattle.cs_tools.specs.Faults.{IsBadLine, IsNoHex, IsOfNoLine}
+use Rattle.cs_tools.specs.Laws.{TextOrFault}
 use Rattle.cs_tools.specs.RebasedLine.{heads_of_both, IsNotRebased, IsRebased, TakesBoth}
 use Rattle.cs_tools.specs.ShownLine.{RefusesToShow, ShowsFirst}
 use Rattle.cs_tools.specs.SpelledLine.{IsHexOf, SpellsBlob, SpellsChangeset, SpellsInHex, TakesNext}

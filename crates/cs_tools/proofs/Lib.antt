@@ -1,5 +1,6 @@
 pub mod EndingLemmas
 pub mod FaultLaws
+pub mod FileLaws
 pub mod FileLemmas
 pub mod FormLemmas
 pub mod FoundLaws

@@ -49,7 +49,7 @@ one_list once (line ∷ lines) (a ∷ ones) (b ∷ others) first second =
     ap₂ (λ x xs. x ∷ xs) (one_in_hex FitsChangeset changeset_spelling once line a b first.0 second.0) (one_list once lines ones others first.1 second.1)
 
 -- in a form, by the same headers, a changeset has one spelling
-one_in_form : (form : Form) (heads same : List Head) (tables others : List TableChanges) (bytes other : List ℕ) → heads ≡ same
+pub one_in_form : (form : Form) (heads same : List Head) (tables others : List TableChanges) (bytes other : List ℕ) → heads ≡ same
     → tables ≡ others → SpellsIn form heads tables bytes → SpellsIn form same others other → bytes ≡ other
 one_in_form Normal heads same tables others bytes other headed is first second = first ∙ ap normal_spelling is ∙ sym second
 one_in_form Sqlite heads same tables others bytes other headed is first second =

@@ -45,6 +45,10 @@ of_rebase rebasing.WrongShape = Rebase rebasing.WrongShape
 abbrev pub IsFailure : Type 0 → ToolFault → Type 0
 IsFailure read_failed told = (told ≡ Memory) ⊎ ((told ≡ Read) × read_failed)
 
+-- what neither a line nor a file is the reason of
+abbrev pub IsOfNoLine : ToolFault → Type 0
+IsOfNoLine told = (told ≡ Memory) ⊎ (told ≡ Read)
+
 -- the line is no hex
 abbrev pub IsNoHex : List ℕ → Type 0
 IsNoHex line = (why : FromHexError) × (decode_of line ≡ Err why)

@@ -1,6 +1,6 @@
 -- What `show --file` and `combine --file` write: what the files at the paths hold, as their bytes; or why there is no such thing (profile
 -- of this project).
-use Rattle.std.specs.Prelude.{◌≡◌, ◌⊎◌, ℕ, List, [], ◌∷◌, Option, IfSome}
+use Rattle.std.specs.Prelude.{◌≡◌, ◌⊎◌, ℕ, List, [], ◌∷◌, Option, Some, IfSome}
 use Rattle.std.specs.List.{AllZip, flat_map}
 use Rattle.cs_blob.specs.Reading.{IsBlobFault}
 use Rattle.cs_blob.specs.Spelling.{FitsBlob, blob_spelling}
@@ -16,7 +16,7 @@ use Rattle.cs_lines.specs.Lines.{hex_line}
 use Rattle.cs_normal.specs.declared.normal.TableChanges.{TableChanges}
 use Rattle.cs_text.specs.Text.{blob_text, changeset_text}
 use Rattle.cs_tools.specs.CombinedLines.{AreNotCombined}
-use Rattle.cs_tools.specs.Faults.{IsFailure}
+use Rattle.cs_tools.specs.Faults.{IsFailure, IsOfNoLine}
 use Rattle.cs_tools.specs.SpelledLine.{Spells}
 use Rattle.cs_tools.specs.WrittenForm.{IsNotWritten, SpellsIn}
 use Rattle.cs_tools.specs.declared.fault.ToolFault.{ToolFault}
@@ -88,3 +88,46 @@ module _ {I : Type 0} (remaining : I → Option (List ℕ)) (failed : I → Type
       ⊎ ((changesets : List (List Group)) × AllZip ChangesetAt paths changesets × AreNotCombined changesets told)
       ⊎ ((changesets : List (List Group)) × (both : List TableChanges) × AllZip ChangesetAt paths changesets
       × IsCombined changesets both × IsNotWritten form (flat_map heads_of changesets) told)
+
+-- ---- laws, for whatever files told
+
+-- each reader of the file at this path has these bytes
+abbrev pub IsFile : {I : Type 0} → (I → Option (List ℕ)) → (List ℕ → I → Type 0) → List ℕ → List ℕ → Type 0
+IsFile {I} remaining opened path bytes = (input : I) → opened path input → remaining input ≡ Some bytes
+
+module _ {F I : Type 0} (remaining : I → Option (List ℕ)) (failed : I → Type 0) (opened : F → List ℕ → I → Type 0) (unopened : F → List ℕ → Type 0) where
+  -- a file has one text that `show` owes
+  abbrev pub OneShownFile : Type 0
+  OneShownFile =
+      (files : F) (shown : Shown) (path bytes text other : List ℕ)
+      → IsFile remaining (opened files) path bytes
+      → ShowsFile remaining failed (opened files) (unopened files) shown path text
+      → ShowsFile remaining failed (opened files) (unopened files) shown path other
+      → text ≡ other
+
+  -- and one fault, but for being out of memory and failed reads
+  abbrev pub OneShownFileFault : Type 0
+  OneShownFileFault =
+      (files : F) (shown : Shown) (path bytes : List ℕ) (some other : ToolFault)
+      → IsFile remaining (opened files) path bytes
+      → RefusesFile remaining failed (opened files) (unopened files) shown path some
+      → RefusesFile remaining failed (opened files) (unopened files) shown path other
+      → IsOfNoLine some ⊎ IsOfNoLine other ⊎ (some ≡ other)
+
+  -- files have one text that `combine` owes in a form
+  abbrev pub OneCombinedOfFiles : Type 0
+  OneCombinedOfFiles =
+      (files : F) (form : Form) (paths contents : List (List ℕ)) (text other : List ℕ)
+      → AllZip (IsFile remaining (opened files)) paths contents
+      → CombinesFiles remaining failed (opened files) (unopened files) form paths text
+      → CombinesFiles remaining failed (opened files) (unopened files) form paths other
+      → text ≡ other
+
+  -- and one fault
+  abbrev pub OneCombinedFault : Type 0
+  OneCombinedFault =
+      (files : F) (form : Form) (paths contents : List (List ℕ)) (some other : ToolFault)
+      → AllZip (IsFile remaining (opened files)) paths contents
+      → RefusesFiles remaining failed (opened files) (unopened files) form paths some
+      → RefusesFiles remaining failed (opened files) (unopened files) form paths other
+      → IsOfNoLine some ⊎ IsOfNoLine other ⊎ (some ≡ other)

@@ -14,10 +14,10 @@ use Rattle.cs_column_bytes.specs.KeyPlaces.{Head, for_sqlite, HasTwoOrders, head
 use Rattle.cs_column_bytes.specs.Laws.{IsSameGroup}
 use Rattle.cs_tools.specs.CombinedLines.{CombinesAll, SpellChangesets}
 use Rattle.cs_tools.specs.Endings.{Owes, Refuses}
+use Rattle.cs_tools.specs.Faults.{IsOfNoLine}
 use Rattle.cs_tools.specs.RebasedLine.{heads_of_both, IsRebased, RebasesLines, TakesBoth}
 use Rattle.cs_tools.specs.ShownLine.{ShowsBlob, ShowsChangeset}
 use Rattle.cs_tools.specs.declared.fault.ToolFault.{ToolFault}
-use Rattle.cs_tools.specs.declared.fault.ToolFault.TheVariants.{Memory, Read}
 use Rattle.cs_tools.specs.declared.tool.Form.{Form}
 use Rattle.cs_tools.specs.declared.tool.Form.TheVariants.{Sqlite}
 use Rattle.cs_tools.specs.declared.tool.Tool.{Tool}
@@ -83,10 +83,6 @@ OneShownChangeset = (input text other : List ℕ) (left next : Option (List ℕ)
 abbrev pub OneShownBlob : Type 0
 OneShownBlob = (input text other : List ℕ) (left next : Option (List ℕ)) → ShowsBlob (Some input) left text
     → ShowsBlob (Some input) next other → (text ≡ other) × (left ≡ next)
-
--- what no line is the reason of
-abbrev pub IsOfNoLine : ToolFault → Type 0
-IsOfNoLine told = (told ≡ Memory) ⊎ (told ≡ Read)
 
 -- an input has one fault for a tool, also where a read may fail at any time
 abbrev pub OneFault : Type 0

@@ -1,6 +1,9 @@
 //! The laws of the tools, each the contract of a function that does nothing.
 
+ghost use Rattle.cs_tools.specs.Files.{OneCombinedFault, OneCombinedOfFiles, OneShownFile, OneShownFileFault};
 ghost use Rattle.cs_tools.specs.Laws.{CombinedStaysTheSame, NoFaultWhereOwed, NothingCombinedOfTwoOrders, NothingRebasedOfTwoOrders, OneCombinedText, OneFault, OneRebasedText, OneShownBlob, OneShownChangeset, RebasedStaysTheSame, TextOrFault};
+
+use crate::files::InputFiles;
 
 /// An input has one text that `combine` owes in each form.
 pub fn one_combined_text()
@@ -104,4 +107,20 @@ pub fn text_or_fault()
     cs_lines::laws::lines_taken();
     cs_rebaser::laws::each_once_or_not();
     cs_rebaser::laws::shapes_or_wrong();
+}
+
+/// A file whose readers have its bytes has one text that `show` owes, or one fault; and so have such files for `combine`.
+pub fn one_answer_of_files<F: InputFiles>()
+    ensures shown { OneShownFile F.Input.remaining F.Input.failed F.opened F.unopened }
+    ensures fault { OneShownFileFault F.Input.remaining F.Input.failed F.opened F.unopened }
+    ensures combined { OneCombinedOfFiles F.Input.remaining F.Input.failed F.opened F.unopened }
+    ensures combine_fault { OneCombinedFault F.Input.remaining F.Input.failed F.opened F.unopened }
+{
+    cs_blob::laws::blobs();
+    cs_changeset::laws::changesets();
+    cs_group::laws::no_fault_where_combined();
+    cs_group::laws::one_combine_fault();
+    cs_group::laws::one_combined();
+    cs_rebaser::laws::no_wrong_shape();
+    cs_column_bytes::laws::one_order_or_two();
 }

@@ -1,0 +1,21 @@
+use Rattle.cs_tools.proofs.FaultLaws.{Below}
+use Rattle.cs_tools.proofs.FileLaws.{one_combined_fault_of, one_combined_of, one_shown_file, one_shown_file_fault}
+use Rattle.cs_tools.proofs.laws.one_answer_of_files.Goals as goal
+
+pub returns : goal.returns
+returns g c =
+    let laws : Below = record {
+      changesets = c.changesets.ensures;
+      blobs = c.blobs.ensures;
+      combined = c.one_combined.ensures;
+      none = c.no_fault_where_combined.ensures;
+      one = c.one_combine_fault.ensures;
+      shapes = c.no_wrong_shape.ensures;
+      orders = c.one_order_or_two.ensures;
+    } in
+    record {
+      shown = one_shown_file laws _ _ _ _;
+      fault = one_shown_file_fault laws _ _ _ _;
+      combined = one_combined_of laws _ _ _ _;
+      combine_fault = one_combined_fault_of laws _ _ _ _;
+    }
