@@ -1,7 +1,7 @@
 #!/usr/bin/env bash
 # Runs the built program `sync` as a replica on a file, `node FILE ID TABLE..`, each case on a file of its own, and compares what is printed
-# with what it has to be: edits, and what is pending then; another's entries over own edits, with a push under way and without; answers of
-# the hub; entries that aren't taken; lines that are refused or can't be read; and files whose values were changed by the `sqlite3` shell,
+# with what it has to be: edits, and what is pending then; another's entries over own edits, one by one and as one changeset, with a push under
+# way and without; answers of the hub; entries that aren't taken; lines that are refused or can't be read; and files whose values were changed by the `sqlite3` shell,
 # where that can be had.
 # Usage: bench/check_node.sh PROGRAM
 set -u
@@ -44,6 +44,16 @@ from() {
 # others VERSION CHANGESET: the answer of one entry behind this version, push 1 of replica 9.
 others() {
     printf '%s%s' "$(from "$1" 1)" "$(entry 9 1 "$2")"
+}
+
+# merged FIRST NEXT CHANGESET: the answer to replica 7's catch: what the entries from one version to another do together.
+merged() {
+    merged_for 7 "$@"
+}
+
+# merged_for ORIGIN FIRST NEXT CHANGESET: the same of another replica's.
+merged_for() {
+    printf '15%08x%016x%016x%08x%s' "$1" "$2" "$3" "$((${#4} / 2))" "$4"
 }
 
 # accepted ORIGIN NUMBER VERSION: the answer that a push was taken.
@@ -255,6 +265,72 @@ $H1$I$K2$V2|||insert t1 1 t=v1|$(others 1 $H1$U$K2$V1$N$V9)||fault BadEntry afte
 $H1$I$K2$V2|||insert t1 1 t=v1;update t1 2 t=v9|$(others 1 $H1$D$K2$V9)||fault BadEntry after 0|version 1 pending 2 flight 0|t1 1 t=v1;t1 2 t=v9|$H1$I$K1$V1$U$K2$V2$N$V9
 END
 
+# ---- what entries do together, told at once: they are taken in one merge
+
+# Two entries are taken; what they do together is nothing, with an own edit of such a row and without; a clash is asked about once, kept and
+# taken; the stop at the third of three changes nothing; and a row that was changed and changed back meets no clash.
+leave << END
+||||$(merged 0 2 $H1$I$K1$V2)||taken 2 version 2|version 2 pending 0 flight 0|t1 1 t=v2|
+||||$(merged 0 2 '')||taken 2 version 2|version 2 pending 0 flight 0||
+|||insert t1 1 t=v1|$(merged 0 2 '')||taken 2 version 2|version 2 pending 1 flight 0|t1 1 t=v1|$H1$I$K1$V1
+|||insert t1 1 t=v1|$(merged 0 2 $H1$I$K1$V2)|k|taken 2 version 2|version 2 pending 1 flight 0|t1 1 t=v1|$H1$U$K1$V2$N$V1
+|||insert t1 1 t=v1|$(merged 0 2 $H1$I$K1$V2)|t|taken 2 version 2|version 2 pending 0 flight 0|t1 1 t=v2|
+|||insert t1 1 t=v1|$(merged 0 1 $H1$I$K1$V2)|k|taken 1 version 1|version 1 pending 1 flight 0|t1 1 t=v1|$H1$U$K1$V2$N$V1
+|||$three|$(merged 0 2 $H1$I$K1$A$I$K2$B$I$K3$C)|kt|stopped 0 version 0|version 0 pending 3 flight 0|t1 1 t=x;t1 2 t=y;t1 3 t=z|$H1$I$K1$X$I$K2$Y$I$K3$Z
+|||$three|$(merged 0 4096 $H1$I$K1$A$I$K2$B$I$K3$C)|ktk|taken 4096 version 4096|version 4096 pending 2 flight 0|t1 1 t=x;t1 2 t=b;t1 3 t=z|$H1$U$K1$A$N$X$U$K3$C$N$Z
+$H1$I$K1$V1|||update t1 1 t=v9|$(merged 1 3 '')||taken 2 version 3|version 3 pending 1 flight 0|t1 1 t=v9|$H1$U$K1$V1$N$V9
+$H1$I$K1$V1|||update t1 1 t=v9|$(merged 1 3 $H1$U$K1$V1$N$V9)|k|taken 2 version 3|version 3 pending 0 flight 0|t1 1 t=v9|
+$row0|||update t2 1 t=b1 - t=d1|$(merged 1 4 $H1$I$K1$V1$H2$U$K1$B0$N$N$N$B2$N$N)|t|taken 3 version 4|version 4 pending 1 flight 0|t1 1 t=v1;t2 1 t=b2 t=c0 t=d1|$H2$U$K1$N$N$D0$N$N$N$D1
+END
+
+# No entry is told: nothing changes, whatever the bytes hold, also with a push under way. What was asked at another version, or by another
+# replica, is passed over, whatever else it says.
+leave << END
+||||$(merged 0 0 '')||taken 0 version 0|version 0 pending 0 flight 0||
+$H1$I$K1$V1|||update t1 1 t=v9|$(merged 1 1 50)||taken 0 version 1|version 1 pending 1 flight 0|t1 1 t=v9|$H1$U$K1$V1$N$V9
+|insert t1 1 t=v1|$H1$I$K1$V1||$(merged 0 0 '')||taken 0 version 0|version 0 pending 0 flight 1|t1 1 t=v1|
+$H1$I$K1$V1||||$(merged 0 2 $H1$I$K2$V2)||ignored|version 1 pending 0 flight 0|t1 1 t=v1|
+||||$(merged 1 2 $H1$I$K2$V2)||ignored|version 0 pending 0 flight 0||
+||||$(merged 2 1 50)||ignored|version 0 pending 0 flight 0||
+||||$(merged_for 8 0 2 $H1$I$K1$V2)||ignored|version 0 pending 0 flight 0||
+|insert t1 1 t=v1|$H1$I$K1$V1||$(merged_for 8 0 2 $H1$I$K2$V2)||ignored|version 0 pending 0 flight 1|t1 1 t=v1|
+END
+
+# What can't be taken: entries that end before they begin; bytes that are no changeset; a table that isn't there; a NULL as the key; and what isn't
+# defined on the log's rows, whatever the own rows are.
+leave << END
+$H1$I$K1$V1||||$(merged 1 0 '')||fault BadEntry after 0|version 1 pending 0 flight 0|t1 1 t=v1|
+||||$(merged 0 2 50)||fault BadEntry after 0|version 0 pending 0 flight 0||
+|||insert t1 1 t=v1|$(merged 0 2 54020100743900$I$K1$V1)||fault BadEntry after 0|version 0 pending 1 flight 0|t1 1 t=v1|$H1$I$K1$V1
+|||insert t1 1 t=v1|$(merged 0 2 $H1${I}05$V1)||fault BadEntry after 0|version 0 pending 1 flight 0|t1 1 t=v1|$H1$I$K1$V1
+|||insert t1 1 t=v1|$(merged 0 2 $H1$D$K1$V1)||fault BadEntry after 0|version 0 pending 1 flight 0|t1 1 t=v1|$H1$I$K1$V1
+$H1$I$K2$V2|||insert t1 1 t=v1|$(merged 1 3 $H1$I$K1$V2$I$K2$V2)||fault BadEntry after 0|version 1 pending 1 flight 0|t1 1 t=v1;t1 2 t=v2|$H1$I$K1$V1
+END
+
+# With a push under way, behind which an edit was made: it is pending again, and the next push carries both; a stop leaves all as it was. Where they do
+# what the push does, they are merged like any others: an own entry is told by itself.
+leave << END
+|insert t1 1 t=v1|$H1$I$K1$V1|update t1 1 t=v9|$(merged 0 2 $H1$I$K2$V2)||taken 2 version 2|version 2 pending 1 flight 0|t1 1 t=v9;t1 2 t=v2|$H1$I$K1$V9
+|insert t1 1 t=v1|$H1$I$K1$V1|insert t1 3 t=v9|$(merged 0 2 $H1$I$K1$V2)|k|taken 2 version 2|version 2 pending 2 flight 0|t1 1 t=v1;t1 3 t=v9|$H1$U$K1$V2$N$V1$I$K3$V9
+|insert t1 1 t=v1|$H1$I$K1$V1|delete t1 1|$(merged 0 2 '')||taken 2 version 2|version 2 pending 0 flight 0||
+|insert t1 1 t=v1|$H1$I$K1$V1|update t1 1 t=v9|$(merged 0 2 $H1$I$K1$V2)||stopped 0 version 0|version 0 pending 1 flight 1|t1 1 t=v9|$H1$U$K1$V1$N$V9
+|insert t1 1 t=v1|$H1$I$K1$V1||$(merged 0 1 $H1$I$K1$V1)|k|taken 1 version 1|version 1 pending 0 flight 0|t1 1 t=v1|
+END
+
+# What is asked goes from the version on, and the same answer again is passed over.
+begins
+say 'catch 10' 030000000700000000000000000000000a
+say "answer $(merged 0 2 $H1$I$K1$V2) -" 'taken 2 version 2'
+say "answer $(merged 0 2 $H1$I$K1$V2) -" ignored
+say 'catch 4294967295' 03000000070000000000000002ffffffff
+say "answer $(from 2 1)$(entry 9 3 $H1$I$K2$V2) -" 'taken 1 version 3'
+say 'catch 0' 0300000007000000000000000300000000
+say "answer $(merged 3 3 '') -" 'taken 0 version 3'
+say_dump 'version 3 pending 0 flight 0' 't1 1 t=v2;t1 2 t=v2'
+goes
+say 'catch 1' 0300000007000000000000000300000001
+goes
+
 # ---- short answers, while push 1 is under way with an edit behind it
 
 # It was taken; another's was, one with another number, one at a later version or at none; nothing is under way; it came late; it was
@@ -402,6 +478,8 @@ prints() {
 
 # Bytes that are no answer.
 prints 'answer 99 -\nanswer 1100 -\nanswer 120000000000000001ff -\n' 'refused BadTag\nrefused Truncated\nrefused TooLong\n'
+prints "answer 15 -\nanswer $(printf '15%046d' 0) -\nanswer $(printf '15%040d00000001' 0) -\nanswer $(merged_for 0 0 0 '')ff -\nanswer $(merged_for 0 0 0 50)ff -\n" \
+    'refused Truncated\nrefused Truncated\nrefused Truncated\nrefused TooLong\nrefused TooLong\n'
 # Entries that aren't defined, alone and behind one that is; and a push that is said to be an entry it can't be.
 prints "edit insert t1 1 t=v1\nanswer $(others 0 $H1$D$K1$V1) -\ndump\n" \
     'ok\nfault BadEntry after 0\nreplica 0 version 0 pending 1 flight 0\nrow t1 1 t=v1\n'
@@ -433,6 +511,9 @@ while read -r lines; do
     [ ! -e "$file" ] || tell 'made a file' node "$file" 0 t1:10
 done << 'END'
 edit insert t1 1 t=v1\npull\n
+dump\ncatch\n
+dump\ncatch -1\n
+dump\ncatch 1 1\n
 dump\n\ndump\n
 dump\nanswer 1 -\n
 dump\nedit update t1 - t=x

@@ -19,6 +19,11 @@ pull() {
     printf '02%016x%08x' "$1" "$2"
 }
 
+# catch ORIGIN FIRST LIMIT: what so many entries do together is asked for, by that replica.
+catch() {
+    printf '03%08x%016x%08x' "$1" "$2" "$3"
+}
+
 # accepted ORIGIN NUMBER VERSION, stale NEWEST, entries FIRST [ENTRY..], entry ORIGIN NUMBER CHANGESET: answers, and an entry of the last but one.
 accepted() {
     printf '11%08x%016x%016x' "$1" "$2" "$3"
@@ -39,6 +44,11 @@ entry() {
     printf '00%08x%016x%08x%s' "$1" "$2" "$((${#3} / 2))" "$3"
 }
 
+# merged ORIGIN FIRST NEXT CHANGESET: the answer to that replica's catch: what the entries from one version to another do together.
+merged() {
+    printf '15%08x%016x%016x%08x%s' "$1" "$2" "$3" "$((${#4} / 2))" "$4"
+}
+
 # answers OUTPUT LINE..: a hub of t1 answers these lines so.
 answers() {
     answer=$1
@@ -46,16 +56,17 @@ answers() {
     expect 0 "$(printf '%s\\n' "$@")" "$answer" '' hub t1:10
 }
 
-# session: a new hub of t1 answers the requests of a table, which stands on the input: a line each, its answer before it. It answers so in memory
-# and over a file.
+# session [TABLE..]: a new hub of these tables, or of t1, answers the requests of a table, which stands on the input: a line each, its answer before
+# it. It answers so in memory and over a file.
 session() {
+    [ "$#" -gt 0 ] || set -- t1:10
     cat > "$dir/table"
     cut -d ' ' -f 1 "$dir/table" > "$dir/output_wanted"
     cut -d ' ' -f 2 "$dir/table" > "$dir/input"
     : > "$dir/errors_wanted"
-    expect_files 0 hub t1:10
+    expect_files 0 hub "$@"
     rm -f "$dir/hub" "$dir/hub-wal" "$dir/hub-shm"
-    expect_files 0 hub --file "$dir/hub" t1:10
+    expect_files 0 hub --file "$dir/hub" "$@"
 }
 
 # refuses_words WORD..: the words are no command line, and nothing is read or written.
@@ -63,8 +74,9 @@ refuses_words() {
     expect 2 "$line" '' 'sync: command line\n' "$@"
 }
 
-# The INSERT of (1, 'v1') into t1, the UPDATE of that row to (1, 'v2'), the DELETE of the one row and of the other.
+# The INSERT of (1, 'v1') into t1, the UPDATE of that row to (1, 'v2'), both as one, and the DELETE of the one row and of the other.
 insert=54020100743100120001000000000000000103027631
+insert_updated=54020100743100120001000000000000000103027632
 update=540201007431001700010000000000000001030276310003027632
 delete=54020100743100090001000000000000000103027631
 delete_updated=54020100743100090001000000000000000103027632
@@ -164,6 +176,63 @@ $(entries 1 $(entry 8 5 $update) $(entry 7 2 $delete_updated)) $(pull 1 42949672
 1328 $(pull 4 0)
 END
 
+# ---- what two entries of replica 7 do together, told to 9 and to 7 itself; each entry alone; no entry; and from behind the newest version
+
+session << END
+$(accepted 7 1 1) $(push 7 1 0 $insert)
+$(accepted 7 2 2) $(push 7 2 1 $update)
+$(merged 9 0 2 $insert_updated) $(catch 9 0 10)
+$(merged 9 0 2 $insert_updated) $(catch 9 0 2)
+$(merged 9 0 1 $insert) $(catch 9 0 1)
+$(merged 9 1 2 $update) $(catch 9 1 10)
+$(merged 9 0 0 '') $(catch 9 0 0)
+$(merged 9 2 2 '') $(catch 9 2 10)
+$(entries 0 $(entry 7 1 $insert)) $(catch 7 0 10)
+$(entries 1 $(entry 7 2 $update)) $(catch 7 1 1)
+$(merged 7 0 0 '') $(catch 7 0 0)
+$(merged 7 2 2 '') $(catch 7 2 10)
+1328 $(catch 9 3 10)
+1328 $(catch 7 3 0)
+1328 $(catch 9 18446744073709551615 4294967295)
+END
+
+# ---- entries of two replicas, of whom each is told what the other's do together, up to an entry of its own; an INSERT and its DELETE are nothing
+
+session << END
+$(accepted 7 1 1) $(push 7 1 0 $insert)
+$(accepted 7 2 2) $(push 7 2 1 $update)
+$(accepted 8 1 3) $(push 8 1 2 $delete_updated)
+$(accepted 7 3 4) $(push 7 3 3 $insert)
+$(merged 9 0 3 '') $(catch 9 0 3)
+$(merged 9 1 3 $delete) $(catch 9 1 2)
+$(merged 9 0 4 $insert) $(catch 9 0 4294967295)
+$(merged 9 1 4 '') $(catch 9 1 10)
+$(merged 9 2 4 540201007431001700010000000000000001030276320003027631) $(catch 9 2 10)
+$(merged 8 0 2 $insert_updated) $(catch 8 0 10)
+$(merged 8 0 1 $insert) $(catch 8 0 1)
+$(entries 2 $(entry 8 1 $delete_updated)) $(catch 8 2 10)
+$(merged 8 3 4 $insert) $(catch 8 3 10)
+$(entries 0 $(entry 7 1 $insert)) $(catch 7 0 10)
+$(merged 7 2 3 $delete_updated) $(catch 7 2 10)
+$(entries 3 $(entry 7 3 $insert)) $(catch 7 3 10)
+END
+
+# ---- rows of two tables: what is told stands in the order of the hub's tables and of the keys. A row of t2 comes and goes, and one of t1 is indirect
+
+one=540201007431001200010000000000000005030161540201007432001200010000000000000002030178
+two=54020100743100120101000000000000000103016154020100743200170001000000000000000203017800030179
+three=54020100743100170001000000000000000503016100030162540201007432000900010000000000000002030179
+session t1:10 t2:10 << END
+$(accepted 7 1 1) $(push 7 1 0 540201007432001200010000000000000002030178540201007431001200010000000000000005030161)
+$(accepted 8 1 2) $(push 8 1 1 $two)
+$(accepted 7 2 3) $(push 7 2 2 $three)
+$(merged 9 0 1 $one) $(catch 9 0 1)
+$(merged 9 0 3 5402010074310012010100000000000000010301611200010000000000000005030162) $(catch 9 0 10)
+$(merged 9 1 3 540201007431001201010000000000000001030161170001000000000000000503016100030162540201007432000900010000000000000002030178) $(catch 9 1 10)
+$(merged 8 0 1 $one) $(catch 8 0 10)
+$(merged 7 1 2 $two) $(catch 7 1 10)
+END
+
 # ---- requests that are refused, and one of no entry: the answer, the line
 
 while read -r answer line; do
@@ -181,7 +250,11 @@ done << 'END'
 1328 02ffffffffffffffff0000000a
 1328 0100000008ffffffffffffffffffffffffffffffff0000001654020100743100120001000000000000000103027631
 132a 0100000008ffffffffffffffffffffffffffffffff00000000
-1314 030000000900000000000000000000000a
+1314 04
+1302 03
+1316 030000000900000000000000000000000
+1315 030000000900000000000000000000000a00
+15000000090000000000000000000000000000000000000000 030000000900000000000000000000000a
 END
 
 # ---- changesets that are refused: the answer to a push of it, the changeset
@@ -220,7 +293,7 @@ done
 
 # ---- fronts of requests that are taken, digit by digit: a half of a byte is no hex
 
-for request in "$(push 7 1 0 $insert)" 0200000000000000000000000a; do
+for request in "$(push 7 1 0 $insert)" 0200000000000000000000000a "$(catch 9 0 10)"; do
     digits=0
     while [ "$digits" -lt "${#request}" ]; do
         answer=1302
@@ -243,6 +316,9 @@ awk 'BEGIN {
     printf "0100000007%016x%016x0000001654020100743100120001%016x03027631\n", 1, 0, 0
     printf "0100000008%016x%016x0000001654020100743100120001%016x03027631\n", 1, 0, 0
     printf "02%016x0000000a\n", 4091
+    printf "0300000009%016x0000000a\n", 4091
+    printf "0300000009%016xffffffff\n", 0
+    printf "0300000007%016xffffffff\n", 0
     print "0200000000000010010000000a"
     print "0200000000000010020000000a"
 }' > "$dir/input"
@@ -253,6 +329,13 @@ awk 'BEGIN {
     printf "14%016x00000006", 4091
     for (base = 4091; base < 4097; base++) printf "0000000007%016x0000001654020100743100120001%016x03027631", base + 1, base
     print ""
+    printf "1500000009%016x%016x%08x54020100743100", 4091, 4097, 7 + 6 * 15
+    for (base = 4091; base < 4097; base++) printf "120001%016x03027631", base
+    print ""
+    printf "1500000009%016x%016x%08x54020100743100", 0, 4097, 7 + 4097 * 15
+    for (base = 0; base < 4097; base++) printf "120001%016x03027631", base
+    print ""
+    printf "14%016x000000010000000007%016x0000001654020100743100120001%016x03027631\n", 0, 1, 0
     print "14000000000000100100000000"
     print "1328"
 }' > "$dir/output_wanted"

@@ -1,5 +1,5 @@
-"""Drawn worlds. Each seed makes a script of events: edits of few rows, pushes, pushes sent again, pulls, deliveries of any message that was
-ever sent (so messages are lost, come twice, and out of order), restarts, and all wishes. The program plays it. Then comes a closing part,
+"""Drawn worlds. Each seed makes a script of events: edits of few rows, pushes, pushes sent again, pulls and catches, deliveries of any message that was
+ever sent (so messages are lost, come twice, and out of order), restarts, and all wishes. What is asked for is told one by one or at once. The program plays it. Then comes a closing part,
 round by round, by what the last run printed: pushes that are under way are sent again, each replica pulls, and what is pending is pushed, one
 replica after another, until all are at rest. Then the hub and each replica have to show the same rows, at one version, with nothing pending
 and nothing under way; and in no run was a push a conflict or an entry a bad one.
@@ -16,6 +16,8 @@ EVENTS = 200
 TABLES = ["t1:10", "t2:101"]
 WISHES = "kts"
 MOST = 4294967295
+# Entries are told one by one, or what they do together is.
+ASKS = ["pull", "catch"]
 
 
 class Unequal(Exception):
@@ -79,7 +81,7 @@ def script(draw, replicas):
             lines.append("resend %d" % replica)
             sent += draw.randrange(2)
         elif kind < 12:
-            lines.append("pull %d %d" % (replica, draw.choice([1, 2, 4096])))
+            lines.append("%s %d %d" % (draw.choice(ASKS), replica, draw.choice([1, 2, 4096])))
             sent += 1
         elif kind < 19:
             # One of the newest, or any at all.
@@ -131,7 +133,7 @@ def play(program, replicas, lines):
 def pull(replica, sent, draw):
     """Three events, and two messages."""
     return [
-        "pull %d %d" % (replica, MOST),
+        "%s %d %d" % (draw.choice(ASKS), replica, MOST),
         "deliver %d -" % sent,
         "deliver %d %s" % (sent + 1, "".join(draw.choice("kt") for _ in range(draw.randrange(8))) or "-"),
     ]
@@ -142,8 +144,8 @@ def push(word, replica, sent):
 
 
 def close(program, replicas, lines, shown, draw):
-    """Until all are at rest, at the newest version."""
-    for _ in range(3 * replicas + 3):
+    """Until all are at rest, at the newest version. A catch ends before an own entry, and behind it, so a replica may ask three times."""
+    for _ in range(6 * replicas + 6):
         sent = shown.sent
         flown = [r for r in range(replicas) if shown.places[r][2] > 0]
         behind = [r for r in range(replicas) if shown.places[r][0] < shown.newest]

@@ -7,7 +7,7 @@ use Rattle.cs_text.specs.parse.Numbers.{small_in, unsigned_in}
 use Rattle.cs_text.specs.parse.Wishes.{wishes_in}
 use Rattle.cs_text.specs.parse.Words.{words_in}
 use Rattle.cs_world.specs.declared.event.Event.{Event}
-use Rattle.cs_world.specs.declared.event.Event.TheVariants.{AskPull, Deliver, MakePush, OnEdit, Resend, Restart}
+use Rattle.cs_world.specs.declared.event.Event.TheVariants.{AskCatch, AskPull, Deliver, MakePush, OnEdit, Resend, Restart}
 
 -- what was found, where no word is left
 abbrev pub alone : {A : Type 0} → Option A → List (List ℕ) → Option A
@@ -32,11 +32,13 @@ event_of tables verb number words =
     else if bytes_eq verb (codes "push") then option_map (λ r. MakePush r) (alone (small_in number) words)
     else if bytes_eq verb (codes "resend") then option_map (λ r. Resend r) (alone (small_in number) words)
     else if bytes_eq verb (codes "pull") then both_in (λ r limit. AskPull r limit) (small_in number) (last_in small_in words)
+    else if bytes_eq verb (codes "catch") then both_in (λ r limit. AskCatch r limit) (small_in number) (last_in small_in words)
     else if bytes_eq verb (codes "deliver") then both_in (λ k wishes. Deliver k wishes) (unsigned_in number) (last_in wishes_in words)
     else if bytes_eq verb (codes "restart") then option_map (λ r. Restart r) (alone (small_in number) words)
     else None
 
--- the event that words name: `edit R EDIT`, `push R`, `resend R`, `pull R LIMIT`, `deliver K WISHES` or `restart R`
+-- the event that words name: `edit R EDIT`, `push R`, `resend R`, `pull R LIMIT`, `catch R LIMIT`, `deliver K WISHES` or
+-- `restart R`
 abbrev pub event_by : List TableDef → List (List ℕ) → Option Event
 event_by tables [] = None
 event_by tables (verb ∷ []) = None

@@ -52,7 +52,10 @@ fn read_event_of(
         };
     }
     if is_word(verb, b"pull") {
-        return Ok(read_asked(number, words));
+        return Ok(read_pull(number, words));
+    }
+    if is_word(verb, b"catch") {
+        return Ok(read_catch(number, words));
     }
     if is_word(verb, b"deliver") {
         return read_delivered(alloc, number, words);
@@ -95,16 +98,28 @@ fn read_edited(
     }
 }
 
-fn read_asked(number: &[u8], words: &mut Words<'_>) -> Option<Event>
+// How many entries at most, behind which no word is left.
+fn last_limit(words: &mut Words<'_>) -> Option<u32>
+    ensures { result ≡ last_in small_in words.old }
+{
+    let word = words.next()?;
+    if words.is_at_end() { small(word) } else { None }
+}
+
+fn read_pull(number: &[u8], words: &mut Words<'_>) -> Option<Event>
     ensures { result ≡ both_in (λ r limit. Event.AskPull r limit) (small_in number.now) (last_in small_in words.old) }
 {
     let replica = small(number)?;
-    let limit = small(words.next()?)?;
-    if words.is_at_end() {
-        Some(Event::AskPull { replica, limit })
-    } else {
-        None
-    }
+    let limit = last_limit(words)?;
+    Some(Event::AskPull { replica, limit })
+}
+
+fn read_catch(number: &[u8], words: &mut Words<'_>) -> Option<Event>
+    ensures { result ≡ both_in (λ r limit. Event.AskCatch r limit) (small_in number.now) (last_in small_in words.old) }
+{
+    let replica = small(number)?;
+    let limit = last_limit(words)?;
+    Some(Event::AskCatch { replica, limit })
 }
 
 fn read_delivered(

@@ -1,4 +1,4 @@
--- Bytes ask something: a push, a pull, or nothing, for a fault that they have.
+-- Bytes ask something: a push, a pull, a catch, or nothing, for a fault that they have.
 use Rattle.std.proofs.Common.{◌≡◌, inl, inr, ℕ, suc, ◌≤◌, List, [], ◌∷◌, ◌++◌, length, Result, Ok, Err, refl, sym, ap, subst, ◌∙◌, arith}
 use Rattle.std.proofs.lemmas.Bool.{cases_lt}
 use Rattle.std.proofs.lemmas.Bool.Decides.{eqb_tells}
@@ -6,11 +6,11 @@ use Rattle.cs_varint.specs.Bytes.{AreBytes}
 use Rattle.cs_wire.specs.Laws.{AsksSomething}
 use Rattle.cs_wire.specs.Numbers.{four_bytes, eight_bytes}
 use Rattle.cs_wire.specs.OneSpelling.{after_four, after_eight}
-use Rattle.cs_wire.specs.Requests.{push_numbers, pull_numbers, push_tag, pull_tag, FitsPush, FitsPull, Asked, AsksPush, AsksPull, ReadsRequest}
+use Rattle.cs_wire.specs.Requests.{push_numbers, pull_numbers, catch_numbers, push_tag, pull_tag, catch_tag, FitsPush, FitsPull, FitsCatch, Asked, AsksPush, AsksPull, AsksCatch, ReadsRequest}
 use Rattle.cs_wire.specs.declared.fault.WireFault.{WireFault}
 use Rattle.cs_wire.specs.declared.fault.WireFault.TheVariants.{Truncated, BadTag, TooLong}
 use Rattle.cs_wire.specs.declared.push_head.PushHead.{PushHead}
-use Rattle.cs_wire.proofs.Begins.{begins_four, begins_eight}
+use Rattle.cs_wire.proofs.Begins.{begins_four, begins_eight, begins_sized}
 
 abbrev AsksIt : List ℕ → Type 0
 AsksIt bytes = (asked : Result Asked WireFault) × ReadsRequest bytes asked
@@ -20,7 +20,7 @@ AsksIt bytes = (asked : Result Asked WireFault) × ReadsRequest bytes asked
 sized_push : (head : PushHead) (size : ℕ) (part : List ℕ) → FitsPush head size → AsksIt (push_tag ∷ push_numbers head size part)
 sized_push head size part fits =
     elim (cases_lt (length part) size) [
-      | inl few ↦ (Err Truncated, inr (inr (inr (head, size, part, fits, refl, few))))
+      | inl few ↦ (Err Truncated, inr (inr (inr (inr (head, size, part, fits, refl, few)))))
       | inr enough ↦ elim (cases_lt size (length part)) [
         | inl many ↦ (Err TooLong, inl (head, size, part, fits, refl, many))
         | inr none ↦
@@ -31,15 +31,10 @@ sized_push head size part fits =
 
 long_push : (rest : List ℕ) → AreBytes rest → 24 ≤ length rest → AsksIt (push_tag ∷ rest)
 long_push rest small long =
-    let origin = begins_four rest small (omega (arith, long)) in
-    let number = begins_eight origin.rest origin.small (omega (arith, after_four rest origin.rest origin.number origin.is)) in
-    let base = begins_eight number.rest number.small (omega (arith, after_four rest origin.rest origin.number origin.is, after_eight origin.rest number.rest number.number number.is)) in
-    let size = begins_four base.rest base.small (omega (arith, after_four rest origin.rest origin.number origin.is, after_eight origin.rest number.rest number.number number.is, after_eight number.rest base.rest base.number base.is)) in
-    let head : PushHead = record { origin = origin.number; number = number.number; base = base.number } in
-    let is : rest ≡ push_numbers head size.number size.rest =
-    origin.is ∙ ap (λ (r : List ℕ). four_bytes origin.number ++ r) (number.is ∙ ap (λ (r : List ℕ). eight_bytes number.number ++ r) (base.is ∙ ap (λ (r : List ℕ). eight_bytes base.number ++ r) size.is)) in
-    subst (λ (r : List ℕ). AsksIt (push_tag ∷ r)) (sym is)
-    (sized_push head size.number size.rest (record { origin_fits = origin.fits; number_fits = number.fits; base_fits = base.fits; size_fits = size.fits }))
+    let begins = begins_sized rest small long in
+    let head : PushHead = record { origin = begins.origin; number = begins.second; base = begins.third } in
+    subst (λ (r : List ℕ). AsksIt (push_tag ∷ r)) (sym begins.is)
+    (sized_push head begins.size begins.rest (record { origin_fits = begins.origin_fits; number_fits = begins.second_fits; base_fits = begins.third_fits; size_fits = begins.size_fits }))
 
 asks_push : (rest : List ℕ) → AreBytes rest → AsksIt (push_tag ∷ rest)
 asks_push rest small =
@@ -52,7 +47,7 @@ asks_push rest small =
 
 ended_pull : (first limit : ℕ) (more : List ℕ) → FitsPull first limit → AsksIt (pull_tag ∷ pull_numbers first limit more)
 ended_pull first limit [] fits = (Ok (AsksPull first limit), (fits, refl))
-ended_pull first limit (b ∷ more) fits = (Err TooLong, inr (first, limit, b ∷ more, fits, refl, omega arith))
+ended_pull first limit (b ∷ more) fits = (Err TooLong, inr (inl (first, limit, b ∷ more, fits, refl, omega arith)))
 
 long_pull : (rest : List ℕ) → AreBytes rest → 12 ≤ length rest → AsksIt (pull_tag ∷ rest)
 long_pull rest small long =
@@ -70,6 +65,29 @@ asks_pull rest small =
       | inr long ↦ long_pull rest small long
     ]
 
+-- ---- a Catch
+
+ended_catch : (origin first limit : ℕ) (more : List ℕ) → FitsCatch origin first limit → AsksIt (catch_tag ∷ catch_numbers origin first limit more)
+ended_catch origin first limit [] fits = (Ok (AsksCatch origin first limit), (fits, refl))
+ended_catch origin first limit (b ∷ more) fits = (Err TooLong, inr (inr (origin, first, limit, b ∷ more, fits, refl, omega arith)))
+
+long_catch : (rest : List ℕ) → AreBytes rest → 16 ≤ length rest → AsksIt (catch_tag ∷ rest)
+long_catch rest small long =
+    let origin = begins_four rest small (omega (arith, long)) in
+    let first = begins_eight origin.rest origin.small (omega (arith, after_four rest origin.rest origin.number origin.is)) in
+    let limit = begins_four first.rest first.small (omega (arith, after_four rest origin.rest origin.number origin.is, after_eight origin.rest first.rest first.number first.is)) in
+    let is : rest ≡ catch_numbers origin.number first.number limit.number limit.rest =
+    origin.is ∙ ap (λ (r : List ℕ). four_bytes origin.number ++ r) (first.is ∙ ap (λ (r : List ℕ). eight_bytes first.number ++ r) limit.is) in
+    subst (λ (r : List ℕ). AsksIt (catch_tag ∷ r)) (sym is)
+    (ended_catch origin.number first.number limit.number limit.rest (record { origin_fits = origin.fits; first_fits = first.fits; limit_fits = limit.fits }))
+
+asks_catch : (rest : List ℕ) → AreBytes rest → AsksIt (catch_tag ∷ rest)
+asks_catch rest small =
+    elim (cases_lt (length rest) 16) [
+      | inl few ↦ (Err Truncated, inr (inr (inr (inl (rest, refl, few)))))
+      | inr long ↦ long_catch rest small long
+    ]
+
 -- ---- a request
 
 pub asks_something : AsksSomething
@@ -79,6 +97,9 @@ asks_something (tag ∷ rest) all =
       | inl (e, is) ↦ subst (λ (t : ℕ). AsksIt (t ∷ rest)) (sym is) (asks_push rest (λ i. all (suc i)))
       | inr (e, no_push) ↦ elim (eqb_tells tag pull_tag) [
         | inl (f, is) ↦ subst (λ (t : ℕ). AsksIt (t ∷ rest)) (sym is) (asks_pull rest (λ i. all (suc i)))
-        | inr (f, no_pull) ↦ (Err BadTag, (tag, rest, refl, no_push, no_pull))
+        | inr (f, no_pull) ↦ elim (eqb_tells tag catch_tag) [
+          | inl (g, is) ↦ subst (λ (t : ℕ). AsksIt (t ∷ rest)) (sym is) (asks_catch rest (λ i. all (suc i)))
+          | inr (g, no_catch) ↦ (Err BadTag, (tag, rest, refl, record { no_push = no_push; no_pull = no_pull; no_catch = no_catch }))
+        ]
       ]
     ]

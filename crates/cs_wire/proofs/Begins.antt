@@ -1,10 +1,11 @@
 -- Bytes that begin with a number.
-use Rattle.std.proofs.Common.{◌≡◌, ℕ, zero, suc, ◌<◌, ◌≤◌, ◌^◌, List, [], ◌∷◌, ◌++◌, length, take, drop, refl, sym, ap, ◌∙◌, length-take-le, arith, lit<}
+use Rattle.std.proofs.Common.{◌≡◌, ℕ, zero, suc, ◌+◌, ◌<◌, ◌≤◌, ◌^◌, List, [], ◌∷◌, ◌++◌, length, take, drop, refl, sym, ap, ◌∙◌, length-take-le, arith, lit<}
 use Rattle.std.specs.Int.{w32, w64, from_be_bytes}
 use Rattle.std.proofs.lemmas.Nat.{be_bytes_4, be_bytes_8}
 use Rattle.std.proofs.lemmas.List.{take-append-drop}
 use Rattle.cs_varint.specs.Bytes.{AreBytes}
 use Rattle.cs_wire.specs.Numbers.{four_bytes, eight_bytes}
+use Rattle.cs_wire.specs.OneSpelling.{after_four, after_eight}
 
 pub small_take : (n : ℕ) (bytes : List ℕ) → AreBytes bytes → AreBytes (take n bytes)
 small_take zero bytes small i = lit< tt
@@ -67,3 +68,45 @@ begins_eight bytes small long = record {
   is = eight_front bytes (take 8 bytes) (from_be_bytes w64 (take 8 bytes)) refl long small refl;
   small = small_drop 8 bytes small;
 }
+
+-- bytes that begin with the numbers before a changeset, in a Push and in a Merged
+pub record BeginsSized (bytes : List ℕ) : Type 0 where
+  pub origin : ℕ
+  pub second : ℕ
+  pub third : ℕ
+  pub size : ℕ
+  pub rest : List ℕ
+  pub origin_fits : origin < 2 ^ 32
+  pub second_fits : second < 2 ^ 64
+  pub third_fits : third < 2 ^ 64
+  pub size_fits : size < 2 ^ 32
+  pub is : bytes ≡ four_bytes origin ++ (eight_bytes second ++ (eight_bytes third ++ (four_bytes size ++ rest)))
+
+pub begins_sized : (bytes : List ℕ) → AreBytes bytes → 24 ≤ length bytes → BeginsSized bytes
+begins_sized bytes small long =
+    let origin = begins_four bytes small (omega (arith, long)) in
+    let second = begins_eight origin.rest origin.small (omega (arith, after_four bytes origin.rest origin.number origin.is)) in
+    let third = begins_eight second.rest second.small (omega (arith, after_four bytes origin.rest origin.number origin.is, after_eight origin.rest second.rest second.number second.is)) in
+    let size = begins_four third.rest third.small (omega (arith, after_four bytes origin.rest origin.number origin.is, after_eight origin.rest second.rest second.number second.is, after_eight second.rest third.rest third.number third.is)) in
+    record {
+      origin = origin.number;
+      second = second.number;
+      third = third.number;
+      size = size.number;
+      rest = size.rest;
+      origin_fits = origin.fits;
+      second_fits = second.fits;
+      third_fits = third.fits;
+      size_fits = size.fits;
+      is = origin.is ∙ ap (λ (r : List ℕ). four_bytes origin.number ++ r) (second.is ∙ ap (λ (r : List ℕ). eight_bytes second.number ++ r) (third.is ∙ ap (λ (r : List ℕ). eight_bytes third.number ++ r) size.is));
+    }
+
+pub sized_length : (origin second third size : ℕ) (part : List ℕ) → length (four_bytes origin ++ (eight_bytes second ++ (eight_bytes third ++ (four_bytes size ++ part)))) ≡ 24 + length part
+sized_length origin second third size part =
+    omega (
+      arith,
+      after_four (four_bytes origin ++ (eight_bytes second ++ (eight_bytes third ++ (four_bytes size ++ part)))) (eight_bytes second ++ (eight_bytes third ++ (four_bytes size ++ part))) origin refl,
+      after_eight (eight_bytes second ++ (eight_bytes third ++ (four_bytes size ++ part))) (eight_bytes third ++ (four_bytes size ++ part)) second refl,
+      after_eight (eight_bytes third ++ (four_bytes size ++ part)) (four_bytes size ++ part) third refl,
+      after_four (four_bytes size ++ part) part size refl,
+    )

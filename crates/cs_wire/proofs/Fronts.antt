@@ -2,13 +2,13 @@
 -- told of whatever goes on from there.
 use Rattle.std.proofs.Common.{◌≡◌, ◌≢◌, ℕ, ◌<◌, List, [], ◌∷◌, ◌++◌, length, Result, Ok, Err, inl, inr, refl, sym, ap, ◌∙◌, append_assoc, length-append, arith}
 use Rattle.std.specs.List.{flat_map}
-use Rattle.cs_wire.specs.Answers.{FitsAnswer, IsAnswerFault, ReadsAnswer, answer_spelling, entries_numbers, entries_tag, short_before}
+use Rattle.cs_wire.specs.Answers.{FitsAnswer, FitsMerged, IsAnswerFault, ReadsAnswer, answer_spelling, entries_numbers, entries_tag, merged_numbers, merged_tag, short_before}
 use Rattle.cs_wire.specs.Entries.{ToldEntry, StandBefore, entry_spelling}
 use Rattle.cs_wire.specs.Laws.{AsksSomething, FrontOfAnswer, FrontOfRequest, OneRequest, OneToldAnswer, TellsSomething}
 use Rattle.cs_wire.specs.Numbers.{four_bytes, eight_bytes}
-use Rattle.cs_wire.specs.Requests.{Asked, AsksPush, AsksPull, FitsPush, FitsPull, FitsRequest, IsRequestFault, ReadsRequest, request_spelling, push_numbers, pull_numbers}
+use Rattle.cs_wire.specs.Requests.{Asked, AsksPush, AsksPull, AsksCatch, FitsPush, FitsPull, FitsCatch, FitsRequest, IsRequestFault, ReadsRequest, request_spelling, push_numbers, pull_numbers, catch_numbers}
 use Rattle.cs_wire.specs.declared.answer.Answer.{Answer}
-use Rattle.cs_wire.specs.declared.answer.Answer.TheVariants.{Short, Entries}
+use Rattle.cs_wire.specs.declared.answer.Answer.TheVariants.{Short, Entries, Merged}
 use Rattle.cs_wire.specs.declared.fault.WireFault.{WireFault}
 use Rattle.cs_wire.specs.declared.fault.WireFault.TheVariants.{Truncated, BadTag, TooLong, BadKind}
 use Rattle.cs_wire.specs.declared.push_head.PushHead.{PushHead}
@@ -32,13 +32,21 @@ pull_more : (first limit : ℕ) (part rest : List ℕ) → pull_numbers first li
 unfolding four_bytes eight_bytes
 pull_more first limit part rest = refl
 
+catch_more : (origin first limit : ℕ) (part rest : List ℕ) → catch_numbers origin first limit part ++ rest ≡ catch_numbers origin first limit (part ++ rest)
+unfolding four_bytes eight_bytes
+catch_more origin first limit part rest = refl
+
 longer_push : (head : PushHead) (size : ℕ) (part rest bytes whole : List ℕ) → FitsPush head size → bytes ≡ 1 ∷ push_numbers head size part → size < length (part ++ rest) → whole ≡ bytes ++ rest → IsRequestFault TooLong whole
 longer_push head size part rest bytes whole fits is many goes =
     inl (head, size, part ++ rest, fits, goes ∙ ap (λ (t : List ℕ). t ++ rest) is ∙ ap (λ (t : List ℕ). 1 ∷ t) (push_more head size part rest), many)
 
 longer_pull : (first limit : ℕ) (part rest bytes whole : List ℕ) → FitsPull first limit → bytes ≡ 2 ∷ pull_numbers first limit part → 0 < length (part ++ rest) → whole ≡ bytes ++ rest → IsRequestFault TooLong whole
 longer_pull first limit part rest bytes whole fits is many goes =
-    inr (first, limit, part ++ rest, fits, goes ∙ ap (λ (t : List ℕ). t ++ rest) is ∙ ap (λ (t : List ℕ). 2 ∷ t) (pull_more first limit part rest), many)
+    inr (inl (first, limit, part ++ rest, fits, goes ∙ ap (λ (t : List ℕ). t ++ rest) is ∙ ap (λ (t : List ℕ). 2 ∷ t) (pull_more first limit part rest), many))
+
+longer_catch : (origin first limit : ℕ) (part rest bytes whole : List ℕ) → FitsCatch origin first limit → bytes ≡ 3 ∷ catch_numbers origin first limit part → 0 < length (part ++ rest) → whole ≡ bytes ++ rest → IsRequestFault TooLong whole
+longer_catch origin first limit part rest bytes whole fits is many goes =
+    inr (inr (origin, first, limit, part ++ rest, fits, goes ∙ ap (λ (t : List ℕ). t ++ rest) is ∙ ap (λ (t : List ℕ). 3 ∷ t) (catch_more origin first limit part rest), many))
 
 no_request : OneRequest → (asked : Asked) (whole : List ℕ) (fault : WireFault) → FitsRequest asked → request_spelling asked ≡ whole → IsRequestFault fault whole → ⊥
 no_request one asked whole fault fits is wrong =
@@ -49,13 +57,17 @@ request_front one asked bytes rest (Ok (AsksPush head changeset)) fits more goes
     absurd (no_request one asked (bytes ++ rest) TooLong fits goes (longer_push head (length changeset) changeset rest bytes (bytes ++ rest) other is (omega (arith, length-append changeset rest)) refl))
 request_front one asked bytes rest (Ok (AsksPull first limit)) fits more goes (other, is) =
     absurd (no_request one asked (bytes ++ rest) TooLong fits goes (longer_pull first limit [] rest bytes (bytes ++ rest) other is more refl))
+request_front one asked bytes rest (Ok (AsksCatch origin first limit)) fits more goes (other, is) =
+    absurd (no_request one asked (bytes ++ rest) TooLong fits goes (longer_catch origin first limit [] rest bytes (bytes ++ rest) other is more refl))
 request_front one asked bytes rest (Err Truncated) fits more goes wrong = wrong
-request_front one asked bytes rest (Err BadTag) fits more goes (tag, behind, is, no_push, no_pull) =
-    absurd (no_request one asked (bytes ++ rest) BadTag fits goes (tag, behind ++ rest, ap (λ (t : List ℕ). t ++ rest) is, no_push, no_pull))
+request_front one asked bytes rest (Err BadTag) fits more goes (tag, behind, is, other) =
+    absurd (no_request one asked (bytes ++ rest) BadTag fits goes (tag, behind ++ rest, ap (λ (t : List ℕ). t ++ rest) is, other))
 request_front one asked bytes rest (Err TooLong) fits more goes (inl (head, size, part, other, is, many)) =
     absurd (no_request one asked (bytes ++ rest) TooLong fits goes (longer_push head size part rest bytes (bytes ++ rest) other is (omega (arith, length-append part rest)) refl))
-request_front one asked bytes rest (Err TooLong) fits more goes (inr (first, limit, part, other, is, many)) =
+request_front one asked bytes rest (Err TooLong) fits more goes (inr (inl (first, limit, part, other, is, many))) =
     absurd (no_request one asked (bytes ++ rest) TooLong fits goes (longer_pull first limit part rest bytes (bytes ++ rest) other is (omega (arith, length-append part rest)) refl))
+request_front one asked bytes rest (Err TooLong) fits more goes (inr (inr (origin, first, limit, part, other, is, many))) =
+    absurd (no_request one asked (bytes ++ rest) TooLong fits goes (longer_catch origin first limit part rest bytes (bytes ++ rest) other is (omega (arith, length-append part rest)) refl))
 request_front one asked bytes rest (Err BadKind) fits more goes none = absurd none
 
 pub front_of_request : OneRequest → AsksSomething → FrontOfRequest
@@ -92,9 +104,17 @@ behind_numbers first count part rest bytes is =
 longer_short : (answer : ShortAnswer) (part rest bytes : List ℕ) → bytes ≡ short_before answer part → bytes ++ rest ≡ short_before answer (part ++ rest)
 longer_short answer part rest bytes is = ap (λ (t : List ℕ). t ++ rest) is ∙ short_more answer part rest
 
+merged_more : (origin first next size : ℕ) (part rest : List ℕ) → merged_numbers origin first next size part ++ rest ≡ merged_numbers origin first next size (part ++ rest)
+unfolding four_bytes eight_bytes
+merged_more origin first next size part rest = refl
+
+longer_merged : (origin first next size : ℕ) (part rest bytes : List ℕ) → FitsMerged origin first next size → bytes ≡ merged_tag ∷ merged_numbers origin first next size part → size < length (part ++ rest) → IsAnswerFault TooLong (bytes ++ rest)
+longer_merged origin first next size part rest bytes fits is many =
+    inl (inr (origin, first, next, size, part ++ rest, fits, ap (λ (t : List ℕ). t ++ rest) is ∙ ap (λ (t : List ℕ). merged_tag ∷ t) (merged_more origin first next size part rest), many))
+
 answer_front : OneToldAnswer → (answer : Answer) (bytes rest : List ℕ) (read : Result Answer WireFault) → FitsAnswer answer → 0 < length rest → answer_spelling answer ≡ bytes ++ rest → ReadsAnswer bytes read → IsAnswerFault Truncated bytes
 answer_front one answer bytes rest (Ok (Short short)) fits more goes (other, is) =
-    absurd (no_answer one answer (bytes ++ rest) TooLong fits goes (inl (short, rest, other, longer_short short [] rest bytes is, more)))
+    absurd (no_answer one answer (bytes ++ rest) TooLong fits goes (inl (inl (short, rest, other, longer_short short [] rest bytes is, more))))
 answer_front one answer bytes rest (Ok (Entries first entries)) fits more goes (other, is) =
     absurd (no_answer one answer (bytes ++ rest) TooLong fits goes
     (inr (
@@ -111,11 +131,15 @@ answer_front one answer bytes rest (Ok (Entries first entries)) fits more goes (
         some = more;
       },
     )))
+answer_front one answer bytes rest (Ok (Merged origin first next changeset)) fits more goes (other, is) =
+    absurd (no_answer one answer (bytes ++ rest) TooLong fits goes (longer_merged origin first next (length changeset) changeset rest bytes other is (omega (arith, length-append changeset rest))))
 answer_front one answer bytes rest (Err Truncated) fits more goes wrong = wrong
 answer_front one answer bytes rest (Err BadTag) fits more goes (tag, behind, is, other) =
     absurd (no_answer one answer (bytes ++ rest) BadTag fits goes (tag, behind ++ rest, ap (λ (t : List ℕ). t ++ rest) is, other))
-answer_front one answer bytes rest (Err TooLong) fits more goes (inl (short, part, other, is, many)) =
-    absurd (no_answer one answer (bytes ++ rest) TooLong fits goes (inl (short, part ++ rest, other, longer_short short part rest bytes is, omega (arith, many, length-append part rest))))
+answer_front one answer bytes rest (Err TooLong) fits more goes (inl (inl (short, part, other, is, many))) =
+    absurd (no_answer one answer (bytes ++ rest) TooLong fits goes (inl (inl (short, part ++ rest, other, longer_short short part rest bytes is, omega (arith, many, length-append part rest)))))
+answer_front one answer bytes rest (Err TooLong) fits more goes (inl (inr (origin, first, next, size, part, other, is, many))) =
+    absurd (no_answer one answer (bytes ++ rest) TooLong fits goes (longer_merged origin first next size part rest bytes other is (omega (arith, many, length-append part rest))))
 answer_front one answer bytes rest (Err TooLong) fits more goes (inr (first, count, part, other, is, wrong)) =
     absurd (no_answer one answer (bytes ++ rest) TooLong fits goes
     (inr (

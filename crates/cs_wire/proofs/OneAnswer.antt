@@ -2,16 +2,17 @@
 use Rattle.std.proofs.Common.{◌≡◌, ℕ, zero, suc, ◌+◌, ◌<◌, false, cond, nat_eq, nat_lt, List, [], ◌∷◌, ◌++◌, length, drop, Result, Ok, Err, inl, inr, refl, ap, ◌∙◌, append_assoc, arith}
 use Rattle.std.specs.List.{flat_map, AllByRecursion}
 use Rattle.std.proofs.lemmas.Bool.Decides.{nat_tests}
-use Rattle.cs_wire.specs.Answers.{FitsShort, FitsEntriesNumbers, ReadsAnswer, accepted_numbers, entries_numbers, short_before}
+use Rattle.cs_wire.specs.Answers.{FitsShort, FitsEntriesNumbers, FitsMerged, ReadsAnswer, accepted_numbers, entries_numbers, merged_numbers, short_before}
 use Rattle.cs_wire.specs.Entries.{ToldEntry, FitsEntry, IsEntryFault, IsFaultOfEntries, entry_spelling}
 use Rattle.cs_wire.specs.Numbers.{four_bytes, eight_bytes}
 use Rattle.cs_wire.specs.OneSpelling.{four, eight, four_back, four_rest, eight_back, eight_rest, after_four, after_eight, below, not_below, entry_back, entry_behind, entry_reading, numbers_back, sized_entry}
 use Rattle.cs_wire.specs.declared.answer.Answer.{Answer}
-use Rattle.cs_wire.specs.declared.answer.Answer.TheVariants.{Short, Entries}
+use Rattle.cs_wire.specs.declared.answer.Answer.TheVariants.{Short, Entries, Merged}
 use Rattle.cs_wire.specs.declared.fault.WireFault.{WireFault}
 use Rattle.cs_wire.specs.declared.fault.WireFault.TheVariants.{Truncated, BadTag, TooLong, BadKind}
 use Rattle.cs_wire.specs.declared.short_answer.ShortAnswer.{ShortAnswer}
 use Rattle.cs_wire.specs.declared.short_answer.ShortAnswer.TheVariants.{Accepted, Stale, Refused}
+use Rattle.cs_wire.proofs.Begins.{sized_length}
 
 abbrev Items : Type 0
 Items = Result (List ToldEntry) WireFault
@@ -108,12 +109,23 @@ of_entries rest =
     cond (nat_lt (length rest) 12) (Err Truncated)
     (from_first (eight rest) (items (four (drop 8 rest)) (drop 4 (drop 8 rest))))
 
+sized : ℕ → ℕ → ℕ → ℕ → List ℕ → Read
+sized origin first next size part =
+    cond (nat_lt (length part) size) (Err Truncated)
+    (cond (nat_lt size (length part)) (Err TooLong) (Ok (Merged origin first next part)))
+
+of_merged : List ℕ → Read
+of_merged rest =
+    cond (nat_lt (length rest) 24) (Err Truncated)
+    (sized (four rest) (eight (drop 4 rest)) (eight (drop 8 (drop 4 rest))) (four (drop 8 (drop 8 (drop 4 rest)))) (drop 4 (drop 8 (drop 8 (drop 4 rest)))))
+
 pub answer_reading : List ℕ → Read
 answer_reading [] = Err Truncated
 answer_reading (tag ∷ rest) =
     cond (nat_eq tag 17) (of_accepted rest)
     (cond (nat_eq tag 18) (of_stale rest)
-    (cond (nat_eq tag 19) (of_refused rest) (cond (nat_eq tag 20) (of_entries rest) (Err BadTag))))
+    (cond (nat_eq tag 19) (of_refused rest)
+    (cond (nat_eq tag 20) (of_entries rest) (cond (nat_eq tag 21) (of_merged rest) (Err BadTag)))))
 
 accepted_length : (origin number version : ℕ) (more : List ℕ) → length (accepted_numbers origin number version more) ≡ 20 + length more
 accepted_length origin number version more =
@@ -153,24 +165,39 @@ unfolding from_first
 entries_wrong first count behind fault bytes fits is wrong =
     ap answer_reading is ∙ entries_back first count behind fits ∙ ap (from_first first) (items_wrong count fault behind wrong)
 
+merged_back : (origin first next size : ℕ) (part : List ℕ) → FitsMerged origin first next size → answer_reading (21 ∷ merged_numbers origin first next size part) ≡ sized origin first next size part
+unfolding answer_reading of_merged
+merged_back origin first next size part fits =
+    let long = not_below (length (merged_numbers origin first next size part)) 24 (omega (arith, sized_length origin first next size part)) in
+    rw (long, four_rest, eight_rest, eight_rest, four_rest, four_back origin _ fits.origin_fits, eight_back first _ fits.first_fits, eight_back next _ fits.next_fits, four_back size part fits.size_fits) refl
+
 pub reads_answer : (bytes : List ℕ) (told : Read) → ReadsAnswer bytes told → answer_reading bytes ≡ told
-unfolding answer_reading ended of_accepted of_stale of_refused of_entries from_first
+unfolding answer_reading ended of_accepted of_stale of_refused of_entries of_merged sized from_first
 reads_answer bytes (Ok (Short answer)) (fits, is) = ap answer_reading is ∙ short_back answer [] fits
 reads_answer bytes (Ok (Entries first entries)) (fits, is) =
     ap answer_reading is ∙ entries_back first (length entries) (flat_map entry_spelling entries) fits.0 ∙ ap (from_first first) (items_all entries fits.1)
+reads_answer bytes (Ok (Merged origin first next changeset)) (fits, is) =
+    let same = not_below (length changeset) (length changeset) (omega arith) in
+    ap answer_reading is ∙ merged_back origin first next (length changeset) changeset fits ∙ rw same refl
 reads_answer bytes (Err Truncated) (inl (inl is)) = rw is refl
 reads_answer bytes (Err Truncated) (inl (inr (inl (rest, is, few)))) = rw (is, below (length rest) 20 few) refl
 reads_answer bytes (Err Truncated) (inl (inr (inr (inl (rest, is, few))))) = rw (is, below (length rest) 8 few) refl
 reads_answer bytes (Err Truncated) (inl (inr (inr (inr (inl is))))) = rw is refl
-reads_answer bytes (Err Truncated) (inl (inr (inr (inr (inr (rest, is, few)))))) = rw (is, below (length rest) 12 few) refl
+reads_answer bytes (Err Truncated) (inl (inr (inr (inr (inr (inl (rest, is, few))))))) = rw (is, below (length rest) 12 few) refl
+reads_answer bytes (Err Truncated) (inl (inr (inr (inr (inr (inr (inl (rest, is, few)))))))) = rw (is, below (length rest) 24 few) refl
+reads_answer bytes (Err Truncated) (inl (inr (inr (inr (inr (inr (inr (origin, first, next, size, part, fits, is, few)))))))) =
+    ap answer_reading is ∙ merged_back origin first next size part fits ∙ rw (below (length part) size few) refl
 reads_answer bytes (Err Truncated) (inr (first, count, behind, fits, is, wrong)) = entries_wrong first count behind Truncated bytes fits is wrong
 reads_answer bytes (Err BadTag) (tag, rest, is, other) =
     let a : nat_eq tag 17 ≡ false = grind (arith, nat_tests, other.no_accepted) in
     let b : nat_eq tag 18 ≡ false = grind (arith, nat_tests, other.no_stale) in
     let c : nat_eq tag 19 ≡ false = grind (arith, nat_tests, other.no_refused) in
     let d : nat_eq tag 20 ≡ false = grind (arith, nat_tests, other.no_entries) in
-    rw (is, a, b, c, d) refl
-reads_answer bytes (Err TooLong) (inl (answer, more, fits, is, some)) =
+    let e : nat_eq tag 21 ≡ false = grind (arith, nat_tests, other.no_merged) in
+    rw (is, a, b, c, d, e) refl
+reads_answer bytes (Err TooLong) (inl (inl (answer, more, fits, is, some))) =
     ap answer_reading is ∙ short_back answer more fits ∙ rw (below 0 (length more) some) refl
+reads_answer bytes (Err TooLong) (inl (inr (origin, first, next, size, more, fits, is, many))) =
+    ap answer_reading is ∙ merged_back origin first next size more fits ∙ rw (not_below (length more) size (omega (arith, many)), below size (length more) many) refl
 reads_answer bytes (Err TooLong) (inr (first, count, behind, fits, is, wrong)) = entries_wrong first count behind TooLong bytes fits is wrong
 reads_answer bytes (Err BadKind) (first, count, behind, fits, is, wrong) = entries_wrong first count behind BadKind bytes fits is wrong

@@ -2,11 +2,12 @@
 use Rattle.std.proofs.Common.{◌≡◌, ℕ, ◌+◌, ◌<◌, false, cond, nat_eq, nat_lt, List, [], ◌∷◌, ◌++◌, length, drop, Result, Ok, Err, inl, inr, refl, arith}
 use Rattle.std.proofs.lemmas.Bool.Decides.{nat_tests}
 use Rattle.cs_wire.specs.Numbers.{four_bytes, eight_bytes}
-use Rattle.cs_wire.specs.OneSpelling.{four, eight, four_back, four_rest, eight_back, eight_rest, after_four, after_eight, below, not_below}
-use Rattle.cs_wire.specs.Requests.{push_numbers, pull_numbers, FitsPush, FitsPull, Asked, AsksPush, AsksPull, ReadsRequest}
+use Rattle.cs_wire.specs.OneSpelling.{four, eight, four_back, four_rest, eight_back, eight_rest, after_four, after_eight, below, not_below, numbers_length}
+use Rattle.cs_wire.specs.Requests.{push_numbers, pull_numbers, catch_numbers, FitsPush, FitsPull, FitsCatch, Asked, AsksPush, AsksPull, AsksCatch, ReadsRequest}
 use Rattle.cs_wire.specs.declared.fault.WireFault.{WireFault}
 use Rattle.cs_wire.specs.declared.fault.WireFault.TheVariants.{Truncated, BadTag, TooLong, BadKind}
 use Rattle.cs_wire.specs.declared.push_head.PushHead.{PushHead}
+use Rattle.cs_wire.proofs.Begins.{sized_length}
 
 abbrev pub Read : Type 0
 Read = Result Asked WireFault
@@ -22,20 +23,10 @@ of_push rest =
     cond (nat_lt (length rest) 24) (Err Truncated)
     (sized (record { origin = four rest; number = eight (drop 4 rest); base = eight (drop 8 (drop 4 rest)) }) (four (drop 8 (drop 8 (drop 4 rest)))) (drop 4 (drop 8 (drop 8 (drop 4 rest)))))
 
-push_length : (head : PushHead) (size : ℕ) (part : List ℕ) → length (push_numbers head size part) ≡ 24 + length part
-push_length head size part =
-    omega (
-      arith,
-      after_four (push_numbers head size part) (eight_bytes head.number ++ (eight_bytes head.base ++ (four_bytes size ++ part))) head.origin refl,
-      after_eight (eight_bytes head.number ++ (eight_bytes head.base ++ (four_bytes size ++ part))) (eight_bytes head.base ++ (four_bytes size ++ part)) head.number refl,
-      after_eight (eight_bytes head.base ++ (four_bytes size ++ part)) (four_bytes size ++ part) head.base refl,
-      after_four (four_bytes size ++ part) part size refl,
-    )
-
 push_back : (head : PushHead) (size : ℕ) (part : List ℕ) → FitsPush head size → of_push (push_numbers head size part) ≡ sized head size part
 unfolding of_push
 push_back head size part fits =
-    let long = not_below (length (push_numbers head size part)) 24 (omega (arith, push_length head size part)) in
+    let long = not_below (length (push_numbers head size part)) 24 (omega (arith, sized_length head.origin head.number head.base size part)) in
     rw (long, four_rest, eight_rest, eight_rest, four_rest, four_back head.origin _ fits.origin_fits, eight_back head.number _ fits.number_fits, eight_back head.base _ fits.base_fits, four_back size part fits.size_fits) refl
 
 -- ---- a Pull
@@ -59,6 +50,21 @@ pull_back first limit more fits =
     let long = not_below (length (pull_numbers first limit more)) 12 (omega (arith, pull_length first limit more)) in
     rw (long, eight_rest, four_rest, eight_back first _ fits.first_fits, four_back limit more fits.limit_fits) refl
 
+-- ---- a Catch
+
+of_catch : List ℕ → Read
+of_catch rest =
+    cond (nat_lt (length rest) 16) (Err Truncated)
+    (cond (nat_lt 0 (length (drop 4 (drop 8 (drop 4 rest))))) (Err TooLong) (Ok (AsksCatch (four rest) (eight (drop 4 rest)) (four (drop 8 (drop 4 rest))))))
+
+catch_back : (origin first limit : ℕ) (more : List ℕ) → FitsCatch origin first limit → of_catch (catch_numbers origin first limit more) ≡ cond (nat_lt 0 (length more)) (Err TooLong) (Ok (AsksCatch origin first limit))
+unfolding of_catch
+catch_back origin first limit more fits =
+    let long = not_below (length (catch_numbers origin first limit more)) 16 (omega (arith, numbers_length origin first limit more)) in
+    rw (long, four_rest, eight_rest, four_rest, four_back origin _ fits.origin_fits, eight_back first _ fits.first_fits, four_back limit more fits.limit_fits) refl
+
+-- ---- the fronts of their numbers
+
 push_short : (rest : List ℕ) → length rest < 24 → of_push rest ≡ Err Truncated
 unfolding of_push
 push_short rest few = rw (below (length rest) 24 few) refl
@@ -67,12 +73,17 @@ pull_short : (rest : List ℕ) → length rest < 12 → of_pull rest ≡ Err Tru
 unfolding of_pull
 pull_short rest few = rw (below (length rest) 12 few) refl
 
+catch_short : (rest : List ℕ) → length rest < 16 → of_catch rest ≡ Err Truncated
+unfolding of_catch
+catch_short rest few = rw (below (length rest) 16 few) refl
+
 -- ---- a request
 
 pub request_reading : List ℕ → Read
 request_reading [] = Err Truncated
 request_reading (tag ∷ rest) =
-    cond (nat_eq tag 1) (of_push rest) (cond (nat_eq tag 2) (of_pull rest) (Err BadTag))
+    cond (nat_eq tag 1) (of_push rest)
+    (cond (nat_eq tag 2) (of_pull rest) (cond (nat_eq tag 3) (of_catch rest) (Err BadTag)))
 
 pub reads_request : (bytes : List ℕ) (asked : Read) → ReadsRequest bytes asked → request_reading bytes ≡ asked
 unfolding request_reading sized
@@ -80,17 +91,22 @@ reads_request bytes (Ok (AsksPush head changeset)) (fits, is) =
     let same = not_below (length changeset) (length changeset) (omega arith) in
     rw (is, push_back head (length changeset) changeset fits, same) refl
 reads_request bytes (Ok (AsksPull first limit)) (fits, is) = rw (is, pull_back first limit [] fits) refl
+reads_request bytes (Ok (AsksCatch origin first limit)) (fits, is) = rw (is, catch_back origin first limit [] fits) refl
 reads_request bytes (Err Truncated) (inl is) = rw is refl
 reads_request bytes (Err Truncated) (inr (inl (rest, is, few))) = rw (is, push_short rest few) refl
 reads_request bytes (Err Truncated) (inr (inr (inl (rest, is, few)))) = rw (is, pull_short rest few) refl
-reads_request bytes (Err Truncated) (inr (inr (inr (head, size, part, fits, is, few)))) =
+reads_request bytes (Err Truncated) (inr (inr (inr (inl (rest, is, few))))) = rw (is, catch_short rest few) refl
+reads_request bytes (Err Truncated) (inr (inr (inr (inr (head, size, part, fits, is, few))))) =
     rw (is, push_back head size part fits, below (length part) size few) refl
-reads_request bytes (Err BadTag) (tag, rest, is, one, two) =
-    let first : nat_eq tag 1 ≡ false = grind (arith, nat_tests) in
-    let second : nat_eq tag 2 ≡ false = grind (arith, nat_tests) in
-    rw (is, first, second) refl
+reads_request bytes (Err BadTag) (tag, rest, is, other) =
+    let a : nat_eq tag 1 ≡ false = grind (arith, nat_tests, other.no_push) in
+    let b : nat_eq tag 2 ≡ false = grind (arith, nat_tests, other.no_pull) in
+    let c : nat_eq tag 3 ≡ false = grind (arith, nat_tests, other.no_catch) in
+    rw (is, a, b, c) refl
 reads_request bytes (Err TooLong) (inl (head, size, more, fits, is, many)) =
     rw (is, push_back head size more fits, not_below (length more) size (omega arith), below size (length more) many) refl
-reads_request bytes (Err TooLong) (inr (first, limit, more, fits, is, many)) =
+reads_request bytes (Err TooLong) (inr (inl (first, limit, more, fits, is, many))) =
     rw (is, pull_back first limit more fits, below 0 (length more) many) refl
+reads_request bytes (Err TooLong) (inr (inr (origin, first, limit, more, fits, is, many))) =
+    rw (is, catch_back origin first limit more fits, below 0 (length more) many) refl
 reads_request bytes (Err BadKind) none = absurd none

@@ -5,18 +5,18 @@ use Rattle.std.proofs.lemmas.Bool.{cases_lt}
 use Rattle.std.proofs.lemmas.Bool.Decides.{eqb_tells}
 use Rattle.std.proofs.lemmas.List.{take-append-drop}
 use Rattle.cs_varint.specs.Bytes.{AreBytes}
-use Rattle.cs_wire.specs.Answers.{FitsShort, FitsEntriesNumbers, ReadsAnswer, accepted_numbers, entries_numbers, short_before, accepted_tag, stale_tag, refused_tag, entries_tag}
+use Rattle.cs_wire.specs.Answers.{FitsShort, FitsEntriesNumbers, FitsMerged, ReadsAnswer, accepted_numbers, entries_numbers, merged_numbers, short_before, accepted_tag, stale_tag, refused_tag, entries_tag, merged_tag}
 use Rattle.cs_wire.specs.Entries.{ToldEntry, FitsEntryNumbers, FindsEntries, IsEntryFault, IsFaultOfEntries, StandBefore, StandsBefore, changeset_kind, entry_numbers, entry_spelling}
 use Rattle.cs_wire.specs.Laws.{TellsSomething}
 use Rattle.cs_wire.specs.Numbers.{four_bytes, eight_bytes}
 use Rattle.cs_wire.specs.OneSpelling.{after_four, after_eight, numbers_more}
 use Rattle.cs_wire.specs.declared.answer.Answer.{Answer}
-use Rattle.cs_wire.specs.declared.answer.Answer.TheVariants.{Short, Entries}
+use Rattle.cs_wire.specs.declared.answer.Answer.TheVariants.{Short, Entries, Merged}
 use Rattle.cs_wire.specs.declared.fault.WireFault.{WireFault}
 use Rattle.cs_wire.specs.declared.fault.WireFault.TheVariants.{Truncated, BadTag, TooLong, BadKind}
 use Rattle.cs_wire.specs.declared.short_answer.ShortAnswer.{ShortAnswer}
 use Rattle.cs_wire.specs.declared.short_answer.ShortAnswer.TheVariants.{Accepted, Stale, Refused}
-use Rattle.cs_wire.proofs.Begins.{begins_four, begins_eight, small_drop}
+use Rattle.cs_wire.proofs.Begins.{begins_four, begins_eight, begins_sized, small_drop}
 
 -- ---- an entry
 
@@ -123,7 +123,7 @@ TellsIt bytes = (told : Result Answer WireFault) × ReadsAnswer bytes told
 
 ended_short : (answer : ShortAnswer) (more : List ℕ) → FitsShort answer → TellsIt (short_before answer more)
 ended_short answer [] fits = (Ok (Short answer), (fits, refl))
-ended_short answer (b ∷ more) fits = (Err TooLong, inl (answer, b ∷ more, fits, refl, omega arith))
+ended_short answer (b ∷ more) fits = (Err TooLong, inl (inl (answer, b ∷ more, fits, refl, omega arith)))
 
 tells_accepted : (rest : List ℕ) → AreBytes rest → TellsIt (accepted_tag ∷ rest)
 tells_accepted rest small =
@@ -169,7 +169,7 @@ numbered first count behind fits (Err fault, wrong) = (Err fault, numbered_wrong
 tells_entries : (rest : List ℕ) → AreBytes rest → TellsIt (entries_tag ∷ rest)
 tells_entries rest small =
     elim (cases_lt (length rest) 12) [
-      | inl few ↦ (Err Truncated, inl (inr (inr (inr (inr (rest, refl, few))))))
+      | inl few ↦ (Err Truncated, inl (inr (inr (inr (inr (inl (rest, refl, few)))))))
       | inr long ↦
           let first = begins_eight rest small (omega (arith, long)) in
           let count = begins_four first.rest first.small (omega (arith, after_eight rest first.rest first.number first.is)) in
@@ -177,6 +177,28 @@ tells_entries rest small =
           first.is ∙ ap (λ (r : List ℕ). eight_bytes first.number ++ r) count.is in
           subst (λ (r : List ℕ). TellsIt (entries_tag ∷ r)) (sym is)
           (numbered first.number count.number count.rest (first.fits, count.fits) (finds_entries count.number count.rest count.small))
+    ]
+
+sized_merged : (origin first next size : ℕ) (part : List ℕ) → FitsMerged origin first next size → TellsIt (merged_tag ∷ merged_numbers origin first next size part)
+sized_merged origin first next size part fits =
+    elim (cases_lt (length part) size) [
+      | inl few ↦ (Err Truncated, inl (inr (inr (inr (inr (inr (inr (origin, first, next, size, part, fits, refl, few))))))))
+      | inr enough ↦ elim (cases_lt size (length part)) [
+        | inl many ↦ (Err TooLong, inl (inr (origin, first, next, size, part, fits, refl, many)))
+        | inr none ↦
+            let is : size ≡ length part = omega arith in
+            (Ok (Merged origin first next part), (subst (FitsMerged origin first next) is fits, ap (λ (n : ℕ). merged_tag ∷ merged_numbers origin first next n part) is))
+      ]
+    ]
+
+tells_merged : (rest : List ℕ) → AreBytes rest → TellsIt (merged_tag ∷ rest)
+tells_merged rest small =
+    elim (cases_lt (length rest) 24) [
+      | inl few ↦ (Err Truncated, inl (inr (inr (inr (inr (inr (inl (rest, refl, few))))))))
+      | inr long ↦
+          let begins = begins_sized rest small long in
+          subst (λ (r : List ℕ). TellsIt (merged_tag ∷ r)) (sym begins.is)
+          (sized_merged begins.origin begins.second begins.third begins.size begins.rest (record { origin_fits = begins.origin_fits; first_fits = begins.second_fits; next_fits = begins.third_fits; size_fits = begins.size_fits }))
     ]
 
 pub tells_something : TellsSomething
@@ -190,8 +212,11 @@ tells_something (tag ∷ rest) all =
           | inl (g, is) ↦ subst (λ (t : ℕ). TellsIt (t ∷ rest)) (sym is) (tells_refused rest (λ i. all (suc i)))
           | inr (g, no_refused) ↦ elim (eqb_tells tag entries_tag) [
             | inl (h, is) ↦ subst (λ (t : ℕ). TellsIt (t ∷ rest)) (sym is) (tells_entries rest (λ i. all (suc i)))
-            | inr (h, no_entries) ↦
-                (Err BadTag, (tag, rest, refl, record { no_accepted = no_accepted; no_stale = no_stale; no_refused = no_refused; no_entries = no_entries }))
+            | inr (h, no_entries) ↦ elim (eqb_tells tag merged_tag) [
+              | inl (i, is) ↦ subst (λ (t : ℕ). TellsIt (t ∷ rest)) (sym is) (tells_merged rest (λ i. all (suc i)))
+              | inr (i, no_merged) ↦
+                  (Err BadTag, (tag, rest, refl, record { no_accepted = no_accepted; no_stale = no_stale; no_refused = no_refused; no_entries = no_entries; no_merged = no_merged }))
+            ]
           ]
         ]
       ]

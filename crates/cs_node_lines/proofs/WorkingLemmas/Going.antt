@@ -4,7 +4,7 @@ use Rattle.std.specs.Prelude.{⊤, Option, Result, Ok, Err}
 use Rattle.std.specs.Io.KnownBytes.{Appends}
 use Rattle.std.proofs.KnownBytes.{Appends-nil}
 use Rattle.cs_node_lines.specs.declared.asks.ask.Ask.{Ask}
-use Rattle.cs_node_lines.specs.declared.asks.ask.Ask.TheVariants.{Answer, Dump, OnEdit, Pull, Push, Resend}
+use Rattle.cs_node_lines.specs.declared.asks.ask.Ask.TheVariants.{Answer, Catch, Dump, OnEdit, Pull, Push, Resend}
 use Rattle.cs_conflict.specs.declared.wish.Wish.{Wish}
 use Rattle.cs_replica.specs.member.Laws.{HearsKeepsId}
 use Rattle.cs_replica.specs.member.Member.{IsEditedTo, IsPushedTo, Member, member_of}
@@ -52,6 +52,7 @@ line_keeps_id keeps tables (OnEdit asked) had has before after text step = edite
 line_keeps_id keeps tables Push had has before after text step = pushed_keeps_id tables step.0 before after step.1
 line_keeps_id keeps tables Resend had has before after text step = id_at step.0
 line_keeps_id keeps tables (Pull limit) had has before after text step = id_at step.0
+line_keeps_id keeps tables (Catch limit) had has before after text step = id_at step.0
 line_keeps_id keeps tables (Answer bytes wishes) had has before after text step = answer_keeps_id keeps tables had has before after bytes wishes text step
 line_keeps_id keeps tables Dump had has before after text step = id_at step.0
 

@@ -1,7 +1,7 @@
 -- A line has one text at the same replica, and leaves the same replica.
 use Rattle.std.proofs.Common.{◌≡◌, ◌∙◌, ◌++◌, ℕ, List, [], ◌∷◌, Result, Ok, Err, refl, sym, ap, subst, inl, inr}
 use Rattle.cs_node_lines.specs.declared.asks.ask.Ask.{Ask}
-use Rattle.cs_node_lines.specs.declared.asks.ask.Ask.TheVariants.{Answer, Dump, OnEdit, Pull, Push, Resend}
+use Rattle.cs_node_lines.specs.declared.asks.ask.Ask.TheVariants.{Answer, Catch, Dump, OnEdit, Pull, Push, Resend}
 use Rattle.cs_conflict.specs.declared.wish.Wish.{Wish}
 use Rattle.cs_lines.specs.Lines.{hex_line}
 use Rattle.cs_replica.specs.member.Laws.{IsOfEdit, IsOfPushed, OneEdited, OneHeard, OnePushed, OneResent}
@@ -24,7 +24,7 @@ use Rattle.cs_value.specs.Catalog.{AreTables}
 use Rattle.cs_value.specs.declared.catalog.TableDef.{TableDef}
 use Rattle.cs_value.specs.declared.value.Value.{Value}
 use Rattle.cs_wire.specs.Laws.{OneToldAnswer}
-use Rattle.cs_wire.specs.Requests.{Asked, AsksPull, request_spelling}
+use Rattle.cs_wire.specs.Requests.{Asked, AsksCatch, AsksPull, request_spelling}
 use Rattle.cs_wire.specs.declared.answer.Answer.{Answer as Told_by}
 use Rattle.cs_wire.specs.declared.fault.WireFault.{WireFault}
 use Rattle.cs_wire.specs.declared.request.RequestBuf.{RequestBuf}
@@ -160,6 +160,12 @@ module _ (laws : Below) (tables : List TableDef) (are : AreTables tables) (had h
   )
   line_once (Pull limit) some other one last not never (still, inl is) (stays, inr memory) = absurd (never (inl memory))
   line_once (Pull limit) some other one last not never (still, inr memory) went = absurd (not (inl memory))
+  line_once (Catch limit) some other one last not never (still, inl is) (stays, inl so) = (
+    is ∙ (ap (λ (p : Position). hex_line (request_spelling (AsksCatch p.id p.version limit))) (sym same.position) ∙ sym so),
+    stays_same tables before its one last still stays same,
+  )
+  line_once (Catch limit) some other one last not never (still, inl is) (stays, inr memory) = absurd (never (inl memory))
+  line_once (Catch limit) some other one last not never (still, inr memory) went = absurd (not (inl memory))
   line_once (Answer bytes wishes) some other one last not never goes went = taken_once bytes wishes some other one last not never goes went
   line_once Dump some other one last not never (still, inl dumped) (stays, inl looked) = (dumped_once some other dumped looked, stays_same tables before its one last still stays same)
   line_once Dump some other one last not never (still, inl dumped) (stays, inr (fault, failed, so)) = absurd (store_tells fault other so never)
@@ -186,6 +192,7 @@ module _ (tables : List TableDef) (had has : ℕ) (before after : Member) (shown
   shown_after Push text (Err fault, (still, why), device, says) = still_shown still
   shown_after Resend text (still, says) = still_shown still
   shown_after (Pull limit) text (still, says) = still_shown still
+  shown_after (Catch limit) text (still, says) = still_shown still
   shown_after (Answer bytes wishes) text goes = taken_shown bytes wishes text goes
   shown_after Dump text (still, says) = still_shown still
 

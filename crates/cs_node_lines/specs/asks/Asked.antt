@@ -10,18 +10,18 @@ use Rattle.cs_text.specs.parse.Numbers.{small_in}
 use Rattle.cs_text.specs.parse.Wishes.{wishes_in}
 use Rattle.cs_text.specs.parse.Words.{words_in}
 use Rattle.cs_node_lines.specs.declared.asks.ask.Ask.{Ask}
-use Rattle.cs_node_lines.specs.declared.asks.ask.Ask.TheVariants.{Answer, Dump, Pull, Push, OnEdit, Resend}
+use Rattle.cs_node_lines.specs.declared.asks.ask.Ask.TheVariants.{Answer, Catch, Dump, Pull, Push, OnEdit, Resend}
 
 -- what no word may follow
 abbrev pub alone : Ask → List (List ℕ) → Option Ask
 alone ask [] = Some ask
 alone ask (word ∷ words) = None
 
--- `pull LIMIT`, behind its verb
-abbrev pub pull_in : List (List ℕ) → Option Ask
-pull_in [] = None
-pull_in (limit ∷ []) = option_map Pull (small_in limit)
-pull_in (limit ∷ word ∷ words) = None
+-- LIMIT, behind `pull` or `catch`
+abbrev pub limit_in : List (List ℕ) → Option ℕ
+limit_in [] = None
+limit_in (limit ∷ []) = small_in limit
+limit_in (limit ∷ word ∷ words) = None
 
 -- the bytes of a hex word
 abbrev pub decoded : Result (List ℕ) FromHexError → Option (List ℕ)
@@ -52,7 +52,8 @@ verb_in tables verb words =
     if bytes_eq verb (codes "edit") then option_map OnEdit (edit_in tables words)
     else if bytes_eq verb (codes "push") then alone Push words
     else if bytes_eq verb (codes "resend") then alone Resend words
-    else if bytes_eq verb (codes "pull") then pull_in words
+    else if bytes_eq verb (codes "pull") then option_map Pull (limit_in words)
+    else if bytes_eq verb (codes "catch") then option_map Catch (limit_in words)
     else if bytes_eq verb (codes "answer") then answer_in words
     else if bytes_eq verb (codes "dump") then alone Dump words
     else None
@@ -61,6 +62,6 @@ abbrev pub words_ask : List TableDef → List (List ℕ) → Option Ask
 words_ask tables [] = None
 words_ask tables (verb ∷ words) = verb_in tables verb words
 
--- what a line asks: an edit, `push`, `resend`, `pull LIMIT`, `answer HEX WISHES` or `dump`; none where it can't be read
+-- what a line asks: an edit, `push`, `resend`, `pull LIMIT`, `catch LIMIT`, `answer HEX WISHES` or `dump`; none where it can't be read
 abbrev pub ask_in : List TableDef → List ℕ → Option Ask
 ask_in tables line = words_ask tables (words_in line)

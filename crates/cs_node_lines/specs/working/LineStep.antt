@@ -2,7 +2,7 @@
 -- stands, its rows and its pending changes. Where a failed device is told, the store's count of failures rose: from `had` to `has`.
 use Rattle.std.specs.Prelude.{◌≡◌, ◌⊎◌, ◌≤◌, ◌++◌, ℕ, List, [], ◌∷◌, Result, Err, codes}
 use Rattle.cs_node_lines.specs.declared.asks.ask.Ask.{Ask}
-use Rattle.cs_node_lines.specs.declared.asks.ask.Ask.TheVariants.{Answer, Dump, OnEdit, Pull, Push, Resend}
+use Rattle.cs_node_lines.specs.declared.asks.ask.Ask.TheVariants.{Answer, Catch, Dump, OnEdit, Pull, Push, Resend}
 use Rattle.cs_conflict.specs.declared.wish.Wish.{Wish}
 use Rattle.cs_lines.specs.Lines.{hex_line}
 use Rattle.cs_replica.specs.member.Member.{Hears, IsEditedTo, IsPushedTo, IsResent, Member}
@@ -20,7 +20,7 @@ use Rattle.cs_text.specs.Text.{line}
 use Rattle.cs_node_lines.specs.told.Dump.{AreRowLines, replica_text}
 use Rattle.cs_value.specs.declared.catalog.TableDef.{TableDef}
 use Rattle.cs_wire.specs.Answers.{FitsAnswer, IsAnswerFault, answer_spelling}
-use Rattle.cs_wire.specs.Requests.{AsksPull, request_spelling}
+use Rattle.cs_wire.specs.Requests.{AsksCatch, AsksPull, request_spelling}
 use Rattle.cs_wire.specs.declared.answer.Answer.{Answer as Told_by}
 use Rattle.cs_wire.specs.declared.fault.WireFault.{WireFault}
 use Rattle.cs_wire.specs.declared.request.RequestBuf.{RequestBuf}
@@ -53,6 +53,9 @@ LineStep tables had has before Resend text after =
     (after ≡ before) × (((result : Result RequestBuf PushFault) × IsResent result before.position × (text ≡ pushed_text result)) ⊎ SaysMemory text)
 LineStep tables had has before (Pull limit) text after =
     (after ≡ before) × ((text ≡ hex_line (request_spelling (AsksPull before.position.version limit))) ⊎ SaysMemory text)
+LineStep tables had has before (Catch limit) text after =
+    (after ≡ before)
+    × ((text ≡ hex_line (request_spelling (AsksCatch before.position.id before.position.version limit))) ⊎ SaysMemory text)
 LineStep tables had has before (Answer bytes wishes) text after = TakesAnswer tables had has before bytes wishes text after
 LineStep tables had has before Dump text after =
     (after ≡ before) × (IsDumped tables before text ⊎ ((fault : StoreFault) × (fault ≡ stored.Device → MoreFailures had has) × (text ≡ refused_text (store_fault_text fault))))

@@ -1,7 +1,7 @@
 //! What a line asks.
 
 ghost use Rattle.std.specs.Prelude.{◌≡◌, IfOk};
-ghost use Rattle.cs_node_lines.specs.asks.Asked.{alone, answer_in, ask_in, hex_in, pull_in, verb_in};
+ghost use Rattle.cs_node_lines.specs.asks.Asked.{alone, answer_in, ask_in, hex_in, limit_in, verb_in};
 
 use cs_conflict::Wish;
 use cs_text::parse::{Words, is_word, read_edit, read_wishes, small};
@@ -20,6 +20,8 @@ pub enum Ask {
     Resend,
     /// Entries of the hub's log are asked for, so many at most: `pull LIMIT`.
     Pull(u32),
+    /// What entries of the hub's log do together is asked for, so many at most: `catch LIMIT`.
+    Catch(u32),
     /// The hub's answer, in its bytes, with wishes that are used one a clash: `answer HEX WISHES`.
     Answer {
         /// The bytes.
@@ -68,7 +70,16 @@ fn read_verb(
         return Ok(alone(Ask::Resend, words));
     }
     if is_word(verb, b"pull") {
-        return Ok(read_pull(words));
+        return match read_limit(words) {
+            Some(limit) => Ok(Some(Ask::Pull(limit))),
+            None => Ok(None),
+        };
+    }
+    if is_word(verb, b"catch") {
+        return match read_limit(words) {
+            Some(limit) => Ok(Some(Ask::Catch(limit))),
+            None => Ok(None),
+        };
     }
     if is_word(verb, b"answer") {
         return read_answer(alloc, words);
@@ -86,17 +97,15 @@ fn alone(ask: Ask, words: &Words<'_>) -> Option<Ask>
     if words.is_at_end() { Some(ask) } else { None }
 }
 
-fn read_pull(words: &mut Words<'_>) -> Option<Ask>
-    ensures { result ≡ pull_in words.old }
+// How many entries at most, where no word follows.
+fn read_limit(words: &mut Words<'_>) -> Option<u32>
+    ensures { result ≡ limit_in words.old }
 {
     let limit = words.next()?;
     if !words.is_at_end() {
         return None;
     }
-    match small(limit) {
-        Some(limit) => Some(Ask::Pull(limit)),
-        None => None,
-    }
+    small(limit)
 }
 
 fn read_answer(alloc: Global, words: &mut Words<'_>) -> Result<Option<Ask>, Memory>

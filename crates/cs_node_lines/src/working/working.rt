@@ -84,6 +84,18 @@ fn pull_line<S: RowStore>(alloc: Global, replica: &Replica<S>, limit: u32) -> Re
     asked(alloc, &RequestBuf::Pull { first, limit })
 }
 
+fn catch_line<S: RowStore>(alloc: Global, replica: &Replica<S>, id: u32, limit: u32) -> Reply
+    ensures { (had : ℕ) → (has : ℕ) → (before : Member) → before.position ≡ replica.now.position → IsStep id replica.now.catalog (line.Catch limit) (reply_text result) had has before before }
+{
+    let first = replica.version();
+    let request = RequestBuf::Catch {
+        origin: id,
+        first,
+        limit,
+    };
+    asked(alloc, &request)
+}
+
 /// Puts what became of an answer behind a text.
 fn put_heard(told: Result<Told, AnswerFault>, version: u64, text: &mut String) -> Result<(), Memory>
     ensures { OnOk result (string_bytes text.new ≡ string_bytes text.old ++ heard_text told version) }
@@ -145,6 +157,7 @@ pub(crate) fn work_ask<S: RowStore>(
         Ask::Push => push_line(alloc, replica),
         Ask::Resend => Ok(resend_line(alloc, replica)),
         Ask::Pull(limit) => Ok(pull_line(alloc, replica, *limit)),
+        Ask::Catch(limit) => Ok(catch_line(alloc, replica, id, *limit)),
         Ask::Answer { bytes, wishes } => {
             answer_line(alloc, replica, bytes.as_slice(), wishes.as_slice())
         }

@@ -1,5 +1,5 @@
 use Rattle.cs_node_lines.specs.declared.asks.ask.Ask.TheVariants as line
-use Rattle.cs_node_lines.proofs.WorkingLemmas.Made.{replies_made, replies_still}
+use Rattle.cs_node_lines.proofs.WorkingLemmas.Made.{replies_made, replies_placed, replies_still}
 use Rattle.cs_node_lines.proofs.working.working.work_ask.Goals as goal
 
 pub returns-in-Push : goal.returns-in-Push
@@ -18,3 +18,7 @@ returns-in-Answer g c =
 pub returns-in-Pull : goal.returns-in-Pull
 returns-in-Pull g c =
     rw c.in-Pull.is (replies_still g.S.RowStore c.args.id (line.Pull c.in-Pull.limit) c.pull_line.result c.args.replica.now c.pull_line.ensures)
+
+pub returns-in-Catch : goal.returns-in-Catch
+returns-in-Catch g c =
+    rw c.in-Catch.is (replies_placed g.S.RowStore c.args.id (line.Catch c.in-Catch.limit) c.catch_line.result c.args.replica.now c.catch_line.ensures)
