@@ -8,4 +8,4 @@ use Rattle.cs_wire.proofs.answer.read_stale.Goals as goal
 pub returns-then-not-is_empty : goal.returns-then-not-is_empty
 returns-then-not-is_empty c =
     let some : 0 < length c.in-Some.more.now = grind (arith, nat_tests, c.if-not-is_empty.true, c.is_empty.ensures) in
-    inl (Stale c.in-Some.newest, c.in-Some.more.now, search rules, ap (λ (t : List ℕ). stale_tag ∷ t) c.in-Some.ensures, some)
+    inl (inl (Stale c.in-Some.newest, c.in-Some.more.now, search rules, ap (λ (t : List ℕ). stale_tag ∷ t) c.in-Some.ensures, some))
