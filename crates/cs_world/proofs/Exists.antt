@@ -38,10 +38,11 @@ use Rattle.cs_exchange.specs.pushing.Laws.{IsOfPush}
 use Rattle.cs_exchange.specs.pushing.Pushes.{grounded, pushed as pushed_position, request_of}
 use Rattle.cs_exchange.specs.declared.pushing.fault.PushFault.{PushFault}
 use Rattle.cs_exchange.specs.declared.pushing.fault.PushFault.TheVariants as pushing
-use Rattle.cs_replica.specs.Answered.{Answers}
+use Rattle.cs_replica.specs.Answered.{Answers, TellsMerged}
 use Rattle.cs_replica.specs.Edited.{with_pending}
 use Rattle.cs_replica.specs.Laws.{AnswerHasResult, IsInBytes, IsOfAnswer}
 use Rattle.cs_replica.specs.declared.told.Told.{Told}
+use Rattle.cs_replica.specs.declared.told.Told.TheVariants as heard_as
 use Rattle.cs_store.specs.Contents.{Contents}
 use Rattle.cs_exchange.specs.taking.Laws.{AnswersLawfully}
 use Rattle.cs_value.specs.declared.catalog.TableDef.{TableDef}
@@ -231,6 +232,21 @@ push_well head (Err fault) not is = refusal_well fault (λ e. not (ap (λ (f : H
 entries_well : (first : ℕ) (entries : List ToldEntry) → answer_spelling (Entries first entries) ≡ answer_spelling (Short (Refused device_code)) → ⊥
 entries_well first entries is = let tags = same_first 20 19 _ _ is in omega (arith, tags)
 
+-- what entries that were taken together leave is shown
+shown_together : (tables : List TableDef) (origin first next : ℕ) (changeset : List ℕ) (result : Result Told AnswerFault) (position : Position) (before : View) (p : List Wish) (other : Position) (new : Contents) (q : List Wish)
+    → TellsMerged IsWished tables origin first next changeset result position before p other new q → (view : View) × ShowsAt tables new other view
+shown_together tables origin first next changeset (Ok (heard_as.Confirmed newest)) position before p other new q t = absurd t
+shown_together tables origin first next changeset (Ok heard_as.Ignored) position before p other new q (not, same, keeps) = (before, keeps.0)
+shown_together tables origin first next changeset (Ok (heard_as.Stale newest)) position before p other new q t = absurd t
+shown_together tables origin first next changeset (Ok (heard_as.Refused code)) position before p other new q t = absurd t
+shown_together tables origin first next changeset (Ok (heard_as.Taken count)) position before p other new q (mine, inl (none, zero, same, keeps)) = (before, keeps.0)
+shown_together tables origin first next changeset (Ok (heard_as.Taken count)) position before p other new q (mine, inr (above, (sum, changes, after, form, moved, shows, takes))) = (after, shows)
+shown_together tables origin first next changeset (Ok (heard_as.Stopped count)) position before p other new q (mine, above, (none, changes, conflict, form, stops, (same, shows))) = (before, rw same shows)
+shown_together tables origin first next changeset (Err (hearing.Memory count)) position before p other new q (mine, above, (none, (same, shows))) = (before, rw same shows)
+shown_together tables origin first next changeset (Err (hearing.Device count)) position before p other new q (mine, above, (none, (same, shows))) = (before, rw same shows)
+shown_together tables origin first next changeset (Err (hearing.BadEntry count)) position before p other new q (mine, inl (below, zero, same, keeps)) = (before, keeps.0)
+shown_together tables origin first next changeset (Err (hearing.BadEntry count)) position before p other new q (mine, inr (above, (none, bad, unasked, (same, shows)))) = (before, rw same shows)
+
 -- what an answer leaves is shown
 shown_view : (tables : List TableDef) (answer : Answer) (result : Result Told AnswerFault) (position : Position) (before : View) (p : List Wish) (other : Position) (new : Contents) (q : List Wish)
     → Answers IsWished tables answer result position before p other new q → (view : View) × ShowsAt tables new other view
@@ -238,6 +254,8 @@ shown_view tables (Short (short.Accepted origin number version)) result position
 shown_view tables (Short (short.Stale newest)) result position before p other new q (is, same, keeps) = (before, keeps.0)
 shown_view tables (Short (short.Refused code)) result position before p other new q (is, same, keeps) = (before, keeps.0)
 shown_view tables (Entries first entries) result position before p other new q (pulled, is, list) = (list.0, list.3)
+shown_view tables (Merged origin first next changeset) result position before p other new q tells =
+    shown_together tables origin first next changeset result position before p other new q tells
 
 module _ (laws : Below) (limit : ℕ) (small : limit < 2 ^ 32) (world : World) (s : IsSound limit world) where
   abbrev the_hub : HubState

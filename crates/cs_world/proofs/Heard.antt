@@ -38,7 +38,7 @@ use Rattle.cs_exchange.specs.declared.pulling.listing.Pulled.{Pulled}
 use Rattle.cs_exchange.specs.declared.pulling.listing.Pulled.TheVariants as pulled
 use Rattle.cs_exchange.specs.pushing.Pushes.{confirmed}
 use Rattle.cs_replica.specs.Accepted.{IsAccepted}
-use Rattle.cs_replica.specs.Answered.{Answers, TellsAccepted, told_of}
+use Rattle.cs_replica.specs.Answered.{Answers, IsForIt, TellsAccepted, TellsMerged, told_of}
 use Rattle.cs_replica.specs.Laws.{EntryStands, FlightFits, KeptStands, LeadStands}
 use Rattle.cs_replica.specs.Stands.{StandsOn}
 use Rattle.cs_replica.specs.declared.told.Told.{Told}
@@ -304,6 +304,9 @@ module _ (laws : Below) (limit : ℕ) (small : limit < 2 ^ 32) (world : World) (
         good_list (Err (fault.Device count)) e stands n is = cc
         good_list (Err (fault.BadEntry count)) e stands n is = absurd (none_bad first entries part other end stands e.0)
 
+    still_left : (result : Result Told AnswerFault) (other : Position) (left : Contents) → IsGood (heard result) → other ≡ before.position → ShowsAt world.tables left other before.view → IsLeft result other left
+    still_left result other left good same shows = record { end = before.view; shows = shows; on = kept_on other same; good = good }
+
     merged_left : (origin next : ℕ) (bytes : List ℕ) (wishes unused : List Wish) (result : Result Pulled AnswerFault) (other : Position) (left : Contents)
         → AreOthersAsOne world.tables world.log origin before.position.version next bytes
         → TakesTold IsWished world.tables next bytes result before.position before.view wishes other left unused
@@ -317,13 +320,35 @@ module _ (laws : Below) (limit : ℕ) (small : limit < 2 ^ 32) (world : World) (
           good = λ n e. cc;
         }
     merged_left origin next bytes wishes unused (Ok (pulled.Stopped count)) other left is (none, changes, conflict, read, stops, (same, shows)) =
-        record { end = before.view; shows = subst (λ (o : Position). ShowsAt world.tables left o before.view) (sym same) shows; on = kept_on other same; good = λ n e. cc }
+        still_left (told_of (Ok (pulled.Stopped count))) other left (λ n e. cc) same (subst (λ (o : Position). ShowsAt world.tables left o before.view) (sym same) shows)
     merged_left origin next bytes wishes unused (Err (fault.Memory count)) other left is (none, (same, shows)) =
-        record { end = before.view; shows = subst (λ (o : Position). ShowsAt world.tables left o before.view) (sym same) shows; on = kept_on other same; good = λ n e. cc }
+        still_left (Err (fault.Memory count)) other left (λ n e. cc) same (subst (λ (o : Position). ShowsAt world.tables left o before.view) (sym same) shows)
     merged_left origin next bytes wishes unused (Err (fault.Device count)) other left is (none, (same, shows)) =
-        record { end = before.view; shows = subst (λ (o : Position). ShowsAt world.tables left o before.view) (sym same) shows; on = kept_on other same; good = λ n e. cc }
+        still_left (Err (fault.Device count)) other left (λ n e. cc) same (subst (λ (o : Position). ShowsAt world.tables left o before.view) (sym same) shows)
     merged_left origin next bytes wishes unused (Err (fault.BadEntry count)) other left is (none, bad, unasked, stays) =
         absurd (bad (is.changes, own_form origin next bytes before.position before.view is p.stands, defined_there origin next bytes before.position before.view is p.stands))
+
+    together_left : (origin first next : ℕ) (bytes : List ℕ) (wishes unused : List Wish) (result : Result Told AnswerFault) (other : Position) (left : Contents)
+        → AreOthersAsOne world.tables world.log origin first next bytes
+        → TellsMerged IsWished world.tables origin first next bytes result before.position before.view wishes other left unused
+        → IsLeft result other left
+    together_left origin first next bytes wishes unused result other left is tells = by result tells
+      where
+        there : IsForIt before.position origin first → AreOthersAsOne world.tables world.log origin before.position.version next bytes
+        there mine = subst (λ (v : ℕ). AreOthersAsOne world.tables world.log origin v next bytes) mine.1 is
+
+        by : (result : Result Told AnswerFault) → TellsMerged IsWished world.tables origin first next bytes result before.position before.view wishes other left unused → IsLeft result other left
+        by (Ok (told.Confirmed newest)) t = absurd t
+        by (Ok told.Ignored) (not, same, (shows, asked)) = still_left (Ok told.Ignored) other left (λ n e. cc) same shows
+        by (Ok (told.Stale newest)) t = absurd t
+        by (Ok (told.Refused code)) t = absurd t
+        by (Ok (told.Taken count)) (mine, inl (none, zero, same, (shows, asked))) = still_left (Ok (told.Taken count)) other left (λ n e. cc) same shows
+        by (Ok (told.Taken count)) (mine, inr (above, takes)) = merged_left origin next bytes wishes unused (Ok (pulled.Taken count)) other left (there mine) takes
+        by (Ok (told.Stopped count)) (mine, above, takes) = merged_left origin next bytes wishes unused (Ok (pulled.Stopped count)) other left (there mine) takes
+        by (Err (fault.Memory count)) (mine, above, takes) = merged_left origin next bytes wishes unused (Err (fault.Memory count)) other left (there mine) takes
+        by (Err (fault.Device count)) (mine, above, takes) = merged_left origin next bytes wishes unused (Err (fault.Device count)) other left (there mine) takes
+        by (Err (fault.BadEntry count)) (mine, inl (below, zero, same, keeps)) = let rising = is.rising in absurd (omega (arith, below, rising))
+        by (Err (fault.BadEntry count)) (mine, inr (above, takes)) = merged_left origin next bytes wishes unused (Err (fault.BadEntry count)) other left (there mine) takes
 
     left_by : (answer : Answer) (wishes unused : List Wish) (result : Result Told AnswerFault) (other : Position) (left : Contents) → IsTrueAnswer world answer
         → Answers IsWished world.tables answer result before.position before.view wishes other left unused
@@ -348,6 +373,7 @@ module _ (laws : Below) (limit : ℕ) (small : limit < 2 ^ 32) (world : World) (
     }
     left_by (Entries first entries) wishes unused result other left t (list, is, pulls) =
         subst (λ (x : Result Told AnswerFault). IsLeft x other left) (sym is) (list_left first entries wishes unused list other left t pulls)
+    left_by (Merged origin first next changeset) wishes unused result other left t tells = together_left origin first next changeset wishes unused result other left t tells
 
     -- where the replica is placed after it
     pub hears_on : (answer : Answer) (wishes : List Wish) (result : Result Told AnswerFault) (after : Member) → IsTrueAnswer world answer → Hears world.tables before answer wishes result after

@@ -1,5 +1,5 @@
 -- What a stop leaves of a world's stores: what a failed commit may have left is what a step makes, and that goes on.
-use Rattle.std.proofs.Common.{◌≡◌, ◌∙◌, ◌++◌, ◌<◌, ◌^◌, ℕ, List, [], ◌∷◌, Some, Ok, Err, length, slice_get, slice_set, refl, sym, ap, subst, inl, inr, append-nil, length-append, arith}
+use Rattle.std.proofs.Common.{◌≡◌, ◌∙◌, ◌++◌, ◌+◌, ◌-◌, ◌<◌, ◌^◌, ℕ, List, [], ◌∷◌, Some, Ok, Err, length, slice_get, slice_set, refl, sym, ap, subst, inl, inr, append-nil, length-append, arith}
 use Rattle.std.specs.Prelude.{◌⊎◌, Result, Vec}
 use Rattle.std.specs.declared.alloc.Global.{Global}
 use Rattle.std.specs.FinMap.{len}
@@ -28,6 +28,7 @@ use Rattle.cs_pending.specs.position.Laws.{FitsPosition}
 use Rattle.cs_pending.specs.position.Shows.{ShowsAt}
 use Rattle.cs_pending.specs.declared.position.position.Position.{Position}
 use Rattle.cs_exchange.specs.pushing.Pushes.{confirmed, grounded, pushed, request_of}
+use Rattle.cs_exchange.specs.taking.Takes.{brought}
 use Rattle.cs_store.specs.Contents.{Contents, log_count}
 use Rattle.cs_store.specs.declared.names.MetaName.TheVariants.{Pending}
 use Rattle.cs_store.specs.declared.store.RowStore.{Ghosts}
@@ -35,7 +36,7 @@ use Rattle.cs_wire.specs.Answers.{answer_spelling}
 use Rattle.cs_wire.specs.Laws.{OneToldAnswer}
 use Rattle.cs_wire.specs.Requests.{Asked, request_spelling}
 use Rattle.cs_wire.specs.declared.answer.Answer.{Answer}
-use Rattle.cs_wire.specs.declared.answer.Answer.TheVariants.{Entries, Short}
+use Rattle.cs_wire.specs.declared.answer.Answer.TheVariants.{Entries, Merged, Short}
 use Rattle.cs_wire.specs.declared.short_answer.ShortAnswer.TheVariants.{Accepted, Refused, Stale}
 use Rattle.cs_conflict.specs.wish_list.Wished.{IsWished}
 use Rattle.cs_world.specs.Laws.{AnswersFit, SoundHasHeadline, StepsAreSound}
@@ -89,6 +90,19 @@ found_is_step limit r world before old left event was shown (found.pulled {k = k
       shows = o.4;
     } in
     (after, [], told.NotHeard (fault.Device 1), subst (λ (n : World). Step limit world (Deliver k wishes) (told.NotHeard (fault.Device 1)) n) (quiet world r after) (step.hears there was hears), o.4)
+found_is_step limit r world before old left event was shown (found.merged {k = k} {origin = origin} {first = first} {next = next} {changeset = changeset} {wishes = wishes} there mine above took) =
+    let m = took.3 before.view shown in
+    let at = mine.1 in
+    let count : ℕ = next - before.position.version in
+    let sum : before.position.version + count ≡ next = omega (arith, at, above) in
+    let after : Member = record { position = brought before.position next (len left.pending); view = m.0 } in
+    let hears : Hears world.tables before (Merged origin first next changeset) wishes (Ok (what.Taken count)) after = record {
+      left = left;
+      unused = took.1;
+      answers = (mine, inr (above, (sum, took.0, m.0, took.2, refl, m.1, m.2)));
+      shows = m.1;
+    } in
+    (after, [], told.Heard (what.Taken count), subst (λ (n : World). Step limit world (Deliver k wishes) (told.Heard (what.Taken count)) n) (quiet world r after) (step.hears there was hears), m.1)
 
 pub found_is_step_of_hub : AnswersFit → FoundIsStepOfHub
 found_is_step_of_hub law limit world wishes old left would small sound shown =
@@ -163,6 +177,8 @@ would_leave_on w w2 r position old left event on (found.confirmed {k = k} {origi
     found.confirmed (on.messages k (Tells r (Short (Accepted origin number version))) there) accepted (rw on.tables made)
 would_leave_on w w2 r position old left event on (found.pulled {k = k} {first = first} {entries = entries} there one) =
     found.pulled (on.messages k (Tells r (Entries first entries)) there) (rw on.tables one)
+would_leave_on w w2 r position old left event on (found.merged {k = k} {origin = origin} {first = first} {next = next} {changeset = changeset} there mine above took) =
+    found.merged (on.messages k (Tells r (Merged origin first next changeset)) there) mine above (rw on.tables took)
 
 would_serve_on : (w w2 : World) (limit : ℕ) (old left : Contents) → HasGoneOn w w2 → WouldServe limit w old left → WouldServe limit w2 old left
 would_serve_on w w2 limit old left on would = record {
@@ -180,6 +196,7 @@ next_of_answer world k r (Short (Accepted origin number version)) position now l
 next_of_answer world k r (Short (Stale newest)) position now left there next = absurd next
 next_of_answer world k r (Short (Refused code)) position now left there next = absurd next
 next_of_answer world k r (Entries first entries) position now left there (p, one) = (Deliver k p, found.pulled there one)
+next_of_answer world k r (Merged origin first next changeset) position now left there (mine, above, (p, took)) = (Deliver k p, found.merged there mine above took)
 
 module _ {S : Type 0} (g : Ghosts S) (limit : ℕ) where
   replica_on : (world next : World) (r : ℕ) (position : Position) (store : S) → HasGoneOn world next → LeavesReplica g world r position store → LeavesReplica g next r position store

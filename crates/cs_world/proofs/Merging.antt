@@ -33,9 +33,10 @@ use Rattle.cs_exchange.specs.declared.pulling.fault.AnswerFault.TheVariants as f
 use Rattle.cs_exchange.specs.declared.pulling.listing.Pulled.{Pulled}
 use Rattle.cs_exchange.specs.declared.pulling.listing.Pulled.TheVariants as pulled
 use Rattle.cs_rebaser.specs.Merge.{MergesOneSide, merge}
-use Rattle.cs_replica.specs.Answered.{told_of}
+use Rattle.cs_replica.specs.Answered.{IsForIt, TellsMerged, told_of}
 use Rattle.cs_replica.specs.Stands.{StandsOn}
 use Rattle.cs_replica.specs.declared.told.Told.{Told}
+use Rattle.cs_replica.specs.declared.told.Told.TheVariants as told
 use Rattle.cs_store.specs.Contents.{Contents}
 use Rattle.cs_exchange.specs.taking.Takes.{IsTaken, TakeAll, brought, taken}
 use Rattle.cs_wire.specs.Entries.{ToldEntry}
@@ -292,6 +293,40 @@ module _ (laws : Below) (limit : ℕ) (small : limit < 2 ^ 32) (world : World) (
     takes_so left unused (Err (fault.Memory count)) is above now (none, (same, shows)) = nothing_taken left count none now same shows
     takes_so left unused (Err (fault.Device count)) is above now (none, (same, shows)) = nothing_taken left count none now same shows
     takes_so left unused (Err (fault.BadEntry count)) is above now (none, bad, unasked, (same, shows)) = nothing_taken left count none now same shows
+
+    tells_so : (left : Contents) (unused : List Wish) (result : Result Told AnswerFault) → ShowsAt world.tables left after.position after.view
+        → TellsMerged IsWished world.tables origin first next changeset result before.position before.view wishes after.position left unused
+        → CatchesAsMerge world next (count_in (heard result)) changeset wishes before after
+    tells_so left unused result now tells = by result tells
+      where
+        there : IsForIt before.position origin first → AreOthersAsOne world.tables world.log before.position.id before.position.version next changeset
+        there mine =
+            subst (λ (o : ℕ). AreOthersAsOne world.tables world.log o before.position.version next changeset) mine.0
+            (subst (λ (v : ℕ). AreOthersAsOne world.tables world.log origin v next changeset) mine.1 (s.true k (Tells r (Merged origin first next changeset)) said))
+
+        over : IsForIt before.position origin first → first < next → before.position.version < next
+        over mine above = let at = mine.1 in omega (arith, at, above)
+
+        by : (result : Result Told AnswerFault) → TellsMerged IsWished world.tables origin first next changeset result before.position before.view wishes after.position left unused
+            → CatchesAsMerge world next (count_in (heard result)) changeset wishes before after
+        by (Ok (told.Confirmed newest)) t = absurd t
+        by (Ok told.Ignored) (not, same, (shows, asked)) = stays_so left same shows now
+        by (Ok (told.Stale newest)) t = absurd t
+        by (Ok (told.Refused code)) t = absurd t
+        by (Ok (told.Taken count)) (mine, inl (none, zero, same, (shows, asked))) =
+            subst (λ (n : ℕ). CatchesAsMerge world next n changeset wishes before after) (sym zero) (stays_so left same shows now)
+        by (Ok (told.Taken count)) (mine, inr (above, takes)) = takes_so left unused (Ok (pulled.Taken count)) (there mine) (over mine above) now takes
+        by (Ok (told.Stopped count)) (mine, above, takes) = takes_so left unused (Ok (pulled.Stopped count)) (there mine) (over mine above) now takes
+        by (Err (fault.Memory count)) (mine, above, takes) = takes_so left unused (Err (fault.Memory count)) (there mine) (over mine above) now takes
+        by (Err (fault.Device count)) (mine, above, takes) = takes_so left unused (Err (fault.Device count)) (there mine) (over mine above) now takes
+        by (Err (fault.BadEntry count)) (mine, inl (below, zero, same, (shows, asked))) =
+            subst (λ (n : ℕ). CatchesAsMerge world next n changeset wishes before after) (sym zero) (stays_so left same shows now)
+        by (Err (fault.BadEntry count)) (mine, inr (above, takes)) = takes_so left unused (Err (fault.BadEntry count)) (there mine) (over mine above) now takes
+
+    catches_so_far : (outcome : Outcome) → IsHeard k r (Merged origin first next changeset) wishes before after said was outcome → CatchesAsMerge world next (count_in outcome) changeset wishes before after
+    catches_so_far outcome (inl (is, same)) = subst (λ (o : Outcome). CatchesAsMerge world next (count_in o) changeset wishes before after) (sym is) (same_so same)
+    catches_so_far outcome (inr (result, is, hears)) =
+        subst (λ (o : Outcome). CatchesAsMerge world next (count_in o) changeset wishes before after) (sym is) (tells_so hears.left hears.unused result hears.shows hears.answers)
 
 pub pulls_merge : Below → PullsMerge
 pulls_merge laws limit k r first entries wishes outcome old new before after small s said was now step =

@@ -1,5 +1,5 @@
 -- What a stop may leave of the stores of a world, and what these show then (profile of this project).
-use Rattle.std.specs.Prelude.{◌≡◌, ◌⊎◌, ◌++◌, ℕ, List, Option, Some, slice_get, slice_set}
+use Rattle.std.specs.Prelude.{◌≡◌, ◌⊎◌, ◌<◌, ◌++◌, ℕ, List, Option, Some, slice_get, slice_set}
 use Rattle.cs_value.specs.declared.catalog.TableDef.{TableDef}
 use Rattle.cs_value.specs.declared.edit.Edit.{Edit}
 use Rattle.cs_conflict.specs.declared.wish.Wish.{Wish}
@@ -10,6 +10,8 @@ use Rattle.cs_replica.specs.member.Member.{IsEditedBy}
 use Rattle.cs_replica.specs.Accepted.{IsAccepted}
 use Rattle.cs_replica.specs.Holding as replica
 use Rattle.cs_exchange.specs.pulling.Listed.{IsOneMoreIn}
+use Rattle.cs_exchange.specs.pulling.Merged.{IsToldTaken}
+use Rattle.cs_replica.specs.Answered.{IsForIt}
 use Rattle.cs_pending.specs.position.Shows.{ShowsAt}
 use Rattle.cs_pending.specs.declared.position.position.Position.{Position}
 use Rattle.cs_exchange.specs.pushing.Pushes.{IsConfirmedIn, IsPushMadeIn}
@@ -17,7 +19,7 @@ use Rattle.cs_store.specs.Contents.{Contents}
 use Rattle.cs_store.specs.declared.store.RowStore.{Ghosts}
 use Rattle.cs_wire.specs.Entries.{ToldEntry}
 use Rattle.cs_wire.specs.Requests.{Asked, request_spelling}
-use Rattle.cs_wire.specs.declared.answer.Answer.TheVariants.{Entries, Short}
+use Rattle.cs_wire.specs.declared.answer.Answer.TheVariants.{Entries, Merged, Short}
 use Rattle.cs_wire.specs.declared.short_answer.ShortAnswer.TheVariants.{Accepted}
 use Rattle.cs_conflict.specs.wish_list.Wished.{IsWished}
 use Rattle.cs_world.specs.Headline.{Headline}
@@ -72,6 +74,10 @@ pub data WouldLeave (world : World) (r : ℕ) (position : Position) (old left : 
   pulled : {k first : ℕ} {entries : List ToldEntry} {wishes : List Wish}
       → IsMessage world k (Tells r (Entries first entries))
       → IsOneMoreIn IsWished world.tables first entries position old wishes left
+      → WouldLeave world r position old left (Deliver k wishes)
+  merged : {k origin first next : ℕ} {changeset : List ℕ} {wishes : List Wish}
+      → IsMessage world k (Tells r (Merged origin first next changeset))
+      → IsForIt position origin first → first < next → IsToldTaken IsWished world.tables next changeset position wishes old left
       → WouldLeave world r position old left (Deliver k wishes)
 
 -- of the hub's store, a request that was sent
