@@ -54,17 +54,17 @@ fn read_push(rest: &[u8]) -> Result<Request<'_>, WireFault>
     let Some((origin, number, base, size, changeset)) = split_sized(rest) else {
         return Err(WireFault::Truncated);
     };
+    let head = PushHead {
+        origin,
+        number,
+        base,
+    };
     if changeset.len() < size as usize {
         return Err(WireFault::Truncated);
     }
     if changeset.len() > size as usize {
         return Err(WireFault::TooLong);
     }
-    let head = PushHead {
-        origin,
-        number,
-        base,
-    };
     Ok(Request::Push { head, changeset })
 }
 
