@@ -2,9 +2,9 @@
 # Times the proved library and SQLite's changegroup taking the same changesets together, 100 of 100 changes, 100 of 1,000 and
 # 1,000 of 1,000, and both taking one changeset back, in one run, and fails where they differ. Each takes its turn in a process of its own,
 # since what a call costs goes with the memory that was given back before it: the ratios are those of a call that follows others, and of
-# the first call of a process, which pays for fresh pages. Usage: bench/combine.sh [TURNS [tables]]
+# the first call of a process, which pays for fresh pages. Usage: bench/combine.sh [TURNS [tables|hot]]
 # With `tables` it times changesets that insert a row into each of many tables instead: of as many groups over 999, 100 and 10 tables,
-# and of twice and four times as many over 999.
+# and of twice and four times as many over 999. With `hot` it times 4,096 changesets of one change each, of 1,000 rows in turn.
 # The library is built where the environment's `library` names none.
 set -eu
 bench="$(cd "$(dirname "$0")" && pwd)"
@@ -53,6 +53,12 @@ if [ "$cases" = tables ]; then
     time_tables 100 999
     time_tables 200 999
     time_tables 400 999
+    exit 0
+fi
+
+if [ "$cases" = hot ]; then
+    "$out/sqlite_capture" hot 4096 1000 "$out/hot"
+    time_case "4,096 changesets of one change each taken together" together 6 "$out/hot"
     exit 0
 fi
 

@@ -4,6 +4,7 @@
  * sqlite_capture changes COUNT FILE            writes one changeset of COUNT changes of a table with four columns
  * sqlite_capture overlapping COUNT SIZE FILE   writes COUNT changesets of SIZE changes of that table one after another,
  *                                              and how long each is, one a line, into FILE.lengths
+ * sqlite_capture hot COUNT ROWS FILE           the same of COUNT changesets of one change each, to so many rows in turn
  * sqlite_capture tables COUNT TABLES FILE      the same of COUNT changesets that insert a row into each of TABLES tables
  *
  * No case has a REAL value: this project's profile of the format refuses them. */
@@ -237,6 +238,24 @@ static void capture_overlapping(long count, long size, const char *path) {
     close_items(&items);
 }
 
+/* COUNT changesets of one change each, of rows that are changed in turn. */
+static void capture_hot(long count, long rows, const char *path) {
+    struct captured captured = create_both(path);
+    struct items items = open_items();
+    struct slot *slots = calloc((size_t)rows, sizeof *slots);
+    if (!slots) fail(path, "no memory");
+    sqlite3_int64 next_id = 0;
+    renew(slots, 0, rows, &next_id);
+    for (long changeset = 0; changeset < count; changeset++) {
+        sqlite3_session *session = watch(items.db);
+        change_slots(&items, &slots[changeset % rows], 1);
+        append_with_length(&captured, items.db, session);
+    }
+    close_both(&captured, path);
+    free(slots);
+    close_items(&items);
+}
+
 /* Makes a table, and what inserts a row into it. */
 static sqlite3_stmt *new_table(sqlite3 *db, long number) {
     char sql[128];
@@ -283,10 +302,12 @@ int main(int count, char **words) {
         capture_changes(strtol(words[2], NULL, 10), words[3]);
     } else if (count == 5 && strcmp(mode, "overlapping") == 0) {
         capture_overlapping(strtol(words[2], NULL, 10), strtol(words[3], NULL, 10), words[4]);
+    } else if (count == 5 && strcmp(mode, "hot") == 0) {
+        capture_hot(strtol(words[2], NULL, 10), strtol(words[3], NULL, 10), words[4]);
     } else if (count == 5 && strcmp(mode, "tables") == 0) {
         capture_tables(strtol(words[2], NULL, 10), strtol(words[3], NULL, 10), words[4]);
     } else {
-        fprintf(stderr, "usage: sqlite_capture cases DIRECTORY | changes COUNT FILE | overlapping COUNT SIZE FILE | tables COUNT TABLES FILE\n");
+        fprintf(stderr, "usage: sqlite_capture cases DIRECTORY | changes COUNT FILE | overlapping COUNT SIZE FILE | hot COUNT ROWS FILE | tables COUNT TABLES FILE\n");
         return 2;
     }
     return 0;
