@@ -19,6 +19,7 @@ most = int(sys.argv[4]) if len(sys.argv) > 4 else 240
 FIRST = 60
 TABLE = "t1:10"
 INSERT = "54020100743100120001000000000000000103027631"
+UPDATE = "540201007431001700010000000000000001030276310003027632"
 
 
 class Wrong(Exception):
@@ -111,18 +112,19 @@ class Command:
 
 
 COMMANDS = [
-    # An edit, a push, its confirmation, another's entry, an edit.
+    # An edit, a push, its confirmation, another's entry, an edit, a catch, and what two entries do together.
     ("node", ["node", "@", "7", TABLE], [],
      ["edit insert t1 1 t=v1", "push", "answer 110000000700000000000000010000000000000001 -",
-      "answer 14000000000000000100000001000000000900000000000000010000001654020100743100120001000000000000000203027631 -", "edit update t1 1 t=v2"],
+      "answer 14000000000000000100000001000000000900000000000000010000001654020100743100120001000000000000000203027631 -", "edit update t1 1 t=v2", "catch 10",
+      "answer 1500000007000000000000000200000000000000040000001654020100743100120001000000000000000303027631 -"],
      ["dump", "resend", "push"], r"^(refused|fault) Memory"),
-    # Two pushes on the base 0, of which the second is stale, and a pull.
+    # Two pushes on the base 0, of which the second is stale, one more, a pull, and a catch of both entries by another replica.
     ("hub", ["hub", "--file", "@", TABLE], [],
      [f"01000000070000000000000001000000000000000000000016{INSERT}", f"01000000080000000000000001000000000000000000000016{INSERT}",
-      "0200000000000000000000000a"], ["02000000000000000000001000"], r"^1301$"),
-    # Edits of two replicas, a push that reaches the hub, a question for entries, and its answer.
+      f"0100000007000000000000000200000000000000010000001b{UPDATE}", "0200000000000000000000000a", "030000000900000000000000000000000a"], ["02000000000000000000001000"], r"^1301$"),
+    # Edits of two replicas, a push that reaches the hub, questions for entries and for what they do together, and the second's answer.
     ("world", ["world", "2", TABLE], [],
-     ["edit 0 insert t1 1 t=v1", "edit 1 insert t1 2 t=v2", "push 0", "deliver 0 -", "pull 1 10", "edit 0 update t1 1 t=v3"], [], r"Memory"),
+     ["edit 0 insert t1 1 t=v1", "edit 1 insert t1 2 t=v2", "push 0", "deliver 0 -", "pull 1 10", "edit 0 update t1 1 t=v3", "catch 1 10", "deliver 3 -", "deliver 4 -"], [], r"Memory"),
 ]
 
 failed = 0

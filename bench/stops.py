@@ -244,7 +244,7 @@ class World:
             elif kind < 7:
                 lines.append("resend")
             elif kind < 8 or not self.answers[node.number]:
-                lines.append("pull %s" % LIMIT)
+                lines.append("%s %s" % (self.draw.choice(["pull", "catch"]), LIMIT))
             else:
                 wishes = self.draw.choice(["-", "k", "t", "kt", "tk"])
                 lines.append("answer %s %s" % (self.any_of(self.answers[node.number]), wishes))
@@ -254,7 +254,7 @@ class World:
         """Keeps what was printed: requests, and rows of keys that are the node's own."""
         for line, text in zip(lines, told):
             words = line.split(" ")
-            if words[0] in ("push", "resend", "pull") and not text.startswith("refused"):
+            if words[0] in ("push", "resend", "pull", "catch") and not text.startswith("refused"):
                 self.requests.append((node.number, text))
             if line.startswith("edit insert t1 ") and text == "ok" and int(words[3]) >= 1000:
                 self.sure.add("row t1 %s %s" % (words[3], words[4]))
@@ -275,7 +275,7 @@ class World:
             moved = False
             for node in self.nodes:
                 words, hub = node.words(node.path), self.hub.words(self.hub.path)
-                for ask in ("pull 4096", "resend", "push"):
+                for ask in ("catch 4096", "pull 4096", "resend", "push"):
                     text = node.run.whole(words, [ask])[0]
                     if text.startswith("refused"):
                         continue
