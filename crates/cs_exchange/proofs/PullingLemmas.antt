@@ -6,3 +6,6 @@ pub mod OnePulling
 pub mod PulledSome
 pub mod OneListing
 pub mod ListedSome
+pub mod AtOnce
+pub mod OneMerging
+pub mod MergedSome

@@ -63,7 +63,7 @@ module _ (next : NextIsShown) {P : Type 0} (picks : P → Clash → Wish → P �
 
     by_accepted : (origin number version : ℕ) → OrNot (IsAccepted position origin number version) → Told_of (Short (short.Accepted origin number version))
     by_accepted origin number version (inl is) =
-        let left = next tables old position in
+        let left = next tables old position (position.version + 1) in
         (Ok (Confirmed version), confirmed position, left.0, p, tt, ((is, refl, refl), (left.1 before shows, refl)))
     by_accepted origin number version (inr other) = (Ok Ignored, position, old, p, tt, ((other, refl), (shows, refl)))
 

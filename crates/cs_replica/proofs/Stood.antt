@@ -1,9 +1,10 @@
 -- Replicas that stand on a log.
-use Rattle.std.proofs.Common.{◌≡◌, ◌+◌, ℕ, zero, suc, List, [], ◌∷◌, map, take, drop, Option, Some, None, option_map, refl, sym, ap, subst, ◌∙◌, arith, length-append}
+use Rattle.std.proofs.Common.{◌≡◌, ◌≤◌, ◌+◌, ℕ, zero, suc, List, [], ◌∷◌, map, take, drop, Option, Some, None, length, option_map, refl, sym, ap, subst, ◌∙◌, arith, length-append}
 use Rattle.std.specs.Prelude.{slice_get, Contains, pos}
 use Rattle.std.specs.FinMap.{empty, empty_of_len, get, get-empty}
 use Rattle.std.proofs.lemmas.List.{drop-take, get_or_default}
 use Rattle.std.proofs.lemmas.Option.{same_Some, slice_get_within, slice_get-get_or}
+use Rattle.cs_value.specs.Key.{Place}
 use Rattle.cs_value.specs.declared.catalog.TableDef.{TableDef}
 use Rattle.cs_change.specs.Action.{action_any, after_any}
 use Rattle.cs_change.specs.Spelling.{change_spelling}
@@ -13,7 +14,7 @@ use Rattle.cs_normal.specs.State.{AreApplied, AreSame, IsApplied, NetIsApplied, 
 use Rattle.cs_normal.specs.declared.normal.TableChanges.{TableChanges}
 use Rattle.cs_store.specs.log.Entry.{entry_changes}
 use Rattle.cs_store.specs.log.Laws.{LongerLog, Slices}
-use Rattle.cs_store.specs.log.Log.{entries_between, tables_at}
+use Rattle.cs_store.specs.log.Log.{IsLog, entries_between, tables_at}
 use Rattle.cs_store.specs.declared.log.entry.LogEntry.{LogEntry}
 use Rattle.cs_store.specs.Contents.{Bodies, Contents, place_cmp, stored_pending}
 use Rattle.cs_pending.specs.Laws.{EditKeepsBefore}
@@ -22,7 +23,7 @@ use Rattle.cs_pending.specs.Shows.{IsSoundOf}
 use Rattle.cs_pending.specs.View.{View, before, middle, undo}
 use Rattle.cs_pending.specs.position.Shows.{ShowsAt, base, changes_at, flown}
 use Rattle.cs_pending.specs.declared.position.position.Position.{Position}
-use Rattle.cs_replica.specs.Laws.{EditStands, EntryStands, EqualAtRest, FirstStands, FlightFits, KeptStands, StandsLonger}
+use Rattle.cs_replica.specs.Laws.{EditStands, EntryStands, EqualAtRest, FirstStands, FlightFits, KeptStands, LeadStands, StandsLonger}
 
 -- ---- where it stands
 
@@ -59,7 +60,7 @@ kept_stands log position other view next version same stands = record {
   on_tables = λ n k. same n k ∙ stands.on_tables n k ∙ ap (λ (v : ℕ). tables_at log v n k) (sym version);
 }
 
--- ---- one entry
+-- ---- one entry, or several
 
 one_there : (log : List LogEntry) (version : ℕ) (entry : LogEntry) → slice_get log version ≡ Some entry → take 1 (drop version log) ≡ entry ∷ []
 one_there [] version entry is = absurd cc
@@ -71,18 +72,28 @@ one_left : (tables : List TableDef) (changes : List TableChanges) (some other : 
 one_left tables changes some other end left same one two n k =
     same_Some (left n k) (end n k) (sym (two.1 n k) ∙ ap (after_any (action_any (change_of n k changes))) (same n k) ∙ one.1 n k)
 
+pub lead_stands : LeadStands
+lead_stands tables log next changes position other view left within leads version applied stands = record {
+  within = omega (arith, within, version);
+  on_tables = λ n k.
+      one_left tables changes (tables_at log position.version) (base position.flight view) (tables_at log next) (base other.flight left) stands.on_tables leads applied n k
+      ∙ ap (λ (v : ℕ). tables_at log v n k) (sym version);
+}
+
+-- what one entry makes of the log's rows there is those at the next version
+entry_leads : Slices → (tables : List TableDef) (log : List LogEntry) (version : ℕ) (entry : LogEntry) → IsLog tables log → slice_get log version ≡ Some entry → version + 1 ≤ length log
+    → IsApplied tables (entry_changes entry) (tables_at log version) (tables_at log (version + 1))
+entry_leads law tables log version entry is at within =
+    let one : entries_between log version (version + 1) ≡ entry ∷ [] = drop-take version 1 log ∙ one_there log version entry at in
+    let slice = subst (λ (es : List LogEntry). AreApplied tables (map entry_changes es) (tables_at log version) (tables_at log (version + 1))) one
+    (law tables log version (version + 1) is (omega arith)) in
+    (slice.1.0, λ n k. slice.1.1 n k ∙ ap (λ (p : Place). Some p) (sym (slice.2 n k)))
+
 pub entry_stands : Slices → EntryStands
 entry_stands law tables log entry position other view next is at version applied stands =
     let within = slice_get_within log position.version entry at in
-    let one : entries_between log position.version (position.version + 1) ≡ entry ∷ [] = drop-take position.version 1 log ∙ one_there log position.version entry at in
-    let slice = subst (λ (es : List LogEntry). AreApplied tables (map entry_changes es) (tables_at log position.version) (tables_at log (position.version + 1))) one
-    (law tables log position.version (position.version + 1) is (omega arith)) in
-    record {
-      within = omega (arith, within, version);
-      on_tables = λ n k.
-          one_left tables (entry_changes entry) (tables_at log position.version) (base position.flight view) slice.0 (base other.flight next) stands.on_tables slice.1 applied n k
-          ∙ sym (slice.2 n k) ∙ ap (λ (v : ℕ). tables_at log v n k) (sym version);
-    }
+    let room : position.version + 1 ≤ length log = omega (arith, within) in
+    lead_stands tables log (position.version + 1) (entry_changes entry) position other view next room (entry_leads law tables log position.version entry is at room) version applied stands
 
 -- ---- what is under way
 

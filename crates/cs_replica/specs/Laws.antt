@@ -1,5 +1,5 @@
 -- The laws of replicas that stand on a log.
-use Rattle.std.specs.Prelude.{◌≡◌, ◌+◌, ◌<◌, ◌^◌, ℕ, List, ◌++◌, Some, None, Result, Ok, Err, slice_get, Contains}
+use Rattle.std.specs.Prelude.{◌≡◌, ◌+◌, ◌<◌, ◌≤◌, ◌^◌, ℕ, List, ◌++◌, length, Some, None, Result, Ok, Err, slice_get, Contains}
 use Rattle.std.specs.List.{AllByRecursion}
 use Rattle.cs_varint.specs.Bytes.{AreBytes}
 use Rattle.cs_value.specs.Catalog.{AreTables}
@@ -74,6 +74,18 @@ EntryStands =
     → IsApplied tables (entry_changes entry) (base position.flight view) (base other.flight next)
     → StandsOn log position view
     → StandsOn log other next
+
+-- so does a changeset that leads from the log's tables at the version to those at another, and leaves of the log's rows what it makes of
+-- them: at that version
+abbrev pub LeadStands : Type 0
+LeadStands =
+    (tables : List TableDef) (log : List LogEntry) (next : ℕ) (changes : List TableChanges) (position other : Position) (view left : View)
+    → next ≤ length log
+    → IsApplied tables changes (tables_at log position.version) (tables_at log next)
+    → other.version ≡ next
+    → IsApplied tables changes (base position.flight view) (base other.flight left)
+    → StandsOn log position view
+    → StandsOn log other left
 
 -- what is under way is defined on the log's tables at the version, and leaves of them the rows before what is pending
 abbrev pub FlightFits : Type 0

@@ -1,6 +1,6 @@
 //! The laws of replicas that stand on a log, and of answers, each the contract of a function that does nothing.
 
-ghost use Rattle.cs_replica.specs.Laws.{AnswerHasResult, EditStands, EntryStands, EqualAtRest, FirstStands, FlightFits, KeptStands, OneAnswered, StandsLonger};
+ghost use Rattle.cs_replica.specs.Laws.{AnswerHasResult, EditStands, EntryStands, EqualAtRest, FirstStands, FlightFits, KeptStands, LeadStands, OneAnswered, StandsLonger};
 
 use cs_conflict::Picker;
 
@@ -24,10 +24,11 @@ pub fn edit_stands()
 }
 
 /// What keeps version and log's rows leaves it there, and what makes of the log's rows what the next entry makes of them leads to
-/// the next version.
+/// the next version. So does what makes of them what leads to another version, at that version.
 pub fn steps_stand()
     ensures kept { KeptStands }
     ensures entry { EntryStands }
+    ensures lead { LeadStands }
 {
     cs_store::log::laws::slices();
 }

@@ -16,8 +16,9 @@ ghost use Rattle.cs_pending.specs.position.Shows.{ShowsSomeAt, flown};
 ghost use Rattle.cs_exchange.specs.pushing.Pushes.{IsPushFault, IsPushMadeIn, IsPushOf, IsResendFault, request_of};
 ghost use Rattle.cs_exchange.specs.declared.pushing.fault.PushFault.TheVariants as push;
 ghost use Rattle.cs_wire.specs.Requests.{HasShortChangeset, asked_by_owned};
-ghost use Rattle.cs_exchange.specs.taking.Takes.{taken};
+ghost use Rattle.cs_exchange.specs.taking.Takes.{IsTakenTo, brought, taken};
 ghost use Rattle.cs_exchange.specs.pulling.Calls.{WritesInTurn};
+ghost use Rattle.cs_exchange.specs.pulling.Merged.{IsMergeFault};
 ghost use Rattle.cs_exchange.specs.pulling.Pulls.{IsPullFault, IsPulledAt};
 ghost use Rattle.cs_exchange.specs.declared.pulling.fault.PullFault.TheVariants as pull;
 ghost use Rattle.cs_replica.specs.Answered.{Answers, IsAnsweredAmong, IsAnsweredNext, IsDone, SaysDevice};
@@ -32,7 +33,7 @@ use crate::opening::reopen_at;
 use crate::showing::{gather_at, rows_at};
 use crate::told::Told;
 use cs_conflict::Picker;
-use cs_exchange::pulling::{AnswerFault, PullFault, take_entry};
+use cs_exchange::pulling::{AnswerFault, PullFault, take_entry, take_merged};
 use cs_exchange::pushing::{PushFault, make_push, resend};
 use cs_normal::Normal;
 use cs_opening::OpenFault;
@@ -372,6 +373,48 @@ impl<S: RowStore> Replica<S> {
             &mut self.position,
             index,
             entry,
+            picker,
+        )
+    }
+
+    /// Takes what the entries of the hub's log from an index up to a version do, as one changeset: each row becomes the three-way
+    /// merge of the log's row at the one, the own one, and the log's at the other, by the picker's wishes. A push that is under way
+    /// becomes pending. It is one commit. The first fault that holds is told: `Behind`, `Gap`, `BadEntry`, `Stopped`.
+    pub fn take_merged<P: Picker>(
+        &mut self,
+        alloc: Global,
+        first: u64,
+        next: u64,
+        changes: &Normal,
+        picker: &mut P,
+    ) -> Result<(), PullFault>
+        requires ready { P.is_ready picker.old }
+        ensures ready { P.is_ready picker.new }
+
+        // The changeset was taken, in one commit, or nothing has changed.
+        ensures writes { WritesStore S.RowStore pull.Device (ShowsSomeAt self.old.catalog self.old.position (S.contents self.old.store))
+            (IsTakenTo P.picks self.old.catalog self.old.position next changes.now picker.old picker.new (S.contents self.old.store)) self.old.store self.new.store result }
+
+        // It was what is told from the version on, and the replica has come to the version it leads to.
+        ensures next { OnOk result ((first ≡ self.old.position.version) × (first < next)) }
+        ensures moved { OnOk result (self.new.position ≡ brought self.old.position next self.new.position.pending) }
+
+        // What is told holds.
+        ensures refused { S.honest self.new.store → (view : View) → Shows S.contents self.old view
+            → IfErr result (IsMergeFault P.picks self.old.catalog self.old.position first next changes.now view picker.old picker.new) }
+
+        // The tables stay, and at `Err` the position.
+        ensures catalog { self.new.catalog ≡ self.old.catalog }
+        ensures kept { OnErr result (self.new.position ≡ self.old.position) }
+    {
+        take_merged(
+            alloc,
+            &mut self.store,
+            &self.catalog,
+            &mut self.position,
+            first,
+            next,
+            changes,
             picker,
         )
     }

@@ -1,6 +1,6 @@
 -- A list of entries has a result, and there is what it leaves.
 use Rattle.std.proofs.Common.{◌≡◌, ◌<◌, ◌≤◌, ◌+◌, ◌⊎◌, ℕ, zero, suc, List, [], ◌∷◌, length, Option, Some, None, Result, Ok, Err, refl, sym, ap, subst, ◌∙◌, arith, inl, inr}
-use Rattle.std.specs.Prelude.{◌≢◌, ◌-◌, ◌^◌, slice_get}
+use Rattle.std.specs.Prelude.{◌-◌, ◌^◌, slice_get}
 use Rattle.std.specs.FinMap.{len}
 use Rattle.std.specs.List.{AllByRecursion}
 use Rattle.std.proofs.lemmas.Bool.{cases_lt}
@@ -9,16 +9,8 @@ use Rattle.cs_varint.specs.Bytes.{AreBytes}
 use Rattle.cs_value.specs.Catalog.{AreTables}
 use Rattle.cs_value.specs.Decided.{OrNot}
 use Rattle.cs_value.specs.declared.catalog.TableDef.{TableDef}
-use Rattle.cs_change.specs.Spelling.{FitsChangeset, changeset_spelling}
-use Rattle.cs_change.specs.declared.group.Group.{Group}
-use Rattle.cs_changeset.specs.Laws.{ChangesetOrFault, NoFaultAtChangeset, OneChangeset}
-use Rattle.cs_changeset.specs.Reading.{HasFault, IsChangesetFault}
-use Rattle.cs_normalising.specs.Laws.{FormOrUnfit, NoFaultWhereFit}
-use Rattle.cs_normalising.specs.NormalFormOf.{AreFit, IsNormalFormOf, IsUnfit}
 use Rattle.cs_normal.specs.declared.normal.TableChanges.{TableChanges}
-use Rattle.cs_normalising.specs.declared.unfit.Unfit.{Unfit}
-use Rattle.cs_normalising.specs.declared.unfit.Unfit.TheVariants as unfit
-use Rattle.cs_store.specs.log.Entry.{kind_of}
+use Rattle.cs_store.specs.log.Entry.{entry_changes, kind_of}
 use Rattle.cs_store.specs.declared.log.body.Body.{Body}
 use Rattle.cs_store.specs.declared.log.body.Body.TheVariants.{Changes}
 use Rattle.cs_store.specs.declared.log.entry.LogEntry.{LogEntry}
@@ -31,10 +23,10 @@ use Rattle.cs_pending.specs.declared.position.position.Position.{Position}
 use Rattle.cs_exchange.specs.taking.Laws.{AnswersLawfully}
 use Rattle.cs_exchange.specs.taking.Takes.{taken}
 use Rattle.cs_wire.specs.Entries.{ToldEntry}
-use Rattle.cs_exchange.specs.pulling.Laws.{IsOfEntry, IsOfList, ListHasResult, OneRead, PulledOrRefused, ReadOrNot}
+use Rattle.cs_exchange.specs.pulling.Laws.{FormOrNot, IsOfEntry, IsOfList, ListHasResult, OneRead, PulledOrRefused, ReadOrNot}
 use Rattle.cs_exchange.specs.pulling.Listed.{Ends, IsToldAt, PullsList, PullsMany, count_of}
 use Rattle.cs_exchange.specs.pulling.Pulls.{IsBad, IsPullFault, IsPulledIn, PullsOne}
-use Rattle.cs_exchange.specs.pulling.Told.{IsReadAs}
+use Rattle.cs_exchange.specs.pulling.Told.{IsFormOf, IsReadAs}
 use Rattle.cs_exchange.specs.declared.pulling.fault.AnswerFault.{AnswerFault}
 use Rattle.cs_exchange.specs.declared.pulling.fault.AnswerFault.TheVariants as list
 use Rattle.cs_exchange.specs.declared.pulling.fault.PullFault.{PullFault}
@@ -48,31 +40,23 @@ use Rattle.cs_exchange.proofs.PullingLemmas.PulledSome.{same_number}
 kind_is : (body : Body) → kind_of body ≡ 0
 kind_is (Changes changes) = refl
 
-module _ (found : ChangesetOrFault) (one : OneChangeset) (right : NoFaultAtChangeset) (form_or_unfit : FormOrUnfit) (no_fault : NoFaultWhereFit) (tables : List TableDef) (told : ToldEntry) (are : AreTables tables) where
+module _ (tables : List TableDef) (told : ToldEntry) where
   abbrev Reads : Type 0
   Reads = ((entry : LogEntry) × IsReadAs tables told entry) ⊎ ((entry : LogEntry) → IsReadAs tables told entry → ⊥)
 
-  by_kind : (groups : List Group) → FitsChangeset groups → told.body ≡ changeset_spelling groups → (form : List TableChanges) → IsNormalFormOf tables groups form → OrNot (told.kind ≡ 0) → Reads
-  by_kind groups fits is form of (inl kind) = inl (
-    record { origin = told.origin; number = told.number; body = Changes form },
-    record { kind = kind; origin = refl; number = refl; groups = groups; fits = fits; spelled = is; form = of },
+  by_kind : (changes : List TableChanges) → IsFormOf tables told.body changes → OrNot (told.kind ≡ 0) → Reads
+  by_kind changes form (inl kind) = inl (
+    record { origin = told.origin; number = told.number; body = Changes changes },
+    record { kind = kind; origin = refl; number = refl; read = form },
   )
-  by_kind groups fits is form of (inr other) = inr (λ entry read. other (read.kind ∙ kind_is entry.body))
+  by_kind changes form (inr other) = inr (λ entry read. other (read.kind ∙ kind_is entry.body))
 
-  by_form : (groups : List Group) → FitsChangeset groups → told.body ≡ changeset_spelling groups
-      → ((form : List TableChanges) × IsNormalFormOf tables groups form) ⊎ ((fault : Unfit) × (fault ≢ unfit.Memory) × IsUnfit fault tables groups) → Reads
-  by_form groups fits is (inl (form, of)) = by_kind groups fits is form of (same_number told.kind 0)
-  by_form groups fits is (inr (fault, some, wrong)) =
-      inr (λ entry read.
-      some (no_fault fault tables groups are (subst (λ (gs : List Group). AreFit tables gs) (one read.groups groups read.fits fits (sym read.spelled ∙ is)) read.form.fit) wrong))
+  by_form : ((changes : List TableChanges) × IsFormOf tables told.body changes) ⊎ ((changes : List TableChanges) → IsFormOf tables told.body changes → ⊥) → Reads
+  by_form (inl (changes, form)) = by_kind changes form (same_number told.kind 0)
+  by_form (inr none) = inr (λ entry read. none (entry_changes entry) read.read)
 
-  by_bytes : ((groups : List Group) × FitsChangeset groups × (told.body ≡ changeset_spelling groups)) ⊎ HasFault IsChangesetFault told.body → Reads
-  by_bytes (inl (groups, fits, is)) = by_form groups fits is (form_or_unfit tables groups are fits)
-  by_bytes (inr (fault, offset, wrong)) =
-      inr (λ entry read. right read.groups fault offset read.fits (subst (λ (bytes : List ℕ). IsChangesetFault fault offset bytes) read.spelled wrong))
-
-pub read_or_not : ChangesetOrFault → OneChangeset → NoFaultAtChangeset → FormOrUnfit → NoFaultWhereFit → ReadOrNot
-read_or_not found one right form_or_unfit no_fault tables told are small = by_bytes found one right form_or_unfit no_fault tables told are (found told.body small)
+pub read_or_not : FormOrNot → ReadOrNot
+read_or_not forms tables told are small = by_form tables told (forms tables told.body are small)
 
 -- ---- one after another
 
@@ -175,7 +159,7 @@ module _ (one_read : OneRead) (reads : ReadOrNot) {P : Type 0} (picks : P → Cl
       by_pull entry read (inr (fault, q, of, wrong)) = by_fault entry read fault q of wrong
 
       by_read : ((entry : LogEntry) × IsReadAs tables told entry) ⊎ ((entry : LogEntry) → IsReadAs tables told entry → ⊥) → Ended position view p
-      by_read (inl (entry, read)) = by_pull entry read (pulls tables store position position.version entry view p are read.form.normal ranged shows answers ready)
+      by_read (inl (entry, read)) = by_pull entry read (pulls tables store position position.version entry view p are read.read.form.normal ranged shows answers ready)
       by_read (inr unread) = at_once (Err (list.BadEntry 0)) tt refl position store view p p shows (record { told = told; there = there; bad = λ entry read. absurd (unread entry read) }, refl)
 
     by_told : ToldOrNone position.version → Ended position view p

@@ -41,7 +41,7 @@ pub record ListLaws {P : Type 0} (picks : P → Clash → Wish → P → Type 0)
   pub bad : BadIsNeither picks
 
 -- at the same rows it stops at the same
-stops_as : {P : Type 0} (picks : P → Clash → Wish → P → Type 0) (log other own rows : State) (ts : _) → log ≡ other → own ≡ rows → (p : P) (conflict : Conflict) (q : P) → StopsAt picks log own ts p conflict q → StopsAt picks other rows ts p conflict q
+pub stops_as : {P : Type 0} (picks : P → Clash → Wish → P → Type 0) (log other own rows : State) (ts : _) → log ≡ other → own ≡ rows → (p : P) (conflict : Conflict) (q : P) → StopsAt picks log own ts p conflict q → StopsAt picks other rows ts p conflict q
 stops_as picks log other own rows ts same alike p conflict q stops =
     subst (λ (x : State). StopsAt picks other x ts p conflict q) alike (subst (λ (x : State). StopsAt picks x own ts p conflict q) same stops)
 
@@ -184,7 +184,7 @@ module _ {P : Type 0} (picks : P → Clash → Wish → P → Type 0) (laws : Li
     joined (suc count) (suc number) position store view seen p v s (told, entry, pending, left, next, middle, at, read, one, shows, rest) (told', entry', pending', left', next', middle', at', read', one', shows', rest') =
         let same = same_entry position.version told' told entry' entry at' at read' read in
         let two = subst (λ (e : LogEntry). PullsOne picks tables position e seen p next' middle') same one' in
-        let pulled = laws.pull tables store position entry view seen next next' p middle middle' are read.form.normal once v s one two in
+        let pulled = laws.pull tables store position entry view seen next next' p middle middle' are read.read.form.normal once v s one two in
         let held = laws.contents tables (taken position 0) left left' next next' (counted position pending left next shows) (counted position pending' left' next' shows') pulled.0 pulled.1 in
         let number_is : pending' ≡ pending = shows'.counted ∙ sym (ap (λ (c : Contents). len c.pending) held) ∙ sym shows.counted in
         let seen_there = subst (λ (n : ℕ). ShowsAt tables left (taken position n) next') number_is (subst (λ (c : Contents). ShowsAt tables c (taken position pending') next') (sym held) shows') in

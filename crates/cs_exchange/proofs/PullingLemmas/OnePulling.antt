@@ -1,5 +1,5 @@
 -- An entry is pulled once, or has one fault.
-use Rattle.std.proofs.Common.{◌≡◌, ◌<◌, ℕ, List, refl, sym, ap, ◌∙◌, arith, inl, inr}
+use Rattle.std.proofs.Common.{◌≡◌, ◌<◌, ◌+◌, ℕ, List, refl, sym, ap, ◌∙◌, arith, inl, inr}
 use Rattle.std.specs.FinMap.{len}
 use Rattle.cs_value.specs.Catalog.{AreTables}
 use Rattle.cs_value.specs.declared.catalog.TableDef.{TableDef}
@@ -58,7 +58,7 @@ module _ {P : Type 0} (picks : P → Clash → Wish → P → Type 0) where
     one_left after end a e (room, inl (own, same, asked)) (more, inr (others, takes)) = absurd (others own)
     one_left after end a e (room, inr (others, takes)) (more, inl (own, same, asked)) = absurd (others own)
     one_left after end a e (room, inr (others, takes)) (more, inr (away, took)) =
-        law tables position (entry_changes entry) old some other p q r are normal once (before, shows) (taken_in tables position entry old some p q others s) (taken_in tables position entry old other p r others o)
+        law tables position (position.version + 1) (entry_changes entry) old some other p q r are normal once (before, shows) (taken_in tables position entry old some p q others s) (taken_in tables position entry old other p r others o)
 
   pub one_pull_in : OneTakenIn picks → OneContents → OnePullIn picks
   one_pull_in law contents tables position entry old some other p q r are normal once (before, shows) s o =

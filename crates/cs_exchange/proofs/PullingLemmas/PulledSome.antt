@@ -1,5 +1,5 @@
 -- An entry is pulled, or has a fault.
-use Rattle.std.proofs.Common.{◌≡◌, ◌<◌, ◌≤◌, ◌⊎◌, ℕ, List, Option, Some, None, refl, sym, ap, subst, ◌∙◌, arith, inl, inr}
+use Rattle.std.proofs.Common.{◌≡◌, ◌<◌, ◌≤◌, ◌+◌, ◌⊎◌, ℕ, List, Option, Some, None, refl, sym, ap, subst, ◌∙◌, arith, inl, inr}
 use Rattle.std.specs.Prelude.{◌-◌, ◌^◌}
 use Rattle.std.specs.FinMap.{len}
 use Rattle.std.proofs.lemmas.Bool.{cases_lt}
@@ -74,7 +74,7 @@ module _ (defined_or_not : DefinedOrNot) (one_body : OneBody) (net_is_applied : 
   module _ (same : index ≡ position.version) (room : position.version < 2 ^ 64 - 1) where
     confirmed : IsOwn position entry → Either
     confirmed own =
-        let left = next tables old position in
+        let left = next tables old position (position.version + 1) in
         inl (left.0, p, same, λ view seen. (view, counted left.0 view (left.1 view seen), (room, inl (own, refl, refl))), ready)
 
     taken_there : (IsOwn position entry → ⊥)
@@ -84,7 +84,7 @@ module _ (defined_or_not : DefinedOrNot) (one_body : OneBody) (net_is_applied : 
 
     by_owner : IsDefinedOn tables changes (base position.flight before) → OrNot (IsOwn position entry) → Either
     by_owner defined (inl own) = confirmed own
-    by_owner defined (inr others) = taken_there others (taken_or_stopped tables old position changes before p are normal shows defined answers ready)
+    by_owner defined (inr others) = taken_there others (taken_or_stopped tables old position (position.version + 1) changes before p are normal shows defined answers ready)
 
     by_defined : OrNot (IsDefinedOn tables changes (base position.flight before)) → Either
     by_defined (inl defined) = by_owner defined (by_flight one_body tables are position entry (normal, defined.0) position.flight refl (shows.under_way.normal, shows.under_way.fits))

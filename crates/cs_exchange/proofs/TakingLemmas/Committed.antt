@@ -23,7 +23,7 @@ use Rattle.cs_store.specs.edits.Edits.{BodyEdit}
 use Rattle.cs_store.specs.declared.names.MetaName.{MetaName}
 use Rattle.cs_store.specs.declared.names.MetaName.TheVariants.{Id, Version, Number, Flight, Pending, Catalog}
 use Rattle.cs_exchange.specs.taking.Steps.{IsCommitted, WritesAll, next_values}
-use Rattle.cs_exchange.specs.taking.Takes.{taken}
+use Rattle.cs_exchange.specs.taking.Takes.{brought}
 use Rattle.cs_value.specs.Facts.{same_place-Decides}
 use Rattle.cs_value.specs.Key.{Place}
 use Rattle.cs_value.specs.declared.catalog.TableDef.{TableDef}
@@ -38,13 +38,13 @@ by_parts : (edits : List MetaEdit) (name : MetaName) (value : Option (List ℕ))
 by_parts [] name value = refl
 by_parts (edit ∷ edits) name value = by_parts edits name (cond (same_bytes (name_text name) (name_text edit.name)) (optional_bytes edit.value) value)
 
-next_value : (tables : List TableDef) (old : Position) (pending : ℕ) (name : MetaName) → parts_after (next_values (old.version + 1)) name (value_of tables old name) ≡ value_of tables (taken old pending) name
-next_value tables old pending Id = refl
-next_value tables old pending Version = refl
-next_value tables old pending Number = refl
-next_value tables old pending Flight = refl
-next_value tables old pending Pending = refl
-next_value tables old pending Catalog = refl
+next_value : (tables : List TableDef) (old : Position) (next pending : ℕ) (name : MetaName) → parts_after (next_values next) name (value_of tables old name) ≡ value_of tables (brought old next pending) name
+next_value tables old next pending Id = refl
+next_value tables old next pending Version = refl
+next_value tables old next pending Number = refl
+next_value tables old next pending Flight = refl
+next_value tables old next pending Pending = refl
+next_value tables old next pending Catalog = refl
 
 -- ---- nothing under way
 
@@ -68,18 +68,18 @@ none_under_way tables view is = record {
 
 -- ---- the commit
 
-pub committed_in : CommitShows → WritesRows → WritesPending → (tables : List TableDef) (position : Position) (settling : Settling) (contents : Contents) (batch : Batch)
-    → WritesAll settling (next_values (position.version + 1)) batch → IsWithin tables settling
-    → IsCommitted tables position settling contents (after_batch batch contents)
-committed_in law rows_law pending_law tables position settling contents batch is within seen end shows settles =
+pub committed_in : CommitShows → WritesRows → WritesPending → (tables : List TableDef) (position : Position) (next : ℕ) (settling : Settling) (contents : Contents) (batch : Batch)
+    → WritesAll settling (next_values next) batch → IsWithin tables settling
+    → IsCommitted tables position next settling contents (after_batch batch contents)
+committed_in law rows_law pending_law tables position next settling contents batch is within seen end shows settles =
     let count : len (after_batch batch contents).pending ≡ len (fold edit_body contents.pending settling.pending) = ap (λ (es : List BodyEdit). len (fold edit_body contents.pending es)) is.pending in (
-      law tables contents batch position (taken position (len (after_batch batch contents).pending)) seen end shows
+      law tables contents batch position (brought position next (len (after_batch batch contents).pending)) seen end shows
           (subst (λ (es : List BodyEdit). AreWithin tables es) (sym is.rows) within.0)
           (subst (λ (es : List BodyEdit). AreWithin tables es) (sym is.pending) within.1)
           is.log
           (λ name. by_parts batch.meta.items name (value_of tables position name)
           ∙ ap (λ (ps : List ValuePart). parts_after ps name (value_of tables position name)) is.values
-          ∙ next_value tables position (len (after_batch batch contents).pending) name)
+          ∙ next_value tables position next (len (after_batch batch contents).pending) name)
           (shows_after tables contents batch settling is.rows is.pending rows_law pending_law position.pending end settles)
           (none_under_way tables end settles.sound.before_state)
           refl

@@ -30,7 +30,7 @@ use Rattle.cs_pending.specs.View.{Changed, View, middle}
 use Rattle.cs_pending.specs.position.Shows.{IsUnderWay, ShowsAt, flown}
 use Rattle.cs_pending.specs.position.Values.{value_of}
 use Rattle.cs_pending.specs.declared.position.position.Position.{Position}
-use Rattle.cs_exchange.specs.taking.Takes.{is_touched, taken}
+use Rattle.cs_exchange.specs.taking.Takes.{brought, is_touched}
 use Rattle.cs_exchange.proofs.TakingLemmas.Whole.{nothing_there}
 use Rattle.cs_exchange.proofs.TakingLemmas.PutBodies.{next_meta, next_names, value_next, put_bodies, body_past, body_there}
 
@@ -67,15 +67,15 @@ abbrev touched_tasks : List TableDef → Option (List TableChanges) → List Tab
 touched_tasks tables flight entry = keyed_tasks tables entry ++ keyed_tasks tables (flown flight)
 
 -- what is held then: these rows and pending changes at the places of the entry and of what was under way
-pub put_taken : List TableDef → Position → List TableChanges → State → Changed → Contents → Contents
-put_taken tables position entry rows pending old = record {
+pub put_taken : List TableDef → Position → ℕ → List TableChanges → State → Changed → Contents → Contents
+put_taken tables position next entry rows pending old = record {
   rows = put_bodies (λ n k. option_map row_bytes (rows n k)) (touched_tasks tables position.flight entry) old.rows;
   pending = put_bodies (λ n k. option_map change_spelling (pending n k)) (touched_tasks tables position.flight entry) old.pending;
-  meta = next_meta (eight_bytes (position.version + 1)) old.meta;
+  meta = next_meta (eight_bytes next) old.meta;
   log = old.log;
 }
 
-module _ (one_place : OnePlaceOfName) (tables : List TableDef) (are : AreTables tables) (position : Position) (entry : List TableChanges) (fits : FitsCatalog tables entry) (normal : IsNormalChangeset entry) (old : Contents) (seen : View)
+module _ (one_place : OnePlaceOfName) (tables : List TableDef) (are : AreTables tables) (position : Position) (next : ℕ) (entry : List TableChanges) (fits : FitsCatalog tables entry) (normal : IsNormalChangeset entry) (old : Contents) (seen : View)
     (shows : ShowsAt tables old position seen) (rows : State) (pending : Changed) (after : View) where
   all_touched : AllByRecursion (IsKnown tables) (touched_tasks tables position.flight entry)
   all_touched =
@@ -90,22 +90,22 @@ module _ (one_place : OnePlaceOfName) (tables : List TableDef) (are : AreTables 
       (nothing_there tables (flown position.flight) shows.under_way.normal (keyed_tasks tables (flown position.flight)) refl name key both.1)
 
   abbrev new : Contents
-  new = put_taken tables position entry rows pending old
+  new = put_taken tables position next entry rows pending old
 
-  value_now : (count : ℕ) (name : MetaName) → get new.meta (name_text name) ≡ value_of tables (taken position count) name
+  value_now : (count : ℕ) (name : MetaName) → get new.meta (name_text name) ≡ value_of tables (brought position next count) name
   unfolding put_taken
-  value_now count Id = value_next (eight_bytes (position.version + 1)) old.meta (name_text Id) ∙ shows.values Id
-  value_now count Version = value_next (eight_bytes (position.version + 1)) old.meta (name_text Version)
-  value_now count Number = value_next (eight_bytes (position.version + 1)) old.meta (name_text Number) ∙ shows.values Number
-  value_now count Flight = value_next (eight_bytes (position.version + 1)) old.meta (name_text Flight)
-  value_now count Pending = value_next (eight_bytes (position.version + 1)) old.meta (name_text Pending) ∙ shows.values Pending
-  value_now count Catalog = value_next (eight_bytes (position.version + 1)) old.meta (name_text Catalog) ∙ shows.values Catalog
+  value_now count Id = value_next (eight_bytes next) old.meta (name_text Id) ∙ shows.values Id
+  value_now count Version = value_next (eight_bytes next) old.meta (name_text Version)
+  value_now count Number = value_next (eight_bytes next) old.meta (name_text Number) ∙ shows.values Number
+  value_now count Flight = value_next (eight_bytes next) old.meta (name_text Flight)
+  value_now count Pending = value_next (eight_bytes next) old.meta (name_text Pending) ∙ shows.values Pending
+  value_now count Catalog = value_next (eight_bytes next) old.meta (name_text Catalog) ∙ shows.values Catalog
 
   -- they show a view of these rows and pending changes, which is the seen one where nothing was touched
   pub shows_taken : CanBeShown tables after → ((name key : List ℕ) → after.tables name key ≡ rows name key)
       → ((table : TableDef) (key : List ℕ) → Contains tables table → after.pending table.name key ≡ pending table.name key)
       → ((name key : List ℕ) → is_touched position.flight entry name key ≡ false → (after.tables name key ≡ seen.tables name key) × (after.pending name key ≡ seen.pending name key))
-      → ShowsAt tables new (taken position (len new.pending)) after
+      → ShowsAt tables new (brought position next (len new.pending)) after
   unfolding put_taken
   shows_taken can rows_are pending_are still = record {
     rows = record {
@@ -131,7 +131,7 @@ module _ (one_place : OnePlaceOfName) (tables : List TableDef) (are : AreTables 
       rows = λ place elsewhere. body_past tables are one_place (λ m j. option_map row_bytes (rows m j)) old.rows (touched_tasks tables position.flight entry) all_touched place elsewhere ∙ shows.alone.rows place elsewhere;
       pending = λ place elsewhere. body_past tables are one_place (λ m j. option_map change_spelling (pending m j)) old.pending (touched_tasks tables position.flight entry) all_touched place elsewhere ∙ shows.alone.pending place elsewhere;
       log = shows.alone.log;
-      names = next_names (eight_bytes (position.version + 1)) old.meta shows.alone.names;
+      names = next_names (eight_bytes next) old.meta shows.alone.names;
     };
     under_way = nothing_under_way tables after can.sound.before_state;
     counted = refl;

@@ -25,7 +25,7 @@ use Rattle.cs_pending.specs.Laws.{OneView}
 use Rattle.cs_pending.specs.View.{View, direct_net, middle}
 use Rattle.cs_pending.specs.position.Shows.{base}
 use Rattle.cs_exchange.specs.taking.Laws.{BadIsNeither, NoStopWhereTaken, OneStopTaking, OneTaken, OneTakenIn, PicksOnce}
-use Rattle.cs_exchange.specs.taking.Takes.{IsTaken, TakeAll, is_touched, taken}
+use Rattle.cs_exchange.specs.taking.Takes.{IsTaken, TakeAll, brought, is_touched}
 use Rattle.cs_exchange.proofs.TakingLemmas.EntryPlaces.{IsOfEntry, entry_tasks, keyed_there, left_there, of_entry}
 use Rattle.cs_exchange.proofs.TakingLemmas.OneContents.{one_contents}
 use Rattle.cs_exchange.proofs.TakingLemmas.OneTaking.{MergesAlikeAt, no_stop, one_stop, one_take}
@@ -110,11 +110,11 @@ module _ (tells : BytesTellKeys) (fit : SetColumnsFit) (one_place : OnePlaceOfNa
       )
 
   pub one_taken_in : OneView → OneTakenIn picks
-  one_taken_in one_view tables position entry old some other p q r are normal once (before, shows) s o =
+  one_taken_in one_view tables position next entry old some other p q r are normal once (before, shows) s o =
       let one = s before shows in
       let two = o before shows in
       let same = one_taken one_view tables old position entry before before one.0 two.0 p q r are normal once shows shows one.2 two.2 in
-      (one_contents tables (taken position 0) some other one.0 two.0 one.1 two.1 same.0 same.1, same.2)
+      (one_contents tables (brought position next 0) some other one.0 two.0 one.1 two.1 same.0 same.1, same.2)
 
 -- ---- stops
 

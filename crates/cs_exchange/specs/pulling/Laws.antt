@@ -6,6 +6,7 @@ use Rattle.cs_value.specs.Catalog.{AreTables}
 use Rattle.cs_value.specs.declared.catalog.TableDef.{TableDef}
 use Rattle.cs_normal.specs.Normal.{IsNormalChangeset}
 use Rattle.cs_normal.specs.State.{AreSame, IsApplied}
+use Rattle.cs_normal.specs.declared.normal.TableChanges.{TableChanges}
 use Rattle.cs_store.specs.log.Entry.{entry_changes}
 use Rattle.cs_store.specs.declared.log.entry.LogEntry.{LogEntry}
 use Rattle.cs_store.specs.Contents.{Contents}
@@ -15,15 +16,34 @@ use Rattle.cs_pending.specs.View.{View}
 use Rattle.cs_pending.specs.position.Shows.{ShowsAt, ShowsSomeAt, base}
 use Rattle.cs_pending.specs.declared.position.position.Position.{Position}
 use Rattle.cs_exchange.specs.taking.Laws.{AnswersLawfully, PicksOnce}
+use Rattle.cs_exchange.specs.taking.Takes.{IsTaken, IsTakenTo}
 use Rattle.cs_wire.specs.Entries.{ToldEntry}
 use Rattle.cs_exchange.specs.pulling.Listed.{PullsList}
+use Rattle.cs_exchange.specs.pulling.Merged.{IsMergeFault, TakesTold}
 use Rattle.cs_exchange.specs.pulling.Pulls.{IsPullFault, IsPulledIn, PullsOne}
-use Rattle.cs_exchange.specs.pulling.Told.{IsReadAs}
+use Rattle.cs_exchange.specs.pulling.Told.{IsFormOf, IsReadAs}
 use Rattle.cs_exchange.specs.declared.pulling.fault.AnswerFault.{AnswerFault}
 use Rattle.cs_exchange.specs.declared.pulling.fault.AnswerFault.TheVariants as list
 use Rattle.cs_exchange.specs.declared.pulling.fault.PullFault.{PullFault}
 use Rattle.cs_exchange.specs.declared.pulling.fault.PullFault.TheVariants.{Memory, Device}
 use Rattle.cs_exchange.specs.declared.pulling.listing.Pulled.{Pulled}
+
+-- bytes are read as one changeset
+abbrev pub OneForm : Type 0
+OneForm =
+    (tables : List TableDef) (bytes : List ℕ) (some other : List TableChanges)
+    → AreTables tables
+    → IsFormOf tables bytes some
+    → IsFormOf tables bytes other
+    → some ≡ other
+
+-- and they are read as one, or can't be
+abbrev pub FormOrNot : Type 0
+FormOrNot =
+    (tables : List TableDef) (bytes : List ℕ)
+    → AreTables tables
+    → AreBytes bytes
+    → ((changes : List TableChanges) × IsFormOf tables bytes changes) ⊎ ((changes : List TableChanges) → IsFormOf tables bytes changes → ⊥)
 
 -- an answer's entry is read as one entry of the log
 abbrev pub OneRead : Type 0
@@ -125,6 +145,70 @@ module _ {P : Type 0} (picks : P → Clash → Wish → P → Type 0) where
       → is_ready p
       → ((new : Contents) × (q : P) × (index ≡ position.version) × IsPulledIn picks tables position entry p q old new × is_ready q)
       ⊎ ((fault : PullFault) × (q : P) × IsOfEntry fault × IsPullFault picks tables position index entry before p q fault)
+
+  -- by a picker that answers each clash once, entries that are told at once have one fault
+  abbrev pub OneMergeFault : Type 0
+  OneMergeFault =
+      (tables : List TableDef) (position : Position) (first next : ℕ) (changes : List TableChanges) (view : View) (some other : PullFault) (p q r : P)
+      → PicksOnce picks
+      → IsOfEntry some
+      → IsOfEntry other
+      → IsMergeFault picks tables position first next changes view p q some
+      → IsMergeFault picks tables position first next changes view p r other
+      → (some ≡ other) × (q ≡ r)
+
+  -- and those that are taken, from the position's version to one above it, have none
+  abbrev pub NoMergeFaultWhereTaken : Type 0
+  NoMergeFaultWhereTaken =
+      (tables : List TableDef) (position : Position) (next : ℕ) (changes : List TableChanges) (before after : View) (fault : PullFault) (p q r : P)
+      → PicksOnce picks
+      → IsOfEntry fault
+      → position.version < next
+      → IsTaken picks tables position.flight changes before after p q
+      → IsMergeFault picks tables position position.version next changes before p r fault
+      → ⊥
+
+  -- there is one or the other: they are taken, there is a store that holds what is left, and the picker may be asked again; or they have a
+  -- fault
+  abbrev pub MergedOrRefused : (P → Type 0) → Type 0
+  MergedOrRefused is_ready =
+      (tables : List TableDef) (old : Contents) (position : Position) (first next : ℕ) (changes : List TableChanges) (before : View) (p : P)
+      → AreTables tables
+      → IsNormalChangeset changes
+      → ShowsAt tables old position before
+      → AnswersLawfully picks is_ready
+      → is_ready p
+      → ((new : Contents) × (q : P) × (first ≡ position.version) × (first < next) × IsTakenTo picks tables position next changes p q old new × is_ready q)
+      ⊎ ((fault : PullFault) × (q : P) × IsOfEntry fault × IsMergeFault picks tables position first next changes before p q fault)
+
+  -- by a picker that answers each clash once, bytes that are told to lead to a version have one result, and leave one position, one thing
+  -- in the store, and one state of the picker, whichever view of the store is meant
+  abbrev pub OneTold : Type 0
+  OneTold =
+      (tables : List TableDef) (next : ℕ) (bytes : List ℕ) (old new last : Contents) (position here there : Position) (before seen : View)
+      (some other : Result Pulled AnswerFault) (p q r : P)
+      → AreTables tables
+      → PicksOnce picks
+      → ShowsAt tables old position before
+      → ShowsAt tables old position seen
+      → IsOfList some
+      → IsOfList other
+      → TakesTold picks tables next bytes some position before p here new q
+      → TakesTold picks tables next bytes other position seen p there last r
+      → (some ≡ other) × (here ≡ there) × (new ≡ last) × (q ≡ r)
+
+  -- and there is one: what is told to lead to a version above the position's has a result, and there is a store that holds what is left
+  abbrev pub ToldHasResult : (P → Type 0) → Type 0
+  ToldHasResult is_ready =
+      (tables : List TableDef) (next : ℕ) (bytes : List ℕ) (old : Contents) (position : Position) (before : View) (p : P)
+      → AreTables tables
+      → AreBytes bytes
+      → position.version < next
+      → ShowsAt tables old position before
+      → AnswersLawfully picks is_ready
+      → is_ready p
+      → (result : Result Pulled AnswerFault) × (other : Position) × (new : Contents) × (q : P) × IsOfList result
+      × TakesTold picks tables next bytes result position before p other new q
 
   -- by a picker that answers each clash once, a list has one result, and leaves one position, one thing in the store, and one state of
   -- the picker, whichever view of the store is meant

@@ -10,6 +10,8 @@ use Rattle.cs_pending.specs.declared.position.position.Position.{Position}
 use Rattle.cs_wire.specs.Entries.{ToldEntry}
 use Rattle.cs_exchange.specs.pulling.Pulls.{IsBad, IsPulledIn, StopsPull}
 use Rattle.cs_exchange.specs.pulling.Told.{IsReadAs}
+use Rattle.cs_exchange.specs.declared.taking.fault.TakeFault.{TakeFault}
+use Rattle.cs_exchange.specs.declared.taking.fault.TakeFault.TheVariants as take
 use Rattle.cs_exchange.specs.declared.pulling.fault.AnswerFault.{AnswerFault}
 use Rattle.cs_exchange.specs.declared.pulling.fault.AnswerFault.TheVariants as list
 use Rattle.cs_exchange.specs.declared.pulling.fault.PullFault.{PullFault}
@@ -42,3 +44,10 @@ EndsAt Gap count result = result ≡ Ok (told.Taken count)
 EndsAt BadEntry count result = result ≡ Err (list.BadEntry count)
 EndsAt (Stopped conflict) count result = result ≡ Ok (told.Stopped count)
 EndsAt Device count result = result ≡ Err (list.Device count)
+
+-- how changes that were told as one end at a fault of theirs
+abbrev pub MergeEndsAt : TakeFault → Result Pulled AnswerFault → Type 0
+MergeEndsAt take.Memory result = result ≡ Err (list.Memory 0)
+MergeEndsAt take.BadEntry result = result ≡ Err (list.BadEntry 0)
+MergeEndsAt (take.Stopped conflict) result = result ≡ Ok (told.Stopped 0)
+MergeEndsAt take.Device result = result ≡ Err (list.Device 0)

@@ -20,7 +20,7 @@ use Rattle.cs_tasks.specs.Tasks.{Task}
 use Rattle.cs_pending.specs.View.{View}
 use Rattle.cs_pending.specs.position.Shows.{ShowsAt, ShowsSomeAt, base}
 use Rattle.cs_pending.specs.declared.position.position.Position.{Position}
-use Rattle.cs_exchange.specs.taking.Takes.{IsClashOf, IsTaken, IsTakenIn, StopsTaking}
+use Rattle.cs_exchange.specs.taking.Takes.{IsClashOf, IsTaken, IsTakenTo, StopsTaking}
 
 -- a change, a row of the log and an own row have one clash
 abbrev pub OneClash : Type 0
@@ -48,12 +48,12 @@ OneLogRows =
     → ShowsAt tables contents position seen
     → AreSame (base position.flight view) (base position.flight seen) × AreSame view.tables seen.tables
 
--- what a store shows can be shown one entry further, with nothing under way
+-- what a store shows can be shown at another version, with nothing under way
 abbrev pub NextIsShown : Type 0
 NextIsShown =
-    (tables : List TableDef) (old : Contents) (position : Position)
+    (tables : List TableDef) (old : Contents) (position : Position) (next : ℕ)
     → (new : Contents)
-    × ((view : View) → ShowsAt tables old position view → ShowsAt tables new (record position { version = position.version + 1; flight = None }) view)
+    × ((view : View) → ShowsAt tables old position view → ShowsAt tables new (record position { version = next; flight = None }) view)
 
 module _ {P : Type 0} (picks : P → Clash → Wish → P → Type 0) where
   -- at one state and one clash there is one wish, and one state after it
@@ -85,13 +85,13 @@ module _ {P : Type 0} (picks : P → Clash → Wish → P → Type 0) where
   -- and so a store that shows a replica holds one thing after it
   abbrev pub OneTakenIn : Type 0
   OneTakenIn =
-      (tables : List TableDef) (position : Position) (entry : List TableChanges) (old some other : Contents) (p q r : P)
+      (tables : List TableDef) (position : Position) (next : ℕ) (entry : List TableChanges) (old some other : Contents) (p q r : P)
       → AreTables tables
       → IsNormalChangeset entry
       → PicksOnce
       → ShowsSomeAt tables position old
-      → IsTakenIn picks tables position entry p q old some
-      → IsTakenIn picks tables position entry p r old other
+      → IsTakenTo picks tables position next entry p q old some
+      → IsTakenTo picks tables position next entry p r old other
       → (some ≡ other) × (q ≡ r)
 
   -- such a picker stops at one conflict, in one state
@@ -146,14 +146,14 @@ module _ {P : Type 0} (picks : P → Clash → Wish → P → Type 0) where
   -- and where it is taken, there is a store that holds what is left
   abbrev pub TakenInOrStopped : (P → Type 0) → Type 0
   TakenInOrStopped is_ready =
-      (tables : List TableDef) (old : Contents) (position : Position) (entry : List TableChanges) (before : View) (p : P)
+      (tables : List TableDef) (old : Contents) (position : Position) (next : ℕ) (entry : List TableChanges) (before : View) (p : P)
       → AreTables tables
       → IsNormalChangeset entry
       → ShowsAt tables old position before
       → IsDefinedOn tables entry (base position.flight before)
       → AnswersLawfully is_ready
       → is_ready p
-      → ((new : Contents) × (q : P) × IsTakenIn picks tables position entry p q old new × is_ready q)
+      → ((new : Contents) × (q : P) × IsTakenTo picks tables position next entry p q old new × is_ready q)
       ⊎ ((conflict : Conflict) × (q : P) × StopsTaking picks tables position.flight entry before p conflict q)
 
 -- a wish for the other's change where there is an own row, and else for what there is: none
@@ -170,9 +170,9 @@ always_takes p clash wish q = wish ≡ taking_wish clash.conflict.kind
 pub record TakerTakes : Type 0 where
   pub once : PicksOnce always_takes
   pub lawful : AnswersLawfully always_takes (λ p. Unit {0})
-  pub taken : (tables : List TableDef) (old : Contents) (position : Position) (entry : List TableChanges) (before : View)
+  pub taken : (tables : List TableDef) (old : Contents) (position : Position) (next : ℕ) (entry : List TableChanges) (before : View)
       → AreTables tables
       → IsNormalChangeset entry
       → ShowsAt tables old position before
       → IsDefinedOn tables entry (base position.flight before)
-      → (new : Contents) × IsTakenIn always_takes tables position entry tt tt old new
+      → (new : Contents) × IsTakenTo always_takes tables position next entry tt tt old new

@@ -26,7 +26,7 @@ use Rattle.cs_pending.specs.declared.settling.Settling.{Settling}
 use Rattle.cs_pending.specs.position.Shows.{ShowsAt, base, flown}
 use Rattle.cs_pending.specs.position.Values.{ValuePart, value_part}
 use Rattle.cs_pending.specs.declared.position.position.Position.{Position}
-use Rattle.cs_exchange.specs.taking.Takes.{IsClashOf, TakeAll, taken}
+use Rattle.cs_exchange.specs.taking.Takes.{IsClashOf, TakeAll, brought}
 use Rattle.cs_exchange.specs.declared.taking.site.Site.{Site}
 pub use Rattle.cs_apply.specs.placement.Places.{ArePlaced, IsPlaced, task_of}
 
@@ -143,8 +143,8 @@ pub record WritesAll (settling : Settling) (edits : List ValuePart) (batch : Bat
   pub values : map value_part batch.meta.items ≡ edits
   pub log : batch.log ≡ None
 
--- where the gathered edits lead to a view, the contents show it at the next version
-abbrev pub IsCommitted : List TableDef → Position → Settling → Contents → Contents → Type 0
-IsCommitted tables position settling old new =
+-- where the gathered edits lead to a view, the contents show it at this version
+abbrev pub IsCommitted : List TableDef → Position → ℕ → Settling → Contents → Contents → Type 0
+IsCommitted tables position next settling old new =
     (seen end : View) → ShowsAt tables old position seen → Settles tables old position.pending settling end
-    → ShowsAt tables new (taken position (len new.pending)) end × (settling.count ≡ len new.pending)
+    → ShowsAt tables new (brought position next (len new.pending)) end × (settling.count ≡ len new.pending)

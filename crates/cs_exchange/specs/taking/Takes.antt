@@ -43,6 +43,10 @@ pub record IsPendingOver (tables : List TableDef) (flight : Option (List TableCh
       → after.pending table.name key ≡ direct_net table (middle after table.name key) (after.tables table.name key)
   pub untouched : (name key : List ℕ) → is_touched flight entry name key ≡ false → after.pending name key ≡ before.pending name key
 
+-- the position at another version, with nothing under way and so many changes pending
+abbrev pub brought : Position → ℕ → ℕ → Position
+brought position next pending = record position { version = next; flight = None; pending = pending }
+
 module _ {P : Type 0} (picks : P → Clash → Wish → P → Type 0) where
   -- where the change doesn't conflict with the own row the picker isn't asked, and any wish serves; else it wishes so
   abbrev pub Asks : Task → Place → Place → P → Wish → P → Type 0
@@ -87,16 +91,20 @@ module _ {P : Type 0} (picks : P → Clash → Wish → P → Type 0) where
     pub others : (name key : List ℕ) → change_of name key entry ≡ None → after.tables name key ≡ before.tables name key
     pub pending : IsPendingOver tables flight entry before after
 
-  -- contents in which it was taken at a position
-  abbrev pub IsTakenIn : List TableDef → Position → List TableChanges → P → P → Contents → Contents → Type 0
-  IsTakenIn tables position entry p q old new =
+  -- contents in which changes that lead to a version were taken at a position
+  abbrev pub IsTakenTo : List TableDef → Position → ℕ → List TableChanges → P → P → Contents → Contents → Type 0
+  IsTakenTo tables position next changes p q old new =
       (before : View) → ShowsAt tables old position before
-      → (after : View) × ShowsAt tables new (record position { version = position.version + 1; flight = None; pending = len new.pending }) after
-      × IsTaken tables position.flight entry before after p q
+      → (after : View) × ShowsAt tables new (brought position next (len new.pending)) after
+      × IsTaken tables position.flight changes before after p q
 
--- the position after another's entry: nothing is under way, and so many changes are pending
+  -- contents in which an entry was taken at a position
+  abbrev pub IsTakenIn : List TableDef → Position → List TableChanges → P → P → Contents → Contents → Type 0
+  IsTakenIn tables position entry p q old new = IsTakenTo tables position (position.version + 1) entry p q old new
+
+-- the position after another's entry
 abbrev pub taken : Position → ℕ → Position
-taken position pending = record position { version = position.version + 1; flight = None; pending = pending }
+taken position pending = brought position (position.version + 1) pending
 
 -- where it is told that the picker stopped, this is said of the conflict
 abbrev pub IfStopped : TakeFault → (Conflict → Type 0) → Type 0

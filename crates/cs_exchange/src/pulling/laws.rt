@@ -1,24 +1,38 @@
 //! The laws of entries that are pulled, each the contract of a function that does nothing.
 
-ghost use Rattle.cs_exchange.specs.pulling.Laws.{ListHasResult, NoPullFaultWherePulled, OneList, OnePull, OnePullFault, OnePullIn, OneRead, PulledLeads, PulledOrRefused, ReadOrNot};
+ghost use Rattle.cs_exchange.specs.pulling.Laws.{FormOrNot, ListHasResult, MergedOrRefused, NoMergeFaultWhereTaken, NoPullFaultWherePulled, OneForm, OneList, OneMergeFault, OnePull, OnePullFault, OnePullIn, OneRead, OneTold, PulledLeads, PulledOrRefused, ReadOrNot, ToldHasResult};
 
 use cs_conflict::Picker;
+
+/// Bytes are read as one changeset.
+pub fn one_form()
+    ensures { OneForm }
+{
+    cs_changeset::laws::changesets();
+    cs_normalising::laws::one_normal_form();
+}
+
+/// Bytes are read as a changeset, or can't be read.
+pub fn form_or_not()
+    ensures { FormOrNot }
+{
+    cs_changeset::laws::changesets();
+    cs_normalising::laws::form_or_unfit();
+    cs_normalising::laws::no_fault_where_fit();
+}
 
 /// An answer's entry is read as one entry of the log.
 pub fn one_read()
     ensures { OneRead }
 {
-    cs_changeset::laws::changesets();
-    cs_normalising::laws::one_normal_form();
+    one_form();
 }
 
 /// An answer's entry in bytes is read as an entry of the log, or can't be read.
 pub fn read_or_not()
     ensures { ReadOrNot }
 {
-    cs_changeset::laws::changesets();
-    cs_normalising::laws::form_or_unfit();
-    cs_normalising::laws::no_fault_where_fit();
+    form_or_not();
 }
 
 /// An entry that is pulled leads from the log's rows to those that it leaves of them.
@@ -83,4 +97,47 @@ pub fn list_has_result<P: Picker>()
     one_read();
     read_or_not();
     pulled_or_refused::<P>();
+}
+
+/// Where a picker has one answer to each clash, entries that are told at once have one fault, and those that are taken have none.
+pub fn one_merge_fault<P: Picker>()
+    ensures one { OneMergeFault P.picks }
+    ensures taken { NoMergeFaultWhereTaken P.picks }
+{
+    crate::taking::laws::one_stop_taking::<P>();
+    crate::taking::laws::no_stop_where_taken::<P>();
+    crate::taking::laws::bad_is_neither::<P>();
+}
+
+/// Where a picker has a lawful answer to each clash, entries that are told at once are taken, and there is a store that holds what is
+/// left, or they have a fault.
+pub fn merged_or_refused<P: Picker>()
+    ensures { MergedOrRefused P.picks P.is_ready }
+{
+    cs_store::log::laws::defined_or_not();
+    crate::taking::laws::taken_or_stopped::<P>();
+}
+
+/// Where a picker has one answer to each clash, bytes that are told to lead to a version have one result, and leave one position, one
+/// thing in the store, and one state of the picker.
+pub fn one_told<P: Picker>()
+    ensures { OneTold P.picks }
+{
+    one_form();
+    cs_pending::laws::one_view();
+    crate::taking::laws::one_contents();
+    crate::taking::laws::one_taken::<P>();
+    crate::taking::laws::one_stop_taking::<P>();
+    crate::taking::laws::no_stop_where_taken::<P>();
+    crate::taking::laws::bad_is_neither::<P>();
+}
+
+/// Where a picker has a lawful answer to each clash, bytes that are told to lead to a version above the position's have a result, and
+/// there is a store that holds what is left.
+pub fn told_has_result<P: Picker>()
+    ensures { ToldHasResult P.picks P.is_ready }
+{
+    one_form();
+    form_or_not();
+    merged_or_refused::<P>();
 }

@@ -1,11 +1,13 @@
-//! Entries of an answer, read.
+//! Entries of an answer, and changesets, read.
 
-ghost use Rattle.std.specs.Prelude.{◌≡◌, ◌≢◌, Some, IfOk, IfSome, OnOk};
+ghost use Rattle.std.specs.Prelude.{◌≡◌, ◌≢◌, List, Some, IfOk, IfSome, OnOk};
+ghost use Rattle.cs_normal.specs.declared.normal.TableChanges.{TableChanges};
 ghost use Rattle.cs_store.specs.declared.log.entry.LogEntry.{LogEntry as Entry};
 ghost use Rattle.cs_normalising.specs.declared.unfit.Unfit.TheVariants.{Memory as OutOfMemory};
-ghost use Rattle.cs_exchange.specs.pulling.Told.{IsReadAs};
+ghost use Rattle.cs_exchange.specs.pulling.Told.{IsFormOf, IsReadAs};
 
 use cs_changeset::{CodecFault, read};
+use cs_normal::Normal;
 use cs_normalising::{Unfit, normalise};
 use cs_store::log::{Body, LogEntry};
 use cs_value::{Catalog, Memory};
@@ -22,6 +24,33 @@ fn refuses(fault: Unfit) -> Result<(), Memory>
     }
 }
 
+/// The changeset that the bytes spell, in normal form by the tables; none where they spell none, or it has none.
+pub(crate) fn read_form(
+    alloc: Global,
+    catalog: &Catalog,
+    bytes: &[u8],
+) -> Result<Option<Normal>, Memory>
+    ensures found { IfOk result (λ read. IfSome read (IsFormOf catalog.now bytes.now)) }
+    ensures only { (changes : List TableChanges) → IsFormOf catalog.now bytes.now changes → IfOk result (λ read. read ≡ Some changes) }
+{
+    cs_changeset::laws::changesets();
+    cs_normalising::laws::one_normal_form();
+    cs_normalising::laws::no_fault_where_fit();
+    let _tables = catalog.tables();
+    let groups = match read(alloc, bytes) {
+        Ok(groups) => groups,
+        Err(CodecFault::Memory) => return Err(AllocError),
+        Err(CodecFault::At { .. }) => return Ok(None),
+    };
+    match normalise(alloc, catalog, &groups) {
+        Ok(changes) => Ok(Some(changes)),
+        Err(fault) => {
+            refuses(fault)?;
+            Ok(None)
+        }
+    }
+}
+
 /// The entry of the log that an answer's entry is: its changeset is read, and brought into normal form by the tables; none where
 /// either can't be, or where there is no such kind of entry. (Profile of this project.)
 pub(crate) fn read_told(
@@ -32,21 +61,8 @@ pub(crate) fn read_told(
     ensures found { IfOk result (λ read. IfSome read (IsReadAs catalog.now told.now)) }
     ensures only { (entry : Entry) → IsReadAs catalog.now told.now entry → IfOk result (λ read. read ≡ Some entry) }
 {
-    cs_changeset::laws::changesets();
-    cs_normalising::laws::one_normal_form();
-    cs_normalising::laws::no_fault_where_fit();
-    let _tables = catalog.tables();
-    let groups = match read(alloc, told.body()) {
-        Ok(groups) => groups,
-        Err(CodecFault::Memory) => return Err(AllocError),
-        Err(CodecFault::At { .. }) => return Ok(None),
-    };
-    let changes = match normalise(alloc, catalog, &groups) {
-        Ok(changes) => changes,
-        Err(fault) => {
-            refuses(fault)?;
-            return Ok(None);
-        }
+    let Some(changes) = read_form(alloc, catalog, told.body())? else {
+        return Ok(None);
     };
     let entry = LogEntry {
         origin: told.origin(),

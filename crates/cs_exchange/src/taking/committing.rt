@@ -1,6 +1,6 @@
 //! The commit of a taken entry.
 
-ghost use Rattle.std.specs.Prelude.{◌≡◌, ◌+◌, ◌<◌, ◌-◌, ◌^◌, map, IfOk};
+ghost use Rattle.std.specs.Prelude.{◌≡◌, map, IfOk};
 ghost use Rattle.std.specs.FinMap.{len};
 ghost use Rattle.cs_store.specs.declared.fault.StoreFault.TheVariants.{Device};
 ghost use Rattle.cs_pending.specs.Calls.{WritesStore};
@@ -47,27 +47,28 @@ fn batch_at(alloc: Global, settling: Settling, version: u64) -> Result<Batch, Me
     })
 }
 
-/// Commits the gathered edits: the position comes one entry further, and nothing is under way. It answers how many changes are
+/// Commits the gathered edits: the position comes to a version, and nothing is under way. It answers how many changes are
 /// pending then.
+// Six parameters: allocator, store, catalog and position, which are lent apart, the version, and the edits.
 pub(crate) fn commit_taken<S: RowStore>(
     alloc: Global,
     store: &mut S,
     catalog: &Catalog,
     position: &Position,
+    next: u64,
     settling: Settling,
 ) -> Result<u64, StoreFault>
-    requires room { position.now.version < 2 ^ 64 - 1 }
     requires within { IsWithin catalog.now settling }
     ensures writes { WritesStore S.RowStore Device
         (ShowsSomeAt catalog.now position.now (S.contents store.old))
-        (IsCommitted catalog.now position.now settling (S.contents store.old)) store.old store.new result }
+        (IsCommitted catalog.now position.now next settling (S.contents store.old)) store.old store.new result }
     ensures counted { IfOk result (λ count. count ≡ settling.count) }
 {
     cs_store::laws::commits();
     cs_pending::position::laws::commit_shows();
     let _tables = catalog.tables();
     let count = settling.count;
-    let batch = batch_at(alloc, settling, position.version + 1)?;
+    let batch = batch_at(alloc, settling, next)?;
     match store.commit(&batch) {
         Ok(_) => Ok(count),
         Err(fault) => Err(fault),

@@ -10,7 +10,7 @@ pub fn one_clash()
 {}
 
 /// What shows one view at one position holds one thing, and shows one state of the log's rows there; and what a store shows can be
-/// shown one entry further.
+/// shown at another version.
 pub fn one_contents()
     ensures contents { OneContents }
     ensures log_rows { OneLogRows }

@@ -1,4 +1,4 @@
-use Rattle.cs_replica.proofs.Stood.{entry_stands, kept_stands}
+use Rattle.cs_replica.proofs.Stood.{entry_stands, kept_stands, lead_stands}
 use Rattle.cs_replica.proofs.laws.steps_stand.Goals as goal
 
 pub returns-clause-kept : goal.returns-clause-kept
@@ -6,3 +6,6 @@ returns-clause-kept c = kept_stands
 
 pub returns-clause-entry : goal.returns-clause-entry
 returns-clause-entry c = entry_stands c.slices.ensures
+
+pub returns-clause-lead : goal.returns-clause-lead
+returns-clause-lead c = lead_stands

@@ -1,5 +1,5 @@
-use Rattle.cs_exchange.proofs.PullingLemmas.Reading.{one_read}
+use Rattle.cs_exchange.proofs.PullingLemmas.Reading as law
 use Rattle.cs_exchange.proofs.pulling.laws.one_read.Goals as goal
 
 pub returns : goal.returns
-returns c = one_read c.changesets.ensures.one c.one_normal_form.ensures
+returns c = law.one_read c.one_form.ensures

@@ -1,0 +1,4 @@
+use Rattle.cs_replica.proofs.replica.Replica.take_merged.Goals as goal
+
+pub returns-clause-writes : goal.returns-clause-writes
+returns-clause-writes g c = rw (← c.self.view_is) c.take_merged.ensures.writes
