@@ -22,7 +22,7 @@ use Rattle.cs_exchange.specs.declared.pulling.fault.AnswerFault.TheVariants.{Mem
 use Rattle.cs_exchange.specs.taking.Laws.{AnswersLawfully, PicksOnce}
 use Rattle.cs_wire.specs.Entries.{ToldEntry}
 use Rattle.cs_wire.specs.declared.answer.Answer.{Answer}
-use Rattle.cs_wire.specs.declared.answer.Answer.TheVariants.{Short, Entries}
+use Rattle.cs_wire.specs.declared.answer.Answer.TheVariants.{Short, Entries, Merged}
 use Rattle.cs_replica.specs.Answered.{Answers}
 use Rattle.cs_replica.specs.Edited.{with_pending}
 use Rattle.cs_replica.specs.Stands.{StandsOn}
@@ -135,10 +135,11 @@ OneAnswered {P} picks =
     → Answers picks tables answer other position seen p there last r
     → (some ≡ other) × (here ≡ there) × (new ≡ last) × (q ≡ r)
 
--- the bodies of its entries are bytes
+-- the bodies of its entries are bytes, or its changeset is
 abbrev pub IsInBytes : Answer → Type 0
 IsInBytes (Short answer) = Unit {0}
 IsInBytes (Entries first entries) = AllByRecursion (λ (told : ToldEntry). AreBytes told.body) entries
+IsInBytes (Merged origin first next changeset) = AreBytes changeset
 
 -- there is one, by a picker that has a lawful answer to each clash: an answer of the hub in bytes has a result, and there is a store that
 -- holds what is left

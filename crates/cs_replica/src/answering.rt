@@ -5,12 +5,13 @@ ghost use Rattle.cs_pending.specs.View.{View};
 ghost use Rattle.cs_pending.specs.position.Shows.{ShowsAt, ShowsSomeAt};
 ghost use Rattle.cs_exchange.specs.pulling.Calls.{WritesInTurn};
 ghost use Rattle.cs_replica.specs.Accepted.{IsAccepted};
-ghost use Rattle.cs_replica.specs.Answered.{Answers, IsAnsweredAmong, IsAnsweredNext, IsDone, SaysDevice, TellsAccepted, KeepsRows};
+ghost use Rattle.cs_replica.specs.Answered.{Answers, IsAnsweredAmong, IsAnsweredNext, IsDone, IsForIt, KeepsRows, SaysDevice, TellsAccepted, TellsMerged};
 ghost use Rattle.cs_exchange.specs.pushing.Pushes.{IsConfirmedIn};
+ghost use Rattle.cs_wire.specs.declared.answer.Answer.TheVariants.{Merged};
 
 use crate::told::Told;
 use cs_conflict::Picker;
-use cs_exchange::pulling::{AnswerFault, Pulled, take_entries};
+use cs_exchange::pulling::{AnswerFault, Pulled, take_entries, take_told};
 use cs_exchange::pushing::confirm;
 use cs_pending::position::Position;
 use cs_store::{RowStore, StoreFault};
@@ -59,6 +60,46 @@ fn accept_at<S: RowStore>(
     }
 }
 
+/// Whether entries that are told together are for this replica, and begin at its version.
+fn is_for_it(position: &Position, origin: u32, first: u64) -> bool
+    ensures { IsTrue result ↔ IsForIt position.now origin first }
+{
+    origin == position.id && first == position.version
+}
+
+/// Takes entries that are told together, from the version up to another, as one changeset.
+// Seven parameters: the allocator, the replica's three fields, which it lends apart, the version, the changeset, and the picker.
+fn merge_at<S: RowStore, P: Picker>(
+    alloc: Global,
+    store: &mut S,
+    catalog: &Catalog,
+    position: &mut Position,
+    next: u64,
+    changeset: &[u8],
+    picker: &mut P,
+) -> Result<Told, AnswerFault>
+    requires ready { P.is_ready picker.old }
+    ensures ready { P.is_ready picker.new }
+    ensures told { S.honest store.new → (before : View) → ShowsAt catalog.now (S.contents store.old) position.old before
+        → TellsMerged P.picks catalog.now position.old.id position.old.version next changeset.now result position.old before picker.old position.new (S.contents store.new) picker.new }
+    ensures writes { WritesInTurn S.RowStore (IsDone result) (SaysDevice result)
+        (ShowsSomeAt catalog.now position.old (S.contents store.old))
+        (IsAnsweredAmong P.picks catalog.now (Merged position.old.id position.old.version next changeset.now) position.old (S.contents store.old) picker.old)
+        (IsAnsweredNext P.picks catalog.now (Merged position.old.id position.old.version next changeset.now) position.new (S.contents store.new)) store.old store.new }
+{
+    if next < position.version {
+        return Err(AnswerFault::BadEntry(0));
+    }
+    if next == position.version {
+        return Ok(Told::Taken(0));
+    }
+    match take_told(alloc, store, catalog, position, next, changeset, picker) {
+        Ok(Pulled::Taken(count)) => Ok(Told::Taken(count)),
+        Ok(Pulled::Stopped(count)) => Ok(Told::Stopped(count)),
+        Err(fault) => Err(fault),
+    }
+}
+
 /// Takes an answer of the hub.
 // Six parameters: the allocator, the replica's three fields, which it lends apart, the answer, and the picker.
 pub(crate) fn answer_at<S: RowStore, P: Picker>(
@@ -94,6 +135,18 @@ pub(crate) fn answer_at<S: RowStore, P: Picker>(
                 Ok(Pulled::Stopped(count)) => Ok(Told::Stopped(count)),
                 Err(fault) => Err(fault),
             }
+        }
+        Answer::Merged {
+            origin,
+            first,
+            next,
+            changeset,
+        } => {
+            if !is_for_it(position, *origin, *first) {
+                return Ok(Told::Ignored);
+            }
+            let bytes = changeset.bytes();
+            merge_at(alloc, store, catalog, position, *next, bytes, picker)
         }
     }
 }

@@ -53,6 +53,7 @@ pub fn one_answered<P: Picker>()
     cs_pending::laws::one_view();
     cs_exchange::taking::laws::one_contents();
     cs_exchange::pulling::laws::one_list::<P>();
+    cs_exchange::pulling::laws::one_told::<P>();
 }
 
 /// Where a picker has a lawful answer to each clash, an answer of the hub in bytes has a result, and there is a store that holds what is
@@ -62,4 +63,5 @@ pub fn answer_has_result<P: Picker>()
 {
     cs_exchange::taking::laws::one_contents();
     cs_exchange::pulling::laws::list_has_result::<P>();
+    cs_exchange::pulling::laws::told_has_result::<P>();
 }

@@ -421,8 +421,8 @@ impl<S: RowStore> Replica<S> {
 
     /// Takes an answer of the hub. A push that was accepted is confirmed, where it is the one that is under way; entries are taken one
     /// after another, each in a commit of its own: those before the version are passed over, and the list ends where the picker
-    /// stops, and at an entry behind the one at the version. What was taken stays, whatever comes later. (Profile of this
-    /// project.)
+    /// stops, and at an entry behind the one at the version. What was taken stays, whatever comes later. Entries that are told together
+    /// are taken in one commit, where they are for this replica and begin at its version. (Profile of this project.)
     pub fn answer<P: Picker>(
         &mut self,
         alloc: Global,

@@ -102,7 +102,7 @@ pub(crate) fn unopened(alloc: Global, store: Store) -> Option<(Store, OpenFault)
 }
 
 /// What these bytes spell, in normal form.
-fn normal_of(alloc: Global, bytes: &[u8]) -> Option<Normal> {
+pub(crate) fn normal_of(alloc: Global, bytes: &[u8]) -> Option<Normal> {
     let catalog = catalog(alloc)?;
     let changeset = read(alloc, bytes).ok()?;
     normalise(alloc, &catalog, &changeset).ok()

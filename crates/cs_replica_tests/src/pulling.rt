@@ -1,4 +1,5 @@
 mod failing;
+mod merging;
 mod picking;
 mod refusing;
 mod storing;

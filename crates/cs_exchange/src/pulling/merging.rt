@@ -104,6 +104,9 @@ pub fn take_told<S: RowStore, P: Picker>(
     ensures takes { S.honest store.new → (before : View) → ShowsAt catalog.now (S.contents store.old) position.old before
         → TakesTold P.picks catalog.now next bytes.now result position.old before picker.old position.new (S.contents store.new) picker.new }
 
+    // The position moves only where they were taken.
+    ensures kept { (TakesAll result → ⊥) → position.new ≡ position.old }
+
     // In one commit.
     ensures writes { WritesInTurn S.RowStore (TakesAll result) (TellsDevice result)
         (ShowsSomeAt catalog.now position.old (S.contents store.old))

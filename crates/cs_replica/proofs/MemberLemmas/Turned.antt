@@ -24,7 +24,7 @@ use Rattle.cs_exchange.specs.declared.pulling.fault.AnswerFault.TheVariants as f
 use Rattle.cs_exchange.specs.pushing.Pushes.{IsPushFault, IsPushMadeIn, IsPushOf, grounded, pushed, request_of}
 use Rattle.cs_exchange.specs.declared.pushing.fault.PushFault.{PushFault}
 use Rattle.cs_exchange.specs.declared.pushing.fault.PushFault.TheVariants as pushes
-use Rattle.cs_replica.specs.Answered.{Answers, TellsAccepted}
+use Rattle.cs_replica.specs.Answered.{Answers, TellsAccepted, TellsMerged}
 use Rattle.cs_replica.specs.Edited.{IsEditedIn, with_pending}
 use Rattle.cs_replica.specs.Holding.{Holding, Shows}
 use Rattle.cs_replica.specs.declared.told.Told.{Told}
@@ -40,6 +40,9 @@ use Rattle.cs_wire.specs.declared.answer.Answer.TheVariants as told
 use Rattle.cs_wire.specs.declared.short_answer.ShortAnswer.TheVariants as short
 use Rattle.cs_exchange.specs.pulling.Calls.{WritesInTurn}
 use Rattle.cs_exchange.specs.pulling.Listed.{PullsMany, count_of}
+use Rattle.cs_exchange.specs.pulling.Merged.{TakesTold}
+use Rattle.cs_exchange.specs.declared.pulling.listing.Pulled.{Pulled}
+use Rattle.cs_exchange.specs.declared.pulling.listing.Pulled.TheVariants as pulled
 use Rattle.cs_exchange.specs.taking.Takes.{taken}
 use Rattle.cs_replica.specs.member.Leaves.{CallLeaves}
 use Rattle.cs_replica.specs.member.Member.{AreRowsIn, Hears, IsEditedBy, IsEditedTo, IsPushedTo, Member, Turns, asked_of_edit, member_of, table_of_edit}
@@ -64,6 +67,28 @@ accepted_keeps_id origin number version (Err (fault.Memory count)) position othe
 accepted_keeps_id origin number version (Err (fault.Device count)) position other tells = ap (λ (x : Position). x.id) tells.1
 accepted_keeps_id origin number version (Err (fault.BadEntry count)) position other tells = absurd tells
 
+told_keeps_id : (tables : List TableDef) (next : ℕ) (changeset : List ℕ) (result : Result Pulled AnswerFault) (position : Position) (before : View) (p : List Wish) (other : Position) (new : Contents) (q : List Wish)
+    → TakesTold IsWished tables next changeset result position before p other new q → other.id ≡ position.id
+told_keeps_id tables next changeset (Ok (pulled.Taken count)) position before p other new q (sum, changes, after, form, moved, rest) = ap (λ (x : Position). x.id) moved
+told_keeps_id tables next changeset (Ok (pulled.Stopped count)) position before p other new q (none, changes, conflict, form, stops, (same, still)) = ap (λ (x : Position). x.id) same
+told_keeps_id tables next changeset (Err (fault.Memory count)) position before p other new q (none, (same, still)) = ap (λ (x : Position). x.id) same
+told_keeps_id tables next changeset (Err (fault.Device count)) position before p other new q (none, (same, still)) = ap (λ (x : Position). x.id) same
+told_keeps_id tables next changeset (Err (fault.BadEntry count)) position before p other new q (none, bad, asked, (same, still)) = ap (λ (x : Position). x.id) same
+
+merged_keeps_id : (tables : List TableDef) (origin first next : ℕ) (changeset : List ℕ) (result : Result Told AnswerFault) (position : Position) (before : View) (p : List Wish) (other : Position) (new : Contents) (q : List Wish)
+    → TellsMerged IsWished tables origin first next changeset result position before p other new q → other.id ≡ position.id
+merged_keeps_id tables origin first next changeset (Ok (what.Confirmed newest)) position before p other new q tells = absurd tells
+merged_keeps_id tables origin first next changeset (Ok what.Ignored) position before p other new q tells = ap (λ (x : Position). x.id) tells.1
+merged_keeps_id tables origin first next changeset (Ok (what.Stale newest)) position before p other new q tells = absurd tells
+merged_keeps_id tables origin first next changeset (Ok (what.Refused code)) position before p other new q tells = absurd tells
+merged_keeps_id tables origin first next changeset (Ok (what.Taken count)) position before p other new q (meant, inl (same, none, stood, keeps)) = ap (λ (x : Position). x.id) stood
+merged_keeps_id tables origin first next changeset (Ok (what.Taken count)) position before p other new q (meant, inr (above, takes)) = told_keeps_id tables next changeset (Ok (pulled.Taken count)) position before p other new q takes
+merged_keeps_id tables origin first next changeset (Ok (what.Stopped count)) position before p other new q (meant, above, takes) = told_keeps_id tables next changeset (Ok (pulled.Stopped count)) position before p other new q takes
+merged_keeps_id tables origin first next changeset (Err (fault.Memory count)) position before p other new q (meant, above, takes) = told_keeps_id tables next changeset (Err (fault.Memory count)) position before p other new q takes
+merged_keeps_id tables origin first next changeset (Err (fault.Device count)) position before p other new q (meant, above, takes) = told_keeps_id tables next changeset (Err (fault.Device count)) position before p other new q takes
+merged_keeps_id tables origin first next changeset (Err (fault.BadEntry count)) position before p other new q (meant, inl (less, none, stood, keeps)) = ap (λ (x : Position). x.id) stood
+merged_keeps_id tables origin first next changeset (Err (fault.BadEntry count)) position before p other new q (meant, inr (above, takes)) = told_keeps_id tables next changeset (Err (fault.BadEntry count)) position before p other new q takes
+
 pub answer_keeps_id : (tables : List TableDef) (answer : Answer) (result : Result Told AnswerFault) (position : Position) (before : View) (p : List Wish) (other : Position) (new : Contents) (q : List Wish)
     → Answers IsWished tables answer result position before p other new q → other.id ≡ position.id
 answer_keeps_id tables (told.Short (short.Accepted origin number version)) result position before p other new q answers = accepted_keeps_id origin number version result position other answers.0
@@ -71,6 +96,7 @@ answer_keeps_id tables (told.Short (short.Stale newest)) result position before 
 answer_keeps_id tables (told.Short (short.Refused code)) result position before p other new q answers = ap (λ (x : Position). x.id) answers.1
 answer_keeps_id tables (told.Entries first entries) result position before p other new q (pulled, is, list) =
     many_keeps_id tables first entries (count_of pulled) position before p other list.0 list.1 list.2
+answer_keeps_id tables (told.Merged origin first next changeset) result position before p other new q answers = merged_keeps_id tables origin first next changeset result position before p other new q answers
 
 module _ {S : Type 0} (g : Ghosts S) (old new : Holding S) (catalog : new.catalog ≡ old.catalog) where
   -- what is shown by the old tables at this position is shown

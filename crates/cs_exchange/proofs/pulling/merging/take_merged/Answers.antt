@@ -1,4 +1,5 @@
-use Rattle.cs_pending.specs.Storing.{no_call, then_not_written, then_written}
+use Rattle.std.proofs.Common.{Err, ap, arith}
+use Rattle.cs_pending.specs.Storing.{err_is, no_call, then_not_written, then_written}
 use Rattle.cs_exchange.specs.declared.taking.fault.TakeFault.TheVariants as take
 use Rattle.cs_exchange.specs.declared.pulling.fault.PullFault.TheVariants.{Device}
 use Rattle.cs_exchange.proofs.PullingLemmas.AtOnce.{merge_refused}
@@ -21,6 +22,6 @@ returns-in-Err-clause-writes g c =
 pub returns-in-Err-clause-refused : goal.returns-in-Err-clause-refused
 returns-in-Err-clause-refused g c = λ honest view shows.
     let told = c.from.ensures in
-    merge_refused g.P.Picker.picks c.args.catalog.now c.args.position.now c.args.first c.args.next c.args.changes.now view c.args.picker.now c.take_changes_to.new.picker ?
+    merge_refused g.P.Picker.picks c.args.catalog.now c.args.position.now c.args.first c.args.next c.args.changes.now view c.args.picker.now c.take_changes_to.new.picker (omega arith)
     c.in-Err.fault c.from.result told.0 told.1 told.2 told.3
-    ? ? ? (c.in-Err.ensures.stopped honest view shows)
+    (λ is. c.in-Err.ensures.bad honest view shows (ap (λ f. Err f) is)) (λ is. c.in-Err.ensures.unasked (ap (λ f. Err f) is)) (λ below. err_is c.in-Err.fault take.BadEntry (c.in-Err.ensures.last below)) (c.in-Err.ensures.stopped honest view shows)
