@@ -142,6 +142,13 @@ impl<S: RowStore> Replica<S> {
         let _ = &self.store;
     }
 
+    /// Its id. It takes no memory.
+    pub fn id(&self) -> u32
+        ensures { result ≡ self.now.position.id }
+    {
+        self.position.id
+    }
+
     /// The version of the log that it has come to. It takes no memory.
     pub fn version(&self) -> u64
         ensures { result ≡ self.now.position.version }
