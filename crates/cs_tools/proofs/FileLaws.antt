@@ -1,8 +1,7 @@
 -- Files have one text that `show` and `combine` owe, or one fault.
-use Rattle.std.proofs.Common.{◌≡◌, ℕ, List, [], ◌∷◌, Option, Some, inl, inr, refl, sym, ap, ap₂, ◌∙◌, subst}
+use Rattle.std.proofs.Common.{◌≡◌, ℕ, List, [], ◌∷◌, Option, inl, inr, refl, sym, ap, ap₂, ◌∙◌, subst}
 use Rattle.std.specs.Prelude.{◌⊎◌, IfSome, flat_map}
 use Rattle.std.specs.List.{AllZip}
-use Rattle.cs_blob.specs.Laws.{BlobLaws}
 use Rattle.cs_blob.specs.Reading.{IsBlobFault}
 use Rattle.cs_blob.specs.Spelling.{FitsBlob, blob_spelling}
 use Rattle.cs_change.specs.Spelling.{FitsChangeset, changeset_spelling}
@@ -17,8 +16,6 @@ use Rattle.cs_text.specs.Text.{blob_text, changeset_text}
 use Rattle.cs_tools.specs.CombinedLines.{AreNotCombined}
 use Rattle.cs_tools.specs.Faults.{IsFailure, IsOfNoLine}
 use Rattle.cs_tools.specs.Files.{ChangesetAt, CombinesFiles, HasBadFile, HeldAt, IsBadFile, IsFile, IsUnread, OneCombinedFault, OneCombinedOfFiles, OneShownFile, OneShownFileFault, RefusesFiles, SpelledAt}
-use Rattle.cs_tools.specs.SpelledLine.{Spells}
-use Rattle.cs_tools.specs.WrittenForm.{IsNotWritten}
 use Rattle.cs_tools.specs.declared.fault.ToolFault.{ToolFault}
 use Rattle.cs_tools.specs.declared.fault.ToolFault.TheVariants as told
 use Rattle.cs_tools.specs.declared.show.Shown.TheVariants.{Blob, Changeset}

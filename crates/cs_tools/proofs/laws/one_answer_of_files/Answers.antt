@@ -14,8 +14,8 @@ returns g c =
       orders = c.one_order_or_two.ensures;
     } in
     record {
-      shown = one_shown_file laws _ _ _ _;
-      fault = one_shown_file_fault laws _ _ _ _;
-      combined = one_combined_of laws _ _ _ _;
-      combine_fault = one_combined_fault_of laws _ _ _ _;
+      shown = one_shown_file laws g.F.Input.Read.remaining g.F.Input.PieceInput.failed g.F.InputFiles.opened g.F.InputFiles.unopened;
+      fault = one_shown_file_fault laws g.F.Input.Read.remaining g.F.Input.PieceInput.failed g.F.InputFiles.opened g.F.InputFiles.unopened;
+      combined = one_combined_of laws g.F.Input.Read.remaining g.F.Input.PieceInput.failed g.F.InputFiles.opened g.F.InputFiles.unopened;
+      combine_fault = one_combined_fault_of laws g.F.Input.Read.remaining g.F.Input.PieceInput.failed g.F.InputFiles.opened g.F.InputFiles.unopened;
     }
