@@ -16,7 +16,7 @@ use Rattle.cs_replica.specs.declared.told.Told.{Told}
 use Rattle.cs_store.specs.declared.store.RowStore.{Ghosts}
 use Rattle.cs_value.specs.declared.catalog.TableDef.{TableDef}
 use Rattle.cs_wire.specs.Answers.{FitsAnswer, answer_spelling}
-use Rattle.cs_wire.specs.Requests.{AsksCatch, asked_by_owned, request_spelling}
+use Rattle.cs_wire.specs.Requests.{asked_by_owned, request_spelling}
 use Rattle.cs_wire.specs.declared.answer.Answer.{Answer}
 use Rattle.cs_wire.specs.declared.request.RequestBuf.{RequestBuf}
 use Rattle.std.specs.declared.alloc.AllocError.{AllocError}
@@ -73,10 +73,6 @@ module _ {S : Type 0} (g : Ghosts S) where
   replies_still id ask reply held so =
       replies_counted id ask reply held held (counted_still held (λ had has before after. LineStep held.catalog had has before ask (reply_text reply) after) so)
 
-  pub replies_placed : (id : ℕ) (ask : Ask) (reply : Reply) (held : Holding S)
-      → ((had has : ℕ) (m : Member) → m.position ≡ held.position → IsStep id held.catalog ask (reply_text reply) had has m m) → Replies g id ask (Ok reply) held held
-  replies_placed id ask reply held so = (reply_text reply, counted_still held (IsStep id held.catalog ask (reply_text reply)) so, refl)
-
   -- ---- a push
 
   pub push_made : (result : Result RequestBuf PushFault) (text : List ℕ) (old new : Holding S) → text ≡ pushed_text result
@@ -103,15 +99,9 @@ module _ {S : Type 0} (g : Ghosts S) where
     };
   }
 
--- ---- a push that is given again, and what asks for entries
+-- ---- a push that is given again
 
 pub resent : (tables : List TableDef) (had has : ℕ) (before : Member) (request : RequestBuf) (text : List ℕ) → IsResent (Ok request) before.position
     → (text ≡ hex_line (request_spelling (asked_by_owned request))) ⊎ SaysMemory text → LineStep tables had has before line.Resend text before
 resent tables had has before request text is (inl says) = (refl, inl (Ok request, is, says))
 resent tables had has before request text is (inr memory) = (refl, inr memory)
-
-pub caught : (tables : List TableDef) (had has id version limit : ℕ) (before : Member) (text : List ℕ) → before.position.version ≡ version
-    → (text ≡ hex_line (request_spelling (AsksCatch id version limit))) ⊎ SaysMemory text → IsStep id tables (line.Catch limit) text had has before before
-caught tables had has id version limit before text at (inl says) its =
-    (refl, inl (says ∙ ap (λ (i : ℕ). hex_line (request_spelling (AsksCatch i version limit))) (sym its) ∙ ap (λ (v : ℕ). hex_line (request_spelling (AsksCatch before.position.id v limit))) (sym at)))
-caught tables had has id version limit before text at (inr memory) its = (refl, inr memory)

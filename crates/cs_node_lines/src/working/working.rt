@@ -84,13 +84,12 @@ fn pull_line<S: RowStore>(alloc: Global, replica: &Replica<S>, limit: u32) -> Re
     asked(alloc, &RequestBuf::Pull { first, limit })
 }
 
-fn catch_line<S: RowStore>(alloc: Global, replica: &Replica<S>, id: u32, limit: u32) -> Reply
-    ensures { (had : ℕ) → (has : ℕ) → (before : Member) → before.position ≡ replica.now.position → IsStep id replica.now.catalog (line.Catch limit) (reply_text result) had has before before }
+fn catch_line<S: RowStore>(alloc: Global, replica: &Replica<S>, limit: u32) -> Reply
+    ensures { (had : ℕ) → (has : ℕ) → (before : Member) → before.position ≡ replica.now.position → LineStep replica.now.catalog had has before (line.Catch limit) (reply_text result) before }
 {
-    let first = replica.version();
     let request = RequestBuf::Catch {
-        origin: id,
-        first,
+        origin: replica.id(),
+        first: replica.version(),
         limit,
     };
     asked(alloc, &request)
@@ -157,7 +156,7 @@ pub(crate) fn work_ask<S: RowStore>(
         Ask::Push => push_line(alloc, replica),
         Ask::Resend => Ok(resend_line(alloc, replica)),
         Ask::Pull(limit) => Ok(pull_line(alloc, replica, *limit)),
-        Ask::Catch(limit) => Ok(catch_line(alloc, replica, id, *limit)),
+        Ask::Catch(limit) => Ok(catch_line(alloc, replica, *limit)),
         Ask::Answer { bytes, wishes } => {
             answer_line(alloc, replica, bytes.as_slice(), wishes.as_slice())
         }

@@ -1,5 +1,5 @@
 use Rattle.cs_node_lines.specs.declared.asks.ask.Ask.TheVariants as line
-use Rattle.cs_node_lines.proofs.WorkingLemmas.Made.{replies_made, replies_placed, replies_still}
+use Rattle.cs_node_lines.proofs.WorkingLemmas.Made.{replies_made, replies_still}
 use Rattle.cs_node_lines.proofs.working.working.work_ask.Goals as goal
 
 pub returns-in-Push : goal.returns-in-Push
@@ -21,4 +21,4 @@ returns-in-Pull g c =
 
 pub returns-in-Catch : goal.returns-in-Catch
 returns-in-Catch g c =
-    rw c.in-Catch.is (replies_placed g.S.RowStore c.args.id (line.Catch c.in-Catch.limit) c.catch_line.result c.args.replica.now c.catch_line.ensures)
+    rw c.in-Catch.is (replies_still g.S.RowStore c.args.id (line.Catch c.in-Catch.limit) c.catch_line.result c.args.replica.now c.catch_line.ensures)
