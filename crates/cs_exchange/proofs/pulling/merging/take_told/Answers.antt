@@ -1,5 +1,5 @@
 use Rattle.std.proofs.Common.{List, Option, Some, Err, refl, sym, ap, subst, ◌∙◌, arith}
-use Rattle.std.specs.Prelude.{IfSome}
+use Rattle.std.specs.Prelude.{◌-◌, IfSome}
 use Rattle.std.proofs.lemmas.Option.{same_Some}
 use Rattle.cs_normal.specs.declared.normal.TableChanges.{TableChanges}
 use Rattle.cs_pending.specs.position.Shows.{ShowsSomeAt}
@@ -27,10 +27,10 @@ returns-in-Ok-take_changes_to-clause-writes g c =
     taken_writes g.P.Picker.picks g.S.RowStore c.args.catalog.now c.args.next c.args.bytes.now c.in-Some.changes
     (subst (λ (o : Option (List TableChanges)). IfSome o (IsFormOf c.args.catalog.now c.args.bytes.now)) c.in-Some.is c.in-Ok.ensures.found)
     c.args.position.now c.take_changes_to.new.position c.args.picker.now c.take_changes_to.new.picker c.args.store.now c.take_changes_to.new.store
-    (ShowsSomeAt c.args.catalog.now c.args.position.now (g.S.RowStore.contents c.args.store.now)) _ c.in-Ok-take_changes_to.field-0 c.in-Ok-take_changes_to.ensures.writes
+    (ShowsSomeAt c.args.catalog.now c.args.position.now (g.S.RowStore.contents c.args.store.now)) (c.args.next - c.args.position.now.version) c.in-Ok-take_changes_to.field-0 c.in-Ok-take_changes_to.ensures.writes
 
-pub returns-in-Err-take_changes_to-clause-takes : goal.returns-in-Err-take_changes_to-clause-takes
-returns-in-Err-take_changes_to-clause-takes g c = λ honest before shows.
+pub returns-clause-takes : goal.returns-clause-takes
+returns-clause-takes g c = λ honest before shows.
     not_taken_told g.P.Picker.picks g.S.RowStore c.args.catalog.now c.args.next c.args.bytes.now c.in-Some.changes
     (subst (λ (o : Option (List TableChanges)). IfSome o (IsFormOf c.args.catalog.now c.args.bytes.now)) c.in-Some.is c.in-Ok.ensures.found)
     c.args.position.now c.take_changes_to.new.position c.args.picker.now c.take_changes_to.new.picker c.args.store.now c.take_changes_to.new.store
@@ -41,8 +41,8 @@ returns-in-Err-take_changes_to-clause-takes g c = λ honest before shows.
     (λ is. c.in-Err-take_changes_to.ensures.unasked (ap (λ f. Err f) is))
     (c.in-Err-take_changes_to.ensures.stopped honest before shows)
 
-pub returns-in-Err-take_changes_to-clause-writes : goal.returns-in-Err-take_changes_to-clause-writes
-returns-in-Err-take_changes_to-clause-writes g c =
+pub returns-clause-writes : goal.returns-clause-writes
+returns-clause-writes g c =
     not_taken_writes g.P.Picker.picks g.S.RowStore c.args.catalog.now c.args.next c.args.bytes.now c.in-Some.changes
     (subst (λ (o : Option (List TableChanges)). IfSome o (IsFormOf c.args.catalog.now c.args.bytes.now)) c.in-Some.is c.in-Ok.ensures.found)
     c.args.position.now c.take_changes_to.new.position c.args.picker.now c.take_changes_to.new.picker c.args.store.now c.take_changes_to.new.store
