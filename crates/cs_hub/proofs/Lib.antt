@@ -10,6 +10,7 @@ pub mod Shown
 pub mod Again
 pub mod Looked
 pub mod LogStoreLemmas
+pub mod CatchingLemmas
 pub mod LogReadingLemmas
 pub mod LogOpeningLemmas
 pub mod AppendingLemmas

@@ -9,6 +9,7 @@ pub mod Steps
 pub mod Laws
 pub mod Opened
 pub mod log_store
+pub mod catching
 pub mod log_reading
 pub mod log_opening
 pub mod appending

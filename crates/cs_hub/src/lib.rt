@@ -7,6 +7,7 @@
 #![tactic(auto)]
 
 pub mod appending;
+pub mod catching;
 mod follow_fault;
 mod hub;
 mod judged;
