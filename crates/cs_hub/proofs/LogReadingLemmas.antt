@@ -1,1 +1,3 @@
 pub mod Found
+pub mod Others
+pub mod Caught

@@ -67,6 +67,14 @@ ends_long law tables list at joined both are so_far one long = record {
   one = so_far.one;
 }
 
+-- what they are together is short
+pub run_is_short : OneJoin → (tables : List TableDef) (list : List (List TableChanges)) (count : ℕ) (changes : List TableChanges) → AreTables tables → IsRunOf tables list count changes → IsShort changes
+run_is_short law tables list count changes are is =
+    let told = is.run.each count (omega arith) in
+    let some = told.1 in
+    let one = is.one in
+    subst IsShort (law tables (take count list) told.0 changes are some.of_tables.0 one.of_tables.0 some.of_tables.1 one.of_tables.1 some.joined one.joined) told.2
+
 pub ends_whole : (tables : List TableDef) (list : List (List TableChanges)) (at : ℕ) (joined : List TableChanges) → at ≡ length list → IsRunSoFar tables list at joined → IsRunOf tables list (length list) joined
 ends_whole tables list at joined all so_far =
     subst (λ (n : ℕ). IsRunOf tables list n joined) all

@@ -80,13 +80,13 @@ are_stored opening contents log shows first (suc count) within =
     (subst (λ (o : Option LogItem). AreStoredAs opening (entry_before o (log_range contents (first + 1) count)) (at.0 ∷ take count (drop (first + 1) log))) (sym (stored_as opening contents log shows first at.0 at.1))
     (one, are_stored opening contents log shows (first + 1) count (omega (arith, within))))
 
-same_length : (opening : List TableDef) (items : List LogItem) (entries : List LogEntry) → AreStoredAs opening items entries → length items ≡ length entries
+pub same_length : (opening : List TableDef) (items : List LogItem) (entries : List LogEntry) → AreStoredAs opening items entries → length items ≡ length entries
 same_length opening [] [] are = refl
 same_length opening [] (e ∷ es) are = absurd are
 same_length opening (i ∷ is) [] are = absurd are
 same_length opening (i ∷ is) (e ∷ es) are = let rest = same_length opening is es are.1 in omega (arith, rest)
 
-range_length : (first count : ℕ) (log : List LogEntry) → first + count ≤ length log → length (take count (drop first log)) ≡ count
+pub range_length : (first count : ℕ) (log : List LogEntry) → first + count ≤ length log → length (take count (drop first log)) ≡ count
 range_length first count log within = length-take-le count (drop first log) (omega (arith, within, length-drop first log))
 
 pub has_range : (opening : List TableDef) (contents : Contents) (first count : ℕ) → ShowsEntries opening contents first count → HasRange contents first count
@@ -120,7 +120,7 @@ told_there (s ∷ ss) (t ∷ ts) (suc at) v less are =
     let rest = told_there ss ts at v (omega (arith, less)) are.1 in
     let within = rest.2 in (rest.0, rest.1, omega (arith, within), rest.3)
 
-stored_there : (opening : List TableDef) (stored : List StoredEntry) (entries : List LogEntry) (at : ℕ) (v : StoredEntry) → at < length stored → AreStoredAs opening (items_of stored) entries
+pub stored_there : (opening : List TableDef) (stored : List StoredEntry) (entries : List LogEntry) (at : ℕ) (v : StoredEntry) → at < length stored → AreStoredAs opening (items_of stored) entries
     → (entry : LogEntry) × IsStoredAs opening (item_of (get_or stored at v)) entry × (at < length entries) × (get_or entries at entry ≡ entry)
 stored_there opening [] entries at v less are = absurd (omega (arith, less))
 stored_there opening (s ∷ ss) [] at v less are = absurd are

@@ -1,5 +1,7 @@
 -- What single steps of reading a log find.
-use Rattle.std.specs.Prelude.{◌≡◌, ◌≤◌, ⊤, ℕ, pos, List, [], ◌∷◌, length, Result, Ok, Err}
+use Rattle.std.specs.Prelude.{◌≡◌, ◌≤◌, ⊤, ℕ, pos, List, [], ◌∷◌, length, map, take, slice_get, Result, Some, Ok, Err}
+use Rattle.cs_normal.specs.declared.normal.TableChanges.{TableChanges}
+use Rattle.cs_store.specs.log.Entry.{entry_changes}
 use Rattle.cs_store.specs.log.Stored.{IsEntryOf}
 use Rattle.cs_store.specs.declared.log.entry.LogEntry.{LogEntry}
 use Rattle.cs_store.specs.declared.log.entry.TheConstants.{MAX_CHANGESET}
@@ -7,6 +9,7 @@ use Rattle.cs_store.specs.declared.log.fault.BodyFault.{BodyFault}
 use Rattle.cs_store.specs.declared.log.fault.BodyFault.TheVariants.{Memory, NoBody}
 use Rattle.cs_value.specs.declared.catalog.TableDef.{TableDef}
 use Rattle.cs_store.specs.Contents.{Contents, LogItem, log_range}
+use Rattle.cs_hub.specs.catching.Catches.{IsToldAlone, NoneIsAlone}
 use Rattle.cs_hub.specs.log_store.Shows.{item_of_entry}
 use Rattle.cs_wire.specs.Entries.{ToldEntry}
 
@@ -43,3 +46,12 @@ abbrev pub ReadsAs : LogEntry → Result LogEntry BodyFault → Type 0
 ReadsAs entry (Ok read) = read ≡ entry
 ReadsAs entry (Err Memory) = Unit {0}
 ReadsAs entry (Err NoBody) = ⊥
+
+-- ---- entries that may be told as one
+
+-- the changesets of the first of some entries, up to the first that is told alone, if one is
+pub record AreOthers (asker : ℕ) (entries : List LogEntry) (list : List (List TableChanges)) : Type 0 where
+  pub there : length list ≤ length entries
+  pub are : list ≡ map entry_changes (take (length list) entries)
+  pub others : NoneIsAlone asker (take (length list) entries)
+  pub ends : (entry : LogEntry) → slice_get entries (length list) ≡ Some entry → IsToldAlone asker entry

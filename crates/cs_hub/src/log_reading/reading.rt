@@ -29,6 +29,7 @@ pub(crate) fn stored_from<S: RowStore>(
         (HasRange (S.contents store.old) first count) store.old store.new result }
     ensures found { S.honest store.new → IfOk result (λ stored.
         items_of stored.items ≡ log_range (S.contents store.old) first count) }
+    ensures counted { IfOk result (λ stored. length stored.items ≡ count) }
 {
     let stored = match store.log_list(first, count) {
         Ok(stored) => stored,
@@ -90,8 +91,13 @@ pub fn has_entry<S: RowStore>(
 }
 
 /// The entry that is stored so.
-fn read_entry(alloc: Global, catalog: &Catalog, stored: &StoredEntry) -> Result<LogEntry, BodyFault>
-    ensures { (entry : Entry) → IsStoredAs catalog.now (item_of stored.now) entry → ReadsAs entry result }
+pub(crate) fn read_entry(
+    alloc: Global,
+    catalog: &Catalog,
+    stored: &StoredEntry,
+) -> Result<LogEntry, BodyFault>
+    ensures is { IfOk result (IsStoredAs catalog.now (item_of stored.now)) }
+    ensures only { (entry : Entry) → IsStoredAs catalog.now (item_of stored.now) entry → ReadsAs entry result }
 {
     one_body();
     let body = read_body(alloc, catalog, stored.body.as_slice())?;
