@@ -12,7 +12,7 @@ use Rattle.cs_hub.specs.declared.judgement.fault.HubFault.{HubFault}
 use Rattle.cs_hub.specs.declared.judgement.push.Pushed.{Pushed}
 use Rattle.cs_hub.specs.declared.judgement.push.Pushed.TheVariants as pushed
 use Rattle.cs_wire.specs.Answers.{answer_spelling}
-use Rattle.cs_wire.specs.Requests.{Asked, AsksPush, AsksPull}
+use Rattle.cs_wire.specs.Requests.{Asked, AsksCatch, AsksPush, AsksPull}
 use Rattle.cs_wire.specs.declared.answer.Answer.TheVariants.{Short}
 use Rattle.cs_wire.specs.declared.fault.WireFault.{WireFault}
 use Rattle.cs_wire.specs.declared.push_head.PushHead.{PushHead}
@@ -85,6 +85,8 @@ asked_again : (limit : ℕ) (old new : HubState) (asked : Result Asked WireFault
 asked_again limit old new (Err fault) answer (a, s) = (a, refl)
 asked_again limit old new (Ok (AsksPull first count)) answer (a, s) =
     subst (λ (h : HubState). AnswersAsked limit h (Ok (AsksPull first count)) answer new) (sym s) (a, s)
+asked_again limit old new (Ok (AsksCatch asker first count)) answer (a, s) =
+    subst (λ (h : HubState). AnswersAsked limit h (Ok (AsksCatch asker first count)) answer new) (sym s) (a, s)
 asked_again limit old new (Ok (AsksPush head changeset)) answer (outcome, p, a) = (outcome, bytes_again limit old new head changeset outcome p, a)
 
 pub served_again : ServedAgain
@@ -150,6 +152,7 @@ module _ (limit : ℕ) (opening : List TableDef) (log more : List LogEntry) (ent
       → AnswersAsked limit Long asked (answer_spelling (Short (Stale (length (log ++ held ∷ more))))) Long
   stale_asked (Err fault) answer (a, s) = absurd (longer opening log entry s)
   stale_asked (Ok (AsksPull first count)) answer (a, s) = absurd (longer opening log entry s)
+  stale_asked (Ok (AsksCatch asker first count)) answer (a, s) = absurd (longer opening log entry s)
   stale_asked (Ok (AsksPush head changeset)) answer (outcome, p, a) = (Ok (pushed.Stale (length (log ++ held ∷ more))), stale_bytes head changeset outcome p, refl)
 
 pub stale_behind_another : StaleBehindAnother

@@ -10,10 +10,10 @@ use Rattle.cs_store.specs.Contents.{Contents}
 use Rattle.cs_store.specs.declared.store.RowStore.{Ghosts}
 use Rattle.cs_hub.specs.log_store.Shows.{ShowsLog}
 use Rattle.cs_hub.specs.judgement.Hub.{entries_from}
-use Rattle.cs_hub.specs.judgement.Judged.{ShowsLogOf}
+use Rattle.cs_hub.specs.judgement.Judged.{ShowsLogOf, hub_of}
 use Rattle.cs_hub.specs.declared.judgement.fault.HubFault.TheVariants as hub
 use Rattle.cs_wire.specs.Answers.{answer_spelling}
-use Rattle.cs_wire.specs.Requests.{Asked, AsksPull, AsksPush, FitsRequest, ReadsRequest, asked_by, request_spelling}
+use Rattle.cs_wire.specs.Requests.{Asked, AsksCatch, AsksPull, AsksPush, FitsRequest, ReadsRequest, asked_by, request_spelling}
 use Rattle.cs_wire.specs.Told.{told_entry}
 use Rattle.cs_wire.specs.declared.answer.Answer.TheVariants.{Entries, Short}
 use Rattle.cs_wire.specs.declared.fault.WireFault.{WireFault}
@@ -22,7 +22,7 @@ use Rattle.cs_wire.specs.declared.request.Request.{Request}
 use Rattle.cs_wire.specs.declared.short_answer.ShortAnswer.{ShortAnswer}
 use Rattle.cs_hub.specs.Calls.{AnswersHub, IsServedIn, ServesStore, StaysHub}
 use Rattle.cs_hub.specs.Holding.{Holding}
-use Rattle.cs_hub.specs.Serves.{Outcome, push_answer, refused}
+use Rattle.cs_hub.specs.Serves.{Outcome, TellsCaught, push_answer, refused}
 use Rattle.cs_hub.specs.Steps.{IsAnsweredOf, IsAskedIn, IsTakenOf, TellsOutcome}
 use Rattle.cs_hub.specs.declared.refusal.Refusal.TheVariants.{ByHub, Memory, NoChangeset, NoForm, NoRequest}
 
@@ -46,6 +46,10 @@ module _ (device_failed : Type 0) (limit : ℕ) (opening : List TableDef) (log :
   pub ahead : {E : Type 0} (first many : ℕ) (result : Result (Vec ℕ Global) E) → length log < first → IfOk result (λ bytes. bytes.items ≡ refused (ByHub hub.Ahead)) → IfOk result (λ bytes. Answered (Ok (AsksPull first many)) bytes.items)
   ahead first many (Ok bytes) above is = (log, inl (inl (above, is), refl), (shows, same))
   ahead first many (Err want) above is = tt
+
+  -- what a replica catches up by
+  pub caught_up : (asker first many : ℕ) (bytes : List ℕ) → first ≤ length log → TellsCaught (hub_of opening log) asker first many bytes → Answered (Ok (AsksCatch asker first many)) bytes
+  caught_up asker first many bytes within told = (log, inl (inr (within, told), refl), (shows, same))
 
   -- a device that failed
   pub device : {E : Type 0} (asked : Result Asked WireFault) (result : Result (Vec ℕ Global) E) → device_failed → IfOk result (λ bytes. bytes.items ≡ refused (ByHub hub.Device)) → IfOk result (λ bytes. Answered asked bytes.items)

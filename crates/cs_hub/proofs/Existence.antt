@@ -1,16 +1,22 @@
 -- Each request has an answer.
-use Rattle.std.proofs.Common.{inl, inr, ℕ, List, [], ◌∷◌, length, map, Result, Ok, Err, refl, subst}
+use Rattle.std.proofs.Common.{inl, inr, ℕ, List, [], ◌∷◌, drop, length, map, Result, Ok, Err, refl, subst}
+use Rattle.std.specs.List.{All}
 use Rattle.std.proofs.lemmas.Bool.{cases_lt}
+use Rattle.std.proofs.lemmas.List.Elements.{All-drop, All-from_recursion}
+use Rattle.cs_value.specs.declared.catalog.TableDef.{TableDef}
 use Rattle.cs_change.specs.Spelling.{FitsChangeset}
 use Rattle.cs_change.specs.declared.group.Group.{Group}
 use Rattle.cs_normalising.specs.Laws.{FormOrUnfit}
 use Rattle.cs_changeset.specs.Laws.{ChangesetOrFault}
 use Rattle.cs_varint.specs.Bytes.{AreBytes, bytes_behind}
+use Rattle.cs_store.specs.log.Log.{IsLog, catalog_at}
+use Rattle.cs_store.specs.declared.log.entry.LogEntry.{LogEntry}
+use Rattle.cs_hub.specs.catching.Laws.{CatchHasAnswer}
 use Rattle.cs_hub.specs.judgement.Hub.{HubState, entries_from}
 use Rattle.cs_hub.specs.judgement.Laws.{IsOfHub, PushHasAnswer}
 use Rattle.cs_hub.specs.declared.judgement.fault.HubFault.TheVariants.{Ahead}
 use Rattle.cs_wire.specs.Laws.{AsksSomething}
-use Rattle.cs_wire.specs.Requests.{Asked, AsksPush, AsksPull, ReadsRequest, push_numbers, push_tag}
+use Rattle.cs_wire.specs.Requests.{Asked, AsksCatch, AsksPush, AsksPull, ReadsRequest, push_numbers, push_tag}
 use Rattle.cs_wire.specs.Answers.{answer_spelling}
 use Rattle.cs_wire.specs.Numbers.{eight_bytes, four_bytes}
 use Rattle.cs_wire.specs.Told.{told_entry}
@@ -18,27 +24,37 @@ use Rattle.cs_wire.specs.declared.answer.Answer.TheVariants.{Entries}
 use Rattle.cs_wire.specs.declared.fault.WireFault.{WireFault}
 use Rattle.cs_wire.specs.declared.push_head.PushHead.{PushHead}
 use Rattle.cs_hub.specs.Laws.{RequestHasAnswer}
-use Rattle.cs_hub.specs.Serves.{AnswersAsked, Outcome, TakesBytes, TakesGroups, or_refusal, push_answer, refused}
+use Rattle.cs_hub.specs.Serves.{AnswersAsked, Outcome, TakesBytes, TakesGroups, caught_answer, or_refusal, push_answer, refused}
 use Rattle.cs_hub.specs.declared.refusal.Refusal.TheVariants.{NoRequest, NoChangeset, NoForm, ByHub}
+use Rattle.cs_hub.proofs.CatchingLemmas.Leads.{at_each}
+use Rattle.cs_hub.proofs.CatchingLemmas.Runs.{Fits}
+
+-- the laws below
+pub record Found : Type 0 where
+  pub asks : AsksSomething
+  pub pushes : PushHasAnswer
+  pub catches : CatchHasAnswer
+  pub read : ChangesetOrFault
+  pub decided : FormOrUnfit
 
 abbrev Takes : ℕ → HubState → PushHead → (Outcome → HubState → Type 0) → Type 0
 Takes limit old head holds = (outcome : Outcome) × (new : HubState) × holds outcome new
 
-of_groups : PushHasAnswer → FormOrUnfit → (limit : ℕ) (old : HubState) (head : PushHead) (groups : List Group) → IsOfHub old → FitsChangeset groups → Takes limit old head (TakesGroups limit old head groups)
-of_groups pushes decided limit old head groups hub fits =
-    elim (decided old.opening groups hub.tables fits) [
+of_groups : Found → (limit : ℕ) (old : HubState) (head : PushHead) (groups : List Group) → IsOfHub old → FitsChangeset groups → Takes limit old head (TakesGroups limit old head groups)
+of_groups laws limit old head groups hub fits =
+    elim (laws.decided old.opening groups hub.tables fits) [
       | inr (fault, some, wrong) ↦ (Err (NoForm fault), old, inl (fault, some, wrong, refl, refl))
       | inl form ↦
-          let told = pushes limit old (record { head = head; changes = form.0 }) hub (form.1.normal, form.1.of_catalog) in
+          let told = laws.pushes limit old (record { head = head; changes = form.0 }) hub (form.1.normal, form.1.of_catalog) in
           (or_refusal told.0, told.1, inr (form.0, form.1, (told.0, told.2, refl)))
     ]
 
-of_bytes : PushHasAnswer → ChangesetOrFault → FormOrUnfit → (limit : ℕ) (old : HubState) (head : PushHead) (bytes : List ℕ) → IsOfHub old → AreBytes bytes → Takes limit old head (TakesBytes limit old head bytes)
-of_bytes pushes read decided limit old head bytes hub small =
-    elim (read bytes small) [
+of_bytes : Found → (limit : ℕ) (old : HubState) (head : PushHead) (bytes : List ℕ) → IsOfHub old → AreBytes bytes → Takes limit old head (TakesBytes limit old head bytes)
+of_bytes laws limit old head bytes hub small =
+    elim (laws.read bytes small) [
       | inr (fault, offset, wrong) ↦ (Err (NoChangeset fault), old, inl (fault, offset, wrong, refl, refl))
       | inl (groups, fits, is) ↦
-          let taken = of_groups pushes decided limit old head groups hub fits in
+          let taken = of_groups laws limit old head groups hub fits in
           (taken.0, taken.1, inr (groups, fits, is, taken.2))
     ]
 
@@ -50,20 +66,31 @@ small_changeset head size bytes all =
     (bytes_behind (eight_bytes head.number) _
     (bytes_behind (four_bytes head.origin) _ (bytes_behind (push_tag ∷ []) _ all))))
 
-of_asked : PushHasAnswer → ChangesetOrFault → FormOrUnfit → (limit : ℕ) (old : HubState) (request : List ℕ) (asked : Result Asked WireFault) → IsOfHub old → AreBytes request → ReadsRequest request asked → (answer : List ℕ) × (new : HubState) × AnswersAsked limit old asked answer new
-of_asked pushes read decided limit old request (Err fault) hub small asks = (refused (NoRequest fault), old, (refl, refl))
-of_asked pushes read decided limit old request (Ok (AsksPull first count)) hub small asks =
+-- the entries of a log change its tables
+all_fit : (opening : List TableDef) (log : List LogEntry) → IsLog opening log → All (Fits opening) log
+all_fit opening log is = All-from_recursion (Fits opening) log (at_each (Fits opening) log (λ version entry there. let next = is version entry there in (next.normal, next.defined.0)))
+
+of_asked : Found → (limit : ℕ) (old : HubState) (request : List ℕ) (asked : Result Asked WireFault) → IsOfHub old → AreBytes request → ReadsRequest request asked → (answer : List ℕ) × (new : HubState) × AnswersAsked limit old asked answer new
+of_asked laws limit old request (Err fault) hub small asks = (refused (NoRequest fault), old, (refl, refl))
+of_asked laws limit old request (Ok (AsksPull first count)) hub small asks =
     elim (cases_lt (length old.log) first) [
       | inl above ↦ (refused (ByHub Ahead), old, (inl (above, refl), refl))
       | inr within ↦ (answer_spelling (Entries first (map told_entry (entries_from first count old.log))), old, (inr (within, refl), refl))
     ]
-of_asked pushes read decided limit old request (Ok (AsksPush head changeset)) hub small asks =
+of_asked laws limit old request (Ok (AsksCatch asker first count)) hub small asks =
+    elim (cases_lt (length old.log) first) [
+      | inl above ↦ (refused (ByHub Ahead), old, (inl (above, refl), refl))
+      | inr within ↦
+          let told = laws.catches (catalog_at old.opening old.log first) asker count (drop first old.log) hub.tables (All-drop (Fits old.opening) first old.log (all_fit old.opening old.log hub.log)) in
+          (answer_spelling (caught_answer asker first old.log told.0), old, (inr (within, (told.0, told.1, refl)), refl))
+    ]
+of_asked laws limit old request (Ok (AsksPush head changeset)) hub small asks =
     let bytes : AreBytes changeset = small_changeset head (length changeset) changeset (subst AreBytes asks.1 small) in
-    let taken = of_bytes pushes read decided limit old head changeset hub bytes in
+    let taken = of_bytes laws limit old head changeset hub bytes in
     (answer_spelling (push_answer head taken.0), taken.1, (taken.0, taken.2, refl))
 
-pub request_has_answer : AsksSomething → PushHasAnswer → ChangesetOrFault → FormOrUnfit → RequestHasAnswer
-request_has_answer asks pushes read decided limit old request hub small =
-    let asked = asks request small in
-    let told = of_asked pushes read decided limit old request asked.0 hub small asked.1 in
+pub request_has_answer : Found → RequestHasAnswer
+request_has_answer laws limit old request hub small =
+    let asked = laws.asks request small in
+    let told = of_asked laws limit old request asked.0 hub small asked.1 in
     (told.0, told.1, (asked.0, asked.1, told.2))

@@ -6,6 +6,7 @@ pub mod Runs
 pub mod Stored
 pub mod Taken
 pub mod Answered
+pub mod CaughtTold
 pub mod Shown
 pub mod Again
 pub mod Looked

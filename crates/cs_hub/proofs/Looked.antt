@@ -31,7 +31,7 @@ use Rattle.cs_hub.specs.declared.judgement.push.Judgement.TheVariants as judged
 use Rattle.cs_hub.specs.declared.judgement.push.Pushed.{Pushed}
 use Rattle.cs_hub.specs.declared.judgement.push.Pushed.TheVariants as pushed
 use Rattle.cs_wire.specs.Answers.{answer_spelling}
-use Rattle.cs_wire.specs.Requests.{Asked, AsksPull, AsksPush, ReadsRequest}
+use Rattle.cs_wire.specs.Requests.{Asked, AsksCatch, AsksPull, AsksPush, ReadsRequest}
 use Rattle.cs_wire.specs.declared.answer.Answer.TheVariants.{Short}
 use Rattle.cs_wire.specs.declared.fault.WireFault.{WireFault}
 use Rattle.cs_wire.specs.declared.push_head.PushHead.{PushHead}
@@ -145,6 +145,11 @@ module _ (device_failed : Type 0) (limit : ℕ) (opening : List TableDef) (log :
   pub pulled_so : (first many : ℕ) (bytes : Vec ℕ Global) (most : ℕ) (contents : Contents) (count : ℕ) → IsAnsweredOf device_failed most opening log (Ok (AsksPull first many)) bytes.items contents count → As (Ok (AsksPull first many)) (Reply bytes)
   pulled_so first many bytes most contents count (next, inl (is, same), leads) = inl (is, refl)
   pulled_so first many bytes most contents count (next, inr (broken, is, same), leads) = inr (broken, is, refl)
+
+  -- nor does a catch
+  pub caught_so : (asker first many : ℕ) (bytes : Vec ℕ Global) (most : ℕ) (contents : Contents) (count : ℕ) → IsAnsweredOf device_failed most opening log (Ok (AsksCatch asker first many)) bytes.items contents count → As (Ok (AsksCatch asker first many)) (Reply bytes)
+  caught_so asker first many bytes most contents count (next, inl (is, same), leads) = inl (is, refl)
+  caught_so asker first many bytes most contents count (next, inr (broken, is, same), leads) = inr (broken, is, refl)
 
   pub no_request_so : (fault : WireFault) (bytes : Vec ℕ Global) → bytes.items ≡ refused (NoRequest fault) → As (Err fault) (Reply bytes)
   no_request_so fault bytes is = inl (is, refl)

@@ -12,7 +12,7 @@ use Rattle.cs_hub.specs.judgement.Pushes.{Push, Pushes}
 use Rattle.cs_hub.specs.declared.judgement.fault.HubFault.{HubFault}
 use Rattle.cs_hub.specs.declared.judgement.push.Pushed.{Pushed}
 use Rattle.cs_hub.specs.Laws.{OneHubRun, OneService}
-use Rattle.cs_wire.specs.Requests.{Asked, AsksPush, AsksPull}
+use Rattle.cs_wire.specs.Requests.{Asked, AsksCatch, AsksPush, AsksPull}
 use Rattle.cs_wire.specs.declared.fault.WireFault.{WireFault}
 use Rattle.cs_hub.specs.Serves.{AnswersAsked, IsSame, Outcome, Serves, TakesBytes, TakesGroups}
 use Rattle.cs_wire.specs.declared.push_head.PushHead.{PushHead}
@@ -41,6 +41,7 @@ changeset_keeps limit old new head changeset outcome (inr (groups, fits, is, p))
 asked_keeps : (limit : ℕ) (old new : HubState) (asked : Result Asked WireFault) (answer : List ℕ) → AnswersAsked limit old asked answer new → new.opening ≡ old.opening
 asked_keeps limit old new (Err fault) answer (a, s) = same_catalog old new s
 asked_keeps limit old new (Ok (AsksPull first count)) answer (a, s) = same_catalog old new s
+asked_keeps limit old new (Ok (AsksCatch asker first count)) answer (a, s) = same_catalog old new s
 asked_keeps limit old new (Ok (AsksPush head changeset)) answer (some, p, a) = changeset_keeps limit old new head changeset some p
 
 decoded_keeps : (limit : ℕ) (old new : HubState) (decoded : Result (List ℕ) _) (answer : List ℕ) → AnswersDecoded (Serves limit) old decoded answer new → new.opening ≡ old.opening

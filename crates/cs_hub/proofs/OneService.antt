@@ -1,5 +1,5 @@
 -- A request has one answer, and leaves one hub.
-use Rattle.std.proofs.Common.{◌≡◌, ℕ, List, Result, Ok, Err, inl, inr, sym, ap, subst, ◌∙◌, arith}
+use Rattle.std.proofs.Common.{◌≡◌, ℕ, List, Result, Ok, Err, drop, inl, inr, sym, ap, subst, ◌∙◌, arith}
 use Rattle.cs_value.specs.Catalog.{AreTables}
 use Rattle.cs_change.specs.declared.group.Group.{Group}
 use Rattle.cs_changeset.specs.declared.fault.Fault.{Fault}
@@ -7,15 +7,18 @@ use Rattle.cs_changeset.specs.Laws.{ChangesetLaws}
 use Rattle.cs_normalising.specs.Laws.{NoFaultWhereFit, OneNormalForm, OneUnfit}
 use Rattle.cs_normalising.specs.declared.unfit.Unfit.{Unfit}
 use Rattle.cs_normal.specs.declared.normal.TableChanges.{TableChanges}
+use Rattle.cs_hub.specs.catching.Laws.{OneCatch}
+use Rattle.cs_hub.specs.declared.catching.caught.Caught.{Caught}
+use Rattle.cs_store.specs.log.Log.{catalog_at}
 use Rattle.cs_hub.specs.judgement.Hub.{HubState}
 use Rattle.cs_hub.specs.judgement.Laws.{OneAnswer}
 use Rattle.cs_hub.specs.judgement.Pushes.{Push}
 use Rattle.cs_wire.specs.Laws.{OneRequest}
 use Rattle.cs_hub.specs.Laws.{OneService}
-use Rattle.cs_wire.specs.Requests.{Asked, AsksPush, AsksPull}
+use Rattle.cs_wire.specs.Requests.{Asked, AsksCatch, AsksPush, AsksPull}
 use Rattle.cs_wire.specs.Answers.{answer_spelling}
 use Rattle.cs_wire.specs.declared.fault.WireFault.{WireFault}
-use Rattle.cs_hub.specs.Serves.{AnswersAsked, Outcome, TakesBytes, TakesGroups, TakesNormal, or_refusal, push_answer}
+use Rattle.cs_hub.specs.Serves.{AnswersAsked, Outcome, TakesBytes, TakesGroups, TakesNormal, TellsCaught, caught_answer, or_refusal, push_answer}
 use Rattle.cs_wire.specs.declared.push_head.PushHead.{PushHead}
 use Rattle.cs_hub.specs.declared.refusal.Refusal.{Refusal}
 use Rattle.cs_hub.specs.declared.refusal.Refusal.TheVariants.{NoChangeset, NoForm}
@@ -28,6 +31,7 @@ pub record Below : Type 0 where
   pub unfit : OneUnfit
   pub request : OneRequest
   pub answer : OneAnswer
+  pub caught : OneCatch
 
 abbrev Agree : Outcome → Outcome → HubState → HubState → Type 0
 Agree one other new last = (one ≡ other) × (new ≡ last)
@@ -68,12 +72,22 @@ changesets_agree laws limit old new last head changeset one other are (inr (grou
     let same : groups ≡ others = laws.changesets.one groups others fits fits' (sym is ∙ is') in
     groups_agree laws limit old new last head others one other are (subst (λ (g : List Group). TakesGroups limit old head g one new) same p) q
 
+caught_agree : (laws : Below) (old : HubState) (asker first count : ℕ) (answer other : List ℕ) → AreTables old.opening → TellsCaught old asker first count answer → TellsCaught old asker first count other → answer ≡ other
+caught_agree laws old asker first count answer other are (told, catches, a) (others, catches', b) =
+    let same : told ≡ others = laws.caught (catalog_at old.opening old.log first) asker count (drop first old.log) told others are catches catches' in
+    a ∙ ap (λ (c : Caught). answer_spelling (caught_answer asker first old.log c)) same ∙ sym b
+
 asked_agree : (laws : Below) (limit : ℕ) (old new last : HubState) (asked : Result Asked WireFault) (answer other : List ℕ) → AreTables old.opening → AnswersAsked limit old asked answer new → AnswersAsked limit old asked other last → (answer ≡ other) × (new ≡ last)
 asked_agree laws limit old new last (Err fault) answer other are (a, n) (b, m) = (a ∙ sym b, n ∙ sym m)
 asked_agree laws limit old new last (Ok (AsksPull first count)) answer other are (inl (lt, a), n) (inl (lt', b), m) = (a ∙ sym b, n ∙ sym m)
 asked_agree laws limit old new last (Ok (AsksPull first count)) answer other are (inl (lt, a), n) (inr (le, b), m) = absurd (omega arith)
 asked_agree laws limit old new last (Ok (AsksPull first count)) answer other are (inr (le, a), n) (inl (lt, b), m) = absurd (omega arith)
 asked_agree laws limit old new last (Ok (AsksPull first count)) answer other are (inr (le, a), n) (inr (le', b), m) = (a ∙ sym b, n ∙ sym m)
+asked_agree laws limit old new last (Ok (AsksCatch asker first count)) answer other are (inl (lt, a), n) (inl (lt', b), m) = (a ∙ sym b, n ∙ sym m)
+asked_agree laws limit old new last (Ok (AsksCatch asker first count)) answer other are (inl (lt, a), n) (inr (le, told), m) = absurd (omega arith)
+asked_agree laws limit old new last (Ok (AsksCatch asker first count)) answer other are (inr (le, told), n) (inl (lt, b), m) = absurd (omega arith)
+asked_agree laws limit old new last (Ok (AsksCatch asker first count)) answer other are (inr (le, told), n) (inr (le', also), m) =
+    (caught_agree laws old asker first count answer other are told also, n ∙ sym m)
 asked_agree laws limit old new last (Ok (AsksPush head changeset)) answer other are (some, p, a) (others, q, b) =
     let both = changesets_agree laws limit old new last head changeset some others are p q in
     (a ∙ ap (λ (o : Outcome). answer_spelling (push_answer head o)) both.0 ∙ sym b, both.1)

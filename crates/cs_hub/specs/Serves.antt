@@ -1,6 +1,7 @@
 -- The hub's answer to the bytes of a request, and the hub after it. (Profile of this project.)
-use Rattle.std.specs.Prelude.{◌≡◌, ◌≢◌, ◌⊎◌, ℕ, ◌<◌, ◌≤◌, List, length, map, Result, Ok, Err}
+use Rattle.std.specs.Prelude.{◌≡◌, ◌≢◌, ◌⊎◌, ℕ, ◌+◌, ◌<◌, ◌≤◌, List, drop, length, map, Result, Ok, Err}
 use Rattle.cs_normalising.specs.NormalFormOf.{IsNormalFormOf, IsUnfit}
+use Rattle.cs_normal.specs.Normal.{normal_spelling}
 use Rattle.cs_normal.specs.declared.normal.TableChanges.{TableChanges}
 use Rattle.cs_normalising.specs.declared.unfit.Unfit.{Unfit}
 use Rattle.cs_normalising.specs.declared.unfit.Unfit.TheVariants as unfit
@@ -8,6 +9,11 @@ use Rattle.cs_change.specs.Spelling.{FitsChangeset, changeset_spelling}
 use Rattle.cs_change.specs.declared.group.Group.{Group}
 use Rattle.cs_changeset.specs.Reading.{IsChangesetFault}
 use Rattle.cs_changeset.specs.declared.fault.Fault.{Fault}
+use Rattle.cs_store.specs.log.Log.{catalog_at}
+use Rattle.cs_store.specs.declared.log.entry.LogEntry.{LogEntry}
+use Rattle.cs_hub.specs.catching.Catches.{Catches}
+use Rattle.cs_hub.specs.declared.catching.caught.Caught.{Caught}
+use Rattle.cs_hub.specs.declared.catching.caught.Caught.TheVariants as caught
 use Rattle.cs_hub.specs.judgement.Hub.{HubState, entries_from, judging}
 use Rattle.cs_hub.specs.judgement.Pushes.{Push, Pushes}
 use Rattle.cs_hub.specs.declared.judgement.fault.HubFault.{HubFault}
@@ -18,10 +24,10 @@ use Rattle.cs_hub.specs.Refusals.{refusal_of_hub, refusal_code}
 use Rattle.cs_hub.specs.declared.refusal.Refusal.{Refusal}
 use Rattle.cs_hub.specs.declared.refusal.Refusal.TheVariants.{NoRequest, NoChangeset, NoForm, ByHub}
 use Rattle.cs_wire.specs.Answers.{answer_spelling}
-use Rattle.cs_wire.specs.Requests.{Asked, AsksPush, AsksPull, ReadsRequest}
+use Rattle.cs_wire.specs.Requests.{Asked, AsksCatch, AsksPush, AsksPull, ReadsRequest}
 use Rattle.cs_wire.specs.Told.{told_entry}
 use Rattle.cs_wire.specs.declared.answer.Answer.{Answer}
-use Rattle.cs_wire.specs.declared.answer.Answer.TheVariants.{Short, Entries}
+use Rattle.cs_wire.specs.declared.answer.Answer.TheVariants.{Short, Entries, Merged}
 use Rattle.cs_wire.specs.declared.fault.WireFault.{WireFault}
 use Rattle.cs_wire.specs.declared.push_head.PushHead.{PushHead}
 use Rattle.cs_wire.specs.declared.short_answer.ShortAnswer.TheVariants.{Accepted, Stale, Refused}
@@ -65,12 +71,27 @@ push_answer head (Err refusal) = Short (Refused (refusal_code refusal))
 abbrev pub refused : Refusal → List ℕ
 refused refusal = answer_spelling (Short (Refused (refusal_code refusal)))
 
+-- the answer that tells what a replica catches up by, from a version of the log on: the entry there, or so many as one changeset
+abbrev pub caught_answer : ℕ → ℕ → List LogEntry → Caught → Answer
+caught_answer asker first log caught.Own = Entries first (map told_entry (entries_from first 1 log))
+caught_answer asker first log (caught.Merged count changes) = Merged asker first (first + count) (normal_spelling changes)
+
+-- the bytes tell a replica what it catches up by
+abbrev pub TellsCaught : HubState → ℕ → ℕ → ℕ → List ℕ → Type 0
+TellsCaught old asker first count bytes =
+    (told : Caught) × Catches (catalog_at old.opening old.log first) asker count (drop first old.log) told
+    × (bytes ≡ answer_spelling (caught_answer asker first old.log told))
+
 -- the answer to what is asked, or to bytes that ask nothing
 abbrev pub AnswersAsked : ℕ → HubState → Result Asked WireFault → List ℕ → HubState → Type 0
 AnswersAsked limit old (Err fault) bytes new = (bytes ≡ refused (NoRequest fault)) × (new ≡ old)
 AnswersAsked limit old (Ok (AsksPull first count)) bytes new =
     (((length old.log < first) × (bytes ≡ refused (ByHub Ahead)))
     ⊎ ((first ≤ length old.log) × (bytes ≡ answer_spelling (Entries first (map told_entry (entries_from first count old.log))))))
+    × (new ≡ old)
+AnswersAsked limit old (Ok (AsksCatch asker first count)) bytes new =
+    (((length old.log < first) × (bytes ≡ refused (ByHub Ahead)))
+    ⊎ ((first ≤ length old.log) × TellsCaught old asker first count bytes))
     × (new ≡ old)
 AnswersAsked limit old (Ok (AsksPush head changeset)) bytes new =
     (outcome : Outcome) × TakesBytes limit old head changeset outcome new

@@ -36,7 +36,7 @@ use crate::judging::{is_entry_of, judge_told};
 use crate::log_opening::open_log;
 use crate::log_reading::entries_at;
 use crate::refusal::Refusal;
-use crate::serving::{pull_at, push_told, refuse};
+use crate::serving::{catch_told, pull_at, push_told, refuse};
 use crate::taking::push_counted;
 use cs_normal::Normal;
 use cs_opening::OpenFault;
@@ -245,6 +245,21 @@ impl<S: RowStore> Hub<S> {
                 first,
                 limit,
             ),
+            Ok(
+                Request::Catch {
+                    origin,
+                    first,
+                    limit,
+                },
+            ) => catch_told(
+                self.alloc,
+                &mut self.store,
+                &self.catalog,
+                self.newest,
+                origin,
+                first,
+                limit,
+            ),
             Ok(Request::Push { head, changeset }) => push_told(
                 self.alloc,
                 &mut self.store,
@@ -292,6 +307,24 @@ impl<S: RowStore> Hub<S> {
                     &mut self.store,
                     &self.catalog,
                     self.newest,
+                    first,
+                    count,
+                )?;
+                Ok(Judged::Reply(answer))
+            }
+            Ok(
+                Request::Catch {
+                    origin,
+                    first,
+                    limit: count,
+                },
+            ) => {
+                let answer = catch_told(
+                    self.alloc,
+                    &mut self.store,
+                    &self.catalog,
+                    self.newest,
+                    origin,
                     first,
                     count,
                 )?;

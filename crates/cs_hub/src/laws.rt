@@ -4,6 +4,7 @@ ghost use Rattle.std.specs.Prelude.{◌≡◌};
 ghost use Rattle.cs_hub.specs.Laws.{OneHubRun, OneService, OpenedShows, RequestHasAnswer, RunsByLog, ServedAgain, StaleBehindAnother};
 ghost use Rattle.cs_store.specs.declared.log.entry.TheConstants.{MAX_ENTRIES};
 
+use crate::catching::laws::{catch_has_answer, one_catch};
 use crate::hub::Hub;
 use crate::judgement::laws::{one_answer, push_has_answer};
 use cs_changeset::laws::changesets;
@@ -24,6 +25,7 @@ pub fn request_has_answer()
 {
     asks_something();
     push_has_answer();
+    catch_has_answer();
     changesets();
     form_or_unfit();
 }
@@ -35,6 +37,7 @@ pub fn one_service()
 {
     one_request();
     one_answer();
+    one_catch();
     changesets();
     no_fault_where_fit();
     one_unfit();

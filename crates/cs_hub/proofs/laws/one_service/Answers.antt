@@ -10,4 +10,5 @@ returns c =
       unfit = c.one_unfit.ensures;
       request = c.one_request.ensures;
       answer = c.one_answer.ensures;
+      caught = c.one_catch.ensures;
     })

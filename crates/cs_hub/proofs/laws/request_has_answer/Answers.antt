@@ -2,4 +2,11 @@ use Rattle.cs_hub.proofs.Existence.{request_has_answer}
 use Rattle.cs_hub.proofs.laws.request_has_answer.Goals as goal
 
 pub returns : goal.returns
-returns c = request_has_answer c.asks_something.ensures c.push_has_answer.ensures c.changesets.ensures.found c.form_or_unfit.ensures
+returns c =
+    request_has_answer (record {
+      asks = c.asks_something.ensures;
+      pushes = c.push_has_answer.ensures;
+      catches = c.catch_has_answer.ensures;
+      read = c.changesets.ensures.found;
+      decided = c.form_or_unfit.ensures;
+    })

@@ -1,5 +1,5 @@
 use Rattle.std.proofs.Common.{Err, Ok, refl}
-use Rattle.cs_wire.specs.Requests.{AsksPull, AsksPush}
+use Rattle.cs_wire.specs.Requests.{AsksCatch, AsksPull, AsksPush}
 use Rattle.cs_store.specs.declared.log.entry.TheConstants.{MAX_ENTRIES}
 use Rattle.cs_hub.proofs.Answered.{answers, no_request, read_as, served_in}
 use Rattle.cs_hub.proofs.Stored.{served_as, served_none}
@@ -26,6 +26,21 @@ returns-in-Ok-Pull-clause-store g c =
     (λ left is. served_in MAX_ENTRIES _ c.args.request.now (Ok (AsksPull c.in-Ok-Pull.first c.in-Ok-Pull.limit)) _ left
     (read_as _ _ _ c.in-Ok-Pull.field-0-is c.in-Ok-Pull.ensures.found) is)
     c.pull_at.ensures.serves)
+
+pub returns-in-Ok-Catch-clause-served : goal.returns-in-Ok-Catch-clause-served
+returns-in-Ok-Catch-clause-served g c =
+    rw (← c.self.view_is)
+    (answers g.S.RowStore _ _ refl _
+    MAX_ENTRIES c.args.request.now (Ok (AsksCatch c.in-Ok-Catch.origin c.in-Ok-Catch.first c.in-Ok-Catch.limit)) c.catch_told.result
+    (read_as _ _ _ c.in-Ok-Catch.field-0-is c.in-Ok-Catch.ensures.found) c.catch_told.ensures.serves c.catch_told.ensures.answered)
+
+pub returns-in-Ok-Catch-clause-store : goal.returns-in-Ok-Catch-clause-store
+returns-in-Ok-Catch-clause-store g c =
+    rw (← c.self.view_is)
+    (served_as g.S.RowStore _ _ _ _ _ _ c.catch_told.result
+    (λ left is. served_in MAX_ENTRIES _ c.args.request.now (Ok (AsksCatch c.in-Ok-Catch.origin c.in-Ok-Catch.first c.in-Ok-Catch.limit)) _ left
+    (read_as _ _ _ c.in-Ok-Catch.field-0-is c.in-Ok-Catch.ensures.found) is)
+    c.catch_told.ensures.serves)
 
 pub returns-in-Ok-Push-clause-served : goal.returns-in-Ok-Push-clause-served
 returns-in-Ok-Push-clause-served g c =
