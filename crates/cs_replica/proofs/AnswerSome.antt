@@ -80,14 +80,14 @@ merged_as picks tables origin first next changeset position before p other new q
 merged_as picks tables origin first next changeset position before p other new q meant above (Err (Device count)) takes = (meant, above, takes)
 merged_as picks tables origin first next changeset position before p other new q meant above (Err (BadEntry count)) takes = (meant, inr (above, takes))
 
-module _ (next : NextIsShown) {P : Type 0} (picks : P → Clash → Wish → P → Type 0) (is_ready : P → Type 0) (lists : ListHasResult picks is_ready) (told : ToldHasResult picks is_ready) where
+module _ (shown_next : NextIsShown) {P : Type 0} (picks : P → Clash → Wish → P → Type 0) (is_ready : P → Type 0) (lists : ListHasResult picks is_ready) (told : ToldHasResult picks is_ready) where
   module _ (tables : List TableDef) (old : Contents) (position : Position) (before : View) (p : P) (shows : ShowsAt tables old position before) where
     abbrev Told_of : Answer → Type 0
     Told_of answer = (result : Result Told AnswerFault) × (other : Position) × (new : Contents) × (q : P) × IsOfAnswer result × Answers picks tables answer result position before p other new q
 
     by_accepted : (origin number version : ℕ) → OrNot (IsAccepted position origin number version) → Told_of (Short (short.Accepted origin number version))
     by_accepted origin number version (inl is) =
-        let left = next tables old position (position.version + 1) in
+        let left = shown_next tables old position (position.version + 1) in
         (Ok (Confirmed version), confirmed position, left.0, p, tt, ((is, refl, refl), (left.1 before shows, refl)))
     by_accepted origin number version (inr other) = (Ok Ignored, position, old, p, tt, ((other, refl), (shows, refl)))
 

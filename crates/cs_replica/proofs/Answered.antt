@@ -68,7 +68,7 @@ module _ {P S : Type 0} (picks : P → Clash → Wish → P → Type 0) (g : Gho
         elim (w.durable h left may) [
           | inl now ↦ inl now
           | inr (inl before) ↦ inr (inl before)
-          | inr (inr (undone, more)) ↦ inr (inr (undone, (ap (λ (x : Position). x.id) (sym (kept undone)), ap (λ (x : Position). x.version) (sym (kept undone))), above, more))
+          | inr (inr (undone, more)) ↦ inr (inr (undone, ((ap (λ (x : Position). x.id) (sym (kept undone)), ap (λ (x : Position). x.version) (sym (kept undone))), above, more)))
         ];
     crash = λ h left may.
         elim (w.crash h left may) [

@@ -90,15 +90,15 @@ module _ {P : Type 0} (picks : P → Clash → Wish → P → Type 0) (tables : 
   module _ (position : Position) (before : View) (p : P) (other : Position) (new : Contents) (q : P) where
     how : (result : Result Told AnswerFault) → TellsMerged picks tables origin first next changeset result position before p other new q → How result position before p other new q
     how (Ok (Confirmed newest)) tells = absurd tells
-    how (Ok Ignored) (away, stays) = inl (away, refl, stays)
+    how (Ok Ignored) (away, moved, keeps) = inl (away, refl, (moved, keeps))
     how (Ok (Stale newest)) tells = absurd tells
     how (Ok (Refused code)) tells = absurd tells
-    how (Ok (Taken count)) (meant, inl (same, none, stays)) = inr (inl (meant, same, ap (λ (n : ℕ). Ok (Taken n)) none, stays))
+    how (Ok (Taken count)) (meant, inl (same, none, moved, keeps)) = inr (inl (meant, same, ap (λ (n : ℕ). Ok (Taken n)) none, (moved, keeps)))
     how (Ok (Taken count)) (meant, inr (above, takes)) = inr (inr (inr (meant, above, Ok (pulled.Taken count), refl, takes)))
     how (Ok (Stopped count)) (meant, above, takes) = inr (inr (inr (meant, above, Ok (pulled.Stopped count), refl, takes)))
     how (Err (Memory count)) (meant, above, takes) = inr (inr (inr (meant, above, Err (Memory count), refl, takes)))
     how (Err (Device count)) (meant, above, takes) = inr (inr (inr (meant, above, Err (Device count), refl, takes)))
-    how (Err (BadEntry count)) (meant, inl (less, none, stays)) = inr (inr (inl (meant, less, ap (λ (n : ℕ). Err (BadEntry n)) none, stays)))
+    how (Err (BadEntry count)) (meant, inl (less, none, moved, keeps)) = inr (inr (inl (meant, less, ap (λ (n : ℕ). Err (BadEntry n)) none, (moved, keeps))))
     how (Err (BadEntry count)) (meant, inr (above, takes)) = inr (inr (inr (meant, above, Err (BadEntry count), refl, takes)))
 
 module _ (contents : OneContents) (view : OneView) {P : Type 0} (picks : P → Clash → Wish → P → Type 0) (law : OneTold picks) (tables : List TableDef) (origin first next : ℕ) (changeset : List ℕ) (old new last : Contents)
@@ -114,20 +114,20 @@ module _ (contents : OneContents) (view : OneView) {P : Type 0} (picks : P → C
 
   one_how : How picks tables origin first next changeset some position before p here new q → How picks tables origin first next changeset other position seen p there last r → One
   one_how (inl (away, is, stays)) (inl (far, so_is, stay)) = both_stay (is ∙ sym so_is) stays stay
-  one_how (inl (away, is, stays)) (inr (inl (meant, rest))) = absurd (away meant)
-  one_how (inl (away, is, stays)) (inr (inr (inl (meant, rest)))) = absurd (away meant)
-  one_how (inl (away, is, stays)) (inr (inr (inr (meant, rest)))) = absurd (away meant)
-  one_how (inr (inl (meant, rest))) (inl (far, so_is, stay)) = absurd (far meant)
-  one_how (inr (inr (inl (meant, rest)))) (inl (far, so_is, stay)) = absurd (far meant)
-  one_how (inr (inr (inr (meant, rest)))) (inl (far, so_is, stay)) = absurd (far meant)
+  one_how (inl (away, is, stays)) (inr (inl (meant, alike, so_is, stay))) = absurd (away meant)
+  one_how (inl (away, is, stays)) (inr (inr (inl (meant, alike, so_is, stay)))) = absurd (away meant)
+  one_how (inl (away, is, stays)) (inr (inr (inr (meant, over, outcome, so_is, took)))) = absurd (away meant)
+  one_how (inr (inl (meant, same, is, stays))) (inl (far, so_is, stay)) = absurd (far meant)
+  one_how (inr (inr (inl (meant, same, is, stays)))) (inl (far, so_is, stay)) = absurd (far meant)
+  one_how (inr (inr (inr (meant, above, result, is, takes)))) (inl (far, so_is, stay)) = absurd (far meant)
   one_how (inr (inl (meant, same, is, stays))) (inr (inl (also, alike, so_is, stay))) = both_stay (is ∙ sym so_is) stays stay
   one_how (inr (inl (meant, same, is, stays))) (inr (inr (inl (also, less, so_is, stay)))) = absurd (omega (arith, same, less))
-  one_how (inr (inl (meant, same, is, stays))) (inr (inr (inr (also, above, rest)))) = absurd (omega (arith, same, above))
+  one_how (inr (inl (meant, same, is, stays))) (inr (inr (inr (also, above, outcome, so_is, took)))) = absurd (omega (arith, same, above))
   one_how (inr (inr (inl (meant, less, is, stays)))) (inr (inl (also, alike, so_is, stay))) = absurd (omega (arith, less, alike))
   one_how (inr (inr (inl (meant, less, is, stays)))) (inr (inr (inl (also, under, so_is, stay)))) = both_stay (is ∙ sym so_is) stays stay
-  one_how (inr (inr (inl (meant, less, is, stays)))) (inr (inr (inr (also, above, rest)))) = absurd (omega (arith, less, above))
-  one_how (inr (inr (inr (meant, above, rest)))) (inr (inl (also, alike, so_is, stay))) = absurd (omega (arith, above, alike))
-  one_how (inr (inr (inr (meant, above, rest)))) (inr (inr (inl (also, under, so_is, stay)))) = absurd (omega (arith, above, under))
+  one_how (inr (inr (inl (meant, less, is, stays)))) (inr (inr (inr (also, above, outcome, so_is, took)))) = absurd (omega (arith, less, above))
+  one_how (inr (inr (inr (meant, above, result, is, takes)))) (inr (inl (also, alike, so_is, stay))) = absurd (omega (arith, above, alike))
+  one_how (inr (inr (inr (meant, above, result, is, takes)))) (inr (inr (inl (also, under, so_is, stay)))) = absurd (omega (arith, above, under))
   one_how (inr (inr (inr (meant, above, result, is, takes)))) (inr (inr (inr (also, over, outcome, so_is, took)))) =
       let one = law tables next changeset old new last position here there before seen result outcome p q r are once shows sees
       (of_list result (subst (λ (x : Result Told AnswerFault). IsOfAnswer x) is of)) (of_list outcome (subst (λ (x : Result Told AnswerFault). IsOfAnswer x) so_is so)) takes took in

@@ -69,7 +69,7 @@ accepted_keeps_id origin number version (Err (fault.BadEntry count)) position ot
 
 told_keeps_id : (tables : List TableDef) (next : ℕ) (changeset : List ℕ) (result : Result Pulled AnswerFault) (position : Position) (before : View) (p : List Wish) (other : Position) (new : Contents) (q : List Wish)
     → TakesTold IsWished tables next changeset result position before p other new q → other.id ≡ position.id
-told_keeps_id tables next changeset (Ok (pulled.Taken count)) position before p other new q (sum, changes, after, form, moved, rest) = ap (λ (x : Position). x.id) moved
+told_keeps_id tables next changeset (Ok (pulled.Taken count)) position before p other new q (sum, changes, after, form, moved, shown, takes) = ap (λ (x : Position). x.id) moved
 told_keeps_id tables next changeset (Ok (pulled.Stopped count)) position before p other new q (none, changes, conflict, form, stops, (same, still)) = ap (λ (x : Position). x.id) same
 told_keeps_id tables next changeset (Err (fault.Memory count)) position before p other new q (none, (same, still)) = ap (λ (x : Position). x.id) same
 told_keeps_id tables next changeset (Err (fault.Device count)) position before p other new q (none, (same, still)) = ap (λ (x : Position). x.id) same

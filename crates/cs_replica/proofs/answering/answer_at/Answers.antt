@@ -27,17 +27,17 @@ returns-in-Err-clause-writes g c =
     ⊥ (IsDeviceFault c.in-Err.fault) (ShowsSomeAt c.args.catalog.now c.args.position.now (g.S.RowStore.contents c.args.store.now)) c.take_entries.new.position
     c.in-Err.ensures.writes
 
-pub returns-then-is_for_it-clause-told : goal.returns-then-is_for_it-clause-told
-returns-then-is_for_it-clause-told g c = λ honest before shows.
+pub returns-then-not-is_for_it-clause-told : goal.returns-then-not-is_for_it-clause-told
+returns-then-not-is_for_it-clause-told g c = λ honest before shows.
     merged_ignored g.P.Picker.picks c.args.catalog.now c.args.answer.now c.in-Merged.origin c.in-Merged.first c.in-Merged.next c.in-Merged.changeset c.in-Merged.is c.args.position.now
-    (λ meant. let e = c.is_for_it.ensures.1 meant in cc) before c.args.picker.now (g.S.RowStore.contents c.args.store.now) shows
+    (λ meant. let e = c.if-not-is_for_it.ensures.1 meant in cc) before c.args.picker.now (g.S.RowStore.contents c.args.store.now) shows
 
-pub returns-in-Merged-clause-told : goal.returns-in-Merged-clause-told
-returns-in-Merged-clause-told g c = λ honest before shows.
-    merged_tells g.P.Picker.picks c.args.catalog.now c.args.answer.now c.in-Merged.origin c.in-Merged.first c.in-Merged.next c.in-Merged.changeset c.bytes.result.now c.in-Merged.is c.bytes.ensures c.args.position.now
-    (c.is_for_it.ensures.0 refl) c.merge_at.result before c.args.picker.now c.merge_at.new.picker c.merge_at.new.position (g.S.RowStore.contents c.merge_at.new.store) (c.merge_at.ensures.told honest before shows)
+pub returns-else-not-is_for_it-clause-told : goal.returns-else-not-is_for_it-clause-told
+returns-else-not-is_for_it-clause-told g c = λ honest before shows.
+    merged_tells g.P.Picker.picks c.args.catalog.now c.args.answer.now c.in-Merged.origin c.in-Merged.first c.in-Merged.next c.in-Merged.changeset c.bytes-bytes.result.now c.in-Merged.is c.bytes-bytes.ensures c.args.position.now
+    (c.if-not-is_for_it.ensures.0 refl) c.merge_at.result before c.args.picker.now c.merge_at.new.picker c.merge_at.new.position (g.S.RowStore.contents c.merge_at.new.store) (c.merge_at.ensures.told honest before shows)
 
-pub returns-in-Merged-clause-writes : goal.returns-in-Merged-clause-writes
-returns-in-Merged-clause-writes g c =
-    merged_writes g.P.Picker.picks c.args.catalog.now c.args.answer.now c.in-Merged.origin c.in-Merged.first c.in-Merged.next c.in-Merged.changeset c.bytes.result.now c.in-Merged.is c.bytes.ensures c.args.position.now
-    (c.is_for_it.ensures.0 refl) g.S.RowStore _ _ _ c.merge_at.new.position c.args.picker.now c.args.store.now c.merge_at.new.store c.merge_at.ensures.writes
+pub returns-else-not-is_for_it-clause-writes : goal.returns-else-not-is_for_it-clause-writes
+returns-else-not-is_for_it-clause-writes g c =
+    merged_writes g.P.Picker.picks c.args.catalog.now c.args.answer.now c.in-Merged.origin c.in-Merged.first c.in-Merged.next c.in-Merged.changeset c.bytes-bytes.result.now c.in-Merged.is c.bytes-bytes.ensures c.args.position.now
+    (c.if-not-is_for_it.ensures.0 refl) g.S.RowStore _ _ _ c.merge_at.new.position c.args.picker.now c.args.store.now c.merge_at.new.store c.merge_at.ensures.writes
