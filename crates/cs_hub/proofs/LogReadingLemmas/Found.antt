@@ -1,6 +1,6 @@
 -- Entries that a store shows: what is stored of them, and what was read or told of them so far.
 use Rattle.std.proofs.Common.{◌≡◌, ◌+◌, ◌≤◌, ◌<◌, ◌∙◌, ◌++◌, ◌∷◌, [], ℕ, zero, suc, List, Option, Some, None, Result, Ok, Err, option_map, length, take, drop, map, get_or, refl, sym, ap, subst, arith}
-use Rattle.std.specs.Prelude.{pos, slice_get}
+use Rattle.std.specs.Prelude.{slice_get}
 use Rattle.std.specs.List.{flat_map}
 use Rattle.std.proofs.lemmas.List.{append_assoc, flat_map_more, length-drop, length-map, length-take-le, take_more}
 use Rattle.std.proofs.lemmas.List.Elements.{All-get_or}
