@@ -21,7 +21,8 @@ use Rattle.cs_hub.specs.declared.judgement.fault.HubFault.TheVariants as hub
 use Rattle.cs_hub.specs.declared.judgement.push.Pushed.{Pushed}
 use Rattle.cs_hub.specs.declared.judgement.push.Pushed.TheVariants as pushed
 use Rattle.cs_store.specs.declared.log.entry.LogEntry.{LogEntry}
-use Rattle.cs_store.specs.log.Stored.{IsEntryOf}
+use Rattle.cs_store.specs.log.Entry.{entry_changes}
+use Rattle.cs_store.specs.log.Stored.{AreChangesOf}
 use Rattle.cs_replica.specs.member.Laws.{EditHasResult, IsInRange, IsOfEdit, IsOfPushed, PushHasResult}
 use Rattle.cs_replica.specs.member.Member.{IsEditedTo, IsPushAsked}
 use Rattle.cs_normalising.specs.Laws.{NormalAgain}
@@ -239,12 +240,12 @@ shown_together tables origin first next changeset (Ok (heard_as.Confirmed newest
 shown_together tables origin first next changeset (Ok heard_as.Ignored) position before p other new q (not, same, keeps) = (before, keeps.0)
 shown_together tables origin first next changeset (Ok (heard_as.Stale newest)) position before p other new q t = absurd t
 shown_together tables origin first next changeset (Ok (heard_as.Refused code)) position before p other new q t = absurd t
-shown_together tables origin first next changeset (Ok (heard_as.Taken count)) position before p other new q (mine, inl (none, zero, same, keeps)) = (before, keeps.0)
+shown_together tables origin first next changeset (Ok (heard_as.Taken count)) position before p other new q (mine, inl (none, nothing, same, keeps)) = (before, keeps.0)
 shown_together tables origin first next changeset (Ok (heard_as.Taken count)) position before p other new q (mine, inr (above, (sum, changes, after, form, moved, shows, takes))) = (after, shows)
 shown_together tables origin first next changeset (Ok (heard_as.Stopped count)) position before p other new q (mine, above, (none, changes, conflict, form, stops, (same, shows))) = (before, rw same shows)
 shown_together tables origin first next changeset (Err (hearing.Memory count)) position before p other new q (mine, above, (none, (same, shows))) = (before, rw same shows)
 shown_together tables origin first next changeset (Err (hearing.Device count)) position before p other new q (mine, above, (none, (same, shows))) = (before, rw same shows)
-shown_together tables origin first next changeset (Err (hearing.BadEntry count)) position before p other new q (mine, inl (below, zero, same, keeps)) = (before, keeps.0)
+shown_together tables origin first next changeset (Err (hearing.BadEntry count)) position before p other new q (mine, inl (below, nothing, same, keeps)) = (before, keeps.0)
 shown_together tables origin first next changeset (Err (hearing.BadEntry count)) position before p other new q (mine, inr (above, (none, bad, unasked, (same, shows)))) = (before, rw same shows)
 
 -- what an answer leaves is shown
@@ -326,12 +327,12 @@ module _ (laws : Below) (limit : ℕ) (small : limit < 2 ^ 32) (world : World) (
           well = refusal_well hub.Ahead (λ e. cc);
         }
         | inr within ↦
-            let of_tables = All-weaker (IsStoredEntry world.tables) (IsEntryOf world.tables) (λ e stored. stored.0) (drop first world.log) (All-drop (IsStoredEntry world.tables) first world.log s.entries) in
+            let of_tables = All-weaker (IsStoredEntry world.tables) (λ (e : LogEntry). AreChangesOf world.tables (entry_changes e)) (λ e stored. stored.0.changes) (drop first world.log) (All-drop (IsStoredEntry world.tables) first world.log s.entries) in
             let told = laws.catch world.tables asker count (drop first world.log) s.tables of_tables in
             record {
               bytes = answer_spelling (caught_answer asker first world.log told.0);
               log = world.log;
-              serves = (Ok (AsksCatch asker first count), (fits, refl), (inr (within, told.0, told.1, refl), refl));
+              serves = (Ok (AsksCatch asker first count), (fits, refl), (inr (within, (told.0, told.1, refl)), refl));
               well = catch_well asker first told.0;
             }
       ]

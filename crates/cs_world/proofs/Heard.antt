@@ -342,12 +342,12 @@ module _ (laws : Below) (limit : ℕ) (small : limit < 2 ^ 32) (world : World) (
         by (Ok told.Ignored) (not, same, (shows, asked)) = still_left (Ok told.Ignored) other left (λ n e. cc) same shows
         by (Ok (told.Stale newest)) t = absurd t
         by (Ok (told.Refused code)) t = absurd t
-        by (Ok (told.Taken count)) (mine, inl (none, zero, same, (shows, asked))) = still_left (Ok (told.Taken count)) other left (λ n e. cc) same shows
+        by (Ok (told.Taken count)) (mine, inl (none, nothing, same, (shows, asked))) = still_left (Ok (told.Taken count)) other left (λ n e. cc) same shows
         by (Ok (told.Taken count)) (mine, inr (above, takes)) = merged_left origin next bytes wishes unused (Ok (pulled.Taken count)) other left (there mine) takes
         by (Ok (told.Stopped count)) (mine, above, takes) = merged_left origin next bytes wishes unused (Ok (pulled.Stopped count)) other left (there mine) takes
         by (Err (fault.Memory count)) (mine, above, takes) = merged_left origin next bytes wishes unused (Err (fault.Memory count)) other left (there mine) takes
         by (Err (fault.Device count)) (mine, above, takes) = merged_left origin next bytes wishes unused (Err (fault.Device count)) other left (there mine) takes
-        by (Err (fault.BadEntry count)) (mine, inl (below, zero, same, keeps)) = let rising = is.rising in absurd (omega (arith, below, rising))
+        by (Err (fault.BadEntry count)) (mine, inl (below, nothing, same, keeps)) = let rising = is.rising in absurd (omega (arith, below, rising))
         by (Err (fault.BadEntry count)) (mine, inr (above, takes)) = merged_left origin next bytes wishes unused (Err (fault.BadEntry count)) other left (there mine) takes
 
     left_by : (answer : Answer) (wishes unused : List Wish) (result : Result Told AnswerFault) (other : Position) (left : Contents) → IsTrueAnswer world answer

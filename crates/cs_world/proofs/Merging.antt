@@ -252,7 +252,7 @@ module _ (laws : Below) (limit : ℕ) (small : limit < 2 ^ 32) (world : World) (
     same_so : after ≡ before → IsSameMember world.tables before after
     same_so same = record {
       position = ap (λ (m : Member). m.position) same;
-      view = record { rows = λ n q. ap (λ (m : Member). m.view.tables n q) (sym same); pending = λ table q inside. ap (λ (m : Member). m.view.pending table.name q) same };
+      view = record { rows = λ n q. ap (λ (m : Member). m.view.tables n q) same; pending = λ table q inside. ap (λ (m : Member). m.view.pending table.name q) same };
     }
 
     -- what the store shows of the replica as it was is the replica after
@@ -313,14 +313,14 @@ module _ (laws : Below) (limit : ℕ) (small : limit < 2 ^ 32) (world : World) (
         by (Ok told.Ignored) (not, same, (shows, asked)) = stays_so left same shows now
         by (Ok (told.Stale newest)) t = absurd t
         by (Ok (told.Refused code)) t = absurd t
-        by (Ok (told.Taken count)) (mine, inl (none, zero, same, (shows, asked))) =
-            subst (λ (n : ℕ). CatchesAsMerge world next n changeset wishes before after) (sym zero) (stays_so left same shows now)
+        by (Ok (told.Taken count)) (mine, inl (none, nothing, same, (shows, asked))) =
+            subst (λ (n : ℕ). CatchesAsMerge world next n changeset wishes before after) (sym nothing) (stays_so left same shows now)
         by (Ok (told.Taken count)) (mine, inr (above, takes)) = takes_so left unused (Ok (pulled.Taken count)) (there mine) (over mine above) now takes
         by (Ok (told.Stopped count)) (mine, above, takes) = takes_so left unused (Ok (pulled.Stopped count)) (there mine) (over mine above) now takes
         by (Err (fault.Memory count)) (mine, above, takes) = takes_so left unused (Err (fault.Memory count)) (there mine) (over mine above) now takes
         by (Err (fault.Device count)) (mine, above, takes) = takes_so left unused (Err (fault.Device count)) (there mine) (over mine above) now takes
-        by (Err (fault.BadEntry count)) (mine, inl (below, zero, same, (shows, asked))) =
-            subst (λ (n : ℕ). CatchesAsMerge world next n changeset wishes before after) (sym zero) (stays_so left same shows now)
+        by (Err (fault.BadEntry count)) (mine, inl (below, nothing, same, (shows, asked))) =
+            subst (λ (n : ℕ). CatchesAsMerge world next n changeset wishes before after) (sym nothing) (stays_so left same shows now)
         by (Err (fault.BadEntry count)) (mine, inr (above, takes)) = takes_so left unused (Err (fault.BadEntry count)) (there mine) (over mine above) now takes
 
     catches_so_far : (outcome : Outcome) → IsHeard k r (Merged origin first next changeset) wishes before after said was outcome → CatchesAsMerge world next (count_in outcome) changeset wishes before after

@@ -8,7 +8,7 @@ use Rattle.cs_change.specs.declared.group.Group.{Group}
 use Rattle.cs_changeset.specs.Laws.{ChangesetLaws}
 use Rattle.cs_hub.specs.Serves.{AnswersAsked, Outcome, ServesIf, TakesBytes, TakesGroups, TakesNormal, caught_answer, or_refusal, push_answer}
 use Rattle.cs_hub.specs.catching.Catches.{Catches}
-use Rattle.cs_hub.specs.catching.Laws.{CaughtAreOthers, OneConsolidated}
+use Rattle.cs_hub.specs.catching.Laws.{CaughtAreOthers, CaughtIsShort}
 use Rattle.cs_hub.specs.declared.catching.caught.Caught.{Caught}
 use Rattle.cs_hub.specs.declared.catching.caught.Caught.TheVariants as caught
 use Rattle.cs_hub.specs.judgement.Hub.{HubState, entries_from}
@@ -53,7 +53,7 @@ pub record Below : Type 0 where
   pub read : ToldAreRead
   pub appended : AppendedIsLog
   pub caught : CaughtAreOthers
-  pub consolidated : OneConsolidated
+  pub caught_short : CaughtIsShort
   pub most : MAX_CHANGESET ≡ 4294967295
 
 -- the bytes that answer what was asked of a world spell an answer that is true of the log after it
@@ -120,17 +120,15 @@ module _ (laws : Below) (limit : ℕ) (small : limit < 2 ^ 32) (world : World) (
     merged_so : (taken : ℕ) (changes : List TableChanges) → Catches world.tables asker count (drop first world.log) (caught.Merged taken changes)
         → bytes ≡ answer_spelling (Merged asker first (first + taken) (normal_spelling changes))
         → IsServed limit world (AsksCatch asker first count) bytes log
-    merged_so taken changes (not_own, run, one) is =
-        let others = laws.caught world.tables world.log asker count first taken changes within (not_own, run, one) in
-        let short = (run.each taken (omega arith)).short in
-        let alike : short.0 ≡ changes = laws.consolidated world.tables (take taken (drop first world.log)) short.0 changes s.tables short.1 one in
-        let size : length (normal_spelling changes) ≤ MAX_CHANGESET = subst (λ (c : List TableChanges). length (normal_spelling c) ≤ MAX_CHANGESET) alike short.2 in
+    merged_so taken changes catches is =
+        let others = laws.caught world.tables world.log asker count first taken changes within catches in
+        let short = laws.caught_short world.tables asker count (drop first world.log) taken changes s.tables catches in
         kept (AsksCatch asker first count) bytes (Merged asker first (first + taken) (normal_spelling changes)) log same
         (record {
           origin_fits = fits.origin_fits;
           first_fits = fits.first_fits;
-          next_fits = omega (arith, others.within, s.short, small);
-          size_fits = omega (arith, size, laws.most);
+          next_fits = (let end = others.within in omega (arith, end, s.short, small));
+          size_fits = omega (arith, short, laws.most);
         }) is others
 
     caught_so : (told : Caught) → Catches world.tables asker count (drop first world.log) told → bytes ≡ answer_spelling (caught_answer asker first world.log told) → IsServed limit world (AsksCatch asker first count) bytes log
@@ -288,7 +286,7 @@ module _ (laws : Below) (limit : ℕ) (small : limit < 2 ^ 32) (world : World) (
       (fits_entries first count fits.first_fits) is (told_are_part first count)
   answered (AsksCatch asker first count) bytes log fits t (inl (above, is), same) =
       kept (AsksCatch asker first count) bytes (Short (Refused 40)) log (ap (λ (h : HubState). h.log) same) (omega arith) is (λ e. omega (arith, e))
-  answered (AsksCatch asker first count) bytes log fits t (inr (within, told, catches, is), same) =
+  answered (AsksCatch asker first count) bytes log fits t (inr (within, (told, catches, is)), same) =
       caught_so asker first count bytes log fits within (ap (λ (h : HubState). h.log) same) told catches is
   answered (AsksPush head changeset) bytes log fits t (outcome, taken, is) =
       bytes_taken head changeset t fits bytes log outcome is taken

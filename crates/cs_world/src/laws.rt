@@ -41,7 +41,6 @@ pub fn steps_are_sound()
     cs_replica::laws::steps_stand();
     cs_replica::laws::flight_fits();
     cs_hub::catching::laws::caught_are_others();
-    cs_hub::catching::laws::one_consolidated();
     cs_hub::catching::laws::consolidated_leads();
 }
 
@@ -75,7 +74,6 @@ pub fn answers_fit()
     cs_wire::laws::one_told_answer();
     cs_wire::laws::told_are_read();
     cs_hub::catching::laws::caught_are_others();
-    cs_hub::catching::laws::one_consolidated();
 }
 
 /// In a sound world each entry that is pulled is the three-way merge of the log's tables at the replica's version, its own rows, and the

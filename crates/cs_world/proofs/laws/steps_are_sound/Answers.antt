@@ -23,7 +23,7 @@ returns c =
         read = c.told_are_read.ensures;
         appended = c.appended_is_log.ensures;
         caught = c.caught_are_others.ensures.told;
-        consolidated = c.one_consolidated.ensures.one;
+        caught_short = c.caught_are_others.ensures.short;
         most = c.most_bytes.ensures;
       };
       answers = record {
