@@ -48,7 +48,7 @@ use Rattle.cs_replica.specs.member.Same.{IsSameMember}
 use Rattle.cs_world.specs.Merges.{CatchesAsMerge, IsConfirmed, IsMerged, IsPendingFrom, PullEntries, PullsAsMerges, PullsEntry, count_in}
 use Rattle.cs_world.specs.Sound.{ArePartOf, IsSound}
 use Rattle.cs_world.specs.Steps.{Hears, Step, heard, receiver}
-use Rattle.cs_world.specs.World.{Asks, IsMember, IsMessage, Member, Tells, World}
+use Rattle.cs_world.specs.World.{IsMember, IsMessage, Member, Tells, World}
 use Rattle.cs_world.specs.declared.event.Event.{Event}
 use Rattle.cs_world.specs.declared.event.Event.TheVariants.{Deliver}
 use Rattle.cs_world.specs.declared.outcome.Outcome.{Outcome}
