@@ -79,6 +79,7 @@ step_tables limit old (step.pushes_not was why) = refl
 step_tables limit old (step.resends was is) = refl
 step_tables limit old (step.resends_not was why) = refl
 step_tables limit old (step.asks less was) = refl
+step_tables limit old (step.catches less was) = refl
 step_tables limit old (step.restarts was) = refl
 step_tables limit old (step.restarts_not was why) = refl
 step_tables limit old (step.serves answer there fits served) = refl
