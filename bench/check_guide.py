@@ -228,7 +228,8 @@ def lacks_sqlite(home):
     """What isn't there of the tools that the guide uses, or None."""
     if not shutil.which("sqlite3"):
         return "no `sqlite3` shell"
-    asked = subprocess.run(["sqlite3", ":memory:", ".session open main probe"], capture_output=True, timeout=SECONDS)
+    words = ["sqlite3", "-init", "/dev/null", ":memory:", ".session open main probe"]
+    asked = subprocess.run(words, stdin=subprocess.DEVNULL, capture_output=True)
     if asked.returncode or asked.stdout or asked.stderr:
         return "no session extension in the `sqlite3` shell"
     (home / "probe.c").write_text(PROBE)
@@ -258,12 +259,11 @@ def main(words):
     if len(words) not in (1, 2):
         print("usage: bench/check_guide.py PROGRAM [LIBRARY]", file=sys.stderr)
         return 2
-    program, library = (pathlib.Path(word).resolve() for word in (words + [""])[:2])
-    library = library if len(words) == 2 else None
-    for needed in [program] + ([library] if library else []):
-        if not needed.is_file():
-            print(f"{needed} isn't there", file=sys.stderr)
-            return 1
+    program = pathlib.Path(words[0]).resolve()
+    library = pathlib.Path(words[1]).resolve() if len(words) == 2 else None
+    if not program.is_file() or not os.access(program, os.X_OK):
+        print(f"{program} is no program", file=sys.stderr)
+        return 1
     failed, told = 0, []
     with tempfile.TemporaryDirectory() as folder:
         home = pathlib.Path(folder).resolve()
