@@ -316,7 +316,7 @@ class Door(BaseHTTPRequestHandler):
     """One connection: requests one behind another, each judged, asked and answered."""
 
     server: Gateway
-    protocol_version = "HTTP/1.1"
+    protocol_version, default_request_version = "HTTP/1.1", "HTTP/1.0"
     server_version, sys_version = "hub", ""
     error_content_type, error_message_format = TEXT, "%(message)s\n"
     disable_nagle_algorithm = True
@@ -326,7 +326,7 @@ class Door(BaseHTTPRequestHandler):
         self.rfile.close()
         self.timed = Timed(self.connection)
         self.rfile = io.BufferedReader(self.timed)
-        self.unread = 0                     # bytes of the body that weren't read
+        self.unread = 0                     # bytes of a body that may still come
         self.who = "nobody"
 
     def handle_one_request(self) -> None:
@@ -401,6 +401,7 @@ class Door(BaseHTTPRequestHandler):
         """The body's length. It has to be told, once, and in no other way."""
         told = self.headers.get_all("Content-Length", [])
         if not told or "Transfer-Encoding" in self.headers:
+            self.unread = self.server.most_bytes
             raise Refusal(HTTPStatus.LENGTH_REQUIRED, "a body comes with its Content-Length, and whole")
         if len(told) > 1 or not re.fullmatch("[0-9]{1,18}", told[0]):
             raise Refusal(HTTPStatus.BAD_REQUEST, "the Content-Length is no number")
