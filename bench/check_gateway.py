@@ -279,6 +279,7 @@ class Shop:
         self.refuses("another's push, as bytes", 403, post(bytes.fromhex(push), NORTH, **{"Content-Type": BYTES}))
         for what, body in ("no hex", b"hello"), ("half a byte", b"020"), ("a space", b"02 00"), ("a return", line[:-1] + b"\r\n"), \
                 ("no hex behind the own push", line + b"x\n"), ("bytes as lines", bytes.fromhex(push)), ("too many lines", b"02\n" * 1001), \
+                ("no request", b"04"), ("an answer", b"1302"), ("an empty line", b"\n"), ("an empty line behind the own push", line + b"\n"), \
                 ("a pull of all entries", b"02" + b"0" * 16 + b"f" * 8), ("a catch of all entries", b"0300000002" + b"0" * 16 + b"f" * 8):
             self.refuses(what, 400, post(body, SOUTH))
         self.refuses("a body that is too long", 413, post(line + b"0" * (1 << 20), SOUTH))
@@ -292,7 +293,7 @@ class Shop:
         self.refuses("another method", 501, ask("DELETE", "/", None, north))
         self.refuses("no HTTP", 400, self.raw(b"hello there you\r\n\r\n"))
         # What is no matter of tokens and lengths the hub judges itself.
-        owed("what the hub refuses", self.gateway.answers(["04", "02", "", NO_PULL + "00", NO_PULL], NORTH), ["1314", "1302", "1302", "1315", NO_ENTRIES])
+        owed("what the hub refuses", self.gateway.answers(["02", NO_PULL + "00", "0100000001", NO_PULL], NORTH), ["1302", "1315", "1302", NO_ENTRIES])
         owed("no request", post(b"", NORTH), (200, b""))
         owed("the log behind refusals", self.gateway.entries(), before)
         self.rest()

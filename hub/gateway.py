@@ -32,13 +32,14 @@ import time
 from http import HTTPStatus
 from http.server import BaseHTTPRequestHandler
 from socketserver import TCPServer, ThreadingMixIn
-from typing import Callable, Sequence
+from typing import Any, Callable, Sequence
 
 MOST_BYTES = 16 << 20               # of a body, where the command line says nothing else
 MOST_LINES = 1000                   # of a body
 MOST_ENTRIES = 4096                 # that one pull or catch may ask for, since the hub holds them all for its answer
 MOST_CONNECTIONS = 64               # at one time, a thread each
 SECONDS = 30.0                      # for each part of a request: until it is here, until the hub has answered, until that is sent
+LONGEST = 3600.0
 PAUSES = (0.0, 0.2, 0.5, 1.0)       # before the hub is started: the one before may hold the file still
 GRACE = 0.2                         # for a hub that is dropped, to end by itself
 SHORTEST_TOKEN = 16
@@ -183,7 +184,7 @@ class Hub:
                 answer = None
                 self.drop("the hub ended at a request")
                 continue
-            except Late:
+            except BaseException:
                 # Its answer may still come, and must not be taken for another request's.
                 self.drop("the hub gave no answer in time")
                 raise
@@ -282,8 +283,10 @@ def read_lines(body: bytes) -> list[bytes]:
 
 
 def judge(message: bytes, origin: bytes) -> None:
-    """Refuses a request in another's name, and one for more entries than may be asked for. What else is wrong the hub says."""
+    """Refuses what is no request, one in another's name, and one for more entries than may be asked for. What else is wrong the hub says."""
     tag = message[:1]
+    if tag not in (PUSH, PULL, CATCH):
+        raise Refusal(HTTPStatus.BAD_REQUEST, "what begins with neither 01, 02 nor 03 is no request")
     if tag in (PUSH, CATCH) and message[1:5] != origin:
         raise Refusal(HTTPStatus.FORBIDDEN, "a push or a catch whose origin isn't the token's replica")
     limit = message[9:13] if tag == PULL else message[13:17] if tag == CATCH else b""
@@ -304,7 +307,7 @@ class Timed(io.RawIOBase):
     def readable(self) -> bool:
         return True
 
-    def readinto(self, buffer) -> int:  # type: ignore[no-untyped-def, override]
+    def readinto(self, buffer: Any) -> int:
         left = self.deadline - time.monotonic()
         if left <= 0:
             raise socket.timeout("the time is over")
@@ -489,7 +492,7 @@ class Gateway(ThreadingMixIn, TCPServer):
                 pass
         self.server_close()
 
-    def process_request(self, request, client_address) -> None:  # type: ignore[no-untyped-def, override]
+    def process_request(self, request: Any, client_address: Any) -> None:
         if len(self.connections) >= MOST_CONNECTIONS:
             request.sendall(b"HTTP/1.1 503 Service Unavailable\r\nRetry-After: 1\r\nContent-Length: 0\r\nConnection: close\r\n\r\n")
             self.shutdown_request(request)
@@ -497,7 +500,7 @@ class Gateway(ThreadingMixIn, TCPServer):
         self.connections.add(request)
         super().process_request(request, client_address)
 
-    def shutdown_request(self, request) -> None:  # type: ignore[no-untyped-def, override]
+    def shutdown_request(self, request: Any) -> None:
         self.connections.discard(request)
         super().shutdown_request(request)
 
@@ -513,7 +516,7 @@ def read_command_line() -> argparse.Namespace:
     parser.add_argument("tokens", help="a file with a line `ID TOKEN` for each replica")
     parser.add_argument("command", nargs=argparse.REMAINDER, help="sync hub --file FILE TABLE...")
     asked = parser.parse_args()
-    if asked.most_bytes < 1 or asked.seconds <= 0 or not 0 <= asked.port < 1 << 16 or not asked.command:
+    if asked.most_bytes < 1 or not 0 < asked.seconds <= LONGEST or not 0 <= asked.port < 1 << 16 or not asked.command:
         parser.error("a number is out of range, or the hub's command is missing")
     return asked
 
@@ -532,8 +535,8 @@ def main() -> int:
     try:
         gateway = Gateway(asked.port, hub, tokens, asked.most_bytes, asked.seconds)
         begin(hub, asked.seconds)
-        gateway.start()
         print("ready", gateway.server_address[1], flush=True)
+        gateway.start()
         signal.sigwait(signals)
         gateway.stop()
     except (OSError, Trouble) as error:
