@@ -4,7 +4,7 @@ for each of its lines or few of them. The parts, in order:
 - a conflict that is kept, one that is taken, and an answer that is lost;
 - what the gateway refuses: tokens, origins, lengths, bodies, paths; and what it hands on for the hub to refuse. The hub's log stays as it is;
 - clients that hang up, that are slow, and many at a time, each of which is owed its own answers;
-- a hub that gives no answer, a second gateway on the file, and the end by SIGTERM, behind which no process is left;
+- a hub that gives no answer, one whose file may not grow, a second gateway on the file, and the end by SIGTERM, behind which no process is left;
 - drawn work: edits, syncs of which answers are lost, and the hub, the gateway or both killed (SIGKILL) on the way and started again.
 
 At the end both tills have the same rows, each row that was told to be inserted is there, the log has each push once, each that was told to be accepted is in
@@ -62,9 +62,9 @@ class Gateway:
     def command(self, seconds, tokens=None, hub=None):
         return [sys.executable, GATEWAY, "--seconds", str(seconds), "--most-bytes", "65536", "0", tokens or self.tokens, *(hub or self.hub)]
 
-    def start(self, seconds=PATIENCE):
+    def start(self, seconds=PATIENCE, hub=None):
         with open(self.log, "a") as log:
-            self.process = subprocess.Popen(self.command(seconds), stdout=subprocess.PIPE, stderr=log, start_new_session=True)
+            self.process = subprocess.Popen(self.command(seconds, hub=hub), stdout=subprocess.PIPE, stderr=log, start_new_session=True)
         words = self.process.stdout.readline().split()
         if words[:1] != [b"ready"]:
             raise Wrong("the gateway doesn't start:\n" + self.told())
@@ -392,6 +392,27 @@ class Shop:
         owed("the next hub", self.gateway.answers([NO_PULL], NORTH), [NO_ENTRIES])
         owed("whether it is another", self.gateway.hub_process() != hub, True)
 
+    def full(self):
+        """A hub whose files may not grow past 128 KiB tells that its device failed, and is started anew. With room again it goes on, with nothing lost."""
+        self.gateway.stop()
+        self.gateway.start(hub=["sh", "-c", "trap '' XFSZ; ulimit -f 256; exec \"$@\"", "hub", *self.gateway.hub])
+        keys = []
+        while len(keys) < 40:
+            keys.append("t=full%s" % len(keys))
+            push = self.south.run("edit insert stock %s 1 x=%s" % (keys[-1], "00" * 10000), "push")[1]
+            status, body = self.gateway.post(push.encode(), SOUTH)
+            if status == 503 or body == b"132c\n":
+                break
+            owed("a push while there is room", (status, body[:10]), (200, b"1100000002"))
+            self.south.run("answer %s -" % body.decode().strip())
+        owed("whether the hub told that its device failed", "device failed" in self.gateway.told(), True)
+        self.gateway.stop()
+        self.gateway.start()
+        self.rest()
+        owed("whether the last row came", "row stock %s 1 x=" % keys[-1] in "\n".join(self.north.rows()[1]), True)
+        self.south.does(*["edit delete stock " + key for key in keys])
+        self.rest()
+
     def ends(self):
         """The hub is killed between two requests, the gateway asked to end while a connection is open, and gateways that can't start."""
         self.gateway.kill_hub()
@@ -494,7 +515,7 @@ def main():
     try:
         shop.gateway.start()
         shop.gateway.gets_well()
-        for part in shop.conflicts, shop.answer_lost, shop.refusals, shop.hang_ups, shop.many, shop.slow, shop.ends:
+        for part in shop.conflicts, shop.answer_lost, shop.refusals, shop.hang_ups, shop.many, shop.slow, shop.full, shop.ends:
             part()
         for _ in range(steps):
             shop.drawn()
