@@ -63,12 +63,22 @@ class Gateway:
         return [sys.executable, GATEWAY, "--seconds", str(seconds), "--most-bytes", "65536", "0", tokens or self.tokens, *(hub or self.hub)]
 
     def start(self, seconds=PATIENCE, hub=None):
+        """Starts it, and once more where it ends: the hub of one that was killed may hold the file still."""
+        until = time.time() + PATIENCE
+        while not self.is_started(seconds, hub):
+            if time.time() > until:
+                raise Wrong("the gateway doesn't start:\n" + self.told())
+
+    def is_started(self, seconds, hub):
         with open(self.log, "a") as log:
             self.process = subprocess.Popen(self.command(seconds, hub=hub), stdout=subprocess.PIPE, stderr=log, start_new_session=True)
         words = self.process.stdout.readline().split()
-        if words[:1] != [b"ready"]:
-            raise Wrong("the gateway doesn't start:\n" + self.told())
-        self.port = int(words[1])
+        if words[:1] == [b"ready"]:
+            self.port = int(words[1])
+            return True
+        self.process.wait()
+        self.process.stdout.close()
+        return False
 
     def told(self):
         with open(self.log) as log:
@@ -393,9 +403,9 @@ class Shop:
         owed("whether it is another", self.gateway.hub_process() != hub, True)
 
     def full(self):
-        """A hub whose files may not grow past 128 KiB tells that its device failed, and is started anew. With room again it goes on, with nothing lost."""
+        """A hub whose files may not grow past 512 KiB tells that its device failed, and is started anew. With room again it goes on, with nothing lost."""
         self.gateway.stop()
-        self.gateway.start(hub=["sh", "-c", "trap '' XFSZ; ulimit -f 256; exec \"$@\"", "hub", *self.gateway.hub])
+        self.gateway.start(hub=["sh", "-c", "trap '' XFSZ; ulimit -f 1024; exec \"$@\"", "hub", *self.gateway.hub])
         keys = []
         while len(keys) < 40:
             keys.append("t=full%s" % len(keys))
