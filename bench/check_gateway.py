@@ -44,7 +44,7 @@ class Away(Exception):
 
 def owed(what, found, wanted):
     if found != wanted:
-        raise Wrong("%s: %r in place of %r" % (what, found, wanted))
+        raise Wrong("%.300s: %.500r in place of %.500r" % (what, found, wanted))
 
 
 class Gateway:
@@ -403,24 +403,26 @@ class Shop:
         owed("whether it is another", self.gateway.hub_process() != hub, True)
 
     def full(self):
-        """A hub whose files may not grow past 512 KiB tells that its device failed, and is started anew. With room again it goes on, with nothing lost."""
+        """A hub whose files may not grow past 256 KiB tells that its device failed, and is started anew. With room again it goes on, with nothing lost."""
         self.gateway.stop()
-        self.gateway.start(hub=["sh", "-c", "trap '' XFSZ; ulimit -f 1024; exec \"$@\"", "hub", *self.gateway.hub])
+        self.gateway.start(hub=["sh", "-c", "trap '' XFSZ; ulimit -f 512; exec \"$@\"", "hub", *self.gateway.hub])
         keys = []
-        while len(keys) < 40:
+        while "device failed" not in self.gateway.told():
+            owed("whether files of 256 KiB hold as many rows of 10,000 bytes", len(keys) < 26, True)
             keys.append("t=full%s" % len(keys))
             push = self.south.run("edit insert stock %s 1 x=%s" % (keys[-1], "00" * 10000), "push")[1]
             status, body = self.gateway.post(push.encode(), SOUTH)
-            if status == 503 or body == b"132c\n":
-                break
-            owed("a push while there is room", (status, body[:10]), (200, b"1100000002"))
-            self.south.run("answer %s -" % body.decode().strip())
-        owed("whether the hub told that its device failed", "device failed" in self.gateway.told(), True)
+            if status == 200:
+                self.south.run("answer %s -" % body.decode().strip())
+            else:
+                owed("the status of a push without room", status, 503)
         self.gateway.stop()
         self.gateway.start()
         self.rest()
         owed("whether the last row came", "row stock %s 1 x=" % keys[-1] in "\n".join(self.north.rows()[1]), True)
-        self.south.does(*["edit delete stock " + key for key in keys])
+        for key in keys:
+            self.south.does("edit delete stock " + key)
+            self.south.sync(self.gateway.answers)
         self.rest()
 
     def ends(self):
@@ -518,7 +520,7 @@ def selected(path, query):
 
 def main():
     program = os.path.abspath(sys.argv[1])
-    steps = int(sys.argv[2]) if len(sys.argv) > 2 else 40
+    steps = int(sys.argv[2]) if len(sys.argv) > 2 else 30
     seed = int(sys.argv[3]) if len(sys.argv) > 3 else 1
     folder = tempfile.mkdtemp()
     shop = Shop(program, folder, seed)
