@@ -520,7 +520,7 @@ def selected(path, query):
 
 def main():
     program = os.path.abspath(sys.argv[1])
-    steps = int(sys.argv[2]) if len(sys.argv) > 2 else 30
+    steps = int(sys.argv[2]) if len(sys.argv) > 2 else 20
     seed = int(sys.argv[3]) if len(sys.argv) > 3 else 1
     folder = tempfile.mkdtemp()
     shop = Shop(program, folder, seed)

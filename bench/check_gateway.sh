@@ -8,4 +8,4 @@ program="$(readlink -f "${1:?usage: bench/check_gateway.sh PROGRAM [STEPS] [SEED
 . "$bench/common.sh"
 command -v python3 > /dev/null || { echo "no gateway is run: there is no python3 here"; exit 0; }
 mkdir -p "$out"
-BENCH_KEPT="$out/gateway" exec python3 "$bench/check_gateway.py" "$program" "${2:-30}" "${3:-1}"
+BENCH_KEPT="$out/gateway" exec python3 "$bench/check_gateway.py" "$program" "${2:-20}" "${3:-1}"
