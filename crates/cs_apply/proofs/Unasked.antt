@@ -2,6 +2,7 @@
 use Rattle.std.proofs.Common.{◌≡◌, ℕ, List, [], ◌∷◌, Option, Some, None, refl, sym, subst, ap, ◌∙◌}
 use Rattle.std.specs.Prelude.{IsSome}
 use Rattle.std.specs.List.{AllByRecursion}
+use Rattle.cs_value.specs.Facts.{by_test, some_same}
 use Rattle.cs_value.specs.Key.{Place}
 use Rattle.cs_value.specs.declared.catalog.TableDef.{TableDef}
 use Rattle.cs_change.specs.Action.{action, action_any, after, after_any}
@@ -19,12 +20,9 @@ use Rattle.cs_apply.specs.Applies.{IsConflictOf, Applies, Stops, answers_of}
 use Rattle.cs_apply.specs.Laws.{DefinedAsksNothing, DefinedIsNotStopped, UnaskedIsDefined, StopsAtAChange, AlwaysAborts, AbortingIsApplied, AbortingIsRefused}
 use Rattle.cs_apply.specs.NormalTasks.{spot_of, HaveOwnPlaces, found_at, found_is, each_found, IsKnown, all_known, shown_key, shown_on, of_one, keyed_tasks, tasks_are, are_apart, AreUntouched, untouched, same_at_first, elsewhere_too, stays}
 use Rattle.cs_apply.specs.Shown.{IsConflictIn}
-use Rattle.cs_apply.specs.Spots.{by_test, same_spot, spot_is, spot_not}
+use Rattle.cs_apply.specs.Spots.{same_spot, spot_is, spot_not}
 use Rattle.cs_tasks.specs.Tasks.{Task, tasks}
 use Rattle.cs_apply.proofs.Quiet.{AreNone, no_answers}
-
-some_same : {X : Type 0} {a b : X} → Some a ≡ Some b → a ≡ b
-some_same e = cc
 
 none_given : (given : List (Option Resolution)) → answers_of given ≡ [] → AreNone given
 none_given [] e = tt

@@ -3,12 +3,12 @@ use Rattle.std.proofs.Common.{eqb, eqb-true, eq-eqb, ◌≡◌, ◌≢◌, ◌<�
 use Rattle.std.specs.Prelude.{slice_get, slice_set}
 use Rattle.std.proofs.lemmas.List.{length-set}
 use Rattle.std.proofs.lemmas.Option.{same_Some}
+use Rattle.cs_value.specs.Facts.{by_test}
 use Rattle.cs_change.specs.declared.change.Change.{Change}
 use Rattle.cs_conflict.specs.declared.conflict.Conflict.{Conflict}
 use Rattle.cs_conflict.specs.declared.conflict.Resolution.{Resolution}
 use Rattle.cs_apply.specs.Meeting.{blank}
 use Rattle.cs_apply.specs.Slots.{standing}
-use Rattle.cs_apply.specs.Spots.{by_test}
 use Rattle.cs_apply.specs.Steps.{RunsOne, RunStops, WaitsOne, WaitStops, Runs, RunsStop, RunsWaiting, WaitingStop}
 use Rattle.cs_apply.specs.Waiting.{IsTurn}
 use Rattle.cs_apply.specs.Woven.{weave, unmade, IsWaiting, count_waiting}

@@ -10,6 +10,7 @@ use Rattle.std.specs.Map.{keys_of}
 use Rattle.std.proofs.lemmas.Cmp.{nat_list_cmp_total}
 use Rattle.std.proofs.lemmas.List.Elements.{All-contains, All-contains_itself, recursion_from_All}
 use Rattle.std.proofs.lemmas.Map.Keys.{IsDistinct-from_sorted, sorted_head, sorted_tail}
+use Rattle.cs_value.specs.Facts.{by_test}
 use Rattle.cs_value.specs.Catalog.{AreTables}
 use Rattle.cs_value.specs.declared.catalog.TableDef.{TableDef}
 use Rattle.cs_change.specs.Spelling.{FitsChangeset}
@@ -30,7 +31,7 @@ use Rattle.cs_group.specs.Steps.Joining.{then_form}
 use Rattle.cs_group.specs.Steps.Reading.{AreTakenTogether, IsReadJoinOf, read_each}
 use Rattle.cs_group.specs.Steps.TableByTable.{AreMade, no_table, next}
 use Rattle.cs_group.specs.declared.combining.CombineFault.TheVariants.{Headers, Unfit as NoForm}
-use Rattle.cs_group.proofs.GroupFolds.{by_bool, listing, listing_sorted, found_at}
+use Rattle.cs_group.proofs.GroupFolds.{listing, listing_sorted, found_at}
 use Rattle.cs_group.specs.Steps.FormLaws.{FormLaws}
 use Rattle.cs_group.proofs.ReadJoins.{read_combined}
 
@@ -47,10 +48,10 @@ among_first : (q k : List ℕ) (keys : Keys) → same_bytes q k ≡ true → IsA
 among_first q k keys e = rw e refl
 
 among_rest : (q k : List ℕ) (keys : Keys) → IsAmong q keys → IsAmong q (k ∷ keys)
-among_rest q k keys h = by_bool (same_bytes q k) (λ e. rw e refl) (λ e. rw e h)
+among_rest q k keys h = by_test (same_bytes q k) _ (λ e. rw e refl) (λ e. rw e h)
 
 first_or_rest : (q k : List ℕ) (keys : Keys) → IsAmong q (k ∷ keys) → (same_bytes q k ≡ true) ⊎ IsAmong q keys
-first_or_rest q k keys h = by_bool (same_bytes q k) (λ e. inl e) (λ e. inr (rw e at h))
+first_or_rest q k keys h = by_test (same_bytes q k) _ (λ e. inl e) (λ e. inr (rw e at h))
 
 -- keys in order, with one more among them
 record WithKey (key : List ℕ) (before : Keys) : Type 0 where
@@ -137,7 +138,7 @@ among_behind q (k ∷ front) rest h = among_rest q k (front ++ rest) (among_behi
 none_at : (q : List ℕ) (changes : Changes) → (IsAmong q (keys_of changes) → ⊥) → change_at q changes ≡ None
 none_at q [] none = refl
 none_at q (e ∷ changes) none =
-    by_bool (same_bytes q e.0)
+    by_test (same_bytes q e.0) _
     (λ same. absurd (none (among_first q e.0 (keys_of changes) same)))
     (λ other. rw other (none_at q changes (λ h. none (among_rest q e.0 (keys_of changes) h))))
 
@@ -157,7 +158,7 @@ together marks lists =
         ordered = listing_sorted left ordered.keys ordered.rising;
         at_key = λ q.
             found_at left q ordered.keys (IsDistinct-from_sorted by_bytes ordered.keys ordered.rising)
-            ∙ by_bool (list_any (same_bytes q) ordered.keys) (λ e. rw e refl) (λ e. rw e (sym (none_together marks q lists (λ h. let there = ordered.each q h in cc))));
+            ∙ by_test (list_any (same_bytes q) ordered.keys) _ (λ e. rw e refl) (λ e. rw e (sym (none_together marks q lists (λ h. let there = ordered.each q h in cc))));
       },
     )
 
@@ -169,7 +170,7 @@ HasText table = IsUtf8 table.name
 all_filter : (P : TableDef → Type 0) (test : TableDef → Bool) (tables : List TableDef) → AllByRecursion P tables → AllByRecursion P (filter test tables)
 all_filter P test [] all = tt
 all_filter P test (table ∷ tables) all =
-    by_bool (test table) (λ e. rw e (all.0, all_filter P test tables all.1)) (λ e. rw e (all_filter P test tables all.1))
+    by_test (test table) _ (λ e. rw e (all.0, all_filter P test tables all.1)) (λ e. rw e (all_filter P test tables all.1))
 
 first_texts : (headers : List TableDef) → AllByRecursion HasText headers → AllByRecursion HasText (tables_of_headers headers)
 unfolding tables_of_headers

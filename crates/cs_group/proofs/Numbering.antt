@@ -7,6 +7,7 @@ use Rattle.std.specs.Str.{bytes_eq}
 use Rattle.std.proofs.lemmas.Grind.{flat_map-append}
 use Rattle.std.proofs.lemmas.List.{map-append}
 use Rattle.std.proofs.lemmas.List.Folds.{flat_map-map}
+use Rattle.cs_value.specs.Facts.{by_test}
 use Rattle.cs_change.specs.declared.change.Change.{Change}
 use Rattle.cs_change.specs.declared.group.Group.{Group}
 use Rattle.cs_order.specs.Groups.{places_of}
@@ -16,7 +17,6 @@ use Rattle.cs_normalising.specs.NormalFormOf.{changes_of}
 use Rattle.cs_group.specs.Steps.Joining.{in_a_row}
 use Rattle.cs_group.specs.Steps.Numbering.{changes_in_group, groups_at, listed_group, name_of, named, numbered_behind, numbered_from, numbered_names, numbers_in_group, NumberedGroup}
 use Rattle.cs_group.specs.Steps.Reading.{numbers_from, read_each}
-use Rattle.cs_group.proofs.Lookups.{by_test}
 
 -- what a group gives, if it has the name
 abbrev if_named : {Y : Type 0} → List ℕ → (NumberedGroup → List Y) → NumberedGroup → List Y

@@ -7,6 +7,7 @@ use Rattle.std.specs.Str.{bytes_eq}
 use Rattle.std.proofs.lemmas.List.Elements.{recursion_from_All}
 use Rattle.std.proofs.lemmas.List.Sums.{sum_by-cons}
 use Rattle.std.proofs.lemmas.Map.Keys.{IsDistinct-from_sorted}
+use Rattle.cs_value.specs.Facts.{by_test}
 use Rattle.cs_value.specs.Catalog.{AreTables}
 use Rattle.cs_value.specs.declared.catalog.TableDef.{TableDef}
 use Rattle.cs_value.specs.declared.value.Field.{Field}
@@ -32,7 +33,6 @@ use Rattle.cs_change.specs.netting.Combine.{then_change_any, with_flag_any}
 use Rattle.cs_group.specs.Steps.Folding.{spelled_behind, spelled_changes}
 use Rattle.cs_group.specs.Steps.TableByTable.{HasNormal}
 use Rattle.cs_group.specs.Tables.{IsJoinOf, JoinIsShort, changes_along}
-use Rattle.cs_group.proofs.GroupFolds.{by_bool}
 use Rattle.cs_group.proofs.Joined.{same_self}
 use Rattle.cs_group.proofs.KeyFolds.{combine_none}
 use Rattle.cs_group.proofs.PerTable.{HasOtherName, absent_fits, has_normal, named, other_named}
@@ -56,26 +56,26 @@ or_short (Is u) v = omega arith
 
 old_short : (o1 n1 o2 n2 : Field) → length (field (then_column o1 n1 o2 n2).0) ≤ length (field o1) + length (field o2)
 old_short o1 n1 o2 n2 =
-    by_bool (is_idle (overlay_field o2 o1) (overlay_field n1 n2))
+    by_test (is_idle (overlay_field o2 o1) (overlay_field n1 n2)) _
     (λ e. rw e (omega (arith, field_some o1)))
     (λ e. rw e (omega (arith, overlay_short o2 o1)))
 
 new_short : (o1 n1 o2 n2 : Field) → length (field (then_column o1 n1 o2 n2).1) ≤ length (field n1) + length (field n2)
 new_short o1 n1 o2 n2 =
-    by_bool (is_idle (overlay_field o2 o1) (overlay_field n1 n2))
+    by_test (is_idle (overlay_field o2 o1) (overlay_field n1 n2)) _
     (λ e. rw e (omega (arith, field_some n1)))
     (λ e. rw e (omega (arith, overlay_short n1 n2)))
 
 old_net_short : (m : Bool) (b x : Value) → length (field (old_field m b x)) ≤ length (field (Is b))
 old_net_short true b x = omega arith
 old_net_short false b x =
-    by_bool (same_value b x)
+    by_test (same_value b x) _
     (λ e. rw e (field_some (Is b)))
     (λ e. rw e (omega arith))
 
 new_net_short : (b x : Value) → length (field (new_field b x)) ≤ length (field (Is x))
 new_net_short b x =
-    by_bool (same_value b x)
+    by_test (same_value b x) _
     (λ e. rw e (field_some (Is x)))
     (λ e. rw e (omega arith))
 
@@ -155,7 +155,7 @@ sized (Update flag old new) = omega (arith, length-append (record_of old) (recor
 net_short : (marks : List Bool) (old new : List Value) → size (net marks (Some old) (Some new)) ≤ 4 + (length (row_bytes old) + length (row_bytes new))
 unfolding net
 net_short marks old new =
-    by_bool (same_row old new)
+    by_test (same_row old new) _
     (λ e. rw e (omega arith))
     (λ e. rw e (omega (arith, old_record_short marks old new, new_record_short old new)))
 
@@ -166,7 +166,7 @@ one_short marks (Inserts row) (Updates old new) = omega (arith, set_short new ro
 one_short marks (Inserts row) (Deletes old) = omega arith
 one_short marks (Updates o1 n1) (Inserts new) = omega arith
 one_short marks (Updates o1 n1) (Updates o2 n2) =
-    by_bool (is_blank (then_new_fields o1 n1 o2 n2))
+    by_test (is_blank (then_new_fields o1 n1 o2 n2)) _
     (λ e. rw e (omega arith))
     (λ e. rw e (omega (arith, olds_short o1 n1 o2 n2, news_short o1 n1 o2 n2)))
 one_short marks (Updates o1 n1) (Deletes row) = omega (arith, set_short o1 row)
@@ -219,7 +219,7 @@ Others key keys = AllByRecursion (λ other. same_bytes other key ≡ false) keys
 turned_others : (key : List ℕ) (keys : Keys) → AllByRecursion (λ other. same_bytes key other ≡ false) keys → Others key keys
 turned_others key [] all = tt
 turned_others key (other ∷ keys) all = (
-  by_bool (same_bytes other key)
+  by_test (same_bytes other key) _
       (λ e.
       let is : other ≡ key = same_is other key e in
       let self : same_bytes key other ≡ true = ap (same_bytes key) is ∙ same_self key in
@@ -239,7 +239,7 @@ first_once : (entry : List ℕ × Change) (changes : Changes) (keys : Keys) → 
 unfolding at_keys IsDistinct
 first_once entry changes [] apart = omega arith
 first_once entry changes (key ∷ keys) apart =
-    by_bool (same_bytes key entry.0)
+    by_test (same_bytes key entry.0) _
     (λ e.
     let here : in_changes (entry ∷ changes) key ≡ length (change_spelling entry.1) = ap (λ (t : Bool). weight (cond t (Some entry.1) (change_at key changes))) e in
     let others = turned_others key keys apart.0 in

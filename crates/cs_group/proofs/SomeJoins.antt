@@ -6,6 +6,7 @@ use Rattle.std.specs.Str.{bytes_eq}
 use Rattle.std.proofs.lemmas.List.Elements.{All-contains, All-contains_itself, All-from_recursion, recursion_from_All}
 use Rattle.std.proofs.lemmas.List.Sums.{fold-append}
 use Rattle.std.proofs.lemmas.Slice.Eq.{bytes_eq-Decides}
+use Rattle.cs_value.specs.Facts.{by_test}
 use Rattle.cs_value.specs.Catalog.{AreTables}
 use Rattle.cs_value.specs.declared.catalog.TableDef.{TableDef}
 use Rattle.cs_change.specs.declared.change.Change.{Change}
@@ -20,7 +21,6 @@ use Rattle.cs_group.specs.Steps.Joining.{changes_each}
 use Rattle.cs_group.specs.Steps.TableByTable.{AreMade, FitsTable, next, no_table}
 use Rattle.cs_group.specs.Tables.{AreJoined, AreThen, IsJoinOf, IsThen, JoinOneMore, SomeJoin, changes_along, then_change_all}
 use Rattle.cs_group.proofs.Found.{together}
-use Rattle.cs_group.proofs.GroupFolds.{by_bool}
 use Rattle.cs_group.proofs.Joined.{same_self}
 use Rattle.cs_group.proofs.KeyFolds.{AreNormalEach, combine_none, join_of, own_forms}
 use Rattle.cs_group.proofs.PerTable.{HoldsIn, list_fits, made_each, made_fits}
@@ -30,7 +30,7 @@ use Rattle.cs_group.proofs.PerTable.{HoldsIn, list_fits, made_each, made_fits}
 text_in : (name : List ℕ) (changes : List TableChanges) → IsNormalChangeset changes → changes_in name changes ≢ [] → IsUtf8 name
 text_in name [] normal some = absurd (some refl)
 text_in name (table ∷ tables) normal some =
-    by_bool (bytes_eq table.name name)
+    by_test (bytes_eq table.name name) _
     (λ e. subst IsUtf8 ((bytes_eq-Decides table.name name).0 e) normal.0.header.text)
     (λ e. text_in name tables normal.2 (λ none. some (ap (λ (t : Bool). cond t table.changes (changes_in name tables)) e ∙ none)))
 

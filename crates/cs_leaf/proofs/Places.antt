@@ -3,9 +3,8 @@ use Rattle.std.proofs.Common.{◌≡◌, ℕ, Bool, true, false, cond, List, Opt
 use Rattle.std.specs.Prelude.{pos}
 use Rattle.std.proofs.Math.Dec.{ltb, eqb}
 use borrow.Author.Tests.{ltb-true, ltb-false, eqb-true, eqb-false}
-use Rattle.std.specs.declared.cmp.Ordering.{Ordering}
 use Rattle.std.specs.declared.cmp.Ordering.TheVariants.{Less, Equal, Greater}
-use Rattle.std.specs.Ordering.{is_eq, eq_by_cmp, int_cmp, nat_cmp}
+use Rattle.std.specs.Ordering.{eq_by_cmp, int_cmp, nat_cmp}
 use Rattle.std.specs.Cmp.{IsTotalOrder}
 use Rattle.std.specs.Cmp.Lexicographic.{slice_cmp}
 use Rattle.std.specs.FinMap.{IsAntisymmetric, get, get-insert, get-remove}
@@ -23,11 +22,6 @@ place_exact = exact_pairs int_cmp (slice_cmp nat_cmp) exact_signed exact_bytes
 pub get-with_body : (m : Bodies) (p : StorePlace) (w : Option (List ℕ)) (q : StorePlace) → get (with_body m p w) q ≡ cond (eq_by_cmp place_cmp q p) w (get m q)
 get-with_body m p None q = get-remove place_total m p q
 get-with_body m p (Some v) q = get-insert place_total m p v q
-
-pub equal_from : (o : Ordering) → is_eq o ≡ true → o ≡ Equal
-equal_from Less h = absurd cc
-equal_from Equal h = refl
-equal_from Greater h = absurd cc
 
 -- two numbers compare as the integers that they are
 pub int_cmp-pos : (a b : ℕ) → int_cmp (pos a) (pos b) ≡ nat_cmp a b

@@ -8,10 +8,11 @@ use Rattle.std.proofs.BufReadLemmas.{take_through_nonempty, through_part, drop_t
 use Rattle.std.proofs.Transfers.{All-of_StopsAt, StopsAt-append}
 use Rattle.std.proofs.lemmas.List.Elements.{All-append, All-cons, All-nil}
 use Rattle.std.proofs.lemmas.Grind.{common_steps}
+use Rattle.cs_lines.specs.Facts.{stays}
 use Rattle.cs_lines.specs.declared.line.LineRead.{LineRead}
 use Rattle.cs_lines.specs.declared.line.LineRead.TheVariants.{Whole, Skipped, End}
 use Rattle.cs_lines.specs.Lines.{lines_of}
-use Rattle.std.proofs.KnownBytes.{Consumes-nil, Consumes-trans}
+use Rattle.std.proofs.KnownBytes.{Consumes-trans}
 use Rattle.cs_lines.specs.Reading.{IsCut, StaysInLine, TakesLine, HasRead, HasSkipped}
 use Rattle.cs_lines.proofs.LineLemmas.{first_cut, lines_of-first}
 
@@ -116,10 +117,6 @@ some_of_skipped (Some xs) front some is counted =
 pub nil_of_empty : (xs : List ℕ) → length xs ≡ 0 → xs ≡ []
 nil_of_empty [] none = refl
 nil_of_empty (x ∷ xs) none = absurd (omega arith)
-
--- nothing is gone
-pub stays : (left : Option (List ℕ)) → StaysInLine left left
-stays left = ([], Consumes-nil left, All-nil (λ x. x ≢ 10))
 
 -- what is gone behind a front without a line feed is of the front's line
 pub stays_behind : (old mid new : Option (List ℕ)) (front : List ℕ) → Consumes old mid front → All (λ x. x ≢ 10) front

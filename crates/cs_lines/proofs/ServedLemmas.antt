@@ -4,7 +4,7 @@ use Rattle.std.specs.Prelude.{Option, Some, None, Err, flat_map}
 use Rattle.std.specs.Io.KnownBytes.{Appends, IsAtEnd}
 use Rattle.std.proofs.lemmas.Grind.{flat_map-append}
 use Rattle.std.proofs.KnownBytes.{Appends-trans, Appends-nil}
-use Rattle.cs_lines.proofs.ReadLemmas.{stays}
+use Rattle.cs_lines.specs.Facts.{stays}
 use Rattle.cs_lines.specs.Lines.{lines_of, hex_line}
 use Rattle.cs_lines.specs.Reading.{AreAllBefore, AreTaken, StaysInLine, TakesLine}
 use Rattle.cs_lines.specs.Served.{Answers, AnswersAll, AreAllLines, AreFirstLines, StaysSent}

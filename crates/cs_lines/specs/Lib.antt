@@ -1,3 +1,4 @@
+pub mod Facts
 pub mod Laws
 pub mod Lines
 pub mod OneRun

@@ -7,12 +7,13 @@ use Rattle.std.specs.BTreeMap.{BTreeMap, get, is_at, get_by, UpdatesBy}
 use Rattle.std.proofs.lemmas.List.{drop_more}
 use Rattle.std.proofs.lemmas.List.Elements.{All-more}
 use Rattle.std.proofs.lemmas.List.Folds.{list_any-append}
+use Rattle.cs_order.specs.Facts.{equal_from}
 use Rattle.cs_order.specs.Order.{by_bytes}
 use Rattle.cs_map_store.specs.Slots.{SlotKey, Slot, key_cmp, place_of}
 use Rattle.cs_map_store.specs.declared.slots.Step.{Step}
 use Rattle.cs_map_store.specs.Steps.{step_keys, is_among, left_empty, is_empty_slot, HasSlot, HasSlots, IsEmptyOnlyAt}
 use Rattle.cs_map_store.proofs.Maps.{place_total}
-use Rattle.cs_map_store.proofs.Showing.{equal_from, key_cmp-place}
+use Rattle.cs_map_store.proofs.Showing.{key_cmp-place}
 
 abbrev ties : SlotKey → SlotKey → Bool
 ties k q = is_at (key_cmp k) q

@@ -32,11 +32,6 @@ get-with_meta m p (Some v) q = get-insert nat_list_cmp_total m p v q
 
 -- ---- the entries of one table
 
-equal_from : (o : Ordering) → is_eq o ≡ true → o ≡ Equal
-equal_from Less h = absurd cc
-equal_from Equal h = refl
-equal_from Greater h = absurd cc
-
 pub not_equal : (o r : Ordering) → is_eq o ≡ false → is_eq (ordering_then o r) ≡ false
 not_equal Less r h = refl
 not_equal Equal r h = absurd cc

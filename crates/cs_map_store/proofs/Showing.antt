@@ -11,6 +11,7 @@ use Rattle.std.specs.Cmp.Lexicographic.{slice_cmp}
 use Rattle.std.specs.Map.{lookup, KeepsOthers}
 use Rattle.std.specs.BTreeMap.{is_at}
 use Rattle.std.specs.FinMap.{get, get-empty, same_map}
+use Rattle.cs_order.specs.Facts.{equal_from}
 use Rattle.cs_store.specs.Contents.{StorePlace, Bodies, place_cmp}
 use Rattle.cs_store.specs.Written.{with_body, optional_bytes}
 use Rattle.cs_map_store.specs.Slots.{SlotKey, Slot, key_cmp, table_number, place_of, shown}
@@ -56,11 +57,6 @@ get-shown [] q = get-empty place_cmp q
 get-shown (e ∷ es) q = get-with_body (shown es) (place_of e.0) (optional_bytes e.1) q
     ∙ ap (cond (eq_by_cmp place_cmp q (place_of e.0)) (optional_bytes e.1)) (get-shown es q)
     ∙ elim (eq_by_cmp place_cmp q (place_of e.0)) as (λ b. cond b (optional_bytes e.1) (joined (look q es)) ≡ joined (cond b (Some e.1) (look q es))) [ true ↦ refl | false ↦ refl ]
-
-pub equal_from : (o : Ordering) → is_eq o ≡ true → o ≡ Equal
-equal_from Less h = absurd cc
-equal_from Equal h = refl
-equal_from Greater h = absurd cc
 
 -- a place that ties with a key has the slot of the key
 pub look_at_key : (k : SlotKey) (q : StorePlace) (es : List (SlotKey × Slot)) → place_cmp q (place_of k) ≡ Equal → look q es ≡ lookup (is_at (key_cmp k)) es

@@ -6,6 +6,7 @@ use Rattle.std.proofs.lemmas.Bool.{cases_eq, cases_lt}
 use Rattle.std.proofs.lemmas.List.{get_or_default, get_or-map, get_or-take, length-map, length-take-le, take_more, drop_more}
 use Rattle.std.proofs.lemmas.List.Folds.{Any-from_list_any, list_any_at, list_any-append}
 use Rattle.std.proofs.lemmas.Slice.Eq.{bytes_eq-Decides}
+use Rattle.cs_value.specs.Facts.{by_test}
 use Rattle.cs_value.specs.declared.catalog.TableDef.{TableDef}
 use Rattle.cs_order.specs.Facts.{first_place}
 use Rattle.cs_order.specs.Groups.{has_bytes, places_of}
@@ -13,7 +14,7 @@ use Rattle.cs_order.specs.Order.{Keys, key_at, same_bytes}
 use Rattle.cs_normal.specs.Steps.FirstTables.{first_is, is_new, with_new, AreFirstTables, HaveNamesOf, IsFrontOf}
 use Rattle.cs_normal.specs.Placed.{table_name}
 use Rattle.cs_normal.proofs.HeaderTables.{front_more, one_more}
-use Rattle.cs_normal.specs.NormalFacts.{by_test, has_place, same_self}
+use Rattle.cs_normal.specs.NormalFacts.{has_place, same_self}
 
 -- the first that passes is the least that does
 least : (test : ℕ → Bool) (start n first : ℕ) (others : List ℕ) (j : ℕ) → filter test (range_with_len start n) ≡ first ∷ others → start ≤ j → j < start + n → test j ≡ true → first ≤ j

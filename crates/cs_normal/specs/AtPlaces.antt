@@ -8,9 +8,9 @@ use Rattle.std.proofs.lemmas.Cmp.{nat_list_cmp_total}
 use Rattle.std.proofs.lemmas.List.{length-map}
 use Rattle.std.proofs.Math.ListN.{get_or-map as get_or_map}
 use Rattle.std.proofs.Math.Seq.{get_or-append_seam}
+use Rattle.cs_value.specs.Facts.{by_test}
 use Rattle.cs_order.specs.Groups.{has_bytes, places_of}
 use Rattle.cs_order.specs.Order.{key_at, places, same_bytes}
-use Rattle.cs_normal.specs.NormalFacts.{by_test}
 
 -- a walk over what passes is a walk that passes over the rest
 kept_walked : {Y : Type 0} (p : ℕ → Bool) (f : ℕ → List Y) (xs : List ℕ) → flat_map f (filter p xs) ≡ flat_map (λ x. cond (p x) (f x) []) xs

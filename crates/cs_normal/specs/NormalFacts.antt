@@ -15,7 +15,7 @@ use Rattle.std.proofs.lemmas.List.FromFn.{get_or-range_with_len, length-range_wi
 use Rattle.cs_value.specs.Catalog.{AreTables, marked}
 use Rattle.cs_value.specs.declared.catalog.TableDef.{TableDef}
 use Rattle.cs_value.specs.Key.{Place, FitsPlace}
-use Rattle.cs_value.specs.Facts.{same_value-tells}
+use Rattle.cs_value.specs.Facts.{by_test, same_value-tells}
 use Rattle.cs_value.specs.declared.value.Value.{Value}
 use Rattle.cs_value.specs.declared.value.Field.{Field}
 use Rattle.cs_value.specs.declared.value.Field.TheVariants.{Undefined, Is}
@@ -37,10 +37,6 @@ use Rattle.cs_normal.specs.Laws.{CatalogIsApart}
 use Rattle.cs_normal.specs.Normal.{AreApart, IsOfTable, FitsCatalog, IsNormalTable, IsNormalChangeset, changes_in}
 use Rattle.cs_normal.specs.declared.normal.TableChanges.{TableChanges}
 use Rattle.cs_normal.specs.State.{IsRowOf, MayStandAt}
-
-pub by_test : (t : Bool) (P : Type 0) → (t ≡ true → P) → (t ≡ false → P) → P
-by_test true P one other = one refl
-by_test false P one other = other refl
 
 pub none_above : (key : List ℕ) (changes : Changes) → Above key (keys_of changes) → change_at key changes ≡ None
 none_above key [] h = refl

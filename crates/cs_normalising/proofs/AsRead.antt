@@ -4,12 +4,13 @@ use Rattle.std.specs.List.{AllByRecursion, Contains}
 use Rattle.std.specs.Str.{bytes_eq}
 use Rattle.std.proofs.lemmas.List.Elements.{recursion_from_All, All-contains_itself}
 use Rattle.std.proofs.lemmas.Slice.Eq.{bytes_eq-Decides}
+use Rattle.cs_value.specs.Facts.{by_test}
 use Rattle.cs_value.specs.Catalog.{AreTables}
 use Rattle.cs_value.specs.declared.catalog.TableDef.{TableDef}
 use Rattle.cs_change.specs.Spelling.{FitsChange, FitsChangeset, marks_of}
 use Rattle.cs_change.specs.declared.group.Group.{Group}
 use Rattle.cs_normalising.specs.NormalFormOf.{changes_of, HasTable, HaveTables}
-use Rattle.cs_normal.specs.NormalFacts.{by_test, one_table}
+use Rattle.cs_normal.specs.NormalFacts.{one_table}
 use Rattle.cs_normalising.proofs.PerTable.{AreAsRead}
 use Rattle.cs_normalising.proofs.Shorter.{HaveShape}
 

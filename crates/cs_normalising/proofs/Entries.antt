@@ -4,6 +4,7 @@ use Rattle.std.specs.List.{All, AllByRecursion, list_all}
 use Rattle.std.specs.List.Sorted.{IsPermutation}
 use Rattle.std.proofs.lemmas.List.Elements.{All-from_recursion, recursion_from_All}
 use Rattle.std.proofs.lemmas.List.Sorted.{All-permutation}
+use Rattle.cs_value.specs.Facts.{by_test}
 use Rattle.cs_value.specs.Catalog.{is_set}
 use Rattle.cs_value.specs.declared.value.Value.{Value}
 use Rattle.cs_value.specs.declared.value.Field.{Field}
@@ -19,7 +20,6 @@ use Rattle.cs_normal.specs.keyed.NormalForm.{marked_fields, change_key, has_key,
 use Rattle.cs_normal.specs.keyed.Prepared.{Entries, prepared, kept}
 use Rattle.cs_normalising.proofs.Fitted.{FitsIfAny, form_fits}
 use Rattle.cs_normalising.proofs.Keeps.{keeps}
-use Rattle.cs_normal.specs.NormalFacts.{by_test}
 
 lenient_update : (marks : List Bool) (old new : List Field) → AreUpdateColumns marks old new → LenientUpdate marks (marked_fields marks old) old new
 unfolding marked_fields

@@ -11,6 +11,7 @@ use Rattle.std.specs.Map.{keys_of}
 use Rattle.std.proofs.lemmas.Map.Keys.{IsDistinct-head, IsDistinct-tail, IsDistinct-push}
 use Rattle.std.proofs.lemmas.List.Folds.{list_all-append}
 use Rattle.std.proofs.lemmas.Cmp.{nat_list_cmp_total}
+use Rattle.cs_value.specs.Facts.{by_test}
 use Rattle.cs_change.specs.declared.change.Change.{Change}
 use Rattle.cs_normalising.specs.declared.unfit.Unfit.TheVariants.{KeyTwice, NullKey}
 use Rattle.cs_order.specs.Order.{by_bytes, same_bytes}
@@ -18,7 +19,6 @@ use Rattle.cs_normal.specs.keyed.NormalForm.{has_key, change_bytes, AreKeyed}
 use Rattle.cs_normalising.specs.UnfitChanges.{HasFirstUnfitChange}
 use Rattle.cs_normal.specs.keyed.Prepared.{Entries, prepared, all_keyed}
 use Rattle.cs_normalising.specs.Steps.Prepared.{rises, rises_from, is_below}
-use Rattle.cs_normal.specs.NormalFacts.{by_test}
 
 -- changes with keys, and one without
 record NullAt (marks : List Bool) (changes : List Change) : Type 0 where

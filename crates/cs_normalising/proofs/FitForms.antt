@@ -12,6 +12,7 @@ use Rattle.std.proofs.lemmas.List.{take_all}
 use Rattle.std.proofs.lemmas.List.Elements.{recursion_from_All}
 use Rattle.std.proofs.lemmas.List.Sorted.{IsPermutation-refl, IsPermutation-sym, IsPermutation-trans, IsPermutation-cons, IsPermutation-middle}
 use Rattle.std.proofs.lemmas.Map.Keys.{sorted_head, sorted_tail}
+use Rattle.cs_value.specs.Facts.{by_test}
 use Rattle.cs_value.specs.declared.catalog.TableDef.{TableDef}
 use Rattle.cs_change.specs.declared.change.Change.{Change}
 use Rattle.cs_change.specs.declared.group.Group.{Group}
@@ -27,7 +28,6 @@ use Rattle.cs_normal.specs.declared.normal.TableChanges.{TableChanges}
 use Rattle.cs_normalising.proofs.Gathered.{is_table_of}
 use Rattle.cs_order.specs.Facts.{Above, above_more, cons_sorted}
 use Rattle.cs_normal.specs.keyed.Facts.{all_keyed_is, prepared_keys}
-use Rattle.cs_normal.specs.NormalFacts.{by_test}
 use Rattle.cs_normalising.proofs.NormalLaws.{distinct_on}
 use Rattle.cs_normalising.proofs.Whole.{IsFront, all_form}
 

@@ -1,6 +1,7 @@
 -- The normal form of what the reader takes is what the reader takes.
 use Rattle.std.proofs.Common.{Bool, true, false, List, [], ◌∷◌, Option, Some, None}
 use Rattle.std.specs.List.{AllByRecursion}
+use Rattle.cs_value.specs.Facts.{by_test}
 use Rattle.cs_value.specs.declared.value.Field.{Field}
 use Rattle.cs_value.specs.declared.value.Field.TheVariants.{Undefined, Is}
 use Rattle.cs_record.specs.Spelling.{Fits}
@@ -9,7 +10,6 @@ use Rattle.cs_change.specs.Spelling.{FitsChange, AreUpdateColumns, IsUpdateColum
 use Rattle.cs_change.specs.declared.change.Change.{Change}
 use Rattle.cs_change.specs.declared.change.Change.TheVariants.{Insert, Delete, Update}
 use Rattle.cs_normal.specs.keyed.NormalForm.{changes_value, normal_old, normal_new, normal_olds, normal_news, normal_form}
-use Rattle.cs_normal.specs.NormalFacts.{by_test}
 
 old_fits : (m : Bool) (o n : Field) → Fits o → Fits (normal_old m o n)
 old_fits true o n f = f

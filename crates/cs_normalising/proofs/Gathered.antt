@@ -3,6 +3,7 @@ use Rattle.std.proofs.Common.{◌≡◌, ℕ, Bool, true, List, [], ◌∷◌, r
 use Rattle.std.specs.List.Sorted.{IsPermutation}
 use Rattle.std.specs.Map.{keys_of, lookup}
 use Rattle.std.proofs.lemmas.Map.Keys.{IsDistinct-from_sorted}
+use Rattle.cs_value.specs.Facts.{by_test}
 use Rattle.cs_value.specs.declared.catalog.TableDef.{TableDef}
 use Rattle.cs_change.specs.declared.change.Change.{Change}
 use Rattle.cs_change.specs.declared.group.Group.{Group}
@@ -17,7 +18,6 @@ use Rattle.cs_normalising.proofs.Entries.{are_entries}
 use Rattle.cs_normalising.proofs.Membership.{by_membership}
 use Rattle.cs_order.specs.Facts.{both_true}
 use Rattle.cs_normalising.proofs.NormalLaws.{join, rises_sorted, kept_ordered, kept_at, found_alike, prepared_distinct, are_keyed}
-use Rattle.cs_normal.specs.NormalFacts.{by_test}
 use Rattle.cs_normalising.proofs.Sizes.{kept_shorter}
 
 prepared_at : (marks : List Bool) (changes : List Change) → all_keyed marks changes ≡ true → (q : List ℕ) → join (lookup (same_bytes q) (prepared marks changes)) ≡ normal_form_any marks (change_at q (keyed marks changes))

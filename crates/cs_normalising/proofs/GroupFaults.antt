@@ -10,6 +10,7 @@ use Rattle.std.proofs.lemmas.List.Elements.{All-contains, All-take, All-get_or}
 use Rattle.std.proofs.lemmas.List.Folds.{list_all-append}
 use Rattle.std.proofs.lemmas.Map.Keys.{IsDistinct-head, IsDistinct-tail}
 use Rattle.std.proofs.lemmas.Slice.Eq.{bytes_eq-Decides}
+use Rattle.cs_value.specs.Facts.{by_test}
 use Rattle.cs_value.specs.Catalog.{AreTables}
 use Rattle.cs_value.specs.declared.catalog.TableDef.{TableDef}
 use Rattle.cs_change.specs.declared.change.Change.{Change}
@@ -24,7 +25,6 @@ use Rattle.cs_normalising.specs.declared.unfit.Unfit.TheVariants.{Memory, Unknow
 use Rattle.cs_normalising.proofs.AsRead.{shape_of}
 use Rattle.cs_normalising.proofs.Faults.{map_append}
 use Rattle.cs_order.specs.Facts.{both_true}
-use Rattle.cs_normal.specs.NormalFacts.{by_test}
 
 differs : (x : List ℕ) (xs : List (List ℕ)) (y : List ℕ) (ys : List (List ℕ)) → AllByRecursion (λ k. same_bytes x k ≡ false) (xs ++ y ∷ ys) → same_bytes x y ≡ false
 differs x [] y ys h = h.0

@@ -4,10 +4,11 @@ use Rattle.std.specs.List.{AllByRecursion, Contains, filter}
 use Rattle.std.proofs.lemmas.Bool.{not-false}
 use Rattle.std.proofs.lemmas.List.Elements.{All-from_recursion, recursion_from_All, All-contains_itself}
 use Rattle.std.proofs.lemmas.Slice.Eq.{bytes_eq-Decides}
+use Rattle.cs_value.specs.Facts.{by_test}
 use Rattle.cs_value.specs.declared.catalog.TableDef.{TableDef}
 use Rattle.cs_change.specs.declared.group.Group.{Group}
 use Rattle.cs_normal.specs.Headers.{header, headers, has_other_name, tables_of_headers, HasTwoShapes}
-use Rattle.cs_normal.specs.NormalFacts.{here, behind, first_or_behind, by_test, same_or_not}
+use Rattle.cs_normal.specs.NormalFacts.{here, behind, first_or_behind, same_or_not}
 use Rattle.cs_normalising.specs.Laws.{HeadersHaveTables}
 use Rattle.cs_normalising.specs.NormalFormOf.{HasTable, HaveTables}
 

@@ -2,7 +2,7 @@
 use Rattle.std.proofs.Common.{inl, inr, ◌≡◌, Bool, true, List, [], ◌∷◌, Some, None, refl, sym, ap, ◌∙◌}
 use Rattle.cs_value.specs.Key.{Place, FitsPlace}
 use Rattle.cs_value.specs.Catalog.{marked}
-use Rattle.cs_value.specs.Facts.{same_value-tells, same_value-Decides}
+use Rattle.cs_value.specs.Facts.{by_test, same_value-Decides, same_value-tells}
 use Rattle.cs_value.specs.Same.{same_value}
 use Rattle.cs_value.specs.declared.value.Value.{Value}
 use Rattle.cs_value.specs.declared.value.Field.{Field}
@@ -15,7 +15,6 @@ use Rattle.cs_change.specs.Then.{is_idle}
 use Rattle.cs_change.specs.declared.change.Change.TheVariants.{Insert, Delete, Update}
 use Rattle.cs_normal.specs.keyed.NormalForm.{normal_form, normal_olds, normal_news, update_unless_blank}
 use Rattle.cs_normalising.specs.Laws.{LenientUpdate, no_column, key_column, key_again, unmodified, modified, NormalFormKeeps}
-use Rattle.cs_normal.specs.NormalFacts.{by_test}
 use Rattle.cs_order.specs.Facts.{both_true}
 
 conjoin : {A : Type 0} {a a' : A} {r r' : List A} → a ≡ a' → r ≡ r' → a ∷ r ≡ a' ∷ r'

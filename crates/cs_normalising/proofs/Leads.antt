@@ -5,6 +5,7 @@ use Rattle.std.specs.Str.{bytes_eq}
 use Rattle.std.proofs.lemmas.List.Elements.{All-contains, All-from_recursion, recursion_from_All}
 use Rattle.std.proofs.lemmas.Map.Keys.{IsDistinct-head, IsDistinct-tail}
 use Rattle.std.proofs.lemmas.Slice.Eq.{bytes_eq-Decides}
+use Rattle.cs_value.specs.Facts.{by_test}
 use Rattle.cs_value.specs.Catalog.{AreTables}
 use Rattle.cs_value.specs.Key.{Place, FitsPlace}
 use Rattle.cs_value.specs.declared.catalog.TableDef.{TableDef}
@@ -21,7 +22,7 @@ use Rattle.cs_normal.specs.keyed.NormalForm.{change_key, change_bytes, AreKeyed,
 use Rattle.cs_normal.specs.Normal.{change_of, changes_in}
 use Rattle.cs_normal.specs.State.{State, IsStateOf, left_at, IsAfterChanges, IsAfterGroups}
 use Rattle.cs_normal.specs.declared.normal.TableChanges.{TableChanges}
-use Rattle.cs_normal.specs.NormalFacts.{by_test, key_spelled, named_or_not, absent_name, row_fits, same_self}
+use Rattle.cs_normal.specs.NormalFacts.{key_spelled, named_or_not, absent_name, row_fits, same_self}
 use Rattle.cs_normalising.specs.NormalFormOf.{HasTable, changes_of, IsNormalFormOf}
 use Rattle.cs_normalising.specs.Laws.{NormalFormLeads}
 use Rattle.cs_normalising.proofs.AsRead.{shape_of, all_read}

@@ -6,6 +6,7 @@ use Rattle.std.specs.Map.{keys_of}
 use Rattle.std.specs.Str.{bytes_eq}
 use Rattle.std.proofs.lemmas.List.Elements.{All-from_recursion, recursion_from_All, All-nil, All-contains_itself}
 use Rattle.std.proofs.lemmas.Map.Keys.{IsDistinct-from_sorted}
+use Rattle.cs_value.specs.Facts.{by_test}
 use Rattle.cs_value.specs.Catalog.{is_set}
 use Rattle.cs_value.specs.declared.catalog.TableDef.{TableDef}
 use Rattle.cs_change.specs.Facts.{marks_stay}
@@ -15,7 +16,7 @@ use Rattle.cs_normal.specs.keyed.Changes.{Changes, change_at, key_bytes, IsEntry
 use Rattle.cs_normal.specs.keyed.NormalForm.{change_bytes, has_key, AreKeyed, IsNormalOf, normal_form_any, keyed}
 use Rattle.cs_normal.specs.Normal.{AreApart, IsOfTable, FitsCatalog, IsNormalChangeset, changes_in, group_of, groups_of}
 use Rattle.cs_normal.specs.declared.normal.TableChanges.{TableChanges}
-use Rattle.cs_normal.specs.NormalFacts.{HasOtherName, are_apart, named, other_named, by_test, change_stays, conjoin, only_changes}
+use Rattle.cs_normal.specs.NormalFacts.{HasOtherName, are_apart, named, other_named, change_stays, conjoin, only_changes}
 use Rattle.cs_normalising.specs.Laws.{NormalAgain, NormalIsItsForm}
 use Rattle.cs_normalising.specs.NormalFormOf.{changes_of, HasTable}
 use Rattle.cs_normalising.proofs.Membership.{by_membership}

@@ -9,6 +9,7 @@ use Rattle.std.proofs.lemmas.List.Sorted.{IsPermutation-map, IsPermutation-sym, 
 use Rattle.std.proofs.lemmas.Map.Keys.{sorted_head, sorted_tail, IsDistinct-from_sorted, IsDistinct-IsPermutation}
 use Rattle.std.proofs.lemmas.Map.Views.{Contains-from_lookup, lookup-from_Contains}
 use Rattle.std.proofs.lemmas.Cmp.{nat_list_cmp_total}
+use Rattle.cs_value.specs.Facts.{by_test}
 use Rattle.cs_change.specs.declared.change.Change.{Change}
 use Rattle.cs_order.specs.Order.{by_bytes, same_bytes}
 use Rattle.cs_order.specs.Facts.{Above, ascend_tells, cons_sorted, same_is}
@@ -17,7 +18,7 @@ use Rattle.cs_normal.specs.keyed.Changes.{Changes, change_at, IsOrdered}
 use Rattle.cs_normal.specs.keyed.NormalForm.{AreKeyed}
 use Rattle.cs_normal.specs.keyed.Facts.{all_keyed_is, prepared_keys}
 use Rattle.cs_normal.specs.keyed.Prepared.{Entries, prepared, all_keyed, kept}
-use Rattle.cs_normal.specs.NormalFacts.{by_test, none_above}
+use Rattle.cs_normal.specs.NormalFacts.{none_above}
 use Rattle.cs_normalising.specs.Steps.Prepared.{rises, rises_from}
 
 ascending_from : (last : List ℕ) (es : Entries) → rises_from last es ≡ ascend_from last (keys_of es)

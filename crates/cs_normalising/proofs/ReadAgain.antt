@@ -4,13 +4,14 @@ use Rattle.std.specs.List.{AllByRecursion, flat_map, list_any}
 use Rattle.std.specs.Str.{bytes_eq}
 use Rattle.std.proofs.lemmas.List.{length-map}
 use Rattle.std.proofs.lemmas.Slice.Eq.{bytes_eq-Decides}
+use Rattle.cs_value.specs.Facts.{by_test}
 use Rattle.cs_value.specs.declared.catalog.TableDef.{TableDef}
 use Rattle.cs_change.specs.Spelling.{flag_byte, is_nonzero, marks_of, change_spelling, changes_spelling, FitsHeader, FitsChangeset}
 use Rattle.cs_change.specs.declared.group.Group.{Group}
 use Rattle.cs_change.specs.Facts.{marks_stay}
 use Rattle.cs_normal.specs.Normal.{IsNormalTable}
 use Rattle.cs_normal.specs.declared.normal.TableChanges.{TableChanges}
-use Rattle.cs_normal.specs.NormalFacts.{by_test, any_mark}
+use Rattle.cs_normal.specs.NormalFacts.{any_mark}
 use Rattle.cs_normalising.specs.NormalFormOf.{changes_of}
 use Rattle.cs_normalising.specs.Steps.TableByTable.{AreTablesOf, no_table, next}
 use Rattle.cs_normalising.proofs.PerTable.{AreAsRead}

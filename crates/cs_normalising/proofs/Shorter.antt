@@ -5,6 +5,7 @@ use Rattle.std.specs.Str.{bytes_eq}
 use Rattle.std.proofs.lemmas.Grind.{flat_map-append}
 use Rattle.std.proofs.lemmas.List.{length-map}
 use Rattle.std.proofs.lemmas.Slice.Eq.{bytes_eq-Decides}
+use Rattle.cs_value.specs.Facts.{by_test}
 use Rattle.cs_varint.specs.Varint.{spelling}
 use Rattle.cs_value.specs.declared.catalog.TableDef.{TableDef}
 use Rattle.cs_change.specs.Spelling.{flag_byte, is_nonzero, marks_of, change_spelling, changes_spelling, header_spelling, group_spelling, changeset_spelling}
@@ -16,7 +17,7 @@ use Rattle.cs_normal.specs.Normal.{AreApart, table_spelling, normal_spelling}
 use Rattle.cs_normalising.specs.NormalFormOf.{changes_of}
 use Rattle.cs_normalising.specs.Steps.TableByTable.{IsTableOf, AreTablesOf, no_table, next}
 use Rattle.cs_normal.specs.declared.normal.TableChanges.{TableChanges}
-use Rattle.cs_normal.specs.NormalFacts.{by_test, HasOtherName, other_named}
+use Rattle.cs_normal.specs.NormalFacts.{HasOtherName, other_named}
 
 -- the groups of the table's name have its columns
 abbrev pub HaveShape : List Group → TableDef → Type 0

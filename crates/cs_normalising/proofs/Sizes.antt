@@ -4,6 +4,7 @@ use Rattle.std.specs.List.{flat_map, sum_by}
 use Rattle.std.specs.List.Sorted.{IsPermutation}
 use Rattle.std.proofs.lemmas.List.Sorted.{sum_by-IsPermutation}
 use Rattle.std.proofs.lemmas.List.Sums.{sum_by-cons}
+use Rattle.cs_value.specs.Facts.{by_test}
 use Rattle.cs_value.specs.declared.value.Value.TheVariants.{Null, Int, Text, Blob}
 use Rattle.cs_value.specs.declared.value.Field.{Field}
 use Rattle.cs_value.specs.declared.value.Field.TheVariants.{Undefined, Is}
@@ -14,7 +15,6 @@ use Rattle.cs_change.specs.declared.change.Change.{Change}
 use Rattle.cs_change.specs.declared.change.Change.TheVariants.{Insert, Delete, Update}
 use Rattle.cs_normal.specs.keyed.NormalForm.{change_bytes, has_key, normal_form, normal_old, normal_new, normal_olds, normal_news, changes_value}
 use Rattle.cs_normal.specs.keyed.Prepared.{Entries, prepared, kept}
-use Rattle.cs_normal.specs.NormalFacts.{by_test}
 
 field_takes_a_byte : (f : Field) → 1 ≤ length (field f)
 field_takes_a_byte Undefined = omega arith

@@ -14,11 +14,11 @@ use Rattle.std.proofs.lemmas.Cmp.{int_cmp_total, nat_list_cmp_total, on_total, t
 use Rattle.std.proofs.lemmas.Int.{ints}
 use Rattle.std.proofs.lemmas.Map.Lookups.{exact_bytes, exact_pairs, exact_signed}
 use Rattle.std.proofs.lemmas.Option.{slice_get_cases, slice_get_within}
+use Rattle.cs_value.specs.Facts.{by_test}
 use Rattle.cs_value.specs.declared.catalog.TableDef.{TableDef}
 use Rattle.cs_order.specs.Order.{by_bytes}
 use Rattle.cs_store.specs.Contents.{Contents, IsListing, StorePlace, place_cmp, stored_pending}
 use Rattle.cs_store.specs.Whole.{AtTable, StoresChange}
-use Rattle.cs_pending.specs.Spots.{by_test}
 use Rattle.cs_opening.specs.Steps.{AreListed}
 
 place_total : IsTotalOrder place_cmp

@@ -4,6 +4,7 @@ use Rattle.std.specs.Prelude.{Contains}
 use Rattle.std.specs.List.{AllByRecursion, HoldsAt, list_all}
 use Rattle.std.specs.Str.{bytes_eq}
 use Rattle.std.proofs.lemmas.Option.{same_Some}
+use Rattle.cs_value.specs.Facts.{by_test}
 use Rattle.cs_value.specs.Catalog.{AreTables, is_set}
 use Rattle.cs_value.specs.Key.{Place}
 use Rattle.cs_value.specs.Laws.{OnePlaceOfName}
@@ -19,7 +20,7 @@ use Rattle.cs_normal.specs.State.{IsStateOf, MayStandAt}
 use Rattle.cs_normal.specs.declared.normal.TableChanges.{TableChanges}
 use Rattle.cs_order.specs.Order.{same_bytes}
 use Rattle.cs_pending.specs.NormalTasks.{IsOfOne, are_apart, bytes_stay, each_found, entries_in, found_is, keyed_task, keyed_tasks, normal_key, number_of, of_one, one_table, spot_of, found_at, table_tasks}
-use Rattle.cs_pending.specs.Spots.{by_test, key_is, name_is}
+use Rattle.cs_pending.specs.Spots.{key_is, name_is}
 use Rattle.cs_pending.specs.Tasks.{Task}
 use Rattle.cs_pending.specs.Nets.{undo_none}
 use Rattle.cs_pending.specs.Settled.{Catalogs}

@@ -10,6 +10,7 @@ use Rattle.std.specs.Str.{bytes_eq}
 use Rattle.std.proofs.lemmas.Cmp.{int_cmp_total, nat_list_cmp_total, then_total, on_total}
 use Rattle.std.proofs.lemmas.Map.Lookups.{exact_pairs, exact_signed, exact_bytes}
 use Rattle.std.proofs.lemmas.Option.{slice_get_within}
+use Rattle.cs_value.specs.Facts.{by_test}
 use Rattle.cs_value.specs.declared.catalog.TableDef.{TableDef}
 use Rattle.cs_change.specs.Net.{net}
 use Rattle.cs_order.specs.Order.{by_bytes}
@@ -22,7 +23,7 @@ use Rattle.cs_store.specs.edits.Edits.{BodyEdit}
 use Rattle.cs_store.specs.declared.batch.StoredEntry.{StoredEntry}
 use Rattle.cs_store.specs.declared.names.MetaName.{MetaName}
 use Rattle.cs_store.specs.declared.names.MetaName.TheVariants.{Id, Version, Number, Flight, Pending, Catalog}
-use Rattle.cs_pending.specs.Spots.{by_test, name_is, name_not}
+use Rattle.cs_pending.specs.Spots.{name_is, name_not}
 use Rattle.cs_pending.specs.Shows.{IsSoundOf}
 use Rattle.cs_pending.specs.View.{undo, middle}
 use Rattle.cs_pending.specs.position.Shows.{changes_at}

@@ -5,6 +5,7 @@ use Rattle.std.specs.FinMap.{find, from_entries, get, get-empty, get-from_entrie
 use Rattle.std.specs.List.{AllByRecursion}
 use Rattle.std.specs.Ordering.{int_cmp}
 use Rattle.std.proofs.lemmas.Cmp.{nat_list_cmp_total}
+use Rattle.cs_value.specs.Facts.{by_test}
 use Rattle.cs_value.specs.Catalog.{AreTables}
 use Rattle.cs_value.specs.declared.catalog.TableDef.{TableDef}
 use Rattle.cs_order.specs.Order.{by_bytes, same_bytes}
@@ -14,7 +15,7 @@ use Rattle.cs_store.specs.declared.names.MetaName.{MetaName}
 use Rattle.cs_store.specs.declared.names.MetaName.TheVariants as named
 use Rattle.cs_wire.specs.Numbers.{eight_bytes, four_bytes}
 use Rattle.cs_wire.specs.OneSpelling.{four_length}
-use Rattle.cs_pending.specs.Spots.{by_test, key_is}
+use Rattle.cs_pending.specs.Spots.{key_is}
 use Rattle.cs_pending.specs.View.{View}
 use Rattle.cs_pending.specs.position.Laws.{OnePosition}
 use Rattle.cs_pending.specs.position.Shows.{ShowsAt, ShowsSomeAt}

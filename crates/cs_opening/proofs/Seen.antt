@@ -16,7 +16,7 @@ use Rattle.cs_normal.specs.State.{MayStandAt}
 use Rattle.cs_store.specs.Contents.{Contents, stored_pending, stored_tables}
 use Rattle.cs_store.specs.States.{IsStored}
 use Rattle.cs_store.specs.Whole.{IsWhole, StoresRow, StoresChange}
-use Rattle.cs_pending.specs.Spots.{by_test, name_is, name_not}
+use Rattle.cs_pending.specs.Spots.{name_is, name_not}
 use Rattle.cs_pending.specs.Nets.{undo_none}
 use Rattle.cs_pending.specs.OnePlace.{contained}
 use Rattle.cs_pending.specs.Settled.{Catalogs}
@@ -24,6 +24,7 @@ use Rattle.cs_pending.specs.Shows.{ShowsSome}
 use Rattle.cs_pending.specs.View.{undo}
 use Rattle.cs_opening.specs.Steps.{IsLeading, IsNetTo, TableLeads, TablesLead}
 use Rattle.std.specs.Str.{bytes_eq}
+use Rattle.cs_value.specs.Facts.{by_test}
 use Rattle.cs_opening.proofs.Bases.{StandsIn, base_stands, may_stand, no_net}
 
 -- the laws that are used

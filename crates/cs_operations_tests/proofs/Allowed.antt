@@ -2,6 +2,7 @@
 use Rattle.std.proofs.Common.{◌≡◌, ◌≢◌, true, List, [], Option, Some, None, refl, sym, subst, ap, ◌∙◌}
 use Rattle.std.specs.Prelude.{IfSome, length, nat_lt}
 use Rattle.std.proofs.lemmas.Option.{same_Some}
+use Rattle.cs_value.specs.Facts.{by_test}
 use Rattle.cs_value.specs.Key.{Place}
 use Rattle.cs_value.specs.Same.{same_row}
 use Rattle.cs_value.specs.declared.catalog.TableDef.{TableDef}
@@ -20,7 +21,6 @@ use Rattle.cs_conflict.specs.declared.conflict.Conflict.{Conflict}
 use Rattle.cs_conflict.specs.declared.conflict.Resolution.{Resolution}
 use Rattle.cs_conflict.specs.declared.conflict.Resolution.TheVariants.{Omit, Replace, Abort}
 use Rattle.cs_apply.specs.Shown.{IsConflictOn}
-use Rattle.cs_apply.specs.Spots.{by_test}
 use Rattle.cs_rebaser.specs.Diamond.{IsLawfulOver}
 use Rattle.cs_rebaser.specs.DiamondOfTables.{AnswersLawfully, local_in, local_beside, reached_keeps}
 use Rattle.cs_operations_tests.specs.Answers.{by_kind, by_row, over}

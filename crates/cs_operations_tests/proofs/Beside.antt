@@ -3,6 +3,7 @@ use Rattle.std.proofs.Common.{◌≡◌, ℕ, List, [], ◌∷◌, Option, Some,
 use Rattle.std.specs.Prelude.{slice_get}
 use Rattle.std.specs.List.Sorted.{IsStrictlySortedBy}
 use Rattle.std.specs.Str.{bytes_eq}
+use Rattle.cs_value.specs.Facts.{by_test}
 use Rattle.cs_value.specs.declared.catalog.TableDef.{TableDef}
 use Rattle.cs_change.specs.Action.{action_any}
 use Rattle.cs_change.specs.declared.change.Change.{Change}
@@ -11,7 +12,6 @@ use Rattle.cs_normal.specs.Normal.{IsNormalChangeset, changes_in, change_of}
 use Rattle.cs_normal.specs.keyed.NormalForm.{change_bytes}
 use Rattle.cs_normal.specs.declared.normal.TableChanges.{TableChanges}
 use Rattle.cs_conflict.specs.declared.conflict.Conflict.{Conflict}
-use Rattle.cs_apply.specs.Spots.{by_test}
 use Rattle.cs_rebaser.specs.DiamondOfTables.{local_in, local_beside}
 
 none_ordered : IsOrdered []

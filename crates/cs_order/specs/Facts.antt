@@ -2,7 +2,7 @@
 use Rattle.std.proofs.Common.{◌≡◌, ℕ, ◌<◌, Bool, true, false, ◌&&◌, List, [], ◌∷◌, length, refl, sym, ◌∙◌, arith}
 use Rattle.std.specs.Prelude.{◌↔◌}
 use Rattle.std.specs.Cmp.{Equal-is}
-use Rattle.std.specs.Ordering.{is_lt}
+use Rattle.std.specs.Ordering.{is_eq, is_lt}
 use Rattle.std.specs.declared.cmp.Ordering.{Ordering}
 use Rattle.std.specs.declared.cmp.Ordering.TheVariants.{Less, Equal, Greater}
 use Rattle.std.specs.List.{All, AllByRecursion, Contains}
@@ -23,6 +23,11 @@ same_is x y e = exact_bytes x y ((Equal-is (by_bytes x y)).0 e)
 pub both_true : (a b : Bool) → (a && b) ≡ true → (a ≡ true) × (b ≡ true)
 both_true true b h = (refl, h)
 both_true false b h = (cc, cc)
+
+pub equal_from : (o : Ordering) → is_eq o ≡ true → o ≡ Equal
+equal_from Less h = absurd cc
+equal_from Equal h = refl
+equal_from Greater h = absurd cc
 
 lt_is : (o : Ordering) → is_lt o ≡ true → o ≡ Less
 lt_is Less e = refl

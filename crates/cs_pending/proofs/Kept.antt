@@ -1,12 +1,13 @@
 -- An edit keeps the rows before what is pending.
 use Rattle.std.proofs.Common.{◌≡◌, ℕ, List, not, Option, Some, None, Result, Ok, Err, refl, sym, ap, ap₂, subst, ◌∙◌}
 use Rattle.std.specs.Prelude.{Contains}
+use Rattle.cs_value.specs.Facts.{by_test}
 use Rattle.cs_value.specs.Catalog.{AreTables}
 use Rattle.cs_value.specs.Key.{Place}
 use Rattle.cs_value.specs.Same.{same_place}
 use Rattle.cs_value.specs.declared.catalog.TableDef.{TableDef}
 use Rattle.cs_normal.specs.State.{AreSame, IsStateOf, MayStandAt}
-use Rattle.cs_apply.specs.Spots.{by_test, spot_refl}
+use Rattle.cs_apply.specs.Spots.{spot_refl}
 use Rattle.cs_pending.specs.Edits.{Asked, after_edit, edit_found, edit_table, has_set_key, has_widths, leaves_key, left_in, named, wanted_of}
 use Rattle.cs_pending.specs.Laws.{EditKeepsBefore}
 use Rattle.cs_pending.specs.OnePlace.{by_spot}

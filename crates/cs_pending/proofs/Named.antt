@@ -6,6 +6,7 @@ use Rattle.std.specs.Str.{bytes_eq}
 use Rattle.std.proofs.lemmas.Bool.Decides.{Decides-eqb}
 use Rattle.std.proofs.lemmas.List.Elements.{All-contains, All-from_recursion, recursion_from_All}
 use Rattle.std.proofs.lemmas.Option.{slice_get-get_or}
+use Rattle.cs_value.specs.Facts.{by_test}
 use Rattle.cs_value.specs.Catalog.{AreTables, is_set, key_of, marked}
 use Rattle.cs_value.specs.Laws.{OnePlaceOfName}
 use Rattle.cs_value.specs.declared.catalog.TableDef.{TableDef}
@@ -13,7 +14,7 @@ use Rattle.cs_value.specs.declared.value.Value.{Value}
 use Rattle.cs_normal.specs.Changes.{key_bytes}
 use Rattle.cs_store.specs.Contents.{Contents}
 use Rattle.cs_apply.specs.NormalTasks.{one_table}
-use Rattle.cs_apply.specs.Spots.{by_test, both_true, name_is, name_other, name_refl}
+use Rattle.cs_apply.specs.Spots.{both_true, name_is, name_other, name_refl}
 use Rattle.cs_pending.specs.Edits.{Asked, IsChangedBy, Leads, asked_key, edit, edit_at, edit_found, IsOfStore, has_set_key, has_widths, leaves_key, named, wanted_of}
 use Rattle.cs_pending.specs.View.{View}
 use Rattle.cs_pending.specs.declared.fault.EditFault.{EditFault}

@@ -2,7 +2,7 @@
 use Rattle.std.proofs.Common.{◌≡◌, Bool, true, false, not, refl, ap, sym, arith, List, [], ◌∷◌, Option, Some, None, length, is_some}
 use Rattle.std.specs.Prelude.{IfSome}
 use Rattle.cs_value.specs.Key.{Place, FitsPlace}
-use Rattle.cs_value.specs.Facts.{same_value-tells, same_row-Decides}
+use Rattle.cs_value.specs.Facts.{by_test, same_row-Decides, same_value-tells}
 use Rattle.cs_value.specs.Same.{same_row, same_place}
 use Rattle.cs_value.specs.declared.value.Value.{Value}
 use Rattle.cs_change.specs.Action.{Action, Inserts, Deletes, Updates, action_any}
@@ -16,7 +16,6 @@ use Rattle.cs_change.specs.declared.change.Change.{Change}
 use Rattle.cs_normal.specs.Changes.{IsSpelled}
 use Rattle.cs_normal.specs.InRange.{AreInRangeIfAny, normal_fits, net_in_range}
 use Rattle.cs_change.specs.netting.Combine.{with_flag, with_flag_any}
-use Rattle.cs_apply.specs.Spots.{by_test}
 use Rattle.cs_pending.specs.View.{undo}
 
 old_column_back : (m : Bool) (b x : Value) → field_or (old_field m b x) x ≡ b

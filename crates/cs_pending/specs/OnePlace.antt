@@ -8,12 +8,13 @@ use Rattle.std.proofs.lemmas.Bool.Decides.{same_from_decides, Decides-eqb, Decid
 use Rattle.std.proofs.lemmas.List.Elements.{Contains-get_or}
 use Rattle.std.proofs.lemmas.Option.{slice_get-get_or, slice_get_within, get_or_from_slice_get}
 use Rattle.std.proofs.lemmas.Slice.Eq.{bytes_eq-Decides}
+use Rattle.cs_value.specs.Facts.{by_test}
 use Rattle.cs_value.specs.Catalog.{AreTables}
 use Rattle.cs_value.specs.Laws.{OnePlaceOfName}
 use Rattle.cs_value.specs.declared.catalog.TableDef.{TableDef}
 use Rattle.cs_order.specs.Order.{same_bytes}
 use Rattle.cs_apply.specs.Overlaid.{name_at, name_or_none}
-use Rattle.cs_apply.specs.Spots.{same_spot, by_test, spot_is}
+use Rattle.cs_apply.specs.Spots.{same_spot, spot_is}
 
 -- a place is that one, or another
 pub by_spot : (n k name key : List ℕ) (P : Type 0) → (same_spot (n, k) (name, key) ≡ true → n ≡ name → k ≡ key → P) → (same_spot (n, k) (name, key) ≡ false → P) → P

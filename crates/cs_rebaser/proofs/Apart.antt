@@ -5,6 +5,7 @@ use Rattle.std.proofs.lemmas.List.{drop_all}
 use Rattle.std.proofs.lemmas.Option.{slice_get-get_or}
 use Rattle.std.specs.List.{AllByRecursion, IsDistinct}
 use Rattle.std.specs.Str.{bytes_eq}
+use Rattle.cs_value.specs.Facts.{by_test}
 use Rattle.cs_order.specs.Groups.{HasNoTwins, HasTwins}
 use Rattle.cs_order.specs.Laws.{OrderLaws}
 use Rattle.cs_order.specs.Order.{same_bytes}
@@ -14,7 +15,7 @@ use Rattle.cs_blob.specs.declared.blob.Entry.{Entry}
 use Rattle.cs_rebaser.specs.Rebased.{HasEachOnce, Placed, Spot, entry_at, entry_key, placed, placed_in, same_spot}
 use Rattle.cs_rebaser.specs.Steps.{AreApart, AreOrders, HasTwinsIn, IsOrderOf, entry_keys, first_named, names_in}
 use Rattle.cs_rebaser.specs.declared.orders.GroupOrder.{GroupOrder}
-use Rattle.cs_rebaser.proofs.Telling.{by_bool, name_is, name_self, same_self}
+use Rattle.cs_rebaser.proofs.Telling.{name_is, name_self, same_self}
 
 -- no two are of one place
 abbrev Once : List Placed → Type 0
@@ -86,7 +87,7 @@ twice_in_group law (g ∷ blob) twins once =
 
 other_name : (x y : List ℕ) → same_bytes x y ≡ false → bytes_eq x y ≡ false
 other_name x y differ =
-    by_bool (bytes_eq x y)
+    by_test (bytes_eq x y) _
     (λ e.
     let same : same_bytes x y ≡ true = ap (λ (z : List ℕ). same_bytes x z) (sym (name_is x y e)) ∙ same_self x in
     cc)
@@ -94,7 +95,7 @@ other_name x y differ =
 
 other_way : (x y : List ℕ) → bytes_eq x y ≡ false → bytes_eq y x ≡ false
 other_way x y differ =
-    by_bool (bytes_eq y x)
+    by_test (bytes_eq y x) _
     (λ e.
     let same : bytes_eq x y ≡ true = ap (λ (z : List ℕ). bytes_eq x z) (name_is y x e) ∙ name_self x in
     cc)
@@ -151,7 +152,7 @@ pub none_named : (name : List ℕ) (blob : List BlobGroup) → first_named name 
 unfolding entry_at first_named
 none_named name [] h key = refl
 none_named name (g ∷ blob) h key =
-    by_bool (bytes_eq g.name name)
+    by_test (bytes_eq g.name name) _
     (λ e. let k : Some g ≡ None = rw e at h in cc)
     (λ e.
     let k : first_named name blob ≡ None = rw e at h in
@@ -162,7 +163,7 @@ pub one_named : (name : List ℕ) (blob : List BlobGroup) (group : BlobGroup) �
 unfolding first_named IsDistinct
 one_named name [] group apart h key = cc
 one_named name (g ∷ blob) group apart h key =
-    by_bool (bytes_eq g.name name)
+    by_test (bytes_eq g.name name) _
     (λ e.
     let k : Some g ≡ Some group = rw e at h in
     let is : g ≡ group = cc in

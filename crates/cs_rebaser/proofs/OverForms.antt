@@ -2,6 +2,7 @@
 use Rattle.std.proofs.Common.{◌≡◌, Bool, true, false, List, [], ◌∷◌, ◌++◌, ◌∙◌, refl, sym, Option, Some, None}
 use Rattle.std.specs.Option.{MatchOption, is_some}
 use Rattle.std.proofs.lemmas.List.{append-nil}
+use Rattle.cs_value.specs.Facts.{by_test}
 use Rattle.cs_value.specs.declared.value.Field.{Field}
 use Rattle.cs_value.specs.declared.value.Field.TheVariants.{Undefined, Is}
 use Rattle.cs_value.specs.declared.value.Value.{Value}
@@ -14,7 +15,6 @@ use Rattle.cs_change.specs.netting.Combine.{with_flag_any}
 use Rattle.cs_blob.specs.declared.blob.Entry.{Entry}
 use Rattle.cs_rebaser.specs.Rebase.{new_fields_over, old_fields_over, rebase_over, stays, whole_row}
 use Rattle.cs_rebaser.specs.Steps.{rebased_at}
-use Rattle.cs_rebaser.proofs.Telling.{by_bool}
 
 -- where nothing is modified, nothing stays modified
 blank_over : (r : Bool) (old new theirs : List Field) → is_blank new ≡ true → is_blank (new_fields_over r old new theirs) ≡ true
@@ -33,7 +33,7 @@ unfolding normal_form rebase_over
 form_over marks flag old new entry there =
     let olds = normal_olds marks old new in
     let news = normal_news marks old new in
-    by_bool (is_blank news)
+    by_test (is_blank news) _
     (λ e. rw (e, blank_over entry.replaced olds news entry.fields e) refl)
     (λ e. rw (e, there) refl)
 
@@ -57,7 +57,7 @@ pub form_over_replaced : (marks : List Bool) (flag : Bool) (old new : List Field
 unfolding normal_form rebase_over
 form_over_replaced marks flag old new entry None gone replaced whole some = cc
 form_over_replaced marks flag old new entry (Some theirs) gone replaced whole some =
-    by_bool (is_blank (normal_news marks old new))
+    by_test (is_blank (normal_news marks old new)) _
     (λ e. rw e refl)
     (λ e. rw (e, gone, replaced, whole) refl)
 

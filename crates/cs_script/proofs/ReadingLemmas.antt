@@ -1,13 +1,9 @@
 -- The events of a script, line by line.
-use Rattle.std.proofs.Common.{◌≡◌, ◌≢◌, ℕ, ◌+◌, List, [], ◌∷◌, ◌++◌, length, sym, refl, ap, ◌∙◌, inl, inr, arith}
+use Rattle.std.proofs.Common.{◌≡◌, ℕ, ◌+◌, List, [], ◌∷◌, ◌++◌, length, sym, refl, ap, ◌∙◌, inl, inr, arith}
 use Rattle.std.specs.Prelude.{Option, Some, None}
-use Rattle.std.specs.List.{AllZip}
-use Rattle.std.proofs.KnownBytes.{Consumes-nil}
-use Rattle.std.proofs.lemmas.List.Elements.{All-nil}
-use Rattle.cs_lines.specs.Lines.{lines_of}
+use Rattle.cs_lines.specs.Facts.{first_taken, stays, zip_push}
 use Rattle.cs_lines.specs.Laws.{AllTaken, NoneTaken, OneMoreTaken}
-use Rattle.cs_lines.specs.Served.{AreFirstLines}
-use Rattle.cs_lines.specs.Reading.{AreTaken, StaysInLine}
+use Rattle.cs_lines.specs.Reading.{AreTaken}
 use Rattle.cs_lines.specs.declared.serve.TheConstants.{ASKS}
 use Rattle.cs_value.specs.declared.catalog.TableDef.{TableDef}
 use Rattle.cs_world.specs.declared.event.Event.{Event}
@@ -23,12 +19,6 @@ pub record AreNamed (tables : List TableDef) (input left : Option (List ℕ)) (a
   pub taken : AreTaken input left lines
   pub named : NameEvents tables lines events
   pub count : length lines ≡ asked
-
-zip_push : {A B : Type 0} (R : A → B → Type 0) (xs : List A) (ys : List B) (x : A) (y : B) → AllZip R xs ys → R x y → AllZip R (xs ++ x ∷ []) (ys ++ y ∷ [])
-zip_push R [] [] x y all now = (now, tt)
-zip_push R [] (b ∷ ys) x y all now = absurd all
-zip_push R (a ∷ xs) [] x y all now = absurd all
-zip_push R (a ∷ xs) (b ∷ ys) x y all now = (all.0, zip_push R xs ys x y all.1 now)
 
 length_more : (lines : List (List ℕ)) (line : List ℕ) → length (lines ++ line ∷ []) ≡ length lines + 1
 length_more [] line = refl
@@ -54,10 +44,6 @@ pub all_named : AllTaken → (tables : List TableDef) (input left after : Option
 all_named all tables input left after asked events so_far ended =
     (so_far.lines, all input left so_far.lines so_far.taken ended.0, so_far.named)
 
-first_taken : (input left : Option (List ℕ)) (lines : List (List ℕ)) → AreTaken input left lines → AreFirstLines input lines
-first_taken None left lines taken = tt
-first_taken (Some input) left lines taken = (lines_of taken.0, taken.2)
-
 pub not_named : OneMoreTaken → (tables : List TableDef) (failed : Type 0) (input left after : Option (List ℕ)) (asked : ℕ) (events : List Event) (told : ScriptFault)
     → AreNamed tables input left asked events → IsNoEvent tables failed asked left after told → IsNoScript tables failed input after told
 not_named more tables failed input left after asked events fault.Memory so_far why = tt
@@ -73,10 +59,6 @@ not_named more tables failed input left after asked events (fault.Line number) s
   why.2,
   why.3 ∙ ap (λ n. n + 1) (sym so_far.count),
 )
-
--- nothing is gone of a line
-stays : (left : Option (List ℕ)) → StaysInLine left left
-stays left = ([], Consumes-nil left, All-nil (λ x. x ≢ 10))
 
 pub without_end : (tables : List TableDef) (failed : Type 0) (input left : Option (List ℕ)) (asked : ℕ) (events : List Event)
     → AreNamed tables input left asked events → asked ≡ ASKS → IsNoScript tables failed input left fault.Read

@@ -1,14 +1,13 @@
 -- The store after a commit, and as it is made.
 use Rattle.std.specs.Prelude.{◌↔◌, is_some, IsSome}
 use Rattle.std.proofs.Common.{◌≡◌, ◌⊎◌, inl, inr, [], ℕ, pos, ◌+◌, ◌<◌, ◌^◌, true, Option, Some, None, Result, Ok, Err, IfOk, IfErr, IfSome, IsTrue, false, refl, sym, ap, subst, ◌∙◌, arith, cond}
-use Rattle.std.specs.declared.cmp.Ordering.{Ordering}
-use Rattle.std.specs.declared.cmp.Ordering.TheVariants.{Less, Equal, Greater}
 use Rattle.std.specs.FinMap.{get, len, contains_key, get-insert, len-insert, len-empty}
-use Rattle.std.specs.Ordering.{is_eq, eq_by_cmp, int_cmp}
+use Rattle.std.specs.Ordering.{eq_by_cmp, int_cmp}
 use Rattle.std.specs.Cmp.{eq_by_cmp_equiv}
 use Rattle.std.proofs.lemmas.Bool.{cases_Bool}
 use Rattle.std.proofs.lemmas.Map.Lookups.{exact_signed}
 use Rattle.std.proofs.lemmas.Cmp.{int_cmp_total}
+use Rattle.cs_order.specs.Facts.{equal_from}
 use Rattle.sqlite.specs.Store.{Ghosts}
 use Rattle.sqlite.specs.State.{State, HasCleanDisk, IsLive, Survives}
 use Rattle.sqlite.specs.Effect.{Database, IsDatabase}
@@ -48,11 +47,6 @@ counted_more log n (Some v) is free = let lacks : contains_key log (pos n) ≡ f
 
 abbrev HasEach : Log → Type 0
 HasEach log = (version : ℕ) → version < len log → IsSome (get log (pos version))
-
-equal_from : (o : Ordering) → is_eq o ≡ true → o ≡ Equal
-equal_from Less h = absurd cc
-equal_from Equal h = refl
-equal_from Greater h = absurd cc
 
 -- an entry at a version that had none, the first above the count, fills no gap and leaves none
 whole_still : (log : Log) (n : ℕ) (entry : Option StoredEntry) → n ≡ len log → IfSome entry (λ _. get log (pos n) ≡ None) → HasEach log ↔ HasEach (with_entry (pos n) log (optional_entry entry))

@@ -3,6 +3,7 @@ use Rattle.std.proofs.Common.{◌≡◌, ℕ, ◌+◌, ◌<◌, List, [], ◌∷
 use Rattle.std.specs.Prelude.{◌⊎◌, Option}
 use Rattle.std.specs.List.{AllZip, AllByRecursion, flat_map}
 use Rattle.std.proofs.lemmas.List.{drop_more, map-append, take-append-drop, take_more}
+use Rattle.cs_lines.specs.Facts.{zip_push}
 use Rattle.cs_change.specs.Spelling.{FitsChangeset, changeset_spelling}
 use Rattle.cs_change.specs.declared.group.Group.{Group}
 use Rattle.cs_changeset.specs.Reading.{IsChangesetFault}
@@ -12,7 +13,7 @@ use Rattle.cs_group.specs.Combined.{HasCombineFault, IsCombined}
 use Rattle.cs_group.specs.declared.combining.CombineFault.{CombineFault}
 use Rattle.cs_group.specs.declared.combining.CombineFault.TheVariants as combining
 use Rattle.cs_normal.specs.declared.normal.TableChanges.{TableChanges}
-use Rattle.cs_tools.proofs.InputLemmas.{fit_push, zip_push}
+use Rattle.cs_tools.proofs.InputLemmas.{fit_push}
 use Rattle.cs_tools.specs.Faults.{of_combine}
 use Rattle.cs_tools.specs.Files.{ChangesetAt, HasBadFile, HeldAt, IsBadFile, RefusesFiles}
 use Rattle.cs_tools.specs.SpelledLine.{Spells}

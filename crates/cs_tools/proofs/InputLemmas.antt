@@ -1,11 +1,9 @@
 -- What has been read of an input, line by line.
-use Rattle.std.proofs.Common.{◌≡◌, ◌≢◌, ℕ, zero, suc, ◌+◌, ◌<◌, List, [], ◌∷◌, ◌++◌, length, take, get_or, sym, refl, ap, subst, ◌∙◌, inl, inr, arith}
+use Rattle.std.proofs.Common.{◌≡◌, ℕ, zero, suc, ◌+◌, ◌<◌, List, [], ◌∷◌, ◌++◌, length, take, get_or, sym, refl, ap, subst, ◌∙◌, inl, inr, arith}
 use Rattle.std.specs.Prelude.{◌⊎◌, Option, Some, None, Ok, Err, Result, IfOk}
 use Rattle.std.specs.Global.{Vec}
 use Rattle.std.specs.List.{AllZip, AllByRecursion}
 use Rattle.std.specs.Io.KnownBytes.{IsAtEnd, Keeps}
-use Rattle.std.proofs.KnownBytes.{Consumes-nil}
-use Rattle.std.proofs.lemmas.List.Elements.{All-nil}
 use Rattle.std.proofs.lemmas.List.{take_more}
 use Rattle.hex.specs.Hex.{decode_pairs}
 use Rattle.cs_blob.specs.Spelling.{FitsBlob, blob_spelling}
@@ -14,10 +12,11 @@ use Rattle.cs_change.specs.Spelling.{FitsChangeset, changeset_spelling}
 use Rattle.cs_change.specs.declared.group.Group.{Group}
 use Rattle.cs_group.specs.Combined.{IsCombined}
 use Rattle.cs_normal.specs.declared.normal.TableChanges.{TableChanges}
-use Rattle.cs_lines.specs.Lines.{hex_line, lines_of}
+use Rattle.cs_lines.specs.Facts.{first_taken, stays, zip_push}
+use Rattle.cs_lines.specs.Lines.{hex_line}
 use Rattle.cs_lines.specs.Laws.{NoneTaken, OneMoreTaken}
 use Rattle.cs_lines.specs.Served.{AreAllLines, AreFirstLines}
-use Rattle.cs_lines.specs.Reading.{AreTaken, TakesLine, StaysInLine}
+use Rattle.cs_lines.specs.Reading.{TakesLine, StaysInLine}
 use Rattle.cs_lines.specs.declared.serve.TheConstants.{ASKS}
 use Rattle.cs_changeset.specs.Reading.{IsChangesetFault, ReadsWhole}
 use Rattle.cs_changeset.specs.declared.fault.CodecFault.{CodecFault}
@@ -34,12 +33,6 @@ use Rattle.cs_tools.specs.WrittenForm.{SpellsIn}
 use Rattle.cs_tools.specs.declared.tool.Form.{Form}
 use Rattle.cs_tools.specs.declared.fault.ToolFault.{ToolFault}
 use Rattle.cs_tools.specs.declared.fault.ToolFault.TheVariants.{Memory, Read}
-
-pub zip_push : {A B : Type 0} (R : A → B → Type 0) (xs : List A) (ys : List B) (x : A) (y : B) → AllZip R xs ys → R x y → AllZip R (xs ++ x ∷ []) (ys ++ y ∷ [])
-zip_push R [] [] x y all now = (now, tt)
-zip_push R [] (b ∷ ys) x y all now = absurd all
-zip_push R (a ∷ xs) [] x y all now = absurd all
-zip_push R (a ∷ xs) (b ∷ ys) x y all now = (all.0, zip_push R xs ys x y all.1 now)
 
 pub fit_push : (changesets : List (List Group)) (groups : List Group) → AllByRecursion FitsChangeset changesets → FitsChangeset groups → AllByRecursion FitsChangeset (changesets ++ groups ∷ [])
 fit_push [] groups all now = (now, tt)
@@ -59,10 +52,6 @@ read_more more input left after inputs now bytes is so_far took =
       more input left after lines line so_far.1 took.1,
       zip_push (λ line (held : Vec ℕ). IsHexOf line held.items) lines inputs line bytes so_far.2 took.2,
     )
-
-first_taken : (input left : Option (List ℕ)) (lines : List (List ℕ)) → AreTaken input left lines → AreFirstLines input lines
-first_taken None left lines taken = tt
-first_taken (Some input) left lines taken = (lines_of taken.0, taken.2)
 
 pub read_in_memory : (failed : Type 0) (input left after : Option (List ℕ)) (inputs now : List (Vec ℕ)) → now ≡ inputs → AreRead input left inputs
     → AreReadUpTo failed input after now (Some Memory)
@@ -85,10 +74,6 @@ zip_length R [] [] all = refl
 zip_length R [] (b ∷ ys) all = absurd all
 zip_length R (a ∷ xs) [] all = absurd all
 zip_length R (a ∷ xs) (b ∷ ys) all = ap suc (zip_length R xs ys all.1)
-
--- nothing is gone of a line
-stays : (left : Option (List ℕ)) → StaysInLine left left
-stays left = ([], Consumes-nil left, All-nil (λ x. x ≢ 10))
 
 pub read_without_end : (failed : Type 0) (input left : Option (List ℕ)) (inputs : List (Vec ℕ)) → AreRead input left inputs
     → length inputs ≡ ASKS → AreReadUpTo failed input left inputs (Some Read)

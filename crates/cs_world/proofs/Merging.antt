@@ -1,9 +1,10 @@
 -- Entries that a replica of a sound world pulls are merges over the log's tables.
 use Rattle.std.proofs.Common.{◌≡◌, ◌<◌, ◌^◌, ◌+◌, ◌∙◌, ℕ, zero, suc, List, [], ◌∷◌, Option, Some, None, Result, Ok, Err, slice_get, slice_set, refl, sym, ap, subst, inl, inr, arith}
 use Rattle.std.specs.Prelude.{◌⊎◌}
+use Rattle.cs_value.specs.Facts.{by_test}
 use Rattle.cs_value.specs.Key.{Place}
 use Rattle.cs_apply.specs.NormalTasks.{found_at, found_is, of_one, tasks_are}
-use Rattle.cs_apply.specs.Spots.{by_test, same_spot, spot_is}
+use Rattle.cs_apply.specs.Spots.{same_spot, spot_is}
 use Rattle.cs_tasks.specs.Tasks.{Task, tasks}
 use Rattle.cs_change.specs.Action.{action_any, after_any}
 use Rattle.cs_change.specs.Net.{net}

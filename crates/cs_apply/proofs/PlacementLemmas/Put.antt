@@ -7,6 +7,7 @@ use Rattle.std.specs.List.{HoldsAt}
 use Rattle.std.specs.Str.{bytes_eq}
 use Rattle.std.proofs.lemmas.List.{append_assoc, append-nil, map-append, take_all, take_more}
 use Rattle.std.proofs.lemmas.Option.{get_or_from_slice_get, same_Some, slice_get-get_or, slice_get_within}
+use Rattle.cs_value.specs.Facts.{by_test}
 use Rattle.cs_value.specs.Catalog.{AreTables}
 use Rattle.cs_value.specs.Laws.{OnePlaceOfName}
 use Rattle.cs_value.specs.declared.catalog.TableDef.{TableDef}
@@ -16,7 +17,7 @@ use Rattle.cs_change.specs.declared.group.Group.{Group}
 use Rattle.cs_normal.specs.Normal.{group_of}
 use Rattle.cs_normal.specs.declared.normal.TableChanges.{TableChanges}
 use Rattle.cs_apply.specs.NormalTasks.{IsOfOne, keyed_task, keyed_tasks, number_of, one_table, table_found}
-use Rattle.cs_apply.specs.Spots.{all_both, by_test, both_true, name_is}
+use Rattle.cs_apply.specs.Spots.{all_both, both_true, name_is}
 use Rattle.cs_tasks.specs.Tasks.{Task, fits_table, table_of}
 use Rattle.cs_apply.specs.placement.Places.{ArePlaced, IsPlaced, task_of}
 use Rattle.cs_apply.specs.declared.placement.placed.Placed.{Placed}

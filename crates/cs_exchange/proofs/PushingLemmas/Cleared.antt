@@ -3,7 +3,8 @@ use Rattle.std.proofs.Common.{◌≡◌, ◌<◌, ◌+◌, ◌++◌, ◌&&◌, �
 use Rattle.std.specs.Prelude.{nat_eq, slice_get}
 use Rattle.std.specs.List.{AllByRecursion}
 use Rattle.std.specs.Map.{keys_of}
-use Rattle.cs_pending.specs.Spots.{all_both, by_test}
+use Rattle.cs_value.specs.Facts.{by_test}
+use Rattle.cs_pending.specs.Spots.{all_both}
 use Rattle.cs_change.specs.Spelling.{change_spelling}
 use Rattle.cs_change.specs.declared.change.Change.{Change}
 use Rattle.cs_normal.specs.keyed.Changes.{Changes, change_at}

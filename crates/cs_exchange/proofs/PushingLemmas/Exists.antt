@@ -4,7 +4,8 @@ use Rattle.std.specs.Prelude.{pos}
 use Rattle.std.specs.FinMap.{empty, get, get-empty, get-insert, insert, len-empty}
 use Rattle.std.proofs.lemmas.Bool.{cases_lt}
 use Rattle.std.proofs.lemmas.Cmp.{nat_list_cmp_total}
-use Rattle.cs_pending.specs.Spots.{by_test, key_is}
+use Rattle.cs_value.specs.Facts.{by_test}
+use Rattle.cs_pending.specs.Spots.{key_is}
 use Rattle.cs_store.specs.declared.log.entry.TheConstants.{MAX_CHANGESET}
 use Rattle.cs_normal.specs.Normal.{normal_spelling}
 use Rattle.cs_normal.specs.declared.normal.TableChanges.{TableChanges}

@@ -4,8 +4,9 @@ use Rattle.std.specs.Prelude.{pos, slice_get, Contains, IsSome}
 use Rattle.std.specs.FinMap.{get}
 use Rattle.std.specs.List.{AllByRecursion}
 use Rattle.std.specs.Str.{bytes_eq}
+use Rattle.cs_value.specs.Facts.{by_test}
 use Rattle.cs_pending.specs.NormalTasks.{IsOfOne, of_one}
-use Rattle.cs_pending.specs.Spots.{by_test, name_is, name_not}
+use Rattle.cs_pending.specs.Spots.{name_is, name_not}
 use Rattle.cs_change.specs.Action.{action_any}
 use Rattle.cs_change.specs.Net.{net}
 use Rattle.cs_change.specs.Spelling.{change_spelling}

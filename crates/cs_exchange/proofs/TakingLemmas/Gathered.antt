@@ -2,6 +2,7 @@
 use Rattle.std.proofs.Common.{◌≡◌, ◌⊎◌, ℕ, Bool, true, false, is_some, Result, Ok, Err, List, [], ◌∷◌, map, Option, Some, None, refl, sym, ap, subst, ◌∙◌, inl, inr}
 use Rattle.std.specs.Prelude.{◌||◌, IsSome}
 use Rattle.std.specs.List.{AllByRecursion}
+use Rattle.cs_value.specs.Facts.{by_test}
 use Rattle.cs_value.specs.Key.{Place}
 use Rattle.cs_value.specs.declared.catalog.TableDef.{TableDef}
 use Rattle.cs_change.specs.Action.{action, action_any, after, after_any}
@@ -17,7 +18,7 @@ use Rattle.cs_conflict.specs.declared.clash.Clash.{Clash}
 use Rattle.cs_conflict.specs.declared.conflict.Conflict.{Conflict}
 use Rattle.cs_conflict.specs.declared.wish.Wish.{Wish}
 use Rattle.cs_apply.specs.NormalTasks.{AreElsewhere, HaveOwnPlaces, are_apart, entries_in, keyed_task, keyed_tasks, number_of, of_one, table_tasks, tasks_are}
-use Rattle.cs_apply.specs.Spots.{all_both, by_test}
+use Rattle.cs_apply.specs.Spots.{all_both}
 use Rattle.cs_tasks.specs.Tasks.{Task, tasks}
 use Rattle.cs_pending.specs.Calls.{ReadsStore}
 use Rattle.cs_pending.specs.Storing.{err_is}

@@ -1,7 +1,7 @@
 -- A change that is defined on the log's row and conflicts with the own one: there is a local change, and the clash shows it.
 use Rattle.std.proofs.Common.{◌≡◌, Bool, true, false, List, Option, Some, None, refl, sym, ap, subst, ◌∙◌}
 use Rattle.std.specs.Prelude.{◌≢◌, slice_get}
-use Rattle.cs_value.specs.Facts.{same_row-Decides}
+use Rattle.cs_value.specs.Facts.{by_test, same_row-Decides}
 use Rattle.cs_value.specs.Key.{Place}
 use Rattle.cs_value.specs.Same.{same_row}
 use Rattle.cs_change.specs.Action.{Action, Inserts, Deletes, Updates, action, action_any, after, is_delete}
@@ -19,7 +19,6 @@ use Rattle.cs_conflict.specs.declared.wish.Wish.{Wish}
 use Rattle.cs_conflict.specs.declared.wish.Wish.TheVariants.{Keep, Take, Stop}
 use Rattle.cs_change.specs.netting.Combine.{with_flag_any}
 use Rattle.cs_apply.specs.Applies.{IsConflictOf}
-use Rattle.cs_apply.specs.Spots.{by_test}
 use Rattle.cs_tasks.specs.Tasks.{Task}
 use Rattle.cs_pending.specs.Nets.{action_with_flag}
 use Rattle.cs_exchange.specs.taking.Takes.{IsClashOf}

@@ -1,6 +1,7 @@
 -- What the code leaves of the own row is the merge, and may stand there.
 use Rattle.std.proofs.Common.{◌≡◌, ℕ, Bool, List, Option, Some, None, refl, sym, ap, subst, ◌∙◌, inl, inr}
 use Rattle.std.specs.Prelude.{◌≢◌, Contains}
+use Rattle.cs_value.specs.Facts.{some_same}
 use Rattle.cs_value.specs.Catalog.{AreTables}
 use Rattle.cs_value.specs.Key.{Place, FitsPlace}
 use Rattle.cs_value.specs.Laws.{OnePlaceOfName}
@@ -32,9 +33,6 @@ use Rattle.cs_exchange.specs.taking.Steps.{LeavesOwn}
 use Rattle.cs_exchange.specs.taking.Takes.{Asks}
 use Rattle.cs_exchange.proofs.TakingLemmas.Local.{action_is}
 use Rattle.cs_exchange.proofs.TakingLemmas.Standing.{replaced_stands}
-
-some_same : {A : Type 0} {x y : A} → Some x ≡ Some y → x ≡ y
-some_same e = cc
 
 -- what a change leaves of the own row under a lawful answer is the merge
 merged_by : Diamond → NormalIsNet → (marks : List Bool) (key : List Value) (answer : Resolution) (log own theirs merged : Place) (change : Action)

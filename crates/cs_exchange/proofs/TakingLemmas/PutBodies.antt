@@ -8,6 +8,7 @@ use Rattle.std.specs.Ordering.{eq_by_cmp}
 use Rattle.std.proofs.lemmas.Bool.Decides.{Decides-eqb}
 use Rattle.std.proofs.lemmas.Cmp.{eq_by_cmp_equiv, nat_list_cmp_total}
 use Rattle.std.proofs.lemmas.Option.{slice_get_within}
+use Rattle.cs_value.specs.Facts.{by_test}
 use Rattle.cs_value.specs.Catalog.{AreTables}
 use Rattle.cs_value.specs.Laws.{OnePlaceOfName}
 use Rattle.cs_value.specs.declared.catalog.TableDef.{TableDef}
@@ -18,7 +19,7 @@ use Rattle.cs_store.specs.Written.{with_body, with_meta}
 use Rattle.cs_store.specs.declared.names.MetaName.{MetaName}
 use Rattle.cs_store.specs.declared.names.MetaName.TheVariants.{Version, Flight}
 use Rattle.cs_apply.specs.NormalTasks.{AreElsewhere, IsKnown, spot_of}
-use Rattle.cs_apply.specs.Spots.{both_true, by_test, key_is, key_refl, same_spot, spot_is}
+use Rattle.cs_apply.specs.Spots.{both_true, key_is, key_refl, same_spot, spot_is}
 use Rattle.cs_tasks.specs.Tasks.{Task}
 use Rattle.cs_pending.specs.OnePlace.{tests_agree}
 use Rattle.cs_pending.specs.Shows.{IsElsewhere}

@@ -2,6 +2,7 @@
 use Rattle.std.proofs.Common.{◌≡◌, ℕ, suc, Bool, true, false, List, [], ◌∷◌, length, Some, None, refl, sym, subst, ap, ◌∙◌}
 use Rattle.std.specs.Prelude.{Contains}
 use Rattle.std.specs.List.{AllByRecursion, list_all}
+use Rattle.cs_value.specs.Facts.{some_same}
 use Rattle.cs_value.specs.Catalog.{AreTables, is_set, marked}
 use Rattle.cs_value.specs.Key.{Place, FitsPlace}
 use Rattle.cs_value.specs.Laws.{OnePlaceOfName}
@@ -23,9 +24,6 @@ use Rattle.cs_normal.specs.Laws.{SetColumnsFit}
 use Rattle.cs_normal.specs.State.{IsRowOf, MayStandAt}
 use Rattle.cs_conflict.specs.Conflict.{replaced}
 use Rattle.cs_apply.specs.NormalTasks.{bytes_stay, normal_key, one_table}
-
-some_same : {X : Type 0} {a b : X} → Some a ≡ Some b → a ≡ b
-some_same e = cc
 
 head_same : {X : Type 0} {a b : X} {xs ys : List X} → a ∷ xs ≡ b ∷ ys → a ≡ b
 head_same e = cc

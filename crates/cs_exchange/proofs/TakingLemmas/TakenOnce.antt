@@ -3,6 +3,7 @@ use Rattle.std.proofs.Common.{◌≡◌, ◌⊎◌, ℕ, List, [], ◌∷◌, Op
 use Rattle.std.proofs.lemmas.Option.{same_Some}
 use Rattle.std.specs.List.{AllByRecursion}
 use Rattle.std.specs.Prelude.{Contains}
+use Rattle.cs_value.specs.Facts.{by_test}
 use Rattle.cs_value.specs.Catalog.{AreTables}
 use Rattle.cs_value.specs.Key.{Place}
 use Rattle.cs_value.specs.Laws.{OnePlaceOfName}
@@ -18,7 +19,6 @@ use Rattle.cs_conflict.specs.Wishes.{resolution_of}
 use Rattle.cs_conflict.specs.declared.clash.Clash.{Clash}
 use Rattle.cs_conflict.specs.declared.wish.Wish.{Wish}
 use Rattle.cs_apply.specs.NormalTasks.{AreElsewhere, keyed_tasks}
-use Rattle.cs_apply.specs.Spots.{by_test}
 use Rattle.cs_tasks.specs.Tasks.{Task}
 use Rattle.cs_rebaser.specs.Diamond.{MergesAlike, kind_any}
 use Rattle.cs_pending.specs.Laws.{OneView}

@@ -2,6 +2,7 @@
 use Rattle.std.proofs.Common.{◌≡◌, ◌⊎◌, ℕ, List, [], ◌∷◌, refl, sym, subst, ◌∙◌, inl, inr}
 use Rattle.std.specs.Prelude.{Contains}
 use Rattle.std.specs.FinMap.{len}
+use Rattle.cs_value.specs.Facts.{by_test}
 use Rattle.cs_value.specs.Catalog.{AreTables}
 use Rattle.cs_value.specs.declared.catalog.TableDef.{TableDef}
 use Rattle.cs_change.specs.Laws.{NetTakes}
@@ -18,7 +19,6 @@ use Rattle.cs_conflict.specs.declared.kind.Kind.TheVariants.{DataDiffers, NotFou
 use Rattle.cs_conflict.specs.declared.wish.Wish.{Wish}
 use Rattle.cs_conflict.specs.declared.wish.Wish.TheVariants.{Stop}
 use Rattle.cs_apply.specs.NormalTasks.{AreElsewhere, are_apart, keyed_tasks}
-use Rattle.cs_apply.specs.Spots.{by_test}
 use Rattle.cs_tasks.specs.Tasks.{Task}
 use Rattle.cs_pending.specs.Laws.{OneView}
 use Rattle.cs_pending.specs.View.{Changed, View}

@@ -1,6 +1,7 @@
 -- The places of a changeset, and all that is under way.
 use Rattle.std.proofs.Common.{◌≡◌, ◌⊎◌, ℕ, true, false, is_some, List, [], ◌∷◌, Option, Some, None, refl, sym, ap, subst, ◌∙◌, inl, inr}
 use Rattle.std.specs.List.{AllByRecursion}
+use Rattle.cs_value.specs.Facts.{by_test}
 use Rattle.cs_value.specs.declared.catalog.TableDef.{TableDef}
 use Rattle.cs_change.specs.Action.{action_any}
 use Rattle.cs_change.specs.declared.change.Change.{Change}
@@ -8,7 +9,7 @@ use Rattle.cs_normal.specs.Normal.{IsNormalChangeset, change_of}
 use Rattle.cs_normal.specs.declared.normal.TableChanges.{TableChanges}
 use Rattle.cs_store.specs.Contents.{Contents}
 use Rattle.cs_apply.specs.NormalTasks.{AreElsewhere, are_apart, each_found, found_at, found_is, keyed_tasks, spot_of}
-use Rattle.cs_apply.specs.Spots.{by_test, same_spot, spot_is}
+use Rattle.cs_apply.specs.Spots.{same_spot, spot_is}
 use Rattle.cs_tasks.specs.Tasks.{Task}
 use Rattle.cs_pending.specs.Nets.{undo_none}
 use Rattle.cs_pending.specs.Shows.{ShowsRows}

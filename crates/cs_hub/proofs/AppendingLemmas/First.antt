@@ -1,5 +1,6 @@
 -- The first conflict, where ABORT is the answer to each.
 use Rattle.std.proofs.Common.{◌≡◌, ℕ, true, List, [], ◌∷◌, Option, Some, None, refl, sym, subst, ap, ◌∙◌}
+use Rattle.cs_value.specs.Facts.{by_test, some_same}
 use Rattle.cs_value.specs.Key.{Place}
 use Rattle.cs_change.specs.Action.{action}
 use Rattle.cs_change.specs.declared.change.Change.{Change}
@@ -11,7 +12,7 @@ use Rattle.cs_conflict.specs.declared.conflict.Resolution.TheVariants.{Abort}
 use Rattle.cs_conflict.specs.declared.kind.Kind.{Kind}
 use Rattle.cs_apply.specs.Applies.{AppliesOne, IsConflictOf, IsStop, KeepsOthers, Stops}
 use Rattle.cs_apply.specs.Laws.{AlwaysAborts}
-use Rattle.cs_apply.specs.Spots.{by_test, same_spot, spot_is, spot_refl}
+use Rattle.cs_apply.specs.Spots.{same_spot, spot_is, spot_refl}
 use Rattle.cs_tasks.specs.Tasks.{Task}
 use Rattle.cs_hub.specs.appending.Appended.{aborts}
 use Rattle.cs_hub.specs.appending.Laws.{OneFirstConflict}
@@ -36,9 +37,6 @@ module _ {F : Type 0} (asks : F → Conflict → Resolution → F → Type 0) (a
 
 abbrev Alike : State → State → Type 0
 Alike s t = (name key : List ℕ) → s name key ≡ t name key
-
-some_same : {X : Type 0} {a b : X} → Some a ≡ Some b → a ≡ b
-some_same e = cc
 
 made : Kind → ℕ → Change → Place → Conflict
 made kind table change row = record { kind = kind; table = table; change = change; row = row }

@@ -1,6 +1,7 @@
 -- A changeset is defined on the rows, or applying it stops where ABORT is the answer to each conflict.
 use Rattle.std.proofs.Common.{◌≡◌, ◌⊎◌, ℕ, List, [], ◌∷◌, Option, Some, None, inl, inr, refl, sym, ap, ◌∙◌}
 use Rattle.std.specs.Prelude.{IsSome}
+use Rattle.cs_value.specs.Facts.{by_test}
 use Rattle.cs_value.specs.Key.{Place}
 use Rattle.cs_value.specs.declared.catalog.TableDef.{TableDef}
 use Rattle.cs_change.specs.Action.{action}
@@ -15,7 +16,7 @@ use Rattle.cs_conflict.specs.declared.conflict.Resolution.TheVariants.{Abort}
 use Rattle.cs_conflict.specs.declared.kind.Kind.{Kind}
 use Rattle.cs_apply.specs.Applies.{Applies, AppliesTask, KeepsOthers, Stops, answers_of}
 use Rattle.cs_apply.specs.Laws.{UnaskedIsDefined}
-use Rattle.cs_apply.specs.Spots.{by_test, same_spot, spot_is, spot_refl}
+use Rattle.cs_apply.specs.Spots.{same_spot, spot_is, spot_refl}
 use Rattle.cs_tasks.specs.Tasks.{Task, tasks}
 use Rattle.cs_pending.specs.View.{put_at}
 use Rattle.cs_hub.specs.appending.Appended.{aborts}

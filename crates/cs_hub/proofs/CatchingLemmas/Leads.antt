@@ -8,9 +8,11 @@ use Rattle.cs_value.specs.declared.catalog.TableDef.{TableDef}
 use Rattle.cs_group.specs.Leads.{JoinLeads}
 use Rattle.cs_group.specs.Tables.{OneJoin}
 use Rattle.cs_normal.specs.Normal.{IsNormalChangeset}
-use Rattle.cs_store.specs.log.Entry.{entry_changes}
-use Rattle.cs_store.specs.log.Laws.{LogStates, Slices}
+use Rattle.cs_store.specs.log.Entry.{WidensNone, entry_changes}
+use Rattle.cs_store.specs.log.Laws.{LogStates, PlainSlices}
 use Rattle.cs_store.specs.log.Log.{IsLog, entries_between, tables_at}
+use Rattle.cs_store.specs.declared.log.body.Body.{Body}
+use Rattle.cs_store.specs.declared.log.body.Body.TheVariants.{Changes}
 use Rattle.cs_store.specs.declared.log.entry.LogEntry.{LogEntry}
 use Rattle.cs_hub.specs.catching.Consolidated.{IsConsolidated, IsShort}
 use Rattle.cs_hub.specs.catching.Laws.{CaughtAreOthers, CaughtIsShort, ConsolidatedLeads, OneConsolidated, OthersAsLogGrows, SameEntries}
@@ -36,13 +38,23 @@ HasNormal entry = IsNormalChangeset (entry_changes entry)
 all_normal : (tables : List TableDef) (log : List LogEntry) → IsLog tables log → All HasNormal log
 all_normal tables log is = All-from_recursion HasNormal log (at_each HasNormal log (λ version entry there. (is version entry there).normal))
 
-pub consolidated_leads : JoinLeads → Slices → LogStates → ConsolidatedLeads
+plain : (body : Body) → WidensNone body
+plain (Changes changes) = tt
+
+abbrev IsPlain : LogEntry → Type 0
+IsPlain entry = WidensNone entry.body
+
+all_plain : (entries : List LogEntry) → AllByRecursion IsPlain entries
+all_plain [] = tt
+all_plain (first ∷ entries) = (plain first.body, all_plain entries)
+
+pub consolidated_leads : JoinLeads → PlainSlices → LogStates → ConsolidatedLeads
 consolidated_leads join slices states tables log from to changes are is less within one =
     let entries = entries_between log from to in
     let normal : All HasNormal entries = All-drop HasNormal from (take to log) (All-take HasNormal to log (all_normal tables log is)) in
     join tables (map entry_changes entries) changes (tables_at log from) (tables_at log to) are
     (recursion_from_All IsNormalChangeset (map entry_changes entries) (All-map IsNormalChangeset entry_changes entries normal))
-    one.of_tables.1 one.joined (states tables log from are is) (slices tables log from to is less)
+    one.of_tables.1 one.joined (states tables log from are is) (slices tables log from to is less (All-from_recursion IsPlain entries (all_plain entries)))
 
 -- ---- what is told as one
 

@@ -7,7 +7,8 @@ use Rattle.std.specs.Ordering.{int_cmp, nat_cmp}
 use Rattle.std.specs.Str.{bytes_eq}
 use Rattle.std.proofs.lemmas.Cmp.{int_cmp_total, nat_list_cmp_total, on_total, then_total}
 use Rattle.std.proofs.lemmas.Map.Lookups.{exact_bytes, exact_pairs, exact_signed}
-use Rattle.cs_apply.specs.Spots.{by_test, name_is, name_not}
+use Rattle.cs_value.specs.Facts.{by_test}
+use Rattle.cs_apply.specs.Spots.{name_is, name_not}
 use Rattle.cs_store.specs.Contents.{Bodies, StorePlace, name_text, place_cmp}
 use Rattle.cs_store.specs.Whole.{IsName}
 use Rattle.cs_store.specs.declared.names.MetaName.{MetaName}

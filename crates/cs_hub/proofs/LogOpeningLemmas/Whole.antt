@@ -9,6 +9,7 @@ use Rattle.std.proofs.lemmas.Cmp.{int_cmp_total}
 use Rattle.std.proofs.lemmas.List.Elements.{recursion_from_All}
 use Rattle.std.proofs.lemmas.Map.Lookups.{exact_signed}
 use Rattle.std.proofs.lemmas.Option.{same_Some, slice_get_cases}
+use Rattle.cs_value.specs.Facts.{by_test}
 use Rattle.cs_value.specs.Key.{Place}
 use Rattle.cs_value.specs.Laws.{OnePlaceOfName}
 use Rattle.cs_value.specs.Catalog.{AreTables}
@@ -23,7 +24,6 @@ use Rattle.cs_store.specs.Contents.{Bodies, Contents, Log, LogItem, log_entry, m
 use Rattle.cs_store.specs.Whole.{AtTable, IsName, IsWhole, StoresBody, StoresRow}
 use Rattle.cs_store.specs.declared.names.MetaName.TheVariants.{Catalog}
 use Rattle.cs_apply.specs.NormalTasks.{one_table}
-use Rattle.cs_apply.specs.Spots.{by_test}
 use Rattle.cs_pending.specs.OnePlace.{contained}
 use Rattle.cs_pending.specs.Shows.{IsElsewhere}
 use Rattle.cs_hub.specs.log_store.Shows.{ShowsLog, item_of_entry}

@@ -3,8 +3,9 @@ use Rattle.std.proofs.Common.{◌≡◌, ◌≢◌, ℕ, List, [], ◌∷◌, No
 use Rattle.std.specs.FinMap.{get, find, from_entries, get-empty, get-from_entries, len-empty}
 use Rattle.std.specs.Ordering.{int_cmp}
 use Rattle.std.proofs.lemmas.Cmp.{nat_list_cmp_total}
+use Rattle.cs_value.specs.Facts.{by_test}
 use Rattle.cs_order.specs.Order.{by_bytes, same_bytes}
-use Rattle.cs_pending.specs.Spots.{by_test, key_is}
+use Rattle.cs_pending.specs.Spots.{key_is}
 use Rattle.cs_value.specs.declared.catalog.TableDef.{TableDef}
 use Rattle.cs_store.specs.log.Laws.{EmptyIsLog}
 use Rattle.cs_pending.specs.position.Values.{catalog_bytes}

@@ -30,7 +30,7 @@ pub fn consolidated_leads()
     ensures { ConsolidatedLeads }
 {
     cs_group::laws::join_leads();
-    cs_store::log::laws::slices();
+    cs_store::log::laws::plain_slices();
     cs_store::log::laws::log_states();
 }
 

@@ -1,13 +1,9 @@
 -- What has been read of an input, line by line.
-use Rattle.std.proofs.Common.{◌≡◌, ◌≢◌, ℕ, suc, ◌+◌, List, [], ◌∷◌, ◌++◌, length, sym, refl, ap, ◌∙◌, inl, inr}
-use Rattle.std.proofs.KnownBytes.{Consumes-nil}
-use Rattle.std.proofs.lemmas.List.Elements.{All-nil}
-use Rattle.std.specs.Prelude.{Option, Some, None}
+use Rattle.std.proofs.Common.{◌≡◌, ℕ, suc, ◌+◌, List, [], ◌∷◌, ◌++◌, length, sym, refl, ap, ◌∙◌, inl, inr}
+use Rattle.std.specs.Prelude.{Option, Some}
 use Rattle.std.specs.Io.KnownBytes.{IsAtEnd}
-use Rattle.cs_lines.specs.Lines.{lines_of}
+use Rattle.cs_lines.specs.Facts.{first_taken, stays}
 use Rattle.cs_lines.specs.Laws.{AllTaken, NoneTaken, OneMoreTaken}
-use Rattle.cs_lines.specs.Served.{AreFirstLines}
-use Rattle.cs_lines.specs.Reading.{AreTaken, StaysInLine}
 use Rattle.cs_lines.specs.declared.serve.TheConstants.{ASKS}
 use Rattle.cs_value.specs.declared.catalog.TableDef.{TableDef}
 use Rattle.cs_node_lines.specs.asks.Asked.{ask_in}
@@ -28,10 +24,6 @@ asked_count tables [] [] all = refl
 asked_count tables [] (a ∷ asks) all = absurd all
 asked_count tables (l ∷ lines) [] all = absurd all
 asked_count tables (l ∷ lines) (a ∷ asks) all = ap suc (asked_count tables lines asks all.1)
-
-first_taken : (input left : Option (List ℕ)) (lines : List (List ℕ)) → AreTaken input left lines → AreFirstLines input lines
-first_taken None left lines taken = tt
-first_taken (Some input) left lines taken = (lines_of taken.0, taken.2)
 
 pub read_none : NoneTaken → (tables : List TableDef) (input : Option (List ℕ)) (asks : List Ask) → asks ≡ [] → AreRead tables input input asks
 read_none none tables input asks is = rw is ([], none input, tt)
@@ -63,10 +55,6 @@ read_stopped more tables failed input left after asks number (Line told) so_far 
   stopped.1.2,
   stopped.0 ∙ count ∙ ap (λ n. n + 1) (sym (asked_count tables so_far.0 asks so_far.2)),
 )
-
--- nothing is gone of a line
-stays : (left : Option (List ℕ)) → StaysInLine left left
-stays left = ([], Consumes-nil left, All-nil (λ x. x ≢ 10))
 
 pub read_without_end : (tables : List TableDef) (failed : Type 0) (input left : Option (List ℕ)) (asks : List Ask) → AreRead tables input left asks → length asks ≡ ASKS
     → IsReadFault tables failed input left Read

@@ -1,5 +1,5 @@
 -- The change at the place of its key.
-use Rattle.std.proofs.Common.{◌≡◌, ℕ, Bool, true, false, ◌<◌, List, [], ◌∷◌, length, get_or, slice_get, Some, None, zero, suc, refl, sym, ap, ◌∙◌, arith}
+use Rattle.std.proofs.Common.{◌≡◌, ℕ, ◌<◌, List, [], ◌∷◌, length, get_or, slice_get, Some, None, zero, suc, refl, sym, ap, ◌∙◌, arith}
 use Rattle.std.specs.Cmp.{Equal-is, eq_by_cmp_equiv}
 use Rattle.std.specs.List.{Contains}
 use Rattle.std.specs.Map.{keys_of, values_of}
@@ -10,6 +10,7 @@ use Rattle.std.proofs.lemmas.Map.Entries.{lookup_from_place}
 use Rattle.std.proofs.lemmas.Map.Keys.{IsDistinct-from_sorted}
 use Rattle.std.proofs.lemmas.Map.Lookups.{exact_bytes}
 use Rattle.std.proofs.lemmas.Option.{slice_get-map, slice_get_within, get_or_from_slice_get}
+use Rattle.cs_value.specs.Facts.{by_test}
 use Rattle.cs_order.specs.Order.{by_bytes, key_at, same_bytes}
 use Rattle.cs_order.specs.Facts.{same_is}
 use Rattle.cs_change.specs.declared.change.Change.{Change}
@@ -39,10 +40,6 @@ found entries key place ordered within is =
     let looked : change_at e.0 entries ≡ Some e.1 = lookup_from_place (eq_by_cmp_equiv nat_list_cmp_total) entries place e.0 e.1 (IsDistinct-from_sorted by_bytes (keys_of entries) ordered) got in
     let value : slice_get (values_of entries) place ≡ Some e.1 = slice_get-map (λ (x : List ℕ × Change). x.1) entries place ∙ ap (option_map (λ (x : List ℕ × Change). x.1)) there.1 in
     value ∙ sym looked ∙ ap (λ (k : List ℕ). change_at k entries) same
-
-by_test : (t : Bool) (P : Type 0) → (t ≡ true → P) → (t ≡ false → P) → P
-by_test true P one other = one refl
-by_test false P one other = other refl
 
 behind : (key first : List ℕ) (keys : List (List ℕ)) → Contains keys key → Contains (first ∷ keys) key
 behind key first keys (k, within, is) = (suc k, omega (arith, within), is)

@@ -1,6 +1,7 @@
 -- A change whose values have spellings, and what stays so. Crates above cite it.
-use Rattle.std.proofs.Common.{◌≡◌, Bool, true, false, List, [], ◌∷◌, Option, Some, None, refl}
+use Rattle.std.proofs.Common.{Bool, true, false, List, [], ◌∷◌, Option, Some, None}
 use Rattle.std.specs.List.{AllByRecursion}
+use Rattle.cs_value.specs.Facts.{by_test}
 use Rattle.cs_value.specs.Same.{same_value, same_row}
 use Rattle.cs_value.specs.declared.value.Value.{Value}
 use Rattle.cs_value.specs.declared.value.Field.{Field}
@@ -30,10 +31,6 @@ in_range marks (Insert flag new) f = f.1
 in_range marks (Delete flag old) f = f.1
 in_range marks (Update flag old new) f = (f.1, f.2)
 
-by_bool : {G : Type 0} → (b : Bool) → (b ≡ true → G) → (b ≡ false → G) → G
-by_bool true f g = f refl
-by_bool false f g = g refl
-
 update_columns : {marks : List Bool} {key : List Value} {old new : List Field} → NormalUpdate marks key old new → AreUpdateColumns marks old new
 update_columns no_column = tt
 update_columns (key_column k l) = (tt, update_columns l)
@@ -54,10 +51,10 @@ overlay_fits f (Is v) h k = k
 
 old_column_fits : (m : Bool) (b x : Value) → Fits (Is b) → Fits (old_field m b x)
 old_column_fits true b x h = h
-old_column_fits false b x h = by_bool (same_value b x) (λ e. simp e tt) (λ e. simp e h)
+old_column_fits false b x h = by_test (same_value b x) _ (λ e. simp e tt) (λ e. simp e h)
 
 new_column_fits : (b x : Value) → Fits (Is x) → Fits (new_field b x)
-new_column_fits b x h = by_bool (same_value b x) (λ e. simp e tt) (λ e. simp e h)
+new_column_fits b x h = by_test (same_value b x) _ (λ e. simp e tt) (λ e. simp e h)
 
 net_olds_fit : (marks : List Bool) (old new : List Value) → IsSpelled old → AllByRecursion Fits (old_record marks old new)
 unfolding old_record
@@ -75,4 +72,4 @@ net_news_fit (b ∷ old) [] h = tt
 pub net_in_range : (marks : List Bool) (old new : List Value) → IsSpelled old → IsSpelled new → AreInRangeIfAny (net marks (Some old) (Some new))
 unfolding net
 net_in_range marks old new h k =
-    by_bool (same_row old new) (λ e. simp e tt) (λ e. simp e (net_olds_fit marks old new h, net_news_fit old new k))
+    by_test (same_row old new) _ (λ e. simp e tt) (λ e. simp e (net_olds_fit marks old new h, net_news_fit old new k))

@@ -1,12 +1,13 @@
 -- Maps told by what stands at each place, and the names of values.
 use Rattle.std.proofs.Common.{◌≡◌, ◌≢◌, ◌⊎◌, inl, inr, ℕ, List, Option, Some, None, refl, sym, ap, ◌∙◌}
-use Rattle.std.specs.Prelude.{Bool, true, false}
+use Rattle.std.specs.Prelude.{true, false}
 use Rattle.std.specs.Cmp.{Equal-is, IsTotalOrder}
 use Rattle.std.specs.FinMap.{IsAntisymmetric, empty, get, get-empty, same_map}
 use Rattle.std.specs.Ordering.{int_cmp, nat_cmp}
 use Rattle.std.specs.Cmp.Lexicographic.{slice_cmp}
 use Rattle.std.proofs.lemmas.Cmp.{eq_by_cmp_equiv, int_cmp_total, nat_list_cmp_total, on_total, then_total}
 use Rattle.std.proofs.lemmas.Map.Lookups.{exact_bytes, exact_pairs, exact_signed}
+use Rattle.cs_value.specs.Facts.{by_test}
 use Rattle.cs_order.specs.Order.{by_bytes, same_bytes}
 use Rattle.cs_store.specs.Contents.{Bodies, Contents, Meta, StorePlace, name_text, place_cmp, meta_value}
 use Rattle.cs_store.specs.Whole.{IsName}
@@ -15,10 +16,6 @@ use Rattle.cs_store.specs.declared.names.MetaName.TheVariants.{Id, Version, Numb
 use Rattle.cs_opening.specs.copying.Steps.{HasOurNames}
 
 -- ---- cases
-
-pub by_test : (t : Bool) (P : Type 0) → (t ≡ true → P) → (t ≡ false → P) → P
-by_test true P one other = one refl
-by_test false P one other = other refl
 
 pub by_option : {A : Type 0} (o : Option A) (P : Type 0) → (o ≡ None → P) → ((a : A) → o ≡ Some a → P) → P
 by_option None P none some = none refl

@@ -4,6 +4,7 @@ use Rattle.std.specs.Prelude.{pos, negsuc, fold, nat_eq, if◌then◌else◌}
 use Rattle.std.specs.FinMap.{find, get, get-empty}
 use Rattle.std.specs.List.{AllByRecursion}
 use Rattle.std.proofs.lemmas.Bool.Decides.{eqb_tells}
+use Rattle.cs_value.specs.Facts.{by_test}
 use Rattle.cs_order.specs.Order.{by_bytes, same_bytes}
 use Rattle.cs_pending.specs.rows.Listings.{each_found}
 use Rattle.cs_store.specs.Contents.{Bodies, Contents, IsListing, StorePlace, name_text, meta_value, nothing, stored_pending, stored_tables}
@@ -16,7 +17,7 @@ use Rattle.cs_store.specs.declared.batch.StoredEntry.{StoredEntry}
 use Rattle.cs_store.specs.declared.names.MetaName.{MetaName}
 use Rattle.cs_store.specs.declared.store.StoredBody.{StoredBody}
 use Rattle.cs_opening.specs.copying.Steps.{AreCopied, HasOurNames, edit_at}
-use Rattle.cs_opening.proofs.CopyingLemmas.Maps.{by_option, by_test, key_is, meta_copied}
+use Rattle.cs_opening.proofs.CopyingLemmas.Maps.{by_option, key_is, meta_copied}
 
 -- ---- what the edits of one table leave at a place
 

@@ -4,11 +4,12 @@ use Rattle.std.specs.Prelude.{is_some, IsUtf8}
 use Rattle.std.specs.FinMap.{empty_of_len, get, get-empty, get-remove}
 use Rattle.std.specs.List.{AllByRecursion}
 use Rattle.std.proofs.lemmas.Cmp.{nat_list_cmp_total}
+use Rattle.cs_value.specs.Facts.{by_test}
 use Rattle.cs_order.specs.Order.{by_bytes, same_bytes}
 use Rattle.cs_value.specs.Catalog.{AreTables}
 use Rattle.cs_value.specs.declared.catalog.TableDef.{TableDef}
 use Rattle.cs_normal.specs.declared.normal.TableChanges.{TableChanges}
-use Rattle.cs_apply.specs.Spots.{by_test, key_is}
+use Rattle.cs_apply.specs.Spots.{key_is}
 use Rattle.cs_store.specs.Contents.{Bodies, Contents, meta_value, name_text, nothing, place_cmp}
 use Rattle.cs_store.specs.Whole.{IsName, IsWhole}
 use Rattle.cs_store.specs.Written.{after_batch}

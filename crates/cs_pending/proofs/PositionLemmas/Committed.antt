@@ -1,8 +1,9 @@
 -- What a commit shows that leads from one position to another.
 use Rattle.std.proofs.Common.{◌≡◌, ◌≢◌, ◌⊎◌, inl, inr, ℕ, true, List, [], Option, sym, ap, subst, ◌∙◌}
 use Rattle.std.specs.FinMap.{len}
+use Rattle.cs_value.specs.Facts.{by_test}
 use Rattle.cs_order.specs.Order.{same_bytes}
-use Rattle.cs_pending.specs.Spots.{by_test, key_is, key_refl}
+use Rattle.cs_pending.specs.Spots.{key_is, key_refl}
 use Rattle.cs_store.specs.Contents.{name_text}
 use Rattle.cs_store.specs.Laws.{KeepsOtherNames, KeepsOtherPending, KeepsOtherRows, WritesMeta, value_after}
 use Rattle.cs_store.specs.Whole.{IsName}

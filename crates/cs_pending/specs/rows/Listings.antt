@@ -7,8 +7,9 @@ use Rattle.std.specs.Ordering.{is_eq, is_lt}
 use Rattle.std.specs.declared.cmp.Ordering.{Ordering}
 use Rattle.std.specs.declared.cmp.Ordering.TheVariants.{Less, Equal, Greater}
 use Rattle.std.proofs.lemmas.Option.{same_Some}
+use Rattle.cs_value.specs.Facts.{by_test}
 use Rattle.cs_order.specs.Order.{by_bytes, same_bytes}
-use Rattle.cs_pending.specs.Spots.{by_test, key_is, key_refl}
+use Rattle.cs_pending.specs.Spots.{key_is, key_refl}
 
 abbrev pub Listing : Type 0
 Listing = List (List ℕ × List ℕ)

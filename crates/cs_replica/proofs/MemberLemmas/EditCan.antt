@@ -10,8 +10,9 @@ use Rattle.std.proofs.lemmas.Bool.Decides.{Decides-eqb}
 use Rattle.std.proofs.lemmas.Cmp.{eq_by_cmp_equiv, int_cmp_total, nat_list_cmp_total, on_total, then_total}
 use Rattle.std.proofs.lemmas.Map.Lookups.{exact_bytes, exact_pairs, exact_signed}
 use Rattle.std.proofs.lemmas.Option.{slice_get-get_or, slice_get_within}
+use Rattle.cs_value.specs.Facts.{by_test}
 use Rattle.cs_apply.specs.NormalTasks.{one_table}
-use Rattle.cs_apply.specs.Spots.{both_true, by_test, key_is, key_refl, same_spot}
+use Rattle.cs_apply.specs.Spots.{both_true, key_is, key_refl, same_spot}
 use Rattle.cs_change.specs.Columns.{set_columns}
 use Rattle.cs_change.specs.Spelling.{change_spelling}
 use Rattle.cs_normal.specs.keyed.Changes.{key_bytes}

@@ -13,6 +13,7 @@ use Rattle.std.proofs.lemmas.Cmp.{int_cmp_total, nat_list_cmp_total, tied_itself
 use Rattle.std.proofs.lemmas.Map.Lookups.{exact_signed}
 use Rattle.std.proofs.lemmas.List.{append_assoc, length-map}
 use Rattle.std.proofs.lemmas.List.Sorted.{length_permutation, list_any-IsPermutation, IsPermutation-sym}
+use Rattle.cs_order.specs.Facts.{equal_from}
 use Rattle.sqlite.specs.Order.{Row, column}
 use Rattle.sqlite.specs.Effect.{Database, IsDatabase}
 use Rattle.sqlite.specs.Tree.{Trees, rowid}
@@ -143,11 +144,6 @@ module _ (schema : Schema) (sql : List ℕ) (tree : ℕ) (names : List (List ℕ
       it.are.count_is ∙ length_permutation (map (shown (one_column 0) []) es) it.rows moved ∙ length-map es _
 
 -- ---- the versions of the log
-
-equal_from : (o : Ordering) → is_eq o ≡ true → o ≡ Equal
-equal_from Less h = absurd cc
-equal_from Equal h = refl
-equal_from Greater h = absurd cc
 
 version_tie : (r : Row) (from version : ℕ) → column r 0 ≡ Int (pos from) → is_version version r ≡ is_eq (int_cmp (pos from) (pos version))
 version_tie r from version is = (λ i. is_eq (value_cmp (is i) (Int (pos version)))) ∙ ap is_eq (value_cmp-Int (pos from) (pos version))

@@ -7,6 +7,7 @@ use Rattle.std.specs.Cmp.{IsTotalOrder, eq_by_cmp_equiv}
 use Rattle.std.specs.List.{filter, AllByRecursion}
 use Rattle.std.specs.FinMap.{find, IsAntisymmetric}
 use Rattle.std.proofs.lemmas.Bool.{cases_Bool}
+use Rattle.cs_order.specs.Facts.{equal_from}
 use Rattle.sqlite_value.specs.Order.{Row, value_cmp}
 use Rattle.sqlite_value.proofs.OrderLemmas.{value_cmp_total}
 use Rattle.sqlite_trees.specs.Tree.{rowid, put_row}
@@ -56,11 +57,6 @@ id_symm a b = (eq_by_cmp_equiv value_cmp_total).symm (rowid a) (rowid b)
 free_ids : (new : Row) (es : List Row) → is_taken es new ≡ false → AllByRecursion (λ r. same_id new r ≡ false) es
 free_ids new [] free = tt
 free_ids new (r ∷ es) free = let parts = both_or (is_eq (value_cmp (rowid r) (rowid new))) (is_taken es new) free in (id_symm new r ∙ parts.0, free_ids new es parts.1)
-
-equal_from : (o : Ordering) → is_eq o ≡ true → o ≡ Equal
-equal_from Less h = absurd cc
-equal_from Equal h = refl
-equal_from Greater h = absurd cc
 
 module _ {K X : Type 0} {R : K → K → Ordering} (total : IsTotalOrder R) (exact : IsAntisymmetric R) (entry : Row → K × X) (Is : Row → Type 0) where
   key_symm : (a b : Row) → same_key R entry a b ≡ same_key R entry b a

@@ -1,9 +1,8 @@
 -- That all of a table holds is that all of its answer does.
-use Rattle.std.proofs.Common.{◌≡◌, inl, inr, ℕ, List, [], ◌∷◌, map, Bool, true, IsTrue, Option, Some, None, refl, sym, ap, subst, ◌∙◌}
+use Rattle.std.proofs.Common.{◌≡◌, inl, inr, ℕ, List, [], ◌∷◌, map, Bool, IsTrue, Option, Some, None, refl, sym, ap, subst, ◌∙◌}
 use Rattle.std.specs.Prelude.{◌↔◌}
 use Rattle.std.specs.declared.cmp.Ordering.{Ordering}
-use Rattle.std.specs.declared.cmp.Ordering.TheVariants.{Less, Equal, Greater}
-use Rattle.std.specs.Ordering.{eq_by_cmp, is_eq}
+use Rattle.std.specs.Ordering.{eq_by_cmp}
 use Rattle.std.specs.Cmp.{IsTotalOrder, eq_by_cmp_equiv}
 use Rattle.std.specs.List.{AllByRecursion, filter}
 use Rattle.std.specs.List.Sorted.{IsPermutation}
@@ -12,6 +11,7 @@ use Rattle.std.proofs.lemmas.Bool.{cases_Bool}
 use Rattle.std.proofs.lemmas.Cmp.{int_cmp_total, nat_list_cmp_total}
 use Rattle.std.proofs.lemmas.Map.Lookups.{exact_signed, exact_bytes}
 use Rattle.std.proofs.lemmas.List.Sorted.{IsPermutation-sym}
+use Rattle.cs_order.specs.Facts.{equal_from}
 use Rattle.sqlite.specs.Order.{Row}
 use Rattle.sqlite.specs.Effect.{Database}
 use Rattle.sqlite.specs.State.{State, Shown}
@@ -32,11 +32,6 @@ use Rattle.cs_sql.specs.declared.statements.checking.Part.TheVariants as part
 use Rattle.cs_sql.proofs.StatementsLemmas.Meanings.{one_column, place_terms, all_rows_is, all_rows_plain, all_pending_is, all_pending_plain, all_names_is, all_names_plain, all_bodies_is, all_bodies_plain}
 use Rattle.cs_sql.proofs.StatementsLemmas.Answers.{place_total, place_exact, shown, answer_is, passes_on}
 use Rattle.cs_sql.proofs.StatementsLemmas.Orders.{all_permutation, all_map, all_unmap, apart_map, find_had, tied}
-
-equal_from : (o : Ordering) → is_eq o ≡ true → o ≡ Equal
-equal_from Less h = absurd cc
-equal_from Equal h = refl
-equal_from Greater h = absurd cc
 
 filter_none : (params : Row) (es : List Row) → filter (passes_on [] params) es ≡ es
 filter_none params [] = refl

@@ -1,5 +1,5 @@
 -- What the lists of a table show.
-use Rattle.std.proofs.Common.{◌≡◌, inl, inr, ℕ, suc, ◌+◌, ℤ, List, [], ◌∷◌, map, Bool, true, false, refl, sym, ap, subst, ◌∙◌, arith, get_or}
+use Rattle.std.proofs.Common.{◌≡◌, inl, inr, ℕ, suc, ◌+◌, ℤ, List, [], ◌∷◌, map, Bool, false, refl, sym, ap, subst, ◌∙◌, arith, get_or}
 use Rattle.std.specs.declared.cmp.Ordering.{Ordering}
 use Rattle.std.specs.declared.cmp.Ordering.TheVariants.{Less, Equal, Greater}
 use Rattle.std.specs.Ordering.{is_eq, is_lt, eq_by_cmp, int_cmp, ordering_then}
@@ -11,6 +11,7 @@ use Rattle.std.proofs.lemmas.Bool.{cases_Bool}
 use Rattle.std.proofs.lemmas.Cmp.{nat_list_cmp_total, int_cmp_total}
 use Rattle.std.proofs.lemmas.Map.Lookups.{exact_bytes, exact_signed}
 use Rattle.std.proofs.lemmas.List.Sorted.{IsPermutation-map}
+use Rattle.cs_order.specs.Facts.{equal_from}
 use Rattle.sqlite.specs.Order.{Row, column}
 use Rattle.sqlite.specs.Query.{Output, output_cmp}
 use Rattle.sqlite.specs.State.{State, Shown}
@@ -44,11 +45,6 @@ pair o = pair_read o.1
 -- what it is sorted by is its key
 abbrev IsKeyed : Output → Type 0
 IsKeyed o = (column o.0 0 ≡ Blob (pair o).0)
-
-equal_from : (o : Ordering) → is_eq o ≡ true → o ≡ Equal
-equal_from Less h = absurd cc
-equal_from Equal h = refl
-equal_from Greater h = absurd cc
 
 not_equal : (o p : Ordering) → is_eq o ≡ false → is_eq (ordering_then o p) ≡ false
 not_equal Less p h = refl

@@ -13,6 +13,7 @@ use borrow.Author.Tests.{ltb-true, ltb-false}
 use Rattle.std.proofs.lemmas.Bool.{cases_Bool}
 use Rattle.std.proofs.lemmas.List.Sums.{sum_by-cons}
 use Rattle.std.proofs.lemmas.List.Sorted.{IsPermutation-sym, Contains-permutation, sum_by-IsPermutation, list_any-IsPermutation}
+use Rattle.cs_order.specs.Facts.{equal_from}
 use Rattle.sqlite_rules.specs.Lists.{Has}
 use Rattle.sqlite_rules.proofs.ListLemmas.{all_has, all_from, some_has, has_contained, contains_had}
 use Rattle.sqlite.specs.Order.{Row, column}
@@ -93,11 +94,6 @@ apart_unmap tie f [] a = tt
 apart_unmap tie f (x ∷ xs) a = (all_unmap (λ y. tie (f x) y ≡ false) f xs a.0, apart_unmap tie f xs a.1)
 
 -- ---- pairs of a key and a value
-
-equal_from : (o : Ordering) → is_eq o ≡ true → o ≡ Equal
-equal_from Less h = absurd cc
-equal_from Equal h = refl
-equal_from Greater h = absurd cc
 
 both : (a b : Bool) → T a → T b → T (a && b)
 both true b p q = q

@@ -11,6 +11,7 @@ use Rattle.std.proofs.lemmas.Bool.{cases_Bool}
 use Rattle.std.proofs.lemmas.Cmp.{int_cmp_total}
 use Rattle.std.proofs.lemmas.Map.Lookups.{exact_signed}
 use Rattle.std.proofs.lemmas.List.Sorted.{IsPermutation-map}
+use Rattle.cs_order.specs.Facts.{equal_from}
 use Rattle.sqlite.specs.Order.{Row, column}
 use Rattle.sqlite.specs.Query.{Output, output_cmp}
 use Rattle.sqlite.specs.Ops.{binary, is_true, from_truth}
@@ -32,11 +33,6 @@ use Rattle.cs_sql.proofs.StatementsLemmas.Meanings.{entries_in, in_range, listed
 use Rattle.cs_sql.proofs.StatementsLemmas.Answers.{passes_on, given, ordered_is}
 use Rattle.cs_sql.proofs.StatementsLemmas.Apart.{all_filter, apart_filter}
 use Rattle.cs_sql.proofs.StatementsLemmas.Orders.{Ascend, DontFall, all_map, all_permutation, apart_map, apart_permutation, ascends, find_permutation, pos_at_least, pos_less, rises, tied}
-
-equal_from : (o : Ordering) → is_eq o ≡ true → o ≡ Equal
-equal_from Less h = absurd cc
-equal_from Equal h = refl
-equal_from Greater h = absurd cc
 
 -- ---- versions
 

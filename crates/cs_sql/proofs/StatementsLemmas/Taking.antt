@@ -1,14 +1,13 @@
 -- Entries of the log that are read of rows, one after another.
 use Rattle.std.specs.Prelude.{◌↔◌}
 use Rattle.std.proofs.Common.{◌≡◌, inl, inr, ℕ, ◌+◌, ℤ, pos, List, [], ◌∷◌, ◌++◌, length, length-append, Bool, true, false, IsTrue, refl, sym, ap, subst, ◌∙◌, arith}
-use Rattle.std.specs.declared.cmp.Ordering.{Ordering}
-use Rattle.std.specs.declared.cmp.Ordering.TheVariants.{Less, Equal, Greater}
 use Rattle.std.specs.Ordering.{is_eq, int_cmp}
 use Rattle.std.specs.Cmp.{eq_by_cmp_equiv}
 use Rattle.std.proofs.lemmas.Bool.{cases_Bool}
 use Rattle.std.proofs.lemmas.Cmp.{int_cmp_total}
 use Rattle.std.proofs.lemmas.List.{append_assoc, map-append}
 use Rattle.std.proofs.lemmas.Map.Lookups.{exact_signed}
+use Rattle.cs_order.specs.Facts.{equal_from}
 use Rattle.sqlite.specs.Order.{Row, column}
 use Rattle.sqlite_value.specs.declared.value.Value.TheVariants.{Int}
 use Rattle.sqlite_value.specs.Order.{value_cmp}
@@ -18,11 +17,6 @@ use Rattle.cs_store.specs.Written.{item_of, items_of}
 use Rattle.cs_store.specs.declared.batch.StoredEntry.{StoredEntry}
 use Rattle.cs_sql.specs.declared.statements.reading.Entries.{Entries}
 use Rattle.cs_sql.specs.statements.Steps.{AreInTurn, AreTaken, is_shown_at, item_read, items_read}
-
-equal_from : (o : Ordering) → is_eq o ≡ true → o ≡ Equal
-equal_from Less h = absurd cc
-equal_from Equal h = refl
-equal_from Greater h = absurd cc
 
 shown_tie : (row : Row) (version : ℤ) (k : ℕ) → column row 3 ≡ Int version → is_shown_at k row ≡ is_eq (int_cmp version (pos k))
 shown_tie row version k is = (λ i. is_eq (value_cmp (is i) (Int (pos k)))) ∙ ap is_eq (value_cmp-Int version (pos k))

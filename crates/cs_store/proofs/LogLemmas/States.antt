@@ -11,7 +11,7 @@ use Rattle.cs_change.specs.Action.{action_any, after_any}
 use Rattle.cs_normal.specs.Normal.{change_of}
 use Rattle.cs_normal.specs.State.{State, left_at, IsApplied, AreApplied, AppliedIsNet, IsStateOf}
 use Rattle.cs_store.specs.log.Entry.{entry_changes}
-use Rattle.cs_store.specs.log.Laws.{LogIsApplied, LogStates, OneStateAVersion, Slices}
+use Rattle.cs_store.specs.log.Laws.{LogIsApplied, LogStates, OneStateAVersion, PlainSlices}
 use Rattle.cs_store.specs.log.Log.{IsLog, IsNextEntry, after_entry, empty_state, entries_between, state_of, tables_at}
 use Rattle.cs_store.specs.declared.log.entry.LogEntry.{LogEntry}
 use Rattle.cs_store.proofs.LogLemmas.Logs.{front_is_log}
@@ -75,8 +75,8 @@ split_at : (log : List LogEntry) (from to : ℕ) → from ≤ to → take from l
 split_at log from to within =
     ap (λ (l : List LogEntry). l ++ drop from (take to log)) (sym (first_of_first log from to within)) ∙ take-append-drop from (take to log)
 
-pub slices : Slices
-slices opening log from to each within =
+pub plain_slices : PlainSlices
+plain_slices opening log from to each within plain =
     let whole = split_at log from to within in
     let is : IsLog opening (take from log ++ entries_between log from to) = subst (λ (l : List LogEntry). IsLog opening l) (sym whole) (first_entries opening log to each) in
     subst (λ (l : List LogEntry). AreApplied opening (map entry_changes (entries_between log from to)) (tables_at log from) (state_of l)) whole

@@ -1,5 +1,5 @@
 -- An entry's changes, and how what it does is spelled. (Profile of this project.)
-use Rattle.std.specs.Prelude.{ℕ, List}
+use Rattle.std.specs.Prelude.{ℕ, List, Unit}
 use Rattle.cs_normal.specs.Normal.{normal_spelling}
 use Rattle.cs_normal.specs.declared.normal.TableChanges.{TableChanges}
 use Rattle.cs_store.specs.declared.log.body.Body.{Body}
@@ -12,6 +12,10 @@ changes_of_body (Changes changes) = changes
 
 abbrev pub entry_changes : LogEntry → List TableChanges
 entry_changes entry = changes_of_body entry.body
+
+-- a body that leaves the catalog as it is
+abbrev pub WidensNone : Body → Type 0
+WidensNone (Changes changes) = Unit
 
 -- the byte that tells the kind of body
 abbrev pub kind_of : Body → ℕ

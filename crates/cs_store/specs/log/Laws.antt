@@ -1,11 +1,11 @@
 -- The laws of logs.
-use Rattle.std.specs.Prelude.{◌≡◌, ◌⊎◌, ℕ, ◌≤◌, List, [], ◌∷◌, ◌++◌, length, map, take}
+use Rattle.std.specs.Prelude.{◌≡◌, ◌⊎◌, ℕ, ◌≤◌, List, All, [], ◌∷◌, ◌++◌, length, map, take}
 use Rattle.cs_value.specs.Catalog.{AreTables}
 use Rattle.cs_value.specs.declared.catalog.TableDef.{TableDef}
 use Rattle.cs_normal.specs.Normal.{IsNormalChangeset}
 use Rattle.cs_normal.specs.State.{State, AreApplied, AreSame, IsDefinedOn, IsStateOf}
 use Rattle.cs_normal.specs.declared.normal.TableChanges.{TableChanges}
-use Rattle.cs_store.specs.log.Entry.{changes_of_body, entry_changes}
+use Rattle.cs_store.specs.log.Entry.{WidensNone, changes_of_body, entry_changes}
 use Rattle.cs_store.specs.log.Log.{IsLog, IsNextEntry, catalog_at, empty_state, entries_between, state_of, tables_at}
 use Rattle.cs_store.specs.log.Stored.{AreChangesOf, stored_body}
 use Rattle.cs_store.specs.declared.log.body.Body.{Body}
@@ -43,13 +43,14 @@ OneStateAVersion =
     → AreApplied (catalog_at opening log version) (map entry_changes (take version log)) empty_state state
     → AreSame (tables_at log version) state
 
--- the entries between two versions lead from the tables at the first to those at the second
-abbrev pub Slices : Type 0
-Slices =
+-- the entries between two versions, where none widens a table, lead from the tables at the first to those at the second
+abbrev pub PlainSlices : Type 0
+PlainSlices =
     (opening : List TableDef) (log : List LogEntry) (from to : ℕ)
     → IsLog opening log
     → from ≤ to
-    → AreApplied (catalog_at opening log to) (map entry_changes (entries_between log from to))
+    → All (λ entry. WidensNone entry.body) (entries_between log from to)
+    → AreApplied (catalog_at opening log from) (map entry_changes (entries_between log from to))
     (tables_at log from) (tables_at log to)
 
 -- the state that a log makes is that of its changesets, each applied to what the earlier ones left

@@ -1,7 +1,7 @@
 //! The laws of logs, each the contract of a function that does nothing.
 
 ghost use Rattle.std.specs.Prelude.{◌≡◌};
-ghost use Rattle.cs_store.specs.log.Laws.{AppendedIsLog, DefinedOrNot, EmptyIsLog, FrontIsLog, LogIsApplied, LogStates, LongerLog, NextOrNot, OneBody, OneStateAVersion, Slices};
+ghost use Rattle.cs_store.specs.log.Laws.{AppendedIsLog, DefinedOrNot, EmptyIsLog, FrontIsLog, LogIsApplied, LogStates, LongerLog, NextOrNot, OneBody, OneStateAVersion, PlainSlices};
 ghost use Rattle.cs_store.specs.declared.log.entry.TheConstants.{MAX_CHANGESET, MAX_ENTRIES};
 
 use cs_changeset::laws::changesets;
@@ -44,10 +44,10 @@ pub fn one_state_a_version()
     ensures { OneStateAVersion }
 {}
 
-/// The entries between two versions lead from the tables at the one to those at the other: each is defined on what the
-/// earlier ones left.
-pub fn slices()
-    ensures { Slices }
+/// The entries between two versions, where none widens a table, lead from the tables at the one to those at the other: each is
+/// defined on what the earlier ones left.
+pub fn plain_slices()
+    ensures { PlainSlices }
 {}
 
 /// The state that a log makes is that of its entries, each applied to what the earlier ones left: each is defined there.

@@ -1,10 +1,10 @@
 use Rattle.std.proofs.Common.{◌≡◌, ◌<◌, ap, sym, subst, arith, length, List, [], Some, ◌∙◌}
 use Rattle.std.specs.declared.cmp.Ordering.TheVariants.{Equal}
 use Rattle.std.proofs.lemmas.List.{get_or_default}
+use Rattle.cs_order.specs.Facts.{equal_from}
 use Rattle.cs_store.specs.Contents.{StorePlace, place_cmp}
 use Rattle.cs_leaf.specs.Entries.{Entry, nth}
 use Rattle.cs_map_store.specs.Leaves.{nth_leaf}
-use Rattle.cs_map_store.proofs.Showing.{equal_from}
 use Rattle.cs_map_store.proofs.Leafing.{find_met}
 use Rattle.cs_map_store.proofs.leaves.row_if_at.Goals as goal
 

@@ -1,8 +1,8 @@
 use Rattle.std.proofs.Common.{◌≡◌, ◌<◌, false, Some, ap, sym, ◌∙◌, length, arith}
 use Rattle.std.specs.Ordering.{is_eq}
+use Rattle.cs_order.specs.Facts.{equal_from}
 use Rattle.cs_store.specs.Contents.{place_cmp}
 use Rattle.cs_leaf.specs.Entries.{nth}
-use Rattle.cs_leaf.proofs.Places.{equal_from}
 use Rattle.cs_leaf.proofs.Finding.{find_there, find_nothing}
 use Rattle.cs_leaf.proofs.leaf.Leaf.look_up.Goals as goal
 use Rattle.cs_leaf.proofs.leaf.Leaf.look_up.Goals.{else-at-len-via-then-at-len+else-is_eq, else-at-len-via-else-at-len}
