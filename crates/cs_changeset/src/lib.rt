@@ -4,6 +4,7 @@
 //! have one fault at one place. The crate stands on changes (`cs_change`), whose public items it hands on, and on
 //! records (`cs_record`).
 //! Its tests stand in `cs_changes_tests`.
+//! What names no section of SQLite's documentation is profile of this project.
 #![tactic(auto)]
 
 mod changes;

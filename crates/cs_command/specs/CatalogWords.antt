@@ -1,4 +1,4 @@
--- The table words of a command line (profile of this project).
+-- The table words of a command line.
 use Rattle.std.specs.Prelude.{◌≡◌, ℕ, ◌+◌, List, take}
 use Rattle.std.specs.List.{AllZip, HoldsAt}
 use Rattle.cs_value.specs.Catalog.{AreTables}

@@ -1,4 +1,4 @@
--- A table as a word of the command line: `NAME:MARKS` (profile of this project).
+-- A table as a word of the command line: `NAME:MARKS`.
 use Rattle.std.specs.Prelude.{◌≡◌, ℕ, Bool, true, false, List, ◌∷◌, ◌++◌, map, Some}
 use Rattle.cs_value.specs.declared.catalog.TableDef.{TableDef}
 use Rattle.cs_text.specs.parse.Texts.{text_in}

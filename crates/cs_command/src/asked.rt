@@ -9,7 +9,7 @@ use crate::number::number_in;
 use clap::ArgMatches;
 use cs_tools::{Form, Shown, Tool};
 
-/// What a command line asks for, beside its table words and lists of files. (Profile of this project.)
+/// What a command line asks for, beside its table words and lists of files.
 #[derive(Clone, Copy, Debug)]
 pub enum Asked<'a> {
     /// A hub.

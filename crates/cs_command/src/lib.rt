@@ -5,6 +5,7 @@
 //! that definition says (`wanted_in`); `catalog_of` that table words are the catalog that they spell, or which word is refused first
 //! (`specs/CatalogWords.antt`); `files_of` gives the files that are named. `laws` say that these are one, and what some command lines ask for, by computation.
 //! Its tests are runs of the built program: `bench/check_program.sh` and `bench/check_sessions.sh`.
+//! What names no section of SQLite's documentation is profile of this project.
 #![tactic(auto)]
 
 mod asked;

@@ -1,4 +1,4 @@
--- Closures that answer clashes (profile of this project). `calls` is what is known of calls of the closure.
+-- Closures that answer clashes. `calls` is what is known of calls of the closure.
 use Rattle.std.specs.Prelude.{◌≡◌}
 use Rattle.std.specs.Fn.{Mut, AlwaysReturns}
 use Rattle.std.specs.Borrow.{Bor}

@@ -1,4 +1,4 @@
--- What is wished at a clash, a conflict of another's change with an own one (profile of this project).
+-- What is wished at a clash, a conflict of another's change with an own one.
 use Rattle.std.specs.Prelude.{Bool, false}
 use Rattle.cs_conflict.specs.Lawful.{IsLawful}
 use Rattle.cs_conflict.specs.declared.kind.Kind.{Kind}

@@ -5,7 +5,7 @@ use crate::picker::Picker;
 use crate::wish::Wish;
 use std::marker::Model;
 
-/// Answers each clash as its closure does. Contracts see it as the closure. (Profile of this project.)
+/// Answers each clash as its closure does. Contracts see it as the closure.
 #[derive(Drop)]
 pub struct Chooser<F> {
     closure: F,

@@ -12,7 +12,7 @@ use cs_change::Change;
 use cs_record::{Cell, Record};
 
 /// Another's change that can't be made on the own row, beside the own change of its place. What the ghost fields say is so
-/// of each clash. (Profile of this project.)
+/// of each clash.
 #[derive(Drop)]
 pub struct Clash<'a> {
     /// The other's change, why it can't be made, and the own row or none.
@@ -47,7 +47,7 @@ fn touches_all(mine: &Record<'_>, theirs: &Record<'_>) -> bool
     true
 }
 
-/// Whether the local change touches each column that the remote one does. It takes no memory. (Profile of this project.)
+/// Whether the local change touches each column that the remote one does. It takes no memory.
 #[tactic(auto, unfolding(crate::specs::Lawful::covers))]
 pub fn covers(local: &Change<'_>, remote: &Change<'_>) -> bool
     ensures { result ≡ covers_of (action local.now) (action remote.now) }

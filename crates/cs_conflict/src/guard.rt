@@ -11,7 +11,6 @@ use std::marker::Model;
 
 /// Answers each clash as its closure does, made lawful: `Keep` where the own change doesn't cover the other's becomes
 /// `Take`, `Take` where there is no own row becomes `Keep`, and any other wish stands. Contracts see it as the closure.
-/// (Profile of this project.)
 #[derive(Drop)]
 pub struct Guard<F> {
     closure: F,

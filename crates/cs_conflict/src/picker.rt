@@ -5,7 +5,7 @@ ghost use Rattle.std.specs.Prelude.{◌≡◌};
 use crate::clash::Clash;
 use crate::wish::Wish;
 
-/// Answers clashes, each lawfully: so both sides converge. (Profile of this project.)
+/// Answers clashes, each lawfully: so both sides converge.
 pub trait Picker {
     ghost use Rattle.cs_conflict.specs.Wishes.{IsLawfulWish};
     ghost use Rattle.cs_conflict.specs.declared.clash.Clash.{Clash as Shown};

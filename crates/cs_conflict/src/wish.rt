@@ -5,7 +5,7 @@ ghost use Rattle.cs_conflict.specs.Wishes.{resolution_of};
 
 use crate::conflict::Resolution;
 
-/// What is wished at a clash, a conflict of another's change with an own one. (Profile of this project.)
+/// What is wished at a clash, a conflict of another's change with an own one.
 #[derive(Clone, Copy, Debug, PartialEq, Eq)]
 pub enum Wish {
     /// The own row stays: the conflict is answered `Omit`. It is lawful where the own change covers the other's.

@@ -5,6 +5,7 @@
 //! The crate stands on pending changes and positions (`cs_pending`), conflicts (`cs_conflict`), rebasing (`cs_rebaser`) and
 //! messages (`cs_wire`).
 //! Its tests stand in `cs_replica_tests`.
+//! What names no section of SQLite's documentation is profile of this project.
 #![tactic(auto)]
 
 pub mod pulling;

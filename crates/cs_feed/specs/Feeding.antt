@@ -1,4 +1,4 @@
--- What a feed tells, of the bytes that came (profile of this project).
+-- What a feed tells, of the bytes that came.
 use Rattle.std.specs.Prelude.{◌≡◌, ◌≢◌, ℕ, List, [], ◌++◌, Option, IfSome, OnSome, Result, Ok, Err}
 use Rattle.std.specs.Io.KnownBytes.{Consumes, IsAtEnd}
 use Rattle.cs_change.specs.declared.group.Group.{Group}

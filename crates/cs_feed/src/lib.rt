@@ -4,6 +4,7 @@
 //! read is not read again and memory is taken for bytes that came alone, of which no clause speaks. `read_pieces` carries the theorem of a
 //! whole run; `read_from` does the same over a reader, whose own buffer is what is pushed.
 //! The crate stands on the readers of headers, flags and columns of `cs_changeset`. Its tests stand in `cs_changes_tests`.
+//! What names no section of SQLite's documentation is profile of this project.
 #![tactic(auto)]
 
 mod changeset_buf;

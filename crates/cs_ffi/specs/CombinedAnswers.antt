@@ -1,4 +1,4 @@
--- What the library answers where it takes changesets together, or takes one back (profile of this project).
+-- What the library answers where it takes changesets together, or takes one back.
 use Rattle.std.specs.Prelude.{◌≡◌, ◌≢◌, ℕ, ◌+◌, ◌⊎◌, List, [], ◌∷◌, ◌++◌, length, map, sum, Result, Ok, Err}
 use Rattle.std.specs.Global.{Vec}
 use Rattle.std.specs.List.{flat_map, AllByRecursion}

@@ -1,4 +1,4 @@
--- What the library answers where it brings a changeset into normal form (profile of this project).
+-- What the library answers where it brings a changeset into normal form.
 use Rattle.std.specs.Prelude.{◌≡◌, ℕ, ◌≤◌, ◌⊎◌, List, [], ◌∷◌, length, Result, Ok, Err}
 use Rattle.cs_value.specs.declared.catalog.TableDef.{TableDef}
 use Rattle.cs_change.specs.declared.group.Group.{Group}

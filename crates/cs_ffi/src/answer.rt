@@ -36,7 +36,7 @@ const WRONG_SHAPE: u32 = 53;
 const KEY_ORDER: u32 = 54;
 
 /// What is told of bytes: the number of their fault, 0 where they were read; the offset of the fault in bytes from the
-/// front, or 0; and how much was read (changes) or is written (bytes), or 0 beside a fault. (Profile of this project.)
+/// front, or 0; and how much was read (changes) or is written (bytes), or 0 beside a fault.
 #[repr(C)]
 #[derive(Clone, Copy, Debug, PartialEq, Eq)]
 pub struct Answer {

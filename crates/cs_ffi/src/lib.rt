@@ -7,6 +7,7 @@
 //! local changeset over a rebase blob. Each tells the first fault, where it is one of the bytes its offset too, and reads
 //! nothing but the bytes that it is handed.
 //! Its tests are calls from C (`bench/check_ffi.sh`), also beside SQLite's own library (`bench/check_sqlite.sh`).
+//! What names no section of SQLite's documentation is profile of this project.
 #![tactic(auto)]
 
 mod answer;

@@ -7,6 +7,7 @@
 //! it; `write_hex_line` writes bytes as one line without taking memory, and holds nothing of it
 //! back, and `write_text` a text. `LineInput` and `LineOutput` say what a reader and a writer owe for that.
 //! Its tests stand in `cs_bytes_tests`.
+//! What names no section of SQLite's documentation is profile of this project.
 #![tactic(auto)]
 
 pub mod laws;

@@ -25,7 +25,7 @@ pub enum LineRead {
 /// A line ends by a line feed; a last line without one counts where it has bytes. Where memory
 /// runs out, the rest of the line is skipped without asking for more, so that the next read begins
 /// at the next line. Any other failure of the reader is handed on; what was read by then is of this
-/// line. (Profile of this project.)
+/// line.
 pub fn read_line<R: LineInput>(reader: &mut R, line: &mut Vec<u8>) -> io::Result<LineRead>
     ensures read { IfOk result (λ read.
         HasRead read (R.remaining reader.old) (R.remaining reader.new) line.new.items) }

@@ -46,7 +46,7 @@ pub(crate) fn write_reply<W: LineOutput>(writer: &mut W, reply: &Reply) -> io::R
 /// Writes bytes as a line of lower case hex digits, and sends it.
 ///
 /// The digits go through a fixed buffer, so it takes no memory of its own. Where a write or flush
-/// fails, the writer holds a front of the line. (Profile of this project.)
+/// fails, the writer holds a front of the line.
 pub fn write_hex_line<W: LineOutput>(writer: &mut W, bytes: &[u8]) -> io::Result<()>
     ensures written { OnOk result (Appends (W.contents writer.old) (W.contents writer.new) (hex_line bytes.now)) }
     ensures sent { OnOk result (W.sent writer.new) }

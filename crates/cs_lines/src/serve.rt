@@ -54,7 +54,7 @@ pub(crate) enum Turn {
 ///
 /// A line of hex digits of either case is a request, the empty line the empty one. A line that is
 /// no hex is answered `1316`. A line for which memory runs out is answered `1301`, and the server
-/// is then as it was; the next line is read as ever. (Profile of this project.)
+/// is then as it was; the next line is read as ever.
 pub fn serve_lines<S: Serve, R: LineInput, W: LineOutput>(
     alloc: Global,
     server: &mut S,

@@ -5,6 +5,7 @@
 //! version alone. The crate stands on leaves of bodies (`cs_leaf`), on edits (`cs_store::edits`), on `cs_store`, on the order of keys
 //! (`cs_order`) and on catalogs (`cs_value`).
 //! Its tests stand in `cs_stores_tests`.
+//! What names no section of SQLite's documentation is profile of this project.
 #![tactic(auto)]
 
 mod anew;

@@ -30,7 +30,6 @@ use std::marker::Model;
 /// come to be of rows that are gone, is made anew, so no leaf's bytes are more than twice those of its rows. Its log lies in
 /// chunks of 256 entries, each with one list for all bodies, so that beside its bytes an entry takes 24 more, but in the last
 /// chunk. It has at most 4,294,967,295 entries; a commit of one more answers `Memory`.
-/// (Profile of this project.)
 #[derive(Drop)]
 pub struct MapStore {
     alloc: Global,

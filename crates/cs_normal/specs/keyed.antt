@@ -6,3 +6,4 @@ pub mod Laws
 pub mod NormalForm
 pub mod Prepared
 pub mod Steps
+pub mod Updates

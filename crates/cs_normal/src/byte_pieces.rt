@@ -14,7 +14,7 @@ use std::mem;
 const PIECE: usize = 0x10_0000;
 
 /// Bytes in pieces, of which the last one grows, for a result that is long and goes to somebody else's memory in the end. Contracts see
-/// the list of all. (Profile of this project.)
+/// the list of all.
 #[derive(Drop)]
 pub struct BytePieces {
     full: Vec<Vec<u8>>,

@@ -1,4 +1,4 @@
--- The code by which programs tell why a changeset has no normal form. (Profile of this project.)
+-- The code by which programs tell why a changeset has no normal form.
 use Rattle.std.specs.Prelude.{ℕ}
 use Rattle.cs_normalising.specs.declared.unfit.Unfit.{Unfit}
 use Rattle.cs_normalising.specs.declared.unfit.Unfit.TheVariants.{Memory, UnknownTable, Shape, NullKey, KeyTwice}

@@ -5,6 +5,7 @@
 //! each is asked for. `laws` says that a normal form means what was read, over whole states too, that there is one, also when it is
 //! read again, and that a changeset fits or has one fault.
 //! Its tests stand in `cs_changes_tests`.
+//! What names no section of SQLite's documentation is profile of this project.
 #![tactic(auto)]
 
 mod groups;

@@ -27,7 +27,7 @@ pub enum Unfit {
 }
 
 impl Unfit {
-    /// The code by which programs tell the reason: 30 to 33, and 1 for want of memory. (Profile of this project.)
+    /// The code by which programs tell the reason: 30 to 33, and 1 for want of memory.
     pub fn code(self) -> u8
         ensures { result ≡ unfit_code self }
     {

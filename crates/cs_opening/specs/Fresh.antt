@@ -1,4 +1,4 @@
--- The first position of a replica, over a store that held nothing (profile of this project).
+-- The first position of a replica, over a store that held nothing.
 use Rattle.std.specs.Prelude.{◌≡◌, ◌≢◌, ◌⊎◌, ℕ, List, Option, Some, None}
 use Rattle.cs_value.specs.declared.catalog.TableDef.{TableDef}
 use Rattle.cs_store.specs.Contents.{Contents, nothing}

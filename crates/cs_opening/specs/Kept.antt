@@ -1,4 +1,4 @@
--- What the values that a store keeps of a replica are read as (profile of this project).
+-- What the values that a store keeps of a replica are read as.
 use Rattle.std.specs.Prelude.{◌≡◌, ◌≤◌, ℕ, List, length, IsUtf8}
 use Rattle.std.specs.List.{AllByRecursion}
 use Rattle.cs_value.specs.Catalog.{AreTables}

@@ -1,4 +1,4 @@
--- Opening a replica over any store (profile of this project).
+-- Opening a replica over any store.
 use Rattle.std.specs.Prelude.{◌≡◌, ◌≢◌, ◌⊎◌, ℕ, List}
 use Rattle.cs_value.specs.declared.catalog.TableDef.{TableDef}
 use Rattle.cs_store.specs.Contents.{Contents, meta_value, nothing}

@@ -1,4 +1,4 @@
--- Whose store it is, by the values `id` and `catalog` (profile of this project).
+-- Whose store it is, by the values `id` and `catalog`.
 use Rattle.std.specs.Prelude.{◌≡◌, ℕ, List, length, Option, Some, None}
 use Rattle.cs_value.specs.declared.catalog.TableDef.{TableDef}
 use Rattle.cs_wire.specs.Numbers.{four_bytes}

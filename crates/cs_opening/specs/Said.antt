@@ -1,4 +1,4 @@
--- Where the values of a store say that a replica stands (profile of this project).
+-- Where the values of a store say that a replica stands.
 use Rattle.std.specs.Prelude.{◌≡◌, ◌≤◌, ℕ, List, Option, Some, None}
 use Rattle.cs_value.specs.declared.catalog.TableDef.{TableDef}
 use Rattle.cs_normal.specs.declared.normal.TableChanges.{TableChanges}

@@ -8,7 +8,7 @@ use cs_store::StoreFault;
 use std::alloc::{AllocError, AllocFailed};
 use thiserror::Error;
 
-/// Why a store isn't opened. Nothing has changed then. The text is the name that programs print. (Profile of this project.)
+/// Why a store isn't opened. Nothing has changed then. The text is the name that programs print.
 #[derive(Clone, Copy, Debug, PartialEq, Eq, Error)]
 pub enum OpenFault {
     /// Memory was refused. It may come before any other fault.

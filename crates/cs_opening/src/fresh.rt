@@ -26,7 +26,7 @@ fn no_tables(alloc: Global) -> Catalog
     }
 }
 
-/// Whether none of these names has a value. (Profile of this project.)
+/// Whether none of these names has a value.
 pub fn have_none<S: RowStore>(store: &mut S, names: &[MetaName]) -> Result<bool, StoreFault>
     ensures reads { ReadsStore S.RowStore Device (Unit {0}) store.old store.new result }
     ensures found { S.honest store.new → IfOk result (λ none.
@@ -45,7 +45,7 @@ pub fn have_none<S: RowStore>(store: &mut S, names: &[MetaName]) -> Result<bool,
     }
 }
 
-/// Whether the store holds nothing: no row, no pending change, no value, no entry. (Profile of this project.)
+/// Whether the store holds nothing: no row, no pending change, no value, no entry.
 pub fn holds_nothing<S: RowStore>(alloc: Global, store: &mut S) -> Result<bool, StoreFault>
     ensures reads { ReadsStore S.RowStore Device (Unit {0}) store.old store.new result }
     ensures nothing { S.honest store.new → IfOk result (λ is. IsTrue is ↔ (S.contents store.old ≡ nothing)) }

@@ -5,6 +5,7 @@
 //! (`cs_store`). `laws` says that what a store held has one position or one fault.
 //! `moving` opens also a store of an older form, and `copying` serves it.
 //! Its tests stand in `cs_replica_tests`.
+//! What names no section of SQLite's documentation is profile of this project.
 #![tactic(auto)]
 
 pub mod copying;

@@ -147,8 +147,7 @@ fn open_there<S: RowStore>(
 
 /// Opens a store for the replica with this id and these tables, and answers its position. A store that holds nothing is laid out, in
 /// one commit, and its position is the first; any other is only read, and opened where all that it holds is that of this
-/// replica at one position. Each row is read once, and again where a change of it is pending or under way. (Profile of this
-/// project.)
+/// replica at one position. Each row is read once, and again where a change of it is pending or under way.
 ///
 /// # Errors
 ///

@@ -14,7 +14,7 @@ use cs_store::{MetaName, RowStore, StoreFault};
 use cs_value::{Catalog, Memory};
 use std::alloc::Global;
 
-/// Whose store it is, a replica's or a hub's, by the values `id` and `catalog`. (Profile of this project.)
+/// Whose store it is, a replica's or a hub's, by the values `id` and `catalog`.
 #[derive(Clone, Copy, Debug, PartialEq, Eq)]
 pub enum Owner {
     /// That of the replica with this id and these tables, or of the hub with these tables, which has no id.
@@ -25,7 +25,7 @@ pub enum Owner {
     Unreadable,
 }
 
-/// Whether there is no id, or four bytes. (Profile of this project.)
+/// Whether there is no id, or four bytes.
 pub fn reads_id(value: &Option<Vec<u8>>) -> bool
     ensures { IsTrue result ↔ IsIdOrNone (optional_bytes value.now) }
 {
@@ -35,7 +35,7 @@ pub fn reads_id(value: &Option<Vec<u8>>) -> bool
     }
 }
 
-/// Whether the value is headers of tables of which there is a catalog. (Profile of this project.)
+/// Whether the value is headers of tables of which there is a catalog.
 pub fn reads_tables(alloc: Global, value: &Option<Vec<u8>>) -> Result<bool, Memory>
     ensures { IfOk result (λ reads. IsTrue reads ↔ TellsTables (optional_bytes value.now)) }
 {
@@ -46,7 +46,7 @@ pub fn reads_tables(alloc: Global, value: &Option<Vec<u8>>) -> Result<bool, Memo
     Ok(read.is_some())
 }
 
-/// Whether the value is these bytes. (Profile of this project.)
+/// Whether the value is these bytes.
 pub fn is_value(value: &Option<Vec<u8>>, bytes: &[u8]) -> bool
     ensures { IsTrue result ↔ (optional_bytes value.now ≡ Some bytes.now) }
 {
@@ -84,7 +84,6 @@ fn owner_of(
 }
 
 /// Whose store it is: that of the replica with this id and these tables, another's, or one of which that can't be read.
-/// (Profile of this project.)
 pub(crate) fn owner_of_store<S: RowStore>(
     alloc: Global,
     store: &mut S,

@@ -29,7 +29,7 @@ fn are_same(some: &[u8], other: &[u8]) -> bool
     some == other
 }
 
-/// The number that is these eight bytes, the high byte first, if they are eight. (Profile of this project.)
+/// The number that is these eight bytes, the high byte first, if they are eight.
 pub(crate) fn number_in(bytes: &[u8]) -> Option<u64>
     ensures found { IfSome result (λ number. bytes.now ≡ eight_bytes number) }
     ensures only { (number : ℕ) → number < 2 ^ 64 → bytes.now ≡ eight_bytes number → result ≡ Some number }
@@ -55,7 +55,7 @@ fn put_tables(alloc: Global, groups: &[Group<'_>], tables: &mut Vec<TableDef>) -
     Ok(())
 }
 
-/// The tables whose headers these bytes are, one behind another, if there is a catalog of them. (Profile of this project.)
+/// The tables whose headers these bytes are, one behind another, if there is a catalog of them.
 pub(crate) fn catalog_in(alloc: Global, bytes: &[u8]) -> Result<Option<Catalog>, Memory>
     ensures found { IfOk result (λ read. IfSome read (IsCatalogValue bytes.now)) }
     ensures only { (tables : List OneTable) → IsCatalogValue bytes.now tables → IfOk result (λ read. read ≡ Some tables) }
@@ -88,7 +88,7 @@ fn changes_of(body: Body) -> Normal
 }
 
 /// The changes of the push with this number that these bytes are, if they are those of one: the number in eight bytes, and a
-/// changeset of the tables in normal form of at most `MAX_CHANGESET` bytes. (Profile of this project.)
+/// changeset of the tables in normal form of at most `MAX_CHANGESET` bytes.
 pub(crate) fn flight_in(
     alloc: Global,
     catalog: &Catalog,

@@ -1,4 +1,4 @@
--- Edits, as an application asks for them: what each leaves, or the first fault that holds (profile of this project).
+-- Edits, as an application asks for them: what each leaves, or the first fault that holds.
 use Rattle.std.specs.Prelude.{◌≡◌, ◌⊎◌, ℕ, suc, nat_eq, Bool, true, not, ◌&&◌, ◌∷◌, [], if◌then◌else◌, List, Option, Some, None, Result, Ok, Err, length}
 use Rattle.std.specs.List.{list_all, AllByRecursion}
 use Rattle.std.specs.Str.{bytes_eq}

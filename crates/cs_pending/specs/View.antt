@@ -1,4 +1,4 @@
--- Rows, and the changes of them that are pending (profile of this project).
+-- Rows, and the changes of them that are pending.
 use Rattle.std.specs.Prelude.{ℕ, false, List, Option, Some, None, if◌then◌else◌}
 use Rattle.cs_value.specs.Key.{Place}
 use Rattle.cs_value.specs.Same.{same_place}

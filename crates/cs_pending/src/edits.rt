@@ -201,7 +201,7 @@ pub fn insert_row<S: RowStore>(
 
 /// Puts fields into the row with a key, in the table of a name, where `pending` changes are pending. A field that is undefined stays
 /// as it is. It answers how many changes are pending then; fields that change nothing write nothing. The first fault that
-/// holds is told: `NoTable`, `Width` (of key or fields), `NullKey`, `KeyColumn`, `Missing`. (Profile of this project.)
+/// holds is told: `NoTable`, `Width` (of key or fields), `NullKey`, `KeyColumn`, `Missing`.
 // Seven parameters: those of `insert_row`, with a key and fields in place of the row.
 pub fn update_row<S: RowStore>(
     alloc: Global,
@@ -256,7 +256,7 @@ pub fn update_row<S: RowStore>(
 }
 
 /// Takes away the row with a key, in the table of a name, where `pending` changes are pending. It answers how many changes are
-/// pending then. The first fault that holds is told: `NoTable`, `Width`, `NullKey`, `Missing`. (Profile of this project.)
+/// pending then. The first fault that holds is told: `NoTable`, `Width`, `NullKey`, `Missing`.
 // Six parameters: those of `insert_row`, with a key in place of the row.
 pub fn delete_row<S: RowStore>(
     alloc: Global,

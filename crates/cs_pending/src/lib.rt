@@ -7,6 +7,7 @@
 //! The crate stands on stores (`cs_store`), on net changes (`cs_change::netting`) and on the places of tables (`cs_apply`). `rows` lists rows, `position` is where a
 //! replica stands, `outgoing` what is pending as a changeset. `laws` says
 //! that a store shows one view, and that an edit leads to one view or has one fault. Its tests stand in `cs_stores_tests`.
+//! What names no section of SQLite's documentation is profile of this project.
 #![tactic(auto)]
 
 mod editing;

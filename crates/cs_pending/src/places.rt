@@ -15,7 +15,7 @@ use cs_record::{RecordBuf, Row, RowBuf};
 use cs_value::{Memory, TableDef};
 use std::alloc::Global;
 
-/// The row or none, where it stands. (Profile of this project.)
+/// The row or none, where it stands.
 pub fn lent(row: &Option<RowBuf>) -> Option<Row<'_>>
     ensures { result ≡ row.now }
 {
@@ -25,7 +25,7 @@ pub fn lent(row: &Option<RowBuf>) -> Option<Row<'_>>
     }
 }
 
-/// A row or none, in memory of its own. (Profile of this project.)
+/// A row or none, in memory of its own.
 pub fn copied(alloc: Global, row: Option<&Row<'_>>) -> Result<Option<RowBuf>, Memory>
     ensures { IfOk result (λ copied. copied ≡ option_copied row.entry) }
 {
@@ -65,7 +65,7 @@ pub(crate) fn are_same(some: Option<&Row<'_>>, other: Option<&Row<'_>>) -> bool
     }
 }
 
-/// What a place held before a change that left this there. (Profile of this project.)
+/// What a place held before a change that left this there.
 #[tactic(auto, unfolding(crate::specs::View::undo))]
 pub fn undone(
     alloc: Global,

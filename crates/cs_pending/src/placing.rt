@@ -23,8 +23,7 @@ use cs_store::{RowStore, StoreFault, mark_bytes, whole_row};
 use cs_value::{Catalog, TableDef};
 use std::alloc::Global;
 
-/// What stands at a place, and what stood there before the change that is pending. Where none is pending, they are the same. (Profile
-/// of this project.)
+/// What stands at a place, and what stood there before the change that is pending. Where none is pending, they are the same.
 #[derive(Drop)]
 pub struct Standing {
     /// The row that stands there, if there is one.
@@ -157,8 +156,7 @@ pub(crate) fn found_at<S: RowStore>(
 }
 
 /// What stands at the place of a table, by the table's number in the catalog and the bytes of the key, and what stood there before
-/// what is pending. What the store has there that is no row or no change of the table is told to the store. (Profile of this
-/// project.)
+/// what is pending. What the store has there that is no row or no change of the table is told to the store.
 // Six parameters: allocator and store, the catalog for the clauses, and the place in three parts: the table stands in the catalog, and the
 // store is asked by its number and the key.
 pub fn standing_at<S: RowStore>(

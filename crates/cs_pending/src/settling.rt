@@ -21,7 +21,7 @@ use cs_value::{Memory, TableDef};
 use std::alloc::{AllocError, Global};
 
 /// Edits of rows and of pending changes in the making, place by place, for one commit; and how many changes are pending after
-/// them. (Profile of this project.)
+/// them.
 #[derive(Drop)]
 pub struct Settling {
     /// Edits of rows, in order.

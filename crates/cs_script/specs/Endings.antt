@@ -1,4 +1,4 @@
--- How a script ends (profile of this project): what is written of it, or why nothing is.
+-- How a script ends: what is written of it, or why nothing is.
 use Rattle.std.specs.Prelude.{◌≡◌, ℕ, List, ◌++◌, Option, Result, Ok, Err, ⊤, length}
 use Rattle.std.specs.Io.KnownBytes.{Appends, Keeps}
 use Rattle.cs_store.specs.declared.log.entry.TheConstants.{MAX_ENTRIES}

@@ -12,7 +12,7 @@ use cs_value::{Catalog, Items, Memory};
 use cs_world::{Event, WishList};
 use std::alloc::Global;
 
-/// The event that a line names, without its line feed, if it names one. (Profile of this project.)
+/// The event that a line names, without its line feed, if it names one.
 pub fn read_event(alloc: Global, catalog: &Catalog, line: &[u8]) -> Result<Option<Event>, Memory>
     ensures { IfOk result (λ found. found ≡ event_in catalog.now line.now) }
 {

@@ -6,7 +6,7 @@ ghost use Rattle.cs_script.specs.declared.fault.ScriptFault.TheVariants.{Memory 
 use std::alloc::{AllocError, AllocFailed};
 use thiserror::Error;
 
-/// Why a script ended before its text was written whole. The text is what is told of it behind `sync: `. (Profile of this project.)
+/// Why a script ended before its text was written whole. The text is what is told of it behind `sync: `.
 #[derive(Debug, Drop, Error)]
 pub enum ScriptFault {
     #[error("Memory")]

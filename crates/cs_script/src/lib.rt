@@ -4,6 +4,7 @@
 //! is written; else what is written is the text of a run, step by step, of a new world in memory, and of the world at its end, which has the
 //! headline of `cs_world`. The crate stands on `cs_world`, on `cs_text::parse` for the words of a line, on `cs_node_lines::told` and `cs_text` for what is
 //! printed, and on `cs_lines` for its lines. Its tests stand in `cs_world_tests`.
+//! What names no section of SQLite's documentation is profile of this project.
 #![tactic(auto)]
 
 mod dumping;

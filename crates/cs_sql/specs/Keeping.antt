@@ -1,4 +1,4 @@
--- A store over a connection (profile of this project).
+-- A store over a connection.
 use Rattle.std.specs.Prelude.{◌≡◌, ◌⊎◌, ℕ, Bool, ◌≤◌, ◌+◌, Option, Some, None, false, IsTrue, refl}
 use Rattle.std.specs.Coded.{Coded, code_by, coded×, coded_ℕ, coded_bool}
 use Rattle.sqlite.specs.Store.{Ghosts}

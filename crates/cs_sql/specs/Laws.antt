@@ -1,5 +1,5 @@
 -- The laws of a store in SQLite: what it holds where it is made over a database is one, what a database is found to be is one, and
--- what a stop leaves of a store opens as one (profile of this project).
+-- what a stop leaves of a store opens as one.
 use Rattle.std.specs.Prelude.{◌≡◌}
 use Rattle.sqlite.specs.Effect.{Database, IsDatabase}
 use Rattle.sqlite.specs.Store.{Ghosts}

@@ -1,4 +1,4 @@
--- A store in the files at a path (profile of this project).
+-- A store in the files at a path.
 use Rattle.std.specs.Prelude.{◌≡◌, ◌≢◌, ◌⊎◌, Option, None, Result, IsTrue, IfErr, IfSome}
 use Rattle.sqlite.specs.Held.{Held, IsNew}
 use Rattle.sqlite.specs.Files.{FailsToOpenFiles, IsCleanLeft, IsOpened, file_state, over_files}

@@ -5,6 +5,7 @@
 //! then holds is one, and that whatever a stop leaves of a store opens as one that holds what was left. `schema` has the tables, `statements` what is read and
 //! written of them. The crate stands on what stores owe (`cs_store`) and on `sqlite`.
 //! Its tests stand in `cs_sqlite_tests`.
+//! What names no section of SQLite's documentation is profile of this project.
 #![tactic(auto)]
 
 pub mod laws;

@@ -31,7 +31,7 @@ use std::snapshot::Snapshot;
 
 /// A store of rows, pending changes, values and a log in the tables of a connection of `sqlite`. Each commit is one
 /// transaction, whatever the batch. A call of `sqlite` that fails for another reason than want of memory is counted as a
-/// failure of the device. (Profile of this project.)
+/// failure of the device.
 #[derive(Drop)]
 pub struct SqlStore<A: Alter> {
     conn: Connection<A>,
@@ -79,7 +79,7 @@ fn entries_with(entries: u32, batch: &Batch) -> Option<u32>
 }
 
 impl SqlStore<MemStore> {
-    /// A store in memory that holds nothing. (Profile of this project.)
+    /// A store in memory that holds nothing.
     ///
     /// # Errors
     ///
@@ -164,7 +164,7 @@ impl<A: Alter> SqlStore<A> {
     }
 
     /// A store over a connection that the caller opened and that is in no transaction. It holds what the connection shows; a
-    /// database without a table gets the store's, and one that has all but `pending` gets that. (Profile of this project.)
+    /// database without a table gets the store's, and one that has all but `pending` gets that.
     ///
     /// # Errors
     ///
@@ -203,7 +203,7 @@ impl<A: Alter> SqlStore<A> {
         let _ = &self.conn;
     }
 
-    /// The connection, as it is. (Profile of this project.)
+    /// The connection, as it is.
     pub fn close(self) -> Connection<A>
         ensures same { result ≡ self.conn }
         ensures opens { HasCleanDisk (state A.Store result) → LeavesStore (state A.Store result) }
@@ -213,7 +213,7 @@ impl<A: Alter> SqlStore<A> {
 }
 
 impl<S: Start> SqlStore<FileStore<FileFrom<S>>> {
-    /// A store in the file at a path, as `sqlite`'s `open_from` opens it and `adopt` takes it. (Profile of this project.)
+    /// A store in the file at a path, as `sqlite`'s `open_from` opens it and `adopt` takes it.
     ///
     /// # Errors
     ///

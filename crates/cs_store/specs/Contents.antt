@@ -1,4 +1,4 @@
--- What a store holds, whatever it is kept in (profile of this project).
+-- What a store holds, whatever it is kept in.
 use Rattle.std.specs.Prelude.{◌≡◌, ◌<◌, ◌+◌, refl, ℕ, zero, suc, ℤ, pos, T, List, [], ◌∷◌, Option, Some, None, IsSome, codes}
 use Rattle.std.specs.Coded.{Coded, code_by, coded×, coded_list, coded_ℕ, coded_ℤ}
 use Rattle.std.specs.declared.cmp.Ordering.{Ordering}

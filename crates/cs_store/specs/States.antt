@@ -1,4 +1,4 @@
--- The rows of tables in a store (profile of this project).
+-- The rows of tables in a store.
 use Rattle.std.specs.Prelude.{◌≡◌, ◌≢◌, ◌<◌, ℕ, List, ◌++◌, length, map, option_map, Option, Some, None, slice_get, All}
 use Rattle.std.specs.Int.{to_be_bytes, w32}
 use Rattle.std.specs.List.Sorted.{IsStrictlySortedBy}

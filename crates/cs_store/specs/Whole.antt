@@ -1,4 +1,4 @@
--- Whether what a store holds is what its places say (profile of this project).
+-- Whether what a store holds is what its places say.
 use Rattle.std.specs.Prelude.{◌≡◌, ℕ, ℤ, pos, true, List, Some, slice_get}
 use Rattle.std.specs.FinMap.{get}
 use Rattle.cs_value.specs.declared.catalog.TableDef.{TableDef}

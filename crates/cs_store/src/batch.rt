@@ -3,7 +3,7 @@
 use crate::MetaName;
 use crate::edits::PlaceEdits;
 
-/// A value that is set, or with no value removed. (Profile of this project.)
+/// A value that is set, or with no value removed.
 #[derive(Debug, Drop)]
 pub struct MetaEdit {
     /// Which value.
@@ -12,7 +12,7 @@ pub struct MetaEdit {
     pub value: Option<Vec<u8>>,
 }
 
-/// An entry of the log, in the parts that a file has as columns. (Profile of this project.)
+/// An entry of the log, in the parts that a file has as columns.
 #[derive(Debug, Drop)]
 pub struct StoredEntry {
     /// The id of the replica whose push it is.
@@ -23,8 +23,7 @@ pub struct StoredEntry {
     pub body: Vec<u8>,
 }
 
-/// What one commit writes. A place or a name that stands in several edits gets what the last of them says. (Profile of this
-/// project.)
+/// What one commit writes. A place or a name that stands in several edits gets what the last of them says.
 #[derive(Debug, Drop)]
 pub struct Batch {
     /// Edits of rows, in order. Each body is a row.

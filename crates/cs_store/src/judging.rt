@@ -78,7 +78,7 @@ fn is_change_of(alloc: Global, table: &TableDef, key: &[u8], body: &[u8]) -> Res
     Ok(is)
 }
 
-/// Whether the bytes spell a row of the catalog's table with this number, at its own key. (Profile of this project.)
+/// Whether the bytes spell a row of the catalog's table with this number, at its own key.
 pub fn is_row(
     alloc: Global,
     catalog: &Catalog,
@@ -95,7 +95,7 @@ pub fn is_row(
     Ok(is)
 }
 
-/// Whether the bytes spell a change of the catalog's table with this number, at its own key. (Profile of this project.)
+/// Whether the bytes spell a change of the catalog's table with this number, at its own key.
 pub fn is_change(
     alloc: Global,
     catalog: &Catalog,
@@ -112,14 +112,14 @@ pub fn is_change(
     Ok(is)
 }
 
-/// Whether the bytes are those that the body of an entry of the catalog's tables is stored as. (Profile of this project.)
+/// Whether the bytes are those that the body of an entry of the catalog's tables is stored as.
 pub fn is_body(alloc: Global, catalog: &Catalog, bytes: &[u8]) -> Result<bool, Memory>
     ensures { IfOk result (λ is. IsTrue is ↔ StoresBody catalog.now bytes.now) }
 {
     is_stored_body(alloc, catalog, bytes)
 }
 
-/// Whether the bytes are the text of a name. (Profile of this project.)
+/// Whether the bytes are the text of a name.
 pub fn is_name(bytes: &[u8]) -> bool
     ensures { IsTrue result ↔ IsName bytes.now }
 {

@@ -9,6 +9,7 @@
 //! and a commit have one answer, what a commit leaves at each place, how calls follow one another, and that a store holds
 //! one state of the tables.
 //! Its tests stand in `cs_stores_tests`.
+//! What names no section of SQLite's documentation is profile of this project.
 #![tactic(auto)]
 
 mod batch;

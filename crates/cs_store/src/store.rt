@@ -10,7 +10,7 @@ ghost use Rattle.cs_store.specs.declared.fault.StoreFault.TheVariants.{Device};
 use crate::{Batch, MetaName, StoreFault, StoredEntry};
 use cs_value::Catalog;
 
-/// A body behind the bytes of its key: a row, or a pending change. (Profile of this project.)
+/// A body behind the bytes of its key: a row, or a pending change.
 #[derive(Debug, Drop)]
 pub struct StoredBody {
     /// The bytes of the key.
@@ -19,8 +19,8 @@ pub struct StoredBody {
     pub body: Vec<u8>,
 }
 
-/// A store of rows, of pending changes at the places of their rows, of values by name and of a log, in bytes. (Profile of
-/// this project.) Reads take `&mut self`, since a device's failure raises `failures`. What a call says of contents it says
+/// A store of rows, of pending changes at the places of their rows, of values by name and of a log, in bytes. Reads take
+/// `&mut self`, since a device's failure raises `failures`. What a call says of contents it says
 /// where the store is honest as the call ends, and a store that is honest then was so before.
 ///
 /// # Errors

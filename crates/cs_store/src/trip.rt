@@ -11,7 +11,7 @@ ghost use Rattle.cs_store.specs.declared.fault.StoreFault.TheVariants.{Device};
 use crate::{Batch, MetaName, RowStore, StoreFault, StoredBody, StoredEntry};
 use cs_value::Catalog;
 
-/// How much commits that succeeded have written. Each count stays at 18,446,744,073,709,551,615. (Profile of this project.)
+/// How much commits that succeeded have written. Each count stays at 18,446,744,073,709,551,615.
 #[derive(Clone, Copy, Debug, PartialEq, Eq)]
 pub struct Written {
     /// Edits of rows.
@@ -53,7 +53,7 @@ impl Written {
 
 /// A store for tests, also of the crates above. It passes so many calls on, answers the next one `Device` with nothing
 /// changed, and passes on again. `misread` and `failures` are passed on always, and aren't counted among the calls. It counts
-/// what commits that succeed write. (Profile of this project.)
+/// what commits that succeed write.
 #[derive(Drop)]
 pub struct Trip<S> {
     /// The store that is asked.

@@ -6,8 +6,7 @@ ghost use Rattle.cs_tasks.specs.declared.fault.TasksFault.TheVariants.{Memory};
 use std::alloc::{AllocError, AllocFailed};
 use thiserror::Error;
 
-/// Why it isn't said which changes of a changeset are applied. The text is the name that programs print. (Profile of this
-/// project.)
+/// Why it isn't said which changes of a changeset are applied. The text is the name that programs print.
 #[derive(Clone, Copy, Debug, PartialEq, Eq, Error)]
 pub enum TasksFault {
     /// Memory was refused. It may come before the other fault.

@@ -6,6 +6,7 @@
 //! that a change has NULL at a key column; `count_of` says how many changes of a group are applied. `BlobBuf` takes the answers to the
 //! conflicts of a group one after another, and group after group, and is the blob of these. `laws` says that a blob goes group by
 //! group, and that the reader of blobs takes it. Its tests stand in `cs_operations_tests`.
+//! What names no section of SQLite's documentation is profile of this project.
 #![tactic(auto)]
 
 mod blob;

@@ -5,6 +5,7 @@
 //! ensures it where it succeeds. The text is a format of this project, described in docs/FORMATS.md.
 //! `parse` reads what the words of a line spell.
 //! Its texts are compared by `bench/check_tools.sh`.
+//! What names no section of SQLite's documentation is profile of this project.
 #![tactic(auto)]
 
 mod blobs;

@@ -1,4 +1,4 @@
--- How a tool ends (profile of this project): which text it owes for an input, why it owes none, and what it has written.
+-- How a tool ends: which text it owes for an input, why it owes none, and what it has written.
 use Rattle.std.specs.Prelude.{◌≡◌, ◌⊎◌, ℕ, List, Option, Result, Ok, Err, ⊤}
 use Rattle.std.specs.Io.KnownBytes.{Appends, Keeps}
 use Rattle.cs_blob.specs.Reading.{IsBlobFault}

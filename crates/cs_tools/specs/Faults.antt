@@ -1,4 +1,4 @@
--- Why a tool ends early (profile of this project): what is wrong with one line, and how the faults of the crates below are told.
+-- Why a tool ends early: what is wrong with one line, and how the faults of the crates below are told.
 use Rattle.std.specs.Prelude.{◌≡◌, ◌⊎◌, ℕ, List, Option, Err}
 use Rattle.hex.specs.Hex.{decode_of}
 use Rattle.hex.specs.declared.error.FromHexError.{FromHexError}

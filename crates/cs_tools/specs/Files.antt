@@ -1,5 +1,4 @@
--- What `show --file` and `combine --file` write: what the files at the paths hold, as their bytes; or why there is no such thing (profile
--- of this project).
+-- What `show --file` and `combine --file` write: what the files at the paths hold, as their bytes; or why there is no such thing.
 use Rattle.std.specs.Prelude.{◌≡◌, ◌⊎◌, ℕ, List, [], ◌∷◌, Option, Some, IfSome}
 use Rattle.std.specs.List.{AllZip, flat_map}
 use Rattle.cs_blob.specs.Reading.{IsBlobFault}

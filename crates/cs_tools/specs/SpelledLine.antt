@@ -1,4 +1,4 @@
--- Lines of an input that spell something in hex (profile of this project).
+-- Lines of an input that spell something in hex.
 use Rattle.std.specs.Prelude.{◌≡◌, ◌⊎◌, ℕ, List, [], Option, Ok}
 use Rattle.std.specs.Io.KnownBytes.{IsAtEnd, Keeps}
 use Rattle.hex.specs.Hex.{decode_of}

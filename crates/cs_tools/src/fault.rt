@@ -11,8 +11,7 @@ use cs_rebaser::{ConfigureFault, RebaseFault};
 use std::alloc::{AllocError, AllocFailed};
 use thiserror::Error;
 
-/// Why a tool ended before its text was written whole. The text is what is told of it behind `sync: `. (Profile of this
-/// project.)
+/// Why a tool ended before its text was written whole. The text is what is told of it behind `sync: `.
 #[derive(Debug, Drop, Error)]
 pub enum ToolFault {
     #[error("Memory")]

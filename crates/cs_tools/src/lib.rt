@@ -7,6 +7,7 @@
 //! text or one such fault. `show_file` and `combine_files` promise the same of files, which hold changesets (`cs_feed`) and blobs as their
 //! bytes (`specs/Files.antt`).
 //! Its tests stand in `cs_operations_tests`.
+//! What names no section of SQLite's documentation is profile of this project.
 #![tactic(auto)]
 
 mod combine;

@@ -165,7 +165,6 @@ fn text_at<F: InputFiles>(
 }
 
 /// Shows the changeset or the rebase blob in the file at a path, as its bytes, as text. Nothing is written before the whole file was judged.
-/// (Profile of this project.)
 pub fn show_file<F: InputFiles, W: LineOutput>(
     alloc: Global,
     shown: Shown,

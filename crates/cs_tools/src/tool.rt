@@ -30,16 +30,15 @@ pub enum Tool {
     /// as a line of lower case hex. A line that isn't there is the empty one; the lines behind the second are left unread.
     /// (Profile of this project over SQLite's "Session Extension", `sqlite3rebaser_rebase`.)
     Rebase(Form),
-    /// The changeset that the first line spells in hex, as text. The lines behind it are left unread. (Profile of this project.)
+    /// The changeset that the first line spells in hex, as text. The lines behind it are left unread.
     ShowChangeset,
-    /// The rebase blob that the first line spells in hex, as text. The lines behind it are left unread. (Profile of this
-    /// project.)
+    /// The rebase blob that the first line spells in hex, as text. The lines behind it are left unread.
     ShowBlob,
 }
 
 /// Runs the tool on the lines of its input, and writes what it owes, and sends it. Nothing is written before the whole of what
 /// the tool reads was judged. Where there is a fault, it is the first one in the order in which they are judged: lines in their
-/// order, then what they spell together, then the form (`KeyOrder`). (Profile of this project.)
+/// order, then what they spell together, then the form (`KeyOrder`).
 pub fn run_tool<R: LineInput, W: LineOutput>(
     alloc: Global,
     tool: Tool,

@@ -1,4 +1,4 @@
--- Answers: how each is spelled in bytes, and what is wrong with bytes that spell none. (Profile of this project.)
+-- Answers: how each is spelled in bytes, and what is wrong with bytes that spell none.
 use Rattle.std.specs.Prelude.{◌≡◌, ◌≢◌, ◌⊎◌, ℕ, ◌<◌, ◌^◌, List, [], ◌∷◌, ◌++◌, length, Result, Ok, Err}
 use Rattle.std.specs.List.{flat_map, AllByRecursion}
 use Rattle.cs_wire.specs.Entries.{ToldEntry, FitsEntry, IsFaultOfEntries, entry_spelling}

@@ -1,4 +1,4 @@
--- The code of each fault, by which programs tell it. (Profile of this project.)
+-- The code of each fault, by which programs tell it.
 use Rattle.std.specs.Prelude.{ℕ}
 use Rattle.cs_wire.specs.declared.fault.WireFault.{WireFault}
 use Rattle.cs_wire.specs.declared.fault.WireFault.TheVariants.{Truncated, BadTag, TooLong, BadKind}

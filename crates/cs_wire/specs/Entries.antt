@@ -1,5 +1,4 @@
--- Entries as an answer tells them: how each is spelled in bytes, and what is wrong where one is to stand. (Profile of this
--- project.)
+-- Entries as an answer tells them: how each is spelled in bytes, and what is wrong where one is to stand.
 use Rattle.std.specs.Prelude.{◌≡◌, ◌≢◌, ◌⊎◌, ℕ, ◌<◌, ◌^◌, List, [], ◌∷◌, ◌++◌, length, Result, Ok, Err}
 use Rattle.std.specs.List.{flat_map, AllByRecursion}
 use Rattle.cs_wire.specs.Numbers.{four_bytes, eight_bytes}

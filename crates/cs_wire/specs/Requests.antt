@@ -1,4 +1,4 @@
--- Requests: how each is spelled in bytes, and what is wrong with bytes that spell none. (Profile of this project.)
+-- Requests: how each is spelled in bytes, and what is wrong with bytes that spell none.
 use Rattle.std.specs.Prelude.{◌≡◌, ◌≢◌, ◌⊎◌, ℕ, ◌<◌, ◌^◌, List, [], ◌∷◌, ◌++◌, length, Result, Ok, Err}
 use Rattle.cs_wire.specs.Numbers.{four_bytes, eight_bytes}
 use Rattle.cs_wire.specs.declared.fault.WireFault.{WireFault}

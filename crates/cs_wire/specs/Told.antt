@@ -1,4 +1,4 @@
--- How an answer tells an entry of the log. (Profile of this project.)
+-- How an answer tells an entry of the log.
 use Rattle.cs_store.specs.log.Entry.{body_spelling, kind_of}
 use Rattle.cs_store.specs.log.Stored.{IsWithinBound}
 use Rattle.cs_store.specs.declared.log.entry.LogEntry.{LogEntry}

@@ -10,7 +10,7 @@ use crate::numbers::{split_sized, split_u32, split_u64};
 use crate::short_answer::{ACCEPTED, REFUSED, STALE, ShortAnswer};
 use crate::writing::{ENTRIES, MERGED};
 
-/// An answer, with entries and a changeset that stay in their bytes. (Profile of this project.)
+/// An answer, with entries and a changeset that stay in their bytes.
 #[derive(Drop)]
 pub enum Answer<'a> {
     /// What became of a push, or a refusal.

@@ -3,7 +3,6 @@
 use std::marker::Model;
 
 /// A changeset as the bytes that stand in an answer: whether they are one isn't looked at. Contracts see it as these bytes.
-/// (Profile of this project.)
 #[derive(Drop)]
 pub struct ChangesetBytes<'a> {
     bytes: &'a [u8],

@@ -8,8 +8,7 @@ use crate::entry::{WireEntry, split_entry};
 use crate::fault::WireFault;
 use std::marker::Model;
 
-/// The entries of an answer as the bytes that spell them, one behind another. Contracts see them as a list. (Profile of this
-/// project.)
+/// The entries of an answer as the bytes that spell them, one behind another. Contracts see them as a list.
 #[derive(Drop)]
 pub struct Entries<'a> {
     bytes: &'a [u8],

@@ -8,11 +8,11 @@ use crate::numbers::{split_u32, split_u64};
 use std::marker::Model;
 
 /// The kind of an entry that does a changeset, which is that of a log's body with changes as it stands there (`Body::kind` of `cs_store::log`).
-/// There is no other. (Profile of this project.)
+/// There is no other.
 const CHANGESET: u8 = 0;
 
 /// An entry of an answer: the kind of what it does, whose push it was, the number that its replica gave it, and the bytes of
-/// what it does. Contracts see it as these four. (Profile of this project.)
+/// what it does. Contracts see it as these four.
 #[derive(Drop)]
 pub struct WireEntry<'a> {
     kind: u8,

@@ -5,8 +5,7 @@ ghost use Rattle.cs_wire.specs.Codes.{wire_code};
 
 use thiserror::Error;
 
-/// What is wrong with bytes that are no request, or no answer. The text is the name that programs print. (Profile of this
-/// project.)
+/// What is wrong with bytes that are no request, or no answer. The text is the name that programs print.
 #[derive(Clone, Copy, Debug, PartialEq, Eq, Error)]
 pub enum WireFault {
     /// The bytes end early.
@@ -24,7 +23,7 @@ pub enum WireFault {
 }
 
 impl WireFault {
-    /// The code by which programs tell the fault: 2, 20, 21 or 23. (Profile of this project.)
+    /// The code by which programs tell the fault: 2, 20, 21 or 23.
     pub fn code(self) -> u8
         ensures { result ≡ wire_code self }
     {

@@ -4,6 +4,7 @@
 //! `ShortAnswer::put`, `entries_head`, `put_entry` and `merged_head` write exactly the spelling. `laws` says that bytes are one message or have one
 //! fault, that there is one or the other, that a front of a message is Truncated, and that entries of a log are read as they
 //! were told. The crate stands on the log's entries (`cs_store::log`); its tests stand in `cs_bytes_tests`.
+//! What names no section of SQLite's documentation is profile of this project.
 #![tactic(auto)]
 
 mod answer;

@@ -9,14 +9,14 @@ use crate::numbers::{put, put_u8, put_u32, put_u64, split_sized, split_u32, spli
 use crate::push_head::PushHead;
 use cs_value::Memory;
 
-/// The first bytes of requests. (Profile of this project.)
+/// The first bytes of requests.
 const PUSH: u8 = 1;
 
 const PULL: u8 = 2;
 
 const CATCH: u8 = 3;
 
-/// A request, with the bytes of a changeset that stand elsewhere. (Profile of this project.)
+/// A request, with the bytes of a changeset that stand elsewhere.
 #[derive(Clone, Copy, Debug)]
 pub enum Request<'a> {
     /// Take the changeset that a replica made on the tables of the version `base`.
@@ -27,7 +27,7 @@ pub enum Request<'a> {
     Catch { origin: u32, first: u64, limit: u32 },
 }
 
-/// A request that owns the bytes of its changeset. (Profile of this project.)
+/// A request that owns the bytes of its changeset.
 #[derive(Drop)]
 pub enum RequestBuf {
     /// Take the changeset that a replica made on the tables of the version `base`.

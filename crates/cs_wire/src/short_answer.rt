@@ -3,7 +3,7 @@
 use crate::numbers::{put_u8, put_u32, put_u64};
 use crate::push_head::PushHead;
 
-/// The answers but entries. (Profile of this project.)
+/// The answers but entries.
 #[derive(Clone, Copy, Debug, PartialEq, Eq)]
 pub enum ShortAnswer {
     /// The push is entry `version - 1`.
@@ -20,7 +20,7 @@ pub enum ShortAnswer {
     Refused(u8),
 }
 
-/// The first bytes of these answers. (Profile of this project.)
+/// The first bytes of these answers.
 pub(crate) const ACCEPTED: u8 = 17;
 
 pub(crate) const STALE: u8 = 18;

@@ -8,11 +8,10 @@ use crate::numbers::{put, put_u8, put_u32, put_u64};
 use cs_value::Memory;
 use std::alloc::Global;
 
-/// The first byte of an answer with entries. (Profile of this project.)
+/// The first byte of an answer with entries.
 pub(crate) const ENTRIES: u8 = 20;
 
-/// An answer with so many entries of a log, of which the first stands at `first`, up to where they are to be put. (Profile of
-/// this project.)
+/// An answer with so many entries of a log, of which the first stands at `first`, up to where they are to be put.
 ///
 /// # Errors
 ///
@@ -27,11 +26,11 @@ pub fn entries_head(alloc: Global, first: u64, count: u32) -> Result<Vec<u8>, Me
     Ok(out)
 }
 
-/// The first byte of an answer with a changeset that entries make together. (Profile of this project.)
+/// The first byte of an answer with a changeset that entries make together.
 pub(crate) const MERGED: u8 = 21;
 
 /// An answer to a Catch of this origin, up to where a changeset of so many bytes is to be put: what the entries from `first` on do
-/// together, up to the one at `next`. There is room for the changeset behind it. (Profile of this project.)
+/// together, up to the one at `next`. There is room for the changeset behind it.
 ///
 /// # Errors
 ///
@@ -56,7 +55,7 @@ pub fn merged_head(
 }
 
 /// Appends an entry of an answer, by its parts: the kind of what it does, whose push it was, its number, and the bytes of what
-/// it does. (Profile of this project.)
+/// it does.
 ///
 /// # Errors
 ///

@@ -1,4 +1,4 @@
--- Clashes that are answered by a list of wishes (profile of this project).
+-- Clashes that are answered by a list of wishes.
 use Rattle.std.specs.Prelude.{◌≡◌, List, [], ◌∷◌}
 use Rattle.cs_conflict.specs.Wishes.{guarded}
 use Rattle.cs_conflict.specs.declared.clash.Clash.{Clash}

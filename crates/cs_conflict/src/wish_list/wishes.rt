@@ -8,7 +8,7 @@ use crate::{Clash, Kind, Picker, Wish};
 use std::marker::Model;
 
 /// Wishes, used one a clash in their order: `Take` where they have run out, and each made lawful as a `Guard` does. Contracts see it as
-/// the wishes that are left. (Profile of this project.)
+/// the wishes that are left.
 #[derive(Drop)]
 pub struct Wishes<'w> {
     rest: &'w [Wish],

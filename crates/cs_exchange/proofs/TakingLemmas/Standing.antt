@@ -1,75 +1,26 @@
 -- What a change of the entry leaves may stand at its place.
-use Rattle.std.proofs.Common.{◌≡◌, ℕ, suc, Bool, true, false, List, [], ◌∷◌, length, Some, None, refl, sym, subst, ap, ◌∙◌}
+use Rattle.std.proofs.Common.{◌≡◌, ℕ, Bool, true, List, Some, None, refl, sym, subst, ap, ◌∙◌}
 use Rattle.std.specs.Prelude.{Contains}
-use Rattle.std.specs.List.{AllByRecursion, list_all}
+use Rattle.std.specs.List.{list_all}
 use Rattle.cs_value.specs.Facts.{some_same}
 use Rattle.cs_value.specs.Catalog.{AreTables, is_set, marked}
 use Rattle.cs_value.specs.Key.{Place, FitsPlace}
 use Rattle.cs_value.specs.Laws.{OnePlaceOfName}
 use Rattle.cs_value.specs.declared.catalog.TableDef.{TableDef}
 use Rattle.cs_value.specs.declared.value.Value.{Value}
-use Rattle.cs_value.specs.declared.value.Field.{Field}
-use Rattle.cs_value.specs.declared.value.Field.TheVariants.{Undefined, Is}
-use Rattle.cs_record.specs.Spelling.{Fits}
 use Rattle.cs_change.specs.Action.{action}
-use Rattle.cs_change.specs.Columns.{set_columns}
 use Rattle.cs_change.specs.Normal.{IsNormal}
-use Rattle.cs_change.specs.Spelling.{AreUpdateColumns, FitsChange}
+use Rattle.cs_change.specs.Spelling.{FitsChange}
 use Rattle.cs_change.specs.declared.change.Change.{Change}
 use Rattle.cs_change.specs.declared.change.Change.TheVariants.{Insert, Delete, Update}
 use Rattle.cs_normal.specs.keyed.Changes.{IsEntry, IsSpelled, key_bytes}
 use Rattle.cs_normal.specs.keyed.Laws.{BytesTellKeys}
 use Rattle.cs_normal.specs.keyed.NormalForm.{change_bytes, has_key, marked_fields}
+use Rattle.cs_normal.specs.keyed.Updates.{keeps_key, keeps_width, marked_spelled, old_spelled}
 use Rattle.cs_normal.specs.Laws.{SetColumnsFit}
 use Rattle.cs_normal.specs.State.{IsRowOf, MayStandAt}
 use Rattle.cs_conflict.specs.Conflict.{replaced}
 use Rattle.cs_apply.specs.NormalTasks.{bytes_stay, normal_key, one_table}
-
-head_same : {X : Type 0} {a b : X} {xs ys : List X} → a ∷ xs ≡ b ∷ ys → a ≡ b
-head_same e = cc
-
-tail_same : {X : Type 0} {a b : X} {xs ys : List X} → a ∷ xs ≡ b ∷ ys → xs ≡ ys
-tail_same e = cc
-
--- an update of a key leaves the key
-keeps_key : (marks : List Bool) (old new : List Field) (row : List Value) → AreUpdateColumns marks old new
-    → marked_fields marks old ≡ marked marks row → marked marks (set_columns new row) ≡ marked marks row
-unfolding marked_fields set_columns
-keeps_key [] old new row columns same = refl
-keeps_key (mark ∷ marks) [] new row columns same = absurd columns
-keeps_key (mark ∷ marks) (o ∷ old) [] row columns same = absurd columns
-keeps_key (mark ∷ marks) (o ∷ old) (n ∷ new) [] columns same = refl
-keeps_key (true ∷ marks) (Is u ∷ old) (Undefined ∷ new) (v ∷ row) columns same =
-    ap (λ more. v ∷ more) (keeps_key marks old new row columns.1 (tail_same same))
-keeps_key (true ∷ marks) (Is u ∷ old) (Is w ∷ new) (v ∷ row) columns same =
-    ap (λ first. first ∷ marked marks (set_columns new row)) (sym columns.0 ∙ head_same same)
-    ∙ ap (λ more. v ∷ more) (keeps_key marks old new row columns.1 (tail_same same))
-keeps_key (true ∷ marks) (Undefined ∷ old) (n ∷ new) (v ∷ row) columns same = absurd columns.0
-keeps_key (false ∷ marks) (o ∷ old) (n ∷ new) (v ∷ row) columns same = keeps_key marks old new row columns.1 same
-
-keeps_width : (new : List Field) (row : List Value) → length (set_columns new row) ≡ length row
-unfolding set_columns
-keeps_width [] row = refl
-keeps_width (n ∷ new) [] = refl
-keeps_width (n ∷ new) (v ∷ row) = ap suc (keeps_width new row)
-
--- the key of a row, and that of an update, can be spelled
-marked_spelled : (marks : List Bool) (row : List Value) → IsSpelled row → IsSpelled (marked marks row)
-marked_spelled [] row fits = tt
-marked_spelled (mark ∷ marks) [] fits = tt
-marked_spelled (true ∷ marks) (v ∷ row) fits = (fits.0, marked_spelled marks row fits.1)
-marked_spelled (false ∷ marks) (v ∷ row) fits = marked_spelled marks row fits.1
-
-old_spelled : (marks : List Bool) (old new : List Field) → AreUpdateColumns marks old new → AllByRecursion Fits old → IsSpelled (marked_fields marks old)
-unfolding marked_fields
-old_spelled [] [] [] columns fits = tt
-old_spelled [] (o ∷ old) new columns fits = tt
-old_spelled [] [] (n ∷ new) columns fits = tt
-old_spelled (mark ∷ marks) [] new columns fits = absurd columns
-old_spelled (mark ∷ marks) (o ∷ old) [] columns fits = absurd columns
-old_spelled (true ∷ marks) (Is u ∷ old) (n ∷ new) columns fits = (fits.0, old_spelled marks old new columns.1 fits.1)
-old_spelled (true ∷ marks) (Undefined ∷ old) (n ∷ new) columns fits = absurd columns.0
-old_spelled (false ∷ marks) (o ∷ old) (n ∷ new) columns fits = old_spelled marks old new columns.1 fits.1
 
 key_spelled : (marks : List Bool) (key : List Value) (change : Change) → IsNormal marks key (action change) → FitsChange marks change → IsSpelled key
 key_spelled marks key (Insert flag new) n fits = subst (λ (k : List Value). IsSpelled k) n.keyed (marked_spelled marks new fits.1)

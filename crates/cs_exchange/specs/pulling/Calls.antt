@@ -1,4 +1,4 @@
--- What calls leave of a store that may commit more than once (profile of this project).
+-- What calls leave of a store that may commit more than once.
 use Rattle.std.specs.Prelude.{◌≡◌, ◌≤◌, ◌⊎◌}
 use Rattle.cs_store.specs.Contents.{Contents}
 use Rattle.cs_store.specs.Calls.{MoreFailures}

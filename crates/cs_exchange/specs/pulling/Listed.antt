@@ -1,4 +1,4 @@
--- How a replica takes the entries of an answer, one after another (profile of this project).
+-- How a replica takes the entries of an answer, one after another.
 use Rattle.std.specs.Prelude.{◌≡◌, ◌+◌, ℕ, zero, suc, List, slice_get, Some, Result, Ok, Err}
 use Rattle.cs_value.specs.declared.catalog.TableDef.{TableDef}
 use Rattle.cs_store.specs.declared.log.entry.LogEntry.{LogEntry}

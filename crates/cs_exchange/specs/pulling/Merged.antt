@@ -1,4 +1,4 @@
--- How a replica takes entries of the hub's log that were taken together (profile of this project). `picks p clash wish q` is an answer: at p
+-- How a replica takes entries of the hub's log that were taken together. `picks p clash wish q` is an answer: at p
 -- the picker is shown the clash, wishes, and is left as q.
 use Rattle.std.specs.Prelude.{◌≡◌, ◌⊎◌, ◌+◌, ◌<◌, ◌≤◌, ℕ, List, Result, Ok, Err}
 use Rattle.cs_value.specs.declared.catalog.TableDef.{TableDef}

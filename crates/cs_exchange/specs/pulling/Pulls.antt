@@ -1,4 +1,4 @@
--- How a replica takes an entry of the hub's log: its own push is confirmed, and another's is merged (profile of this project).
+-- How a replica takes an entry of the hub's log: its own push is confirmed, and another's is merged.
 -- `picks p clash wish q` is an answer: at p the picker is shown the clash, wishes, and is left as q.
 use Rattle.std.specs.Prelude.{◌≡◌, ◌⊎◌, ◌<◌, ◌-◌, ◌^◌, ℕ, List, Some}
 use Rattle.std.specs.FinMap.{len}

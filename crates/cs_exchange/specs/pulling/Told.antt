@@ -1,4 +1,4 @@
--- What a changeset's bytes are read as, and what entry of the log an answer's entry is (profile of this project).
+-- What a changeset's bytes are read as, and what entry of the log an answer's entry is.
 use Rattle.std.specs.Prelude.{◌≡◌, ℕ, List}
 use Rattle.cs_value.specs.declared.catalog.TableDef.{TableDef}
 use Rattle.cs_change.specs.Spelling.{FitsChangeset, changeset_spelling}

@@ -1,4 +1,4 @@
--- A push that is made, given again, and ended (profile of this project).
+-- A push that is made, given again, and ended.
 use Rattle.std.specs.Prelude.{◌≡◌, ◌+◌, ◌<◌, List, [], length, Some, None, IsSome}
 use Rattle.cs_store.specs.declared.log.entry.TheConstants.{MAX_CHANGESET}
 use Rattle.cs_normal.specs.Normal.{normal_spelling}

@@ -1,4 +1,4 @@
--- How a replica takes another's entry of the log (profile of this project). `picks p clash wish q` is an answer: at p the picker is
+-- How a replica takes another's entry of the log. `picks p clash wish q` is an answer: at p the picker is
 -- shown the clash, wishes, and is left as q.
 use Rattle.std.specs.Prelude.{◌≡◌, ◌≢◌, ◌⊎◌, ◌+◌, ◌||◌, ℕ, Bool, true, false, is_some, List, [], ◌∷◌, Option, Some, None, Contains}
 use Rattle.std.specs.FinMap.{len}

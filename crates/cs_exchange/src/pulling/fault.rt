@@ -13,7 +13,6 @@ use std::alloc::AllocError;
 use thiserror::Error;
 
 /// Why an entry isn't pulled. Nothing has changed then, in the store and in memory. The text is the name that programs print.
-/// (Profile of this project.)
 #[derive(Debug, Drop, Error)]
 pub enum PullFault {
     /// Memory was refused. It may come before any fault but `Behind` and `Gap`.
@@ -70,7 +69,7 @@ impl From<TakeFault> for PullFault {
 }
 
 /// Why an answer isn't taken to its end, with how many of its entries were taken: these stay. The text is the name that programs
-/// print. (Profile of this project.)
+/// print.
 #[derive(Clone, Copy, Debug, PartialEq, Eq, Error)]
 pub enum AnswerFault {
     /// Memory was refused.

@@ -21,7 +21,7 @@ use cs_value::Catalog;
 use cs_wire::{Entries, WireEntry};
 use std::alloc::Global;
 
-/// What became of the entries of an answer, with how many were taken. (Profile of this project.)
+/// What became of the entries of an answer, with how many were taken.
 #[derive(Clone, Copy, Debug, PartialEq, Eq)]
 pub enum Pulled {
     /// All that the answer tells from the replica's version on; where that is before the first of them, none.
@@ -79,7 +79,7 @@ fn ended(fault: PullFault, count: u64) -> Result<Pulled, AnswerFault>
 
 /// Pulls the entries of an answer, of which the first is the hub's at `first`, one after another, each in a commit of its own. Those
 /// before the position's version are passed over unread; the list ends where the picker stops, and at an entry that is behind
-/// the one at the version. What was taken stays, whatever comes later. (Profile of this project.)
+/// the one at the version. What was taken stays, whatever comes later.
 ///
 /// # Errors
 ///

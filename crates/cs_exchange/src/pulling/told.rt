@@ -52,7 +52,7 @@ pub(crate) fn read_form(
 }
 
 /// The entry of the log that an answer's entry is: its changeset is read, and brought into normal form by the tables; none where
-/// either can't be, or where there is no such kind of entry. (Profile of this project.)
+/// either can't be, or where there is no such kind of entry.
 pub(crate) fn read_told(
     alloc: Global,
     catalog: &Catalog,

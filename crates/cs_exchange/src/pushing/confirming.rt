@@ -13,7 +13,7 @@ use cs_value::Catalog;
 use std::alloc::Global;
 
 /// Ends the push that is under way, where it has become the next entry of the hub's log: the replica has come one entry further.
-/// Rows and pending changes stay. It is one commit of two values. (Profile of this project.)
+/// Rows and pending changes stay. It is one commit of two values.
 ///
 /// # Errors
 ///

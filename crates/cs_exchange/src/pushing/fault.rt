@@ -8,8 +8,7 @@ use cs_store::StoreFault;
 use std::alloc::{AllocError, AllocFailed};
 use thiserror::Error;
 
-/// Why no push is made, or none is given again. Nothing has changed then. The text is the name that programs print. (Profile of
-/// this project.)
+/// Why no push is made, or none is given again. Nothing has changed then. The text is the name that programs print.
 #[derive(Clone, Copy, Debug, PartialEq, Eq, Error)]
 pub enum PushFault {
     /// Memory was refused. It may come before any other fault.

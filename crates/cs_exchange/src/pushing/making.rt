@@ -101,8 +101,7 @@ fn store_push<S: RowStore>(
 }
 
 /// Makes a push of what is pending: this becomes the push that is under way, under the next number, and nothing is pending then. The
-/// rows stay, and so do the log's. It is one commit, after all memory is taken and before the request is given. (Profile of
-/// this project.)
+/// rows stay, and so do the log's. It is one commit, after all memory is taken and before the request is given.
 ///
 /// # Errors
 ///

@@ -34,7 +34,7 @@ pub(crate) fn request_for(
     Ok(RequestBuf::Push { head, changeset })
 }
 
-/// The request of the push that is under way, the same as when it was made. (Profile of this project.)
+/// The request of the push that is under way, the same as when it was made.
 ///
 /// # Errors
 ///

@@ -10,7 +10,6 @@ use std::alloc::{AllocError, AllocFailed};
 use thiserror::Error;
 
 /// Why an entry isn't taken. Nothing has changed then, in the store and in memory. The text is the name that programs print.
-/// (Profile of this project.)
 #[derive(Debug, Drop, Error)]
 pub enum TakeFault {
     /// Memory was refused. It may come before any other fault, and then the picker may have been asked.

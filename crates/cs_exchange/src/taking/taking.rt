@@ -133,7 +133,7 @@ pub fn take_changes_to<S: RowStore, P: Picker>(
 /// of the log's row, the own one and what the entry leaves, by the picker's wishes, which is asked once at each change that
 /// conflicts with the own row, in the entry's order. At the places of the entry and of the push under way, what is pending is then
 /// the net change from what the entry leaves to the own row, not indirect; nothing is under way, and the version is one more. It is
-/// one commit; places that neither the entry nor the push under way names are neither read nor written. (Profile of this project.)
+/// one commit; places that neither the entry nor the push under way names are neither read nor written.
 ///
 /// # Errors
 ///

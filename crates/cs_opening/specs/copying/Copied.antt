@@ -1,4 +1,4 @@
--- A copy in memory of a store that holds rows and values alone (profile of this project).
+-- A copy in memory of a store that holds rows and values alone.
 use Rattle.std.specs.Prelude.{◌≡◌, List}
 use Rattle.std.specs.FinMap.{empty}
 use Rattle.cs_value.specs.declared.catalog.TableDef.{TableDef}

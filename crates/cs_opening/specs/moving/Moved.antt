@@ -1,5 +1,4 @@
 -- A replica's store that keeps what is pending as one value, and what it holds once the value is moved: each change at its place
--- (profile of this project).
 use Rattle.std.specs.Prelude.{◌≡◌, ◌≤◌, ◌⊎◌, ℕ, pos, List, length, map, fold, Some}
 use Rattle.std.specs.FinMap.{empty, insert, remove}
 use Rattle.cs_value.specs.declared.catalog.TableDef.{TableDef}

@@ -15,7 +15,7 @@ use std::alloc::Global;
 /// Opens a store for the replica with this id and these tables, and answers its position, as `crate::open_at` does: a store
 /// that holds nothing is laid out, in one commit. Where the store keeps what is pending as one value, `pending`, a changeset of
 /// the tables in normal form, and no change at a place, and would show this replica with each change at its place, the value is
-/// moved there, in one commit. Any other store is only read. (Profile of this project.)
+/// moved there, in one commit. Any other store is only read.
 ///
 /// # Errors
 ///

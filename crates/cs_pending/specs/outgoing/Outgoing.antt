@@ -1,4 +1,4 @@
--- What is pending, as one changeset (profile of this project).
+-- What is pending, as one changeset.
 use Rattle.std.specs.Prelude.{◌≡◌, ◌≢◌, ◌<◌, ◌≤◌, ℕ, List, [], length, Contains, IsUtf8}
 use Rattle.std.specs.List.{AllByRecursion}
 use Rattle.cs_value.specs.Catalog.{AreTables}

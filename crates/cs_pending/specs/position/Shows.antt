@@ -1,4 +1,4 @@
--- What a store holds of a replica at a position (profile of this project).
+-- What a store holds of a replica at a position.
 use Rattle.std.specs.Prelude.{◌≡◌, ◌≤◌, ℕ, List, [], length, Option, Some, None}
 use Rattle.std.specs.FinMap.{get, len}
 use Rattle.cs_value.specs.declared.catalog.TableDef.{TableDef}

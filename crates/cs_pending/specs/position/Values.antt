@@ -1,4 +1,4 @@
--- The values that a store keeps of a replica (profile of this project).
+-- The values that a store keeps of a replica.
 use Rattle.std.specs.Prelude.{ℕ, List, [], ◌++◌, map, option_map, Option, Some, None}
 use Rattle.std.specs.List.{flat_map}
 use Rattle.cs_value.specs.declared.catalog.TableDef.{TableDef}

@@ -1,4 +1,4 @@
--- The rows of a table as a list (profile of this project).
+-- The rows of a table as a list.
 use Rattle.std.specs.Prelude.{◌≡◌, ℕ, List, T}
 use Rattle.std.specs.FinMap.{find, is_sorted}
 use Rattle.cs_order.specs.Order.{by_bytes}

@@ -18,7 +18,7 @@ use cs_store::{RowStore, StoreFault};
 use cs_value::{Catalog, Memory};
 use std::alloc::{AllocError, Global};
 
-/// What is pending in a store. (Profile of this project.)
+/// What is pending in a store.
 #[derive(Drop)]
 pub enum Outgoing {
     /// Nothing.
@@ -52,7 +52,7 @@ fn changes_in(alloc: Global, catalog: &Catalog, bytes: &[u8]) -> Result<Option<N
 }
 
 /// What is pending in a store, as one changeset in normal form. What the store has that is no change of its table is told to the
-/// store. (Profile of this project.)
+/// store.
 pub fn gather<S: RowStore>(
     alloc: Global,
     store: &mut S,

@@ -2,10 +2,10 @@
 
 use cs_normal::Normal;
 
-/// The last number that a push may have. (Profile of this project.)
+/// The last number that a push may have.
 pub const LAST_NUMBER: u64 = 9_223_372_036_854_775_807;
 
-/// Where a replica stands. (Profile of this project.)
+/// Where a replica stands.
 #[derive(Drop)]
 pub struct Position {
     /// The id of the replica.

@@ -10,21 +10,21 @@ use cs_normal::Normal;
 use cs_value::{Catalog, Memory, TableDef};
 use std::alloc::Global;
 
-/// A number in eight bytes, the high byte first: a version, or the number of a push. (Profile of this project.)
+/// A number in eight bytes, the high byte first: a version, or the number of a push.
 pub fn number_value(alloc: Global, number: u64) -> Result<Vec<u8>, Memory>
     ensures { IfOk result (λ value. value.items ≡ eight_bytes number) }
 {
     Ok(Vec::from_slice(alloc, &number.to_be_bytes())?)
 }
 
-/// The id of a replica in four bytes, the high byte first. (Profile of this project.)
+/// The id of a replica in four bytes, the high byte first.
 pub fn id_value(alloc: Global, id: u32) -> Result<Vec<u8>, Memory>
     ensures { IfOk result (λ value. value.items ≡ four_bytes id) }
 {
     Ok(Vec::from_slice(alloc, &id.to_be_bytes())?)
 }
 
-/// A push that is under way: its number in eight bytes, and its changeset. (Profile of this project.)
+/// A push that is under way: its number in eight bytes, and its changeset.
 pub fn flight_value(alloc: Global, number: u64, changes: &Normal) -> Result<Vec<u8>, Memory>
     ensures { IfOk result (λ value. value.items ≡ flight_bytes number changes.now) }
 {
@@ -44,7 +44,7 @@ fn put_table_headers(alloc: Global, tables: &[TableDef], out: &mut Vec<u8>) -> R
     Ok(())
 }
 
-/// The tables that are synced: the header of each, as a changeset has it. (Profile of this project.)
+/// The tables that are synced: the header of each, as a changeset has it.
 pub fn catalog_value(alloc: Global, catalog: &Catalog) -> Result<Vec<u8>, Memory>
     ensures { IfOk result (λ value. value.items ≡ catalog_bytes catalog.now) }
 {

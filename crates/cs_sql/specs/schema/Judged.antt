@@ -1,4 +1,4 @@
--- What a schema is to a store (profile of this project).
+-- What a schema is to a store.
 use Rattle.std.specs.Prelude.{◌≡◌, ◌≢◌}
 use Rattle.sqlite.specs.Schema.{Schema}
 use Rattle.cs_sql.specs.declared.schema.judging.Judged.{Judged}

@@ -1,4 +1,4 @@
--- What is left where the tables of a store are made (profile of this project).
+-- What is left where the tables of a store are made.
 use Rattle.std.specs.Prelude.{◌≡◌, [], List, ℕ, IsTrue, codes}
 use Rattle.std.specs.List.{AllByRecursion}
 use Rattle.sqlite.specs.Effect.{IsDatabase}

@@ -1,4 +1,4 @@
--- The tables of a store in SQLite, and the schemas that a file of one has (profile of this project).
+-- The tables of a store in SQLite, and the schemas that a file of one has.
 use Rattle.std.specs.Prelude.{◌≡◌, Bool, true, false, [], ◌∷◌, None, Some, codes, List, ℕ}
 use Rattle.sqlite.specs.Collation.TheVariants.{Binary}
 use Rattle.sqlite_value.specs.declared.value.Value.TheVariants.{Null}

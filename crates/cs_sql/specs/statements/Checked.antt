@@ -1,4 +1,4 @@
--- Whether what the tables hold is what its places say (profile of this project).
+-- Whether what the tables hold is what its places say.
 use Rattle.std.specs.Prelude.{◌≡◌, ℕ, ℤ, List, Some}
 use Rattle.std.specs.FinMap.{get}
 use Rattle.cs_value.specs.declared.catalog.TableDef.{TableDef}

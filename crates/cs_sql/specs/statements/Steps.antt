@@ -1,4 +1,4 @@
--- What the steps of a commit leave of a connection, and what a query shows (profile of this project).
+-- What the steps of a commit leave of a connection, and what a query shows.
 use Rattle.std.specs.Prelude.{◌≡◌, ℤ, ℕ, pos, ◌+◌, Bool, true, false, if◌then◌else◌, List, [], ◌∷◌, ◌++◌, length, Option, Some, None, IsTrue, IfSome, fold}
 use Rattle.std.specs.Ordering.{is_eq}
 use Rattle.std.specs.FinMap.{get, insert, remove}

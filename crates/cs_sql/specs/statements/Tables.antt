@@ -1,4 +1,4 @@
--- The statements of a store in SQLite, and what its tables hold (profile of this project).
+-- The statements of a store in SQLite, and what its tables hold.
 use Rattle.std.specs.Prelude.{◌≡◌, ⊤, Bool, false, [], ◌∷◌, codes, List, ℕ, ℤ, pos, negsuc, ◌-◌, ◌^◌, map}
 use Rattle.std.specs.List.{AllByRecursion}
 use Rattle.std.specs.FinMap.{from_entries}

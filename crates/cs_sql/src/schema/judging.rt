@@ -11,7 +11,7 @@ use sqlite_schema::schema::{Column, Index, Kind, Schema, Stamps, Table};
 use sqlite_value::keys::{Collation, Order};
 use sqlite_value::value::Value;
 
-/// What a schema is to a store. (Profile of this project.)
+/// What a schema is to a store.
 #[derive(Clone, Copy, Debug, PartialEq, Eq)]
 pub enum Judged {
     /// Of a database without a table.
@@ -251,7 +251,7 @@ fn is_ours(schema: &Schema) -> bool
         && are_indexes(schema.indexes.as_slice())
 }
 
-/// What the schema is to a store. (Profile of this project.)
+/// What the schema is to a store.
 pub fn judge(schema: &Schema) -> Judged
     ensures { IsJudged schema.now result }
 {

@@ -93,7 +93,7 @@ fn make_all<S: Alter>(tx: &mut Transaction<'_, S>) -> Result<(), Error>
     Ok(())
 }
 
-/// Makes the tables of a store in a database that has none, in one transaction. (Profile of this project.)
+/// Makes the tables of a store in a database that has none, in one transaction.
 pub fn lay_out<S: Alter>(conn: &mut Connection<S>) -> Result<(), Error>
     requires idle { conn.old.in_transaction ≡ false }
     requires empty { HasCleanDisk (state S.Store conn.old) → IsTrue (state S.Store conn.old).is_open → (state S.Store conn.old).now.schema ≡ no_schema }
@@ -108,8 +108,7 @@ pub fn lay_out<S: Alter>(conn: &mut Connection<S>) -> Result<(), Error>
     tx.commit()
 }
 
-/// Makes the table of pending changes in a database that has a store's other three, in one transaction. (Profile of this
-/// project.)
+/// Makes the table of pending changes in a database that has a store's other three, in one transaction.
 pub fn complete<S: Alter>(conn: &mut Connection<S>) -> Result<(), Error>
     requires idle { conn.old.in_transaction ≡ false }
     requires front { HasCleanDisk (state S.Store conn.old) → IsTrue (state S.Store conn.old).is_open → (state S.Store conn.old).now.schema ≡ front_schema }

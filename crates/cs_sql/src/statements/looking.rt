@@ -14,7 +14,7 @@ use crate::statements::counting::{LogFound, count_front, is_pending_apart};
 use crate::statements::streaming::probe;
 use sqlite::{Alter, Connection, Error};
 
-/// What a database was found to be. (Profile of this project.)
+/// What a database was found to be.
 pub enum Found {
     /// It has no table.
     Fresh,

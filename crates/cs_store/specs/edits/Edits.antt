@@ -1,4 +1,4 @@
--- Edits of places (profile of this project).
+-- Edits of places.
 use Rattle.std.specs.Prelude.{ℕ, List, Option}
 
 -- a table's number, the bytes of a key, and those of the body that stands there then, or none

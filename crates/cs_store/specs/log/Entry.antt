@@ -1,4 +1,4 @@
--- An entry's changes, and how what it does is spelled. (Profile of this project.)
+-- An entry's changes, and how what it does is spelled.
 use Rattle.std.specs.Prelude.{ℕ, List, Unit}
 use Rattle.cs_normal.specs.Normal.{normal_spelling}
 use Rattle.cs_normal.specs.declared.normal.TableChanges.{TableChanges}

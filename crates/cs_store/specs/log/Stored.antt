@@ -1,4 +1,4 @@
--- What an entry does as it is stored, and what reading that gives. (Profile of this project.)
+-- What an entry does as it is stored, and what reading that gives.
 use Rattle.std.specs.Prelude.{◌≡◌, ℕ, ◌≤◌, List, ◌∷◌, length, Result, Ok, Err}
 use Rattle.cs_value.specs.declared.catalog.TableDef.{TableDef}
 use Rattle.cs_changeset.specs.declared.fault.CodecFault.{CodecFault}

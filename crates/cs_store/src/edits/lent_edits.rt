@@ -19,7 +19,7 @@ pub(crate) struct EditSpot {
     pub past: usize,
 }
 
-/// Edits that follow one another, lent. (Profile of this project.)
+/// Edits that follow one another, lent.
 #[derive(Drop)]
 pub struct LentEdits<'a> {
     pieces: &'a Pieces,

@@ -2,7 +2,7 @@
 
 use std::marker::Model;
 
-/// A body that is set at a place, or with no body the place is cleared. Its bytes are lent. (Profile of this project.)
+/// A body that is set at a place, or with no body the place is cleared. Its bytes are lent.
 #[derive(Drop)]
 pub struct PlaceEdit<'a> {
     table: u32,

@@ -11,7 +11,7 @@ use crate::edits::place_edit::PlaceEdit;
 use std::alloc::{AllocError, Global};
 use std::marker::Model;
 
-/// Edits of places, in order. (Profile of this project.)
+/// Edits of places, in order.
 #[derive(Debug, Drop)]
 pub struct PlaceEdits {
     pieces: Pieces,

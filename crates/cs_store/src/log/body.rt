@@ -17,10 +17,10 @@ use cs_normalising::normalise;
 use cs_value::{Catalog, Memory};
 use std::alloc::Global;
 
-/// The kind of a body that has changes: the first byte of what an entry does, as a log is stored. (Profile of this project.)
+/// The kind of a body that has changes: the first byte of what an entry does, as a log is stored.
 pub(crate) const CHANGES: u8 = 0;
 
-/// What an entry of the log does. (Profile of this project.)
+/// What an entry of the log does.
 #[derive(Drop)]
 pub enum Body {
     /// The changeset of a push, in normal form.
@@ -31,7 +31,7 @@ impl Body {
     ghost use Rattle.std.specs.Prelude.{◌≡◌, ◌↔◌, ◌++◌, IsTrue, IfOk, OnOk, OnErr};
     ghost use Rattle.cs_store.specs.log.Entry.{body_spelling, kind_of};
 
-    /// The byte that tells the kind of body. (Profile of this project.)
+    /// The byte that tells the kind of body.
     pub fn kind(&self) -> u8
         ensures { result ≡ kind_of self.now }
     {
@@ -69,7 +69,7 @@ impl Body {
     }
 }
 
-/// Appends a body as it is stored: its kind, and its spelling. An `Err` changes nothing. (Profile of this project.)
+/// Appends a body as it is stored: its kind, and its spelling. An `Err` changes nothing.
 pub fn put_body(body: &Body, out: &mut Vec<u8>) -> Result<(), Memory>
     ensures ok { OnOk result (out.new.items ≡ out.old.items ++ stored_body body.now) }
     ensures err { OnErr result (out.new.items ≡ out.old.items) }
@@ -111,7 +111,7 @@ fn read_changes(alloc: Global, catalog: &Catalog, bytes: &[u8]) -> Result<Normal
 }
 
 /// Reads a body as it is stored: the whole of the bytes. Bytes that spell a changeset which isn't in normal form, or
-/// whose tables aren't the catalog's, are refused. (Profile of this project.)
+/// whose tables aren't the catalog's, are refused.
 ///
 /// # Errors
 ///

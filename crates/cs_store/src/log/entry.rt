@@ -4,14 +4,13 @@ use crate::log::body::Body;
 use cs_value::Memory;
 use std::alloc::Global;
 
-/// The most bytes of an entry's changeset: its length has four bytes in a message. (Profile of this project.)
+/// The most bytes of an entry's changeset: its length has four bytes in a message.
 pub const MAX_CHANGESET: u64 = 4_294_967_295;
 
-/// The most entries of a log: of a hub's, and of one that threads share. (Profile of this project.)
+/// The most entries of a log: of a hub's, and of one that threads share.
 pub const MAX_ENTRIES: u32 = 1_048_576;
 
-/// An entry of the log: whose push it was, the number that its replica gave it, and what it does. (Profile of this
-/// project.)
+/// An entry of the log: whose push it was, the number that its replica gave it, and what it does.
 #[derive(Drop)]
 pub struct LogEntry {
     pub origin: u32,

@@ -9,7 +9,7 @@ use cs_normalising::Unfit;
 use std::alloc::{AllocError, AllocFailed};
 use thiserror::Error;
 
-/// Why no body of an entry was read. The text is the name that programs print. (Profile of this project.)
+/// Why no body of an entry was read. The text is the name that programs print.
 #[derive(Clone, Copy, Debug, PartialEq, Eq, Error)]
 pub enum BodyFault {
     #[error("Memory")]

@@ -205,7 +205,7 @@ fn is_seen(alloc: Global, catalog: &Catalog, bytes: &[u8]) -> Result<bool, Memor
 }
 
 /// Whether the bytes are those that a body of the catalog's tables is stored as. Where that isn't seen in the bytes as they stand,
-/// they are read, as `read_body` does. (Profile of this project.)
+/// they are read, as `read_body` does.
 ///
 /// # Errors
 ///

@@ -1,4 +1,4 @@
--- Edits as words (profile of this project).
+-- Edits as words.
 use Rattle.std.specs.Prelude.{◌≡◌, ℕ, Bool, true, false, if◌then◌else◌, List, [], ◌∷◌, ◌++◌, Option, Some, None, option_map, codes}
 use Rattle.std.specs.Str.{bytes_eq}
 use Rattle.cs_value.specs.declared.catalog.TableDef.{TableDef}

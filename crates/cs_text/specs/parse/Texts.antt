@@ -1,4 +1,4 @@
--- Texts and bytes as words (profile of this project).
+-- Texts and bytes as words.
 use Rattle.std.specs.Prelude.{ℕ, ◌+◌, ◌-◌, ◌*◌, ◌==◌, ◌&&◌, nat_le, if◌then◌else◌, List, [], ◌∷◌, Option, Some, None}
 use Rattle.std.specs.Str.{is_utf8}
 use Rattle.cs_text.specs.Text.{is_plain}

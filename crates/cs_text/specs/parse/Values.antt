@@ -1,4 +1,4 @@
--- Values and fields as words (profile of this project).
+-- Values and fields as words.
 use Rattle.std.specs.Prelude.{ℕ, ◌==◌, if◌then◌else◌, List, [], ◌∷◌, Option, Some, None, option_map, codes}
 use Rattle.std.specs.Str.{bytes_eq}
 use Rattle.cs_value.specs.declared.value.Value.{Value}

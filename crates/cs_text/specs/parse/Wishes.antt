@@ -1,4 +1,4 @@
--- Wishes as a word (profile of this project).
+-- Wishes as a word.
 use Rattle.std.specs.Prelude.{ℕ, ◌==◌, if◌then◌else◌, List, [], ◌∷◌, Option, Some, None, codes}
 use Rattle.std.specs.Str.{bytes_eq}
 use Rattle.cs_conflict.specs.declared.wish.Wish.{Wish}

@@ -1,4 +1,4 @@
--- The words of a line (profile of this project).
+-- The words of a line.
 use Rattle.std.specs.Prelude.{ℕ, ◌==◌, if◌then◌else◌, List, [], ◌∷◌, Option, Some, None}
 
 -- a byte in front of the first word

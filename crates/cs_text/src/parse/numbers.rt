@@ -5,7 +5,7 @@ ghost use Rattle.cs_text.specs.parse.Numbers.{IsNoNumber, signed_in, small_in, u
 
 use std::str;
 
-/// A decimal number without a sign, where it is one of 64 bits. Zeros may stand in front. (Profile of this project.)
+/// A decimal number without a sign, where it is one of 64 bits. Zeros may stand in front.
 pub fn unsigned(word: &[u8]) -> Option<u64>
     ensures { result ≡ unsigned_in word.now }
 {
@@ -19,7 +19,7 @@ pub fn small(word: &[u8]) -> Option<u32>
     unsigned_text(word)?.parse::<u32>().ok()
 }
 
-/// A decimal number, where it is one of 64 bits; a minus may stand in front, and a plus not. (Profile of this project.)
+/// A decimal number, where it is one of 64 bits; a minus may stand in front, and a plus not.
 pub fn signed(word: &[u8]) -> Option<i64>
     ensures { result ≡ signed_in word.now }
 {

@@ -15,7 +15,7 @@ const UPPER: u8 = b'A';
 const LOWER: u8 = b'a';
 
 /// The bytes that a text with escapes spells, if it spells any: `%` and two upper case hex digits spell any byte, and a byte from `!` to
-/// `~` other than `%` spells itself. (Profile of this project.)
+/// `~` other than `%` spells itself.
 pub fn unescape(alloc: Global, text: &[u8]) -> Result<Option<Vec<u8>>, Memory>
     ensures { IfOk result (λ found. option_map (λ bytes. bytes.items) found ≡ unescaped text.now) }
 {
@@ -31,7 +31,7 @@ pub fn unescape(alloc: Global, text: &[u8]) -> Result<Option<Vec<u8>>, Memory>
     Ok(Some(bytes))
 }
 
-/// The text that a word spells, if it spells one: the bytes of `unescape`, which are UTF-8. (Profile of this project.)
+/// The text that a word spells, if it spells one: the bytes of `unescape`, which are UTF-8.
 pub fn read_text(alloc: Global, word: &[u8]) -> Result<Option<Text>, Memory>
     ensures { IfOk result (λ found. found ≡ text_in word.now) }
 {
@@ -44,7 +44,7 @@ pub fn read_text(alloc: Global, word: &[u8]) -> Result<Option<Text>, Memory>
     Ok(Some(Text::from_string(String::from_str(alloc, text)?)))
 }
 
-/// The bytes that a word spells in lower case hex, if it does. (Profile of this project.)
+/// The bytes that a word spells in lower case hex, if it does.
 pub fn read_bytes(alloc: Global, word: &[u8]) -> Result<Option<Items<u8>>, Memory>
     ensures { IfOk result (λ found. found ≡ bytes_in word.now) }
 {

@@ -9,8 +9,7 @@ use crate::parse::words::{Words, is_word};
 use cs_value::{Field, Items, Memory, Value};
 use std::alloc::Global;
 
-/// The value that a word spells, if it spells one: `null`, a decimal number, `t=` and a text, or `x=` and lower case hex. (Profile of this
-/// project.)
+/// The value that a word spells, if it spells one: `null`, a decimal number, `t=` and a text, or `x=` and lower case hex.
 pub fn read_value(alloc: Global, word: &[u8]) -> Result<Option<Value>, Memory>
     ensures { IfOk result (λ found. found ≡ value_in word.now) }
 {
@@ -35,7 +34,7 @@ pub fn read_value(alloc: Global, word: &[u8]) -> Result<Option<Value>, Memory>
     }
 }
 
-/// The field that a word spells, if it spells one: `-` is undefined. (Profile of this project.)
+/// The field that a word spells, if it spells one: `-` is undefined.
 pub fn read_field(alloc: Global, word: &[u8]) -> Result<Option<Field>, Memory>
     ensures { IfOk result (λ found. found ≡ field_in word.now) }
 {
@@ -48,7 +47,7 @@ pub fn read_field(alloc: Global, word: &[u8]) -> Result<Option<Field>, Memory>
     }
 }
 
-/// The values that the words that are left spell, if each spells one. (Profile of this project.)
+/// The values that the words that are left spell, if each spells one.
 pub fn read_values(alloc: Global, words: &mut Words<'_>) -> Result<Option<Items<Value>>, Memory>
     ensures { IfOk result (λ found. found ≡ values_in words.old) }
 {

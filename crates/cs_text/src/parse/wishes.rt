@@ -8,7 +8,7 @@ use cs_conflict::Wish;
 use cs_value::{Items, Memory};
 use std::alloc::Global;
 
-/// The wishes that a word spells, if it spells any: `k`, `t` or `s` a wish, or `-` for none. (Profile of this project.)
+/// The wishes that a word spells, if it spells any: `k`, `t` or `s` a wish, or `-` for none.
 pub fn read_wishes(alloc: Global, word: &[u8]) -> Result<Option<Items<Wish>>, Memory>
     ensures { IfOk result (λ found. found ≡ wishes_in word.now) }
 {

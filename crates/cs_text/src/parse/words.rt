@@ -13,7 +13,7 @@ pub fn is_word(word: &[u8], this: &[u8]) -> bool
     word == this
 }
 
-/// The words of a line that are left. Contracts see them as these words. (Profile of this project.)
+/// The words of a line that are left. Contracts see them as these words.
 #[derive(Drop)]
 pub struct Words<'a> {
     rest: Option<&'a [u8]>,
