@@ -15,35 +15,38 @@ use crate::leading::{Room, is_net_to};
 use cs_change::Change;
 use cs_normal::keyed::KeyedChanges;
 use cs_normal::{Normal, TableChanges};
-use cs_pending::{lent, standing_at};
+use cs_pending::{RowPlace, lent, standing_at};
 use cs_store::{RowStore, StoreFault};
 use cs_value::{Catalog, TableDef};
 use std::alloc::Global;
 
 /// Whether a change leads to what stood at its place before what is pending.
-// Eight parameters: allocator, store and catalog, the catalog's table with its number, the push's key and change, and the room written into.
+// Six parameters: allocator, store and catalog, the push's change and its place, and the room written into.
 fn leads_before<S: RowStore>(
     alloc: Global,
     store: &mut S,
     catalog: &Catalog,
-    table: &TableDef,
-    number: u32,
-    key: &[u8],
+    place: &RowPlace<'_>,
     change: &Change<'_>,
     room: &mut Room,
 ) -> Result<bool, StoreFault>
-    requires { slice_get catalog.now number ≡ Some table.now }
+    requires { slice_get catalog.now place.now.number ≡ Some place.now.table.now }
     ensures reads { ReadsStore S.RowStore Device
         (ShowsSome catalog.now (S.contents store.old)) store.old store.new result }
     ensures told { S.honest store.new → (view : View) → ShowsRows catalog.now (S.contents store.old) view
-        → IfOk result (λ is. IsTrue is ↔ IsNetTo table.now.key_marks change.now (middle view table.now.name key.now)) }
+        → IfOk result (λ is. IsTrue is ↔ IsNetTo place.now.table.now.key_marks change.now (middle view place.now.table.now.name place.now.key.now)) }
 {
-    let standing = match standing_at(alloc, store, catalog, table, number, key) {
+    let standing = match standing_at(alloc, store, catalog, place) {
         Ok(standing) => standing,
         Err(fault) => return Err(fault),
     };
-    let place = lent(&standing.base);
-    match is_net_to(table.key_marks.as_slice(), change, place.as_ref(), room) {
+    let base = lent(&standing.base);
+    match is_net_to(
+        place.table.key_marks.as_slice(),
+        change,
+        base.as_ref(),
+        room,
+    ) {
         Ok(is) => Ok(is),
         Err(fault) => Err(StoreFault::from(fault)),
     }
@@ -70,7 +73,8 @@ fn all_lead_before<S: RowStore>(
         let Some((key, change)) = changes.entry(at) else {
             unreachable!()
         };
-        match leads_before(alloc, store, catalog, table, number, key, &change, room) {
+        let place = RowPlace { table, number, key };
+        match leads_before(alloc, store, catalog, &place, &change, room) {
             Ok(true) => {}
             Ok(false) => return Ok(false),
             Err(fault) => return Err(fault),

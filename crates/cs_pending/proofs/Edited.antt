@@ -1,6 +1,6 @@
 -- Edits of one place: what they leave, and that it is a row of the table.
-use Rattle.std.proofs.Common.{◌≡◌, ℕ, suc, Bool, true, false, List, [], ◌∷◌, length, Some, None, Ok, refl, sym, ap, ◌∙◌, subst}
-use Rattle.std.specs.Prelude.{Contains, fold}
+use Rattle.std.proofs.Common.{◌≡◌, ◌⊎◌, ℕ, suc, Bool, true, false, List, [], ◌∷◌, length, Some, None, Ok, Err, inl, inr, refl, sym, ap, ◌∙◌, subst}
+use Rattle.std.specs.Prelude.{Contains}
 use Rattle.std.specs.List.{AllByRecursion, list_all}
 use Rattle.cs_value.specs.Catalog.{AreTables, marked, is_set}
 use Rattle.cs_value.specs.Laws.{OnePlaceOfName}
@@ -14,21 +14,14 @@ use Rattle.cs_record.specs.Spelling.{Fits}
 use Rattle.cs_change.specs.Columns.{set_columns, field_or}
 use Rattle.cs_normal.specs.Changes.{key_bytes}
 use Rattle.cs_normal.specs.State.{IsRowOf, MayStandAt}
-use Rattle.std.specs.FinMap.{len}
 use Rattle.cs_store.specs.Contents.{Contents}
-use Rattle.cs_store.specs.Laws.{KeepsOtherPending, KeepsOtherRows, WritesPending, WritesRows}
-use Rattle.cs_store.specs.Written.{after_batch, edit_body}
-use Rattle.cs_store.specs.declared.batch.Batch.{Batch}
-use Rattle.cs_store.specs.edits.Edits.{BodyEdit}
-use Rattle.cs_pending.specs.Settling.{AreWithin, IsWithin, Settles}
+use Rattle.cs_pending.specs.Settling.{IsStaged, Settles}
 use Rattle.cs_pending.specs.declared.settling.Settling.{Settling}
-use Rattle.cs_pending.specs.Steps.{rest_after, settles_none, shows_after}
 use Rattle.cs_store.specs.declared.fault.StoreFault.{StoreFault}
 use Rattle.cs_store.specs.declared.fault.StoreFault.TheVariants as stored
 use Rattle.cs_apply.specs.NormalTasks.{one_table}
-use Rattle.cs_pending.specs.Edits.{IsChangedBy, IsWantedAt, Leads, after_edit, edit_at, keeps_key, left_in}
-use Rattle.cs_pending.specs.Placing.{IsPutIn, IsStandingAt, MaySettle, StandsIn}
-use Rattle.cs_pending.specs.Shows.{ShowsRows}
+use Rattle.cs_pending.specs.Edits.{IsOfStore, IsWantedAt, after_edit, edit_at, keeps_key, left_in}
+use Rattle.cs_pending.specs.Placing.{StandsIn}
 use Rattle.cs_pending.specs.View.{View, edited, middle, settled}
 use Rattle.cs_pending.specs.declared.fault.EditFault.{EditFault}
 use Rattle.cs_pending.specs.declared.fault.EditFault.TheVariants.{Memory, Device}
@@ -99,55 +92,38 @@ module _ (tables : List TableDef) (are : AreTables tables) (one : OnePlaceOfName
   leads_to : (view : View) → StandsIn view table key before → edit_at table key wanted view ≡ Ok (edited table key mine view)
   leads_to view stands = ap (left_in table key view) (ap (after_edit wanted) (sym stands.mine_is) ∙ left)
 
-  pub may_settle : (view : View) (contents : Contents) → ShowsRows tables contents view → StandsIn view table key before → MaySettle tables view table key before mine
-  may_settle view contents shows stands = record {
-    stands = stands;
-    stays = left_stands tables are one table key inside wanted before.mine mine is
-        (subst (λ (p : Place). MayStandAt tables table.name key p) (sym stands.mine_is) (shows.sound.after_state table.name key)) left;
-  }
+  -- where it leaves what stands there, nothing changes
+  pub stays_staged : (contents : Contents) (begun : ℕ) (settling : Settling) (view : View) → same_place before.mine mine ≡ true → StandsIn view table key before
+      → Settles tables contents begun settling view → IsStaged tables contents begun (edit_at table key wanted) view settling
+  stays_staged contents begun settling view same stands settles =
+      let still : same_place (view.tables table.name key) mine ≡ true = ap (λ (p : Place). same_place p mine) (sym stands.mine_is) ∙ same in
+      let stays : edited table key mine view ≡ view = simp still refl in
+      (view, leads_to view stands ∙ ap Ok stays, settles)
 
-  -- another row or none was put there
-  pub put_changes : (old new : Contents) → same_place before.mine mine ≡ false → IsStandingAt tables old table key before → IsPutIn tables table key before mine old new → IsChangedBy tables (Leads (edit_at table key wanted)) old new
-  put_changes old new apart standing put = (
-    put.0,
-    λ view shows.
-        let stands = standing view shows in
-        let differs : same_place (view.tables table.name key) mine ≡ false = ap (λ (p : Place). same_place p mine) (sym stands.mine_is) ∙ apart in
-        let next : edited table key mine view ≡ settled table key (middle view table.name key) mine view = simp differs refl in
-        (settled table key (middle view table.name key) mine view, leads_to view stands ∙ ap Ok next, put.1 view shows (may_settle view old shows stands)),
-  )
+  -- else the place is settled
+  pub put_staged : (contents : Contents) (begun : ℕ) (old new : Settling) (view : View) → same_place before.mine mine ≡ false → StandsIn view table key before
+      → Settles tables contents begun old view
+      → (MayStandAt tables table.name key before.base → MayStandAt tables table.name key mine → Settles tables contents begun new (settled table key before.base mine view))
+      → IsStaged tables contents begun (edit_at table key wanted) view new
+  put_staged contents begun old new view apart stands settles claim =
+      let differs : same_place (view.tables table.name key) mine ≡ false = ap (λ (p : Place). same_place p mine) (sym stands.mine_is) ∙ apart in
+      let next : edited table key mine view ≡ settled table key (middle view table.name key) mine view = simp differs refl in
+      let base_stands = subst (λ (p : Place). MayStandAt tables table.name key p) (sym stands.base_is) (settles.sound.before_state table.name key) in
+      let stood = subst (λ (p : Place). MayStandAt tables table.name key p) (sym stands.mine_is) (settles.sound.after_state table.name key) in (
+        settled table key (middle view table.name key) mine view,
+        leads_to view stands ∙ ap Ok next,
+        subst (λ (b : Place). Settles tables contents begun new (settled table key b mine view)) stands.base_is
+            (claim base_stands (left_stands tables are one table key inside wanted before.mine mine is stood left)),
+      )
+
+-- what is refused at a place is refused of the view
+pub refused_at : (table : TableDef) (key : List ℕ) (wanted : Wanted) (before : Standing) (view : View) (fault : EditFault) → StandsIn view table key before
+    → (fault ≡ Memory) ⊎ (after_edit wanted before.mine ≡ Err fault) → IsOfStore fault ⊎ (edit_at table key wanted view ≡ Err fault)
+refused_at table key wanted before view fault stands (inl memory) = inl (inl memory)
+refused_at table key wanted before view fault stands (inr refused) =
+    inr (ap (left_in table key view) (ap (after_edit wanted) (sym stands.mine_is) ∙ refused))
 
 -- a fault of the store that is handed on as the device's
 pub was_device : (fault : StoreFault) (told : EditFault) → (fault ≡ stored.Memory → told ≡ Memory) → told ≡ Device → fault ≡ stored.Device
 was_device stored.Memory told memory is = absurd (let no = sym (memory refl) ∙ is in cc)
 was_device stored.Device told memory is = refl
-
--- ---- one place put
-
-module _ (tables : List TableDef) (number : ℕ) (table : TableDef) (key : List ℕ) (before : Standing) (mine : Place) (old : Contents) (begun : ℕ) (start settling : Settling)
-    (rows_none : start.rows ≡ []) (pending_none : start.pending ≡ []) (count_is : start.count ≡ begun)
-    (claim : (view : View) → MayStandAt tables table.name key before.base → MayStandAt tables table.name key mine → StandsIn view table key before → Settles tables old begun start view
-    → Settles tables old begun settling (settled table key before.base mine view)) where
-  pub settles_put : (view : View) → ShowsRows tables old view → MaySettle tables view table key before mine → Settles tables old begun settling (settled table key (middle view table.name key) mine view)
-  settles_put view shows may =
-      subst (λ (b : Place). Settles tables old begun settling (settled table key b mine view)) may.stands.base_is
-      (claim view (subst (λ (p : Place). MayStandAt tables table.name key p) (sym may.stands.base_is) (shows.sound.before_state table.name key)) may.stays may.stands
-      (settles_none tables old begun start view rows_none pending_none count_is shows))
-
-  pub put_in : WritesRows → WritesPending → KeepsOtherRows → KeepsOtherPending → (batch : Batch) → batch.rows ≡ settling.rows → batch.pending ≡ settling.pending → batch.meta.items ≡ [] → batch.log ≡ None
-      → IsWithin tables settling → IsPutIn tables table key before mine old (after_batch batch old)
-  put_in rows_law pending_law other_rows other_pending batch rows pending meta log within = (
-    rest_after tables old batch settling rows pending other_rows other_pending within meta log,
-    λ view shows may. shows_after tables old batch settling rows pending rows_law pending_law begun (settled table key (middle view table.name key) mine view) (settles_put view shows may),
-  )
-
-  pub put_counts : (batch : Batch) (new : Contents) → batch.pending ≡ settling.pending → new ≡ after_batch batch old → (view : View) → ShowsRows tables old view → MaySettle tables view table key before mine
-      → begun ≡ len old.pending → settling.count ≡ len new.pending
-  put_counts batch new pending is view shows may right =
-      (settles_put view shows may).counted right
-      ∙ ap (λ (es : List BodyEdit). len (fold edit_body old.pending es)) (sym pending)
-      ∙ ap (λ (c : Contents). len c.pending) (sym is)
-
--- edits of no place are within the tables
-pub none_within : (tables : List TableDef) (settling : Settling) → settling.rows ≡ [] → settling.pending ≡ [] → IsWithin tables settling
-none_within tables settling rows pending = (subst (λ (es : List BodyEdit). AreWithin tables es) (sym rows) tt, subst (λ (es : List BodyEdit). AreWithin tables es) (sym pending) tt)

@@ -1,4 +1,6 @@
 pub mod Reading
+pub mod Staged
+pub mod Several
 pub mod Views
 pub mod Edited
 pub mod Named

@@ -1,6 +1,6 @@
 -- Edits by the name of a table: from what was tested to what the edit is.
 use Rattle.std.proofs.Common.{◌≡◌, ◌≢◌, ◌<◌, ◌⊎◌, ℕ, suc, true, false, ◌&&◌, List, [], ◌∷◌, length, Option, Some, None, Result, Ok, Err, refl, sym, ap, subst, ◌∙◌, arith, inl, inr, get_or, nat_eq}
-use Rattle.std.specs.Prelude.{All, Contains, IfErr, slice_get}
+use Rattle.std.specs.Prelude.{All, Contains, IfErr, OnOk, slice_get}
 use Rattle.std.specs.List.{AllByRecursion, HoldsAt, list_all}
 use Rattle.std.specs.Str.{bytes_eq}
 use Rattle.std.proofs.lemmas.Bool.Decides.{Decides-eqb}
@@ -15,10 +15,13 @@ use Rattle.cs_normal.specs.Changes.{key_bytes}
 use Rattle.cs_store.specs.Contents.{Contents}
 use Rattle.cs_apply.specs.NormalTasks.{one_table}
 use Rattle.cs_apply.specs.Spots.{both_true, name_is, name_other, name_refl}
-use Rattle.cs_pending.specs.Edits.{Asked, IsChangedBy, Leads, asked_key, edit, edit_at, edit_found, IsOfStore, has_set_key, has_widths, leaves_key, named, wanted_of}
+use Rattle.cs_pending.specs.Edits.{Asked, asked_key, edit, edit_at, edit_found, edit_table, IsOfStore, has_set_key, has_widths, leaves_key, named, wanted_of}
+use Rattle.cs_pending.specs.Seeking.{IsRefused}
+use Rattle.cs_pending.specs.Settling.{IsStaged}
 use Rattle.cs_pending.specs.View.{View}
+use Rattle.cs_pending.specs.declared.settling.Settling.{Settling}
 use Rattle.cs_pending.specs.declared.fault.EditFault.{EditFault}
-use Rattle.cs_pending.specs.declared.fault.EditFault.TheVariants.{NoTable, Width, NullKey, KeyColumn}
+use Rattle.cs_pending.specs.declared.fault.EditFault.TheVariants.{Device, NoTable, Width, NullKey, KeyColumn}
 
 -- ---- the table with a name
 
@@ -63,28 +66,37 @@ found_there tables shown name place table same within is holds =
 
 -- ---- what the edit is
 
-module _ (tables : List TableDef) (name : List ℕ) (asked : Asked) where
-  pub no_table : named name tables ≡ None → (view : View) → edit tables name asked view ≡ Err NoTable
-  no_table e view = ap (λ (o : Option TableDef). edit_found o asked view) e
+pub no_table : (tables : List TableDef) (name : List ℕ) (asked : Asked) → named name tables ≡ None → (view : View) → edit tables name asked view ≡ Err NoTable
+no_table tables name asked e view = ap (λ (o : Option TableDef). edit_found o asked view) e
 
-  module _ (table : TableDef) (here : named name tables ≡ Some table) where
-    pub no_width : has_widths table asked ≡ false → (view : View) → edit tables name asked view ≡ Err Width
-    no_width w view = ap (λ (o : Option TableDef). edit_found o asked view) here ∙ simp w refl
+pub in_table : (tables : List TableDef) (name : List ℕ) (asked : Asked) (table : TableDef) → named name tables ≡ Some table → (view : View)
+    → edit tables name asked view ≡ edit_table table asked view
+in_table tables name asked table here view = ap (λ (o : Option TableDef). edit_found o asked view) here
 
-    pub no_set_key : has_widths table asked ≡ true → has_set_key table asked ≡ false → (view : View) → edit tables name asked view ≡ Err NullKey
-    no_set_key w s view = ap (λ (o : Option TableDef). edit_found o asked view) here ∙ simp (w, s) refl
+module _ (table : TableDef) (asked : Asked) where
+  pub no_width : has_widths table asked ≡ false → (view : View) → edit_table table asked view ≡ Err Width
+  no_width w view = simp w refl
 
-    pub no_kept_key : has_widths table asked ≡ true → has_set_key table asked ≡ true → leaves_key table asked ≡ false → (view : View) → edit tables name asked view ≡ Err KeyColumn
-    no_kept_key w s k view = ap (λ (o : Option TableDef). edit_found o asked view) here ∙ simp (w, s, k) refl
+  pub no_set_key : has_widths table asked ≡ true → has_set_key table asked ≡ false → (view : View) → edit_table table asked view ≡ Err NullKey
+  no_set_key w s view = simp (w, s) refl
 
-    pub at_place : has_widths table asked ≡ true → has_set_key table asked ≡ true → leaves_key table asked ≡ true → (view : View)
-        → edit tables name asked view ≡ edit_at table (key_bytes (asked_key table asked)) (wanted_of asked) view
-    at_place w s k view = ap (λ (o : Option TableDef). edit_found o asked view) here ∙ simp (w, s, k) refl
+  pub no_kept_key : has_widths table asked ≡ true → has_set_key table asked ≡ true → leaves_key table asked ≡ false → (view : View)
+      → edit_table table asked view ≡ Err KeyColumn
+  no_kept_key w s k view = simp (w, s, k) refl
 
--- what is said of one step is said of one that is the same
-pub changed_alike : (tables : List TableDef) (some other : View → Result View EditFault) (old new : Contents) → ((view : View) → other view ≡ some view) → IsChangedBy tables (Leads some) old new → IsChangedBy tables (Leads other) old new
-changed_alike tables some other old new same is =
-    (is.0, λ view shows. let s = is.1 view shows in (s.0, same view ∙ s.1, s.2))
+  pub at_place : has_widths table asked ≡ true → has_set_key table asked ≡ true → leaves_key table asked ≡ true → (view : View)
+      → edit_table table asked view ≡ edit_at table (key_bytes (asked_key table asked)) (wanted_of asked) view
+  at_place w s k view = simp (w, s, k) refl
+
+-- what is refused in a table is refused by its name
+pub refused_there : (tables : List TableDef) (name : List ℕ) (asked : Asked) (table : TableDef) → named name tables ≡ Some table → (view : View) (fault : EditFault)
+    → IsRefused table asked fault → IsOfStore fault ⊎ (edit tables name asked view ≡ Err fault)
+refused_there tables name asked table here view fault (inl memory) = inl (inl memory)
+refused_there tables name asked table here view fault (inr (other, refused)) = inr (in_table tables name asked table here view ∙ refused view)
+
+pub refused_apart : (table : TableDef) (asked : Asked) (fault : EditFault) → IsRefused table asked fault → fault ≡ Device → ⊥
+refused_apart table asked fault (inl memory) device = let no = sym memory ∙ device in cc
+refused_apart table asked fault (inr (other, refused)) device = other device
 
 -- ---- what was tested
 
@@ -109,11 +121,16 @@ key_null table row wide e =
     (λ t. t)
 
 -- what is told of one step is told of one that is the same
-pub told_as : (some other : Result View EditFault) (result : Result ℕ EditFault) → other ≡ some
+pub told_as : {T : Type 0} (some other : Result View EditFault) (result : Result T EditFault) → other ≡ some
     → IfErr result (λ fault. IsOfStore fault ⊎ (some ≡ Err fault)) → IfErr result (λ fault. IsOfStore fault ⊎ (other ≡ Err fault))
 told_as some other (Ok count) same told = tt
 told_as some other (Err fault) same (inl of) = inl of
 told_as some other (Err fault) same (inr is) = inr (same ∙ is)
+
+pub staged_as : {T : Type 0} (tables : List TableDef) (contents : Contents) (begun : ℕ) (some other : View → Result View EditFault) (view : View) (settling : Settling) (result : Result T EditFault)
+    → other view ≡ some view → OnOk result (IsStaged tables contents begun some view settling) → OnOk result (IsStaged tables contents begun other view settling)
+staged_as tables contents begun some other view settling (Ok t) same staged = (staged.0, same ∙ staged.1, staged.2)
+staged_as tables contents begun some other view settling (Err fault) same staged = tt
 
 pub both_counts : (a b m n : ℕ) → a ≡ b → m ≡ n → (nat_eq a b && nat_eq m n) ≡ true
 both_counts a b m n e f =

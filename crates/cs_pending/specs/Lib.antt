@@ -4,6 +4,8 @@ pub mod Calls
 pub mod Placing
 pub mod Settling
 pub mod Edits
+pub mod Seeking
+pub mod EditLists
 pub mod Laws
 pub mod Storing
 pub mod OnePlace

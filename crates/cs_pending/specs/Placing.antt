@@ -1,14 +1,14 @@
 -- What stands at a place, and stood there before what is pending.
 use Rattle.std.specs.Prelude.{◌≡◌, ℕ, Bool, List, Option, Some, None, option_map, IfSome}
+use Rattle.std.specs.Borrow.{Bor}
 use Rattle.cs_value.specs.Key.{Place}
 use Rattle.cs_value.specs.declared.catalog.TableDef.{TableDef}
 use Rattle.cs_change.specs.Spelling.{change_spelling, FitsChange}
 use Rattle.cs_change.specs.declared.change.Change.{Change}
 use Rattle.cs_store.specs.Contents.{Contents}
 use Rattle.cs_store.specs.States.{IsStored}
-use Rattle.cs_normal.specs.State.{MayStandAt}
-use Rattle.cs_pending.specs.View.{View, middle, settled}
-use Rattle.cs_pending.specs.Shows.{ShowsRows, SameRest}
+use Rattle.cs_pending.specs.View.{View, middle}
+use Rattle.cs_pending.specs.Shows.{ShowsRows}
 use Rattle.cs_pending.specs.declared.placing.Found.{Found}
 use Rattle.cs_pending.specs.declared.placing.Standing.{Standing}
 
@@ -21,6 +21,11 @@ abbrev pub StoresSomeChange : List Bool → Option (List ℕ) → Type 0
 StoresSomeChange marks stored =
     (change : Option Change) × (stored ≡ option_map change_spelling change) × IfSome change (FitsChange marks)
 
+-- the body or none that was found there, or what stood there before
+abbrev pub body_found : Option (Option (Bor (List ℕ))) → Option (List ℕ) → Option (List ℕ)
+body_found None stood = stood
+body_found (Some body) stood = option_map (λ b. b.now) body
+
 -- of a view
 pub record StandsIn (view : View) (table : TableDef) (key : List ℕ) (standing : Standing) : Type 0 where
   pub mine_is : standing.mine ≡ view.tables table.name key
@@ -30,18 +35,6 @@ pub record StandsIn (view : View) (table : TableDef) (key : List ℕ) (standing 
 abbrev pub IsStandingAt : List TableDef → Contents → TableDef → List ℕ → Standing → Type 0
 IsStandingAt tables contents table key standing =
     (view : View) → ShowsRows tables contents view → StandsIn view table key standing
-
--- this stands and stood there; and there may be a row of the table with that key, or none
-pub record MaySettle (tables : List TableDef) (view : View) (table : TableDef) (key : List ℕ) (before : Standing) (mine : Place) : Type 0 where
-  pub stands : StandsIn view table key before
-  pub stays : MayStandAt tables table.name key mine
-
--- contents in which this stands at a place now, where what is said stood, and nothing else has changed
-abbrev pub IsPutIn : List TableDef → TableDef → List ℕ → Standing → Place → Contents → Contents → Type 0
-IsPutIn tables table key before mine old new =
-    SameRest tables old new
-    × ((view : View) → ShowsRows tables old view → MaySettle tables view table key before mine
-    → ShowsRows tables new (settled table key (middle view table.name key) mine view))
 
 -- ---- as it is found
 

@@ -1,5 +1,5 @@
 -- Edits of rows and of pending changes in the making, place by place.
-use Rattle.std.specs.Prelude.{◌≡◌, ◌+◌, ◌-◌, ◌++◌, ◌∷◌, [], ℕ, Bool, true, false, if◌then◌else◌, List, Option, Some, option_map, IfSome, slice_get, length, ◌<◌, fold, Contains}
+use Rattle.std.specs.Prelude.{◌≡◌, ◌+◌, ◌-◌, ◌++◌, ◌∷◌, [], ℕ, Bool, true, false, if◌then◌else◌, List, Option, Some, option_map, IfSome, Ok, Result, slice_get, length, ◌<◌, fold, Contains}
 use Rattle.std.specs.List.{AllByRecursion}
 use Rattle.std.specs.FinMap.{len}
 use Rattle.cs_value.specs.declared.catalog.TableDef.{TableDef}
@@ -10,7 +10,7 @@ use Rattle.cs_store.specs.Laws.{row_after}
 use Rattle.cs_store.specs.Written.{edit_body}
 use Rattle.cs_store.specs.edits.Edits.{BodyEdit}
 use Rattle.cs_pending.specs.View.{View}
-use Rattle.cs_pending.specs.Shows.{IsSoundOf}
+use Rattle.cs_pending.specs.Shows.{IsSoundOf, SameRest, ShowsRows}
 use Rattle.cs_pending.specs.declared.settling.Settling.{Settling}
 
 -- a count, less one where a change was pending, and one more where one is
@@ -40,3 +40,17 @@ pub record Settles (tables : List TableDef) (contents : Contents) (begun : ℕ) 
   pub sound : IsSoundOf tables view.pending view.tables
   -- where the count was right, it is right after the edits
   pub counted : begun ≡ len contents.pending → settling.count ≡ len (fold edit_body contents.pending settling.pending)
+
+-- they lead to some view
+abbrev pub SettlesSome : List TableDef → Contents → Settling → Type 0
+SettlesSome tables contents settling = (begun : ℕ) × (view : View) × Settles tables contents begun settling view
+
+-- they lead to the view that a step leads to from this one
+abbrev pub IsStaged : {E : Type 0} → List TableDef → Contents → ℕ → (View → Result View E) → View → Settling → Type 0
+IsStaged tables contents begun step view settling = (next : View) × (step view ≡ Ok next) × Settles tables contents begun settling next
+
+-- contents that show the view to which the edits lead, and else the same; the count is right where it was
+pub record IsSettledIn (tables : List TableDef) (settling : Settling) (old new : Contents) : Type 0 where
+  pub rest : SameRest tables old new
+  pub shows : (begun : ℕ) (view : View) → Settles tables old begun settling view → ShowsRows tables new view
+  pub counted : (begun : ℕ) (view : View) → Settles tables old begun settling view → begun ≡ len old.pending → settling.count ≡ len new.pending

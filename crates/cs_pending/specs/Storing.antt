@@ -73,7 +73,47 @@ module _ {S : Type 0} (g : Ghosts S) where
     as_read = λ h r. b.as_read h (two (b.was_honest h) r) ∙ a.as_read (b.was_honest h) (one r);
   }
 
+  -- no call, and a fault that isn't the device's
+  pub not_read : {T E : Type 0} (device fault : E) (readable : Type 0) (old : S) → (fault ≡ device → ⊥) → ReadsStore g {T = T} device readable old old (Err fault)
+  not_read device fault readable old other = record {
+    was_honest = λ h. h;
+    same = λ h. refl;
+    crash = λ h left l. l;
+    kept = tt;
+    later = omega arith;
+    cause = λ e. absurd (other (err_is fault device e));
+    as_read = λ h r. refl;
+  }
+
+  -- what can be read where something else is shown
+  pub reads_if : {T E : Type 0} (device : E) (readable other : Type 0) (old new : S) (result : Result T E) → (other → readable)
+      → ReadsStore g device readable old new result → ReadsStore g device other old new result
+  reads_if device readable other old new result on reads = record {
+    was_honest = reads.was_honest;
+    same = reads.same;
+    crash = reads.crash;
+    kept = reads.kept;
+    later = reads.later;
+    cause = reads.cause;
+    as_read = λ h r. reads.as_read h (on r);
+  }
+
   -- ---- told as a write
+
+  -- a read that fails writes nothing
+  pub only_read : {T U E : Type 0} (device fault : E) (readable : Type 0) (after : Contents → Type 0) (old new : S) → ReadsStore g {T = T} device readable old new (Err fault)
+      → WritesStore g {T = U} device readable after old new (Err fault)
+  only_read device fault readable after old new reads = record {
+    was_honest = reads.was_honest;
+    ok = λ h. tt;
+    err = reads.same;
+    durable = λ h. tt;
+    crash = λ h left l. inl (reads.crash h left l);
+    kept = tt;
+    later = reads.later;
+    cause = λ e. reads.cause (same_err fault device e);
+    as_read = reads.as_read;
+  }
 
   or_written : (after : Contents → Type 0) (old : S) (whole left : Contents) → after whole → g.may_leave old left ⊎ (left ≡ whole) → g.may_leave old left ⊎ after left
   or_written after old whole left is (inl l) = inl l
@@ -92,6 +132,20 @@ module _ {S : Type 0} (g : Ghosts S) where
     later = commits.failures.later;
     cause = λ e. absurd cc;
     as_read = λ h r. commits.as_read;
+  }
+
+  pub nothing_written : {T E : Type 0} (device : E) (readable : Type 0) (after : Contents → Type 0) (old : S) (t : T) → (g.honest old → after (g.contents old))
+      → WritesStore g device readable after old old (Ok t)
+  nothing_written device readable after old t is = record {
+    was_honest = λ h. h;
+    ok = is;
+    err = λ h. tt;
+    durable = λ h left l. inr (l, refl);
+    crash = λ h left l. inl l;
+    kept = refl;
+    later = omega arith;
+    cause = λ e. absurd cc;
+    as_read = λ h r. refl;
   }
 
   pub not_committed : {T U : Type 0} (fault : StoreFault) (readable : Type 0) (after : Contents → Type 0) (whole : Contents) (old new : S) → (g.honest old → after whole)

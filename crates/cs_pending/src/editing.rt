@@ -1,104 +1,45 @@
-//! An edit of one place.
+//! An edit of one place, staged, and what is staged, written.
 
-ghost use Rattle.std.specs.Prelude.{◌≡◌, ◌⊎◌, Some, IfOk, IfErr, Err, slice_get};
+ghost use Rattle.std.specs.Prelude.{◌≡◌, ◌⊎◌, ℕ, Some, IfErr, IfOk, OnOk, Err, slice_get};
 ghost use Rattle.std.specs.FinMap.{len};
-ghost use Rattle.std.specs.Option.{option_copied};
 ghost use Rattle.cs_store.specs.declared.fault.StoreFault.TheVariants as stored;
-ghost use Rattle.cs_pending.specs.Calls.{WritesStore};
-ghost use Rattle.cs_pending.specs.Edits.{IsChangedBy, IsOfStore, IsWantedAt, Leads, edit_at};
-ghost use Rattle.cs_pending.specs.Placing.{IsPutIn, MaySettle, standing_found};
-ghost use Rattle.cs_pending.specs.Shows.{ShowsRows, ShowsSome};
+ghost use Rattle.cs_pending.specs.Calls.{ReadsStore, WritesStore};
+ghost use Rattle.cs_pending.specs.Edits.{IsOfStore, IsWantedAt, edit_at};
+ghost use Rattle.cs_pending.specs.Settling.{IsSettledIn, IsStaged, IsWithin, Settles, SettlesSome};
 ghost use Rattle.cs_pending.specs.View.{View};
 ghost use Rattle.cs_pending.specs.declared.fault.EditFault.TheVariants.{Device};
 
 use crate::fault::EditFault;
 use crate::places::{are_same, lent};
-use crate::placing::{Found, found_at};
+use crate::placing::{RowPlace, found_behind};
 use crate::settling::Settling;
 use crate::wanted::{Wanted, left_by};
-use cs_record::Row;
 use cs_store::{Batch, RowStore, StoreFault};
-use cs_value::{Catalog, TableDef};
+use cs_value::Catalog;
 use std::alloc::Global;
 
-/// Leaves another row or none at a place, in one commit. It answers how many changes are pending then. The place is told by its
-/// table, the table's number and its key; and what stood there, what is to stand there, and the count go with it.
-// Nine parameters: allocator and store, the catalog for the clauses, the place in three parts, what was just read there and what was made
-// of it, and the count.
-fn put_place<S: RowStore>(
+/// Stages an edit of a place behind others: the store is only read, and what the edit changes is settled. After an `Err` a part of it may be.
+pub(crate) fn stage_at<S: RowStore>(
     alloc: Global,
     store: &mut S,
     catalog: &Catalog,
-    table: &TableDef,
-    number: u32,
-    key: &[u8],
-    before: &Found,
-    mine: Option<&Row<'_>>,
-    pending: u64,
-) -> Result<u64, StoreFault>
-    requires there { slice_get catalog.now number ≡ Some table.now }
-    ensures writes { WritesStore S.RowStore stored.Device (ShowsSome catalog.now (S.contents store.old))
-        (IsPutIn catalog.now table.now key.now (standing_found before.now) (option_copied mine.entry) (S.contents store.old)) store.old store.new result }
-    ensures counted { S.honest store.new → (view : View) → ShowsRows catalog.now (S.contents store.old) view
-        → MaySettle catalog.now view table.now key.now (standing_found before.now) (option_copied mine.entry)
-        → pending ≡ len (S.contents store.old).pending → IfOk result (λ count. count ≡ len (S.contents store.new).pending) }
+    settling: &mut Settling,
+    place: &RowPlace<'_>,
+    wanted: &Wanted,
+) -> Result<(), EditFault>
+    requires there { slice_get catalog.now place.now.number ≡ Some place.now.table.now }
+    requires wanted { IsWantedAt place.now.table.now place.now.key.now wanted.now }
+    ensures reads { ReadsStore S.RowStore Device
+        (SettlesSome catalog.now (S.contents store.old) settling.old) store.old store.new result }
+    ensures within { IsWithin catalog.now settling.old → OnOk result (IsWithin catalog.now settling.new) }
+    ensures staged { S.honest store.new → (begun : ℕ) (view : View) → Settles catalog.now (S.contents store.old) begun settling.old view
+        → OnOk result (IsStaged catalog.now (S.contents store.old) begun (edit_at place.now.table.now place.now.key.now wanted.now) view settling.new) }
+    ensures refused { S.honest store.new → (begun : ℕ) (view : View) → Settles catalog.now (S.contents store.old) begun settling.old view
+        → IfErr result (λ fault. IsOfStore fault ⊎ (edit_at place.now.table.now place.now.key.now wanted.now view ≡ Err fault)) }
 {
     cs_value::laws::catalogs();
-    cs_normal::laws::one_key_stands();
-    cs_change::laws::net_takes();
-    cs_store::laws::commits();
-    let _tables = catalog.tables();
-    let mut settling = Settling::new(alloc, pending);
-    let stood = before.mine();
-    let base = before.base();
-    settling.settle_at(
-        alloc,
-        table,
-        number,
-        key,
-        stood.as_ref(),
-        base.as_ref(),
-        base.as_ref(),
-        mine,
-    )?;
-    let count = settling.count;
-    let batch = Batch {
-        rows: settling.rows,
-        pending: settling.pending,
-        meta: Vec::new(alloc),
-        log: None,
-    };
-    match store.commit(&batch) {
-        Ok(_) => Ok(count),
-        Err(fault) => Err(fault),
-    }
-}
-
-/// Makes an edit at a place. It answers how many changes are pending then. The place is told by its table, the table's number and
-/// its key; and what is wanted, and the count go with it.
-// Eight parameters: allocator, store and catalog, the place in three parts, what is wanted, and the count.
-pub(crate) fn edit_place<S: RowStore>(
-    alloc: Global,
-    store: &mut S,
-    catalog: &Catalog,
-    table: &TableDef,
-    number: u32,
-    key: &[u8],
-    wanted: &Wanted<'_>,
-    pending: u64,
-) -> Result<u64, EditFault>
-    requires there { slice_get catalog.now number ≡ Some table.now }
-    requires wanted { IsWantedAt table.now key.now wanted.now }
-    ensures writes { WritesStore S.RowStore Device (ShowsSome catalog.now (S.contents store.old))
-        (IsChangedBy catalog.now (Leads (edit_at table.now key.now wanted.now)) (S.contents store.old)) store.old store.new result }
-    ensures refused { S.honest store.new → (view : View) → ShowsRows catalog.now (S.contents store.old) view
-        → IfErr result (λ fault. IsOfStore fault ⊎ (edit_at table.now key.now wanted.now view ≡ Err fault)) }
-    ensures counted { S.honest store.new → ShowsSome catalog.now (S.contents store.old)
-        → pending ≡ len (S.contents store.old).pending → IfOk result (λ count. count ≡ len (S.contents store.new).pending) }
-{
-    cs_value::laws::catalogs();
-    let _tables = catalog.tables();
-    let before = match found_at(alloc, store, catalog, table, number, key) {
+    let tables = catalog.tables();
+    let before = match found_behind(alloc, store, catalog, settling, place) {
         Ok(before) => before,
         Err(fault) => return Err(EditFault::from(fault)),
     };
@@ -109,20 +50,45 @@ pub(crate) fn edit_place<S: RowStore>(
     };
     let row = lent(&mine);
     if are_same(stood.as_ref(), row.as_ref()) {
-        return Ok(pending);
+        return Ok(());
     }
-    match put_place(
+    let base = before.base();
+    settling.settle_at(
         alloc,
-        store,
-        catalog,
-        table,
-        number,
-        key,
-        &before,
+        place,
+        stood.as_ref(),
+        base.as_ref(),
+        base.as_ref(),
         row.as_ref(),
-        pending,
-    ) {
-        Ok(count) => Ok(count),
-        Err(fault) => Err(EditFault::from(fault)),
+    )?;
+    Ok(())
+}
+
+/// Writes what is settled, in one commit, or nothing where no edit is. Returns how many changes are pending then.
+pub(crate) fn write<S: RowStore>(
+    alloc: Global,
+    store: &mut S,
+    catalog: &Catalog,
+    settling: Settling,
+) -> Result<u64, StoreFault>
+    requires { IsWithin catalog.now settling }
+    ensures writes { WritesStore S.RowStore stored.Device (Unit {0}) (IsSettledIn catalog.now settling (S.contents store.old)) store.old store.new result }
+    ensures counts { IfOk result (λ count. count ≡ settling.count) }
+{
+    cs_store::laws::commits();
+    let _tables = catalog.tables();
+    let count = settling.count;
+    if settling.is_empty() {
+        return Ok(count);
+    }
+    let batch = Batch {
+        rows: settling.rows,
+        pending: settling.pending,
+        meta: Vec::new(alloc),
+        log: None,
+    };
+    match store.commit(&batch) {
+        Ok(_) => Ok(count),
+        Err(fault) => Err(fault),
     }
 }

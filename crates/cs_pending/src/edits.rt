@@ -1,25 +1,31 @@
 //! Edits by the name of a table, as an application asks for them.
 
-ghost use Rattle.std.specs.Prelude.{◌≡◌, ◌⊎◌, ◌&&◌, not, Err, IfOk, IfErr};
+ghost use Rattle.std.specs.Prelude.{◌≡◌, ◌⊎◌, ◌&&◌, ℕ, not, Err, IfOk, IfErr, OnOk};
 ghost use Rattle.std.specs.FinMap.{len};
 ghost use Rattle.std.specs.List.{AllByRecursion, list_all};
 ghost use Rattle.cs_value.specs.Catalog.{is_set};
 ghost use Rattle.cs_value.specs.declared.value.Field.TheVariants.{Is};
 ghost use Rattle.cs_record.specs.Spelling.{Fits, row_bytes};
 ghost use Rattle.cs_change.specs.Columns.{is_defined};
-ghost use Rattle.cs_pending.specs.Calls.{WritesStore};
+ghost use Rattle.cs_pending.specs.Calls.{ReadsStore, WritesStore};
 ghost use Rattle.cs_pending.specs.Edits.{AskDelete, AskInsert, AskUpdate, IsChangedBy, IsOfStore, Leads, edit, key_width as width_of, keeps_key};
+ghost use Rattle.cs_pending.specs.EditLists.{AreEdited, IsEditsFault, asked_of_edit, table_of_edit};
+ghost use Rattle.cs_pending.specs.Seeking.{IsRefused, IsSought, asked_of};
+ghost use Rattle.cs_pending.specs.Settling.{IsStaged, IsWithin, Settles, SettlesSome};
 ghost use Rattle.cs_pending.specs.Shows.{ShowsRows, ShowsSome};
 ghost use Rattle.cs_pending.specs.View.{View};
 ghost use Rattle.cs_pending.specs.declared.fault.EditFault.TheVariants.{Device};
+ghost use Rattle.cs_pending.specs.declared.fault.EditsFault.TheVariants as several;
 
-use crate::editing::edit_place;
-use crate::fault::EditFault;
+use crate::editing::{stage_at, write};
+use crate::fault::{EditFault, EditsFault};
 use crate::places::{record_with_room, row_with_room};
+use crate::placing::RowPlace;
+use crate::settling::Settling;
 use crate::wanted::Wanted;
 use cs_record::{RecordBuf, RowBuf};
 use cs_store::RowStore;
-use cs_value::{Catalog, Field, Key, Memory, Row, Value};
+use cs_value::{Catalog, Edit, Field, Key, Memory, Row, TableDef, Value};
 use std::alloc::Global;
 
 /// At most how many bytes a value takes. It says how much room to take, and is no part of a result.
@@ -148,36 +154,41 @@ fn are_kept(marks: &[bool], fields: &[Field]) -> bool
     true
 }
 
-/// Inserts a row into the table of a name, where `pending` changes are pending: one row and one pending change are written, in one
-/// commit. It answers how many changes are pending then. The first fault that holds is told: `NoTable`, `Width`, `NullKey`,
-/// `Exists`. (Profile of this project; what a session would record, by SQLite's "Session Extension".)
-// Six parameters: the allocator, a replica's store, catalog and count, which it lends apart, and the edit by a table's name and a row.
-pub fn insert_row<S: RowStore>(
-    alloc: Global,
-    store: &mut S,
-    catalog: &Catalog,
-    name: &str,
-    row: &Row,
-    pending: u64,
-) -> Result<u64, EditFault>
-    // The edit is made, in one commit; at `Err` nothing has changed.
-    ensures writes { WritesStore S.RowStore Device
-        (ShowsSome catalog.now (S.contents store.old))
-        (IsChangedBy catalog.now (Leads (edit catalog.now name.now (AskInsert row.now))) (S.contents store.old)) store.old store.new result }
+/// An edit of a row of a table, lent.
+#[derive(Clone, Copy)]
+pub enum RowEdit<'a> {
+    /// Puts in a row whose key stands nowhere yet.
+    Insert(&'a Row),
+    /// Puts fields into the row with a key. A field that is undefined stays as it is.
+    Update(&'a Key, &'a [Field]),
+    /// Takes away the row with a key.
+    Delete(&'a Key),
+}
 
-    // What is told is the fault of the edit, or one of the store.
-    ensures refused { S.honest store.new → (view : View) → ShowsRows catalog.now (S.contents store.old) view
-        → IfErr result (λ fault. IsOfStore fault ⊎ (edit catalog.now name.now (AskInsert row.now) view ≡ Err fault)) }
+impl<'a> RowEdit<'a> {
+    /// The name of an edit's table, and the edit, lent.
+    pub fn of(edit: &'a Edit) -> (&'a str, RowEdit<'a>)
+        ensures { (result.0.now ≡ table_of_edit edit.now) × (asked_of result.1 ≡ asked_of_edit edit.now) }
+    {
+        match edit {
+            Edit::Insert { table, row } => (table.as_str(), RowEdit::Insert(row)),
+            Edit::Update { table, key, fields } => (
+                table.as_str(),
+                RowEdit::Update(key, fields.as_slice()),
+            ),
+            Edit::Delete { table, key } => (table.as_str(), RowEdit::Delete(key)),
+        }
+    }
+}
 
-    // Where the count was right, it is right again.
-    ensures counted { S.honest store.new → ShowsSome catalog.now (S.contents store.old)
-        → pending ≡ len (S.contents store.old).pending → IfOk result (λ count. count ≡ len (S.contents store.new).pending) }
+/// The key of an edit, in its bytes, and what is wanted there.
+type Sought = (Vec<u8>, Wanted);
+
+/// Where an insert is in a table, and what it wants there.
+fn seek_insert(alloc: Global, table: &TableDef, row: &Row) -> Result<Sought, EditFault>
+    ensures sought { IfOk result (IsSought table.now (AskInsert row.now)) }
+    ensures refused { IfErr result (IsRefused table.now (AskInsert row.now)) }
 {
-    cs_value::laws::catalogs();
-    let Some(place) = catalog.find(name) else {
-        return Err(EditFault::NoTable);
-    };
-    let table = &catalog.tables()[place];
     if row.as_slice().len() != table.key_marks.as_slice().len() {
         return Err(EditFault::Width);
     }
@@ -186,50 +197,19 @@ pub fn insert_row<S: RowStore>(
     };
     let key = values_body(alloc, key.as_slice())?;
     let row = own_row(alloc, row.as_slice())?;
-    let wanted = Wanted::Insert(row.as_row());
-    edit_place(
-        alloc,
-        store,
-        catalog,
-        table,
-        place as u32,
-        key.as_slice(),
-        &wanted,
-        pending,
-    )
+    Ok((key, Wanted::Insert(row)))
 }
 
-/// Puts fields into the row with a key, in the table of a name, where `pending` changes are pending. A field that is undefined stays
-/// as it is. It answers how many changes are pending then; fields that change nothing write nothing. The first fault that
-/// holds is told: `NoTable`, `Width` (of key or fields), `NullKey`, `KeyColumn`, `Missing`.
-// Seven parameters: those of `insert_row`, with a key and fields in place of the row.
-pub fn update_row<S: RowStore>(
+/// The same of an update.
+fn seek_update(
     alloc: Global,
-    store: &mut S,
-    catalog: &Catalog,
-    name: &str,
+    table: &TableDef,
     key: &Key,
     fields: &[Field],
-    pending: u64,
-) -> Result<u64, EditFault>
-    // The edit is made, in one commit; at `Err` nothing has changed.
-    ensures writes { WritesStore S.RowStore Device
-        (ShowsSome catalog.now (S.contents store.old))
-        (IsChangedBy catalog.now (Leads (edit catalog.now name.now (AskUpdate key.now fields.now))) (S.contents store.old)) store.old store.new result }
-
-    // What is told is the fault of the edit, or one of the store.
-    ensures refused { S.honest store.new → (view : View) → ShowsRows catalog.now (S.contents store.old) view
-        → IfErr result (λ fault. IsOfStore fault ⊎ (edit catalog.now name.now (AskUpdate key.now fields.now) view ≡ Err fault)) }
-
-    // Where the count was right, it is right again.
-    ensures counted { S.honest store.new → ShowsSome catalog.now (S.contents store.old)
-        → pending ≡ len (S.contents store.old).pending → IfOk result (λ count. count ≡ len (S.contents store.new).pending) }
+) -> Result<Sought, EditFault>
+    ensures sought { IfOk result (IsSought table.now (AskUpdate key.now fields.now)) }
+    ensures refused { IfErr result (IsRefused table.now (AskUpdate key.now fields.now)) }
 {
-    cs_value::laws::catalogs();
-    let Some(place) = catalog.find(name) else {
-        return Err(EditFault::NoTable);
-    };
-    let table = &catalog.tables()[place];
     let marks = table.key_marks.as_slice();
     if key.as_slice().len() != key_width(marks) || fields.len() != marks.len() {
         return Err(EditFault::Width);
@@ -242,48 +222,14 @@ pub fn update_row<S: RowStore>(
     }
     let key = values_body(alloc, key.as_slice())?;
     let fields = own_fields(alloc, fields)?;
-    let wanted = Wanted::Update(fields.as_record());
-    edit_place(
-        alloc,
-        store,
-        catalog,
-        table,
-        place as u32,
-        key.as_slice(),
-        &wanted,
-        pending,
-    )
+    Ok((key, Wanted::Update(fields)))
 }
 
-/// Takes away the row with a key, in the table of a name, where `pending` changes are pending. It answers how many changes are
-/// pending then. The first fault that holds is told: `NoTable`, `Width`, `NullKey`, `Missing`.
-// Six parameters: those of `insert_row`, with a key in place of the row.
-pub fn delete_row<S: RowStore>(
-    alloc: Global,
-    store: &mut S,
-    catalog: &Catalog,
-    name: &str,
-    key: &Key,
-    pending: u64,
-) -> Result<u64, EditFault>
-    // The edit is made, in one commit; at `Err` nothing has changed.
-    ensures writes { WritesStore S.RowStore Device
-        (ShowsSome catalog.now (S.contents store.old))
-        (IsChangedBy catalog.now (Leads (edit catalog.now name.now (AskDelete key.now))) (S.contents store.old)) store.old store.new result }
-
-    // What is told is the fault of the edit, or one of the store.
-    ensures refused { S.honest store.new → (view : View) → ShowsRows catalog.now (S.contents store.old) view
-        → IfErr result (λ fault. IsOfStore fault ⊎ (edit catalog.now name.now (AskDelete key.now) view ≡ Err fault)) }
-
-    // Where the count was right, it is right again.
-    ensures counted { S.honest store.new → ShowsSome catalog.now (S.contents store.old)
-        → pending ≡ len (S.contents store.old).pending → IfOk result (λ count. count ≡ len (S.contents store.new).pending) }
+/// The same of a delete.
+fn seek_delete(alloc: Global, table: &TableDef, key: &Key) -> Result<Sought, EditFault>
+    ensures sought { IfOk result (IsSought table.now (AskDelete key.now)) }
+    ensures refused { IfErr result (IsRefused table.now (AskDelete key.now)) }
 {
-    cs_value::laws::catalogs();
-    let Some(place) = catalog.find(name) else {
-        return Err(EditFault::NoTable);
-    };
-    let table = &catalog.tables()[place];
     if key.as_slice().len() != key_width(table.key_marks.as_slice()) {
         return Err(EditFault::Width);
     }
@@ -291,14 +237,131 @@ pub fn delete_row<S: RowStore>(
         return Err(EditFault::NullKey);
     }
     let key = values_body(alloc, key.as_slice())?;
-    edit_place(
-        alloc,
-        store,
-        catalog,
+    Ok((key, Wanted::Delete))
+}
+
+/// Where an edit is in a table, and what it wants there.
+fn seek(alloc: Global, table: &TableDef, edit: &RowEdit<'_>) -> Result<Sought, EditFault>
+    ensures sought { IfOk result (IsSought table.now (asked_of edit.now)) }
+    ensures refused { IfErr result (IsRefused table.now (asked_of edit.now)) }
+{
+    match edit {
+        RowEdit::Insert(row) => seek_insert(alloc, table, row),
+        RowEdit::Update(key, fields) => seek_update(alloc, table, key, fields),
+        RowEdit::Delete(key) => seek_delete(alloc, table, key),
+    }
+}
+
+/// Stages an edit in the table with a name, behind others. After an `Err` a part of it may be settled.
+fn stage<S: RowStore>(
+    alloc: Global,
+    store: &mut S,
+    catalog: &Catalog,
+    settling: &mut Settling,
+    name: &str,
+    row_edit: &RowEdit<'_>,
+) -> Result<(), EditFault>
+    ensures reads { ReadsStore S.RowStore Device
+        (SettlesSome catalog.now (S.contents store.old) settling.old) store.old store.new result }
+    ensures within { IsWithin catalog.now settling.old → OnOk result (IsWithin catalog.now settling.new) }
+    ensures staged { S.honest store.new → (begun : ℕ) (view : View) → Settles catalog.now (S.contents store.old) begun settling.old view
+        → OnOk result (IsStaged catalog.now (S.contents store.old) begun (edit catalog.now name.now (asked_of row_edit.now)) view settling.new) }
+    ensures refused { S.honest store.new → (begun : ℕ) (view : View) → Settles catalog.now (S.contents store.old) begun settling.old view
+        → IfErr result (λ fault. IsOfStore fault ⊎ (edit catalog.now name.now (asked_of row_edit.now) view ≡ Err fault)) }
+{
+    cs_value::laws::catalogs();
+    let Some(at) = catalog.find(name) else {
+        return Err(EditFault::NoTable);
+    };
+    let table = &catalog.tables()[at];
+    let (key, wanted) = match seek(alloc, table, row_edit) {
+        Ok(sought) => sought,
+        Err(fault) => return Err(fault),
+    };
+    let place = RowPlace {
         table,
-        place as u32,
-        key.as_slice(),
-        &Wanted::Delete,
-        pending,
-    )
+        number: at as u32,
+        key: key.as_slice(),
+    };
+    stage_at(alloc, store, catalog, settling, &place, &wanted)
+}
+
+/// Edits a row of the table with a name, where so many changes are pending: one row and one pending change are written, in one commit.
+/// Returns how many changes are pending then. An edit that changes nothing writes nothing. (What a session would record, by SQLite's
+/// "Session Extension".)
+///
+/// # Errors
+///
+/// The first fault that holds: `NoTable`, `Width` (of a row, a key or fields), `NullKey`, `KeyColumn`, `Exists`, `Missing`; `Memory` and `Device`.
+// Six parameters: the allocator, a replica's store, catalog and count, which it lends apart, and the edit by a table's name.
+pub fn edit_row<S: RowStore>(
+    alloc: Global,
+    store: &mut S,
+    catalog: &Catalog,
+    name: &str,
+    row_edit: &RowEdit<'_>,
+    pending: u64,
+) -> Result<u64, EditFault>
+    // The edit is made, in one commit; at `Err` nothing has changed.
+    ensures writes { WritesStore S.RowStore Device
+        (ShowsSome catalog.now (S.contents store.old))
+        (IsChangedBy catalog.now (Leads (edit catalog.now name.now (asked_of row_edit.now))) (S.contents store.old)) store.old store.new result }
+
+    // What is told is the fault of the edit, or one of the store.
+    ensures refused { S.honest store.new → (view : View) → ShowsRows catalog.now (S.contents store.old) view
+        → IfErr result (λ fault. IsOfStore fault ⊎ (edit catalog.now name.now (asked_of row_edit.now) view ≡ Err fault)) }
+
+    // Where the count was right, it is right again.
+    ensures counted { S.honest store.new → ShowsSome catalog.now (S.contents store.old)
+        → pending ≡ len (S.contents store.old).pending → IfOk result (λ count. count ≡ len (S.contents store.new).pending) }
+{
+    let mut settling = Settling::new(alloc, pending);
+    match stage(alloc, store, catalog, &mut settling, name, row_edit) {
+        Ok(()) => {}
+        Err(fault) => return Err(fault),
+    }
+    match write(alloc, store, catalog, settling) {
+        Ok(count) => Ok(count),
+        Err(fault) => Err(EditFault::from(fault)),
+    }
+}
+
+/// Makes edits one behind another, all or none, where so many changes are pending: what they leave together is written in one commit.
+/// Returns how many changes are pending then. Each edit is looked up among those before it, so a list of n takes time by n squared.
+///
+/// # Errors
+///
+/// `Refused` at the first edit that is refused behind those before it; `Memory` and `Device`. Nothing has changed then.
+pub fn edit_rows<S: RowStore>(
+    alloc: Global,
+    store: &mut S,
+    catalog: &Catalog,
+    edits: &[Edit],
+    pending: u64,
+) -> Result<u64, EditsFault>
+    // All are made, in one commit; at `Err` nothing has changed.
+    ensures writes { WritesStore S.RowStore several.Device
+        (ShowsSome catalog.now (S.contents store.old))
+        (IsChangedBy catalog.now (AreEdited catalog.now edits.now) (S.contents store.old)) store.old store.new result }
+
+    // What is told is the fault of the first that is refused, or one of the store.
+    ensures refused { S.honest store.new → (view : View) → ShowsRows catalog.now (S.contents store.old) view
+        → IfErr result (IsEditsFault catalog.now edits.now view) }
+
+    // Where the count was right, it is right again.
+    ensures counted { S.honest store.new → ShowsSome catalog.now (S.contents store.old)
+        → pending ≡ len (S.contents store.old).pending → IfOk result (λ count. count ≡ len (S.contents store.new).pending) }
+{
+    let mut settling = Settling::new(alloc, pending);
+    for at in 0..edits.len() {
+        let (name, row_edit) = RowEdit::of(&edits[at]);
+        match stage(alloc, store, catalog, &mut settling, name, &row_edit) {
+            Ok(()) => {}
+            Err(fault) => return Err(EditsFault::of_edit(at, fault)),
+        }
+    }
+    match write(alloc, store, catalog, settling) {
+        Ok(count) => Ok(count),
+        Err(fault) => Err(EditsFault::from(fault)),
+    }
 }

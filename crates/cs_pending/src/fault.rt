@@ -1,7 +1,9 @@
-//! Why an edit is refused.
+//! Why an edit is refused, or several.
 
 ghost use Rattle.std.specs.Prelude.{◌≡◌};
+ghost use Rattle.cs_pending.specs.EditLists.{fault_at};
 ghost use Rattle.cs_pending.specs.declared.fault.EditFault.TheVariants.{Memory, Device};
+ghost use Rattle.cs_pending.specs.declared.fault.EditsFault.TheVariants as several;
 ghost use Rattle.cs_store.specs.declared.fault.StoreFault.TheVariants as stored;
 
 use cs_store::StoreFault;
@@ -61,6 +63,52 @@ impl From<StoreFault> for EditFault {
         match fault {
             StoreFault::Memory => EditFault::Memory,
             StoreFault::Device => EditFault::Device,
+        }
+    }
+}
+
+/// Why edits that are one commit are refused. Nothing has changed then.
+#[derive(Clone, Copy, Debug, PartialEq, Eq, Error)]
+pub enum EditsFault {
+    /// Memory was refused. It may come before any other fault.
+    #[error("Memory")]
+    Memory,
+    /// As `EditFault::Device`.
+    #[error("Device")]
+    Device,
+    /// The edit there, the first being 0, is refused behind those before it.
+    #[error("{fault} at {at}")]
+    Refused { at: usize, fault: EditFault },
+}
+
+impl EditsFault {
+    /// The fault of the edit there.
+    pub(crate) fn of_edit(at: usize, fault: EditFault) -> EditsFault
+        ensures { result ≡ fault_at at fault }
+    {
+        match fault {
+            EditFault::Memory => EditsFault::Memory,
+            EditFault::Device => EditsFault::Device,
+            _ => EditsFault::Refused { at, fault },
+        }
+    }
+}
+
+impl From<AllocError> for EditsFault {
+    ghost from_gives = { λ _ e. e ≡ several.Memory };
+
+    fn from(_e: AllocError) -> EditsFault {
+        EditsFault::Memory
+    }
+}
+
+impl From<StoreFault> for EditsFault {
+    ghost from_gives = { λ fault e. (fault ≡ stored.Memory → e ≡ several.Memory) × (fault ≡ stored.Device → e ≡ several.Device) };
+
+    fn from(fault: StoreFault) -> EditsFault {
+        match fault {
+            StoreFault::Memory => EditsFault::Memory,
+            StoreFault::Device => EditsFault::Device,
         }
     }
 }

@@ -1,7 +1,7 @@
 //! Edits of rows while changes are pending, in any store. At each place that was edited a store keeps the row that stands there and
 //! the net change that leads to it from the row that stood there before, so an edit is one commit of one row and one pending
-//! change, whatever else is pending. `insert_row`, `update_row` and `delete_row` do that for an application, by a table's name,
-//! and refuse by the first fault that holds. For a replica above, `standing_at` reads what stands at a place and what stood
+//! change, whatever else is pending. `edit_row` does that for an application, by a table's name, and refuses by the first fault
+//! that holds; `edit_rows` makes several edits one commit. For a replica above, `standing_at` reads what stands at a place and what stood
 //! there before what is pending, and `Settling` gathers the edits of several places for one commit; `lent`, `copied` and `undone`
 //! are of rows or none in their bytes.
 //! The crate stands on stores (`cs_store`), on net changes (`cs_change::netting`) and on the places of tables (`cs_apply`). `rows` lists rows, `position` is where a
@@ -22,8 +22,8 @@ pub mod rows;
 mod settling;
 mod wanted;
 
-pub use edits::{delete_row, insert_row, update_row};
-pub use fault::EditFault;
+pub use edits::{RowEdit, edit_row, edit_rows};
+pub use fault::{EditFault, EditsFault};
 pub use places::{copied, lent, undone};
-pub use placing::{Standing, standing_at};
+pub use placing::{RowPlace, Standing, standing_at};
 pub use settling::Settling;

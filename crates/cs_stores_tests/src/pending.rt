@@ -95,24 +95,17 @@ fn make<S: RowStore>(
     match step {
         Step::Insert(name, row) => {
             let row = values_of(alloc, row)?;
-            insert_row(alloc, store, catalog, name, &row, pending)
+            edit_row(alloc, store, catalog, name, &RowEdit::Insert(&row), pending)
         }
         Step::Update(name, key, fields) => {
             let key = values_of(alloc, key)?;
             let fields = fields_of(alloc, fields)?;
-            update_row(
-                alloc,
-                store,
-                catalog,
-                name,
-                &key,
-                fields.as_slice(),
-                pending,
-            )
+            let edit = RowEdit::Update(&key, fields.as_slice());
+            edit_row(alloc, store, catalog, name, &edit, pending)
         }
         Step::Delete(name, key) => {
             let key = values_of(alloc, key)?;
-            delete_row(alloc, store, catalog, name, &key, pending)
+            edit_row(alloc, store, catalog, name, &RowEdit::Delete(&key), pending)
         }
     }
 }
@@ -350,7 +343,7 @@ fn put_thousand<S: RowStore>(
         values.push(Value::Int(number + 10))?;
         values.push(Value::Null)?;
         let row = Items::from_vec(values);
-        pending = insert_row(alloc, store, catalog, "t", &row, pending)?;
+        pending = edit_row(alloc, store, catalog, "t", &RowEdit::Insert(&row), pending)?;
     }
     Ok(pending)
 }

@@ -19,7 +19,7 @@ use crate::taking::site::Site;
 use cs_apply::placement::Placed;
 use cs_change::outcome;
 use cs_normal::Normal;
-use cs_pending::{Settling, Standing, lent, standing_at};
+use cs_pending::{RowPlace, Settling, Standing, lent, standing_at};
 use cs_record::RowBuf;
 use cs_store::{RowStore, StoreFault};
 use cs_value::{Catalog, Memory};
@@ -40,14 +40,12 @@ fn own_and_log<S: RowStore>(
         → IfOk result (λ found. StandsIn view placed.now.table.now placed.now.key.now found.0
         × (found.1 ≡ log_rows flight.now view placed.now.table.now.name placed.now.key.now)) }
 {
-    let standing = match standing_at(
-        alloc,
-        store,
-        catalog,
-        placed.table,
-        placed.number,
-        placed.key,
-    ) {
+    let place = RowPlace {
+        table: placed.table,
+        number: placed.number,
+        key: placed.key,
+    };
+    let standing = match standing_at(alloc, store, catalog, &place) {
         Ok(standing) => standing,
         Err(fault) => return Err(fault),
     };
@@ -79,15 +77,12 @@ pub(crate) fn settle_at(
 {
     let base = lent(base);
     let mine = lent(mine);
-    settling.settle(
-        alloc,
-        placed.table,
-        placed.number,
-        placed.key,
-        before,
-        base.as_ref(),
-        mine.as_ref(),
-    )
+    let place = RowPlace {
+        table: placed.table,
+        number: placed.number,
+        key: placed.key,
+    };
+    settling.settle(alloc, &place, before, base.as_ref(), mine.as_ref())
 }
 
 /// Makes what is under way at a place pending over the log's row.

@@ -1,5 +1,5 @@
 -- The values that a store keeps of a replica.
-use Rattle.std.specs.Prelude.{ℕ, List, [], ◌++◌, map, option_map, Option, Some, None}
+use Rattle.std.specs.Prelude.{ℕ, List, ◌++◌, map, option_map, Option, Some, None}
 use Rattle.std.specs.List.{flat_map}
 use Rattle.cs_value.specs.declared.catalog.TableDef.{TableDef}
 use Rattle.cs_change.specs.Spelling.{flag_byte, header_spelling}

@@ -1,5 +1,5 @@
 -- An entry's changes, and how what it does is spelled.
-use Rattle.std.specs.Prelude.{ℕ, List, Unit}
+use Rattle.std.specs.Prelude.{ℕ, List}
 use Rattle.cs_normal.specs.Normal.{normal_spelling}
 use Rattle.cs_normal.specs.declared.normal.TableChanges.{TableChanges}
 use Rattle.cs_store.specs.declared.log.body.Body.{Body}
@@ -15,7 +15,7 @@ entry_changes entry = changes_of_body entry.body
 
 -- a body that leaves the catalog as it is
 abbrev pub WidensNone : Body → Type 0
-WidensNone (Changes changes) = Unit
+WidensNone (Changes changes) = Unit {0}
 
 -- the byte that tells the kind of body
 abbrev pub kind_of : Body → ℕ

@@ -4,4 +4,4 @@ use Rattle.cs_pending.proofs.settling.push_row.Goals as goal
 
 pub returns : goal.returns
 returns c =
-    ok_weaker c.push_edit.result _ _ (pushed_as _ c.args.number c.args.key.now _ _ _ _ (ap not (sym c.are_same.ensures ∙ c.if-are_same.false)) c.row_body.ensures) c.push_edit.ensures
+    ok_weaker c.push_edit.result _ _ (pushed_as _ c.args.place.now.number c.args.place.now.key.now _ _ _ _ (ap not (sym c.are_same.ensures ∙ c.if-are_same.false)) c.row_body.ensures) c.push_edit.ensures
