@@ -15,7 +15,6 @@ use Rattle.cs_pending.specs.position.Shows.{ShowsAt}
 use Rattle.cs_pending.specs.declared.position.position.Position.{Position}
 use Rattle.cs_exchange.specs.pushing.Pushes.{confirmed}
 use Rattle.cs_exchange.specs.pulling.Laws.{IsOfList, ListHasResult, ToldHasResult}
-use Rattle.cs_exchange.specs.pulling.Merged.{TakesTold}
 use Rattle.cs_exchange.specs.declared.pulling.fault.AnswerFault.{AnswerFault}
 use Rattle.cs_exchange.specs.declared.pulling.fault.AnswerFault.TheVariants.{Memory, Device, BadEntry}
 use Rattle.cs_exchange.specs.declared.pulling.listing.Pulled.{Pulled}
@@ -25,7 +24,7 @@ use Rattle.cs_wire.specs.declared.answer.Answer.{Answer}
 use Rattle.cs_wire.specs.declared.answer.Answer.TheVariants.{Short, Entries, Merged}
 use Rattle.cs_wire.specs.declared.short_answer.ShortAnswer.TheVariants as short
 use Rattle.cs_replica.specs.Accepted.{IsAccepted}
-use Rattle.cs_replica.specs.Answered.{Answers, IsForIt, TellsMerged, told_of}
+use Rattle.cs_replica.specs.Answered.{Answers, IsForIt, told_of}
 use Rattle.cs_replica.specs.Laws.{AnswerHasResult, IsOfAnswer}
 use Rattle.cs_replica.specs.declared.told.Told.{Told}
 use Rattle.cs_replica.specs.declared.told.Told.TheVariants.{Confirmed, Ignored, Stale, Refused, Taken}
@@ -70,16 +69,6 @@ of_answer (Err (Memory count)) of = of
 of_answer (Err (Device count)) of = of
 of_answer (Err (BadEntry count)) of = tt
 
--- what is told of changes from the version up to one above it is told of the answer
-merged_as : {P : Type 0} (picks : P → Clash → Wish → P → Type 0) (tables : List TableDef) (origin first next : ℕ) (changeset : List ℕ) (position : Position) (before : View) (p : P) (other : Position) (new : Contents) (q : P)
-    → IsForIt position origin first → first < next → (result : Result Pulled AnswerFault) → TakesTold picks tables next changeset result position before p other new q
-    → TellsMerged picks tables origin first next changeset (told_of result) position before p other new q
-merged_as picks tables origin first next changeset position before p other new q meant above (Ok (pulled.Taken count)) takes = (meant, inr (above, takes))
-merged_as picks tables origin first next changeset position before p other new q meant above (Ok (pulled.Stopped count)) takes = (meant, above, takes)
-merged_as picks tables origin first next changeset position before p other new q meant above (Err (Memory count)) takes = (meant, above, takes)
-merged_as picks tables origin first next changeset position before p other new q meant above (Err (Device count)) takes = (meant, above, takes)
-merged_as picks tables origin first next changeset position before p other new q meant above (Err (BadEntry count)) takes = (meant, inr (above, takes))
-
 module _ (shown_next : NextIsShown) {P : Type 0} (picks : P → Clash → Wish → P → Type 0) (is_ready : P → Type 0) (lists : ListHasResult picks is_ready) (told : ToldHasResult picks is_ready) where
   module _ (tables : List TableDef) (old : Contents) (position : Position) (before : View) (p : P) (shows : ShowsAt tables old position before) where
     abbrev Told_of : Answer → Type 0
@@ -88,26 +77,26 @@ module _ (shown_next : NextIsShown) {P : Type 0} (picks : P → Clash → Wish �
     by_accepted : (origin number version : ℕ) → OrNot (IsAccepted position origin number version) → Told_of (Short (short.Accepted origin number version))
     by_accepted origin number version (inl is) =
         let left = shown_next tables old position (position.version + 1) in
-        (Ok (Confirmed version), confirmed position, left.0, p, tt, ((is, refl, refl), (left.1 before shows, refl)))
-    by_accepted origin number version (inr other) = (Ok Ignored, position, old, p, tt, ((other, refl), (shows, refl)))
+        (Ok (Confirmed version), confirmed position, left.0, p, tt, (inl (is, refl, refl), (left.1 before shows, refl)))
+    by_accepted origin number version (inr other) = (Ok Ignored, position, old, p, tt, (inr (inl (other, refl, refl)), (shows, refl)))
 
     module _ (are : AreTables tables) (answers : AnswersLawfully picks is_ready) (ready : is_ready p) (origin first next : ℕ) (changeset : List ℕ) (small : AreBytes changeset) where
       by_place : IsForIt position origin first → (next < first) ⊎ (first ≤ next) → (first < next) ⊎ (next ≤ first) → Told_of (Merged origin first next changeset)
-      by_place meant (inl less) order = (Err (BadEntry 0), position, old, p, tt, (meant, inl (less, refl, refl, (shows, refl))))
-      by_place meant (inr least) (inr most) = (Ok (Taken 0), position, old, p, tt, (meant, inl (omega (arith, least, most), refl, refl, (shows, refl))))
+      by_place meant (inl less) order = (Err (BadEntry 0), position, old, p, tt, inr (inr (inl (meant, less, refl, (refl, (shows, refl))))))
+      by_place meant (inr least) (inr most) = (Ok (Taken 0), position, old, p, tt, inr (inl (meant, omega (arith, least, most), refl, (refl, (shows, refl)))))
       by_place meant (inr least) (inl above) =
           let one = told tables next changeset old position before p are small (omega (arith, meant.1, above)) shows answers ready in
-          (told_of one.0, one.1, one.2, one.3, of_answer one.0 one.4, merged_as picks tables origin first next changeset position before p one.1 one.2 one.3 meant above one.0 one.5)
+          (told_of one.0, one.1, one.2, one.3, of_answer one.0 one.4, inr (inr (inr (meant, above, one.0, refl, one.5))))
 
       by_meant : OrNot (IsForIt position origin first) → Told_of (Merged origin first next changeset)
       by_meant (inl meant) = by_place meant (cases_lt next first) (cases_lt first next)
-      by_meant (inr other) = (Ok Ignored, position, old, p, tt, (other, refl, (shows, refl)))
+      by_meant (inr other) = (Ok Ignored, position, old, p, tt, inl (other, refl, (refl, (shows, refl))))
 
   pub answer_has_result : AnswerHasResult picks is_ready
   answer_has_result tables (Short (short.Accepted origin number version)) old position before p are small ranged shows answers ready =
       by_accepted tables old position before p shows origin number version (accepted_or_not position origin number version)
-  answer_has_result tables (Short (short.Stale newest)) old position before p are small ranged shows answers ready = (Ok (Stale newest), position, old, p, tt, (refl, refl, (shows, refl)))
-  answer_has_result tables (Short (short.Refused code)) old position before p are small ranged shows answers ready = (Ok (Refused code), position, old, p, tt, (refl, refl, (shows, refl)))
+  answer_has_result tables (Short (short.Stale newest)) old position before p are small ranged shows answers ready = (Ok (Stale newest), position, old, p, tt, (refl, (refl, (shows, refl))))
+  answer_has_result tables (Short (short.Refused code)) old position before p are small ranged shows answers ready = (Ok (Refused code), position, old, p, tt, (refl, (refl, (shows, refl))))
   answer_has_result tables (Entries first entries) old position before p are small ranged shows answers ready =
       let list = lists tables first entries old position before p are small ranged shows answers ready in
       (told_of list.0, list.1, list.2, list.3, of_answer list.0 list.4, (list.0, refl, list.5))

@@ -1,5 +1,5 @@
 -- What is said of entries, and of changes that are told together, is said of the answer.
-use Rattle.std.proofs.Common.{◌≡◌, ◌<◌, ℕ, List, Result, Ok, Err, refl, sym, ap, ap₂, subst, ◌∙◌, inl, inr}
+use Rattle.std.proofs.Common.{◌≡◌, ◌<◌, ℕ, List, Result, Ok, refl, sym, ap, ap₂, subst, ◌∙◌, inl, inr}
 use Rattle.cs_value.specs.declared.catalog.TableDef.{TableDef}
 use Rattle.cs_store.specs.Contents.{Contents}
 use Rattle.cs_store.specs.declared.store.RowStore.{Ghosts}
@@ -10,9 +10,8 @@ use Rattle.cs_pending.specs.position.Shows.{ShowsAt}
 use Rattle.cs_pending.specs.declared.position.position.Position.{Position}
 use Rattle.cs_exchange.specs.pulling.Calls.{WritesInTurn}
 use Rattle.cs_exchange.specs.pulling.Listed.{IsAmong, IsNextOf, PullsList}
-use Rattle.cs_exchange.specs.pulling.Merged.{IsToldNext, IsToldTaken, TakesTold}
+use Rattle.cs_exchange.specs.pulling.Merged.{IsToldNext, IsToldTaken}
 use Rattle.cs_exchange.specs.declared.pulling.fault.AnswerFault.{AnswerFault}
-use Rattle.cs_exchange.specs.declared.pulling.fault.AnswerFault.TheVariants as fault
 use Rattle.cs_exchange.specs.declared.pulling.listing.Pulled.{Pulled}
 use Rattle.cs_wire.specs.Entries.{ToldEntry}
 use Rattle.cs_wire.specs.declared.answer.Answer.{Answer}
@@ -81,17 +80,9 @@ module _ {P S : Type 0} (picks : P → Clash → Wish → P → Type 0) (g : Gho
     as_read = w.as_read;
   }
 
--- and what is told of a fault
-pub told_fault : {P : Type 0} (picks : P → Clash → Wish → P → Type 0) (tables : List TableDef) (next : ℕ) (changeset : List ℕ) (position : Position) (before : View) (p : P) (other : Position) (new : Contents) (q : P) (fault : AnswerFault)
-    → position.version < next → TakesTold picks tables next changeset (Err fault) position before p other new q
-    → TellsMerged picks tables position.id position.version next changeset (Err fault) position before p other new q
-told_fault picks tables next changeset position before p other new q (fault.Memory count) above takes = ((refl, refl), above, takes)
-told_fault picks tables next changeset position before p other new q (fault.Device count) above takes = ((refl, refl), above, takes)
-told_fault picks tables next changeset position before p other new q (fault.BadEntry count) above takes = ((refl, refl), inr (above, takes))
-
--- or that aren't for it
+-- Changes that aren't for it.
 pub merged_ignored : {P : Type 0} (picks : P → Clash → Wish → P → Type 0) (tables : List TableDef) (answer : Answer) (origin first next : ℕ) (changeset : List ℕ) → answer ≡ Merged origin first next changeset
     → (position : Position) → (IsForIt position origin first → ⊥) → (before : View) (p : P) (new : Contents) → ShowsAt tables new position before
     → Answers picks tables answer (Ok Ignored) position before p position new p
 merged_ignored picks tables answer origin first next changeset is position away before p new shows =
-    subst (λ (a : Answer). Answers picks tables a (Ok Ignored) position before p position new p) (sym is) (away, refl, (shows, refl))
+    subst (λ (a : Answer). Answers picks tables a (Ok Ignored) position before p position new p) (sym is) (inl (away, refl, (refl, (shows, refl))))

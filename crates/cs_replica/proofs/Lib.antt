@@ -4,4 +4,9 @@ mod Answered
 mod Reopened
 mod OneAnswer
 mod AnswerSome
-pub mod MemberLemmas
+mod Stepped
+mod OneEdit
+mod EditCan
+mod OnePush
+mod PushCan
+mod OneHeard

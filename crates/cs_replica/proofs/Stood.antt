@@ -1,8 +1,9 @@
 -- Replicas that stand on a log.
 use Rattle.std.proofs.Common.{◌≡◌, ◌≤◌, ◌+◌, ℕ, zero, suc, List, [], ◌∷◌, map, take, drop, Option, Some, None, length, option_map, refl, sym, ap, subst, ◌∙◌, arith, length-append}
-use Rattle.std.specs.Prelude.{slice_get, Contains, pos}
+use Rattle.std.specs.Prelude.{All, slice_get, Contains, pos}
 use Rattle.std.specs.FinMap.{empty, empty_of_len, get, get-empty}
 use Rattle.std.proofs.lemmas.List.{drop-take, get_or_default}
+use Rattle.std.proofs.lemmas.List.Elements.{All-cons, All-nil}
 use Rattle.std.proofs.lemmas.Option.{same_Some, slice_get_within, slice_get-get_or}
 use Rattle.cs_value.specs.Key.{Place}
 use Rattle.cs_value.specs.declared.catalog.TableDef.{TableDef}
@@ -12,9 +13,11 @@ use Rattle.cs_change.specs.declared.change.Change.{Change}
 use Rattle.cs_normal.specs.Normal.{FitsCatalog, change_of}
 use Rattle.cs_normal.specs.State.{AreApplied, AreSame, IsApplied, NetIsApplied, State}
 use Rattle.cs_normal.specs.declared.normal.TableChanges.{TableChanges}
-use Rattle.cs_store.specs.log.Entry.{entry_changes}
-use Rattle.cs_store.specs.log.Laws.{LongerLog, Slices}
+use Rattle.cs_store.specs.log.Entry.{WidensNone, entry_changes}
+use Rattle.cs_store.specs.log.Laws.{LongerLog, PlainSlices}
 use Rattle.cs_store.specs.log.Log.{IsLog, entries_between, tables_at}
+use Rattle.cs_store.specs.declared.log.body.Body.{Body}
+use Rattle.cs_store.specs.declared.log.body.Body.TheVariants.{Changes}
 use Rattle.cs_store.specs.declared.log.entry.LogEntry.{LogEntry}
 use Rattle.cs_store.specs.Contents.{Bodies, Contents, place_cmp, stored_pending}
 use Rattle.cs_pending.specs.Laws.{EditKeepsBefore}
@@ -80,16 +83,22 @@ lead_stands tables log next changes position other view left within leads versio
       ∙ ap (λ (v : ℕ). tables_at log v n k) (sym version);
 }
 
+plain : (body : Body) → WidensNone body
+plain (Changes changes) = tt
+
+abbrev IsPlain : LogEntry → Type 0
+IsPlain entry = WidensNone entry.body
+
 -- what one entry makes of the log's rows there is those at the next version
-entry_leads : Slices → (tables : List TableDef) (log : List LogEntry) (version : ℕ) (entry : LogEntry) → IsLog tables log → slice_get log version ≡ Some entry → version + 1 ≤ length log
+entry_leads : PlainSlices → (tables : List TableDef) (log : List LogEntry) (version : ℕ) (entry : LogEntry) → IsLog tables log → slice_get log version ≡ Some entry → version + 1 ≤ length log
     → IsApplied tables (entry_changes entry) (tables_at log version) (tables_at log (version + 1))
 entry_leads law tables log version entry is at within =
     let one : entries_between log version (version + 1) ≡ entry ∷ [] = drop-take version 1 log ∙ one_there log version entry at in
     let slice = subst (λ (es : List LogEntry). AreApplied tables (map entry_changes es) (tables_at log version) (tables_at log (version + 1))) one
-    (law tables log version (version + 1) is (omega arith)) in
+    (law tables log version (version + 1) is (omega arith) (subst (All IsPlain) (sym one) (All-cons IsPlain entry [] (plain entry.body) (All-nil IsPlain)))) in
     (slice.1.0, λ n k. slice.1.1 n k ∙ ap (λ (p : Place). Some p) (sym (slice.2 n k)))
 
-pub entry_stands : Slices → EntryStands
+pub entry_stands : PlainSlices → EntryStands
 entry_stands law tables log entry position other view next is at version applied stands =
     let within = slice_get_within log position.version entry at in
     let room : position.version + 1 ≤ length log = omega (arith, within) in

@@ -7,4 +7,7 @@ pub mod Answered
 pub mod Stands
 pub mod Laws
 pub use Rattle.cs_opening.specs.moving.Moved
-pub mod member
+pub mod Step
+pub mod Leaves
+pub mod Same
+pub mod StepLaws

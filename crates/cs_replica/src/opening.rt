@@ -15,7 +15,7 @@ use cs_value::{Catalog, TableDef};
 use std::alloc::Global;
 
 /// The numbers of a position are in range.
-fn in_range(position: &Position)
+pub(crate) fn in_range(position: &Position)
     ensures { FitsPosition position.now }
 {
     let _id = position.id;

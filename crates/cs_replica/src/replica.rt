@@ -1,19 +1,18 @@
 //! A replica over any store.
 
-ghost use Rattle.std.specs.Prelude.{◌≡◌, ◌⊎◌, ◌≤◌, ◌<◌, ◌-◌, ◌^◌, [], Some, length, slice_get, MatchResult, Ok, Err, IfOk, IfErr, IsSome, OnOk, OnErr};
+ghost use Rattle.std.specs.Prelude.{◌≡◌, ◌⊎◌, ◌≤◌, ◌<◌, ◌-◌, ◌^◌, [], length, MatchResult, Ok, Err, IfOk, IfErr, OnOk, OnErr};
 ghost use Rattle.std.specs.Option.{option_copied};
 ghost use Rattle.cs_pending.specs.Calls.{ReadsStore, WritesStore};
-ghost use Rattle.cs_pending.specs.Edits.{AskDelete, AskInsert, AskUpdate, IsOfStore, edit};
+ghost use Rattle.cs_pending.specs.Edits.{AskDelete, AskInsert, AskUpdate, IsOfStore, edit as edit_of};
 ghost use Rattle.cs_pending.specs.View.{View};
 ghost use Rattle.cs_pending.specs.declared.fault.EditFault.TheVariants.{Device};
 ghost use Rattle.cs_pending.specs.outgoing.Outgoing.{IsOutgoing};
 ghost use Rattle.cs_store.specs.declared.fault.StoreFault.TheVariants as stored;
-ghost use Rattle.cs_pending.specs.rows.Rows.{AreRowsOf};
-ghost use Rattle.cs_value.specs.declared.catalog.TableDef.{TableDef};
 ghost use Rattle.cs_opening.specs.moving.Moved.{IsStoreFault, IsStoreOpened};
 ghost use Rattle.cs_opening.specs.declared.fault.OpenFault.TheVariants as opening;
-ghost use Rattle.cs_pending.specs.position.Shows.{ShowsSomeAt, flown};
-ghost use Rattle.cs_exchange.specs.pushing.Pushes.{IsPushFault, IsPushMadeIn, IsPushOf, IsResendFault, request_of};
+ghost use Rattle.cs_pending.specs.position.Laws.{FitsPosition};
+ghost use Rattle.cs_pending.specs.position.Shows.{ShowsSomeAt};
+ghost use Rattle.cs_exchange.specs.pushing.Pushes.{IsPushFault, IsPushMadeIn, IsPushOf};
 ghost use Rattle.cs_exchange.specs.declared.pushing.fault.PushFault.TheVariants as push;
 ghost use Rattle.cs_wire.specs.Requests.{HasShortChangeset, asked_by_owned};
 ghost use Rattle.cs_exchange.specs.taking.Takes.{IsTakenTo, brought, taken};
@@ -25,11 +24,13 @@ ghost use Rattle.cs_replica.specs.Answered.{Answers, IsAnsweredAmong, IsAnswered
 ghost use Rattle.cs_replica.specs.Edited.{IsEditedIn, with_pending};
 ghost use Rattle.cs_replica.specs.Flight.{flight_entry};
 ghost use Rattle.cs_replica.specs.Holding.{Shows};
+ghost use Rattle.cs_replica.specs.Leaves.{CallLeaves, Counts};
 ghost use Rattle.cs_replica.specs.Opened.{Opens, Reopens};
+ghost use Rattle.cs_replica.specs.Step.{AreRowsIn, IsAnsweredTo, IsEditedBy, IsEditedTo, IsPushedTo, IsResent, Turns, asked_of_edit, table_of_edit};
 
 use crate::answering::answer_at;
-use crate::editing::{delete_at, insert_at, update_at};
-use crate::opening::reopen_at;
+use crate::editing::{delete_at, edit_at, insert_at, update_at};
+use crate::opening::{in_range, reopen_at};
 use crate::showing::{gather_at, rows_at};
 use crate::told::Told;
 use cs_conflict::Picker;
@@ -44,7 +45,7 @@ use cs_pending::position::Position;
 use cs_pending::rows::RowAtKey;
 use cs_store::log::{Body, LogEntry};
 use cs_store::{RowStore, StoreFault};
-use cs_value::{Catalog, Field, Key, Memory, Row};
+use cs_value::{Catalog, Edit, Field, Key, Memory, Row};
 use cs_wire::{Answer, RequestBuf};
 use std::alloc::Global;
 use std::marker::Model;
@@ -135,11 +136,12 @@ impl<S: RowStore> Replica<S> {
         Ok(())
     }
 
-    /// Where its store is honest, it shows rows, and what is pending, at its position.
+    /// Where its store is honest, it shows rows, and what is pending, at its position. The numbers of that are in range.
     pub fn shown(&self)
-        ensures { S.honest self.now.store → (view : View) × Shows S.contents self.now view }
+        ensures shown { S.honest self.now.store → (view : View) × Shows S.contents self.now view }
+        ensures fits { FitsPosition self.now.position }
     {
-        let _ = &self.store;
+        in_range(&self.position);
     }
 
     /// Its id. It takes no memory.
@@ -190,8 +192,8 @@ impl<S: RowStore> Replica<S> {
     /// the last table. The store is only read. (Profile of this project.)
     pub fn rows(&mut self, alloc: Global, table: usize) -> Result<Vec<RowAtKey>, StoreFault>
         // They are the rows that the store shows.
-        ensures listed { S.honest self.new.store → (view : View) → Shows S.contents self.old view → (def : TableDef)
-            → slice_get self.old.catalog table ≡ Some def → IfOk result (λ rows. AreRowsOf (view.tables def.name) rows.items) }
+        ensures listed { S.honest self.new.store → (view : View) → Shows S.contents self.old view
+            → IfOk result (λ rows. AreRowsIn self.old.catalog view.tables table rows.items) }
         ensures none { length self.old.catalog ≤ table → IfOk result (λ rows. rows.items ≡ []) }
 
         // The store is only read, and the replica stays as it is.
@@ -199,6 +201,11 @@ impl<S: RowStore> Replica<S> {
             (ShowsSomeAt self.old.catalog self.old.position (S.contents self.old.store)) self.old.store self.new.store result }
         ensures catalog { self.new.catalog ≡ self.old.catalog }
         ensures kept { self.new.position ≡ self.old.position }
+
+        // What it shows is the same, and so is what a stop leaves.
+        ensures turned { Turns S.RowStore (λ before after. after ≡ before) self.old self.new }
+        ensures left { CallLeaves S.RowStore (λ position now left. ⊥) self.old self.new }
+        ensures counts { Counts S.RowStore (result ≡ Err stored.Device) self.old self.new }
     {
         rows_at(alloc, &mut self.store, &self.catalog, &self.position, table)
     }
@@ -212,7 +219,7 @@ impl<S: RowStore> Replica<S> {
 
         // What is told is the fault of the edit, or one of the store.
         ensures refused { S.honest self.new.store → (view : View) → Shows S.contents self.old view
-            → IfErr result (λ fault. IsOfStore fault ⊎ (edit self.old.catalog table.now (AskInsert row.now) view ≡ Err fault)) }
+            → IfErr result (λ fault. IsOfStore fault ⊎ (edit_of self.old.catalog table.now (AskInsert row.now) view ≡ Err fault)) }
 
         // The tables, the version, the number and the flight stay.
         ensures catalog { self.new.catalog ≡ self.old.catalog }
@@ -245,7 +252,7 @@ impl<S: RowStore> Replica<S> {
 
         // What is told is the fault of the edit, or one of the store.
         ensures refused { S.honest self.new.store → (view : View) → Shows S.contents self.old view
-            → IfErr result (λ fault. IsOfStore fault ⊎ (edit self.old.catalog table.now (AskUpdate key.now fields.now) view ≡ Err fault)) }
+            → IfErr result (λ fault. IsOfStore fault ⊎ (edit_of self.old.catalog table.now (AskUpdate key.now fields.now) view ≡ Err fault)) }
 
         // The tables, the version, the number and the flight stay.
         ensures catalog { self.new.catalog ≡ self.old.catalog }
@@ -272,7 +279,7 @@ impl<S: RowStore> Replica<S> {
 
         // What is told is the fault of the edit, or one of the store.
         ensures refused { S.honest self.new.store → (view : View) → Shows S.contents self.old view
-            → IfErr result (λ fault. IsOfStore fault ⊎ (edit self.old.catalog table.now (AskDelete key.now) view ≡ Err fault)) }
+            → IfErr result (λ fault. IsOfStore fault ⊎ (edit_of self.old.catalog table.now (AskDelete key.now) view ≡ Err fault)) }
 
         // The tables, the version, the number and the flight stay.
         ensures catalog { self.new.catalog ≡ self.old.catalog }
@@ -287,6 +294,38 @@ impl<S: RowStore> Replica<S> {
             table,
             key,
         )
+    }
+
+    /// Makes an edit of one row, as `insert`, `update` or `delete` does, with the same faults.
+    pub fn edit(&mut self, alloc: Global, edit: &Edit) -> Result<(), EditFault>
+        // The edit is made, in one commit; at `Err` nothing has changed.
+        ensures writes { WritesStore S.RowStore Device (ShowsSomeAt self.old.catalog self.old.position (S.contents self.old.store))
+            (IsEditedIn self.old.catalog self.old.position (table_of_edit edit.now) (asked_of_edit edit.now) (S.contents self.old.store)) self.old.store self.new.store result }
+
+        // What is told is the fault of the edit, or one of the store.
+        ensures refused { S.honest self.new.store → (view : View) → Shows S.contents self.old view
+            → IfErr result (λ fault. IsOfStore fault ⊎ (edit_of self.old.catalog (table_of_edit edit.now) (asked_of_edit edit.now) view ≡ Err fault)) }
+
+        // The tables, the version, the number and the flight stay.
+        ensures catalog { self.new.catalog ≡ self.old.catalog }
+        ensures moved { OnOk result (self.new.position ≡ with_pending self.old.position self.new.position.pending) }
+        ensures kept { OnErr result (self.new.position ≡ self.old.position) }
+
+        // The step that it is, what a stop leaves, and that a failed device is told only where its count rose.
+        ensures turned { Turns S.RowStore (IsEditedTo self.old.catalog edit.now result) self.old self.new }
+        ensures left { CallLeaves S.RowStore (IsEditedBy self.old.catalog edit.now) self.old self.new }
+        ensures counts { Counts S.RowStore (result ≡ Err Device) self.old self.new }
+    {
+        cs_pending::position::laws::one_position();
+        let edited = edit_at(
+            alloc,
+            &mut self.store,
+            &self.catalog,
+            &mut self.position,
+            edit,
+        );
+        self.shown();
+        edited
     }
 
     /// Makes what is pending the push that is under way, in one commit before it answers, and gives the request that tells the hub
@@ -307,19 +346,28 @@ impl<S: RowStore> Replica<S> {
         // The tables stay, and at `Err` the position.
         ensures catalog { self.new.catalog ≡ self.old.catalog }
         ensures kept { OnErr result (self.new.position ≡ self.old.position) }
+
+        // The step that it is, what a stop leaves, and that a failed device is told only where its count rose.
+        ensures turned { Turns S.RowStore (IsPushedTo self.old.catalog result) self.old self.new }
+        ensures left { CallLeaves S.RowStore (IsPushMadeIn self.old.catalog) self.old self.new }
+        ensures counts { Counts S.RowStore (result ≡ Err push.Device) self.old self.new }
     {
-        make_push(alloc, &mut self.store, &self.catalog, &mut self.position)
+        cs_pending::position::laws::one_position();
+        let pushed = make_push(alloc, &mut self.store, &self.catalog, &mut self.position);
+        self.shown();
+        pushed
     }
 
     /// Gives the request of the push that is under way once more: the same bytes. `Nothing` where none is. (Profile of this
     /// project.)
     pub fn resend(&self, alloc: Global) -> Result<RequestBuf, PushFault>
-        ensures there { IfOk result (λ _. IsSome self.now.position.flight) }
-        ensures request { IfOk result (λ request. asked_by_owned request ≡ request_of self.now.position (flown self.now.position.flight)) }
+        ensures resent { IsResent result self.now.position }
         ensures short { IfOk result (λ request. HasShortChangeset (asked_by_owned request)) }
-        ensures refused { IfErr result (λ fault. IsResendFault fault self.now.position) }
     {
-        resend(alloc, &self.position)
+        match resend(alloc, &self.position) {
+            Ok(request) => Ok(request),
+            Err(fault) => Err(fault),
+        }
     }
 
     /// The push that is under way, as the entry of the log that it would be; `None` where none is. (Profile of this project.)
@@ -449,15 +497,23 @@ impl<S: RowStore> Replica<S> {
             (IsAnsweredAmong P.picks self.old.catalog answer.now self.old.position (S.contents self.old.store) picker.old)
             (IsAnsweredNext P.picks self.old.catalog answer.now self.new.position (S.contents self.new.store)) self.old.store self.new.store }
         ensures catalog { self.new.catalog ≡ self.old.catalog }
+
+        // The step that it is, what a stop leaves, and that a failed device is told only where its count rose.
+        ensures turned { Turns S.RowStore (IsAnsweredTo P.picks self.old.catalog answer.now picker.old result) self.old self.new }
+        ensures left { CallLeaves S.RowStore (IsAnsweredNext P.picks self.old.catalog answer.now) self.old self.new }
+        ensures counts { Counts S.RowStore (SaysDevice result) self.old self.new }
     {
-        answer_at(
+        cs_pending::position::laws::one_position();
+        let told = answer_at(
             alloc,
             &mut self.store,
             &self.catalog,
             &mut self.position,
             answer,
             picker,
-        )
+        );
+        self.shown();
+        told
     }
 
     /// The store, as it is. It takes no memory.

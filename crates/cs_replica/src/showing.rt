@@ -1,13 +1,12 @@
 //! What a replica shows: what is pending, and rows.
 
-ghost use Rattle.std.specs.Prelude.{◌≡◌, ◌≤◌, [], IfOk, Some, length, slice_get};
-ghost use Rattle.cs_pending.specs.rows.Rows.{AreRowsOf};
-ghost use Rattle.cs_value.specs.declared.catalog.TableDef.{TableDef};
+ghost use Rattle.std.specs.Prelude.{◌≡◌, ◌≤◌, [], IfOk, length};
 ghost use Rattle.cs_store.specs.declared.fault.StoreFault.TheVariants.{Device};
 ghost use Rattle.cs_pending.specs.Calls.{ReadsStore};
 ghost use Rattle.cs_pending.specs.View.{View};
 ghost use Rattle.cs_pending.specs.outgoing.Outgoing.{IsOutgoing};
 ghost use Rattle.cs_pending.specs.position.Shows.{ShowsAt, ShowsSomeAt};
+ghost use Rattle.cs_replica.specs.Step.{AreRowsIn};
 
 use cs_pending::outgoing::{Outgoing, gather};
 use cs_pending::position::Position;
@@ -44,8 +43,8 @@ pub(crate) fn rows_at<S: RowStore>(
 ) -> Result<Vec<RowAtKey>, StoreFault>
     ensures reads { ReadsStore S.RowStore Device
         (ShowsSomeAt catalog.now _position.now (S.contents store.old)) store.old store.new result }
-    ensures listed { S.honest store.new → (view : View) → ShowsAt catalog.now (S.contents store.old) _position.now view → (def : TableDef)
-        → slice_get catalog.now table ≡ Some def → IfOk result (λ rows. AreRowsOf (view.tables def.name) rows.items) }
+    ensures listed { S.honest store.new → (view : View) → ShowsAt catalog.now (S.contents store.old) _position.now view
+        → IfOk result (λ rows. AreRowsIn catalog.now view.tables table rows.items) }
     ensures none { length catalog.now ≤ table → IfOk result (λ rows. rows.items ≡ []) }
 {
     match rows_of(alloc, store, catalog, table) {

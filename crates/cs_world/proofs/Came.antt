@@ -5,7 +5,7 @@ use Rattle.cs_conflict.specs.declared.wish.Wish.{Wish}
 use Rattle.cs_hub.specs.Serves.{ServesIf}
 use Rattle.cs_hub.specs.judgement.Judged.{hub_of}
 use Rattle.cs_store.specs.declared.log.entry.LogEntry.{LogEntry}
-use Rattle.cs_replica.specs.member.Member.{IsAskedAgain, IsEditedTo, IsPushAsked}
+use Rattle.cs_replica.specs.Step.{IsAskedAgain, IsEditedTo, IsPushAsked}
 use Rattle.cs_normal.specs.declared.normal.TableChanges.{TableChanges}
 use Rattle.cs_opening.specs.declared.fault.OpenFault.{OpenFault}
 use Rattle.cs_opening.specs.declared.fault.OpenFault.TheVariants as opening

@@ -6,8 +6,8 @@ use Rattle.cs_hub.specs.Serves.{Serves, ServesIf}
 use Rattle.cs_hub.specs.judgement.Hub.{HubState}
 use Rattle.cs_hub.specs.judgement.Judged.{hub_of}
 use Rattle.cs_store.specs.declared.log.entry.LogEntry.{LogEntry}
-use Rattle.cs_replica.specs.member.Laws.{IsOfEdit, IsOfPushed, OneEdited, OneHeard, OnePushed, OneResent}
-use Rattle.cs_replica.specs.member.Same.{IsSameMember, IsShown}
+use Rattle.cs_replica.specs.StepLaws.{IsOfEdit, IsOfPushed, OneEdited, OneHeard, OnePushed, OneResent}
+use Rattle.cs_replica.specs.Same.{IsSameMember, IsShown}
 use Rattle.cs_opening.specs.declared.fault.OpenFault.{OpenFault}
 use Rattle.cs_pending.specs.declared.fault.EditFault.{EditFault}
 use Rattle.cs_pending.specs.declared.position.position.Position.{Position}

@@ -1,7 +1,7 @@
 -- Counts of failures, from one call to the next.
 use Rattle.std.proofs.Common.{◌≡◌, ◌≤◌, ◌∙◌, ℕ, List, [], ◌∷◌, Some, slice_get, slice_set, refl, sym, ap, subst, inl, inr, arith}
 use Rattle.cs_hub.specs.Holding as hub
-use Rattle.cs_replica.specs.member.Leaves.{Counts}
+use Rattle.cs_replica.specs.Leaves.{Counts}
 use Rattle.cs_replica.specs.Holding as replica
 use Rattle.cs_store.specs.Calls.{MoreFailures}
 use Rattle.cs_store.specs.declared.store.RowStore.{Ghosts}

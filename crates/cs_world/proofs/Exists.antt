@@ -23,8 +23,8 @@ use Rattle.cs_hub.specs.declared.judgement.push.Pushed.TheVariants as pushed
 use Rattle.cs_store.specs.declared.log.entry.LogEntry.{LogEntry}
 use Rattle.cs_store.specs.log.Entry.{entry_changes}
 use Rattle.cs_store.specs.log.Stored.{AreChangesOf}
-use Rattle.cs_replica.specs.member.Laws.{EditHasResult, IsInRange, IsOfEdit, IsOfPushed, PushHasResult}
-use Rattle.cs_replica.specs.member.Member.{IsEditedTo, IsPushAsked}
+use Rattle.cs_replica.specs.StepLaws.{EditHasResult, IsInRange, IsOfEdit, IsOfPushed, PushHasResult}
+use Rattle.cs_replica.specs.Step.{IsEditedTo, IsPushAsked}
 use Rattle.cs_normalising.specs.Laws.{NormalAgain}
 use Rattle.cs_normal.specs.Laws.{NormalIsTaken}
 use Rattle.cs_normal.specs.Normal.{groups_of}
@@ -35,6 +35,7 @@ use Rattle.cs_pending.specs.position.Shows.{ShowsAt}
 use Rattle.cs_pending.specs.declared.position.position.Position.{Position}
 use Rattle.cs_exchange.specs.declared.pulling.fault.AnswerFault.{AnswerFault}
 use Rattle.cs_exchange.specs.declared.pulling.fault.AnswerFault.TheVariants as hearing
+use Rattle.cs_exchange.specs.declared.pulling.listing.Pulled.TheVariants as pulled
 use Rattle.cs_exchange.specs.pushing.Laws.{IsOfPush}
 use Rattle.cs_exchange.specs.pushing.Pushes.{grounded, pushed as pushed_position, request_of}
 use Rattle.cs_exchange.specs.declared.pushing.fault.PushFault.{PushFault}
@@ -43,7 +44,6 @@ use Rattle.cs_replica.specs.Answered.{Answers, TellsMerged}
 use Rattle.cs_replica.specs.Edited.{with_pending}
 use Rattle.cs_replica.specs.Laws.{AnswerHasResult, IsInBytes, IsOfAnswer}
 use Rattle.cs_replica.specs.declared.told.Told.{Told}
-use Rattle.cs_replica.specs.declared.told.Told.TheVariants as heard_as
 use Rattle.cs_store.specs.Contents.{Contents}
 use Rattle.cs_exchange.specs.taking.Laws.{AnswersLawfully}
 use Rattle.cs_value.specs.declared.catalog.TableDef.{TableDef}
@@ -236,24 +236,21 @@ entries_well first entries is = let tags = same_first 20 19 _ _ is in omega (ari
 -- what entries that were taken together leave is shown
 shown_together : (tables : List TableDef) (origin first next : ℕ) (changeset : List ℕ) (result : Result Told AnswerFault) (position : Position) (before : View) (p : List Wish) (other : Position) (new : Contents) (q : List Wish)
     → TellsMerged IsWished tables origin first next changeset result position before p other new q → (view : View) × ShowsAt tables new other view
-shown_together tables origin first next changeset (Ok (heard_as.Confirmed newest)) position before p other new q t = absurd t
-shown_together tables origin first next changeset (Ok heard_as.Ignored) position before p other new q (not, same, keeps) = (before, keeps.0)
-shown_together tables origin first next changeset (Ok (heard_as.Stale newest)) position before p other new q t = absurd t
-shown_together tables origin first next changeset (Ok (heard_as.Refused code)) position before p other new q t = absurd t
-shown_together tables origin first next changeset (Ok (heard_as.Taken count)) position before p other new q (mine, inl (none, nothing, same, keeps)) = (before, keeps.0)
-shown_together tables origin first next changeset (Ok (heard_as.Taken count)) position before p other new q (mine, inr (above, (sum, changes, after, form, moved, shows, takes))) = (after, shows)
-shown_together tables origin first next changeset (Ok (heard_as.Stopped count)) position before p other new q (mine, above, (none, changes, conflict, form, stops, (same, shows))) = (before, rw same shows)
-shown_together tables origin first next changeset (Err (hearing.Memory count)) position before p other new q (mine, above, (none, (same, shows))) = (before, rw same shows)
-shown_together tables origin first next changeset (Err (hearing.Device count)) position before p other new q (mine, above, (none, (same, shows))) = (before, rw same shows)
-shown_together tables origin first next changeset (Err (hearing.BadEntry count)) position before p other new q (mine, inl (below, nothing, same, keeps)) = (before, keeps.0)
-shown_together tables origin first next changeset (Err (hearing.BadEntry count)) position before p other new q (mine, inr (above, (none, bad, unasked, (same, shows)))) = (before, rw same shows)
+shown_together tables origin first next changeset result position before p other new q (inl (away, is, (same, keeps))) = (before, keeps.0)
+shown_together tables origin first next changeset result position before p other new q (inr (inl (mine, none, is, (same, keeps)))) = (before, keeps.0)
+shown_together tables origin first next changeset result position before p other new q (inr (inr (inl (mine, below, is, (same, keeps))))) = (before, keeps.0)
+shown_together tables origin first next changeset result position before p other new q (inr (inr (inr (mine, above, Ok (pulled.Taken count), is, (sum, changes, after, form, moved, shows, takes))))) = (after, shows)
+shown_together tables origin first next changeset result position before p other new q (inr (inr (inr (mine, above, Ok (pulled.Stopped count), is, (none, changes, conflict, form, stops, (same, shows)))))) = (before, rw same shows)
+shown_together tables origin first next changeset result position before p other new q (inr (inr (inr (mine, above, Err (hearing.Memory count), is, (none, (same, shows)))))) = (before, rw same shows)
+shown_together tables origin first next changeset result position before p other new q (inr (inr (inr (mine, above, Err (hearing.Device count), is, (none, (same, shows)))))) = (before, rw same shows)
+shown_together tables origin first next changeset result position before p other new q (inr (inr (inr (mine, above, Err (hearing.BadEntry count), is, (none, bad, unasked, (same, shows)))))) = (before, rw same shows)
 
 -- what an answer leaves is shown
 shown_view : (tables : List TableDef) (answer : Answer) (result : Result Told AnswerFault) (position : Position) (before : View) (p : List Wish) (other : Position) (new : Contents) (q : List Wish)
     → Answers IsWished tables answer result position before p other new q → (view : View) × ShowsAt tables new other view
 shown_view tables (Short (short.Accepted origin number version)) result position before p other new q (tells, keeps) = (before, keeps.0)
-shown_view tables (Short (short.Stale newest)) result position before p other new q (is, same, keeps) = (before, keeps.0)
-shown_view tables (Short (short.Refused code)) result position before p other new q (is, same, keeps) = (before, keeps.0)
+shown_view tables (Short (short.Stale newest)) result position before p other new q (is, (same, keeps)) = (before, keeps.0)
+shown_view tables (Short (short.Refused code)) result position before p other new q (is, (same, keeps)) = (before, keeps.0)
 shown_view tables (Entries first entries) result position before p other new q (pulled, is, list) = (list.0, list.3)
 shown_view tables (Merged origin first next changeset) result position before p other new q tells =
     shown_together tables origin first next changeset result position before p other new q tells

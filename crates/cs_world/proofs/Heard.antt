@@ -38,11 +38,10 @@ use Rattle.cs_exchange.specs.declared.pulling.listing.Pulled.{Pulled}
 use Rattle.cs_exchange.specs.declared.pulling.listing.Pulled.TheVariants as pulled
 use Rattle.cs_exchange.specs.pushing.Pushes.{confirmed}
 use Rattle.cs_replica.specs.Accepted.{IsAccepted}
-use Rattle.cs_replica.specs.Answered.{Answers, IsForIt, TellsAccepted, TellsMerged, told_of}
+use Rattle.cs_replica.specs.Answered.{Answers, TellsAccepted, TellsMerged, told_of}
 use Rattle.cs_replica.specs.Laws.{EntryStands, FlightFits, KeptStands, LeadStands}
 use Rattle.cs_replica.specs.Stands.{StandsOn}
 use Rattle.cs_replica.specs.declared.told.Told.{Told}
-use Rattle.cs_replica.specs.declared.told.Told.TheVariants as told
 use Rattle.cs_store.specs.Contents.{Contents}
 use Rattle.cs_exchange.specs.taking.Laws.{OneLogRows}
 use Rattle.cs_exchange.specs.taking.Takes.{IsTaken, brought, taken}
@@ -253,7 +252,7 @@ module _ (laws : Below) (limit : ℕ) (small : limit < 2 ^ 32) (world : World) (
 
     accepted_on : (origin number version : ℕ) (result : Result Told AnswerFault) (other : Position) → IsAcceptedIn world.log origin number version → TellsAccepted origin number version result before.position other
         → IsOn world.log before.position other before.view
-    accepted_on origin number version (Ok (told.Confirmed newest)) other a (is, version_is, moved) =
+    accepted_on origin number version result other a (inl (is, so, moved)) =
         confirmed_on (before.position.flight) refl
       where
         confirmed_on : (f : Option (List TableChanges)) → before.position.flight ≡ f → IsOn world.log before.position other before.view
@@ -266,22 +265,16 @@ module _ (laws : Below) (limit : ℕ) (small : limit < 2 ^ 32) (world : World) (
               number = refl;
               flight = λ cs gone. absurd (cc);
             })
-    accepted_on origin number version (Ok told.Ignored) other a (not, same) = kept_on other same
-    accepted_on origin number version (Ok (told.Stale newest)) other a t = absurd t
-    accepted_on origin number version (Ok (told.Refused code)) other a t = absurd t
-    accepted_on origin number version (Ok (told.Taken count)) other a t = absurd t
-    accepted_on origin number version (Ok (told.Stopped count)) other a t = absurd t
-    accepted_on origin number version (Err (fault.Memory count)) other a (none, same) = kept_on other same
-    accepted_on origin number version (Err (fault.Device count)) other a (none, same) = kept_on other same
-    accepted_on origin number version (Err (fault.BadEntry count)) other a t = absurd t
+    accepted_on origin number version result other a (inr (inl (away, so, same))) = kept_on other same
+    accepted_on origin number version result other a (inr (inr (why, same))) = kept_on other same
 
     -- ---- each answer
 
     good_accepted : (origin number version : ℕ) (result : Result Told AnswerFault) (other : Position) → TellsAccepted origin number version result before.position other → IsGood (heard result)
-    good_accepted origin number version (Ok told) other t n e = cc
-    good_accepted origin number version (Err (fault.Memory count)) other t n e = cc
-    good_accepted origin number version (Err (fault.Device count)) other t n e = cc
-    good_accepted origin number version (Err (fault.BadEntry count)) other t n e = absurd t
+    good_accepted origin number version result other (inl (is, so, moved)) n e = cc
+    good_accepted origin number version result other (inr (inl (away, so, same))) n e = cc
+    good_accepted origin number version result other (inr (inr (inl so, same))) n e = cc
+    good_accepted origin number version result other (inr (inr (inr so, same))) n e = cc
 
     -- what an answer leaves is shown, on the log, and no entry was bad
     pub record IsLeft (result : Result Told AnswerFault) (other : Position) (left : Contents) : Type 0 where
@@ -332,23 +325,12 @@ module _ (laws : Below) (limit : ℕ) (small : limit < 2 ^ 32) (world : World) (
         → AreOthersAsOne world.tables world.log origin first next bytes
         → TellsMerged IsWished world.tables origin first next bytes result before.position before.view wishes other left unused
         → IsLeft result other left
-    together_left origin first next bytes wishes unused result other left is tells = by result tells
-      where
-        there : IsForIt before.position origin first → AreOthersAsOne world.tables world.log origin before.position.version next bytes
-        there mine = subst (λ (v : ℕ). AreOthersAsOne world.tables world.log origin v next bytes) mine.1 is
-
-        by : (result : Result Told AnswerFault) → TellsMerged IsWished world.tables origin first next bytes result before.position before.view wishes other left unused → IsLeft result other left
-        by (Ok (told.Confirmed newest)) t = absurd t
-        by (Ok told.Ignored) (not, same, (shows, asked)) = still_left (Ok told.Ignored) other left (λ n e. cc) same shows
-        by (Ok (told.Stale newest)) t = absurd t
-        by (Ok (told.Refused code)) t = absurd t
-        by (Ok (told.Taken count)) (mine, inl (none, nothing, same, (shows, asked))) = still_left (Ok (told.Taken count)) other left (λ n e. cc) same shows
-        by (Ok (told.Taken count)) (mine, inr (above, takes)) = merged_left origin next bytes wishes unused (Ok (pulled.Taken count)) other left (there mine) takes
-        by (Ok (told.Stopped count)) (mine, above, takes) = merged_left origin next bytes wishes unused (Ok (pulled.Stopped count)) other left (there mine) takes
-        by (Err (fault.Memory count)) (mine, above, takes) = merged_left origin next bytes wishes unused (Err (fault.Memory count)) other left (there mine) takes
-        by (Err (fault.Device count)) (mine, above, takes) = merged_left origin next bytes wishes unused (Err (fault.Device count)) other left (there mine) takes
-        by (Err (fault.BadEntry count)) (mine, inl (below, nothing, same, keeps)) = let rising = is.rising in absurd (omega (arith, below, rising))
-        by (Err (fault.BadEntry count)) (mine, inr (above, takes)) = merged_left origin next bytes wishes unused (Err (fault.BadEntry count)) other left (there mine) takes
+    together_left origin first next bytes wishes unused result other left is (inl (away, so, (same, (shows, asked)))) = still_left result other left (λ n e. cc) same shows
+    together_left origin first next bytes wishes unused result other left is (inr (inl (mine, none, so, (same, (shows, asked))))) = still_left result other left (λ n e. cc) same shows
+    together_left origin first next bytes wishes unused result other left is (inr (inr (inl (mine, below, so, keeps)))) = let rising = is.rising in absurd (omega (arith, below, rising))
+    together_left origin first next bytes wishes unused result other left is (inr (inr (inr (mine, above, outcome, so, takes)))) =
+        let there = subst (λ (v : ℕ). AreOthersAsOne world.tables world.log origin v next bytes) mine.1 is in
+        subst (λ (r : Result Told AnswerFault). IsLeft r other left) (sym so) (merged_left origin next bytes wishes unused outcome other left there takes)
 
     left_by : (answer : Answer) (wishes unused : List Wish) (result : Result Told AnswerFault) (other : Position) (left : Contents) → IsTrueAnswer world answer
         → Answers IsWished world.tables answer result before.position before.view wishes other left unused
@@ -359,13 +341,13 @@ module _ (laws : Below) (limit : ℕ) (small : limit < 2 ^ 32) (world : World) (
       on = accepted_on origin number version result other t tells;
       good = good_accepted origin number version result other tells;
     }
-    left_by (Short (Stale newest)) wishes unused result other left t (is, same, (shows, asked)) = record {
+    left_by (Short (Stale newest)) wishes unused result other left t (is, (same, (shows, asked))) = record {
       end = before.view;
       shows = shows;
       on = kept_on other same;
       good = λ n e. cc;
     }
-    left_by (Short (Refused code)) wishes unused result other left t (is, same, (shows, asked)) = record {
+    left_by (Short (Refused code)) wishes unused result other left t (is, (same, (shows, asked))) = record {
       end = before.view;
       shows = shows;
       on = kept_on other same;

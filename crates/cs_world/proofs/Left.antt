@@ -10,12 +10,13 @@ use Rattle.cs_hub.specs.Calls.{IsSameOrGrown, IsServedIn, ServesStore}
 use Rattle.cs_hub.specs.Holding as hub
 use Rattle.cs_hub.specs.Serves.{ServesIf}
 use Rattle.cs_hub.specs.judgement.Judged.{hub_of}
-use Rattle.cs_replica.specs.member.Leaves.{CallLeaves}
-use Rattle.cs_replica.specs.member.Member.{Hears}
+use Rattle.cs_replica.specs.Leaves.{CallLeaves}
+use Rattle.cs_replica.specs.Step.{Hears}
 use Rattle.cs_replica.specs.Answered.{IsAnsweredNext}
 use Rattle.cs_replica.specs.Holding as replica
 use Rattle.cs_exchange.specs.declared.pulling.fault.AnswerFault.TheVariants as fault
 use Rattle.cs_replica.specs.Edited.{with_pending}
+use Rattle.cs_exchange.specs.declared.pulling.listing.Pulled.TheVariants as pulled
 use Rattle.cs_replica.specs.declared.told.Told.TheVariants as what
 use Rattle.cs_opening.specs.moving.Laws.{OneStoreOpening}
 use Rattle.cs_opening.specs.moving.Moved.{IsStoreOpened}
@@ -76,7 +77,7 @@ found_is_step limit r world before old left event was shown (found.confirmed {k 
     let hears : Hears world.tables before (Short (Accepted origin number version)) wishes (Ok (what.Confirmed version)) after = record {
       left = left;
       unused = wishes;
-      answers = ((accepted, refl, refl), (shows, refl));
+      answers = (inl (accepted, refl, refl), (shows, refl));
       shows = shows;
     } in
     (after, [], told.Heard (what.Confirmed version), subst (λ (n : World). Step limit world (Deliver k wishes) (told.Heard (what.Confirmed version)) n) (quiet world r after) (step.hears there was hears), shows)
@@ -99,7 +100,7 @@ found_is_step limit r world before old left event was shown (found.merged {k = k
     let hears : Hears world.tables before (Merged origin first next changeset) wishes (Ok (what.Taken count)) after = record {
       left = left;
       unused = took.1;
-      answers = (mine, inr (above, (sum, took.0, m.0, took.2, refl, m.1, m.2)));
+      answers = inr (inr (inr (mine, above, Ok (pulled.Taken count), refl, (sum, took.0, m.0, took.2, refl, m.1, m.2))));
       shows = m.1;
     } in
     (after, [], told.Heard (what.Taken count), subst (λ (n : World). Step limit world (Deliver k wishes) (told.Heard (what.Taken count)) n) (quiet world r after) (step.hears there was hears), m.1)

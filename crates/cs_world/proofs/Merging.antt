@@ -34,10 +34,9 @@ use Rattle.cs_exchange.specs.declared.pulling.fault.AnswerFault.TheVariants as f
 use Rattle.cs_exchange.specs.declared.pulling.listing.Pulled.{Pulled}
 use Rattle.cs_exchange.specs.declared.pulling.listing.Pulled.TheVariants as pulled
 use Rattle.cs_rebaser.specs.Merge.{MergesOneSide, merge}
-use Rattle.cs_replica.specs.Answered.{IsForIt, TellsMerged, told_of}
+use Rattle.cs_replica.specs.Answered.{TellsMerged, told_of}
 use Rattle.cs_replica.specs.Stands.{StandsOn}
 use Rattle.cs_replica.specs.declared.told.Told.{Told}
-use Rattle.cs_replica.specs.declared.told.Told.TheVariants as told
 use Rattle.cs_store.specs.Contents.{Contents}
 use Rattle.cs_exchange.specs.taking.Takes.{IsTaken, TakeAll, brought, taken}
 use Rattle.cs_wire.specs.Entries.{ToldEntry}
@@ -45,7 +44,7 @@ use Rattle.cs_wire.specs.declared.answer.Answer.{Answer}
 use Rattle.cs_wire.specs.declared.answer.Answer.TheVariants.{Entries, Merged}
 use Rattle.cs_conflict.specs.wish_list.Wished.{IsWished}
 use Rattle.cs_world.specs.Laws.{CatchesMerge, EventsMerge, PullsMerge, StepsAreSound}
-use Rattle.cs_replica.specs.member.Same.{IsSameMember}
+use Rattle.cs_replica.specs.Same.{IsSameMember}
 use Rattle.cs_world.specs.Merges.{CatchesAsMerge, IsConfirmed, IsMerged, IsPendingFrom, PullEntries, PullsAsMerges, PullsEntry, count_in}
 use Rattle.cs_world.specs.Sound.{ArePartOf, IsSound}
 use Rattle.cs_world.specs.Steps.{Hears, Step, heard, receiver}
@@ -298,31 +297,15 @@ module _ (laws : Below) (limit : ℕ) (small : limit < 2 ^ 32) (world : World) (
     tells_so : (left : Contents) (unused : List Wish) (result : Result Told AnswerFault) → ShowsAt world.tables left after.position after.view
         → TellsMerged IsWished world.tables origin first next changeset result before.position before.view wishes after.position left unused
         → CatchesAsMerge world next (count_in (heard result)) changeset wishes before after
-    tells_so left unused result now tells = by result tells
-      where
-        there : IsForIt before.position origin first → AreOthersAsOne world.tables world.log before.position.id before.position.version next changeset
-        there mine =
-            subst (λ (o : ℕ). AreOthersAsOne world.tables world.log o before.position.version next changeset) mine.0
-            (subst (λ (v : ℕ). AreOthersAsOne world.tables world.log origin v next changeset) mine.1 (s.true k (Tells r (Merged origin first next changeset)) said))
-
-        over : IsForIt before.position origin first → first < next → before.position.version < next
-        over mine above = let at = mine.1 in omega (arith, at, above)
-
-        by : (result : Result Told AnswerFault) → TellsMerged IsWished world.tables origin first next changeset result before.position before.view wishes after.position left unused
-            → CatchesAsMerge world next (count_in (heard result)) changeset wishes before after
-        by (Ok (told.Confirmed newest)) t = absurd t
-        by (Ok told.Ignored) (not, same, (shows, asked)) = stays_so left same shows now
-        by (Ok (told.Stale newest)) t = absurd t
-        by (Ok (told.Refused code)) t = absurd t
-        by (Ok (told.Taken count)) (mine, inl (none, nothing, same, (shows, asked))) =
-            subst (λ (n : ℕ). CatchesAsMerge world next n changeset wishes before after) (sym nothing) (stays_so left same shows now)
-        by (Ok (told.Taken count)) (mine, inr (above, takes)) = takes_so left unused (Ok (pulled.Taken count)) (there mine) (over mine above) now takes
-        by (Ok (told.Stopped count)) (mine, above, takes) = takes_so left unused (Ok (pulled.Stopped count)) (there mine) (over mine above) now takes
-        by (Err (fault.Memory count)) (mine, above, takes) = takes_so left unused (Err (fault.Memory count)) (there mine) (over mine above) now takes
-        by (Err (fault.Device count)) (mine, above, takes) = takes_so left unused (Err (fault.Device count)) (there mine) (over mine above) now takes
-        by (Err (fault.BadEntry count)) (mine, inl (below, nothing, same, (shows, asked))) =
-            subst (λ (n : ℕ). CatchesAsMerge world next n changeset wishes before after) (sym nothing) (stays_so left same shows now)
-        by (Err (fault.BadEntry count)) (mine, inr (above, takes)) = takes_so left unused (Err (fault.BadEntry count)) (there mine) (over mine above) now takes
+    tells_so left unused result now (inl (away, is, (same, (shows, asked)))) = rw is (stays_so left same shows now)
+    tells_so left unused result now (inr (inl (mine, none, is, (same, (shows, asked))))) = rw is (stays_so left same shows now)
+    tells_so left unused result now (inr (inr (inl (mine, below, is, (same, (shows, asked)))))) = rw is (stays_so left same shows now)
+    tells_so left unused result now (inr (inr (inr (mine, above, outcome, is, takes)))) =
+        let there =
+        subst (λ (o : ℕ). AreOthersAsOne world.tables world.log o before.position.version next changeset) mine.0
+        (subst (λ (v : ℕ). AreOthersAsOne world.tables world.log origin v next changeset) mine.1 (s.true k (Tells r (Merged origin first next changeset)) said)) in
+        let at = mine.1 in
+        rw is (takes_so left unused outcome there (omega (arith, at, above)) now takes)
 
     catches_so_far : (outcome : Outcome) → IsHeard k r (Merged origin first next changeset) wishes before after said was outcome → CatchesAsMerge world next (count_in outcome) changeset wishes before after
     catches_so_far outcome (inl (is, same)) = subst (λ (o : Outcome). CatchesAsMerge world next (count_in o) changeset wishes before after) (sym is) (same_so same)

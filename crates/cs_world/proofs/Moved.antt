@@ -16,8 +16,8 @@ use Rattle.cs_pending.specs.declared.fault.EditFault.{EditFault}
 use Rattle.cs_pending.specs.position.Laws.{FitsPosition}
 use Rattle.cs_pending.specs.position.Shows.{flown}
 use Rattle.cs_pending.specs.declared.position.position.Position.{Position}
-use Rattle.cs_replica.specs.member.Leaves.{CallLeaves, Counts}
-use Rattle.cs_replica.specs.member.Member.{IsEditedBy}
+use Rattle.cs_replica.specs.Leaves.{CallLeaves, Counts}
+use Rattle.cs_replica.specs.Step.{IsAnsweredTo, IsEditedBy}
 use Rattle.cs_exchange.specs.declared.pulling.fault.AnswerFault.{AnswerFault}
 use Rattle.cs_replica.specs.Answered.{IsAnsweredNext}
 use Rattle.cs_exchange.specs.pushing.Pushes.{IsPushMadeIn, IsResendFault, pushed, request_of}
@@ -320,10 +320,10 @@ module _ {S : Type 0} (g : Ghosts S) (limit : ℕ) where
             → OneToldAnswer
             → Counts g (SaysDevice (heard result)) old new
             → CallLeaves g (IsAnsweredNext IsWished old.catalog answer) old new
-            → Turns g (λ before after. Hears old.catalog before answer wishes result after) old new
+            → Turns g (IsAnsweredTo IsWished old.catalog answer wishes result) old new
             → Moves g limit (held h replicas letters) (Deliver k wishes) (heard result) (held h (slice_set replicas r new) ls)
         hears k wishes bytes answer result ls same at fits spelled one counts leaves turns =
-            turned (λ tables. IsAnsweredNext IsWished tables answer) leaves by_answer (Deliver k wishes) (heard result) counts ls same (λ tables before after. Hears tables before answer wishes result after) turns
+            turned (λ tables. IsAnsweredNext IsWished tables answer) leaves by_answer (Deliver k wishes) (heard result) counts ls same (λ tables. IsAnsweredTo IsWished tables answer wishes result) turns
             (λ world before after stands is t. told_step world before after stands is t (told_of world k r bytes (stands.0.messages k (letter.Tells r bytes) at)))
           where
             message_is : (world : World) → StandsAt g limit (held h replicas letters) world → (its : Answer) × IsMessage world k (Tells r its) × (bytes.items ≡ answer_spelling its) → IsMessage world k (Tells r answer)

@@ -2,7 +2,7 @@
 use Rattle.std.proofs.Common.{◌≡◌, ◌∙◌, ℕ, List, Some, Result, Ok, Err, slice_get, slice_set, refl, sym, subst, inl, inr}
 use Rattle.cs_value.specs.declared.catalog.TableDef.{TableDef}
 use Rattle.cs_hub.specs.Holding as hub
-use Rattle.cs_replica.specs.member.Leaves.{CallLeaves, Counts}
+use Rattle.cs_replica.specs.Leaves.{CallLeaves, Counts}
 use Rattle.cs_opening.specs.declared.fault.OpenFault.{OpenFault}
 use Rattle.cs_pending.specs.View.{View}
 use Rattle.cs_replica.specs.Holding as replica

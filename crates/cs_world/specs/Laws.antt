@@ -8,7 +8,7 @@ use Rattle.cs_conflict.specs.declared.wish.Wish.{Wish}
 use Rattle.cs_hub.specs.Serves.{ServesIf}
 use Rattle.cs_hub.specs.judgement.Judged.{hub_of}
 use Rattle.cs_store.specs.declared.log.entry.LogEntry.{LogEntry}
-use Rattle.cs_replica.specs.member.Laws.{IsInRange}
+use Rattle.cs_replica.specs.StepLaws.{IsInRange}
 use Rattle.cs_opening.specs.Fresh.{first_position}
 use Rattle.cs_pending.specs.Laws.{empty_view}
 use Rattle.cs_pending.specs.position.Shows.{ShowsAt}

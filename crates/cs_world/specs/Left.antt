@@ -6,7 +6,7 @@ use Rattle.cs_conflict.specs.declared.wish.Wish.{Wish}
 use Rattle.cs_hub.specs.Calls.{IsServedIn}
 use Rattle.cs_store.specs.declared.log.entry.LogEntry.{LogEntry}
 use Rattle.cs_hub.specs.log_store.Shows.{ShowsLog}
-use Rattle.cs_replica.specs.member.Member.{IsEditedBy}
+use Rattle.cs_replica.specs.Step.{IsEditedBy}
 use Rattle.cs_replica.specs.Accepted.{IsAccepted}
 use Rattle.cs_replica.specs.Holding as replica
 use Rattle.cs_exchange.specs.pulling.Listed.{IsOneMoreIn}

@@ -11,7 +11,7 @@ use Rattle.cs_store.specs.log.Entry.{entry_changes}
 use Rattle.cs_store.specs.log.Log.{tables_at}
 use Rattle.cs_store.specs.declared.log.entry.LogEntry.{LogEntry}
 use Rattle.cs_hub.specs.catching.Told.{AreOthersAsOne}
-use Rattle.cs_replica.specs.member.Same.{IsSameMember, IsSameView}
+use Rattle.cs_replica.specs.Same.{IsSameMember, IsSameView}
 use Rattle.cs_normal.specs.Normal.{change_of, groups_of}
 use Rattle.cs_normal.specs.declared.normal.TableChanges.{TableChanges}
 use Rattle.cs_pending.specs.View.{View}

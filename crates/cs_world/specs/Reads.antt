@@ -1,6 +1,6 @@
 -- What is read of a world over stores (profile of this project).
 use Rattle.std.specs.Prelude.{ℕ, Option, Some, None}
-pub use Rattle.cs_replica.specs.member.Member.{AreRowsIn}
+pub use Rattle.cs_replica.specs.Step.{AreRowsIn}
 use Rattle.cs_store.specs.declared.store.RowStore.{Ghosts}
 use Rattle.cs_world.specs.World.{World}
 use Rattle.cs_world.specs.declared.letter.Letter.{Letter}

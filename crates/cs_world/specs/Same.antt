@@ -1,6 +1,6 @@
 -- Two worlds that are the same, and outcomes that say nothing of their event (profile of this project).
 use Rattle.std.specs.Prelude.{◌≡◌, ◌⊎◌, ℕ, Err, length}
-use Rattle.cs_replica.specs.member.Same.{IsSameMember}
+use Rattle.cs_replica.specs.Same.{IsSameMember}
 use Rattle.cs_opening.specs.declared.fault.OpenFault.TheVariants as opening
 use Rattle.cs_pending.specs.Edits.{IsOfStore}
 use Rattle.cs_exchange.specs.declared.pushing.fault.PushFault.TheVariants as pushing

@@ -1,6 +1,6 @@
 -- What becomes of a replica whose store is read again: no definition that a public clause cites.
 use Rattle.std.specs.Prelude.{◌≡◌, ◌⊎◌, Result, IfErr}
-pub use Rattle.cs_replica.specs.member.Member.{IsEditedTo, IsPushedTo, Turns, member_of}
+pub use Rattle.cs_replica.specs.Step.{IsEditedTo, IsPushedTo, Turns, member_of}
 use Rattle.cs_opening.specs.declared.fault.OpenFault.{OpenFault}
 use Rattle.cs_opening.specs.declared.fault.OpenFault.TheVariants as opening
 use Rattle.cs_world.specs.World.{Member}

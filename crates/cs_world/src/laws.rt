@@ -103,10 +103,10 @@ pub fn one_step()
     ensures { OneStep }
 {
     cs_hub::laws::one_service();
-    cs_replica::member::laws::one_edited();
-    cs_replica::member::laws::one_pushed();
-    cs_replica::member::laws::one_resent();
-    cs_replica::member::laws::one_heard();
+    cs_replica::laws::one_edited();
+    cs_replica::laws::one_pushed();
+    cs_replica::laws::one_resent();
+    cs_replica::laws::one_heard();
     cs_wire::laws::one_told_answer();
 }
 
@@ -122,7 +122,7 @@ pub fn one_run()
 pub fn edit_has_step()
     ensures { EditHasStep }
 {
-    cs_replica::member::laws::edit_has_result();
+    cs_replica::laws::edit_has_result();
 }
 
 /// So does each event that makes its step behind others.
@@ -137,7 +137,7 @@ pub fn events_merge()
 pub fn push_has_step()
     ensures { PushHasStep }
 {
-    cs_replica::member::laws::push_has_result();
+    cs_replica::laws::push_has_result();
 }
 
 /// So has a push that is to be sent once more.

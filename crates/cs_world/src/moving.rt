@@ -12,9 +12,9 @@ use crate::letter::{Letter, Posted};
 use crate::outcome::Outcome;
 use crate::turning::reload_replica;
 use cs_conflict::Wish;
+use cs_conflict::wish_list::Wishes;
 use cs_hub::Hub;
 use cs_replica::Replica;
-use cs_replica::member::{edit_replica, push_replica, tell_replica};
 use cs_store::RowStore;
 use cs_value::Edit;
 use cs_wire::{Answer, RequestBuf};
@@ -72,7 +72,7 @@ impl<S: RowStore> Core<S> {
         let Some(replica) = self.replicas.get_mut(which as usize) else {
             return Outcome::NoReplica;
         };
-        match edit_replica(self.alloc, replica, edit) {
+        match replica.edit(self.alloc, edit) {
             Ok(()) => return Outcome::Done,
             Err(fault) => return Outcome::NotEdited(fault),
         }
@@ -87,7 +87,7 @@ impl<S: RowStore> Core<S> {
         let Some(replica) = self.replicas.get_mut(which as usize) else {
             return Outcome::NoReplica;
         };
-        match push_replica(self.alloc, replica) {
+        match replica.make_push(self.alloc) {
             Ok(request) => send(
                 &mut self.letters,
                 Letter::Asks {
@@ -207,7 +207,8 @@ impl<S: RowStore> Core<S> {
                 let Some(replica) = self.replicas.get_mut(*replica as usize) else {
                     return Outcome::NoReplica;
                 };
-                match tell_replica(self.alloc, replica, &answer, wishes) {
+                let mut picker = Wishes::new(wishes);
+                match replica.answer(self.alloc, &answer, &mut picker) {
                     Ok(told) => return Outcome::Heard(told),
                     Err(fault) => return Outcome::NotHeard(fault),
                 }

@@ -17,7 +17,6 @@ use crate::moving::Core;
 use crate::world::World;
 use cs_normal::Normal;
 use cs_pending::rows::RowAtKey;
-use cs_replica::member::rows_of;
 use cs_store::{RowStore, StoreFault};
 
 impl<S: RowStore> Core<S> {
@@ -32,7 +31,7 @@ impl<S: RowStore> Core<S> {
         let Some(one) = self.replicas.get_mut(replica) else {
             return Ok(Vec::new(self.alloc));
         };
-        match rows_of(self.alloc, one, table) {
+        match one.rows(self.alloc, table) {
             Ok(rows) => return Ok(rows),
             Err(fault) => return Err(fault),
         }

@@ -1,7 +1,7 @@
 //! A replica that reads its store again.
 
 ghost use Rattle.std.specs.Prelude.{◌≡◌, Err};
-ghost use Rattle.cs_replica.specs.member.Leaves.{CallLeaves, Counts};
+ghost use Rattle.cs_replica.specs.Leaves.{CallLeaves, Counts};
 ghost use Rattle.cs_opening.specs.declared.fault.OpenFault.TheVariants.{Device};
 ghost use Rattle.cs_world.specs.Turns.{IsReloadedTo, Turns};
 

@@ -1,6 +1,6 @@
 -- Counts of failures, from one call to the next.
 use Rattle.std.proofs.Common.{◌≤◌, ℕ, arith}
-use Rattle.cs_replica.specs.member.Leaves.{Counts}
+use Rattle.cs_replica.specs.Leaves.{Counts}
 use Rattle.cs_replica.specs.Holding.{Holding}
 use Rattle.cs_store.specs.Calls.{MoreFailures}
 use Rattle.cs_store.specs.declared.store.RowStore.{Ghosts}

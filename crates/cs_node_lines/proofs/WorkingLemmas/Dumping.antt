@@ -1,7 +1,7 @@
 -- Rows of tables, one table after another.
 use Rattle.std.proofs.Common.{◌≡◌, ◌∙◌, ◌<◌, ◌+◌, ℕ, zero, suc, List, [], ◌∷◌, ◌++◌, get_or, refl, sym, ap, append_assoc, append-nil, subst, drop, length, arith}
 use Rattle.std.specs.Prelude.{Some, None, slice_get}
-use Rattle.cs_replica.specs.member.Member.{AreRowsIn, Member, Turns, member_of}
+use Rattle.cs_replica.specs.Step.{AreRowsIn, Member, Turns, member_of}
 use Rattle.cs_normal.specs.State.{State}
 use Rattle.cs_pending.specs.View.{View}
 use Rattle.cs_replica.specs.Holding.{Holding, Shows}

@@ -6,8 +6,8 @@ use Rattle.std.proofs.KnownBytes.{Appends-nil}
 use Rattle.cs_node_lines.specs.declared.asks.ask.Ask.{Ask}
 use Rattle.cs_node_lines.specs.declared.asks.ask.Ask.TheVariants.{Answer, Catch, Dump, OnEdit, Pull, Push, Resend}
 use Rattle.cs_conflict.specs.declared.wish.Wish.{Wish}
-use Rattle.cs_replica.specs.member.Laws.{HearsKeepsId}
-use Rattle.cs_replica.specs.member.Member.{IsEditedTo, IsPushedTo, Member, member_of}
+use Rattle.cs_replica.specs.StepLaws.{HearsKeepsId}
+use Rattle.cs_replica.specs.Step.{IsEditedTo, IsPushedTo, Member, member_of}
 use Rattle.cs_opening.specs.moving.Moved.{IsStoreOpened}
 use Rattle.cs_pending.specs.View.{View}
 use Rattle.cs_pending.specs.declared.fault.EditFault.{EditFault}

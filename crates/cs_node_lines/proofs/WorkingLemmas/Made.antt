@@ -4,9 +4,10 @@ use Rattle.std.specs.Prelude.{◌⊎◌, Result, Ok, Err}
 use Rattle.cs_node_lines.specs.declared.asks.ask.Ask.{Ask}
 use Rattle.cs_node_lines.specs.declared.asks.ask.Ask.TheVariants as line
 use Rattle.cs_conflict.specs.declared.wish.Wish.{Wish}
+use Rattle.cs_conflict.specs.wish_list.Wished.{IsWished}
 use Rattle.cs_lines.specs.Lines.{hex_line}
-use Rattle.cs_replica.specs.member.Leaves.{Counts}
-use Rattle.cs_replica.specs.member.Member.{Hears, IsPushedTo, IsResent, Member, Turns, member_of}
+use Rattle.cs_replica.specs.Leaves.{Counts}
+use Rattle.cs_replica.specs.Step.{IsAnsweredTo, IsPushedTo, IsResent, Member, Turns, member_of}
 use Rattle.cs_exchange.specs.declared.pulling.fault.AnswerFault.{AnswerFault}
 use Rattle.cs_exchange.specs.declared.pushing.fault.PushFault.{PushFault}
 use Rattle.cs_exchange.specs.declared.pushing.fault.PushFault.TheVariants as pushes
@@ -86,7 +87,7 @@ module _ {S : Type 0} (g : Ghosts S) where
 
   pub answer_told : (bytes : List ℕ) (wishes : List Wish) (answer : Answer) (result : Result Told AnswerFault) (version : ℕ) (old new : Holding S)
       → FitsAnswer answer → bytes ≡ answer_spelling answer → version ≡ new.position.version
-      → Turns g (λ before after. Hears old.catalog before answer wishes result after) old new → Counts g (SaysDevice result) old new
+      → Turns g (IsAnsweredTo IsWished old.catalog answer wishes result) old new → Counts g (SaysDevice result) old new
       → Counted g (λ had has before after. LineStep old.catalog had has before (line.Answer bytes wishes) (heard_text result version) after) old new
   answer_told bytes wishes answer result version old new fits is at turns counts = record {
     later = counts.later;

@@ -4,9 +4,9 @@ use Rattle.cs_node_lines.specs.declared.asks.ask.Ask.{Ask}
 use Rattle.cs_node_lines.specs.declared.asks.ask.Ask.TheVariants.{Answer, Catch, Dump, OnEdit, Pull, Push, Resend}
 use Rattle.cs_conflict.specs.declared.wish.Wish.{Wish}
 use Rattle.cs_lines.specs.Lines.{hex_line}
-use Rattle.cs_replica.specs.member.Laws.{IsOfEdit, IsOfPushed, OneEdited, OneHeard, OnePushed, OneResent}
-use Rattle.cs_replica.specs.member.Member.{Hears, Member, asked_in}
-use Rattle.cs_replica.specs.member.Same.{IsSameMember, IsShown}
+use Rattle.cs_replica.specs.StepLaws.{IsOfEdit, IsOfPushed, OneEdited, OneHeard, OnePushed, OneResent}
+use Rattle.cs_replica.specs.Step.{Hears, Member, asked_in}
+use Rattle.cs_replica.specs.Same.{IsSameMember, IsShown}
 use Rattle.cs_normal.specs.State.{State}
 use Rattle.cs_pending.specs.declared.fault.EditFault.{EditFault}
 use Rattle.cs_pending.specs.declared.position.position.Position.{Position}

@@ -5,7 +5,7 @@ use Rattle.cs_node_lines.specs.asks.Reading.{AreAllAsks, IsReadFault}
 use Rattle.cs_node_lines.specs.declared.asks.ask.Ask.{Ask}
 use Rattle.cs_node_lines.specs.declared.asks.fault.ReadFault.{ReadFault}
 use Rattle.cs_node_lines.specs.declared.asks.fault.ReadFault.TheVariants as reading
-use Rattle.cs_replica.specs.member.Member.{Member}
+use Rattle.cs_replica.specs.Step.{Member}
 use Rattle.cs_opening.specs.moving.Moved.{IsStoreFault, IsStoreOpened}
 use Rattle.cs_opening.specs.declared.fault.OpenFault.{OpenFault}
 use Rattle.cs_opening.specs.declared.fault.OpenFault.TheVariants as opening

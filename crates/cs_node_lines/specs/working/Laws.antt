@@ -2,8 +2,8 @@
 use Rattle.std.specs.Prelude.{◌≡◌, ◌⊎◌, ℕ, List, Err, codes}
 use Rattle.std.specs.List.{AllByRecursion}
 use Rattle.cs_node_lines.specs.declared.asks.ask.Ask.{Ask}
-use Rattle.cs_replica.specs.member.Member.{Member}
-use Rattle.cs_replica.specs.member.Same.{IsSameMember, IsShown}
+use Rattle.cs_replica.specs.Step.{Member}
+use Rattle.cs_replica.specs.Same.{IsSameMember, IsShown}
 use Rattle.cs_exchange.specs.declared.pulling.fault.AnswerFault.{AnswerFault}
 use Rattle.cs_replica.specs.Laws.{IsOfAnswer}
 use Rattle.cs_text.specs.Text.{line}

@@ -5,7 +5,7 @@ use Rattle.cs_node_lines.specs.declared.asks.ask.Ask.{Ask}
 use Rattle.cs_node_lines.specs.declared.asks.ask.Ask.TheVariants.{Answer, Catch, Dump, OnEdit, Pull, Push, Resend}
 use Rattle.cs_conflict.specs.declared.wish.Wish.{Wish}
 use Rattle.cs_lines.specs.Lines.{hex_line}
-use Rattle.cs_replica.specs.member.Member.{Hears, IsEditedTo, IsPushedTo, IsResent, Member}
+use Rattle.cs_replica.specs.Step.{Hears, IsEditedTo, IsPushedTo, IsResent, Member}
 use Rattle.cs_pending.specs.declared.fault.EditFault.{EditFault}
 use Rattle.cs_pending.specs.declared.fault.EditFault.TheVariants as edits
 use Rattle.cs_exchange.specs.declared.pulling.fault.AnswerFault.{AnswerFault}

@@ -4,7 +4,7 @@ use Rattle.std.specs.declared.alloc.AllocError.{AllocError}
 use Rattle.std.specs.Io.KnownBytes.{Appends, Keeps}
 use Rattle.cs_node_lines.specs.declared.asks.ask.Ask.{Ask}
 use Rattle.cs_lines.specs.Writing.{AppendsFront}
-use Rattle.cs_replica.specs.member.Member.{Member, Turns}
+use Rattle.cs_replica.specs.Step.{Member, Turns}
 use Rattle.cs_replica.specs.Holding.{Holding}
 use Rattle.cs_normal.specs.State.{State}
 use Rattle.cs_pending.specs.rows.Rows.{AreRowsOf}

@@ -1,8 +1,8 @@
 //! Where a replica stands, and its rows.
 
 ghost use Rattle.std.specs.Prelude.{◌≡◌, Err, IfOk, OnOk, Some, slice_get, string_bytes};
-ghost use Rattle.cs_replica.specs.member.Leaves.{Counts};
-ghost use Rattle.cs_replica.specs.member.Member.{Member, Turns};
+ghost use Rattle.cs_replica.specs.Leaves.{Counts};
+ghost use Rattle.cs_replica.specs.Step.{Member, Turns};
 ghost use Rattle.cs_node_lines.specs.working.LineStep.{IsDumped};
 ghost use Rattle.cs_node_lines.specs.working.Steps.{PutsTable};
 ghost use Rattle.cs_store.specs.declared.fault.StoreFault.TheVariants as stored;
@@ -13,7 +13,6 @@ ghost use Rattle.cs_node_lines.specs.told.Told.{place_text};
 use crate::told::{PlaceText, ReplicaText, RowsText};
 use cs_pending::rows::RowAtKey;
 use cs_replica::Replica;
-use cs_replica::member::rows_of;
 use cs_store::{RowStore, StoreFault};
 use cs_value::{Catalog, Memory, TableDef, Text};
 use std::alloc::Global;
@@ -74,7 +73,7 @@ fn put_table<S: RowStore>(
         × OnOk result (PutsTable before.view.tables def.now.name (string_bytes text.old) (string_bytes text.new))) replica.old replica.new }
     ensures counts { Counts S.RowStore (result ≡ Err stored.Device) replica.old replica.new }
 {
-    let rows = rows_of(alloc, replica, table)?;
+    let rows = replica.rows(alloc, table)?;
     let lines = lines_of(alloc, &def.name, rows.as_slice())?;
     text.push_str(lines.as_str())?;
     Ok(())

@@ -6,10 +6,10 @@ ghost use Rattle.cs_node_lines.specs.working.Laws.{OneLineRun, OneLineStep};
 pub fn one_line_step()
     ensures { OneLineStep }
 {
-    cs_replica::member::laws::one_edited();
-    cs_replica::member::laws::one_pushed();
-    cs_replica::member::laws::one_resent();
-    cs_replica::member::laws::one_heard();
+    cs_replica::laws::one_edited();
+    cs_replica::laws::one_pushed();
+    cs_replica::laws::one_resent();
+    cs_replica::laws::one_heard();
     cs_pending::rows::laws::one_table_of_rows();
     cs_wire::laws::one_told_answer();
 }

@@ -1,7 +1,6 @@
 //! One run of a node.
 
 ghost use Rattle.std.specs.Prelude.{◌≡◌, ◌<◌, ◌-◌, ◌^◌, OnOk};
-ghost use Rattle.cs_pending.specs.position.Laws.{FitsPosition};
 ghost use Rattle.cs_node_lines.specs.working.Endings.{EndsNode, EndsWorking};
 ghost use Rattle.cs_node_lines.specs.working.Steps.{Tells, TellsAll};
 
@@ -50,7 +49,7 @@ fn do_asks<S: RowStore, W: LineOutput>(
     ensures told { TellsAll S.RowStore id asks.now result (W.failed writer.new) (W.contents writer.old) (W.contents writer.new) replica.old replica.new }
     ensures sent { OnOk result (W.sent writer.old → W.sent writer.new) }
 {
-    cs_replica::member::laws::hears_keeps_id();
+    cs_replica::laws::hears_keeps_id();
     let mut rest = asks;
     while let Some((ask, more)) = rest.split_first() {
         match do_ask(alloc, replica, catalog, id, ask, writer) {
@@ -59,14 +58,6 @@ fn do_asks<S: RowStore, W: LineOutput>(
         }
     }
     Ok(())
-}
-
-/// The numbers of where a replica stands are in range.
-fn position_fits<S: RowStore>(replica: &Replica<S>, id: u32)
-    requires { replica.now.position.id ≡ id }
-    ensures { FitsPosition replica.now.position }
-{
-    let _version = replica.version();
 }
 
 /// Opens the replica with this id over a store and does what lines ask, one behind another; the text of each is printed and sent before the
@@ -95,7 +86,6 @@ pub fn work_on<S: RowStore, W: LineOutput>(
     match Replica::open(alloc, store, catalog, id) {
         Ok(mut replica) => {
             replica.shown();
-            position_fits(&replica, id);
             let ended = do_asks(alloc, &mut replica, catalog, id, asks, writer);
             (ended, replica.close())
         }

@@ -3,7 +3,7 @@
 ghost use Rattle.std.specs.Prelude.{◌≡◌, ◌⊎◌, ◌++◌, ℕ, IfOk, OnOk, string_bytes};
 ghost use Rattle.cs_node_lines.specs.declared.asks.ask.Ask.TheVariants as line;
 ghost use Rattle.cs_lines.specs.Lines.{hex_line};
-ghost use Rattle.cs_replica.specs.member.Member.{Member};
+ghost use Rattle.cs_replica.specs.Step.{Member};
 ghost use Rattle.cs_node_lines.specs.working.LineStep.{LineStep, SaysMemory};
 ghost use Rattle.cs_node_lines.specs.working.Replies.{reply_text};
 ghost use Rattle.cs_node_lines.specs.working.Texts.{heard_text};
@@ -16,9 +16,9 @@ use crate::working::dump::dump_of;
 use crate::working::names::{store_fault_name, wire_fault_name};
 use crate::working::reply::Reply;
 use cs_conflict::Wish;
+use cs_conflict::wish_list::Wishes;
 use cs_exchange::pulling::AnswerFault;
 use cs_exchange::pushing::PushFault;
-use cs_replica::member::{edit_replica, push_replica, resend_replica, tell_replica};
 use cs_replica::{Replica, Told};
 use cs_store::RowStore;
 use cs_value::{Catalog, Edit, Memory};
@@ -53,7 +53,7 @@ fn asked(alloc: Global, request: &RequestBuf) -> Reply
 fn edit_line<S: RowStore>(alloc: Global, replica: &mut Replica<S>, edit: &Edit) -> Reply
     ensures { Counted S.RowStore (λ (had : ℕ) (has : ℕ) (before : Member) (after : Member). LineStep replica.old.catalog had has before (line.OnEdit edit.now) (reply_text result) after) replica.old replica.new }
 {
-    match edit_replica(alloc, replica, edit) {
+    match replica.edit(alloc, edit) {
         Ok(()) => Reply::Done,
         Err(fault) => Reply::Refused(edit_fault_name(fault)),
     }
@@ -62,7 +62,7 @@ fn edit_line<S: RowStore>(alloc: Global, replica: &mut Replica<S>, edit: &Edit) 
 fn push_line<S: RowStore>(alloc: Global, replica: &mut Replica<S>) -> Result<Reply, Memory>
     ensures { Makes S.RowStore line.Push result replica.old replica.new }
 {
-    match push_replica(alloc, replica) {
+    match replica.make_push(alloc) {
         Ok(request) => Ok(Reply::Hex(spelled(alloc, &request)?)),
         Err(fault) => Ok(Reply::Refused(push_fault_name(fault))),
     }
@@ -71,7 +71,7 @@ fn push_line<S: RowStore>(alloc: Global, replica: &mut Replica<S>) -> Result<Rep
 fn resend_line<S: RowStore>(alloc: Global, replica: &Replica<S>) -> Reply
     ensures { (had : ℕ) → (has : ℕ) → (before : Member) → before.position ≡ replica.now.position → LineStep replica.now.catalog had has before line.Resend (reply_text result) before }
 {
-    match resend_replica(alloc, replica) {
+    match replica.resend(alloc) {
         Ok(request) => asked(alloc, &request),
         Err(fault) => Reply::Refused(push_fault_name(fault)),
     }
@@ -120,7 +120,8 @@ fn answer_line<S: RowStore>(
     let Ok(mut text) = String::with_capacity(alloc, ROOM) else {
         return Ok(Reply::Refused("Memory"));
     };
-    let told = tell_replica(alloc, replica, &answer, wishes);
+    let mut picker = Wishes::new(wishes);
+    let told = replica.answer(alloc, &answer, &mut picker);
     put_heard(told, replica.version(), &mut text)?;
     Ok(Reply::Text(text))
 }

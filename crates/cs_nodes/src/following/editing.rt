@@ -9,7 +9,7 @@ ghost use Rattle.cs_pending.specs.declared.fault.EditFault.TheVariants.{Device};
 ghost use Rattle.cs_pending.specs.position.Shows.{ShowsSomeAt};
 ghost use Rattle.cs_replica.specs.Edited.{IsEditedIn, with_pending};
 ghost use Rattle.cs_replica.specs.Holding.{Shows};
-ghost use Rattle.cs_replica.specs.member.Member.{asked_of_edit, table_of_edit};
+ghost use Rattle.cs_replica.specs.Step.{asked_of_edit, table_of_edit};
 ghost use Rattle.cs_nodes.specs.following.Standing.{StandsWhereHonest};
 
 use cs_pending::EditFault;
@@ -17,29 +17,6 @@ use cs_replica::Replica;
 use cs_store::RowStore;
 use cs_value::Edit;
 use std::alloc::Global;
-
-/// Makes an edit of one row, as the replica does.
-fn edit_any<S: RowStore>(
-    alloc: Global,
-    replica: &mut Replica<S>,
-    edit: &Edit,
-) -> Result<(), EditFault>
-    ensures writes { WritesStore S.RowStore Device (ShowsSomeAt replica.old.catalog replica.old.position (S.contents replica.old.store))
-        (IsEditedIn replica.old.catalog replica.old.position (table_of_edit edit.now) (asked_of_edit edit.now) (S.contents replica.old.store)) replica.old.store replica.new.store result }
-    ensures refused { S.honest replica.new.store → (view : View) → Shows S.contents replica.old view
-        → IfErr result (λ fault. IsOfStore fault ⊎ (edit_of replica.old.catalog (table_of_edit edit.now) (asked_of_edit edit.now) view ≡ Err fault)) }
-    ensures catalog { replica.new.catalog ≡ replica.old.catalog }
-    ensures moved { OnOk result (replica.new.position ≡ with_pending replica.old.position replica.new.position.pending) }
-    ensures kept { OnErr result (replica.new.position ≡ replica.old.position) }
-{
-    match edit {
-        Edit::Insert { table, row } => replica.insert(alloc, table.as_str(), row),
-        Edit::Update { table, key, fields } => {
-            replica.update(alloc, table.as_str(), key, fields.as_slice())
-        }
-        Edit::Delete { table, key } => replica.delete(alloc, table.as_str(), key),
-    }
-}
 
 /// Makes an edit of one row. (Profile of this project.)
 ///
@@ -68,7 +45,7 @@ pub fn edit_row<S: RowStore>(
     ensures stands { (known : List Entry) → StandsWhereHonest S.RowStore known replica.old → StandsWhereHonest S.RowStore known replica.new }
 {
     cs_replica::laws::edit_stands();
-    match edit_any(alloc, replica, edit) {
+    match replica.edit(alloc, edit) {
         Ok(()) => {
             replica.shown();
             Ok(())

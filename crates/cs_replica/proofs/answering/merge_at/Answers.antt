@@ -1,12 +1,13 @@
-use Rattle.std.proofs.Common.{refl, inl, inr, arith}
+use Rattle.std.proofs.Common.{Ok, Err, refl, inr, arith}
 use Rattle.cs_pending.specs.position.Shows.{ShowsSomeAt}
 use Rattle.cs_exchange.specs.pulling.Listed.{IsDeviceFault}
-use Rattle.cs_replica.proofs.Answered.{told_fault, told_writes}
+use Rattle.cs_exchange.specs.declared.pulling.listing.Pulled.TheVariants.{Taken, Stopped}
+use Rattle.cs_replica.proofs.Answered.{told_writes}
 use Rattle.cs_replica.proofs.answering.merge_at.Goals as goal
 
 pub returns-in-Ok-Taken-clause-told : goal.returns-in-Ok-Taken-clause-told
 returns-in-Ok-Taken-clause-told g c = λ honest before shows.
-    ((refl, refl), inr (omega arith, rw c.in-Ok-Taken.field-0-is at c.in-Ok-Taken.ensures.takes honest before shows))
+    inr (inr (inr ((refl, refl), omega arith, Ok (Taken c.in-Ok-Taken.count), refl, rw c.in-Ok-Taken.field-0-is at c.in-Ok-Taken.ensures.takes honest before shows)))
 
 pub returns-in-Ok-Taken-clause-writes : goal.returns-in-Ok-Taken-clause-writes
 returns-in-Ok-Taken-clause-writes g c =
@@ -17,7 +18,7 @@ returns-in-Ok-Taken-clause-writes g c =
 
 pub returns-in-Ok-Stopped-clause-told : goal.returns-in-Ok-Stopped-clause-told
 returns-in-Ok-Stopped-clause-told g c = λ honest before shows.
-    ((refl, refl), omega arith, rw c.in-Ok-Stopped.field-0-is at c.in-Ok-Stopped.ensures.takes honest before shows)
+    inr (inr (inr ((refl, refl), omega arith, Ok (Stopped c.in-Ok-Stopped.count), refl, rw c.in-Ok-Stopped.field-0-is at c.in-Ok-Stopped.ensures.takes honest before shows)))
 
 pub returns-in-Ok-Stopped-clause-writes : goal.returns-in-Ok-Stopped-clause-writes
 returns-in-Ok-Stopped-clause-writes g c =
@@ -28,8 +29,7 @@ returns-in-Ok-Stopped-clause-writes g c =
 
 pub returns-in-Err-clause-told : goal.returns-in-Err-clause-told
 returns-in-Err-clause-told g c = λ honest before shows.
-    told_fault g.P.Picker.picks c.args.catalog.now c.args.next c.args.changeset.now c.args.position.now before c.args.picker.now c.take_told.new.position (g.S.RowStore.contents c.take_told.new.store) c.take_told.new.picker
-    c.in-Err.fault (omega arith) (c.in-Err.ensures.takes honest before shows)
+    inr (inr (inr ((refl, refl), omega arith, Err c.in-Err.fault, refl, c.in-Err.ensures.takes honest before shows)))
 
 pub returns-in-Err-clause-writes : goal.returns-in-Err-clause-writes
 returns-in-Err-clause-writes g c =

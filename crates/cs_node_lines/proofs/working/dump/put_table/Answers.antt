@@ -8,5 +8,5 @@ pub returns-clause-turned : goal.returns-clause-turned
 returns-clause-turned g c =
     let name = c.args.def.now.name in
     let put = c.in_ok-push_str.ensures.bytes ∙ ap (λ l. string_bytes c.args.text.now ++ l) (c.as_str.ensures.value ∙ c.in_ok-lines.ensures ∙ ap (rows_text name) c.as_slice.ensures.value) in
-    put_one g.S.RowStore c.args.replica.now.catalog c.args.replica.now c.rows_of.new.replica c.args.table c.args.def.now c.in_ok-rows.rows.items _ _
-    c.requires c.rows_of.ensures.kept c.in_ok-rows.ensures.listed put
+    put_one g.S.RowStore c.args.replica.now.catalog c.args.replica.now c.rows.new.self c.args.table c.args.def.now c.in_ok-rows.rows.items _ _
+    c.requires c.rows.ensures.turned c.in_ok-rows.ensures.listed put

@@ -7,9 +7,9 @@ returns-in-Ok-clause-ends g c =
       was_honest = c.in-Ok.ensures.opens.was_honest;
       count = c.in-Ok.ensures.opens.kept;
       opened = c.in-Ok.ensures.opened;
-      shown = c.shown.ensures;
+      shown = c.shown.ensures.shown;
       are = c.tables-tables.ensures.tables;
-      fits = c.position_fits.ensures;
+      fits = c.shown.ensures.fits;
       catalog = c.in-Ok.ensures.of.0;
       id_is = c.in-Ok.ensures.of.1;
     } in

@@ -13,7 +13,7 @@ pub returns-in-Ok-clause-readied : goal.returns-in-Ok-clause-readied
 returns-in-Ok-clause-readied g c = λ h are before shows.
     let made = c.in-Ok.ensures.writes.ok h before shows in
     let moved = c.in-Ok.ensures.moved in
-    let seen = c.shown.ensures h in
+    let seen = c.shown.ensures.shown h in
     made_ready c.one_body.ensures c.args.replica.now.catalog are c.args.replica.now.position c.make_push.new.self.position (g.S.RowStore.contents c.args.replica.now.store) (g.S.RowStore.contents c.make_push.new.self.store) before
     made.0 moved.0 made.1 moved.1 seen.0 (subst (λ (t : List TableDef). ShowsAt t (g.S.RowStore.contents c.make_push.new.self.store) c.make_push.new.self.position seen.0) c.make_push.ensures.catalog seen.1)
 
@@ -22,7 +22,7 @@ returns-in-Ok-clause-stands g c = λ known stands h.
     let s = stands (c.in-Ok.ensures.writes.was_honest h) in
     let made = c.in-Ok.ensures.writes.ok h s.0 s.1 in
     let moved = c.in-Ok.ensures.moved in
-    let seen = c.shown.ensures h in
+    let seen = c.shown.ensures.shown h in
     let shown = subst (λ (t : List TableDef). ShowsAt t (g.S.RowStore.contents c.make_push.new.self.store) c.make_push.new.self.position seen.0) c.make_push.ensures.catalog seen.1 in
     readied_stands g.S.RowStore known c.args.replica.now c.make_push.new.self c.in-Ok.ensures.writes.was_honest c.make_push.ensures.catalog
     c.steps_stand.ensures.kept s.0 (grounded s.0) h

@@ -155,7 +155,7 @@ returns-clause-stands g c = λ stands.
 pub returns-in-Err-take_standing-clause-writes : goal.returns-in-Err-take_standing-clause-writes
 returns-in-Err-take_standing-clause-writes g c =
     one_failed g.S.RowStore _ _ _ _ _ _ c.args.replica.now.store c.make_ready.new.replica.store c.take_standing.new.replica.store
-    (λ h some. c.shown.ensures h)
+    (λ h some. c.shown.ensures.shown h)
     (λ h left pulled. taken_leaves g.P.Picker.picks c.args.replica.now.catalog c.args.replica.now.position c.make_ready.new.replica.position (g.S.RowStore.contents c.args.replica.now.store) (g.S.RowStore.contents c.make_ready.new.replica.store) c.args.picker.now c.take_standing.new.picker c.entry.result.now
     (λ are before shows. subst (λ (b : Bool). IsReadied c.args.replica.now.catalog c.args.replica.now.position before b c.make_ready.new.replica.position (g.S.RowStore.contents c.make_ready.new.replica.store)) c.if-not-ready.false (c.in-Ok.ensures.readied h are before shows)) left
     (subst (λ (t : List TableDef). IsPulledIn g.P.Picker.picks t c.make_ready.new.replica.position c.entry.result.now c.args.picker.now c.take_standing.new.picker (g.S.RowStore.contents c.make_ready.new.replica.store) left) c.make_ready.ensures.catalog pulled))
@@ -171,7 +171,7 @@ pub returns-in-Mine-clause-writes : goal.returns-in-Mine-clause-writes
 returns-in-Mine-clause-writes g c =
     all_well g.S.RowStore _ _ _ c.args.replica.now.store c.take_standing.new.replica.store _ _ (λ t. let i = t in cc)
     (one_more g.S.RowStore _ _ _ _ _ _ c.args.replica.now.store c.make_ready.new.replica.store c.take_standing.new.replica.store
-    (λ h some. c.shown.ensures h)
+    (λ h some. c.shown.ensures.shown h)
     (λ h left pulled. taken_leaves g.P.Picker.picks c.args.replica.now.catalog c.args.replica.now.position c.make_ready.new.replica.position (g.S.RowStore.contents c.args.replica.now.store) (g.S.RowStore.contents c.make_ready.new.replica.store) c.args.picker.now c.take_standing.new.picker c.entry.result.now
     (λ are before shows. subst (λ (b : Bool). IsReadied c.args.replica.now.catalog c.args.replica.now.position before b c.make_ready.new.replica.position (g.S.RowStore.contents c.make_ready.new.replica.store)) c.if-not-ready.false (c.in-Ok.ensures.readied h are before shows)) left
     (subst (λ (t : List TableDef). IsPulledIn g.P.Picker.picks t c.make_ready.new.replica.position c.entry.result.now c.args.picker.now c.take_standing.new.picker (g.S.RowStore.contents c.make_ready.new.replica.store) left) c.make_ready.ensures.catalog pulled))
@@ -182,7 +182,7 @@ pub returns-clause-writes : goal.returns-clause-writes
 returns-clause-writes g c =
     all_well g.S.RowStore _ _ _ c.args.replica.now.store c.take_standing.new.replica.store _ _ (λ t. let i = t in cc)
     (one_more g.S.RowStore _ _ _ _ _ _ c.args.replica.now.store c.make_ready.new.replica.store c.take_standing.new.replica.store
-    (λ h some. c.shown.ensures h)
+    (λ h some. c.shown.ensures.shown h)
     (λ h left pulled. taken_leaves g.P.Picker.picks c.args.replica.now.catalog c.args.replica.now.position c.make_ready.new.replica.position (g.S.RowStore.contents c.args.replica.now.store) (g.S.RowStore.contents c.make_ready.new.replica.store) c.args.picker.now c.take_standing.new.picker c.entry.result.now
     (λ are before shows. subst (λ (b : Bool). IsReadied c.args.replica.now.catalog c.args.replica.now.position before b c.make_ready.new.replica.position (g.S.RowStore.contents c.make_ready.new.replica.store)) c.if-not-ready.false (c.in-Ok.ensures.readied h are before shows)) left
     (subst (λ (t : List TableDef). IsPulledIn g.P.Picker.picks t c.make_ready.new.replica.position c.entry.result.now c.args.picker.now c.take_standing.new.picker (g.S.RowStore.contents c.make_ready.new.replica.store) left) c.make_ready.ensures.catalog pulled))

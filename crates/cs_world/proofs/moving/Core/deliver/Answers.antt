@@ -36,13 +36,13 @@ pub returns-in-Ok-serve-clause-moves : goal.returns-in-Ok-serve-clause-moves
 returns-in-Ok-serve-clause-moves g c =
     rw (← c.self.view_is) (serves g.S.RowStore MAX_ENTRIES c.self.inside.hub c.self.inside.replicas.items c.self.inside.letters.items (omega (arith, c.most_entries.ensures)) c.answers_fit.ensures c.args.which c.in-Some-Asks.replica c.in-Some-Asks.request (rw (c.deref.ensures.value, c.reserve.ensures.items) at (slice_get_read c.deref.result.now (length c.deref.result.now) c.args.which c.in-Some-Asks.field-0.now refl c.in-Some-Asks.ensures.lookup.3.0 c.in-Some-Asks.ensures.lookup.1) ∙ ap (λ x. Some x) c.in-Some-Asks.field-0-is) c.args.wishes.now c.in-Ok.bytes.items c.in-Ok-serve.answer c.serve.new.self c.send.result c.reserve.new.self.items c.send.new.letters.items (rw c.in-Ok.is at c.encode.ensures) (rw (c.in-Ok-serve.is, c.as_slice.ensures.value) at c.serve.ensures.served) (rw c.as_slice.ensures.value at (hub_leaves g.S.RowStore MAX_ENTRIES c.self.inside.hub c.serve.new.self c.as_slice.result.now c.serve.result c.serve.ensures.store)) c.serve.ensures.store.later c.reserve.ensures.items c.send.ensures.items c.send.ensures.sent)
 
-pub returns-in-Ok-tell_replica-clause-moves : goal.returns-in-Ok-tell_replica-clause-moves
-returns-in-Ok-tell_replica-clause-moves g c =
-    rw (← c.self.view_is) (hears g.S.RowStore MAX_ENTRIES c.self.inside.hub c.self.inside.replicas.items c.self.inside.letters.items c.in-Some-Tells.replica c.in-Some.replica.now (slice_get_read c.self.inside.replicas.items (length c.self.inside.replicas.items) c.in-Some-Tells.replica c.in-Some.replica.now refl c.in-Some.ensures.item.3.0 c.in-Some.ensures.value) c.tell_replica.new.replica c.args.which c.args.wishes.now c.in-Some-Tells.answer c.in-Ok-decode.answer (Ok c.in-Ok-tell_replica.told) c.reserve.new.self.items c.reserve.ensures.items (rw (c.deref.ensures.value, c.reserve.ensures.items) at (slice_get_read c.deref.result.now (length c.deref.result.now) c.args.which c.in-Some-Tells.field-0.now refl c.in-Some-Tells.ensures.lookup.3.0 c.in-Some-Tells.ensures.lookup.1) ∙ ap (λ x. Some x) c.in-Some-Tells.field-0-is) (rw c.in-Ok-decode.is at c.decode.ensures.found).0 (sym c.as_slice-in-Some-Tells.ensures.value ∙ (rw c.in-Ok-decode.is at c.decode.ensures.found).1) c.one_told_answer.ensures (told_as g.S.RowStore c.tell_replica.ensures.counts (λ none. absurd none)) c.tell_replica.ensures.left (rw c.in-Ok-tell_replica.is at c.tell_replica.ensures.turned))
+pub returns-in-Ok-answer-clause-moves : goal.returns-in-Ok-answer-clause-moves
+returns-in-Ok-answer-clause-moves g c =
+    rw (← c.self.view_is) (hears g.S.RowStore MAX_ENTRIES c.self.inside.hub c.self.inside.replicas.items c.self.inside.letters.items c.in-Some-Tells.replica c.in-Some.replica.now (slice_get_read c.self.inside.replicas.items (length c.self.inside.replicas.items) c.in-Some-Tells.replica c.in-Some.replica.now refl c.in-Some.ensures.item.3.0 c.in-Some.ensures.value) c.answer.new.self c.args.which c.args.wishes.now c.in-Some-Tells.answer c.in-Ok-decode.answer (Ok c.in-Ok-answer.told) c.reserve.new.self.items c.reserve.ensures.items (rw (c.deref.ensures.value, c.reserve.ensures.items) at (slice_get_read c.deref.result.now (length c.deref.result.now) c.args.which c.in-Some-Tells.field-0.now refl c.in-Some-Tells.ensures.lookup.3.0 c.in-Some-Tells.ensures.lookup.1) ∙ ap (λ x. Some x) c.in-Some-Tells.field-0-is) (rw c.in-Ok-decode.is at c.decode.ensures.found).0 (sym c.as_slice-in-Some-Tells.ensures.value ∙ (rw c.in-Ok-decode.is at c.decode.ensures.found).1) c.one_told_answer.ensures (told_as g.S.RowStore c.answer.ensures.counts (λ none. absurd none)) c.answer.ensures.left (rw (c.in-Ok-answer.is, c.new-picker.ensures) at c.answer.ensures.turned))
 
 pub returns-in-Err-clause-moves : goal.returns-in-Err-clause-moves
 returns-in-Err-clause-moves g c =
-    rw (← c.self.view_is) (hears g.S.RowStore MAX_ENTRIES c.self.inside.hub c.self.inside.replicas.items c.self.inside.letters.items c.in-Some-Tells.replica c.in-Some.replica.now (slice_get_read c.self.inside.replicas.items (length c.self.inside.replicas.items) c.in-Some-Tells.replica c.in-Some.replica.now refl c.in-Some.ensures.item.3.0 c.in-Some.ensures.value) c.tell_replica.new.replica c.args.which c.args.wishes.now c.in-Some-Tells.answer c.in-Ok-decode.answer (Err c.in-Err.fault) c.reserve.new.self.items c.reserve.ensures.items (rw (c.deref.ensures.value, c.reserve.ensures.items) at (slice_get_read c.deref.result.now (length c.deref.result.now) c.args.which c.in-Some-Tells.field-0.now refl c.in-Some-Tells.ensures.lookup.3.0 c.in-Some-Tells.ensures.lookup.1) ∙ ap (λ x. Some x) c.in-Some-Tells.field-0-is) (rw c.in-Ok-decode.is at c.decode.ensures.found).0 (sym c.as_slice-in-Some-Tells.ensures.value ∙ (rw c.in-Ok-decode.is at c.decode.ensures.found).1) c.one_told_answer.ensures (told_as g.S.RowStore c.tell_replica.ensures.counts (λ is. rw c.in-Err.is is)) c.tell_replica.ensures.left (rw c.in-Err.is at c.tell_replica.ensures.turned))
+    rw (← c.self.view_is) (hears g.S.RowStore MAX_ENTRIES c.self.inside.hub c.self.inside.replicas.items c.self.inside.letters.items c.in-Some-Tells.replica c.in-Some.replica.now (slice_get_read c.self.inside.replicas.items (length c.self.inside.replicas.items) c.in-Some-Tells.replica c.in-Some.replica.now refl c.in-Some.ensures.item.3.0 c.in-Some.ensures.value) c.answer.new.self c.args.which c.args.wishes.now c.in-Some-Tells.answer c.in-Ok-decode.answer (Err c.in-Err.fault) c.reserve.new.self.items c.reserve.ensures.items (rw (c.deref.ensures.value, c.reserve.ensures.items) at (slice_get_read c.deref.result.now (length c.deref.result.now) c.args.which c.in-Some-Tells.field-0.now refl c.in-Some-Tells.ensures.lookup.3.0 c.in-Some-Tells.ensures.lookup.1) ∙ ap (λ x. Some x) c.in-Some-Tells.field-0-is) (rw c.in-Ok-decode.is at c.decode.ensures.found).0 (sym c.as_slice-in-Some-Tells.ensures.value ∙ (rw c.in-Ok-decode.is at c.decode.ensures.found).1) c.one_told_answer.ensures (told_as g.S.RowStore c.answer.ensures.counts (λ is. rw c.in-Err.is is)) c.answer.ensures.left (rw (c.in-Err.is, c.new-picker.ensures) at c.answer.ensures.turned))
 
 pub returns-then-is_err-clause-asks : goal.returns-then-is_err-clause-asks
 returns-then-is_err-clause-asks g c = rw (← c.self.view_is) (asks_none g.S.RowStore MAX_ENTRIES c.args.which c.args.wishes.now c.self.inside.hub _ c.self.inside.replicas.items c.self.inside.replicas.items c.self.inside.letters.items _)
@@ -65,8 +65,8 @@ pub returns-in_default-get_mut-clause-asks : goal.returns-in_default-get_mut-cla
 returns-in_default-get_mut-clause-asks g c =
     rw (← c.self.view_is) (asks_replica g.S.RowStore MAX_ENTRIES c.args.which c.args.wishes.now c.self.inside.hub _ c.self.inside.replicas.items c.self.inside.replicas.items c.self.inside.letters.items _ _ c.in-Some-Tells.replica c.in-Some-Tells.answer (rw (c.deref.ensures.value, c.reserve.ensures.items) at (slice_get_read c.deref.result.now (length c.deref.result.now) c.args.which c.in-Some-Tells.field-0.now refl c.in-Some-Tells.ensures.lookup.3.0 c.in-Some-Tells.ensures.lookup.1) ∙ ap (λ x. Some x) c.in-Some-Tells.field-0-is))
 
-pub returns-in-Ok-tell_replica-clause-asks : goal.returns-in-Ok-tell_replica-clause-asks
-returns-in-Ok-tell_replica-clause-asks g c =
+pub returns-in-Ok-answer-clause-asks : goal.returns-in-Ok-answer-clause-asks
+returns-in-Ok-answer-clause-asks g c =
     rw (← c.self.view_is) (asks_replica g.S.RowStore MAX_ENTRIES c.args.which c.args.wishes.now c.self.inside.hub _ c.self.inside.replicas.items c.self.inside.replicas.items c.self.inside.letters.items _ _ c.in-Some-Tells.replica c.in-Some-Tells.answer (rw (c.deref.ensures.value, c.reserve.ensures.items) at (slice_get_read c.deref.result.now (length c.deref.result.now) c.args.which c.in-Some-Tells.field-0.now refl c.in-Some-Tells.ensures.lookup.3.0 c.in-Some-Tells.ensures.lookup.1) ∙ ap (λ x. Some x) c.in-Some-Tells.field-0-is))
 
 pub returns-in-Err-clause-asks : goal.returns-in-Err-clause-asks

@@ -15,8 +15,8 @@ returns-in_default g c =
 
 pub returns-in-Ok : goal.returns-in-Ok
 returns-in-Ok g c =
-    rw (← c.self.view_is) (resends g.S.RowStore MAX_ENTRIES c.self.inside.hub c.self.inside.replicas.items c.self.inside.letters.items c.args.which c.in-Some.replica.now c.new.result c.send.result c.reserve.new.self.items c.send.new.letters.items (rw c.deref.ensures.value at (slice_get_read c.deref.result.now (length c.deref.result.now) c.args.which c.in-Some.replica.now refl c.in-Some.ensures.lookup.3.0 c.in-Some.ensures.lookup.1)) (rw c.in-Ok.is at c.resend.ensures.there) (c.new.ensures ∙ (rw c.in-Ok.is at c.resend.ensures.request)) c.reserve.ensures.items c.send.ensures.items c.send.ensures.sent)
+    rw (← c.self.view_is) (resends g.S.RowStore MAX_ENTRIES c.self.inside.hub c.self.inside.replicas.items c.self.inside.letters.items c.args.which c.in-Some.replica.now c.new.result c.send.result c.reserve.new.self.items c.send.new.letters.items (rw c.deref.ensures.value at (slice_get_read c.deref.result.now (length c.deref.result.now) c.args.which c.in-Some.replica.now refl c.in-Some.ensures.lookup.3.0 c.in-Some.ensures.lookup.1)) (rw c.in-Ok.is at c.resend.ensures.resent).0 (c.new.ensures ∙ (rw c.in-Ok.is at c.resend.ensures.resent).1) c.reserve.ensures.items c.send.ensures.items c.send.ensures.sent)
 
 pub returns-in-Err : goal.returns-in-Err
 returns-in-Err g c =
-    rw (← c.self.view_is) (resends_not g.S.RowStore MAX_ENTRIES c.self.inside.hub c.self.inside.replicas.items c.self.inside.letters.items c.args.which c.in-Some.replica.now c.in-Err.fault c.reserve.new.self.items (rw c.deref.ensures.value at (slice_get_read c.deref.result.now (length c.deref.result.now) c.args.which c.in-Some.replica.now refl c.in-Some.ensures.lookup.3.0 c.in-Some.ensures.lookup.1)) (rw c.in-Err.is at c.resend.ensures.refused) c.reserve.ensures.items)
+    rw (← c.self.view_is) (resends_not g.S.RowStore MAX_ENTRIES c.self.inside.hub c.self.inside.replicas.items c.self.inside.letters.items c.args.which c.in-Some.replica.now c.in-Err.fault c.reserve.new.self.items (rw c.deref.ensures.value at (slice_get_read c.deref.result.now (length c.deref.result.now) c.args.which c.in-Some.replica.now refl c.in-Some.ensures.lookup.3.0 c.in-Some.ensures.lookup.1)) (rw c.in-Err.is at c.resend.ensures.resent) c.reserve.ensures.items)

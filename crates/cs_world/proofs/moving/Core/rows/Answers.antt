@@ -9,15 +9,15 @@ use Rattle.cs_world.proofs.moving.Core.rows.Goals as goal
 
 pub returns-in-Ok-clause-reads : goal.returns-in-Ok-clause-reads
 returns-in-Ok-clause-reads g c =
-    rw (← c.self.view_is) (reads_replica g.S.RowStore MAX_ENTRIES c.self.inside.hub c.self.inside.replicas.items c.self.inside.letters.items c.args.replica c.in-Some.one.now (slice_get_read c.self.inside.replicas.items (length c.self.inside.replicas.items) c.args.replica c.in-Some.one.now refl c.in-Some.ensures.item.3.0 c.in-Some.ensures.value) c.rows_of.new.replica (told_as g.S.RowStore c.rows_of.ensures.counts (λ none. absurd none)) c.rows_of.ensures.left c.rows_of.ensures.kept)
+    rw (← c.self.view_is) (reads_replica g.S.RowStore MAX_ENTRIES c.self.inside.hub c.self.inside.replicas.items c.self.inside.letters.items c.args.replica c.in-Some.one.now (slice_get_read c.self.inside.replicas.items (length c.self.inside.replicas.items) c.args.replica c.in-Some.one.now refl c.in-Some.ensures.item.3.0 c.in-Some.ensures.value) c.rows.new.self (told_as g.S.RowStore c.rows.ensures.counts (λ none. absurd none)) c.rows.ensures.left c.rows.ensures.turned)
 
 pub returns-in-Err-clause-reads : goal.returns-in-Err-clause-reads
 returns-in-Err-clause-reads g c =
-    rw (← c.self.view_is) (reads_replica g.S.RowStore MAX_ENTRIES c.self.inside.hub c.self.inside.replicas.items c.self.inside.letters.items c.args.replica c.in-Some.one.now (slice_get_read c.self.inside.replicas.items (length c.self.inside.replicas.items) c.args.replica c.in-Some.one.now refl c.in-Some.ensures.item.3.0 c.in-Some.ensures.value) c.rows_of.new.replica (told_as g.S.RowStore c.rows_of.ensures.counts (λ none. absurd none)) c.rows_of.ensures.left c.rows_of.ensures.kept)
+    rw (← c.self.view_is) (reads_replica g.S.RowStore MAX_ENTRIES c.self.inside.hub c.self.inside.replicas.items c.self.inside.letters.items c.args.replica c.in-Some.one.now (slice_get_read c.self.inside.replicas.items (length c.self.inside.replicas.items) c.args.replica c.in-Some.one.now refl c.in-Some.ensures.item.3.0 c.in-Some.ensures.value) c.rows.new.self (told_as g.S.RowStore c.rows.ensures.counts (λ none. absurd none)) c.rows.ensures.left c.rows.ensures.turned)
 
 pub returns-in-Ok-clause-listed : goal.returns-in-Ok-clause-listed
 returns-in-Ok-clause-listed g c =
-    rw (← c.self.view_is) (listed g.S.RowStore MAX_ENTRIES c.self.inside.hub c.self.inside.replicas.items c.self.inside.letters.items c.args.replica c.in-Some.one.now (slice_get_read c.self.inside.replicas.items (length c.self.inside.replicas.items) c.args.replica c.in-Some.one.now refl c.in-Some.ensures.item.3.0 c.in-Some.ensures.value) c.rows_of.new.replica (λ tables view. AreRowsIn tables view.tables c.args.table c.in-Ok.rows.items) (rw c.in-Ok.is at c.rows_of.ensures.listed))
+    rw (← c.self.view_is) (listed g.S.RowStore MAX_ENTRIES c.self.inside.hub c.self.inside.replicas.items c.self.inside.letters.items c.args.replica c.in-Some.one.now (slice_get_read c.self.inside.replicas.items (length c.self.inside.replicas.items) c.args.replica c.in-Some.one.now refl c.in-Some.ensures.item.3.0 c.in-Some.ensures.value) c.rows.new.self (λ tables view. AreRowsIn tables view.tables c.args.table c.in-Ok.rows.items) (rw c.in-Ok.is at c.rows.ensures.listed))
 
 pub returns-in-Ok-clause-none : goal.returns-in-Ok-clause-none
 returns-in-Ok-clause-none g c none =
@@ -27,11 +27,11 @@ returns-in-Ok-clause-none g c none =
 
 pub returns-in-Ok-clause-left : goal.returns-in-Ok-clause-left
 returns-in-Ok-clause-left g c =
-    rw (← c.self.view_is) (replica_left g.S.RowStore MAX_ENTRIES c.self.inside.hub c.self.inside.replicas.items c.self.inside.letters.items c.args.replica c.in-Some.one.now (slice_get_read c.self.inside.replicas.items (length c.self.inside.replicas.items) c.args.replica c.in-Some.one.now refl c.in-Some.ensures.item.3.0 c.in-Some.ensures.value) c.rows_of.new.replica (told_as g.S.RowStore c.rows_of.ensures.counts (λ none. absurd none)) c.rows_of.ensures.left c.rows_of.ensures.kept)
+    rw (← c.self.view_is) (replica_left g.S.RowStore MAX_ENTRIES c.self.inside.hub c.self.inside.replicas.items c.self.inside.letters.items c.args.replica c.in-Some.one.now (slice_get_read c.self.inside.replicas.items (length c.self.inside.replicas.items) c.args.replica c.in-Some.one.now refl c.in-Some.ensures.item.3.0 c.in-Some.ensures.value) c.rows.new.self (told_as g.S.RowStore c.rows.ensures.counts (λ none. absurd none)) c.rows.ensures.left c.rows.ensures.turned)
 
 pub returns-in-Err-clause-left : goal.returns-in-Err-clause-left
 returns-in-Err-clause-left g c =
-    rw (← c.self.view_is) (replica_left g.S.RowStore MAX_ENTRIES c.self.inside.hub c.self.inside.replicas.items c.self.inside.letters.items c.args.replica c.in-Some.one.now (slice_get_read c.self.inside.replicas.items (length c.self.inside.replicas.items) c.args.replica c.in-Some.one.now refl c.in-Some.ensures.item.3.0 c.in-Some.ensures.value) c.rows_of.new.replica (told_as g.S.RowStore c.rows_of.ensures.counts (λ none. absurd none)) c.rows_of.ensures.left c.rows_of.ensures.kept)
+    rw (← c.self.view_is) (replica_left g.S.RowStore MAX_ENTRIES c.self.inside.hub c.self.inside.replicas.items c.self.inside.letters.items c.args.replica c.in-Some.one.now (slice_get_read c.self.inside.replicas.items (length c.self.inside.replicas.items) c.args.replica c.in-Some.one.now refl c.in-Some.ensures.item.3.0 c.in-Some.ensures.value) c.rows.new.self (told_as g.S.RowStore c.rows.ensures.counts (λ none. absurd none)) c.rows.ensures.left c.rows.ensures.turned)
 
 pub returns-in_default-clause-left : goal.returns-in_default-clause-left
 returns-in_default-clause-left g c =
@@ -39,11 +39,11 @@ returns-in_default-clause-left g c =
 
 pub returns-in-Ok-clause-counts : goal.returns-in-Ok-clause-counts
 returns-in-Ok-clause-counts g c =
-    rw (← c.self.view_is) (counts_replica g.S.RowStore _ _ (λ is. absurd (let e = is in cc)) c.self.inside.hub c.self.inside.replicas.items c.args.replica c.in-Some.one.now c.rows_of.new.replica (slice_get_read c.self.inside.replicas.items (length c.self.inside.replicas.items) c.args.replica c.in-Some.one.now refl c.in-Some.ensures.item.3.0 c.in-Some.ensures.value) c.rows_of.ensures.counts c.self.inside.letters.items c.self.inside.letters.items)
+    rw (← c.self.view_is) (counts_replica g.S.RowStore _ _ (λ is. absurd (let e = is in cc)) c.self.inside.hub c.self.inside.replicas.items c.args.replica c.in-Some.one.now c.rows.new.self (slice_get_read c.self.inside.replicas.items (length c.self.inside.replicas.items) c.args.replica c.in-Some.one.now refl c.in-Some.ensures.item.3.0 c.in-Some.ensures.value) c.rows.ensures.counts c.self.inside.letters.items c.self.inside.letters.items)
 
 pub returns-in-Err-clause-counts : goal.returns-in-Err-clause-counts
 returns-in-Err-clause-counts g c =
-    rw (← c.self.view_is) (counts_replica g.S.RowStore _ _ (λ is. c.in-Err.is ∙ is) c.self.inside.hub c.self.inside.replicas.items c.args.replica c.in-Some.one.now c.rows_of.new.replica (slice_get_read c.self.inside.replicas.items (length c.self.inside.replicas.items) c.args.replica c.in-Some.one.now refl c.in-Some.ensures.item.3.0 c.in-Some.ensures.value) c.rows_of.ensures.counts c.self.inside.letters.items c.self.inside.letters.items)
+    rw (← c.self.view_is) (counts_replica g.S.RowStore _ _ (λ is. c.in-Err.is ∙ is) c.self.inside.hub c.self.inside.replicas.items c.args.replica c.in-Some.one.now c.rows.new.self (slice_get_read c.self.inside.replicas.items (length c.self.inside.replicas.items) c.args.replica c.in-Some.one.now refl c.in-Some.ensures.item.3.0 c.in-Some.ensures.value) c.rows.ensures.counts c.self.inside.letters.items c.self.inside.letters.items)
 
 pub returns-in_default-clause-counts : goal.returns-in_default-clause-counts
 returns-in_default-clause-counts g c =

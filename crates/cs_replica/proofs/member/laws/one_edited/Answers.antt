@@ -1,5 +1,0 @@
-use Rattle.cs_replica.proofs.MemberLemmas.OneEdit.{one_edited}
-use Rattle.cs_replica.proofs.member.laws.one_edited.Goals as goal
-
-pub returns : goal.returns
-returns c = one_edited c.one_contents.ensures.contents

@@ -1,5 +1,0 @@
-use Rattle.cs_replica.proofs.MemberLemmas.OneAnswer.{one_heard}
-use Rattle.cs_replica.proofs.member.laws.one_heard.Goals as goal
-
-pub returns : goal.returns
-returns c = one_heard c.one_contents.ensures.contents c.one_view.ensures.one c.one_answered_by.ensures

@@ -1,5 +1,0 @@
-use Rattle.cs_replica.proofs.MemberLemmas.OnePush.{one_pushed}
-use Rattle.cs_replica.proofs.member.laws.one_pushed.Goals as goal
-
-pub returns : goal.returns
-returns c = one_pushed c.one_pending.ensures c.one_push.ensures.fault c.one_push.ensures.made

@@ -1,4 +1,0 @@
-pub mod Member
-pub mod Leaves
-pub mod Same
-pub mod Laws
