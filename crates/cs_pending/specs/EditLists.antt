@@ -4,6 +4,7 @@ use Rattle.cs_value.specs.declared.catalog.TableDef.{TableDef}
 use Rattle.cs_value.specs.declared.edit.Edit.{Edit}
 use Rattle.cs_value.specs.declared.edit.Edit.TheVariants.{Insert, Update, Delete}
 use Rattle.cs_pending.specs.Edits.{AskDelete, AskInsert, AskUpdate, Asked, edit}
+use Rattle.cs_pending.specs.Shows.{IsSoundOf}
 use Rattle.cs_pending.specs.View.{View}
 use Rattle.cs_pending.specs.declared.fault.EditFault.{EditFault}
 use Rattle.cs_pending.specs.declared.fault.EditFault.TheVariants as one
@@ -22,11 +23,12 @@ asked_of_edit (Insert table row) = AskInsert row
 asked_of_edit (Update table key fields) = AskUpdate key fields
 asked_of_edit (Delete table key) = AskDelete key
 
--- each is made on what those before it left
+-- each is made on what those before it left, and leaves a sound view
 abbrev pub AreEdited : List TableDef → List Edit → View → View → Type 0
 AreEdited tables [] view end = end ≡ view
 AreEdited tables (asked ∷ edits) view end =
-    (next : View) × (edit tables (table_of_edit asked) (asked_of_edit asked) view ≡ Ok next) × AreEdited tables edits next end
+    (next : View) × (edit tables (table_of_edit asked) (asked_of_edit asked) view ≡ Ok next) × IsSoundOf tables next.pending next.tables
+    × AreEdited tables edits next end
 
 -- those before this one are made, and this one is refused
 pub record IsRefusedAt (tables : List TableDef) (edits : List Edit) (view : View) (at : ℕ) (fault : EditFault) : Type 0 where

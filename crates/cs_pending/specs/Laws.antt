@@ -2,8 +2,10 @@
 use Rattle.std.specs.Prelude.{◌≡◌, ℕ, List, None, Ok, Contains}
 use Rattle.cs_value.specs.Catalog.{AreTables}
 use Rattle.cs_value.specs.declared.catalog.TableDef.{TableDef}
+use Rattle.cs_value.specs.declared.edit.Edit.{Edit}
 use Rattle.cs_normal.specs.State.{AreSame, IsStateOf}
 use Rattle.cs_store.specs.Contents.{Contents, nothing}
+use Rattle.cs_pending.specs.EditLists.{AreEdited}
 use Rattle.cs_pending.specs.Edits.{Asked, edit}
 use Rattle.cs_pending.specs.View.{View, middle}
 use Rattle.cs_pending.specs.Shows.{IsSoundOf, ShowsRows}
@@ -34,3 +36,11 @@ EditKeepsBefore =
     → IsStateOf tables next.tables
     → edit tables name asked view ≡ Ok next
     → AreSame (middle view) (middle next)
+
+-- edits one behind another leave one view
+abbrev pub OneEdits : Type 0
+OneEdits =
+    (tables : List TableDef) (edits : List Edit) (view some other : View)
+    → AreEdited tables edits view some
+    → AreEdited tables edits view other
+    → other ≡ some

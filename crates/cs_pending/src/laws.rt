@@ -1,6 +1,6 @@
 //! The laws of views, each the contract of a function that does nothing.
 
-ghost use Rattle.cs_pending.specs.Laws.{EditKeepsBefore, NewShows, OneView};
+ghost use Rattle.cs_pending.specs.Laws.{EditKeepsBefore, NewShows, OneEdits, OneView};
 
 /// A store shows one view. A new store shows that there are such.
 pub fn one_view()
@@ -19,3 +19,8 @@ pub fn edit_keeps_before()
     cs_normal::laws::one_key_stands();
     cs_change::laws::net_takes();
 }
+
+/// Edits one behind another leave one view.
+pub fn one_edits()
+    ensures { OneEdits }
+{}

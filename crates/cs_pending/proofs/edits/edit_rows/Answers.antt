@@ -47,7 +47,7 @@ loop-at-preserved g c =
           let settles = subst (λ (held : Contents). Settles tables held c.args.pending c.loop-at.settling so_far.0) (sym (read.same was)) so_far.2 in
           let staged = (rw (c.of.ensures.0, c.of.ensures.1) at c.in-Ok.ensures.staged) honest c.args.pending so_far.0 settles in (
             staged.0,
-            edited_next tables edits view c.loop-at.at asked so_far.0 there so_far.1 staged.0 staged.1,
+            edited_next tables edits view c.loop-at.at asked so_far.0 there so_far.1 staged.0 staged.1 staged.2.sound,
             subst (λ (held : Contents). Settles tables held c.args.pending c.stage.new.settling staged.0) (read.same was) staged.2,
           );
     }
