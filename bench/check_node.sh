@@ -3,6 +3,8 @@
 # with what it has to be: edits, and what is pending then; another's entries over own edits, one by one and as one changeset, with a push under
 # way and without; answers of the hub; entries that aren't taken; lines that are refused or can't be read; and files whose values were changed by the `sqlite3` shell,
 # where that can be had.
+# The same of a replica that answers each line as it comes, `node --follow FILE ID TABLE..`: its lines, clashes that are seen before they are decided, and pipes on
+# which it has to answer each line before the next one is written.
 # Usage: bench/check_node.sh PROGRAM
 set -u
 bench="$(cd "$(dirname "$0")" && pwd)"
@@ -518,6 +520,160 @@ dump\n\ndump\n
 dump\nanswer 1 -\n
 dump\nedit update t1 - t=x
 END
+
+# ---- a replica that answers each line as it comes
+
+# follows LINES OUTPUT: so does replica 7 of t1 and t2, each reply with an empty line behind it.
+follows() {
+    expect 0 "$1" "$2" '' node --follow "$file" 7 t1:10 t2:1000
+}
+
+# reply TEXT..: the reply of these lines.
+reply() {
+    printf '%s\\n' "$@" ''
+}
+
+# asks LINE TEXT..: a line more, and its reply.
+asks() {
+    input="$input$1\n"
+    shift
+    output="$output$(reply "$@")"
+}
+
+# The lines that look, over no row and over some, and what is pending, also behind a push; tables that aren't there, and a key of no row, of another width and of NULL.
+begins
+asks place 'replica 7 version 0 pending 0 flight 0'
+asks 'rows t1'
+asks 'row t1 1'
+asks pending
+asks 'edit insert t1 2 t=x' ok
+asks 'edit insert t1 1 t=v1' ok
+asks 'edit insert t2 1 null 5 x=00' ok
+asks 'rows t1' 'row t1 1 t=v1' 'row t1 2 t=x'
+asks 'row t1 1' 'row t1 1 t=v1'
+asks 'row t2 1' 'row t2 1 null 5 x=00'
+asks 'row t1 3'
+asks 'row t1 null'
+asks 'row t1 1 t=v1'
+asks 'row t1'
+asks 'rows t9' 'refused NoTable'
+asks 'row t9 1' 'refused NoTable'
+asks pending 'table t1 10' 'insert 0 1 t=v1' 'insert 0 2 t=x' 'table t2 1000' 'insert 0 1 null 5 x=00'
+asks push "$(push 1 0 $H1$I$K1$V1$I$K2$X$H2$I${K1}05010000000000000005040100)"
+asks pending
+asks 'edit update t1 2 t=y' ok
+asks pending 'table t1 10' 'update 0 2 t=x > - t=y'
+asks place 'replica 7 version 0 pending 1 flight 3'
+asks dump 'replica 7 version 0 pending 1 flight 3' 'row t1 1 t=v1' 'row t1 2 t=y' 'row t2 1 null 5 x=00'
+follows "$input" "$output"
+
+# Lines that can't be read end nothing: verbs, words too many or too few, names and values.
+begins
+while read -r line; do
+    asks "$line" unread
+done << 'END'
+no such line
+
+place 1
+rows
+rows t1 1
+rows %41%
+row
+row t1 t=%
+pending t1
+push 1
+answer 14
+edit insert
+END
+asks ' place' unread
+asks place 'replica 7 version 0 pending 0 flight 0'
+follows "$input" "$output"
+
+# A node without `--follow` reads none of the lines that look.
+for line in place 'rows t1' 'row t1 1' pending; do
+    begins
+    expect 1 "$line\n" '' 'sync: line 1\n' node "$file" 7 t1:10
+done
+
+# sees BASE EDITS CHANGESET CLASH WISH PLACE: over the log's rows by BASE and own edits, another's changeset is stopped at, at this clash, is told again with the
+# wish, and the replica stands there then.
+sees() {
+    begins
+    asks "answer $(others 0 "$1") s" 'taken 1 version 1'
+    local IFS=';' edit
+    for edit in $2; do
+        asks "edit $edit" ok
+    done
+    asks "answer $(others 1 "$3") s" "stopped 0 version 1 clash $4"
+    asks "answer $(others 1 "$3") $5s" 'taken 1 version 2'
+    asks place "replica 7 $6"
+    follows "$input" "$output"
+}
+
+# Each kind: other values, no row, and a row with the key; an own UPDATE that doesn't cover the other's, and an own row that went.
+while IFS='|' read -r base edits changeset clash wish place; do
+    sees "$base" "$edits" "$changeset" "$clash" "$wish" "$place"
+done << END
+$H1$I$K1$V1|update t1 1 t=v9|$H1$U$K1$V1$N$V2|data t1 update 0 1 t=v1 > - t=v2 row 1 t=v9 own update 0 1 t=v1 > - t=v9 lawful kt|k|version 2 pending 1 flight 0
+$H1$I$K1$V1|update t1 1 t=v9|$H1$D$K1$V1|data t1 delete 0 1 t=v1 row 1 t=v9 own update 0 1 t=v1 > - t=v9 lawful kt|t|version 2 pending 0 flight 0
+$H1$I$K1$V1|delete t1 1|$H1$U$K1$V1$N$V2|notfound t1 update 0 1 t=v1 > - t=v2 row - own delete 0 1 t=v1 lawful k|k|version 2 pending 1 flight 0
+$H1$I$K2$V1|insert t1 1 t=v1|$H1$I$K1$V2|conflict t1 insert 0 1 t=v2 row 1 t=v1 own insert 0 1 t=v1 lawful kt|t|version 2 pending 0 flight 0
+$row0|update t2 1 t=b1 - -|$H2$U$K1$B0$C0$N$N$B2$C2$N|data t2 update 0 1 t=b0 t=c0 - > - t=b2 t=c2 - row 1 t=b1 t=c0 t=d0 own update 0 1 t=b0 - - > - t=b1 - - lawful t|t|version 2 pending 0 flight 0
+END
+
+# Three clashes of one entry are seen one by one, and nothing is taken meanwhile; of two entries the first is taken before the second is stopped at; and entries that
+# are told together are one.
+begins
+asks 'edit insert t1 1 t=x' ok
+asks 'edit insert t1 2 t=y' ok
+asks 'edit insert t1 3 t=z' ok
+first="$(others 0 $H1$I$K1$A$I$K2$B$I$K3$C)"
+asks "answer $first s" 'stopped 0 version 0 clash conflict t1 insert 0 1 t=a row 1 t=x own insert 0 1 t=x lawful kt'
+asks "answer $first ks" 'stopped 0 version 0 clash conflict t1 insert 0 2 t=b row 2 t=y own insert 0 2 t=y lawful kt'
+asks "answer $first kts" 'stopped 0 version 0 clash conflict t1 insert 0 3 t=c row 3 t=z own insert 0 3 t=z lawful kt'
+asks place 'replica 7 version 0 pending 3 flight 0'
+asks "answer $first ktks" 'taken 1 version 1'
+asks 'rows t1' 'row t1 1 t=x' 'row t1 2 t=b' 'row t1 3 t=z'
+two="$(from 1 2)$(entry 9 2 $H1$U$K1$A$N$B)$(entry 9 3 $H1$U$K3$C$N$A)"
+asks "answer $two ts" 'stopped 1 version 2 clash data t1 update 0 3 t=c > - t=a row 3 t=z own update 0 3 t=c > - t=z lawful kt'
+asks "answer $two ks" 'taken 1 version 3'
+asks "answer $(merged 3 5 $H1$U$K3$A$N$B) s" 'stopped 0 version 3 clash data t1 update 0 3 t=a > - t=b row 3 t=z own update 0 3 t=a > - t=z lawful kt'
+asks "answer $(merged 3 5 $H1$U$K3$A$N$B) ts" 'taken 2 version 5'
+asks dump 'replica 7 version 5 pending 0 flight 0' 'row t1 1 t=b' 'row t1 2 t=b' 'row t1 3 t=b'
+follows "$input" "$output"
+# A second run reads the file again.
+input=''
+output=''
+asks place 'replica 7 version 5 pending 0 flight 0'
+follows "$input" "$output"
+
+# On pipes each line is answered before the next one is written, the file is held meanwhile, and the end of the input ends it.
+begins
+mkfifo "$dir/lines" "$dir/replies"
+timeout "$seconds" "$program" node --follow "$file" 7 t1:10 < "$dir/lines" > "$dir/replies" &
+follower=$!
+exec 3> "$dir/lines" 4< "$dir/replies"
+# turn LINE TEXT: it is answered so.
+turn() {
+    local told='' behind=x
+    echo "$1" >&3
+    read -r -t "$seconds" told <&4 && read -r -t "$seconds" behind <&4
+    [ "$told|$behind" = "$2|" ] || tell "answered $told and $behind on pipes" node --follow "$file" 7 t1:10
+}
+turn 'edit insert t1 1 t=v1' ok
+turn place 'replica 7 version 0 pending 1 flight 0'
+expect 1 'place\n' '' 'sync: Device\n' node --follow "$file" 7 t1:10
+expect 1 'dump\n' '' 'sync: Device\n' node "$file" 7 t1:10
+turn nothing unread
+turn 'row t1 1' 'row t1 1 t=v1'
+exec 3>&- 4<&-
+wait "$follower" || tell "ended with $? on pipes" node --follow "$file" 7 t1:10
+runs=$((runs + 1))
+
+# What isn't opened answers nothing: another id, and a file that isn't ours.
+expect 1 'place\n' '' 'sync: Mismatch\n' node --follow "$file" 8 t1:10
+echo 'no database' > "$dir/other"
+expect 1 'place\n' '' 'sync: Device\n' node --follow "$dir/other" 7 t1:10
 
 # ---- files whose values were changed
 

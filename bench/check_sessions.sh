@@ -425,7 +425,7 @@ expect 0 "$insert\n" 'table t1 10\nchange omit 1 t=v1\n' '' show blob
 expect 1 '54\n' '' 'sync: Truncated at 1\n' show blob
 
 # The same of commands that take a number.
-for words in 'node' 'node f' 'node f x t1:10' 'node f 4294967295 t1:10' 'hub --file'; do
+for words in 'node' 'node f' 'node f x t1:10' 'node f 4294967295 t1:10' 'node --follow f' 'node --follow f x t1:10' 'node --follow --follow f 7 t1:10' 'hub --follow' 'hub --file'; do
     refuses_words $words
 done
 
@@ -435,7 +435,7 @@ help='Offline-first table sync: a hub, replicas, and tools for changesets\n\nUsa
 help_to_combine='Take the changesets that the lines spell in hex, or that files hold, together as one\n\nUsage: sync combine [--sqlite] [--file FILE]...\n\nOptions:\n      --sqlite       Write the column bytes that came in, as SQLite applies them\n      --file <FILE>  A file that holds a changeset, as its bytes\n  -h, --help         Print help\n'
 expect 0 '07\n' "$help" '' --help
 expect 0 '07\n' "$help_to_combine" '' help combine
-help_to_node='Edit, push and pull as a replica of these tables, one line a step\n\nUsage: sync node <FILE> <ID> [TABLE]...\n\nArguments:\n  <FILE>      The file of SQLite that keeps the replica, which is made where there is none\n  <ID>        The replica'"'"'s id, which no other at its hub has\n  [TABLE]...  A table as NAME:MARKS, a 1 for a key column and a 0 for another\n\nOptions:\n  -h, --help  Print help\n'
+help_to_node='Edit, push and pull as a replica of these tables, one line a step\n\nUsage: sync node [--follow] <FILE> <ID> [TABLE]...\n\nArguments:\n  <FILE>      The file of SQLite that keeps the replica, which is made where there is none\n  <ID>        The replica'"'"'s id, which no other at its hub has\n  [TABLE]...  A table as NAME:MARKS, a 1 for a key column and a 0 for another\n\nOptions:\n      --follow  Answer each line as it comes, with an empty line behind each answer\n  -h, --help    Print help\n'
 expect 0 '07\n' "$help_to_node" '' node --help
 ln -s "$(realpath "$program")" "$dir/any"
 own="$program"

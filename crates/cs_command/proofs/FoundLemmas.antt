@@ -7,9 +7,8 @@ use Rattle.std.proofs.lemmas.Bool.Decides.{same_from_decides}
 use Rattle.std.proofs.lemmas.Slice.Eq.{bytes_eq-Decides}
 use Rattle.std.specs.Str.{bytes_eq}
 use Rattle.clap.specs.Words.{ReadsOne, Row, Text, all_of, first_of, one_of}
-use Rattle.cs_command.specs.CommandLine.{form_of, id_at, node_of, node_wanted, number_at, over_file, tool_by, tool_of_what, wanted_by, words_in}
-use Rattle.cs_command.specs.Wanted.{Hub, Node, World}
-use Rattle.cs_tools.specs.declared.tool.Form.TheVariants.{Normal, Sqlite}
+use Rattle.cs_command.specs.CommandLine.{id_at, is_given, node_of, node_wanted, node_with, number_at, over_file, tool_by, tool_of_what, wanted_by, words_in}
+use Rattle.cs_command.specs.Wanted.{Hub, World}
 use Rattle.cs_tools.specs.declared.tool.Tool.{Tool}
 use Rattle.cs_tools.specs.declared.tool.Tool.TheVariants.{ShowBlob, ShowChangeset}
 
@@ -43,7 +42,7 @@ decided : (b : Bool) (some other : Text) → Decides b (some ≡ other) → b �
 decided b some other decides = same_from_decides b (bytes_eq some other) decides (bytes_eq-Decides some other)
 
 -- a flag is true where its text is "true"
-pub flag_given : (E : Type 0) (text : Option Text) (value : Option Bool) → (text ≡ None → value ≡ None)
+flag_given : (E : Type 0) (text : Option Text) (value : Option Bool) → (text ≡ None → value ≡ None)
     → ((t : Text) → text ≡ Some t → ReadsOne {T = Bool} {E = E} ParsesBool t value)
     → unwrap_or value false ≡ bytes_eq (unwrap_or text []) (codes "true")
 flag_given E None value none reads = rw (none refl) refl
@@ -53,14 +52,13 @@ flag_given E (Some t) (Some true) none reads = decided true t (codes "true") ((�
 flag_given E (Some t) (Some false) none reads =
     let is : t ≡ codes "false" = reads t refl in rw is refl
 
--- the form that the value of `--sqlite` asks for
-pub form_asked : (E : Type 0) (given : Bool) (text : Option Text) (value : Option Bool) (rows : List Row)
-    → given ≡ unwrap_or value false → text ≡ one_of (codes "sqlite") rows → (text ≡ None → value ≡ None)
+-- so is the flag with an id
+pub given_at : (E : Type 0) (id : Text) (text : Option Text) (value : Option Bool) (rows : List Row)
+    → text ≡ one_of id rows → (text ≡ None → value ≡ None)
     → ((t : Text) → text ≡ Some t → ReadsOne {T = Bool} {E = E} ParsesBool t value)
-    → cond given Sqlite Normal ≡ form_of rows
-form_asked E given text value rows is found none reads =
-    ap (λ b. cond b Sqlite Normal) (is ∙ flag_given E text value none reads)
-    ∙ ap (λ (t : Option Text). cond (bytes_eq (unwrap_or t []) (codes "true")) Sqlite Normal) found
+    → unwrap_or value false ≡ is_given id rows
+given_at E id text value rows found none reads =
+    flag_given E text value none reads ∙ ap (λ (t : Option Text). bytes_eq (unwrap_or t []) (codes "true")) found
 
 -- what the word behind `show` asks for
 pub changeset_asked : (what : Text) → true ≡ bytes_eq what (codes "changeset") → Some ShowChangeset ≡ tool_of_what (Some what)
@@ -89,12 +87,14 @@ hub_asked name rows file is found =
     ap (λ (f : Option Text). Some (Hub f)) found ∙ ap (λ b. cond b (Some (Hub (first_of (codes "FILE") rows))) rest) is
 
 pub node_has_no_file : (rows : List Row) → None ≡ first_of (codes "FILE") rows → None ≡ node_wanted rows
-node_has_no_file rows none = ap (λ (f : Option Text). node_of f (id_at rows)) none
+node_has_no_file rows none = ap (λ (f : Option Text). node_with (is_given (codes "follow") rows) f (id_at rows)) none
 
-pub node_found : (rows : List Row) (file : Text) (id : ℕ) → Some file ≡ first_of (codes "FILE") rows → Some id ≡ id_at rows
-    → Some (Node file id) ≡ node_wanted rows
-node_found rows file id named numbered =
-    ap (λ (f : Option Text). node_of f (Some id)) named ∙ ap (λ (n : Option ℕ). node_of (first_of (codes "FILE") rows) n) numbered
+pub node_found : (rows : List Row) (follows : Bool) (file : Text) (id : ℕ) → follows ≡ is_given (codes "follow") rows → Some file ≡ first_of (codes "FILE") rows
+    → Some id ≡ id_at rows → Some (node_of follows file id) ≡ node_wanted rows
+node_found rows follows file id given named numbered =
+    ap (λ b. Some (node_of b file id)) given
+    ∙ ap (λ (f : Option Text). node_with (is_given (codes "follow") rows) f (Some id)) named
+    ∙ ap (λ (n : Option ℕ). node_with (is_given (codes "follow") rows) (first_of (codes "FILE") rows) n) numbered
 
 -- what a tool is asked for over
 pub tool_wanted : (name : Text) (rows : List Row) (tool : Tool) (file : Option Text) → false ≡ bytes_eq name (codes "hub") → false ≡ bytes_eq name (codes "world")

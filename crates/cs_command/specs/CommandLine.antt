@@ -1,5 +1,5 @@
 -- The command line of `sync`, as the parser sees it, and what it asks for.
-use Rattle.std.specs.Prelude.{ℕ, ◌^◌, ◌-◌, nat_lt, List, [], Option, Some, None, true, option_map, option_and_then, unwrap_or, if◌then◌else◌, codes}
+use Rattle.std.specs.Prelude.{ℕ, ◌^◌, ◌-◌, nat_lt, Bool, true, false, List, [], Option, Some, None, option_map, option_and_then, unwrap_or, if◌then◌else◌, codes}
 use Rattle.std.specs.Str.{bytes_eq}
 use Rattle.std.specs.Str.Parse.{without_leading_plus}
 use Rattle.clap.specs.Faults.{fault_of}
@@ -13,7 +13,7 @@ use Rattle.cs_tools.specs.declared.tool.Form.TheVariants.{Normal, Sqlite}
 use Rattle.cs_tools.specs.declared.tool.Tool.{Tool}
 use Rattle.cs_tools.specs.declared.tool.Tool.TheVariants.{Combine, Rebase, ShowBlob, ShowChangeset}
 use Rattle.cs_text.specs.parse.Numbers.{small_in}
-use Rattle.cs_command.specs.Wanted.{Wanted, Hub, World, Node, Run, ShowFile, CombineFiles}
+use Rattle.cs_command.specs.Wanted.{Wanted, Hub, World, Node, Follow, Run, ShowFile, CombineFiles}
 
 -- ---- what the parser takes
 
@@ -43,8 +43,15 @@ file_rule = record (new_rule (codes "FILE")) { required = true }
 abbrev pub id_rule : Rule
 id_rule = record (new_rule (codes "ID")) { required = true; parser = Some (Unsigned 0 (2 ^ 32 - 2)) }
 
+-- `--follow`, a flag
+abbrev pub follow_rule : Rule
+follow_rule = record (new_rule (codes "follow")) {
+  long = Some (codes "follow");
+  action = Some SetTrue;
+}
+
 abbrev pub node_app : App
-node_app = with_rule (with_rule (with_rule (new_app (codes "node")) file_rule) id_rule) table_rule
+node_app = with_rule (with_rule (with_rule (with_rule (new_app (codes "node")) follow_rule) file_rule) id_rule) table_rule
 
 -- `WHAT`, which must be there
 abbrev pub what_rule : Rule
@@ -124,13 +131,22 @@ id_among number = if nat_lt number (2 ^ 32 - 1) then Some number else None
 abbrev pub id_at : List Row → Option ℕ
 id_at rows = option_and_then id_among (number_at (codes "ID") rows)
 
-abbrev pub node_of : Option Text → Option ℕ → Option Wanted
-node_of (Some file) (Some id) = Some (Node file id)
-node_of _ _ = None
+-- the flag with this id is given: its value is "true" then, else "false"
+abbrev pub is_given : Text → List Row → Bool
+is_given id rows = bytes_eq (unwrap_or (one_of id rows) []) (codes "true")
+
+-- a replica over a file, which answers each line as it comes or reads all first
+abbrev pub node_of : Bool → Text → ℕ → Wanted
+node_of true file id = Follow file id
+node_of false file id = Node file id
+
+abbrev pub node_with : Bool → Option Text → Option ℕ → Option Wanted
+node_with follows (Some file) (Some id) = Some (node_of follows file id)
+node_with follows _ _ = None
 
 -- what the words of `node` ask for
 abbrev pub node_wanted : List Row → Option Wanted
-node_wanted rows = node_of (first_of (codes "FILE") rows) (id_at rows)
+node_wanted rows = node_with (is_given (codes "follow") rows) (first_of (codes "FILE") rows) (id_at rows)
 
 -- what `show` is to show
 abbrev pub tool_of_what : Option Text → Option Tool
@@ -144,9 +160,9 @@ tool_of_what (Some what) =
 abbrev pub shown_tool : List Row → Option Tool
 shown_tool rows = tool_of_what (first_of (codes "WHAT") rows)
 
--- the form that the words of `combine` or `rebase` ask for: the flag's value is "true" where it was given, else "false"
+-- the form that the words of `combine` or `rebase` ask for
 abbrev pub form_of : List Row → Form
-form_of rows = if bytes_eq (unwrap_or (one_of (codes "sqlite") rows) []) (codes "true") then Sqlite else Normal
+form_of rows = if is_given (codes "sqlite") rows then Sqlite else Normal
 
 -- the tool that a subcommand and its words ask for
 abbrev pub tool_by : Text → List Row → Option Tool

@@ -9,7 +9,7 @@ use Rattle.cs_tools.specs.declared.tool.Tool.TheVariants.{Combine, Rebase, ShowB
 use Rattle.cs_value.specs.declared.catalog.TableDef.{TableDef}
 use Rattle.cs_command.specs.CatalogWords.{IsCatalogOf, IsRefusedAt}
 use Rattle.cs_command.specs.CommandLine.{faults_of, file_words_of, table_words_of, wanted_of}
-use Rattle.cs_command.specs.Wanted.{CombineFiles, Hub, Node, Run, ShowFile, World}
+use Rattle.cs_command.specs.Wanted.{CombineFiles, Follow, Hub, Node, Run, ShowFile, World}
 
 -- table words are one catalog
 abbrev pub OneCatalog : Type 0
@@ -38,6 +38,9 @@ world_words = codes "sync" ∷ codes "world" ∷ codes "2" ∷ codes "t1:10" ∷
 
 abbrev pub node_words : List Text
 node_words = codes "sync" ∷ codes "node" ∷ codes "f" ∷ codes "7" ∷ codes "t1:10" ∷ []
+
+abbrev pub follow_words : List Text
+follow_words = codes "sync" ∷ codes "node" ∷ codes "--follow" ∷ codes "f" ∷ codes "7" ∷ codes "t1:10" ∷ []
 
 abbrev pub combine_words : List Text
 combine_words = codes "sync" ∷ codes "combine" ∷ []
@@ -89,6 +92,10 @@ AsksForAWorld = (faults_of world_words ≡ []) × (wanted_of world_words ≡ Som
 abbrev pub AsksForANode : Type 0
 AsksForANode = (faults_of node_words ≡ []) × (wanted_of node_words ≡ Some (Node (codes "f") 7))
     × (table_words_of node_words ≡ codes "t1:10" ∷ [])
+
+abbrev pub AsksToFollow : Type 0
+AsksToFollow = (faults_of follow_words ≡ []) × (wanted_of follow_words ≡ Some (Follow (codes "f") 7))
+    × (table_words_of follow_words ≡ codes "t1:10" ∷ [])
 
 abbrev pub AsksToCombine : Type 0
 AsksToCombine = (faults_of combine_words ≡ []) × (wanted_of combine_words ≡ Some (Run (Combine Normal)))

@@ -2,7 +2,7 @@
 
 ghost use Rattle.std.specs.Prelude.{◌≡◌, [], ◌<◌, ◌-◌, ◌^◌, IfSome, MatchOption, map, option_map};
 ghost use Rattle.clap.specs.Words.{found_of, rows_of, subcommand_rows_of};
-ghost use Rattle.cs_command.specs.CommandLine.{form_of, files_in, id_among, id_at, node_wanted, number_at, over_file, shown_tool, tool_by, wanted_by, wanted_in};
+ghost use Rattle.cs_command.specs.CommandLine.{form_of, files_in, id_among, id_at, is_given, node_wanted, number_at, over_file, shown_tool, tool_by, wanted_by, wanted_in};
 ghost use Rattle.cs_command.specs.Wanted.{HasId, wanted};
 
 use crate::number::number_in;
@@ -24,6 +24,13 @@ pub enum Asked<'a> {
     },
     /// A replica over a file.
     Node {
+        /// The file.
+        file: &'a str,
+        /// The replica's id.
+        id: u32,
+    },
+    /// The same, which answers each line as it comes.
+    Follow {
         /// The file.
         file: &'a str,
         /// The replica's id.
@@ -70,6 +77,13 @@ fn id_of(found: &ArgMatches<'_>) -> Option<u32>
     id_among(number)
 }
 
+/// Whether the flag with this id is given.
+fn is_given(found: &ArgMatches<'_>, id: &str) -> bool
+    ensures { result ≡ is_given id.now (rows_of (found_of found.now)) }
+{
+    found.get_one(id).unwrap_or(false)
+}
+
 /// The replica that the words of `node` ask for.
 fn node_asked<'a>(found: &ArgMatches<'a>) -> Option<Asked<'a>>
     ensures asked { option_map wanted result ≡ node_wanted (rows_of (found_of found.now)) }
@@ -77,7 +91,11 @@ fn node_asked<'a>(found: &ArgMatches<'a>) -> Option<Asked<'a>>
 {
     let file = found.get_str("FILE")?;
     let id = id_of(found)?;
-    Some(Asked::Node { file, id })
+    if is_given(found, "follow") {
+        Some(Asked::Follow { file, id })
+    } else {
+        Some(Asked::Node { file, id })
+    }
 }
 
 /// The tool that the words of `show` ask for.
@@ -102,7 +120,7 @@ fn shown_tool(show: &ArgMatches<'_>) -> Option<Tool>
 fn form_of(found: &ArgMatches<'_>) -> Form
     ensures { result ≡ form_of (rows_of (found_of found.now)) }
 {
-    if found.get_one("sqlite").unwrap_or(false) {
+    if is_given(found, "sqlite") {
         Form::Sqlite
     } else {
         Form::Normal

@@ -1,7 +1,7 @@
 //! The laws of the program, and what some command lines ask for, by computation: each is the contract of a function
 //! that does nothing.
 
-ghost use Rattle.cs_command.specs.Laws.{AsksForAFile, AsksForAHub, AsksForANode, AsksForAWorld, AsksForHelp, AsksForNothing, AsksToCombine, AsksToCombineFiles, AsksToCombineForSqlite, AsksToRebase, AsksToRebaseForSqlite, AsksToShow, AsksToShowABlobFile, AsksToShowAFile, AsksToShowBlob, IsNotTaken, NoCatalogRefused, OneCatalog, OneRefusedWord};
+ghost use Rattle.cs_command.specs.Laws.{AsksForAFile, AsksForAHub, AsksForANode, AsksForAWorld, AsksForHelp, AsksForNothing, AsksToCombine, AsksToCombineFiles, AsksToCombineForSqlite, AsksToFollow, AsksToRebase, AsksToRebaseForSqlite, AsksToShow, AsksToShowABlobFile, AsksToShowAFile, AsksToShowBlob, IsNotTaken, NoCatalogRefused, OneCatalog, OneRefusedWord};
 
 /// Table words are one catalog.
 pub fn one_catalog()
@@ -36,6 +36,11 @@ pub fn asks_for_a_world()
 /// `sync node f 7 t1:10` is taken and asks for the replica 7 over the file `f`.
 pub fn asks_for_a_node()
     ensures { AsksForANode }
+{}
+
+/// `sync node --follow f 7 t1:10` is taken and asks for that replica, which answers each line as it comes.
+pub fn asks_to_follow()
+    ensures { AsksToFollow }
 {}
 
 /// `sync combine` is taken and asks to combine.

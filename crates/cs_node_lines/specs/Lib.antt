@@ -2,3 +2,4 @@ pub mod told
 pub mod asks
 pub mod working
 pub mod hub
+pub mod following

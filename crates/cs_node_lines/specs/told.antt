@@ -1,2 +1,3 @@
 pub mod Told
 pub mod Dump
+pub mod Clash

@@ -13,5 +13,9 @@ mod node;
 mod reply;
 mod working;
 
+pub(crate) use dump::{lines_of, place_of};
 pub use fault::NodeFault;
+pub(crate) use names::{store_fault_name, wire_fault_name};
 pub use node::{node_on, work_on};
+pub(crate) use reply::{Reply, put_text};
+pub(crate) use working::{ROOM, put_heard, work_ask};

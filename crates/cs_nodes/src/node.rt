@@ -17,7 +17,7 @@ ghost use Rattle.cs_replica.specs.Opened.{Opens};
 ghost use Rattle.cs_pending.specs.rows.Rows.{AreRowsOf};
 ghost use Rattle.cs_store.specs.declared.fault.StoreFault.TheVariants as stored;
 ghost use Rattle.cs_value.specs.declared.catalog.TableDef.{TableDef};
-ghost use Rattle.cs_replica.specs.Step.{asked_of_edit, table_of_edit};
+ghost use Rattle.cs_pending.specs.EditLists.{asked_of_edit, table_of_edit};
 ghost use Rattle.cs_nodes.specs.following.Pulls.{IsNextKnown, IsPulledAmong, PullsAll};
 ghost use Rattle.cs_nodes.specs.following.Pushes.{HasTaken, IsAtRest, IsSentAmong, IsSentNext, PushesOn};
 ghost use Rattle.cs_nodes.specs.following.Standing.{Begins, IsBadAt, StandsWhereHonest};

@@ -46,7 +46,8 @@ use Rattle.cs_value.specs.declared.value.Field.{Field}
 use Rattle.cs_value.specs.declared.value.Field.TheVariants.{Is, Undefined}
 use Rattle.cs_value.specs.declared.value.Value.{Value}
 use Rattle.cs_replica.specs.StepLaws.{EditHasResult, IsInRange, IsOfEdit}
-use Rattle.cs_replica.specs.Step.{IsEditedTo, Member, asked_of_edit, table_of_edit}
+use Rattle.cs_pending.specs.EditLists.{asked_of_edit, table_of_edit}
+use Rattle.cs_replica.specs.Step.{IsEditedTo, Member}
 use Rattle.cs_replica.proofs.OneEdit.{named_inside}
 
 -- ---- a body at a place of a store

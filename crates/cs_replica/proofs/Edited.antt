@@ -1,22 +1,24 @@
 -- From an edit of rows to what it makes of a replica.
-use Rattle.std.proofs.Common.{◌≡◌, ℕ, List, refl, sym, ap, subst, ◌∙◌}
+use Rattle.std.proofs.Common.{◌≡◌, ℕ, List, [], ◌∷◌, refl, sym, ap, subst, ◌∙◌}
 use Rattle.std.specs.FinMap.{get, len}
 use Rattle.cs_value.specs.Catalog.{AreTables}
 use Rattle.cs_value.specs.Key.{Place}
 use Rattle.cs_value.specs.declared.catalog.TableDef.{TableDef}
+use Rattle.cs_value.specs.declared.edit.Edit.{Edit}
 use Rattle.cs_change.specs.Action.{action_any}
 use Rattle.cs_change.specs.Net.{net}
-use Rattle.cs_normal.specs.State.{AreSame, MayStandAt, State}
+use Rattle.cs_normal.specs.State.{AreSame, IsStateOf, MayStandAt, State}
 use Rattle.cs_store.specs.Contents.{Contents, Log, Meta, name_text}
 use Rattle.cs_store.specs.declared.names.MetaName.{MetaName}
 use Rattle.cs_store.specs.declared.names.MetaName.TheVariants.{Id, Version, Number, Flight, Pending, Catalog}
+use Rattle.cs_pending.specs.EditLists.{AreEdited, asked_of_edit, table_of_edit}
 use Rattle.cs_pending.specs.Edits.{Asked, IsChangedBy, Leads, edit}
 use Rattle.cs_pending.specs.Laws.{EditKeepsBefore}
 use Rattle.cs_pending.specs.Shows.{IsSoundOf}
-use Rattle.cs_pending.specs.View.{Changed, undo}
+use Rattle.cs_pending.specs.View.{Changed, View, middle, undo}
 use Rattle.cs_pending.specs.position.Values.{value_of}
 use Rattle.cs_pending.specs.declared.position.position.Position.{Position}
-use Rattle.cs_replica.specs.Edited.{IsEditedIn, with_pending}
+use Rattle.cs_replica.specs.Edited.{IsSteppedIn, with_pending}
 
 -- changes that are sound on rows are sound on the same rows
 pub sound_same : (tables : List TableDef) (changed : Changed) (some other : State) → AreSame some other → IsSoundOf tables changed some → IsSoundOf tables changed other
@@ -34,9 +36,22 @@ same_values tables position pending Flight = refl
 same_values tables position pending Pending = refl
 same_values tables position pending Catalog = refl
 
-pub is_edited : EditKeepsBefore → (tables : List TableDef) → AreTables tables → (position : Position) (name : List ℕ) (asked : Asked) (old new : Contents)
-    → IsChangedBy tables (Leads (edit tables name asked)) old new → IsEditedIn tables position name asked old new
-is_edited keeps tables are position name asked old new (rest, changed) view shows =
+-- a step of the rows that keeps those before what is pending
+abbrev KeepsBefore : List TableDef → (View → View → Type 0) → Type 0
+KeepsBefore tables step = (view next : View) → IsSoundOf tables view.pending view.tables → IsStateOf tables next.tables → step view next → AreSame (middle view) (middle next)
+
+pub edit_keeps : EditKeepsBefore → (tables : List TableDef) → AreTables tables → (name : List ℕ) (asked : Asked) → KeepsBefore tables (Leads (edit tables name asked))
+edit_keeps keeps tables are name asked view next sound state made = keeps tables name asked view next are sound state made
+
+pub edits_keep : EditKeepsBefore → (tables : List TableDef) → AreTables tables → (edits : List Edit) → KeepsBefore tables (AreEdited tables edits)
+edits_keep keeps tables are [] view next sound state is = subst (λ (v : View). AreSame (middle view) (middle v)) (sym is) (λ n k. refl)
+edits_keep keeps tables are (asked ∷ edits) view end sound state (next, made, held, others) = λ n k.
+    edits_keep keeps tables are edits next end held state others n k
+    ∙ keeps tables (table_of_edit asked) (asked_of_edit asked) view next are sound held.after_state made n k
+
+pub is_stepped : (tables : List TableDef) (step : View → View → Type 0) → KeepsBefore tables step → (position : Position) (old new : Contents)
+    → IsChangedBy tables step old new → IsSteppedIn tables position step old new
+is_stepped tables step keeps position old new (rest, changed) view shows =
     let done = changed view shows.rows in (
       done.0,
       done.1,
@@ -53,7 +68,7 @@ is_edited keeps tables are position name asked old new (rest, changed) view show
           fits = shows.under_way.fits;
           normal = shows.under_way.normal;
           size = shows.under_way.size;
-          sound = sound_same tables _ _ _ (keeps tables name asked view done.0 are shows.rows.sound done.2.rows.rows done.1) shows.under_way.sound;
+          sound = sound_same tables _ _ _ (keeps view done.0 shows.rows.sound done.2.rows.rows done.1) shows.under_way.sound;
         };
         counted = refl;
         numbered = shows.numbered;

@@ -19,7 +19,8 @@ use Rattle.cs_value.specs.Key.{Place}
 use Rattle.cs_value.specs.Same.{same_place}
 use Rattle.cs_value.specs.declared.catalog.TableDef.{TableDef}
 use Rattle.cs_replica.specs.StepLaws.{OneEdited}
-use Rattle.cs_replica.specs.Step.{Member, asked_of_edit, table_of_edit}
+use Rattle.cs_pending.specs.EditLists.{asked_of_edit, table_of_edit}
+use Rattle.cs_replica.specs.Step.{Member}
 use Rattle.cs_replica.specs.Same.{IsSameMember, IsSameView}
 
 -- ---- the table with a name is one of the tables

@@ -1,15 +1,14 @@
 -- What the calls of a replica give, as the step that it makes.
 use Rattle.std.proofs.Common.{◌≡◌, ◌∙◌, ℕ, zero, suc, List, Result, Ok, Err, refl, sym, ap, subst, inl, inr}
-use Rattle.std.specs.Prelude.{◌⊎◌, IfErr, IfOk, OnErr, OnOk}
+use Rattle.std.specs.Prelude.{IfErr, IfOk, OnErr, OnOk}
 use Rattle.std.specs.FinMap.{len}
 use Rattle.cs_value.specs.Catalog.{AreTables}
 use Rattle.cs_value.specs.declared.catalog.TableDef.{TableDef}
-use Rattle.cs_value.specs.declared.edit.Edit.{Edit}
 use Rattle.cs_conflict.specs.declared.clash.Clash.{Clash}
 use Rattle.cs_conflict.specs.declared.wish.Wish.{Wish}
 use Rattle.cs_normal.specs.declared.normal.TableChanges.{TableChanges}
 use Rattle.cs_pending.specs.Calls.{ReadsStore, WritesStore}
-use Rattle.cs_pending.specs.Edits.{IsOfStore, edit}
+use Rattle.cs_pending.specs.Edits.{edit}
 use Rattle.cs_pending.specs.View.{View}
 use Rattle.cs_pending.specs.declared.fault.EditFault.{EditFault}
 use Rattle.cs_pending.specs.declared.fault.EditFault.TheVariants as edits
@@ -22,7 +21,7 @@ use Rattle.cs_exchange.specs.pushing.Pushes.{IsPushFault, IsPushMade, IsPushMade
 use Rattle.cs_exchange.specs.declared.pushing.fault.PushFault.{PushFault}
 use Rattle.cs_exchange.specs.declared.pushing.fault.PushFault.TheVariants as pushes
 use Rattle.cs_replica.specs.Answered.{Answers, TellsAccepted, TellsMerged}
-use Rattle.cs_replica.specs.Edited.{IsEditedIn, with_pending}
+use Rattle.cs_replica.specs.Edited.{IsSteppedIn, with_pending}
 use Rattle.cs_replica.specs.Holding.{Holding}
 use Rattle.cs_replica.specs.declared.told.Told.{Told}
 use Rattle.cs_store.specs.Contents.{Contents}
@@ -40,7 +39,7 @@ use Rattle.cs_exchange.specs.declared.pulling.listing.Pulled.{Pulled}
 use Rattle.cs_exchange.specs.declared.pulling.listing.Pulled.TheVariants as pulled
 use Rattle.cs_exchange.specs.taking.Takes.{taken}
 use Rattle.cs_replica.specs.Leaves.{CallLeaves}
-use Rattle.cs_replica.specs.Step.{IsAnsweredTo, IsEditedTo, IsPushedTo, Turns, asked_of_edit, member_of, table_of_edit}
+use Rattle.cs_replica.specs.Step.{IsAnsweredTo, IsPushedTo, StepsTo, Turns, member_of}
 
 -- ---- the id stays
 
@@ -98,14 +97,14 @@ module _ {S : Type 0} (g : Ghosts S) (tables : List TableDef) (was has : S) (old
 
   -- ---- an edit
 
-  pub edited : (asked : Edit) (result : Result (Unit {0}) EditFault)
-      → WritesStore g edits.Device (ShowsSomeAt tables old (g.contents was)) (IsEditedIn tables old (table_of_edit asked) (asked_of_edit asked) (g.contents was)) was has result
-      → (g.honest has → (view : View) → ShowsAt tables (g.contents was) old view → IfErr result (λ fault. IsOfStore fault ⊎ (edit tables (table_of_edit asked) (asked_of_edit asked) view ≡ Err fault)))
+  pub stepped : {E : Type 0} (device : E) (step : View → View → Type 0) (faulted : E → View → Type 0) (result : Result (Unit {0}) E)
+      → WritesStore g device (ShowsSomeAt tables old (g.contents was)) (IsSteppedIn tables old step (g.contents was)) was has result
+      → (g.honest has → (view : View) → ShowsAt tables (g.contents was) old view → IfErr result (λ fault. faulted fault view))
       → OnOk result (new ≡ with_pending old new.pending)
       → (g.honest has → ShowsSomeAt tables old (g.contents was) → OnOk result (new.pending ≡ len (g.contents has).pending))
       → OnErr result (new ≡ old)
-      → Turns g (IsEditedTo tables asked result) (over was old) (over has new)
-  edited asked (Ok done) writes refused moved counted kept = record {
+      → Turns g (StepsTo tables step faulted result) (over was old) (over has new)
+  stepped device step faulted (Ok done) writes refused moved counted kept = record {
     was_honest = writes.was_honest;
     catalog = refl;
     turned = λ h are fits view shows.
@@ -118,7 +117,7 @@ module _ {S : Type 0} (g : Ghosts S) (tables : List TableDef) (was has : S) (old
           (count, made.0, g.contents has, member_at made.0 (with_pending old count) same, made.1, made.2),
         );
   }
-  edited asked (Err fault) writes refused moved counted kept = record {
+  stepped device step faulted (Err fault) writes refused moved counted kept = record {
     was_honest = writes.was_honest;
     catalog = refl;
     turned = λ h are fits view shows.

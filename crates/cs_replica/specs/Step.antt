@@ -4,9 +4,11 @@ use Rattle.cs_conflict.specs.declared.clash.Clash.{Clash}
 use Rattle.cs_conflict.specs.declared.wish.Wish.{Wish}
 use Rattle.cs_normal.specs.State.{State}
 use Rattle.cs_normal.specs.declared.normal.TableChanges.{TableChanges}
-use Rattle.cs_pending.specs.Edits.{Asked as AskedEdit, AskDelete, AskInsert, AskUpdate, IsOfStore, edit as edited_view}
+use Rattle.cs_pending.specs.EditLists.{AreEdited, IsEditsFault, asked_of_edit, table_of_edit}
+use Rattle.cs_pending.specs.Edits.{IsOfStore, Leads, edit as edited_view}
 use Rattle.cs_pending.specs.View.{View}
 use Rattle.cs_pending.specs.declared.fault.EditFault.{EditFault}
+use Rattle.cs_pending.specs.declared.fault.EditsFault.{EditsFault}
 use Rattle.cs_pending.specs.position.Laws.{FitsPosition}
 use Rattle.cs_pending.specs.position.Shows.{ShowsAt, flown}
 use Rattle.cs_pending.specs.declared.position.position.Position.{Position}
@@ -14,7 +16,7 @@ use Rattle.cs_exchange.specs.declared.pulling.fault.AnswerFault.{AnswerFault}
 use Rattle.cs_exchange.specs.pushing.Pushes.{IsPushFault, IsPushMade, IsResendFault, grounded, pushed, request_of}
 use Rattle.cs_exchange.specs.declared.pushing.fault.PushFault.{PushFault}
 use Rattle.cs_replica.specs.Answered.{Answers}
-use Rattle.cs_replica.specs.Edited.{IsEditedIn, with_pending}
+use Rattle.cs_replica.specs.Edited.{IsEditedIn, IsSteppedIn, with_pending}
 use Rattle.cs_replica.specs.Holding.{Holding, Shows}
 use Rattle.cs_replica.specs.declared.told.Told.{Told}
 use Rattle.cs_pending.specs.rows.Rows.{AreRowsOf}
@@ -23,7 +25,6 @@ use Rattle.cs_store.specs.declared.store.RowStore.{Ghosts}
 use Rattle.cs_value.specs.Catalog.{AreTables}
 use Rattle.cs_value.specs.declared.catalog.TableDef.{TableDef}
 use Rattle.cs_value.specs.declared.edit.Edit.{Edit}
-use Rattle.cs_value.specs.declared.edit.Edit.TheVariants as edit
 use Rattle.cs_value.specs.declared.value.Value.{Value}
 use Rattle.cs_wire.specs.Requests.{Asked, asked_by_owned}
 use Rattle.cs_wire.specs.declared.answer.Answer.{Answer}
@@ -48,29 +49,32 @@ pub record Turns {S : Type 0} (g : Ghosts S) (step : Member → Member → Type 
 
 -- ---- an edit
 
--- the name of the table that it is of
-abbrev pub table_of_edit : Edit → List ℕ
-table_of_edit (edit.Insert table row) = table
-table_of_edit (edit.Update table key fields) = table
-table_of_edit (edit.Delete table key) = table
+-- the view made a step, and so many changes are pending then; or not, and this is why
+abbrev pub StepsTo : {E : Type 0} → List TableDef → (View → View → Type 0) → (E → View → Type 0) → Result (Unit {0}) E → Member → Member → Type 0
+StepsTo tables step refused (Ok done) before after =
+    (count : ℕ) × (next : View) × (left : Contents) × (after ≡ record { position = with_pending before.position count; view = next })
+    × step before.view next × ShowsAt tables left (with_pending before.position count) next
+StepsTo tables step refused (Err fault) before after = (after ≡ before) × refused fault before.view
 
--- what it asks
-abbrev pub asked_of_edit : Edit → AskedEdit
-asked_of_edit (edit.Insert table row) = AskInsert row
-asked_of_edit (edit.Update table key fields) = AskUpdate key fields
-asked_of_edit (edit.Delete table key) = AskDelete key
-
--- contents in which it is made, at a position
+-- contents in which an edit is made, at a position
 abbrev pub IsEditedBy : List TableDef → Edit → Position → Contents → Contents → Type 0
 IsEditedBy tables asked position now left = IsEditedIn tables position (table_of_edit asked) (asked_of_edit asked) now left
 
--- the rows were edited, and so many changes are pending then; or not, and this is why
+-- why it isn't
+abbrev pub IsEditFault : List TableDef → Edit → EditFault → View → Type 0
+IsEditFault tables asked fault view = IsOfStore fault ⊎ (edited_view tables (table_of_edit asked) (asked_of_edit asked) view ≡ Err fault)
+
 abbrev pub IsEditedTo : List TableDef → Edit → Result (Unit {0}) EditFault → Member → Member → Type 0
-IsEditedTo tables asked (Ok done) before after =
-    (count : ℕ) × (next : View) × (left : Contents) × (after ≡ record { position = with_pending before.position count; view = next })
-    × (edited_view tables (table_of_edit asked) (asked_of_edit asked) before.view ≡ Ok next) × ShowsAt tables left (with_pending before.position count) next
-IsEditedTo tables asked (Err fault) before after =
-    (after ≡ before) × (IsOfStore fault ⊎ (edited_view tables (table_of_edit asked) (asked_of_edit asked) before.view ≡ Err fault))
+IsEditedTo tables asked result before after =
+    StepsTo tables (Leads (edited_view tables (table_of_edit asked) (asked_of_edit asked))) (IsEditFault tables asked) result before after
+
+-- the same of several, one behind another
+abbrev pub AreEditedBy : List TableDef → List Edit → Position → Contents → Contents → Type 0
+AreEditedBy tables edits position now left = IsSteppedIn tables position (AreEdited tables edits) now left
+
+abbrev pub AreEditedTo : List TableDef → List Edit → Result (Unit {0}) EditsFault → Member → Member → Type 0
+AreEditedTo tables edits result before after =
+    StepsTo tables (AreEdited tables edits) (λ fault view. IsEditsFault tables edits view fault) result before after
 
 -- ---- a push
 

@@ -6,6 +6,7 @@ ghost use Rattle.cs_pending.specs.Calls.{ReadsStore, WritesStore};
 ghost use Rattle.cs_pending.specs.Edits.{AskDelete, AskInsert, AskUpdate, IsOfStore, edit as edit_of};
 ghost use Rattle.cs_pending.specs.View.{View};
 ghost use Rattle.cs_pending.specs.declared.fault.EditFault.TheVariants.{Device};
+ghost use Rattle.cs_pending.specs.declared.fault.EditsFault.TheVariants as several;
 ghost use Rattle.cs_pending.specs.outgoing.Outgoing.{IsOutgoing};
 ghost use Rattle.cs_store.specs.declared.fault.StoreFault.TheVariants as stored;
 ghost use Rattle.cs_opening.specs.moving.Moved.{IsStoreFault, IsStoreOpened};
@@ -21,15 +22,16 @@ ghost use Rattle.cs_exchange.specs.pulling.Merged.{IsMergeFault};
 ghost use Rattle.cs_exchange.specs.pulling.Pulls.{IsPullFault, IsPulledAt};
 ghost use Rattle.cs_exchange.specs.declared.pulling.fault.PullFault.TheVariants as pull;
 ghost use Rattle.cs_replica.specs.Answered.{Answers, IsAnsweredAmong, IsAnsweredNext, IsDone, SaysDevice};
-ghost use Rattle.cs_replica.specs.Edited.{IsEditedIn, with_pending};
+ghost use Rattle.cs_replica.specs.Edited.{IsEditedIn, IsSteppedIn, with_pending};
 ghost use Rattle.cs_replica.specs.Flight.{flight_entry};
 ghost use Rattle.cs_replica.specs.Holding.{Shows};
 ghost use Rattle.cs_replica.specs.Leaves.{CallLeaves, Counts};
 ghost use Rattle.cs_replica.specs.Opened.{Opens, Reopens};
-ghost use Rattle.cs_replica.specs.Step.{AreRowsIn, IsAnsweredTo, IsEditedBy, IsEditedTo, IsPushedTo, IsResent, Turns, asked_of_edit, table_of_edit};
+ghost use Rattle.cs_pending.specs.EditLists.{AreEdited, IsEditsFault, asked_of_edit, table_of_edit};
+ghost use Rattle.cs_replica.specs.Step.{AreEditedBy, AreEditedTo, AreRowsIn, IsAnsweredTo, IsEditedBy, IsEditedTo, IsPushedTo, IsResent, Turns};
 
 use crate::answering::answer_at;
-use crate::editing::{delete_at, edit_at, insert_at, update_at};
+use crate::editing::{edit_all_at, edit_at};
 use crate::opening::{in_range, reopen_at};
 use crate::showing::{gather_at, rows_at};
 use crate::told::Told;
@@ -39,10 +41,10 @@ use cs_exchange::pushing::{PushFault, make_push, resend};
 use cs_normal::Normal;
 use cs_opening::OpenFault;
 use cs_opening::moving::open_store;
-use cs_pending::EditFault;
 use cs_pending::outgoing::Outgoing;
 use cs_pending::position::Position;
 use cs_pending::rows::RowAtKey;
+use cs_pending::{EditFault, EditsFault, RowEdit};
 use cs_store::log::{Body, LogEntry};
 use cs_store::{RowStore, StoreFault};
 use cs_value::{Catalog, Edit, Field, Key, Memory, Row};
@@ -226,13 +228,13 @@ impl<S: RowStore> Replica<S> {
         ensures moved { OnOk result (self.new.position ≡ with_pending self.old.position self.new.position.pending) }
         ensures kept { OnErr result (self.new.position ≡ self.old.position) }
     {
-        insert_at(
+        edit_at(
             alloc,
             &mut self.store,
             &self.catalog,
             &mut self.position,
             table,
-            row,
+            &RowEdit::Insert(row),
         )
     }
 
@@ -259,14 +261,13 @@ impl<S: RowStore> Replica<S> {
         ensures moved { OnOk result (self.new.position ≡ with_pending self.old.position self.new.position.pending) }
         ensures kept { OnErr result (self.new.position ≡ self.old.position) }
     {
-        update_at(
+        edit_at(
             alloc,
             &mut self.store,
             &self.catalog,
             &mut self.position,
             table,
-            key,
-            fields,
+            &RowEdit::Update(key, fields),
         )
     }
 
@@ -286,13 +287,13 @@ impl<S: RowStore> Replica<S> {
         ensures moved { OnOk result (self.new.position ≡ with_pending self.old.position self.new.position.pending) }
         ensures kept { OnErr result (self.new.position ≡ self.old.position) }
     {
-        delete_at(
+        edit_at(
             alloc,
             &mut self.store,
             &self.catalog,
             &mut self.position,
             table,
-            key,
+            &RowEdit::Delete(key),
         )
     }
 
@@ -317,12 +318,51 @@ impl<S: RowStore> Replica<S> {
         ensures counts { Counts S.RowStore (result ≡ Err Device) self.old self.new }
     {
         cs_pending::position::laws::one_position();
+        let (table, row_edit) = RowEdit::of(edit);
         let edited = edit_at(
             alloc,
             &mut self.store,
             &self.catalog,
             &mut self.position,
-            edit,
+            table,
+            &row_edit,
+        );
+        self.shown();
+        edited
+    }
+
+    /// Makes edits one behind another, all or none: what they leave together is one commit, so that a stop leaves all of them or none.
+    /// Each is looked up among those before it, so a list of n takes time by n squared.
+    ///
+    /// # Errors
+    ///
+    /// `Refused` at the first edit that is refused behind those before it; `Memory` and `Device`. Nothing has changed then.
+    pub fn edit_all(&mut self, alloc: Global, edits: &[Edit]) -> Result<(), EditsFault>
+        // All are made, in one commit; at `Err` nothing has changed.
+        ensures writes { WritesStore S.RowStore several.Device (ShowsSomeAt self.old.catalog self.old.position (S.contents self.old.store))
+            (IsSteppedIn self.old.catalog self.old.position (AreEdited self.old.catalog edits.now) (S.contents self.old.store)) self.old.store self.new.store result }
+
+        // What is told is the fault of the first that is refused, or one of the store.
+        ensures refused { S.honest self.new.store → (view : View) → Shows S.contents self.old view
+            → IfErr result (IsEditsFault self.old.catalog edits.now view) }
+
+        // The tables, the version, the number and the flight stay.
+        ensures catalog { self.new.catalog ≡ self.old.catalog }
+        ensures moved { OnOk result (self.new.position ≡ with_pending self.old.position self.new.position.pending) }
+        ensures kept { OnErr result (self.new.position ≡ self.old.position) }
+
+        // The step that it is, what a stop leaves, and that a failed device is told only where its count rose.
+        ensures turned { Turns S.RowStore (AreEditedTo self.old.catalog edits.now result) self.old self.new }
+        ensures left { CallLeaves S.RowStore (AreEditedBy self.old.catalog edits.now) self.old self.new }
+        ensures counts { Counts S.RowStore (result ≡ Err several.Device) self.old self.new }
+    {
+        cs_pending::position::laws::one_position();
+        let edited = edit_all_at(
+            alloc,
+            &mut self.store,
+            &self.catalog,
+            &mut self.position,
+            edits,
         );
         self.shown();
         edited

@@ -88,3 +88,27 @@ impl fmt::Display for ChangesetText<'_, '_> {
         Ok(())
     }
 }
+
+/// One change as text, as in a changeset's, without its line feed. It stays in its bytes.
+#[derive(Clone, Copy)]
+pub struct ChangeText<'a, 'b>(pub &'a Change<'b>);
+
+impl fmt::Display for ChangeText<'_, '_> {
+    ghost output = { λ change. Some (change_text change.0.now) };
+
+    fn fmt<W: fmt::Write>(&self, f: &mut fmt::Formatter<W>) -> fmt::Result {
+        write_change(self.0, f)
+    }
+}
+
+/// The values of a row as words, each behind a space. They stay in their bytes.
+#[derive(Clone, Copy)]
+pub struct ValuesText<'a, 'b>(pub &'a Row<'b>);
+
+impl fmt::Display for ValuesText<'_, '_> {
+    ghost output = { λ row. Some (values_text row.0.now) };
+
+    fn fmt<W: fmt::Write>(&self, f: &mut fmt::Formatter<W>) -> fmt::Result {
+        write_values(self.0, f)
+    }
+}

@@ -1,7 +1,7 @@
 //! Changesets and rebase blobs as text, for people: one line a group and one a change or entry. It stands on changes and
 //! entries that stay in their bytes (`cs_change`, `cs_blob`) and on their records (`cs_record`), and makes no value of
 //! its own. The definitions of `Text` state each text exactly, and each type here promises its own: what `{}` writes of a
-//! `ChangesetText`, a `BlobText`, a `NameText`, a `ValueText` or a `FieldText` is that text and nothing else, so `format!`
+//! `ChangesetText`, a `ChangeText`, a `BlobText`, a `NameText`, a `ValueText`, a `ValuesText` or a `FieldText` is that text and nothing else, so `format!`
 //! ensures it where it succeeds. The text is a format of this project, described in docs/FORMATS.md.
 //! `parse` reads what the words of a line spell.
 //! Its texts are compared by `bench/check_tools.sh`.
@@ -15,5 +15,5 @@ pub mod parse;
 mod words;
 
 pub use blobs::BlobText;
-pub use changesets::ChangesetText;
+pub use changesets::{ChangeText, ChangesetText, ValuesText};
 pub use words::{FieldText, NameText, ValueText, is_plain};

@@ -4,7 +4,8 @@ use Rattle.std.specs.Io.KnownBytes.{Keeps}
 use Rattle.cs_node_lines.specs.asks.Reading.{AreAllAsks, IsReadFault}
 use Rattle.cs_node_lines.specs.declared.asks.ask.Ask.{Ask}
 use Rattle.cs_node_lines.specs.declared.asks.fault.ReadFault.{ReadFault}
-use Rattle.cs_command.specs.Wanted.{CombineFiles, Hub, Node, Run, ShowFile, Wanted, World}
+use Rattle.cs_command.specs.Wanted.{CombineFiles, Follow, Hub, Node, Run, ShowFile, Wanted, World}
+use Rattle.cs_node_lines.specs.following.Endings.{EndsFollowing}
 use Rattle.cs_node_lines.specs.hub.Endings.{EndsServingOn}
 use Rattle.cs_node_lines.specs.working.Endings.{EndsWorking}
 use Rattle.cs_store.specs.declared.fault.StoreFault.{StoreFault}
@@ -45,6 +46,12 @@ module _ {S : Type 0} (g : Ghosts S) (gave : List ℕ → S → Type 0) (refused
       × OverStore path (λ store last. EndsAs of_node (EndsWorking g tables id asks store last write_failed old new) result) old new result)
       ⊎ ((why : ReadFault) × IsReadFault tables read_failed input left why × (result ≡ Err (of_reading why)) × Keeps old new)
 
+  -- the replica with this id over the store answered the lines as they came
+  abbrev pub EndsFollowFile : List ℕ → ℕ → List TableDef → Option (List ℕ) → Option (List ℕ) → Type 0 → Type 0 → Option (List ℕ) → Option (List ℕ)
+      → Result ⊤ RunFault → Type 0
+  EndsFollowFile path id tables input left read_failed write_failed old new result =
+      OverStore path (λ store last. EndsAs of_node (EndsFollowing g tables id store last input left read_failed write_failed old new) result) old new result
+
 -- `remaining` and `failed` are what the opener's readers of files tell, `opened` and `unopened` what it told of a path: this reader, or none
 module _ {S : Type 0} (g : Ghosts S) (gave : List ℕ → S → Type 0) (refused : List ℕ → StoreFault → Type 0) (took : S → Type 0)
     {I : Type 0} (remaining : I → Option (List ℕ)) (failed : I → Type 0) (opened : List ℕ → I → Type 0) (unopened : List ℕ → Type 0) where
@@ -57,6 +64,8 @@ module _ {S : Type 0} (g : Ghosts S) (gave : List ℕ → S → Type 0) (refused
       OnTables words (λ tables. EndsWorld count tables input left read_failed write_failed old new result) old new result
   EndsWanted (Node path id) words files input left read_failed write_failed old new result =
       OnTables words (λ tables. EndsNodeFile g gave refused took path id tables input left read_failed write_failed old new result) old new result
+  EndsWanted (Follow path id) words files input left read_failed write_failed old new result =
+      OnTables words (λ tables. EndsFollowFile g gave refused took path id tables input left read_failed write_failed old new result) old new result
   EndsWanted (Run tool) words files input left read_failed write_failed old new result =
       EndsTool tool input left read_failed write_failed old new result
   EndsWanted (ShowFile shown path) words files input left read_failed write_failed old new result =

@@ -1,21 +1,21 @@
-//! `node FILE ID TABLE...`: a replica over a file, worked by lines.
+//! `node FILE ID TABLE...`: a replica over a file, worked by lines, which are read whole before or answered as they come.
 
 ghost use Rattle.std.specs.Prelude.{◌≡◌, ◌<◌, ◌-◌, ◌^◌, OnOk};
 ghost use Rattle.sync_cli.specs.Endings.{told_as};
 ghost use Rattle.sync_cli.specs.Faults.{of_node};
-ghost use Rattle.sync_cli.specs.OverFiles.{EndsNodeFile};
+ghost use Rattle.sync_cli.specs.OverFiles.{EndsFollowFile, EndsNodeFile};
 
 use crate::fault::RunFault;
 use crate::opener::Opener;
 use cs_lines::{LineInput, LineOutput};
 use cs_node_lines::asks::read_asks;
+use cs_node_lines::following::follow_on;
 use cs_node_lines::working::{NodeFault, work_on};
 use cs_store::RowStore;
 use cs_value::Catalog;
 use std::alloc::Global;
 
-/// Reads the input whole, opens the replica with this id in the store that the opener gives for a file, and does what the lines ask. (Profile
-/// of this project.)
+/// Reads the input whole, opens the replica with this id in the store that the opener gives for a file, and does what the lines ask.
 // Seven parameters: the allocator, the opener, what the words name (file, id, tables), read apart, and the input and the output.
 pub fn work_file<'w, O: Opener, R: LineInput, W: LineOutput>(
     alloc: Global,
@@ -38,6 +38,32 @@ pub fn work_file<'w, O: Opener, R: LineInput, W: LineOutput>(
         Err(fault) => return Err(RunFault::from(fault)),
     };
     let (ended, store) = work_on(alloc, store, catalog, id, asks.as_slice(), writer);
+    opener.close(store);
+    told_of(ended)
+}
+
+/// Opens the replica with this id in the store that the opener gives for a file, and answers each line of the input as it comes.
+// Seven parameters: those of `work_file`.
+pub fn follow_file<'w, O: Opener, R: LineInput, W: LineOutput>(
+    alloc: Global,
+    opener: &mut O,
+    path: &str,
+    id: u32,
+    catalog: &Catalog,
+    reader: &mut R,
+    writer: &mut W,
+) -> Result<(), RunFault<'w>>
+    requires { id < 2 ^ 32 - 1 }
+    ensures ends { EndsFollowFile O.Store.RowStore (O.gave opener.new) (O.refused opener.new) (O.took opener.new)
+        path.now id catalog.now (R.remaining reader.old) (R.remaining reader.new) (R.failed reader.new) (W.failed writer.new)
+        (W.contents writer.old) (W.contents writer.new) result }
+    ensures sent { OnOk result (W.sent writer.old → W.sent writer.new) }
+{
+    let store = match opener.open(path) {
+        Ok(store) => store,
+        Err(fault) => return Err(RunFault::from(fault)),
+    };
+    let (ended, store) = follow_on(alloc, store, catalog, id, reader, writer);
     opener.close(store);
     told_of(ended)
 }

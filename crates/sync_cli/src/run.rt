@@ -11,7 +11,7 @@ ghost use Rattle.sync_cli.specs.OverFiles.{EndsAsked, EndsWanted};
 
 use crate::fault::RunFault;
 use crate::hub::serve_asked;
-use crate::node::work_file;
+use crate::node::{follow_file, work_file};
 use crate::opener::Opener;
 use crate::world::play_script;
 use clap::error::ErrorKind;
@@ -40,7 +40,7 @@ pub fn run<'w, S: AsStr, O: Opener + InputFiles, R: LineInput, W: LineOutput>(
         → EndsUntaken (faults_of (map S.text words.entry.now)) (W.failed writer.new)
         (W.contents writer.old) (W.contents writer.new) result }
 
-    // What the words ask for was done: a hub answered the lines, a world ran the script, a replica was worked by the lines, or a tool wrote
+    // What the words ask for was done: a hub answered the lines, a world ran the script, a replica was worked by the lines, which were read whole or answered as they came, or a tool wrote
     // what it owes for the lines or the files; or why not.
     ensures asked { (asked : Wanted) → faults_of (map S.text words.entry.now) ≡ []
         → wanted_of (map S.text words.entry.now) ≡ Some asked
@@ -93,6 +93,9 @@ fn run_asked<'w, O: Opener + InputFiles, R: LineInput, W: LineOutput>(
         Asked::Hub { file } => serve_asked(alloc, opener, *file, &catalog, reader, writer),
         Asked::World { count } => play_script(alloc, *count, &catalog, reader, writer),
         Asked::Node { file, id } => work_file(alloc, opener, file, *id, &catalog, reader, writer),
+        Asked::Follow { file, id } => {
+            follow_file(alloc, opener, file, *id, &catalog, reader, writer)
+        }
         Asked::Tool(_) | Asked::ShowFile { .. } | Asked::CombineFiles(_) => {
             Err(RunFault::CommandLine)
         }

@@ -13,9 +13,9 @@ use Rattle.cs_node_lines.specs.declared.asks.ask.Ask.{Ask}
 use Rattle.cs_node_lines.specs.declared.asks.ask.Ask.TheVariants.{Answer, Catch, Dump, Pull, Push, OnEdit, Resend}
 
 -- what no word may follow
-abbrev pub alone : Ask → List (List ℕ) → Option Ask
-alone ask [] = Some ask
-alone ask (word ∷ words) = None
+abbrev pub alone : {A : Type 0} → A → List (List ℕ) → Option A
+alone asked [] = Some asked
+alone asked (word ∷ words) = None
 
 -- LIMIT, behind `pull` or `catch`
 abbrev pub limit_in : List (List ℕ) → Option ℕ

@@ -14,7 +14,7 @@ use Rattle.cs_store.specs.Calls.{MoreFailures}
 use Rattle.cs_store.specs.Contents.{Contents}
 use Rattle.cs_store.specs.declared.store.RowStore.{Ghosts}
 use Rattle.cs_value.specs.declared.catalog.TableDef.{TableDef}
-use Rattle.cs_node_lines.specs.working.LineStep.{LineSteps}
+use Rattle.cs_node_lines.specs.working.LineStep.{InTurn, LineStep}
 use Rattle.cs_node_lines.specs.declared.working.fault.NodeFault.{NodeFault}
 use Rattle.cs_node_lines.specs.declared.working.fault.NodeFault.TheVariants.{Line, Memory, Open, Read, Write}
 
@@ -45,14 +45,14 @@ BreaksOff (Line number) write_failed old new before text = ⊥
 BreaksOff (Open fault) write_failed old new before text = ⊥
 
 module _ {S : Type 0} (g : Ghosts S) (tables : List TableDef) (id : ℕ) where
-  -- where the store is honest in the end, it was opened as the replica with this id, the lines made these steps of it with these texts,
+  -- where the store is honest in the end, it was opened as the replica with this id, these steps were made of it with these texts,
   -- from its count of failures on to that in the end, and it shows what they left
-  pub record Worked (store last : S) (asks : List Ask) (texts : List (List ℕ)) : Type 0 where
+  pub record Worked {A : Type 0} (step : ℕ → ℕ → Member → A → List ℕ → Member → Type 0) (store last : S) (asked : List A) (texts : List (List ℕ)) : Type 0 where
     pub was_honest : g.honest last → g.honest store
     pub later : g.failed store ≤ g.failed last
     pub worked : g.honest last → (first : Contents) × (before : Member) × (after : Member)
         × IsStoreOpened tables id (g.contents store) first before.position × ShowsAt tables first before.position before.view
-        × LineSteps tables (g.failed store) (g.failed last) before asks texts after × ShowsAt tables (g.contents last) after.position after.view
+        × InTurn step (g.failed store) (g.failed last) before asked texts after × ShowsAt tables (g.contents last) after.position after.view
 
   -- where the store is honest, it holds what it held, and isn't opened for this reason: for a failed device only where its count rose
   pub record NotOpened (store last : S) (fault : OpenFault) : Type 0 where
@@ -66,13 +66,13 @@ module _ {S : Type 0} (g : Ghosts S) (tables : List TableDef) (id : ℕ) where
   abbrev pub WorkedUpTo : List Ask → S → S → NodeFault → Type 0 → Option (List ℕ) → Option (List ℕ) → Type 0
   WorkedUpTo asks store last fault write_failed old new =
       (done : List Ask) × (ask : Ask) × (later : List Ask) × (texts : List (List ℕ)) × (text : List ℕ)
-      × (asks ≡ done ++ ask ∷ later) × Worked store last (done ++ ask ∷ []) (texts ++ text ∷ [])
+      × (asks ≡ done ++ ask ∷ later) × Worked (LineStep tables) store last (done ++ ask ∷ []) (texts ++ text ∷ [])
       × BreaksOff fault write_failed old new (printed texts) text
 
   -- all lines were worked and their texts are printed; or the replica isn't opened, and nothing is; or it ended at a line
   abbrev pub EndsWorking : List Ask → S → S → Type 0 → Option (List ℕ) → Option (List ℕ) → Result ⊤ NodeFault → Type 0
   EndsWorking asks store last write_failed old new (Ok done) =
-      (texts : List (List ℕ)) × Worked store last asks texts × Appends old new (printed texts)
+      (texts : List (List ℕ)) × Worked (LineStep tables) store last asks texts × Appends old new (printed texts)
   EndsWorking asks store last write_failed old new (Err fault) =
       ((why : OpenFault) × (fault ≡ of_opening why) × NotOpened store last why × Keeps old new)
       ⊎ WorkedUpTo asks store last fault write_failed old new

@@ -10,7 +10,7 @@ use Rattle.cs_text.specs.Text.{line}
 use Rattle.cs_node_lines.specs.told.Told.{fault_text}
 use Rattle.cs_value.specs.Catalog.{AreTables}
 use Rattle.cs_value.specs.declared.catalog.TableDef.{TableDef}
-use Rattle.cs_node_lines.specs.working.LineStep.{LineStep, LineSteps, SaysMemory}
+use Rattle.cs_node_lines.specs.working.LineStep.{InTurn, LineStep, SaysMemory}
 use Rattle.cs_node_lines.specs.working.Texts.{refused_text}
 
 -- the text says nothing of its line: that memory was refused or a device failed, of an answer behind so many entries
@@ -44,6 +44,6 @@ OneLineRun =
     → IsSameMember tables before its
     → AllByRecursion (λ (text : List ℕ). SaysRefused text → ⊥) some
     → AllByRecursion (λ (text : List ℕ). SaysRefused text → ⊥) other
-    → LineSteps tables had has before asks some one
-    → LineSteps tables its_had its_has its asks other last
+    → InTurn (LineStep tables) had has before asks some one
+    → InTurn (LineStep tables) its_had its_has its asks other last
     → (some ≡ other) × IsSameMember tables one last

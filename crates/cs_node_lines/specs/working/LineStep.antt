@@ -34,12 +34,21 @@ SaysMemory text = text ≡ refused_text (codes "Memory")
 abbrev pub IsDumped : List TableDef → Member → List ℕ → Type 0
 IsDumped tables member text = (rows : List ℕ) × AreRowLines tables member.view.tables rows × (text ≡ line (replica_text member.position.id member.position) ++ rows)
 
--- an answer is taken, and what became of it is printed; or the bytes are no answer, and their fault is; or memory was refused
+-- nothing was told: the bytes are no answer, and their fault is printed; or memory was refused
+abbrev pub TakesNone : Member → List ℕ → List ℕ → Member → Type 0
+TakesNone before bytes text after =
+    (after ≡ before) × (((fault : WireFault) × IsAnswerFault fault bytes × (text ≡ refused_text (wire_fault_text fault))) ⊎ SaysMemory text)
+
+-- an answer is taken, and what became of it is printed; or nothing was told
 abbrev pub TakesAnswer : List TableDef → ℕ → ℕ → Member → List ℕ → List Wish → List ℕ → Member → Type 0
 TakesAnswer tables had has before bytes wishes text after =
     ((answer : Told_by) × (result : Result Told AnswerFault) × FitsAnswer answer × (bytes ≡ answer_spelling answer)
     × Hears tables before answer wishes result after × (SaysDevice result → MoreFailures had has) × (text ≡ heard_text result after.position.version))
-    ⊎ ((after ≡ before) × (((fault : WireFault) × IsAnswerFault fault bytes × (text ≡ refused_text (wire_fault_text fault))) ⊎ SaysMemory text))
+    ⊎ TakesNone before bytes text after
+
+-- the store was not read: memory was refused or a device failed, where its count rose
+abbrev pub ReadsNone : ℕ → ℕ → List ℕ → Type 0
+ReadsNone had has text = (fault : StoreFault) × (fault ≡ stored.Device → MoreFailures had has) × (text ≡ refused_text (store_fault_text fault))
 
 -- one case a line: what it makes of the replica, and its text
 abbrev pub LineStep : List TableDef → ℕ → ℕ → Member → Ask → List ℕ → Member → Type 0
@@ -58,13 +67,12 @@ LineStep tables had has before (Catch limit) text after =
     × ((text ≡ hex_line (request_spelling (AsksCatch before.position.id before.position.version limit))) ⊎ SaysMemory text)
 LineStep tables had has before (Answer bytes wishes) text after = TakesAnswer tables had has before bytes wishes text after
 LineStep tables had has before Dump text after =
-    (after ≡ before) × (IsDumped tables before text ⊎ ((fault : StoreFault) × (fault ≡ stored.Device → MoreFailures had has) × (text ≡ refused_text (store_fault_text fault))))
+    (after ≡ before) × (IsDumped tables before text ⊎ ReadsNone had has text)
 
--- lines, one behind another, each with its text: the count of failures doesn't fall, and each failed device has a rise of its own
-abbrev pub LineSteps : List TableDef → ℕ → ℕ → Member → List Ask → List (List ℕ) → Member → Type 0
-LineSteps tables had has before [] [] after = (after ≡ before) × (has ≡ had)
-LineSteps tables had has before (ask ∷ asks) (text ∷ texts) after =
-    (between : Member) × (count : ℕ) × (had ≤ count) × LineStep tables had count before ask text between
-    × LineSteps tables count has between asks texts after
-LineSteps tables had has before [] (text ∷ texts) after = ⊥
-LineSteps tables had has before (ask ∷ asks) [] after = ⊥
+-- one step behind another, each with its text: the count of failures doesn't fall, and each failed device has a rise of its own
+abbrev pub InTurn : {A : Type 0} → (ℕ → ℕ → Member → A → List ℕ → Member → Type 0) → ℕ → ℕ → Member → List A → List (List ℕ) → Member → Type 0
+InTurn step had has before [] [] after = (after ≡ before) × (has ≡ had)
+InTurn step had has before (one ∷ more) (text ∷ texts) after =
+    (between : Member) × (count : ℕ) × (had ≤ count) × step had count before one text between × InTurn step count has between more texts after
+InTurn step had has before [] (text ∷ texts) after = ⊥
+InTurn step had has before (one ∷ more) [] after = ⊥

@@ -2,7 +2,6 @@
 use Rattle.std.specs.Prelude.{◌≡◌, ◌≤◌, ⊤, ℕ, List, [], ◌∷◌, ◌++◌, Option, Result, Ok, Err}
 use Rattle.std.specs.declared.alloc.AllocError.{AllocError}
 use Rattle.std.specs.Io.KnownBytes.{Appends, Keeps}
-use Rattle.cs_node_lines.specs.declared.asks.ask.Ask.{Ask}
 use Rattle.cs_lines.specs.Writing.{AppendsFront}
 use Rattle.cs_replica.specs.Step.{Member, Turns}
 use Rattle.cs_replica.specs.Holding.{Holding}
@@ -13,18 +12,11 @@ use Rattle.cs_node_lines.specs.told.Dump.{rows_text}
 use Rattle.cs_value.specs.declared.catalog.TableDef.{TableDef}
 use Rattle.cs_value.specs.declared.value.Value.{Value}
 use Rattle.cs_node_lines.specs.working.Endings.{BreaksOff, printed}
-use Rattle.cs_node_lines.specs.working.LineStep.{LineStep, LineSteps}
+use Rattle.cs_node_lines.specs.working.LineStep.{InTurn}
 use Rattle.cs_node_lines.specs.working.Replies.{reply_text}
 use Rattle.cs_node_lines.specs.declared.working.fault.NodeFault.{NodeFault}
 use Rattle.cs_node_lines.specs.declared.working.fault.NodeFault.TheVariants.{Line, Memory, Open, Read, Write}
 use Rattle.cs_node_lines.specs.declared.working.reply.Reply.{Reply}
-
--- of the replica with this id
-abbrev pub IsStep : ℕ → List TableDef → Ask → List ℕ → ℕ → ℕ → Member → Member → Type 0
-IsStep id tables ask text had has before after = before.position.id ≡ id → LineStep tables had has before ask text after
-
-abbrev pub AreSteps : ℕ → List TableDef → List Ask → List (List ℕ) → ℕ → ℕ → Member → Member → Type 0
-AreSteps id tables asks texts had has before after = before.position.id ≡ id → LineSteps tables had has before asks texts after
 
 -- the step was made between the store's counts of failures, which didn't fall
 pub record Counted {S : Type 0} (g : Ghosts S) (step : ℕ → ℕ → Member → Member → Type 0) (old new : Holding S) : Type 0 where
@@ -50,27 +42,30 @@ abbrev pub PutsTable : State → List ℕ → List ℕ → List ℕ → Type 0
 PutsTable state name old new =
     (rows : List (List ℕ × List Value)) × AreRowsOf (state name) rows × (new ≡ old ++ rows_text name rows)
 
-module _ {S : Type 0} (g : Ghosts S) where
-  -- a line's step was made, whatever the replica's id is, and this is its reply
-  abbrev pub Makes : Ask → Result Reply AllocError → Holding S → Holding S → Type 0
-  Makes ask result old new =
-      (text : List ℕ) × Counted g (λ had has before after. LineStep old.catalog had has before ask text after) old new × Says result text
+-- `step` is what is made of a replica of these tables by what is asked
+module _ {S A : Type 0} (g : Ghosts S) (step : List TableDef → ℕ → ℕ → Member → A → List ℕ → Member → Type 0) where
+  -- the step was made with this text
+  abbrev pub Stepped : A → List ℕ → Holding S → Holding S → Type 0
+  Stepped asked text old new = Counted g (λ had has before after. step old.catalog had has before asked text after) old new
 
-module _ {S : Type 0} (g : Ghosts S) (id : ℕ) where
-  -- a line's step was made, and this is its reply
-  abbrev pub Replies : Ask → Result Reply AllocError → Holding S → Holding S → Type 0
-  Replies ask result old new = (text : List ℕ) × Counted g (IsStep id old.catalog ask text) old new × Says result text
+  -- so were steps one behind another
+  abbrev pub AllStepped : List A → List (List ℕ) → Holding S → Holding S → Type 0
+  AllStepped asked texts old new = Counted g (λ had has before after. InTurn (step old.catalog) had has before asked texts after) old new
+
+  -- the step was made, and this is its reply
+  abbrev pub Makes : A → Result Reply AllocError → Holding S → Holding S → Type 0
+  Makes asked result old new = (text : List ℕ) × Stepped asked text old new × Says result text
 
   -- and its text was printed
-  abbrev pub Tells : Ask → Result ⊤ NodeFault → Type 0 → Option (List ℕ) → Option (List ℕ) → Holding S → Holding S → Type 0
-  Tells ask result write_failed before after old new =
-      (text : List ℕ) × Counted g (IsStep id old.catalog ask text) old new × Prints result write_failed before after text
+  abbrev pub Tells : A → Result ⊤ NodeFault → Type 0 → Option (List ℕ) → Option (List ℕ) → Holding S → Holding S → Type 0
+  Tells asked result write_failed before after old new =
+      (text : List ℕ) × Stepped asked text old new × Prints result write_failed before after text
 
-  -- so it was with all lines, or up to one
-  abbrev pub TellsAll : List Ask → Result ⊤ NodeFault → Type 0 → Option (List ℕ) → Option (List ℕ) → Holding S → Holding S → Type 0
-  TellsAll asks (Ok done) write_failed before after old new =
-      (texts : List (List ℕ)) × Counted g (AreSteps id old.catalog asks texts) old new × Appends before after (printed texts)
-  TellsAll asks (Err fault) write_failed before after old new =
-      (done : List Ask) × (ask : Ask) × (later : List Ask) × (texts : List (List ℕ)) × (text : List ℕ)
-      × (asks ≡ done ++ ask ∷ later) × Counted g (AreSteps id old.catalog (done ++ ask ∷ []) (texts ++ text ∷ [])) old new
+  -- so it was with all steps, or up to one
+  abbrev pub TellsAll : List A → Result ⊤ NodeFault → Type 0 → Option (List ℕ) → Option (List ℕ) → Holding S → Holding S → Type 0
+  TellsAll all (Ok done) write_failed before after old new =
+      (texts : List (List ℕ)) × AllStepped all texts old new × Appends before after (printed texts)
+  TellsAll all (Err fault) write_failed before after old new =
+      (done : List A) × (asked : A) × (later : List A) × (texts : List (List ℕ)) × (text : List ℕ)
+      × (all ≡ done ++ asked ∷ later) × AllStepped (done ++ asked ∷ []) (texts ++ text ∷ []) old new
       × BreaksOff fault write_failed before after (printed texts) text

@@ -20,6 +20,10 @@ ok_text = line (codes "ok")
 abbrev pub refused_text : List ℕ → List ℕ
 refused_text name = line (codes "refused " ++ name)
 
+-- of a line that can't be read, where it ends nothing
+abbrev pub unread_text : List ℕ
+unread_text = line (codes "unread")
+
 -- the names of faults of bytes that are no answer, and of a store
 abbrev pub wire_fault_text : WireFault → List ℕ
 wire_fault_text wire.Truncated = codes "Truncated"

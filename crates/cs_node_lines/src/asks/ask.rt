@@ -91,10 +91,10 @@ fn read_verb(
 }
 
 // What no word may follow.
-fn alone(ask: Ask, words: &Words<'_>) -> Option<Ask>
-    ensures { result ≡ alone ask words.now }
+pub(crate) fn alone<A: Drop>(asked: A, words: &Words<'_>) -> Option<A>
+    ensures { result ≡ alone asked words.now }
 {
-    if words.is_at_end() { Some(ask) } else { None }
+    if words.is_at_end() { Some(asked) } else { None }
 }
 
 // How many entries at most, where no word follows.

@@ -2,13 +2,13 @@
 
 ghost use Rattle.std.specs.Prelude.{Some};
 ghost use Rattle.std.specs.Fmt.{WritesOnOk};
-ghost use Rattle.cs_text.specs.Text.{values_text, line};
+ghost use Rattle.cs_text.specs.Text.{line};
 ghost use Rattle.cs_node_lines.specs.told.Dump.{numbered_text, rows_text};
 ghost use Rattle.cs_node_lines.specs.told.Told.{place_text, row_text};
 
 use cs_pending::rows::RowAtKey;
 use cs_record::{Row, RowBuf};
-use cs_text::{NameText, ValueText};
+use cs_text::{NameText, ValuesText};
 use cs_value::Text;
 use std::fmt;
 
@@ -61,23 +61,11 @@ pub struct RowText<'t, 'r> {
     pub row: Row<'r>,
 }
 
-fn write_values<W: fmt::Write>(row: &Row<'_>, f: &mut fmt::Formatter<W>) -> fmt::Result
-    ensures { WritesOnOk W.write_str_gives f.old result (values_text row.now) f.new }
-{
-    let mut left = row.again();
-    while let Some((cell, rest)) = left.split_first() {
-        write!(f, " {}", ValueText(&cell))?;
-        left = rest;
-    }
-    Ok(())
-}
-
 impl fmt::Display for RowText<'_, '_> {
     ghost output = { λ text. Some (row_text text.table.now text.row) };
 
     fn fmt<W: fmt::Write>(&self, f: &mut fmt::Formatter<W>) -> fmt::Result {
-        write!(f, "row {}", NameText(self.table))?;
-        write_values(&self.row, f)
+        write!(f, "row {}{}", NameText(self.table), ValuesText(&self.row))
     }
 }
 

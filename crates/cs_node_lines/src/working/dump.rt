@@ -18,7 +18,7 @@ use cs_value::{Catalog, Memory, TableDef, Text};
 use std::alloc::Global;
 
 /// The lines of rows of the table with this name.
-fn lines_of(alloc: Global, table: &Text, rows: &[RowAtKey]) -> Result<String, Memory>
+pub(crate) fn lines_of(alloc: Global, table: &Text, rows: &[RowAtKey]) -> Result<String, Memory>
     ensures { IfOk result (λ text. string_bytes text ≡ rows_text table.now rows.now) }
 {
     format!(in alloc; "{}", RowsText { table, rows })
@@ -43,9 +43,10 @@ fn line_of(alloc: Global, id: u32, place: PlaceText) -> Result<String, Memory>
 }
 
 /// The line of where a replica stands.
-fn place_of<S: RowStore>(alloc: Global, replica: &Replica<S>, id: u32) -> Result<String, Memory>
-    ensures { IfOk result (λ text. string_bytes text ≡ line (replica_text id replica.now.position)) }
+pub(crate) fn place_of<S: RowStore>(alloc: Global, replica: &Replica<S>) -> Result<String, Memory>
+    ensures { IfOk result (λ text. string_bytes text ≡ line (replica_text replica.now.position.id replica.now.position)) }
 {
+    let id = replica.id();
     let version = replica.version();
     let pending = replica.pending_len();
     let flight = flight_len(replica);
@@ -109,14 +110,13 @@ pub(crate) fn dump_of<S: RowStore>(
     alloc: Global,
     replica: &mut Replica<S>,
     catalog: &Catalog,
-    id: u32,
 ) -> Result<String, StoreFault>
     requires { replica.old.catalog ≡ catalog.now }
     ensures turned { Turns S.RowStore (λ (before : Member) (after : Member). (after ≡ before)
-        × (before.position.id ≡ id → IfOk result (λ text. IsDumped catalog.now before (string_bytes text)))) replica.old replica.new }
+        × IfOk result (λ text. IsDumped catalog.now before (string_bytes text))) replica.old replica.new }
     ensures counts { Counts S.RowStore (result ≡ Err stored.Device) replica.old replica.new }
 {
-    let mut text = place_of(alloc, replica, id)?;
+    let mut text = place_of(alloc, replica)?;
     put_tables(alloc, replica, catalog, &mut text)?;
     Ok(text)
 }

@@ -2,6 +2,7 @@
 
 ghost use Rattle.std.specs.Prelude.{◌≡◌, ◌<◌, ◌-◌, ◌^◌, OnOk};
 ghost use Rattle.cs_node_lines.specs.working.Endings.{EndsNode, EndsWorking};
+ghost use Rattle.cs_node_lines.specs.working.LineStep.{LineStep};
 ghost use Rattle.cs_node_lines.specs.working.Steps.{Tells, TellsAll};
 
 use crate::asks::{Ask, read_asks};
@@ -15,20 +16,18 @@ use cs_value::Catalog;
 use std::alloc::Global;
 
 /// Does what a line asks, and prints its text and sends it.
-// Six parameters: the allocator, the replica, its tables and id, which no call of it gives, what is asked, and the output.
 fn do_ask<S: RowStore, W: LineOutput>(
     alloc: Global,
     replica: &mut Replica<S>,
     catalog: &Catalog,
-    id: u32,
     ask: &Ask,
     writer: &mut W,
 ) -> Result<(), NodeFault>
     requires { replica.old.catalog ≡ catalog.now }
-    ensures told { Tells S.RowStore id ask.now result (W.failed writer.new) (W.contents writer.old) (W.contents writer.new) replica.old replica.new }
+    ensures told { Tells S.RowStore LineStep ask.now result (W.failed writer.new) (W.contents writer.old) (W.contents writer.new) replica.old replica.new }
     ensures sent { OnOk result (W.sent writer.new) }
 {
-    let reply = work_ask(alloc, replica, catalog, id, ask)?;
+    let reply = work_ask(alloc, replica, catalog, ask)?;
     match write_reply(writer, &reply) {
         Ok(()) => Ok(()),
         Err(_) => Err(NodeFault::Write),
@@ -36,23 +35,20 @@ fn do_ask<S: RowStore, W: LineOutput>(
 }
 
 /// Does what lines ask, one behind another.
-// Six parameters: those of `do_ask`, with all that is asked.
 fn do_asks<S: RowStore, W: LineOutput>(
     alloc: Global,
     replica: &mut Replica<S>,
     catalog: &Catalog,
-    id: u32,
     asks: &[Ask],
     writer: &mut W,
 ) -> Result<(), NodeFault>
     requires { replica.old.catalog ≡ catalog.now }
-    ensures told { TellsAll S.RowStore id asks.now result (W.failed writer.new) (W.contents writer.old) (W.contents writer.new) replica.old replica.new }
+    ensures told { TellsAll S.RowStore LineStep asks.now result (W.failed writer.new) (W.contents writer.old) (W.contents writer.new) replica.old replica.new }
     ensures sent { OnOk result (W.sent writer.old → W.sent writer.new) }
 {
-    cs_replica::laws::hears_keeps_id();
     let mut rest = asks;
     while let Some((ask, more)) = rest.split_first() {
-        match do_ask(alloc, replica, catalog, id, ask, writer) {
+        match do_ask(alloc, replica, catalog, ask, writer) {
             Ok(()) => rest = more,
             Err(fault) => return Err(fault),
         }
@@ -86,7 +82,7 @@ pub fn work_on<S: RowStore, W: LineOutput>(
     match Replica::open(alloc, store, catalog, id) {
         Ok(mut replica) => {
             replica.shown();
-            let ended = do_asks(alloc, &mut replica, catalog, id, asks, writer);
+            let ended = do_asks(alloc, &mut replica, catalog, asks, writer);
             (ended, replica.close())
         }
         Err((store, fault)) => (Err(NodeFault::from(fault)), store),

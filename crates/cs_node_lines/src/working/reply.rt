@@ -14,6 +14,8 @@ use std::io;
 pub(crate) enum Reply {
     /// `ok`
     Done,
+    /// `unread`
+    Unread,
     /// `refused NAME`
     Refused(&'static str),
     /// A request, in lower case hex.
@@ -34,13 +36,14 @@ fn put_refused<W: LineOutput>(writer: &mut W, name: &str) -> io::Result<()>
 }
 
 /// A text and no more. It isn't sent yet.
-fn put_text<W: LineOutput>(writer: &mut W, reply: &Reply) -> io::Result<()>
+pub(crate) fn put_text<W: LineOutput>(writer: &mut W, reply: &Reply) -> io::Result<()>
     ensures written { OnOk result (Appends (W.contents writer.old) (W.contents writer.new) (reply_text reply.now)) }
     ensures front { OnErr result (AppendsFront (W.contents writer.old) (W.contents writer.new) (reply_text reply.now)) }
     ensures failed { OnErr result (W.failed writer.new) }
 {
     match reply {
         Reply::Done => writer.put(b"ok\n"),
+        Reply::Unread => writer.put(b"unread\n"),
         Reply::Refused(name) => put_refused(writer, name),
         Reply::Hex(bytes) => write_hex_line(writer, bytes),
         Reply::Text(text) => writer.put(text.as_bytes()),

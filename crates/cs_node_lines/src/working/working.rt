@@ -8,7 +8,7 @@ ghost use Rattle.cs_node_lines.specs.working.LineStep.{LineStep, SaysMemory};
 ghost use Rattle.cs_node_lines.specs.working.Replies.{reply_text};
 ghost use Rattle.cs_node_lines.specs.working.Texts.{heard_text};
 ghost use Rattle.cs_wire.specs.Requests.{HasShortChangeset, asked_by_owned, request_spelling};
-ghost use Rattle.cs_node_lines.specs.working.Steps.{Counted, IsStep, Makes, Replies};
+ghost use Rattle.cs_node_lines.specs.working.Steps.{Makes, Stepped};
 
 use crate::asks::Ask;
 use crate::told::{FaultText, ToldText, edit_fault_name, push_fault_name};
@@ -27,7 +27,7 @@ use std::alloc::Global;
 use std::fmt::Write;
 
 /// The room of the longest text of an answer; it is taken before the answer is.
-const ROOM: usize = 96;
+pub(crate) const ROOM: usize = 96;
 
 /// The bytes of a request.
 fn spelled(alloc: Global, request: &RequestBuf) -> Result<Vec<u8>, Memory>
@@ -51,7 +51,7 @@ fn asked(alloc: Global, request: &RequestBuf) -> Reply
 }
 
 fn edit_line<S: RowStore>(alloc: Global, replica: &mut Replica<S>, edit: &Edit) -> Reply
-    ensures { Counted S.RowStore (λ (had : ℕ) (has : ℕ) (before : Member) (after : Member). LineStep replica.old.catalog had has before (line.OnEdit edit.now) (reply_text result) after) replica.old replica.new }
+    ensures { Stepped S.RowStore LineStep (line.OnEdit edit.now) (reply_text result) replica.old replica.new }
 {
     match replica.edit(alloc, edit) {
         Ok(()) => Reply::Done,
@@ -60,7 +60,7 @@ fn edit_line<S: RowStore>(alloc: Global, replica: &mut Replica<S>, edit: &Edit) 
 }
 
 fn push_line<S: RowStore>(alloc: Global, replica: &mut Replica<S>) -> Result<Reply, Memory>
-    ensures { Makes S.RowStore line.Push result replica.old replica.new }
+    ensures { Makes S.RowStore LineStep line.Push result replica.old replica.new }
 {
     match replica.make_push(alloc) {
         Ok(request) => Ok(Reply::Hex(spelled(alloc, &request)?)),
@@ -96,7 +96,11 @@ fn catch_line<S: RowStore>(alloc: Global, replica: &Replica<S>, limit: u32) -> R
 }
 
 /// Puts what became of an answer behind a text.
-fn put_heard(told: Result<Told, AnswerFault>, version: u64, text: &mut String) -> Result<(), Memory>
+pub(crate) fn put_heard(
+    told: Result<Told, AnswerFault>,
+    version: u64,
+    text: &mut String,
+) -> Result<(), Memory>
     ensures { OnOk result (string_bytes text.new ≡ string_bytes text.old ++ heard_text told version) }
 {
     match told {
@@ -111,7 +115,7 @@ fn answer_line<S: RowStore>(
     bytes: &[u8],
     wishes: &[Wish],
 ) -> Result<Reply, Memory>
-    ensures { Makes S.RowStore (line.Answer bytes.now wishes.now) result replica.old replica.new }
+    ensures { Makes S.RowStore LineStep (line.Answer bytes.now wishes.now) result replica.old replica.new }
 {
     let answer = match Answer::decode(bytes) {
         Ok(answer) => answer,
@@ -126,16 +130,11 @@ fn answer_line<S: RowStore>(
     Ok(Reply::Text(text))
 }
 
-fn dump_line<S: RowStore>(
-    alloc: Global,
-    replica: &mut Replica<S>,
-    catalog: &Catalog,
-    id: u32,
-) -> Reply
+fn dump_line<S: RowStore>(alloc: Global, replica: &mut Replica<S>, catalog: &Catalog) -> Reply
     requires { replica.old.catalog ≡ catalog.now }
-    ensures { Counted S.RowStore (IsStep id replica.old.catalog line.Dump (reply_text result)) replica.old replica.new }
+    ensures { Stepped S.RowStore LineStep line.Dump (reply_text result) replica.old replica.new }
 {
-    match dump_of(alloc, replica, catalog, id) {
+    match dump_of(alloc, replica, catalog) {
         Ok(text) => Reply::Text(text),
         Err(fault) => Reply::Refused(store_fault_name(fault)),
     }
@@ -146,11 +145,10 @@ pub(crate) fn work_ask<S: RowStore>(
     alloc: Global,
     replica: &mut Replica<S>,
     catalog: &Catalog,
-    id: u32,
     ask: &Ask,
 ) -> Result<Reply, Memory>
     requires { replica.old.catalog ≡ catalog.now }
-    ensures { Replies S.RowStore id ask.now result replica.old replica.new }
+    ensures { Makes S.RowStore LineStep ask.now result replica.old replica.new }
 {
     match ask {
         Ask::OnEdit(edit) => Ok(edit_line(alloc, replica, edit)),
@@ -161,6 +159,6 @@ pub(crate) fn work_ask<S: RowStore>(
         Ask::Answer { bytes, wishes } => {
             answer_line(alloc, replica, bytes.as_slice(), wishes.as_slice())
         }
-        Ask::Dump => Ok(dump_line(alloc, replica, catalog, id)),
+        Ask::Dump => Ok(dump_line(alloc, replica, catalog)),
     }
 }

@@ -3,7 +3,7 @@ use Rattle.std.proofs.Common.{◌≡◌, ◌≢◌, ◌<◌, ◌&&◌, ℕ, Bool
 use Rattle.std.specs.Prelude.{◌↔◌, ◌⊎◌, IsSome, IsTrue, Result}
 use Rattle.std.specs.FinMap.{len}
 use Rattle.cs_conflict.specs.declared.wish.Wish.{Wish}
-use Rattle.cs_replica.specs.Step.{asked_of_edit, table_of_edit}
+use Rattle.cs_pending.specs.EditLists.{asked_of_edit, table_of_edit}
 use Rattle.cs_nodes.specs.following.Pulls.{PullsAll}
 use Rattle.cs_nodes.specs.following.Pushes.{IsAtRest, PushesOn}
 use Rattle.cs_nodes.specs.following.Standing.{Begins}

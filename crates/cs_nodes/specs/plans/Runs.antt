@@ -1,7 +1,7 @@
 -- What a plan makes of a node (profile of this project).
 use Rattle.std.specs.Prelude.{◌≡◌, ◌≢◌, ◌⊎◌, ◌<◌, ◌↔◌, ℕ, IsTrue, List, [], ◌∷◌, length, Result, Ok, Err}
 use Rattle.cs_conflict.specs.declared.wish.Wish.{Wish}
-use Rattle.cs_replica.specs.Step.{asked_of_edit, table_of_edit}
+use Rattle.cs_pending.specs.EditLists.{asked_of_edit, table_of_edit}
 use Rattle.cs_nodes.specs.following.Pulls.{PullsAll}
 use Rattle.cs_nodes.specs.following.Pushes.{IsAtRest, PushesOn}
 use Rattle.cs_nodes.specs.following.Standing.{Begins}

@@ -9,7 +9,7 @@ ghost use Rattle.cs_pending.specs.declared.fault.EditFault.TheVariants.{Device};
 ghost use Rattle.cs_pending.specs.position.Shows.{ShowsSomeAt};
 ghost use Rattle.cs_replica.specs.Edited.{IsEditedIn, with_pending};
 ghost use Rattle.cs_replica.specs.Holding.{Shows};
-ghost use Rattle.cs_replica.specs.Step.{asked_of_edit, table_of_edit};
+ghost use Rattle.cs_pending.specs.EditLists.{asked_of_edit, table_of_edit};
 ghost use Rattle.cs_nodes.specs.following.Standing.{StandsWhereHonest};
 
 use cs_pending::EditFault;

@@ -1,4 +1,4 @@
-use Rattle.std.proofs.Common.{ap, ◌∙◌, codes}
+use Rattle.std.proofs.Common.{ap, ◌∙◌, codes, true, false}
 use Rattle.std.specs.Prelude.{option_map}
 use Rattle.clap.specs.Words.{found_of, rows_of}
 use Rattle.clap.proofs.WalkLemmas.{first_value-rows}
@@ -12,7 +12,12 @@ returns-in_err-file-clause-asked c =
     ap (option_map wanted) c.from_residual.ensures
     ∙ node_has_no_file (rows_of inner) (c.in_err-file.ensures ∙ first_value-rows inner (codes "FILE"))
 
-pub returns-clause-asked : goal.returns-clause-asked
-returns-clause-asked c =
+pub returns-then-is_given-clause-asked : goal.returns-then-is_given-clause-asked
+returns-then-is_given-clause-asked c =
     let inner = found_of c.args.found.now in
-    node_found (rows_of inner) _ _ (c.in_ok-file.ensures ∙ first_value-rows inner (codes "FILE")) c.in_ok-id.ensures.found
+    node_found (rows_of inner) true _ _ c.if-is_given.ensures (c.in_ok-file.ensures ∙ first_value-rows inner (codes "FILE")) c.in_ok-id.ensures.found
+
+pub returns-else-is_given-clause-asked : goal.returns-else-is_given-clause-asked
+returns-else-is_given-clause-asked c =
+    let inner = found_of c.args.found.now in
+    node_found (rows_of inner) false _ _ c.if-is_given.ensures (c.in_ok-file.ensures ∙ first_value-rows inner (codes "FILE")) c.in_ok-id.ensures.found

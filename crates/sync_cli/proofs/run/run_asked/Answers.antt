@@ -9,3 +9,6 @@ returns-in-World-clause-ends g c = rw c.in-World.is (inl (c.in_ok-catalog.catalo
 
 pub returns-in-Node-clause-ends : goal.returns-in-Node-clause-ends
 returns-in-Node-clause-ends g c = rw c.in-Node.is (inl (c.in_ok-catalog.catalog, c.in_ok-catalog.ensures.ok, c.work_file.ensures.ends))
+
+pub returns-in-Follow-clause-ends : goal.returns-in-Follow-clause-ends
+returns-in-Follow-clause-ends g c = rw c.in-Follow.is (inl (c.in_ok-catalog.catalog, c.in_ok-catalog.ensures.ok, c.follow_file.ensures.ends))

@@ -1,4 +1,4 @@
-use Rattle.cs_replica.specs.Step.{asked_of_edit, table_of_edit}
+use Rattle.cs_pending.specs.EditLists.{asked_of_edit, table_of_edit}
 use Rattle.cs_nodes.proofs.FollowingLemmas.Stood.{edited_stands}
 use Rattle.cs_nodes.proofs.following.editing.edit_row.Goals as goal
 

@@ -1,0 +1,5 @@
+pub mod Seen
+pub mod FollowStep
+pub mod Endings
+pub mod Laws
+pub mod Steps
