@@ -6,6 +6,7 @@ mod OneAnswer
 mod AnswerSome
 mod Stepped
 mod OneEdit
+mod OneEdits
 mod EditCan
 mod OnePush
 mod PushCan

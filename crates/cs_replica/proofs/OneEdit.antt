@@ -123,7 +123,7 @@ module _ (tables : List TableDef) where
 counted : (tables : List TableDef) (position : Position) (count : ℕ) (left : Contents) (view : View) → ShowsAt tables left (with_pending position count) view → ShowsAt tables left (with_pending position (len left.pending)) view
 counted tables position count left view shows = subst (λ (n : ℕ). ShowsAt tables left (with_pending position n) view) shows.counted shows
 
-counts_alike : OneContents → (tables : List TableDef) (position other : Position) (count number : ℕ) (left held : Contents) (view seen : View) → other ≡ position → IsSameView tables view seen
+pub counts_alike : OneContents → (tables : List TableDef) (position other : Position) (count number : ℕ) (left held : Contents) (view seen : View) → other ≡ position → IsSameView tables view seen
     → ShowsAt tables left (with_pending position count) view → ShowsAt tables held (with_pending other number) seen → with_pending other number ≡ with_pending position count
 counts_alike contents tables position other count number left held view seen is same shows sees =
     let there = subst (λ (p : Position). ShowsAt tables held (with_pending p (len held.pending)) seen) is (counted tables other number held seen sees) in

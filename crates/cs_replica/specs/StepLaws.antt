@@ -4,6 +4,8 @@ use Rattle.std.specs.List.{AllByRecursion}
 use Rattle.cs_conflict.specs.declared.wish.Wish.{Wish}
 use Rattle.cs_pending.specs.Edits.{IsOfStore}
 use Rattle.cs_pending.specs.declared.fault.EditFault.{EditFault}
+use Rattle.cs_pending.specs.declared.fault.EditsFault.{EditsFault}
+use Rattle.cs_pending.specs.declared.fault.EditsFault.TheVariants as several
 use Rattle.cs_exchange.specs.declared.pulling.fault.AnswerFault.{AnswerFault}
 use Rattle.cs_exchange.specs.pushing.Laws.{IsOfPush}
 use Rattle.cs_exchange.specs.declared.pushing.fault.PushFault.{PushFault}
@@ -18,7 +20,7 @@ use Rattle.cs_value.specs.declared.value.Field.TheVariants.{Is}
 use Rattle.cs_value.specs.declared.value.Value.{Value}
 use Rattle.cs_wire.specs.Requests.{Asked}
 use Rattle.cs_wire.specs.declared.answer.Answer.{Answer}
-use Rattle.cs_replica.specs.Step.{Hears, IsAskedAgain, IsEditedTo, IsPushAsked, Member}
+use Rattle.cs_replica.specs.Step.{AreEditedTo, Hears, IsAskedAgain, IsEditedTo, IsPushAsked, Member}
 use Rattle.cs_replica.specs.Same.{IsSameMember, IsShown}
 
 -- whatever is told, a replica has the id that it had
@@ -44,6 +46,24 @@ OneEdited =
     → IsOfEdit other
     → IsEditedTo tables asked some before one
     → IsEditedTo tables asked other its last
+    → (some ≡ other) × IsSameMember tables one last
+
+-- a result that is the edits': one that is no fault of the store
+abbrev pub AreOfEdits : Result (Unit {0}) EditsFault → Type 0
+AreOfEdits (Ok done) = Unit {0}
+AreOfEdits (Err several.Memory) = ⊥
+AreOfEdits (Err several.Device) = ⊥
+AreOfEdits (Err (several.Refused at fault)) = Unit {0}
+
+-- edits of the same replica, one behind another, have one result, and leave the same replica
+abbrev pub OneEditedAll : Type 0
+OneEditedAll =
+    (tables : List TableDef) (edits : List Edit) (some other : Result (Unit {0}) EditsFault) (before its one last : Member)
+    → IsSameMember tables before its
+    → AreOfEdits some
+    → AreOfEdits other
+    → AreEditedTo tables edits some before one
+    → AreEditedTo tables edits other its last
     → (some ≡ other) × IsSameMember tables one last
 
 -- the values that it has have spellings

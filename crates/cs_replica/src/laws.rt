@@ -1,7 +1,7 @@
 //! The laws of replicas that stand on a log, of answers, and of a replica's steps, each the contract of a function that does nothing.
 
 ghost use Rattle.cs_replica.specs.Laws.{AnswerHasResult, EditStands, EntryStands, EqualAtRest, FirstStands, FlightFits, KeptStands, LeadStands, OneAnswered, StandsLonger};
-ghost use Rattle.cs_replica.specs.StepLaws.{EditHasResult, HearsKeepsId, OneEdited, OneHeard, OnePushed, OneResent, PushHasResult};
+ghost use Rattle.cs_replica.specs.StepLaws.{EditHasResult, HearsKeepsId, OneEdited, OneEditedAll, OneHeard, OnePushed, OneResent, PushHasResult};
 
 use cs_conflict::Picker;
 use cs_conflict::wish_list::Wishes;
@@ -76,6 +76,13 @@ pub fn hears_keeps_id()
 /// But for faults of the store an edit has one result, and leaves one replica.
 pub fn one_edited()
     ensures { OneEdited }
+{
+    cs_exchange::taking::laws::one_contents();
+}
+
+/// But for faults of the store edits one behind another have one result, and leave one replica.
+pub fn one_edited_all()
+    ensures { OneEditedAll }
 {
     cs_exchange::taking::laws::one_contents();
 }
