@@ -79,6 +79,29 @@ answer_keeps_id tables (told.Entries first entries) result position before p oth
     many_keeps_id tables first entries (count_of pulled) position before p other list.0 list.1 list.2
 answer_keeps_id tables (told.Merged origin first next changeset) result position before p other new q answers = merged_keeps_id tables origin first next changeset result position before p other new q answers
 
+-- ---- what an answer leaves is shown
+
+module _ {P : Type 0} (picks : P → Clash → Wish → P → Type 0) where
+  shown_together : (tables : List TableDef) (origin first next : ℕ) (changeset : List ℕ) (result : Result Told AnswerFault) (position : Position) (before : View) (p : P) (other : Position) (new : Contents) (q : P)
+      → TellsMerged picks tables origin first next changeset result position before p other new q → ShowsSomeAt tables other new
+  shown_together tables origin first next changeset result position before p other new q (inl (away, is, (same, keeps))) = (before, keeps.0)
+  shown_together tables origin first next changeset result position before p other new q (inr (inl (meant, none, is, (same, keeps)))) = (before, keeps.0)
+  shown_together tables origin first next changeset result position before p other new q (inr (inr (inl (meant, less, is, (same, keeps))))) = (before, keeps.0)
+  shown_together tables origin first next changeset result position before p other new q (inr (inr (inr (meant, above, Ok (pulled.Taken count), is, (sum, changes, after, form, moved, shows, takes))))) = (after, shows)
+  shown_together tables origin first next changeset result position before p other new q (inr (inr (inr (meant, above, Ok (pulled.Stopped count), is, (none, changes, conflict, form, stops, (same, shows)))))) = (before, rw same shows)
+  shown_together tables origin first next changeset result position before p other new q (inr (inr (inr (meant, above, Err (fault.Memory count), is, (none, (same, shows)))))) = (before, rw same shows)
+  shown_together tables origin first next changeset result position before p other new q (inr (inr (inr (meant, above, Err (fault.Device count), is, (none, (same, shows)))))) = (before, rw same shows)
+  shown_together tables origin first next changeset result position before p other new q (inr (inr (inr (meant, above, Err (fault.BadEntry count), is, (none, bad, asked, (same, shows)))))) = (before, rw same shows)
+
+  pub shown_by : (tables : List TableDef) (answer : Answer) (result : Result Told AnswerFault) (position : Position) (before : View) (p : P) (other : Position) (new : Contents) (q : P)
+      → Answers picks tables answer result position before p other new q → ShowsSomeAt tables other new
+  shown_by tables (told.Short (short.Accepted origin number version)) result position before p other new q (tells, keeps) = (before, keeps.0)
+  shown_by tables (told.Short (short.Stale newest)) result position before p other new q (is, (same, keeps)) = (before, keeps.0)
+  shown_by tables (told.Short (short.Refused code)) result position before p other new q (is, (same, keeps)) = (before, keeps.0)
+  shown_by tables (told.Entries first entries) result position before p other new q (pulled, is, list) = (list.0, list.3)
+  shown_by tables (told.Merged origin first next changeset) result position before p other new q tells =
+      shown_together tables origin first next changeset result position before p other new q tells
+
 module _ {S : Type 0} (g : Ghosts S) (tables : List TableDef) (was has : S) (old new : Position) where
   -- the replica over a store
   abbrev over : S → Position → Holding S

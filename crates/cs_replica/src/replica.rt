@@ -3,6 +3,7 @@
 ghost use Rattle.std.specs.Prelude.{◌≡◌, ◌⊎◌, ◌≤◌, ◌<◌, ◌-◌, ◌^◌, [], length, MatchResult, Ok, Err, IfOk, IfErr, OnOk, OnErr};
 ghost use Rattle.std.specs.Option.{option_copied};
 ghost use Rattle.cs_pending.specs.Calls.{ReadsStore, WritesStore};
+ghost use Rattle.cs_pending.specs.EditLists.{asked_of_edit, table_of_edit};
 ghost use Rattle.cs_pending.specs.Edits.{AskDelete, AskInsert, AskUpdate, IsOfStore, edit as edit_of};
 ghost use Rattle.cs_pending.specs.View.{View};
 ghost use Rattle.cs_pending.specs.declared.fault.EditFault.TheVariants.{Device};

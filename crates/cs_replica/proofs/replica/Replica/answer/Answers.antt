@@ -1,6 +1,12 @@
 use Rattle.cs_replica.specs.Answered.{IsAnsweredNext}
-use Rattle.cs_replica.proofs.Stepped.{heard, turns_leave}
+use Rattle.cs_replica.proofs.Stepped.{heard, shown_by, turns_leave}
 use Rattle.cs_replica.proofs.replica.Replica.answer.Goals as goal
+
+pub invariant_of-self : goal.invariant_of-self
+invariant_of-self g c = λ honest.
+    let was = c.self.invariant (c.answer_at-told.ensures.writes.was_honest honest) in
+    shown_by g.P.Picker.picks c.self.inside.catalog c.args.answer.now c.answer_at-told.result c.self.inside.position was.0 c.args.picker.now c.answer_at-told.new.position (g.S.RowStore.contents c.answer_at-told.new.store) c.answer_at-told.new.picker
+    (c.answer_at-told.ensures.told honest was.0 was.1)
 
 pub returns-clause-turned : goal.returns-clause-turned
 returns-clause-turned g c =
