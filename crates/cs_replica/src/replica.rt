@@ -3,7 +3,7 @@
 ghost use Rattle.std.specs.Prelude.{◌≡◌, ◌⊎◌, ◌≤◌, ◌<◌, ◌-◌, ◌^◌, [], length, MatchResult, Ok, Err, IfOk, IfErr, OnOk, OnErr};
 ghost use Rattle.std.specs.Option.{option_copied};
 ghost use Rattle.cs_pending.specs.Calls.{ReadsStore, WritesStore};
-ghost use Rattle.cs_pending.specs.EditLists.{asked_of_edit, table_of_edit};
+ghost use Rattle.cs_pending.specs.EditLists.{AreEdited, IsEditsFault, asked_of_edit, table_of_edit};
 ghost use Rattle.cs_pending.specs.Edits.{AskDelete, AskInsert, AskUpdate, IsOfStore, edit as edit_of};
 ghost use Rattle.cs_pending.specs.View.{View};
 ghost use Rattle.cs_pending.specs.declared.fault.EditFault.TheVariants.{Device};
@@ -28,7 +28,6 @@ ghost use Rattle.cs_replica.specs.Flight.{flight_entry};
 ghost use Rattle.cs_replica.specs.Holding.{Shows};
 ghost use Rattle.cs_replica.specs.Leaves.{CallLeaves, Counts};
 ghost use Rattle.cs_replica.specs.Opened.{Opens, Reopens};
-ghost use Rattle.cs_pending.specs.EditLists.{AreEdited, IsEditsFault, asked_of_edit, table_of_edit};
 ghost use Rattle.cs_replica.specs.Step.{AreEditedBy, AreEditedTo, AreRowsIn, IsAnsweredTo, IsEditedBy, IsEditedTo, IsPushedTo, IsResent, Turns};
 
 use crate::answering::answer_at;
