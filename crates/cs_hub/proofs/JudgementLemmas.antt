@@ -1,4 +1,3 @@
 pub mod Decided
 pub mod Once
 pub mod Existence
-pub mod Committed

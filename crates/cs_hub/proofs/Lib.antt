@@ -3,8 +3,8 @@ pub mod OneService
 pub mod OneHubRun
 pub mod Opened
 pub mod Runs
-pub mod Stored
-pub mod Taken
+pub mod Pushed
+pub mod Served
 pub mod Answered
 pub mod CaughtTold
 pub mod Shown

@@ -1,5 +1,5 @@
 -- The rows of a log, as rows that a store shows with nothing pending.
-use Rattle.std.proofs.Common.{◌≡◌, List, length, Some, None, refl, sym, ap, subst, ◌∙◌, arith}
+use Rattle.std.proofs.Common.{◌≡◌, List, length, Result, Some, None, refl, sym, ap, subst, ◌∙◌, arith}
 use Rattle.std.specs.FinMap.{get, get-empty}
 use Rattle.std.proofs.lemmas.List.{take_all}
 use Rattle.cs_value.specs.Catalog.{AreTables}
@@ -13,7 +13,9 @@ use Rattle.cs_store.specs.log.Log.{state_of}
 use Rattle.cs_store.specs.declared.log.entry.LogEntry.{LogEntry}
 use Rattle.cs_normal.specs.State.{State, IsStateOf}
 use Rattle.cs_store.specs.Contents.{Bodies, Contents, place_cmp}
+use Rattle.cs_store.specs.declared.store.RowStore.{Ghosts}
 use Rattle.cs_hub.specs.log_store.Shows.{ShowsLog}
+use Rattle.cs_pending.specs.Calls.{ReadsStore}
 use Rattle.cs_pending.specs.Shows.{ShowsRows}
 use Rattle.cs_pending.specs.View.{View, undo}
 
@@ -43,4 +45,17 @@ log_rows states opening contents log are shows = record {
     after_state = state_there states opening log are contents shows;
     net_of = λ table key inside. sym (net_same table.key_marks (state_of log table.name key));
   };
+}
+
+-- the same reads, where more is asked of what is read
+pub read_when : {S T E : Type 0} (g : Ghosts S) (device : E) (inner outer : Type 0) (old new : S) (result : Result T E) → (outer → inner) → ReadsStore g device inner old new result
+    → ReadsStore g device outer old new result
+read_when g device inner outer old new result on reads = record {
+  was_honest = reads.was_honest;
+  same = reads.same;
+  crash = reads.crash;
+  kept = reads.kept;
+  later = reads.later;
+  cause = reads.cause;
+  as_read = λ h r. reads.as_read h (on r);
 }

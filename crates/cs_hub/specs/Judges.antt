@@ -1,5 +1,5 @@
 -- A request that is judged by a hub, which stays as it is. (Profile of this project.)
-use Rattle.std.specs.Prelude.{◌≡◌, ◌<◌, ◌≤◌, ℕ, List, ◌∷◌, [], ◌++◌}
+use Rattle.std.specs.Prelude.{◌≡◌, ◌+◌, ◌<◌, ◌≤◌, ℕ, List, ◌∷◌, [], ◌++◌}
 use Rattle.cs_value.specs.declared.catalog.TableDef.{TableDef}
 use Rattle.cs_store.specs.declared.log.entry.LogEntry.{LogEntry}
 use Rattle.cs_store.specs.Contents.{Contents}
@@ -9,6 +9,9 @@ use Rattle.cs_hub.specs.judgement.Judged.{hub_of}
 use Rattle.cs_hub.specs.Follows.{FitsBehind}
 use Rattle.cs_hub.specs.Holding.{Holding, Shows}
 use Rattle.cs_hub.specs.Serves.{Serves, ServesIf}
+use Rattle.cs_wire.specs.Answers.{answer_spelling}
+use Rattle.cs_wire.specs.declared.answer.Answer.TheVariants.{Short}
+use Rattle.cs_wire.specs.declared.short_answer.ShortAnswer.TheVariants.{Accepted}
 use Rattle.cs_hub.specs.declared.judged.Judged.{Judged}
 use Rattle.cs_hub.specs.declared.judged.Judged.TheVariants.{Reply, Append}
 
@@ -24,6 +27,12 @@ IsJudged device_failed limit opening log request (Append entry batch reply) =
 abbrev pub HasRoom : ℕ → ℕ → Judged → Type 0
 HasRoom count limit (Reply answer) = Unit {0}
 HasRoom count limit (Append entry batch reply) = count < limit
+
+-- its reply tells that the push is accepted as the next version
+abbrev pub AcceptsNext : ℕ → Judged → Type 0
+AcceptsNext count (Reply answer) = Unit {0}
+AcceptsNext count (Append entry batch reply) =
+    reply.items ≡ answer_spelling (Short (Accepted entry.origin entry.number (count + 1)))
 
 -- and a commit of its batch to these contents appends it
 abbrev pub AppendsJudged : List TableDef → Contents → Judged → Type 0

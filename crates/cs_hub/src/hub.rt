@@ -15,29 +15,27 @@ ghost use Rattle.cs_store.specs.declared.fault.StoreFault.TheVariants as stored;
 ghost use Rattle.cs_value.specs.Catalog.{AreTables};
 ghost use Rattle.cs_value.specs.declared.catalog.TableDef.{TableDef as Table};
 ghost use Rattle.cs_hub.specs.judgement.Hub.{entries_from};
-ghost use Rattle.cs_hub.specs.judgement.Judged.{IsSameOrAppended};
 ghost use Rattle.cs_hub.specs.judgement.Pushes.{Push};
 ghost use Rattle.cs_hub.specs.declared.judgement.fault.HubFault.TheVariants.{Device, Memory};
 ghost use Rattle.cs_hub.specs.Calls.{AnswersHub, IsEntriesFault, IsServedIn, ServesStore, StaysHub};
 ghost use Rattle.cs_hub.specs.Follows.{FitsBehind, IsFollowFault};
 ghost use Rattle.cs_hub.specs.Holding.{Shows, ShowsSome};
-ghost use Rattle.cs_hub.specs.Judges.{AppendsJudged, HasRoom, IsJudged, ReadsHub};
+ghost use Rattle.cs_hub.specs.Judges.{AcceptsNext, AppendsJudged, HasRoom, IsJudged, ReadsHub};
 ghost use Rattle.cs_hub.specs.declared.follow_fault.FollowFault.TheVariants as follow;
 ghost use Rattle.cs_hub.specs.declared.follow_fault.FollowFault.TheVariants.{Full};
 ghost use Rattle.cs_store.specs.Calls.{MoreFailures};
 ghost use Rattle.cs_hub.specs.Opened.{Opens};
-ghost use Rattle.cs_hub.specs.PushedOf.{IsPushedOf};
+ghost use Rattle.cs_hub.specs.PushedOf.{IsPushedOf, IsSameOrAppended};
 
 use crate::appending::{append, append_tried};
 use crate::follow_fault::FollowFault;
 use crate::judged::Judged;
-use crate::judgement::{HubFault, Pushed};
+use crate::judgement::{HubFault, Judgement, Pushed, judge_at};
 use crate::judging::{is_entry_of, judge_told};
 use crate::log_opening::open_log;
 use crate::log_reading::entries_at;
 use crate::refusal::Refusal;
-use crate::serving::{catch_told, pull_at, push_told, refuse};
-use crate::taking::push_counted;
+use crate::serving::{catch_told, pull_at, refuse};
 use cs_normal::Normal;
 use cs_opening::OpenFault;
 use cs_pending::rows::{RowAtKey, rows_of};
@@ -45,7 +43,7 @@ use cs_store::log::{LogEntry, MAX_ENTRIES};
 use cs_store::{Batch, RowStore, StoreFault};
 use cs_value::{Catalog, Memory, TableDef};
 use cs_wire::{PushHead, Request};
-use std::alloc::Global;
+use std::alloc::{AllocError, Global};
 use std::marker::Model;
 
 /// An append-only log of accepted pushes, and the rows that it makes, in a store. Contracts see it as what it holds: the store, the
@@ -209,14 +207,23 @@ impl<S: RowStore> Hub<S> {
         ensures catalog { self.new.catalog ≡ self.old.catalog }
         ensures kept { OnErr result (self.new.newest ≡ self.old.newest) }
     {
-        push_counted(
+        let next = self.newest as u64 + 1;
+        match judge_at(
             self.alloc,
             &mut self.store,
             &self.catalog,
-            &mut self.newest,
+            self.newest,
+            MAX_ENTRIES,
             head,
             changes,
-        )
+        ) {
+            Ok(Judgement::Told(pushed)) => Ok(pushed),
+            Ok(Judgement::Append { entry, batch }) => match self.append_judged(&entry, &batch) {
+                Ok(()) => Ok(Pushed::Accepted(next)),
+                Err(fault) => Err(HubFault::from(fault)),
+            },
+            Err(fault) => Err(fault),
+        }
     }
 
     /// Answers the bytes of a request with the bytes of an answer. The room of the answer to a push is taken before anything changes. A
@@ -235,39 +242,17 @@ impl<S: RowStore> Hub<S> {
         ensures store { ServesStore S.RowStore self.old.catalog (ShowsSome S.contents self.old)
             (IsServedIn MAX_ENTRIES self.old.catalog request.now (S.contents self.old.store)) self.old.store self.new.store result }
     {
-        match Request::decode(request) {
-            Err(fault) => refuse(self.alloc, &Refusal::NoRequest(fault)),
-            Ok(Request::Pull { first, limit }) => pull_at(
-                self.alloc,
-                &mut self.store,
-                &self.catalog,
-                self.newest,
-                first,
-                limit,
-            ),
-            Ok(
-                Request::Catch {
-                    origin,
-                    first,
-                    limit,
-                },
-            ) => catch_told(
-                self.alloc,
-                &mut self.store,
-                &self.catalog,
-                self.newest,
-                origin,
-                first,
-                limit,
-            ),
-            Ok(Request::Push { head, changeset }) => push_told(
-                self.alloc,
-                &mut self.store,
-                &self.catalog,
-                &mut self.newest,
-                head,
-                changeset,
-            ),
+        match self.judge(MAX_ENTRIES, request)? {
+            Judged::Reply(answer) => Ok(answer),
+            Judged::Append {
+                entry,
+                batch,
+                reply,
+            } => match self.append_judged(&entry, &batch) {
+                Ok(()) => Ok(reply),
+                Err(StoreFault::Memory) => Err(AllocError),
+                Err(StoreFault::Device) => refuse(self.alloc, &Refusal::ByHub(HubFault::Device)),
+            },
         }
     }
 
@@ -283,6 +268,7 @@ impl<S: RowStore> Hub<S> {
         ensures judged { S.honest self.new.store → (log : List Entry) → Shows S.contents self.old log
             → IfOk result (IsJudged (MoreFailures (S.failed self.old.store) (S.failed self.new.store)) (min limit MAX_ENTRIES) self.old.catalog log request.now) }
         ensures room { IfOk result (HasRoom self.old.newest (min limit MAX_ENTRIES)) }
+        ensures accepts { IfOk result (AcceptsNext self.old.newest) }
 
         // What is to be appended is, by a commit of the batch to what the store holds.
         ensures appends { S.honest self.new.store → IfOk result (AppendsJudged self.new.catalog (S.contents self.new.store)) }
@@ -292,44 +278,30 @@ impl<S: RowStore> Hub<S> {
     {
         let limit = limit.min(MAX_ENTRIES);
         match Request::decode(request) {
-            Err(fault) => {
-                let answer = refuse(self.alloc, &Refusal::NoRequest(fault))?;
-                Ok(Judged::Reply(answer))
-            }
-            Ok(
-                Request::Pull {
-                    first,
-                    limit: count,
-                },
-            ) => {
-                let answer = pull_at(
-                    self.alloc,
-                    &mut self.store,
-                    &self.catalog,
-                    self.newest,
-                    first,
-                    count,
-                )?;
-                Ok(Judged::Reply(answer))
-            }
+            Err(fault) => Ok(Judged::Reply(refuse(self.alloc, &Refusal::NoRequest(fault))?)),
+            Ok(Request::Pull { first, limit }) => Ok(Judged::Reply(pull_at(
+                self.alloc,
+                &mut self.store,
+                &self.catalog,
+                self.newest,
+                first,
+                limit,
+            )?)),
             Ok(
                 Request::Catch {
                     origin,
                     first,
-                    limit: count,
+                    limit,
                 },
-            ) => {
-                let answer = catch_told(
-                    self.alloc,
-                    &mut self.store,
-                    &self.catalog,
-                    self.newest,
-                    origin,
-                    first,
-                    count,
-                )?;
-                Ok(Judged::Reply(answer))
-            }
+            ) => Ok(Judged::Reply(catch_told(
+                self.alloc,
+                &mut self.store,
+                &self.catalog,
+                self.newest,
+                origin,
+                first,
+                limit,
+            )?)),
             Ok(Request::Push { head, changeset }) => judge_told(
                 self.alloc,
                 &mut self.store,

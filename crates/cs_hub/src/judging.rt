@@ -11,7 +11,8 @@ ghost use Rattle.cs_hub.specs.judgement.Judged.{CanBeAppended, ShowsLogOf, hub_o
 ghost use Rattle.cs_hub.specs.declared.judgement.fault.HubFault.TheVariants.{Device};
 ghost use Rattle.cs_wire.specs.Requests.{AsksPush};
 ghost use Rattle.cs_wire.specs.Answers.{answer_spelling};
-ghost use Rattle.cs_hub.specs.Judges.{AppendsJudged, HasRoom};
+ghost use Rattle.cs_wire.specs.declared.answer.Answer.TheVariants.{Short};
+ghost use Rattle.cs_hub.specs.Judges.{AcceptsNext, AppendsJudged, HasRoom};
 ghost use Rattle.cs_hub.specs.Serves.{push_answer};
 ghost use Rattle.cs_hub.specs.Steps.{IsEntryToAppend, IsJudgedAs, JudgesBytes, LooksAt};
 ghost use Rattle.cs_hub.specs.declared.refusal.Refusal.TheVariants.{ByHub, Memory};
@@ -19,7 +20,6 @@ ghost use Rattle.cs_hub.specs.declared.refusal.Refusal.TheVariants.{ByHub, Memor
 use crate::judged::Judged;
 use crate::judgement::{Judgement, Pushed, judge_at};
 use crate::refusal::Refusal;
-use crate::serving::answer_to;
 use cs_changeset::read;
 use cs_normalising::normalise;
 use cs_store::RowStore;
@@ -74,15 +74,25 @@ fn judge_bytes<S: RowStore>(
     }
 }
 
-/// The answer that tells what becomes of a push, in room that was taken for it.
+/// The answer that tells what becomes of a push. Of want of memory there is none.
+fn answer_to(head: PushHead, taken: &Result<Pushed, Refusal>) -> Result<ShortAnswer, Memory>
+    ensures { IfOk result (λ answer. (taken.now ≢ Err Memory) × (Short answer ≡ push_answer head taken.now)) }
+{
+    match taken {
+        Ok(Pushed::Accepted(version)) => Ok(ShortAnswer::accepted(head, *version)),
+        Ok(Pushed::Stale(newest)) => Ok(ShortAnswer::Stale { newest: *newest }),
+        Err(Refusal::Memory) => Err(AllocError),
+        Err(refusal) => Ok(ShortAnswer::Refused(refusal.code())),
+    }
+}
+
+/// The same as bytes, in room that was taken for them.
 fn tell(head: PushHead, taken: &Result<Pushed, Refusal>, room: Vec<u8>) -> Result<Vec<u8>, Memory>
     requires room { vec_len room + SHORT ≤ vec_capacity room }
     requires empty { room.items ≡ [] }
     ensures { IfOk result (λ bytes. (taken.now ≢ Err Memory) × (bytes.items ≡ answer_spelling (push_answer head taken.now))) }
 {
-    let Some(answer) = answer_to(head, taken) else {
-        return Err(AllocError);
-    };
+    let answer = answer_to(head, taken)?;
     let mut told = room;
     answer.put(&mut told);
     Ok(told)
@@ -102,6 +112,7 @@ pub(crate) fn judge_told<S: RowStore>(
     requires { length changeset.now ≤ MAX_CHANGESET }
     ensures looks { LooksAt S.RowStore (ShowsLogOf catalog.now newest (S.contents store.old)) store.old store.new }
     ensures room { IfOk result (HasRoom newest limit) }
+    ensures accepts { IfOk result (AcceptsNext newest) }
     ensures appends { S.honest store.new → IfOk result (AppendsJudged catalog.now (S.contents store.old)) }
     ensures judged { S.honest store.new → (log : List Entry) → ShowsLog catalog.now (S.contents store.old) log → newest ≡ length log
         → IfOk result (IsJudgedAs (MoreFailures (S.failed store.old) (S.failed store.new)) limit catalog.now log (Ok (AsksPush head changeset.now))) }

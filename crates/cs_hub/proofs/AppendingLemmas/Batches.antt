@@ -131,17 +131,3 @@ module _ {S : Type 0} (g : Ghosts S) (opening : List TableDef) (entry : LogEntry
     cause = λ e. reads.cause (same_err fault Device e);
     as_read = λ h r. reads.as_read h (holds_rows old r);
   }
-
-  -- the same after a call of it that went well, where memory is told then
-  pub as_log_want : {T U : Type 0} (old new : S) (t : T) (result : Result U AppendFault) → (result ≡ Err Memory) → ReadsStore g Device ((before : State) × Holds opening (g.contents old) before) old new (Ok t)
-      → ReadsStore g Device (ShowsSomeLog opening (g.contents old)) old new result
-  as_log_want old new t (Ok u) is reads = absurd (let e = is in cc)
-  as_log_want old new t (Err fault) is reads = record {
-    was_honest = reads.was_honest;
-    same = reads.same;
-    crash = reads.crash;
-    kept = tt;
-    later = reads.later;
-    cause = λ e. absurd (let m = is in let d = e in cc);
-    as_read = λ h r. reads.as_read h (holds_rows old r);
-  }

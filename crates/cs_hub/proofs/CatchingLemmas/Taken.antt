@@ -2,7 +2,7 @@
 use Rattle.std.proofs.Common.{◌≡◌, ◌+◌, ◌<◌, ◌≤◌, ◌++◌, ℕ, List, [], ◌∷◌, length, take, sym, subst, arith, inl, inr}
 use Rattle.std.specs.List.{All, sum_by}
 use Rattle.std.proofs.lemmas.List.{take_all}
-use Rattle.std.proofs.lemmas.List.Elements.{All-take, All-from_recursion}
+use Rattle.std.proofs.lemmas.List.Elements.{All-take}
 use Rattle.std.proofs.lemmas.List.Sums.{sum_by-take-le}
 use Rattle.cs_value.specs.Catalog.{AreTables}
 use Rattle.cs_value.specs.declared.catalog.TableDef.{TableDef}
@@ -28,13 +28,6 @@ few_run laws tables list joined are all few one = record {
     ends = λ less short. omega (arith, less);
   };
   one = subst (λ (l : List (List TableChanges)). AreOne tables l joined) (sym (take_all (length list) list (omega arith))) one;
-}
-
-pub none_so_far : Joins → (tables : List TableDef) (list : List (List TableChanges)) (joined : List TableChanges) → AreTables tables → AreOne tables [] joined → IsRunSoFar tables list 0 joined
-none_so_far laws tables list joined are one = record {
-  there = omega arith;
-  each = λ n less. subst (λ (k : ℕ). AreShort tables (take k list)) (let e : 0 ≡ n = omega (arith, less) in e) (short_of laws tables [] are (All-from_recursion (AreChangesOf tables) [] tt) (omega arith));
-  one = one;
 }
 
 -- with the next one they are these
@@ -74,8 +67,3 @@ run_is_short law tables list count changes are is =
     let some = told.1 in
     let one = is.one in
     subst IsShort (law tables (take count list) told.0 changes are some.of_tables.0 one.of_tables.0 some.of_tables.1 one.of_tables.1 some.joined one.joined) told.2
-
-pub ends_whole : (tables : List TableDef) (list : List (List TableChanges)) (at : ℕ) (joined : List TableChanges) → at ≡ length list → IsRunSoFar tables list at joined → IsRunOf tables list (length list) joined
-ends_whole tables list at joined all so_far =
-    subst (λ (n : ℕ). IsRunOf tables list n joined) all
-    (record { run = record { there = so_far.there; each = so_far.each; ends = λ less short. omega (arith, less, all) }; one = so_far.one })

@@ -23,9 +23,6 @@ LackNames contents =
 module _ (opening : List TableDef) (contents : Contents) where
   -- ---- what a hub's store is
 
-  pub hub_lacks : IsHubStore opening contents → LackNames contents
-  hub_lacks hub = (hub.values.values Version, (hub.values.values Number, (hub.values.values Flight, (hub.values.values Pending, tt))))
-
   pub hub_pends : IsHubStore opening contents → PendsNoneBelow contents (length opening)
   hub_pends hub number less key = ap (λ (bodies : Bodies). get bodies (pos number, key)) hub.pending ∙ get-empty place_cmp (pos number, key)
 
@@ -66,9 +63,6 @@ module _ (opening : List TableDef) (first second third fourth fifth : Contents) 
     module _ (count : ℕ) (long : count ≡ log_count fourth) where
       count_is : count ≡ log_count first
       count_is = long ∙ ap log_count (pended ∙ checked ∙ lacked)
-
-      pub some_lacks : (HasEachEntry fifth → ⊥) → IsHubStore opening first → ⊥
-      some_lacks never hub = never (subst HasEachEntry (sym (counted ∙ pended ∙ checked ∙ lacked)) hub.entries)
 
       pub all_counted : AreOf opening first This → LackNames first → IsWhole opening second → PendsNoneBelow third end → HasEachEntry fifth → IsCounted opening first (Some count)
       all_counted this lacks whole pends all = (

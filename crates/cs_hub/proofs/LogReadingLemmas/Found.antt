@@ -94,10 +94,6 @@ has_range opening contents first count some =
     same_length opening (log_range contents first count) (take count (drop first some.0)) (are_stored opening contents some.0 some.1 first count some.2)
     ∙ range_length first count some.0 some.2
 
-pub lacks_range : (contents : Contents) (first count : ℕ) (stored : List StoredEntry) → items_of stored ≡ log_range contents first count → (length stored ≡ count → ⊥) → HasRange contents first count → ⊥
-lacks_range contents first count stored is apart has =
-    apart (sym (length-map stored item_of) ∙ ap (λ (items : List LogItem). length items) is ∙ has)
-
 -- it is stored as an answer tells it
 pub are_told : (opening : List TableDef) (items : List LogItem) (entries : List LogEntry) → AreStoredAs opening items entries → AreToldAs items (map told_entry entries)
 are_told opening [] [] are = tt

@@ -3,7 +3,7 @@ use Rattle.std.proofs.Common.{◌≡◌, ◌+◌, ◌≤◌, ◌<◌, ◌∙◌,
 use Rattle.std.specs.Prelude.{slice_get}
 use Rattle.std.specs.List.{All, sum_by}
 use Rattle.std.proofs.lemmas.List.{length-map, length-take-le, map-append}
-use Rattle.std.proofs.lemmas.List.Elements.{All-from_recursion, All-push}
+use Rattle.std.proofs.lemmas.List.Elements.{All-push}
 use Rattle.std.proofs.lemmas.List.Sums.{sum_by_push}
 use Rattle.std.proofs.lemmas.Option.{get_or_from_slice_get, slice_get_within}
 use Rattle.cs_value.specs.declared.catalog.TableDef.{TableDef}
@@ -27,9 +27,6 @@ use Rattle.cs_hub.proofs.LogReadingLemmas.Found.{same_length, stored_there}
 pub record AreOthersSoFar (asker at : ℕ) (entries : List LogEntry) (list : List (List TableChanges)) : Type 0 where
   pub are : list ≡ map entry_changes (take at entries)
   pub others : NoneIsAlone asker (take at entries)
-
-pub none_so_far : (asker : ℕ) (entries : List LogEntry) (list : List (List TableChanges)) → list ≡ [] → AreOthersSoFar asker 0 entries list
-none_so_far asker entries list none = record { are = none; others = All-from_recursion (IsNotAlone asker) [] tt }
 
 pub one_other : (asker at : ℕ) (entries : List LogEntry) (before now : List (List TableChanges)) (read entry : LogEntry) → take (at + 1) entries ≡ take at entries ++ entry ∷ [] → read ≡ entry → (IsToldAlone asker read → ⊥)
     → AreOthersSoFar asker at entries before → now ≡ before ++ entry_changes read ∷ [] → AreOthersSoFar asker (at + 1) entries now

@@ -1,16 +1,15 @@
--- A push over the store of a hub. (Profile of this project.)
-use Rattle.std.specs.Prelude.{◌≡◌, ◌⊎◌, ◌+◌, ◌<◌, ℕ, List, length, Result, Ok, Err}
+-- A push that is judged over the store of a hub, and not yet taken. (Profile of this project.)
+use Rattle.std.specs.Prelude.{◌≡◌, ◌+◌, ◌<◌, ℕ, List, length, Result, Ok, Err}
 use Rattle.cs_value.specs.declared.catalog.TableDef.{TableDef}
 use Rattle.cs_store.specs.declared.log.entry.LogEntry.{LogEntry}
 use Rattle.cs_store.specs.Contents.{Contents}
 use Rattle.cs_hub.specs.appending.Shows.{ShowsLog}
-use Rattle.cs_hub.specs.appending.Appended.{AppendsEntry, IsAppendedIn}
+use Rattle.cs_hub.specs.appending.Appended.{AppendsEntry}
 use Rattle.cs_hub.specs.judgement.Hub.{HubState, with_entry}
 use Rattle.cs_hub.specs.judgement.Pushes.{Push, Pushes, PushesIf, entry_of_push}
 use Rattle.cs_hub.specs.declared.judgement.fault.HubFault.{HubFault}
 use Rattle.cs_hub.specs.declared.judgement.push.Judgement.{Judgement}
 use Rattle.cs_hub.specs.declared.judgement.push.Judgement.TheVariants.{Told, Append}
-use Rattle.cs_hub.specs.declared.judgement.push.Pushed.{Pushed}
 use Rattle.cs_hub.specs.declared.judgement.push.Pushed.TheVariants.{Accepted}
 
 -- the store shows a log of so many entries
@@ -20,21 +19,6 @@ ShowsLogOf opening count contents = (log : List LogEntry) × ShowsLog opening co
 -- the hub that opened with these tables and has this log
 abbrev pub hub_of : List TableDef → List LogEntry → HubState
 hub_of opening log = record { opening = opening; log = log }
-
--- the answer to a push by the log that was shown, and the log that is shown after it
-abbrev pub IsPushedIn : ℕ → List TableDef → Push → Contents → Contents → Result Pushed HubFault → Type 0
-IsPushedIn limit opening push old new result =
-    (log : List LogEntry) → ShowsLog opening old log
-    → (next : List LogEntry) × PushesIf limit (hub_of opening log) push result (hub_of opening next) × ShowsLog opening new next
-
--- contents are as they were, or the push was appended, and by the log of so many entries that was shown it is accepted
-abbrev pub IsSameOrAppended : ℕ → List TableDef → ℕ → Push → Contents → Contents → Type 0
-IsSameOrAppended limit opening count push old new =
-    (new ≡ old)
-    ⊎ (IsAppendedIn opening (entry_of_push push) old new
-    × (ShowsLogOf opening count old → IsPushedIn limit opening push old new (Ok (Accepted (push.head.base + 1)))))
-
--- ---- a push that is judged, and not yet taken
 
 -- its answer: it is told so, and the hub stays as it is; or it is accepted behind the newest version, once the entry is appended
 abbrev pub IsJudgement : ℕ → HubState → Push → Result Judgement HubFault → Type 0

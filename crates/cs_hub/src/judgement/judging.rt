@@ -1,19 +1,18 @@
 //! A push, judged by the log and the rows of a hub's store.
 
-ghost use Rattle.std.specs.Prelude.{◌≡◌, ◌<◌, ◌≤◌, ◌≢◌, [], Err, IfOk, List, Ok, OnErr, length};
+ghost use Rattle.std.specs.Prelude.{◌≡◌, ◌<◌, ◌≤◌, ◌≢◌, [], IfOk, List, length};
 ghost use Rattle.cs_store.specs.log.Entry.{entry_changes};
 ghost use Rattle.cs_store.specs.log.Stored.{IsEntryOf};
 ghost use Rattle.cs_store.specs.declared.log.entry.LogEntry.{LogEntry as Entry};
 ghost use Rattle.cs_store.specs.declared.log.entry.TheConstants.{MAX_CHANGESET};
 ghost use Rattle.cs_hub.specs.appending.Shows.{ShowsLog};
 ghost use Rattle.cs_normal.specs.Normal.{FitsCatalog, normal_spelling};
-ghost use Rattle.cs_pending.specs.Calls.{ReadsStore, WritesStore};
-ghost use Rattle.cs_store.specs.Contents.{Contents};
-ghost use Rattle.cs_hub.specs.judgement.Judged.{CanBeAppended, IsJudgement, IsOfPush, IsPushedIn, IsSameOrAppended, ShowsLogOf, hub_of};
+ghost use Rattle.cs_pending.specs.Calls.{ReadsStore};
+ghost use Rattle.cs_hub.specs.judgement.Judged.{CanBeAppended, IsJudgement, IsOfPush, ShowsLogOf, hub_of};
 ghost use Rattle.cs_hub.specs.judgement.Pushes.{Push, entry_of_push};
-ghost use Rattle.cs_hub.specs.declared.judgement.fault.HubFault.TheVariants.{Device, Memory};
+ghost use Rattle.cs_hub.specs.declared.judgement.fault.HubFault.TheVariants.{Device};
 
-use crate::appending::{append_tried, try_entry};
+use crate::appending::try_entry;
 use crate::judgement::fault::HubFault;
 use crate::judgement::push::{Judgement, Pushed};
 use crate::log_reading::has_entry;
@@ -108,48 +107,5 @@ pub fn judge_at<S: RowStore>(
     match try_entry(alloc, store, catalog, &entry) {
         Ok(batch) => Ok(Judgement::Append { entry, batch }),
         Err(fault) => Err(HubFault::from(fault)),
-    }
-}
-
-/// Takes a push: it is judged (`judge_at`), and appended where it is to be. (Profile of this project.)
-///
-/// # Errors
-///
-/// `Empty`, `Ahead`, `Full` and `Conflict` as it is judged; `Memory` and `Device`. Nothing has changed then.
-// Seven parameters: those of `judge_at`, by which it judges.
-pub fn push_at<S: RowStore>(
-    alloc: Global,
-    store: &mut S,
-    catalog: &Catalog,
-    newest: u32,
-    limit: u32,
-    head: PushHead,
-    changes: Normal,
-) -> Result<Pushed, HubFault>
-    requires fits { FitsCatalog catalog.now changes }
-    requires size { length (normal_spelling changes) ≤ MAX_CHANGESET }
-
-    // The store was only read, or the push appended, in one commit.
-    ensures writes { WritesStore S.RowStore Device
-        (ShowsLogOf catalog.now newest (S.contents store.old))
-        (IsSameOrAppended limit catalog.now newest (record { head = head; changes = changes }) (S.contents store.old)) store.old store.new result }
-
-    // A push that is refused, but for want of memory or by a failed device, is refused before anything is written: a stop leaves nothing more.
-    ensures unwritten { S.honest store.new → result ≢ Err Memory → result ≢ Err Device
-        → OnErr result ((left : Contents) → S.may_leave store.new left → S.may_leave store.old left) }
-
-    // The answer is that to the push, by the log that the store showed; and the log after it is shown.
-    ensures answered { S.honest store.new → ShowsLogOf catalog.now newest (S.contents store.old)
-        → IsPushedIn limit catalog.now (record { head = head; changes = changes }) (S.contents store.old) (S.contents store.new) result }
-{
-    match judge_at(alloc, store, catalog, newest, limit, head, changes) {
-        Ok(Judgement::Told(pushed)) => Ok(pushed),
-        Ok(Judgement::Append { entry, batch }) => {
-            match append_tried(store, catalog, &entry, &batch) {
-                Ok(()) => Ok(Pushed::Accepted(newest as u64 + 1)),
-                Err(fault) => Err(HubFault::from(fault)),
-            }
-        }
-        Err(fault) => Err(fault),
     }
 }

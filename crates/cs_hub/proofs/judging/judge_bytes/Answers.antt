@@ -1,7 +1,6 @@
 use Rattle.std.proofs.Common.{Err, ap}
 use Rattle.cs_store.specs.Calls.{MoreFailures}
-use Rattle.cs_hub.proofs.Looked.{judged_so, refused_so}
-use Rattle.cs_hub.proofs.Taken.{has_form}
+use Rattle.cs_hub.proofs.Looked.{has_form, judged_so, refused_so}
 use Rattle.cs_hub.proofs.judging.judge_bytes.Goals as goal
 
 pub returns-in-Ok-clause-judged : goal.returns-in-Ok-clause-judged

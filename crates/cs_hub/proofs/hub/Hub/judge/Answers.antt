@@ -3,27 +3,27 @@ use Rattle.cs_wire.specs.Requests.{AsksCatch, AsksPull, AsksPush}
 use Rattle.cs_store.specs.declared.log.entry.TheConstants.{MAX_ENTRIES}
 use Rattle.cs_hub.specs.declared.judged.Judged.TheVariants.{Reply}
 use Rattle.cs_hub.proofs.Answered.{read_as}
-use Rattle.cs_hub.proofs.Looked.{asked_so, caught_so, each_so, no_request_so, pulled_so}
+use Rattle.cs_hub.proofs.Looked.{asked_so, each_so, no_request_so}
 use Rattle.cs_hub.proofs.hub.Hub.judge.Goals as goal
 
-pub returns-in_ok-answer-in-Err-clause-judged : goal.returns-in_ok-answer-in-Err-clause-judged
-returns-in_ok-answer-in-Err-clause-judged g c = λ honest log shows.
-    asked_so _ (min c.args.limit MAX_ENTRIES) _ log c.args.request.now (Err c.in-Err.fault) (Reply c.in_ok-answer-in-Err.answer) ((c.decode.ensures.fault c.in-Err.fault).0 c.in-Err.is)
-    (no_request_so _ (min c.args.limit MAX_ENTRIES) _ log c.in-Err.fault c.in_ok-answer-in-Err.answer c.in_ok-answer-in-Err.ensures)
+pub returns-in_ok-refuse-in-Err-clause-judged : goal.returns-in_ok-refuse-in-Err-clause-judged
+returns-in_ok-refuse-in-Err-clause-judged g c = λ honest log shows.
+    asked_so _ (min c.args.limit MAX_ENTRIES) _ log c.args.request.now (Err c.in-Err.fault) (Reply c.in_ok-refuse-in-Err.field-0) ((c.decode.ensures.fault c.in-Err.fault).0 c.in-Err.is)
+    (no_request_so _ (min c.args.limit MAX_ENTRIES) _ log c.in-Err.fault c.in_ok-refuse-in-Err.field-0 c.in_ok-refuse-in-Err.ensures)
 
-pub returns-in_ok-answer-in-Ok-Pull-clause-judged : goal.returns-in_ok-answer-in-Ok-Pull-clause-judged
-returns-in_ok-answer-in-Ok-Pull-clause-judged g c =
+pub returns-in_ok-pull_at-in-Ok-Pull-clause-judged : goal.returns-in_ok-pull_at-in-Ok-Pull-clause-judged
+returns-in_ok-pull_at-in-Ok-Pull-clause-judged g c =
     rw (← c.self.view_is)
     (λ honest log shows.
-    asked_so _ (min c.args.limit MAX_ENTRIES) _ log c.args.request.now (Ok (AsksPull c.in-Ok-Pull.first c.in-Ok-Pull.count)) (Reply c.in_ok-answer-in-Ok-Pull.answer) (read_as _ _ _ c.in-Ok-Pull.field-0-is c.in-Ok-Pull.ensures.found)
-    (pulled_so _ (min c.args.limit MAX_ENTRIES) _ log c.in-Ok-Pull.first c.in-Ok-Pull.count c.in_ok-answer-in-Ok-Pull.answer MAX_ENTRIES (g.S.RowStore.contents c.pull_at.new.store) c.self.inside.newest (c.in_ok-answer-in-Ok-Pull.ensures.answered honest log shows.0 shows.1)))
+    asked_so _ (min c.args.limit MAX_ENTRIES) _ log c.args.request.now (Ok (AsksPull c.in-Ok-Pull.first c.in-Ok-Pull.limit)) (Reply c.in_ok-pull_at-in-Ok-Pull.field-0) (read_as _ _ _ c.in-Ok-Pull.field-0-is c.in-Ok-Pull.ensures.found)
+    (c.in_ok-pull_at-in-Ok-Pull.ensures.answered honest log shows.0 shows.1))
 
-pub returns-in_ok-answer-in-Ok-Catch-clause-judged : goal.returns-in_ok-answer-in-Ok-Catch-clause-judged
-returns-in_ok-answer-in-Ok-Catch-clause-judged g c =
+pub returns-in_ok-catch_told-in-Ok-Catch-clause-judged : goal.returns-in_ok-catch_told-in-Ok-Catch-clause-judged
+returns-in_ok-catch_told-in-Ok-Catch-clause-judged g c =
     rw (← c.self.view_is)
     (λ honest log shows.
-    asked_so _ (min c.args.limit MAX_ENTRIES) _ log c.args.request.now (Ok (AsksCatch c.in-Ok-Catch.origin c.in-Ok-Catch.first c.in-Ok-Catch.count)) (Reply c.in_ok-answer-in-Ok-Catch.answer) (read_as _ _ _ c.in-Ok-Catch.field-0-is c.in-Ok-Catch.ensures.found)
-    (caught_so _ (min c.args.limit MAX_ENTRIES) _ log c.in-Ok-Catch.origin c.in-Ok-Catch.first c.in-Ok-Catch.count c.in_ok-answer-in-Ok-Catch.answer MAX_ENTRIES (g.S.RowStore.contents c.catch_told.new.store) c.self.inside.newest (c.in_ok-answer-in-Ok-Catch.ensures.answered honest log shows.0 shows.1)))
+    asked_so _ (min c.args.limit MAX_ENTRIES) _ log c.args.request.now (Ok (AsksCatch c.in-Ok-Catch.origin c.in-Ok-Catch.first c.in-Ok-Catch.limit)) (Reply c.in_ok-catch_told-in-Ok-Catch.field-0) (read_as _ _ _ c.in-Ok-Catch.field-0-is c.in-Ok-Catch.ensures.found)
+    (c.in_ok-catch_told-in-Ok-Catch.ensures.answered honest log shows.0 shows.1))
 
 pub returns-in-Ok-Push-clause-judged : goal.returns-in-Ok-Push-clause-judged
 returns-in-Ok-Push-clause-judged g c =

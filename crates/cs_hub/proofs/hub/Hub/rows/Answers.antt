@@ -1,6 +1,5 @@
 use Rattle.cs_store.specs.log.Log.{state_of}
-use Rattle.cs_hub.proofs.Shown.{at_rest, log_rows}
-use Rattle.cs_hub.proofs.Stored.{read_when}
+use Rattle.cs_hub.proofs.Shown.{at_rest, log_rows, read_when}
 use Rattle.cs_hub.proofs.hub.Hub.rows.Goals as goal
 
 pub returns-clause-listed : goal.returns-clause-listed
