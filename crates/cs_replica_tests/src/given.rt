@@ -166,7 +166,11 @@ pub(crate) fn takes<S: RowStore>(
 }
 
 /// A number, and a text if there is one.
-fn values(alloc: Global, number: i64, text: Option<&str>) -> Result<Items<Value>, Memory> {
+pub(crate) fn values(
+    alloc: Global,
+    number: i64,
+    text: Option<&str>,
+) -> Result<Items<Value>, Memory> {
     let mut values = Vec::new(alloc);
     values.push(Value::Int(number))?;
     if let Some(text) = text {

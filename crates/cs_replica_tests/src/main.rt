@@ -18,5 +18,7 @@ mod moving;
 mod pulling;
 #[cfg(test)]
 mod refusing;
+#[cfg(test)]
+mod together;
 
 fn main() {}
