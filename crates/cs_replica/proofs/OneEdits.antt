@@ -73,8 +73,8 @@ one_edited_all contents tables edits (Err (Refused at fault)) (Ok done) before i
     let back : IsSameView tables its.view before.view = record { rows = λ n k. sym (same.view.rows n k); pending = λ table key there. sym (same.view.pending table key there) } in
     absurd (apart tables edits at why.asked its.view before.view next why.between fault back made why.edited why.there why.refused)
 one_edited_all contents tables edits (Err (Refused at fault)) (Err (Refused place other)) before its one last same of so (still, why) (stays, because) =
-    let one = one_refusal tables edits at place why.asked because.asked before.view its.view why.between because.between fault other same.view why.edited why.there why.refused because.edited because.there because.refused in
-    (ap (λ (n : ℕ). Err (Refused n fault)) one.0 ∙ ap (λ (f : EditFault). Err (Refused place f)) one.1, same_as tables before its one last still stays same)
+    let both = one_refusal tables edits at place why.asked because.asked before.view its.view why.between because.between fault other same.view why.edited why.there why.refused because.edited because.there because.refused in
+    (ap (λ (n : ℕ). Err (Refused n fault)) both.0 ∙ ap (λ (f : EditFault). Err (Refused place f)) both.1, same_as tables before its one last still stays same)
 one_edited_all contents tables edits (Err Memory) other before its one last same of so first second = absurd of
 one_edited_all contents tables edits (Err Device) other before its one last same of so first second = absurd of
 one_edited_all contents tables edits some (Err Memory) before its one last same of so first second = absurd so
