@@ -5,11 +5,10 @@ use Rattle.cs_value.specs.Facts.{some_same}
 use Rattle.cs_value.specs.declared.catalog.TableDef.{TableDef}
 use Rattle.cs_value.specs.declared.edit.Edit.{Edit}
 use Rattle.cs_exchange.specs.taking.Laws.{OneContents}
-use Rattle.cs_pending.specs.EditLists.{AreEdited, IsRefusedAt, asked_of_edit, table_of_edit}
+use Rattle.cs_pending.specs.EditLists.{AreEdited, asked_of_edit, table_of_edit}
 use Rattle.cs_pending.specs.Edits.{edit}
 use Rattle.cs_pending.specs.View.{View}
 use Rattle.cs_pending.specs.declared.fault.EditFault.{EditFault}
-use Rattle.cs_pending.specs.declared.fault.EditsFault.{EditsFault}
 use Rattle.cs_pending.specs.declared.fault.EditsFault.TheVariants.{Memory, Device, Refused}
 use Rattle.cs_replica.specs.Edited.{with_pending}
 use Rattle.cs_replica.specs.Same.{IsSameView}
@@ -61,17 +60,17 @@ module _ (tables : List TableDef) where
       (ap suc one.0, one.1)
 
 pub one_edited_all : OneContents → OneEditedAll
-one_edited_all contents tables edits (Ok done) (Ok also) before its one last same of so (count, next, left, is, made, shows) (number, end, held, was, done_so, sees) =
-    let alike : IsSameView tables next end = edits_alike tables edits before.view its.view next end same.view made done_so in (
+one_edited_all contents tables edits (Ok done) (Ok also) before its one last same of so (count, next, left, is, led, shows) (number, end, held, was, done_so, sees) =
+    let alike : IsSameView tables next end = edits_alike tables edits before.view its.view next end same.view led done_so in (
       refl,
       same_as tables (record { position = with_pending before.position count; view = next }) (record { position = with_pending its.position number; view = end }) one last is was
           (record { position = counts_alike contents tables before.position its.position count number left held next end same.position alike shows sees; view = alike }),
     )
-one_edited_all contents tables edits (Ok done) (Err (Refused at fault)) before its one last same of so (count, next, left, is, made, shows) (still, why) =
-    absurd (apart tables edits at why.asked before.view its.view next why.between fault same.view made why.edited why.there why.refused)
-one_edited_all contents tables edits (Err (Refused at fault)) (Ok done) before its one last same of so (still, why) (count, next, left, is, made, shows) =
+one_edited_all contents tables edits (Ok done) (Err (Refused at fault)) before its one last same of so (count, next, left, is, led, shows) (still, why) =
+    absurd (apart tables edits at why.asked before.view its.view next why.between fault same.view led why.edited why.there why.refused)
+one_edited_all contents tables edits (Err (Refused at fault)) (Ok done) before its one last same of so (still, why) (count, next, left, is, led, shows) =
     let back : IsSameView tables its.view before.view = record { rows = λ n k. sym (same.view.rows n k); pending = λ table key there. sym (same.view.pending table key there) } in
-    absurd (apart tables edits at why.asked its.view before.view next why.between fault back made why.edited why.there why.refused)
+    absurd (apart tables edits at why.asked its.view before.view next why.between fault back led why.edited why.there why.refused)
 one_edited_all contents tables edits (Err (Refused at fault)) (Err (Refused place other)) before its one last same of so (still, why) (stays, because) =
     let both = one_refusal tables edits at place why.asked because.asked before.view its.view why.between because.between fault other same.view why.edited why.there why.refused because.edited because.there because.refused in
     (ap (λ (n : ℕ). Err (Refused n fault)) both.0 ∙ ap (λ (f : EditFault). Err (Refused place f)) both.1, same_as tables before its one last still stays same)

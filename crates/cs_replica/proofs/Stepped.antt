@@ -8,10 +8,7 @@ use Rattle.cs_conflict.specs.declared.clash.Clash.{Clash}
 use Rattle.cs_conflict.specs.declared.wish.Wish.{Wish}
 use Rattle.cs_normal.specs.declared.normal.TableChanges.{TableChanges}
 use Rattle.cs_pending.specs.Calls.{ReadsStore, WritesStore}
-use Rattle.cs_pending.specs.Edits.{edit}
 use Rattle.cs_pending.specs.View.{View}
-use Rattle.cs_pending.specs.declared.fault.EditFault.{EditFault}
-use Rattle.cs_pending.specs.declared.fault.EditFault.TheVariants as edits
 use Rattle.cs_pending.specs.position.Laws.{FitsPosition, OnePosition}
 use Rattle.cs_pending.specs.position.Shows.{ShowsAt, ShowsSomeAt, flown}
 use Rattle.cs_pending.specs.declared.position.position.Position.{Position}
