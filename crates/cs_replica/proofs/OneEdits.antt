@@ -16,12 +16,12 @@ use Rattle.cs_replica.specs.StepLaws.{OneEditedAll}
 use Rattle.cs_replica.proofs.OneEdit.{EndAlike, counts_alike, edit_alike, ends_as, same_as}
 
 module _ (tables : List TableDef) where
-  abbrev outcome : Edit → View → Result View EditFault
-  outcome asked view = edit tables (table_of_edit asked) (asked_of_edit asked) view
+  abbrev made : Edit → View → Result View EditFault
+  made asked view = edit tables (table_of_edit asked) (asked_of_edit asked) view
 
-  alike : (asked : Edit) (view seen : View) (some other : Result View EditFault) → IsSameView tables view seen → outcome asked view ≡ some → outcome asked seen ≡ other → EndAlike tables some other
+  alike : (asked : Edit) (view seen : View) (some other : Result View EditFault) → IsSameView tables view seen → made asked view ≡ some → made asked seen ≡ other → EndAlike tables some other
   alike asked view seen some other same is so =
-      ends_as tables (outcome asked view) (outcome asked seen) some other is so (edit_alike tables view seen same (table_of_edit asked) (asked_of_edit asked))
+      ends_as tables (made asked view) (made asked seen) some other is so (edit_alike tables view seen same (table_of_edit asked) (asked_of_edit asked))
 
   edits_alike : (edits : List Edit) (view seen end last : View) → IsSameView tables view seen → AreEdited tables edits view end → AreEdited tables edits seen last → IsSameView tables end last
   edits_alike [] view seen end last same is so =
@@ -29,31 +29,31 @@ module _ (tables : List TableDef) where
   edits_alike (asked ∷ edits) view seen end last same (next, led, held, rest) (reached, so, sound, others) =
       edits_alike edits next reached end last (alike asked view seen (Ok next) (Ok reached) same led so) rest others
 
-  -- an edit that is outcome isn't refused
+  -- an edit that is made isn't refused
   apart : (edits : List Edit) (at : ℕ) (asked : Edit) (view seen end between : View) (fault : EditFault) → IsSameView tables view seen → AreEdited tables edits view end
-      → AreEdited tables (take at edits) seen between → slice_get edits at ≡ Some asked → outcome asked between ≡ Err fault → ⊥
+      → AreEdited tables (take at edits) seen between → slice_get edits at ≡ Some asked → made asked between ≡ Err fault → ⊥
   apart [] at asked view seen end between fault same done front there refused = absurd cc
   apart (first ∷ edits) zero asked view seen end between fault same (next, led, held, rest) front there refused =
-      let one : outcome first seen ≡ Err fault = ap (λ (e : Edit). outcome e seen) (some_same there) ∙ ap (outcome asked) (sym front) ∙ refused in
+      let one : made first seen ≡ Err fault = ap (λ (e : Edit). made e seen) (some_same there) ∙ ap (made asked) (sym front) ∙ refused in
       alike first view seen (Ok next) (Err fault) same led one
   apart (first ∷ edits) (suc at) asked view seen end between fault same (next, led, held, rest) (reached, so, sound, others) there refused =
       apart edits at asked next reached end between fault (alike first view seen (Ok next) (Ok reached) same led so) rest others there refused
 
   -- two refusals are one
   one_refusal : (edits : List Edit) (at place : ℕ) (asked also : Edit) (view seen between middle : View) (fault other : EditFault) → IsSameView tables view seen
-      → AreEdited tables (take at edits) view between → slice_get edits at ≡ Some asked → outcome asked between ≡ Err fault
-      → AreEdited tables (take place edits) seen middle → slice_get edits place ≡ Some also → outcome also middle ≡ Err other
+      → AreEdited tables (take at edits) view between → slice_get edits at ≡ Some asked → made asked between ≡ Err fault
+      → AreEdited tables (take place edits) seen middle → slice_get edits place ≡ Some also → made also middle ≡ Err other
       → (at ≡ place) × (fault ≡ other)
   one_refusal [] at place asked also view seen between middle fault other same front there refused before here denied = absurd cc
   one_refusal (first ∷ edits) zero zero asked also view seen between middle fault other same front there refused before here denied =
-      let one : outcome first view ≡ Err fault = ap (λ (e : Edit). outcome e view) (some_same there) ∙ ap (outcome asked) (sym front) ∙ refused in
-      let two : outcome first seen ≡ Err other = ap (λ (e : Edit). outcome e seen) (some_same here) ∙ ap (outcome also) (sym before) ∙ denied in
+      let one : made first view ≡ Err fault = ap (λ (e : Edit). made e view) (some_same there) ∙ ap (made asked) (sym front) ∙ refused in
+      let two : made first seen ≡ Err other = ap (λ (e : Edit). made e seen) (some_same here) ∙ ap (made also) (sym before) ∙ denied in
       (refl, alike first view seen (Err fault) (Err other) same one two)
   one_refusal (first ∷ edits) zero (suc place) asked also view seen between middle fault other same front there refused (reached, so, sound, others) here denied =
-      let one : outcome first view ≡ Err fault = ap (λ (e : Edit). outcome e view) (some_same there) ∙ ap (outcome asked) (sym front) ∙ refused in
+      let one : made first view ≡ Err fault = ap (λ (e : Edit). made e view) (some_same there) ∙ ap (made asked) (sym front) ∙ refused in
       absurd (alike first view seen (Err fault) (Ok reached) same one so)
   one_refusal (first ∷ edits) (suc at) zero asked also view seen between middle fault other same (next, led, held, rest) there refused before here denied =
-      let two : outcome first seen ≡ Err other = ap (λ (e : Edit). outcome e seen) (some_same here) ∙ ap (outcome also) (sym before) ∙ denied in
+      let two : made first seen ≡ Err other = ap (λ (e : Edit). made e seen) (some_same here) ∙ ap (made also) (sym before) ∙ denied in
       absurd (alike first view seen (Ok next) (Err other) same led two)
   one_refusal (first ∷ edits) (suc at) (suc place) asked also view seen between middle fault other same (next, led, held, rest) there refused (reached, so, sound, others) here denied =
       let one = one_refusal edits at place asked also next reached between middle fault other (alike first view seen (Ok next) (Ok reached) same led so) rest there refused others here denied in
@@ -72,8 +72,8 @@ one_edited_all contents tables edits (Err (Refused at fault)) (Ok done) before i
     let back : IsSameView tables its.view before.view = record { rows = λ n k. sym (same.view.rows n k); pending = λ table key there. sym (same.view.pending table key there) } in
     absurd (apart tables edits at why.asked its.view before.view next why.between fault back led why.edited why.there why.refused)
 one_edited_all contents tables edits (Err (Refused at fault)) (Err (Refused place other)) before its one last same of so (still, why) (stays, because) =
-    let both = one_refusal tables edits at place why.asked because.asked before.view its.view why.between because.between fault other same.view why.edited why.there why.refused because.edited because.there because.refused in
-    (ap (λ (n : ℕ). Err (Refused n fault)) both.0 ∙ ap (λ (f : EditFault). Err (Refused place f)) both.1, same_as tables before its one last still stays same)
+    let refusal = one_refusal tables edits at place why.asked because.asked before.view its.view why.between because.between fault other same.view why.edited why.there why.refused because.edited because.there because.refused in
+    (ap (λ (n : ℕ). Err (Refused n fault)) refusal.0 ∙ ap (λ (f : EditFault). Err (Refused place f)) refusal.1, same_as tables before its one last still stays same)
 one_edited_all contents tables edits (Err Memory) other before its one last same of so first second = absurd of
 one_edited_all contents tables edits (Err Device) other before its one last same of so first second = absurd of
 one_edited_all contents tables edits some (Err Memory) before its one last same of so first second = absurd so
