@@ -492,14 +492,17 @@ fn settle_at<S: RowStore>(
     let Some(table) = catalog.tables().get(0) else {
         return Err(StoreFault::Device);
     };
-    let before = standing_at(alloc, store, catalog, table, 0, key)?;
+    let place = RowPlace {
+        table,
+        number: 0,
+        key,
+    };
+    let before = standing_at(alloc, store, catalog, &place)?;
     let base = row(alloc, rows.0)?;
     let mine = row(alloc, rows.1)?;
     settling.settle(
         alloc,
-        table,
-        0,
-        key,
+        &place,
         &before,
         Some(&base.as_row()),
         Some(&mine.as_row()),
