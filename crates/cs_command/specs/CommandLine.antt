@@ -50,8 +50,12 @@ follow_rule = record (new_rule (codes "follow")) {
   action = Some SetTrue;
 }
 
+-- `node` before its words
+abbrev pub bare_node_app : App
+bare_node_app = with_rule (new_app (codes "node")) follow_rule
+
 abbrev pub node_app : App
-node_app = with_rule (with_rule (with_rule (with_rule (new_app (codes "node")) follow_rule) file_rule) id_rule) table_rule
+node_app = with_rule (with_rule (with_rule bare_node_app file_rule) id_rule) table_rule
 
 -- `WHAT`, which must be there
 abbrev pub what_rule : Rule

@@ -2,7 +2,7 @@
 
 ghost use Rattle.std.specs.Prelude.{◌≡◌, IfOk, IfErr, false, map};
 ghost use Rattle.clap.specs.Words.{app_of, kind_of, rule_of, subcommand_of, subcommand_rows_of, FailsBy};
-ghost use Rattle.cs_command.specs.CommandLine.{combine_app, count_rule, faults_of, file_rule, follow_rule, hub_app, id_rule, node_app, rebase_app, show_app, sqlite_rule, sync_app, syncing_app, table_rule, world_app};
+ghost use Rattle.cs_command.specs.CommandLine.{bare_node_app, combine_app, count_rule, faults_of, file_rule, follow_rule, hub_app, id_rule, node_app, rebase_app, show_app, sqlite_rule, sync_app, syncing_app, table_rule, world_app};
 
 use clap::builder::ValueParser;
 use clap::error::ErrorKind;
@@ -84,20 +84,25 @@ fn follow_flag<'a>(alloc: Global) -> Arg<'a>
         .help("Answer each line as it comes, with an empty line behind each answer")
 }
 
-fn node_command<'a>(alloc: Global) -> Result<Command<'a>, AllocError>
-    ensures { IfOk result (λ command. app_of command ≡ node_app) }
+/// The subcommand before its words.
+fn bare_node_command<'a>(alloc: Global) -> Result<Command<'a>, AllocError>
+    ensures { IfOk result (λ command. app_of command ≡ bare_node_app) }
 {
     let follow = follow_flag(alloc);
-    let file = file_word(alloc);
-    let id = id_word(alloc);
-    let tables = table_words(alloc);
     Command::new(alloc, "node")
         .about("Edit, push and pull as a replica of these tables, one line a step")
         .override_usage("sync node [--follow] <FILE> <ID> [TABLE]...")
-        .arg(follow)?
-        .arg(file)?
-        .arg(id)?
-        .arg(tables)
+        .arg(follow)
+}
+
+fn node_command<'a>(alloc: Global) -> Result<Command<'a>, AllocError>
+    ensures { IfOk result (λ command. app_of command ≡ node_app) }
+{
+    let command = bare_node_command(alloc)?;
+    let file = file_word(alloc);
+    let id = id_word(alloc);
+    let tables = table_words(alloc);
+    command.arg(file)?.arg(id)?.arg(tables)
 }
 
 fn show_command<'a>(alloc: Global) -> Result<Command<'a>, AllocError>
