@@ -1,7 +1,6 @@
 -- What the calls give, as the step of a line.
 use Rattle.std.proofs.Common.{◌≡◌, ◌≤◌, ℕ, List, refl, ap, inl, inr, arith}
 use Rattle.std.specs.Prelude.{◌⊎◌, Result, Ok, Err}
-use Rattle.cs_node_lines.specs.declared.asks.ask.Ask.{Ask}
 use Rattle.cs_node_lines.specs.declared.asks.ask.Ask.TheVariants as line
 use Rattle.cs_conflict.specs.declared.wish.Wish.{Wish}
 use Rattle.cs_conflict.specs.wish_list.Wished.{IsWished}
@@ -20,12 +19,9 @@ use Rattle.cs_wire.specs.Answers.{FitsAnswer, answer_spelling}
 use Rattle.cs_wire.specs.Requests.{asked_by_owned, request_spelling}
 use Rattle.cs_wire.specs.declared.answer.Answer.{Answer}
 use Rattle.cs_wire.specs.declared.request.RequestBuf.{RequestBuf}
-use Rattle.std.specs.declared.alloc.AllocError.{AllocError}
 use Rattle.cs_node_lines.specs.working.LineStep.{LineStep, SaysMemory}
-use Rattle.cs_node_lines.specs.working.Replies.{reply_text}
-use Rattle.cs_node_lines.specs.working.Steps.{Counted, IsStep, Makes, Replies}
+use Rattle.cs_node_lines.specs.working.Steps.{Counted, Stepped}
 use Rattle.cs_node_lines.specs.working.Texts.{heard_text, pushed_text}
-use Rattle.cs_node_lines.specs.declared.working.reply.Reply.{Reply}
 
 module _ {S : Type 0} (g : Ghosts S) where
   -- what a call's step leads to, between the counts
@@ -54,31 +50,17 @@ module _ {S : Type 0} (g : Ghosts S) where
     };
   }
 
-  -- ---- a line of any replica is one of the replica with the id
+  -- ---- a line whose reply is there
 
-  pub replies_made : (id : ℕ) (ask : Ask) (result : Result Reply AllocError) (old new : Holding S) → Makes g ask result old new → Replies g id ask result old new
-  replies_made id ask result old new (text, counted, says) = (
-    text,
-    counted_as old new (λ before after. LineStep old.catalog (g.failed old.store) (g.failed new.store) before ask text after) (IsStep id old.catalog ask text) counted.later
-        (λ before after step is. step) counted.turns,
-    says,
-  )
-
-  pub replies_counted : (id : ℕ) (ask : Ask) (reply : Reply) (old new : Holding S)
-      → Counted g (λ had has before after. LineStep old.catalog had has before ask (reply_text reply) after) old new → Replies g id ask (Ok reply) old new
-  replies_counted id ask reply old new counted =
-      replies_made id ask (Ok reply) old new (reply_text reply, counted, refl)
-
-  pub replies_still : (id : ℕ) (ask : Ask) (reply : Reply) (held : Holding S)
-      → ((had has : ℕ) (m : Member) → m.position ≡ held.position → LineStep held.catalog had has m ask (reply_text reply) m) → Replies g id ask (Ok reply) held held
-  replies_still id ask reply held so =
-      replies_counted id ask reply held held (counted_still held (λ had has before after. LineStep held.catalog had has before ask (reply_text reply) after) so)
+  pub stepped_still : {A : Type 0} (step : List TableDef → ℕ → ℕ → Member → A → List ℕ → Member → Type 0) (asked : A) (text : List ℕ) (held : Holding S)
+      → ((had has : ℕ) (m : Member) → m.position ≡ held.position → step held.catalog had has m asked text m) → Stepped g step asked text held held
+  stepped_still step asked text held so = counted_still held (λ had has before after. step held.catalog had has before asked text after) so
 
   -- ---- a push
 
   pub push_made : (result : Result RequestBuf PushFault) (text : List ℕ) (old new : Holding S) → text ≡ pushed_text result
       → Turns g (IsPushedTo old.catalog result) old new → Counts g (result ≡ Err pushes.Device) old new
-      → Counted g (λ had has before after. LineStep old.catalog had has before line.Push text after) old new
+      → Stepped g LineStep line.Push text old new
   push_made result text old new says turns counts =
       counted_as old new (IsPushedTo old.catalog result) (λ had has before after. LineStep old.catalog had has before line.Push text after) counts.later
       (λ before after pushed. (result, pushed, counts.cause, says)) turns
@@ -88,7 +70,7 @@ module _ {S : Type 0} (g : Ghosts S) where
   pub answer_told : (bytes : List ℕ) (wishes : List Wish) (answer : Answer) (result : Result Told AnswerFault) (version : ℕ) (old new : Holding S)
       → FitsAnswer answer → bytes ≡ answer_spelling answer → version ≡ new.position.version
       → Turns g (IsAnsweredTo IsWished old.catalog answer wishes result) old new → Counts g (SaysDevice result) old new
-      → Counted g (λ had has before after. LineStep old.catalog had has before (line.Answer bytes wishes) (heard_text result version) after) old new
+      → Stepped g LineStep (line.Answer bytes wishes) (heard_text result version) old new
   answer_told bytes wishes answer result version old new fits is at turns counts = record {
     later = counts.later;
     turns = record {

@@ -19,6 +19,7 @@ use Rattle.cs_pending.specs.rows.Rows.{OneTableOfRows}
 use Rattle.cs_store.specs.declared.fault.StoreFault.{StoreFault}
 use Rattle.cs_store.specs.declared.fault.StoreFault.TheVariants as store
 use Rattle.cs_text.specs.Text.{line}
+use Rattle.std.specs.List.{AllByRecursion}
 use Rattle.cs_node_lines.specs.told.Told.{edit_fault_text, push_fault_text}
 use Rattle.cs_value.specs.Catalog.{AreTables}
 use Rattle.cs_value.specs.declared.catalog.TableDef.{TableDef}
@@ -30,7 +31,7 @@ use Rattle.cs_wire.specs.declared.fault.WireFault.{WireFault}
 use Rattle.cs_wire.specs.declared.request.RequestBuf.{RequestBuf}
 use Rattle.cs_node_lines.specs.working.Laws.{OneLineRun, OneLineStep, SaysRefused}
 use Rattle.cs_node_lines.specs.told.Dump.{AreRowLines, replica_text, rows_text}
-use Rattle.cs_node_lines.specs.working.LineStep.{IsDumped, LineStep, TakesAnswer}
+use Rattle.cs_node_lines.specs.working.LineStep.{InTurn, IsDumped, LineStep, TakesAnswer}
 use Rattle.cs_node_lines.specs.working.Texts.{edited_text, heard_text, pushed_text, refused_text, store_fault_text, wire_fault_text}
 
 -- the laws below
@@ -196,16 +197,37 @@ module _ (tables : List TableDef) (had has : ℕ) (before after : Member) (shown
   shown_after (Answer bytes wishes) text goes = taken_shown bytes wishes text goes
   shown_after Dump text (still, says) = still_shown still
 
+-- steps one behind another have one list of texts, where each has one and leaves a replica that some store shows
+module _ {A : Type 0} (step : List TableDef → ℕ → ℕ → Member → A → List ℕ → Member → Type 0) where
+  abbrev pub OneStep : Type 0
+  OneStep =
+      (tables : List TableDef) (asked : A) (some other : List ℕ) (had has its_had its_has : ℕ) (before its one last : Member)
+      → AreTables tables → IsShown tables before → IsShown tables its → IsSameMember tables before its → (SaysRefused some → ⊥) → (SaysRefused other → ⊥)
+      → step tables had has before asked some one → step tables its_had its_has its asked other last
+      → (some ≡ other) × IsSameMember tables one last
+
+  abbrev pub ShowsAfter : Type 0
+  ShowsAfter =
+      (tables : List TableDef) (had has : ℕ) (before after : Member) (asked : A) (text : List ℕ)
+      → IsShown tables before → step tables had has before asked text after → IsShown tables after
+
+  pub one_run : OneStep → ShowsAfter → (tables : List TableDef) (all : List A) (some other : List (List ℕ)) (had has its_had its_has : ℕ) (before its one last : Member)
+      → AreTables tables → IsShown tables before → IsShown tables its → IsSameMember tables before its
+      → AllByRecursion (λ (text : List ℕ). SaysRefused text → ⊥) some → AllByRecursion (λ (text : List ℕ). SaysRefused text → ⊥) other
+      → InTurn (step tables) had has before all some one → InTurn (step tables) its_had its_has its all other last
+      → (some ≡ other) × IsSameMember tables one last
+  one_run law after tables [] [] [] had has its_had its_has before its one last are shown sees same not never (is, kept) (so, stood) = (refl, stays_same tables before its one last is so same)
+  one_run law after tables (asked ∷ all) (some ∷ more) (other ∷ others) had has its_had its_has before its one last are shown sees same (not, nots) (never, nos)
+      (between, count, later, goes, on) (among, number, grown, went, further) =
+      let first = law tables asked some other had count its_had number before its between among are shown sees same not never goes went in
+      let rest =
+      one_run law after tables all more others count has number its_has between among one last are (after tables had count before between asked some shown goes)
+      (after tables its_had number its among asked other sees went) first.1 nots nos on further in
+      (ap (λ (t : List ℕ). t ∷ more) first.0 ∙ ap (λ (ts : List (List ℕ)). other ∷ ts) rest.0, rest.1)
+  one_run law after tables [] (some ∷ more) others had has its_had its_has before its one last are shown sees same not never is so = absurd is
+  one_run law after tables [] [] (other ∷ others) had has its_had its_has before its one last are shown sees same not never is so = absurd so
+  one_run law after tables (asked ∷ all) [] others had has its_had its_has before its one last are shown sees same not never is so = absurd is
+  one_run law after tables (asked ∷ all) (some ∷ more) [] had has its_had its_has before its one last are shown sees same not never is so = absurd so
+
 pub one_line_run : OneLineStep → OneLineRun
-one_line_run law tables [] [] [] had has its_had its_has before its one last are shown sees same not never (is, kept) (so, stood) = (refl, stays_same tables before its one last is so same)
-one_line_run law tables (ask ∷ asks) (some ∷ more) (other ∷ others) had has its_had its_has before its one last are shown sees same (not, nots) (never, nos)
-    (between, count, later, goes, on) (among, number, grown, went, further) =
-    let first = law tables ask some other had count its_had number before its between among are shown sees same not never goes went in
-    let all =
-    one_line_run law tables asks more others count has number its_has between among one last are (shown_after tables had count before between shown ask some goes)
-    (shown_after tables its_had number its among sees ask other went) first.1 nots nos on further in
-    (ap (λ (t : List ℕ). t ∷ more) first.0 ∙ ap (λ (ts : List (List ℕ)). other ∷ ts) all.0, all.1)
-one_line_run law tables [] (some ∷ more) others had has its_had its_has before its one last are shown sees same not never is so = absurd is
-one_line_run law tables [] [] (other ∷ others) had has its_had its_has before its one last are shown sees same not never is so = absurd so
-one_line_run law tables (ask ∷ asks) [] others had has its_had its_has before its one last are shown sees same not never is so = absurd is
-one_line_run law tables (ask ∷ asks) (some ∷ more) [] had has its_had its_has before its one last are shown sees same not never is so = absurd so
+one_line_run law = one_run LineStep law (λ tables had has before after ask text shown goes. shown_after tables had has before after shown ask text goes)

@@ -11,7 +11,6 @@ returns-in-Ok-clause-ends g c =
       are = c.tables-tables.ensures.tables;
       fits = c.shown.ensures.fits;
       catalog = c.in-Ok.ensures.of.0;
-      id_is = c.in-Ok.ensures.of.1;
     } in
     ends_working g.S.RowStore c.args.id c.args.catalog.now c.args.store c.close.result c.args.asks.now c.do_asks-ended.result
     (g.W.LineOutput.failed c.do_asks-ended.new.writer) (g.W.Write.contents c.args.writer.now) (g.W.Write.contents c.do_asks-ended.new.writer)
