@@ -66,7 +66,7 @@ answer_tells (Err (hearing.Device count)) version text is not = not (inr (inr (h
 answer_tells (Err (hearing.BadEntry count)) version text is not = tt
 
 -- a store's fault says nothing of a look at the rows
-store_tells : (fault : StoreFault) (text : List ℕ) → text ≡ refused_text (store_fault_text fault) → (SaysRefused text → ⊥) → ⊥
+pub store_tells : (fault : StoreFault) (text : List ℕ) → text ≡ refused_text (store_fault_text fault) → (SaysRefused text → ⊥) → ⊥
 store_tells store.Memory text is not = not (inl is)
 store_tells store.Device text is not = not (inr (inl is))
 

@@ -1,17 +1,36 @@
--- On the way from an answer to its text: no definition that a public clause cites.
-use Rattle.std.specs.Prelude.{◌≡◌, ℕ, List, Option, Some, None, Result, option_map, string_bytes}
+-- On the way from a line to its text: no definition that a public clause cites.
+use Rattle.std.specs.Prelude.{◌≡◌, ◌⊎◌, ⊤, ℕ, Bool, true, false, List, [], ◌∷◌, ◌++◌, Option, Some, None, Result, Ok, Err, length, option_map, string_bytes}
+use Rattle.std.specs.Io.KnownBytes.{Appends, IsAtEnd, Keeps}
 use Rattle.cs_conflict.specs.declared.clash.Clash.{Clash}
 use Rattle.cs_conflict.specs.declared.wish.Wish.{Wish}
 use Rattle.cs_conflict.specs.declared.wish.Wish.TheVariants.{Keep, Stop, Take}
 use Rattle.cs_conflict.specs.wish_list.Wished.{IsWished}
 use Rattle.cs_exchange.specs.declared.pulling.fault.AnswerFault.{AnswerFault}
+use Rattle.cs_lines.specs.Reading.{AreAllBefore, StaysInLine, TakesLine}
+use Rattle.cs_lines.specs.Served.{AreAllLines, AreFirstLines}
+use Rattle.cs_lines.specs.declared.serve.TheConstants.{ASKS}
+use Rattle.cs_replica.specs.Holding.{Holding}
 use Rattle.cs_replica.specs.declared.told.Told.{Told}
+use Rattle.cs_replica.specs.declared.told.Told.TheVariants.{Stopped}
 use Rattle.cs_replica.specs.Step.{Member}
+use Rattle.cs_store.specs.Calls.{MoreFailures}
+use Rattle.cs_store.specs.declared.fault.StoreFault.{StoreFault}
+use Rattle.cs_store.specs.declared.fault.StoreFault.TheVariants as stored
+use Rattle.cs_store.specs.declared.store.RowStore.{Ghosts}
+use Rattle.cs_text.specs.Text.{line}
 use Rattle.cs_value.specs.declared.catalog.TableDef.{TableDef}
 use Rattle.cs_wire.specs.declared.answer.Answer.{Answer}
 use Rattle.cs_node_lines.specs.declared.following.note.Note.{Note}
 use Rattle.cs_node_lines.specs.declared.following.note.Note.TheVariants.{Lacking, Nothing, Text}
+use Rattle.cs_node_lines.specs.declared.working.fault.NodeFault.{NodeFault}
+use Rattle.cs_node_lines.specs.declared.working.fault.NodeFault.TheVariants.{Line, Memory, Open, Read, Write}
+use Rattle.cs_node_lines.specs.declared.working.reply.Reply.{Reply}
+use Rattle.cs_node_lines.specs.following.Endings.{replied}
+use Rattle.cs_node_lines.specs.following.FollowStep.{FollowStep}
 use Rattle.cs_node_lines.specs.following.Seen.{HearsSeeing}
+use Rattle.cs_node_lines.specs.working.Endings.{BreaksOff}
+use Rattle.cs_node_lines.specs.working.Replies.{reply_text}
+use Rattle.cs_node_lines.specs.working.Steps.{AllStepped, Counted, Prints, Stepped}
 use Rattle.cs_node_lines.specs.told.Clash.{clash_text}
 
 -- the note is this text, or none; where memory was refused it may be any
@@ -44,7 +63,67 @@ pub record IsNoted (before : Noted) (clash : Clash) (wish : Wish) (after : Noted
   pub tables : after.tables ≡ before.tables
   pub noted : Notes wish (clash_text before.tables clash) before.note after.note
 
--- the answer was heard, and the clash that is seen was noted
+-- where a wish stopped, the clash that is seen was noted
+abbrev pub NotesStop : List TableDef → Result Told AnswerFault → Note → Option Clash → Type 0
+NotesStop tables result note seen = (count : ℕ) → result ≡ Ok (Stopped count) → IsNoteOf tables note seen
+
+-- the answer was heard so
 abbrev pub HearsNoting : List TableDef → Member → Answer → List Wish → Result Told AnswerFault → Note → Member → Type 0
 HearsNoting tables before answer wishes result note after =
-    (seen : Option Clash) × HearsSeeing tables before answer wishes result seen after × IsNoteOf tables note seen
+    (seen : Option Clash) × HearsSeeing tables before answer wishes result seen after × NotesStop tables result note seen
+
+-- ---- what is shown
+
+-- what was read is this of the replica, which stays; or the reading failed, for a failed device only where the count of failures rose
+abbrev pub ReadsOf : {T : Type 0} → ℕ → ℕ → (T → Type 0) → Result T StoreFault → Type 0
+ReadsOf had has said (Ok read) = said read
+ReadsOf had has said (Err fault) = fault ≡ stored.Device → MoreFailures had has
+
+abbrev pub Shows : {S T : Type 0} → Ghosts S → (Member → T → Type 0) → Result T StoreFault → Holding S → Holding S → Type 0
+Shows g said result old new = Counted g (λ had has before after. (after ≡ before) × ReadsOf had has (said before) result) old new
+
+-- ---- lines of an input
+
+module _ {S : Type 0} (g : Ghosts S) where
+  -- the next line was taken, and its step made with this text
+  abbrev pub TakesStep : Option (List ℕ) → Option (List ℕ) → Holding S → Holding S → List ℕ → List ℕ → Type 0
+  TakesStep input left old new asked text = TakesLine [] input left asked × Stepped g FollowStep asked text old new
+
+  -- there was no line to take: the input is at its end, or its reader failed; the replica stays
+  abbrev pub TakesNoLine : Option (List ℕ) → Option (List ℕ) → Holding S → Holding S → Type 0
+  TakesNoLine input left old new = IsAtEnd input × Keeps input left × (new ≡ old)
+
+  abbrev pub BreaksReading : Type 0 → Option (List ℕ) → Option (List ℕ) → Holding S → Holding S → Type 0
+  BreaksReading read_failed input left old new = read_failed × StaysInLine input left × (new ≡ old)
+
+  -- and this is what is printed of the line
+  abbrev pub Replies : Result (Option Reply) NodeFault → Type 0 → Option (List ℕ) → Option (List ℕ) → Holding S → Holding S → Type 0
+  Replies (Ok (Some reply)) read_failed input left old new = (asked : List ℕ) × TakesStep input left old new asked (reply_text reply)
+  Replies (Ok None) read_failed input left old new = TakesNoLine input left old new
+  Replies (Err Memory) read_failed input left old new = (asked : List ℕ) × (text : List ℕ) × TakesStep input left old new asked text
+  Replies (Err Read) read_failed input left old new = BreaksReading read_failed input left old new
+  Replies (Err Write) read_failed input left old new = ⊥
+  Replies (Err (Line number)) read_failed input left old new = ⊥
+  Replies (Err (Open fault)) read_failed input left old new = ⊥
+
+  -- and it was printed, with an empty line
+  abbrev pub FollowsNext : Result Bool NodeFault → Type 0 → Type 0 → Option (List ℕ) → Option (List ℕ) → Option (List ℕ) → Option (List ℕ) → Holding S → Holding S → Type 0
+  FollowsNext (Ok true) read_failed write_failed input left before after old new =
+      (asked : List ℕ) × (text : List ℕ) × TakesStep input left old new asked text × Appends before after (line text)
+  FollowsNext (Ok false) read_failed write_failed input left before after old new = TakesNoLine input left old new × Keeps before after
+  FollowsNext (Err fault) read_failed write_failed input left before after old new =
+      ((fault ≡ Read) × BreaksReading read_failed input left old new × Keeps before after)
+      ⊎ ((asked : List ℕ) × (text : List ℕ) × TakesStep input left old new asked text × Prints (Err fault) write_failed before after (line text))
+
+  -- so it was with all lines, or up to one
+  abbrev pub FollowsAll : Result ⊤ NodeFault → Type 0 → Type 0 → Option (List ℕ) → Option (List ℕ) → Option (List ℕ) → Option (List ℕ) → Holding S → Holding S → Type 0
+  FollowsAll (Ok done) read_failed write_failed input left before after old new =
+      (lines : List (List ℕ)) × (texts : List (List ℕ)) × AreAllLines input lines
+      × AllStepped g FollowStep lines texts old new × Appends before after (replied texts)
+  FollowsAll (Err fault) read_failed write_failed input left before after old new =
+      ((fault ≡ Read)
+      × ((lines : List (List ℕ)) × (texts : List (List ℕ)) × AreAllBefore input left lines
+      × AllStepped g FollowStep lines texts old new × Appends before after (replied texts) × (read_failed ⊎ (length lines ≡ ASKS))))
+      ⊎ ((done : List (List ℕ)) × (asked : List ℕ) × (texts : List (List ℕ)) × (text : List ℕ)
+      × AreFirstLines input (done ++ asked ∷ []) × AllStepped g FollowStep (done ++ asked ∷ []) (texts ++ text ∷ []) old new
+      × BreaksOff fault write_failed before after (replied texts) (line text))

@@ -4,7 +4,8 @@ ghost use Rattle.std.specs.Prelude.{◌≡◌, ◌<◌, ◌-◌, ◌^◌, OnErr,
 ghost use Rattle.std.specs.Io.KnownBytes.{Appends};
 ghost use Rattle.cs_lines.specs.Writing.{AppendsFront};
 ghost use Rattle.cs_node_lines.specs.following.Endings.{EndsFollowing};
-ghost use Rattle.cs_node_lines.specs.following.FollowStep.{FollowStep, ReadStep};
+ghost use Rattle.cs_node_lines.specs.following.FollowStep.{AskStep, FollowStep};
+ghost use Rattle.cs_node_lines.specs.following.Steps.{FollowsAll, FollowsNext, Replies};
 ghost use Rattle.cs_node_lines.specs.working.Replies.{reply_text};
 ghost use Rattle.cs_node_lines.specs.working.Steps.{Makes};
 ghost use Rattle.cs_text.specs.Text.{line as lined};
@@ -28,6 +29,7 @@ fn ask_line<S: RowStore>(
     ask: &Ask,
 ) -> Result<Reply, Memory>
     requires { replica.old.catalog ≡ catalog.now }
+    ensures { Makes S.RowStore AskStep ask.now result replica.old replica.new }
 {
     match ask {
         Ask::Answer { bytes, wishes } => {
@@ -68,6 +70,7 @@ fn next_reply<S: RowStore, R: LineInput>(
     line: &mut Vec<u8>,
 ) -> Result<Option<Reply>, NodeFault>
     requires { replica.old.catalog ≡ catalog.now }
+    ensures { Replies S.RowStore result (R.failed reader.new) (R.remaining reader.old) (R.remaining reader.new) replica.old replica.new }
 {
     match read_line(reader, line) {
         Ok(LineRead::Whole) => Ok(Some(follow_line(alloc, replica, catalog, line.as_slice())?)),
@@ -100,6 +103,9 @@ fn follow_next<S: RowStore, R: LineInput, W: LineOutput>(
     writer: &mut W,
 ) -> Result<bool, NodeFault>
     requires { replica.old.catalog ≡ catalog.now }
+    ensures told { FollowsNext S.RowStore result (R.failed reader.new) (W.failed writer.new) (R.remaining reader.old) (R.remaining reader.new)
+        (W.contents writer.old) (W.contents writer.new) replica.old replica.new }
+    ensures sent { OnOk result (W.sent writer.old → W.sent writer.new) }
 {
     let Some(reply) = next_reply(alloc, replica, catalog, reader, line)? else {
         return Ok(false);
@@ -119,9 +125,13 @@ fn follow<S: RowStore, R: LineInput, W: LineOutput>(
     writer: &mut W,
 ) -> Result<(), NodeFault>
     requires { replica.old.catalog ≡ catalog.now }
+    ensures told { FollowsAll S.RowStore result (R.failed reader.new) (W.failed writer.new) (R.remaining reader.old) (R.remaining reader.new)
+        (W.contents writer.old) (W.contents writer.new) replica.old replica.new }
+    ensures sent { OnOk result (W.sent writer.old → W.sent writer.new) }
 {
+    cs_lines::laws::lines_taken();
     let mut line = Vec::new(alloc);
-    for _ in 0..ASKS {
+    for _asked in 0..ASKS {
         match follow_next(alloc, replica, catalog, reader, &mut line, writer) {
             Ok(true) => {}
             Ok(false) => return Ok(()),

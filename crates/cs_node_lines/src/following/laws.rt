@@ -2,10 +2,21 @@
 
 ghost use Rattle.cs_node_lines.specs.following.Laws.{OneFollowRun, OneFollowStep};
 
+use crate::following::noting::Unwished;
+use crate::working::laws::one_line_step;
+
 /// But for want of memory and a device that fails a line has one text, and leaves one replica.
 pub fn one_follow_step()
     ensures { OneFollowStep }
-{}
+{
+    one_line_step();
+    cs_pending::laws::one_view();
+    cs_pending::outgoing::laws::one_pending();
+    cs_pending::rows::laws::one_table_of_rows();
+    cs_exchange::taking::laws::one_contents();
+    cs_replica::laws::one_answered::<Unwished>();
+    cs_wire::laws::one_told_answer();
+}
 
 /// So do lines one behind another.
 pub fn one_follow_run()

@@ -56,7 +56,7 @@ impl<'w> Noting<'w> {
 
     /// What it noted.
     pub(crate) fn into_note(self) -> Note
-        ensures { result ≡ self.note }
+        ensures { result ≡ self.entry.note }
     {
         self.note
     }

@@ -40,7 +40,6 @@ fn tell_noting<S: RowStore>(
 {
     let mut picker = Noting::new(alloc, catalog, wishes);
     let told = replica.answer(alloc, answer, &mut picker);
-    replica.shown();
     (told, picker.into_note())
 }
 

@@ -1,0 +1,243 @@
+-- A line that is answered as it comes has one text at the same replica, and leaves the same replica.
+use Rattle.std.proofs.Common.{◌≡◌, ◌∙◌, ◌<◌, ◌≤◌, ℕ, List, [], length, arith, Result, Ok, Err, Bool, true, false, refl, sym, ap, subst, inl, inr}
+use Rattle.std.specs.Prelude.{Option, Some, None, codes}
+use Rattle.std.specs.FinMap.{len}
+use Rattle.cs_conflict.specs.declared.clash.Clash.{Clash}
+use Rattle.cs_conflict.specs.declared.wish.Wish.{Wish}
+use Rattle.cs_exchange.specs.declared.pulling.fault.AnswerFault.{AnswerFault}
+use Rattle.cs_exchange.specs.declared.pulling.fault.AnswerFault.TheVariants as hearing
+use Rattle.cs_exchange.specs.taking.Laws.{OneContents, PicksOnce}
+use Rattle.cs_normal.specs.Normal.{groups_of, normal_spelling}
+use Rattle.cs_normal.specs.declared.normal.TableChanges.{TableChanges}
+use Rattle.cs_normal.specs.State.{State}
+use Rattle.cs_normal.specs.keyed.Changes.{key_bytes}
+use Rattle.cs_pending.specs.Laws.{OneView}
+use Rattle.cs_pending.specs.View.{Changed, View}
+use Rattle.cs_pending.specs.declared.outgoing.gathering.Outgoing.{Outgoing}
+use Rattle.cs_pending.specs.declared.outgoing.gathering.Outgoing.TheVariants.{Changes, Nothing, TooLarge}
+use Rattle.cs_pending.specs.declared.position.position.Position.{Position}
+use Rattle.cs_pending.specs.outgoing.Outgoing.{IsOutgoing, IsPendingOf, OnePending}
+use Rattle.cs_pending.specs.position.Shows.{ShowsAt}
+use Rattle.cs_pending.specs.rows.Rows.{AreRowsOf, OneTableOfRows}
+use Rattle.cs_replica.specs.Answered.{Answers}
+use Rattle.cs_replica.specs.Laws.{IsOfAnswer, OneAnswered}
+use Rattle.cs_replica.specs.Same.{IsSameMember, IsShown}
+use Rattle.cs_replica.specs.Step.{Member}
+use Rattle.cs_replica.specs.declared.told.Told.{Told}
+use Rattle.cs_replica.specs.declared.told.Told.TheVariants.{Confirmed, Ignored, Refused, Stale, Stopped, Taken}
+use Rattle.cs_store.specs.Contents.{Contents}
+use Rattle.cs_store.specs.declared.fault.StoreFault.{StoreFault}
+use Rattle.cs_store.specs.declared.log.entry.TheConstants.{MAX_CHANGESET}
+use Rattle.cs_text.specs.Text.{changeset_text, line}
+use Rattle.cs_value.specs.Catalog.{AreTables}
+use Rattle.cs_value.specs.Key.{Place}
+use Rattle.cs_value.specs.declared.catalog.TableDef.{TableDef}
+use Rattle.cs_value.specs.declared.value.Value.{Value}
+use Rattle.cs_wire.specs.Laws.{OneToldAnswer}
+use Rattle.cs_wire.specs.declared.answer.Answer.{Answer as Told_by}
+use Rattle.cs_wire.specs.declared.fault.WireFault.{WireFault}
+use Rattle.cs_node_lines.specs.asks.Asked.{ask_in}
+use Rattle.cs_node_lines.specs.asks.Looked.{look_in}
+use Rattle.cs_node_lines.specs.declared.asks.ask.Ask.{Ask}
+use Rattle.cs_node_lines.specs.declared.asks.ask.Ask.TheVariants.{Answer, Catch, Dump, OnEdit, Pull, Push, Resend}
+use Rattle.cs_node_lines.specs.declared.asks.look.Look.{Look}
+use Rattle.cs_node_lines.specs.declared.asks.look.Look.TheVariants as look
+use Rattle.cs_node_lines.specs.following.FollowStep.{AskStep, FollowStep, LookStep, ReadStep, Shown, TellsRows, has_table, outgoing_text, row_told}
+use Rattle.cs_node_lines.specs.following.Laws.{OneFollowRun, OneFollowStep}
+use Rattle.cs_node_lines.specs.following.Seen.{HearsSeeing, IsSeen, Seeing, SeesAnswer, seen_by, seen_text}
+use Rattle.cs_node_lines.specs.told.Dump.{replica_text, rows_text}
+use Rattle.cs_node_lines.specs.working.Laws.{OneLineStep, SaysRefused}
+use Rattle.cs_node_lines.specs.working.LineStep.{TakesNone}
+use Rattle.cs_node_lines.specs.working.Texts.{heard_text, refused_text, store_fault_text, wire_fault_text}
+use Rattle.cs_node_lines.proofs.WorkingLemmas.OneLine.{one_run, shown_after, stays_same, store_tells}
+
+-- the laws below
+pub record Beneath : Type 0 where
+  pub line : OneLineStep
+  pub rows : OneTableOfRows
+  pub answer : OneToldAnswer
+  pub contents : OneContents
+  pub views : OneView
+  pub answered : OneAnswered IsSeen
+  pub pending : OnePending
+
+sees_once_each : PicksOnce IsSeen
+sees_once_each p clash some other q r one two =
+    let same : some ≡ other = one.wished.is ∙ sym two.wished.is in
+    let left : q.wishes ≡ r.wishes = one.wished.left ∙ sym two.wished.left in
+    let seen : q.seen ≡ r.seen = one.shown ∙ (ap (λ (w : Wish). seen_by w clash p.seen) same ∙ sym two.shown) in
+    (same, cc)
+
+-- with as many changes pending as it holds
+as_many : (tables : List TableDef) (position : Position) (contents : Contents) (view : View) → ShowsAt tables contents position view
+    → ShowsAt tables contents (record position { pending = len contents.pending }) view
+as_many tables position contents view shows = subst (λ (n : ℕ). ShowsAt tables contents (record position { pending = n }) view) shows.counted shows
+
+not_both : (changes others : List TableChanges) → changes ≡ others → MAX_CHANGESET < length (normal_spelling changes) → length (normal_spelling others) ≤ MAX_CHANGESET → ⊥
+not_both changes others same large fits =
+    let fits_here = subst (λ (c : List TableChanges). length (normal_spelling c) ≤ MAX_CHANGESET) (sym same) fits in omega (arith, large, fits_here)
+
+not_large : (changes : List TableChanges) → changes ≡ [] → MAX_CHANGESET < length (normal_spelling changes) → ⊥
+not_large changes none large = not_both changes [] none large (omega arith)
+
+-- a text that says something is of a result that does
+seen_tells : (tables : List TableDef) (result : Result Told AnswerFault) (seen : Option Clash) (version : ℕ) (text : List ℕ) → text ≡ seen_text tables result seen version
+    → (SaysRefused text → ⊥) → IsOfAnswer result
+seen_tells tables (Ok told) seen version text is not = tt
+seen_tells tables (Err (hearing.Memory count)) seen version text is not = not (inr (inr (hearing.Memory count, λ of. of, is)))
+seen_tells tables (Err (hearing.Device count)) seen version text is not = not (inr (inr (hearing.Device count, λ of. of, is)))
+seen_tells tables (Err (hearing.BadEntry count)) seen version text is not = tt
+
+module _ (laws : Beneath) (tables : List TableDef) (are : AreTables tables) (had has its_had its_has : ℕ) (before its : Member) (shown : IsShown tables before) (sees : IsShown tables its) (same : IsSameMember tables before its) where
+  -- ---- an answer
+
+  hears_once : (wishes : List Wish) (some other : List ℕ) (one last : Member) (answer : Told_by) (result outcome : Result Told AnswerFault) (seen clash : Option Clash) → (SaysRefused some → ⊥) → (SaysRefused other → ⊥)
+      → HearsSeeing tables before answer wishes result seen one → some ≡ seen_text tables result seen one.position.version
+      → HearsSeeing tables its answer wishes outcome clash last → other ≡ seen_text tables outcome clash last.position.version
+      → (some ≡ other) × IsSameMember tables one last
+  hears_once wishes some other one last answer result outcome seen clash not never hears is again so =
+      let begins : Seeing = record { wishes = wishes; seen = None } in
+      let here = subst (λ (p : Position). ShowsAt tables sees.contents p its.view) same.position sees.shows in
+      let held : shown.contents ≡ sees.contents =
+      laws.contents tables before.position shown.contents sees.contents before.view its.view
+      (as_many tables before.position shown.contents before.view shown.shows) (as_many tables before.position sees.contents its.view here) same.view.rows same.view.pending in
+      let its_shown = subst (λ (c : Contents). ShowsAt tables c before.position its.view) (sym held) here in
+      let its_answers = subst (λ (p : Position). Answers IsSeen tables answer outcome p its.view begins last.position again.left (record { wishes = again.unused; seen = clash })) same.position again.answers in
+      let all = laws.answered tables answer shown.contents hears.left again.left before.position one.position last.position before.view its.view result outcome begins
+      (record { wishes = hears.unused; seen = seen }) (record { wishes = again.unused; seen = clash }) are sees_once_each
+      shown.shows its_shown (seen_tells tables result seen one.position.version some is not) (seen_tells tables outcome clash last.position.version other so never) hears.answers its_answers in
+      let last_shown = subst (λ (c : Contents). ShowsAt tables c one.position last.view) (sym all.2) (subst (λ (p : Position). ShowsAt tables again.left p last.view) (sym all.1) again.shows) in
+      let alike = laws.views tables hears.left one.view last.view hears.shows.rows last_shown.rows in
+      let clashes : seen ≡ clash = ap (λ (s : Seeing). s.seen) all.3 in (
+        is
+        ∙ (ap (λ (r : Result Told AnswerFault). seen_text tables r seen one.position.version) all.0
+        ∙ (ap (λ (c : Option Clash). seen_text tables outcome c one.position.version) clashes
+        ∙ (ap (λ (p : Position). seen_text tables outcome clash p.version) all.1 ∙ sym so))),
+        record { position = sym all.1; view = record { rows = alike.0; pending = alike.1 } },
+      )
+
+  sees_once : (bytes : List ℕ) (wishes : List Wish) (some other : List ℕ) (one last : Member) → (SaysRefused some → ⊥) → (SaysRefused other → ⊥) → SeesAnswer tables had has before bytes wishes some one → SeesAnswer tables its_had its_has its bytes wishes other last
+      → (some ≡ other) × IsSameMember tables one last
+  sees_once bytes wishes some other one last not never (inl (answer, result, seen, fits, spelled, hears, device, is)) (inl (told, outcome, clash, suits, spells, again, failed, so)) =
+      let both : Ok answer ≡ Ok told = laws.answer bytes (Ok answer) (Ok told) (fits, spelled) (suits, spells) in
+      let answers : told ≡ answer = (let e = sym both in cc) in
+      hears_once wishes some other one last answer result outcome seen clash not never hears is (subst (λ (a : Told_by). HearsSeeing tables its a wishes outcome clash last) answers again) so
+  sees_once bytes wishes some other one last not never (inl (answer, result, seen, fits, spelled, hears, device, is)) (inr (stays, inl (fault, wrong, so))) =
+      let both : Ok answer ≡ Err fault = laws.answer bytes (Ok answer) (Err fault) (fits, spelled) wrong in
+      absurd cc
+  sees_once bytes wishes some other one last not never (inl (answer, result, seen, fits, spelled, hears, device, is)) (inr (stays, inr memory)) = absurd (never (inl memory))
+  sees_once bytes wishes some other one last not never (inr (still, inl (fault, wrong, is))) (inl (told, outcome, clash, suits, spells, again, failed, so)) =
+      let both : Err fault ≡ Ok told = laws.answer bytes (Err fault) (Ok told) wrong (suits, spells) in
+      absurd cc
+  sees_once bytes wishes some other one last not never (inr (still, inl (fault, wrong, is))) (inr (stays, inl (why, bad, so))) =
+      let both : Err fault ≡ Err why = laws.answer bytes (Err fault) (Err why) wrong bad in
+      let faults : fault ≡ why = cc in
+      (is ∙ (ap (λ (f : WireFault). refused_text (wire_fault_text f)) faults ∙ sym so), stays_same tables before its one last still stays same)
+  sees_once bytes wishes some other one last not never (inr (still, inl (fault, wrong, is))) (inr (stays, inr memory)) = absurd (never (inl memory))
+  sees_once bytes wishes some other one last not never (inr (still, inr memory)) taken = absurd (not (inl memory))
+
+  ask_once : (ask : Ask) (some other : List ℕ) (one last : Member) → (SaysRefused some → ⊥) → (SaysRefused other → ⊥) → AskStep tables had has before ask some one → AskStep tables its_had its_has its ask other last
+      → (some ≡ other) × IsSameMember tables one last
+  ask_once (OnEdit edit) some other one last not never goes went = laws.line tables (OnEdit edit) some other had has its_had its_has before its one last are shown sees same not never goes went
+  ask_once Push some other one last not never goes went = laws.line tables Push some other had has its_had its_has before its one last are shown sees same not never goes went
+  ask_once Resend some other one last not never goes went = laws.line tables Resend some other had has its_had its_has before its one last are shown sees same not never goes went
+  ask_once (Pull limit) some other one last not never goes went = laws.line tables (Pull limit) some other had has its_had its_has before its one last are shown sees same not never goes went
+  ask_once (Catch limit) some other one last not never goes went = laws.line tables (Catch limit) some other had has its_had its_has before its one last are shown sees same not never goes went
+  ask_once (Answer bytes wishes) some other one last not never goes went = sees_once bytes wishes some other one last not never goes went
+  ask_once Dump some other one last not never goes went = laws.line tables Dump some other had has its_had its_has before its one last are shown sees same not never goes went
+
+  -- ---- what is shown
+
+  rows_once : (there : Bool) (name some other : List ℕ) → TellsRows there before.view.tables name some → TellsRows there its.view.tables name other → some ≡ other
+  rows_once true name some other (rows, lists, is) (others, listed, so) =
+      let states : its.view.tables ≡ before.view.tables = λ i n k. same.view.rows n k i in
+      let all = laws.rows (before.view.tables name) rows others lists (subst (λ (s : State). AreRowsOf (s name) others) states listed) in
+      is ∙ (ap (rows_text name) all ∙ sym so)
+  rows_once false name some other is so = is ∙ sym so
+
+  changes_once : (some other : List TableChanges) → IsPendingOf tables before.view.pending some → IsPendingOf tables its.view.pending other → some ≡ other
+  changes_once some other are_some are_other =
+      laws.pending tables before.view.pending some other are are_some (record {
+        fits = are_other.fits;
+        normal = are_other.normal;
+        changes_are = λ table key has_it. are_other.changes_are table key has_it ∙ same.view.pending table key has_it;
+      })
+
+  outgoing_once : (some other : Outgoing) → IsOutgoing tables before.view.pending some → IsOutgoing tables its.view.pending other → outgoing_text some ≡ outgoing_text other
+  outgoing_once Nothing Nothing one two = refl
+  outgoing_once Nothing TooLarge one (changes, of, large) =
+      let none = changes_once [] changes one of in absurd (not_large changes (sym none) large)
+  outgoing_once Nothing (Changes changes) one (of, some, fits) = absurd (some (sym (changes_once [] changes one of)))
+  outgoing_once TooLarge Nothing (changes, of, large) two = absurd (not_large changes (changes_once changes [] of two) large)
+  outgoing_once TooLarge TooLarge one two = refl
+  outgoing_once TooLarge (Changes others) (changes, of, large) (its_of, some, fits) =
+      absurd (not_both changes others (changes_once changes others of its_of) large fits)
+  outgoing_once (Changes changes) Nothing (of, some, fits) two = absurd (some (changes_once changes [] of two))
+  outgoing_once (Changes changes) TooLarge (of, some, fits) (others, its_of, large) =
+      absurd (not_both others changes (sym (changes_once changes others of its_of)) large fits)
+  outgoing_once (Changes changes) (Changes others) (of, some, fits) (its_of, more, suits) =
+      ap (λ (c : List TableChanges). changeset_text (groups_of c)) (changes_once changes others of its_of)
+
+  shown_once : (asked : Look) (some other : List ℕ) → Shown tables before asked some → Shown tables its asked other → some ≡ other
+  shown_once look.Place some other is so = is ∙ (ap (λ (p : Position). line (replica_text p.id p)) (sym same.position) ∙ sym so)
+  shown_once (look.Rows name) some other one two = rows_once (has_table tables name) name some other one two
+  shown_once (look.Row name key) some other is so =
+      let states : its.view.tables ≡ before.view.tables = λ i n k. same.view.rows n k i in
+      is ∙ (ap (λ (s : State). row_told (has_table tables name) s name (key_bytes key)) (sym states) ∙ sym so)
+  shown_once look.Pending some other (outgoing, of, is) (others, its_of, so) = is ∙ (outgoing_once outgoing others of its_of ∙ sym so)
+
+  look_once : (asked : Look) (some other : List ℕ) (one last : Member) → (SaysRefused some → ⊥) → (SaysRefused other → ⊥) → LookStep tables had has before asked some one → LookStep tables its_had its_has its asked other last
+      → (some ≡ other) × IsSameMember tables one last
+  look_once asked some other one last not never (still, inl shows) (stays, inl seen) = (shown_once asked some other shows seen, stays_same tables before its one last still stays same)
+  look_once asked some other one last not never (still, inl shows) (stays, inr (fault, device, so)) = absurd (store_tells fault other so never)
+  look_once asked some other one last not never (still, inr (fault, device, is)) goes = absurd (store_tells fault some is not)
+
+  -- ---- a line
+
+  read_once : (ask : Option Ask) (asked : Option Look) (some other : List ℕ) (one last : Member) → (SaysRefused some → ⊥) → (SaysRefused other → ⊥)
+      → ReadStep tables had has before ask asked some one → ReadStep tables its_had its_has its ask asked other last
+      → (some ≡ other) × IsSameMember tables one last
+  read_once (Some ask) asked some other one last not never goes went = ask_once ask some other one last not never goes went
+  read_once None (Some asked) some other one last not never goes went = look_once asked some other one last not never goes went
+  read_once None None some other one last not never (still, is) (stays, so) = (is ∙ sym so, stays_same tables before its one last still stays same)
+
+  follow_once : (asked some other : List ℕ) (one last : Member) → (SaysRefused some → ⊥) → (SaysRefused other → ⊥) → FollowStep tables had has before asked some one → FollowStep tables its_had its_has its asked other last
+      → (some ≡ other) × IsSameMember tables one last
+  follow_once asked some other one last not never (inl goes) (inl went) = read_once (ask_in tables asked) (look_in asked) some other one last not never goes went
+  follow_once asked some other one last not never (inl goes) (inr (stays, memory)) = absurd (never (inl memory))
+  follow_once asked some other one last not never (inr (still, memory)) went = absurd (not (inl memory))
+
+pub one_follow_step : Beneath → OneFollowStep
+one_follow_step laws tables asked some other had has its_had its_has before its one last are shown sees same not never goes went =
+    follow_once laws tables are had has its_had its_has before its shown sees same asked some other one last not never goes went
+
+-- ---- lines one behind another
+
+module _ (tables : List TableDef) (had has : ℕ) (before after : Member) (shown : IsShown tables before) where
+  still_shown : after ≡ before → IsShown tables after
+  still_shown still = subst (IsShown tables) (sym still) shown
+
+  seen_shown : (bytes : List ℕ) (wishes : List Wish) (text : List ℕ) → SeesAnswer tables had has before bytes wishes text after → IsShown tables after
+  seen_shown bytes wishes text (inl (answer, result, seen, fits, spelled, hears, device, is)) = record { contents = hears.left; shows = hears.shows }
+  seen_shown bytes wishes text (inr (still, why)) = still_shown still
+
+  ask_shown : (ask : Ask) (text : List ℕ) → AskStep tables had has before ask text after → IsShown tables after
+  ask_shown (OnEdit edit) text goes = shown_after tables had has before after shown (OnEdit edit) text goes
+  ask_shown Push text goes = shown_after tables had has before after shown Push text goes
+  ask_shown Resend text goes = shown_after tables had has before after shown Resend text goes
+  ask_shown (Pull limit) text goes = shown_after tables had has before after shown (Pull limit) text goes
+  ask_shown (Catch limit) text goes = shown_after tables had has before after shown (Catch limit) text goes
+  ask_shown (Answer bytes wishes) text goes = seen_shown bytes wishes text goes
+  ask_shown Dump text goes = shown_after tables had has before after shown Dump text goes
+
+  read_shown : (ask : Option Ask) (asked : Option Look) (text : List ℕ) → ReadStep tables had has before ask asked text after → IsShown tables after
+  read_shown (Some ask) asked text goes = ask_shown ask text goes
+  read_shown None (Some asked) text (still, shows) = still_shown still
+  read_shown None None text (still, is) = still_shown still
+
+  follow_shown : (asked text : List ℕ) → FollowStep tables had has before asked text after → IsShown tables after
+  follow_shown asked text (inl goes) = read_shown (ask_in tables asked) (look_in asked) text goes
+  follow_shown asked text (inr (still, memory)) = still_shown still
+
+pub one_follow_run : OneFollowStep → OneFollowRun
+one_follow_run law = one_run FollowStep law (λ tables had has before after asked text shown goes. follow_shown tables had has before after shown asked text goes)

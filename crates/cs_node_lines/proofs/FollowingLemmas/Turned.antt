@@ -1,0 +1,59 @@
+-- Steps of a replica, from those of the calls.
+use Rattle.std.proofs.Common.{◌≡◌, ◌≤◌, ℕ, List, Result, Ok, Err, refl, sym, subst}
+use Rattle.std.specs.declared.alloc.AllocError.{AllocError}
+use Rattle.cs_pending.specs.Calls.{ReadsStore}
+use Rattle.cs_pending.specs.View.{View}
+use Rattle.cs_pending.specs.declared.position.position.Position.{Position}
+use Rattle.cs_pending.specs.position.Laws.{FitsPosition}
+use Rattle.cs_pending.specs.position.Shows.{ShowsAt}
+use Rattle.cs_replica.specs.Holding.{Holding, Shows}
+use Rattle.cs_replica.specs.Step.{Member, Turns, member_of}
+use Rattle.cs_store.specs.Contents.{Contents}
+use Rattle.cs_store.specs.declared.store.RowStore.{Ghosts}
+use Rattle.cs_value.specs.declared.catalog.TableDef.{TableDef}
+use Rattle.cs_node_lines.specs.declared.working.reply.Reply.{Reply}
+use Rattle.cs_node_lines.specs.working.Steps.{Counted, Makes}
+
+module _ {S : Type 0} (g : Ghosts S) where
+  -- what a step leads to
+  pub counted_map : (P Q : ℕ → ℕ → Member → Member → Type 0) (old new : Holding S)
+      → ((had has : ℕ) (before after : Member) → P had has before after → Q had has before after) → Counted g P old new → Counted g Q old new
+  counted_map P Q old new leads counted = record {
+    later = counted.later;
+    turns = record {
+      was_honest = counted.turns.was_honest;
+      catalog = counted.turns.catalog;
+      turned = λ h are fits view shows.
+          let t = counted.turns.turned h are fits view shows in
+          (t.0, t.1, t.2, leads (g.failed old.store) (g.failed new.store) (member_of old view) (member_of new t.0) t.3);
+    };
+  }
+
+  pub makes_map : {A B : Type 0} (step : List TableDef → ℕ → ℕ → Member → A → List ℕ → Member → Type 0) (other : List TableDef → ℕ → ℕ → Member → B → List ℕ → Member → Type 0)
+      (asked : A) (its : B) (result : Result Reply AllocError) (old new : Holding S)
+      → ((had has : ℕ) (before after : Member) (text : List ℕ) → step old.catalog had has before asked text after → other old.catalog had has before its text after)
+      → Makes g step asked result old new → Makes g other its result old new
+  makes_map step other asked its result old new leads (text, stepped, says) = (
+    text,
+    counted_map (λ had has before after. step old.catalog had has before asked text after) (λ had has before after. other old.catalog had has before its text after) old new
+        (λ had has before after goes. leads had has before after text goes) stepped,
+    says,
+  )
+
+  -- what a store shows that was only read
+  pub read_turns : {T E : Type 0} (device : E) (readable : Type 0) (result : Result T E) (old new : Holding S) (P : Member → Member → Type 0)
+      → ReadsStore g device readable old.store new.store result → new.catalog ≡ old.catalog → new.position ≡ old.position
+      → (g.honest new.store → (view : View) → Shows g.contents old view → P (member_of old view) (member_of old view))
+      → Turns g P old new
+  read_turns device readable result old new P reads tables still so = record {
+    was_honest = reads.was_honest;
+    catalog = tables;
+    turned = λ h are fits view shows. (
+      view,
+      subst (λ (ts : List TableDef). ShowsAt ts (g.contents new.store) new.position view) (sym tables)
+          (subst (λ (p : Position). ShowsAt old.catalog (g.contents new.store) p view) (sym still)
+          (subst (λ (c : Contents). ShowsAt old.catalog c old.position view) (sym (reads.same h)) shows)),
+      subst FitsPosition (sym still) fits,
+      subst (λ (p : Position). P (member_of old view) (record { position = p; view = view })) (sym still) (so h view shows),
+    );
+  }
