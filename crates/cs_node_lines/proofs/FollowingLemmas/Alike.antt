@@ -157,12 +157,12 @@ module _ {P Q : Type 0} (picks : P → Clash → Wish → P → Type 0) (sees : 
     merged_so : (origin first last : ℕ) (bytes : List ℕ) (result : Result Told AnswerFault) (position other : Position) (before : View) (new : Contents) (p r : P) (q : Q) → stands p q
         → TellsMerged picks tables origin first last bytes result position before p other new r
         → (next : Q) × TellsMerged sees tables origin first last bytes result position before q other new next × Stands result r next
-    merged_so origin first last bytes result position other before new p r q so (inl (not, is, here, shows, same)) =
-        (q, inl (not, is, here, shows, refl), λ count stopped. kept p r q so same)
-    merged_so origin first last bytes result position other before new p r q so (inr (inl (its, none, is, here, shows, same))) =
-        (q, inr (inl (its, none, is, here, shows, refl)), λ count stopped. kept p r q so same)
-    merged_so origin first last bytes result position other before new p r q so (inr (inr (inl (its, less, is, here, shows, same)))) =
-        (q, inr (inr (inl (its, less, is, here, shows, refl))), λ count stopped. kept p r q so same)
+    merged_so origin first last bytes result position other before new p r q so (inl (not, is, keeps)) =
+        (q, inl (not, is, (keeps.0, (keeps.1.0, refl))), λ count stopped. kept p r q so keeps.1.1)
+    merged_so origin first last bytes result position other before new p r q so (inr (inl (its, none, is, keeps))) =
+        (q, inr (inl (its, none, is, (keeps.0, (keeps.1.0, refl)))), λ count stopped. kept p r q so keeps.1.1)
+    merged_so origin first last bytes result position other before new p r q so (inr (inr (inl (its, less, is, keeps)))) =
+        (q, inr (inr (inl (its, less, is, (keeps.0, (keeps.1.0, refl))))), λ count stopped. kept p r q so keeps.1.1)
     merged_so origin first last bytes result position other before new p r q so (inr (inr (inr (its, more, done, is, told)))) =
         let n = told_so last bytes done position other before new p r q so told in
         (n.0, inr (inr (inr (its, more, done, is, n.1))), left_so result done r n.0 is n.2)
@@ -170,12 +170,12 @@ module _ {P Q : Type 0} (picks : P → Clash → Wish → P → Type 0) (sees : 
     pub answers_so : (answer : Answer) (result : Result Told AnswerFault) (position other : Position) (before : View) (new : Contents) (p r : P) (q : Q) → stands p q
         → Answers picks tables answer result position before p other new r
         → (next : Q) × Answers sees tables answer result position before q other new next × Stands result r next
-    answers_so (Short (short.Accepted origin number version)) result position other before new p r q so (tells, shows, same) =
-        (q, (tells, shows, refl), λ count stopped. kept p r q so same)
-    answers_so (Short (short.Stale newest)) result position other before new p r q so (is, here, shows, same) =
-        (q, (is, here, shows, refl), λ count stopped. kept p r q so same)
-    answers_so (Short (short.Refused code)) result position other before new p r q so (is, here, shows, same) =
-        (q, (is, here, shows, refl), λ count stopped. kept p r q so same)
+    answers_so (Short (short.Accepted origin number version)) result position other before new p r q so (tells, keeps) =
+        (q, (tells, (keeps.0, refl)), λ count stopped. kept p r q so keeps.1)
+    answers_so (Short (short.Stale newest)) result position other before new p r q so (is, keeps) =
+        (q, (is, (keeps.0, (keeps.1.0, refl))), λ count stopped. kept p r q so keeps.1.1)
+    answers_so (Short (short.Refused code)) result position other before new p r q so (is, keeps) =
+        (q, (is, (keeps.0, (keeps.1.0, refl))), λ count stopped. kept p r q so keeps.1.1)
     answers_so (Entries first entries) result position other before new p r q so (done, is, pulls) =
         let n = list_so first entries done position other before new p r q so pulls in
         (n.0, (done, is, n.1), left_so result done r n.0 is n.2)

@@ -66,7 +66,7 @@ sees_once_each p clash some other q r one two =
     let same : some ≡ other = one.wished.is ∙ sym two.wished.is in
     let left : q.wishes ≡ r.wishes = one.wished.left ∙ sym two.wished.left in
     let seen : q.seen ≡ r.seen = one.shown ∙ (ap (λ (w : Wish). seen_by w clash p.seen) same ∙ sym two.shown) in
-    (same, cc)
+    (same, λ i. record { wishes = left i; seen = seen i })
 
 -- with as many changes pending as it holds
 as_many : (tables : List TableDef) (position : Position) (contents : Contents) (view : View) → ShowsAt tables contents position view

@@ -1,0 +1,4 @@
+use Rattle.cs_node_lines.proofs.told.clash.ClashTextDisplay.fmt.Goals as goal
+
+pub returns-clause-writes : goal.returns-clause-writes
+returns-clause-writes g c = ?
