@@ -19,11 +19,14 @@ use Rattle.cs_node_lines.specs.declared.working.reply.Reply.{Reply}
 use Rattle.cs_node_lines.specs.asks.Asked.{ask_in}
 use Rattle.cs_node_lines.specs.asks.Looked.{look_in}
 use Rattle.cs_node_lines.specs.declared.asks.ask.Ask.{Ask}
+use Rattle.cs_node_lines.specs.declared.asks.ask.Ask.TheVariants as asking
 use Rattle.cs_node_lines.specs.declared.asks.look.Look.{Look}
+use Rattle.cs_conflict.specs.declared.wish.Wish.{Wish}
+use Rattle.cs_replica.specs.Step.{Member}
 use Rattle.cs_node_lines.specs.following.Endings.{EndsFollowing, replied}
 use Rattle.cs_node_lines.specs.following.FollowStep.{AskStep, FollowStep, LookStep, ReadStep}
 use Rattle.cs_node_lines.specs.following.Steps.{FollowsAll, FollowsNext, Replies}
-use Rattle.cs_node_lines.specs.working.LineStep.{SaysMemory}
+use Rattle.cs_node_lines.specs.working.LineStep.{LineStep, SaysMemory}
 use Rattle.cs_node_lines.specs.working.Replies.{reply_text}
 use Rattle.cs_node_lines.specs.working.Steps.{AllStepped, Makes, Stepped}
 use Rattle.cs_node_lines.specs.working.Texts.{unread_text}
@@ -66,6 +69,21 @@ module _ {S : Type 0} (g : Ghosts S) where
   asked_so asked ask result old new is makes =
       makes_map g AskStep FollowStep ask asked result old new
       (λ had has before after text goes. inl (subst (λ (a : Option Ask). ReadStep old.catalog had has before a (look_in asked) text after) is goes)) makes
+
+  plain_step : (tables : List TableDef) (had has : ℕ) (before after : Member) (ask : Ask) (text : List ℕ) → ((bytes : List ℕ) (wishes : List Wish) → ask ≡ asking.Answer bytes wishes → ⊥)
+      → LineStep tables had has before ask text after → AskStep tables had has before ask text after
+  plain_step tables had has before after (asking.OnEdit edit) text none goes = goes
+  plain_step tables had has before after asking.Push text none goes = goes
+  plain_step tables had has before after asking.Resend text none goes = goes
+  plain_step tables had has before after (asking.Pull limit) text none goes = goes
+  plain_step tables had has before after (asking.Catch limit) text none goes = goes
+  plain_step tables had has before after (asking.Answer bytes wishes) text none goes = absurd (none bytes wishes refl)
+  plain_step tables had has before after asking.Dump text none goes = goes
+
+  pub plain_so : (ask : Ask) (result : Result Reply AllocError) (old new : Holding S) → ((bytes : List ℕ) (wishes : List Wish) → ask ≡ asking.Answer bytes wishes → ⊥)
+      → Makes g LineStep ask result old new → Makes g AskStep ask result old new
+  plain_so ask result old new none makes =
+      makes_map g LineStep AskStep ask ask result old new (λ had has before after text goes. plain_step old.catalog had has before after ask text none goes) makes
 
   pub looked_so : (asked : List ℕ) (look : Look) (text : List ℕ) (old new : Holding S) → ask_in old.catalog asked ≡ None → Some look ≡ look_in asked
       → Stepped g LookStep look text old new → Stepped g FollowStep asked text old new

@@ -12,6 +12,9 @@ use Rattle.cs_value.specs.declared.value.Value.{Value}
 use Rattle.cs_node_lines.specs.following.FollowStep.{behind_key, has_table}
 
 
+abbrev pub Rows : Type 0
+Rows = List (List ℕ × List Value)
+
 pub found_none : (key : List ℕ) (rest : List (List ℕ × List Value)) → length rest ≡ 0 → [] ≡ behind_key key (find by_bytes key rest)
 found_none key [] none = refl
 found_none key (row ∷ rest) none = absurd (omega (arith, none))

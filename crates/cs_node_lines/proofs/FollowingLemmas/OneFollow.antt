@@ -43,10 +43,10 @@ use Rattle.cs_node_lines.specs.declared.asks.ask.Ask.TheVariants.{Answer, Catch,
 use Rattle.cs_node_lines.specs.declared.asks.look.Look.{Look}
 use Rattle.cs_node_lines.specs.declared.asks.look.Look.TheVariants as look
 use Rattle.cs_node_lines.specs.following.FollowStep.{AskStep, FollowStep, LookStep, ReadStep, Shown, TellsRows, has_table, outgoing_text, row_told}
-use Rattle.cs_node_lines.specs.following.Laws.{OneFollowRun, OneFollowStep}
+use Rattle.cs_node_lines.specs.following.Laws.{OneFollowRun, OneFollowStep, SaysNothing}
 use Rattle.cs_node_lines.specs.following.Seen.{HearsSeeing, IsSeen, Seeing, SeesAnswer, seen_by, seen_text}
 use Rattle.cs_node_lines.specs.told.Dump.{replica_text, rows_text}
-use Rattle.cs_node_lines.specs.working.Laws.{OneLineStep, SaysRefused}
+use Rattle.cs_node_lines.specs.working.Laws.{OneLineStep}
 use Rattle.cs_node_lines.specs.working.LineStep.{TakesNone}
 use Rattle.cs_node_lines.specs.working.Texts.{heard_text, refused_text, store_fault_text, wire_fault_text}
 use Rattle.cs_node_lines.proofs.WorkingLemmas.OneLine.{one_run, shown_after, stays_same, store_tells}
@@ -82,16 +82,16 @@ not_large changes none large = not_both changes [] none large (omega arith)
 
 -- a text that says something is of a result that does
 seen_tells : (tables : List TableDef) (result : Result Told AnswerFault) (seen : Option Clash) (version : ℕ) (text : List ℕ) → text ≡ seen_text tables result seen version
-    → (SaysRefused text → ⊥) → IsOfAnswer result
+    → (SaysNothing text → ⊥) → IsOfAnswer result
 seen_tells tables (Ok told) seen version text is not = tt
-seen_tells tables (Err (hearing.Memory count)) seen version text is not = not (inr (inr (hearing.Memory count, λ of. of, is)))
-seen_tells tables (Err (hearing.Device count)) seen version text is not = not (inr (inr (hearing.Device count, λ of. of, is)))
+seen_tells tables (Err (hearing.Memory count)) seen version text is not = not (inl (inr (inr (hearing.Memory count, λ of. of, is))))
+seen_tells tables (Err (hearing.Device count)) seen version text is not = not (inl (inr (inr (hearing.Device count, λ of. of, is))))
 seen_tells tables (Err (hearing.BadEntry count)) seen version text is not = tt
 
 module _ (laws : Beneath) (tables : List TableDef) (are : AreTables tables) (had has its_had its_has : ℕ) (before its : Member) (shown : IsShown tables before) (sees : IsShown tables its) (same : IsSameMember tables before its) where
   -- ---- an answer
 
-  hears_once : (wishes : List Wish) (some other : List ℕ) (one last : Member) (answer : Told_by) (result outcome : Result Told AnswerFault) (seen clash : Option Clash) → (SaysRefused some → ⊥) → (SaysRefused other → ⊥)
+  hears_once : (wishes : List Wish) (some other : List ℕ) (one last : Member) (answer : Told_by) (result outcome : Result Told AnswerFault) (seen clash : Option Clash) → (SaysNothing some → ⊥) → (SaysNothing other → ⊥)
       → HearsSeeing tables before answer wishes result seen one → some ≡ seen_text tables result seen one.position.version
       → HearsSeeing tables its answer wishes outcome clash last → other ≡ seen_text tables outcome clash last.position.version
       → (some ≡ other) × IsSameMember tables one last
@@ -116,35 +116,38 @@ module _ (laws : Beneath) (tables : List TableDef) (are : AreTables tables) (had
         record { position = sym all.1; view = record { rows = alike.0; pending = alike.1 } },
       )
 
-  sees_once : (bytes : List ℕ) (wishes : List Wish) (some other : List ℕ) (one last : Member) → (SaysRefused some → ⊥) → (SaysRefused other → ⊥) → SeesAnswer tables had has before bytes wishes some one → SeesAnswer tables its_had its_has its bytes wishes other last
+  sees_once : (bytes : List ℕ) (wishes : List Wish) (some other : List ℕ) (one last : Member) → (SaysNothing some → ⊥) → (SaysNothing other → ⊥) → SeesAnswer tables had has before bytes wishes some one → SeesAnswer tables its_had its_has its bytes wishes other last
       → (some ≡ other) × IsSameMember tables one last
-  sees_once bytes wishes some other one last not never (inl (answer, result, seen, fits, spelled, hears, device, is)) (inl (told, outcome, clash, suits, spells, again, failed, so)) =
+  sees_once bytes wishes some other one last not never (inl (answer, result, seen, fits, spelled, hears, device, inl is)) (inl (told, outcome, clash, suits, spells, again, failed, inl so)) =
       let both : Ok answer ≡ Ok told = laws.answer bytes (Ok answer) (Ok told) (fits, spelled) (suits, spells) in
       let answers : told ≡ answer = (let e = sym both in cc) in
       hears_once wishes some other one last answer result outcome seen clash not never hears is (subst (λ (a : Told_by). HearsSeeing tables its a wishes outcome clash last) answers again) so
-  sees_once bytes wishes some other one last not never (inl (answer, result, seen, fits, spelled, hears, device, is)) (inr (stays, inl (fault, wrong, so))) =
+  sees_once bytes wishes some other one last not never (inl (answer, result, seen, fits, spelled, hears, device, inr (count, stopped, is))) taken = absurd (not (inr (count, one.position.version, is)))
+  sees_once bytes wishes some other one last not never (inl (answer, result, seen, fits, spelled, hears, device, inl is)) (inl (told, outcome, clash, suits, spells, again, failed, inr (count, stopped, so))) =
+      absurd (never (inr (count, last.position.version, so)))
+  sees_once bytes wishes some other one last not never (inl (answer, result, seen, fits, spelled, hears, device, inl is)) (inr (stays, inl (fault, wrong, so))) =
       let both : Ok answer ≡ Err fault = laws.answer bytes (Ok answer) (Err fault) (fits, spelled) wrong in
       absurd cc
-  sees_once bytes wishes some other one last not never (inl (answer, result, seen, fits, spelled, hears, device, is)) (inr (stays, inr memory)) = absurd (never (inl memory))
-  sees_once bytes wishes some other one last not never (inr (still, inl (fault, wrong, is))) (inl (told, outcome, clash, suits, spells, again, failed, so)) =
+  sees_once bytes wishes some other one last not never (inl (answer, result, seen, fits, spelled, hears, device, inl is)) (inr (stays, inr memory)) = absurd (never (inl (inl memory)))
+  sees_once bytes wishes some other one last not never (inr (still, inl (fault, wrong, is))) (inl (told, outcome, clash, suits, spells, again, failed, says)) =
       let both : Err fault ≡ Ok told = laws.answer bytes (Err fault) (Ok told) wrong (suits, spells) in
       absurd cc
   sees_once bytes wishes some other one last not never (inr (still, inl (fault, wrong, is))) (inr (stays, inl (why, bad, so))) =
       let both : Err fault ≡ Err why = laws.answer bytes (Err fault) (Err why) wrong bad in
       let faults : fault ≡ why = cc in
       (is ∙ (ap (λ (f : WireFault). refused_text (wire_fault_text f)) faults ∙ sym so), stays_same tables before its one last still stays same)
-  sees_once bytes wishes some other one last not never (inr (still, inl (fault, wrong, is))) (inr (stays, inr memory)) = absurd (never (inl memory))
-  sees_once bytes wishes some other one last not never (inr (still, inr memory)) taken = absurd (not (inl memory))
+  sees_once bytes wishes some other one last not never (inr (still, inl (fault, wrong, is))) (inr (stays, inr memory)) = absurd (never (inl (inl memory)))
+  sees_once bytes wishes some other one last not never (inr (still, inr memory)) taken = absurd (not (inl (inl memory)))
 
-  ask_once : (ask : Ask) (some other : List ℕ) (one last : Member) → (SaysRefused some → ⊥) → (SaysRefused other → ⊥) → AskStep tables had has before ask some one → AskStep tables its_had its_has its ask other last
+  ask_once : (ask : Ask) (some other : List ℕ) (one last : Member) → (SaysNothing some → ⊥) → (SaysNothing other → ⊥) → AskStep tables had has before ask some one → AskStep tables its_had its_has its ask other last
       → (some ≡ other) × IsSameMember tables one last
-  ask_once (OnEdit edit) some other one last not never goes went = laws.line tables (OnEdit edit) some other had has its_had its_has before its one last are shown sees same not never goes went
-  ask_once Push some other one last not never goes went = laws.line tables Push some other had has its_had its_has before its one last are shown sees same not never goes went
-  ask_once Resend some other one last not never goes went = laws.line tables Resend some other had has its_had its_has before its one last are shown sees same not never goes went
-  ask_once (Pull limit) some other one last not never goes went = laws.line tables (Pull limit) some other had has its_had its_has before its one last are shown sees same not never goes went
-  ask_once (Catch limit) some other one last not never goes went = laws.line tables (Catch limit) some other had has its_had its_has before its one last are shown sees same not never goes went
+  ask_once (OnEdit edit) some other one last not never goes went = laws.line tables (OnEdit edit) some other had has its_had its_has before its one last are shown sees same (λ says. not (inl says)) (λ says. never (inl says)) goes went
+  ask_once Push some other one last not never goes went = laws.line tables Push some other had has its_had its_has before its one last are shown sees same (λ says. not (inl says)) (λ says. never (inl says)) goes went
+  ask_once Resend some other one last not never goes went = laws.line tables Resend some other had has its_had its_has before its one last are shown sees same (λ says. not (inl says)) (λ says. never (inl says)) goes went
+  ask_once (Pull limit) some other one last not never goes went = laws.line tables (Pull limit) some other had has its_had its_has before its one last are shown sees same (λ says. not (inl says)) (λ says. never (inl says)) goes went
+  ask_once (Catch limit) some other one last not never goes went = laws.line tables (Catch limit) some other had has its_had its_has before its one last are shown sees same (λ says. not (inl says)) (λ says. never (inl says)) goes went
   ask_once (Answer bytes wishes) some other one last not never goes went = sees_once bytes wishes some other one last not never goes went
-  ask_once Dump some other one last not never goes went = laws.line tables Dump some other had has its_had its_has before its one last are shown sees same not never goes went
+  ask_once Dump some other one last not never goes went = laws.line tables Dump some other had has its_had its_has before its one last are shown sees same (λ says. not (inl says)) (λ says. never (inl says)) goes went
 
   -- ---- what is shown
 
@@ -186,26 +189,26 @@ module _ (laws : Beneath) (tables : List TableDef) (are : AreTables tables) (had
       is ∙ (ap (λ (s : State). row_told (has_table tables name) s name (key_bytes key)) (sym states) ∙ sym so)
   shown_once look.Pending some other (outgoing, of, is) (others, its_of, so) = is ∙ (outgoing_once outgoing others of its_of ∙ sym so)
 
-  look_once : (asked : Look) (some other : List ℕ) (one last : Member) → (SaysRefused some → ⊥) → (SaysRefused other → ⊥) → LookStep tables had has before asked some one → LookStep tables its_had its_has its asked other last
+  look_once : (asked : Look) (some other : List ℕ) (one last : Member) → (SaysNothing some → ⊥) → (SaysNothing other → ⊥) → LookStep tables had has before asked some one → LookStep tables its_had its_has its asked other last
       → (some ≡ other) × IsSameMember tables one last
   look_once asked some other one last not never (still, inl shows) (stays, inl seen) = (shown_once asked some other shows seen, stays_same tables before its one last still stays same)
-  look_once asked some other one last not never (still, inl shows) (stays, inr (fault, device, so)) = absurd (store_tells fault other so never)
-  look_once asked some other one last not never (still, inr (fault, device, is)) goes = absurd (store_tells fault some is not)
+  look_once asked some other one last not never (still, inl shows) (stays, inr (fault, device, so)) = absurd (store_tells fault other so (λ says. never (inl says)))
+  look_once asked some other one last not never (still, inr (fault, device, is)) goes = absurd (store_tells fault some is (λ says. not (inl says)))
 
   -- ---- a line
 
-  read_once : (ask : Option Ask) (asked : Option Look) (some other : List ℕ) (one last : Member) → (SaysRefused some → ⊥) → (SaysRefused other → ⊥)
+  read_once : (ask : Option Ask) (asked : Option Look) (some other : List ℕ) (one last : Member) → (SaysNothing some → ⊥) → (SaysNothing other → ⊥)
       → ReadStep tables had has before ask asked some one → ReadStep tables its_had its_has its ask asked other last
       → (some ≡ other) × IsSameMember tables one last
   read_once (Some ask) asked some other one last not never goes went = ask_once ask some other one last not never goes went
   read_once None (Some asked) some other one last not never goes went = look_once asked some other one last not never goes went
   read_once None None some other one last not never (still, is) (stays, so) = (is ∙ sym so, stays_same tables before its one last still stays same)
 
-  follow_once : (asked some other : List ℕ) (one last : Member) → (SaysRefused some → ⊥) → (SaysRefused other → ⊥) → FollowStep tables had has before asked some one → FollowStep tables its_had its_has its asked other last
+  follow_once : (asked some other : List ℕ) (one last : Member) → (SaysNothing some → ⊥) → (SaysNothing other → ⊥) → FollowStep tables had has before asked some one → FollowStep tables its_had its_has its asked other last
       → (some ≡ other) × IsSameMember tables one last
   follow_once asked some other one last not never (inl goes) (inl went) = read_once (ask_in tables asked) (look_in asked) some other one last not never goes went
-  follow_once asked some other one last not never (inl goes) (inr (stays, memory)) = absurd (never (inl memory))
-  follow_once asked some other one last not never (inr (still, memory)) went = absurd (not (inl memory))
+  follow_once asked some other one last not never (inl goes) (inr (stays, memory)) = absurd (never (inl (inl memory)))
+  follow_once asked some other one last not never (inr (still, memory)) went = absurd (not (inl (inl memory)))
 
 pub one_follow_step : Beneath → OneFollowStep
 one_follow_step laws tables asked some other had has its_had its_has before its one last are shown sees same not never goes went =
@@ -240,4 +243,4 @@ module _ (tables : List TableDef) (had has : ℕ) (before after : Member) (shown
   follow_shown asked text (inr (still, memory)) = still_shown still
 
 pub one_follow_run : OneFollowStep → OneFollowRun
-one_follow_run law = one_run FollowStep law (λ tables had has before after asked text shown goes. follow_shown tables had has before after shown asked text goes)
+one_follow_run law = one_run FollowStep SaysNothing law (λ tables had has before after asked text shown goes. follow_shown tables had has before after shown asked text goes)

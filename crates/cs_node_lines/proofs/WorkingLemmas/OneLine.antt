@@ -198,11 +198,11 @@ module _ (tables : List TableDef) (had has : ℕ) (before after : Member) (shown
   shown_after Dump text (still, says) = still_shown still
 
 -- steps one behind another have one list of texts, where each has one and leaves a replica that some store shows
-module _ {A : Type 0} (step : List TableDef → ℕ → ℕ → Member → A → List ℕ → Member → Type 0) where
+module _ {A : Type 0} (step : List TableDef → ℕ → ℕ → Member → A → List ℕ → Member → Type 0) (Says : List ℕ → Type 0) where
   abbrev pub OneStep : Type 0
   OneStep =
       (tables : List TableDef) (asked : A) (some other : List ℕ) (had has its_had its_has : ℕ) (before its one last : Member)
-      → AreTables tables → IsShown tables before → IsShown tables its → IsSameMember tables before its → (SaysRefused some → ⊥) → (SaysRefused other → ⊥)
+      → AreTables tables → IsShown tables before → IsShown tables its → IsSameMember tables before its → (Says some → ⊥) → (Says other → ⊥)
       → step tables had has before asked some one → step tables its_had its_has its asked other last
       → (some ≡ other) × IsSameMember tables one last
 
@@ -213,7 +213,7 @@ module _ {A : Type 0} (step : List TableDef → ℕ → ℕ → Member → A →
 
   pub one_run : OneStep → ShowsAfter → (tables : List TableDef) (all : List A) (some other : List (List ℕ)) (had has its_had its_has : ℕ) (before its one last : Member)
       → AreTables tables → IsShown tables before → IsShown tables its → IsSameMember tables before its
-      → AllByRecursion (λ (text : List ℕ). SaysRefused text → ⊥) some → AllByRecursion (λ (text : List ℕ). SaysRefused text → ⊥) other
+      → AllByRecursion (λ (text : List ℕ). Says text → ⊥) some → AllByRecursion (λ (text : List ℕ). Says text → ⊥) other
       → InTurn (step tables) had has before all some one → InTurn (step tables) its_had its_has its all other last
       → (some ≡ other) × IsSameMember tables one last
   one_run law after tables [] [] [] had has its_had its_has before its one last are shown sees same not never (is, kept) (so, stood) = (refl, stays_same tables before its one last is so same)
@@ -230,4 +230,4 @@ module _ {A : Type 0} (step : List TableDef → ℕ → ℕ → Member → A →
   one_run law after tables (asked ∷ all) (some ∷ more) [] had has its_had its_has before its one last are shown sees same not never is so = absurd so
 
 pub one_line_run : OneLineStep → OneLineRun
-one_line_run law = one_run LineStep law (λ tables had has before after ask text shown goes. shown_after tables had has before after shown ask text goes)
+one_line_run law = one_run LineStep SaysRefused law (λ tables had has before after ask text shown goes. shown_after tables had has before after shown ask text goes)

@@ -55,10 +55,20 @@ seen_text tables (Ok (Stopped count)) (Some clash) version = line (told_text (St
 seen_text tables (Ok (Stopped count)) None version = heard_text (Ok (Stopped count)) version
 seen_text tables (Err fault) seen version = heard_text (Err fault) version
 
+-- a wish stopped, and memory was refused for the text of the clash
+abbrev pub lacking_text : ℕ → ℕ → List ℕ
+lacking_text count version = line (told_text (Stopped count) version ++ codes " clash Memory")
+
+-- the text of what became of an answer, but where memory was refused for a clash's
+abbrev pub IsSeenText : List TableDef → Result Told AnswerFault → Option Clash → ℕ → List ℕ → Type 0
+IsSeenText tables result seen version text =
+    (text ≡ seen_text tables result seen version)
+    ⊎ ((count : ℕ) × (result ≡ Ok (Stopped count)) × (text ≡ lacking_text count version))
+
 -- an answer is taken, and what became of it is printed, with what a wish stopped at; or nothing was told
 abbrev pub SeesAnswer : List TableDef → ℕ → ℕ → Member → List ℕ → List Wish → List ℕ → Member → Type 0
 SeesAnswer tables had has before bytes wishes text after =
     ((answer : Answer) × (result : Result Told AnswerFault) × (seen : Option Clash) × FitsAnswer answer × (bytes ≡ answer_spelling answer)
     × HearsSeeing tables before answer wishes result seen after × (SaysDevice result → MoreFailures had has)
-    × (text ≡ seen_text tables result seen after.position.version))
+    × IsSeenText tables result seen after.position.version text)
     ⊎ TakesNone before bytes text after

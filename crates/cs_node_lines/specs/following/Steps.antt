@@ -1,5 +1,5 @@
 -- On the way from a line to its text: no definition that a public clause cites.
-use Rattle.std.specs.Prelude.{◌≡◌, ◌⊎◌, ⊤, ℕ, Bool, true, false, List, [], ◌∷◌, ◌++◌, Option, Some, None, Result, Ok, Err, length, option_map, string_bytes}
+use Rattle.std.specs.Prelude.{◌≡◌, ◌⊎◌, ⊤, ℕ, Bool, true, false, List, [], ◌∷◌, ◌++◌, Option, Some, None, Result, Ok, Err, codes, length, option_map, string_bytes}
 use Rattle.std.specs.Io.KnownBytes.{Appends, IsAtEnd, Keeps}
 use Rattle.cs_conflict.specs.declared.clash.Clash.{Clash}
 use Rattle.cs_conflict.specs.declared.wish.Wish.{Wish}
@@ -11,7 +11,7 @@ use Rattle.cs_lines.specs.Served.{AreAllLines, AreFirstLines}
 use Rattle.cs_lines.specs.declared.serve.TheConstants.{ASKS}
 use Rattle.cs_replica.specs.Holding.{Holding}
 use Rattle.cs_replica.specs.declared.told.Told.{Told}
-use Rattle.cs_replica.specs.declared.told.Told.TheVariants.{Stopped}
+use Rattle.cs_replica.specs.declared.told.Told.TheVariants.{Confirmed, Ignored, Refused, Stale, Stopped, Taken}
 use Rattle.cs_replica.specs.Step.{Member}
 use Rattle.cs_store.specs.Calls.{MoreFailures}
 use Rattle.cs_store.specs.declared.fault.StoreFault.{StoreFault}
@@ -27,11 +27,13 @@ use Rattle.cs_node_lines.specs.declared.working.fault.NodeFault.TheVariants.{Lin
 use Rattle.cs_node_lines.specs.declared.working.reply.Reply.{Reply}
 use Rattle.cs_node_lines.specs.following.Endings.{replied}
 use Rattle.cs_node_lines.specs.following.FollowStep.{FollowStep}
-use Rattle.cs_node_lines.specs.following.Seen.{HearsSeeing}
+use Rattle.cs_node_lines.specs.following.Seen.{HearsSeeing, lacking_text}
 use Rattle.cs_node_lines.specs.working.Endings.{BreaksOff}
 use Rattle.cs_node_lines.specs.working.Replies.{reply_text}
 use Rattle.cs_node_lines.specs.working.Steps.{AllStepped, Counted, Prints, Stepped}
+use Rattle.cs_node_lines.specs.working.Texts.{heard_text}
 use Rattle.cs_node_lines.specs.told.Clash.{clash_text}
+use Rattle.cs_node_lines.specs.told.Told.{told_text}
 
 -- the note is this text, or none; where memory was refused it may be any
 abbrev pub IsNote : Note → Option (List ℕ) → Type 0
@@ -44,6 +46,18 @@ IsNote Lacking text = Unit {0}
 -- the note is of this clash, or of none
 abbrev pub IsNoteOf : List TableDef → Note → Option Clash → Type 0
 IsNoteOf tables note seen = IsNote note (option_map (clash_text tables) seen)
+
+-- what is printed of an answer of which this is noted
+abbrev pub note_text : Result Told AnswerFault → Note → ℕ → List ℕ
+note_text (Ok (Confirmed newest)) note version = heard_text (Ok (Confirmed newest)) version
+note_text (Ok Ignored) note version = heard_text (Ok Ignored) version
+note_text (Ok (Stale newest)) note version = heard_text (Ok (Stale newest)) version
+note_text (Ok (Refused code)) note version = heard_text (Ok (Refused code)) version
+note_text (Ok (Taken count)) note version = heard_text (Ok (Taken count)) version
+note_text (Ok (Stopped count)) Nothing version = heard_text (Ok (Stopped count)) version
+note_text (Ok (Stopped count)) (Text clash) version = line (told_text (Stopped count) version ++ codes " " ++ string_bytes clash)
+note_text (Ok (Stopped count)) Lacking version = lacking_text count version
+note_text (Err fault) note version = heard_text (Err fault) version
 
 -- what a wish at a clash leaves of the note
 abbrev pub Notes : Wish → List ℕ → Note → Note → Type 0

@@ -34,6 +34,6 @@ lawful_text KeyConflict false = codes "t"
 -- `clash KIND T CHANGE row VALUES own CHANGE lawful LETTERS`
 abbrev pub clash_text : List TableDef → Clash → List ℕ
 clash_text tables clash =
-    codes "clash " ++ kind_text clash.conflict.kind ++ codes " " ++ table_text (slice_get tables clash.conflict.table)
-    ++ codes " " ++ change_text clash.conflict.change ++ codes " row" ++ own_text clash.conflict.row
-    ++ codes " own " ++ change_text clash.local ++ codes " lawful " ++ lawful_text clash.conflict.kind clash.covers
+    (codes "clash " ++ kind_text clash.conflict.kind ++ codes " ") ++ table_text (slice_get tables clash.conflict.table)
+    ++ (codes " " ++ change_text clash.conflict.change ++ codes " row") ++ own_text clash.conflict.row
+    ++ (codes " own " ++ change_text clash.local ++ codes " lawful " ++ lawful_text clash.conflict.kind clash.covers)

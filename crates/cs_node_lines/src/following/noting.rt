@@ -78,20 +78,24 @@ impl<'w> Picker for Noting<'w> {
     }
 }
 
-/// No wishes, so that none stops. It carries the law of pickers to the definition of what is seen.
+/// Wishes that have run out, so that none stops. It carries the law of pickers to the definition of what is seen.
 #[derive(Drop)]
-pub(crate) struct Unwished {}
+pub(crate) struct Unwished<'w> {
+    wishes: Wishes<'w>,
+}
 
-impl Model for Unwished {
-    ghost use Rattle.std.specs.Prelude.{[], None};
+impl<'w> Model for Unwished<'w> {
+    ghost use Rattle.std.specs.Prelude.{◌≡◌, [], None};
     ghost use Rattle.cs_node_lines.specs.following.Seen.{Seeing};
 
     ghost Value = { Seeing };
 
-    ghost view = { λ _. record { wishes = []; seen = None } };
+    ghost view = { λ here. record { wishes = here.wishes; seen = None } };
+
+    ghost invariant = { λ here. here.wishes ≡ [] };
 }
 
-impl Picker for Unwished {
+impl<'w> Picker for Unwished<'w> {
     ghost use Rattle.cs_node_lines.specs.following.Seen.{IsSeen};
 
     ghost is_ready = { λ _. Unit {0} };
@@ -99,6 +103,6 @@ impl Picker for Unwished {
     ghost picks = { IsSeen };
 
     fn pick(&mut self, clash: &Clash<'_>) -> Wish {
-        Wishes::new(&[]).pick(clash)
+        self.wishes.pick(clash)
     }
 }

@@ -1,17 +1,14 @@
 //! An answer of the hub, with the clash at which a wish stops.
 
-ghost use Rattle.std.specs.Prelude.{◌≡◌, ◌++◌, List, Ok, OnOk, Option, string_bytes};
-ghost use Rattle.cs_conflict.specs.declared.clash.Clash.{Clash};
+ghost use Rattle.std.specs.Prelude.{◌≡◌, ◌++◌, Ok, OnOk, string_bytes};
 ghost use Rattle.cs_node_lines.specs.declared.asks.ask.Ask.TheVariants as line;
 ghost use Rattle.cs_node_lines.specs.following.FollowStep.{AskStep};
-ghost use Rattle.cs_node_lines.specs.following.Seen.{seen_text};
-ghost use Rattle.cs_node_lines.specs.following.Steps.{HearsNoting, IsNoteOf};
+ghost use Rattle.cs_node_lines.specs.following.Steps.{HearsNoting, note_text};
 ghost use Rattle.cs_node_lines.specs.working.Steps.{Makes};
 ghost use Rattle.cs_replica.specs.Answered.{SaysDevice};
 ghost use Rattle.cs_replica.specs.declared.told.Told.TheVariants.{Stopped};
 ghost use Rattle.cs_replica.specs.Leaves.{Counts};
 ghost use Rattle.cs_replica.specs.Step.{Turns};
-ghost use Rattle.cs_value.specs.declared.catalog.TableDef.{TableDef};
 
 use crate::following::note::Note;
 use crate::following::noting::Noting;
@@ -23,7 +20,7 @@ use cs_replica::{Replica, Told};
 use cs_store::RowStore;
 use cs_value::{Catalog, Memory};
 use cs_wire::Answer;
-use std::alloc::{AllocError, Global};
+use std::alloc::Global;
 use std::fmt::Write;
 
 /// Tells a replica the hub's answer; at each clash the next of the wishes counts, and the one at which a wish stops is noted.
@@ -45,14 +42,13 @@ fn tell_noting<S: RowStore>(
 
 /// Puts behind a text that a wish stopped, with what is noted of the clash.
 fn put_stopped(count: u64, note: &Note, version: u64, text: &mut String) -> Result<(), Memory>
-    ensures { (tables : List TableDef) → (seen : Option Clash) → IsNoteOf tables note.now seen
-        → OnOk result (string_bytes text.new ≡ string_bytes text.old ++ seen_text tables (Ok (Stopped count)) seen version) }
+    ensures { OnOk result (string_bytes text.new ≡ string_bytes text.old ++ note_text (Ok (Stopped count)) note.now version) }
 {
     let told = Told::Stopped(count);
     match note {
         Note::Nothing => put_heard(Ok(told), version, text),
         Note::Text(clash) => Ok(write!(text, "{} {clash}\n", ToldText { told, version })?),
-        Note::Lacking => Err(AllocError),
+        Note::Lacking => Ok(write!(text, "{} clash Memory\n", ToldText { told, version })?),
     }
 }
 
@@ -63,8 +59,7 @@ fn put_seen(
     version: u64,
     text: &mut String,
 ) -> Result<(), Memory>
-    ensures { (tables : List TableDef) → (seen : Option Clash) → IsNoteOf tables note.now seen
-        → OnOk result (string_bytes text.new ≡ string_bytes text.old ++ seen_text tables told seen version) }
+    ensures { OnOk result (string_bytes text.new ≡ string_bytes text.old ++ note_text told note.now version) }
 {
     match told {
         Ok(Told::Stopped(count)) => put_stopped(count, note, version, text),

@@ -1,13 +1,14 @@
 //! A clash at which a wish stopped.
 
-ghost use Rattle.std.specs.Prelude.{◌≡◌, Some, option_map};
+ghost use Rattle.std.specs.Prelude.{◌≡◌, ◌++◌, Some, codes, slice_get};
 ghost use Rattle.std.specs.Fmt.{WritesOnOk};
+ghost use Rattle.cs_text.specs.Text.{change_text};
 ghost use Rattle.cs_node_lines.specs.told.Clash.{clash_text, kind_text, lawful_text, own_text, table_text};
 
-use cs_conflict::{Clash, Kind};
+use cs_conflict::{Clash, Conflict, Kind};
 use cs_record::Row;
 use cs_text::{ChangeText, NameText, ValuesText};
-use cs_value::{Catalog, TableDef};
+use cs_value::Catalog;
 use std::fmt;
 
 fn kind_name(kind: Kind) -> &'static str
@@ -30,22 +31,52 @@ fn lawful_letters(kind: Kind, covers: bool) -> &'static str
     }
 }
 
-fn write_table<W: fmt::Write>(table: Option<&TableDef>, f: &mut fmt::Formatter<W>) -> fmt::Result
-    ensures { WritesOnOk W.write_str_gives f.old result (table_text (option_map (λ def. def.now) table.entry)) f.new }
+// `clash KIND `
+fn write_kind<W: fmt::Write>(kind: Kind, f: &mut fmt::Formatter<W>) -> fmt::Result
+    ensures { WritesOnOk W.write_str_gives f.old result (codes "clash " ++ kind_text kind ++ codes " ") f.new }
 {
-    match table {
+    write!(f, "clash {} ", kind_name(kind))
+}
+
+fn write_table<W: fmt::Write>(
+    catalog: &Catalog,
+    table: usize,
+    f: &mut fmt::Formatter<W>,
+) -> fmt::Result
+    ensures { WritesOnOk W.write_str_gives f.old result (table_text (slice_get catalog.now table)) f.new }
+{
+    match catalog.tables().get(table) {
         Some(def) => write!(f, "{}", NameText(&def.name)),
         None => f.write_str("-"),
     }
 }
 
-fn write_own<W: fmt::Write>(row: Option<&Row<'_>>, f: &mut fmt::Formatter<W>) -> fmt::Result
-    ensures { WritesOnOk W.write_str_gives f.old result (own_text (option_map (λ r. r.now) row.entry)) f.new }
+// ` CHANGE row`
+fn write_change<W: fmt::Write>(
+    conflict: &Conflict<'_>,
+    f: &mut fmt::Formatter<W>,
+) -> fmt::Result
+    ensures { WritesOnOk W.write_str_gives f.old result (codes " " ++ change_text conflict.now.change ++ codes " row") f.new }
+{
+    write!(f, " {} row", ChangeText(&conflict.change))
+}
+
+fn write_own<W: fmt::Write>(row: &Option<Row<'_>>, f: &mut fmt::Formatter<W>) -> fmt::Result
+    ensures { WritesOnOk W.write_str_gives f.old result (own_text row.now) f.new }
 {
     match row {
         Some(row) => write!(f, "{}", ValuesText(row)),
         None => f.write_str(" -"),
     }
+}
+
+// ` own CHANGE lawful LETTERS`
+fn write_local<W: fmt::Write>(clash: &Clash<'_>, f: &mut fmt::Formatter<W>) -> fmt::Result
+    ensures { WritesOnOk W.write_str_gives f.old result (codes " own " ++ change_text clash.now.local ++ codes " lawful "
+        ++ lawful_text clash.now.conflict.kind clash.now.covers) f.new }
+{
+    let letters = lawful_letters(clash.conflict.kind, clash.covers);
+    write!(f, " own {} lawful {letters}", ChangeText(&clash.local))
 }
 
 /// A clash over these tables: `clash KIND T CHANGE row VALUES own CHANGE lawful LETTERS`. It stays in its bytes.
@@ -62,11 +93,10 @@ impl fmt::Display for ClashText<'_, '_> {
 
     fn fmt<W: fmt::Write>(&self, f: &mut fmt::Formatter<W>) -> fmt::Result {
         let conflict = &self.clash.conflict;
-        write!(f, "clash {} ", kind_name(conflict.kind))?;
-        write_table(self.catalog.tables().get(conflict.table as usize), f)?;
-        write!(f, " {} row", ChangeText(&conflict.change))?;
-        write_own(conflict.row.as_ref(), f)?;
-        let letters = lawful_letters(conflict.kind, self.clash.covers);
-        write!(f, " own {} lawful {letters}", ChangeText(&self.clash.local))
+        write_kind(conflict.kind, f)?;
+        write_table(self.catalog, conflict.table as usize, f)?;
+        write_change(conflict, f)?;
+        write_own(&conflict.row, f)?;
+        write_local(self.clash, f)
     }
 }

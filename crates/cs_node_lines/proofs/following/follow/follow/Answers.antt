@@ -8,13 +8,13 @@ loop-asked-init g c =
     (following_first g.S.RowStore c.lines_taken.ensures.none (g.R.Read.remaining c.args.reader.now) (g.W.Write.contents c.args.writer.now) c.args.replica.now, λ sent. sent, c.requires)
 
 pub loop-asked-preserved : goal.loop-asked-preserved
-loop-asked-preserved g c = (
+loop-asked-preserved g c = let told = rw c.in-Ok-true.field-0-test at c.in-Ok-true.ensures.told in (
   following_on g.S.RowStore c.lines_taken.ensures.more c.loop-asked._asked (g.R.LineInput.failed c.follow_next.new.reader) (g.W.LineOutput.failed c.follow_next.new.writer)
       (g.R.Read.remaining c.args.reader.now) (g.R.Read.remaining c.loop-asked.reader) (g.R.Read.remaining c.follow_next.new.reader)
       (g.W.Write.contents c.args.writer.now) (g.W.Write.contents c.loop-asked.writer) (g.W.Write.contents c.follow_next.new.writer)
-      c.args.replica.now c.loop-asked.replica c.follow_next.new.replica c.loop-asked.invariant.0 ?,
-  ?,
-  ?,
+      c.args.replica.now c.loop-asked.replica c.follow_next.new.replica c.loop-asked.invariant.0 told,
+  λ sent. c.in-Ok-true.ensures.sent (c.loop-asked.invariant.1 sent),
+  told.2.1.turns.catalog ∙ c.loop-asked.invariant.2,
 )
 
 pub returns-in-Ok-false-clause-told : goal.returns-in-Ok-false-clause-told
@@ -22,7 +22,10 @@ returns-in-Ok-false-clause-told g c =
     following_end g.S.RowStore c.lines_taken.ensures.all c.loop-asked._asked (g.R.LineInput.failed c.follow_next.new.reader) (g.W.LineOutput.failed c.follow_next.new.writer)
     (g.R.Read.remaining c.args.reader.now) (g.R.Read.remaining c.loop-asked.reader) (g.R.Read.remaining c.follow_next.new.reader)
     (g.W.Write.contents c.args.writer.now) (g.W.Write.contents c.loop-asked.writer) (g.W.Write.contents c.follow_next.new.writer)
-    c.args.replica.now c.loop-asked.replica c.follow_next.new.replica c.loop-asked.invariant.0 ?
+    c.args.replica.now c.loop-asked.replica c.follow_next.new.replica c.loop-asked.invariant.0 (rw c.in-Ok-false.field-0-test at c.in-Ok-false.ensures.told)
+
+pub returns-in-Ok-false-clause-sent : goal.returns-in-Ok-false-clause-sent
+returns-in-Ok-false-clause-sent g c = λ sent. c.in-Ok-false.ensures.sent (c.loop-asked.invariant.1 sent)
 
 pub returns-in-Err-clause-told : goal.returns-in-Err-clause-told
 returns-in-Err-clause-told g c =
@@ -34,5 +37,5 @@ returns-in-Err-clause-told g c =
 pub returns-clause-told : goal.returns-clause-told
 returns-clause-told g c =
     let all : c.loop-asked._asked ≡ ASKS = omega arith in
-    following_without_end g.S.RowStore c.loop-asked._asked _ _ (g.R.Read.remaining c.args.reader.now) (g.R.Read.remaining c.loop-asked.reader)
+    following_without_end g.S.RowStore c.loop-asked._asked (g.R.LineInput.failed c.loop-asked.reader) (g.W.LineOutput.failed c.loop-asked.writer) (g.R.Read.remaining c.args.reader.now) (g.R.Read.remaining c.loop-asked.reader)
     (g.W.Write.contents c.args.writer.now) (g.W.Write.contents c.loop-asked.writer) c.args.replica.now c.loop-asked.replica all c.loop-asked.invariant.0
