@@ -1,7 +1,6 @@
 -- A picker that another stands for makes of a replica what the other does.
-use Rattle.std.proofs.Common.{◌≡◌, ◌≢◌, ℕ, zero, suc, List, [], ◌∷◌, Result, Ok, Err, refl, sym, ap, ◌∙◌, subst, inl, inr}
+use Rattle.std.proofs.Common.{◌≡◌, ℕ, zero, suc, List, [], ◌∷◌, Result, Ok, Err, refl, sym, subst, inl, inr}
 use Rattle.std.specs.Prelude.{Option}
-use Rattle.cs_change.specs.declared.change.Change.{Change}
 use Rattle.cs_conflict.specs.declared.clash.Clash.{Clash}
 use Rattle.cs_conflict.specs.declared.conflict.Conflict.{Conflict}
 use Rattle.cs_conflict.specs.declared.wish.Wish.{Wish}
@@ -10,9 +9,9 @@ use Rattle.cs_exchange.specs.declared.pulling.fault.AnswerFault.{AnswerFault}
 use Rattle.cs_exchange.specs.declared.pulling.fault.AnswerFault.TheVariants as fault
 use Rattle.cs_exchange.specs.declared.pulling.listing.Pulled.{Pulled}
 use Rattle.cs_exchange.specs.declared.pulling.listing.Pulled.TheVariants as pulled
-use Rattle.cs_exchange.specs.pulling.Listed.{Ends, EndsBad, EndsStopped, PullsList, PullsMany, count_of}
+use Rattle.cs_exchange.specs.pulling.Listed.{Ends, PullsList, PullsMany, count_of}
 use Rattle.cs_exchange.specs.pulling.Merged.{TakesTold}
-use Rattle.cs_exchange.specs.pulling.Pulls.{PullsOne, StopsPull}
+use Rattle.cs_exchange.specs.pulling.Pulls.{PullsOne}
 use Rattle.cs_exchange.specs.taking.Takes.{Asks, IsTaken, StopsAt, StopsTaking, TakeAll}
 use Rattle.cs_normal.specs.State.{State}
 use Rattle.cs_normal.specs.declared.normal.TableChanges.{TableChanges}
@@ -107,15 +106,18 @@ module _ {P Q : Type 0} (picks : P → Clash → Wish → P → Type 0) (sees : 
         → (next : Q) × Ends sees tables first entries result position view q next × Left result r next
     ends_so first entries (Ok (pulled.Taken count)) position view p r q so (none, same) = (q, (none, refl), kept p r q so same)
     ends_so first entries (Ok (pulled.Stopped count)) position view p r q so stopped =
-        let n = stopping_so position.flight _ view p r q stopped.conflict so stopped.stops.stops in
-        (n.0, record {
-          told = stopped.told;
-          entry = stopped.entry;
-          conflict = stopped.conflict;
-          there = stopped.there;
-          read = stopped.read;
-          stops = record { room = stopped.stops.room; others = stopped.stops.others; stops = n.1 };
-        }, n.2)
+        let n = stopping_so position.flight _ view p r q stopped.conflict so stopped.stops.stops in (
+          n.0,
+          record {
+            told = stopped.told;
+            entry = stopped.entry;
+            conflict = stopped.conflict;
+            there = stopped.there;
+            read = stopped.read;
+            stops = record { room = stopped.stops.room; others = stopped.stops.others; stops = n.1 };
+          },
+          n.2,
+        )
     ends_so first entries (Err (fault.Memory count)) position view p r q so ends = (q, tt, tt)
     ends_so first entries (Err (fault.Device count)) position view p r q so ends = (q, tt, tt)
     ends_so first entries (Err (fault.BadEntry count)) position view p r q so (bad, same) =

@@ -1,16 +1,15 @@
 -- A row among rows, and a table among tables.
 use Rattle.std.proofs.Common.{◌≡◌, ◌≢◌, ◌<◌, ◌∙◌, ◌||◌, ℕ, zero, suc, Bool, true, false, List, [], ◌∷◌, cond, refl, sym, ap, subst, length, arith}
-use Rattle.std.specs.Prelude.{All, HoldsAt, Some, codes}
+use Rattle.std.specs.Prelude.{All, HoldsAt, Some}
 use Rattle.std.specs.FinMap.{find}
 use Rattle.std.specs.Str.{bytes_eq}
 use Rattle.std.proofs.lemmas.List.Elements.{All-head, All-tail}
 use Rattle.cs_order.specs.Order.{by_bytes, same_bytes}
-use Rattle.cs_pending.specs.Spots.{key_is, key_refl, name_is, name_other, name_refl}
+use Rattle.cs_pending.specs.Spots.{key_is, key_refl, name_other, name_refl}
 use Rattle.cs_value.specs.Facts.{by_test}
 use Rattle.cs_value.specs.declared.catalog.TableDef.{TableDef}
 use Rattle.cs_value.specs.declared.value.Value.{Value}
 use Rattle.cs_node_lines.specs.following.FollowStep.{behind_key, has_table}
-
 
 abbrev pub Rows : Type 0
 Rows = List (List ℕ × List Value)

@@ -1,6 +1,6 @@
 -- A line that is answered as it comes has one text at the same replica, and leaves the same replica.
 use Rattle.std.proofs.Common.{◌≡◌, ◌∙◌, ◌<◌, ◌≤◌, ℕ, List, [], length, arith, Result, Ok, Err, Bool, true, false, refl, sym, ap, subst, inl, inr}
-use Rattle.std.specs.Prelude.{Option, Some, None, codes}
+use Rattle.std.specs.Prelude.{Option, Some, None}
 use Rattle.std.specs.FinMap.{len}
 use Rattle.cs_conflict.specs.declared.clash.Clash.{Clash}
 use Rattle.cs_conflict.specs.declared.wish.Wish.{Wish}
@@ -12,7 +12,7 @@ use Rattle.cs_normal.specs.declared.normal.TableChanges.{TableChanges}
 use Rattle.cs_normal.specs.State.{State}
 use Rattle.cs_normal.specs.keyed.Changes.{key_bytes}
 use Rattle.cs_pending.specs.Laws.{OneView}
-use Rattle.cs_pending.specs.View.{Changed, View}
+use Rattle.cs_pending.specs.View.{View}
 use Rattle.cs_pending.specs.declared.outgoing.gathering.Outgoing.{Outgoing}
 use Rattle.cs_pending.specs.declared.outgoing.gathering.Outgoing.TheVariants.{Changes, Nothing, TooLarge}
 use Rattle.cs_pending.specs.declared.position.position.Position.{Position}
@@ -24,15 +24,11 @@ use Rattle.cs_replica.specs.Laws.{IsOfAnswer, OneAnswered}
 use Rattle.cs_replica.specs.Same.{IsSameMember, IsShown}
 use Rattle.cs_replica.specs.Step.{Member}
 use Rattle.cs_replica.specs.declared.told.Told.{Told}
-use Rattle.cs_replica.specs.declared.told.Told.TheVariants.{Confirmed, Ignored, Refused, Stale, Stopped, Taken}
 use Rattle.cs_store.specs.Contents.{Contents}
-use Rattle.cs_store.specs.declared.fault.StoreFault.{StoreFault}
 use Rattle.cs_store.specs.declared.log.entry.TheConstants.{MAX_CHANGESET}
 use Rattle.cs_text.specs.Text.{changeset_text, line}
 use Rattle.cs_value.specs.Catalog.{AreTables}
-use Rattle.cs_value.specs.Key.{Place}
 use Rattle.cs_value.specs.declared.catalog.TableDef.{TableDef}
-use Rattle.cs_value.specs.declared.value.Value.{Value}
 use Rattle.cs_wire.specs.Laws.{OneToldAnswer}
 use Rattle.cs_wire.specs.declared.answer.Answer.{Answer as Told_by}
 use Rattle.cs_wire.specs.declared.fault.WireFault.{WireFault}
@@ -47,8 +43,7 @@ use Rattle.cs_node_lines.specs.following.Laws.{OneFollowRun, OneFollowStep, Says
 use Rattle.cs_node_lines.specs.following.Seen.{HearsSeeing, IsSeen, Seeing, SeesAnswer, seen_by, seen_text}
 use Rattle.cs_node_lines.specs.told.Dump.{replica_text, rows_text}
 use Rattle.cs_node_lines.specs.working.Laws.{OneLineStep}
-use Rattle.cs_node_lines.specs.working.LineStep.{TakesNone}
-use Rattle.cs_node_lines.specs.working.Texts.{heard_text, refused_text, store_fault_text, wire_fault_text}
+use Rattle.cs_node_lines.specs.working.Texts.{refused_text, wire_fault_text}
 use Rattle.cs_node_lines.proofs.WorkingLemmas.OneLine.{one_run, shown_after, stays_same, store_tells}
 
 -- the laws below
@@ -110,9 +105,9 @@ module _ (laws : Beneath) (tables : List TableDef) (are : AreTables tables) (had
       let alike = laws.views tables hears.left one.view last.view hears.shows.rows last_shown.rows in
       let clashes : seen ≡ clash = ap (λ (s : Seeing). s.seen) all.3 in (
         is
-        ∙ (ap (λ (r : Result Told AnswerFault). seen_text tables r seen one.position.version) all.0
-        ∙ (ap (λ (c : Option Clash). seen_text tables outcome c one.position.version) clashes
-        ∙ (ap (λ (p : Position). seen_text tables outcome clash p.version) all.1 ∙ sym so))),
+            ∙ (ap (λ (r : Result Told AnswerFault). seen_text tables r seen one.position.version) all.0
+            ∙ (ap (λ (c : Option Clash). seen_text tables outcome c one.position.version) clashes
+            ∙ (ap (λ (p : Position). seen_text tables outcome clash p.version) all.1 ∙ sym so))),
         record { position = sym all.1; view = record { rows = alike.0; pending = alike.1 } },
       )
 

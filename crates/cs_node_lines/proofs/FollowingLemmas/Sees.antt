@@ -13,7 +13,7 @@ use Rattle.cs_pending.specs.View.{View}
 use Rattle.cs_replica.specs.Answered.{Answers, SaysDevice}
 use Rattle.cs_replica.specs.Leaves.{Counts}
 use Rattle.cs_replica.specs.Holding.{Holding, Shows}
-use Rattle.cs_replica.specs.Step.{IsAnsweredTo, Turns, member_of}
+use Rattle.cs_replica.specs.Step.{IsAnsweredTo, Turns}
 use Rattle.cs_replica.specs.declared.told.Told.{Told}
 use Rattle.cs_replica.specs.declared.told.Told.TheVariants.{Confirmed, Ignored, Refused, Stale, Stopped, Taken}
 use Rattle.cs_pending.specs.position.Shows.{ShowsAt}
@@ -28,7 +28,7 @@ use Rattle.cs_node_lines.specs.told.Told.{told_text}
 use Rattle.cs_node_lines.specs.working.Steps.{Stepped}
 use Rattle.cs_node_lines.specs.declared.following.note.Note.{Note}
 use Rattle.cs_node_lines.specs.declared.following.note.Note.TheVariants.{Lacking, Nothing, Text}
-use Rattle.cs_node_lines.specs.following.Seen.{HearsSeeing, IsSeen, IsSeenText, Seeing, seen_by}
+use Rattle.cs_node_lines.specs.following.Seen.{IsSeen, IsSeenText, Seeing, seen_by}
 use Rattle.cs_node_lines.specs.following.Steps.{HearsNoting, IsNoteOf, IsNoted, Noted, Notes, NotesStop, note_text}
 use Rattle.cs_node_lines.specs.told.Clash.{clash_text}
 use Rattle.cs_node_lines.proofs.FollowingLemmas.Alike.{answers_so}

@@ -1,5 +1,5 @@
 -- What is shown of a replica, as the step of a line.
-use Rattle.std.proofs.Common.{◌≡◌, ◌≤◌, ◌<◌, ℕ, zero, suc, Bool, true, false, List, [], ◌∷◌, Result, Ok, Err, refl, sym, ap, ap₂, ◌∙◌, subst, inl, inr, length, arith}
+use Rattle.std.proofs.Common.{◌≡◌, ◌≤◌, ◌<◌, ℕ, zero, suc, Bool, true, false, List, [], ◌∷◌, Result, Ok, Err, refl, sym, ap, ◌∙◌, subst, inl, inr, length, arith}
 use Rattle.std.specs.Prelude.{◌⊎◌, HoldsAt, MatchResult, Some, codes, slice_get}
 use Rattle.std.specs.FinMap.{find}
 use Rattle.cs_normal.specs.keyed.Changes.{key_bytes}
@@ -10,7 +10,6 @@ use Rattle.cs_pending.specs.declared.outgoing.gathering.Outgoing.{Outgoing}
 use Rattle.cs_pending.specs.outgoing.Outgoing.{IsOutgoing}
 use Rattle.cs_pending.specs.rows.Rows.{AreRowsOf}
 use Rattle.cs_replica.specs.Holding.{Holding, Shows as Shown_by}
-use Rattle.cs_replica.specs.Leaves.{Counts}
 use Rattle.cs_replica.specs.Step.{AreRowsIn, Member, Turns, member_of}
 use Rattle.cs_store.specs.Calls.{MoreFailures}
 use Rattle.cs_store.specs.declared.fault.StoreFault.{StoreFault}
@@ -24,7 +23,7 @@ use Rattle.cs_node_lines.specs.following.FollowStep.{LookStep, Shown, TellsRows,
 use Rattle.cs_node_lines.specs.following.Steps.{ReadsOf, Shows}
 use Rattle.cs_node_lines.specs.told.Dump.{rows_text}
 use Rattle.cs_node_lines.specs.working.LineStep.{ReadsNone, SaysMemory}
-use Rattle.cs_node_lines.specs.working.Steps.{Counted, Stepped}
+use Rattle.cs_node_lines.specs.working.Steps.{Stepped}
 use Rattle.cs_node_lines.specs.working.Texts.{refused_text, store_fault_text}
 use Rattle.cs_node_lines.proofs.FollowingLemmas.Turned.{counted_map, read_turns}
 use Rattle.cs_node_lines.proofs.WorkingLemmas.Made.{stepped_still}

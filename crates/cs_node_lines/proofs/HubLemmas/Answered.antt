@@ -1,6 +1,6 @@
 -- What was answered over a store that comes back, from its parts.
-use Rattle.std.proofs.Common.{◌≡◌, ℕ, ◌<◌, ◌-◌, ◌^◌, List, [], length, refl, sym, subst}
-use Rattle.std.specs.Prelude.{◌⊎◌, ⊤, Option, Err, flat_map}
+use Rattle.std.proofs.Common.{◌≡◌, ℕ, ◌<◌, ◌-◌, ◌^◌, List, length, refl, sym, subst}
+use Rattle.std.specs.Prelude.{◌⊎◌, Option, Err, flat_map}
 use Rattle.std.specs.Io.KnownBytes.{Appends}
 use Rattle.cs_hub.specs.Calls.{AnswersHub, StaysHub}
 use Rattle.cs_hub.specs.Holding.{Holding}

@@ -1,5 +1,5 @@
 -- What is printed of a clash: another's change that can't be made on the own row, beside the own change (format of this project).
-use Rattle.std.specs.Prelude.{◌≡◌, ℕ, Bool, true, false, List, [], ◌++◌, Option, Some, None, codes, slice_get}
+use Rattle.std.specs.Prelude.{ℕ, Bool, true, false, List, ◌++◌, Option, Some, None, codes, slice_get}
 use Rattle.cs_conflict.specs.declared.clash.Clash.{Clash}
 use Rattle.cs_conflict.specs.declared.kind.Kind.{Kind}
 use Rattle.cs_conflict.specs.declared.kind.Kind.TheVariants.{DataDiffers, KeyConflict, NotFound}

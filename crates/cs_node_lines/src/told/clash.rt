@@ -52,10 +52,7 @@ fn write_table<W: fmt::Write>(
 }
 
 // ` CHANGE row`
-fn write_change<W: fmt::Write>(
-    conflict: &Conflict<'_>,
-    f: &mut fmt::Formatter<W>,
-) -> fmt::Result
+fn write_change<W: fmt::Write>(conflict: &Conflict<'_>, f: &mut fmt::Formatter<W>) -> fmt::Result
     ensures { WritesOnOk W.write_str_gives f.old result (codes " " ++ change_text conflict.now.change ++ codes " row") f.new }
 {
     write!(f, " {} row", ChangeText(&conflict.change))

@@ -1,8 +1,7 @@
-use Rattle.std.proofs.Common.{◌≡◌, ◌∙◌, ◌∷◌, List, ap, sym, subst, take, false, true}
+use Rattle.std.proofs.Common.{◌≡◌, ◌∙◌, ap, sym, take}
 use Rattle.std.specs.FinMap.{find}
 use Rattle.cs_order.specs.Order.{by_bytes}
 use Rattle.cs_pending.specs.Spots.{name_is, name_not}
-use Rattle.cs_value.specs.declared.value.Value.{Value}
 use Rattle.cs_node_lines.specs.following.FollowStep.{behind_key}
 use Rattle.cs_node_lines.proofs.FollowingLemmas.Found.{Rows, found_further, found_here}
 use Rattle.cs_node_lines.proofs.following.looking.row_at.Goals as goal

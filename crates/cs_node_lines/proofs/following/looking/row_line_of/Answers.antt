@@ -1,4 +1,4 @@
-use Rattle.std.proofs.Common.{◌≡◌, ◌∙◌, ap, rules, true}
+use Rattle.std.proofs.Common.{◌≡◌, rules, true}
 use Rattle.std.specs.Prelude.{string_bytes}
 use Rattle.cs_normal.specs.keyed.Changes.{key_bytes}
 use Rattle.cs_node_lines.specs.following.FollowStep.{row_told}
