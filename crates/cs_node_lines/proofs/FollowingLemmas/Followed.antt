@@ -1,38 +1,33 @@
 -- From the next line of an input to all of them.
 use Rattle.std.proofs.Common.{◌≡◌, ◌+◌, ℕ, List, [], ◌∷◌, ◌++◌, Result, Ok, Err, true, false, refl, sym, ap, ◌∙◌, append_assoc, append-nil, subst, inl, inr, length, arith}
-use Rattle.std.specs.Prelude.{⊤, Option, Some, None}
+use Rattle.std.specs.Prelude.{⊤, Option, Some}
 use Rattle.std.specs.declared.alloc.AllocError.{AllocError}
 use Rattle.std.specs.Io.KnownBytes.{Appends}
-use Rattle.std.proofs.KnownBytes.{Appends-kept, Appends-nil, Appends-trans, Keeps-refl}
+use Rattle.std.proofs.KnownBytes.{Appends-kept, Appends-nil, Appends-trans}
 use Rattle.cs_lines.specs.Facts.{first_taken, stays}
 use Rattle.cs_lines.specs.Laws.{AllTaken, NoneTaken, OneMoreTaken}
-use Rattle.cs_lines.specs.Reading.{AreTaken, TakesLine}
-use Rattle.cs_lines.specs.Writing.{AppendsFront}
+use Rattle.cs_lines.specs.Reading.{AreTaken}
 use Rattle.cs_lines.specs.declared.serve.TheConstants.{ASKS}
 use Rattle.cs_replica.specs.Holding.{Holding}
 use Rattle.cs_store.specs.declared.store.RowStore.{Ghosts}
 use Rattle.cs_text.specs.Text.{line}
 use Rattle.cs_value.specs.declared.catalog.TableDef.{TableDef}
 use Rattle.cs_node_lines.specs.declared.working.fault.NodeFault.{NodeFault}
-use Rattle.cs_node_lines.specs.declared.working.fault.NodeFault.TheVariants.{Line, Memory, Open, Read, Write}
+use Rattle.cs_node_lines.specs.declared.working.fault.NodeFault.TheVariants.{Read}
 use Rattle.cs_node_lines.specs.declared.working.reply.Reply.{Reply}
 use Rattle.cs_node_lines.specs.asks.Asked.{ask_in}
 use Rattle.cs_node_lines.specs.asks.Looked.{look_in}
 use Rattle.cs_node_lines.specs.declared.asks.ask.Ask.{Ask}
 use Rattle.cs_node_lines.specs.declared.asks.ask.Ask.TheVariants as asking
-use Rattle.cs_node_lines.specs.declared.asks.look.Look.{Look}
 use Rattle.cs_conflict.specs.declared.wish.Wish.{Wish}
 use Rattle.cs_replica.specs.Step.{Member}
 use Rattle.cs_node_lines.specs.following.Endings.{EndsFollowing, replied}
-use Rattle.cs_node_lines.specs.following.FollowStep.{AskStep, FollowStep, LookStep, ReadStep}
-use Rattle.cs_node_lines.specs.following.Steps.{FollowsAll, FollowsNext, Replies}
-use Rattle.cs_node_lines.specs.working.LineStep.{LineStep, SaysMemory}
-use Rattle.cs_node_lines.specs.working.Replies.{reply_text}
-use Rattle.cs_node_lines.specs.working.Steps.{AllStepped, Makes, Stepped}
-use Rattle.cs_node_lines.specs.working.Texts.{unread_text}
-use Rattle.cs_node_lines.proofs.FollowingLemmas.Turned.{counted_map, makes_map}
+use Rattle.cs_node_lines.specs.following.FollowStep.{AskStep, FollowStep, ReadStep}
+use Rattle.cs_node_lines.specs.following.Steps.{FollowsAll, FollowsNext}
+use Rattle.cs_node_lines.specs.working.LineStep.{LineStep}
+use Rattle.cs_node_lines.specs.working.Steps.{AllStepped, Makes}
+use Rattle.cs_node_lines.proofs.FollowingLemmas.Turned.{makes_map}
 use Rattle.cs_node_lines.proofs.WorkingLemmas.Going.{Opened, steps_more, steps_none, worked}
-use Rattle.cs_node_lines.proofs.WorkingLemmas.Made.{stepped_still}
 use Rattle.cs_node_lines.proofs.WorkingLemmas.Printing.{breaks_off}
 
 replied_more : (texts : List (List ℕ)) (text : List ℕ) → replied (texts ++ text ∷ []) ≡ replied texts ++ line text
@@ -45,24 +40,6 @@ one_longer (y ∷ ys) x = let more = one_longer ys x in omega (arith, more)
 
 module _ {S : Type 0} (g : Ghosts S) where
   -- ---- one line
-
-  pub replied_so : (asked : List ℕ) (reply : Reply) (read_failed : Type 0) (input left : Option (List ℕ)) (old new : Holding S) → TakesLine [] input left asked
-      → Makes g FollowStep asked (Ok reply) old new → Replies g (Ok (Some reply)) read_failed input left old new
-  replied_so asked reply read_failed input left old new took (text, goes, says) = (asked, (took, subst (λ (t : List ℕ). Stepped g FollowStep asked t old new) says goes))
-
-  pub unsaid : (asked : List ℕ) (refused : AllocError) (read_failed : Type 0) (input left : Option (List ℕ)) (old new : Holding S) → TakesLine [] input left asked
-      → Makes g FollowStep asked (Err refused) old new → Replies g (Err Memory) read_failed input left old new
-  unsaid asked refused read_failed input left old new took (text, goes, says) = (asked, text, (took, goes))
-
-  -- a line for which memory was refused
-  pub lacking : (asked text : List ℕ) (held : Holding S) → SaysMemory text → Stepped g FollowStep asked text held held
-  lacking asked text held says = stepped_still g FollowStep asked text held (λ had has m at. inr (refl, says))
-
-  pub unread : (asked text : List ℕ) (held : Holding S) → ask_in held.catalog asked ≡ None → look_in asked ≡ None → text ≡ unread_text → Stepped g FollowStep asked text held held
-  unread asked text held none nothing says =
-      stepped_still g FollowStep asked text held
-      (λ had has m at. inl (subst (λ (a : Option Ask). ReadStep held.catalog had has m a (look_in asked) text m) (sym none)
-      (subst (λ (l : Option Look). ReadStep held.catalog had has m None l text m) (sym nothing) (refl, says))))
 
   pub asked_so : (asked : List ℕ) (ask : Ask) (result : Result Reply AllocError) (old new : Holding S) → Some ask ≡ ask_in old.catalog asked
       → Makes g AskStep ask result old new → Makes g FollowStep asked result old new
@@ -84,31 +61,6 @@ module _ {S : Type 0} (g : Ghosts S) where
       → Makes g LineStep ask result old new → Makes g AskStep ask result old new
   plain_so ask result old new none makes =
       makes_map g LineStep AskStep ask ask result old new (λ had has before after text goes. plain_step old.catalog had has before after ask text none goes) makes
-
-  pub looked_so : (asked : List ℕ) (look : Look) (text : List ℕ) (old new : Holding S) → ask_in old.catalog asked ≡ None → Some look ≡ look_in asked
-      → Stepped g LookStep look text old new → Stepped g FollowStep asked text old new
-  looked_so asked look text old new none is goes =
-      counted_map g (λ had has before after. LookStep old.catalog had has before look text after) (λ had has before after. FollowStep old.catalog had has before asked text after) old new
-      (λ had has before after shows. inl (subst (λ (a : Option Ask). ReadStep old.catalog had has before a (look_in asked) text after) (sym none)
-      (subst (λ (l : Option Look). ReadStep old.catalog had has before None l text after) is shows))) goes
-
-  -- ---- and its text
-
-  pub next_failed : (fault : NodeFault) (read_failed write_failed : Type 0) (input left before : Option (List ℕ)) (old new : Holding S) → Replies g (Err fault) read_failed input left old new
-      → FollowsNext g (Err fault) read_failed write_failed input left before before old new
-  next_failed Memory read_failed write_failed input left before old new (asked, text, takes) = inr (asked, text, takes, Keeps-refl before)
-  next_failed Read read_failed write_failed input left before old new breaks = inl (refl, breaks, Keeps-refl before)
-  next_failed Write read_failed write_failed input left before old new replies = absurd replies
-  next_failed (Line number) read_failed write_failed input left before old new replies = absurd replies
-  next_failed (Open fault) read_failed write_failed input left before old new replies = absurd replies
-
-  pub next_printed : (reply : Reply) (read_failed write_failed : Type 0) (input left before after : Option (List ℕ)) (old new : Holding S) → Replies g (Ok (Some reply)) read_failed input left old new
-      → Appends before after (line (reply_text reply)) → FollowsNext g (Ok true) read_failed write_failed input left before after old new
-  next_printed reply read_failed write_failed input left before after old new (asked, takes) wrote = (asked, reply_text reply, takes, wrote)
-
-  pub next_unprinted : (reply : Reply) (read_failed write_failed : Type 0) (input left before after : Option (List ℕ)) (old new : Holding S) → Replies g (Ok (Some reply)) read_failed input left old new
-      → AppendsFront before after (line (reply_text reply)) → write_failed → FollowsNext g (Err Write) read_failed write_failed input left before after old new
-  next_unprinted reply read_failed write_failed input left before after old new (asked, takes) front failed = inr (asked, reply_text reply, takes, (front, failed))
 
   -- ---- all lines
 

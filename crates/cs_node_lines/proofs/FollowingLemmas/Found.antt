@@ -14,10 +14,6 @@ use Rattle.cs_node_lines.specs.following.FollowStep.{behind_key, has_table}
 abbrev pub Rows : Type 0
 Rows = List (List ℕ × List Value)
 
-pub found_none : (key : List ℕ) (rest : List (List ℕ × List Value)) → length rest ≡ 0 → [] ≡ behind_key key (find by_bytes key rest)
-found_none key [] none = refl
-found_none key (row ∷ rest) none = absurd (omega (arith, none))
-
 pub found_here : (key : List ℕ) (row : List ℕ × List Value) (more : List (List ℕ × List Value)) → row.0 ≡ key → row ∷ [] ≡ behind_key key (find by_bytes key (row ∷ more))
 found_here key row more is =
     let test : same_bytes key row.0 ≡ true = subst (λ (k : List ℕ). same_bytes key k ≡ true) (sym is) (key_refl key) in

@@ -4,28 +4,23 @@ use Rattle.std.specs.Prelude.{◌⊎◌, HoldsAt, MatchResult, Some, codes, slic
 use Rattle.std.specs.FinMap.{find}
 use Rattle.cs_normal.specs.keyed.Changes.{key_bytes}
 use Rattle.cs_order.specs.Order.{by_bytes}
-use Rattle.cs_pending.specs.Calls.{ReadsStore}
 use Rattle.cs_pending.specs.View.{View}
-use Rattle.cs_pending.specs.declared.outgoing.gathering.Outgoing.{Outgoing}
-use Rattle.cs_pending.specs.outgoing.Outgoing.{IsOutgoing}
 use Rattle.cs_pending.specs.rows.Rows.{AreRowsOf}
 use Rattle.cs_replica.specs.Holding.{Holding, Shows as Shown_by}
 use Rattle.cs_replica.specs.Step.{AreRowsIn, Member, Turns, member_of}
-use Rattle.cs_store.specs.Calls.{MoreFailures}
 use Rattle.cs_store.specs.declared.fault.StoreFault.{StoreFault}
-use Rattle.cs_store.specs.declared.fault.StoreFault.TheVariants as stored
 use Rattle.cs_store.specs.declared.store.RowStore.{Ghosts}
 use Rattle.cs_value.specs.declared.catalog.TableDef.{TableDef}
 use Rattle.cs_value.specs.declared.value.Value.{Value}
 use Rattle.cs_node_lines.specs.declared.asks.look.Look.{Look}
 use Rattle.cs_node_lines.specs.declared.asks.look.Look.TheVariants as look
-use Rattle.cs_node_lines.specs.following.FollowStep.{LookStep, Shown, TellsRows, behind_key, has_table, outgoing_text, row_told}
+use Rattle.cs_node_lines.specs.following.FollowStep.{LookStep, Shown, TellsRows, behind_key, has_table, row_told}
 use Rattle.cs_node_lines.specs.following.Steps.{ReadsOf, Shows}
 use Rattle.cs_node_lines.specs.told.Dump.{rows_text}
-use Rattle.cs_node_lines.specs.working.LineStep.{ReadsNone, SaysMemory}
+use Rattle.cs_node_lines.specs.working.LineStep.{ReadsNone}
 use Rattle.cs_node_lines.specs.working.Steps.{Stepped}
 use Rattle.cs_node_lines.specs.working.Texts.{refused_text, store_fault_text}
-use Rattle.cs_node_lines.proofs.FollowingLemmas.Turned.{counted_map, read_turns}
+use Rattle.cs_node_lines.proofs.FollowingLemmas.Turned.{counted_map}
 use Rattle.cs_node_lines.proofs.WorkingLemmas.Made.{stepped_still}
 
 -- the table with this number and name
@@ -100,54 +95,3 @@ module _ {S : Type 0} (g : Ghosts S) where
   pub row_of : (name key : List ℕ) (rows : List (List ℕ × List Value)) (text : List ℕ) (before : Member) → text ≡ rows_text name (behind_key key (find by_bytes key rows))
       → AreRowsOf (before.view.tables name) rows → text ≡ row_told true before.view.tables name key
   row_of name key rows text before is are = is ∙ ap (λ p. rows_text name (behind_key key p)) (are.found key)
-
-  -- the rows weren't read, or what was to be made of them couldn't
-  pub not_read : {T : Type 0} (fault : StoreFault) (said : Member → T → Type 0) (old new : Holding S)
-      → Turns g (λ before after. after ≡ before) old new → g.failed old.store ≤ g.failed new.store → (fault ≡ stored.Device → MoreFailures (g.failed old.store) (g.failed new.store))
-      → Shows g said (Err fault) old new
-  not_read fault said old new kept later cause = record {
-    later = later;
-    turns = record {
-      was_honest = kept.was_honest;
-      catalog = kept.catalog;
-      turned = λ h are fits view shows.
-          let k = kept.turned h are fits view shows in
-          (k.0, k.1, k.2, (k.3, cause));
-    };
-  }
-
-  pub not_begun : {T : Type 0} (fault : StoreFault) (said : Member → T → Type 0) (held : Holding S) → fault ≡ stored.Memory → Shows g said (Err fault) held held
-  not_begun fault said held is = record {
-    later = omega arith;
-    turns = record {
-      was_honest = λ h. h;
-      catalog = refl;
-      turned = λ h are fits view shows. (view, shows, fits, (refl, λ device. absurd (cc)));
-    };
-  }
-
-  -- ---- what is pending
-
-  pub pending_told : (readable : Type 0) (result : Result Outgoing StoreFault) (outgoing : Outgoing) (text : List ℕ) (old new : Holding S) → result ≡ Ok outgoing
-      → ReadsStore g stored.Device readable old.store new.store result → new.catalog ≡ old.catalog → new.position ≡ old.position
-      → (g.honest new.store → (view : View) → Shown_by g.contents old view → IsOutgoing old.catalog view.pending outgoing)
-      → (text ≡ outgoing_text outgoing) ⊎ SaysMemory text → Stepped g LookStep look.Pending text old new
-  pending_told readable result outgoing text old new ok reads tables still gathered (inl is) = record {
-    later = reads.later;
-    turns = read_turns g stored.Device readable result old new (λ before after. LookStep old.catalog (g.failed old.store) (g.failed new.store) before look.Pending text after)
-        reads tables still (λ h view shows. (refl, inl (outgoing, gathered h view shows, is)));
-  }
-  pending_told readable result outgoing text old new ok reads tables still gathered (inr memory) = record {
-    later = reads.later;
-    turns = read_turns g stored.Device readable result old new (λ before after. LookStep old.catalog (g.failed old.store) (g.failed new.store) before look.Pending text after)
-        reads tables still (λ h view shows. (refl, inr (stored.Memory, λ device. absurd (cc), memory)));
-  }
-
-  pub pending_failed : (readable : Type 0) (result : Result Outgoing StoreFault) (fault : StoreFault) (text : List ℕ) (old new : Holding S) → result ≡ Err fault
-      → ReadsStore g stored.Device readable old.store new.store result → new.catalog ≡ old.catalog → new.position ≡ old.position
-      → text ≡ refused_text (store_fault_text fault) → Stepped g LookStep look.Pending text old new
-  pending_failed readable result fault text old new failed reads tables still is = record {
-    later = reads.later;
-    turns = read_turns g stored.Device readable result old new (λ before after. LookStep old.catalog (g.failed old.store) (g.failed new.store) before look.Pending text after)
-        reads tables still (λ h view shows. (refl, inr (fault, λ device. reads.cause (failed ∙ ap Err device), is)));
-  }

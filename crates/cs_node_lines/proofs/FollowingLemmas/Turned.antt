@@ -1,14 +1,8 @@
 -- Steps of a replica, from those of the calls.
-use Rattle.std.proofs.Common.{◌≡◌, ℕ, List, Result, sym, subst}
+use Rattle.std.proofs.Common.{ℕ, List, Result}
 use Rattle.std.specs.declared.alloc.AllocError.{AllocError}
-use Rattle.cs_pending.specs.Calls.{ReadsStore}
-use Rattle.cs_pending.specs.View.{View}
-use Rattle.cs_pending.specs.declared.position.position.Position.{Position}
-use Rattle.cs_pending.specs.position.Laws.{FitsPosition}
-use Rattle.cs_pending.specs.position.Shows.{ShowsAt}
-use Rattle.cs_replica.specs.Holding.{Holding, Shows}
-use Rattle.cs_replica.specs.Step.{Member, Turns, member_of}
-use Rattle.cs_store.specs.Contents.{Contents}
+use Rattle.cs_replica.specs.Holding.{Holding}
+use Rattle.cs_replica.specs.Step.{Member, member_of}
 use Rattle.cs_store.specs.declared.store.RowStore.{Ghosts}
 use Rattle.cs_value.specs.declared.catalog.TableDef.{TableDef}
 use Rattle.cs_node_lines.specs.declared.working.reply.Reply.{Reply}
@@ -39,21 +33,3 @@ module _ {S : Type 0} (g : Ghosts S) where
         (λ had has before after goes. leads had has before after text goes) stepped,
     says,
   )
-
-  -- what a store shows that was only read
-  pub read_turns : {T E : Type 0} (device : E) (readable : Type 0) (result : Result T E) (old new : Holding S) (P : Member → Member → Type 0)
-      → ReadsStore g device readable old.store new.store result → new.catalog ≡ old.catalog → new.position ≡ old.position
-      → (g.honest new.store → (view : View) → Shows g.contents old view → P (member_of old view) (member_of old view))
-      → Turns g P old new
-  read_turns device readable result old new P reads tables still so = record {
-    was_honest = reads.was_honest;
-    catalog = tables;
-    turned = λ h are fits view shows. (
-      view,
-      subst (λ (ts : List TableDef). ShowsAt ts (g.contents new.store) new.position view) (sym tables)
-          (subst (λ (p : Position). ShowsAt old.catalog (g.contents new.store) p view) (sym still)
-          (subst (λ (c : Contents). ShowsAt old.catalog c old.position view) (sym (reads.same h)) shows)),
-      subst FitsPosition (sym still) fits,
-      subst (λ (p : Position). P (member_of old view) (record { position = p; view = view })) (sym still) (so h view shows),
-    );
-  }
