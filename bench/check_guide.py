@@ -9,12 +9,14 @@ An indented block of a document is one of these:
   a session    Its first line begins with `$ `. Each such line begins a command. A line that ends in a backslash goes on in the next one,
                and `<<'END'` takes all lines up to END. What stands behind a command is what it prints, output and errors together.
                Where nothing stands there, it prints nothing.
-  a file       The line before it ends with a name in code font and a colon, as `apply.c`: does. It is written under that name.
+  a file       The line before it ends with a name in code font and a colon, as `apply.c`: does. It is written under that name, where the
+               shell stands.
   no session   All others are passed over: Rust, layouts, what a block shows again, and commands without `$ `, which build the repository.
 
-A document's blocks are worked in order by one bash, in a fresh folder, with PROGRAM in the PATH as `sync`. So the functions, variables
-and files of a block are there for those behind it. Commands read an empty input. In a printed line `..` matches anything, and a line that
-is `..` matches any lines, also none. This is for what depends on the machine.
+A document's blocks are worked in order by one bash, in a fresh folder, with PROGRAM in the PATH as `sync` and the Python of this script as
+`python3`. So the functions, variables and files of a block are there for those behind it. The folders `clients` and `hub` are the repository's.
+Commands read an empty input. In a printed line `..` matches anything, and a line that is `..` matches any lines, also none. This is for what
+depends on the machine.
 
 A block that names `libcs_ffi.a` is run where LIBRARY is given. That and the header then stand in the folder, at their paths in
 the repository. The guide is run where the `sqlite3` shell and SQLite for C are there, both with the session extension.
@@ -37,8 +39,9 @@ ROOT = pathlib.Path(__file__).resolve().parent.parent
 SECONDS = 60
 
 # The documents, how many commands have to be run of each at least, and whether it needs SQLite.
-DOCUMENTS = [("README.md", 6, False), ("docs/GUIDE.md", 50, True)]
+DOCUMENTS = [("README.md", 8, False), ("docs/GUIDE.md", 70, True)]
 
+FOLDERS = ["clients", "hub"]
 PROMPT = "$ "
 FILE = re.compile(r"`([\w-]+\.[\w-]+)`:$")
 HERE = re.compile(r"<<(['\"]?)(\w+)\1")
@@ -131,8 +134,12 @@ class Shell:
         self.printed = home / "printed"
         (home / "bin").mkdir(parents=True)
         self.folder.mkdir()
+        for name in FOLDERS:
+            (self.folder / name).symlink_to(ROOT / name)
         (home / "bin" / "sync").symlink_to(program)
-        environment = {"PATH": f"{home / 'bin'}:{os.environ['PATH']}", "HOME": str(home), "LC_ALL": "C"}
+        (home / "bin" / "python3").symlink_to(sys.executable)
+        environment = {"PATH": f"{home / 'bin'}:{os.environ['PATH']}", "HOME": str(home), "LC_ALL": "C",
+                       "PYTHONDONTWRITEBYTECODE": "1"}
         self.bash = subprocess.Popen(
             ["bash", "--noprofile", "--norc"], cwd=self.folder, env=environment, start_new_session=True,
             stdin=subprocess.PIPE, stdout=subprocess.PIPE, stderr=subprocess.DEVNULL)
@@ -156,6 +163,11 @@ class Shell:
                 raise Ended("ends the shell")
             told += piece
         return self.printed.read_text(errors="backslashreplace")
+
+    def lay(self, file):
+        """Writes a file where the shell stands."""
+        stands = pathlib.Path(f"/proc/{self.bash.pid}/cwd")
+        ((stands if stands.exists() else self.folder) / file.name).write_text(file.text)
 
     def close(self):
         try:
@@ -203,7 +215,7 @@ def run_document(name, steps, home, program, library):
             lay_library(shell.folder, library)
         for step in steps:
             if isinstance(step, File):
-                (shell.folder / step.name).write_text(step.text)
+                shell.lay(step)
                 continue
             if step.wants_library and not library:
                 passed += 1
