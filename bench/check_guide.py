@@ -13,7 +13,7 @@ An indented block of a document is one of these:
                shell stands.
   no session   All others are passed over: Rust, layouts, what a block shows again, and commands without `$ `, which build the repository.
 
-A document's blocks are worked in order by one bash, in a fresh folder, with PROGRAM in the PATH as `sync` and the Python of this script as
+A document's blocks are worked in order by one bash, in a fresh folder. The PATH has PROGRAM as `sync` and the Python of this script as
 `python3`. So the functions, variables and files of a block are there for those behind it. The folders `clients` and `hub` are the repository's.
 Commands read an empty input. In a printed line `..` matches anything, and a line that is `..` matches any lines, also none. This is for what
 depends on the machine.

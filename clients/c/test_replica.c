@@ -1,4 +1,4 @@
-/* The tests of replica.c: test_replica PROGRAM FOLDER PORT TOKEN TOKEN, with a gateway over an empty hub of `stock:100` at that port, and its tokens of the replicas 1
+/* The tests of replica.c: test_replica PROGRAM FOLDER PORT TOKEN TOKEN. At that port is a gateway over an empty hub of `stock:100`, with these tokens of the replicas 1
    and 2. bench/check_clients.sh runs them. Each call's outcome is compared, and the first that is another is told with its line. */
 #include "replica.h"
 #include <stdio.h>
