@@ -1,9 +1,9 @@
-"""Refuses the program `sync` allocations, one a run, where it works on a file (`node`, `hub --file`) and where it plays a script (`world`).
+"""Refuses the program `sync` allocations, one a run, where it works on a file (`node`, `node --follow`, `hub --file`) and where it plays a script (`world`).
 
 A run ends with `sync: Memory` behind the texts of some lines, or the text of one line says that memory was refused, or the program did without. Then the
 other lines are told what they are told without that line, and the file shows what they leave of it, by a run without a refusal on a copy; where the
 run ended, what the lines leave that were told, or one more. A run makes some
-thousands of allocations: each of the first is refused, and of the others one in so many that the runs of a command are at most MOST.
+thousands of allocations: each of the first is refused, and of the others one in so many that the runs of a command are at most MOST, or so many times that.
 
 Usage: refuse_files.py SYNC REFUSE.so FOLDER [MOST]
 """
@@ -20,6 +20,9 @@ FIRST = 60
 TABLE = "t1:10"
 INSERT = "54020100743100120001000000000000000103027631"
 UPDATE = "540201007431001700010000000000000001030276310003027632"
+# Another's insert of one row, and then of the row that is inserted here too.
+TAKEN = "14000000000000000000000001000000000900000000000000010000001654020100743100120001000000000000000203027631"
+CLASHES = "14000000000000000100000001000000000900000000000000020000001654020100743100120001000000000000000103027632"
 
 
 class Wrong(Exception):
@@ -27,7 +30,7 @@ class Wrong(Exception):
 
 
 def run(words, lines, refused=0):
-    """The program's status, its lines, what it told of an error, and how many allocations it made where it didn't come to the refused one."""
+    """The program's status, its lines but the empty ones, what it told of an error, and how many allocations it made where it didn't come to the refused one."""
     reader, writer = os.pipe()
     environment = dict(os.environ, REFUSE=str(refused), LD_PRELOAD=library) if refused else None
     told = subprocess.run([sync, *words], input="".join(f"{line}\n" for line in lines), capture_output=True, text=True, timeout=120, env=environment,
@@ -35,7 +38,7 @@ def run(words, lines, refused=0):
     os.close(writer)
     with os.fdopen(reader) as it:
         made = it.read()
-    return told.returncode, told.stdout.splitlines(), told.stderr.strip(), int(made) if made else None
+    return told.returncode, [line for line in told.stdout.splitlines() if line], told.stderr.strip(), int(made) if made else None
 
 
 def copy(path, to):
@@ -48,9 +51,9 @@ def copy(path, to):
 
 
 class Command:
-    def __init__(self, name, words, begun, lines, looks, refused):
+    def __init__(self, name, words, begun, lines, looks, refused, times=1):
         """`words` have `@` in the place of the file, if there is one; it begins as `begun` leaves it, and is shown by `looks`."""
-        self.name, self.words, self.lines, self.looks, self.refused = name, words, lines, looks, re.compile(refused)
+        self.name, self.words, self.lines, self.looks, self.refused, self.times = name, words, lines, looks, re.compile(refused), times
         self.start = f"{folder}/{name}.start"
         if looks:
             self.work(self.start, begun)
@@ -101,7 +104,7 @@ class Command:
         return became
 
     def refuse_all(self):
-        step = max(1, -(-(self.count - FIRST) // (most - FIRST)))
+        step = max(1, -(-(self.count - FIRST) // (self.times * most - FIRST)))
         numbers = [*range(1, min(FIRST, self.count) + 1), *range(FIRST + 1, self.count + 1, step)]
         with ThreadPoolExecutor(2) as pool:
             became = list(pool.map(self.refuse, numbers))
@@ -118,6 +121,9 @@ COMMANDS = [
       "answer 14000000000000000100000001000000000900000000000000010000001654020100743100120001000000000000000203027631 -", "edit update t1 1 t=v2", "catch 10",
       "answer 1500000007000000000000000200000000000000040000001654020100743100120001000000000000000303027631 -"],
      ["dump", "resend", "push"], r"^(refused|fault) Memory"),
+    # Another's entry, taken; an edit, and at the end an entry at which a wish stops. The text of its clash takes five allocations, so more of all are refused.
+    ("follow", ["node", "--follow", "@", "7", TABLE], [],
+     [f"answer {TAKEN} s", "place", "edit insert t1 1 t=v1", f"answer {CLASHES} s"], ["dump", "pending"], r"^(refused|fault) Memory|clash Memory$", 5),
     # Two pushes on the base 0, of which the second is stale, one more, a pull, and a catch of both entries by another replica.
     ("hub", ["hub", "--file", "@", TABLE], [],
      [f"01000000070000000000000001000000000000000000000016{INSERT}", f"01000000080000000000000001000000000000000000000016{INSERT}",
