@@ -30,7 +30,6 @@ fn write_update(bytes: &mut [u8], at: usize, flag: bool, old: &[u8], new: &[u8])
 }
 
 /// Puts the update with the records that these bytes spell in the place of the change there.
-// Six parameters: the list in its two parts, which the caller holds apart, the place, and the update in three.
 #[inline(always)]
 pub(crate) fn put_over(
     bytes: &mut Vec<u8>,

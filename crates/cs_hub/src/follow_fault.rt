@@ -8,7 +8,7 @@ use crate::appending::AppendFault;
 use std::alloc::{AllocError, AllocFailed};
 use thiserror::Error;
 
-/// Why a hub doesn't follow an entry. Nothing has changed then. The text is the name that programs print. (Profile of this project.)
+/// Why a hub doesn't follow an entry. Nothing has changed then. The text is the name that programs print.
 #[derive(Debug, Drop, Error)]
 pub enum FollowFault {
     /// Memory was refused. It may come before any other fault.

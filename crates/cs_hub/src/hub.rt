@@ -68,7 +68,7 @@ impl<S: RowStore> Model for Hub<S> {
 impl<S: RowStore> Hub<S> {
     /// Opens the hub of these tables over a store. A store that holds nothing is laid out, in one commit: the log has no entry. Any other is
     /// only read, and judged; that its rows are those that its entries make is taken as it stands. It keeps `alloc` for later calls. At `Err`
-    /// the store comes back as it was. (Profile of this project.)
+    /// the store comes back as it was.
     ///
     /// # Errors
     ///
@@ -127,7 +127,7 @@ impl<S: RowStore> Hub<S> {
         self.newest as u64
     }
 
-    /// The entries from `first` on, at most `limit`. The store is only read. (Profile of this project.)
+    /// The entries from `first` on, at most `limit`. The store is only read.
     ///
     /// # Errors
     ///
@@ -158,7 +158,7 @@ impl<S: RowStore> Hub<S> {
     }
 
     /// The rows of the table with this number in the catalog, at the newest version, each behind the bytes of its key and in the order of
-    /// these; none past the last table. The store is only read. (Profile of this project.)
+    /// these; none past the last table. The store is only read.
     ///
     /// # Errors
     ///
@@ -227,7 +227,7 @@ impl<S: RowStore> Hub<S> {
     }
 
     /// Answers the bytes of a request with the bytes of an answer. The room of the answer to a push is taken before anything changes. A
-    /// device that fails is told as a refusal, with nothing changed. (Profile of this project.)
+    /// device that fails is told as a refusal, with nothing changed.
     ///
     /// # Errors
     ///
@@ -258,7 +258,7 @@ impl<S: RowStore> Hub<S> {
 
     /// Judges the bytes of a request: the answer that `serve` would give, were its limit the smaller of this one and `MAX_ENTRIES`; or
     /// the entry that it would append, with the answer that it would give then. The store is only read, and a device that fails is told
-    /// as a refusal. (Profile of this project.)
+    /// as a refusal.
     ///
     /// # Errors
     ///
@@ -352,7 +352,7 @@ impl<S: RowStore> Hub<S> {
     }
 
     /// Appends the entry of a push that was judged (`judge`), by a commit of the batch that came with it; the store still holds what it
-    /// held then. (Profile of this project.)
+    /// held then.
     ///
     /// # Errors
     ///

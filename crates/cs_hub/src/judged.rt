@@ -3,7 +3,7 @@
 use cs_store::Batch;
 use cs_store::log::LogEntry;
 
-/// What a request is to be answered. (Profile of this project.)
+/// What a request is to be answered.
 #[derive(Drop)]
 pub enum Judged {
     /// These bytes; nothing changes.

@@ -47,7 +47,6 @@ pub(crate) fn is_entry_of(
 }
 
 /// Judges a push by the bytes of its changeset.
-// Seven parameters: the hub's four fields, of which it lends the store alone as `&mut`, the log's limit, and the push's head and changeset.
 fn judge_bytes<S: RowStore>(
     alloc: Global,
     store: &mut S,
@@ -99,7 +98,6 @@ fn tell(head: PushHead, taken: &Result<Pushed, Refusal>, room: Vec<u8>) -> Resul
 }
 
 /// What is to become of a Push. The room of its answer is taken first.
-// Seven parameters: those of `judge_bytes`, to which they are handed on.
 pub(crate) fn judge_told<S: RowStore>(
     alloc: Global,
     store: &mut S,

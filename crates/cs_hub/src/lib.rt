@@ -6,6 +6,7 @@
 //! takes entries together for a replica that was away. `log_store` says what a store shows of a hub, `log_opening` and `log_reading` open
 //! and read that. The crate stands on consolidation (`cs_group`) and on requests and answers as bytes (`cs_wire`). Its tests stand in
 //! `cs_world_tests`.
+//! What names no section of SQLite's documentation is profile of this project.
 #![tactic(auto)]
 
 pub mod appending;

@@ -37,7 +37,6 @@ pub(crate) fn refuse(alloc: Global, refusal: &Refusal) -> Result<Vec<u8>, Memory
 }
 
 /// The answer to a Pull. A device that fails is told by its code.
-// Six parameters: the hub's four fields, of which it lends the store alone as `&mut`, and the request's two numbers.
 pub(crate) fn pull_at<S: RowStore>(
     alloc: Global,
     store: &mut S,
@@ -84,7 +83,6 @@ fn merged_told(
 }
 
 /// What a replica that asks to catch up from a version on is told, where the log has come to that.
-// Seven parameters: the allocator, the hub's store, tables and count, which it lends apart, and the request's three numbers.
 fn told_at<S: RowStore>(
     alloc: Global,
     store: &mut S,
@@ -111,7 +109,6 @@ fn told_at<S: RowStore>(
 }
 
 /// The answer to a Catch. A device that fails is told by its code.
-// Seven parameters: the hub's four fields, of which it lends the store alone as `&mut`, and the request's three numbers.
 pub(crate) fn catch_told<S: RowStore>(
     alloc: Global,
     store: &mut S,

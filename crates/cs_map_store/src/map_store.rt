@@ -127,7 +127,6 @@ fn write_rest(
 }
 
 /// Takes all the memory that the batch needs, and then writes it. Leaves are looked for near where the last look-ups ended.
-// Seven parameters: the store's fields, of which rows, values and log are lent apart as `&mut`, and the batch.
 fn write(
     alloc: Global,
     shelves: &mut Shelves,

@@ -3,6 +3,7 @@
 //! answered, by what, and what the store holds then, whatever ended it. The crate stands on replicas (`cs_replica`), hubs
 //! (`cs_hub`) and lines (`cs_lines`).
 //! Its tests stand in `cs_replica_tests`, and its texts are compared by `bench/check_node.sh` and `bench/check_sessions.sh`.
+//! What names no section of SQLite's documentation is profile of this project.
 #![tactic(auto)]
 
 pub mod asks;

@@ -4,6 +4,7 @@
 //! replica's steps; `meet_nodes` says of two nodes that they are at rest at one version, and then their rows are the same.
 //! `plans` runs nodes in threads; `books` are hubs on the shared log.
 //! Its tests stand in `cs_nodes_tests` and `cs_spine_tests`.
+//! What names no section of SQLite's documentation is profile of this project.
 #![tactic(auto)]
 
 pub mod books;

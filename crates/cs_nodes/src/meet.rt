@@ -13,7 +13,7 @@ use cs_spine::Spine;
 use cs_store::RowStore;
 
 /// Whether both nodes are at one version, with nothing pending and nothing under way. Where they are, and they are nodes of one catalog,
-/// they have the same rows. It takes no memory. (Profile of this project.)
+/// they have the same rows. It takes no memory.
 pub fn meet_nodes<S: RowStore, T: RowStore>(
     spine: &Spine,
     one: &Node<'_, S>,

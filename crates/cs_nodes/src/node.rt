@@ -39,7 +39,7 @@ use cs_value::{Catalog, Edit};
 use std::alloc::Global;
 use std::marker::Model;
 
-/// A replica, and a pass of the row of cells that it follows. Contracts see it as both. (Profile of this project.)
+/// A replica, and a pass of the row of cells that it follows. Contracts see it as both.
 #[derive(Drop)]
 pub struct Node<'s, S: RowStore> {
     replica: Replica<S>,
@@ -106,7 +106,7 @@ impl<'s, S: RowStore> Node<'s, S> {
     }
 
     /// A node of a replica that stands on what the pass knows, as a new one does (`crate::following::laws::fresh_stands`). It takes no
-    /// memory. (Profile of this project.)
+    /// memory.
     pub fn new(replica: Replica<S>, pass: Pass<'s>) -> Node<'s, S>
         requires within { replica.position.version ≤ length pass.known }
         requires stands { StandsWhereHonest S.RowStore pass.known replica }
@@ -158,7 +158,7 @@ impl<'s, S: RowStore> Node<'s, S> {
     }
 
     /// The rows of the table with this number in the catalog, each behind the bytes of its key and in the order of these; none past
-    /// the last table. The store is only read. (Profile of this project.)
+    /// the last table. The store is only read.
     pub fn rows(&mut self, alloc: Global, table: usize) -> Result<Vec<RowAtKey>, StoreFault>
         // They are the rows that the store shows.
         ensures listed { S.honest self.new.replica.store → (view : View) → Shows S.contents self.old.replica view → (def : TableDef)
@@ -176,7 +176,6 @@ impl<'s, S: RowStore> Node<'s, S> {
     }
 
     /// Makes an edit of one row. The first fault that holds is told: `NoTable`, `Width`, `NullKey`, `KeyColumn`, `Exists`, `Missing`.
-    /// (Profile of this project.)
     ///
     /// # Errors
     ///
@@ -247,7 +246,7 @@ impl<'s, S: RowStore> Node<'s, S> {
 
     /// Offers the push that is under way, or one that is made of what is pending, for the cell at the replica's version, and takes what
     /// that cell holds: the push is then confirmed, or another's entry taken. Nothing to push is told first, then that entries are
-    /// known which weren't taken. (Profile of this project.)
+    /// known which weren't taken.
     ///
     /// # Errors
     ///

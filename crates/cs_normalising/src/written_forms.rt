@@ -15,7 +15,6 @@ use cs_value::Memory;
 use std::alloc::Global;
 
 /// Appends the normal form of the change at a place, if one is left, and picks its key.
-// Six parameters: the table's changes and a place among them, and the room and the two lists that are written into.
 #[inline(always)]
 fn keep_at(
     marks: &[bool],

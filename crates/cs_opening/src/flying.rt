@@ -21,7 +21,6 @@ use cs_value::{Catalog, TableDef};
 use std::alloc::Global;
 
 /// Whether a change leads to what stood at its place before what is pending.
-// Six parameters: allocator, store and catalog, the push's change and its place, and the room written into.
 fn leads_before<S: RowStore>(
     alloc: Global,
     store: &mut S,
@@ -53,7 +52,6 @@ fn leads_before<S: RowStore>(
 }
 
 /// Whether the changes of a table lead to what stood at their places before what is pending.
-// Seven parameters: allocator, store and catalog, the catalog's table with its number, the push's changes of it, and the room written into.
 fn all_lead_before<S: RowStore>(
     alloc: Global,
     store: &mut S,

@@ -14,7 +14,6 @@ use cs_value::TableDef;
 use std::alloc::Global;
 
 /// Whether a listed change leads to what stands at its place.
-// Six parameters: the store, the table in three forms (definition, marks as bytes, number), the listed change, and the room written into.
 fn leads_there<S: RowStore>(
     store: &mut S,
     table: &TableDef,
@@ -36,7 +35,6 @@ fn leads_there<S: RowStore>(
 }
 
 /// Whether each listed change leads to what stands at its place.
-// Six parameters: those of `leads_there`, with all listed changes for one; the marks are made bytes once for all of them.
 fn all_lead<S: RowStore>(
     store: &mut S,
     table: &TableDef,

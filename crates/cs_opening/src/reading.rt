@@ -49,7 +49,6 @@ fn flight_of(
 }
 
 /// The position that the values are, if they are one.
-// Six parameters: the allocator, the replica's tables and id, and three values, each as a read of the store gave it.
 fn position_of(
     alloc: Global,
     catalog: &Catalog,

@@ -293,7 +293,6 @@ fn stage<S: RowStore>(
 /// # Errors
 ///
 /// The first fault that holds: `NoTable`, `Width` (of a row, a key or fields), `NullKey`, `KeyColumn`, `Exists`, `Missing`; `Memory` and `Device`.
-// Six parameters: the allocator, a replica's store, catalog and count, which it lends apart, and the edit by a table's name.
 pub fn edit_row<S: RowStore>(
     alloc: Global,
     store: &mut S,

@@ -60,7 +60,6 @@ fn push_row(
 }
 
 /// Appends the edit of a pending change, where one was pending or is. It answers whether one is.
-// Six parameters: the list written into and its allocator, the place, whether a change was pending there, and the rows `base` and `mine`.
 fn push_pending(
     edits: &mut PlaceEdits,
     alloc: Global,
@@ -121,7 +120,6 @@ impl Settling {
 
     /// A place settled: there stands `mine`, and what is pending is the net change from `base` to it. What stood there before this
     /// is `before`. A row or a pending change that stays as it is has no edit. An `Err` may leave a part of it there.
-    // Six parameters: the edits and their allocator, the place, what stood there, and the rows `base` and `mine`.
     pub fn settle(
         &mut self,
         alloc: Global,

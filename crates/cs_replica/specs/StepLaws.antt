@@ -1,4 +1,4 @@
--- The laws of a replica as it is shown: what is told it leaves its id, and each step of it has one result.
+-- The laws of a replica as it is shown: each step of it has one result.
 use Rattle.std.specs.Prelude.{◌≡◌, List, Result, Ok, Err, IsUtf8}
 use Rattle.std.specs.List.{AllByRecursion}
 use Rattle.cs_conflict.specs.declared.wish.Wish.{Wish}
@@ -22,13 +22,6 @@ use Rattle.cs_wire.specs.Requests.{Asked}
 use Rattle.cs_wire.specs.declared.answer.Answer.{Answer}
 use Rattle.cs_replica.specs.Step.{AreEditedTo, Hears, IsAskedAgain, IsEditedTo, IsPushAsked, Member}
 use Rattle.cs_replica.specs.Same.{IsSameMember, IsShown}
-
--- whatever is told, a replica has the id that it had
-abbrev pub HearsKeepsId : Type 0
-HearsKeepsId =
-    (tables : List TableDef) (before after : Member) (answer : Answer) (wishes : List Wish) (result : Result Told AnswerFault)
-    → Hears tables before answer wishes result after
-    → after.position.id ≡ before.position.id
 
 -- ---- an edit
 

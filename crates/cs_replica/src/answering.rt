@@ -33,7 +33,6 @@ fn is_accepted(position: &Position, origin: u32, number: u64, version: u64) -> b
 }
 
 /// The hub has accepted a push as the entry before this version: where it is the one that is under way, it is confirmed.
-// Seven parameters: the allocator, the replica's three fields, which it lends apart, and the answer's three numbers as their variant has them.
 fn accept_at<S: RowStore>(
     alloc: Global,
     store: &mut S,
@@ -68,7 +67,6 @@ fn is_for_it(position: &Position, origin: u32, first: u64) -> bool
 }
 
 /// Takes entries that are told together, from the version up to another, as one changeset.
-// Seven parameters: the allocator, the replica's three fields, which it lends apart, the version, the changeset, and the picker.
 fn merge_at<S: RowStore, P: Picker>(
     alloc: Global,
     store: &mut S,
@@ -101,7 +99,6 @@ fn merge_at<S: RowStore, P: Picker>(
 }
 
 /// Takes an answer of the hub.
-// Six parameters: the allocator, the replica's three fields, which it lends apart, the answer, and the picker.
 pub(crate) fn answer_at<S: RowStore, P: Picker>(
     alloc: Global,
     store: &mut S,

@@ -19,7 +19,6 @@ use cs_value::{Catalog, Edit};
 use std::alloc::Global;
 
 /// Edits a row of the table of a name.
-// Six parameters: the allocator, the replica's three fields, which it lends apart, and the edit by a table's name.
 pub(crate) fn edit_at<S: RowStore>(
     alloc: Global,
     store: &mut S,

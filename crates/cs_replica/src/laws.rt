@@ -1,7 +1,7 @@
 //! The laws of replicas that stand on a log, of answers, and of a replica's steps, each the contract of a function that does nothing.
 
 ghost use Rattle.cs_replica.specs.Laws.{AnswerHasResult, EditStands, EntryStands, EqualAtRest, FirstStands, FlightFits, KeptStands, LeadStands, OneAnswered, StandsLonger};
-ghost use Rattle.cs_replica.specs.StepLaws.{EditHasResult, HearsKeepsId, OneEdited, OneEditedAll, OneHeard, OnePushed, OneResent, PushHasResult};
+ghost use Rattle.cs_replica.specs.StepLaws.{EditHasResult, OneEdited, OneEditedAll, OneHeard, OnePushed, OneResent, PushHasResult};
 
 use cs_conflict::Picker;
 use cs_conflict::wish_list::Wishes;
@@ -67,11 +67,6 @@ pub fn answer_has_result<P: Picker>()
     cs_exchange::pulling::laws::list_has_result::<P>();
     cs_exchange::pulling::laws::told_has_result::<P>();
 }
-
-/// Whatever is told, a replica has the id that it had.
-pub fn hears_keeps_id()
-    ensures { HearsKeepsId }
-{}
 
 /// But for faults of the store an edit has one result, and leaves one replica.
 pub fn one_edited()

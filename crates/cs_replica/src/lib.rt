@@ -6,6 +6,7 @@
 //! version have the same rows, and that an edit, a push and an answer have one result.
 //! Each of these says the step that it is from one shown replica to the next (`specs/Step.antt`).
 //! Its tests stand in `cs_replica_tests`.
+//! What names no section of SQLite's documentation is profile of this project.
 #![tactic(auto)]
 
 mod answering;

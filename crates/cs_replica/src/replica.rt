@@ -52,7 +52,7 @@ use cs_wire::{Answer, RequestBuf};
 use std::alloc::Global;
 use std::marker::Model;
 
-/// Tables that are edited offline, over a store. Contracts see it as what it holds. (Profile of this project.)
+/// Tables that are edited offline, over a store. Contracts see it as what it holds.
 #[derive(Drop)]
 pub struct Replica<S: RowStore> {
     store: S,
@@ -120,7 +120,7 @@ impl<S: RowStore> Replica<S> {
         }
     }
 
-    /// Forgets what it holds in memory of the store, and reads the store again. (Profile of this project.)
+    /// Forgets what it holds in memory of the store, and reads the store again.
     ///
     /// # Errors
     ///
@@ -175,7 +175,7 @@ impl<S: RowStore> Replica<S> {
     }
 
     /// What is pending, as one changeset in normal form, or that nothing is, or that it has more bytes than a push may have. The
-    /// store is only read. (Profile of this project.)
+    /// store is only read.
     pub fn pending(&mut self, alloc: Global) -> Result<Outgoing, StoreFault>
         // It is what the store shows as pending.
         ensures gathered { S.honest self.new.store → (view : View) → Shows S.contents self.old view
@@ -191,7 +191,7 @@ impl<S: RowStore> Replica<S> {
     }
 
     /// The rows of the table with this number in the catalog, each behind the bytes of its key and in the order of these; none past
-    /// the last table. The store is only read. (Profile of this project.)
+    /// the last table. The store is only read.
     pub fn rows(&mut self, alloc: Global, table: usize) -> Result<Vec<RowAtKey>, StoreFault>
         // They are the rows that the store shows.
         ensures listed { S.honest self.new.store → (view : View) → Shows S.contents self.old view
@@ -213,7 +213,7 @@ impl<S: RowStore> Replica<S> {
     }
 
     /// Puts a row where there is none: one row and one pending change are written, in one commit. The first fault that holds is
-    /// told: `NoTable`, `Width`, `NullKey`, `Exists`. (Profile of this project.)
+    /// told: `NoTable`, `Width`, `NullKey`, `Exists`.
     pub fn insert(&mut self, alloc: Global, table: &str, row: &Row) -> Result<(), EditFault>
         // The edit is made, in one commit; at `Err` nothing has changed.
         ensures writes { WritesStore S.RowStore Device (ShowsSomeAt self.old.catalog self.old.position (S.contents self.old.store))
@@ -369,7 +369,7 @@ impl<S: RowStore> Replica<S> {
     }
 
     /// Makes what is pending the push that is under way, in one commit before it answers, and gives the request that tells the hub
-    /// of it. The first fault that holds is told: `Nothing`, `InFlight`, `Spent`, `TooLarge`. (Profile of this project.)
+    /// of it. The first fault that holds is told: `Nothing`, `InFlight`, `Spent`, `TooLarge`.
     pub fn make_push(&mut self, alloc: Global) -> Result<RequestBuf, PushFault>
         // What was pending is under way, in one commit; at `Err` nothing has changed.
         ensures writes { WritesStore S.RowStore push.Device (ShowsSomeAt self.old.catalog self.old.position (S.contents self.old.store))
@@ -410,7 +410,7 @@ impl<S: RowStore> Replica<S> {
         }
     }
 
-    /// The push that is under way, as the entry of the log that it would be; `None` where none is. (Profile of this project.)
+    /// The push that is under way, as the entry of the log that it would be; `None` where none is.
     ///
     /// # Errors
     ///
@@ -517,7 +517,7 @@ impl<S: RowStore> Replica<S> {
     /// Takes an answer of the hub. A push that was accepted is confirmed, where it is the one that is under way; entries are taken one
     /// after another, each in a commit of its own: those before the version are passed over, and the list ends where the picker
     /// stops, and at an entry behind the one at the version. What was taken stays, whatever comes later. Entries that are told together
-    /// are taken in one commit, where they are for this replica and begin at its version. (Profile of this project.)
+    /// are taken in one commit, where they are for this replica and begin at its version.
     pub fn answer<P: Picker>(
         &mut self,
         alloc: Global,

@@ -1,6 +1,6 @@
 //! What becomes of an answer.
 
-/// What became of an answer of the hub. (Profile of this project.)
+/// What became of an answer of the hub.
 #[derive(Clone, Copy, Debug, PartialEq, Eq)]
 pub enum Told {
     /// The push that was under way is the entry before this version, and confirmed.

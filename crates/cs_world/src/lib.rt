@@ -7,6 +7,7 @@
 //! (`specs/Stops.antt`). `laws` says why: a world that began with nothing stays sound, whatever happens in it, and what is sound has the
 //! headline. It knows nothing of text. The crate stands on `cs_hub` and `cs_replica`, whose calls each event makes. Its tests stand
 //! in `cs_world_tests`.
+//! What names no section of SQLite's documentation is profile of this project.
 #![tactic(auto)]
 
 mod event;

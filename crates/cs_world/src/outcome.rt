@@ -6,7 +6,7 @@ use cs_opening::OpenFault;
 use cs_pending::EditFault;
 use cs_replica::Told;
 
-/// What an event comes to. (Profile of this project.)
+/// What an event comes to.
 #[derive(Clone, Copy, Debug, PartialEq, Eq)]
 pub enum Outcome {
     /// The row was edited, or the replica read its store again.

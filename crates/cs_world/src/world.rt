@@ -20,7 +20,7 @@ use std::marker::Model;
 
 /// A hub, replicas and all that was ever sent between them, over any stores, moved by events. Replicas and messages are numbered from 0,
 /// messages as they are sent; they are kept for ever, and each reaches whom it is for as often as an event says so, or never. Contracts see
-/// it as what it holds. (Profile of this project.)
+/// it as what it holds.
 #[derive(Drop)]
 pub struct World<S: RowStore> {
     pub(crate) core: Core<S>,
@@ -42,7 +42,7 @@ impl<S: RowStore> Model for World<S> {
 
 impl<S: RowStore + Drop> World<S> {
     /// A world in which nothing has happened, over stores that hold nothing: a hub of these tables, and a replica over each other store,
-    /// of which the first has the number and the id 0. (Profile of this project.)
+    /// of which the first has the number and the id 0.
     ///
     /// # Errors
     ///
@@ -78,7 +78,7 @@ impl<S: RowStore + Drop> World<S> {
 }
 
 impl World<MapStore> {
-    /// A world in which nothing has happened, in memory, of so many replicas. (Profile of this project.)
+    /// A world in which nothing has happened, in memory, of so many replicas.
     ///
     /// # Errors
     ///
@@ -115,7 +115,7 @@ impl<S: RowStore> World<S> {
         let _core = &self.core;
     }
 
-    /// Makes an event happen. (Profile of this project.)
+    /// Makes an event happen.
     pub fn step(&mut self, event: &Event) -> Outcome
         ensures ran { Runs S.RowStore MAX_ENTRIES self.old (event.now ∷ []) (result ∷ []) self.new }
 
@@ -130,7 +130,7 @@ impl<S: RowStore> World<S> {
         self.core.step(event)
     }
 
-    /// Makes events happen, one behind another. The room of the outcomes is taken before the first. (Profile of this project.)
+    /// Makes events happen, one behind another. The room of the outcomes is taken before the first.
     ///
     /// # Errors
     ///

@@ -15,7 +15,7 @@ use cs_tools::ToolFault;
 use std::alloc::{AllocError, AllocFailed};
 use thiserror::Error;
 
-/// Why a run ended before all was done. The text is what is told of it behind `sync: `. (Profile of this project.)
+/// Why a run ended before all was done. The text is what is told of it behind `sync: `.
 #[derive(Debug, Drop, Error)]
 pub enum RunFault<'w> {
     /// The command line isn't taken, or asks for nothing.

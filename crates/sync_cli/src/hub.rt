@@ -14,7 +14,7 @@ use cs_store::RowStore;
 use cs_value::Catalog;
 use std::alloc::Global;
 
-/// Answers each line of the input as a new hub of these tables, over a store in memory. (Profile of this project.)
+/// Answers each line of the input as a new hub of these tables, over a store in memory.
 pub fn serve_hub<'w, R: LineInput, W: LineOutput>(
     alloc: Global,
     catalog: &Catalog,
@@ -51,7 +51,7 @@ fn in_memory<'w>(fault: ServingFault) -> RunFault<'w>
     }
 }
 
-/// The same over the store that the opener gives for a file. (Profile of this project.)
+/// The same over the store that the opener gives for a file.
 pub fn serve_file<'w, O: Opener, R: LineInput, W: LineOutput>(
     alloc: Global,
     opener: &mut O,
@@ -84,7 +84,7 @@ fn told_of<'w>(ended: Result<(), ServingFault>) -> Result<(), RunFault<'w>>
     }
 }
 
-/// The one or the other. (Profile of this project.)
+/// The one or the other.
 pub fn serve_asked<'w, O: Opener, R: LineInput, W: LineOutput>(
     alloc: Global,
     opener: &mut O,

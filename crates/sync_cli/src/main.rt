@@ -9,6 +9,7 @@
 //! input and output are none such in the toolchain, and `main`, which hands `run` the words and the streams, has no clause.
 //! What the built program reads and writes on files and pipes is shown by runs instead: the stored run (`stdin`, `stdout`),
 //! and `bench/check_program.sh`, `bench/check_sessions.sh` and `bench/check_files.sh`, which are its tests.
+//! What names no section of SQLite's documentation is profile of this project.
 #![tactic(auto)]
 
 mod fault;

@@ -16,7 +16,6 @@ use cs_value::Catalog;
 use std::alloc::Global;
 
 /// Reads the input whole, opens the replica with this id in the store that the opener gives for a file, and does what the lines ask.
-// Seven parameters: the allocator, the opener, what the words name (file, id, tables), read apart, and the input and the output.
 pub fn work_file<'w, O: Opener, R: LineInput, W: LineOutput>(
     alloc: Global,
     opener: &mut O,
@@ -43,7 +42,6 @@ pub fn work_file<'w, O: Opener, R: LineInput, W: LineOutput>(
 }
 
 /// Opens the replica with this id in the store that the opener gives for a file, and answers each line of the input as it comes.
-// Seven parameters: those of `work_file`.
 pub fn follow_file<'w, O: Opener, R: LineInput, W: LineOutput>(
     alloc: Global,
     opener: &mut O,

@@ -24,7 +24,7 @@ use std::alloc::Global;
 use std::convert::AsStr;
 
 /// Runs `sync` on its words, of which the first is the program's name. Stores in files and readers of files come from the opener. Where all was done, also where
-/// help was asked for, what was written is sent. (Profile of this project.)
+/// help was asked for, what was written is sent.
 pub fn run<'w, S: AsStr, O: Opener + InputFiles, R: LineInput, W: LineOutput>(
     alloc: Global,
     opener: &mut O,

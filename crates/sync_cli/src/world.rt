@@ -10,7 +10,7 @@ use cs_script::{ScriptFault, run_script};
 use cs_value::Catalog;
 use std::alloc::Global;
 
-/// Plays the script that the input has in a new world of so many replicas of these tables. (Profile of this project.)
+/// Plays the script that the input has in a new world of so many replicas of these tables.
 pub fn play_script<'w, R: LineInput, W: LineOutput>(
     alloc: Global,
     count: u32,

@@ -44,7 +44,6 @@ pub fn defined(column: &Column<'_>) -> bool
 }
 
 /// Appends the two records of two updates taken together, and tells whether a column is left that they modify.
-// Six parameters: the two records of each update, and the two that are made.
 #[tactic(auto, unfolding(crate::specs::Then::then_old_fields, crate::specs::Then::then_new_fields, crate::specs::Columns::is_blank))]
 pub(crate) fn put_then_columns(
     old_earlier: &Record<'_>,

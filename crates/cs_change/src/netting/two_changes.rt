@@ -86,7 +86,6 @@ fn push_flagged(flag: bool, change: &Change<'_>, out: &mut ChangesBuf) -> Result
 }
 
 /// Appends two updates as one, if a column is left.
-// Seven parameters: the two records of each update, the flag of both, and what is written into.
 fn push_updates(
     flag: bool,
     old_earlier: &Record<'_>,
@@ -113,7 +112,6 @@ fn push_updates(
 }
 
 /// The update from one row to another, if they differ. Its records are made in `scratch`.
-// Five parameters: the flag, the table's key columns, the two rows, and what the records are made in.
 #[tactic(auto, unfolding(crate::specs::Net::net))]
 pub(crate) fn net_update<'a>(
     flag: bool,
@@ -140,7 +138,6 @@ pub(crate) fn net_update<'a>(
 }
 
 /// Appends the update from one row to another, if they differ. An `Err` appends nothing.
-// Six parameters: the table's key columns, the two rows, the flag, and what is written into.
 pub fn push_net(
     flag: bool,
     marks: &[bool],

@@ -31,7 +31,6 @@ pub enum Pulled {
 }
 
 /// Pulls the entry that is told at the position's version.
-// Six parameters: the allocator, the replica's store, catalog and position, which it lends apart, what is told, and the picker.
 fn pull_told<S: RowStore, P: Picker>(
     alloc: Global,
     store: &mut S,
@@ -85,7 +84,6 @@ fn ended(fault: PullFault, count: u64) -> Result<Pulled, AnswerFault>
 ///
 /// `BadEntry` at an entry that can't be read or isn't defined on the log's rows, `Memory` and `Device`, each with how many were
 /// taken.
-// Seven parameters: the allocator, the replica's store, catalog and position, which it lends apart, the answer's two parts, and the picker.
 pub fn take_entries<S: RowStore, P: Picker>(
     alloc: Global,
     store: &mut S,

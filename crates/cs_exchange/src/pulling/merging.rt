@@ -25,7 +25,6 @@ use std::alloc::Global;
 
 /// Takes what the entries of the hub's log from an index up to a version do, as one changeset, by one three-way merge
 /// (`crate::taking::take_changes_to`). It is one commit. The first fault that holds is told: `Behind`, `Gap`, `BadEntry`, `Stopped`.
-// Eight parameters: the allocator, the replica's store, catalog and position, which it lends apart, what is told, and the picker.
 pub fn take_merged<S: RowStore, P: Picker>(
     alloc: Global,
     store: &mut S,
@@ -86,7 +85,6 @@ fn merge_ended(fault: TakeFault) -> Result<Pulled, AnswerFault>
 ///
 /// `BadEntry` where the bytes spell no changeset with a normal form by the tables, or one that isn't defined on the log's rows;
 /// `Memory` and `Device`. Nothing has changed then, and no entry is told to be taken.
-// Seven parameters: the allocator, the replica's store, catalog and position, which it lends apart, what is told, and the picker.
 pub fn take_told<S: RowStore, P: Picker>(
     alloc: Global,
     store: &mut S,

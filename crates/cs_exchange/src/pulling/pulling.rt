@@ -53,7 +53,6 @@ fn is_last(version: u64) -> bool
 }
 
 /// Pulls the entry at the position's version.
-// Six parameters: the allocator, the replica's store, catalog and position, which it lends apart, the entry, and the picker.
 pub(crate) fn take_next<S: RowStore, P: Picker>(
     alloc: Global,
     store: &mut S,
@@ -95,7 +94,6 @@ pub(crate) fn take_next<S: RowStore, P: Picker>(
 /// Pulls the entry of the hub's log that is told at an index: where it is the push that is under way, that is confirmed; another's
 /// is taken, by the three-way merge (`crate::taking::take_changes`). It is one commit. The first fault that holds is told: `Behind`,
 /// `Gap`, `BadEntry`, `Stopped`.
-// Seven parameters: those of `take_next`, and the index that is told with the entry.
 pub fn take_entry<S: RowStore, P: Picker>(
     alloc: Global,
     store: &mut S,

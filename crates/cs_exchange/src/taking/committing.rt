@@ -49,7 +49,6 @@ fn batch_at(alloc: Global, settling: Settling, version: u64) -> Result<Batch, Me
 
 /// Commits the gathered edits: the position comes to a version, and nothing is under way. It answers how many changes are
 /// pending then.
-// Six parameters: allocator, store, catalog and position, which are lent apart, the version, and the edits.
 pub(crate) fn commit_taken<S: RowStore>(
     alloc: Global,
     store: &mut S,

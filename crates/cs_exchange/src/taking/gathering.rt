@@ -54,7 +54,6 @@ fn find_sites<'a, S: RowStore>(
 }
 
 /// Makes pending what is under way, and finds the places of the entry.
-// Six parameters: allocator, store and catalog, which are lent apart, what is under way, the entry's changes, and the edits written into.
 fn fold_and_find<'a, S: RowStore>(
     alloc: Global,
     store: &mut S,
@@ -88,7 +87,6 @@ fn fold_and_find<'a, S: RowStore>(
 }
 
 /// Gathers the edits by which an entry is taken.
-// Seven parameters: those of `fold_and_find`, and the picker.
 pub(crate) fn gather_edits<S: RowStore, P: Picker>(
     alloc: Global,
     store: &mut S,

@@ -55,8 +55,6 @@ fn own_and_log<S: RowStore>(
 }
 
 /// Settles a place: there stands `mine`, and what is pending leads from `base` to it.
-// Six parameters: the allocator, the place, what stood there, the rows `base` and `mine`, which its callers keep in different places, and
-// the edits that are written into.
 pub(crate) fn settle_at(
     alloc: Global,
     placed: &Placed<'_>,
@@ -86,7 +84,6 @@ pub(crate) fn settle_at(
 }
 
 /// Makes what is under way at a place pending over the log's row.
-// Six parameters: allocator, store and catalog, which are lent apart, what is under way, the place, and the edits written into.
 fn fold_one<S: RowStore>(
     alloc: Global,
     store: &mut S,
@@ -116,7 +113,6 @@ fn fold_one<S: RowStore>(
 }
 
 /// Makes what is under way pending over the log's rows, place by place.
-// Six parameters: those of `fold_one`, with all places for one.
 pub(crate) fn fold_flight<S: RowStore>(
     alloc: Global,
     store: &mut S,
@@ -150,7 +146,6 @@ pub(crate) fn fold_flight<S: RowStore>(
 }
 
 /// Appends a place of the entry. It answers whether the change is defined on the log's row.
-// Six parameters: allocator, store and catalog, which are lent apart, what is under way, the place, and the list written into.
 fn survey_one<'a, S: RowStore>(
     alloc: Global,
     store: &mut S,
@@ -194,7 +189,6 @@ fn survey_one<'a, S: RowStore>(
 }
 
 /// Appends the places of the entry. It answers whether each change is defined on the log's row.
-// Six parameters: those of `survey_one`, with all places for one.
 pub(crate) fn survey<'a, S: RowStore>(
     alloc: Global,
     store: &mut S,

@@ -22,7 +22,6 @@ use cs_value::Catalog;
 use std::alloc::Global;
 
 /// Takes changes that fit the tables and lead to a version. It answers how many changes are pending then.
-// Seven parameters: the allocator, the replica's store, catalog and position, which it lends apart, the version, the changes, and the picker.
 fn take_at<S: RowStore, P: Picker>(
     alloc: Global,
     store: &mut S,
@@ -77,7 +76,6 @@ fn take_at<S: RowStore, P: Picker>(
 ///
 /// `BadEntry` where the version isn't above the position's, or the changes aren't defined on the log's rows, before the picker is asked;
 /// `Stopped` where the picker stops; `Memory` and `Device`. Nothing has changed then.
-// Seven parameters: those of `take_at`, with the position to be moved.
 pub fn take_changes_to<S: RowStore, P: Picker>(
     alloc: Global,
     store: &mut S,
@@ -139,7 +137,6 @@ pub fn take_changes_to<S: RowStore, P: Picker>(
 ///
 /// `BadEntry` where the entry isn't defined on the log's rows, before the picker is asked, or where there is no next version;
 /// `Stopped` where the picker stops; `Memory` and `Device`. Nothing has changed then.
-// Six parameters: those of `take_changes_to` but the version.
 pub fn take_changes<S: RowStore, P: Picker>(
     alloc: Global,
     store: &mut S,

@@ -113,7 +113,6 @@ fn batch_of(alloc: Global, entry: &LogEntry, edits: PlaceEdits) -> Result<Batch,
 }
 
 /// Tries an entry on the rows of a hub's store, and answers the batch by which it is appended to the log. The store is only read.
-/// (Profile of this project.)
 ///
 /// # Errors
 ///
@@ -146,7 +145,6 @@ pub fn try_entry<S: RowStore>(
 }
 
 /// Appends an entry that was tried on what the store holds, by a commit of the batch. The tables and the entry name what is appended.
-/// (Profile of this project.)
 ///
 /// # Errors
 ///
@@ -167,7 +165,7 @@ pub fn append_tried<S: RowStore>(
 }
 
 /// Appends an entry to the log of a hub's store, where each of its changes is defined on the rows: the entry and what it makes of the
-/// rows are one commit. (Profile of this project.)
+/// rows are one commit.
 ///
 /// # Errors
 ///

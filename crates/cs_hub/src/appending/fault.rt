@@ -9,7 +9,7 @@ use cs_store::StoreFault;
 use std::alloc::{AllocError, AllocFailed};
 use thiserror::Error;
 
-/// Why an entry isn't appended. Nothing has changed then. The text is the name that programs print. (Profile of this project.)
+/// Why an entry isn't appended. Nothing has changed then. The text is the name that programs print.
 #[derive(Debug, Drop, Error)]
 pub enum AppendFault {
     /// Memory was refused. It may come before any other fault.

@@ -24,7 +24,6 @@ use cs_wire::PushHead;
 use std::alloc::Global;
 
 /// The judgement of a push whose base is below the newest version: it is the entry there, or another is.
-// Seven parameters: what `judge_at` was lent of the hub, the limit (named for the clauses), the push's head, and the entry that it would be.
 fn recall<S: RowStore>(
     alloc: Global,
     store: &mut S,
@@ -55,13 +54,11 @@ fn recall<S: RowStore>(
 /// Judges a push: a changeset that the replica `head.origin` made as its push `head.number` on the tables of the version `head.base`.
 /// The log of the store has `newest` entries, and may have `limit`. The first case that fits holds: no change; a base above the newest
 /// version; below it, the same push again or another one; a full log; a change that isn't defined on the tables; else the push is to be
-/// appended. The store is only read. (Profile of this project.)
+/// appended. The store is only read.
 ///
 /// # Errors
 ///
 /// `Empty`, `Ahead`, `Full` and `Conflict` in these cases; `Memory` and `Device`.
-// Seven parameters: what a hub, a type of the crate above, lends of itself (allocator, store, tables, count), the limit, and the push: its
-// head as it was told, its changes in normal form.
 pub fn judge_at<S: RowStore>(
     alloc: Global,
     store: &mut S,

@@ -3,7 +3,7 @@
 use cs_store::Batch;
 use cs_store::log::LogEntry;
 
-/// What the hub made of a push that it read. (Profile of this project.)
+/// What the hub made of a push that it read.
 #[derive(Clone, Copy, Debug, PartialEq, Eq)]
 pub enum Pushed {
     /// The push is entry `version - 1` of the log: it was appended, or it was there before.
@@ -12,7 +12,7 @@ pub enum Pushed {
     Stale(u64),
 }
 
-/// What is to be made of a push that was judged. (Profile of this project.)
+/// What is to be made of a push that was judged.
 #[derive(Drop)]
 pub enum Judgement {
     /// It is told so, and nothing changes.

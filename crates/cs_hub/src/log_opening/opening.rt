@@ -43,7 +43,7 @@ fn open_there<S: RowStore>(
 }
 
 /// Opens a store as that of a hub with these tables, and answers how many entries its log has. A store that holds nothing is laid
-/// out in one commit; any other is only read. (Profile of this project.)
+/// out in one commit; any other is only read.
 ///
 /// # Errors
 ///

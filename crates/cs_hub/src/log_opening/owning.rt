@@ -41,7 +41,6 @@ fn hub_owner_of(
 }
 
 /// Whose store it is: that of a hub that opened with these tables, another's, or one of which that can't be read.
-/// (Profile of this project.)
 pub(crate) fn owner_of_hub_store<S: RowStore>(
     alloc: Global,
     store: &mut S,

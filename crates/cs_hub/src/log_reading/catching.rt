@@ -17,7 +17,6 @@ use std::alloc::Global;
 
 /// What a replica that asks to catch up is told of a log with so many entries: those from a version on, so many at most, taken together up
 /// to the first that is told alone. Where that is the first of them, it is told.
-// Seven parameters: the allocator, the hub's store, tables and count, which it lends apart, and the three numbers of what is asked.
 pub fn catch_at<S: RowStore>(
     alloc: Global,
     store: &mut S,

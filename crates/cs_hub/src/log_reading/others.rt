@@ -74,7 +74,6 @@ fn read_others(
 
 /// The changesets of so many entries of the log, from a version on, up to the first that is told alone. An entry that isn't there, or is none
 /// of the tables', is told to the store.
-// Six parameters: the allocator, the hub's store and tables, which it lends apart, who asks, and the two numbers of what is asked.
 pub(crate) fn others_at<S: RowStore>(
     alloc: Global,
     store: &mut S,

@@ -61,7 +61,7 @@ fn is_entry(alloc: Global, stored: &StoredEntry, entry: &LogEntry) -> Result<boo
     Ok(is)
 }
 
-/// Whether the log has this entry at a version. Of a log without that version it says no. Nothing is decoded. (Profile of this project.)
+/// Whether the log has this entry at a version. Of a log without that version it says no. Nothing is decoded.
 pub fn has_entry<S: RowStore>(
     alloc: Global,
     store: &mut S,
@@ -128,7 +128,6 @@ fn read_each(
 }
 
 /// So many entries of the log, from a version on. An entry that isn't there, or is none of the tables', is told to the store.
-/// (Profile of this project.)
 pub fn entries_at<S: RowStore>(
     alloc: Global,
     store: &mut S,

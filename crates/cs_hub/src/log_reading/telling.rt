@@ -53,7 +53,7 @@ fn put_each(stored: &[StoredEntry], out: &mut Vec<u8>) -> Result<bool, Memory>
 }
 
 /// The answer that tells so many entries of the log, from a version on. What an entry does is copied as it is stored. An entry that
-/// isn't there, or is stored as none can be, is told to the store. (Profile of this project.)
+/// isn't there, or is stored as none can be, is told to the store.
 pub fn entries_told<S: RowStore>(
     alloc: Global,
     store: &mut S,

@@ -20,12 +20,6 @@ drop_suc (y ∷ ys) (suc at) x there = drop_suc ys at x there
 pub drop_next : {A : Type 0} (xs : List A) (at : ℕ) (x : A) → slice_get xs at ≡ Some x → drop at xs ≡ x ∷ drop (at + 1) xs
 drop_next xs at x there = let next : at + 1 ≡ suc at = omega arith in rw next (drop_suc xs at x there)
 
-pub drop_past : {A : Type 0} (xs : List A) (at : ℕ) → slice_get xs at ≡ None → drop at xs ≡ []
-drop_past [] zero none = refl
-drop_past [] (suc at) none = refl
-drop_past (y ∷ ys) zero none = absurd (cc)
-drop_past (y ∷ ys) (suc at) none = drop_past ys at none
-
 pub get_is : {A : Type 0} (xs : List A) (at : ℕ) (x d : A) → at < length xs → x ≡ get_or xs at d → slice_get xs at ≡ Some x
 get_is [] at x d less is = absurd (omega (arith, less))
 get_is (y ∷ ys) zero x d less is = ap Some (sym is)
@@ -57,13 +51,6 @@ module _ {S : Type 0} (g : Ghosts S) where
   abbrev pub IsDumping : List TableDef → ℕ → List ℕ → List ℕ → Holding S → Holding S → Type 0
   IsDumping tables table start now old held =
       Turns g (λ (before : Member) (after : Member). (after ≡ before) × PutsRest tables table before.view.tables start now) old held
-
-  pub dumping_first : (tables : List TableDef) (start : List ℕ) (held : Holding S) → IsDumping tables 0 start start held held
-  dumping_first tables start held = record {
-    was_honest = λ h. h;
-    catalog = refl;
-    turned = λ h are fits view shows. (view, shows, fits, (refl, λ rest lines. (rest, lines, refl)));
-  }
 
   pub dumping_on : (tables : List TableDef) (table : ℕ) (def : TableDef) (start now next : List ℕ) (old mid new : Holding S)
       → slice_get tables table ≡ Some def → IsDumping tables table start now old mid

@@ -9,7 +9,7 @@ use cs_value::{Catalog, Edit, Items, Memory};
 use hex::FromHexError;
 use std::alloc::{AllocError, Global};
 
-/// What a line asks of a replica. (Profile of this project.)
+/// What a line asks of a replica.
 #[derive(Drop)]
 pub enum Ask {
     /// A row is edited: `edit insert T VALUES`, `edit update T FIELDS` or `edit delete T KEYVALUES`.
@@ -33,7 +33,7 @@ pub enum Ask {
     Dump,
 }
 
-/// What a line without its line feed asks, if it can be read. (Profile of this project.)
+/// What a line without its line feed asks, if it can be read.
 ///
 /// # Errors
 ///

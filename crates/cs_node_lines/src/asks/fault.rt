@@ -6,7 +6,7 @@ ghost use Rattle.cs_node_lines.specs.declared.asks.fault.ReadFault.TheVariants.{
 use std::alloc::{AllocError, AllocFailed};
 use thiserror::Error;
 
-/// Why an input isn't read whole. (Profile of this project.)
+/// Why an input isn't read whole.
 #[derive(Clone, Copy, Debug, PartialEq, Eq, Error)]
 pub enum ReadFault {
     /// Memory was refused.

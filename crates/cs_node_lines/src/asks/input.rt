@@ -9,7 +9,7 @@ use cs_lines::{ASKS, LineInput, LineRead, read_line};
 use cs_value::Catalog;
 use std::alloc::Global;
 
-/// Reads an input whole: what its lines ask, in order. (Profile of this project.)
+/// Reads an input whole: what its lines ask, in order.
 ///
 /// # Errors
 ///

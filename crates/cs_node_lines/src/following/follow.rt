@@ -93,7 +93,6 @@ fn write_replied<W: LineOutput>(writer: &mut W, reply: &Reply) -> io::Result<()>
 }
 
 /// Works the next line and prints its text, if there is one.
-// Six parameters: the allocator, the replica and its tables, the input and its buffer, and the output.
 fn follow_next<S: RowStore, R: LineInput, W: LineOutput>(
     alloc: Global,
     replica: &mut Replica<S>,
@@ -149,7 +148,6 @@ fn follow<S: RowStore, R: LineInput, W: LineOutput>(
 ///
 /// `Open` and `Memory` where the replica isn't opened: then nothing is read or printed, and the store holds what it held. `Read` where the reader
 /// failed, or was asked `ASKS` times. `Write`, and `Memory` for a text, at a line: what was done stays done, the line's own step too.
-// Six parameters: the four that a replica is opened by, the input and the output.
 pub fn follow_on<S: RowStore, R: LineInput, W: LineOutput>(
     alloc: Global,
     store: S,

@@ -7,7 +7,7 @@ use cs_lines::Stop;
 use cs_opening::OpenFault;
 use thiserror::Error;
 
-/// Why a hub stopped before its input's end. What it answered before stays so. (Profile of this project.)
+/// Why a hub stopped before its input's end. What it answered before stays so.
 #[derive(Clone, Copy, Debug, PartialEq, Eq, Error)]
 pub enum ServingFault {
     /// Memory was refused while the hub was opened.

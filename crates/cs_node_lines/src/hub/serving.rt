@@ -12,7 +12,7 @@ use cs_value::Catalog;
 use std::alloc::Global;
 
 /// Opens the hub of these tables over a store, answers each line of the reader, up to its end, by a line of lower case hex, and sends each
-/// answer before it reads on, as `cs_lines::serve_lines` does (runs show when). The store comes back as the answers left it. (Profile of this project.)
+/// answer before it reads on, as `cs_lines::serve_lines` does (runs show when). The store comes back as the answers left it.
 ///
 /// # Errors
 ///

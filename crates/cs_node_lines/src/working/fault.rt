@@ -10,7 +10,6 @@ use std::alloc::{AllocError, AllocFailed};
 use thiserror::Error;
 
 /// Why a node ended before it did all that its lines ask. What it did before stays done. The text is what is told of it behind `sync: `.
-/// (Profile of this project.)
 #[derive(Clone, Copy, Debug, PartialEq, Eq, Error)]
 pub enum NodeFault {
     #[error("Memory")]

@@ -58,13 +58,12 @@ fn do_asks<S: RowStore, W: LineOutput>(
 
 /// Opens the replica with this id over a store and does what lines ask, one behind another; the text of each is printed and sent before the
 /// next is worked on, and what it commits is committed before. A failed device is told of a line only where the store's count of failures
-/// rose at it. An id is at most 4,294,967,294. The store comes back in any case. (Profile of this project.)
+/// rose at it. An id is at most 4,294,967,294. The store comes back in any case.
 ///
 /// # Errors
 ///
 /// `Open` and `Memory` where the replica isn't opened: then nothing is printed, and the store holds what it held. `Write`, and `Memory` for a
 /// text, at a line: what was done stays done, the line's own step too.
-// Six parameters: the four that a replica is opened by, what is asked, and the output.
 pub fn work_on<S: RowStore, W: LineOutput>(
     alloc: Global,
     store: S,
@@ -89,13 +88,12 @@ pub fn work_on<S: RowStore, W: LineOutput>(
     }
 }
 
-/// Reads an input whole, and then works a replica by its lines, as `work_on` does. (Profile of this project.)
+/// Reads an input whole, and then works a replica by its lines, as `work_on` does.
 ///
 /// # Errors
 ///
 /// `Line` tells the first line that can't be read, from 1 on, and `Read` that the reader failed or was asked too often: then, and where memory
 /// is refused for the lines, the store wasn't touched and nothing is printed. Else those of `work_on`.
-// Six parameters: the four that a replica is opened by, the input and the output.
 pub fn node_on<S: RowStore, R: LineInput, W: LineOutput>(
     alloc: Global,
     store: S,

@@ -52,7 +52,6 @@ impl<'s, S: RowStore> Model for Book<'s, S> {
 
 impl<'s, S: RowStore + Drop> Book<'s, S> {
     /// A new book over a store that holds nothing: its hub has no entry, and its pass knows nothing. It keeps `alloc` for later calls.
-    /// (Profile of this project.)
     ///
     /// # Errors
     ///
@@ -264,7 +263,6 @@ impl<'s, S: RowStore> Book<'s, S> {
     }
 
     /// Offers the entry of a push for the next cell, takes what that cell holds, and answers.
-    // Six parameters: the book and the request, the entry, batch and reply as their variant has them, and the room of a short answer.
     fn send(
         &mut self,
         request: &[u8],
@@ -294,7 +292,7 @@ impl<'s, S: RowStore> Book<'s, S> {
 
     /// Answers the bytes of a request with the bytes of an answer. All entries that can be seen are taken first, each in a commit of its
     /// own; a push that is to be appended is offered for the next cell, and what that cell holds is taken. The answer is then the hub's on
-    /// all that is known as the call ends. The room of the answer to a push that is set is taken before. (Profile of this project.)
+    /// all that is known as the call ends. The room of the answer to a push that is set is taken before.
     ///
     /// # Errors
     ///

@@ -9,7 +9,7 @@ use cs_value::Memory;
 use cs_wire::{SHORT, ShortAnswer};
 use std::alloc::AllocError;
 
-/// The code by which a book tells that the next entry doesn't fit behind those that it has taken. (Profile of this project.)
+/// The code by which a book tells that the next entry doesn't fit behind those that it has taken.
 const STUCK: u8 = 45;
 
 /// The code by which a hub tells that its device failed.

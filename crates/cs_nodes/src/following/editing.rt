@@ -18,7 +18,7 @@ use cs_store::RowStore;
 use cs_value::Edit;
 use std::alloc::Global;
 
-/// Makes an edit of one row. (Profile of this project.)
+/// Makes an edit of one row.
 ///
 /// # Errors
 ///

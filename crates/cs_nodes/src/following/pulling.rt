@@ -19,7 +19,7 @@ use cs_store::RowStore;
 use std::alloc::Global;
 
 /// Looks at one cell behind another until one is not set, takes the entries that are known then, from the one at the replica's version
-/// on, each in a commit of its own, and tells how many. What was taken stays, whatever comes later. (Profile of this project.)
+/// on, each in a commit of its own, and tells how many. What was taken stays, whatever comes later.
 ///
 /// # Errors
 ///

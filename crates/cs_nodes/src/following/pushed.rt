@@ -1,6 +1,6 @@
 //! What becomes of a push.
 
-/// What became of a push. (Profile of this project.)
+/// What became of a push.
 #[derive(Clone, Copy, Debug, PartialEq, Eq)]
 pub enum NodePush {
     /// Nothing is pending, and no push is under way.

@@ -25,7 +25,7 @@ use cs_store::log::LogEntry;
 use cs_value::Memory;
 use std::alloc::Global;
 
-/// Whether nothing is pending and no push is under way. It takes no memory. (Profile of this project.)
+/// Whether nothing is pending and no push is under way. It takes no memory.
 pub fn is_at_rest<S: RowStore>(replica: &Replica<S>) -> bool
     ensures { IsTrue result ↔ IsAtRest replica.now.position }
 {

@@ -17,7 +17,7 @@ use cs_store::{RowStore, StoreFault};
 use std::alloc::Global;
 
 /// The rows of the table with this number in the catalog, each behind the bytes of its key and in the order of these; none past
-/// the last table. The store is only read. (Profile of this project.)
+/// the last table. The store is only read.
 pub fn rows_of<S: RowStore>(
     alloc: Global,
     replica: &mut Replica<S>,

@@ -5,7 +5,7 @@ ghost use Rattle.cs_nodes.specs.following.Standing.{Begins};
 
 use cs_spine::{Pass, Spine};
 
-/// Looks at one cell behind another, until one is not set. It takes no memory. (Profile of this project.)
+/// Looks at one cell behind another, until one is not set. It takes no memory.
 pub fn see_all<'s>(spine: &'s Spine, pass: &mut Pass<'s>)
     requires { pass.old.spine ≡ spine.now }
     ensures spine { pass.new.spine ≡ pass.old.spine }

@@ -90,7 +90,7 @@ fn send<'s, S: RowStore, P: Picker>(
 }
 
 /// Offers the push that is under way, or one that is made of what is pending, for the cell at the replica's version, and takes what that
-/// cell holds: the push is then confirmed, or another's entry taken. (Profile of this project.)
+/// cell holds: the push is then confirmed, or another's entry taken.
 ///
 /// # Errors
 ///

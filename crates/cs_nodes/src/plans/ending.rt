@@ -16,7 +16,7 @@ use cs_value::{Catalog, Memory};
 use std::alloc::{AllocError, Global};
 use std::thread::{self, Threads};
 
-/// A node whose plan has run, and what each call came to. (Profile of this project.)
+/// A node whose plan has run, and what each call came to.
 #[derive(Drop)]
 pub struct NodeEnd<'s> {
     /// The node.
@@ -59,7 +59,6 @@ fn all_ends<'s>(
 }
 
 /// The ends of plans that have a port each.
-// Six parameters: those of `run_nodes`, which hands them on.
 fn run_even<'s, R: Threads + Sync, P: Port + Send + Drop>(
     rt: &R,
     alloc: Global,
@@ -88,7 +87,6 @@ fn run_even<'s, R: Threads + Sync, P: Port + Send + Drop>(
 ///
 /// `Uneven` exactly where there aren't as many ports as plans: no call was made then. `Memory` where a node wasn't opened, or a list had no
 /// room; the nodes are gone then, and what they have put into cells stays. Memory that is refused to a call of a plan is what that call came to.
-// Six parameters: what gives threads and memory, the catalog and the spine that all nodes share, and the caller's two lists, ports and plans.
 pub fn run_nodes<'s, R: Threads + Sync, P: Port + Send + Drop>(
     rt: &R,
     alloc: Global,

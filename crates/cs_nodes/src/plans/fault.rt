@@ -6,7 +6,7 @@ ghost use Rattle.cs_nodes.specs.declared.plans.fault.RunFault.TheVariants.{Memor
 use std::alloc::AllocError;
 use thiserror::Error;
 
-/// Why plans weren't run. The text of a fault is its name. (Profile of this project.)
+/// Why plans weren't run. The text of a fault is its name.
 #[derive(Clone, Copy, Debug, PartialEq, Eq, Error)]
 pub enum RunFault {
     /// Memory was refused to a node that was opened, or to a list.

@@ -17,10 +17,10 @@ pub enum Step {
     Push(Items<Wish>),
 }
 
-/// What a node does, call by call. (Profile of this project.)
+/// What a node does, call by call.
 pub type Plan = Items<Step>;
 
-/// What a call came to. What was done before a fault stays. (Profile of this project.)
+/// What a call came to. What was done before a fault stays.
 #[derive(Drop)]
 pub enum StepOutcome {
     /// The edit was made.
@@ -35,7 +35,7 @@ pub enum StepOutcome {
     Failed(NodeFault),
 }
 
-/// How a node stood after a call. (Profile of this project.)
+/// How a node stood after a call.
 #[derive(Clone, Copy, Debug, PartialEq, Eq)]
 pub struct Mark {
     /// How many entries its pass knew.
@@ -46,7 +46,7 @@ pub struct Mark {
     pub made: bool,
 }
 
-/// What a call came to, and how the node stood after it. (Profile of this project.)
+/// What a call came to, and how the node stood after it.
 #[derive(Drop)]
 pub struct Stepped {
     /// What the call came to.
@@ -55,7 +55,7 @@ pub struct Stepped {
     pub mark: Mark,
 }
 
-/// Whoever watches a node's calls, from within its thread. Calls are numbered from 0. (Profile of this project.)
+/// Whoever watches a node's calls, from within its thread. Calls are numbered from 0.
 pub trait Port {
     /// Is told before a call, which isn't made until this returns.
     fn before(&mut self, call: usize);

@@ -74,7 +74,6 @@ fn put_normal_columns(
 }
 
 /// Appends the update in normal form, if a column is left.
-// Six parameters: the parts of the UPDATE as its variant has them, its table's key columns, and what is written into.
 #[tactic(auto, unfolding(crate::specs::keyed::NormalForm::normal_form))]
 fn push_update(
     marks: &[bool],

@@ -12,8 +12,6 @@ use cs_order::PickedKeys;
 use cs_value::Memory;
 
 /// Appends the normal form of a change, if one is left, and picks the key at a place for it.
-// Six parameters: the change with the place of its key and its table's key columns, and the room and the two lists that are
-// written into.
 #[inline(always)]
 pub fn pick_form(
     marks: &[bool],
