@@ -47,8 +47,7 @@ use std::alloc::{AllocError, Global};
 use std::marker::Model;
 
 /// An append-only log of accepted pushes, and the rows that it makes, in a store. Contracts see it as what it holds: the store, the
-/// tables that it opened with, and how many entries the log has. What they say of the log they say where the store shows one. (Profile
-/// of this project.)
+/// tables that it opened with, and how many entries the log has. What they say of the log they say where the store shows one.
 #[derive(Drop)]
 pub struct Hub<S: RowStore> {
     alloc: Global,
@@ -182,8 +181,7 @@ impl<S: RowStore> Hub<S> {
 
     /// Takes a push: a changeset that the replica `head.origin` made as its push `head.number` on the tables of the version
     /// `head.base`. The first case that fits holds: no change; a base above the newest version; below it, the same push
-    /// again or another one; a full log; a change that is not defined on the tables; else the push is appended. (Profile
-    /// of this project.)
+    /// again or another one; a full log; a change that is not defined on the tables; else the push is appended.
     ///
     /// # Errors
     ///
@@ -315,8 +313,7 @@ impl<S: RowStore> Hub<S> {
     }
 
     /// Appends an entry that others decided, where it fits behind the log: it is one of the tables, no larger than one may be, and
-    /// each of its changes is defined on the newest tables. The entry and what it makes of the rows are one commit. (Profile of this
-    /// project.)
+    /// each of its changes is defined on the newest tables. The entry and what it makes of the rows are one commit.
     ///
     /// # Errors
     ///

@@ -58,8 +58,7 @@ impl<'s, S: RowStore> Model for Node<'s, S> {
 
 impl<'s, S: RowStore> Node<'s, S> {
     /// A new node over a store that holds nothing: its replica, with this id, is at version 0 with no row, nothing pending and nothing
-    /// under way, and its pass knows nothing. An id is at most 4,294,967,294. At `Err` the store comes back as it was. (Profile of
-    /// this project.)
+    /// under way, and its pass knows nothing. An id is at most 4,294,967,294. At `Err` the store comes back as it was.
     ///
     /// # Errors
     ///
@@ -201,8 +200,7 @@ impl<'s, S: RowStore> Node<'s, S> {
     }
 
     /// Looks at one cell behind another until one is not set, takes the entries that are known then, from the one at the replica's
-    /// version on, each in a commit of its own, and tells how many. What was taken stays, whatever comes later. (Profile of this
-    /// project.)
+    /// version on, each in a commit of its own, and tells how many. What was taken stays, whatever comes later.
     ///
     /// # Errors
     ///

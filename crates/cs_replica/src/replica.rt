@@ -74,8 +74,7 @@ impl<S: RowStore> Replica<S> {
     /// Opens the replica with this id over a store. A store that holds nothing is laid out in one commit: the replica is at version 0
     /// with no row, nothing pending and nothing under way. Of any other store each row and each pending change is read once, and
     /// judged. Where it keeps what is pending as one value, as replicas once did, that is moved to the places of its changes, in one
-    /// commit. An id is at most 4,294,967,294: the last number is a hub's own. At `Err` the store comes back as it was. (Profile of
-    /// this project.)
+    /// commit. An id is at most 4,294,967,294: the last number is a hub's own. At `Err` the store comes back as it was.
     ///
     /// # Errors
     ///
@@ -239,8 +238,7 @@ impl<S: RowStore> Replica<S> {
     }
 
     /// Puts fields into the row with a key; a field that is undefined stays as it is, and fields that change nothing write nothing.
-    /// The first fault that holds is told: `NoTable`, `Width` (of key or fields), `NullKey`, `KeyColumn`, `Missing`. (Profile of
-    /// this project.)
+    /// The first fault that holds is told: `NoTable`, `Width` (of key or fields), `NullKey`, `KeyColumn`, `Missing`.
     pub fn update(
         &mut self,
         alloc: Global,
@@ -271,8 +269,7 @@ impl<S: RowStore> Replica<S> {
         )
     }
 
-    /// Takes away the row with a key. The first fault that holds is told: `NoTable`, `Width`, `NullKey`, `Missing`. (Profile of this
-    /// project.)
+    /// Takes away the row with a key. The first fault that holds is told: `NoTable`, `Width`, `NullKey`, `Missing`.
     pub fn delete(&mut self, alloc: Global, table: &str, key: &Key) -> Result<(), EditFault>
         // The edit is made, in one commit; at `Err` nothing has changed.
         ensures writes { WritesStore S.RowStore Device (ShowsSomeAt self.old.catalog self.old.position (S.contents self.old.store))
@@ -398,8 +395,7 @@ impl<S: RowStore> Replica<S> {
         pushed
     }
 
-    /// Gives the request of the push that is under way once more: the same bytes. `Nothing` where none is. (Profile of this
-    /// project.)
+    /// Gives the request of the push that is under way once more: the same bytes. `Nothing` where none is.
     pub fn resend(&self, alloc: Global) -> Result<RequestBuf, PushFault>
         ensures resent { IsResent result self.now.position }
         ensures short { IfOk result (λ request. HasShortChangeset (asked_by_owned request)) }
@@ -433,8 +429,7 @@ impl<S: RowStore> Replica<S> {
 
     /// Takes the entry of the hub's log that is told at an index: where it is the push that is under way, that is confirmed; of
     /// another's each row becomes the three-way merge of the log's row at the version, the own one, and the log's at the next, by
-    /// the picker's wishes. It is one commit. The first fault that holds is told: `Behind`, `Gap`, `BadEntry`, `Stopped`. (Profile
-    /// of this project.)
+    /// the picker's wishes. It is one commit. The first fault that holds is told: `Behind`, `Gap`, `BadEntry`, `Stopped`.
     pub fn take<P: Picker>(
         &mut self,
         alloc: Global,

@@ -110,8 +110,7 @@ impl<S: RowStore> World<S> {
     }
 
     /// The rows of the table with this number in the catalog, as a replica has them, each behind the bytes of its key and in the order of
-    /// these; none past the last table, and none where there is no replica with this number. The store is only read. (Profile of this
-    /// project.)
+    /// these; none past the last table, and none where there is no replica with this number. The store is only read.
     ///
     /// # Errors
     ///

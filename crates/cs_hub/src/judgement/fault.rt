@@ -13,8 +13,7 @@ use cs_store::StoreFault;
 use std::alloc::{AllocError, AllocFailed};
 use thiserror::Error;
 
-/// Why the hub refuses a push or a pull. Nothing has changed then. The text is the name that programs print. (Profile of this
-/// project.)
+/// Why the hub refuses a push or a pull. Nothing has changed then. The text is the name that programs print.
 #[derive(Debug, Drop, Error)]
 pub enum HubFault {
     /// Memory was refused. It may come before any other fault.

@@ -30,8 +30,7 @@ use cs_wire::{SHORT, ShortAnswer};
 use std::alloc::{AllocError, Global};
 use std::marker::Model;
 
-/// A hub over a store of its own, and a pass of the row of cells that it follows. Contracts see it as what these are. (Profile of this
-/// project.)
+/// A hub over a store of its own, and a pass of the row of cells that it follows. Contracts see it as what these are.
 #[derive(Drop)]
 pub struct Book<'s, S: RowStore> {
     alloc: Global,

@@ -10,8 +10,7 @@ use cs_exchange::pushing::PushFault;
 use std::alloc::AllocError;
 use thiserror::Error;
 
-/// Why a pull or a push of a node ended. What was done before stays. The text is the name that programs print. (Profile of this
-/// project.)
+/// Why a pull or a push of a node ended. What was done before stays. The text is the name that programs print.
 #[derive(Debug, Drop, Error)]
 pub enum NodeFault {
     /// Memory was refused. It may come before any other fault.

@@ -5,8 +5,7 @@ use cs_conflict::Wish;
 use cs_pending::EditFault;
 use cs_value::{Edit, Items};
 
-/// One call of a node. Wishes are used one a clash in their order: `Take` where they have run out, and each made lawful. (Profile of this
-/// project.)
+/// One call of a node. Wishes are used one a clash in their order: `Take` where they have run out, and each made lawful.
 #[derive(Drop)]
 pub enum Step {
     /// A row is edited.
