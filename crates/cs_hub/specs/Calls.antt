@@ -50,7 +50,8 @@ module _ {S : Type 0} (g : Ghosts S) where
     -- where it was, a stop leaves what the store holds, alone, where anything was written
     pub durable : g.honest new → (IsNotServed result → ⊥) → (left : Contents) → g.may_leave new left
         → (left ≡ g.contents new) ⊎ (g.may_leave old left × (g.contents new ≡ g.contents old))
-    -- in any case a stop leaves what it could leave before, or one entry more: of a store that shows a log, that with which this request was served
+    -- in any case a stop leaves what it could leave before, or one entry more. Of a store that shows a log, that is the one with which this
+    -- request was served
     pub crash : g.honest new → (left : Contents) → g.may_leave new left
         → g.may_leave old left ⊎ (IsSameOrGrown opening (g.contents old) left × (readable → served left))
     pub later : g.failed old ≤ g.failed new

@@ -10,7 +10,7 @@ use Rattle.cs_hub.specs.declared.follow_fault.FollowFault.{FollowFault}
 use Rattle.cs_hub.specs.declared.follow_fault.FollowFault.TheVariants.{Memory, Full, Undefined, Device}
 use Rattle.cs_store.specs.declared.log.entry.TheConstants.{MAX_ENTRIES}
 
--- it fits behind a log: it is one of the tables, no larger than one may be, and each of its changes is defined on the tables there
+-- it fits behind a log: it is one of the tables and no larger than one may be. Each of its changes is defined on the tables there
 abbrev pub FitsBehind : List TableDef → List LogEntry → LogEntry → Type 0
 FitsBehind opening log entry = IsEntryOf opening entry × IsNextEntry opening log entry
 

@@ -15,8 +15,8 @@ use Rattle.cs_wire.specs.declared.short_answer.ShortAnswer.TheVariants.{Accepted
 use Rattle.cs_hub.specs.declared.judged.Judged.{Judged}
 use Rattle.cs_hub.specs.declared.judged.Judged.TheVariants.{Reply, Append}
 
--- what a request is to be answered by a hub with this log: these bytes, or, once an entry that fits behind the log is appended, that
--- reply
+-- what a hub with this log is to answer a request: these bytes, or that reply once an entry is appended. The entry fits behind the
+-- log
 abbrev pub IsJudged : Type 0 → ℕ → List TableDef → List LogEntry → List ℕ → Judged → Type 0
 IsJudged device_failed limit opening log request (Reply answer) =
     ServesIf device_failed limit (hub_of opening log) request answer.items (hub_of opening log)

@@ -73,8 +73,8 @@ RequestHasAnswer =
     → AreBytes request
     → (answer : List ℕ) × (new : HubState) × Serves limit old request answer new
 
--- lines that are answered over a store that never fails, but where what it gives was misread, are answered by the log that the store
--- showed, and the store shows the log after them
+-- lines over a store that never fails, but where what it gives was misread, are answered by the log that it showed. The store shows
+-- the log after them
 abbrev pub RunsByLog : {S : Type 0} → Ghosts S → Type 0
 RunsByLog {S} g =
     (limit : ℕ) (old new : Holding S) (log : List LogEntry) (lines answers : List (List ℕ))

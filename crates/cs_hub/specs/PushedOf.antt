@@ -17,7 +17,7 @@ IsPushedOf limit opening log push new count result =
     (next : List LogEntry) × PushesIf limit (hub_of opening log) push result (hub_of opening next)
     × ShowsLog opening new next × (count ≡ length next)
 
--- contents are as they were, or the push was appended; by the log of so many entries that was shown it is accepted then, and the log
+-- contents are as they were, or the push was appended. It is accepted then by the log of so many entries that was shown, and the log
 -- after it is shown
 abbrev pub IsSameOrAppended : ℕ → List TableDef → ℕ → Push → Contents → Contents → Type 0
 IsSameOrAppended limit opening count push old new =

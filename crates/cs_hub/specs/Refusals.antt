@@ -21,8 +21,8 @@ hub_code hub.Empty = 42
 hub_code hub.Full = 43
 hub_code hub.Device = 44
 
--- all of them: those of bytes that spell no request, of a changeset and of its form are these faults' own; a line that is no
--- hex is 22, and want of memory 1: these are told by whoever reads the lines
+-- all of them. Those of bytes that spell no request, of a changeset and of its form are these faults' own. A line that is no hex is
+-- 22, and want of memory 1: these are told by whoever reads the lines
 abbrev pub refusal_code : Refusal → ℕ
 refusal_code Memory = 1
 refusal_code (NoRequest fault) = wire_code fault

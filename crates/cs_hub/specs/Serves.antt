@@ -71,7 +71,8 @@ push_answer head (Err refusal) = Short (Refused (refusal_code refusal))
 abbrev pub refused : Refusal → List ℕ
 refused refusal = answer_spelling (Short (Refused (refusal_code refusal)))
 
--- the answer that tells what a replica catches up by, from a version of the log on: the entry there, or so many as one changeset
+-- the answer that tells what a replica catches up by, from a version of the log on. It is the entry there, or so many as one
+-- changeset
 abbrev pub caught_answer : ℕ → ℕ → List LogEntry → Caught → Answer
 caught_answer asker first log caught.Own = Entries first (map told_entry (entries_from first 1 log))
 caught_answer asker first log (caught.Merged count changes) = Merged asker first (first + count) (normal_spelling changes)

@@ -32,7 +32,7 @@ abbrev pub AnswersAskedIf : Type 0 → ℕ → HubState → Result Asked WireFau
 AnswersAskedIf device_failed limit old asked answer new =
     AnswersAsked limit old asked answer new ⊎ (device_failed × (answer ≡ refused (ByHub Device)) × (new ≡ old))
 
--- what is to become of the bytes of a push: it is told so, and the hub stays as it is; or it is accepted behind the newest version, once
+-- what is to become of the bytes of a push: it is told so, and the hub stays as it is. Or it is accepted behind the newest version, once
 -- the entry is appended
 abbrev pub JudgesBytes : Type 0 → ℕ → HubState → PushHead → List ℕ → Result Judgement Refusal → Type 0
 JudgesBytes device_failed limit old head changeset (Ok (judged.Told pushed)) = TakesBytes limit old head changeset (Ok pushed) old

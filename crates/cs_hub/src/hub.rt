@@ -156,8 +156,8 @@ impl<S: RowStore> Hub<S> {
         Ok(entries)
     }
 
-    /// The rows of the table with this number in the catalog, at the newest version, each behind the bytes of its key and in the order of
-    /// these; none past the last table. The store is only read.
+    /// The rows of the table with this number in the catalog, at the newest version. Each stands behind the bytes of its key, and they
+    /// are in the order of these bytes. There are none past the last table. The store is only read.
     ///
     /// # Errors
     ///
@@ -180,8 +180,9 @@ impl<S: RowStore> Hub<S> {
     }
 
     /// Takes a push: a changeset that the replica `head.origin` made as its push `head.number` on the tables of the version
-    /// `head.base`. The first case that fits holds: no change; a base above the newest version; below it, the same push
-    /// again or another one; a full log; a change that is not defined on the tables; else the push is appended.
+    /// `head.base`. The first case that fits holds: no change, a base above the newest version, or one below it. Below, it is the
+    /// same push again or another one. The next cases are a full log, and a change that is not defined on the tables. Else the push
+    /// is appended.
     ///
     /// # Errors
     ///
@@ -199,7 +200,7 @@ impl<S: RowStore> Hub<S> {
             (IsSameOrAppended MAX_ENTRIES self.old.catalog self.old.newest (record { head = head; changes = changes }) (S.contents self.old.store))
             self.old.store self.new.store result }
 
-        // A push that is refused, but for want of memory or by a failed device, is refused before anything is written: a stop leaves nothing more.
+        // A refusal for another reason than want of memory or a failed device comes before anything is written. A stop leaves nothing more.
         ensures unwritten { S.honest self.new.store → result ≢ Err Memory → result ≢ Err Device
             → OnErr result ((left : Contents) → S.may_leave self.new.store left → S.may_leave self.old.store left) }
         ensures catalog { self.new.catalog ≡ self.old.catalog }
@@ -254,9 +255,9 @@ impl<S: RowStore> Hub<S> {
         }
     }
 
-    /// Judges the bytes of a request: the answer that `serve` would give, were its limit the smaller of this one and `MAX_ENTRIES`; or
-    /// the entry that it would append, with the answer that it would give then. The store is only read, and a device that fails is told
-    /// as a refusal.
+    /// Judges the bytes of a request as `serve` would, were its limit the smaller of this one and `MAX_ENTRIES`. It returns the answer
+    /// that `serve` would give, or the entry that it would append, with the answer then. The store is only read, and a device that
+    /// fails is told as a refusal.
     ///
     /// # Errors
     ///
@@ -312,8 +313,8 @@ impl<S: RowStore> Hub<S> {
         }
     }
 
-    /// Appends an entry that others decided, where it fits behind the log: it is one of the tables, no larger than one may be, and
-    /// each of its changes is defined on the newest tables. The entry and what it makes of the rows are one commit.
+    /// Appends an entry that others decided, where it fits behind the log. That is, it is one of the tables, no larger than one may
+    /// be, and each change is defined on the newest tables. The entry and what it makes of the rows are one commit.
     ///
     /// # Errors
     ///
@@ -348,7 +349,7 @@ impl<S: RowStore> Hub<S> {
         }
     }
 
-    /// Appends the entry of a push that was judged (`judge`), by a commit of the batch that came with it; the store still holds what it
+    /// Appends the entry of a push that was judged (`judge`), by a commit of the batch that came with it. The store still holds what it
     /// held then.
     ///
     /// # Errors

@@ -1,8 +1,8 @@
 //! What a hub makes of a push, over its store: `judge_at` gives exactly the definition's answer (`specs/judgement/Pushes.antt`) by the log that
-//! the store shows. The first case that fits holds: no change; a base above the newest version; below it, the same push again or another one;
-//! a full log; a change that isn't defined on the tables. Else the push is to be appended, by a batch that comes with it. The store is only
-//! read. `laws` says that there is one answer to each push. It stands on appending (`appending`) and on reading the log (`log_reading`).
-//! Its tests stand in `cs_world_tests`.
+//! the store shows. The first case that fits holds: no change, a base above the newest version, or one below it. Below, it is the same push
+//! again or another one. The next cases are a full log, and a change that isn't defined on the tables. Else the push is to be appended, by a
+//! batch that comes with it. The store is only read. `laws` says that there is one answer to each push. It stands on appending (`appending`)
+//! and on reading the log (`log_reading`). Its tests stand in `cs_world_tests`.
 
 mod fault;
 mod judging;

@@ -30,8 +30,7 @@ pub fn request_has_answer()
     form_or_unfit();
 }
 
-/// The answer to the bytes of a request, and the hub after it, are determined by the hub and the bytes, where memory is
-/// not wanting.
+/// The hub and the bytes of a request determine the answer to them and the hub after it, where memory is not wanting.
 pub fn one_service()
     ensures { OneService }
 {

@@ -23,8 +23,8 @@ pub(crate) enum Refusal {
 }
 
 impl Refusal {
-    /// The code by which the refusal is told; the faults of a request's bytes (2, 20 and 21), of a changeset's (2 to 14) and of
-    /// its form (30 to 33) bring their own.
+    /// The code by which the refusal is told. Faults of a request's bytes (2, 20 and 21), of a changeset's (2 to 14) and of its
+    /// form (30 to 33) bring their own.
     pub(crate) fn code(&self) -> u8
         ensures { result ≡ refusal_code self.now }
     {

@@ -22,7 +22,7 @@ use Rattle.cs_hub.specs.declared.appending.fault.AppendFault.TheVariants.{Memory
 abbrev pub aborts : Unit {0} → Conflict → Resolution → Unit {0} → Type 0
 aborts before conflict answer after = answer ≡ Abort
 
--- the first conflict of the changeset with the rows: at this one applying it stops, where ABORT is the answer to each (SQLite's
+-- the first conflict of the changeset with the rows. Applying it stops at this one, where ABORT is the answer to each (SQLite's
 -- "Session Extension", `sqlite3changeset_apply_v2`)
 abbrev pub IsFirstConflict : List TableDef → List TableChanges → State → Conflict → Type 0
 IsFirstConflict tables changes before conflict = IsStoppedAt aborts tables (groups_of changes) before tt Abort conflict tt

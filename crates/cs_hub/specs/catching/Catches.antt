@@ -16,13 +16,13 @@ IsToldAlone asker entry = entry.origin ≡ asker
 abbrev pub NoneIsAlone : ℕ → List LogEntry → Type 0
 NoneIsAlone asker entries = All (λ entry. IsToldAlone asker entry → ⊥) entries
 
--- these entries may be told as one to whoever has asked for so many at most: none is told alone, and together they are short enough
+-- these entries may be told as one to whoever has asked for so many at most. None is told alone, and together they are short enough
 pub record MayBeOne (tables : List TableDef) (asker limit : ℕ) (entries : List LogEntry) : Type 0 where
   pub within : length entries ≤ limit
   pub others : NoneIsAlone asker entries
   pub short : AreShort tables (map entry_changes entries)
 
--- taken one by one: so many first entries may be told as one, and so may fewer of them; with the next one, if there is one, they may not
+-- taken one by one: so many first entries may be told as one, and so may fewer of them. With the next one, if there is one, they may not
 pub record IsRun (tables : List TableDef) (asker limit : ℕ) (entries : List LogEntry) (count : ℕ) : Type 0 where
   pub there : count ≤ length entries
   pub each : (n : ℕ) → n ≤ count → MayBeOne tables asker limit (take n entries)

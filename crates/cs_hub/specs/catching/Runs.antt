@@ -4,7 +4,7 @@ use Rattle.cs_value.specs.declared.catalog.TableDef.{TableDef}
 use Rattle.cs_normal.specs.declared.normal.TableChanges.{TableChanges}
 use Rattle.cs_hub.specs.catching.Consolidated.{AreOne, AreShort}
 
--- taken one by one: so many first changesets are together short enough, and so are fewer of them; with the next one, if there is one,
+-- taken one by one: so many first changesets are together short enough, and so are fewer of them. With the next one, if there is one,
 -- they aren't
 pub record IsShortRun (tables : List TableDef) (list : List (List TableChanges)) (count : ℕ) : Type 0 where
   pub there : count ≤ length list

@@ -20,13 +20,13 @@ ShowsLogOf opening count contents = (log : List LogEntry) × ShowsLog opening co
 abbrev pub hub_of : List TableDef → List LogEntry → HubState
 hub_of opening log = record { opening = opening; log = log }
 
--- its answer: it is told so, and the hub stays as it is; or it is accepted behind the newest version, once the entry is appended
+-- its answer: it is told so, and the hub stays as it is. Or it is accepted behind the newest version, once the entry is appended
 abbrev pub IsJudgement : ℕ → HubState → Push → Result Judgement HubFault → Type 0
 IsJudgement limit old push (Ok (Told pushed)) = Pushes limit old push (Ok pushed) old
 IsJudgement limit old push (Ok (Append entry batch)) = Pushes limit old push (Ok (Accepted (push.head.base + 1))) (with_entry old entry)
 IsJudgement limit old push (Err fault) = PushesIf limit old push (Err fault) old
 
--- what is to be appended behind so many entries is the entry that the push becomes, which was made on the tables there; there is room
+-- what is to be appended behind so many entries is the entry that the push becomes, which was made on the tables there. There is room
 abbrev pub IsOfPush : ℕ → ℕ → Push → Judgement → Type 0
 IsOfPush limit count push (Told pushed) = Unit {0}
 IsOfPush limit count push (Append entry batch) = (entry ≡ entry_of_push push) × (push.head.base ≡ count) × (count < limit)

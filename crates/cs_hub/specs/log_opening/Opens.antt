@@ -12,8 +12,8 @@ use Rattle.cs_opening.specs.declared.owning.Owner.{Owner}
 use Rattle.cs_opening.specs.declared.owning.Owner.TheVariants.{This, Other, Unreadable}
 use Rattle.cs_hub.specs.log_opening.Owner.{IsHubOwner}
 
--- what is looked at when a hub is opened: all that the store holds is what its places say, its values are a hub's, nothing is
--- pending, and an entry stands at each version below their count. What the entries make of the rows isn't looked at.
+-- what is looked at when a hub is opened: all that the store holds is what its places say, and its values are a hub's. Nothing is
+-- pending, and an entry stands at each version below their count. What the entries make of the rows isn't looked at
 pub record IsHubStore (opening : List TableDef) (contents : Contents) : Type 0 where
   pub whole : IsWhole opening contents
   pub values : HasHubValues opening contents

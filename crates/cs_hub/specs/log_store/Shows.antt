@@ -35,7 +35,7 @@ pub record HasHubValues (opening : List TableDef) (contents : Contents) : Type 0
   pub values : (name : MetaName) → meta_value contents name ≡ hub_value opening name
   pub names : (text : List ℕ) → ((name : MetaName) → name_text name ≢ text) → get contents.meta text ≡ None
 
--- the store is that of a hub that opened with these tables and has this log: the rows that the log makes, its entries, and
+-- the store is that of a hub that opened with these tables and has this log. It holds the rows that the log makes, its entries, and
 -- nothing else
 pub record ShowsLog (opening : List TableDef) (contents : Contents) (log : List LogEntry) : Type 0 where
   pub is_log : IsLog opening log

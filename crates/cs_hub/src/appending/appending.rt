@@ -164,7 +164,7 @@ pub fn append_tried<S: RowStore>(
     store.commit(batch)
 }
 
-/// Appends an entry to the log of a hub's store, where each of its changes is defined on the rows: the entry and what it makes of the
+/// Appends an entry to the log of a hub's store, where each of its changes is defined on the rows. The entry and what it makes of the
 /// rows are one commit.
 ///
 /// # Errors

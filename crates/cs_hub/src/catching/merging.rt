@@ -25,7 +25,8 @@ fn is_short(alloc: Global, changes: &Normal) -> Result<bool, Memory>
     Ok(spelled.len() as u64 <= MAX_CHANGESET)
 }
 
-/// How many first changesets of a list are together short enough, each front of them too; and these as one, which is made longer one by one.
+/// How many first changesets of a list are together short enough, each front of them too. They come with it as one, which is made longer one
+/// by one.
 fn take_one_by_one(
     alloc: Global,
     catalog: &Catalog,

@@ -52,9 +52,9 @@ fn recall<S: RowStore>(
 }
 
 /// Judges a push: a changeset that the replica `head.origin` made as its push `head.number` on the tables of the version `head.base`.
-/// The log of the store has `newest` entries, and may have `limit`. The first case that fits holds: no change; a base above the newest
-/// version; below it, the same push again or another one; a full log; a change that isn't defined on the tables; else the push is to be
-/// appended. The store is only read.
+/// The log of the store has `newest` entries, and may have `limit`. The first case that fits holds: no change, a base above the newest
+/// version, or one below it. Below, it is the same push again or another one. The next cases are a full log, and a change that isn't
+/// defined on the tables. Else the push is to be appended. The store is only read.
 ///
 /// # Errors
 ///
@@ -79,7 +79,7 @@ pub fn judge_at<S: RowStore>(
     ensures of { IfOk result (IsOfPush limit newest (record { head = head; changes = changes })) }
     ensures appends { S.honest store.new → IfOk result (CanBeAppended catalog.now (S.contents store.old)) }
 
-    // What is told is the answer to the push by the log that the store shows, and what is to be appended leads to the log after it.
+    // What is told is the answer to the push by the log that the store shows. What is to be appended leads to the log after it.
     ensures judged { S.honest store.new → (log : List Entry) → ShowsLog catalog.now (S.contents store.old) log → newest ≡ length log
         → IsJudgement limit (hub_of catalog.now log) (record { head = head; changes = changes }) result }
 {

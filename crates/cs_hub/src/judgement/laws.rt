@@ -12,7 +12,7 @@ pub fn one_answer()
     one_first_conflict();
 }
 
-/// There is an answer to each push that fits the catalog, and a hub after it: each guard is decided, and where a change isn't defined
+/// There is an answer to each push that fits the catalog, and a hub after it. Each guard is decided, and where a change isn't defined
 /// there is a first that isn't.
 pub fn push_has_answer()
     ensures { PushHasAnswer }

@@ -15,8 +15,8 @@ use cs_store::{RowStore, StoreFault};
 use cs_value::Catalog;
 use std::alloc::Global;
 
-/// What a replica that asks to catch up is told of a log with so many entries: those from a version on, so many at most, taken together up
-/// to the first that is told alone. Where that is the first of them, it is told.
+/// What a replica that asks to catch up is told of a log with so many entries. Those from a version on, so many at most, are taken
+/// together up to the first that is told alone. Where that is the first of them, it is told.
 pub fn catch_at<S: RowStore>(
     alloc: Global,
     store: &mut S,
