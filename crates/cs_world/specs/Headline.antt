@@ -15,15 +15,14 @@ use Rattle.cs_world.specs.World.{IsMember, IsMessage, Member, Tells, World}
 use Rattle.cs_world.specs.declared.outcome.Outcome.{Outcome}
 use Rattle.cs_world.specs.declared.outcome.Outcome.TheVariants.{NotHeard}
 
--- at each place of the tables the change that stands there, if there is one, leads from what the first state has there to what the
--- second has
+-- at each place of the tables the change there, if any, leads from what the first state has there to what the second has
 abbrev pub LeadTo : List TableDef → Changed → State → State → Type 0
 LeadTo tables changed before after =
     (table : TableDef) (key : List ℕ) → Contains tables table
     → after_any (action_any (changed table.name key)) (before table.name key) ≡ Some (after table.name key)
 
--- its version is one of the log's; the push that is under way is defined on the log's tables at that version, and what is pending on what
--- that leaves; and that leaves its own rows
+-- its version is one of the log's. The push that is under way is defined on the log's tables at that version. What is pending is defined
+-- on what that leaves, and leaves its own rows
 pub record HasHubsRows (world : World) (member : Member) : Type 0 where
   pub within : member.position.version ≤ length world.log
   pub middle : State

@@ -74,7 +74,7 @@ AnswersFit =
     → ServesIf (Unit {0}) limit (hub_of world.tables world.log) (request_spelling asked) bytes (hub_of world.tables log)
     → (answer : Answer) × FitsAnswer answer × (bytes ≡ answer_spelling answer)
 
--- in a sound world entries that reach a replica are pulled, as many as the outcome tells, each as the three-way merge of the log's tables at
+-- in a sound world entries that reach a replica are pulled, as many as the outcome tells. Each is a three-way merge of the log's tables at
 -- the replica's version, its own rows, and the log's tables at the next version
 abbrev pub PullsMerge : Type 0
 PullsMerge =

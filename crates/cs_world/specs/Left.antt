@@ -61,7 +61,8 @@ ShowsKept tables (AtReplica r) contents member = ShowsAt tables contents member.
 
 -- ---- what a failed commit may have left
 
--- what the commit of an event would have left in the store of replica number r, of the message that reaches it where the event is that
+-- what the commit of an event would have left in the store of replica number r. Where the event is a delivery, that is of the message
+-- which reaches it
 pub data WouldLeave (world : World) (r : ℕ) (position : Position) (old left : Contents) : Event → Type 0 where
   edited : {asked : Edit} → IsEditedBy world.tables asked position old left
       → WouldLeave world r position old left (OnEdit r asked)
@@ -91,7 +92,7 @@ pub record WouldServe (limit : ℕ) (world : World) (old left : Contents) : Type
 -- ---- what a stop leaves
 
 module _ {S : Type 0} (g : Ghosts S) where
-  -- a stop now leaves of the store of replica number r, which stands at this position, what it holds, or what the commit of an event would have left
+  -- replica number r stands at this position. A stop now leaves of its store what it holds, or what the commit of an event would have left
   abbrev pub LeavesReplica : World → ℕ → Position → S → Type 0
   LeavesReplica world r position store =
       (left : Contents) → g.may_leave store left
@@ -115,8 +116,8 @@ module _ {S : Type 0} (g : Ghosts S) where
 
 -- ---- the headline, stops included
 
--- what was left of a store shows what it keeps in a world that is sound and has the headline, the other stores as they are; that is the
--- world before the stop, or a step leads there
+-- what was left of a store shows what it keeps in a sound world that has the headline, the other stores as they are. That is the world
+-- before the stop, or a step leads there
 pub record Survives (limit : ℕ) (world : World) (place : Place) (left : Contents) : Type 0 where
   pub kept : Kept place
   pub sent : List Sent

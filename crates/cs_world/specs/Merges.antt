@@ -1,5 +1,5 @@
--- How a replica pulls the entries of the log, one by one or taken together: they are merged with its own rows over the log's tables
--- (profile of this project).
+-- How a replica pulls the entries of the log, one by one or taken together. They are merged with its own rows over the log's
+-- tables. (Profile of this project.)
 use Rattle.std.specs.Prelude.{◌≡◌, ◌⊎◌, ◌+◌, ℕ, zero, suc, List, [], ◌∷◌, Some, None, Contains, slice_get}
 use Rattle.cs_value.specs.declared.catalog.TableDef.{TableDef}
 use Rattle.cs_tasks.specs.Tasks.{tasks}
@@ -33,9 +33,8 @@ use Rattle.cs_world.specs.declared.event.Event.TheVariants.{Deliver}
 use Rattle.cs_world.specs.declared.outcome.Outcome.{Outcome}
 use Rattle.cs_world.specs.declared.outcome.Outcome.TheVariants.{Done, Heard, Memory, NoMessage, NoReplica, NotEdited, NotHeard, NotPushed, NotReloaded, Sent}
 
--- at each place the own row has become the three-way merge of the log's row at the one version, the own row, and the log's row at the
--- other; at the places of the changes that lead from the one to the other, in order, by the wishes for their conflicts; each other own row
--- is as it was
+-- at each place the own row has become a three-way merge of the log's rows at the two versions and itself. At the places of the changes
+-- from the one version to the other the merges go in order, by the wishes for their conflicts. Each other own row is as it was
 pub record IsMerged (world : World) (from to : ℕ) (changes : List TableChanges) (before after : View) (wishes unused : List Wish) : Type 0 where
   pub each : (name key : List ℕ) → (answer : Resolution)
       × (after.tables name key ≡ merge answer (tables_at world.log from name key) (before.tables name key) (tables_at world.log to name key))

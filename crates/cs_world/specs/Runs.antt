@@ -17,7 +17,7 @@ AllGood [] = Unit {0}
 AllGood (outcome ∷ outcomes) = IsGood outcome × AllGood outcomes
 
 module _ {S : Type 0} (g : Ghosts S) where
-  -- where the stores are honest, the world at which it stood made the steps of the events, one behind another, with these outcomes; it
+  -- where the stores are honest, the world at which it stood made the steps of the events, one behind another, with these outcomes. It
   -- stands at what they left
   pub record Runs (limit : ℕ) (old : Holding S) (events : List Event) (outcomes : List Outcome) (new : Holding S) : Type 0 where
     pub was_honest : AreHonest g new → AreHonest g old

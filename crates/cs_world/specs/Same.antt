@@ -23,7 +23,7 @@ pub record IsSameWorld (world other : World) : Type 0 where
 abbrev pub device_code : ℕ
 device_code = 44
 
--- the outcome, in the world after it, says nothing of the event: memory was refused, or a device failed, a replica's or the hub's, which
+-- the outcome, in the world after it, says nothing of the event. Memory was refused, or a device failed, a replica's or the hub's, which
 -- its answer tells
 abbrev pub IsRefused : Outcome → World → Type 0
 IsRefused Done world = ⊥

@@ -42,7 +42,7 @@ push_of base entry =
 
 -- ---- what a message says is so
 
--- a push is of a changeset in normal form of the tables, and defined on those of its base, a version that there is; its replica has
+-- a push is of a changeset in normal form of the tables, and defined on those of its base, a version that there is. Its replica has
 -- counted it
 pub record IsTruePush (world : World) (head : PushHead) (changeset : List ℕ) : Type 0 where
   pub changes : List TableChanges

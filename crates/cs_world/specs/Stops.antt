@@ -44,8 +44,8 @@ pub record Late (place : Place) : Type 0 where
   pub left : Kept place
   pub sent : List Sent
 
--- a world; the commits that failed in each store since one succeeded, any of which may yet be found made once that store stops; and the
--- numbers of the messages that were never sent, since their event was stopped when its commit was made
+-- a world, the commits that failed in each store since one succeeded, and the numbers of the messages that were never sent. Any of
+-- these commits may yet be found made once that store stops. The event of such a message was stopped when its commit was made
 pub record Standing : Type 0 where
   pub world : World
   pub late : (place : Place) → List (Late place)

@@ -22,8 +22,8 @@ use Rattle.cs_world.specs.declared.outcome.Outcome.{Outcome}
 use Rattle.cs_world.specs.Left.{AtHub, AtReplica, Survives, WouldLeave, WouldServe, turned}
 use Rattle.cs_world.specs.Stops.{AreTold, Marked, RunsWithStops, Standing, Whole, left_events, opened}
 
--- a run with stops is a run without, of the events that are left of it: those that were stopped before they were made are not there, those
--- stopped behind some entries were refused there, and one whose commit had failed may stand at a later stop. So it has the headline
+-- a run with stops is a run without, of the events that are left of it. Those that were stopped before they were made are not there, and
+-- those stopped behind some entries were refused there. One whose commit had failed may stand at a later stop. So it has the headline
 abbrev pub RunWithStops : Type 0
 RunWithStops =
     (limit : ℕ) (world : World) (list : List Marked) (new : Standing)
@@ -55,7 +55,7 @@ FoundIsStep =
     × Step limit world event outcome (turned (AtReplica r) world after sent)
     × ShowsAt world.tables left after.position after.view
 
--- what a commit that failed may yet have left in the store of a sound world's hub shows the log that a step of its event makes
+-- a commit to the store of a sound world's hub failed. What it may yet have left there shows the log that a step of its event makes
 abbrev pub FoundIsStepOfHub : Type 0
 FoundIsStepOfHub =
     (limit : ℕ) (world : World) (wishes : List Wish) (old left : Contents) (would : WouldServe limit world old left)
@@ -66,8 +66,8 @@ FoundIsStepOfHub =
     × Step limit world (Deliver would.message wishes) outcome (turned AtHub world log sent)
     × ShowsLog world.tables left log
 
--- so what a stop leaves of a replica's store, where it is what the store held or that of a failed commit, shows a replica of a world that
--- is sound and has the headline
+-- so what a stop leaves of a replica's store, be it what it held or that of a failed commit, shows a replica. Its world is sound and has
+-- the headline
 abbrev pub StopOfReplica : Type 0
 StopOfReplica =
     (limit r : ℕ) (world : World) (before : Member) (old left : Contents)

@@ -76,8 +76,8 @@ pub fn answers_fit()
     cs_hub::catching::laws::caught_are_others();
 }
 
-/// In a sound world each entry that is pulled is the three-way merge of the log's tables at the replica's version, its own rows, and the
-/// log's tables at the next version; and what is told taken together is so at once, over the log's tables at the version to which it leads.
+/// In a sound world each entry that is pulled is a three-way merge. It merges the log's tables at the replica's version, its own rows, and
+/// the log's tables at the next version. What is told taken together is so at once, over the log's tables at the version to which it leads.
 pub fn pulls_merge()
     ensures each { PullsMerge }
     ensures together { CatchesMerge }

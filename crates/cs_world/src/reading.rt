@@ -109,8 +109,9 @@ impl<S: RowStore> World<S> {
         }
     }
 
-    /// The rows of the table with this number in the catalog, as a replica has them, each behind the bytes of its key and in the order of
-    /// these; none past the last table, and none where there is no replica with this number. The store is only read.
+    /// The rows of the table with this number in the catalog, as a replica has them. Each stands behind the bytes of its key, and they
+    /// are in the order of these bytes. There are none past the last table, and none where there is no replica with this number. The
+    /// store is only read.
     ///
     /// # Errors
     ///

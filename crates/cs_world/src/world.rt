@@ -19,8 +19,8 @@ use std::alloc::{AllocError, Global};
 use std::marker::Model;
 
 /// A hub, replicas and all that was ever sent between them, over any stores, moved by events. Replicas and messages are numbered from 0,
-/// messages as they are sent; they are kept for ever, and each reaches whom it is for as often as an event says so, or never. Contracts see
-/// it as what it holds.
+/// messages as they are sent. Messages are kept for ever, and each reaches whom it is for as often as an event says so, or never. Contracts
+/// see it as what it holds.
 #[derive(Drop)]
 pub struct World<S: RowStore> {
     pub(crate) core: Core<S>,
@@ -41,8 +41,8 @@ impl<S: RowStore> Model for World<S> {
 }
 
 impl<S: RowStore + Drop> World<S> {
-    /// A world in which nothing has happened, over stores that hold nothing: a hub of these tables, and a replica over each other store,
-    /// of which the first has the number and the id 0.
+    /// A world in which nothing has happened, over stores that hold nothing. It has a hub of these tables, and a replica over each other
+    /// store. The first replica has the number and the id 0.
     ///
     /// # Errors
     ///
@@ -103,8 +103,8 @@ impl<S: RowStore> World<S> {
     pub fn headline(&self)
         ensures headline { HasHeadline S.RowStore MAX_ENTRIES self.now }
 
-        // Whatever a stop now leaves of one of its stores, that and the others show a world that has the headline: this one, or one to
-        // which a step leads.
+        // Whatever a stop now leaves of one of its stores, that and the others show a world that has the headline. It is this one, or
+        // one to which a step leads.
         ensures stops { StopsHaveHeadline S.RowStore MAX_ENTRIES self.now }
     {
         crate::laws::answers_fit();
@@ -145,7 +145,7 @@ impl<S: RowStore> World<S> {
         // Each pull is the three-way merge of the log's tables at the replica's version, its own, and the log's at the next.
         ensures merges { IfOk result (λ outcomes. RunMerges S.RowStore MAX_ENTRIES self.old events.now outcomes.items) }
 
-        // Each replica's tables are the hub's at its version with its own changes on top, no push conflicts, each counts once, and replicas
+        // Each replica's tables are the hub's at its version with its own changes on top. No push conflicts, each counts once, and replicas
         // at rest at one version have the same rows.
         ensures headline { HasHeadline S.RowStore MAX_ENTRIES self.new }
 
