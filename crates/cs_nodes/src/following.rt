@@ -1,8 +1,8 @@
-//! A replica that follows a row of cells which threads share (`cs_spine`): each call is the replica's own step, read on the entries
-//! that the thread's pass knows. `edit_row` edits a row, and `rows_of` lists rows; `pull_known` looks for entries and takes all that are known, one
-//! after another; `push_known` offers the push that is under way, or one made of what is pending, for the cell behind all that is
-//! known, and takes what that cell holds. A replica that stands on what is known (`specs/following/Standing.antt`) does so after each call.
-//! It stands on replicas (`cs_replica`) and the row of cells (`cs_spine`); who owns replica and pass is `cs_nodes`.
+//! A replica that follows a row of cells which threads share (`cs_spine`). Each call is the replica's own step, read on the entries that the
+//! thread's pass knows. `edit_row` edits a row, and `rows_of` lists rows. `pull_known` looks for entries and takes all that are known, one after
+//! another. `push_known` offers the push that is under way, or one made of what is pending, for the cell behind all that is known. It takes what
+//! that cell holds. A replica that stands on what is known (`specs/following/Standing.antt`) does so after each call. It stands on replicas
+//! (`cs_replica`) and the row of cells (`cs_spine`). Who owns replica and pass is `cs_nodes`.
 //! Its tests stand in `cs_nodes_tests`.
 
 mod editing;

@@ -57,8 +57,8 @@ impl<'s, S: RowStore> Model for Node<'s, S> {
 }
 
 impl<'s, S: RowStore> Node<'s, S> {
-    /// A new node over a store that holds nothing: its replica, with this id, is at version 0 with no row, nothing pending and nothing
-    /// under way, and its pass knows nothing. An id is at most 4,294,967,294. At `Err` the store comes back as it was.
+    /// A new node over a store that holds nothing. Its replica, with this id, is at version 0 with no row, nothing pending and nothing
+    /// under way. Its pass knows nothing. An id is at most 4,294,967,294. At `Err` the store comes back as it was.
     ///
     /// # Errors
     ///
@@ -156,8 +156,8 @@ impl<'s, S: RowStore> Node<'s, S> {
         &self.pass
     }
 
-    /// The rows of the table with this number in the catalog, each behind the bytes of its key and in the order of these; none past
-    /// the last table. The store is only read.
+    /// The rows of the table with this number in the catalog. Each stands behind the bytes of its key, and they are in the order of
+    /// these bytes. There are none past the last table. The store is only read.
     pub fn rows(&mut self, alloc: Global, table: usize) -> Result<Vec<RowAtKey>, StoreFault>
         // They are the rows that the store shows.
         ensures listed { S.honest self.new.replica.store → (view : View) → Shows S.contents self.old.replica view → (def : TableDef)
@@ -199,8 +199,8 @@ impl<'s, S: RowStore> Node<'s, S> {
         edit_row(alloc, &mut self.replica, edit)
     }
 
-    /// Looks at one cell behind another until one is not set, takes the entries that are known then, from the one at the replica's
-    /// version on, each in a commit of its own, and tells how many. What was taken stays, whatever comes later.
+    /// Looks at one cell behind another until one is not set. Then takes the entries that are known, from the one at the replica's
+    /// version on, each in a commit of its own. Returns how many. What was taken stays, whatever comes later.
     ///
     /// # Errors
     ///
@@ -222,7 +222,7 @@ impl<'s, S: RowStore> Node<'s, S> {
             → PullsAll P.picks self.old.replica.catalog self.new.pass.known result self.old.replica.position before picker.old
             self.new.replica.position (S.contents self.new.replica.store) picker.new }
 
-        // Each in a commit of its own. Those that were taken stay, however it ended: a stop then leaves what the store holds, or, at an
+        // Each in a commit of its own. Those that were taken stay, however it ended. A stop then leaves what the store holds, or, at an
         // `Err`, that with the next entry taken too. Where nothing was written, it may also leave what it could before.
         ensures writes { WritesInTurn S.RowStore (IsOk result) (result ≡ Err Device)
             (ShowsSomeAt self.old.replica.catalog self.old.replica.position (S.contents self.old.replica.store))
@@ -242,9 +242,9 @@ impl<'s, S: RowStore> Node<'s, S> {
         pull_known(alloc, &mut self.replica, spine, &mut self.pass, picker)
     }
 
-    /// Offers the push that is under way, or one that is made of what is pending, for the cell at the replica's version, and takes what
-    /// that cell holds: the push is then confirmed, or another's entry taken. Nothing to push is told first, then that entries are
-    /// known which weren't taken.
+    /// Offers the push that is under way, or one made of what is pending, for the cell at the replica's version. Then takes what that
+    /// cell holds: the push is confirmed, or another's entry taken. Nothing to push is told first, then that entries are known which
+    /// weren't taken.
     ///
     /// # Errors
     ///
@@ -267,9 +267,9 @@ impl<'s, S: RowStore> Node<'s, S> {
             → PushesOn P.picks self.old.replica.catalog self.old.pass.known self.old.replica.position before picker.old spine.now.cap result
             self.new.pass.known self.new.replica.position (S.contents self.new.replica.store) picker.new }
 
-        // The push, and what comes of it, are commits of their own. What was made stays, however it ended, at `Full` too: a stop then
-        // leaves what the store holds, or, where no entry was taken, that with one commit more, which makes the push or takes the
-        // entry at the version. Where nothing was written, it may also leave what it could before.
+        // The push, and what comes of it, are commits of their own. What was made stays, however it ended, at `Full` too. A stop then
+        // leaves what the store holds, or, where no entry was taken, that with one commit more. That commit makes the push or takes
+        // the entry at the version. Where nothing was written, it may also leave what it could before.
         ensures writes { WritesInTurn S.RowStore (HasTaken result) (result ≡ Err Device)
             (ShowsSomeAt self.old.replica.catalog self.old.replica.position (S.contents self.old.replica.store))
             (IsSentAmong P.picks self.old.replica.catalog self.old.replica.position (S.contents self.old.replica.store) picker.old)

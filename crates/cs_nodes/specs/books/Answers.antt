@@ -19,7 +19,7 @@ pub record HasTaken (tables : List TableDef) (known : List LogEntry) (taken : â„
   pub is_log : IsLog tables (take taken known)
   pub fit : All (IsEntryOf tables) (take taken known)
 
--- the next entry doesn't fit behind those that were taken: it isn't one of the tables, or is larger than one may be, or a change of it
+-- the next entry doesn't fit behind those that were taken. It isn't one of the tables, or is larger than one may be, or a change of it
 -- isn't defined on the tables there
 pub record IsStuckAt (tables : List TableDef) (known : List LogEntry) (taken : â„•) : Type 0 where
   pub front : HasTaken tables known taken

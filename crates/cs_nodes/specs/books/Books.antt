@@ -18,15 +18,15 @@ pub record BookState (S : Type 0) : Type 0 where
 abbrev pub most_cells : SpineCells → ℕ
 most_cells row = min row.cap MAX_ENTRIES
 
--- the pass is of the row, and knows no more entries than a hub has; the hub has taken no more than it knows; and where its store is
--- honest, it shows the first of these, as many as it has taken
+-- the pass is of the row, and knows no more entries than a hub has. The hub has taken no more than the pass knows. Where its store
+-- is honest, it shows the first of these, as many as it has taken
 pub record IsBook {S : Type 0} (g : Ghosts S) (book : BookState S) : Type 0 where
   pub of : book.pass.spine ≡ book.row
   pub few : length book.pass.known ≤ MAX_ENTRIES
   pub within : book.hub.newest ≤ length book.pass.known
   pub shows : g.honest book.hub.store → Shows g.contents book.hub (take book.hub.newest book.pass.known)
 
--- the book has gone on: it is of the same row and the same tables; it knows what it knew, and maybe more; and it has taken what it had
+-- the book has gone on: it is of the same row and the same tables. It knows what it knew, and maybe more. It has taken what it had
 -- taken, and maybe more, each entry in a commit of its own. `finished` says that no commit failed
 pub record IsLater {S : Type 0} (g : Ghosts S) (finished : Type 0) (old new : BookState S) : Type 0 where
   pub row : new.row ≡ old.row
@@ -34,7 +34,8 @@ pub record IsLater {S : Type 0} (g : Ghosts S) (finished : Type 0) (old new : Bo
   pub begins : Begins old.pass.known new.pass.known
   pub onwards : old.hub.newest ≤ new.hub.newest
   pub was_honest : g.honest new.hub.store → g.honest old.hub.store
-  -- a stop leaves what the store holds; where nothing was written, what it could leave before; where a commit failed, the log with the next entry
+  -- a stop leaves what the store holds. Where nothing was written, it may leave what it could before. Where a commit failed, it may leave the
+  -- log with the next entry
   pub crash : g.honest new.hub.store → (left : Contents) → g.may_leave new.hub.store left
       → (left ≡ g.contents new.hub.store)
       ⊎ ((g.may_leave old.hub.store left × (g.contents new.hub.store ≡ g.contents old.hub.store))

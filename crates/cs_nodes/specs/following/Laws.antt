@@ -39,7 +39,8 @@ StandsWider {S} g =
     → StandsWhereHonest g known held
     → StandsWhereHonest g all held
 
--- two replicas at one version with nothing pending or under way, which stand on lists that are the same up to there, have the same rows
+-- two replicas stand at one version with nothing pending or under way, on lists that are the same up to there. They have the same rows
+-- then
 abbrev pub EqualWhereMet : Type 0
 EqualWhereMet =
     (tables : List TableDef) (known others : List LogEntry) (both : ℕ) (contents more : Contents) (position other : Position) (view seen : View)
@@ -72,7 +73,7 @@ IsOfEntries (Err Spent) = Unit {0}
 IsOfEntries (Err TooLarge) = Unit {0}
 
 module _ {P : Type 0} (picks : P → Clash → Wish → P → Type 0) where
-  -- by a picker that answers each clash once, a pull of what is known has one result, and leaves one position, one thing in the store, and
+  -- by a picker that answers each clash once, a pull of what is known has one result. It leaves one position, one thing in the store, and
   -- one state of the picker
   abbrev pub OneKnownPull : Type 0
   OneKnownPull =
@@ -88,7 +89,7 @@ module _ {P : Type 0} (picks : P → Clash → Wish → P → Type 0) where
       → PullsAll picks tables known other position before p there last r
       → (some ≡ other) × (here ≡ there) × (new ≡ last) × (q ≡ r)
 
-  -- and there is one: a replica that is not ahead of what is known comes to the last of it or to an entry that isn't pulled, and there is a
+  -- and there is one. A replica that is not ahead of what is known comes to the last of it or to an entry that isn't pulled. There is a
   -- store that holds what is left
   abbrev pub KnownPullHasResult : (P → Type 0) → Type 0
   KnownPullHasResult is_ready =
@@ -110,8 +111,8 @@ abbrev pub IsOfOffer : Result NodePush NodeFault → Type 0
 IsOfOffer (Ok told) = Unit {0}
 IsOfOffer (Err fault) = IsOfEntries (Err fault)
 
--- by a picker that answers each clash once, a push has one outcome, given what is known as it ends: of the cell that it is offered for,
--- its entry. It leaves one position, one thing in the store, and one state of the picker
+-- by a picker that answers each clash once, a push has one outcome, given what is known as it ends. Of the cell that it is offered for,
+-- that is its entry. The push leaves one position, one thing in the store, and one state of the picker
 abbrev pub OneKnownPush : {P : Type 0} → (P → Clash → Wish → P → Type 0) → Type 0
 OneKnownPush {P} picks =
     (tables : List TableDef) (known learned : List LogEntry) (cells : ℕ) (old new last : Contents) (position here there : Position) (before : View)

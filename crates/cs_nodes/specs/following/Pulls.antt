@@ -41,8 +41,8 @@ module _ {P : Type 0} (picks : P → Clash → Wish → P → Type 0) (tables : 
   IsTakeFault Spent position entry view p q = ⊥
   IsTakeFault TooLarge position entry view p q = ⊥
 
-  -- how a pull ended behind those that were pulled: it has come to the last that is known, so many were taken; or the next isn't
-  -- pulled
+  -- how a pull ended behind those that were pulled: it has come to the last that is known, and so many were taken. Or the next
+  -- isn't pulled
   abbrev pub EndsPull : List LogEntry → Position → Result ℕ NodeFault → Position → View → P → P → Type 0
   EndsPull known position (Ok count) other end p q =
       (other.version ≡ length known) × (other.version ≡ position.version + count) × (q ≡ p)

@@ -57,7 +57,7 @@ IsReadyFault TooLarge tables position view = IsPushFault push.TooLarge tables po
 -- ---- a push that is offered
 
 module _ {P : Type 0} (picks : P → Clash → Wish → P → Type 0) (tables : List TableDef) (known : List LogEntry) (position : Position) (before : View) (p : P) where
-  -- the push was offered for the cell behind all that was known, at the replica's version, where it is defined; the cell holds this
+  -- the push was offered for the cell behind all that was known, at the replica's version, where it is defined. The cell holds this
   -- entry, which was pulled
   pub record IsSent (entry mine : LogEntry) (learned : List LogEntry) (other : Position) (new : Contents) (q : P) : Type 0 where
     pub at_end : position.version ≡ length known
@@ -72,8 +72,8 @@ module _ {P : Type 0} (picks : P → Clash → Wish → P → Type 0) (tables : 
     pub version : other ≡ taken ready other.pending
     pub shows : ShowsAt tables new other after
 
-  -- what is told of a push, and what it has made of the replica: there is nothing to push; the replica is behind what is known;
-  -- the cell holds the push, or another entry
+  -- what is told of a push, and what it has made of the replica. There is nothing to push, or the replica is behind what is known,
+  -- or the cell holds the push, or another entry
   abbrev pub IsPushTold : NodePush → List LogEntry → Position → Contents → P → Type 0
   IsPushTold Nothing learned other new q =
       (position.flight ≡ None) × HasNothing tables before

@@ -16,8 +16,8 @@ use Rattle.cs_replica.specs.Stands.{StandsOn}
 abbrev pub Begins : List LogEntry → List LogEntry → Type 0
 Begins first second = (more : List LogEntry) × (second ≡ first ++ more)
 
--- the tables are a catalog's; each of the first entries, as many as the version, is defined on the tables that those before it
--- make; and what is left where what is pending and what is under way are taken back is what they make together
+-- the tables are a catalog's. Each of the first entries, as many as the version, is defined on the tables that those before it
+-- make. Where what is pending and what is under way are taken back, what is left is what the entries make together
 pub record StandsIn (tables : List TableDef) (known : List LogEntry) (position : Position) (view : View) : Type 0 where
   pub of_catalog : AreTables tables
   pub front : IsLog tables (take position.version known)

@@ -14,8 +14,8 @@ use Rattle.cs_nodes.specs.plans.Runs.{NodeAt, RunsPlan, first_node}
 abbrev pub node_at : NodeState InMemory → View → NodeAt
 node_at node view = record { known = node.pass.known; position = node.replica.position; view = view }
 
--- a node keeps its tables and its row of cells, and what it showed has made this step, where nothing in its store was misread so far;
--- nor is it then
+-- a node keeps its tables and its row of cells. What it showed has made this step, where nothing in its store was misread so far. Nor
+-- is it then
 pub record TurnsNode (step : List TableDef → ℕ → NodeAt → NodeAt → Type 0) (old new : NodeState InMemory) : Type 0 where
   pub catalog : new.replica.catalog ≡ old.replica.catalog
   pub spine : new.pass.spine ≡ old.pass.spine

@@ -66,7 +66,8 @@ impl<'s, S: RowStore + Drop> Book<'s, S> {
         ensures catalog { IfOk result (λ book. book.hub.catalog ≡ catalog.now) }
         ensures fresh { IfOk result (λ book. book.hub.newest ≡ 0) }
 
-        // What a stop leaves, and how the count of failures goes; at `Err` of the store as it was when it was let go, and what is told of it holds.
+        // What a stop leaves, and how the count of failures goes. At `Err` that is of the store as it was when it was let go, and what is told
+        // of it holds.
         ensures opens { MatchResult result
             (λ book. Opens S.RowStore catalog.now store book.hub.store (Ok tt))
             (λ fault. (last : S) × Opens S.RowStore catalog.now store last (Err fault)
@@ -290,7 +291,7 @@ impl<'s, S: RowStore> Book<'s, S> {
     }
 
     /// Answers the bytes of a request with the bytes of an answer. All entries that can be seen are taken first, each in a commit of its
-    /// own; a push that is to be appended is offered for the next cell, and what that cell holds is taken. The answer is then the hub's on
+    /// own. A push that is to be appended is offered for the next cell, and what that cell holds is taken. The answer is then the hub's on
     /// all that is known as the call ends. The room of the answer to a push that is set is taken before.
     ///
     /// # Errors

@@ -27,7 +27,7 @@ pub fn equal_where_met()
     cs_replica::laws::equal_at_rest();
 }
 
-/// Where a picker has one answer to each clash, a pull of what is known has one result, and leaves one position, one thing in the store,
+/// Where a picker has one answer to each clash, a pull of what is known has one result. It leaves one position, one thing in the store,
 /// and one state of the picker.
 pub fn one_known_pull<P: Picker>()
     ensures { OneKnownPull P.picks }
@@ -39,14 +39,14 @@ pub fn one_known_pull<P: Picker>()
     cs_exchange::pulling::laws::one_pull_fault::<P>();
 }
 
-/// Where a picker has a lawful answer to each clash, a pull of what is known has a result, and there is a store that holds what is left.
+/// Where a picker has a lawful answer to each clash, a pull of what is known has a result. There is a store that holds what is left.
 pub fn known_pull_has_result<P: Picker>()
     ensures { KnownPullHasResult P.picks P.is_ready }
 {
     cs_exchange::pulling::laws::pulled_or_refused::<P>();
 }
 
-/// Where a picker has one answer to each clash, a push has one outcome, given the entry of the cell that it is offered for, and leaves one
+/// Where a picker has one answer to each clash, a push has one outcome, given the entry of the cell that it is offered for. It leaves one
 /// position, one thing in the store, and one state of the picker.
 pub fn one_known_push<P: Picker>()
     ensures { OneKnownPush P.picks }

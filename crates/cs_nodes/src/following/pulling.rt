@@ -18,8 +18,8 @@ use cs_spine::{Pass, Spine};
 use cs_store::RowStore;
 use std::alloc::Global;
 
-/// Looks at one cell behind another until one is not set, takes the entries that are known then, from the one at the replica's version
-/// on, each in a commit of its own, and tells how many. What was taken stays, whatever comes later.
+/// Looks at one cell behind another until one is not set. Then takes the entries that are known, from the one at the replica's version
+/// on, each in a commit of its own. Returns how many. What was taken stays, whatever comes later.
 ///
 /// # Errors
 ///
@@ -42,7 +42,7 @@ pub fn pull_known<'s, S: RowStore, P: Picker>(
     ensures pulled { S.honest replica.new.store → (before : View) → Shows S.contents replica.old before
         → PullsAll P.picks replica.old.catalog pass.new.known result replica.old.position before picker.old replica.new.position (S.contents replica.new.store) picker.new }
 
-    // Each in a commit of its own. Those that were taken stay, however it ended: a stop then leaves what the store holds, or, at an
+    // Each in a commit of its own. Those that were taken stay, however it ended. A stop then leaves what the store holds, or, at an
     // `Err`, that with the next entry taken too. Where nothing was written, it may also leave what it could before.
     ensures writes { WritesInTurn S.RowStore (IsOk result) (result ≡ Err Device)
         (ShowsSomeAt replica.old.catalog replica.old.position (S.contents replica.old.store))

@@ -16,8 +16,8 @@ use cs_replica::Replica;
 use cs_store::{RowStore, StoreFault};
 use std::alloc::Global;
 
-/// The rows of the table with this number in the catalog, each behind the bytes of its key and in the order of these; none past
-/// the last table. The store is only read.
+/// The rows of the table with this number in the catalog. Each stands behind the bytes of its key, and they are in the order of
+/// these bytes. There are none past the last table. The store is only read.
 pub fn rows_of<S: RowStore>(
     alloc: Global,
     replica: &mut Replica<S>,

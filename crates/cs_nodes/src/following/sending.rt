@@ -21,7 +21,7 @@ use cs_spine::{OfferFault, Offered, Pass, Spine};
 use cs_store::RowStore;
 use std::alloc::Global;
 
-/// Offers the push that is under way, or one that is made of what is pending, for the next cell, and takes what that cell holds.
+/// Offers the push that is under way, or one made of what is pending, for the next cell, and takes what that cell holds.
 fn send<'s, S: RowStore, P: Picker>(
     alloc: Global,
     replica: &mut Replica<S>,
@@ -89,8 +89,8 @@ fn send<'s, S: RowStore, P: Picker>(
     }
 }
 
-/// Offers the push that is under way, or one that is made of what is pending, for the cell at the replica's version, and takes what that
-/// cell holds: the push is then confirmed, or another's entry taken.
+/// Offers the push that is under way, or one made of what is pending, for the cell at the replica's version. Then takes what that cell
+/// holds: the push is confirmed, or another's entry taken.
 ///
 /// # Errors
 ///
@@ -114,9 +114,9 @@ pub fn push_known<'s, S: RowStore, P: Picker>(
         → (before : View) → Shows S.contents replica.old before
         → PushesOn P.picks replica.old.catalog pass.old.known replica.old.position before picker.old spine.now.cap result pass.new.known replica.new.position (S.contents replica.new.store) picker.new }
 
-    // The push, and what comes of it, are commits of their own. What was made stays, however it ended, at `Full` too: a stop then
-    // leaves what the store holds, or, where no entry was taken, that with one commit more, which makes the push or takes the entry at
-    // the version. Where nothing was written, it may also leave what it could before.
+    // The push, and what comes of it, are commits of their own. What was made stays, however it ended, at `Full` too. A stop then
+    // leaves what the store holds, or, where no entry was taken, that with one commit more. That commit makes the push or takes the
+    // entry at the version. Where nothing was written, it may also leave what it could before.
     ensures writes { WritesInTurn S.RowStore (HasTaken result) (result ≡ Err Device)
         (ShowsSomeAt replica.old.catalog replica.old.position (S.contents replica.old.store))
         (IsSentAmong P.picks replica.old.catalog replica.old.position (S.contents replica.old.store) picker.old)

@@ -101,8 +101,8 @@ pub(crate) fn take_standing<S: RowStore, P: Picker>(
     }
 }
 
-/// Takes the entries that are known, one after another, from the one at the replica's version on, each in a commit of its own, and
-/// tells how many. What was taken stays, whatever comes later.
+/// Takes the entries that are known, one after another, from the one at the replica's version on, each in a commit of its own.
+/// Returns how many. What was taken stays, whatever comes later.
 ///
 /// # Errors
 ///

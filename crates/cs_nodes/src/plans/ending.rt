@@ -78,7 +78,7 @@ fn run_even<'s, R: Threads + Sync, P: Port + Send + Drop>(
     Ok(all)
 }
 
-/// Runs each plan in a thread of its own, on a new node over a store in memory, whose id is the plan's place, from 0 on; all nodes are of
+/// Runs each plan in a thread of its own, on a new node over a store in memory. The node's id is the plan's place, from 0 on. All nodes are of
 /// one spine. The port at a plan's place is told before and after each of its calls, and goes when the plan has ended. All threads are joined,
 /// and the ends come in the order of the plans. Where a thread can't be started the calls run one after another.
 ///
