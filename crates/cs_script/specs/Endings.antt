@@ -20,7 +20,7 @@ AreFirstMembers tables count members =
     (length members ≡ count)
     × ((r : ℕ) (member : Member) → IsMember (first_world tables members) r member → IsFirstMember tables r member)
 
--- in a new world of so many replicas these events were made, each told on a line; then the world at the end is told, which has the
+-- in a new world of so many replicas these events were made, each told on a line. Then the world at the end is told, which has the
 -- headline
 abbrev pub IsPlayed : List TableDef → ℕ → List Event → List ℕ → Type 0
 IsPlayed tables count events text =
@@ -33,7 +33,7 @@ IsPlayed tables count events text =
 abbrev pub IsOwed : List TableDef → ℕ → Option (List ℕ) → List ℕ → Type 0
 IsOwed tables count input text = (events : List Event) × IsScript tables input events × IsPlayed tables count events text
 
--- the text that is owed was written, or a front of it, where the writer failed; or nothing was written, and the input was read to no
+-- the text that is owed was written, or a front of it, where the writer failed. Or nothing was written, and the input was read to no
 -- script, or memory was refused
 abbrev pub EndsScript : List TableDef → ℕ → Option (List ℕ) → Option (List ℕ) → Type 0 → Type 0 → Option (List ℕ) → Option (List ℕ)
     → Result ⊤ ScriptFault → Type 0

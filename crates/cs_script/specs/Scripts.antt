@@ -18,8 +18,8 @@ NameEvents tables lines events = AllZip (λ line event. event_in tables line ≡
 abbrev pub IsScript : List TableDef → Option (List ℕ) → List Event → Type 0
 IsScript tables input events = (lines : List (List ℕ)) × AreAllLines input lines × NameEvents tables lines events
 
--- why an input was read to no script: the first line that names no event, by its number from 1; a failed read, or lines without end,
--- where each line before names one; or want of memory
+-- why an input was read to no script: the first line that names no event, by its number from 1, or want of memory. Or it is a failed
+-- read, or lines without end, where each line before names one
 abbrev pub IsNoScript : List TableDef → Type 0 → Option (List ℕ) → Option (List ℕ) → ScriptFault → Type 0
 IsNoScript tables read_failed input left (Line number) =
     (lines : List (List ℕ)) × (events : List Event) × (line : List ℕ)

@@ -12,7 +12,7 @@ use cs_value::{Catalog, Memory};
 use cs_world::{Event, World};
 use std::alloc::Global;
 
-/// Reads a script whole, makes its events in a new world in memory of so many replicas of these tables, and writes what each came to, a
+/// Reads a script whole, and makes its events in a new world in memory of so many replicas of these tables. Writes what each came to, a
 /// line each, and then the hub and the replicas, each with its rows.
 ///
 /// # Errors
