@@ -1,4 +1,4 @@
-//! Four threads, each with a replica and a book of its own, on one row of cells; requests are lost on the way to a book or come twice.
+//! Four threads, each with a replica and a book of its own, on one row of cells. Requests are lost on the way to a book or come twice.
 
 use crate::books::begun;
 use crate::lossy_replicas::pushes_over;

@@ -1,5 +1,5 @@
-//! A replica that inserts a row, pushes to a book and pulls until the log has it, and then the next, where requests are lost on the way or
-//! come twice.
+//! A replica that inserts a row, pushes to a book and pulls until the log has it, and then the next. Requests are lost on the way or come
+//! twice.
 
 ghost use Rattle.std.specs.Prelude.{◌<◌, ◌-◌, ◌^◌};
 ghost use Rattle.cs_wire.specs.Requests.{HasShortChangeset, asked_by_owned};

@@ -53,7 +53,7 @@ fn holds(spine: &Spine, pass: &Pass<'_>, n: usize, entry: &LogEntry) -> bool {
     n < pass.len() && spine.entry(pass, n).same(entry)
 }
 
-/// Offers on a spine of one cell: the first is `Mine`, the next through that pass finds it full, another pass sees the first
+/// Offers on a spine of one cell: the first is `Mine`, and the next through that pass finds it full. Another pass sees the first
 /// entry, and an unequal offer of a third is `Other`.
 fn decides_once(spine: &Spine, first: &LogEntry, second: &LogEntry) -> Option<bool> {
     let mut pass = spine.pass().ok()?;
@@ -208,8 +208,8 @@ fn each_cell_of_two_segments_is_set(rt: HostRuntime) {
     assert!(rt; two_segments(rt.alloc()) == Some(true));
 }
 
-/// Whether an entry comes through an offer behind the first segment, which a pass sees that was shared before, and that no pass sees
-/// before it: a pass that stands at the end of the first segment looks at a link that leads nowhere yet.
+/// Whether an entry comes through an offer behind the first segment. A pass that was shared before sees the entry then, and no pass
+/// sees it before. A pass that stands at the end of the first segment looks at a link that leads nowhere yet.
 fn goes_over(spine: &Spine, entry: &LogEntry, last: &LogEntry) -> Option<bool> {
     let mut one = spine.pass().ok()?;
     let filled = offers_all(spine, &mut one, entry, 4096);
