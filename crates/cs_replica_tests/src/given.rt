@@ -1,5 +1,5 @@
-//! Replica 7 of the table `t1(a key, b)`: how it is made, edited, pushed and told, how it takes an entry, and whether it shows what was
-//! written by hand.
+//! Replica 7 of the table `t1(a key, b)`: how it is made, edited, pushed and told, and how it takes an entry. Besides, whether it shows
+//! what was written by hand.
 
 use cs_changeset::read;
 use cs_conflict::{Clash, Guard, Wish};
@@ -261,7 +261,7 @@ pub(crate) fn accepted<S: RowStore>(
     replica.answer(alloc, &answer, &mut picker)
 }
 
-/// The replica over rows, if there are some, with a push of the edits before it under way, if there are some, and edits that it made then.
+/// The replica over rows, if there are some. A push of the edits before it is under way, if there are some, and it has made edits then.
 pub(crate) fn flying(
     alloc: Global,
     base: &[&[u8]],

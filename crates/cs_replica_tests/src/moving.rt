@@ -1,4 +1,4 @@
-//! A store that keeps what is pending as one value: where the device refuses a call, the value stays and nothing is written, and the same
+//! A store that keeps what is pending as one value. Where the device refuses a call, the value stays and nothing is written. The same
 //! opening then moves it to the places of its changes, in one commit.
 
 use crate::given::*;
@@ -72,8 +72,8 @@ fn is_moved_at_once(alloc: Global, passes: u64) -> Option<bool> {
     Some(opened(alloc, kept(alloc, passes)?).is_some())
 }
 
-/// A store is asked thirteen times: for its id and the value, for two signs of damage, for six values and the rows and pending changes of
-/// the table, which are copied, and for the commit.
+/// A store is asked thirteen times: for its id and the value, for two signs of damage, and for six values. It is asked for the rows and
+/// pending changes of the table, which are copied, and for the commit.
 #[test]
 fn a_value_stays_where_the_device_refuses(rt: HostRuntime) {
     let alloc = rt.alloc();

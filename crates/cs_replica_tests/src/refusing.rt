@@ -77,8 +77,9 @@ fn is_opened_again(alloc: Global, passes: u64) -> Option<bool> {
     Some(fault == OpenFault::Device && shows_both(alloc, &mut replica))
 }
 
-/// A store is asked ten times where it is laid out, and a filled one so often: for a value of pending changes, whether it holds
-/// nothing, for five values, for three signs of damage, for the pending changes and the row of one, and for the row and the pending change of a place under way.
+/// A store is asked ten times where it is laid out. A filled one is asked for a value of pending changes, whether it holds nothing, for five
+/// values, and for three signs of damage. Then it is asked for the pending changes and the row of one, and the row and the pending change of a
+/// place under way.
 #[test]
 fn what_the_device_refuses_is_not_opened(rt: HostRuntime) {
     let alloc = rt.alloc();

@@ -8,8 +8,8 @@ use cs_store::{RowStore, Trip};
 use cs_wire::Answer;
 use std::alloc::Global;
 
-/// What the log's rows are made by, the edits that are pushed, the edits that are made then, and an entry, that of an origin; and
-/// what is shown before and after it is taken.
+/// What the log's rows are made by, the edits that are pushed, the edits that are made then, and an entry, that of an origin.
+/// Besides, what is shown before and after it is taken.
 struct Case {
     base: Parts,
     flown: &'static [Edit],
@@ -141,7 +141,7 @@ const OWN: Case = Case {
     },
 };
 
-/// A take asks for the row and the pending change at each place of the entry and of what is under way, and commits once; that of the own
+/// A take asks for the row and the pending change at each place of the entry and of what is under way, and commits once. That of the own
 /// entry only commits.
 #[test]
 fn a_take_that_the_device_refuses_changes_nothing(rt: HostRuntime) {

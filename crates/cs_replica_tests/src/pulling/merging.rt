@@ -132,8 +132,8 @@ const OVER: Shown = Shown {
     flight: &[],
 };
 
-/// Whether a push that is under way becomes pending, beside the edit that was made then, which a clash keeps; or nothing changes where the
-/// picker stops.
+/// Whether a push that is under way becomes pending, beside the edit that was made then, which a clash keeps. Or nothing changes, where
+/// the picker stops.
 fn comes_behind_a_push(alloc: Global, wish: Wish, wanted: Told) -> Option<bool> {
     let mut replica = flying(
         alloc,

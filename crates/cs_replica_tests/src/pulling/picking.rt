@@ -1,5 +1,5 @@
-//! Pickers over closures as callers write them, each used through `take`: what they are told of each clash, what is told where they stop,
-//! and what their answers leave.
+//! Pickers over closures as callers write them, each used through `take`. The tests show what they are told of each clash, what is told
+//! where they stop, and what their answers leave.
 
 use crate::choosing::{take_always, take_own_first};
 use crate::given::*;
@@ -147,8 +147,8 @@ const SIX_KEPT: Shown = Shown {
     flight: &[],
 };
 
-/// Whether each pair of changes is the conflict that it has to be: an INSERT of a row that is there, an UPDATE of one with other values or
-/// of none, a DELETE of none or of one with other values, and an UPDATE of one that went and came again.
+/// Whether each pair of changes is the conflict that it has to be. They are an INSERT of a row that is there, and an UPDATE of one with
+/// other values or of none. Then come a DELETE of none or of one with other values, and an UPDATE of one that went and came again.
 fn six_clash(alloc: Global) -> Option<bool> {
     let mut replica = flying(alloc, FIVE, &[Edit::Delete(6)], OWN_SIX)?;
     let kinds = [3, 1, 2, 2, 1, 1];
