@@ -43,8 +43,8 @@ pub(crate) fn opened(alloc: Global) -> Option<(Catalog, Store)> {
     }
 }
 
-/// What an entry does, as it is stored: a byte for its kind, and behind it the INSERT of (1, 'v1'), its UPDATE to 'v2', the DELETE of (1, 'v2'),
-/// or that of (2, 'x'); and no change.
+/// What an entry does, as it is stored: a byte for its kind, and behind it the change. These are the INSERT of (1, 'v1'), its UPDATE to 'v2',
+/// the DELETE of (1, 'v2'), and that of (2, 'x'). One more has no change.
 pub(crate) const INSERT: &[u8] = &[
     0, 0x54, 2, 1, 0, 0x74, 0x31, 0, 18, 0, 1, 0, 0, 0, 0, 0, 0, 0, 1, 3, 2, 0x76, 0x31,
 ];

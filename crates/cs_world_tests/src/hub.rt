@@ -1,5 +1,5 @@
-//! A hub by the calls that no line makes: requests that are judged, entries that are followed, changes that are handed over, what it shows,
-//! and a store that fails. The answers were written by hand.
+//! A hub by the calls that no line makes: requests that are judged, entries that are followed, and changes that are handed over. Besides,
+//! what it shows, and a store that fails. The answers were written by hand.
 
 ghost use Rattle.std.specs.Prelude.{◌≡◌};
 
@@ -27,7 +27,8 @@ fn hub_of_t1(alloc: Global) -> Option<Hub<Store>> {
     hub_over(alloc, bare(alloc, u64::MAX))
 }
 
-/// Push 1 of replica 7, of the INSERT of (1, 'v1') onto version 0; its push 2, of (2, 'v1') onto version 1; and the answers that they are taken.
+/// Push 1 of replica 7, of the INSERT of (1, 'v1') onto version 0. Its push 2 is of (2, 'v1') onto version 1. Then the answers that they are
+/// taken.
 const FIRST: &[u8] =
     b"\x01\0\0\0\x07\0\0\0\0\0\0\0\x01\0\0\0\0\0\0\0\0\0\0\0\x16\x54\x02\x01\0\x74\x31\0\x12\0\x01\0\0\0\0\0\0\0\x01\x03\x02\x76\x31";
 
@@ -183,7 +184,7 @@ fn is_answered_again(alloc: Global, calls: u64, asked: &[u8], expected: &[u8]) -
     Some(refused && kept && again && hub.close().failures() == 1)
 }
 
-/// A push asks the store twice, for the row and for the commit; one that was taken once, and so does a pull of one entry.
+/// A push asks the store twice, for the row and for the commit. One that was taken asks once, and so does a pull of one entry.
 #[test]
 fn what_the_device_refuses_changes_nothing(rt: HostRuntime) {
     let alloc = rt.alloc();

@@ -1,4 +1,5 @@
-//! A store that is opened as a hub's: laid out where it held nothing, as it was left, as another's, and damaged in each of its parts.
+//! A store that is opened as a hub's. It is laid out where it held nothing, or is as it was left, another's, or damaged in each of
+//! its parts.
 
 use crate::given::{INSERT, KEY, ROW_1, bare, opened};
 use cs_hub::log_opening::open_log;

@@ -119,7 +119,8 @@ fn is_unread(alloc: Global, body: &[u8]) -> Option<bool> {
     Some(matches!(read, Err(StoreFault::Device)) && store.failures() == 1)
 }
 
-/// Past the end; an entry that is stored without a body; and bodies of another kind, of no changeset, and of a changeset without its kind.
+/// Past the end, and an entry that is stored without a body. Then bodies of another kind, of no changeset, and of a changeset without its
+/// kind.
 #[test]
 fn what_is_no_entry_is_misread(rt: HostRuntime) {
     let alloc = rt.alloc();
