@@ -41,8 +41,8 @@ impl Gates {
     }
 }
 
-/// The port of a node. It holds node 2 before its first call until node 1's port was told of a call, and node 1 before its push until
-/// node 2's was answered.
+/// The port of a node. It holds node 2 before its first call until node 1's port was told of a call. It holds node 1 before its push
+/// until node 2's was answered.
 #[derive(Drop)]
 struct Gate<'g, R: Clock> {
     rt: &'g R,

@@ -1,8 +1,8 @@
-//! Tests of nodes (`cs_nodes`, `cs_nodes::following`) over the store in memory, and of plans (`cs_nodes::plans`), by their public calls: what pushes and
-//! pulls on one row of cells are told and leave, threads that push at once, nodes that run their plans at once, held by their ports or not,
-//! and memory that is refused. They stand in a crate of their own since a crate with tests is proved twice.
-//! It is a program that does nothing, and no library: what the gate keeps of a library it marks by all ways that crates.txt has down from
-//! it, which are many here.
+//! Tests of nodes (`cs_nodes`, `cs_nodes::following`) over the store in memory, and of plans (`cs_nodes::plans`), by their public calls. They
+//! show what pushes and pulls on one row of cells are told and leave, and threads that push at once. They show nodes that run their plans at
+//! once, held by their ports or not, and memory that is refused. They stand in a crate of their own since a crate with tests is proved twice.
+//! It is a program that does nothing, and no library. What the gate keeps of a library it marks by all ways that crates.txt has down from it.
+//! Those are many here.
 #![tactic(auto)]
 
 #[cfg(test)]

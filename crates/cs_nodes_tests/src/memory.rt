@@ -1,4 +1,5 @@
-//! Memory that is refused, or a call of the store, to a node that is made, edited, pushed and pulled: it is told, and the same call is then made.
+//! Memory that is refused, or a call of the store, to a node that is made, edited, pushed and pulled. It is told, and the same call is then
+//! made.
 
 ghost use Rattle.std.specs.Prelude.{◌≡◌, IfSome};
 
