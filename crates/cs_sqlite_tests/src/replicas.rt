@@ -1,5 +1,5 @@
-//! A replica that makes five calls over any store, and what a store shows in memory after each commit; an answer of three entries makes one a
-//! entry, in order.
+//! A replica that makes five calls over any store, and what a store shows in memory after each commit. An answer of three entries makes one
+//! an entry, in order.
 
 use crate::messages::ACCEPTED;
 use cs_conflict::{Clash, Guard, Wish};
@@ -76,8 +76,8 @@ fn answers_entries<S: RowStore>(
     }
 }
 
-/// A call of the replica, the first being 0, and whether it succeeded: an edit, a push, its answer, an answer of three entries, and
-/// an edit.
+/// A call of the replica, the first being 0, and whether it succeeded. The calls are an edit, a push, its answer, an answer of
+/// three entries, and an edit.
 fn call<S: RowStore>(alloc: Global, replica: &mut Replica<S>, at: usize) -> bool {
     match at {
         0 => inserts(alloc, replica, 1),
@@ -104,8 +104,8 @@ fn step<S: RowStore>(alloc: Global, replica: &mut Replica<S>, at: usize) -> bool
     }
 }
 
-/// How many commits there were before a call that comes behind so many calls, the first of which opens the replica; and how many
-/// behind it.
+/// How many commits there were before a call that comes behind so many calls, and how many behind it. The first call opens the
+/// replica.
 pub(crate) fn commits_around(calls: usize) -> (usize, usize) {
     match calls {
         0 => (0, 1),

@@ -6,7 +6,8 @@ use cs_store_cases::{HELD, NOTHING_SHOWN, image_of, is_found, shows, shows_commi
 use sqlite::{Alter, Connection, Error, MemStore};
 use std::alloc::Global;
 
-/// What is asked of a store that holds nothing: what it shows behind commits, whether it is whole where it holds this, and how it counts.
+/// What is asked of a store that holds nothing. It is what it shows behind commits, whether it is whole where it holds this, and how it
+/// counts.
 #[derive(Clone, Copy)]
 enum Asks {
     Commits,
@@ -97,8 +98,8 @@ fn tables_in<A: Alter>(conn: &mut Connection<A>) -> Option<i64> {
     .ok()
 }
 
-/// What becomes of a database that this SQL made: what a store shows that adopts it; or, where it is refused as `Device` and given back, how
-/// many tables it has.
+/// What becomes of a database that this SQL made: what a store shows that adopts it. Where it is refused as `Device` and given back, it is
+/// how many tables it has.
 fn adopted(alloc: Global, texts: &[&str]) -> Option<Result<Vec<u8>, i64>> {
     let conn = made(alloc, texts)?;
     if !conn.is_autocommit() {
@@ -119,8 +120,8 @@ fn becomes(alloc: Global, texts: &[&str], wanted: Result<&[u8], i64>) -> bool {
     }
 }
 
-/// A fresh database, a store from before pending changes had a table, a store, another's, and a store whose log lacks its first entry, so that none
-/// is listed, and the log isn't whole.
+/// A fresh database, a store from before pending changes had a table, a store, another's, and a store whose log lacks its first entry. Of the
+/// last none is listed, and the log isn't whole.
 #[test]
 fn a_database_that_was_found_is_judged(rt: HostRuntime) {
     let cases: [(&[&'static str], Result<&'static [u8], i64>); 5] = [

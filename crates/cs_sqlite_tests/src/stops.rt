@@ -1,5 +1,5 @@
-//! A stop at each call of the files in which a store lies, whose commits are those of a test, of a hub or of a replica. After it the store
-//! opens as it was before the call or after it, as a store in memory shows it that made as many commits.
+//! A stop at each call of the files in which a store lies. Its commits are those of a test, of a hub or of a replica. After the stop it
+//! opens as it was before the call or after it. So a store in memory shows it that made as many commits.
 
 use crate::disks::{Calls, Disk, files_behind, open_again, open_new, shown_again};
 use crate::{hubs, replicas};

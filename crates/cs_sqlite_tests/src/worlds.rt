@@ -1,4 +1,4 @@
-//! Worlds over stores in SQLite, in memory: each event of a script comes to what it comes to over any other stores, and all have the rows.
+//! Worlds over stores in SQLite, in memory. Each event of a script comes to what it comes to over any other stores, and all have the rows.
 
 ghost use Rattle.std.specs.Prelude.{◌≡◌, ◌∷◌, [], IfOk};
 ghost use Rattle.cs_store.specs.Contents.{nothing};
