@@ -1,10 +1,10 @@
 //! Applies changesets to rows in a `MapStore`, for `bench/apply.sh`.
 //!
-//! Standard input holds parts, each behind its length in eight bytes, four parts a case: headers of all tables, the rows as a
-//! changeset of INSERTs, the changeset, and the answers to its conflicts in order, a digit each, where OMIT is 0, REPLACE 1 and
-//! ABORT 2; behind the last one it answers OMIT. A case that is checked has a line for each conflict, one of how applying ended,
-//! and one for each row behind it. One that is timed has the nanoseconds of reading the changeset, least of all rounds, those of
-//! applying it in the first round, and the least of all, and the conflicts and edits.
+//! Standard input holds parts, each behind its length in eight bytes, four parts a case. They are headers of all tables, the rows
+//! as a changeset of INSERTs, the changeset, and the answers to its conflicts in order. An answer is a digit, where OMIT is 0,
+//! REPLACE 1 and ABORT 2. Behind the last one it answers OMIT. A case that is checked has a line for each conflict, one of how
+//! applying ended, and one for each row behind it. One that is timed has the nanoseconds of reading the changeset, least of all
+//! rounds. It has those of applying it in the first round, and the least of all, and the conflicts and edits.
 
 use crate::drawn::{
     Wrong, answer_at, catalog_in, changeset_of, commit_edits, put_conflict, put_hex, put_number,
@@ -223,8 +223,8 @@ fn stores_of(alloc: Global, case: &Case<'_>, count: u64) -> Result<Vec<MapStore>
     Ok(stores)
 }
 
-/// The line of a case that is timed. The stores of all rounds are there before the first and stay to the end, so that later rounds
-/// have the memory that the first one gave back, as in a program that keeps its store.
+/// The line of a case that is timed. The stores of all rounds are there before the first and stay to the end. So later rounds have
+/// the memory that the first one gave back, as in a program that keeps its store.
 fn put_times<R: Clock>(
     rt: &R,
     alloc: Global,

@@ -1,6 +1,6 @@
 //! Runs drawn cases for the scripts of `bench/`, which run the same ones by SQLite and compare. The words `apply`, `rebase` and
-//! `replica` say which; a number behind the first two says that the case is timed so many times, else each case is checked. Each
-//! file says what its cases are made of. What the crates below do is proved where they stand; this program only calls them and prints.
+//! `replica` say which. A number behind the first two says that the case is timed so many times, else each case is checked. Each file
+//! says what its cases are made of. What the crates below do is proved where they stand. This program only calls them and prints.
 #![tactic(auto)]
 
 mod applying;

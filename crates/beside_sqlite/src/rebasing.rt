@@ -1,11 +1,12 @@
 //! Rebases local changesets over the blobs that applying remote ones leaves, for `bench/rebase.sh`.
 //!
-//! Standard input holds parts, each behind its length in eight bytes. A case that is checked has six: headers of all tables, the
-//! local rows and the remote rows as changesets of INSERTs, the local changeset and the remote one, each of which has been made to
-//! its rows, and the answers to the conflicts of the remote one with the local rows. Its lines tell how many conflicts there were,
-//! the local rows with the remote changeset applied, the remote rows with the rebased local changeset applied, and how many
-//! conflicts that met. A case that is timed has two: a local changeset and a rebase blob. Its line has the nanoseconds of the
-//! fastest round, those of reading the local changeset and finding the order of its keys, and how many changes are left.
+//! Standard input holds parts, each behind its length in eight bytes. A case that is checked has six. They are headers of all
+//! tables, the local rows and the remote rows as changesets of INSERTs, and the local changeset and the remote one. Each of these
+//! two has been made to its rows. The last part is the answers to the conflicts of the remote one with the local rows. The lines of
+//! the case tell how many conflicts there were, and the local rows with the remote changeset applied. Then come the remote rows
+//! with the rebased local changeset applied, and how many conflicts that met. A case that is timed has two: a local changeset and a
+//! rebase blob. Its line has the nanoseconds of the fastest round, and those of reading the local changeset and finding the order
+//! of its keys. Then it has how many changes are left.
 
 ghost use Rattle.std.specs.Prelude.{IfOk};
 ghost use Rattle.cs_change.specs.Spelling.{FitsChangeset};

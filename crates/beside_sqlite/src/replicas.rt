@@ -1,10 +1,11 @@
 //! Runs a replica over a `MapStore`, for `bench/replica.sh`.
 //!
-//! Standard input holds parts, each behind its length in eight bytes, six parts a case: headers of all tables; the rows of the
-//! version 1 as a changeset of INSERTs; the replica's edits before a push and those behind it, as changesets of one change one after
-//! another; the changeset of the log's next entry, which is another's; and the wishes at its clashes in order, a digit each, where
-//! `Keep` is 0 and `Take` 1. A push is made where there are edits before it, and no answer comes. The lines of a case tell how many
-//! changes were under way then, each clash, the rows behind it all, and the changeset that is pending and then pushed.
+//! Standard input holds parts, each behind its length in eight bytes, six parts a case. The first two are headers of all tables, and
+//! the rows of the version 1 as a changeset of INSERTs. Then come the replica's edits before a push and those behind it, as
+//! changesets of one change one after another. The last two are the changeset of the log's next entry, which is another's, and the
+//! wishes at its clashes in order. A wish is a digit, where `Keep` is 0 and `Take` 1. A push is made where there are edits before
+//! it, and no answer comes. The lines of a case tell how many changes were under way then, each clash, and the rows behind it all.
+//! The last is the changeset that is pending and then pushed.
 
 use crate::drawn::{
     Wrong, answer_at, catalog_in, changeset_of, put_conflict, put_count, put_hex, put_number,
