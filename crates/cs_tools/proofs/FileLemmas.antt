@@ -15,11 +15,12 @@ use Rattle.cs_group.specs.declared.combining.CombineFault.TheVariants as combini
 use Rattle.cs_normal.specs.declared.normal.TableChanges.{TableChanges}
 use Rattle.cs_tools.proofs.InputLemmas.{fit_push}
 use Rattle.cs_tools.specs.Faults.{of_combine}
-use Rattle.cs_tools.specs.Files.{ChangesetAt, HasBadFile, HeldAt, IsBadFile, RefusesFiles}
+use Rattle.cs_tools.specs.Files.{ChangesetAt, HasBadFile, HeldAt, IsBadFile, Reading, RefusesFiles}
 use Rattle.cs_tools.specs.SpelledLine.{Spells}
 use Rattle.cs_tools.specs.WrittenForm.{IsNotWritten}
 use Rattle.cs_tools.specs.declared.fault.ToolFault.{ToolFault}
 use Rattle.cs_tools.specs.declared.fault.ToolFault.TheVariants.{Memory}
+use Rattle.cs_tools.specs.declared.input_files.InputFiles.{Ghosts}
 use Rattle.cs_tools.specs.declared.tool.Form.{Form}
 
 -- ---- the first ones and the next
@@ -50,14 +51,14 @@ paths_split {X} see paths i d lt =
     ap (map see) (sym (take-append-drop i paths) ∙ ap (λ (t : List X). take i paths ++ t) (drop_more paths i d lt))
     ∙ map-append see (take i paths) (get_or paths i d ∷ drop (i + 1) paths)
 
-module _ {I : Type 0} (remaining : I → Option (List ℕ)) (failed : I → Type 0) (opened : List ℕ → I → Type 0) (unopened : List ℕ → Type 0) where
+module _ {F I : Type 0} (reads : Reading I) (g : Ghosts F I) (files : F) where
   -- the file held these bytes, which are a changeset
   abbrev pub GivenAt : List ℕ → List ℕ → Type 0
-  GivenAt path bytes = HeldAt remaining failed opened unopened path bytes × IsChangeset bytes
+  GivenAt path bytes = HeldAt reads g files path bytes × IsChangeset bytes
 
   -- the first files are given, and the one behind them is bad
   bad_behind : (paths given : List (List ℕ)) (path : List ℕ) (rest : List (List ℕ)) (told : ToolFault)
-      → AllZip GivenAt paths given → IsBadFile remaining failed opened unopened IsChangesetFault path told → HasBadFile remaining failed opened unopened told (paths ++ path ∷ rest)
+      → AllZip GivenAt paths given → IsBadFile reads g files IsChangesetFault path told → HasBadFile reads g files told (paths ++ path ∷ rest)
   bad_behind [] [] path rest told all bad = inl bad
   bad_behind [] (b ∷ given) path rest told all bad = absurd all
   bad_behind (p ∷ paths) [] path rest told all bad = absurd all
@@ -65,22 +66,22 @@ module _ {I : Type 0} (remaining : I → Option (List ℕ)) (failed : I → Type
       inr (groups, (b, held, (fits, is)), bad_behind paths given path rest told all bad)
 
   pub bad_next : {X : Type 0} (see : X → List ℕ) (paths : List X) (i : ℕ) (d : X) (given : List (List ℕ)) (told : ToolFault) → i < length paths
-      → AllZip GivenAt (map see (take i paths)) given → IsBadFile remaining failed opened unopened IsChangesetFault (see (get_or paths i d)) told
-      → HasBadFile remaining failed opened unopened told (map see paths)
+      → AllZip GivenAt (map see (take i paths)) given → IsBadFile reads g files IsChangesetFault (see (get_or paths i d)) told
+      → HasBadFile reads g files told (map see paths)
   bad_next see paths i d given told lt all bad =
-      subst (HasBadFile remaining failed opened unopened told) (sym (paths_split see paths i d lt)) (bad_behind (map see (take i paths)) given (see (get_or paths i d)) (map see (drop (i + 1) paths)) told all bad)
+      subst (HasBadFile reads g files told) (sym (paths_split see paths i d lt)) (bad_behind (map see (take i paths)) given (see (get_or paths i d)) (map see (drop (i + 1) paths)) told all bad)
 
   pub given_next : {X : Type 0} (see : X → List ℕ) (paths : List X) (i : ℕ) (d : X) (given : List (List ℕ)) (bytes : List ℕ) → i < length paths
       → AllZip GivenAt (map see (take i paths)) given → GivenAt (see (get_or paths i d)) bytes → AllZip GivenAt (map see (take (i + 1) paths)) (given ++ bytes ∷ [])
   given_next see paths i d given bytes lt all now =
       subst (λ (xs : List (List ℕ)). AllZip GivenAt xs (given ++ bytes ∷ [])) (sym (paths_more see paths i d lt)) (zip_push GivenAt (map see (take i paths)) given (see (get_or paths i d)) bytes all now)
 
-  pub given_held : (paths given : List (List ℕ)) → AllZip GivenAt paths given → AllZip (HeldAt remaining failed opened unopened) paths given
-  given_held paths given all = zip_so GivenAt (HeldAt remaining failed opened unopened) (λ p b both. both.0) paths given all
+  pub given_held : (paths given : List (List ℕ)) → AllZip GivenAt paths given → AllZip (HeldAt reads g files) paths given
+  given_held paths given all = zip_so GivenAt (HeldAt reads g files) (λ p b both. both.0) paths given all
 
   -- what the files hold are the changesets that are lent
-  pub changesets_there : (paths given : List (List ℕ)) (changesets : List (List Group)) → AllZip (HeldAt remaining failed opened unopened) paths given
-      → AllZip (Spells FitsChangeset changeset_spelling) given changesets → AllZip (ChangesetAt remaining failed opened unopened) paths changesets
+  pub changesets_there : (paths given : List (List ℕ)) (changesets : List (List Group)) → AllZip (HeldAt reads g files) paths given
+      → AllZip (Spells FitsChangeset changeset_spelling) given changesets → AllZip (ChangesetAt reads g files) paths changesets
   changesets_there [] [] [] held spelled = tt
   changesets_there (p ∷ paths) (b ∷ given) (g ∷ changesets) held spelled = ((b, held.0, spelled.0), changesets_there paths given changesets held.1 spelled.1)
   changesets_there [] [] (g ∷ changesets) held spelled = absurd spelled
@@ -89,19 +90,18 @@ module _ {I : Type 0} (remaining : I → Option (List ℕ)) (failed : I → Type
   changesets_there (p ∷ paths) (b ∷ given) [] held spelled = absurd spelled
 
   -- why the changesets of all files are not written
-  pub files_refuse_together : (form : Form) (paths : List (List ℕ)) (changesets : List (List Group)) (fault : CombineFault) → AllZip (ChangesetAt remaining failed opened unopened) paths changesets
-      → HasCombineFault fault changesets → RefusesFiles remaining failed opened unopened form paths (of_combine fault)
+  pub files_refuse_together : (form : Form) (paths : List (List ℕ)) (changesets : List (List Group)) (fault : CombineFault) → AllZip (ChangesetAt reads g files) paths changesets
+      → HasCombineFault fault changesets → RefusesFiles reads g files form paths (of_combine fault)
   files_refuse_together form paths changesets combining.Memory read has = inl refl
   files_refuse_together form paths changesets (combining.Headers why) read has = inr (inr (inl (changesets, read, (combining.Headers why, has, (λ e. cc), refl))))
   files_refuse_together form paths changesets (combining.Unfit why) read has = inr (inr (inl (changesets, read, (combining.Unfit why, has, (λ e. cc), refl))))
 
-  pub files_refuse_form : (form : Form) (paths : List (List ℕ)) (changesets : List (List Group)) (both : List TableChanges) (told : ToolFault) → AllZip (ChangesetAt remaining failed opened unopened) paths changesets
-      → IsCombined changesets both → (told ≡ Memory) ⊎ IsNotWritten form (flat_map heads_of changesets) told → RefusesFiles remaining failed opened unopened form paths told
+  pub files_refuse_form : (form : Form) (paths : List (List ℕ)) (changesets : List (List Group)) (both : List TableChanges) (told : ToolFault) → AllZip (ChangesetAt reads g files) paths changesets
+      → IsCombined changesets both → (told ≡ Memory) ⊎ IsNotWritten form (flat_map heads_of changesets) told → RefusesFiles reads g files form paths told
   files_refuse_form form paths changesets both told read combined (inl memory) = inl memory
   files_refuse_form form paths changesets both told read combined (inr not) = inr (inr (inr (changesets, both, read, combined, not)))
 
 -- what was told of a path before is told still
-module _ {I : Type 0} (remaining : I → Option (List ℕ)) (failed : I → Type 0) (opened reopened : List ℕ → I → Type 0) (unopened reunopened : List ℕ → Type 0)
-    (kept : (path : List ℕ) (input : I) → opened path input → reopened path input) where
-  pub given_kept : (paths given : List (List ℕ)) → AllZip (GivenAt remaining failed opened unopened) paths given → AllZip (GivenAt remaining failed reopened reunopened) paths given
-  given_kept paths given all = zip_so (GivenAt remaining failed opened unopened) (GivenAt remaining failed reopened reunopened) (λ p b both. ((both.0.0, kept p both.0.0 both.0.1, both.0.2), both.1)) paths given all
+module _ {F I : Type 0} (reads : Reading I) (g : Ghosts F I) (files after : F) (kept : (path : List ℕ) (input : I) → g.opened files path input → g.opened after path input) where
+  pub given_kept : (paths given : List (List ℕ)) → AllZip (GivenAt reads g files) paths given → AllZip (GivenAt reads g after) paths given
+  given_kept paths given all = zip_so (GivenAt reads g files) (GivenAt reads g after) (λ p b both. ((both.0.0, kept p both.0.0 both.0.1, both.0.2), both.1)) paths given all

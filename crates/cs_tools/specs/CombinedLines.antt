@@ -1,5 +1,5 @@
--- What `combine` writes: the changesets that the lines of the input spell, as one; or why there is no such thing (profile of
--- this project over SQLite's changegroup).
+-- What `combine` writes: the changesets that the lines of the input spell, as one, or why there is none (profile of this project over
+-- SQLite's changegroup).
 use Rattle.std.specs.Prelude.{◌≡◌, ◌≢◌, ◌⊎◌, ℕ, List, [], ◌∷◌, length, Option}
 use Rattle.std.specs.List.{AllZip, flat_map}
 use Rattle.cs_lines.specs.Lines.{hex_line}
@@ -24,8 +24,8 @@ use Rattle.cs_tools.specs.declared.tool.Form.{Form}
 abbrev pub SpellChangesets : List (List ℕ) → List (List Group) → Type 0
 SpellChangesets lines changesets = AllZip SpellsChangeset lines changesets
 
--- the bytes are the spelling, in this form, of the left fold of consolidation, from the empty changeset, over the normal forms
--- of the lines' changesets by the catalog of all their headers
+-- the bytes spell, in this form, the left fold of consolidation from the empty changeset. It goes over the normal forms of the lines'
+-- changesets by the catalog of all their headers
 pub record SpellsCombined (form : Form) (lines : List (List ℕ)) (bytes : List ℕ) : Type 0 where
   pub changesets : List (List Group)
   pub both : List TableChanges

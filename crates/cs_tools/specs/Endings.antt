@@ -26,7 +26,7 @@ Refuses (Rebase form) read_failed input left told = RefusesToRebase form read_fa
 Refuses ShowChangeset read_failed input left told = RefusesToShow IsChangesetFault read_failed input left told
 Refuses ShowBlob read_failed input left told = RefusesToShow IsBlobFault read_failed input left told
 
--- a text that is owed was written; or nothing was, and this is why; or a front of a text that is owed, where the writer failed
+-- a text that is owed was written. Or nothing was, and this is why. Or a front of a text that is owed was, where the writer failed
 abbrev pub Ends : (List ℕ → Type 0) → (ToolFault → Type 0) → Type 0 → Option (List ℕ) → Option (List ℕ)
     → Result ⊤ ToolFault → Type 0
 Ends IsOwed IsRefused write_failed old new (Ok done) = (text : List ℕ) × IsOwed text × Appends old new text

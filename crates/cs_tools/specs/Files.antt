@@ -20,19 +20,24 @@ use Rattle.cs_tools.specs.SpelledLine.{Spells}
 use Rattle.cs_tools.specs.WrittenForm.{IsNotWritten, SpellsIn}
 use Rattle.cs_tools.specs.declared.fault.ToolFault.{ToolFault}
 use Rattle.cs_tools.specs.declared.fault.ToolFault.TheVariants.{Codec, Memory}
+use Rattle.cs_tools.specs.declared.input_files.InputFiles.{Ghosts}
 use Rattle.cs_tools.specs.declared.show.Shown.{Shown}
 use Rattle.cs_tools.specs.declared.show.Shown.TheVariants.{Blob, Changeset}
 use Rattle.cs_tools.specs.declared.tool.Form.{Form}
 
--- `remaining` and `failed` are what readers of files tell; `opened` and `unopened` what was told of a path: this reader, or none
-module _ {I : Type 0} (remaining : I → Option (List ℕ)) (failed : I → Type 0) (opened : List ℕ → I → Type 0) (unopened : List ℕ → Type 0) where
+-- what is known of what reads a file: the bytes that remain, where these are known, and whether a read failed
+abbrev pub Reading : Type 0 → Type 1
+Reading I = record { remaining : I → Option (List ℕ); failed : I → Type 0 }
+
+-- `files` opens files, whose readers are read so
+module _ {F I : Type 0} (reads : Reading I) (g : Ghosts F I) (files : F) where
   -- the file at the path held these bytes, where those are known
   abbrev pub HeldAt : List ℕ → List ℕ → Type 0
-  HeldAt path bytes = (input : I) × opened path input × IfSome (remaining input) (λ held. bytes ≡ held)
+  HeldAt path bytes = (input : I) × g.opened files path input × IfSome (reads.remaining input) (λ held. bytes ≡ held)
 
   -- it wasn't opened, or a read of it failed
   abbrev pub IsUnread : List ℕ → Type 0
-  IsUnread path = unopened path ⊎ ((input : I) × (last : I) × opened path input × failed last)
+  IsUnread path = g.unopened files path ⊎ ((input : I) × (last : I) × g.opened files path input × reads.failed last)
 
   -- it spelled this thing, which is in range
   abbrev pub SpelledAt : {A : Type 0} → (A → Type 0) → (A → List ℕ) → List ℕ → A → Type 0
@@ -45,8 +50,8 @@ module _ {I : Type 0} (remaining : I → Option (List ℕ)) (failed : I → Type
   abbrev pub IsBadFile : (Fault → ℕ → List ℕ → Type 0) → List ℕ → ToolFault → Type 0
   IsBadFile IsFault path told =
       IsFailure (IsUnread path) told
-      ⊎ ((input : I) × (fault : Fault) × (offset : ℕ) × opened path input
-      × IfSome (remaining input) (λ bytes. IsFault fault offset bytes) × (told ≡ Codec (At fault offset)))
+      ⊎ ((input : I) × (fault : Fault) × (offset : ℕ) × g.opened files path input
+      × IfSome (reads.remaining input) (λ bytes. IsFault fault offset bytes) × (told ≡ Codec (At fault offset)))
 
   -- ---- `show`
 
@@ -90,43 +95,43 @@ module _ {I : Type 0} (remaining : I → Option (List ℕ)) (failed : I → Type
 
 -- ---- laws, for whatever files told
 
--- each reader of the file at this path has these bytes
-abbrev pub IsFile : {I : Type 0} → (I → Option (List ℕ)) → (List ℕ → I → Type 0) → List ℕ → List ℕ → Type 0
-IsFile {I} remaining opened path bytes = (input : I) → opened path input → remaining input ≡ Some bytes
+module _ {F I : Type 0} (reads : Reading I) (g : Ghosts F I) where
+  -- each reader of the file at this path has these bytes
+  abbrev pub IsFile : F → List ℕ → List ℕ → Type 0
+  IsFile files path bytes = (input : I) → g.opened files path input → reads.remaining input ≡ Some bytes
 
-module _ {F I : Type 0} (remaining : I → Option (List ℕ)) (failed : I → Type 0) (opened : F → List ℕ → I → Type 0) (unopened : F → List ℕ → Type 0) where
   -- a file has one text that `show` owes
   abbrev pub OneShownFile : Type 0
   OneShownFile =
       (files : F) (shown : Shown) (path bytes text other : List ℕ)
-      → IsFile remaining (opened files) path bytes
-      → ShowsFile remaining failed (opened files) (unopened files) shown path text
-      → ShowsFile remaining failed (opened files) (unopened files) shown path other
+      → IsFile files path bytes
+      → ShowsFile reads g files shown path text
+      → ShowsFile reads g files shown path other
       → text ≡ other
 
   -- and one fault, but for being out of memory and failed reads
   abbrev pub OneShownFileFault : Type 0
   OneShownFileFault =
       (files : F) (shown : Shown) (path bytes : List ℕ) (some other : ToolFault)
-      → IsFile remaining (opened files) path bytes
-      → RefusesFile remaining failed (opened files) (unopened files) shown path some
-      → RefusesFile remaining failed (opened files) (unopened files) shown path other
+      → IsFile files path bytes
+      → RefusesFile reads g files shown path some
+      → RefusesFile reads g files shown path other
       → IsOfNoLine some ⊎ IsOfNoLine other ⊎ (some ≡ other)
 
   -- files have one text that `combine` owes in a form
   abbrev pub OneCombinedOfFiles : Type 0
   OneCombinedOfFiles =
       (files : F) (form : Form) (paths contents : List (List ℕ)) (text other : List ℕ)
-      → AllZip (IsFile remaining (opened files)) paths contents
-      → CombinesFiles remaining failed (opened files) (unopened files) form paths text
-      → CombinesFiles remaining failed (opened files) (unopened files) form paths other
+      → AllZip (IsFile files) paths contents
+      → CombinesFiles reads g files form paths text
+      → CombinesFiles reads g files form paths other
       → text ≡ other
 
   -- and one fault
   abbrev pub OneCombinedFault : Type 0
   OneCombinedFault =
       (files : F) (form : Form) (paths contents : List (List ℕ)) (some other : ToolFault)
-      → AllZip (IsFile remaining (opened files)) paths contents
-      → RefusesFiles remaining failed (opened files) (unopened files) form paths some
-      → RefusesFiles remaining failed (opened files) (unopened files) form paths other
+      → AllZip (IsFile files) paths contents
+      → RefusesFiles reads g files form paths some
+      → RefusesFiles reads g files form paths other
       → IsOfNoLine some ⊎ IsOfNoLine other ⊎ (some ≡ other)

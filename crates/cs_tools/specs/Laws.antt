@@ -1,5 +1,5 @@
--- The laws of the tools: an input has one text that a tool owes, or one fault, up to want of memory and failed reads; and the
--- form in which a changeset is written changes nothing but its column bytes.
+-- The laws of the tools. An input has one text that a tool owes, or one fault, but for being out of memory and failed reads. The form in
+-- which a changeset is written changes nothing but its column bytes.
 use Rattle.std.specs.Prelude.{◌≡◌, ◌⊎◌, ⊤, ℕ, List, [], ◌∷◌, Option, Some}
 use Rattle.std.specs.List.{AllByRecursion, AllZip, flat_map}
 use Rattle.cs_blob.specs.Spelling.{FitsBlob}

@@ -40,8 +40,8 @@ abbrev pub SpellAll : List (Vec ℕ) → List (List Group) → Type 0
 SpellAll inputs changesets =
     AllZip (λ bytes groups. Spells FitsChangeset changeset_spelling bytes.items groups) inputs changesets
 
--- these are the first lines of the input, of which this is left, and why no more are read: there are none; or want of memory; or a
--- failed read, or lines without end, where these are all lines before; or the next line is no hex
+-- these are the first lines of the input, of which this is left, and why no more are read. There are none, memory was refused, or the next
+-- line is no hex. Or a read failed, or lines have no end, and these are all lines before
 abbrev pub EndsReading : Type 0 → Option (List ℕ) → Option (List ℕ) → List (List ℕ) → Option ToolFault → Type 0
 EndsReading read_failed input left lines None = AreAllLines input lines
 EndsReading read_failed input left lines (Some told) =

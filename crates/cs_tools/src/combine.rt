@@ -15,8 +15,9 @@ ghost use Rattle.cs_tools.specs.WrittenForm.{IsNotWritten, SpellsIn};
 ghost use Rattle.cs_tools.specs.declared.fault.ToolFault.TheVariants.{Memory as NoMemory};
 
 use crate::fault::ToolFault;
-use crate::files::{InputFiles, changesets_at};
+use crate::files::changesets_at;
 use crate::input::{all_bytes, read_all};
+use crate::input_files::InputFiles;
 use crate::output::end_with_line;
 use crate::tool::Form;
 use crate::written::{spelled_for_sqlite, spelled_normal};
@@ -117,9 +118,9 @@ fn combined_at<F: InputFiles>(
     files: &mut F,
     paths: &[&str],
 ) -> Result<Vec<u8>, ToolFault>
-    ensures ok { IfOk result (λ bytes. CombinesFiles F.Input.remaining F.Input.failed (F.opened files.new) (F.unopened files.new)
+    ensures ok { IfOk result (λ bytes. CombinesFiles F.Input.PieceInput F.InputFiles files.new
         form (map (λ path. path.now) paths.now) (hex_line bytes.items)) }
-    ensures err { IfErr result (RefusesFiles F.Input.remaining F.Input.failed (F.opened files.new) (F.unopened files.new)
+    ensures err { IfErr result (RefusesFiles F.Input.PieceInput F.InputFiles files.new
         form (map (λ path. path.now) paths.now)) }
 {
     let owned = changesets_at(alloc, files, paths)?;
@@ -128,8 +129,8 @@ fn combined_at<F: InputFiles>(
     spelled_in(alloc, form, &both, changesets.as_slice())
 }
 
-/// Takes the changesets in the files at these paths, as their bytes, together as one, and writes it in this form as a line of lower case
-/// hex. Nothing is written before all files were judged, in their order. (Profile of this project over SQLite's changegroup.)
+/// Takes the changesets in the files at these paths together as one. It writes that in this form as a line of lower case hex. Nothing is
+/// written before all files were judged, in their order. (Profile of this project over SQLite's changegroup.)
 pub fn combine_files<F: InputFiles, W: LineOutput>(
     alloc: Global,
     form: Form,
@@ -137,9 +138,9 @@ pub fn combine_files<F: InputFiles, W: LineOutput>(
     paths: &[&str],
     writer: &mut W,
 ) -> Result<(), ToolFault>
-    ensures ends { Ends (CombinesFiles F.Input.remaining F.Input.failed (F.opened files.new) (F.unopened files.new)
+    ensures ends { Ends (CombinesFiles F.Input.PieceInput F.InputFiles files.new
         form (map (λ path. path.now) paths.now))
-        (RefusesFiles F.Input.remaining F.Input.failed (F.opened files.new) (F.unopened files.new)
+        (RefusesFiles F.Input.PieceInput F.InputFiles files.new
         form (map (λ path. path.now) paths.now))
         (W.failed writer.new) (W.contents writer.old) (W.contents writer.new) result }
     ensures sent { OnOk result (W.sent writer.new) }

@@ -10,29 +10,11 @@ ghost use Rattle.cs_tools.specs.Faults.{IsFailure};
 ghost use Rattle.cs_tools.specs.declared.fault.ToolFault.TheVariants.{Memory, Read};
 
 use crate::fault::ToolFault;
+use crate::input_files::InputFiles;
 use cs_feed::{ChangesetBuf, PieceInput, read_from};
 use std::alloc::Global;
 use std::io;
 use std::io::ErrorKind;
-
-/// Opens files to be read.
-pub trait InputFiles {
-    /// What reads a file.
-    type Input: PieceInput + Drop;
-
-    // It gave this reader of the file at a path.
-    ghost opened: { Self → List ℕ → Self.Input → Type 0 };
-
-    // It gave none of the file at a path.
-    ghost unopened: { Self → List ℕ → Type 0 };
-
-    /// The reader of the file at a path.
-    fn open_input(&mut self, path: &str) -> io::Result<Self::Input>
-        ensures opened { IfOk result (λ input. opened self.new path.now input) }
-        ensures kept { (path : List ℕ) (input : Self.Input) → opened self.old path input → opened self.new path input }
-        ensures unopened { IfErr result (λ error.
-            (error_kind error ≡ ErrorKind.OutOfMemory) ⊎ unopened self.new path.now) };
-}
 
 /// What is told of a file that isn't opened, or of which a read failed.
 fn told_of(error: &io::Error) -> ToolFault
@@ -62,11 +44,11 @@ pub fn changeset_at<F: InputFiles>(
     files: &mut F,
     path: &str,
 ) -> Result<ChangesetBuf, ToolFault>
-    ensures held { IfOk result (λ bytes. HeldAt F.Input.remaining F.Input.failed (F.opened files.new) (F.unopened files.new) path.now bytes) }
+    ensures held { IfOk result (λ bytes. HeldAt F.Input.PieceInput F.InputFiles files.new path.now bytes) }
     ensures spelled { IfOk result IsChangeset }
     ensures kept { (path : List ℕ) (input : F.Input) → F.opened files.old path input → F.opened files.new path input }
     ensures err { IfErr result
-        (IsBadFile F.Input.remaining F.Input.failed (F.opened files.new) (F.unopened files.new) IsChangesetFault path.now) }
+        (IsBadFile F.Input.PieceInput F.InputFiles files.new IsChangesetFault path.now) }
 {
     let mut input = input_at(files, path)?;
     match read_from(alloc, &mut input) {
@@ -81,9 +63,9 @@ pub fn bytes_at<F: InputFiles>(
     files: &mut F,
     path: &str,
 ) -> Result<Vec<u8>, ToolFault>
-    ensures held { IfOk result (λ bytes. HeldAt F.Input.remaining F.Input.failed (F.opened files.new) (F.unopened files.new) path.now bytes.items) }
+    ensures held { IfOk result (λ bytes. HeldAt F.Input.PieceInput F.InputFiles files.new path.now bytes.items) }
     ensures err { IfErr result
-        (IsFailure (IsUnread F.Input.remaining F.Input.failed (F.opened files.new) (F.unopened files.new) path.now)) }
+        (IsFailure (IsUnread F.Input.PieceInput F.InputFiles files.new path.now)) }
 {
     let mut input = input_at(files, path)?;
     let mut bytes = Vec::new(alloc);
@@ -100,8 +82,8 @@ pub fn changesets_at<F: InputFiles>(
     paths: &[&str],
 ) -> Result<Vec<ChangesetBuf>, ToolFault>
     ensures held { IfOk result (λ owned. AllZip
-        (HeldAt F.Input.remaining F.Input.failed (F.opened files.new) (F.unopened files.new)) (map (λ path. path.now) paths.now) owned.items) }
-    ensures err { IfErr result (λ told. (told ≡ Memory) ⊎ HasBadFile F.Input.remaining F.Input.failed (F.opened files.new) (F.unopened files.new)
+        (HeldAt F.Input.PieceInput F.InputFiles files.new) (map (λ path. path.now) paths.now) owned.items) }
+    ensures err { IfErr result (λ told. (told ≡ Memory) ⊎ HasBadFile F.Input.PieceInput F.InputFiles files.new
         told (map (λ path. path.now) paths.now)) }
 {
     let mut owned = Vec::with_capacity(alloc, paths.len())?;

@@ -58,8 +58,8 @@ pub fn next_or_empty<R: LineInput>(alloc: Global, reader: &mut R) -> Result<Vec<
     }
 }
 
-/// The bytes that the lines spell in hex, one vector each, up to the end of the input or to the first line that
-/// can't be read; and why it can't.
+/// The bytes that the lines spell in hex, one vector each, up to the end of the input. Or up to the first line that can't be read, and why
+/// it can't.
 pub fn all_bytes<R: LineInput>(alloc: Global, reader: &mut R) -> (Vec<Vec<u8>>, Option<ToolFault>)
     ensures { AreReadUpTo (R.failed reader.new) (R.remaining reader.old) (R.remaining reader.new) result.0.items result.1 }
 {

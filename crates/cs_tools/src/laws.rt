@@ -3,7 +3,7 @@
 ghost use Rattle.cs_tools.specs.Files.{OneCombinedFault, OneCombinedOfFiles, OneShownFile, OneShownFileFault};
 ghost use Rattle.cs_tools.specs.Laws.{CombinedStaysTheSame, NoFaultWhereOwed, NothingCombinedOfTwoOrders, NothingRebasedOfTwoOrders, OneCombinedText, OneFault, OneRebasedText, OneShownBlob, OneShownChangeset, RebasedStaysTheSame, TextOrFault};
 
-use crate::files::InputFiles;
+use crate::input_files::InputFiles;
 
 /// An input has one text that `combine` owes in each form.
 pub fn one_combined_text()
@@ -111,10 +111,10 @@ pub fn text_or_fault()
 
 /// A file whose readers have its bytes has one text that `show` owes, or one fault; and so have such files for `combine`.
 pub fn one_answer_of_files<F: InputFiles>()
-    ensures shown { OneShownFile F.Input.remaining F.Input.failed F.opened F.unopened }
-    ensures fault { OneShownFileFault F.Input.remaining F.Input.failed F.opened F.unopened }
-    ensures combined { OneCombinedOfFiles F.Input.remaining F.Input.failed F.opened F.unopened }
-    ensures combine_fault { OneCombinedFault F.Input.remaining F.Input.failed F.opened F.unopened }
+    ensures shown { OneShownFile F.Input.PieceInput F.InputFiles }
+    ensures fault { OneShownFileFault F.Input.PieceInput F.InputFiles }
+    ensures combined { OneCombinedOfFiles F.Input.PieceInput F.InputFiles }
+    ensures combine_fault { OneCombinedFault F.Input.PieceInput F.InputFiles }
 {
     cs_blob::laws::blobs();
     cs_changeset::laws::changesets();

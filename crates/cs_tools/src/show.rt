@@ -14,8 +14,9 @@ ghost use Rattle.cs_blob.specs.Reading.{IsBlobFault};
 ghost use Rattle.cs_changeset.specs.Reading.{IsChangesetFault};
 
 use crate::fault::ToolFault;
-use crate::files::{InputFiles, bytes_at, changeset_at};
+use crate::files::{bytes_at, changeset_at};
 use crate::input::next_or_empty;
+use crate::input_files::InputFiles;
 use crate::output::end_with_text;
 use cs_blob::BlobGroup;
 use cs_changeset::Group;
@@ -121,10 +122,10 @@ fn text_of_changeset_at<F: InputFiles>(
     files: &mut F,
     path: &str,
 ) -> Result<String, ToolFault>
-    ensures ok { IfOk result (λ text. ShowsFile F.Input.remaining F.Input.failed (F.opened files.new) (F.unopened files.new)
+    ensures ok { IfOk result (λ text. ShowsFile F.Input.PieceInput F.InputFiles files.new
         Changeset path.now text.bytes.items) }
     ensures err { IfErr result
-        (IsBadFile F.Input.remaining F.Input.failed (F.opened files.new) (F.unopened files.new) IsChangesetFault path.now) }
+        (IsBadFile F.Input.PieceInput F.InputFiles files.new IsChangesetFault path.now) }
 {
     let owned = changeset_at(alloc, files, path)?;
     let changeset = owned.lend(alloc)?;
@@ -137,10 +138,10 @@ fn text_of_blob_at<F: InputFiles>(
     files: &mut F,
     path: &str,
 ) -> Result<String, ToolFault>
-    ensures ok { IfOk result (λ text. ShowsFile F.Input.remaining F.Input.failed (F.opened files.new) (F.unopened files.new)
+    ensures ok { IfOk result (λ text. ShowsFile F.Input.PieceInput F.InputFiles files.new
         Blob path.now text.bytes.items) }
     ensures err { IfErr result
-        (IsBadFile F.Input.remaining F.Input.failed (F.opened files.new) (F.unopened files.new) IsBlobFault path.now) }
+        (IsBadFile F.Input.PieceInput F.InputFiles files.new IsBlobFault path.now) }
 {
     let bytes = bytes_at(alloc, files, path)?;
     text_of_blob(alloc, bytes.as_slice())
@@ -153,10 +154,10 @@ fn text_at<F: InputFiles>(
     files: &mut F,
     path: &str,
 ) -> Result<String, ToolFault>
-    ensures ok { IfOk result (λ text. ShowsFile F.Input.remaining F.Input.failed (F.opened files.new) (F.unopened files.new)
+    ensures ok { IfOk result (λ text. ShowsFile F.Input.PieceInput F.InputFiles files.new
         shown path.now text.bytes.items) }
     ensures err { IfErr result
-        (RefusesFile F.Input.remaining F.Input.failed (F.opened files.new) (F.unopened files.new) shown path.now) }
+        (RefusesFile F.Input.PieceInput F.InputFiles files.new shown path.now) }
 {
     match shown {
         Shown::Changeset => text_of_changeset_at(alloc, files, path),
@@ -172,8 +173,8 @@ pub fn show_file<F: InputFiles, W: LineOutput>(
     path: &str,
     writer: &mut W,
 ) -> Result<(), ToolFault>
-    ensures ends { Ends (ShowsFile F.Input.remaining F.Input.failed (F.opened files.new) (F.unopened files.new) shown path.now)
-        (RefusesFile F.Input.remaining F.Input.failed (F.opened files.new) (F.unopened files.new) shown path.now)
+    ensures ends { Ends (ShowsFile F.Input.PieceInput F.InputFiles files.new shown path.now)
+        (RefusesFile F.Input.PieceInput F.InputFiles files.new shown path.now)
         (W.failed writer.new) (W.contents writer.old) (W.contents writer.new) result }
     ensures sent { OnOk result (W.sent writer.new) }
 {

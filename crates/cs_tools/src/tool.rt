@@ -23,12 +23,12 @@ pub enum Form {
 /// What reads its input, answers once and ends.
 #[derive(Clone, Copy, Debug, PartialEq, Eq)]
 pub enum Tool {
-    /// The changesets that all lines of the input spell in hex, one each, as one changeset in this form, as a line of lower case
-    /// hex. An empty line is the empty changeset. (Profile of this project over SQLite's changegroup.)
+    /// The changesets that the lines spell in hex, one each, as one changeset in this form, as a line of lower case hex. An empty line is
+    /// the empty changeset. (Profile of this project over SQLite's changegroup.)
     Combine(Form),
-    /// The changeset that the first line spells in hex, rebased over the rebase blob that the second one spells, in this form,
-    /// as a line of lower case hex. A line that isn't there is the empty one; the lines behind the second are left unread.
-    /// (Profile of this project over SQLite's "Session Extension", `sqlite3rebaser_rebase`.)
+    /// The changeset of the first line, rebased over the rebase blob of the second, in this form. All three are lines of hex. A line that
+    /// isn't there is the empty one; the lines behind the second are left unread. (Profile of this project over SQLite's "Session
+    /// Extension", `sqlite3rebaser_rebase`.)
     Rebase(Form),
     /// The changeset that the first line spells in hex, as text. The lines behind it are left unread.
     ShowChangeset,
@@ -36,9 +36,9 @@ pub enum Tool {
     ShowBlob,
 }
 
-/// Runs the tool on the lines of its input, and writes what it owes, and sends it. Nothing is written before the whole of what
-/// the tool reads was judged. Where there is a fault, it is the first one in the order in which they are judged: lines in their
-/// order, then what they spell together, then the form (`KeyOrder`).
+/// Runs the tool on the lines of its input, and writes what it owes, and sends it. Nothing is written before the whole of what the tool
+/// reads was judged. Where there is a fault, it is the first that is judged. Lines are judged in their order, then what they spell
+/// together, then the form (`KeyOrder`).
 pub fn run_tool<R: LineInput, W: LineOutput>(
     alloc: Global,
     tool: Tool,

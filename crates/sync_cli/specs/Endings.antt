@@ -19,11 +19,12 @@ use Rattle.cs_tools.specs.Endings.{Ends, Owes, Refuses}
 use Rattle.cs_tools.specs.declared.tool.Tool.{Tool}
 use Rattle.cs_value.specs.declared.catalog.TableDef.{TableDef}
 use Rattle.sync_cli.specs.Faults.{of_script, of_table, of_tool}
+use Rattle.sync_cli.specs.Streams.{Streams}
 use Rattle.sync_cli.specs.declared.fault.RunFault.{RunFault}
 use Rattle.sync_cli.specs.declared.fault.RunFault.TheVariants.{CommandLine, Table, Memory, Read, Write}
 
--- the status of an end: 0 where all was done, 1 where the input or memory was refused or a read or write failed, 2 where the
--- command line was refused
+-- the status of an end: 0 where all was done. It is 1 where the input or memory was refused or a read or write failed, 2 where the command
+-- line was
 abbrev pub status_of : Result ⊤ RunFault → ℕ
 status_of (Ok done) = 0
 status_of (Err CommandLine) = 2
@@ -40,60 +41,57 @@ abbrev pub EndsAs : {F : Type 0} → (F → RunFault) → (Result ⊤ F → Type
 EndsAs {F} told Ends result = (ended : Result ⊤ F) × (result ≡ told_as told ended) × Ends ended
 
 -- the table words are a catalog, and the run ended so over its tables; or they are refused, and nothing was written
-abbrev pub OnTables : List (List ℕ) → (List TableDef → Type 0) → Option (List ℕ) → Option (List ℕ) → Result ⊤ RunFault → Type 0
-OnTables words Ends old new result =
+abbrev pub OnTables : List (List ℕ) → (List TableDef → Type 0) → Streams → Result ⊤ RunFault → Type 0
+OnTables words Ends streams result =
     ((tables : List TableDef) × IsCatalogOf words tables × Ends tables)
-    ⊎ ((fault : TableFault) × IsFirstRefused fault words × (result ≡ Err (of_table fault)) × Keeps old new)
+    ⊎ ((fault : TableFault) × IsFirstRefused fault words × (result ≡ Err (of_table fault)) × Keeps streams.old streams.new)
 
 -- want of memory, before anything was written
-abbrev pub LacksMemory : Option (List ℕ) → Option (List ℕ) → Result ⊤ RunFault → Type 0
-LacksMemory old new result = (result ≡ Err Memory) × Keeps old new
+abbrev pub LacksMemory : Streams → Result ⊤ RunFault → Type 0
+LacksMemory streams result = (result ≡ Err Memory) × Keeps streams.old streams.new
 
 -- a tool ended so: it wrote what it owes, or told why it owes nothing, or was broken off
-abbrev pub EndsTool : Tool → Option (List ℕ) → Option (List ℕ) → Type 0 → Type 0 → Option (List ℕ) → Option (List ℕ)
-    → Result ⊤ RunFault → Type 0
-EndsTool tool input left read_failed write_failed old new result =
-    EndsAs of_tool (Ends (Owes tool input left) (Refuses tool read_failed input left) write_failed old new) result
+abbrev pub EndsTool : Tool → Streams → Result ⊤ RunFault → Type 0
+EndsTool tool streams result =
+    EndsAs of_tool (Ends (Owes tool streams.input streams.left) (Refuses tool streams.read_failed streams.input streams.left) streams.write_failed streams.old streams.new) result
 
--- a new hub of these tables answered all lines; or it answered all lines before the one at which a read failed, or lines without end, or
--- to a failed write within the last answer; or memory was refused before it read
-abbrev pub EndsServing : List TableDef → Option (List ℕ) → Option (List ℕ) → Type 0 → Type 0 → Option (List ℕ) → Option (List ℕ)
-    → Result ⊤ RunFault → Type 0
-EndsServing tables input left read_failed write_failed old new (Ok done) =
+-- a new hub of these tables answered all lines. Or it answered those before the one at which a read failed, or lines without end. Or a
+-- write failed within the last answer, or memory was refused before it read
+abbrev pub EndsServing : List TableDef → Streams → Result ⊤ RunFault → Type 0
+EndsServing tables streams (Ok done) =
     (lines : List (List ℕ)) × (answers : List (List ℕ)) × (end : HubState)
-    × AreAllLines input lines × AnswersAll (Serves MAX_ENTRIES) IsSame (fresh tables) lines answers end
-    × Appends old new (flat_map hex_line answers)
-EndsServing tables input left read_failed write_failed old new (Err Memory) = Keeps old new
-EndsServing tables input left read_failed write_failed old new (Err Read) =
+    × AreAllLines streams.input lines × AnswersAll (Serves MAX_ENTRIES) IsSame (fresh tables) lines answers end
+    × Appends streams.old streams.new (flat_map hex_line answers)
+EndsServing tables streams (Err Memory) = Keeps streams.old streams.new
+EndsServing tables streams (Err Read) =
     (lines : List (List ℕ)) × (answers : List (List ℕ)) × (end : HubState)
-    × AreAllBefore input left lines × AnswersAll (Serves MAX_ENTRIES) IsSame (fresh tables) lines answers end
-    × Appends old new (flat_map hex_line answers) × (read_failed ⊎ (length lines ≡ ASKS))
-EndsServing tables input left read_failed write_failed old new (Err Write) =
+    × AreAllBefore streams.input streams.left lines × AnswersAll (Serves MAX_ENTRIES) IsSame (fresh tables) lines answers end
+    × Appends streams.old streams.new (flat_map hex_line answers) × (streams.read_failed ⊎ (length lines ≡ ASKS))
+EndsServing tables streams (Err Write) =
     (lines : List (List ℕ)) × (answers : List (List ℕ)) × (end : HubState)
-    × AreFirstLines input lines × AnswersAll (Serves MAX_ENTRIES) IsSame (fresh tables) lines answers end
-    × AppendsBroken old new answers × write_failed
-EndsServing tables input left read_failed write_failed old new (Err _) = ⊥
+    × AreFirstLines streams.input lines × AnswersAll (Serves MAX_ENTRIES) IsSame (fresh tables) lines answers end
+    × AppendsBroken streams.old streams.new answers × streams.write_failed
+EndsServing tables streams (Err _) = ⊥
 
 -- a world of so many replicas ran the script
-abbrev pub EndsWorld : ℕ → List TableDef → Option (List ℕ) → Option (List ℕ) → Type 0 → Type 0 → Option (List ℕ) → Option (List ℕ)
-    → Result ⊤ RunFault → Type 0
-EndsWorld count tables input left read_failed write_failed old new result =
-    EndsAs of_script (EndsScript tables count input left read_failed write_failed old new) result
+abbrev pub EndsWorld : ℕ → List TableDef → Streams → Result ⊤ RunFault → Type 0
+EndsWorld count tables streams result =
+    EndsAs of_script (EndsScript tables count streams.input streams.left streams.read_failed streams.write_failed streams.old streams.new) result
 
--- words that the command line doesn't take: help was asked for and written, or a front of it, where the writer failed; or the
--- words were refused, for one of the parser's reasons; or memory was
-abbrev pub EndsUntaken : Kinds → Type 0 → Option (List ℕ) → Option (List ℕ) → Result ⊤ RunFault → Type 0
-EndsUntaken kinds failed old new (Ok done) = IsAmong kind.DisplayHelp kinds × ((help : List ℕ) × Appends old new help)
-EndsUntaken kinds failed old new (Err Write) =
-    IsAmong kind.DisplayHelp kinds × failed × ((front : List ℕ) × Appends old new front)
-EndsUntaken kinds failed old new (Err CommandLine) =
-    ((why : ErrorKind) × IsAmong why kinds × (why ≢ kind.DisplayHelp)) × Keeps old new
-EndsUntaken kinds failed old new (Err Memory) = Keeps old new
-EndsUntaken kinds failed old new (Err _) = ⊥
+-- words that the command line doesn't take. Help was asked for and written, or a front of it, where the writer failed. Or the words were
+-- refused, for one of the parser's reasons, or memory was
+abbrev pub EndsUntaken : Kinds → Streams → Result ⊤ RunFault → Type 0
+EndsUntaken kinds streams (Ok done) = IsAmong kind.DisplayHelp kinds × ((help : List ℕ) × Appends streams.old streams.new help)
+EndsUntaken kinds streams (Err Write) =
+    IsAmong kind.DisplayHelp kinds × streams.write_failed × ((front : List ℕ) × Appends streams.old streams.new front)
+EndsUntaken kinds streams (Err CommandLine) =
+    ((why : ErrorKind) × IsAmong why kinds × (why ≢ kind.DisplayHelp)) × Keeps streams.old streams.new
+EndsUntaken kinds streams (Err Memory) = Keeps streams.old streams.new
+EndsUntaken kinds streams (Err _) = ⊥
 
 -- words that ask for nothing: refused, or memory was wanting
-abbrev pub EndsUnasked : Option (List ℕ) → Option (List ℕ) → Result ⊤ RunFault → Type 0
-EndsUnasked old new result = ((result ≡ Err CommandLine) ⊎ (result ≡ Err Memory)) × Keeps old new
+abbrev pub EndsUnasked : Streams → Result ⊤ RunFault → Type 0
+EndsUnasked streams result = ((result ≡ Err CommandLine) ⊎ (result ≡ Err Memory)) × Keeps streams.old streams.new
 
 -- ---- on the way to the end of words that aren't taken; no public clause cites these
 

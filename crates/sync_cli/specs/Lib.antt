@@ -1,3 +1,4 @@
 pub mod Endings
 pub mod Faults
 pub mod OverFiles
+pub mod Streams

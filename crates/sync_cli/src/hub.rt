@@ -4,6 +4,7 @@ ghost use Rattle.std.specs.Prelude.{◌≡◌, OnOk, option_map};
 ghost use Rattle.sync_cli.specs.Endings.{EndsServing, told_as};
 ghost use Rattle.sync_cli.specs.Faults.{of_memory, of_serving};
 ghost use Rattle.sync_cli.specs.OverFiles.{EndsHub, EndsServingFile};
+ghost use Rattle.sync_cli.specs.Streams.{streams_of};
 
 use crate::fault::RunFault;
 use crate::opener::Opener;
@@ -21,8 +22,7 @@ pub fn serve_hub<'w, R: LineInput, W: LineOutput>(
     reader: &mut R,
     writer: &mut W,
 ) -> Result<(), RunFault<'w>>
-    ensures ends { EndsServing catalog.now (R.remaining reader.old)
-        (R.remaining reader.new) (R.failed reader.new) (W.failed writer.new) (W.contents writer.old) (W.contents writer.new) result }
+    ensures ends { EndsServing catalog.now (streams_of R.LineInput W.LineOutput reader.old reader.new writer.old writer.new) result }
     ensures sent { OnOk result (W.sent writer.old → W.sent writer.new) }
 {
     let (ended, _) = serve_on(alloc, MapStore::new(alloc), catalog, reader, writer);
@@ -60,9 +60,8 @@ pub fn serve_file<'w, O: Opener, R: LineInput, W: LineOutput>(
     reader: &mut R,
     writer: &mut W,
 ) -> Result<(), RunFault<'w>>
-    ensures ends { EndsServingFile O.Store.RowStore (O.gave opener.new) (O.refused opener.new) (O.took opener.new)
-        path.now catalog.now (R.remaining reader.old) (R.remaining reader.new) (R.failed reader.new) (W.failed writer.new)
-        (W.contents writer.old) (W.contents writer.new) result }
+    ensures ends { EndsServingFile O.Store.RowStore O.Opener opener.new
+        path.now catalog.now (streams_of R.LineInput W.LineOutput reader.old reader.new writer.old writer.new) result }
     ensures sent { OnOk result (W.sent writer.old → W.sent writer.new) }
 {
     let store = match opener.open(path) {
@@ -93,9 +92,8 @@ pub fn serve_asked<'w, O: Opener, R: LineInput, W: LineOutput>(
     reader: &mut R,
     writer: &mut W,
 ) -> Result<(), RunFault<'w>>
-    ensures ends { EndsHub O.Store.RowStore (O.gave opener.new) (O.refused opener.new) (O.took opener.new)
-        (option_map (λ word. word.now) file.entry) catalog.now (R.remaining reader.old) (R.remaining reader.new) (R.failed reader.new)
-        (W.failed writer.new) (W.contents writer.old) (W.contents writer.new) result }
+    ensures ends { EndsHub O.Store.RowStore O.Opener opener.new
+        (option_map (λ word. word.now) file.entry) catalog.now (streams_of R.LineInput W.LineOutput reader.old reader.new writer.old writer.new) result }
     ensures sent { OnOk result (W.sent writer.old → W.sent writer.new) }
 {
     match file {

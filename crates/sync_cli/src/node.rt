@@ -4,6 +4,7 @@ ghost use Rattle.std.specs.Prelude.{◌≡◌, ◌<◌, ◌-◌, ◌^◌, OnOk};
 ghost use Rattle.sync_cli.specs.Endings.{told_as};
 ghost use Rattle.sync_cli.specs.Faults.{of_node};
 ghost use Rattle.sync_cli.specs.OverFiles.{EndsFollowFile, EndsNodeFile};
+ghost use Rattle.sync_cli.specs.Streams.{streams_of};
 
 use crate::fault::RunFault;
 use crate::opener::Opener;
@@ -15,7 +16,7 @@ use cs_store::RowStore;
 use cs_value::Catalog;
 use std::alloc::Global;
 
-/// Reads the input whole, opens the replica with this id in the store that the opener gives for a file, and does what the lines ask.
+/// Reads the input whole, opens the replica with this id in the store for a file, and does what the lines ask.
 pub fn work_file<'w, O: Opener, R: LineInput, W: LineOutput>(
     alloc: Global,
     opener: &mut O,
@@ -26,9 +27,8 @@ pub fn work_file<'w, O: Opener, R: LineInput, W: LineOutput>(
     writer: &mut W,
 ) -> Result<(), RunFault<'w>>
     requires { id < 2 ^ 32 - 1 }
-    ensures ends { EndsNodeFile O.Store.RowStore (O.gave opener.new) (O.refused opener.new) (O.took opener.new)
-        path.now id catalog.now (R.remaining reader.old) (R.remaining reader.new) (R.failed reader.new) (W.failed writer.new)
-        (W.contents writer.old) (W.contents writer.new) result }
+    ensures ends { EndsNodeFile O.Store.RowStore O.Opener opener.new
+        path.now id catalog.now (streams_of R.LineInput W.LineOutput reader.old reader.new writer.old writer.new) result }
     ensures sent { OnOk result (W.sent writer.old → W.sent writer.new) }
 {
     let asks = read_asks(alloc, catalog, reader)?;
@@ -41,7 +41,7 @@ pub fn work_file<'w, O: Opener, R: LineInput, W: LineOutput>(
     told_of(ended)
 }
 
-/// Opens the replica with this id in the store that the opener gives for a file, and answers each line of the input as it comes.
+/// Opens the replica with this id in the store for a file, and answers each line of the input as it comes.
 pub fn follow_file<'w, O: Opener, R: LineInput, W: LineOutput>(
     alloc: Global,
     opener: &mut O,
@@ -52,9 +52,8 @@ pub fn follow_file<'w, O: Opener, R: LineInput, W: LineOutput>(
     writer: &mut W,
 ) -> Result<(), RunFault<'w>>
     requires { id < 2 ^ 32 - 1 }
-    ensures ends { EndsFollowFile O.Store.RowStore (O.gave opener.new) (O.refused opener.new) (O.took opener.new)
-        path.now id catalog.now (R.remaining reader.old) (R.remaining reader.new) (R.failed reader.new) (W.failed writer.new)
-        (W.contents writer.old) (W.contents writer.new) result }
+    ensures ends { EndsFollowFile O.Store.RowStore O.Opener opener.new
+        path.now id catalog.now (streams_of R.LineInput W.LineOutput reader.old reader.new writer.old writer.new) result }
     ensures sent { OnOk result (W.sent writer.old → W.sent writer.new) }
 {
     let store = match opener.open(path) {

@@ -8,6 +8,7 @@ ghost use Rattle.cs_tools.specs.Endings.{Ends};
 ghost use Rattle.cs_tools.specs.Files.{CombinesFiles, RefusesFiles};
 ghost use Rattle.sync_cli.specs.Endings.{EndsHelping, EndsRefused, EndsUnasked, EndsUntaken};
 ghost use Rattle.sync_cli.specs.OverFiles.{EndsAsked, EndsWanted};
+ghost use Rattle.sync_cli.specs.Streams.{streams_of};
 
 use crate::fault::RunFault;
 use crate::hub::serve_asked;
@@ -37,21 +38,18 @@ pub fn run<'w, S: AsStr, O: Opener + InputFiles, R: LineInput, W: LineOutput>(
 
     // Words that the command line doesn't take, among them those that ask for help.
     ensures untaken { faults_of (map S.text words.entry.now) ≢ []
-        → EndsUntaken (faults_of (map S.text words.entry.now)) (W.failed writer.new)
-        (W.contents writer.old) (W.contents writer.new) result }
+        → EndsUntaken (faults_of (map S.text words.entry.now)) (streams_of R.LineInput W.LineOutput reader.old reader.new writer.old writer.new) result }
 
-    // What the words ask for was done: a hub answered the lines, a world ran the script, a replica was worked by the lines, which were read whole or answered as they came, or a tool wrote
-    // what it owes for the lines or the files; or why not.
+    // What the words ask for was done, or why not. A hub answered the lines, a world ran the script, a replica was worked by the lines, or
+    // a tool wrote what it owes for lines or files.
     ensures asked { (asked : Wanted) → faults_of (map S.text words.entry.now) ≡ []
         → wanted_of (map S.text words.entry.now) ≡ Some asked
-        → EndsAsked O.Store.RowStore (O.gave opener.new) (O.refused opener.new) (O.took opener.new)
-        O.Input.remaining O.Input.failed (O.opened opener.new) (O.unopened opener.new)
-        asked (table_words_of (map S.text words.entry.now)) (file_words_of (map S.text words.entry.now)) (R.remaining reader.old) (R.remaining reader.new)
-        (R.failed reader.new) (W.failed writer.new) (W.contents writer.old) (W.contents writer.new) result }
+        → EndsAsked O.Store.RowStore O.Opener O.Input.PieceInput O.InputFiles opener.new
+        asked (table_words_of (map S.text words.entry.now)) (file_words_of (map S.text words.entry.now)) (streams_of R.LineInput W.LineOutput reader.old reader.new writer.old writer.new) result }
 
     // Words that the command line takes and that ask for nothing.
     ensures unasked { faults_of (map S.text words.entry.now) ≡ [] → wanted_of (map S.text words.entry.now) ≡ None
-        → EndsUnasked (W.contents writer.old) (W.contents writer.new) result }
+        → EndsUnasked (streams_of R.LineInput W.LineOutput reader.old reader.new writer.old writer.new) result }
 {
     let matches = match parse(alloc, words) {
         Ok(matches) => matches,
@@ -73,10 +71,8 @@ fn run_asked<'w, O: Opener + InputFiles, R: LineInput, W: LineOutput>(
     writer: &mut W,
 ) -> Result<(), RunFault<'w>>
     requires id { HasId asked.now }
-    ensures ends { EndsWanted O.Store.RowStore (O.gave opener.new) (O.refused opener.new) (O.took opener.new)
-        O.Input.remaining O.Input.failed (O.opened opener.new) (O.unopened opener.new)
-        (wanted asked.now) (tables_in (subcommand_rows_of matches.now)) (files_in (subcommand_rows_of matches.now)) (R.remaining reader.old) (R.remaining reader.new)
-        (R.failed reader.new) (W.failed writer.new) (W.contents writer.old) (W.contents writer.new) result }
+    ensures ends { EndsWanted O.Store.RowStore O.Opener O.Input.PieceInput O.InputFiles opener.new
+        (wanted asked.now) (tables_in (subcommand_rows_of matches.now)) (files_in (subcommand_rows_of matches.now)) (streams_of R.LineInput W.LineOutput reader.old reader.new writer.old writer.new) result }
     ensures sent { OnOk result (W.sent writer.old → W.sent writer.new) }
 {
     if let Asked::Tool(tool) = asked {
@@ -110,9 +106,9 @@ fn combine_named<F: InputFiles, W: LineOutput>(
     matches: &ArgMatches<'_>,
     writer: &mut W,
 ) -> Result<(), ToolFault>
-    ensures ends { Ends (CombinesFiles F.Input.remaining F.Input.failed (F.opened files.new) (F.unopened files.new)
+    ensures ends { Ends (CombinesFiles F.Input.PieceInput F.InputFiles files.new
         form (files_in (subcommand_rows_of matches.now)))
-        (RefusesFiles F.Input.remaining F.Input.failed (F.opened files.new) (F.unopened files.new)
+        (RefusesFiles F.Input.PieceInput F.InputFiles files.new
         form (files_in (subcommand_rows_of matches.now)))
         (W.failed writer.new) (W.contents writer.old) (W.contents writer.new) result }
     ensures sent { OnOk result (W.sent writer.new) }

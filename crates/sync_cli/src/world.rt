@@ -3,6 +3,7 @@
 ghost use Rattle.std.specs.Prelude.{◌≡◌, OnOk};
 ghost use Rattle.sync_cli.specs.Endings.{EndsWorld, told_as};
 ghost use Rattle.sync_cli.specs.Faults.{of_script};
+ghost use Rattle.sync_cli.specs.Streams.{streams_of};
 
 use crate::fault::RunFault;
 use cs_lines::{LineInput, LineOutput};
@@ -18,8 +19,7 @@ pub fn play_script<'w, R: LineInput, W: LineOutput>(
     reader: &mut R,
     writer: &mut W,
 ) -> Result<(), RunFault<'w>>
-    ensures ends { EndsWorld count catalog.now (R.remaining reader.old) (R.remaining reader.new) (R.failed reader.new)
-        (W.failed writer.new) (W.contents writer.old) (W.contents writer.new) result }
+    ensures ends { EndsWorld count catalog.now (streams_of R.LineInput W.LineOutput reader.old reader.new writer.old writer.new) result }
     ensures sent { OnOk result (W.sent writer.new) }
 {
     let ended = run_script(alloc, catalog, count, reader, writer);

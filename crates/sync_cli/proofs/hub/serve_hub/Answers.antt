@@ -6,8 +6,7 @@ use Rattle.sync_cli.proofs.hub.serve_hub.Goals as goal
 
 pub returns-clause-ends : goal.returns-clause-ends
 returns-clause-ends g c =
-    rw c.told_in_memory.ensures (in_memory _ _ c.serve_on-ended.result.1 _ (g.R.Read.remaining c.serve_on-ended.new.reader)
-    (g.R.LineInput.failed c.serve_on-ended.new.reader) (g.W.LineOutput.failed c.serve_on-ended.new.writer) _ _
+    rw c.told_in_memory.ensures (in_memory _ _ c.serve_on-ended.result.1 _
     (ap held_by c.new.ensures) (ap misreads_of c.new.ensures) c.serve_on-ended.result.0 c.serve_on-ended.ensures.ends)
 
 pub returns-clause-sent : goal.returns-clause-sent
